@@ -1,0 +1,14 @@
+-- What the kinds of access do to memory.
+use Rattle.std.specs.Prelude.{Bool, true, false}
+use Rattle.rtr_types.specs.declared.accesses.Kind.{Kind}
+use Rattle.rtr_types.specs.declared.accesses.Kind.TheVariants.{Load, Store}
+
+-- an access of this kind takes the word's value
+abbrev pub is_read : Kind → Bool
+is_read Load = true
+is_read Store = false
+
+-- an access of this kind may change the word
+abbrev pub is_write : Kind → Bool
+is_write Load = false
+is_write Store = true

@@ -1,0 +1,4 @@
+pub mod Accesses
+pub mod CoreSets
+pub mod Pairs
+pub mod Parameters

@@ -1,0 +1,15 @@
+-- The ranges of a run's parameters.
+use Rattle.std.specs.Prelude.{◌≡◌, ◌≤◌, ◌%◌}
+use Rattle.rtr_types.specs.declared.parameters.Params.{Params}
+use Rattle.rtr_types.specs.declared.TheConstants.{CORES_MAX}
+use Rattle.rtr_types.specs.declared.parameters.TheConstants.{LIMIT_MAX, WORDS_MIN, WORDS_MAX}
+
+-- the parameters lie in their ranges
+pub record Fits (p : Params) : Type 0 where
+  pub some_core : 1 ≤ p.cores
+  pub cores : p.cores ≤ CORES_MAX
+  pub some_instruction : 1 ≤ p.limit
+  pub limit : p.limit ≤ LIMIT_MAX
+  pub some_block : WORDS_MIN ≤ p.words
+  pub words : p.words ≤ WORDS_MAX
+  pub whole_blocks : p.words % 4 ≡ 0
