@@ -1,0 +1,87 @@
+//! A source over std's readers and a sink over its writers: the edge where nothing tells the bytes.
+ghost use Rattle.std.specs.Prelude.{◌≡◌, None};
+
+use crate::traits::{Failed, Sink, Source};
+use std::io::{Read, Write};
+use std::marker::Model;
+
+/// A source over a reader. It tells nothing of the bytes, and counts the reader's errors.
+#[derive(Drop)]
+pub struct StdSource<T> {
+    reader: T,
+    faults: u64,
+}
+
+impl<T> Model for StdSource<T> {
+    ghost use Rattle.std.specs.Prelude.{ℕ};
+
+    ghost Value = { ℕ };
+
+    ghost view = { λ s. s.faults };
+}
+
+impl<T: Read> StdSource<T> {
+    /// A source over this reader, with no fault so far.
+    pub fn new(reader: T) -> StdSource<T>
+        ensures { result ≡ 0 }
+    {
+        StdSource { reader, faults: 0 }
+    }
+}
+
+impl<T: Read> Source for StdSource<T> {
+    ghost left = { λ _. None };
+
+    ghost faults = { λ s. s };
+
+    fn take(&mut self, into: &mut [u8]) -> Result<usize, Failed> {
+        match self.reader.read(into) {
+            Ok(n) => Ok(n),
+            Err(_) => {
+                self.faults = self.faults.saturating_add(1);
+                Err(Failed)
+            }
+        }
+    }
+}
+
+/// A sink over a writer. It tells nothing of the bytes, and counts the writer's errors; a writer that
+/// takes nothing has failed.
+#[derive(Drop)]
+pub struct StdSink<T> {
+    writer: T,
+    faults: u64,
+}
+
+impl<T> Model for StdSink<T> {
+    ghost use Rattle.std.specs.Prelude.{ℕ};
+
+    ghost Value = { ℕ };
+
+    ghost view = { λ s. s.faults };
+}
+
+impl<T: Write> StdSink<T> {
+    /// A sink over this writer, with no fault so far.
+    pub fn new(writer: T) -> StdSink<T>
+        ensures { result ≡ 0 }
+    {
+        StdSink { writer, faults: 0 }
+    }
+}
+
+impl<T: Write> Sink for StdSink<T> {
+    ghost got = { λ _. None };
+
+    ghost faults = { λ s. s };
+
+    fn give(&mut self, piece: &[u8]) -> Result<usize, Failed> {
+        match self.writer.write(piece) {
+            Ok(n) if n > 0 => Ok(n),
+            _ => {
+                self.faults = self.faults.saturating_add(1);
+                Err(Failed)
+            }
+        }
+    }
+}
