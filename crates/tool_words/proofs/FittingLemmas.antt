@@ -1,0 +1,120 @@
+-- Every setting that is put in is in its range, so the parameters fit.
+use Rattle.std.proofs.Common.{◌≡◌, ℕ, ◌≤◌, ◌%◌, Bool, true, false, List, [], ◌∷◌, Option, Some, None, refl, sym, ap, arith, rules, ◌==◌, nat_le, ◌&&◌, is_none, cond, subst}
+use Rattle.std.specs.Option.{option_and_then, option_map}
+use Rattle.std.specs.Str.Parse.{digits_value}
+use Rattle.std.proofs.lemmas.Bool.Decides.{nat_tests}
+use Rattle.rtr_types.specs.Parameters.{Fits}
+use Rattle.rtr_types.specs.declared.parameters.TheConstants.{LIMIT_MAX, WORDS_MIN, WORDS_MAX}
+use Rattle.tool_words.specs.declared.command.Command.{Command}
+use Rattle.tool_words.specs.declared.command.Verb.{Verb}
+use Rattle.tool_words.specs.declared.command.Verb.TheVariants.{Record, Run, Print}
+use Rattle.tool_words.specs.declared.options.Name.{Name}
+use Rattle.tool_words.specs.declared.options.Name.TheVariants.{Limit, Words, Loads}
+use Rattle.tool_words.specs.declared.options.Settings.{Settings}
+use Rattle.tool_words.specs.Numerals.{is_numeral, number_between}
+use Rattle.tool_words.specs.Options.{no_settings, params_of, put, whole_blocks}
+use Rattle.tool_words.specs.Commands.{HasFittingParams, command_of, verb_named}
+use Rattle.tool_words.specs.Reading.{Set, settings, settled, settled_by, FittingLaw}
+
+-- a limit that is set is in range, and so is a number of words
+abbrev LimitFits : Option ℕ → Type 0
+LimitFits None = Unit {0}
+LimitFits (Some n) = (1 ≤ n) × (n ≤ LIMIT_MAX)
+
+abbrev WordsFit : Option ℕ → Type 0
+WordsFit None = Unit {0}
+WordsFit (Some n) = (WORDS_MIN ≤ n) × (n ≤ WORDS_MAX) × (n % 4 ≡ 0)
+
+record AreFitting (s : Settings) : Type 0 where
+  limit : LimitFits s.limit
+  words : WordsFit s.words
+
+number_between-range : (least most n : ℕ) (text : List ℕ) → number_between least most text ≡ Some n → (least ≤ n) × (n ≤ most)
+unfolding number_between
+number_between-range least most n text h = by-cases (is_numeral text && nat_le least (digits_value 10 text) && nat_le (digits_value 10 text) most) refl h
+  where
+    by-cases : (b : Bool) → (is_numeral text && nat_le least (digits_value 10 text) && nat_le (digits_value 10 text) most) ≡ b → cond b (Some (digits_value 10 text)) None ≡ Some n → (least ≤ n) × (n ≤ most)
+    by-cases true is e = let same : digits_value 10 text ≡ n = cc in grind (arith, nat_tests)
+    by-cases false is e = absurd (cc)
+
+-- the two parts of a chain that ends with something
+and_then-some : {A B : Type 0} (f : A → Option B) (o : Option A) (b : B) → option_and_then f o ≡ Some b → (a : A) × (o ≡ Some a) × (f a ≡ Some b)
+and_then-some f (Some a) b h = (a, refl, h)
+and_then-some f None b h = absurd (cc)
+
+map-some : {A B : Type 0} (f : A → B) (o : Option A) (b : B) → option_map f o ≡ Some b → (a : A) × (o ≡ Some a) × (f a ≡ b)
+map-some f (Some a) b h = (a, refl, cc)
+map-some f None b h = absurd (cc)
+
+if-some : {A : Type 0} (b : Bool) (o : Option A) (a : A) → cond b o None ≡ Some a → o ≡ Some a
+if-some true o a h = h
+if-some false o a h = absurd (cc)
+
+whole_blocks-range : (text : List ℕ) (n : ℕ) → whole_blocks text ≡ Some n → WordsFit (Some n)
+whole_blocks-range text n h =
+    let parts = and_then-some (λ m. cond (m % 4 == 0) (Some m) None) (number_between WORDS_MIN WORDS_MAX text) n h in
+    let same : parts.0 ≡ n = whole parts.0 n parts.2 in
+    let range = number_between-range WORDS_MIN WORDS_MAX parts.0 text parts.1 in
+    (omega arith, omega arith, blocks parts.0 n parts.2)
+  where
+    whole : (m n : ℕ) → cond (m % 4 == 0) (Some m) None ≡ Some n → m ≡ n
+    whole m n e = let is : Some m ≡ Some n = if-some (m % 4 == 0) (Some m) n e in cc
+
+    blocks : (m n : ℕ) → cond (m % 4 == 0) (Some m) None ≡ Some n → n % 4 ≡ 0
+    blocks m n e = divides m n (m % 4 == 0) refl e
+      where
+        divides : (m n : ℕ) (b : Bool) → (m % 4 == 0) ≡ b → cond b (Some m) None ≡ Some n → n % 4 ≡ 0
+        divides m n true is e = let same : m ≡ n = cc in let zero : m % 4 ≡ 0 = grind (arith, nat_tests) in rw (← same) zero
+        divides m n false is e = absurd (cc)
+
+put-fits : (s t : Settings) (name : Name) (text : List ℕ) → put s name text ≡ Some t → AreFitting s → AreFitting t
+put-fits s t Limit text h fit =
+    let made = map-some (λ n. record s { limit = Some n }) (number_between 1 LIMIT_MAX text) t (if-some (is_none s.limit) _ t h) in
+    let limit : t.limit ≡ Some made.0 = ap (λ u. u.limit) (sym made.2) in
+    let words : t.words ≡ s.words = ap (λ u. u.words) (sym made.2) in
+    record { limit = rw limit (number_between-range 1 LIMIT_MAX made.0 text made.1); words = rw words fit.words }
+put-fits s t Words text h fit =
+    let made = map-some (λ n. record s { words = Some n }) (whole_blocks text) t (if-some (is_none s.words) _ t h) in
+    let limit : t.limit ≡ s.limit = ap (λ u. u.limit) (sym made.2) in
+    let words : t.words ≡ Some made.0 = ap (λ u. u.words) (sym made.2) in
+    record { limit = rw limit fit.limit; words = rw words (whole_blocks-range text made.0 made.1) }
+put-fits s t Loads text h fit =
+    let is : Some (record s { loads = true }) ≡ Some t = if-some _ _ t h in
+    let same : record s { loads = true } ≡ t = cc in
+    let limit : t.limit ≡ s.limit = ap (λ u. u.limit) (sym same) in
+    let words : t.words ≡ s.words = ap (λ u. u.words) (sym same) in
+    record { limit = rw limit fit.limit; words = rw words fit.words }
+
+settled-fits : (list : List Set) (s t : Settings) → settled s list ≡ Some t → AreFitting s → AreFitting t
+settled-fits [] s t h fit = let same : s ≡ t = cc in let P : Settings → Type 0 = λ u. AreFitting u in subst P same fit
+settled-fits (set ∷ rest) s t h fit =
+    let parts = and_then-some (λ u. settled u rest) (put s set.name set.text) t h in
+    settled-fits rest parts.0 t parts.2 (put-fits s parts.0 set.name set.text parts.1 fit)
+
+settled_by-fits : (verb : Verb) (words : List (List ℕ)) (t : Settings) → settled_by verb no_settings words ≡ Some t → AreFitting t
+unfolding settled_by
+settled_by-fits verb words t h =
+    let parts = and_then-some (settled no_settings) (settings verb words) t h in
+    settled-fits parts.0 no_settings t parts.2 (record { limit = tt; words = tt })
+
+params-fit : (s : Settings) → AreFitting s → Fits (params_of s)
+params-fit s fit = by-options s.limit s.words s.loads fit.limit fit.words
+  where
+    by-options : (limit words : Option ℕ) (loads : Bool) → LimitFits limit → WordsFit words → Fits (params_of (record { limit = limit; words = words; loads = loads }))
+    by-options None None loads l w = search rules
+    by-options (Some n) None loads l w = search (rules, l)
+    by-options None (Some m) loads l w = search (rules, w)
+    by-options (Some n) (Some m) loads l w = search (rules, l, w)
+
+command-fits : (verb : Verb) (s : Settings) → AreFitting s → HasFittingParams (command_of verb s)
+command-fits Record s fit = record { fits = params-fit s fit; one_core = refl }
+command-fits Run s fit = record { fits = params-fit s fit; one_core = refl }
+command-fits Print s fit = tt
+
+pub fitting_law : FittingLaw
+fitting_law [] command h = absurd (cc)
+fitting_law (first ∷ rest) command h =
+    let verb = and_then-some (λ v. option_map (command_of v) (settled_by v no_settings rest)) (verb_named first) command h in
+    let made = map-some (command_of verb.0) (settled_by verb.0 no_settings rest) command verb.2 in
+    let P : Command → Type 0 = λ c. HasFittingParams c in
+    subst P made.2 (command-fits verb.0 made.0 (settled_by-fits verb.0 rest made.0 made.1))

@@ -1,0 +1,14 @@
+use Rattle.std.proofs.Common.{◌≡◌, ◌≤◌, ◌-◌, length, map, drop, string_bytes}
+use Rattle.tool_words.specs.Reading.{settled_by}
+use Rattle.tool_words.specs.Options.{no_settings}
+use Rattle.tool_words.proofs.reading.read_settings.Given as goal
+
+-- what is set, and then what the rest sets, is what all the words set
+abbrev pub invariant-loop-next : goal.invariant-loop-next
+invariant-loop-next l = record {
+  within : l.next ≤ length l.words;
+  same : settled_by l.verb no_settings (map string_bytes l.words) ≡ settled_by l.verb l.settings (map string_bytes (drop l.next l.words));
+}
+
+abbrev pub decreases-loop-next : goal.decreases-loop-next
+decreases-loop-next l = length l.words - l.next

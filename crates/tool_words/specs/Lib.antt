@@ -1,0 +1,4 @@
+pub mod Commands
+pub mod Numerals
+pub mod Options
+pub mod Reading

@@ -1,0 +1,13 @@
+//! What the words of a command line mean: one command with all its options filled in, or nothing.
+#![tactic(auto)]
+
+mod command;
+mod numerals;
+mod options;
+mod reading;
+
+pub use command::Command;
+pub use reading::{meaning, what_words_mean_fits};
+
+#[cfg(test)]
+mod tests;

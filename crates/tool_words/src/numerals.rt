@@ -1,0 +1,40 @@
+//! Numbers on the command line.
+ghost use Rattle.std.specs.Prelude.{◌≡◌};
+ghost use Rattle.std.specs.Char.{is_ascii_digit};
+ghost use Rattle.std.specs.List.{list_all};
+ghost use Rattle.tool_words.specs.Numerals.{is_numeral, is_padded, number_between};
+
+/// Whether the text is a number: decimal digits without a sign, and without a leading zero but for `0`
+/// itself.
+fn is_numeral(digits: &[u8]) -> bool
+    ensures { result ≡ is_numeral digits.now }
+{
+    !digits.is_empty() && !is_padded(digits) && are_digits(digits)
+}
+
+/// Whether there are several bytes and the first is `0`.
+fn is_padded(digits: &[u8]) -> bool
+    ensures { result ≡ is_padded digits.now }
+{
+    digits.len() > 1 && digits[0] == b'0'
+}
+
+/// Whether each byte is a decimal digit.
+fn are_digits(bytes: &[u8]) -> bool
+    ensures { result ≡ list_all is_ascii_digit bytes.now }
+{
+    bytes.iter().all(|b| b.is_ascii_digit())
+}
+
+/// The number that the text is, where it lies in the range.
+pub(crate) fn number_between(least: u32, most: u32, text: &str) -> Option<u32>
+    ensures { result ≡ number_between least most text.now }
+{
+    if !is_numeral(text.as_bytes()) {
+        return None;
+    }
+    match text.parse::<u32>() {
+        Ok(n) if least <= n && n <= most => Some(n),
+        _ => None,
+    }
+}

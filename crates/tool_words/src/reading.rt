@@ -1,0 +1,91 @@
+//! From words to settings, one after the other.
+ghost use Rattle.std.specs.Prelude.{◌≡◌, ◌<◌, ◌≤◌, IfNone, IfSome, None, Some, drop, length, map, string_bytes};
+ghost use Rattle.tool_words.specs.Reading.{FittingLaw, alone, meaning, settled_by, valued};
+ghost use Rattle.tool_words.specs.Options.{no_settings};
+ghost use Rattle.std.specs.Option.{option_map};
+
+use crate::command::{Command, Verb};
+use crate::options::{Name, Settings};
+
+/// The command that the words mean, or `None`. The first word is the command; options follow in any
+/// order, each at most once, as `--name value` or `--name=value`, and a flag as `--name`. The word after
+/// `--name` is its value, whatever it begins with. Names are exact, and every other list of words, among
+/// them the empty one, means nothing.
+pub fn meaning(words: &[String]) -> Option<Command>
+    ensures { result ≡ meaning (map string_bytes words.now) }
+{
+    let (first, rest) = words.split_first()?;
+    let verb = Verb::named(first.as_str())?;
+    let settings = read_settings(verb, rest)?;
+    Some(verb.command(&settings))
+}
+
+/// The parameters of every command that words mean lie in their ranges, and are those of one core.
+pub fn what_words_mean_fits()
+    ensures { FittingLaw }
+{}
+
+/// What the words after the command set.
+fn read_settings(verb: Verb, words: &[String]) -> Option<Settings>
+    ensures { result ≡ settled_by verb no_settings (map string_bytes words.now) }
+{
+    let mut settings = Settings::none();
+    let mut next = 0;
+    while next < words.len() {
+        let (more, used) = put_next(verb, settings, &words[next..])?;
+        settings = more;
+        next += used;
+    }
+    Some(settings)
+}
+
+/// The settings with the one that the words begin with, and how many words it took: one, or a name and
+/// its value.
+fn put_next(verb: Verb, settings: Settings, words: &[String]) -> Option<(Settings, usize)>
+    requires { 0 < length words.now }
+    ensures some { IfSome result (λ r. settled_by verb settings (map string_bytes words.now) ≡ settled_by verb r.0 (map string_bytes (drop r.1 words.now))) }
+    ensures used { IfSome result (λ r. (1 ≤ r.1) × (r.1 ≤ length words.now)) }
+    ensures none { IfNone result (settled_by verb settings (map string_bytes words.now) ≡ None) }
+{
+    let word = words[0].as_str();
+    if let Some(setting) = alone(verb, word) {
+        return Some((settings.put(setting.name, setting.text)?, 1));
+    }
+    if words.len() == 1 {
+        return None;
+    }
+    let setting = valued(verb, word, words[1].as_str())?;
+    Some((settings.put(setting.name, setting.text)?, 2))
+}
+
+/// One option and the text of its value, which is empty for a flag.
+#[derive(Clone, Copy)]
+struct Setting<'a> {
+    name: Name,
+    text: &'a str,
+}
+
+/// The setting that a word makes by itself: a flag, or a name and its value joined by `=`.
+fn alone<'a>(verb: Verb, word: &'a str) -> Option<Setting<'a>>
+    ensures { option_map (λ s. record { name = s.name; text = s.text.now }) result ≡ alone verb word.now }
+{
+    match word.split_once('=') {
+        Some((name, text)) => valued(verb, name, text),
+        None => match Name::of(verb, word)? {
+            name if name.takes_value() => None,
+            name => Some(Setting { name, text: "" }),
+        },
+    }
+}
+
+/// The setting of an option that takes a value.
+fn valued<'a>(verb: Verb, name: &str, text: &'a str) -> Option<Setting<'a>>
+    ensures { option_map (λ s. record { name = s.name; text = s.text.now }) result ≡ valued verb name.now text.now }
+{
+    let name = Name::of(verb, name)?;
+    if name.takes_value() {
+        Some(Setting { name, text })
+    } else {
+        None
+    }
+}
