@@ -1,0 +1,5 @@
+pub mod Fields
+pub mod Laws
+pub mod Ranges
+pub mod Table
+pub mod Words

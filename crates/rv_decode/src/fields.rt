@@ -1,0 +1,102 @@
+//! The fields of an instruction word, and the immediates that they make up.
+ghost use Rattle.std.specs.Prelude.{◌≡◌, ◌≤◌, ◌<◌, ◌^◌};
+ghost use Rattle.rv_decode.specs.Fields.{field, signed, opcode, rd, funct3, rs1, rs2, funct7, upper, immediate_i, immediate_s, immediate_b, immediate_j};
+
+/// `width` bits of the word, from bit `low` up.
+#[tactic(auto, using(crate::proofs::Bits::masked))]
+pub fn field(word: u32, low: u32, width: u32) -> u32
+    requires low { low < 32 }
+    requires width { width < 32 }
+    ensures value { result ≡ field word low width }
+    ensures small { result < 2 ^ width }
+{
+    (word >> low) & ((1 << width) - 1)
+}
+
+pub fn opcode(word: u32) -> u32
+    ensures { result ≡ opcode word }
+{
+    field(word, 0, 7)
+}
+
+pub fn rd(word: u32) -> u8
+    ensures { result ≡ rd word }
+{
+    field(word, 7, 5) as u8
+}
+
+pub fn funct3(word: u32) -> u32
+    ensures { result ≡ funct3 word }
+{
+    field(word, 12, 3)
+}
+
+pub fn rs1(word: u32) -> u8
+    ensures { result ≡ rs1 word }
+{
+    field(word, 15, 5) as u8
+}
+
+pub fn rs2(word: u32) -> u8
+    ensures { result ≡ rs2 word }
+{
+    field(word, 20, 5) as u8
+}
+
+pub fn funct7(word: u32) -> u32
+    ensures { result ≡ funct7 word }
+{
+    field(word, 25, 7)
+}
+
+pub fn upper(word: u32) -> u32
+    ensures { result ≡ upper word }
+{
+    field(word, 12, 20)
+}
+
+/// The number that stands in the low `width` bits as two's complement.
+fn sign_extended(bits: u32, width: u32) -> i32
+    requires some { 1 ≤ width }
+    requires width { width ≤ 21 }
+    requires bits { bits < 2 ^ width }
+    ensures { result ≡ signed width bits }
+{
+    if bits < 1 << (width - 1) {
+        bits as i32
+    } else {
+        bits as i32 - (1 << width)
+    }
+}
+
+pub fn immediate_i(word: u32) -> i32
+    ensures { result ≡ immediate_i word }
+{
+    sign_extended(field(word, 20, 12), 12)
+}
+
+pub fn immediate_s(word: u32) -> i32
+    ensures { result ≡ immediate_s word }
+{
+    sign_extended(field(word, 7, 5) + field(word, 25, 7) * (1 << 5), 12)
+}
+
+pub fn immediate_b(word: u32) -> i32
+    ensures { result ≡ immediate_b word }
+{
+    let bits = field(word, 8, 4) * 2
+        + field(word, 25, 6) * (1 << 5)
+        + field(word, 7, 1) * (1 << 11)
+        + field(word, 31, 1) * (1 << 12);
+    sign_extended(bits, 13)
+}
+
+pub fn immediate_j(word: u32) -> i32
+    ensures { result ≡ immediate_j word }
+{
+    let bits = field(word, 21, 10) * 2
+        + field(word, 20, 1) * (1 << 11)
+        + field(word, 12, 8) * (1 << 12)
+        + field(word, 31, 1) * (1 << 20);
+    sign_extended(bits, 21)
+}
