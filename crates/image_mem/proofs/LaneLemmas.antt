@@ -1,0 +1,80 @@
+-- The bytes of a word after some of them were copied over are the lanes of the merged word.
+use Rattle.std.proofs.Common.{◌≡◌, ◌⊎◌, inl, inr, ℕ, zero, suc, ◌+◌, ◌-◌, ◌/◌, ◌%◌, ◌^◌, ◌<◌, lit<, Bool, true, false, IsTrue, [], ◌∷◌, take, refl, arith, w32}
+use Rattle.std.specs.Prelude.{if◌then◌else◌}
+use Rattle.std.specs.Int.{byte_at, to_le_bytes, from_le_bytes}
+use Rattle.std.proofs.lemmas.Nat.{mod_below}
+use Rattle.std.proofs.lemmas.Bool.Decides.{nat_tests}
+use borrow.Rule.Slice.PartMut.{put_mid}
+use Rattle.image_mem.specs.Lanes.{is_access_size, is_lane_of, merged_lane, merged}
+
+-- the number of the old bytes with the low bytes of the value copied over `size` of them
+abbrev IsMerge : (old value first size : ℕ) → Type 0
+IsMerge old value first size =
+    from_le_bytes w32 (put_mid first (first + size - first) (to_le_bytes w32 old) (take size (to_le_bytes w32 value)))
+    ≡ merged old value first size
+
+merge_byte : (old value first : ℕ) → first < 4 → IsMerge old value first 1
+unfolding merged
+merge_byte old value zero h = refl
+merge_byte old value (suc zero) h = refl
+merge_byte old value (suc (suc zero)) h = refl
+merge_byte old value (suc (suc (suc zero))) h = refl
+merge_byte old value (suc (suc (suc (suc first)))) h = absurd (omega arith)
+
+merge_half : (old value first : ℕ) → first < 4 → first % 2 ≡ 0 → IsMerge old value first 2
+unfolding merged
+merge_half old value zero h e = refl
+merge_half old value (suc zero) h e = absurd (omega arith)
+merge_half old value (suc (suc zero)) h e = refl
+merge_half old value (suc (suc (suc zero))) h e = absurd (omega arith)
+merge_half old value (suc (suc (suc (suc first)))) h e = absurd (omega arith)
+
+merge_whole : (old value first : ℕ) → first < 4 → first % 4 ≡ 0 → IsMerge old value first 4
+unfolding merged
+merge_whole old value zero h e = refl
+merge_whole old value (suc zero) h e = absurd (omega arith)
+merge_whole old value (suc (suc zero)) h e = absurd (omega arith)
+merge_whole old value (suc (suc (suc zero))) h e = absurd (omega arith)
+merge_whole old value (suc (suc (suc (suc first)))) h e = absurd (omega arith)
+
+-- the three sizes
+pub sizes : (size : ℕ) → IsTrue (is_access_size size) → (size ≡ 1) ⊎ ((size ≡ 2) ⊎ (size ≡ 4))
+sizes size h = grind (arith, nat_tests)
+
+pub is_merge : (old value address size : ℕ) → IsTrue (is_access_size size) → address % size ≡ 0 → IsMerge old value (address % 4) size
+is_merge old value address size h aligned = elim (sizes size h) [
+  | inl e ↦ rw e (merge_byte old value (address % 4) (omega arith))
+  | inr rest ↦ elim rest [
+    | inl e ↦ rw e (merge_half old value (address % 4) (omega arith) (let k : address % 2 ≡ 0 = rw e at aligned in omega arith))
+    | inr e ↦ rw e (merge_whole old value (address % 4) (omega arith) (let k : address % 4 ≡ 0 = rw e at aligned in omega arith))
+  ]
+]
+
+byte_at-below : (k n : ℕ) → byte_at k n < 256
+byte_at-below zero n = omega arith
+byte_at-below (suc k) n = mod_below (n / 256 ^ suc k) 256 (lit< tt)
+
+chosen_below : (test : Bool) (a b : ℕ) → a < 256 → b < 256 → (if test then a else b) < 256
+chosen_below true a b h k = h
+chosen_below false a b h k = k
+
+merged_lane-below : (old value first size lane : ℕ) → merged_lane old value first size lane < 256
+merged_lane-below old value first size lane =
+    chosen_below (is_lane_of first size lane) (byte_at (lane - first) value) (byte_at lane old)
+    (byte_at-below (lane - first) value) (byte_at-below lane old)
+
+four_below : (a b c d : ℕ) → a < 256 → b < 256 → c < 256 → d < 256 → from_le_bytes w32 (a ∷ b ∷ c ∷ d ∷ []) < 2 ^ 32
+four_below a b c d h i j k = omega arith
+
+-- a merged word is a word
+pub merged-below : (old value first size : ℕ) → merged old value first size < 2 ^ 32
+unfolding merged
+merged-below old value first size =
+    let at = λ (k : ℕ). merged_lane old value first size k in
+    let below = λ (k : ℕ). merged_lane-below old value first size k in
+    four_below (at 0) (at 1) (at 2) (at 3) (below 0) (below 1) (below 2) (below 3)
+
+-- four lanes leave nothing of the old word
+pub merged-whole : (one other value : ℕ) → merged one value 0 4 ≡ merged other value 0 4
+unfolding merged
+merged-whole one other value = refl

@@ -1,0 +1,13 @@
+//! An image of memory as it was loaded, a flat memory of words, and the lanes of a word. Words are
+//! little-endian, as the RISC-V Unprivileged ISA (20191213) has them.
+#![tactic(auto)]
+
+mod flat_image;
+mod lanes;
+#[cfg(test)]
+mod tests;
+mod word_memory;
+
+pub use flat_image::{Image, TooLarge};
+pub use lanes::{merge_lanes, merged_words};
+pub use word_memory::Memory;
