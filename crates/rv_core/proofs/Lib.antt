@@ -1,0 +1,4 @@
+pub mod LawLemmas
+pub mod OpLemmas
+pub mod StepLemmas
+pub mod StopLemmas

@@ -1,0 +1,99 @@
+-- How a core that isn't done goes on: its instruction, and what that needs.
+use Rattle.std.proofs.Common.{◌≡◌, ◌<◌, ℕ, ◌*◌, ◌/◌, ◌%◌, Bool, true, false, Option, Some, None, nat_le, nat_eq, refl, sym, ◌∙◌, ap, arith}
+use Rattle.std.specs.Prelude.{option_and_then, if◌then◌else◌, ◌==◌}
+use Rattle.std.proofs.lemmas.Bool.Decides.{nat_tests}
+use Rattle.rv_decode.specs.declared.instructions.Op.{Op}
+use Rattle.rv_decode.specs.Table.{decoded}
+use Rattle.image_mem.specs.Contents.{Contents, fetched}
+use Rattle.rv_core.specs.declared.core_state.Core.{Core}
+use Rattle.rv_core.specs.declared.core_state.Halt.{Halt}
+use Rattle.rv_core.specs.declared.core_state.Halt.TheVariants.{Running, Exited, Broke}
+use Rattle.rv_core.specs.declared.core_state.Need.{Need}
+use Rattle.rv_core.specs.declared.core_state.Need.TheVariants.{Local, Load, Store, Done}
+use Rattle.rv_core.specs.declared.core_state.Stop.TheVariants.{Align, Address, Jump}
+use Rattle.rv_core.specs.Steps.{need, is_done, instruction_at, need_of, need_of_word, need_of_fetch, need_at_pc, need_by, need_to_jump, need_to_access}
+
+-- what a core goes on by: the instruction at pc, which is all that it needs and does, below the limit
+pub record GoesOnBy (image : Contents) (core : Core) (op : Op) : Type 0 where
+  pub room : core.count < core.limit
+  pub at_pc : instruction_at image core.pc ≡ Some op
+  pub needs : need image core ≡ need_of image.words core op
+
+-- neither halted nor at the limit
+by_parts : (halt : Halt) (spent : Bool) (at_pc : Need) → is_done (need_by halt spent at_pc) ≡ false
+    → (spent ≡ false) × (need_by halt spent at_pc ≡ at_pc)
+by_parts Exited spent at_pc h = cc
+by_parts Broke spent at_pc h = cc
+by_parts Running true at_pc h = cc
+by_parts Running false at_pc h = (refl, refl)
+
+-- there is an instruction
+word_parts : (words : ℕ) (core : Core) (found : Option Op) → is_done (need_of_word words core found) ≡ false
+    → (op : Op) × (found ≡ Some op) × (need_of_word words core found ≡ need_of words core op)
+word_parts words core None h = cc
+word_parts words core (Some op) h = (op, refl, refl)
+
+fetch_parts : (words : ℕ) (core : Core) (word : Option ℕ) → is_done (need_of_fetch words core word) ≡ false
+    → (op : Op) × (option_and_then decoded word ≡ Some op) × (need_of_fetch words core word ≡ need_of words core op)
+fetch_parts words core None h = cc
+fetch_parts words core (Some word) h = word_parts words core (decoded word) h
+
+pub goes_on : (image : Contents) (core : Core) → is_done (need image core) ≡ false → (op : Op) × GoesOnBy image core op
+unfolding need need_at_pc instruction_at
+goes_on image core h =
+    let halted = by_parts core.halt (nat_le core.limit core.count) (need_at_pc image core) h in
+    let running = sym (ap is_done halted.1) ∙ h in
+    let found = fetch_parts image.words core (fetched image core.pc) running in (
+      found.0,
+      record {
+        room = let spent : nat_le core.limit core.count ≡ false = halted.0 in grind (arith, nat_tests);
+        at_pc = found.1;
+        needs = halted.1 ∙ found.2;
+      },
+    )
+
+-- an access that may be made
+access_by : (even past : Bool) (access : Need)
+    → is_done (if even then (if past then Done Address else access) else Done Align) ≡ false
+    → (even ≡ true) × (past ≡ false) × ((if even then (if past then Done Address else access) else Done Align) ≡ access)
+access_by true true access h = cc
+access_by true false access h = (refl, refl, refl)
+access_by false past access h = cc
+
+-- what an access that may be made says of its address
+pub record IsPlaced (words address size : ℕ) (access : Need) : Type 0 where
+  pub aligned : address % size ≡ 0
+  pub within : address / 4 < words
+  pub needs : need_to_access words address size access ≡ access
+
+pub access_parts : (words address size : ℕ) (access : Need) → is_done (need_to_access words address size access) ≡ false
+    → IsPlaced words address size access
+unfolding need_to_access
+access_parts words address size access h =
+    let parts = access_by (nat_eq (address % size) 0) (nat_le (4 * words) address) access h in
+    record {
+      aligned = let even : nat_eq (address % size) 0 ≡ true = parts.0 in grind (arith, nat_tests);
+      within = let below : nat_le (4 * words) address ≡ false = parts.1 in grind (arith, nat_tests);
+      needs = parts.2;
+    }
+
+-- neither a load nor a store
+unfoldable pub touches : Need → Bool
+touches Local = false
+touches (Load word) = true
+touches (Store word whole) = true
+touches (Done stop) = false
+
+jump_by : (aligned : Bool) → touches (if aligned then Local else Done Jump) ≡ false
+unfolding touches
+jump_by true = refl
+jump_by false = refl
+
+pub jump_untouching : (target : ℕ) → touches (need_to_jump target) ≡ false
+unfolding need_to_jump
+jump_untouching target = jump_by (target % 4 == 0)
+
+pub branch_untouching : (taken : Bool) (target : ℕ) → touches (if taken then need_to_jump target else Local) ≡ false
+unfolding touches
+branch_untouching true target = jump_untouching target
+branch_untouching false target = refl

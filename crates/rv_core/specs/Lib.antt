@@ -1,0 +1,4 @@
+pub mod Laws
+pub mod Operations
+pub mod States
+pub mod Steps

@@ -1,0 +1,42 @@
+//! What holds of a core's steps whatever the instructions are. The layers above know a step by these
+//! laws, and never open the instruction set.
+ghost use Rattle.rv_core.specs.Laws.{StartLaw, CountLaw, NumberLaw, LimitLaw, RoomLaw, LoadWithinLaw, StoreWithinLaw, LocalLaw, StoreLaw, WholeLaw, LocalValueLaw, LoadValueLaw, ValueLaw, TotalLaw};
+
+/// A core starts with its number and limit, and with no retired instruction.
+pub fn a_core_starts_at_0()
+    ensures { StartLaw }
+{}
+
+/// A step counts one instruction more, and keeps the core's number and limit.
+pub fn a_step_counts_one()
+    ensures count { CountLaw }
+    ensures number { NumberLaw }
+    ensures limit { LimitLaw }
+{}
+
+/// A core that isn't done is below its limit, and a need never stops at the total.
+pub fn a_need_leaves_room()
+    ensures room { RoomLaw }
+    ensures total { TotalLaw }
+{}
+
+/// The word of a load or store is one of the memory's.
+pub fn words_are_within()
+    ensures load { LoadWithinLaw }
+    ensures store { StoreWithinLaw }
+{}
+
+/// What a word held matters to the core after a load alone, and to what a store of a part writes.
+pub fn what_a_word_held_matters_to()
+    ensures local { LocalLaw }
+    ensures store { StoreLaw }
+    ensures whole { WholeLaw }
+{}
+
+/// What a word holds after a step: a local instruction answers 0, a load leaves its word, and no value
+/// reaches 2^32.
+pub fn values_are_words()
+    ensures local { LocalValueLaw }
+    ensures load { LoadValueLaw }
+    ensures value { ValueLaw }
+{}

@@ -1,0 +1,17 @@
+//! One core of RV32I, the base integer instruction set of the RISC-V Unprivileged ISA, version
+//! 20191213, chapter 2: what its next instruction needs of memory, and its state after that
+//! instruction. The layers above know an instruction only by what it needs, what it leaves and what
+//! it wrote, and by the laws of the module `laws`.
+#![tactic(auto)]
+
+mod branches;
+mod core_state;
+mod lane_access;
+pub mod laws;
+mod operations;
+mod outcomes;
+#[cfg(test)]
+mod tests;
+
+pub use core_state::{Core, Halt, Need, REGISTERS, Stop};
+pub use outcomes::{LoadNote, Outcome};

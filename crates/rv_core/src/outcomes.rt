@@ -1,0 +1,21 @@
+//! What a run or a replay leaves.
+
+use crate::core_state::Core;
+use rtr_types::Items;
+
+/// A retired load of one core: its count, the index of its word, and the value of the whole word.
+#[derive(Clone, Copy, Debug, PartialEq, Eq)]
+pub struct LoadNote {
+    pub count: u32,
+    pub word: u32,
+    pub value: u32,
+}
+
+/// What a run or a replay leaves: the cores by number, the words of memory by index, and for each
+/// core its loads in program order.
+#[derive(Drop)]
+pub struct Outcome {
+    pub cores: Items<Core>,
+    pub words: Items<u32>,
+    pub loads: Items<Items<LoadNote>>,
+}
