@@ -1,0 +1,51 @@
+use super::*;
+
+// Three edges, each one instruction after the one before it.
+#[test]
+fn three_in_a_row(rt: HostRuntime) {
+    let v = StrideVector {
+        n: 3,
+        a0: 3,
+        b0: 3,
+        sa: 1,
+        sb: 2,
+    };
+    assert_eq!(rt; v.last(), (5, 7));
+    assert_eq!(rt; v.position(1), (4, 5));
+    assert_eq!(rt; v.next(), Some((6, 9)));
+    for (b, a) in [
+        (2, None),
+        (3, Some(3)),
+        (4, None),
+        (5, Some(4)),
+        (7, Some(5)),
+        (9, None),
+    ] {
+        assert_eq!(rt; v.source_of(b), a, "at {b}");
+    }
+}
+
+// One edge, and one that ends at the greatest counts.
+#[test]
+fn ends(rt: HostRuntime) {
+    let one = StrideVector {
+        n: 1,
+        a0: 3,
+        b0: 2,
+        sa: 0,
+        sb: 0,
+    };
+    assert_eq!(rt; one.last(), (3, 2));
+    assert_eq!(rt; one.next(), None);
+    assert_eq!(rt; one.source_of(2), Some(3));
+    assert_eq!(rt; one.source_of(3), None);
+    let high = StrideVector {
+        n: 2,
+        a0: 1,
+        b0: 1,
+        sa: u32::MAX - 1,
+        sb: 1,
+    };
+    assert_eq!(rt; high.last(), (u32::MAX, 2));
+    assert_eq!(rt; high.next(), None);
+}
