@@ -1,0 +1,235 @@
+-- A recording that is read is the one that is spelled, and what is spelled is read again.
+use Rattle.std.proofs.Common.{◌≡◌, ℕ, ◌+◌, ◌-◌, ◌^◌, ◌<◌, ◌≤◌, inl, inr, cond, eqb, List, [], ◌++◌, length, take, drop, get_or, Result, Ok, Err, refl, sym, ap, subst, ◌∙◌, append_assoc, arith}
+use Rattle.std.specs.Prelude.{All, IfOk}
+use Rattle.std.proofs.lemmas.Bool.{cases_lt, eqb-true}
+use Rattle.std.proofs.lemmas.List.{append-nil, nil_from_length, get_or_past, take_at, drop_at, length-append}
+use Rattle.rtr_types.specs.declared.parameters.Params.{Params}
+use Rattle.rtr_types.specs.Pairs.{pair_count, source_at, target_at}
+use Rattle.stride_vector.specs.declared.StrideVector.{StrideVector}
+use Rattle.log_codec.specs.declared.fault.TheConstants.{END}
+use Rattle.log_codec.specs.declared.recording.Recording.{Recording}
+use Rattle.log_codec.specs.declared.fault.CodecFault.{CodecFault}
+use Rattle.log_codec.specs.Faults.{◌>>=◌, Fails, Gives}
+use Rattle.log_codec.specs.Turns.{read_in_turn, StandInTurn, stay, follow, count_up}
+use Rattle.log_codec.specs.Validity.{Valid, EdgeRises, EdgeStands, AreEdges, AreVectors, IsListed, bound_at}
+use Rattle.log_codec.specs.Spelling.{header_text, total_text, totals_text, edges_text, reduced_text, vectors_text, regulated_text, spelling}
+use Rattle.log_codec.specs.Reading.{header_at, image_at, total_at, totals_at, edges_at, reduced_at, vectors_at, regulated_at, front_at, whole_at}
+use Rattle.log_codec.specs.Laws.{IsBytes, ReadIsSpelled, SpelledIsRead, SpelledIsFront, FrontIsSpelled, PrefixFree}
+use Rattle.log_codec.proofs.Steps.{bind_ok, guard_ok, ok_is, Takes, Takes-then}
+use Rattle.log_codec.proofs.InTurn.{turns_take, turns_again, stand-places, places-stand, stand-all, all-stand, stand-map}
+use Rattle.log_codec.proofs.FieldLaws.{HeaderFits, header_takes, header_again, image_takes, image_again, total_takes, total_again}
+use Rattle.log_codec.proofs.Logs.{few_edges, few_vectors, edges_take, edges_again, vectors_take, vectors_again}
+
+-- ---- part by part
+
+totals_take : (limit cores : ℕ) (bytes totals rest : List ℕ) → IsBytes bytes → totals_at limit cores bytes ≡ Ok (totals, rest) → Takes bytes (totals_text totals) rest × (length totals ≡ cores) × All (λ t. t ≤ limit) totals
+totals_take limit cores bytes totals rest are e =
+    let t = turns_take (λ (s : Unit {0}). total_at limit) stay total_text (λ (s : Unit {0}) t. t ≤ limit) (λ s b x r. total_takes limit b x r) cores tt bytes totals rest are e in
+    (t.0, t.1, stand-all (λ (t : ℕ). t ≤ limit) totals t.2)
+
+totals_again : (limit : ℕ) (totals rest : List ℕ) → limit < 2 ^ 32 → All (λ t. t ≤ limit) totals → totals_at limit (length totals) (totals_text totals ++ rest) ≡ Ok (totals, rest)
+totals_again limit totals rest small h = turns_again (λ (s : Unit {0}). total_at limit) stay total_text (λ (s : Unit {0}) t. t ≤ limit) (λ s x r most. total_again limit x r small most) tt totals rest (all-stand (λ (t : ℕ). t ≤ limit) totals h)
+
+-- a total that is looked up is at most the limit
+total-small : (limit : ℕ) (totals : List ℕ) (j : ℕ) → All (λ t. t ≤ limit) totals → get_or totals j 0 ≤ limit
+total-small limit totals j h = elim (cases_lt j (length totals)) [
+  | inl lt ↦ h j 0 lt
+  | inr le ↦ rw (get_or_past totals j 0 le) (omega arith)
+]
+
+-- the bounds of a pair are numbers that can be spelled
+record BoundSmall (most : ℕ × ℕ) : Type 0 where
+  source : most.0 < 2 ^ 32
+  target : most.1 < 2 ^ 32
+
+bound-small : (limit : ℕ) (totals : List ℕ) (place : ℕ) → limit < 2 ^ 32 → All (λ t. t ≤ limit) totals → BoundSmall (bound_at totals place)
+bound-small limit totals place small h =
+    let a = total-small limit totals (source_at (length totals) place) h in
+    let b = total-small limit totals (target_at (length totals) place) h in
+    record { source = omega arith; target = omega arith }
+
+reduced_takes : (totals bytes : List ℕ) (reduced : List (List (ℕ × ℕ))) (rest : List ℕ) → IsBytes bytes → reduced_at totals bytes ≡ Ok (reduced, rest) →
+    Takes bytes (reduced_text reduced) rest × (length reduced ≡ pair_count (length totals)) × StandInTurn (λ place es. AreEdges (bound_at totals place) es) count_up 0 reduced
+reduced_takes totals bytes reduced rest are e = turns_take (λ place. edges_at (bound_at totals place)) count_up edges_text (λ place es. AreEdges (bound_at totals place) es) (λ s b x r. edges_take s (bound_at totals s) b x r) (pair_count (length totals)) 0 bytes reduced rest are e
+
+reduced_again : (limit : ℕ) (totals : List ℕ) (reduced : List (List (ℕ × ℕ))) (rest : List ℕ) → limit < 2 ^ 32 → All (λ t. t ≤ limit) totals → length reduced ≡ pair_count (length totals) → StandInTurn (λ place es. AreEdges (bound_at totals place) es) count_up 0 reduced →
+    reduced_at totals (reduced_text reduced ++ rest) ≡ Ok (reduced, rest)
+reduced_again limit totals reduced rest small most each h =
+    let again = turns_again (λ place. edges_at (bound_at totals place)) count_up edges_text (λ place es. AreEdges (bound_at totals place) es) (λ s x r stands. let b = bound-small limit totals s small most in edges_again s (bound_at totals s) x r b.source b.target stands) 0 reduced rest h in
+    subst (λ (n : ℕ). read_in_turn (λ place. edges_at (bound_at totals place)) count_up n 0 (reduced_text reduced ++ rest) ≡ Ok (reduced, rest)) each again
+
+regulated_takes : (totals bytes : List ℕ) (regulated : List (List StrideVector)) (rest : List ℕ) → IsBytes bytes → regulated_at totals bytes ≡ Ok (regulated, rest) →
+    Takes bytes (regulated_text regulated) rest × (length regulated ≡ pair_count (length totals)) × StandInTurn (λ place vs. AreVectors (bound_at totals place) vs) count_up 0 regulated
+regulated_takes totals bytes regulated rest are e = turns_take (λ place. vectors_at (bound_at totals place)) count_up vectors_text (λ place vs. AreVectors (bound_at totals place) vs) (λ s b x r. vectors_take s (bound_at totals s) b x r) (pair_count (length totals)) 0 bytes regulated rest are e
+
+regulated_again : (limit : ℕ) (totals : List ℕ) (regulated : List (List StrideVector)) (rest : List ℕ) → limit < 2 ^ 32 → All (λ t. t ≤ limit) totals → length regulated ≡ pair_count (length totals) → StandInTurn (λ place vs. AreVectors (bound_at totals place) vs) count_up 0 regulated →
+    regulated_at totals (regulated_text regulated ++ rest) ≡ Ok (regulated, rest)
+regulated_again limit totals regulated rest small most each h =
+    let again = turns_again (λ place. vectors_at (bound_at totals place)) count_up vectors_text (λ place vs. AreVectors (bound_at totals place) vs) (λ s x r stands. let b = bound-small limit totals s small most in vectors_again s (bound_at totals s) x r b.source b.target stands) 0 regulated rest h in
+    subst (λ (n : ℕ). read_in_turn (λ place. vectors_at (bound_at totals place)) count_up n 0 (regulated_text regulated ++ rest) ≡ Ok (regulated, rest)) each again
+
+-- ---- the parts together
+
+abbrev pub made_of : Params → List ℕ → List ℕ → List (List (ℕ × ℕ)) → List (List StrideVector) → Recording
+made_of params image totals reduced regulated = record { params = params; image = image; totals = totals; reduced = reduced; regulated = regulated }
+
+abbrev after_reduced : Params → List ℕ → List ℕ → List (List (ℕ × ℕ)) × List ℕ → Result (Recording × List ℕ) ℕ
+after_reduced params image totals reduced = regulated_at totals reduced.1 >>= λ regulated. Ok (made_of params image totals reduced.0 regulated.0, regulated.1)
+
+abbrev after_totals : Params → List ℕ → List ℕ × List ℕ → Result (Recording × List ℕ) ℕ
+after_totals params image totals = reduced_at totals.0 totals.1 >>= after_reduced params image totals.0
+
+abbrev after_image : Params → List ℕ × List ℕ → Result (Recording × List ℕ) ℕ
+after_image params image = totals_at params.limit params.cores image.1 >>= after_totals params image.0
+
+abbrev after_header : Params × ℕ × List ℕ → Result (Recording × List ℕ) ℕ
+after_header header = image_at header.1 header.2 >>= after_image header.0
+
+-- the lists of the pairs of a recording, by place and in turn
+pub valid-made : (p : Params) (image totals : List ℕ) (reduced : List (List (ℕ × ℕ))) (regulated : List (List StrideVector)) → HeaderFits p (length image) → length totals ≡ p.cores → All (λ t. t ≤ p.limit) totals
+    → length reduced ≡ pair_count (length totals) → StandInTurn (λ place es. AreEdges (bound_at totals place) es) count_up 0 reduced
+    → length regulated ≡ pair_count (length totals) → StandInTurn (λ place vs. AreVectors (bound_at totals place) vs) count_up 0 regulated → Valid (made_of p image totals reduced regulated)
+valid-made p image totals reduced regulated fits each most each_reduced edges each_regulated vectors =
+    let reduced_is : length reduced ≡ pair_count p.cores = each_reduced ∙ ap (λ (n : ℕ). pair_count n) each in
+    let regulated_is : length regulated ≡ pair_count p.cores = each_regulated ∙ ap (λ (n : ℕ). pair_count n) each in
+    record {
+      params = fits.params;
+      image = fits.image;
+      each_core = each;
+      totals = most;
+      each_reduced = reduced_is;
+      reduced = λ place lt. subst (λ (k : ℕ). AreEdges (bound_at totals k) (get_or reduced place [])) (zero-plus place) (stand-places (λ place es. AreEdges (bound_at totals place) es) 0 reduced edges place [] (subst (λ (n : ℕ). place < n) (sym reduced_is) lt));
+      each_regulated = regulated_is;
+      regulated = λ place lt. subst (λ (k : ℕ). AreVectors (bound_at totals k) (get_or regulated place [])) (zero-plus place) (stand-places (λ place vs. AreVectors (bound_at totals place) vs) 0 regulated vectors place [] (subst (λ (n : ℕ). place < n) (sym regulated_is) lt));
+    }
+  where
+    zero-plus : (k : ℕ) → 0 + k ≡ k
+    zero-plus k = omega arith
+
+pub edges-stand : (r : Recording) → Valid r → StandInTurn (λ place es. AreEdges (bound_at r.totals place) es) count_up 0 r.reduced
+edges-stand r v = places-stand (λ place es. AreEdges (bound_at r.totals place) es) 0 r.reduced [] (λ i lt. let same : i ≡ 0 + i = omega arith in subst (λ (k : ℕ). AreEdges (bound_at r.totals k) (get_or r.reduced i [])) same (v.reduced i (subst (λ (n : ℕ). i < n) v.each_reduced lt)))
+
+pub vectors-stand : (r : Recording) → Valid r → StandInTurn (λ place vs. AreVectors (bound_at r.totals place) vs) count_up 0 r.regulated
+vectors-stand r v = places-stand (λ place vs. AreVectors (bound_at r.totals place) vs) 0 r.regulated [] (λ i lt. let same : i ≡ 0 + i = omega arith in subst (λ (k : ℕ). AreVectors (bound_at r.totals k) (get_or r.regulated i [])) same (v.regulated i (subst (λ (n : ℕ). i < n) v.each_regulated lt)))
+
+pub front_takes : (bytes : List ℕ) (r : Recording) (rest : List ℕ) → IsBytes bytes → front_at bytes ≡ Ok (r, rest) → Takes bytes (spelling r) rest × Valid r
+unfolding front_at spelling
+front_takes bytes r rest are e =
+    let h = bind_ok (header_at bytes) after_header (r, rest) e in
+    let i = bind_ok (image_at h.0.1 h.0.2) (after_image h.0.0) (r, rest) h.2 in
+    let t = bind_ok (totals_at h.0.0.limit h.0.0.cores i.0.1) (after_totals h.0.0 i.0.0) (r, rest) i.2 in
+    let d = bind_ok (reduced_at t.0.0 t.0.1) (after_reduced h.0.0 i.0.0 t.0.0) (r, rest) t.2 in
+    let g = bind_ok (regulated_at t.0.0 d.0.1) (λ regulated. Ok (made_of h.0.0 i.0.0 t.0.0 d.0.0 regulated.0, regulated.1)) (r, rest) d.2 in
+    let th = header_takes bytes h.0.0 h.0.1 h.0.2 are h.1 in
+    let ti = image_takes h.0.1 h.0.2 i.0.0 i.0.1 th.0.rest_fits i.1 in
+    let tt' = totals_take h.0.0.limit h.0.0.cores i.0.1 t.0.0 t.0.1 ti.0.rest_fits t.1 in
+    let td = reduced_takes t.0.0 t.0.1 d.0.0 d.0.1 tt'.0.rest_fits d.1 in
+    let tg = regulated_takes t.0.0 d.0.1 g.0.0 g.0.1 td.0.rest_fits g.1 in
+    let t1 = Takes-then t.0.1 (reduced_text d.0.0) d.0.1 (regulated_text g.0.0) g.0.1 td.0 tg.0 in
+    let t2 = Takes-then i.0.1 (totals_text t.0.0) t.0.1 (reduced_text d.0.0 ++ regulated_text g.0.0) g.0.1 tt'.0 t1 in
+    let t3 = Takes-then h.0.2 i.0.0 i.0.1 (totals_text t.0.0 ++ (reduced_text d.0.0 ++ regulated_text g.0.0)) g.0.1 ti.0 t2 in
+    let t4 = Takes-then bytes (header_text h.0.0 h.0.1) h.0.2 (i.0.0 ++ (totals_text t.0.0 ++ (reduced_text d.0.0 ++ regulated_text g.0.0))) g.0.1 th.0 t3 in
+    let named : Takes bytes (spelling (made_of h.0.0 i.0.0 t.0.0 d.0.0 g.0.0)) g.0.1 = subst (λ (len : ℕ). Takes bytes (header_text h.0.0 len ++ (i.0.0 ++ (totals_text t.0.0 ++ (reduced_text d.0.0 ++ regulated_text g.0.0)))) g.0.1) (sym ti.1) t4 in
+    let fits : HeaderFits h.0.0 (length i.0.0) = subst (λ (len : ℕ). HeaderFits h.0.0 len) (sym ti.1) th.1 in
+    let valid = valid-made h.0.0 i.0.0 t.0.0 d.0.0 g.0.0 fits tt'.1 tt'.2 td.1 td.2 tg.1 tg.2 in
+    subst (λ (y : Recording × List ℕ). Takes bytes (spelling y.0) y.1 × Valid y.0) (ok_is (made_of h.0.0 i.0.0 t.0.0 d.0.0 g.0.0, g.0.1) (r, rest) g.2) (named, valid)
+
+pub front_again : SpelledIsFront
+unfolding front_at spelling
+front_again r rest v =
+    let params = v.params in
+    let small : r.params.limit < 2 ^ 32 = omega arith in
+    let regrouped : spelling r ++ rest ≡ header_text r.params (length r.image) ++ (r.image ++ (totals_text r.totals ++ (reduced_text r.reduced ++ (regulated_text r.regulated ++ rest)))) = simp append_assoc in
+    let h = header_again r.params (length r.image) (r.image ++ (totals_text r.totals ++ (reduced_text r.reduced ++ (regulated_text r.regulated ++ rest)))) (record { params = v.params; image = v.image }) in
+    let i = image_again r.image (totals_text r.totals ++ (reduced_text r.reduced ++ (regulated_text r.regulated ++ rest))) in
+    let t = subst (λ (n : ℕ). totals_at r.params.limit n (totals_text r.totals ++ (reduced_text r.reduced ++ (regulated_text r.regulated ++ rest))) ≡ Ok (r.totals, reduced_text r.reduced ++ (regulated_text r.regulated ++ rest))) v.each_core
+    (totals_again r.params.limit r.totals (reduced_text r.reduced ++ (regulated_text r.regulated ++ rest)) small v.totals) in
+    let back : pair_count r.params.cores ≡ pair_count (length r.totals) = ap (λ (n : ℕ). pair_count n) (sym v.each_core) in
+    let d = reduced_again r.params.limit r.totals r.reduced (regulated_text r.regulated ++ rest) small v.totals (v.each_reduced ∙ back) (edges-stand r v) in
+    let g = regulated_again r.params.limit r.totals r.regulated rest small v.totals (v.each_regulated ∙ back) (vectors-stand r v) in
+    ap front_at regrouped ∙ rw (h, i, t, d, g) refl
+
+-- ---- the laws
+
+pub front_is_spelled : FrontIsSpelled
+front_is_spelled bytes r rest are e = let t = front_takes bytes r rest are e in (t.1, t.0.parts)
+
+pub read_is_spelled : ReadIsSpelled
+unfolding whole_at
+read_is_spelled bytes r are e =
+    let f = bind_ok (front_at bytes) (λ front. cond (eqb (length front.1) 0) (Ok front.0) (Err END)) r e in
+    let g = guard_ok (eqb (length f.0.1) 0) END f.0.0 r f.2 in
+    let t = front_takes bytes f.0.0 f.0.1 are f.1 in
+    let none : f.0.1 ≡ [] = nil_from_length f.0.1 (eqb-true _ _ g.0) in
+    let all : bytes ≡ spelling f.0.0 = t.0.parts ∙ ap (λ (x : List ℕ). spelling f.0.0 ++ x) none ∙ append-nil (spelling f.0.0) in
+    subst (λ (s : Recording). Valid s × (bytes ≡ spelling s)) g.1 (t.1, all)
+
+pub spelled_is_read : SpelledIsRead
+unfolding whole_at
+spelled_is_read r v =
+    let f : front_at (spelling r) ≡ Ok (r, []) = ap front_at (sym (append-nil (spelling r))) ∙ front_again r [] v in
+    rw f refl
+
+pub prefix_free : PrefixFree
+prefix_free r s x y vr vs e =
+    let both : Ok (r, x) ≡ Ok (s, y) = sym (front_again r x vr) ∙ ap front_at e ∙ front_again s y vs in
+    let same = ok_is (r, x) (s, y) both in
+    (ap (λ (p : Recording × List ℕ). p.0) same, ap (λ (p : Recording × List ℕ). p.1) same)
+
+-- ---- what a call that reads returns
+
+pub is_found : (bytes : List ℕ) (r : Result Recording CodecFault) → IsBytes bytes → Gives (λ x. x) r (whole_at bytes) → IfOk r (λ x. Valid x × (bytes ≡ spelling x))
+is_found bytes (Ok x) are given = read_is_spelled bytes x are given
+is_found bytes (Err e) are given = tt
+
+-- where the front ends
+pub record FrontFound (bytes : List ℕ) (r : Recording) (rest : List ℕ) : Type 0 where
+  pub valid : Valid r
+  pub within : length rest ≤ length bytes
+  pub text : take (length bytes - length rest) bytes ≡ spelling r
+  pub rest_is : drop (length bytes - length rest) bytes ≡ rest
+
+pub front_found : (bytes : List ℕ) (r : Recording) (rest : List ℕ) → IsBytes bytes → front_at bytes ≡ Ok (r, rest) → FrontFound bytes r rest
+front_found bytes r rest are e =
+    let t = front_takes bytes r rest are e in
+    let parts = t.0.parts in
+    let sizes : length bytes ≡ length (spelling r) + length rest = ap (λ (x : List ℕ). length x) parts ∙ length-append (spelling r) rest in
+    let size : length (spelling r) ≡ length bytes - length rest = omega arith in
+    record {
+      valid = t.1;
+      within = omega arith;
+      text = ap (take (length bytes - length rest)) parts ∙ take_at (spelling r) rest (length bytes - length rest) size;
+      rest_is = ap (drop (length bytes - length rest)) parts ∙ drop_at (spelling r) rest (length bytes - length rest) size;
+    }
+
+-- a fault that is answered is the reading's
+pub no_fault : (bytes : List ℕ) (e : CodecFault) (r : Recording) (rest : List ℕ) → Valid r → bytes ≡ spelling r ++ rest → Fails e (front_at bytes) → Fails {Y = Recording × List ℕ} e (Ok (r, rest))
+no_fault bytes e r rest valid is fails = subst (λ (x : Result (Recording × List ℕ) ℕ). Fails e x) (ap front_at is ∙ front_again r rest valid) fails
+
+-- ---- what the writer needs
+
+pub edges_listed : (r : Recording) → Valid r → (place : ℕ) → place < length r.reduced → IsListed (get_or r.reduced place [])
+edges_listed r v place lt =
+    let edges = get_or r.reduced place [] in
+    let most = bound_at r.totals place in
+    let are = v.reduced place (subst (λ (n : ℕ). place < n) v.each_reduced lt) in
+    let params = v.params in
+    let small = bound-small r.params.limit r.totals place (omega arith) v.totals in
+    let few = few_edges most edges are in
+    let least = small.source in
+    record { few = omega arith; rising = stand-map (EdgeStands most) EdgeRises follow (λ s x h. h.rises) (0, 0) edges are }
+
+pub vectors_listed : (r : Recording) → Valid r → (place : ℕ) → place < length r.regulated → length (get_or r.regulated place []) < 2 ^ 32
+vectors_listed r v place lt =
+    let vectors = get_or r.regulated place [] in
+    let most = bound_at r.totals place in
+    let are = v.regulated place (subst (λ (n : ℕ). place < n) v.each_regulated lt) in
+    let params = v.params in
+    let small = bound-small r.params.limit r.totals place (omega arith) v.totals in
+    let few = few_vectors most vectors are in
+    let least = small.source in
+    omega arith
+
+-- the source of a pair retires at most as many instructions as it may
+pub bound-most : (r : Recording) (place : ℕ) → Valid r → (bound_at r.totals place).0 ≤ r.params.limit
+bound-most r place v = total-small r.params.limit r.totals (source_at (length r.totals) place) v.totals

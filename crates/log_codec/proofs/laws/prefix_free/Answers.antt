@@ -1,0 +1,5 @@
+use Rattle.log_codec.proofs.Whole as whole
+use Rattle.log_codec.proofs.laws.prefix_free.Goals as goal
+
+pub returns : goal.returns
+returns c = whole.prefix_free

@@ -1,0 +1,121 @@
+-- Reading a recording from left to right. A number, a count or a byte that doesn't fit is a fault of
+-- the part in which it stands.
+use Rattle.std.specs.Prelude.{ℕ, ◌+◌, ◌*◌, List, length, take, drop, Result, Ok, Err, nat_lt, nat_le, nat_eq, ◌==◌, ◌&&◌, if◌then◌else◌}
+use Rattle.std.specs.List.{starts_with}
+use Rattle.rtr_types.specs.declared.parameters.Params.{Params}
+use Rattle.rtr_types.specs.Pairs.{pair_count}
+use Rattle.stride_vector.specs.declared.StrideVector.{StrideVector}
+use Rattle.varint_core.specs.declared.Varint.{Varint}
+use Rattle.varint_core.specs.Leb128 as leb128
+use Rattle.log_codec.specs.declared.fault.TheConstants.{HEADER, IMAGE, TOTALS, REDUCED, REGULATED, END}
+use Rattle.log_codec.specs.declared.recording.Recording.{Recording}
+use Rattle.log_codec.specs.Faults.{◌>>=◌}
+use Rattle.log_codec.specs.Turns.{read_in_turn, stay, follow, count_up}
+use Rattle.log_codec.specs.Spelling.{magic}
+use Rattle.log_codec.specs.Validity.{fits, bound_at, end_of, vector_stands}
+
+-- the number that the bytes begin with, and the bytes after it
+abbrev pub after_number : ℕ → List ℕ → Result (ℕ × ℕ) Varint → Result (ℕ × List ℕ) ℕ
+after_number part bytes (Ok r) = Ok (r.0, drop r.1 bytes)
+after_number part bytes (Err e) = Err part
+
+unfoldable pub number_at : ℕ → List ℕ → Result (ℕ × List ℕ) ℕ
+number_at part bytes = after_number part bytes (leb128.reading bytes)
+
+unfoldable pub magic_at : List ℕ → Result (List ℕ) ℕ
+magic_at bytes = if starts_with nat_eq bytes magic then Ok (drop 4 bytes) else Err HEADER
+
+-- the parameters, where they and the length of the image lie in their ranges
+unfoldable pub params_of : ℕ → ℕ → ℕ → ℕ → Result Params ℕ
+params_of cores limit words len =
+    if fits (record { cores = cores; limit = limit; words = words }) && nat_le len (4 * words) then Ok (record { cores = cores; limit = limit; words = words }) else Err HEADER
+
+-- the parameters, the length of the image, and the bytes after them
+unfoldable pub header_at : List ℕ → Result (Params × ℕ × List ℕ) ℕ
+header_at bytes = do
+  rest ← magic_at bytes
+  cores ← number_at HEADER rest
+  limit ← number_at HEADER cores.1
+  words ← number_at HEADER limit.1
+  len ← number_at HEADER words.1
+  params ← params_of cores.0 limit.0 words.0 len.0
+  Ok (params, len.0, len.1)
+
+unfoldable pub image_at : ℕ → List ℕ → Result (List ℕ × List ℕ) ℕ
+image_at len bytes = if nat_lt (length bytes) len then Err IMAGE else Ok (take len bytes, drop len bytes)
+
+unfoldable pub total_at : ℕ → List ℕ → Result (ℕ × List ℕ) ℕ
+total_at limit bytes = do
+  total ← number_at TOTALS bytes
+  if nat_le total.0 limit then Ok total else Err TOTALS
+
+-- as many totals as there are cores
+abbrev pub totals_at : ℕ → ℕ → List ℕ → Result (List ℕ × List ℕ) ℕ
+totals_at limit cores bytes = read_in_turn (λ (s : Unit {0}). total_at limit) stay cores tt bytes
+
+-- the next edge after the last one: the target's rise, and then the source's
+unfoldable pub edge_at : ℕ × ℕ → ℕ × ℕ → List ℕ → Result ((ℕ × ℕ) × List ℕ) ℕ
+edge_at most last bytes = do
+  b ← number_at REDUCED bytes
+  a ← number_at REDUCED b.1
+  if (nat_lt 0 a.0 && nat_lt 0 b.0) && (nat_le (last.0 + a.0) most.0 && nat_le (last.1 + b.0) most.1) then Ok ((last.0 + a.0, last.1 + b.0), a.1) else Err REDUCED
+
+-- the edges of a pair: how many, and these
+unfoldable pub edges_at : ℕ × ℕ → List ℕ → Result (List (ℕ × ℕ) × List ℕ) ℕ
+edges_at most bytes = do
+  count ← number_at REDUCED bytes
+  read_in_turn (edge_at most) follow count.0 (0, 0) count.1
+
+-- the edges of each pair
+abbrev pub reduced_at : List ℕ → List ℕ → Result (List (List (ℕ × ℕ)) × List ℕ) ℕ
+reduced_at totals bytes = read_in_turn (λ place. edges_at (bound_at totals place)) count_up (pair_count (length totals)) 0 bytes
+
+-- two strides, the source's first
+abbrev pub two_strides : List ℕ → Result (ℕ × ℕ × List ℕ) ℕ
+two_strides bytes = do
+  a ← number_at REGULATED bytes
+  b ← number_at REGULATED a.1
+  Ok (a.0, b.0, b.1)
+
+-- the strides, which are 0 where there is no second position
+unfoldable pub strides_at : ℕ → List ℕ → Result (ℕ × ℕ × List ℕ) ℕ
+strides_at n bytes = if nat_lt 1 n then two_strides bytes else Ok (0, 0, bytes)
+
+-- the vector, where it stands after the last position
+abbrev pub standing : ℕ × ℕ → ℕ × ℕ → StrideVector → List ℕ → Result (StrideVector × List ℕ) ℕ
+standing most last v rest = if vector_stands most last v then Ok (v, rest) else Err REGULATED
+
+-- the next vector after the last position
+unfoldable pub vector_at : ℕ × ℕ → ℕ × ℕ → List ℕ → Result (StrideVector × List ℕ) ℕ
+vector_at most last bytes = do
+  n ← number_at REGULATED bytes
+  a ← number_at REGULATED n.1
+  b ← number_at REGULATED a.1
+  strides ← strides_at n.0 b.1
+  standing most last (record { n = n.0; a0 = a.0; b0 = b.0; sa = strides.0; sb = strides.1 }) strides.2
+
+-- the vectors of a pair: how many, and these
+unfoldable pub vectors_at : ℕ × ℕ → List ℕ → Result (List StrideVector × List ℕ) ℕ
+vectors_at most bytes = do
+  count ← number_at REGULATED bytes
+  read_in_turn (vector_at most) end_of count.0 (0, 0) count.1
+
+-- the vectors of each pair
+abbrev pub regulated_at : List ℕ → List ℕ → Result (List (List StrideVector) × List ℕ) ℕ
+regulated_at totals bytes = read_in_turn (λ place. vectors_at (bound_at totals place)) count_up (pair_count (length totals)) 0 bytes
+
+-- the parts but for the end, and the bytes after them
+unfoldable pub front_at : List ℕ → Result (Recording × List ℕ) ℕ
+front_at bytes = do
+  header ← header_at bytes
+  image ← image_at header.1 header.2
+  totals ← totals_at header.0.limit header.0.cores image.1
+  reduced ← reduced_at totals.0 totals.1
+  regulated ← regulated_at totals.0 reduced.1
+  Ok (record { params = header.0; image = image.0; totals = totals.0; reduced = reduced.0; regulated = regulated.0 }, regulated.1)
+
+-- all parts
+unfoldable pub whole_at : List ℕ → Result Recording ℕ
+whole_at bytes = do
+  front ← front_at bytes
+  if length front.1 == 0 then Ok front.0 else Err END

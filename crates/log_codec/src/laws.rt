@@ -1,0 +1,23 @@
+//! What the spellings and the readings have in common, and what validity says.
+ghost use Rattle.log_codec.specs.Laws.{ReadIsSpelled, SpelledIsRead, SpelledIsFront, FrontIsSpelled, PrefixFree, ValidTest, EdgesByPair, VectorsByPair};
+
+/// What is read is valid and is spelled so, by all bytes or by those before the rest. What is spelled
+/// is read, also before a rest.
+pub fn spelling_laws()
+    ensures read { ReadIsSpelled }
+    ensures spelled { SpelledIsRead }
+    ensures front_read { FrontIsSpelled }
+    ensures front_spelled { SpelledIsFront }
+{}
+
+/// No spelling of a recording begins that of another.
+pub fn prefix_free()
+    ensures { PrefixFree }
+{}
+
+/// Validity can be tested by computing, and says what each pair's lists are.
+pub fn validity_laws()
+    ensures test { ValidTest }
+    ensures edges { EdgesByPair }
+    ensures vectors { VectorsByPair }
+{}

@@ -1,0 +1,134 @@
+//! Reading the strided vectors of the regulated log.
+ghost use Rattle.std.specs.Prelude.{◌≡◌, ◌+◌, ◌*◌, ◌≤◌, length, IsTrue, IfOk};
+ghost use Rattle.stride_vector.specs.Vectors.{IsVector};
+ghost use Rattle.log_codec.specs.Faults.{Gives};
+ghost use Rattle.log_codec.specs.Turns.{read_in_turn};
+ghost use Rattle.log_codec.specs.Validity.{end_of, strides_stand, vector_stands};
+ghost use Rattle.log_codec.specs.Reading.{strides_at, vector_at, vectors_at, regulated_at};
+
+use crate::edges::bound;
+use crate::fault::{CodecFault, REGULATED};
+use crate::fields::number;
+use rtr_types::{CORES_MAX, Items, pair_count};
+use std::alloc::Global;
+use stride_vector::StrideVector;
+
+/// The strides, which are 0 where there is no second position.
+#[tactic(auto, unfolding(crate::specs::Reading::strides_at))]
+fn strides(n: u32, bytes: &[u8]) -> Result<(u32, u32, &[u8]), CodecFault>
+    ensures { Gives (λ x. (x.0, x.1, x.2.now)) result (strides_at n bytes.now) }
+{
+    if n <= 1 {
+        return Ok((0, 0, bytes));
+    }
+    let (sa, rest) = number(REGULATED, bytes)?;
+    let (sb, rest) = number(REGULATED, rest)?;
+    Ok((sa, sb, rest))
+}
+
+/// The count that lies a number of strides after the first.
+fn reached(first: u32, strides: u32, stride: u32) -> u64
+    ensures { result ≡ first + strides * stride }
+{
+    first as u64 + strides as u64 * stride as u64
+}
+
+/// Whether the strides are 0 just where there is no second position.
+fn has_strides(v: &StrideVector) -> bool
+    ensures { result ≡ strides_stand v.now }
+{
+    if v.n > 1 {
+        v.sa >= 1 && v.sb >= 1
+    } else {
+        v.sa == 0 && v.sb == 0
+    }
+}
+
+/// Whether a vector stands after the last position, with all its counts at most the totals.
+fn stands(most: (u32, u32), last: (u32, u32), v: &StrideVector) -> bool
+    ensures test { result ≡ vector_stands most last v.now }
+    ensures vector { IsTrue result → IsVector v.now }
+{
+    let more = v.n.saturating_sub(1);
+    v.n >= 1
+        && has_strides(v)
+        && last.0 < v.a0
+        && last.1 < v.b0
+        && reached(v.a0, more, v.sa) <= most.0 as u64
+        && reached(v.b0, more, v.sb) <= most.1 as u64
+}
+
+/// The next vector after the last position.
+#[tactic(auto, unfolding(crate::specs::Reading::vector_at))]
+fn vector(
+    most: (u32, u32),
+    last: (u32, u32),
+    bytes: &[u8],
+) -> Result<(StrideVector, &[u8]), CodecFault>
+    ensures read { Gives (λ x. (x.0, x.1.now)) result (vector_at most last bytes.now) }
+    ensures vector { IfOk result (λ x. IsVector x.0) }
+{
+    let (n, rest) = number(REGULATED, bytes)?;
+    let (a0, rest) = number(REGULATED, rest)?;
+    let (b0, rest) = number(REGULATED, rest)?;
+    let (sa, sb, rest) = strides(n, rest)?;
+    let v = StrideVector { n, a0, b0, sa, sb };
+    if !stands(most, last, &v) {
+        return Err(CodecFault::Bad { part: REGULATED });
+    }
+    Ok((v, rest))
+}
+
+/// As many vectors as the count says.
+fn vectors_from(
+    alloc: Global,
+    most: (u32, u32),
+    count: u32,
+    bytes: &[u8],
+) -> Result<(Items<StrideVector>, &[u8]), CodecFault>
+    ensures { Gives (λ x. (x.0, x.1.now)) result (read_in_turn (vector_at most) end_of count (0, 0) bytes.now) }
+{
+    let mut found = Items::new(alloc);
+    let mut last = (0, 0);
+    let mut rest = bytes;
+    for _ in 0..count {
+        let (next, after) = vector(most, last, rest)?;
+        found.push(next)?;
+        last = next.last();
+        rest = after;
+    }
+    Ok((found, rest))
+}
+
+/// The vectors of a pair.
+#[tactic(auto, unfolding(crate::specs::Reading::vectors_at))]
+fn vectors(
+    alloc: Global,
+    most: (u32, u32),
+    bytes: &[u8],
+) -> Result<(Items<StrideVector>, &[u8]), CodecFault>
+    ensures { Gives (λ x. (x.0, x.1.now)) result (vectors_at most bytes.now) }
+{
+    let (count, rest) = number(REGULATED, bytes)?;
+    vectors_from(alloc, most, count, rest)
+}
+
+/// The vectors of all pairs.
+pub fn regulated<'a>(
+    alloc: Global,
+    totals: &[u32],
+    bytes: &'a [u8],
+) -> Result<(Items<Items<StrideVector>>, &'a [u8]), CodecFault>
+    requires { length totals.now ≤ CORES_MAX }
+    ensures { Gives (λ x. (x.0, x.1.now)) result (regulated_at totals.now bytes.now) }
+{
+    let mut found = Items::new(alloc);
+    let mut rest = bytes;
+    for place in 0..pair_count(totals.len() as u8) {
+        let most = bound(totals, place);
+        let (next, after) = vectors(alloc, most, rest)?;
+        found.push(next)?;
+        rest = after;
+    }
+    Ok((found, rest))
+}

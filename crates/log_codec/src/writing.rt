@@ -1,0 +1,113 @@
+//! Writing the one spelling.
+ghost use Rattle.std.specs.Prelude.{◌≡◌, ◌++◌, ◌<◌, ◌≤◌, ◌^◌, ℕ, [], length, slice_index_or, OnOk, IfOk};
+ghost use Rattle.rtr_types.specs.Parameters.{Fits};
+ghost use Rattle.log_codec.specs.Turns.{StandInTurn, follow};
+ghost use Rattle.log_codec.specs.Validity.{Valid, EdgeRises, IsListed};
+ghost use Rattle.log_codec.specs.Spelling.{header_text, totals_text, edges_text, reduced_text, strides_text, vector_text, vectors_text, regulated_text, spelling};
+
+use crate::fields::MAGIC;
+use crate::recording::Recording;
+use rtr_types::{Items, Params};
+use std::alloc::{AllocError, Global};
+use stride_vector::StrideVector;
+use varint_core::put_u32;
+
+/// The header: the format, the parameters, and the length of the image.
+fn put_header(out: &mut Vec<u8>, params: &Params, len: u32) -> Result<(), AllocError>
+    ensures { OnOk result (out.new.items ≡ out.old.items ++ header_text params.now len) }
+{
+    out.extend_from_slice(&MAGIC)?;
+    put_u32(out, params.cores as u32)?;
+    put_u32(out, params.limit)?;
+    put_u32(out, params.words)?;
+    put_u32(out, len)
+}
+
+/// The totals of all cores.
+fn put_totals(out: &mut Vec<u8>, totals: &[u32]) -> Result<(), AllocError>
+    ensures { OnOk result (out.new.items ≡ out.old.items ++ totals_text totals.now) }
+{
+    for total in totals {
+        put_u32(out, *total)?;
+    }
+    Ok(())
+}
+
+/// The edges of a pair: how many, and how far each rises from the one before it.
+fn put_edges(out: &mut Vec<u8>, edges: &[(u32, u32)]) -> Result<(), AllocError>
+    requires few { length edges.now < 2 ^ 32 }
+    requires rising { StandInTurn EdgeRises follow (0, 0) edges.now }
+    ensures { OnOk result (out.new.items ≡ out.old.items ++ edges_text 0 edges.now) }
+{
+    put_u32(out, edges.len() as u32)?;
+    let mut last = (0, 0);
+    for edge in edges {
+        put_u32(out, edge.1 - last.1)?;
+        put_u32(out, edge.0 - last.0)?;
+        last = *edge;
+    }
+    Ok(())
+}
+
+/// The edges of all pairs.
+fn put_reduced(out: &mut Vec<u8>, reduced: &[Items<(u32, u32)>]) -> Result<(), AllocError>
+    requires { (place : ℕ) → place < length reduced.now → IsListed (slice_index_or reduced.now place []) }
+    ensures { OnOk result (out.new.items ≡ out.old.items ++ reduced_text reduced.now) }
+{
+    for edges in reduced {
+        put_edges(out, edges.as_slice())?;
+    }
+    Ok(())
+}
+
+/// A vector: the number of positions, the first position, and the strides if there are any.
+fn put_vector(out: &mut Vec<u8>, v: &StrideVector) -> Result<(), AllocError>
+    ensures { OnOk result (out.new.items ≡ out.old.items ++ vector_text (0, 0) v.now) }
+{
+    put_u32(out, v.n)?;
+    put_u32(out, v.a0)?;
+    put_u32(out, v.b0)?;
+    if v.n > 1 {
+        put_u32(out, v.sa)?;
+        put_u32(out, v.sb)?;
+    }
+    Ok(())
+}
+
+/// The vectors of a pair: how many, and these.
+fn put_vectors(out: &mut Vec<u8>, vectors: &[StrideVector]) -> Result<(), AllocError>
+    requires { length vectors.now < 2 ^ 32 }
+    ensures { OnOk result (out.new.items ≡ out.old.items ++ vectors_text 0 vectors.now) }
+{
+    put_u32(out, vectors.len() as u32)?;
+    for v in vectors {
+        put_vector(out, v)?;
+    }
+    Ok(())
+}
+
+/// The vectors of all pairs.
+fn put_regulated(out: &mut Vec<u8>, regulated: &[Items<StrideVector>]) -> Result<(), AllocError>
+    requires { (place : ℕ) → place < length regulated.now → length (slice_index_or regulated.now place []) < 2 ^ 32 }
+    ensures { OnOk result (out.new.items ≡ out.old.items ++ regulated_text regulated.now) }
+{
+    for vectors in regulated {
+        put_vectors(out, vectors.as_slice())?;
+    }
+    Ok(())
+}
+
+/// The one spelling of the recording.
+#[tactic(auto, unfolding(crate::specs::Spelling::spelling))]
+pub fn spell(alloc: Global, value: &Recording) -> Result<Vec<u8>, AllocError>
+    requires { Valid value.now }
+    ensures { IfOk result (λ bytes. bytes.items ≡ spelling value.now) }
+{
+    let mut out = Vec::new(alloc);
+    put_header(&mut out, &value.params, value.image.len() as u32)?;
+    out.extend_from_slice(value.image.as_slice())?;
+    put_totals(&mut out, value.totals.as_slice())?;
+    put_reduced(&mut out, value.reduced.as_slice())?;
+    put_regulated(&mut out, value.regulated.as_slice())?;
+    Ok(out)
+}
