@@ -1,0 +1,9 @@
+-- the text of the cores' loads so far
+use Rattle.std.proofs.Common.{◌≡◌, ◌++◌, take, string_bytes}
+use Rattle.std.specs.List.{flat_map, enumerate_from}
+use Rattle.state_text.specs.States.{load_lines}
+use Rattle.state_text.proofs.states.put_loads.Given as goal
+
+abbrev pub invariant-loop-number : goal.invariant-loop-number
+invariant-loop-number l =
+    string_bytes l.text ≡ string_bytes l.initial.text ++ flat_map load_lines (enumerate_from 0 (take l.number l.loads))

@@ -1,0 +1,4 @@
+pub mod Exits
+pub mod Logs
+pub mod Pieces
+pub mod States

@@ -1,0 +1,89 @@
+//! The text that tells why a command gave up.
+ghost use Rattle.std.specs.Prelude.{◌≡◌, ◌+◌, ◌≤◌, [], ◌++◌, length, decimal};
+ghost use Rattle.state_text.specs.Exits.{fault_line};
+
+use crate::exits::Exit;
+use itoa::Buffer;
+use std::marker::Model;
+
+/// The most bytes that a fault text has.
+pub const FAULT_TEXT_MAX: usize = 256;
+
+/// A text of at most 256 bytes that stands inline, so that it can be made where memory ran out.
+#[derive(Drop)]
+pub struct FaultText {
+    bytes: [u8; FAULT_TEXT_MAX],
+    used: usize,
+}
+
+impl Model for FaultText {
+    ghost use Rattle.std.specs.Prelude.{List, ℕ, take, ◌≤◌};
+
+    ghost Value = { List ℕ };
+
+    ghost view = { λ text. take text.used text.bytes };
+
+    ghost invariant = { λ text. text.used ≤ 256 };
+}
+
+impl FaultText {
+    /// The text's bytes.
+    pub fn bytes(&self) -> &[u8]
+        ensures text { result.now ≡ self.now }
+        ensures short { length result.now ≤ FAULT_TEXT_MAX }
+    {
+        &self.bytes[..self.used]
+    }
+
+    // The text of no byte.
+    fn empty() -> FaultText
+        ensures { result ≡ [] }
+    {
+        FaultText {
+            bytes: [0; FAULT_TEXT_MAX],
+            used: 0,
+        }
+    }
+
+    // Puts the bytes at the end.
+    fn put(&mut self, piece: &[u8])
+        requires { length self.old + length piece.now ≤ FAULT_TEXT_MAX }
+        ensures { self.new ≡ self.old ++ piece.now }
+    {
+        let end = self.used + piece.len();
+        self.bytes[self.used..end].copy_from_slice(piece);
+        self.used = end;
+    }
+
+    // Puts a decimal number at the end. It has at most 40 digits.
+    fn put_number(&mut self, number: u32)
+        requires { length self.old + 40 ≤ FAULT_TEXT_MAX }
+        ensures text { self.new ≡ self.old ++ decimal number }
+        ensures short { length self.new ≤ length self.old + 40 }
+    {
+        let mut buffer = Buffer::new();
+        self.put(buffer.format(number).as_bytes());
+    }
+}
+
+/// The text that goes to the report where a command ends so: one line, or nothing where it did what
+/// it was asked for. It takes no memory.
+pub fn fault_text(exit: &Exit) -> FaultText
+    ensures { result ≡ fault_line exit.now }
+{
+    let mut text = FaultText::empty();
+    match exit {
+        Exit::Done => {}
+        Exit::Usage => text.put(b"rtr: usage\n"),
+        Exit::TooLarge => text.put(b"rtr: input too large\n"),
+        Exit::Bad { part } => {
+            text.put(b"rtr: bad input, part ");
+            text.put_number((*part).into());
+            text.put(b"\n");
+        }
+        Exit::ReadFault => text.put(b"rtr: read fault\n"),
+        Exit::WriteFault => text.put(b"rtr: write fault\n"),
+        Exit::OutOfMemory => text.put(b"rtr: out of memory\n"),
+    }
+    text
+}

@@ -1,0 +1,18 @@
+//! The texts that the tool prints: how a command ended, the state that a run or a replay left, and
+//! the logs of a recording. Each line ends with one line feed, and each text is a list of bytes that
+//! the definitions in `specs/` give line by line.
+#![tactic(auto)]
+
+mod exits;
+mod faults;
+mod hex;
+mod logs;
+mod states;
+
+pub use exits::Exit;
+pub use faults::{FAULT_TEXT_MAX, FaultText, fault_text};
+pub use logs::logs_text;
+pub use states::state_text;
+
+#[cfg(test)]
+mod tests;

@@ -1,0 +1,226 @@
+//! Texts from the tool's written description.
+ghost use Rattle.std.specs.Prelude.{◌≡◌, ◌≤◌, ◌∷◌, [], IfOk, length};
+
+use crate::{Exit, fault_text, logs_text, state_text};
+use image_mem::Image;
+use log_codec::Recording;
+use rtr_types::{Items, Params, WORDS_MAX};
+use rv_core::{Core, Halt, LoadNote, Outcome};
+use std::alloc::{AllocError, Global};
+use std::test::Fail;
+use stride_vector::StrideVector;
+
+// The image of these words, over a memory of `room` words.
+fn image_of(alloc: Global, words: &[u32], room: u32) -> Result<Image, Fail>
+    ensures { IfOk result (λ image. image.words ≡ room) }
+{
+    let mut bytes = Vec::new(alloc);
+    for word in words {
+        bytes.extend_from_slice(&word.to_le_bytes())?;
+    }
+    Ok(Image::flat(bytes, room)?)
+}
+
+// Every exit, with its status and its text.
+#[test]
+fn exits(rt: HostRuntime) {
+    let rows = [
+        (Exit::Done, 0, ""),
+        (Exit::Usage, 1, "rtr: usage\n"),
+        (Exit::TooLarge, 2, "rtr: input too large\n"),
+        (Exit::Bad { part: 4 }, 3, "rtr: bad input, part 4\n"),
+        (Exit::Bad { part: 255 }, 3, "rtr: bad input, part 255\n"),
+        (Exit::ReadFault, 8, "rtr: read fault\n"),
+        (Exit::WriteFault, 9, "rtr: write fault\n"),
+        (Exit::OutOfMemory, 10, "rtr: out of memory\n"),
+    ];
+    for (exit, status, text) in rows {
+        assert_eq!(rt; exit.status(), status);
+        assert_eq!(rt; fault_text(&exit).bytes(), text.as_bytes());
+    }
+}
+
+// The recording of one ECALL.
+#[test]
+fn logs_of_one_core(rt: HostRuntime) -> Result<(), Fail> {
+    let alloc = rt.alloc();
+    let recording = Recording {
+        params: Params {
+            cores: 1,
+            limit: 10000,
+            words: 16384,
+        },
+        image: Items::from_vec(vec![in alloc; 0x73, 0, 0, 0]?),
+        totals: Items::from_vec(vec![in alloc; 1]?),
+        reduced: Items::new(alloc),
+        regulated: Items::new(alloc),
+    };
+    let text = logs_text(alloc, &recording)?;
+    let lines = "cores 1 limit 10000 words 16384 image 4\n\
+        total 0 1\n\
+        reduced 0\n\
+        regulated 0 vectors 0 edges\n";
+    assert_eq!(rt; text.as_slice(), lines.as_bytes());
+    Ok(())
+}
+
+// Three stores that another core reads, recorded with strides and then without.
+#[test]
+fn logs_of_two_cores(rt: HostRuntime) -> Result<(), Fail> {
+    let alloc = rt.alloc();
+    let edges = Items::from_vec(vec![in alloc; (3, 3), (4, 4), (5, 7)]?);
+    let long = StrideVector {
+        n: 2,
+        a0: 3,
+        b0: 3,
+        sa: 1,
+        sb: 1,
+    };
+    let short = StrideVector {
+        n: 1,
+        a0: 5,
+        b0: 7,
+        sa: 0,
+        sb: 0,
+    };
+    let vectors = Items::from_vec(vec![in alloc; long, short]?);
+    let recording = Recording {
+        params: Params {
+            cores: 2,
+            limit: 10000,
+            words: 32,
+        },
+        image: Items::from_vec(vec![in alloc; 0; 48]?),
+        totals: Items::from_vec(vec![in alloc; 6, 7]?),
+        reduced: Items::from_vec(vec![in alloc; edges, Items::new(alloc)]?),
+        regulated: Items::from_vec(vec![in alloc; Items::new(alloc), vectors]?),
+    };
+    let text = logs_text(alloc, &recording)?;
+    let lines = "cores 2 limit 10000 words 32 image 48\n\
+        total 0 6\n\
+        total 1 7\n\
+        reduced 3\n\
+        edge 0:3 1:3\n\
+        edge 0:4 1:4\n\
+        edge 0:5 1:7\n\
+        regulated 2 vectors 3 edges\n\
+        vector 1 0 2 3 3 1 1\n\
+        vector 1 0 1 5 7\n";
+    assert_eq!(rt; text.as_slice(), lines.as_bytes());
+    Ok(())
+}
+
+// What one core without loads left in a memory of these words.
+fn state_of(alloc: Global, core: Core, image: &Image, words: &[u32]) -> Result<Vec<u8>, AllocError>
+    requires memory { image.now.words ≤ WORDS_MAX }
+    requires words { length words.now ≡ image.now.words }
+{
+    let none = Items::new(alloc);
+    let outcome = Outcome {
+        cores: Items::from_vec(vec![in alloc; core]?),
+        words: Items::from_vec(Vec::from_slice(alloc, words)?),
+        loads: Items::from_vec(vec![in alloc; none]?),
+    };
+    state_text(alloc, &outcome, image, true)
+}
+
+// A core at which nothing but its stop is to be told.
+fn core_at(count: u32, pc: u32, halt: Halt) -> Core {
+    let mut core = Core::new(0, 10000);
+    core.count = count;
+    core.pc = pc;
+    core.halt = halt;
+    core
+}
+
+// Each stop, and words of the image that became 0.
+#[test]
+fn stops(rt: HostRuntime) -> Result<(), Fail> {
+    // A load from address 2, no instruction, a jump to address 10, a load from address 64, and one
+    // that does nothing.
+    let program = [0x0020_2303, 0, 0x0020_006f, 0x0400_2303, 0x0000_0013];
+    let image = image_of(rt.alloc(), &program, 8)?;
+    let rows = [
+        (1, 4, Halt::Exited, "exit retired 1 pc 00000004"),
+        (1, 4, Halt::Broke, "break retired 1 pc 00000004"),
+        (10000, 16, Halt::Running, "limit retired 10000 pc 00000010"),
+        (0, 20, Halt::Running, "fetch retired 0 pc 00000014"),
+        (1, 4, Halt::Running, "illegal retired 1 pc 00000004"),
+        (2, 8, Halt::Running, "jump retired 2 pc 00000008"),
+        (0, 0, Halt::Running, "align retired 0 pc 00000000"),
+        (3, 12, Halt::Running, "address retired 3 pc 0000000c"),
+        (4, 16, Halt::Running, "total retired 4 pc 00000010"),
+    ];
+    let memory = "mem 00000000 00000000\n\
+        mem 00000008 00000000\n\
+        mem 0000000c 00000000\n\
+        mem 00000010 00000000\n";
+    for (count, pc, halt, line) in rows {
+        let text = state_of(rt.alloc(), core_at(count, pc, halt), &image, &[0; 8])?;
+        let expected = format!(in rt.alloc(); "core 0 {line}\n{memory}")?;
+        assert_eq!(rt; text.as_slice(), expected.as_bytes());
+    }
+    Ok(())
+}
+
+// The first and the last register are told, and x0 is not.
+#[test]
+fn registers(rt: HostRuntime) -> Result<(), Fail> {
+    let image = image_of(rt.alloc(), &[], 4)?;
+    let mut core = core_at(0, 0, Halt::Running);
+    core.registers[0] = 9;
+    core.registers[1] = 0xdead_beef;
+    core.registers[31] = 10;
+    let text = state_of(rt.alloc(), core, &image, &[0, 0, 0, 255])?;
+    let lines = "core 0 fetch retired 0 pc 00000000\n\
+        core 0 x1 deadbeef\n\
+        core 0 x31 0000000a\n\
+        mem 0000000c 000000ff\n";
+    assert_eq!(rt; text.as_slice(), lines.as_bytes());
+    Ok(())
+}
+
+// The loads of one core of two.
+fn loads_of(alloc: Global, note: LoadNote) -> Result<Items<LoadNote>, AllocError>
+    ensures { IfOk result (λ notes. notes ≡ note ∷ []) }
+{
+    Ok(Items::from_vec(vec![in alloc; note]?))
+}
+
+// Two cores whose accesses of one word were ordered both ways, with their loads and without.
+#[test]
+fn state_of_two_cores(rt: HostRuntime) -> Result<(), Fail> {
+    let alloc = rt.alloc();
+    let image = image_of(alloc, &[], 20)?;
+    let mut words = vec![in alloc; 0; 20]?;
+    words[16] = 1;
+    let first = LoadNote {
+        count: 4,
+        word: 16,
+        value: 1,
+    };
+    let second = LoadNote {
+        count: 2,
+        word: 16,
+        value: 7,
+    };
+    let outcome = Outcome {
+        cores: Items::from_vec(vec![in alloc;
+            core_at(5, 0x14, Halt::Exited),
+            core_at(4, 0x20, Halt::Exited),
+        ]?),
+        words: Items::from_vec(words),
+        loads: Items::from_vec(vec![in alloc; loads_of(alloc, first)?, loads_of(alloc, second)?]?),
+    };
+    let state = "core 0 exit retired 5 pc 00000014\n\
+        core 1 exit retired 4 pc 00000020\n\
+        mem 00000040 00000001\n";
+    let loads = "load 0 4 00000040 00000001\n\
+        load 1 2 00000040 00000007\n";
+    let text = state_text(alloc, &outcome, &image, false)?;
+    assert_eq!(rt; text.as_slice(), state.as_bytes());
+    let text = state_text(alloc, &outcome, &image, true)?;
+    let both = format!(in alloc; "{state}{loads}")?;
+    assert_eq!(rt; text.as_slice(), both.as_bytes());
+    Ok(())
+}
