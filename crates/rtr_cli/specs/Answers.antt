@@ -1,0 +1,34 @@
+-- What each way to end says of the input and the output.
+use Rattle.std.specs.Prelude.{◌≡◌, ℕ, ◌+◌, ◌≤◌, ◌⊎◌, List, length, Option, Ok, Err}
+use Rattle.std.specs.Io.KnownBytes.{Appends, Consumes, IsAtEnd, Keeps}
+use Rattle.rtr_io.specs.Faults.{HasRisen}
+use Rattle.rtr_io.specs.Moved.{GivesPart, TakesJust}
+use Rattle.state_text.specs.declared.exits.Exit.{Exit}
+use Rattle.state_text.specs.declared.exits.Exit.TheVariants.{Done, Usage, TooLarge, Bad, ReadFault, WriteFault, OutOfMemory}
+use Rattle.tool_words.specs.declared.command.Command.{Command}
+use Rattle.rtr_cli.specs.Commands.{made, most_of}
+
+-- the input was read to its end, and these bytes were its rest; there are at most `most` of them
+pub record IsRead (most : ℕ) (old new : Option (List ℕ)) (bytes : List ℕ) : Type 0 where
+  pub taken : Consumes old new bytes
+  pub end : IsAtEnd new
+  pub within : length bytes ≤ most
+
+-- what a command's exit says of the bytes that the input had left and of those that the output got.
+-- At Done the output got exactly what the command makes of the input, and at WriteFault a part of it.
+abbrev pub Answers : Command → Exit → (left left' got got' : Option (List ℕ)) → Type 0
+Answers command Done left left' got got' =
+    (input : List ℕ) × (out : List ℕ) × IsRead (most_of command) left left' input × (made command input ≡ Ok out) × Appends got got' out
+Answers command WriteFault left left' got got' =
+    (input : List ℕ) × (out : List ℕ) × IsRead (most_of command) left left' input × (made command input ≡ Ok out) × GivesPart out got got'
+Answers command (Bad part) left left' got got' =
+    (input : List ℕ) × IsRead (most_of command) left left' input × (made command input ≡ Err part) × Keeps got got'
+Answers command TooLarge left left' got got' = TakesJust (most_of command + 1) left left' × Keeps got got'
+Answers command ReadFault left left' got got' = Keeps got got'
+Answers command OutOfMemory left left' got got' = Keeps got got'
+Answers command Usage left left' got got' = ⊥
+
+-- the report got exactly the text, unless its count of faults rose: then a part of it
+abbrev pub Tells : (text : List ℕ) (got got' : Option (List ℕ)) (faults faults' : ℕ) → Type 0
+Tells text got got' faults faults' =
+    (Appends got got' text × (faults' ≡ faults)) ⊎ (GivesPart text got got' × HasRisen faults faults')

@@ -1,0 +1,7 @@
+//! The top call of the tool: from words and an input to an output, a report and a way to end.
+#![tactic(auto)]
+
+mod commands;
+mod tool;
+
+pub use tool::run_tool;

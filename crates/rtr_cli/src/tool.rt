@@ -1,0 +1,94 @@
+//! The top call.
+ghost use Rattle.std.specs.Prelude.{◌≡◌, ◌≢◌, ◌↔◌, ◌≤◌, ◌⊎◌, None, Some, map, string_bytes};
+ghost use Rattle.std.specs.Io.KnownBytes.{Keeps};
+ghost use Rattle.rtr_io.specs.Faults.{HasRisen};
+ghost use Rattle.state_text.specs.Exits.{fault_line};
+ghost use Rattle.tool_words.specs.Commands.{HasFittingParams};
+ghost use Rattle.tool_words.specs.Reading.{meaning};
+ghost use Rattle.rtr_cli.specs.Answers.{Answers, Tells};
+ghost use Rattle.tool_words.specs.declared.command.Command.{Command};
+
+use crate::commands::{make, most_of};
+use log_codec::CodecFault;
+use rtr_io::{ReadEnd, Sink, Source, WriteFault, read_all, write_all};
+use state_text::{Exit, fault_text};
+use std::alloc::Global;
+use tool_words::{Command, meaning, what_words_mean_fits};
+
+/// Does what the words mean: reads the input to its end, gives the output, and tells the report how it
+/// ended. `words` leaves out the program's name.
+///
+/// `Usage` comes exactly where the words mean nothing, and then neither input nor output is touched.
+/// `TooLarge` comes exactly where the input has more bytes than the command takes, `Bad` exactly where it
+/// was read to its end and has no reading, with the first part that has none. `ReadFault` and
+/// `WriteFault` come only where the count of faults of the input or the output rose in this call, and
+/// `OutOfMemory` for want of memory alone. The whole output is made before a byte is given, so every
+/// refusal but `WriteFault` has given nothing. The report gets the exit's text, which is empty for `Done`;
+/// its faults change no exit.
+pub fn run_tool<I: Source, O: Sink, E: Sink>(
+    alloc: Global,
+    words: &[String],
+    input: &mut I,
+    output: &mut O,
+    report: &mut E,
+) -> Exit
+    ensures usage { (result ≡ Exit.Usage) ↔ (meaning (map string_bytes words.now) ≡ None) }
+    ensures untouched { result ≡ Exit.Usage → Keeps (I.left input.old) (I.left input.new) × Keeps (O.got output.old) (O.got output.new) }
+    ensures answered { (command : Command) → meaning (map string_bytes words.now) ≡ Some command → Answers command result (I.left input.old) (I.left input.new) (O.got output.old) (O.got output.new) }
+
+    // Faults of the input and the output are told apart by their counts.
+    ensures read_fault { result ≡ Exit.ReadFault → HasRisen (I.faults input.old) (I.faults input.new) }
+    ensures no_read_fault { (result ≡ Exit.ReadFault) ⊎ (I.faults input.new ≡ I.faults input.old) }
+    ensures write_fault { result ≡ Exit.WriteFault → HasRisen (O.faults output.old) (O.faults output.new) }
+    ensures no_write_fault { (result ≡ Exit.WriteFault) ⊎ (O.faults output.new ≡ O.faults output.old) }
+
+    ensures told { Tells (fault_line result) (E.got report.old) (E.got report.new) (E.faults report.old) (E.faults report.new) }
+{
+    what_words_mean_fits();
+    let exit = match meaning(words) {
+        Some(command) => perform(alloc, &command, input, output),
+        None => Exit::Usage,
+    };
+    tell(report, &exit);
+    exit
+}
+
+/// Reads the input, makes the whole output, and gives it.
+fn perform<I: Source, O: Sink>(
+    alloc: Global,
+    command: &Command,
+    input: &mut I,
+    output: &mut O,
+) -> Exit
+    requires { HasFittingParams command.now }
+    ensures answered { Answers command.now result (I.left input.old) (I.left input.new) (O.got output.old) (O.got output.new) }
+    ensures read_fault { result ≡ Exit.ReadFault → HasRisen (I.faults input.old) (I.faults input.new) }
+    ensures no_read_fault { (result ≡ Exit.ReadFault) ⊎ (I.faults input.new ≡ I.faults input.old) }
+    ensures write_fault { result ≡ Exit.WriteFault → HasRisen (O.faults output.old) (O.faults output.new) }
+    ensures no_write_fault { (result ≡ Exit.WriteFault) ⊎ (O.faults output.new ≡ O.faults output.old) }
+{
+    let bytes = match read_all(alloc, input, most_of(command)) {
+        Ok(bytes) => bytes,
+        Err(ReadEnd::ReadFault) => return Exit::ReadFault,
+        Err(ReadEnd::TooLarge) => return Exit::TooLarge,
+        Err(ReadEnd::OutOfMemory) => return Exit::OutOfMemory,
+    };
+    let out = match make(alloc, command, bytes) {
+        Ok(out) => out,
+        Err(CodecFault::Bad { part }) => return Exit::Bad { part },
+        Err(CodecFault::OutOfMemory) => return Exit::OutOfMemory,
+    };
+    match write_all(output, out.as_slice()) {
+        Ok(()) => Exit::Done,
+        Err(WriteFault) => Exit::WriteFault,
+    }
+}
+
+/// Tells the report how the call ended.
+fn tell<E: Sink>(report: &mut E, exit: &Exit)
+    ensures { Tells (fault_line exit.now) (E.got report.old) (E.got report.new) (E.faults report.old) (E.faults report.new) }
+{
+    match write_all(report, fault_text(exit).bytes()) {
+        Ok(()) | Err(WriteFault) => {}
+    }
+}
