@@ -1,0 +1,12 @@
+//! Worked examples of the whole tool, as tables over the top call. A row is data, so that a test is one
+//! loop over a table.
+#![tactic(auto)]
+
+#[cfg(test)]
+mod calls;
+#[cfg(test)]
+mod faults;
+#[cfg(test)]
+mod tables;
+#[cfg(test)]
+mod tests;
