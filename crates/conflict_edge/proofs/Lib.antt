@@ -1,0 +1,15 @@
+pub mod History
+pub mod Ranks
+pub mod Clocks
+pub mod Independent
+pub mod Kept
+pub mod Reversed
+pub mod TwoForms
+pub mod Online
+pub mod Reach
+pub mod Candidates
+pub mod Scan
+pub mod Steps
+pub mod Next
+pub mod Shuffled
+pub mod Once

@@ -1,0 +1,5 @@
+use Rattle.conflict_edge.proofs.Reach as proved
+use Rattle.conflict_edge.proofs.laws.clock_law.Goals as goal
+
+pub returns : goal.returns
+returns c = proved.clock_law

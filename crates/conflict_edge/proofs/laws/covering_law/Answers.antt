@@ -1,0 +1,5 @@
+use Rattle.conflict_edge.proofs.TwoForms as proved
+use Rattle.conflict_edge.proofs.laws.covering_law.Goals as goal
+
+pub returns : goal.returns
+returns c = proved.covering_law

@@ -1,0 +1,5 @@
+pub mod Conflicts
+pub mod Least
+pub mod Clocks
+pub mod Times
+pub mod Scan

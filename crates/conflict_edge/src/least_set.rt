@@ -1,0 +1,222 @@
+//! The least set of a list of accesses, by the plain definition.
+ghost use Rattle.std.specs.Prelude.{ℕ, ◌≡◌, ◌++◌, ◌∷◌, [], length, IsTrue, IfOk, OnOk};
+ghost use Rattle.rtr_types.specs.declared.nodes.Instr.{Instr};
+ghost use Rattle.clock_core.specs.Order.{Among};
+ghost use Rattle.conflict_edge.specs.Conflicts.{AreCores, CountsRise, is_short_history};
+ghost use Rattle.conflict_edge.specs.Least.{AreOnce, IsLeast, IsOrdered};
+ghost use Rattle.conflict_edge.specs.Scan.{AddsCoveringInto, AreCovering, AreExactClocks};
+ghost use Rattle.conflict_edge.specs.Times.{IsExactClock};
+
+use crate::pairs::conflicts;
+use clock_core::Clock;
+use rtr_types::{Access, Edge, Instr};
+use std::alloc::{AllocError, Global};
+
+/// The least set of the list, which is in the order of retirement: the fewest edges, each from an
+/// access to a later one that conflicts with it, by which every two accesses that conflict are in
+/// order (Netzer 1993). Edges go by the source's core, then the target's core, then the target's
+/// count. The list has at most `ACCESSES_MAX` accesses, of cores in range, whose counts rise from 1
+/// for each core; the only error is want of memory.
+pub fn least_of(alloc: Global, list: &[Access]) -> Result<Vec<Edge>, AllocError>
+    requires { IsTrue (is_short_history list.now) }
+    ensures least { IfOk result (λ edges. IsLeast list.now edges.items) }
+    ensures once { IfOk result (λ edges. AreOnce edges.items) }
+    ensures order { IfOk result (λ edges. IsOrdered edges.items) }
+{
+    let mut edges = covering_pairs(alloc, list)?;
+    edges.sort_by_key(|edge| (edge.from.core, edge.to.core, edge.to.count))?;
+    Ok(edges)
+}
+
+/// The covering pairs of the list, by target in the list's order.
+fn covering_pairs(alloc: Global, list: &[Access]) -> Result<Vec<Edge>, AllocError>
+    requires rise { CountsRise list.now }
+    requires cores { AreCores list.now }
+    ensures covering { IfOk result (λ edges. AreCovering list.now edges.items) }
+    ensures once { IfOk result (λ edges. AreOnce edges.items) }
+{
+    let mut clocks = Vec::new(alloc);
+    let mut edges = Vec::new(alloc);
+    for (place, access) in list.iter().enumerate() {
+        let clock = push_covering(&list[..place], &clocks, access, &mut edges)?;
+        clocks.push(clock)?;
+    }
+    Ok(edges)
+}
+
+/// Adds the covering pairs into an access, which comes after the earlier ones, and answers its clock.
+/// From the newest access to the oldest, one that conflicts is a covering source exactly where none
+/// of the newer ones that lead to the access knows of it.
+fn push_covering(
+    earlier: &[Access],
+    clocks: &[Clock],
+    access: &Access,
+    edges: &mut Vec<Edge>,
+) -> Result<Clock, AllocError>
+    requires len { length clocks.now ≡ length earlier.now }
+    requires exact { AreExactClocks earlier.now clocks.now }
+    requires rise { CountsRise (earlier.now ++ access.now ∷ []) }
+    requires cores { AreCores (earlier.now ++ access.now ∷ []) }
+    requires once { AreOnce edges.old.items }
+    requires apart { (x : Instr) → Among edges.old.items x access.now.at → ⊥ }
+    ensures once { OnOk result (AreOnce edges.new.items) }
+    ensures clock { IfOk result (λ clock.
+        IsExactClock (earlier.now ++ access.now ∷ []) access.now.at clock) }
+    ensures edges { OnOk result
+        (AddsCoveringInto (earlier.now ++ access.now ∷ []) access.now edges.old.items edges.new.items) }
+{
+    let mut known = Clock::zero();
+    for place in (0..earlier.len()).rev() {
+        let source = &earlier[place];
+        let conflict = conflicts(source, access);
+        if conflict && !known.covers(source.at) {
+            edges.push(Edge {
+                from: source.at,
+                to: access.at,
+            })?;
+        }
+        if conflict || source.at.core == access.at.core {
+            known = known.merge(clocks[place]);
+        }
+    }
+    known.set(access.at.core, access.at.count);
+    Ok(known)
+}
+
+#[cfg(test)]
+mod tests {
+    use super::*;
+    use rtr_types::Kind;
+    use std::test::Fail;
+
+    macro_rules! access {
+        ($core:literal : $count:literal $kind:ident $word:literal) => {
+            Access {
+                at: Instr {
+                    core: $core,
+                    count: $count,
+                },
+                word: $word,
+                kind: Kind::$kind,
+                before: 0,
+                after: 0,
+            }
+        };
+    }
+
+    macro_rules! edge {
+        ($from:literal : $before:literal, $to:literal : $after:literal) => {
+            Edge {
+                from: Instr {
+                    core: $from,
+                    count: $before,
+                },
+                to: Instr {
+                    core: $to,
+                    count: $after,
+                },
+            }
+        };
+    }
+
+    #[test]
+    fn no_access_gives_no_edge(rt: HostRuntime) -> Result<(), Fail> {
+        let edges = least_of(rt.alloc(), &[])?;
+        assert_eq!(rt; edges.len(), 0);
+        Ok(())
+    }
+
+    // The writer of word 16 comes after the reader 1:3 by way of word 32, so one edge into it is enough.
+    #[test]
+    fn readers_ordered_through_another_word(rt: HostRuntime) -> Result<(), Fail> {
+        let list = [
+            access!(1: 3 Load 16),
+            access!(1: 4 Store 32),
+            access!(2: 4 Load 32),
+            access!(2: 5 Load 16),
+            access!(0: 4 Store 16),
+        ];
+        let edges = least_of(rt.alloc(), &list)?;
+        assert_eq!(rt;
+            edges.as_slice(),
+            [edge!(1: 4, 2: 4), edge!(2: 5, 0: 4)].as_slice()
+        );
+        Ok(())
+    }
+
+    // Word 16 goes from core 0 to core 1 and on to core 2, by way of word 20; word 24 closes the ring.
+    // Seven pairs conflict, and three edges imply them all.
+    #[test]
+    fn chain_over_three_words(rt: HostRuntime) -> Result<(), Fail> {
+        let list = [
+            access!(0: 1 Store 16),
+            access!(1: 1 Load 16),
+            access!(1: 2 Store 20),
+            access!(2: 1 Load 20),
+            access!(2: 2 Store 16),
+            access!(2: 3 Store 24),
+            access!(0: 2 Load 24),
+            access!(0: 3 Store 20),
+        ];
+        let edges = least_of(rt.alloc(), &list)?;
+        assert_eq!(rt;
+            edges.as_slice(),
+            [edge!(0: 1, 1: 1), edge!(1: 2, 2: 1), edge!(2: 3, 0: 2)].as_slice()
+        );
+        Ok(())
+    }
+
+    // Each reader is ordered after the first write and before the second; that orders the writes.
+    #[test]
+    fn two_readers_between_two_writes(rt: HostRuntime) -> Result<(), Fail> {
+        let list = [
+            access!(3: 1 Store 16),
+            access!(2: 1 Load 16),
+            access!(1: 1 Load 16),
+            access!(0: 1 Store 16),
+        ];
+        let edges = least_of(rt.alloc(), &list)?;
+        assert_eq!(rt;
+            edges.as_slice(),
+            [
+                edge!(1: 1, 0: 1),
+                edge!(2: 1, 0: 1),
+                edge!(3: 1, 1: 1),
+                edge!(3: 1, 2: 1)
+            ]
+            .as_slice()
+        );
+        Ok(())
+    }
+
+    // Words 8 and 9 stand in one block of the cache, and the cores share no word.
+    #[test]
+    fn false_sharing_gives_no_edge(rt: HostRuntime) -> Result<(), Fail> {
+        let list = [
+            access!(0: 2 Store 8),
+            access!(1: 2 Store 9),
+            access!(0: 3 Load 8),
+            access!(1: 3 Load 9),
+        ];
+        let edges = least_of(rt.alloc(), &list)?;
+        assert_eq!(rt; edges.len(), 0);
+        Ok(())
+    }
+
+    // Core 0 stores to the word's lowest byte and core 1 to the next one.
+    #[test]
+    fn bytes_of_one_word_conflict(rt: HostRuntime) -> Result<(), Fail> {
+        let low = Access {
+            before: 0,
+            after: 0x05,
+            ..access!(0: 2 Store 8)
+        };
+        let high = Access {
+            before: 0x05,
+            after: 0x0605,
+            ..access!(1: 2 Store 8)
+        };
+        assert!(rt; conflicts(&low, &high));
+        Ok(())
+    }
+}
