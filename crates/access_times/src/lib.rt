@@ -1,0 +1,17 @@
+//! What travels with a block's copies, with the actors and with their messages, and who is told of
+//! each retirement.
+#![tactic(auto)]
+
+mod carries;
+mod clerks;
+mod riders;
+#[cfg(test)]
+mod tests;
+
+pub use carries::{Carry, NoCarry};
+pub use clerks::Clerk;
+pub use riders::{NoRider, Rider};
+
+/// How many words a block has. A word's block is `word / BLOCK_WORDS`, its slot in the block is
+/// `word % BLOCK_WORDS`.
+pub const BLOCK_WORDS: usize = 4;
