@@ -1,0 +1,5 @@
+pub mod Table
+pub mod Messages
+pub mod Lines
+pub mod Lent
+pub mod PlainPart

@@ -1,0 +1,229 @@
+//! One line of a cache: a block's copy and the state that it is in.
+ghost use Rattle.std.specs.Prelude.{◌≡◌, IsTrue, false, is_some};
+ghost use Rattle.msi_cache.specs.Lines.{answer, asks, can_read, can_write, empty_line, has_row, is_allowed, line_after, line_asking, wanted};
+ghost use Rattle.msi_cache.specs.Table.{Signal, is_transient, row};
+ghost use Rattle.msi_cache.specs.declared.copies.State.{State};
+ghost use Rattle.msi_cache.specs.declared.messages.FromHome.{FromHome};
+ghost use Rattle.msi_cache.specs.declared.messages.Response.{Response};
+
+use crate::messages::{FromHome, Request, Response};
+use access_times::{BLOCK_WORDS, Rider};
+use rtr_types::Kind;
+
+/// How many lines a cache has. It is direct-mapped: block `b` goes to line `b % LINES`.
+pub const LINES: usize = 16;
+
+/// The state of a line, by the Primer's names: the stable `I` (invalid), `S` (shared) and `M`
+/// (modified), and the transient ones, in which the line waits for a message. `IsD`, `ImD` and `SmD`
+/// wait for data on their way from the first state to the second; `MiA`, `SiA` and `IiA` wait for the
+/// acknowledgement of a Put.
+#[derive(Clone, Copy, Debug, PartialEq, Eq)]
+pub enum State {
+    I,
+    S,
+    M,
+    IsD,
+    ImD,
+    SmD,
+    MiA,
+    SiA,
+    IiA,
+}
+
+impl State {
+    /// Whether the line waits for a message from home.
+    pub fn is_transient(self) -> bool
+        ensures { result ≡ is_transient self }
+    {
+        !matches!(self, State::I | State::S | State::M)
+    }
+}
+
+/// A line: its state, and the copy of the block that it is for. In `I` the copy means nothing.
+#[derive(Clone, Copy, Debug, PartialEq, Eq)]
+pub struct Line<R> {
+    pub state: State,
+    pub block: u32,
+    pub words: [u32; BLOCK_WORDS],
+    pub rider: R,
+}
+
+impl<R: Rider> Line<R> {
+    /// A line that holds nothing.
+    pub(crate) fn empty() -> Self
+        ensures { result ≡ empty_line R.riding.fresh }
+    {
+        Line {
+            state: State::I,
+            block: 0,
+            words: [0; BLOCK_WORDS],
+            rider: R::fresh(),
+        }
+    }
+
+    /// Whether the line has the block's copy and it may be read.
+    pub(crate) fn can_read(&self, block: u32) -> bool
+        ensures { result ≡ can_read self.now block }
+    {
+        self.block == block && matches!(self.state, State::S | State::M | State::SmD)
+    }
+
+    /// Whether the line has the block's copy and it may be written.
+    pub(crate) fn can_write(&self, block: u32) -> bool
+        ensures { result ≡ can_write self.now block }
+    {
+        self.block == block && matches!(self.state, State::M)
+    }
+
+    /// Whether an access of this kind may be made at the line now.
+    pub(crate) fn allows(&self, block: u32, kind: Kind) -> bool
+        ensures { result ≡ is_allowed self.now block kind }
+    {
+        if kind.is_write() {
+            self.can_write(block)
+        } else {
+            self.can_read(block)
+        }
+    }
+
+    /// Whether the message is about the line's block and the table has a row for it.
+    pub(crate) fn expects(&self, message: &FromHome<R>) -> bool
+        ensures { result ≡ has_row self.now message.now }
+    {
+        let has_row = match message {
+            FromHome::BlockData { .. } => {
+                matches!(self.state, State::IsD | State::ImD | State::SmD)
+            }
+            FromHome::PutAck { .. } => {
+                matches!(self.state, State::MiA | State::SiA | State::IiA)
+            }
+            FromHome::Inv { .. } => matches!(self.state, State::S | State::SmD | State::SiA),
+            FromHome::FwdGetS { .. } | FromHome::FwdGetM { .. } => {
+                matches!(self.state, State::M | State::MiA)
+            }
+        };
+        has_row && self.block == message.block()
+    }
+
+    /// Asks home for what the access needs: the block, or first that another block's copy is taken
+    /// back. The line then waits.
+    pub(crate) fn want(&mut self, block: u32, kind: Kind) -> Request<R>
+        requires still { is_transient self.old.state ≡ false }
+        requires needed { is_allowed self.old block kind ≡ false }
+        ensures row { IsTrue (is_some (wanted self.old block kind)) }
+        ensures asks { result ≡ asks self.old block kind }
+        ensures line { self.new ≡ line_asking self.old block kind }
+    {
+        match self.state {
+            State::S if self.block == block => {
+                self.state = State::SmD;
+                Request::GetM { block }
+            }
+            State::S => {
+                self.state = State::SiA;
+                Request::PutS {
+                    block: self.block,
+                    rider: self.rider,
+                }
+            }
+            State::M => {
+                self.state = State::MiA;
+                Request::PutM {
+                    block: self.block,
+                    words: self.words,
+                    rider: self.rider,
+                }
+            }
+            _ => self.miss(block, kind),
+        }
+    }
+
+    /// Asks home for the block, where the line holds nothing.
+    fn miss(&mut self, block: u32, kind: Kind) -> Request<R>
+        requires { self.old.state ≡ State.I }
+        ensures asks { result ≡ asks self.old block kind }
+        ensures line { self.new ≡ line_asking self.old block kind }
+    {
+        self.block = block;
+        if kind.is_write() {
+            self.state = State::ImD;
+            Request::GetM { block }
+        } else {
+            self.state = State::IsD;
+            Request::GetS { block }
+        }
+    }
+
+    /// Takes a message from home about this line's block, and answers what home has to hear.
+    pub(crate) fn on_home(&mut self, message: FromHome<R>) -> Option<Response<R>>
+        requires { IsTrue (has_row self.old message) }
+        ensures line { self.new ≡ line_after R.riding.absorbed self.old message }
+        ensures answer { result ≡ answer self.old message }
+    {
+        match message {
+            FromHome::BlockData { words, rider, .. } => {
+                self.fill(words, rider);
+                None
+            }
+            FromHome::PutAck { .. } => {
+                self.state = State::I;
+                None
+            }
+            FromHome::Inv { .. } => {
+                self.state = match self.state {
+                    State::SmD => State::ImD,
+                    State::SiA => State::IiA,
+                    _ => State::I,
+                };
+                Some(Response::InvAck {
+                    block: self.block,
+                    rider: self.rider,
+                })
+            }
+            FromHome::FwdGetS { .. } => {
+                self.state = match self.state {
+                    State::MiA => State::SiA,
+                    _ => State::S,
+                };
+                Some(self.owner_data())
+            }
+            FromHome::FwdGetM { .. } => {
+                self.state = match self.state {
+                    State::MiA => State::IiA,
+                    _ => State::I,
+                };
+                Some(self.owner_data())
+            }
+        }
+    }
+
+    /// Takes the data that end a miss. A read copy that is upgraded has been read in the meantime,
+    /// so the new rider absorbs the old one.
+    fn fill(&mut self, words: [u32; BLOCK_WORDS], rider: R)
+        requires { IsTrue (is_some (row Signal.BlockData self.old.state)) }
+        ensures { self.new ≡ line_after R.riding.absorbed self.old (FromHome.BlockData self.old.block words rider) }
+    {
+        let old = self.rider;
+        self.words = words;
+        self.rider = rider;
+        match self.state {
+            State::IsD => self.state = State::S,
+            State::SmD => {
+                self.rider.absorb(&old);
+                self.state = State::M;
+            }
+            _ => self.state = State::M,
+        }
+    }
+
+    /// The copy that this line owns, for home.
+    fn owner_data(&self) -> Response<R>
+        ensures { result ≡ Response.OwnerData self.now.block self.now.words self.now.rider }
+    {
+        Response::OwnerData {
+            block: self.block,
+            words: self.words,
+            rider: self.rider,
+        }
+    }
+}
