@@ -1,0 +1,4 @@
+pub mod Rooms
+pub mod Openings
+pub mod Fits
+pub mod Forgets

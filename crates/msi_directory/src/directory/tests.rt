@@ -1,0 +1,397 @@
+//! Each row of the table once, by calls, with a rider that leaves a trail. What is expected was worked
+//! out by hand from the table of the protocol.
+ghost use Rattle.std.specs.Prelude.{◌*◌, ◌+◌, ◌%◌, ◌^◌};
+
+use super::*;
+use msi_cache::FromHome;
+use rtr_types::CoreSet;
+use std::process::Abort;
+use std::test::Fail;
+
+/// A rider whose decimal digits are the riders that it absorbed, in order, after its own.
+#[derive(Clone, Copy, Debug, PartialEq, Eq)]
+struct Trail {
+    digits: u32,
+}
+
+impl Rider for Trail {
+    ghost riding = { record { fresh = record { digits = 0 }; absorbed = λ a b. record { digits = (a.digits * 10 % 2 ^ 32 + b.digits) % 2 ^ 32 } } };
+
+    fn fresh() -> Self {
+        Trail { digits: 0 }
+    }
+
+    fn absorb(&mut self, other: &Self) {
+        self.digits = self.digits.wrapping_mul(10).wrapping_add(other.digits);
+    }
+}
+
+/// A message about block 2, and the core that it comes from. Where it has words or a rider, each is the
+/// number.
+#[derive(Clone, Copy, Debug)]
+enum Step {
+    GetS(u8),
+    GetM(u8),
+    PutS(u8, u32),
+    PutM(u8, u32),
+    InvAck(u8, u32),
+    OwnerData(u8, u32),
+}
+
+fn ask(
+    rt: &impl Abort,
+    home: &mut Home<Trail>,
+    from: u8,
+    request: Request<Trail>,
+) -> HomeAnswer<Trail> {
+    assert!(rt; from < CORES_MAX && (request.block() as usize) < home.blocks());
+    assert!(rt; home.has_room(request.block()) && home.expects_request(from, &request));
+    home.on_request(from, request)
+}
+
+fn reply(
+    rt: &impl Abort,
+    home: &mut Home<Trail>,
+    from: u8,
+    response: Response<Trail>,
+) -> HomeAnswer<Trail> {
+    assert!(rt; from < CORES_MAX && (response.block() as usize) < home.blocks());
+    assert!(rt; home.expects_response(from, &response));
+    home.on_response(from, response)
+}
+
+fn take(rt: &impl Abort, home: &mut Home<Trail>, step: Step) -> HomeAnswer<Trail> {
+    let block = 2;
+    let rider = |digits: u32| Trail { digits };
+    match step {
+        Step::GetS(from) => ask(rt, home, from, Request::GetS { block }),
+        Step::GetM(from) => ask(rt, home, from, Request::GetM { block }),
+        Step::PutS(from, mark) => {
+            let rider = rider(mark);
+            ask(rt, home, from, Request::PutS { block, rider })
+        }
+        Step::PutM(from, mark) => {
+            let (words, rider) = ([mark; 4], rider(mark));
+            let put = Request::PutM {
+                block,
+                words,
+                rider,
+            };
+            ask(rt, home, from, put)
+        }
+        Step::InvAck(from, mark) => {
+            let rider = rider(mark);
+            reply(rt, home, from, Response::InvAck { block, rider })
+        }
+        Step::OwnerData(from, mark) => {
+            let (words, rider) = ([mark; 4], rider(mark));
+            let given = Response::OwnerData {
+                block,
+                words,
+                rider,
+            };
+            reply(rt, home, from, given)
+        }
+    }
+}
+
+/// Takes the steps of the path, and then the step, which has to be answered so and to leave block 2 in
+/// this stage, with this word and this trail.
+fn row(
+    rt: &impl Abort,
+    alloc: Global,
+    path: &[Step],
+    step: Step,
+    answer: HomeAnswer<Trail>,
+    left: (Stage, u32, u32),
+) -> Result<(), Fail> {
+    let image = Image::flat(Vec::new(alloc), 16)?;
+    let mut home = Home::new(alloc, &image)?;
+    for before in path {
+        take(rt, &mut home, *before);
+    }
+    assert_eq!(rt; take(rt, &mut home, step), answer, "{step:?}");
+    assert!(rt; home.blocks() == 4);
+    let entry = home.entries[2];
+    assert_eq!(rt;
+        (entry.stage, entry.words[0], entry.rider.digits),
+        left,
+        "{step:?}"
+    );
+    Ok(())
+}
+
+/// The answer that sends one message.
+fn sends(to: u8, message: FromHome<Trail>) -> HomeAnswer<Trail> {
+    HomeAnswer {
+        invalidate: CoreSet { bits: 0 },
+        send: Some((to, message)),
+    }
+}
+
+/// The answer that sends the block's data.
+fn data(to: u8, word: u32, trail: u32) -> HomeAnswer<Trail> {
+    let message = FromHome::BlockData {
+        block: 2,
+        words: [word; 4],
+        rider: Trail { digits: trail },
+    };
+    sends(to, message)
+}
+
+/// The answer to a Put.
+fn put_ack(to: u8) -> HomeAnswer<Trail> {
+    sends(to, FromHome::PutAck { block: 2 })
+}
+
+/// The answer that sends Inv to the cores of these bits, and no other message.
+fn invalidates(bits: u8) -> HomeAnswer<Trail> {
+    HomeAnswer {
+        invalidate: CoreSet { bits },
+        send: None,
+    }
+}
+
+/// The stage in which the cores of these bits share the block.
+fn shared(bits: u8) -> Stage {
+    Stage::Shared {
+        by: CoreSet { bits },
+    }
+}
+
+#[test]
+fn takes_requests_for_an_unshared_block(rt: HostRuntime) -> Result<(), Fail> {
+    let alloc = rt.alloc();
+    let owned = Stage::Owned { owner: 3 };
+    row(
+        &rt,
+        alloc,
+        &[],
+        Step::GetS(3),
+        data(3, 0, 0),
+        (shared(8), 0, 0),
+    )?;
+    row(&rt, alloc, &[], Step::GetM(3), data(3, 0, 0), (owned, 0, 0))?;
+    row(
+        &rt,
+        alloc,
+        &[],
+        Step::PutS(3, 5),
+        put_ack(3),
+        (Stage::Unshared, 0, 0),
+    )?;
+    row(
+        &rt,
+        alloc,
+        &[],
+        Step::PutM(3, 5),
+        put_ack(3),
+        (Stage::Unshared, 0, 0),
+    )
+}
+
+#[test]
+fn takes_requests_for_a_shared_block(rt: HostRuntime) -> Result<(), Fail> {
+    let alloc = rt.alloc();
+    let alone = [Step::GetS(0)];
+    let two = [Step::GetS(0), Step::GetS(1)];
+    let owned = Stage::Owned { owner: 0 };
+    let acks = Stage::Acks {
+        of: CoreSet { bits: 1 },
+        requester: 1,
+    };
+    row(
+        &rt,
+        alloc,
+        &alone,
+        Step::GetS(1),
+        data(1, 0, 0),
+        (shared(3), 0, 0),
+    )?;
+    row(
+        &rt,
+        alloc,
+        &alone,
+        Step::GetM(0),
+        data(0, 0, 0),
+        (owned, 0, 0),
+    )?;
+    row(
+        &rt,
+        alloc,
+        &two,
+        Step::GetM(1),
+        invalidates(1),
+        (acks, 0, 0),
+    )?;
+    row(
+        &rt,
+        alloc,
+        &two,
+        Step::PutS(1, 5),
+        put_ack(1),
+        (shared(1), 0, 5),
+    )?;
+    row(
+        &rt,
+        alloc,
+        &alone,
+        Step::PutS(0, 5),
+        put_ack(0),
+        (Stage::Unshared, 0, 5),
+    )?;
+    row(
+        &rt,
+        alloc,
+        &two,
+        Step::PutM(1, 5),
+        put_ack(1),
+        (shared(1), 0, 0),
+    )?;
+    row(
+        &rt,
+        alloc,
+        &alone,
+        Step::PutS(2, 5),
+        put_ack(2),
+        (shared(1), 0, 0),
+    )?;
+    row(
+        &rt,
+        alloc,
+        &alone,
+        Step::PutM(2, 5),
+        put_ack(2),
+        (shared(1), 0, 0),
+    )
+}
+
+#[test]
+fn takes_requests_for_an_owned_block(rt: HostRuntime) -> Result<(), Fail> {
+    let alloc = rt.alloc();
+    let path = [Step::GetM(0)];
+    let owned = Stage::Owned { owner: 0 };
+    let forward = sends(0, FromHome::FwdGetS { block: 2 });
+    let to_share = Stage::Data {
+        of: 0,
+        requester: 1,
+        share: true,
+    };
+    row(&rt, alloc, &path, Step::GetS(1), forward, (to_share, 0, 0))?;
+    let forward = sends(0, FromHome::FwdGetM { block: 2 });
+    let to_own = Stage::Data {
+        of: 0,
+        requester: 1,
+        share: false,
+    };
+    row(&rt, alloc, &path, Step::GetM(1), forward, (to_own, 0, 0))?;
+    row(
+        &rt,
+        alloc,
+        &path,
+        Step::PutM(0, 5),
+        put_ack(0),
+        (Stage::Unshared, 5, 5),
+    )?;
+    row(
+        &rt,
+        alloc,
+        &path,
+        Step::PutM(1, 5),
+        put_ack(1),
+        (owned, 0, 0),
+    )?;
+    row(
+        &rt,
+        alloc,
+        &path,
+        Step::PutS(1, 5),
+        put_ack(1),
+        (owned, 0, 0),
+    )
+}
+
+#[test]
+fn takes_responses(rt: HostRuntime) -> Result<(), Fail> {
+    let alloc = rt.alloc();
+    let path = [Step::GetS(0), Step::GetS(1), Step::GetM(2)];
+    let acks = Stage::Acks {
+        of: CoreSet { bits: 1 },
+        requester: 2,
+    };
+    row(
+        &rt,
+        alloc,
+        &path,
+        Step::InvAck(1, 5),
+        invalidates(0),
+        (acks, 0, 5),
+    )?;
+    let owned = Stage::Owned { owner: 2 };
+    let path = [
+        Step::GetS(0),
+        Step::GetS(1),
+        Step::GetM(2),
+        Step::InvAck(1, 5),
+    ];
+    row(
+        &rt,
+        alloc,
+        &path,
+        Step::InvAck(0, 6),
+        data(2, 0, 56),
+        (owned, 0, 56),
+    )?;
+    let path = [Step::GetM(0), Step::GetS(2)];
+    row(
+        &rt,
+        alloc,
+        &path,
+        Step::OwnerData(0, 5),
+        data(2, 5, 5),
+        (shared(5), 5, 5),
+    )?;
+    let path = [Step::GetM(0), Step::GetM(2)];
+    row(
+        &rt,
+        alloc,
+        &path,
+        Step::OwnerData(0, 5),
+        data(2, 5, 5),
+        (owned, 5, 5),
+    )
+}
+
+#[test]
+fn hands_a_shared_block_to_one_owner(rt: HostRuntime) -> Result<(), Fail> {
+    let image = Image::flat(Vec::new(rt.alloc()), 16)?;
+    let mut home = Home::new(rt.alloc(), &image)?;
+    assert!(rt; home.blocks() == 4);
+    home.make_room(2)?;
+    assert_eq!(rt; take(&rt, &mut home, Step::GetS(0)), data(0, 0, 0));
+    assert!(rt; home.blocks() == 4);
+    home.make_room(2)?;
+    assert_eq!(rt; take(&rt, &mut home, Step::GetS(1)), data(1, 0, 0));
+    assert!(rt; home.blocks() == 4);
+    home.make_room(2)?;
+    assert_eq!(rt; take(&rt, &mut home, Step::GetM(1)), invalidates(1));
+    assert!(rt; home.blocks() == 4);
+    assert_eq!(rt; home.can_take(&Request::GetS { block: 2 }), false);
+    assert_eq!(rt; home.owner(2), None);
+    assert_eq!(rt; take(&rt, &mut home, Step::InvAck(0, 7)), data(1, 0, 7));
+    assert!(rt; home.blocks() == 4);
+    assert_eq!(rt; home.owner(2), Some(1));
+    Ok(())
+}
+
+#[test]
+fn reads_the_opening_words(rt: HostRuntime) -> Result<(), Fail> {
+    let bytes = vec![in rt.alloc(); 1, 0, 0, 0, 2, 0, 0, 0, 3, 1]?;
+    let image = Image::flat(bytes, 5)?;
+    let home = Home::<Trail>::new(rt.alloc(), &image)?;
+    assert!(rt; home.blocks() == 2);
+    let words = [home.word(0), home.word(1), home.word(2), home.word(3)];
+    assert_eq!(rt; words, [1, 2, 259, 0]);
+    assert_eq!(rt; home.word(4), 0);
+    Ok(())
+}

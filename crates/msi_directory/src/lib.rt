@@ -1,0 +1,11 @@
+//! The home: the directory of who holds which block, and the memory's own copy of each, kept by the MSI
+//! protocol of the Primer on Memory Consistency and Cache Coherence (Nagarajan, Sorin, Hill and Wood,
+//! 2nd edition, chapter 8) in a profile in which the home blocks while it collects acknowledgements or
+//! the owner's data.
+#![tactic(auto)]
+
+mod directory;
+mod entries;
+
+pub use directory::{Home, home_rows_fit, riders_change_no_plain_part};
+pub use entries::{Entry, HomeAnswer, Stage};
