@@ -1,0 +1,6 @@
+pub mod Members
+pub mod Keeps
+pub mod Quiet
+pub mod Controllers
+pub mod Followed
+pub mod Count

@@ -1,0 +1,7 @@
+pub mod Block
+pub mod Phases
+pub mod NextPhases
+pub mod Promises
+pub mod Controllers
+pub mod Copies
+pub mod Example
