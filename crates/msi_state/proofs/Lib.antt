@@ -1,0 +1,4 @@
+pub mod Counting
+pub mod Rooms
+pub mod Roomy
+pub mod Start

@@ -1,0 +1,11 @@
+pub mod Moves
+pub mod States
+pub mod Nodes
+pub mod Steps
+pub mod Ready
+pub mod Plain
+pub mod FinalMemory
+pub mod Runs
+pub mod Bound
+pub mod Sights
+pub mod Coherent

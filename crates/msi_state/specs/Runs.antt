@@ -1,0 +1,108 @@
+-- The runs of the plain machine: its state after so many choices, when a run ends, what retires in it
+-- and what its accesses are.
+use Rattle.std.specs.Prelude.{◌≡◌, ◌<◌, ℕ, ◌%◌, ◌==◌, ◌&&◌, true, false, Option, Some, None, List, [], ◌∷◌, ◌++◌, length, map, slice_index_or, zero, suc, if◌then◌else◌}
+use Rattle.std.specs.List.{range_with_len}
+use Rattle.access_times.specs.Riding.{none_riding, none_carrying}
+use Rattle.image_mem.specs.Contents.{Contents}
+use Rattle.rtr_types.specs.Accesses.{is_read}
+use Rattle.rtr_types.specs.declared.nodes.Instr.{Instr}
+use Rattle.rtr_types.specs.declared.accesses.Access.{Access}
+use Rattle.rtr_types.specs.declared.parameters.Params.{Params}
+use Rattle.rv_core.specs.declared.outcomes.LoadNote.{LoadNote}
+use Rattle.rv_core.specs.declared.outcomes.Outcome.{Outcome}
+use Rattle.msi_state.specs.declared.moves.Move.{Move}
+use Rattle.msi_state.specs.States.{PlainState, state_start, all_done}
+use Rattle.msi_state.specs.Nodes.{Event, Nothing, Retires, Accesses}
+use Rattle.msi_state.specs.Steps.{moves, step, event}
+use Rattle.msi_state.specs.FinalMemory.{final_memory}
+
+-- the moves, the step and the event of a state on which nothing rides
+abbrev pub plain_moves : PlainState → List Move
+plain_moves s = moves none_riding none_carrying s
+
+abbrev pub plain_step : PlainState → Move → PlainState
+plain_step s m = step none_riding none_carrying tt s m
+
+abbrev pub plain_event : PlainState → Move → Event
+plain_event s m = event none_riding none_carrying s m
+
+-- of e enabled moves a choice takes the one numbered `choice mod e`; where none is enabled it takes none
+abbrev pub chosen_of : List Move → (choice : ℕ) → Option Move
+chosen_of [] choice = None
+chosen_of (m ∷ ms) choice = Some (slice_index_or (m ∷ ms) (choice % length (m ∷ ms)) m)
+
+abbrev pub chosen : PlainState → (choice : ℕ) → Option Move
+chosen s choice = chosen_of (plain_moves s) choice
+
+abbrev pub stepped_by : PlainState → Option Move → PlainState
+stepped_by s None = s
+stepped_by s (Some m) = plain_step s m
+
+abbrev pub event_by : PlainState → Option Move → Event
+event_by s None = Nothing
+event_by s (Some m) = plain_event s m
+
+-- the machine of an image and parameters before its first move
+abbrev pub opening_state : Contents → Params → PlainState
+opening_state image params = state_start none_riding none_carrying image params.cores params.limit
+
+-- the state after t choices, of which `choices u` is the one numbered u, from 0
+abbrev pub run : Contents → Params → (choices : ℕ → ℕ) → (t : ℕ) → PlainState
+run image params choices zero = opening_state image params
+run image params choices (suc t) =
+    let before = run image params choices t in
+    stepped_by before (chosen before (choices t))
+
+-- what the choice numbered t told the clerk
+abbrev pub event_at : Contents → Params → (choices : ℕ → ℕ) → (t : ℕ) → Event
+event_at image params choices t =
+    let before = run image params choices t in
+    event_by before (chosen before (choices t))
+
+-- a run ends at the first moment at which each core's program is done
+pub record IsRunEnd (image : Contents) (params : Params) (choices : ℕ → ℕ) (t : ℕ) : Type 0 where
+  pub done : all_done (run image params choices t) ≡ true
+  pub first : (u : ℕ) → u < t → all_done (run image params choices u) ≡ false
+
+-- the instructions that retired in a list of events, in order
+abbrev pub retired_in : Event → List Instr
+retired_in Nothing = []
+retired_in (Retires at) = at ∷ []
+retired_in (Accesses a) = a.at ∷ []
+
+-- the accesses of an event
+abbrev pub accesses_in : Event → List Access
+accesses_in (Accesses a) = a ∷ []
+accesses_in _ = []
+
+-- the instructions that retired within the first t choices, in the order in which they did
+abbrev pub retirements : Contents → Params → (choices : ℕ → ℕ) → (t : ℕ) → List Instr
+retirements image params choices zero = []
+retirements image params choices (suc t) = retirements image params choices t ++ retired_in (event_at image params choices t)
+
+-- the data accesses of the first t choices, in the order in which their instructions retired
+abbrev pub accesses : Contents → Params → (choices : ℕ → ℕ) → (t : ℕ) → List Access
+accesses image params choices zero = []
+accesses image params choices (suc t) = accesses image params choices t ++ accesses_in (event_at image params choices t)
+
+-- the loads of a core among accesses, in order, each with the value that it found
+abbrev pub loads_of : (core : ℕ) → List Access → List LoadNote
+loads_of core [] = []
+loads_of core (a ∷ later) =
+    if (a.at.core == core) && is_read a.kind
+    then record { count = a.at.count; word = a.word; value = a.before } ∷ loads_of core later
+    else loads_of core later
+
+-- how many instructions each core has retired
+abbrev pub totals : PlainState → List ℕ
+totals s = map (λ n. n.core.count) s.nodes
+
+-- what the run leaves after t choices: its cores, its memory, and each core's loads
+abbrev pub outcome_at : Contents → Params → (choices : ℕ → ℕ) → (t : ℕ) → Outcome
+outcome_at image params choices t =
+    let s = run image params choices t in
+    record {
+      cores = map (λ n. n.core) s.nodes;
+      words = final_memory none_riding none_carrying s;
+      loads = map (λ c. loads_of c (accesses image params choices t)) (range_with_len 0 params.cores);
+    }

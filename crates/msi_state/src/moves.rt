@@ -1,0 +1,45 @@
+//! The moves of the machine.
+ghost use Rattle.std.specs.Prelude.{◌≡◌, ◌≤◌, ◌<◌, ◌*◌};
+ghost use Rattle.msi_state.specs.Moves.{candidate, core_of};
+ghost use Rattle.rtr_types.specs.declared.TheConstants.{CORES_MAX};
+
+use rtr_types::CORES_MAX;
+
+/// What may happen next, at one core: the core retires an instruction or asks for a block; the home
+/// takes the oldest request, or the oldest response, of the core's links; or the core's cache takes
+/// the oldest message from home.
+#[derive(Clone, Copy, Debug, PartialEq, Eq)]
+pub enum Move {
+    Core(u8),
+    Request(u8),
+    Response(u8),
+    FromHome(u8),
+}
+
+impl Move {
+    /// The core at which it happens.
+    pub fn core(self) -> u8
+        ensures { result ≡ core_of self }
+    {
+        match self {
+            Move::Core(c) | Move::Request(c) | Move::Response(c) | Move::FromHome(c) => c,
+        }
+    }
+
+    /// The move numbered `k` of all that a machine of so many cores can have.
+    pub(crate) fn candidate(cores: u32, k: u32) -> Move
+        requires within { k < 4 * cores }
+        requires cores { cores ≤ CORES_MAX }
+        ensures { result ≡ candidate cores k }
+    {
+        if k < cores {
+            Move::Core(k as u8)
+        } else if k < 2 * cores {
+            Move::Request((k - cores) as u8)
+        } else if k < 3 * cores {
+            Move::Response((k - 2 * cores) as u8)
+        } else {
+            Move::FromHome((k - 3 * cores) as u8)
+        }
+    }
+}
