@@ -1,0 +1,82 @@
+-- What each state of a run keeps.
+use Rattle.std.specs.Prelude.{◌≡◌, ◌≢◌, ℕ, ◌%◌, ◌/◌, ◌<◌, ◌≤◌, ◌^◌, ◌==◌, Bool, true, false, not, length, slice_index_or}
+use Rattle.access_times.specs.Riding.{Riding, Carrying}
+use Rattle.access_times.specs.declared.TheConstants.{BLOCK_WORDS}
+use Rattle.image_mem.specs.Contents.{Contents}
+use Rattle.rtr_types.specs.declared.TheConstants.{CORES_MAX}
+use Rattle.rv_core.specs.declared.core_state.Need.{Need}
+use Rattle.rv_core.specs.declared.core_state.Need.TheVariants.{Local, Load, Store, Done}
+use Rattle.rv_core.specs.Steps.{need}
+use Rattle.msi_cache.specs.declared.copies.TheConstants.{LINES}
+use Rattle.msi_cache.specs.declared.copies.Line.{Line}
+use Rattle.msi_cache.specs.declared.copies.State.{State as LineState}
+use Rattle.msi_cache.specs.declared.copies.State.TheVariants.{I, S, M, IsD, ImD, SmD, MiA, SiA, IiA}
+use Rattle.msi_cache.specs.Lines.{empty_line}
+use Rattle.msi_cache.specs.Table.{is_transient}
+use Rattle.msi_directory.specs.Blocks.{block_count}
+use Rattle.msi_protocol.specs.Phases.{BlockHolds}
+use Rattle.msi_protocol.specs.Promises.{OneWriter}
+use Rattle.msi_state.specs.declared.actors.Node.{Node}
+use Rattle.msi_state.specs.States.{State, node_at}
+use Rattle.msi_sound.specs.Views.{block_in}
+
+-- the block that a core needs
+abbrev pub needed_block : Need → ℕ
+needed_block (Load word) = word / BLOCK_WORDS
+needed_block (Store word whole) = word / BLOCK_WORDS
+needed_block _ = 0
+
+-- a line at place i, which is for the block l, may be in this state while block b is to be read: it
+-- waits for that block's data to read, or for the end of a Put that makes place for the block
+abbrev pub fits_load : LineState → (l i b : ℕ) → Bool
+fits_load IsD l i b = l == b
+fits_load ImD l i b = false
+fits_load SmD l i b = false
+fits_load MiA l i b = i == b % LINES
+fits_load SiA l i b = i == b % LINES
+fits_load IiA l i b = i == b % LINES
+fits_load _ l i b = true
+
+-- and while block b is to be written
+abbrev pub fits_store : LineState → (l i b : ℕ) → Bool
+fits_store IsD l i b = false
+fits_store ImD l i b = l == b
+fits_store SmD l i b = l == b
+fits_store MiA l i b = i == b % LINES
+fits_store SiA l i b = i == b % LINES
+fits_store IiA l i b = i == b % LINES
+fits_store _ l i b = true
+
+-- a line that waits does so for the word that the core needs
+abbrev pub fits_need : Need → LineState → (l i : ℕ) → Bool
+fits_need (Load word) state l i = fits_load state l i (word / BLOCK_WORDS)
+fits_need (Store word whole) state l i = fits_store state l i (word / BLOCK_WORDS)
+fits_need _ state l i = not (is_transient state)
+
+-- a line at place i of a cache over so many blocks, whose core has this need
+pub record LineFits {R : Type 0} (blocks : ℕ) (needed : Need) (i : ℕ) (l : Line R) : Type 0 where
+  pub place : l.state ≢ I → l.block % LINES ≡ i
+  pub within : l.state ≢ I → l.block < blocks
+  pub needed_here : fits_need needed l.state l.block i ≡ true
+
+pub record NodeFits {R K : Type 0} (image : Contents) (riding : Riding R) (blocks : ℕ) (n : Node R K) : Type 0 where
+  pub count_fits : n.core.count ≤ n.core.limit
+  pub limit_fits : n.core.limit < 2 ^ 32
+  pub all_lines : length n.cache ≡ LINES
+  pub lines : (i : ℕ) → LineFits blocks (need image n.core) i (slice_index_or n.cache i (empty_line riding.fresh))
+  pub requests_room : n.requests.room ≡ 1
+  pub responses_room : n.responses.room ≡ CORES_MAX
+  pub messages_room : n.messages.room ≡ CORES_MAX
+
+pub record Sound {R K : Type 0} (riding : Riding R) (carrying : Carrying K) (s : State R K) : Type 0 where
+  pub cores : length s.nodes ≤ CORES_MAX
+  -- the home has the blocks of the image's memory
+  pub blocks_there : length s.home ≡ block_count s.image.words
+  -- each core's number is its place
+  pub numbers : (c : ℕ) → c < length s.nodes → (node_at carrying s.nodes c).core.id ≡ c
+  pub nodes : (c : ℕ) → c < length s.nodes → NodeFits s.image riding (length s.home) (node_at carrying s.nodes c)
+  pub blocks : (b : ℕ) → BlockHolds (block_in riding carrying s b)
+
+-- at most one cache may write a block, and then no other may read it
+abbrev pub OneWriterEverywhere : {R K : Type 0} → Riding R → Carrying K → State R K → Type 0
+OneWriterEverywhere riding carrying s = (b : ℕ) → OneWriter (block_in riding carrying s b)
