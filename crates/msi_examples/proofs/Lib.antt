@@ -1,0 +1,4 @@
+pub mod HandingOver
+pub mod Sharing
+pub mod Choosing
+pub mod Stalling

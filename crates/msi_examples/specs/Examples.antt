@@ -1,0 +1,195 @@
+-- Runs of two cores that were worked out by hand, and what each step of the first of them does.
+use Rattle.std.specs.Prelude.{◌≡◌, ℕ, true, List, [], ◌∷◌, Some}
+use Rattle.image_mem.specs.Contents.{Contents}
+use Rattle.rtr_types.specs.declared.parameters.Params.{Params}
+use Rattle.rtr_types.specs.declared.nodes.Instr.{Instr}
+use Rattle.rtr_types.specs.declared.accesses.Kind.TheVariants.{Load, Store}
+use Rattle.rv_core.specs.declared.core_state.Stop.TheVariants.{Exit, Limit}
+use Rattle.rv_core.specs.declared.outcomes.LoadNote.{LoadNote}
+use Rattle.msi_state.specs.declared.moves.Move.{Move}
+use Rattle.msi_state.specs.declared.moves.Move.TheVariants.{Core, Request, Response, FromHome}
+use Rattle.msi_state.specs.Nodes.{Nothing, Retires, Accesses}
+use Rattle.msi_state.specs.Runs.{opening_state, run}
+use Rattle.msi_examples.specs.Followed.{Taken, Seen, followed, then_zeros, ends_at, seen, loads_by}
+use Rattle.msi_examples.specs.Images.{scaled_words, handed_over, bytes_of_a_word, one_word, reader_evicts, writer_evicts, writers_evict, endless}
+
+-- two cores over an image, each of at most so many instructions
+abbrev pub two_cores : (limit : ℕ) → Contents → Params
+two_cores limit image = record { cores = 2; limit = limit; words = image.words }
+
+-- core c's instruction with this count
+abbrev pub instr : (c count : ℕ) → Instr
+instr c count = record { core = c; count = count }
+
+-- a move in which nothing retires, a local instruction, a load that finds a value, and a store
+abbrev pub quiet : Move → Taken
+quiet move = record { move = Some move; told = Nothing }
+
+abbrev pub local : Move → Instr → Taken
+local move at = record { move = Some move; told = Retires at }
+
+abbrev pub loads : Move → Instr → (word value : ℕ) → Taken
+loads move at word value =
+    record { move = Some move; told = Accesses (record { at = at; word = word; kind = Load; before = value; after = value }) }
+
+abbrev pub stores : Move → Instr → (word before after : ℕ) → Taken
+stores move at word before after =
+    record { move = Some move; told = Accesses (record { at = at; word = word; kind = Store; before = before; after = after }) }
+
+abbrev pub load : (count word value : ℕ) → LoadNote
+load count word value = record { count = count; word = word; value = value }
+
+-- by these choices and then zeros the run ends after exactly t choices, and leaves this
+pub record EndsSo (image : Contents) (limit : ℕ) (choices : List ℕ) (t : ℕ) (left : Seen) (found : List (List LoadNote)) : Type 0 where
+  pub ends : ends_at image (two_cores limit image) (then_zeros choices) t ≡ true
+  pub leaves : seen (run image (two_cores limit image) (then_zeros choices) t) ≡ left
+  pub finds : loads_by image (two_cores limit image) (then_zeros choices) t ≡ found
+
+abbrev pub handing_over : List ℕ
+handing_over = 0 ∷ 0 ∷ 0 ∷ 1 ∷ 1 ∷ 1 ∷ 1 ∷ 1 ∷ 1 ∷ 1 ∷ 1 ∷ 1 ∷ 1 ∷ 1 ∷ 1 ∷ 1 ∷ []
+
+-- core 0 writes a word, core 1 reads it, with the owner's data by way of the home, and then writes it,
+-- once core 0 has given up its shared copy
+abbrev pub OneHandsOver : Type 0
+OneHandsOver =
+    followed (opening_state handed_over (two_cores 10000 handed_over)) handing_over
+    ≡ local (Core 0) (instr 0 1)
+    ∷ local (Core 0) (instr 0 2)
+    ∷ quiet (Core 0)
+    ∷ quiet (Request 0)
+    ∷ stores (FromHome 0) (instr 0 3) 16 0 7
+    ∷ local (Core 1) (instr 1 1)
+    ∷ quiet (Core 1)
+    ∷ quiet (Request 1)
+    ∷ quiet (FromHome 0)
+    ∷ quiet (Response 0)
+    ∷ loads (FromHome 1) (instr 1 2) 16 7
+    ∷ quiet (Core 1)
+    ∷ quiet (Request 1)
+    ∷ quiet (FromHome 0)
+    ∷ quiet (Response 0)
+    ∷ stores (FromHome 1) (instr 1 3) 16 7 1
+    ∷ []
+
+abbrev pub HandedOver : Type 0
+HandedOver =
+    EndsSo handed_over 10000 handing_over 23
+    (record {
+      stops = Exit ∷ Exit ∷ [];
+      retired = 5 ∷ 4 ∷ [];
+      pcs = 0x14 ∷ 0x20 ∷ [];
+      registers = ((5, 7) ∷ (6, 1) ∷ []) ∷ ((7, 7) ∷ (10, 1) ∷ []) ∷ [];
+      memory = (16, 1) ∷ [];
+    })
+    ((load 4 16 1 ∷ []) ∷ (load 2 16 7 ∷ []) ∷ [])
+
+-- two words of one block: each core finds its own word as it left it
+abbrev pub ShareFalsely : Type 0
+ShareFalsely =
+    EndsSo scaled_words 10000 [] 14
+    (record {
+      stops = Exit ∷ Exit ∷ [];
+      retired = 4 ∷ 4 ∷ [];
+      pcs = 0x10 ∷ 0x10 ∷ [];
+      registers = [] ∷ ((5, 4) ∷ (6, 1) ∷ (10, 1) ∷ []) ∷ [];
+      memory = (9, 1) ∷ [];
+    })
+    ((load 3 8 0 ∷ []) ∷ (load 3 9 1 ∷ []) ∷ [])
+
+-- bytes of one word: neither store loses the other's byte
+abbrev pub StoreBytes : Type 0
+StoreBytes =
+    EndsSo bytes_of_a_word 10000 [] 12
+    (record {
+      stops = Exit ∷ Exit ∷ [];
+      retired = 3 ∷ 3 ∷ [];
+      pcs = 0xc ∷ 0xc ∷ [];
+      registers = ((5, 5) ∷ []) ∷ ((5, 6) ∷ (10, 1) ∷ []) ∷ [];
+      memory = (8, 0x605) ∷ [];
+    })
+    ([] ∷ [] ∷ [])
+
+-- one choice decides whose store comes last
+abbrev pub left_by_two_stores : (last : ℕ) → Seen
+left_by_two_stores last =
+    record {
+      stops = Exit ∷ Exit ∷ [];
+      retired = 3 ∷ 3 ∷ [];
+      pcs = 0xc ∷ 0xc ∷ [];
+      registers = ((5, 5) ∷ []) ∷ ((5, 6) ∷ (10, 1) ∷ []) ∷ [];
+      memory = (8, last) ∷ [];
+    }
+
+abbrev pub SecondStoresLast : Type 0
+SecondStoresLast = EndsSo one_word 10000 (0 ∷ 0 ∷ 0 ∷ 0 ∷ 0 ∷ []) 12 (left_by_two_stores 6) ([] ∷ [] ∷ [])
+
+abbrev pub FirstStoresLast : Type 0
+FirstStoresLast = EndsSo one_word 10000 (0 ∷ 0 ∷ 0 ∷ 0 ∷ 1 ∷ []) 12 (left_by_two_stores 5) ([] ∷ [] ∷ [])
+
+-- the first writer reads between two writes: core 1 reads before core 0's write, core 0 reads what it
+-- wrote, and core 1 writes last
+abbrev pub ReadBetweenWrites : Type 0
+ReadBetweenWrites =
+    EndsSo handed_over 10000 (1 ∷ 1 ∷ 1 ∷ 1 ∷ 0 ∷ 0 ∷ 0 ∷ 1 ∷ 1 ∷ 1 ∷ 1 ∷ 0 ∷ []) 19
+    (record {
+      stops = Exit ∷ Exit ∷ [];
+      retired = 5 ∷ 4 ∷ [];
+      pcs = 0x14 ∷ 0x20 ∷ [];
+      registers = ((5, 7) ∷ (6, 7) ∷ []) ∷ ((10, 1) ∷ []) ∷ [];
+      memory = (16, 1) ∷ [];
+    })
+    ((load 4 16 7 ∷ []) ∷ (load 2 16 0 ∷ []) ∷ [])
+
+-- a reader gives its shared copy back, and is told to give it up while that Put waits at the home
+abbrev pub InvMeetsPut : Type 0
+InvMeetsPut =
+    EndsSo reader_evicts 10000 (1 ∷ 1 ∷ 1 ∷ 1 ∷ 1 ∷ 0 ∷ 0 ∷ 0 ∷ 0 ∷ 0 ∷ 0 ∷ 0 ∷ 0 ∷ []) 20
+    (record {
+      stops = Exit ∷ Exit ∷ [];
+      retired = 4 ∷ 5 ∷ [];
+      pcs = 0x10 ∷ 0x1c ∷ [];
+      registers = ((5, 9) ∷ []) ∷ ((5, 10) ∷ (10, 1) ∷ []) ∷ [];
+      memory = (16, 9) ∷ [];
+    })
+    ([] ∷ (load 3 16 0 ∷ load 4 80 0 ∷ []) ∷ [])
+
+-- an owner gives its copy back, and is asked to share it, or to give it up, while that Put waits
+abbrev pub stalling : List ℕ
+stalling = 0 ∷ 0 ∷ 0 ∷ 1 ∷ 1 ∷ 1 ∷ 1 ∷ 1 ∷ 0 ∷ 1 ∷ 0 ∷ 0 ∷ 0 ∷ []
+
+abbrev pub ForwardMeetsPut : Type 0
+ForwardMeetsPut =
+    EndsSo writer_evicts 10000 stalling 20
+    (record {
+      stops = Exit ∷ Exit ∷ [];
+      retired = 5 ∷ 4 ∷ [];
+      pcs = 0x14 ∷ 0x1c ∷ [];
+      registers = ((5, 9) ∷ []) ∷ ((5, 10) ∷ (6, 9) ∷ (10, 1) ∷ []) ∷ [];
+      memory = (16, 9) ∷ [];
+    })
+    ((load 4 80 0 ∷ []) ∷ (load 3 16 9 ∷ []) ∷ [])
+
+abbrev pub ForwardToOwnMeetsPut : Type 0
+ForwardToOwnMeetsPut =
+    EndsSo writers_evict 10000 stalling 20
+    (record {
+      stops = Exit ∷ Exit ∷ [];
+      retired = 5 ∷ 4 ∷ [];
+      pcs = 0x14 ∷ 0x1c ∷ [];
+      registers = ((5, 9) ∷ []) ∷ ((5, 10) ∷ (10, 1) ∷ []) ∷ [];
+      memory = (16, 10) ∷ [];
+    })
+    ((load 4 80 0 ∷ []) ∷ [] ∷ [])
+
+-- one core ends by ECALL as it reaches its limit, and the other at its limit
+abbrev pub LimitReached : Type 0
+LimitReached =
+    EndsSo endless 3 [] 8
+    (record {
+      stops = Exit ∷ Limit ∷ [];
+      retired = 3 ∷ 3 ∷ [];
+      pcs = 0xc ∷ 0xc ∷ [];
+      registers = [] ∷ ((10, 1) ∷ []) ∷ [];
+      memory = [];
+    })
+    ((load 2 16 0 ∷ []) ∷ [] ∷ [])

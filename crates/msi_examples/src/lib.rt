@@ -1,0 +1,44 @@
+//! Small runs of the machine, worked out by hand, that its definitions are proved to give. Each is
+//! computed from the definitions of state, moves and step alone.
+#![tactic(auto)]
+
+ghost use Rattle.msi_examples.specs.Examples.{OneHandsOver, HandedOver, ShareFalsely, StoreBytes, SecondStoresLast, FirstStoresLast, ReadBetweenWrites, InvMeetsPut, ForwardMeetsPut, ForwardToOwnMeetsPut, LimitReached};
+
+/// A word goes from core 0 to core 1 and back: what each of sixteen choices does, and what the run
+/// leaves.
+#[tactic(auto, using(crate::proofs::HandingOver::one_hands_over, crate::proofs::HandingOver::handed_over_so))]
+pub fn a_word_is_handed_over()
+    ensures steps { OneHandsOver }
+    ensures left { HandedOver }
+{}
+
+/// Two cores use words of their own in one block, and bytes of their own in one word. The second of
+/// these runs takes exactly twelve steps.
+#[tactic(auto, using(crate::proofs::Sharing::share_falsely, crate::proofs::Sharing::store_bytes))]
+pub fn a_block_and_a_word_are_shared()
+    ensures block { ShareFalsely }
+    ensures word { StoreBytes }
+{}
+
+/// Two stores to one word, of which one choice decides the last; and a read by the first writer between
+/// two writes.
+#[tactic(auto, using(crate::proofs::Choosing::second_stores_last, crate::proofs::Choosing::first_stores_last, crate::proofs::Choosing::read_between_writes))]
+pub fn a_choice_decides()
+    ensures second { SecondStoresLast }
+    ensures first { FirstStoresLast }
+    ensures between { ReadBetweenWrites }
+{}
+
+/// A Put is stalled: at a shared copy while Inv arrives, and at an owned one while Fwd-GetS or Fwd-GetM
+/// arrives.
+pub fn a_put_is_stalled()
+    ensures invalidated { InvMeetsPut }
+    ensures shared { ForwardMeetsPut }
+    ensures given_up { ForwardToOwnMeetsPut }
+{}
+
+/// A core is stopped at its limit, unless its ECALL retires there.
+#[tactic(auto, using(crate::proofs::Choosing::limit_reached))]
+pub fn a_limit_is_reached()
+    ensures { LimitReached }
+{}
