@@ -4,6 +4,7 @@
 
 mod accesses;
 mod core_set;
+mod cuts;
 mod item_list;
 mod nodes;
 mod pairs;
@@ -11,6 +12,7 @@ mod parameters;
 
 pub use accesses::{Access, Kind};
 pub use core_set::{CoreSet, core_set_laws};
+pub use cuts::Cut;
 pub use item_list::Items;
 pub use nodes::{Edge, Instr};
 pub use pairs::{Which, pair_at, pair_count, pair_laws, pair_of};
