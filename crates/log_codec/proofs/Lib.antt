@@ -5,3 +5,6 @@ pub mod Logs
 pub mod Whole
 pub mod Tested
 pub mod Counted
+pub mod Looked
+pub mod Rises
+pub mod SourceLaws

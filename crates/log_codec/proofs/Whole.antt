@@ -233,3 +233,10 @@ vectors_listed r v place lt =
 -- the source of a pair retires at most as many instructions as it may
 pub bound-most : (r : Recording) (place : ℕ) → Valid r → (bound_at r.totals place).0 ≤ r.params.limit
 bound-most r place v = total-small r.params.limit r.totals (source_at (length r.totals) place) v.totals
+
+-- both totals of a pair are numbers that can be spelled
+pub totals_small : (r : Recording) (place : ℕ) → Valid r → ((bound_at r.totals place).0 < 2 ^ 32) × ((bound_at r.totals place).1 < 2 ^ 32)
+totals_small r place v =
+    let params = v.params in
+    let small = bound-small r.params.limit r.totals place (omega arith) v.totals in
+    (small.source, small.target)

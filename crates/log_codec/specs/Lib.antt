@@ -5,3 +5,4 @@ pub mod Spelling
 pub mod Reading
 pub mod Counts
 pub mod Laws
+pub mod Sources

@@ -8,11 +8,12 @@ mod fields;
 mod laws;
 mod reading;
 mod recording;
+mod sources;
 mod vectors;
 mod writing;
 
 pub use fault::{CodecFault, END, HEADER, IMAGE, REDUCED, REGULATED, TOTALS};
-pub use laws::{prefix_free, spelling_laws, validity_laws};
+pub use laws::{prefix_free, source_laws, spelling_laws, validity_laws};
 pub use reading::{read, read_front};
 pub use recording::Recording;
 pub use writing::spell;

@@ -1,5 +1,5 @@
 use super::*;
-use rtr_types::Which;
+use rtr_types::{Instr, Which};
 use std::alloc::{AllocError, Global};
 use std::test::Fail;
 
@@ -112,6 +112,31 @@ fn logs(rt: HostRuntime) -> Result<(), Fail> {
     assert_eq!(rt; recording.edge_count(Which::Regulated), 3);
     for edges in recording.reduced.as_slice() {
         assert!(rt; edges.len() == 0 || edges.as_slice() == [(3, 3), (4, 4), (5, 7)].as_slice());
+    }
+    Ok(())
+}
+
+// Each of the recording's edges is found from its target, and no other.
+#[test]
+fn sources(rt: HostRuntime) -> Result<(), Fail> {
+    let parts = [6, 8, 3, 3, 3, 1, 1, 3, 1, 0, 2, 2, 3, 3, 1, 1, 1, 5, 7, 0];
+    let bytes = joined(rt.alloc(), &TWO_CORES, &parts)?;
+    let recording = read(rt.alloc(), &bytes)?;
+    let rows = [
+        (2, None),
+        (3, Some(3)),
+        (4, Some(4)),
+        (5, None),
+        (7, Some(5)),
+        (8, None),
+    ];
+    assert!(rt; recording.params.cores == 2);
+    for (count, source) in rows {
+        let at = Instr { core: 1, count };
+        assert_eq!(rt; recording.source(Which::Reduced, 0, at), source);
+        assert_eq!(rt; recording.source(Which::Regulated, 0, at), source);
+        let back = Instr { core: 0, count };
+        assert_eq!(rt; recording.source(Which::Reduced, 1, back), None);
     }
     Ok(())
 }
