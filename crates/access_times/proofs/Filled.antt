@@ -1,0 +1,53 @@
+-- What the loops and the writes that fill the parts of times leave.
+use Rattle.std.proofs.Common.{◌≡◌, ◌∙◌, ap, ℕ, ◌<◌, ◌≤◌, ◌==◌, length, List, Option, Some, None, Bool, true, false, arith}
+use Rattle.std.specs.Prelude.{map, if◌then◌else◌, slice_set, slice_index_or}
+use Rattle.std.proofs.lemmas.List.{get_or-set_same, get_or-set_other, length-set}
+use Rattle.std.proofs.lemmas.Bool.Decides.{nat_tests}
+use Rattle.std.specs.List.{range_with_len}
+use Rattle.std.proofs.lemmas.List.FromFn.{fill_by_all}
+use Rattle.rtr_types.specs.declared.nodes.Instr.{Instr}
+use Rattle.rtr_types.specs.declared.TheConstants.{CORES_MAX}
+use Rattle.clock_core.specs.declared.vector_clock.Clock.{Clock}
+use Rattle.access_times.specs.declared.TheConstants.{BLOCK_WORDS}
+use Rattle.access_times.specs.declared.word_times.SlotTimes.{SlotTimes}
+use Rattle.access_times.specs.declared.word_times.Times.{Times}
+use Rattle.access_times.specs.Times.{newer_read, read_in, no_reads, slot_loaded, times_loaded, times_stored, reads_absorbed, slot_absorbed, is_same_write, slot_at, missing_slot, times_absorbed}
+
+pub reads_filled : (a b reads : List (Option (ℕ × Clock))) (core : ℕ) → length reads ≡ CORES_MAX → CORES_MAX ≤ core → ((k : ℕ) → k < core → read_in reads k ≡ newer_read (read_in a k) (read_in b k)) → reads ≡ reads_absorbed a b
+unfolding reads_absorbed
+reads_filled a b reads core long end done = fill_by_all (λ k. newer_read (read_in a k) (read_in b k)) reads CORES_MAX None long (λ k lt. done k (omega arith))
+
+pub slot_filled : (a b : SlotTimes) (reads : List (Option (ℕ × Clock))) → is_same_write a.write b.write ≡ true → reads ≡ reads_absorbed a.reads b.reads → ◌≡◌ {A = SlotTimes} (record { write = a.write; reads = reads }) (slot_absorbed a b)
+slot_filled a b reads same e = by (is_same_write a.write b.write) same
+  where
+    by : (t : Bool) → t ≡ true → ◌≡◌ {A = SlotTimes} (record { write = a.write; reads = reads }) (if t then record a { reads = reads_absorbed a.reads b.reads } else a)
+    by true _ = ap (λ (r : List (Option (ℕ × Clock))). (let s : SlotTimes = record { write = a.write; reads = r } in s)) e
+    by false f = absurd cc
+
+pub slots_filled : (a b : Times) (slots : List SlotTimes) (slot : ℕ) → length slots ≡ BLOCK_WORDS → BLOCK_WORDS ≤ slot → ((k : ℕ) → k < slot → slice_index_or slots k missing_slot ≡ slot_absorbed (slot_at a k) (slot_at b k)) → ◌≡◌ {A = Times} (record { slots = slots }) (times_absorbed a b)
+unfolding times_absorbed
+slots_filled a b slots slot long end done = ap (λ (x : List SlotTimes). (let t : Times = record { slots = x } in t)) (fill_by_all (λ k. slot_absorbed (slot_at a k) (slot_at b k)) slots BLOCK_WORDS missing_slot long (λ k lt. done k (omega arith)))
+
+-- a list with one place set is the list of what is at each place
+set_filled : {X : Type 0} (xs : List X) (n j : ℕ) (x d : X) (f : ℕ → X) → length xs ≡ n → j < n → f j ≡ x → ((k : ℕ) → (k ≡ j → ⊥) → f k ≡ slice_index_or xs k d) → slice_set xs j x ≡ map f (range_with_len 0 n)
+set_filled xs n j x d f long lt here there =
+    fill_by_all f (slice_set xs j x) n d (length-set xs j x ∙ long)
+    (λ k lk. grind (arith, get_or-set_same xs j x d (let e = long in omega arith), get_or-set_other xs j k x d, there, here))
+
+pub read_set : (a : SlotTimes) (at : Instr) (clock : Clock) → length a.reads ≡ CORES_MAX → at.core < CORES_MAX → ◌≡◌ {A = SlotTimes} (record { write = a.write; reads = slice_set a.reads at.core (Some (at.count, clock)) }) (slot_loaded a at clock)
+unfolding slot_loaded
+read_set a at clock long lt =
+    ap (λ (r : List (Option (ℕ × Clock))). (let s : SlotTimes = record { write = a.write; reads = r } in s))
+    (set_filled a.reads CORES_MAX at.core (Some (at.count, clock)) None (λ core. if core == at.core then Some (at.count, clock) else read_in a.reads core) long lt (grind (arith, nat_tests)) (λ k other. grind (arith, nat_tests)))
+
+pub load_set : (t : Times) (slot : ℕ) (at : Instr) (clock : Clock) (x : SlotTimes) → length t.slots ≡ BLOCK_WORDS → slot < BLOCK_WORDS → x ≡ slot_loaded (slot_at t slot) at clock → ◌≡◌ {A = Times} (record { slots = slice_set t.slots slot x }) (times_loaded t slot at clock)
+unfolding times_loaded
+load_set t slot at clock x long lt e =
+    ap (λ (y : List SlotTimes). (let u : Times = record { slots = y } in u))
+    (set_filled t.slots BLOCK_WORDS slot x missing_slot (λ k. if k == slot then slot_loaded (slot_at t k) at clock else slot_at t k) long lt (grind (arith, nat_tests)) (λ k other. grind (arith, nat_tests)))
+
+pub store_set : (t : Times) (slot : ℕ) (at : Instr) (clock : Clock) → length t.slots ≡ BLOCK_WORDS → slot < BLOCK_WORDS → ◌≡◌ {A = Times} (record { slots = slice_set t.slots slot (record { write = Some (at, clock); reads = no_reads }) }) (times_stored t slot at clock)
+unfolding times_stored
+store_set t slot at clock long lt =
+    ap (λ (y : List SlotTimes). (let u : Times = record { slots = y } in u))
+    (set_filled t.slots BLOCK_WORDS slot (record { write = Some (at, clock); reads = no_reads }) missing_slot (λ k. if k == slot then record { write = Some (at, clock); reads = no_reads } else slot_at t k) long lt (grind (arith, nat_tests)) (λ k other. grind (arith, nat_tests)))

@@ -1,0 +1,98 @@
+-- The times of a block's words, as values. Each is written from its places, so that its laws hold of values of any
+-- length.
+use Rattle.std.specs.Prelude.{ℕ, ◌==◌, ◌%◌, nat_lt, Bool, true, false, ◌&&◌, Option, Some, None, List, [], slice_index_or, replicate, map, if◌then◌else◌}
+use Rattle.std.specs.List.{range_with_len}
+use Rattle.std.specs.Str.{bytes_eq}
+use Rattle.rtr_types.specs.declared.nodes.Instr.{Instr}
+use Rattle.rtr_types.specs.declared.accesses.Access.{Access}
+use Rattle.rtr_types.specs.declared.accesses.Kind.{Kind}
+use Rattle.rtr_types.specs.declared.accesses.Kind.TheVariants.{Load}
+use Rattle.rtr_types.specs.declared.TheConstants.{CORES_MAX}
+use Rattle.clock_core.specs.declared.vector_clock.Clock.{Clock}
+use Rattle.access_times.specs.declared.TheConstants.{BLOCK_WORDS}
+use Rattle.access_times.specs.declared.word_times.SlotTimes.{SlotTimes}
+use Rattle.access_times.specs.declared.word_times.Times.{Times}
+use Rattle.access_times.specs.Riding.{Riding}
+
+-- both are none, or they are one write with one clock
+abbrev pub is_same_write : Option (Instr × Clock) → Option (Instr × Clock) → Bool
+is_same_write None None = true
+is_same_write None (Some b) = false
+is_same_write (Some a) None = false
+is_same_write (Some a) (Some b) = (a.0.core == b.0.core) && ((a.0.count == b.0.count) && bytes_eq a.1 b.1)
+
+-- the read with the greater count, where there are two
+abbrev pub newer_read : Option (ℕ × Clock) → Option (ℕ × Clock) → Option (ℕ × Clock)
+newer_read None b = b
+newer_read (Some a) None = Some a
+newer_read (Some a) (Some b) = if nat_lt a.0 b.0 then Some b else Some a
+
+abbrev pub no_reads : List (Option (ℕ × Clock))
+no_reads = replicate CORES_MAX None
+
+-- the times of no access
+abbrev pub no_times : SlotTimes
+no_times = record { write = None; reads = no_reads }
+
+-- what is read where there is no slot
+abbrev pub missing_slot : SlotTimes
+missing_slot = record { write = None; reads = [] }
+
+abbrev pub read_in : List (Option (ℕ × Clock)) → ℕ → Option (ℕ × Clock)
+read_in reads core = slice_index_or reads core None
+
+-- each core's newer read
+unfoldable pub reads_absorbed : List (Option (ℕ × Clock)) → List (Option (ℕ × Clock)) → List (Option (ℕ × Clock))
+reads_absorbed a b = map (λ core. newer_read (read_in a core) (read_in b core)) (range_with_len 0 CORES_MAX)
+
+-- reads are taken over only where the last writes are equal
+abbrev pub slot_absorbed : SlotTimes → SlotTimes → SlotTimes
+slot_absorbed a b = if is_same_write a.write b.write then record a { reads = reads_absorbed a.reads b.reads } else a
+
+abbrev pub slot_at : Times → ℕ → SlotTimes
+slot_at t slot = slice_index_or t.slots slot missing_slot
+
+unfoldable pub times_absorbed : Times → Times → Times
+times_absorbed a b = record { slots = map (λ slot. slot_absorbed (slot_at a slot) (slot_at b slot)) (range_with_len 0 BLOCK_WORDS) }
+
+unfoldable pub fresh_times : Times
+fresh_times = record { slots = replicate BLOCK_WORDS no_times }
+
+abbrev pub times_riding : Riding Times
+times_riding = record { fresh = fresh_times; absorbed = times_absorbed }
+
+-- the last write of the slot's word
+abbrev pub write_at : Times → ℕ → Option (Instr × Clock)
+write_at t slot = (slot_at t slot).write
+
+-- the core's last read of the slot's word since that write
+abbrev pub read_at : Times → ℕ → ℕ → Option (ℕ × Clock)
+read_at t slot core = read_in (slot_at t slot).reads core
+
+unfoldable pub slot_loaded : SlotTimes → Instr → Clock → SlotTimes
+slot_loaded a at clock =
+    record {
+      write = a.write;
+      reads = map (λ core. if core == at.core then Some (at.count, clock) else read_in a.reads core) (range_with_len 0 CORES_MAX);
+    }
+
+-- a load of the slot's word is noted
+unfoldable pub times_loaded : Times → ℕ → Instr → Clock → Times
+times_loaded t slot at clock =
+    record { slots = map (λ k. if k == slot then slot_loaded (slot_at t k) at clock else slot_at t k) (range_with_len 0 BLOCK_WORDS) }
+
+-- a write of the slot's word is noted, and its reads are forgotten
+unfoldable pub times_stored : Times → ℕ → Instr → Clock → Times
+times_stored t slot at clock =
+    record {
+      slots = map (λ k. if k == slot then record { write = Some (at, clock); reads = no_reads } else slot_at t k) (range_with_len 0 BLOCK_WORDS);
+    }
+
+-- an access of the kind is noted: one that only reads is a load, every other counts as a write
+abbrev pub times_noted_as : Kind → Times → ℕ → Instr → Clock → Times
+times_noted_as Load = times_loaded
+times_noted_as _ = times_stored
+
+-- the access is noted in its word's slot, with the clock
+abbrev pub times_noted : Access → Times → Clock → Times
+times_noted a t clock = times_noted_as a.kind t (a.word % BLOCK_WORDS) a.at clock
