@@ -1,10 +1,10 @@
 -- The memory that a state has: for each block the owner's words where a cache owns it, and the home's
 -- elsewhere.
-use Rattle.std.specs.Prelude.{ℕ, ◌/◌, ◌%◌, List, map, slice_index}
+use Rattle.std.specs.Prelude.{ℕ, ◌/◌, ◌%◌, Bool, true, ◌&&◌, nat_lt, List, length, map, slice_index}
 use Rattle.std.specs.List.{range_with_len}
 use Rattle.access_times.specs.Riding.{Riding, Carrying}
 use Rattle.access_times.specs.declared.TheConstants.{BLOCK_WORDS}
-use Rattle.msi_cache.specs.Lines.{line_for}
+use Rattle.msi_cache.specs.Lines.{line_for, can_read}
 use Rattle.msi_directory.specs.declared.entries.Stage.{Stage}
 use Rattle.msi_directory.specs.declared.entries.Stage.TheVariants.{Owned}
 use Rattle.msi_directory.specs.Blocks.{entry_at}
@@ -26,3 +26,13 @@ module _ {R K : Type 0} where
   -- all words of the memory, by index
   abbrev pub final_memory : Riding R → Carrying K → State R K → List ℕ
   final_memory riding carrying s = map (final_word riding carrying s) (range_with_len 0 s.image.words)
+
+  -- a block's words are at hand, by its stage at the home: the core that owns it is there, and its cache
+  -- holds the block
+  abbrev pub at_hand_in : Stage → Riding R → Carrying K → State R K → ℕ → Bool
+  at_hand_in (Owned owner) riding carrying s block =
+      nat_lt owner (length s.nodes) && can_read (line_for riding.fresh (node_at carrying s.nodes owner).cache block) block
+  at_hand_in stage riding carrying s block = true
+
+  abbrev pub at_hand : Riding R → Carrying K → State R K → ℕ → Bool
+  at_hand riding carrying s block = at_hand_in (entry_at riding.fresh s.home block).stage riding carrying s block

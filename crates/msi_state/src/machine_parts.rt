@@ -1,8 +1,9 @@
 //! The parts of a machine, and its moves in code.
-ghost use Rattle.std.specs.Prelude.{◌≡◌, ◌<◌, ◌≤◌, ◌%◌, All, IfOk, IsTrue, OnOk, length, true, slice_index_or};
+ghost use Rattle.std.specs.Prelude.{◌≡◌, ◌<◌, ◌≤◌, ◌/◌, ◌%◌, All, IfOk, IsTrue, OnOk, length, true, slice_index_or};
+ghost use Rattle.access_times.specs.declared.TheConstants.{BLOCK_WORDS};
 ghost use Rattle.rtr_types.specs.declared.TheConstants.{CORES_MAX};
 ghost use Rattle.msi_state.specs.declared.moves.Move.{Move};
-ghost use Rattle.msi_state.specs.FinalMemory.{final_word};
+ghost use Rattle.msi_state.specs.FinalMemory.{at_hand, final_word};
 ghost use Rattle.msi_state.specs.Nodes.{instr_of};
 ghost use Rattle.msi_state.specs.Ready.{NamesFit, HeadsFit, heads_roomy, HasRoomTo, Ready, RoomsMade, are_heads_roomy, head_roomy, head_within, can_request_in, can_respond_in, request_answer_in, response_answer_in};
 ghost use Rattle.msi_state.specs.States.{node_at, state_start, all_done};
@@ -11,7 +12,7 @@ ghost use Rattle.msi_state.specs.Steps.{AcceptsNext, TellsOf, enabled, event, mo
 use crate::actors::Node;
 use crate::moves::Move;
 use crate::sending::deliver;
-use access_times::{Carry, Clerk, Rider};
+use access_times::{BLOCK_WORDS, Carry, Clerk, Rider};
 use image_mem::Image;
 use msi_directory::Home;
 use rtr_types::{CORES_MAX, Instr};
@@ -145,6 +146,21 @@ impl<R: Rider, K: Carry> Parts<R, K> {
         ensures { result.now ≡ (node_at K.carrying self.now.state.nodes core).core }
     {
         &self.nodes[core as usize].core
+    }
+
+    /// A word of the memory, by its index, once its block's words are at hand: the owner's where a cache
+    /// owns the block, else the home's.
+    pub fn final_word(&self, word: u32) -> u32
+        requires within { word / BLOCK_WORDS < length self.now.state.home }
+        requires at_hand { IsTrue (at_hand R.riding K.carrying self.now.state (word / BLOCK_WORDS)) }
+        ensures { result ≡ final_word R.riding K.carrying self.now.state word }
+    {
+        let block = word / BLOCK_WORDS as u32;
+        let slot = (word % BLOCK_WORDS as u32) as u8;
+        match self.home.owner(block) {
+            Some(owner) => self.nodes[owner as usize].cache.word(block, slot),
+            None => self.home.word(word),
+        }
     }
 
     /// Makes room in the home for the block of each request link's head, so that no move needs memory.
