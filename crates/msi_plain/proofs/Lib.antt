@@ -1,0 +1,4 @@
+pub mod Plains
+pub mod Forgetting
+pub mod SameMoves
+pub mod Shows
