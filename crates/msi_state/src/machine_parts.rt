@@ -140,6 +140,22 @@ impl<R: Rider, K: Carry> Parts<R, K> {
         unreachable!()
     }
 
+    /// The image that the machine runs.
+    pub fn into_image(self) -> Image
+        ensures { result ≡ self.state.image }
+    {
+        let Parts { image, .. } = self;
+        image
+    }
+
+    /// How many cores there are.
+    pub fn cores(&self) -> u8
+        requires { length self.now.state.nodes ≤ CORES_MAX }
+        ensures { result ≡ length self.now.state.nodes }
+    {
+        self.nodes.len() as u8
+    }
+
     /// A core.
     pub fn core(&self, core: u8) -> &Core
         requires { core < length self.now.state.nodes }
