@@ -5,12 +5,12 @@ use Rattle.access_times.specs.declared.TheConstants.{BLOCK_WORDS}
 use Rattle.image_mem.specs.Contents.{Contents}
 use Rattle.rtr_types.specs.declared.TheConstants.{CORES_MAX}
 use Rattle.rv_core.specs.declared.core_state.Need.{Need}
-use Rattle.rv_core.specs.declared.core_state.Need.TheVariants.{Local, Load, Store, Done}
+use Rattle.rv_core.specs.declared.core_state.Need.TheVariants.{Load, Store}
 use Rattle.rv_core.specs.Steps.{need}
 use Rattle.msi_cache.specs.declared.copies.TheConstants.{LINES}
 use Rattle.msi_cache.specs.declared.copies.Line.{Line}
 use Rattle.msi_cache.specs.declared.copies.State.{State as LineState}
-use Rattle.msi_cache.specs.declared.copies.State.TheVariants.{I, S, M, IsD, ImD, SmD, MiA, SiA, IiA}
+use Rattle.msi_cache.specs.declared.copies.State.TheVariants.{I, IsD, ImD, SmD, MiA, SiA, IiA}
 use Rattle.msi_cache.specs.Lines.{empty_line}
 use Rattle.msi_cache.specs.Table.{is_transient}
 use Rattle.msi_directory.specs.Blocks.{block_count}
