@@ -1,3 +1,4 @@
 pub mod Views
 pub mod Blocks
 pub mod Responses
+pub mod Others
