@@ -2,3 +2,4 @@ pub mod Views
 pub mod Blocks
 pub mod Responses
 pub mod Others
+pub mod Held
