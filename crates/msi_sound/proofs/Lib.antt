@@ -3,3 +3,8 @@ pub mod Blocks
 pub mod Responses
 pub mod Others
 pub mod Held
+pub mod Lines
+pub mod Wishes
+pub mod CoreMoves
+pub mod MessageMoves
+pub mod Kept
