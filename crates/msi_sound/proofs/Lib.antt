@@ -8,3 +8,4 @@ pub mod Wishes
 pub mod CoreMoves
 pub mod MessageMoves
 pub mod Kept
+pub mod Begins
