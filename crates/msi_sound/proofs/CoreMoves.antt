@@ -169,14 +169,11 @@ module _ {R K : Type 0} where
   working_moved image riding carrying r blocks n (Done stop) is memory h = record { fits = still_fits image riding blocks n h; keeps = keeps_same riding n n (λ b. refl); number = refl }
 
   -- a state in which one node is another
-  pub node_set : (carrying : Carrying K) (ns : List (Node R K)) (c : ℕ) (m : Node R K) (d : ℕ) → c < length ns → node_at carrying (slice_set ns c m) d ≡ (if d == c then m else node_at carrying ns d)
-  node_set carrying ns c m d within = set_at ns c d m (no_node carrying) within
-
   pub blocks_kept : (riding : Riding R) (carrying : Carrying K) (s : State R K) (c : ℕ) (m : Node R K) (b : ℕ) → c < length s.nodes → Keeps riding (node_at carrying s.nodes c) m → BlockHolds (block_in riding carrying s b) → BlockHolds (block_in riding carrying (record s { nodes = slice_set s.nodes c m }) b)
   blocks_kept riding carrying s c m b within keeps h =
       record {
         fits = h.fits;
-        stands = λ d ld. subst (λ (n : Node R K). Stands (block_in riding carrying s b).stage d (node_view riding b n)) (sym (node_set carrying s.nodes c m d within)) (by_test d (d == c) refl (h.stands d ld));
+        stands = λ d ld. subst (λ (n : Node R K). Stands (block_in riding carrying s b).stage d (node_view riding b n)) (sym (set_at s.nodes c d m (no_node carrying) within)) (by_test d (d == c) refl (h.stands d ld));
       }
     where
       by_test : (d : ℕ) (t : Bool) → (d == c) ≡ t → Stands (block_in riding carrying s b).stage d (node_view riding b (node_at carrying s.nodes d)) → Stands (block_in riding carrying s b).stage d (node_view riding b (if t then m else node_at carrying s.nodes d))
@@ -186,7 +183,7 @@ module _ {R K : Type 0} where
       by_test d false e st = st
 
   pub nodes_kept : (image : Contents) (riding : Riding R) (carrying : Carrying K) (blocks : ℕ) (ns : List (Node R K)) (c : ℕ) (m : Node R K) → c < length ns → NodeFits image riding blocks m → ((d : ℕ) → d < length ns → NodeFits image riding blocks (node_at carrying ns d)) → (d : ℕ) → d < length ns → NodeFits image riding blocks (node_at carrying (slice_set ns c m) d)
-  nodes_kept image riding carrying blocks ns c m within fits h d ld = subst (λ (n : Node R K). NodeFits image riding blocks n) (sym (node_set carrying ns c m d within)) (by_test (d == c))
+  nodes_kept image riding carrying blocks ns c m within fits h d ld = subst (λ (n : Node R K). NodeFits image riding blocks n) (sym (set_at ns c d m (no_node carrying) within)) (by_test (d == c))
     where
       by_test : (t : Bool) → NodeFits image riding blocks (if t then m else node_at carrying ns d)
       by_test true = fits

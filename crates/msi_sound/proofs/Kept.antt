@@ -30,7 +30,8 @@ use Rattle.msi_state.specs.Steps.{delivered, head_free, enabled, enabled_at, ste
 use Rattle.msi_sound.specs.Views.{block_in}
 use Rattle.msi_sound.specs.Sound.{Sound, NodeFits, OneWriterEverywhere}
 use Rattle.msi_sound.proofs.Lines.{fits_still}
-use Rattle.msi_sound.proofs.CoreMoves.{Moved, working_moved, node_set, nodes_kept, blocks_kept}
+use Rattle.msi_sound.proofs.Views.{node_at-set}
+use Rattle.msi_sound.proofs.CoreMoves.{Moved, working_moved, nodes_kept, blocks_kept}
 use Rattle.msi_sound.proofs.MessageMoves.{receiving_moved}
 use Rattle.msi_sound.proofs.Blocks.{block_request, length-delivered}
 use Rattle.msi_sound.proofs.Responses.{block_response}
@@ -52,7 +53,7 @@ not_true false e = refl
 module _ {R K : Type 0} where
   -- a fact of each node stays where a node is set of which it holds
   set_keeps : (P : ℕ → Node R K → Type 0) (carrying : Carrying K) (ns : List (Node R K)) (c : ℕ) (m : Node R K) → c < length ns → P c m → (d : ℕ) → P d (node_at carrying ns d) → P d (node_at carrying (slice_set ns c m) d)
-  set_keeps P carrying ns c m within here d h = subst (λ (n : Node R K). P d n) (sym (node_set carrying ns c m d within)) (by_test (d == c) (λ (e : (d == c) ≡ true). grind (arith, nat_tests)))
+  set_keeps P carrying ns c m within here d h = subst (λ (n : Node R K). P d n) (sym (node_at-set carrying ns c m d within)) (by_test (d == c) (λ (e : (d == c) ≡ true). grind (arith, nat_tests)))
     where
       by_test : (t : Bool) → (t ≡ true → d ≡ c) → P d (if t then m else node_at carrying ns d)
       by_test true same = subst (λ (x : ℕ). P x m) (sym (same refl)) here

@@ -40,11 +40,12 @@ row_place g b l e = by_test (l.block == b) refl e
     by_test true is f = grind (arith, nat_tests)
     by_test false is f = grind arith
 
-eqb_same : (n : ℕ) → (n == n) ≡ true
-eqb_same n = grind (arith, nat_tests)
-
 pub row_there : {R : Type 0} (g : Signal) (b : ℕ) (l : Line R) → is_some (row g (line_state b l)) ≡ true → is_some (row g l.state) ≡ true
-row_there g b l e = let at = row_place g b l e in rw (at, eqb_same b) at e
+row_there g b l e = by_test (l.block == b) e
+  where
+    by_test : (t : Bool) → is_some (row g (if t then l.state else I)) ≡ true → is_some (row g l.state) ≡ true
+    by_test true f = f
+    by_test false f = absurd (grind arith)
 
 -- a line that has a row keeps fitting
 row_fits : {R : Type 0} (absorbed : R → R → R) (blocks : ℕ) (needed : Need) (i : ℕ) (l : Line R) (m : FromHome R) → is_some (row (signal m) l.state) ≡ true → LineFits blocks needed i l → LineFits blocks needed i (line_after absorbed l m)
@@ -189,7 +190,8 @@ module _ {R K : Type 0} where
   -- the message has a row at its line
   pub message_there : (riding : Riding R) (stage : Stage) (c : ℕ) (n : Node R K) (mail : Mail (FromHome R) K) (rest : List (Mail (FromHome R) K)) → n.messages.items ≡ mail ∷ rest → Stands stage c (node_view riding (block_of mail.item) n) → is_some (row (signal mail.item) (line_state (block_of mail.item) (line_for riding.fresh n.cache (block_of mail.item)))) ≡ true
   message_there riding stage c n mail rest is s =
-      let heads : (picture s.phase).messages ≡ signal mail.item ∷ signals_of (block_of mail.item) rest = ap (λ (w : View). w.messages) s.view_is ∙ (ap (signals_of (block_of mail.item)) is ∙ ap (λ (t : Bool). cons_if t (signal mail.item) (signals_of (block_of mail.item) rest)) (eqb_same (block_of mail.item))) in
+      let own_signal : cons_if (block_of mail.item == block_of mail.item) (signal mail.item) (signals_of (block_of mail.item) rest) ≡ signal mail.item ∷ signals_of (block_of mail.item) rest = grind (arith, nat_tests) in
+      let heads : (picture s.phase).messages ≡ signal mail.item ∷ signals_of (block_of mail.item) rest = ap (λ (w : View). w.messages) s.view_is ∙ (ap (signals_of (block_of mail.item)) is ∙ own_signal) in
       let there : is_some (row (signal mail.item) (picture s.phase).line) ≡ true = message_row s.phase (signal mail.item) (signals_of (block_of mail.item) rest) heads in
       ap (λ (w : View). is_some (row (signal mail.item) w.line)) (sym s.view_is) ∙ there
 
