@@ -1,0 +1,4 @@
+pub mod AtHand
+pub mod Choosing
+pub mod Kept
+pub mod Paid

@@ -1,0 +1,145 @@
+//! The machine and its calls.
+ghost use Rattle.std.specs.Prelude.{◌≡◌, ◌<◌, ◌≤◌, ◌+◌, ◌*◌, ◌%◌, ◌^◌, ℕ, IfOk, IsTrue, List, OnOk, Some, false, length, slice_index_or, true};
+ghost use Rattle.access_times.specs.Riding.{none_carrying, none_riding};
+ghost use Rattle.rtr_types.specs.Parameters.{Fits};
+ghost use Rattle.msi_machine.specs.Writers.{OneWriter};
+ghost use Rattle.msi_state.specs.Bound.{Earns, left, links_empty, total_earned, total_owed, total_retired};
+ghost use Rattle.msi_state.specs.Coherent.{Coherent, Finds, memory_after, opening_memory, word_at};
+ghost use Rattle.msi_state.specs.FinalMemory.{final_word, final_words};
+ghost use Rattle.msi_state.specs.Nodes.{instr_of};
+ghost use Rattle.msi_state.specs.Plain.{plain};
+ghost use Rattle.msi_state.specs.Ready.{HasRoomFor, RoomsMade, has_row_for, heads_roomy};
+ghost use Rattle.msi_state.specs.Runs.{chosen, opening_state, plain_event, plain_step};
+ghost use Rattle.msi_state.specs.States.{all_done, node_at, state_start};
+ghost use Rattle.msi_state.specs.Steps.{AcceptsNext, TellsOf, event, moves, rider_left, step};
+ghost use Rattle.msi_state.specs.declared.moves.Move.{Move};
+
+use access_times::{Carry, Clerk, Rider};
+use image_mem::Image;
+use msi_state::{Parts, Stepped};
+use rtr_types::Params;
+use rv_core::Core;
+use std::alloc::{AllocError, Global};
+use std::marker::Model;
+
+/// A machine of some cores in a state of a run. Contracts see that state, and which of the home's blocks
+/// have room for a request.
+#[derive(Drop)]
+pub struct Machine<R: Rider, K: Carry> {
+    parts: Parts<R, K>,
+}
+
+impl<R: Rider, K: Carry> Model for Machine<R, K> {
+    ghost use Rattle.msi_sound.specs.Sound.{Sound};
+    ghost use Rattle.msi_state.specs.States.{Machinery};
+
+    ghost Value = { Machinery R K };
+
+    ghost view = { λ a. a.parts };
+
+    ghost invariant = { λ a. Sound R.riding K.carrying a.parts.state };
+}
+
+impl<R: Rider, K: Carry> Machine<R, K> {
+    /// The machine of an image before its first step. No cache holds a block, and nothing is under way.
+    pub fn new(alloc: Global, image: Image, params: Params) -> Result<Machine<R, K>, AllocError>
+        requires fits { Fits params }
+        requires words { image.words ≡ params.words }
+        ensures start { IfOk result (λ machine. machine.state ≡ state_start R.riding K.carrying image params.cores params.limit) }
+        ensures plain { IfOk result (λ machine. plain machine.state ≡ opening_state image params) }
+        ensures coherent { IfOk result (λ machine. Coherent R.riding K.carrying machine.state (opening_memory image)) }
+        ensures idle { IfOk result (λ machine. total_owed machine.state ≡ 0) }
+        ensures one_writer { IfOk result (λ machine. OneWriter R.riding K.carrying machine.state) }
+    {
+        let words = image.words();
+        prove!(words == params.words);
+        let parts = Parts::new(alloc, image, params.cores, params.limit)?;
+        Ok(Machine { parts })
+    }
+
+    /// Whether each core's program is done. Then nothing is under way any more, the steps of the run are
+    /// all paid for by the instructions that retired, and the memory is what the last write to each word
+    /// left.
+    pub fn done(&self) -> bool
+        ensures done { result ≡ all_done self.now.state }
+        ensures plain { result ≡ all_done (plain self.now.state) }
+        ensures links { IsTrue result → links_empty self.now.state ≡ true }
+        ensures paid { IsTrue result → total_earned R.riding self.now.state ≡ (2 * length self.now.state.nodes + 4) * total_retired self.now.state }
+        ensures last { (memory : ℕ → List ℕ) → IsTrue result → Coherent R.riding K.carrying self.now.state memory → (block : ℕ) → final_words R.riding K.carrying self.now.state block ≡ memory block }
+    {
+        self.parts.done()
+    }
+
+    /// Makes room in the home for the block of each request link's head, so that a step needs no memory.
+    /// After want of memory some of these blocks may have got room, and all else is unchanged.
+    pub fn make_room(&mut self) -> Result<(), AllocError>
+        ensures state { self.new.state ≡ self.old.state }
+        ensures rooms { RoomsMade self.old.state.nodes self.old.rooms self.new.rooms }
+        ensures ok { OnOk result (heads_roomy self.new ≡ true) }
+    {
+        self.parts.make_room()
+    }
+
+    /// Whether the home has room for the block of each request link's head.
+    pub fn has_room(&self) -> bool
+        ensures { result ≡ heads_roomy self.now }
+    {
+        self.parts.has_room()
+    }
+
+    /// One step: of the moves that can be made, of which there is always one, that which the choice
+    /// numbers, counted around. The message that it takes has a row in its receiver's table, and no link
+    /// that it pushes to is full. What retires in it is told to the clerk.
+    ///
+    /// What rides changes nothing: the plain part makes the plain machine's step. The step is paid for by
+    /// the instructions that retired and the accesses under way. Whatever memory is coherent with the
+    /// state before: an access finds that memory's word, and the state after is coherent with the memory
+    /// after the access. At most one cache may write a block, and then no other may read it.
+    pub fn step<C: Clerk<R, K>>(&mut self, choice: u32, clerk: &mut C) -> Stepped
+        requires more { all_done self.old.state ≡ false }
+        requires roomy { IsTrue (heads_roomy self.old) }
+        requires accepts { AcceptsNext C.accepts clerk.old self.old.state }
+        ensures some { 0 < length (moves R.riding K.carrying self.old.state) }
+        ensures row { IsTrue (has_row_for R.riding K.carrying self.old.state result.taken) }
+        ensures room { HasRoomFor R.riding K.carrying self.old.state result.taken }
+        ensures taken { (d : Move) → result.taken ≡ slice_index_or (moves R.riding K.carrying self.old.state) (choice % length (moves R.riding K.carrying self.old.state)) d }
+        ensures state { self.new.state ≡ step R.riding K.carrying (rider_left R.riding K.carrying self.old.state self.new.state result.taken) self.old.state result.taken }
+        ensures image { self.new.state.image ≡ self.old.state.image }
+        ensures cores { length self.new.state.nodes ≡ length self.old.state.nodes }
+        ensures rooms { self.new.rooms ≡ self.old.rooms }
+        ensures retired { result.retired ≡ instr_of (event R.riding K.carrying self.old.state result.taken) }
+        ensures told { TellsOf C.told_local C.told_touch R.riding K.carrying self.old.state self.new.state result.taken clerk.old clerk.new }
+        ensures chosen { chosen (plain self.old.state) choice ≡ Some result.taken }
+        ensures plain { plain self.new.state ≡ plain_step (plain self.old.state) result.taken }
+        ensures event { event R.riding K.carrying self.old.state result.taken ≡ plain_event (plain self.old.state) result.taken }
+        ensures earns { Earns R.riding self.old.state self.new.state }
+        ensures nearer { left R.riding self.new.state < left R.riding self.old.state }
+        ensures coherent { (memory : ℕ → List ℕ) → Coherent R.riding K.carrying self.old.state memory → Coherent R.riding K.carrying self.new.state (memory_after (event R.riding K.carrying self.old.state result.taken) memory) }
+        ensures finds { (memory : ℕ → List ℕ) → Coherent R.riding K.carrying self.old.state memory → Finds (event R.riding K.carrying self.old.state result.taken) memory }
+        ensures one_writer { OneWriter R.riding K.carrying self.new.state }
+    {
+        self.parts.step(choice, clerk)
+    }
+
+    /// A word of the memory at the end, by its index: the owner's where a cache owns its block, else the
+    /// home's. It is what the last write to it left.
+    pub fn final_word(&self, word: u32) -> u32
+        requires done { all_done self.now.state ≡ true }
+        requires within { word < self.now.state.image.words }
+        ensures value { result ≡ final_word R.riding K.carrying self.now.state word }
+        ensures plain { result ≡ final_word none_riding none_carrying (plain self.now.state) word }
+        ensures last { (memory : ℕ → List ℕ) → Coherent R.riding K.carrying self.now.state memory → result ≡ word_at memory word }
+    {
+        self.parts.final_word(word)
+    }
+
+    /// A core.
+    pub fn core(&self, core: u8) -> &Core
+        requires { core < length self.now.state.nodes }
+        ensures value { result.now ≡ (node_at K.carrying self.now.state.nodes core).core }
+        ensures number { result.now.id ≡ core }
+        ensures within { result.now.count ≤ result.now.limit }
+    {
+        self.parts.core(core)
+    }
+}
