@@ -1,6 +1,6 @@
 -- A run's states are coherent with the memory of its accesses.
 use Rattle.std.proofs.Common.{◌≡◌, ◌∙◌, ap, refl, sym, subst, ℕ, ◌+◌, ◌<◌, ◌≤◌, ◌/◌, ◌%◌, ◌^◌, Bool, true, false, List, [], ◌∷◌, ◌++◌, Option, Some, None, zero, suc, arith}
-use Rattle.std.specs.Prelude.{map, slice_index, if◌then◌else◌}
+use Rattle.std.specs.Prelude.{All, map, slice_index, if◌then◌else◌}
 use Rattle.std.specs.List.{range_with_len}
 use Rattle.access_times.specs.Riding.{Riding, Carrying, none_riding, none_carrying}
 use Rattle.access_times.specs.declared.TheConstants.{BLOCK_WORDS}
@@ -32,7 +32,7 @@ use Rattle.msi_state.proofs.Counting.{map_range_more}
 use Rattle.msi_sound.specs.Sound.{Sound}
 use Rattle.msi_sound.proofs.Begins.{chosen_enabled, sound_run}
 use Rattle.msi_progress.proofs.Ending.{links_left}
-use Rattle.msi_data.specs.LastValues.{last_value, memory_left, EachFindsLast, EachWithin}
+use Rattle.msi_data.specs.LastValues.{last_value, memory_left, EachFindsLast}
 use Rattle.msi_data.proofs.Final.{final_current}
 use Rattle.msi_data.proofs.Opening.{home_memory, home_coherent}
 use Rattle.msi_data.proofs.Steps.{step_works}
@@ -76,19 +76,19 @@ module _ {R K : Type 0} where
           by_data false = tt
 
   -- no step changes the image
-  step_image : (riding : Riding R) (carrying : Carrying K) (rider : R) (s : State R K) (m : Move) → (step riding carrying rider s m).image ≡ s.image
-  step_image riding carrying rider s (CoreMove c) = refl
-  step_image riding carrying rider s (RequestMove c) = by_items (node_at carrying s.nodes c).requests.items
+  pub image_kept : (riding : Riding R) (carrying : Carrying K) (s : State R K) (m : Move) (rider : R) → (step riding carrying rider s m).image ≡ s.image
+  image_kept riding carrying s (CoreMove c) rider = refl
+  image_kept riding carrying s (RequestMove c) rider = by_items (node_at carrying s.nodes c).requests.items
     where
       by_items : (q : List (Mail (Request R) K)) → (request_moved_in q riding carrying s c).image ≡ s.image
       by_items [] = refl
       by_items (mail ∷ rest) = refl
-  step_image riding carrying rider s (ResponseMove c) = by_items (node_at carrying s.nodes c).responses.items
+  image_kept riding carrying s (ResponseMove c) rider = by_items (node_at carrying s.nodes c).responses.items
     where
       by_items : (q : List (Mail (Response R) K)) → (response_moved_in q riding carrying s c).image ≡ s.image
       by_items [] = refl
       by_items (mail ∷ rest) = refl
-  step_image riding carrying rider s (MessageMove c) = refl
+  image_kept riding carrying s (MessageMove c) rider = refl
 
 -- a state that is coherent with the memory that these accesses left of what the image has
 record Remembers (image : Contents) (s : PlainState) (memory : ℕ → List ℕ) (list : List Access) : Type 0 where
@@ -102,7 +102,7 @@ remembers_stepped image s memory list (Some m) is_enabled sound h =
     let works = step_works none_riding none_carrying s m tt memory (is_enabled m refl) sound h.coherent in
     let honest : Honest image.words (event none_riding none_carrying s m) = subst (λ (x : Contents). Honest x.words (event none_riding none_carrying s m)) h.image_is (event_honest none_riding none_carrying s m) in
     record {
-      image_is = step_image none_riding none_carrying tt s m ∙ h.image_is;
+      image_is = image_kept none_riding none_carrying s m tt ∙ h.image_is;
       coherent = works.coherent;
       found = found_more image memory list (event none_riding none_carrying s m) h.found works.finds honest;
     }
@@ -123,7 +123,7 @@ remembers image params choices (suc t) few small =
 pub each_finds_last : (image : Contents) (params : Params) (choices : ℕ → ℕ) (t : ℕ) → params.cores ≤ CORES_MAX → params.limit < 2 ^ 32 → EachFindsLast image (accesses image params choices t)
 each_finds_last image params choices t few small = (remembers image params choices t few small).found.found
 
-pub each_within : (image : Contents) (params : Params) (choices : ℕ → ℕ) (t : ℕ) → params.cores ≤ CORES_MAX → params.limit < 2 ^ 32 → EachWithin image.words (accesses image params choices t)
+pub each_within : (image : Contents) (params : Params) (choices : ℕ → ℕ) (t : ℕ) → params.cores ≤ CORES_MAX → params.limit < 2 ^ 32 → All (λ a. a.word < image.words) (accesses image params choices t)
 each_within image params choices t few small = (remembers image params choices t few small).found.within
 
 pub final_value : (image : Contents) (params : Params) (choices : ℕ → ℕ) (t : ℕ) → params.cores ≤ CORES_MAX → params.limit < 2 ^ 32 → all_done (run image params choices t) ≡ true → (word : ℕ) → word < image.words → final_word none_riding none_carrying (run image params choices t) word ≡ last_value (opening_word image word) word (accesses image params choices t)

@@ -1,6 +1,7 @@
 -- Accesses made one after the other: each finds the last value of its word, which the memory then has.
 use Rattle.std.proofs.Common.{◌≡◌, ◌∙◌, ap, refl, sym, subst, ℕ, ◌<◌, ◌==◌, ◌&&◌, Bool, true, false, List, [], ◌∷◌, ◌++◌, inl, inr, ◌⊎◌, arith, eqb-true}
-use Rattle.std.specs.Prelude.{if◌then◌else◌}
+use Rattle.std.specs.Prelude.{All, if◌then◌else◌}
+use Rattle.std.proofs.lemmas.List.Elements.{All-push, All-nil}
 use Rattle.std.proofs.lemmas.List.{append-nil}
 use Rattle.image_mem.specs.Contents.{Contents, opening_word}
 use Rattle.rtr_types.specs.Accesses.{is_write}
@@ -8,7 +9,7 @@ use Rattle.rtr_types.specs.declared.accesses.Access.{Access}
 use Rattle.msi_state.specs.Nodes.{Event, Nothing, Retires, Accesses}
 use Rattle.msi_state.specs.Coherent.{memory_after, Finds, WordsFit, word_at}
 use Rattle.msi_state.specs.Runs.{accesses_in}
-use Rattle.msi_data.specs.LastValues.{last_value, EachFindsLast, EachWithin}
+use Rattle.msi_data.specs.LastValues.{last_value, EachFindsLast}
 use Rattle.msi_data.proofs.Memory.{last_write}
 use Rattle.msi_data.proofs.Opening.{home_memory, home_fits, opening_at}
 
@@ -45,7 +46,7 @@ pub record Found (image : Contents) (memory : ℕ → List ℕ) (list : List Acc
   pub fits : WordsFit memory
   pub values : (word : ℕ) → word < image.words → word_at memory word ≡ last_value (opening_word image word) word list
   pub found : EachFindsLast image list
-  pub within : EachWithin image.words list
+  pub within : All (λ a. a.word < image.words) list
 
 -- the event's access is to a word of the memory, and if it doesn't write it leaves the value that it found
 abbrev pub Honest : (words : ℕ) → Event → Type 0
@@ -58,7 +59,7 @@ found_none fresh image =
       fits = home_fits fresh image;
       values = λ word within. opening_at fresh image word within;
       found = λ earlier later a is. absurd (none_there earlier later a is);
-      within = λ earlier later a is. absurd (none_there earlier later a is);
+      within = All-nil (λ a. a.word < image.words);
     }
 
 found_access : (image : Contents) (memory : ℕ → List ℕ) (list : List Access) (a : Access) → Found image memory list → a.before ≡ word_at memory a.word → a.word < image.words → (is_write a.kind ≡ false → a.after ≡ a.before) → Found image (memory_after (Accesses a) memory) (list ++ a ∷ [])
@@ -70,10 +71,7 @@ found_access image memory list a h finds within reads =
         | inl p ↦ subst (λ (e : List Access). x.before ≡ last_value (opening_word image x.word) x.word e) (sym p.0) (subst (λ (y : Access). y.before ≡ last_value (opening_word image y.word) y.word list) (sym p.1) (finds ∙ h.values a.word within))
         | inr p ↦ h.found earlier p.0 x p.1
       ];
-      within = λ earlier later x is. elim (split-snoc list earlier later a x is) [
-        | inl p ↦ subst (λ (y : Access). y.word < image.words) (sym p.1) within
-        | inr p ↦ h.within earlier p.0 x p.1
-      ];
+      within = All-push (λ (x : Access). x.word < image.words) list a h.within within;
     }
   where
     left : (word : ℕ) → word < image.words → (writes here : Bool) → is_write a.kind ≡ writes → (a.word == word) ≡ here → (if writes && here then a.after else word_at memory word) ≡ (if here then a.after else last_value (opening_word image word) word list)

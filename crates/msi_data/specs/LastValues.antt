@@ -1,5 +1,5 @@
 -- What accesses made one after the other leave in a word, and that each of them finds it.
-use Rattle.std.specs.Prelude.{◌≡◌, ℕ, ◌<◌, ◌==◌, List, [], ◌∷◌, ◌++◌, map, if◌then◌else◌}
+use Rattle.std.specs.Prelude.{◌≡◌, ℕ, ◌==◌, List, [], ◌∷◌, ◌++◌, map, if◌then◌else◌}
 use Rattle.std.specs.List.{range_with_len}
 use Rattle.image_mem.specs.Contents.{Contents, opening_word}
 use Rattle.rtr_types.specs.declared.accesses.Access.{Access}
@@ -14,10 +14,6 @@ last_value opening word (a ∷ later) = last_value (if a.word == word then a.aft
 abbrev pub EachFindsLast : Contents → List Access → Type 0
 EachFindsLast image accesses =
     (earlier later : List Access) (a : Access) → accesses ≡ earlier ++ a ∷ later → a.before ≡ last_value (opening_word image a.word) a.word earlier
-
--- each access is to a word of the memory
-abbrev pub EachWithin : (words : ℕ) → List Access → Type 0
-EachWithin words accesses = (earlier later : List Access) (a : Access) → accesses ≡ earlier ++ a ∷ later → a.word < words
 
 -- the memory that the accesses leave
 abbrev pub memory_left : Contents → List Access → List ℕ

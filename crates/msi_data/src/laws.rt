@@ -1,8 +1,8 @@
 //! What the copies of blocks are, what accesses find, and what is left of them.
-ghost use Rattle.std.specs.Prelude.{◌≡◌, ℕ, ◌*◌, ◌<◌, ◌≤◌, ◌^◌, true, IsTrue, List, length};
+ghost use Rattle.std.specs.Prelude.{◌≡◌, ℕ, ◌*◌, ◌<◌, ◌≤◌, ◌^◌, true, All, IsTrue, List, length};
 ghost use Rattle.access_times.specs.Riding.{none_carrying, none_riding};
 ghost use Rattle.image_mem.specs.Contents.{Contents, opening_word};
-ghost use Rattle.msi_data.specs.LastValues.{EachFindsLast, EachWithin, last_value, memory_left};
+ghost use Rattle.msi_data.specs.LastValues.{EachFindsLast, last_value, memory_left};
 ghost use Rattle.msi_sound.specs.Sound.{Sound};
 ghost use Rattle.msi_state.specs.Coherent.{Coherent, Finds, LastWrite, memory_after, opening_memory};
 ghost use Rattle.msi_state.specs.FinalMemory.{final_memory, final_word, final_words};
@@ -44,7 +44,7 @@ pub fn an_access_finds_the_last_value()
     ensures finds { (image : Contents) (params : Params) (choices : ℕ → ℕ) (t : ℕ) → params.cores ≤ CORES_MAX → params.limit < 2 ^ 32
         → EachFindsLast image (accesses image params choices t) }
     ensures within { (image : Contents) (params : Params) (choices : ℕ → ℕ) (t : ℕ) → params.cores ≤ CORES_MAX → params.limit < 2 ^ 32
-        → EachWithin image.words (accesses image params choices t) }
+        → All (λ a. a.word < image.words) (accesses image params choices t) }
 {}
 
 /// Once each core's program is done, the final memory of a sound state is the memory that it is coherent

@@ -133,6 +133,14 @@ impl<R: Rider, K: Carry> Machine<R, K> {
         self.parts.final_word(word)
     }
 
+    /// The image that the machine runs.
+    pub fn into_image(self) -> Image
+        ensures { result ≡ self.state.image }
+    {
+        let Machine { parts } = self;
+        parts.into_image()
+    }
+
     /// A core.
     pub fn core(&self, core: u8) -> &Core
         requires { core < length self.now.state.nodes }
