@@ -2,3 +2,5 @@ pub mod Counting
 pub mod Rooms
 pub mod Roomy
 pub mod Start
+pub mod Standings
+pub mod Found

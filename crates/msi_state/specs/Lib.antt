@@ -9,3 +9,4 @@ pub mod Runs
 pub mod Bound
 pub mod Sights
 pub mod Coherent
+pub mod Standings

@@ -4,8 +4,10 @@ ghost use Rattle.access_times.specs.declared.TheConstants.{BLOCK_WORDS};
 ghost use Rattle.msi_cache.specs.Lines.{waits};
 ghost use Rattle.rv_core.specs.Steps.{need, is_done};
 ghost use Rattle.msi_state.specs.States.{node_start};
+ghost use Rattle.msi_state.specs.Standings.{standing_of};
 ghost use Rattle.msi_state.specs.Nodes.{next_instr, instr_of, allows, access_of, rider_at, carry_after, node_accessing, node_local, node_trying, event_trying, node_working, event_working, node_receiving, event_receiving, node_taken_in, rider_of_event, may_access, can_receive_in, Tells};
 
+use crate::needs::Standing;
 use crate::sending::post;
 use access_times::{BLOCK_WORDS, Carry, Clerk, Rider};
 use image_mem::Image;
@@ -53,8 +55,25 @@ impl<R: Rider, K: Carry> Node<R, K> {
         })
     }
 
-    /// The core moves: an instruction retires, or a request is sent.
-    pub(crate) fn work<C: Clerk<R, K>>(&mut self, image: &Image, clerk: &mut C) -> Option<Instr>
+    /// What the core needs next, and whether the cache waits.
+    pub(crate) fn standing(&self, image: &Image) -> Standing
+        ensures { result ≡ standing_of image.now self.now }
+    {
+        Standing {
+            need: self.core.need(image),
+            waits: self.cache.waits(),
+        }
+    }
+
+    /// The core moves: an instruction retires, or a request is sent. What was kept of the core and its
+    /// cache is renewed.
+    pub(crate) fn work<C: Clerk<R, K>>(
+        &mut self,
+        image: &Image,
+        standing: &mut Standing,
+        clerk: &mut C,
+    ) -> Option<Instr>
+        requires stands { standing.old ≡ standing_of image.now self.old }
         requires more { is_done (need image.now self.old.core) ≡ false }
         requires still { waits self.old.cache ≡ false }
         requires accepts { C.accepts clerk.old (next_instr self.old.core) }
@@ -62,30 +81,40 @@ impl<R: Rider, K: Carry> Node<R, K> {
         ensures node { self.new ≡ node_working image.now R.riding K.carrying (rider_of_event R.riding (event_working image.now R.riding self.old) self.new) self.old }
         ensures retired { result ≡ instr_of (event_working image.now R.riding self.old) }
         ensures told { Tells C.told_local C.told_touch (event_working image.now R.riding self.old) (carry_after K.carrying self.old) clerk.old (rider_of_event R.riding (event_working image.now R.riding self.old) self.old) clerk.new (rider_of_event R.riding (event_working image.now R.riding self.old) self.new) }
+        ensures renewed { standing.new ≡ standing_of image.now self.new }
     {
-        match self.core.need(image) {
-            Need::Local => Some(self.retire_local(image, clerk)),
-            Need::Load { word } => self.try_access(image, word, Kind::Load, clerk),
-            Need::Store { word, .. } => self.try_access(image, word, Kind::Store, clerk),
+        match standing.need {
+            Need::Local => Some(self.retire_local(image, standing, clerk)),
+            Need::Load { word } => self.try_access(image, word, Kind::Load, standing, clerk),
+            Need::Store { word, .. } => self.try_access(image, word, Kind::Store, standing, clerk),
             Need::Done(_) => None,
         }
     }
 
-    /// The head of the messages from home is received.
-    pub(crate) fn receive<C: Clerk<R, K>>(&mut self, image: &Image, clerk: &mut C) -> Option<Instr>
+    /// The head of the messages from home is received. What was kept of the core and its cache is
+    /// renewed.
+    pub(crate) fn receive<C: Clerk<R, K>>(
+        &mut self,
+        image: &Image,
+        standing: &mut Standing,
+        clerk: &mut C,
+    ) -> Option<Instr>
+        requires stands { standing.old ≡ standing_of image.now self.old }
         requires row { IsTrue (can_receive_in self.old.messages.items image.now R.riding K.carrying self.old) }
         requires accepts { is_done (need image.now self.old.core) ≡ false → C.accepts clerk.old (next_instr self.old.core) }
         requires room { length self.old.responses.items < self.old.responses.room }
         ensures node { self.new ≡ node_receiving image.now R.riding K.carrying (rider_of_event R.riding (event_receiving image.now R.riding K.carrying self.old) self.new) self.old }
         ensures retired { result ≡ instr_of (event_receiving image.now R.riding K.carrying self.old) }
         ensures told { let taken = node_taken_in self.old.messages.items R.riding K.carrying self.old in Tells C.told_local C.told_touch (event_receiving image.now R.riding K.carrying self.old) (carry_after K.carrying taken) clerk.old (rider_of_event R.riding (event_receiving image.now R.riding K.carrying self.old) taken) clerk.new (rider_of_event R.riding (event_receiving image.now R.riding K.carrying self.old) self.new) }
+        ensures renewed { standing.new ≡ standing_of image.now self.new }
     {
         let mail = self.messages.pop()?;
         self.carry = self.carry.join(mail.carry);
         let is_data = matches!(&mail.item, FromHome::BlockData { .. });
         let answer = self.cache.on_home(mail.item);
+        standing.waits = self.cache.waits();
         if is_data {
-            return self.retire_waiting(image, clerk);
+            return self.retire_waiting(image, standing, clerk);
         }
         if let Some(response) = answer {
             post(&mut self.responses, response, self.carry);
@@ -107,15 +136,23 @@ impl<R: Rider, K: Carry> Node<R, K> {
     }
 
     /// A local instruction retires.
-    fn retire_local<C: Clerk<R, K>>(&mut self, image: &Image, clerk: &mut C) -> Instr
+    fn retire_local<C: Clerk<R, K>>(
+        &mut self,
+        image: &Image,
+        standing: &mut Standing,
+        clerk: &mut C,
+    ) -> Instr
+        requires waits { standing.old.waits ≡ waits self.old.cache }
         requires more { is_done (need image.now self.old.core) ≡ false }
         requires accepts { C.accepts clerk.old (next_instr self.old.core) }
         ensures node { self.new ≡ node_local image.now K.carrying self.old }
         ensures retired { result ≡ next_instr self.old.core }
         ensures told { C.told_local clerk.old (next_instr self.old.core) (carry_after K.carrying self.old) clerk.new }
+        ensures renewed { standing.new ≡ standing_of image.now self.new }
     {
         let at = self.next_instr(image);
         let _value = self.core.finish(image, 0);
+        standing.need = self.core.need(image);
         self.carry = self.carry.retire(at);
         clerk.local(at, self.carry);
         at
@@ -127,20 +164,24 @@ impl<R: Rider, K: Carry> Node<R, K> {
         image: &Image,
         word: u32,
         kind: Kind,
+        standing: &mut Standing,
         clerk: &mut C,
     ) -> Instr
+        requires waits { standing.old.waits ≡ waits self.old.cache }
         requires more { is_done (need image.now self.old.core) ≡ false }
         requires allowed { IsTrue (allows R.riding self.old word kind) }
         requires accepts { C.accepts clerk.old (next_instr self.old.core) }
         ensures node { self.new ≡ node_accessing image.now R.riding K.carrying (rider_at R.riding self.new word) self.old word kind }
         ensures retired { result ≡ next_instr self.old.core }
         ensures told { C.told_touch clerk.old (rider_at R.riding self.old word) (access_of image.now R.riding self.old word kind) (carry_after K.carrying self.old) clerk.new (rider_at R.riding self.new word) }
+        ensures renewed { standing.new ≡ standing_of image.now self.new }
     {
         let block = word / BLOCK_WORDS as u32;
         let slot = (word % BLOCK_WORDS as u32) as u8;
         let at = self.next_instr(image);
         let before = self.cache.word(block, slot);
         let after = self.core.finish(image, before);
+        standing.need = self.core.need(image);
         self.carry = self.carry.retire(at);
         if kind.is_write() {
             self.cache.put_word(block, slot, after);
@@ -162,8 +203,10 @@ impl<R: Rider, K: Carry> Node<R, K> {
         image: &Image,
         word: u32,
         kind: Kind,
+        standing: &mut Standing,
         clerk: &mut C,
     ) -> Option<Instr>
+        requires stands { standing.old ≡ standing_of image.now self.old }
         requires more { is_done (need image.now self.old.core) ≡ false }
         requires still { waits self.old.cache ≡ false }
         requires accepts { C.accepts clerk.old (next_instr self.old.core) }
@@ -171,27 +214,40 @@ impl<R: Rider, K: Carry> Node<R, K> {
         ensures node { self.new ≡ node_trying image.now R.riding K.carrying (rider_at R.riding self.new word) self.old word kind }
         ensures retired { result ≡ instr_of (event_trying image.now R.riding self.old word kind) }
         ensures told { Tells C.told_local C.told_touch (event_trying image.now R.riding self.old word kind) (carry_after K.carrying self.old) clerk.old (rider_at R.riding self.old word) clerk.new (rider_at R.riding self.new word) }
+        ensures renewed { standing.new ≡ standing_of image.now self.new }
     {
         let block = word / BLOCK_WORDS as u32;
         if self.cache.allows(block, kind) {
-            return Some(self.retire_access(image, word, kind, clerk));
+            return Some(self.retire_access(image, word, kind, standing, clerk));
         }
         let request = self.cache.want(block, kind);
         post(&mut self.requests, request, self.carry);
+        standing.waits = self.cache.waits();
         None
     }
 
     /// The access that the core needs retires.
-    fn retire_waiting<C: Clerk<R, K>>(&mut self, image: &Image, clerk: &mut C) -> Option<Instr>
+    fn retire_waiting<C: Clerk<R, K>>(
+        &mut self,
+        image: &Image,
+        standing: &mut Standing,
+        clerk: &mut C,
+    ) -> Option<Instr>
+        requires stands { standing.old ≡ standing_of image.now self.old }
         requires ready { IsTrue (may_access (need image.now self.old.core) R.riding self.old) }
         requires accepts { C.accepts clerk.old (next_instr self.old.core) }
         ensures node { self.new ≡ node_working image.now R.riding K.carrying (rider_of_event R.riding (event_working image.now R.riding self.old) self.new) self.old }
         ensures retired { result ≡ instr_of (event_working image.now R.riding self.old) }
         ensures told { Tells C.told_local C.told_touch (event_working image.now R.riding self.old) (carry_after K.carrying self.old) clerk.old (rider_of_event R.riding (event_working image.now R.riding self.old) self.old) clerk.new (rider_of_event R.riding (event_working image.now R.riding self.old) self.new) }
+        ensures renewed { standing.new ≡ standing_of image.now self.new }
     {
-        match self.core.need(image) {
-            Need::Load { word } => Some(self.retire_access(image, word, Kind::Load, clerk)),
-            Need::Store { word, .. } => Some(self.retire_access(image, word, Kind::Store, clerk)),
+        match standing.need {
+            Need::Load { word } => {
+                Some(self.retire_access(image, word, Kind::Load, standing, clerk))
+            }
+            Need::Store { word, .. } => {
+                Some(self.retire_access(image, word, Kind::Store, standing, clerk))
+            }
             _ => None,
         }
     }

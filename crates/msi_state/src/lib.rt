@@ -7,9 +7,12 @@
 //! of a run, so only the machine above, which keeps that, is to call it.
 #![tactic(auto)]
 
+mod acting;
 mod actors;
 mod machine_parts;
+mod move_list;
 mod moves;
+mod needs;
 mod sending;
 #[cfg(test)]
 mod tests;

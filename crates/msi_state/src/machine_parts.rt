@@ -1,20 +1,21 @@
 //! The parts of a machine, and its moves in code.
-ghost use Rattle.std.specs.Prelude.{◌≡◌, ◌<◌, ◌≤◌, ◌/◌, ◌%◌, All, IfOk, IsTrue, OnOk, length, true, slice_index_or};
+ghost use Rattle.std.specs.Prelude.{◌≡◌, ◌<◌, ◌≤◌, ◌*◌, ◌/◌, ◌%◌, IfOk, IsTrue, OnOk, length, true, slice_index_or};
 ghost use Rattle.access_times.specs.declared.TheConstants.{BLOCK_WORDS};
 ghost use Rattle.rtr_types.specs.declared.TheConstants.{CORES_MAX};
 ghost use Rattle.msi_state.specs.declared.moves.Move.{Move};
 ghost use Rattle.msi_state.specs.FinalMemory.{at_hand, final_word};
 ghost use Rattle.msi_state.specs.Nodes.{instr_of};
-ghost use Rattle.msi_state.specs.Ready.{NamesFit, HeadsFit, heads_roomy, HasRoomTo, Ready, RoomsMade, are_heads_roomy, head_roomy, head_within, can_request_in, can_respond_in, request_answer_in, response_answer_in};
+ghost use Rattle.msi_state.specs.Ready.{HeadsFit, heads_roomy, Ready, RoomsMade};
+ghost use Rattle.msi_state.specs.Standings.{moves_below};
 ghost use Rattle.msi_state.specs.States.{node_at, state_start, all_done};
-ghost use Rattle.msi_state.specs.Steps.{AcceptsNext, TellsOf, enabled, event, moves, request_moved, response_moved, rider_left, step};
+ghost use Rattle.msi_state.specs.Steps.{AcceptsNext, TellsOf, enabled, event, moves, rider_left, step};
 
-use crate::actors::Node;
+use crate::acting::Actors;
+use crate::move_list::MoveList;
 use crate::moves::Move;
-use crate::sending::deliver;
+use crate::needs::{Standing, are_done};
 use access_times::{BLOCK_WORDS, Carry, Clerk, Rider};
 use image_mem::Image;
-use msi_directory::Home;
 use rtr_types::{CORES_MAX, Instr};
 use rv_core::Core;
 use std::alloc::{AllocError, Global};
@@ -28,30 +29,32 @@ pub struct Stepped {
     pub retired: Option<Instr>,
 }
 
-/// The parts of a machine: the image that it runs, its nodes, its home and the home's carry. Contracts
-/// see the state, and which of the home's blocks have room for a request.
+/// The parts of a machine: the image that it runs, its nodes, its home and the home's carry, and beside
+/// them what each core and its cache stand at. Contracts see the state, and which of the home's blocks
+/// have room for a request.
 ///
 /// It is for the machine alone, whose states always meet what these calls need.
 #[derive(Drop)]
 pub struct Parts<R, K> {
-    image: Image,
-    nodes: Vec<Node<R, K>>,
-    home: Home<R>,
-    carry: K,
+    actors: Actors<R, K>,
+    standings: Vec<Standing>,
 }
 
 impl<R, K> Model for Parts<R, K> {
+    ghost use Rattle.std.specs.Prelude.{◌≡◌};
     ghost use Rattle.msi_state.specs.States.{Machinery};
+    ghost use Rattle.msi_state.specs.Standings.{standings_of};
 
     ghost Value = { Machinery R K };
 
-    ghost view = { λ a. record { state = record { image = a.image; nodes = a.nodes.items; home = a.home.entries; carry = a.carry }; rooms = a.home.rooms } };
+    ghost view = { λ a. a.actors };
+
+    ghost invariant = { λ a. a.standings.items ≡ standings_of a.actors.state };
 }
 
 impl<R: Rider, K: Carry> Parts<R, K> {
     /// The parts of a machine at its start, with so many cores, each of which retires at most `limit`
     /// instructions.
-    #[tactic(auto, using(crate::proofs::Counting::map_range_more))]
     pub fn new(
         alloc: Global,
         image: Image,
@@ -60,25 +63,17 @@ impl<R: Rider, K: Carry> Parts<R, K> {
     ) -> Result<Parts<R, K>, AllocError>
         ensures { IfOk result (λ parts. parts.state ≡ state_start R.riding K.carrying image cores limit) }
     {
-        let home = Home::new(alloc, &image)?;
-        let mut nodes = Vec::with_capacity(alloc, cores as usize)?;
-        for id in 0..cores {
-            nodes.push(Node::new(alloc, id, limit)?)?;
-        }
-        Ok(Parts {
-            image,
-            nodes,
-            home,
-            carry: K::none(),
-        })
+        let actors = Actors::new(alloc, image, cores, limit)?;
+        let standings = actors.standings(alloc)?;
+        Ok(Parts { actors, standings })
     }
 
     /// Whether each core's program is done.
+    #[tactic(auto, using(crate::proofs::Standings::all_done_stands))]
     pub fn done(&self) -> bool
         ensures { result ≡ all_done self.now.state }
     {
-        let image = &self.image;
-        self.nodes.iter().all(|n| n.core.need(image).is_done())
+        are_done(self.standings.as_slice())
     }
 
     /// Whether the move can be made.
@@ -86,39 +81,24 @@ impl<R: Rider, K: Carry> Parts<R, K> {
         requires { HeadsFit self.now.state }
         ensures { result ≡ enabled R.riding K.carrying self.now.state taken }
     {
-        let Some(node) = self.nodes.get(taken.core() as usize) else {
-            return false;
-        };
         match taken {
-            Move::Core(_) => !node.core.need(&self.image).is_done() && !node.cache.waits(),
-            Move::Request(_) => match node.requests.head() {
-                Some(mail) => self.home.can_take(&mail.item),
-                None => false,
-            },
-            Move::Response(_) => !node.responses.is_empty(),
-            Move::FromHome(_) => !node.messages.is_empty(),
+            Move::Core(c) => self.may_move(c),
+            Move::Request(c) => self.may_take_request(c),
+            Move::Response(c) => self.may_take_response(c),
+            Move::FromHome(c) => self.may_take_message(c),
         }
     }
 
     /// How many moves can be made.
-    #[tactic(auto, using(crate::proofs::Counting::count_candidates_more))]
     pub fn count_moves(&self) -> u32
         requires cores { length self.now.state.nodes ≤ CORES_MAX }
         requires heads { HeadsFit self.now.state }
         ensures { result ≡ length (moves R.riding K.carrying self.now.state) }
     {
-        let cores = self.nodes.len() as u32;
-        let mut count = 0;
-        for k in 0..4 * cores {
-            if self.is_enabled(Move::candidate(cores, k)) {
-                count += 1;
-            }
-        }
-        count
+        self.found_moves().len()
     }
 
     /// The move of this number, from 0, among those that can be made.
-    #[tactic(auto, using(crate::proofs::Counting::count_candidates_more, crate::proofs::Counting::candidates_nth))]
     pub fn pick(&self, number: u32) -> Move
         requires cores { length self.now.state.nodes ≤ CORES_MAX }
         requires heads { HeadsFit self.now.state }
@@ -126,26 +106,15 @@ impl<R: Rider, K: Carry> Parts<R, K> {
         ensures chosen { (d : Move) → result ≡ slice_index_or (moves R.riding K.carrying self.now.state) number d }
         ensures enabled { IsTrue (enabled R.riding K.carrying self.now.state result) }
     {
-        let cores = self.nodes.len() as u32;
-        let mut left = number;
-        for k in 0..4 * cores {
-            let taken = Move::candidate(cores, k);
-            if self.is_enabled(taken) {
-                if left == 0 {
-                    return taken;
-                }
-                left -= 1;
-            }
-        }
-        unreachable!()
+        self.found_moves().get(number)
     }
 
     /// The image that the machine runs.
     pub fn into_image(self) -> Image
         ensures { result ≡ self.state.image }
     {
-        let Parts { image, .. } = self;
-        image
+        let Parts { actors, .. } = self;
+        actors.into_image()
     }
 
     /// How many cores there are.
@@ -153,7 +122,7 @@ impl<R: Rider, K: Carry> Parts<R, K> {
         requires { length self.now.state.nodes ≤ CORES_MAX }
         ensures { result ≡ length self.now.state.nodes }
     {
-        self.nodes.len() as u8
+        self.actors.cores()
     }
 
     /// A core.
@@ -161,7 +130,7 @@ impl<R: Rider, K: Carry> Parts<R, K> {
         requires { core < length self.now.state.nodes }
         ensures { result.now ≡ (node_at K.carrying self.now.state.nodes core).core }
     {
-        &self.nodes[core as usize].core
+        self.actors.core(core)
     }
 
     /// A word of the memory, by its index, once its block's words are at hand: the owner's where a cache
@@ -171,12 +140,7 @@ impl<R: Rider, K: Carry> Parts<R, K> {
         requires at_hand { IsTrue (at_hand R.riding K.carrying self.now.state (word / BLOCK_WORDS)) }
         ensures { result ≡ final_word R.riding K.carrying self.now.state word }
     {
-        let block = word / BLOCK_WORDS as u32;
-        let slot = (word % BLOCK_WORDS as u32) as u8;
-        match self.home.owner(block) {
-            Some(owner) => self.nodes[owner as usize].cache.word(block, slot),
-            None => self.home.word(word),
-        }
+        self.actors.final_word(word)
     }
 
     /// Makes room in the home for the block of each request link's head, so that no move needs memory.
@@ -187,7 +151,7 @@ impl<R: Rider, K: Carry> Parts<R, K> {
         ensures rooms { RoomsMade self.old.state.nodes self.old.rooms self.new.rooms }
         ensures ok { OnOk result (heads_roomy self.new ≡ true) }
     {
-        make_room_for_heads(&mut self.home, self.nodes.as_slice())
+        self.actors.make_room()
     }
 
     /// Whether the home has room for the block of each request link's head.
@@ -195,14 +159,7 @@ impl<R: Rider, K: Carry> Parts<R, K> {
         requires { HeadsFit self.now.state }
         ensures { result ≡ heads_roomy self.now }
     {
-        for node in &self.nodes {
-            if let Some(mail) = node.requests.head()
-                && !self.home.has_room(mail.item.block())
-            {
-                return false;
-            }
-        }
-        true
+        self.actors.has_room()
     }
 
     /// One step: of the moves that can be made, the one that the choice numbers, counted around.
@@ -218,8 +175,8 @@ impl<R: Rider, K: Carry> Parts<R, K> {
         ensures retired { result.retired ≡ instr_of (event R.riding K.carrying self.old.state result.taken) }
         ensures told { TellsOf C.told_local C.told_touch R.riding K.carrying self.old.state self.new.state result.taken clerk.old clerk.new }
     {
-        let number = choice % self.count_moves();
-        let taken = self.pick(number);
+        let found = self.found_moves();
+        let taken = found.get(choice % found.len());
         let retired = self.make_move(taken, clerk);
         Stepped { taken, retired }
     }
@@ -236,99 +193,116 @@ impl<R: Rider, K: Carry> Parts<R, K> {
         ensures told { TellsOf C.told_local C.told_touch R.riding K.carrying self.old.state self.new.state taken clerk.old clerk.new }
     {
         match taken {
-            Move::Core(c) => self.move_core(c, clerk),
+            Move::Core(c) => {
+                let standing = &mut self.standings[c as usize];
+                self.actors.move_core(c, standing, clerk)
+            }
             Move::Request(c) => {
-                self.take_request(c);
+                self.actors.take_request(c);
                 None
             }
             Move::Response(c) => {
-                self.take_response(c);
+                self.actors.take_response(c);
                 None
             }
-            Move::FromHome(c) => self.take_message(c, clerk),
+            Move::FromHome(c) => {
+                let standing = &mut self.standings[c as usize];
+                self.actors.take_message(c, standing, clerk)
+            }
         }
     }
 }
 
-/// Makes room for the block of each request link's head.
-#[tactic(auto, using(crate::proofs::Roomy::making_none, crate::proofs::Roomy::making_one, crate::proofs::Roomy::making_same))]
-fn make_room_for_heads<R: Rider, K: Carry>(
-    home: &mut Home<R>,
-    nodes: &[Node<R, K>],
-) -> Result<(), AllocError>
-    requires { All (λ n. IsTrue (head_within n.requests.items (length home.old.entries))) nodes.now }
-    ensures entries { home.new.entries ≡ home.old.entries }
-    ensures rooms { RoomsMade nodes.now home.old.rooms home.new.rooms }
-    ensures ok { OnOk result (are_heads_roomy nodes.now home.new.rooms ≡ true) }
-{
-    for node in nodes {
-        if let Some(mail) = node.requests.head() {
-            home.make_room(mail.item.block())?;
-        }
-    }
-    Ok(())
-}
-
-// Each kind of move.
+// What moves can be made.
 impl<R: Rider, K: Carry> Parts<R, K> {
-    fn move_core<C: Clerk<R, K>>(&mut self, c: u8, clerk: &mut C) -> Option<Instr>
-        requires enabled { IsTrue (enabled R.riding K.carrying self.old.state (Move.Core c)) }
-        requires ready { Ready R.riding K.carrying self.old.state }
-        requires accepts { AcceptsNext C.accepts clerk.old self.old.state }
-        ensures state { self.new.state ≡ step R.riding K.carrying (rider_left R.riding K.carrying self.old.state self.new.state (Move.Core c)) self.old.state (Move.Core c) }
-        ensures rooms { self.new.rooms ≡ self.old.rooms }
-        ensures retired { result ≡ instr_of (event R.riding K.carrying self.old.state (Move.Core c)) }
-        ensures told { TellsOf C.told_local C.told_touch R.riding K.carrying self.old.state self.new.state (Move.Core c) clerk.old clerk.new }
+    fn may_move(&self, c: u8) -> bool
+        ensures { result ≡ enabled R.riding K.carrying self.now.state (Move.Core c) }
     {
-        self.nodes[c as usize].work(&self.image, clerk)
+        match self.standings.get(c as usize) {
+            Some(standing) => standing.may_move(),
+            None => false,
+        }
     }
 
-    fn take_message<C: Clerk<R, K>>(&mut self, c: u8, clerk: &mut C) -> Option<Instr>
-        requires enabled { IsTrue (enabled R.riding K.carrying self.old.state (Move.FromHome c)) }
-        requires ready { Ready R.riding K.carrying self.old.state }
-        requires accepts { AcceptsNext C.accepts clerk.old self.old.state }
-        ensures state { self.new.state ≡ step R.riding K.carrying (rider_left R.riding K.carrying self.old.state self.new.state (Move.FromHome c)) self.old.state (Move.FromHome c) }
-        ensures rooms { self.new.rooms ≡ self.old.rooms }
-        ensures retired { result ≡ instr_of (event R.riding K.carrying self.old.state (Move.FromHome c)) }
-        ensures told { TellsOf C.told_local C.told_touch R.riding K.carrying self.old.state self.new.state (Move.FromHome c) clerk.old clerk.new }
+    fn may_take_request(&self, c: u8) -> bool
+        requires { HeadsFit self.now.state }
+        ensures { result ≡ enabled R.riding K.carrying self.now.state (Move.Request c) }
     {
-        self.nodes[c as usize].receive(&self.image, clerk)
+        (c as usize) < self.standings.len() && self.actors.has_free_head(c)
     }
 
-    fn take_request(&mut self, c: u8)
-        requires cores { length self.old.state.nodes ≤ CORES_MAX }
-        requires here { c < length self.old.state.nodes }
-        requires names { NamesFit self.old.state }
-        requires row { IsTrue (can_request_in (node_at K.carrying self.old.state.nodes c).requests.items R.riding self.old.state c) }
-        requires room { HasRoomTo K.carrying (request_answer_in (node_at K.carrying self.old.state.nodes c).requests.items R.riding self.old.state c) self.old.state.nodes }
-        requires roomy { IsTrue (head_roomy (node_at K.carrying self.old.state.nodes c).requests.items self.old.rooms) }
-        ensures state { self.new.state ≡ request_moved R.riding K.carrying self.old.state c }
-        ensures rooms { self.new.rooms ≡ self.old.rooms }
+    fn may_take_response(&self, c: u8) -> bool
+        ensures { result ≡ enabled R.riding K.carrying self.now.state (Move.Response c) }
     {
-        let Some(mail) = self.nodes[c as usize].requests.pop() else {
-            return;
-        };
-        self.carry = self.carry.join(mail.carry);
-        let block = mail.item.block();
-        let answer = self.home.on_request(c, mail.item);
-        deliver(self.nodes.as_mut_slice(), answer, block, self.carry);
+        (c as usize) < self.standings.len() && self.actors.has_response(c)
     }
 
-    fn take_response(&mut self, c: u8)
-        requires cores { length self.old.state.nodes ≤ CORES_MAX }
-        requires here { c < length self.old.state.nodes }
-        requires names { NamesFit self.old.state }
-        requires row { IsTrue (can_respond_in (node_at K.carrying self.old.state.nodes c).responses.items R.riding self.old.state c) }
-        requires room { HasRoomTo K.carrying (response_answer_in (node_at K.carrying self.old.state.nodes c).responses.items R.riding self.old.state c) self.old.state.nodes }
-        ensures state { self.new.state ≡ response_moved R.riding K.carrying self.old.state c }
-        ensures rooms { self.new.rooms ≡ self.old.rooms }
+    fn may_take_message(&self, c: u8) -> bool
+        ensures { result ≡ enabled R.riding K.carrying self.now.state (Move.FromHome c) }
     {
-        let Some(mail) = self.nodes[c as usize].responses.pop() else {
-            return;
-        };
-        self.carry = self.carry.join(mail.carry);
-        let block = mail.item.block();
-        let answer = self.home.on_response(c, mail.item);
-        deliver(self.nodes.as_mut_slice(), answer, block, self.carry);
+        (c as usize) < self.standings.len() && self.actors.has_message(c)
+    }
+
+    /// The moves that can be made, in order.
+    fn found_moves(&self) -> MoveList
+        requires cores { length self.now.state.nodes ≤ CORES_MAX }
+        requires heads { HeadsFit self.now.state }
+        ensures { result ≡ moves R.riding K.carrying self.now.state }
+    {
+        let mut found = MoveList::new();
+        self.find_core_moves(&mut found);
+        self.find_requests(&mut found);
+        self.find_responses(&mut found);
+        self.find_messages(&mut found);
+        found
+    }
+
+    fn find_core_moves(&self, found: &mut MoveList)
+        requires cores { length self.now.state.nodes ≤ CORES_MAX }
+        requires before { found.old ≡ moves_below R.riding K.carrying self.now.state 0 }
+        ensures { found.new ≡ moves_below R.riding K.carrying self.now.state (length self.now.state.nodes) }
+    {
+        for c in 0..self.cores() {
+            if self.may_move(c) {
+                found.push(Move::Core(c));
+            }
+        }
+    }
+
+    fn find_requests(&self, found: &mut MoveList)
+        requires cores { length self.now.state.nodes ≤ CORES_MAX }
+        requires heads { HeadsFit self.now.state }
+        requires before { found.old ≡ moves_below R.riding K.carrying self.now.state (length self.now.state.nodes) }
+        ensures { found.new ≡ moves_below R.riding K.carrying self.now.state (2 * length self.now.state.nodes) }
+    {
+        for c in 0..self.cores() {
+            if self.may_take_request(c) {
+                found.push(Move::Request(c));
+            }
+        }
+    }
+
+    fn find_responses(&self, found: &mut MoveList)
+        requires cores { length self.now.state.nodes ≤ CORES_MAX }
+        requires before { found.old ≡ moves_below R.riding K.carrying self.now.state (2 * length self.now.state.nodes) }
+        ensures { found.new ≡ moves_below R.riding K.carrying self.now.state (3 * length self.now.state.nodes) }
+    {
+        for c in 0..self.cores() {
+            if self.may_take_response(c) {
+                found.push(Move::Response(c));
+            }
+        }
+    }
+
+    fn find_messages(&self, found: &mut MoveList)
+        requires cores { length self.now.state.nodes ≤ CORES_MAX }
+        requires before { found.old ≡ moves_below R.riding K.carrying self.now.state (3 * length self.now.state.nodes) }
+        ensures { found.new ≡ moves_below R.riding K.carrying self.now.state (4 * length self.now.state.nodes) }
+    {
+        for c in 0..self.cores() {
+            if self.may_take_message(c) {
+                found.push(Move::FromHome(c));
+            }
+        }
     }
 }

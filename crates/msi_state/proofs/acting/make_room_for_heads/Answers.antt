@@ -1,8 +1,8 @@
 use Rattle.std.proofs.Common.{rules, refl, sym, subst, ap, ◌∙◌, ◌<◌, ◌+◌, length}
 use Rattle.msi_directory.specs.Blocks.{Blocks}
 use Rattle.msi_state.proofs.Roomy.{Making, making_made, making_same}
-use Rattle.msi_state.proofs.machine_parts.make_room_for_heads.Goals.{in-Some+in_ok-make_room, in_default}
-use Rattle.msi_state.proofs.machine_parts.make_room_for_heads.Goals as goal
+use Rattle.msi_state.proofs.acting.make_room_for_heads.Goals.{in-Some+in_ok-make_room, in_default}
+use Rattle.msi_state.proofs.acting.make_room_for_heads.Goals as goal
 
 pub loop-node-preserved : goal.loop-node-preserved
 loop-node-preserved g c =

@@ -6,7 +6,7 @@ use Rattle.msi_state.specs.States.{Machinery, node_at}
 use Rattle.msi_state.specs.Nodes.{can_receive_in}
 use Rattle.msi_state.specs.declared.moves.Move.TheVariants.{FromHome}
 use Rattle.msi_state.specs.declared.actors.Node.{Node}
-use Rattle.msi_state.proofs.machine_parts.Parts.take_message.Goals as goal
+use Rattle.msi_state.proofs.acting.Actors.take_message.Goals as goal
 
 pub receive-requires-clause-row : goal.receive-requires-clause-row
 receive-requires-clause-row g c =

@@ -4,7 +4,7 @@ use Rattle.std.proofs.lemmas.Bool.Decides.{nat_tests}
 use Rattle.msi_state.specs.States.{node_at}
 use Rattle.msi_state.specs.declared.moves.Move.TheVariants.{Core}
 use Rattle.msi_state.specs.declared.actors.Node.{Node}
-use Rattle.msi_state.proofs.machine_parts.Parts.move_core.Goals as goal
+use Rattle.msi_state.proofs.acting.Actors.move_core.Goals as goal
 
 pub work-requires-clause-room : goal.work-requires-clause-room
 work-requires-clause-room g c =

@@ -1,0 +1,100 @@
+-- What the cores and their caches stand at after a move.
+use Rattle.std.proofs.Common.{◌≡◌, ◌∙◌, refl, ap, ℕ, ◌<◌, ◌%◌, Bool, true, false, ◌||◌, cond, Option, Some, None, List, [], ◌∷◌, zero, suc, length, get_or}
+use Rattle.std.specs.Prelude.{map, slice_set, slice_index_or}
+use Rattle.std.specs.List.{list_all, list_any}
+use Rattle.std.proofs.Math.Seq.{map-set_same}
+use Rattle.std.proofs.lemmas.List.{get_or-map, map-set}
+use Rattle.std.proofs.lemmas.List.Folds.{list_all-map}
+use Rattle.access_times.specs.Riding.{Riding, Carrying}
+use Rattle.image_mem.specs.Contents.{Contents}
+use Rattle.rtr_types.specs.CoreSets.{has}
+use Rattle.rtr_types.specs.declared.core_set.CoreSet.{CoreSet}
+use Rattle.rv_core.specs.Steps.{is_done, need}
+use Rattle.rv_core.specs.declared.core_state.Need.{Need}
+use Rattle.msi_cache.specs.Table.{is_transient}
+use Rattle.msi_cache.specs.declared.copies.TheConstants.{LINES}
+use Rattle.msi_cache.specs.declared.copies.Line.{Line}
+use Rattle.msi_cache.specs.declared.messages.FromHome.{FromHome}
+use Rattle.msi_cache.specs.declared.messages.FromHome.TheVariants.{Inv}
+use Rattle.msi_cache.specs.declared.messages.Request.{Request}
+use Rattle.msi_cache.specs.declared.messages.Response.{Response}
+use Rattle.msi_cache.specs.Lines.{empty_line, lines_put, lines_riding, waits}
+use Rattle.msi_cache.specs.Messages.{request_block, response_block}
+use Rattle.msi_directory.specs.Blocks.{entry_at}
+use Rattle.msi_directory.specs.Entries.{answer_to_request, answer_to_response}
+use Rattle.msi_state.specs.declared.actors.Mail.{Mail}
+use Rattle.msi_state.specs.declared.actors.Node.{Node}
+use Rattle.msi_state.specs.declared.needs.Standing.{Standing}
+use Rattle.msi_state.specs.Standings.{standing_of, standings_of}
+use Rattle.msi_state.specs.States.{State, all_done, no_node, node_at}
+use Rattle.msi_state.specs.Steps.{delivered_in, node_requested, node_responded, node_sent, nodes_sent, nodes_told, request_moved, request_moved_in, response_moved, response_moved_in}
+
+-- an element gives way to one that the test cannot tell from it
+any_set_same : {X : Type 0} (test : X → Bool) (xs : List X) (i : ℕ) (y d : X) → test y ≡ test (get_or xs i d) → list_any test (slice_set xs i y) ≡ list_any test xs
+any_set_same test [] i y d same = refl
+any_set_same test (x ∷ xs) zero y d same = ap (λ (b : Bool). b || list_any test xs) same
+any_set_same test (x ∷ xs) (suc i) y d same = ap (λ (b : Bool). test x || b) (any_set_same test xs i y d same)
+
+module _ {R : Type 0} where
+  -- an access changes no line's state
+  pub waits_put : (fresh : R) (lines : List (Line R)) (block slot value : ℕ) → waits (lines_put fresh lines block slot value) ≡ waits lines
+  waits_put fresh lines block slot value =
+      any_set_same (λ (line : Line R). is_transient line.state) lines (block % LINES) (record (slice_index_or lines (block % LINES) (empty_line fresh)) { words = slice_set (slice_index_or lines (block % LINES) (empty_line fresh)).words slot value }) (empty_line fresh) refl
+
+  pub waits_riding : (fresh : R) (lines : List (Line R)) (block : ℕ) (rider : R) → waits (lines_riding fresh lines block rider) ≡ waits lines
+  waits_riding fresh lines block rider =
+      any_set_same (λ (line : Line R). is_transient line.state) lines (block % LINES) (record (slice_index_or lines (block % LINES) (empty_line fresh)) { rider = rider }) (empty_line fresh) refl
+
+abbrev made : Need → Bool → Standing
+made needed waiting = record { need = needed; waits = waiting }
+
+pub same_standing : {needed n : Need} {waiting w : Bool} → needed ≡ n → waiting ≡ w → made needed waiting ≡ made n w
+same_standing {needed} {n} {waiting} {w} same_need same_waits = ap (λ (x : Need). made x waiting) same_need ∙ ap (λ (x : Bool). made n x) same_waits
+
+module _ {R K : Type 0} where
+  -- one node of all is replaced
+  pub node_stands : (s : State R K) (c : ℕ) (node : Node R K) → map (standing_of s.image) (slice_set s.nodes c node) ≡ slice_set (standings_of s) c (standing_of s.image node)
+  node_stands s c node = map-set (standing_of s.image) s.nodes c node
+
+  sent_stands : (carrying : Carrying K) (image : Contents) (nodes : List (Node R K)) (to : ℕ) (m : FromHome R) (carry : K) → map (standing_of image) (nodes_sent carrying nodes to m carry) ≡ map (standing_of image) nodes
+  sent_stands carrying image nodes to m carry =
+      map-set_same (standing_of image) nodes to (node_sent (node_at carrying nodes to) m carry) (no_node carrying) refl
+
+  told_stands : (carrying : Carrying K) (image : Contents) (set : CoreSet) (m : FromHome R) (carry : K) (n : ℕ) (nodes : List (Node R K)) → map (standing_of image) (nodes_told carrying set m carry n nodes) ≡ map (standing_of image) nodes
+  told_stands carrying image set m carry zero nodes = refl
+  told_stands carrying image set m carry (suc n) nodes =
+      told_one (has set n) (told_stands carrying image set m carry n nodes)
+    where
+      told_one : (is_told : Bool) → map (standing_of image) (nodes_told carrying set m carry n nodes) ≡ map (standing_of image) nodes → map (standing_of image) (cond is_told (nodes_sent carrying (nodes_told carrying set m carry n nodes) n m carry) (nodes_told carrying set m carry n nodes)) ≡ map (standing_of image) nodes
+      told_one true before = sent_stands carrying image (nodes_told carrying set m carry n nodes) n m carry ∙ before
+      told_one false before = before
+
+  delivered_stands : (send : Option (ℕ × FromHome R)) (carrying : Carrying K) (image : Contents) (set : CoreSet) (block : ℕ) (carry : K) (nodes : List (Node R K)) → map (standing_of image) (delivered_in send carrying set block carry nodes) ≡ map (standing_of image) nodes
+  delivered_stands (Some (to, m)) carrying image set block carry nodes = sent_stands carrying image nodes to m carry
+  delivered_stands None carrying image set block carry nodes = told_stands carrying image set (Inv block) carry (length nodes) nodes
+
+  -- the home's moves change neither cores nor caches
+  pub request_stands : (riding : Riding R) (carrying : Carrying K) (s : State R K) (c : ℕ) → standings_of (request_moved riding carrying s c) ≡ standings_of s
+  request_stands riding carrying s c = taken (node_at carrying s.nodes c).requests.items
+    where
+      taken : (items : List (Mail (Request R) K)) → standings_of (request_moved_in items riding carrying s c) ≡ standings_of s
+      taken [] = refl
+      taken (mail ∷ rest) =
+          delivered_stands (answer_to_request riding.absorbed (entry_at riding.fresh s.home (request_block mail.item)) c mail.item).send carrying s.image (answer_to_request riding.absorbed (entry_at riding.fresh s.home (request_block mail.item)) c mail.item).invalidate (request_block mail.item) (carrying.joined s.carry mail.carry) (slice_set s.nodes c (node_requested (node_at carrying s.nodes c) rest))
+          ∙ map-set_same (standing_of s.image) s.nodes c (node_requested (node_at carrying s.nodes c) rest) (no_node carrying) refl
+
+  pub response_stands : (riding : Riding R) (carrying : Carrying K) (s : State R K) (c : ℕ) → standings_of (response_moved riding carrying s c) ≡ standings_of s
+  response_stands riding carrying s c = taken (node_at carrying s.nodes c).responses.items
+    where
+      taken : (items : List (Mail (Response R) K)) → standings_of (response_moved_in items riding carrying s c) ≡ standings_of s
+      taken [] = refl
+      taken (mail ∷ rest) =
+          delivered_stands (answer_to_response riding.absorbed (entry_at riding.fresh s.home (response_block mail.item)) c mail.item).send carrying s.image (answer_to_response riding.absorbed (entry_at riding.fresh s.home (response_block mail.item)) c mail.item).invalidate (response_block mail.item) (carrying.joined s.carry mail.carry) (slice_set s.nodes c (node_responded (node_at carrying s.nodes c) rest))
+          ∙ map-set_same (standing_of s.image) s.nodes c (node_responded (node_at carrying s.nodes c) rest) (no_node carrying) refl
+
+  -- what is kept of a core and its cache
+  pub stands_at : (carrying : Carrying K) (s : State R K) (c : ℕ) (d : Standing) → c < length s.nodes → get_or (standings_of s) c d ≡ standing_of s.image (node_at carrying s.nodes c)
+  stands_at carrying s c d within = get_or-map (standing_of s.image) s.nodes c (no_node carrying) d within
+
+  pub all_done_stands : (s : State R K) → list_all (λ (x : Standing). is_done x.need) (standings_of s) ≡ all_done s
+  all_done_stands s = list_all-map (λ (x : Standing). is_done x.need) (standing_of s.image) s.nodes

@@ -1,0 +1,25 @@
+-- What the cores and their caches stand at, from which the moves that can be made are found.
+use Rattle.std.specs.Prelude.{ℕ, List, length, map}
+use Rattle.std.specs.List.{filter}
+use Rattle.access_times.specs.Riding.{Riding, Carrying}
+use Rattle.image_mem.specs.Contents.{Contents}
+use Rattle.rv_core.specs.Steps.{need}
+use Rattle.msi_cache.specs.Lines.{waits}
+use Rattle.msi_state.specs.declared.actors.Node.{Node}
+use Rattle.msi_state.specs.declared.moves.Move.{Move}
+use Rattle.msi_state.specs.declared.needs.Standing.{Standing}
+use Rattle.msi_state.specs.Moves.{candidates}
+use Rattle.msi_state.specs.States.{State}
+use Rattle.msi_state.specs.Steps.{enabled}
+
+module _ {R K : Type 0} where
+  -- what the node's core needs next, and whether its cache waits
+  abbrev pub standing_of : Contents → Node R K → Standing
+  standing_of image node = record { need = need image node.core; waits = waits node.cache }
+
+  abbrev pub standings_of : State R K → List Standing
+  standings_of s = map (standing_of s.image) s.nodes
+
+  -- the enabled ones among the first n moves that a machine can have
+  abbrev pub moves_below : Riding R → Carrying K → State R K → ℕ → List Move
+  moves_below riding carrying s n = filter (enabled riding carrying s) (candidates (length s.nodes) n)

@@ -1,0 +1,272 @@
+//! The actors of a machine, the image that its cores run, and each kind of move in code.
+ghost use Rattle.std.specs.Prelude.{◌≡◌, ◌<◌, ◌≤◌, ◌/◌, All, IfOk, IsTrue, OnOk, length, not, slice_set, true};
+ghost use Rattle.access_times.specs.declared.TheConstants.{BLOCK_WORDS};
+ghost use Rattle.rtr_types.specs.declared.TheConstants.{CORES_MAX};
+ghost use Rattle.link_order.specs.Queue.{is_nil};
+ghost use Rattle.msi_state.specs.declared.moves.Move.{Move};
+ghost use Rattle.msi_state.specs.FinalMemory.{at_hand, final_word};
+ghost use Rattle.msi_state.specs.Nodes.{instr_of};
+ghost use Rattle.msi_state.specs.Ready.{NamesFit, HeadsFit, heads_roomy, HasRoomTo, Ready, RoomsMade, are_heads_roomy, head_roomy, head_within, can_request_in, can_respond_in, request_answer_in, response_answer_in};
+ghost use Rattle.msi_state.specs.Standings.{standing_of, standings_of};
+ghost use Rattle.msi_state.specs.States.{node_at, state_start};
+ghost use Rattle.msi_state.specs.Steps.{AcceptsNext, TellsOf, enabled, event, head_free, request_moved, response_moved, rider_left, step};
+
+use crate::actors::Node;
+use crate::needs::Standing;
+use crate::sending::deliver;
+use access_times::{BLOCK_WORDS, Carry, Clerk, Rider};
+use image_mem::Image;
+use msi_directory::Home;
+use rtr_types::{CORES_MAX, Instr};
+use rv_core::Core;
+use std::alloc::{AllocError, Global};
+use std::marker::Model;
+
+/// The image that the cores run, the nodes, the home and the home's carry. Contracts see the state, and
+/// which of the home's blocks have room for a request.
+///
+/// It has no invariant, so that each kind of move owes only what it does.
+#[derive(Drop)]
+pub struct Actors<R, K> {
+    image: Image,
+    nodes: Vec<Node<R, K>>,
+    home: Home<R>,
+    carry: K,
+}
+
+impl<R, K> Model for Actors<R, K> {
+    ghost use Rattle.msi_state.specs.States.{Machinery};
+
+    ghost Value = { Machinery R K };
+
+    ghost view = { λ a. record { state = record { image = a.image; nodes = a.nodes.items; home = a.home.entries; carry = a.carry }; rooms = a.home.rooms } };
+}
+
+impl<R: Rider, K: Carry> Actors<R, K> {
+    /// The actors at the start, with so many cores, each of which retires at most `limit`
+    /// instructions.
+    #[tactic(auto, using(crate::proofs::Counting::map_range_more))]
+    pub(crate) fn new(
+        alloc: Global,
+        image: Image,
+        cores: u8,
+        limit: u32,
+    ) -> Result<Actors<R, K>, AllocError>
+        ensures { IfOk result (λ actors. actors.state ≡ state_start R.riding K.carrying image cores limit) }
+    {
+        let home = Home::new(alloc, &image)?;
+        let mut nodes = Vec::with_capacity(alloc, cores as usize)?;
+        for id in 0..cores {
+            nodes.push(Node::new(alloc, id, limit)?)?;
+        }
+        Ok(Actors {
+            image,
+            nodes,
+            home,
+            carry: K::none(),
+        })
+    }
+
+    /// What each core and its cache stand at.
+    pub(crate) fn standings(&self, alloc: Global) -> Result<Vec<Standing>, AllocError>
+        ensures { IfOk result (λ found. found.items ≡ standings_of self.now.state) }
+    {
+        let mut found = Vec::with_capacity(alloc, self.nodes.len())?;
+        for node in &self.nodes {
+            found.push(node.standing(&self.image))?;
+        }
+        Ok(found)
+    }
+
+    /// Whether there is a request of the core that the home can take.
+    pub(crate) fn has_free_head(&self, core: u8) -> bool
+        requires here { core < length self.now.state.nodes }
+        requires heads { HeadsFit self.now.state }
+        ensures { result ≡ head_free (node_at K.carrying self.now.state.nodes core).requests.items R.riding self.now.state.home }
+    {
+        match self.nodes[core as usize].requests.head() {
+            Some(mail) => self.home.can_take(&mail.item),
+            None => false,
+        }
+    }
+
+    /// Whether there is a response of the core.
+    pub(crate) fn has_response(&self, core: u8) -> bool
+        requires { core < length self.now.state.nodes }
+        ensures { result ≡ not (is_nil (node_at K.carrying self.now.state.nodes core).responses.items) }
+    {
+        !self.nodes[core as usize].responses.is_empty()
+    }
+
+    /// Whether there is a message from home to the core.
+    pub(crate) fn has_message(&self, core: u8) -> bool
+        requires { core < length self.now.state.nodes }
+        ensures { result ≡ not (is_nil (node_at K.carrying self.now.state.nodes core).messages.items) }
+    {
+        !self.nodes[core as usize].messages.is_empty()
+    }
+
+    /// The image that the machine runs.
+    pub(crate) fn into_image(self) -> Image
+        ensures { result ≡ self.state.image }
+    {
+        let Actors { image, .. } = self;
+        image
+    }
+
+    /// How many cores there are.
+    pub(crate) fn cores(&self) -> u8
+        requires { length self.now.state.nodes ≤ CORES_MAX }
+        ensures { result ≡ length self.now.state.nodes }
+    {
+        self.nodes.len() as u8
+    }
+
+    /// A core.
+    pub(crate) fn core(&self, core: u8) -> &Core
+        requires { core < length self.now.state.nodes }
+        ensures { result.now ≡ (node_at K.carrying self.now.state.nodes core).core }
+    {
+        &self.nodes[core as usize].core
+    }
+
+    /// A word of the memory, by its index, once its block's words are at hand: the owner's where a cache
+    /// owns the block, else the home's.
+    pub(crate) fn final_word(&self, word: u32) -> u32
+        requires within { word / BLOCK_WORDS < length self.now.state.home }
+        requires at_hand { IsTrue (at_hand R.riding K.carrying self.now.state (word / BLOCK_WORDS)) }
+        ensures { result ≡ final_word R.riding K.carrying self.now.state word }
+    {
+        let block = word / BLOCK_WORDS as u32;
+        let slot = (word % BLOCK_WORDS as u32) as u8;
+        match self.home.owner(block) {
+            Some(owner) => self.nodes[owner as usize].cache.word(block, slot),
+            None => self.home.word(word),
+        }
+    }
+
+    /// Makes room in the home for the block of each request link's head, so that no move needs memory.
+    /// After want of memory some of these blocks may have got room, and all else is unchanged.
+    pub(crate) fn make_room(&mut self) -> Result<(), AllocError>
+        requires { HeadsFit self.old.state }
+        ensures state { self.new.state ≡ self.old.state }
+        ensures rooms { RoomsMade self.old.state.nodes self.old.rooms self.new.rooms }
+        ensures ok { OnOk result (heads_roomy self.new ≡ true) }
+    {
+        make_room_for_heads(&mut self.home, self.nodes.as_slice())
+    }
+
+    /// Whether the home has room for the block of each request link's head.
+    pub(crate) fn has_room(&self) -> bool
+        requires { HeadsFit self.now.state }
+        ensures { result ≡ heads_roomy self.now }
+    {
+        for node in &self.nodes {
+            if let Some(mail) = node.requests.head()
+                && !self.home.has_room(mail.item.block())
+            {
+                return false;
+            }
+        }
+        true
+    }
+}
+
+// Each kind of move.
+impl<R: Rider, K: Carry> Actors<R, K> {
+    #[tactic(auto, using(crate::proofs::Standings::node_stands))]
+    pub(crate) fn move_core<C: Clerk<R, K>>(
+        &mut self,
+        c: u8,
+        standing: &mut Standing,
+        clerk: &mut C,
+    ) -> Option<Instr>
+        requires stands { standing.old ≡ standing_of self.old.state.image (node_at K.carrying self.old.state.nodes c) }
+        requires enabled { IsTrue (enabled R.riding K.carrying self.old.state (Move.Core c)) }
+        requires ready { Ready R.riding K.carrying self.old.state }
+        requires accepts { AcceptsNext C.accepts clerk.old self.old.state }
+        ensures state { self.new.state ≡ step R.riding K.carrying (rider_left R.riding K.carrying self.old.state self.new.state (Move.Core c)) self.old.state (Move.Core c) }
+        ensures rooms { self.new.rooms ≡ self.old.rooms }
+        ensures retired { result ≡ instr_of (event R.riding K.carrying self.old.state (Move.Core c)) }
+        ensures told { TellsOf C.told_local C.told_touch R.riding K.carrying self.old.state self.new.state (Move.Core c) clerk.old clerk.new }
+        ensures renewed { standings_of self.new.state ≡ slice_set (standings_of self.old.state) c standing.new }
+    {
+        self.nodes[c as usize].work(&self.image, standing, clerk)
+    }
+
+    #[tactic(auto, using(crate::proofs::Standings::node_stands))]
+    pub(crate) fn take_message<C: Clerk<R, K>>(
+        &mut self,
+        c: u8,
+        standing: &mut Standing,
+        clerk: &mut C,
+    ) -> Option<Instr>
+        requires stands { standing.old ≡ standing_of self.old.state.image (node_at K.carrying self.old.state.nodes c) }
+        requires enabled { IsTrue (enabled R.riding K.carrying self.old.state (Move.FromHome c)) }
+        requires ready { Ready R.riding K.carrying self.old.state }
+        requires accepts { AcceptsNext C.accepts clerk.old self.old.state }
+        ensures state { self.new.state ≡ step R.riding K.carrying (rider_left R.riding K.carrying self.old.state self.new.state (Move.FromHome c)) self.old.state (Move.FromHome c) }
+        ensures rooms { self.new.rooms ≡ self.old.rooms }
+        ensures retired { result ≡ instr_of (event R.riding K.carrying self.old.state (Move.FromHome c)) }
+        ensures told { TellsOf C.told_local C.told_touch R.riding K.carrying self.old.state self.new.state (Move.FromHome c) clerk.old clerk.new }
+        ensures renewed { standings_of self.new.state ≡ slice_set (standings_of self.old.state) c standing.new }
+    {
+        self.nodes[c as usize].receive(&self.image, standing, clerk)
+    }
+
+    pub(crate) fn take_request(&mut self, c: u8)
+        requires cores { length self.old.state.nodes ≤ CORES_MAX }
+        requires here { c < length self.old.state.nodes }
+        requires names { NamesFit self.old.state }
+        requires row { IsTrue (can_request_in (node_at K.carrying self.old.state.nodes c).requests.items R.riding self.old.state c) }
+        requires room { HasRoomTo K.carrying (request_answer_in (node_at K.carrying self.old.state.nodes c).requests.items R.riding self.old.state c) self.old.state.nodes }
+        requires roomy { IsTrue (head_roomy (node_at K.carrying self.old.state.nodes c).requests.items self.old.rooms) }
+        ensures state { self.new.state ≡ request_moved R.riding K.carrying self.old.state c }
+        ensures rooms { self.new.rooms ≡ self.old.rooms }
+    {
+        let Some(mail) = self.nodes[c as usize].requests.pop() else {
+            return;
+        };
+        self.carry = self.carry.join(mail.carry);
+        let block = mail.item.block();
+        let answer = self.home.on_request(c, mail.item);
+        deliver(self.nodes.as_mut_slice(), answer, block, self.carry);
+    }
+
+    pub(crate) fn take_response(&mut self, c: u8)
+        requires cores { length self.old.state.nodes ≤ CORES_MAX }
+        requires here { c < length self.old.state.nodes }
+        requires names { NamesFit self.old.state }
+        requires row { IsTrue (can_respond_in (node_at K.carrying self.old.state.nodes c).responses.items R.riding self.old.state c) }
+        requires room { HasRoomTo K.carrying (response_answer_in (node_at K.carrying self.old.state.nodes c).responses.items R.riding self.old.state c) self.old.state.nodes }
+        ensures state { self.new.state ≡ response_moved R.riding K.carrying self.old.state c }
+        ensures rooms { self.new.rooms ≡ self.old.rooms }
+    {
+        let Some(mail) = self.nodes[c as usize].responses.pop() else {
+            return;
+        };
+        self.carry = self.carry.join(mail.carry);
+        let block = mail.item.block();
+        let answer = self.home.on_response(c, mail.item);
+        deliver(self.nodes.as_mut_slice(), answer, block, self.carry);
+    }
+}
+
+/// Makes room for the block of each request link's head.
+#[tactic(auto, using(crate::proofs::Roomy::making_none, crate::proofs::Roomy::making_one, crate::proofs::Roomy::making_same))]
+fn make_room_for_heads<R: Rider, K: Carry>(
+    home: &mut Home<R>,
+    nodes: &[Node<R, K>],
+) -> Result<(), AllocError>
+    requires { All (λ n. IsTrue (head_within n.requests.items (length home.old.entries))) nodes.now }
+    ensures entries { home.new.entries ≡ home.old.entries }
+    ensures rooms { RoomsMade nodes.now home.old.rooms home.new.rooms }
+    ensures ok { OnOk result (are_heads_roomy nodes.now home.new.rooms ≡ true) }
+{
+    for node in nodes {
+        if let Some(mail) = node.requests.head() {
+            home.make_room(mail.item.block())?;
+        }
+    }
+    Ok(())
+}
