@@ -9,8 +9,7 @@ use Rattle.access_times.specs.Riding.{Riding, Carrying}
 use Rattle.image_mem.specs.Contents.{Contents}
 use Rattle.rtr_types.specs.CoreSets.{has}
 use Rattle.rtr_types.specs.declared.core_set.CoreSet.{CoreSet}
-use Rattle.rv_core.specs.Steps.{is_done, need}
-use Rattle.rv_core.specs.declared.core_state.Need.{Need}
+use Rattle.rv_core.specs.Steps.{is_done}
 use Rattle.msi_cache.specs.Table.{is_transient}
 use Rattle.msi_cache.specs.declared.copies.TheConstants.{LINES}
 use Rattle.msi_cache.specs.declared.copies.Line.{Line}
@@ -44,12 +43,6 @@ module _ {R : Type 0} where
   pub waits_riding : (fresh : R) (lines : List (Line R)) (block : ℕ) (rider : R) → waits (lines_riding fresh lines block rider) ≡ waits lines
   waits_riding fresh lines block rider =
       any_set_same (λ (line : Line R). is_transient line.state) lines (block % LINES) (record (slice_index_or lines (block % LINES) (empty_line fresh)) { rider = rider }) (empty_line fresh) refl
-
-abbrev made : Need → Bool → Standing
-made needed waiting = record { need = needed; waits = waiting }
-
-pub same_standing : {needed n : Need} {waiting w : Bool} → needed ≡ n → waiting ≡ w → made needed waiting ≡ made n w
-same_standing {needed} {n} {waiting} {w} same_need same_waits = ap (λ (x : Need). made x waiting) same_need ∙ ap (λ (x : Bool). made n x) same_waits
 
 module _ {R K : Type 0} where
   -- one node of all is replaced

@@ -1,9 +1,10 @@
 -- What the cores and their caches stand at, from which the moves that can be made are found.
-use Rattle.std.specs.Prelude.{ℕ, List, length, map}
+use Rattle.std.specs.Prelude.{ℕ, Bool, List, length, map}
 use Rattle.std.specs.List.{filter}
 use Rattle.access_times.specs.Riding.{Riding, Carrying}
 use Rattle.image_mem.specs.Contents.{Contents}
-use Rattle.rv_core.specs.Steps.{need}
+use Rattle.rv_core.specs.declared.core_state.Core.{Core}
+use Rattle.rv_core.specs.Steps.{need, instruction_at}
 use Rattle.msi_cache.specs.Lines.{waits}
 use Rattle.msi_state.specs.declared.actors.Node.{Node}
 use Rattle.msi_state.specs.declared.moves.Move.{Move}
@@ -12,10 +13,13 @@ use Rattle.msi_state.specs.Moves.{candidates}
 use Rattle.msi_state.specs.States.{State}
 use Rattle.msi_state.specs.Steps.{enabled}
 
+-- a core's next instruction and what that needs, beside whether its cache waits
+abbrev pub standing_with : Contents → Core → Bool → Standing
+standing_with image core waiting = record { need = need image core; op = instruction_at image core.pc; waits = waiting }
+
 module _ {R K : Type 0} where
-  -- what the node's core needs next, and whether its cache waits
   abbrev pub standing_of : Contents → Node R K → Standing
-  standing_of image node = record { need = need image node.core; waits = waits node.cache }
+  standing_of image node = standing_with image node.core (waits node.cache)
 
   abbrev pub standings_of : State R K → List Standing
   standings_of s = map (standing_of s.image) s.nodes

@@ -59,8 +59,10 @@ impl<R: Rider, K: Carry> Node<R, K> {
     pub(crate) fn standing(&self, image: &Image) -> Standing
         ensures { result ≡ standing_of image.now self.now }
     {
+        let op = self.core.next_op(image);
         Standing {
-            need: self.core.need(image),
+            need: self.core.need_by_op(image, op),
+            op,
             waits: self.cache.waits(),
         }
     }
@@ -142,7 +144,7 @@ impl<R: Rider, K: Carry> Node<R, K> {
         standing: &mut Standing,
         clerk: &mut C,
     ) -> Instr
-        requires waits { standing.old.waits ≡ waits self.old.cache }
+        requires stands { standing.old ≡ standing_of image.now self.old }
         requires more { is_done (need image.now self.old.core) ≡ false }
         requires accepts { C.accepts clerk.old (next_instr self.old.core) }
         ensures node { self.new ≡ node_local image.now K.carrying self.old }
@@ -151,8 +153,8 @@ impl<R: Rider, K: Carry> Node<R, K> {
         ensures renewed { standing.new ≡ standing_of image.now self.new }
     {
         let at = self.next_instr(image);
-        let _value = self.core.finish(image, 0);
-        standing.need = self.core.need(image);
+        let _value = self.core.finish_op(image, standing.op, 0);
+        standing.look_ahead(image, &self.core);
         self.carry = self.carry.retire(at);
         clerk.local(at, self.carry);
         at
@@ -167,7 +169,7 @@ impl<R: Rider, K: Carry> Node<R, K> {
         standing: &mut Standing,
         clerk: &mut C,
     ) -> Instr
-        requires waits { standing.old.waits ≡ waits self.old.cache }
+        requires stands { standing.old ≡ standing_of image.now self.old }
         requires more { is_done (need image.now self.old.core) ≡ false }
         requires allowed { IsTrue (allows R.riding self.old word kind) }
         requires accepts { C.accepts clerk.old (next_instr self.old.core) }
@@ -180,8 +182,8 @@ impl<R: Rider, K: Carry> Node<R, K> {
         let slot = (word % BLOCK_WORDS as u32) as u8;
         let at = self.next_instr(image);
         let before = self.cache.word(block, slot);
-        let after = self.core.finish(image, before);
-        standing.need = self.core.need(image);
+        let after = self.core.finish_op(image, standing.op, before);
+        standing.look_ahead(image, &self.core);
         self.carry = self.carry.retire(at);
         if kind.is_write() {
             self.cache.put_word(block, slot, after);

@@ -1,5 +1,5 @@
 //! The parts of a machine, and its moves in code.
-ghost use Rattle.std.specs.Prelude.{◌≡◌, ◌<◌, ◌≤◌, ◌*◌, ◌/◌, ◌%◌, IfOk, IsTrue, OnOk, length, true, slice_index_or};
+ghost use Rattle.std.specs.Prelude.{◌≡◌, ◌<◌, ◌≤◌, ◌*◌, ◌/◌, ◌%◌, [], IfOk, IsTrue, OnOk, length, true, slice_index_or};
 ghost use Rattle.access_times.specs.declared.TheConstants.{BLOCK_WORDS};
 ghost use Rattle.rtr_types.specs.declared.TheConstants.{CORES_MAX};
 ghost use Rattle.msi_state.specs.declared.moves.Move.{Move};
@@ -81,6 +81,9 @@ impl<R: Rider, K: Carry> Parts<R, K> {
         requires { HeadsFit self.now.state }
         ensures { result ≡ enabled R.riding K.carrying self.now.state taken }
     {
+        if taken.core() as usize >= self.standings.len() {
+            return false;
+        }
         match taken {
             Move::Core(c) => self.may_move(c),
             Move::Request(c) => self.may_take_request(c),
@@ -95,7 +98,9 @@ impl<R: Rider, K: Carry> Parts<R, K> {
         requires heads { HeadsFit self.now.state }
         ensures { result ≡ length (moves R.riding K.carrying self.now.state) }
     {
-        self.found_moves().len()
+        let mut found = MoveList::new();
+        self.find_moves(&mut found);
+        found.len()
     }
 
     /// The move of this number, from 0, among those that can be made.
@@ -106,7 +111,9 @@ impl<R: Rider, K: Carry> Parts<R, K> {
         ensures chosen { (d : Move) → result ≡ slice_index_or (moves R.riding K.carrying self.now.state) number d }
         ensures enabled { IsTrue (enabled R.riding K.carrying self.now.state result) }
     {
-        self.found_moves().get(number)
+        let mut found = MoveList::new();
+        self.find_moves(&mut found);
+        found.get(number)
     }
 
     /// The image that the machine runs.
@@ -175,7 +182,8 @@ impl<R: Rider, K: Carry> Parts<R, K> {
         ensures retired { result.retired ≡ instr_of (event R.riding K.carrying self.old.state result.taken) }
         ensures told { TellsOf C.told_local C.told_touch R.riding K.carrying self.old.state self.new.state result.taken clerk.old clerk.new }
     {
-        let found = self.found_moves();
+        let mut found = MoveList::new();
+        self.find_moves(&mut found);
         let taken = found.get(choice % found.len());
         let retired = self.make_move(taken, clerk);
         Stepped { taken, retired }
@@ -216,45 +224,45 @@ impl<R: Rider, K: Carry> Parts<R, K> {
 // What moves can be made.
 impl<R: Rider, K: Carry> Parts<R, K> {
     fn may_move(&self, c: u8) -> bool
+        requires { c < length self.now.state.nodes }
         ensures { result ≡ enabled R.riding K.carrying self.now.state (Move.Core c) }
     {
-        match self.standings.get(c as usize) {
-            Some(standing) => standing.may_move(),
-            None => false,
-        }
+        self.standings[c as usize].may_move()
     }
 
     fn may_take_request(&self, c: u8) -> bool
-        requires { HeadsFit self.now.state }
+        requires here { c < length self.now.state.nodes }
+        requires heads { HeadsFit self.now.state }
         ensures { result ≡ enabled R.riding K.carrying self.now.state (Move.Request c) }
     {
-        (c as usize) < self.standings.len() && self.actors.has_free_head(c)
+        self.actors.has_free_head(c)
     }
 
     fn may_take_response(&self, c: u8) -> bool
+        requires { c < length self.now.state.nodes }
         ensures { result ≡ enabled R.riding K.carrying self.now.state (Move.Response c) }
     {
-        (c as usize) < self.standings.len() && self.actors.has_response(c)
+        self.actors.has_response(c)
     }
 
     fn may_take_message(&self, c: u8) -> bool
+        requires { c < length self.now.state.nodes }
         ensures { result ≡ enabled R.riding K.carrying self.now.state (Move.FromHome c) }
     {
-        (c as usize) < self.standings.len() && self.actors.has_message(c)
+        self.actors.has_message(c)
     }
 
-    /// The moves that can be made, in order.
-    fn found_moves(&self) -> MoveList
+    /// Finds the moves that can be made, in order.
+    fn find_moves(&self, found: &mut MoveList)
         requires cores { length self.now.state.nodes ≤ CORES_MAX }
         requires heads { HeadsFit self.now.state }
-        ensures { result ≡ moves R.riding K.carrying self.now.state }
+        requires none { found.old ≡ [] }
+        ensures { found.new ≡ moves R.riding K.carrying self.now.state }
     {
-        let mut found = MoveList::new();
-        self.find_core_moves(&mut found);
-        self.find_requests(&mut found);
-        self.find_responses(&mut found);
-        self.find_messages(&mut found);
-        found
+        self.find_core_moves(found);
+        self.find_requests(found);
+        self.find_responses(found);
+        self.find_messages(found);
     }
 
     fn find_core_moves(&self, found: &mut MoveList)

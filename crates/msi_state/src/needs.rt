@@ -2,15 +2,19 @@
 ghost use Rattle.std.specs.Prelude.{◌≡◌, ◌&&◌, not};
 ghost use Rattle.std.specs.List.{list_all};
 ghost use Rattle.rv_core.specs.Steps.{is_done};
+ghost use Rattle.msi_state.specs.Standings.{standing_with};
 
-use rv_core::Need;
+use image_mem::Image;
+use rv_core::{Core, Need};
+use rv_decode::Op;
 
-/// What a core's next instruction needs, and whether its cache waits for a message from home. It is
-/// kept beside each core, so that the moves that can be made are found without a look at instructions
-/// or lines.
+/// A core's next instruction, what that needs, and whether the core's cache waits for a message from
+/// home. It is kept beside each core, so that an instruction is decoded once, and the moves that can be
+/// made are found without a look at instructions or lines.
 #[derive(Clone, Copy)]
 pub struct Standing {
     pub need: Need,
+    pub op: Option<Op>,
     pub waits: bool,
 }
 
@@ -20,6 +24,14 @@ impl Standing {
         ensures { result ≡ (not (is_done self.need) && not self.waits) }
     {
         !self.need.is_done() && !self.waits
+    }
+
+    /// The core's next instruction is another now.
+    pub(crate) fn look_ahead(&mut self, image: &Image, core: &Core)
+        ensures { self.new ≡ standing_with image.now core.now self.old.waits }
+    {
+        self.op = core.next_op(image);
+        self.need = core.need_by_op(image, self.op);
     }
 }
 

@@ -38,6 +38,15 @@ fetch_parts : (words : ℕ) (core : Core) (word : Option ℕ) → is_done (need_
 fetch_parts words core None h = cc
 fetch_parts words core (Some word) h = word_parts words core (decoded word) h
 
+-- what is needed at pc, where the instruction there is known
+op_needs : (words : ℕ) (core : Core) (word : Option ℕ) (op : Op) → option_and_then decoded word ≡ Some op → need_of_fetch words core word ≡ need_of words core op
+op_needs words core None op found = cc
+op_needs words core (Some word) op found = ap (need_of_word words core) found
+
+pub needs_of_op : (image : Contents) (core : Core) (op : Op) → instruction_at image core.pc ≡ Some op → need_at_pc image core ≡ need_of image.words core op
+unfolding need_at_pc instruction_at
+needs_of_op image core op found = op_needs image.words core (fetched image core.pc) op found
+
 pub goes_on : (image : Contents) (core : Core) → is_done (need image core) ≡ false → (op : Op) × GoesOnBy image core op
 unfolding need need_at_pc instruction_at
 goes_on image core h =

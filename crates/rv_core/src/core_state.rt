@@ -154,6 +154,27 @@ impl Core {
         }
     }
 
+    /// The instruction at pc: none where no word can be fetched there, and where the word is no
+    /// instruction.
+    #[tactic(auto, unfolding(crate::specs::Steps::instruction_at))]
+    pub fn next_op(&self, image: &Image) -> Option<Op>
+        ensures { result ≡ instruction_at image.now self.now.pc }
+    {
+        decode(image.fetch(self.pc)?)
+    }
+
+    /// What the next instruction needs, where the one at pc is at hand already.
+    #[tactic(auto, unfolding(crate::specs::Steps::need), using(crate::proofs::StepLemmas::needs_of_op))]
+    pub fn need_by_op(&self, image: &Image, op: Option<Op>) -> Need
+        requires { op ≡ instruction_at image.now self.now.pc }
+        ensures { result ≡ need image.now self.now }
+    {
+        match (self.halt, op) {
+            (Halt::Running, Some(op)) if self.count < self.limit => self.need_of(image.words(), op),
+            _ => self.need(image),
+        }
+    }
+
     /// Retires the next instruction, which finds the value `old` in its word, and answers the word's
     /// value after. A local instruction ignores `old` and answers 0.
     pub fn finish(&mut self, image: &Image, old: u32) -> u32
@@ -161,9 +182,18 @@ impl Core {
         ensures core { self.new ≡ after image.now self.old old }
         ensures value { result ≡ wrote image.now self.old old }
     {
-        let Some(op) = self.instruction(image) else {
-            unreachable!()
-        };
+        let op = self.next_op(image);
+        self.finish_op(image, op, old)
+    }
+
+    /// Retires the next instruction as `finish` does, where the one at pc is at hand already.
+    pub fn finish_op(&mut self, _image: &Image, op: Option<Op>, old: u32) -> u32
+        requires more { is_done (need _image.now self.old) ≡ false }
+        requires at_pc { op ≡ instruction_at _image.now self.old.pc }
+        ensures core { self.new ≡ after _image.now self.old old }
+        ensures value { result ≡ wrote _image.now self.old old }
+    {
+        let Some(op) = op else { unreachable!() };
         let value = self.word_after(op, old);
         self.retire(op, old);
         value
@@ -182,13 +212,6 @@ impl Core {
 
 // The parts of the next instruction.
 impl Core {
-    #[tactic(auto, unfolding(crate::specs::Steps::instruction_at))]
-    fn instruction(&self, image: &Image) -> Option<Op>
-        ensures { result ≡ instruction_at image.now self.now.pc }
-    {
-        decode(image.fetch(self.pc)?)
-    }
-
     fn address_of(&self, base: u8, immediate: i32) -> u32
         ensures { result ≡ address_of self.now base immediate }
     {
