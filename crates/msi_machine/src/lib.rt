@@ -9,6 +9,8 @@
 #![tactic(auto)]
 
 mod machine;
+#[cfg(test)]
+mod tests;
 
 pub use machine::Machine;
 pub use msi_state::{Move, Stepped};
