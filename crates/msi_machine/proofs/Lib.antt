@@ -1,4 +1,3 @@
 pub mod AtHand
 pub mod Choosing
-pub mod Kept
 pub mod Paid

@@ -12,7 +12,7 @@ use Rattle.msi_progress.proofs.Spaces.{ready}
 use Rattle.msi_progress.proofs.Stuck.{some_move}
 use Rattle.msi_machine.proofs.AtHand.{one_writer}
 use Rattle.msi_machine.proofs.Choosing.{plainly_chosen}
-use Rattle.msi_machine.proofs.Kept.{image_kept}
+use Rattle.msi_data.proofs.Remembers.{image_kept}
 use Rattle.msi_bound.proofs.Payments.{earns}
 use Rattle.msi_bound.proofs.Capacity.{cores_kept, nearer}
 use Rattle.msi_data.proofs.Steps.{step_works}
