@@ -1,0 +1,25 @@
+-- Lists of loads and their room.
+use Rattle.std.specs.Prelude.{ℕ, Bool, true, ◌&&◌, List, [], ◌∷◌, ◌++◌, length, map, nat_lt, slice_index_or, slice_set}
+use Rattle.std.specs.List.{list_all}
+use Rattle.rv_core.specs.declared.outcomes.LoadNote.{LoadNote}
+
+-- one core's loads, and how many there is room for
+pub record LoadRoom : Type 0 where
+  pub notes : List LoadNote
+  pub room : ℕ
+
+-- there is room for one load more
+abbrev pub is_roomy : LoadRoom → Bool
+is_roomy l = nat_lt (length l.notes) l.room
+
+-- each core's loads, core 0 first, and whether there is room for one more of each
+pub record LoadRooms : Type 0 where
+  pub lists : List (List LoadNote)
+  pub roomy : Bool
+
+abbrev pub seen_as : List LoadRoom → LoadRooms
+seen_as rooms = record { lists = map (λ l. l.notes) rooms; roomy = list_all is_roomy rooms }
+
+-- the lists with one more load of this core
+abbrev pub noted : List (List LoadNote) → (core : ℕ) → LoadNote → List (List LoadNote)
+noted lists core note = slice_set lists core (slice_index_or lists core [] ++ note ∷ [])

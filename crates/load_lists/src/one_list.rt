@@ -1,0 +1,64 @@
+//! The loads of one core.
+ghost use Rattle.std.specs.Prelude.{◌≡◌, ◌<◌, ◌++◌, [], ◌∷◌, OnOk, length, nat_lt};
+
+use rtr_types::Items;
+use rv_core::LoadNote;
+use std::alloc::{AllocError, Global};
+use std::marker::Model;
+
+/// The loads of one core, oldest first, and how many there is room for.
+#[derive(Drop)]
+pub(crate) struct LoadList {
+    notes: Vec<LoadNote>,
+}
+
+impl Model for LoadList {
+    ghost use Rattle.std.specs.Prelude.{vec_capacity};
+    ghost use Rattle.load_lists.specs.Lists.{LoadRoom};
+
+    ghost Value = { LoadRoom };
+
+    ghost view = { λ a. record { notes = a.notes.items; room = vec_capacity a.notes } };
+}
+
+impl LoadList {
+    /// No loads. It takes no memory.
+    pub(crate) fn new(alloc: Global) -> LoadList
+        ensures { result.notes ≡ [] }
+    {
+        LoadList {
+            notes: Vec::new(alloc),
+        }
+    }
+
+    /// Whether there is room for one load more.
+    pub(crate) fn has_room(&self) -> bool
+        ensures { result ≡ nat_lt (length self.now.notes) self.now.room }
+    {
+        self.notes.len() < self.notes.capacity()
+    }
+
+    /// Makes room for one load more.
+    pub(crate) fn make_room(&mut self) -> Result<(), AllocError>
+        ensures notes { self.new.notes ≡ self.old.notes }
+        ensures room { OnOk result (length self.new.notes < self.new.room) }
+    {
+        self.notes.reserve(1)
+    }
+
+    /// Puts the load at the end.
+    pub(crate) fn note(&mut self, note: LoadNote)
+        requires { length self.old.notes < self.old.room }
+        ensures { self.new.notes ≡ self.old.notes ++ note ∷ [] }
+    {
+        self.notes.push_reserved(note);
+    }
+
+    /// The loads.
+    pub(crate) fn into_items(self) -> Items<LoadNote>
+        ensures { result ≡ self.notes }
+    {
+        let LoadList { notes } = self;
+        Items::from_vec(notes)
+    }
+}

@@ -1,0 +1,114 @@
+//! The loads of each core.
+ghost use Rattle.std.specs.Prelude.{◌≡◌, ◌<◌, [], IfOk, IsTrue, OnOk, length, replicate};
+ghost use Rattle.load_lists.specs.Lists.{noted};
+
+use crate::one_list::LoadList;
+use rtr_types::Items;
+use rv_core::LoadNote;
+use std::alloc::{AllocError, Global};
+use std::marker::Model;
+
+/// What each core's loads got: a list for each core, core 0 first, oldest first. Contracts see the lists,
+/// and whether there is room for one more load of each core.
+#[derive(Drop)]
+pub struct LoadLists {
+    lists: Vec<LoadList>,
+}
+
+impl Model for LoadLists {
+    ghost use Rattle.load_lists.specs.Lists.{LoadRooms, seen_as};
+
+    ghost Value = { LoadRooms };
+
+    ghost view = { λ a. seen_as a.lists.items };
+}
+
+impl LoadLists {
+    /// So many empty lists.
+    pub fn new(alloc: Global, cores: u8) -> Result<LoadLists, AllocError>
+        ensures { IfOk result (λ loads. loads.lists ≡ replicate cores []) }
+    {
+        let mut lists = Vec::with_capacity(alloc, cores as usize)?;
+        for core in 0..cores {
+            lists.push(LoadList::new(alloc))?;
+        }
+        Ok(LoadLists { lists })
+    }
+
+    /// Makes room for one more load of each core, so that `note` needs no memory. After want of memory
+    /// some lists may have got room; the loads are as they were.
+    pub fn make_room(&mut self) -> Result<(), AllocError>
+        ensures lists { self.new.lists ≡ self.old.lists }
+        ensures roomy { OnOk result (IsTrue self.new.roomy) }
+    {
+        for core in 0..self.lists.len() {
+            self.lists[core].make_room()?;
+        }
+        Ok(())
+    }
+
+    /// Whether there is room for one more load of each core.
+    pub fn has_room(&self) -> bool
+        ensures { result ≡ self.now.roomy }
+    {
+        for list in &self.lists {
+            if !list.has_room() {
+                return false;
+            }
+        }
+        true
+    }
+
+    /// Puts a load at the end of its core's list.
+    pub fn note(&mut self, core: u8, note: LoadNote)
+        requires core { core < length self.old.lists }
+        requires room { IsTrue self.old.roomy }
+        ensures { self.new.lists ≡ noted self.old.lists core note }
+    {
+        self.lists[core as usize].note(note);
+    }
+
+    /// The lists.
+    pub fn into_items(self, alloc: Global) -> Result<Items<Items<LoadNote>>, AllocError>
+        ensures { IfOk result (λ items. items ≡ self.lists) }
+    {
+        let LoadLists { lists } = self;
+        let mut items = Items::new(alloc);
+        for list in lists {
+            items.push(list.into_items())?;
+        }
+        Ok(items)
+    }
+}
+
+#[cfg(test)]
+mod tests {
+    use super::*;
+    use std::test::Fail;
+
+    #[test]
+    fn loads_stay_with_their_core(rt: HostRuntime) -> Result<(), Fail> {
+        let mut loads = LoadLists::new(rt.alloc(), 2)?;
+        let first = LoadNote {
+            count: 3,
+            word: 16,
+            value: 7,
+        };
+        let second = LoadNote {
+            count: 4,
+            word: 17,
+            value: 8,
+        };
+        for note in [first, second] {
+            loads.make_room()?;
+            assert!(rt; loads.has_room());
+            loads.note(1, note);
+        }
+        let items = loads.into_items(rt.alloc())?;
+        let lists = items.as_slice();
+        assert_eq!(rt; lists.len(), 2);
+        assert_eq!(rt; lists[0].len(), 0);
+        assert_eq!(rt; lists[1].as_slice(), [first, second].as_slice());
+        Ok(())
+    }
+}
