@@ -1,0 +1,136 @@
+-- Fronts of the low order, and what a run along it comes to.
+use Rattle.std.proofs.Common.{inl, inr, ◌≡◌, ◌⊎◌, ℕ, ◌+◌, ◌<◌, ◌≤◌, true, false, List, [], ◌∷◌, ◌++◌, length, refl, sym, ap, ◌∙◌, subst, arith, append-nil, append_assoc}
+use Rattle.std.specs.Prelude.{Option, Some, None}
+use Rattle.rtr_types.specs.declared.cuts.Cut.{Cut}
+use Rattle.rv_core.specs.declared.outcomes.Outcome.{Outcome}
+use Rattle.rv_core.specs.Steps.{is_done}
+use Rattle.replay_core.specs.Plans.{Plan}
+use Rattle.replay_core.specs.Play.{core_at, need_at, place, start, play, Plays, first_short, played}
+use Rattle.replay_core.specs.Orders.{bump, counts, nought, counts_in, Ready, Ordered, Full, lowest_ready, low_order}
+use Rattle.replay_core.specs.Answers.{cut_of, Replays, EndsAt}
+use Rattle.replay_core.specs.Laws.{Lowest, LowFront, LowFrontLaw, LowEndLaw}
+use Rattle.replay_core.proofs.Counts.{counts_on}
+use Rattle.replay_core.proofs.Lists.{play_on, plays_join, short_on, short_law}
+use Rattle.replay_core.proofs.Low.{IsLowest, lowest_is, left, left_step, low_order_law}
+use Rattle.replay_core.proofs.Places.{place_known, play_law}
+
+pub front_ordered : (p : Plan) (f : ℕ → ℕ) (xs : List ℕ) → LowFront p f xs → Ordered p f xs
+front_ordered p f [] h = tt
+front_ordered p f (c ∷ cs) h = (h.0, front_ordered p (bump f c) cs h.2)
+
+pub front_more : (p : Plan) (f : ℕ → ℕ) (xs : List ℕ) (c : ℕ) → LowFront p f xs → Ready p (counts f xs) c → ((d : ℕ) → d < c → Ready p (counts f xs) d → ⊥) → LowFront p f (xs ++ c ∷ [])
+front_more p f [] c h ready no_lower = (ready, no_lower, tt)
+front_more p f (x ∷ xs) c h ready no_lower = (h.0, h.1, front_more p (bump f x) xs c h.2 ready no_lower)
+
+order3 : (m n : ℕ) → (m ≡ n) ⊎ (m < n) ⊎ (n < m)
+order3 m n = grind arith
+
+front-of : (p : Plan) (f : ℕ → ℕ) (xs ys : List ℕ) → LowFront p f xs → Lowest p f ys → (rest : List ℕ) × (ys ≡ xs ++ rest)
+front-of p f [] ys h l = (ys, refl)
+front-of p f (c ∷ cs) [] h l = absurd (l c h.0)
+front-of p f (c ∷ cs) (d ∷ ds) h l = by (order3 c d) (front-of p (bump f c) cs ds h.2)
+  where
+    by : (c ≡ d) ⊎ (c < d) ⊎ (d < c) → (Lowest p (bump f c) ds → (rest : List ℕ) × (ds ≡ cs ++ rest)) → (rest : List ℕ) × (d ∷ ds ≡ c ∷ cs ++ rest)
+    by (inl e) go =
+        let g = go (subst (λ (x : ℕ). Lowest p (bump f x) ds) (sym e) l.2) in
+        (g.0, ap (λ (x : ℕ). x ∷ ds) (sym e) ∙ ap (λ (z : List ℕ). c ∷ z) g.1)
+    by (inr (inl lt)) go = absurd (l.1 c lt h.0)
+    by (inr (inr lt)) go = absurd (h.1 d lt l.0)
+
+pub low_front : LowFrontLaw
+low_front p front h = front-of p nought front (low_order p) h (low_order_law p)
+
+lowest-rest : (p : Plan) (f : ℕ → ℕ) (xs ys : List ℕ) → Lowest p f (xs ++ ys) → Lowest p (counts f xs) ys
+lowest-rest p f [] ys l = l
+lowest-rest p f (x ∷ xs) ys l = lowest-rest p (bump f x) xs ys l.2
+
+pub low_end : LowEndLaw
+low_end p xs h none = let g = low_front p xs h in by g.0 g.1 (subst (λ (l : List ℕ). Lowest p nought l) g.1 (low_order_law p))
+  where
+    by : (rest : List ℕ) → low_order p ≡ xs ++ rest → Lowest p nought (xs ++ rest) → low_order p ≡ xs
+    by [] e l = e ∙ append-nil xs
+    by (c ∷ cs) e l = absurd (none c (lowest-rest p nought xs (c ∷ cs) l).0)
+
+-- ---- a run along the low order
+
+-- the outcome is that of a front of the low order
+pub record Going (p : Plan) (order : List ℕ) (s : Outcome) : Type 0 where
+  pub low : LowFront p nought order
+  pub plays : Plays p (start p) order
+  pub state : s ≡ played p order
+
+pub going_start : (p : Plan) (s : Outcome) → s ≡ start p → Going p [] s
+going_start p s is = record { low = tt; plays = tt; state = is }
+
+-- the cores have come as far as the order says
+pub tally : (p : Plan) (order : List ℕ) (s : Outcome) → Going p order s → counts_in s ≡ counts nought order
+tally p order s going = ap (λ (t : Outcome). counts_in t) going.state ∙ (play_law p order (front_ordered p nought order going.low)).counts
+
+-- the next core
+pub record Chosen (p : Plan) (order : List ℕ) (s : Outcome) (c : ℕ) : Type 0 where
+  pub ready : Ready p (counts_in s) c
+  pub next : Ready p (counts nought order) c
+  pub no_lower : (d : ℕ) → d < c → Ready p (counts nought order) d → ⊥
+
+pub chosen : (p : Plan) (order : List ℕ) (s : Outcome) (c : ℕ) → Going p order s → lowest_ready p (counts_in s) ≡ Some c → Chosen p order s c
+chosen p order s c going is =
+    let known = subst (λ (o : Option ℕ). IsLowest p (counts_in s) 0 (length p.totals) o) is (lowest_is p (counts_in s) 0 (length p.totals)) in
+    let same = tally p order s going in
+    record {
+      ready = known.0;
+      next = subst (λ (f : ℕ → ℕ). Ready p f c) same known.0;
+      no_lower = λ d lt ready. known.1 d (omega arith) lt (subst (λ (f : ℕ → ℕ). Ready p f d) (sym same) ready);
+    }
+
+pub none_chosen : (p : Plan) (order : List ℕ) (s : Outcome) → Going p order s → lowest_ready p (counts_in s) ≡ None → low_order p ≡ order
+none_chosen p order s going is =
+    let known = subst (λ (o : Option ℕ). IsLowest p (counts_in s) 0 (length p.totals) o) is (lowest_is p (counts_in s) 0 (length p.totals)) in
+    let same = tally p order s going in
+    low_end p order going.low (λ c ready. known c (omega arith) (let inside = ready.inside in omega arith) (subst (λ (f : ℕ → ℕ). Ready p f c) (sym same) ready))
+
+pub going_on : (p : Plan) (order : List ℕ) (s t : Outcome) (c : ℕ) → Going p order s → Chosen p order s c → is_done (need_at p s c) ≡ false → t ≡ place p s c → Going p (order ++ c ∷ []) t
+going_on p order s t c going choice goes is =
+    let here : is_done (need_at p (played p order) c) ≡ false = subst (λ (o : Outcome). is_done (need_at p o c) ≡ false) going.state goes in
+    record {
+      low = front_more p nought order c going.low choice.next choice.no_lower;
+      plays = plays_join p (start p) order (c ∷ []) going.plays (here, tt);
+      state = is ∙ ap (λ (o : Outcome). place p o c) going.state ∙ sym (play_on p (start p) order (c ∷ []));
+    }
+
+-- the run ends: each place leaves fewer
+pub less_left : (p : Plan) (order : List ℕ) (s t : Outcome) (c : ℕ) → Going p order s → Chosen p order s c → t ≡ place p s c → left p.totals (counts_in t) 0 < left p.totals (counts_in s) 0
+less_left p order s t c going choice is =
+    let known = play_law p order (front_ordered p nought order going.low) in
+    let after = (place_known p (counts nought order) (played p order) c known choice.next).counts in
+    let there : counts_in t ≡ bump (counts nought order) c = ap (λ (o : Outcome). counts_in o) (is ∙ ap (λ (o : Outcome). place p o c) going.state) ∙ after in
+    let step = left_step p.totals (counts nought order) 0 c c (omega arith) choice.next.inside choice.next.below in
+    let one = ap (λ (f : ℕ → ℕ). left p.totals f 0) there in
+    let two = ap (λ (f : ℕ → ℕ). left p.totals f 0) (tally p order s going) in
+    omega arith
+
+-- ---- what the run answers
+
+pub falls_short : (p : Plan) (order : List ℕ) (s : Outcome) (c : ℕ) → Going p order s → Chosen p order s c → is_done (need_at p s c) ≡ true → first_short p (start p) (low_order p) ≡ Some (c, counts_in s c)
+falls_short p order s c going choice done =
+    let front = low_front p (order ++ c ∷ []) (front_more p nought order c going.low choice.next choice.no_lower) in
+    let split : low_order p ≡ order ++ c ∷ front.0 = front.1 ∙ append_assoc order (c ∷ []) front.0 in
+    let here : is_done (need_at p (played p order) c) ≡ true = subst (λ (o : Outcome). is_done (need_at p o c) ≡ true) going.state done in
+    let first : first_short p (played p order) (c ∷ front.0) ≡ Some (c, counts_in (played p order) c) = rw here refl in
+    ap (λ (l : List ℕ). first_short p (start p) l) split ∙ short_on p (start p) order (c ∷ front.0) going.plays ∙ first ∙ ap (λ (o : Outcome). Some (c, counts_in o c)) (sym going.state)
+
+plays-low : (p : Plan) (order : List ℕ) (s : Outcome) → Going p order s → low_order p ≡ order → first_short p (start p) (low_order p) ≡ None
+plays-low p order s going is = (short_law p (start p) (low_order p)).0 (subst (λ (l : List ℕ). Plays p (start p) l) (sym is) going.plays)
+
+pub replays : (p : Plan) (order : List ℕ) (s outcome : Outcome) → Going p order s → low_order p ≡ order → Full p (counts_in s) → outcome ≡ s → Replays p outcome
+replays p order s outcome going is full same = record {
+  plays = plays-low p order s going is;
+  whole = subst (λ (l : List ℕ). Full p (counts nought l)) (sym is) (subst (Full p) (tally p order s going) full);
+  outcome_is = same ∙ going.state ∙ ap (λ (l : List ℕ). played p l) (sym is);
+}
+
+pub ends_at : (p : Plan) (order : List ℕ) (s : Outcome) (cut : Cut) → Going p order s → low_order p ≡ order → (Full p (counts_in s) → ⊥) → cut ≡ cut_of p (counts_in s) → EndsAt p cut
+ends_at p order s cut going is not_full same = record {
+  plays = plays-low p order s going is;
+  not_whole = λ whole. not_full (subst (Full p) (sym (tally p order s going)) (subst (λ (l : List ℕ). Full p (counts nought l)) is whole));
+  cut_is = same ∙ ap (λ (f : ℕ → ℕ). cut_of p f) (tally p order s going) ∙ ap (λ (l : List ℕ). cut_of p (counts nought l)) (sym is);
+}

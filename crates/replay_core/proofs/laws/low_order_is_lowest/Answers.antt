@@ -1,0 +1,6 @@
+use Rattle.replay_core.proofs.Low.{low_order_law}
+use Rattle.replay_core.proofs.Fronts.{low_front, low_end}
+use Rattle.replay_core.proofs.laws.low_order_is_lowest.Goals as goal
+
+pub returns : goal.returns
+returns c = record { lowest = low_order_law; front = low_front; end = low_end }

@@ -1,0 +1,98 @@
+-- What a replay answers.
+use Rattle.std.specs.Prelude.{◌≡◌, ◌<◌, ◌≤◌, ℕ, Bool, true, false, List, [], ◌∷◌, length, map, nat_lt, slice_index_or, slice_set, Option, Some, None, if◌then◌else◌}
+use Rattle.std.specs.List.{Contains, range_with_len}
+use Rattle.rtr_types.specs.declared.TheConstants.{CORES_MAX}
+use Rattle.rtr_types.specs.declared.nodes.Instr.{Instr}
+use Rattle.rtr_types.specs.declared.nodes.Edge.{Edge}
+use Rattle.rtr_types.specs.declared.accesses.Access.{Access}
+use Rattle.rtr_types.specs.declared.cuts.Cut.{Cut}
+use Rattle.image_mem.specs.Contents.{Contents}
+use Rattle.rv_core.specs.declared.core_state.Core.{Core}
+use Rattle.rv_core.specs.declared.outcomes.LoadNote.{LoadNote}
+use Rattle.rv_core.specs.declared.outcomes.Outcome.{Outcome}
+use Rattle.rv_core.specs.Steps.{is_done}
+use Rattle.log_codec.specs.declared.recording.Recording.{Recording}
+use Rattle.log_codec.specs.Validity.{Valid}
+use Rattle.replay_core.specs.declared.answers.Advanced.{Advanced}
+use Rattle.replay_core.specs.declared.answers.Advanced.TheVariants as advanced
+use Rattle.replay_core.specs.declared.answers.ReplayFault.{ReplayFault}
+use Rattle.replay_core.specs.declared.answers.ReplayFault.TheVariants as faults
+use Rattle.replay_core.specs.Plans.{Plan, image_of}
+use Rattle.replay_core.specs.Play.{Use, loads_after, instr, need_at, place, touched, start, first_short, played}
+use Rattle.replay_core.specs.Orders.{counts, nought, IsWhole, low_order}
+
+-- what contracts see of a replay under way: what it plays, what it has come to, and whether each core's loads have
+-- room for one more
+pub record UnderWay : Type 0 where
+  pub plan : Plan
+  pub state : Outcome
+  pub roomy : Bool
+
+-- at most one access, as a list
+abbrev pub told : Option Access → List Access
+told None = []
+told (Some access) = access ∷ []
+
+-- core c has retired one instruction more, with this access
+pub record Retires (p : Plan) (s : Outcome) (c : ℕ) (access : Option Access) (t : Outcome) : Type 0 where
+  pub going : is_done (need_at p s c) ≡ false
+  pub state : t ≡ place p s c
+  pub access_is : told access ≡ touched p s c
+
+-- core c's program is done, and nothing changed
+pub record Stays (p : Plan) (s : Outcome) (c : ℕ) (t : Outcome) : Type 0 where
+  pub done : is_done (need_at p s c) ≡ true
+  pub state : t ≡ s
+
+-- one place of the play, or none where it falls short
+abbrev pub Advances : Plan → Outcome → ℕ → Advanced → Outcome → Type 0
+Advances p s c (advanced.Retired access) t = Retires p s c access t
+Advances p s c advanced.Short t = Stays p s c t
+
+-- the counts of so many cores, and 0 at the other places
+abbrev pub cut_counts : (cores : ℕ) → (ℕ → ℕ) → List ℕ
+cut_counts cores f = map (λ c. if nat_lt c cores then f c else 0) (range_with_len 0 CORES_MAX)
+
+abbrev pub cut_of : Plan → (ℕ → ℕ) → Cut
+cut_of p f = record { cores = length p.totals; counts = cut_counts (length p.totals) f }
+
+-- the low order is whole and plays to this outcome
+pub record Replays (p : Plan) (outcome : Outcome) : Type 0 where
+  pub plays : first_short p (start p) (low_order p) ≡ None
+  pub whole : IsWhole p (low_order p)
+  pub outcome_is : outcome ≡ played p (low_order p)
+
+-- it plays, and ends at this cut before it is whole
+pub record EndsAt (p : Plan) (cut : Cut) : Type 0 where
+  pub plays : first_short p (start p) (low_order p) ≡ None
+  pub not_whole : IsWhole p (low_order p) → ⊥
+  pub cut_is : cut ≡ cut_of p (counts nought (low_order p))
+
+-- why there is no outcome. Want of memory says nothing
+abbrev pub Refuses : Plan → ReplayFault → Type 0
+Refuses p (faults.Stuck cut) = EndsAt p cut
+Refuses p (faults.Short core count) = first_short p (start p) (low_order p) ≡ Some (core, count)
+Refuses p faults.OutOfMemory = Unit {0}
+
+-- ---- what the parts of the code ask and tell
+
+-- the word that is used is one of so many
+abbrev pub UsesWithin : Use → (words : ℕ) → Type 0
+UsesWithin None words = Unit {0}
+UsesWithin (Some used) words = used.1 < words
+
+-- the core's list has what its instruction noted
+abbrev pub AreNoted : (old : List (List LoadNote)) → (core : ℕ) → Use → (count value : ℕ) → (new : List (List LoadNote)) → Type 0
+AreNoted old core used count value new = new ≡ slice_set old core (loads_after used (slice_index_or old core []) count value)
+
+-- core `of` has come as far as the edge from it to `at` asks, if there is one
+abbrev pub IsMet : List Edge → (ℕ → ℕ) → (of : ℕ) → Instr → Type 0
+IsMet edges f of at = (a : ℕ) → Contains edges (record { from = instr of a; to = at }) → a ≤ f of
+
+-- the parts of a replay belong to its recording
+pub record HoldsTogether (r : Recording) (image : Contents) (cores : List Core) (words : List ℕ) (loads : List (List LoadNote)) : Type 0 where
+  pub valid : Valid r
+  pub image_is : image ≡ image_of r
+  pub all_cores : length cores ≡ r.params.cores
+  pub all_words : length words ≡ r.params.words
+  pub all_loads : length loads ≡ r.params.cores

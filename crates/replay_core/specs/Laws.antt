@@ -1,0 +1,99 @@
+-- What holds of every plan, list of cores and play.
+use Rattle.std.specs.Prelude.{◌≡◌, ◌≢◌, ℕ, ◌+◌, ◌<◌, ◌≤◌, ◌↔◌, true, List, [], ◌∷◌, ◌++◌, length, slice_index, None}
+use Rattle.std.specs.List.{Contains}
+use Rattle.rtr_types.specs.declared.nodes.Edge.{Edge}
+use Rattle.rtr_types.specs.declared.nodes.Instr.{Instr}
+use Rattle.rv_core.specs.declared.outcomes.Outcome.{Outcome}
+use Rattle.rv_core.specs.Steps.{after}
+use Rattle.replay_core.specs.Plans.{Plan}
+use Rattle.replay_core.specs.Play.{core_at, loads_at, instr, old_at, place, start, play, accesses, Plays, first_short, played}
+use Rattle.replay_core.specs.Orders.{bump, counts, nought, counts_in, Sourced, Ready, Ordered, IsReplayOrder, is_ready, low_order}
+
+-- ---- longer lists: with `c ∷ []` for `ys`, one more place at the end
+
+abbrev pub CountsOnLaw : Type 0
+CountsOnLaw = (f : ℕ → ℕ) (xs ys : List ℕ) → counts f (xs ++ ys) ≡ counts (counts f xs) ys
+
+abbrev pub PlayOnLaw : Type 0
+PlayOnLaw = (p : Plan) (s : Outcome) (xs ys : List ℕ) → play p s (xs ++ ys) ≡ play p (play p s xs) ys
+
+abbrev pub AccessesOnLaw : Type 0
+AccessesOnLaw = (p : Plan) (s : Outcome) (xs ys : List ℕ) → accesses p s (xs ++ ys) ≡ accesses p s xs ++ accesses p (play p s xs) ys
+
+abbrev pub PlaysOnLaw : Type 0
+PlaysOnLaw = (p : Plan) (s : Outcome) (xs ys : List ℕ) → Plays p s (xs ++ ys) ↔ (Plays p s xs × Plays p (play p s xs) ys)
+
+abbrev pub OrderedOnLaw : Type 0
+OrderedOnLaw = (p : Plan) (f : ℕ → ℕ) (xs ys : List ℕ) → Ordered p f (xs ++ ys) ↔ (Ordered p f xs × Ordered p (counts f xs) ys)
+
+-- ---- replay orders
+
+-- a source is an instruction from which an edge leads
+abbrev pub SourcedLaw : Type 0
+SourcedLaw = (edges : List Edge) (f : ℕ → ℕ) (c n : ℕ) →
+    Sourced edges f c n ↔ ((from : Instr) → Contains edges (record { from = from; to = instr c n }) → from.count ≤ f from.core)
+
+abbrev pub ReadyTestLaw : Type 0
+ReadyTestLaw = (p : Plan) (f : ℕ → ℕ) (c : ℕ) → (is_ready p f c ≡ true) ↔ Ready p f c
+
+-- a list is a replay order exactly where at each of its places the core is ready by the places before
+abbrev pub PlacesLaw : Type 0
+PlacesLaw = (p : Plan) (order : List ℕ) → IsReplayOrder p order ↔ ((front : List ℕ) (c : ℕ) (rest : List ℕ) → order ≡ front ++ c ∷ rest → Ready p (counts nought front) c)
+
+-- a ready core's place can be added, and no other's
+abbrev pub OneMoreLaw : Type 0
+OneMoreLaw = (p : Plan) (order : List ℕ) (c : ℕ) → IsReplayOrder p order → IsReplayOrder p (order ++ c ∷ []) ↔ Ready p (counts nought order) c
+
+-- at each place the lowest core that is ready, until there is none
+abbrev pub Lowest : Plan → (ℕ → ℕ) → List ℕ → Type 0
+Lowest p f [] = (c : ℕ) → Ready p f c → ⊥
+Lowest p f (c ∷ cs) = Ready p f c × ((d : ℕ) → d < c → Ready p f d → ⊥) × Lowest p (bump f c) cs
+
+abbrev pub LowOrderLaw : Type 0
+LowOrderLaw = (p : Plan) → Lowest p nought (low_order p)
+
+-- ---- plays
+
+-- what a place does to the cores and their loads
+pub record PlaceKnown (p : Plan) (s : Outcome) (c : ℕ) : Type 0 where
+  pub core : c < length s.cores → core_at (place p s c) c ≡ after p.image (core_at s c) (old_at p s c)
+  pub other_cores : (i : ℕ) → i ≢ c → core_at (place p s c) i ≡ core_at s i
+  pub other_loads : (i : ℕ) → i ≢ c → loads_at (place p s c) i ≡ loads_at s i
+  pub all_cores : length (place p s c).cores ≡ length s.cores
+  pub all_words : length (place p s c).words ≡ length s.words
+  pub all_loads : length (place p s c).loads ≡ length s.loads
+
+abbrev pub PlaceLaw : Type 0
+PlaceLaw = (p : Plan) (s : Outcome) (c : ℕ) → PlaceKnown p s c
+
+-- what is known after the places of a replay order
+pub record PlayKnown (p : Plan) (f : ℕ → ℕ) (s : Outcome) : Type 0 where
+  pub all_cores : length s.cores ≡ length p.totals
+  pub all_words : length s.words ≡ p.image.words
+  pub all_loads : length s.loads ≡ length p.totals
+  pub counts : counts_in s ≡ f
+  pub numbers : (c : ℕ) → c < length p.totals → (core_at s c).id ≡ c
+  pub limits : (c : ℕ) → c < length p.totals → (core_at s c).limit ≡ p.limit
+  pub within : (c : ℕ) → f c ≤ slice_index p.totals c
+
+abbrev pub PlayLaw : Type 0
+PlayLaw = (p : Plan) (order : List ℕ) → IsReplayOrder p order → PlayKnown p (counts nought order) (played p order)
+
+-- a play falls short nowhere exactly where there is no first place at which it does
+abbrev pub ShortLaw : Type 0
+ShortLaw = (p : Plan) (s : Outcome) (order : List ℕ) → Plays p s order ↔ (first_short p s order ≡ None)
+
+-- ---- the low order, place by place
+
+-- so far the lowest core that is ready, at each place
+abbrev pub LowFront : Plan → (ℕ → ℕ) → List ℕ → Type 0
+LowFront p f [] = Unit {0}
+LowFront p f (c ∷ cs) = Ready p f c × ((d : ℕ) → d < c → Ready p f d → ⊥) × LowFront p (bump f c) cs
+
+-- such a list is a front of the low order
+abbrev pub LowFrontLaw : Type 0
+LowFrontLaw = (p : Plan) (front : List ℕ) → LowFront p nought front → (rest : List ℕ) × (low_order p ≡ front ++ rest)
+
+-- and is the low order where no core is ready at its end
+abbrev pub LowEndLaw : Type 0
+LowEndLaw = (p : Plan) (front : List ℕ) → LowFront p nought front → ((c : ℕ) → Ready p (counts nought front) c → ⊥) → low_order p ≡ front

@@ -1,0 +1,5 @@
+pub mod Plans
+pub mod Play
+pub mod Orders
+pub mod Answers
+pub mod Laws

@@ -1,0 +1,266 @@
+//! A replay under way.
+ghost use Rattle.std.specs.Prelude.{◌≡◌, ◌<◌, ◌≤◌, ◌≢◌, ◌↔◌, ℕ, List, [], ◌++◌, ◌∷◌, true, length, map, slice_index, IfOk, OnOk, IsTrue, MatchResult};
+ghost use Rattle.std.specs.List.{range_with_len};
+ghost use Rattle.rtr_types.specs.declared.nodes.Instr.{Instr as SomeInstr};
+ghost use Rattle.rv_core.specs.States.{starting};
+ghost use Rattle.log_codec.specs.Validity.{Valid};
+ghost use Rattle.replay_core.specs.Plans.{plan_of};
+ghost use Rattle.replay_core.specs.Play.{core_at, start, played};
+ghost use Rattle.replay_core.specs.Orders.{counts, nought, counts_in, Full, IsReplayOrder, is_ready, is_sourced, lowest_ready};
+ghost use Rattle.replay_core.specs.Answers.{Advances, Replays, Refuses, IsMet, cut_of};
+
+use crate::answers::{Advanced, ReplayFault};
+use crate::one_place::{access, leave, note, old_value};
+use image_mem::{Image, Memory};
+use load_lists::LoadLists;
+use log_codec::Recording;
+use rtr_types::{CORES_MAX, Cut, Instr, Items, Which};
+use rv_core::{Core, Outcome};
+use std::alloc::{AllocError, Global};
+use std::marker::Model;
+
+/// A place for each core, as the length of an array.
+const PLACES: usize = CORES_MAX as usize;
+
+/// A recording that is played by one of its logs, and how far the play has come. Each place of the play
+/// is a core, which retires its next instruction over one flat memory.
+#[derive(Drop)]
+pub struct Replay<'a> {
+    recording: &'a Recording,
+    which: Which,
+    image: Image,
+    cores: Vec<Core>,
+    memory: Memory,
+    loads: LoadLists,
+}
+
+impl<'a> Model for Replay<'a> {
+    ghost use Rattle.replay_core.specs.Plans.{plan_of};
+    ghost use Rattle.replay_core.specs.Answers.{UnderWay, HoldsTogether};
+
+    ghost Value = { UnderWay };
+
+    ghost view = { λ a. record { plan = plan_of a.which a.recording.now; state = record { cores = a.cores.items; words = a.memory; loads = a.loads.lists }; roomy = a.loads.roomy } };
+
+    ghost invariant = { λ a. HoldsTogether a.recording.now a.image a.cores.items a.memory a.loads.lists };
+}
+
+impl<'a> Replay<'a> {
+    /// The replay before its first place.
+    pub fn new(
+        alloc: Global,
+        recording: &'a Recording,
+        which: Which,
+    ) -> Result<Replay<'a>, AllocError>
+        requires { Valid recording.now }
+        ensures plan { IfOk result (λ replay. replay.plan ≡ plan_of which recording.now) }
+        ensures state { IfOk result (λ replay. replay.state ≡ start (plan_of which recording.now)) }
+    {
+        let params = recording.params;
+        let bytes = Vec::from_slice(alloc, recording.image.as_slice())?;
+        let Ok(image) = Image::flat(bytes, params.words) else {
+            unreachable!()
+        };
+        let cores = cores_of(alloc, params.cores, params.limit)?;
+        let memory = Memory::new(alloc, &image)?;
+        let loads = LoadLists::new(alloc, params.cores)?;
+        Ok(Replay {
+            recording,
+            which,
+            image,
+            cores,
+            memory,
+            loads,
+        })
+    }
+
+    /// Whether the core is below its total and each logged source of its next instruction was played:
+    /// whether its place can be added to the replay order that was played.
+    pub fn ready(&self, core: u8) -> bool
+        requires { core < length self.now.plan.totals }
+        ensures test { result ≡ is_ready self.now.plan (counts_in self.now.state) core }
+        ensures order { (order : List ℕ) → IsReplayOrder self.now.plan order → self.now.state ≡ played self.now.plan order → IsTrue result ↔ IsReplayOrder self.now.plan (order ++ core ∷ []) }
+    {
+        let count = self.cores[core as usize].count();
+        count < self.recording.totals.as_slice()[core as usize]
+            && self.is_sourced(core, count + 1)
+    }
+
+    /// The lowest-numbered core that is ready.
+    pub fn lowest(&self) -> Option<u8>
+        ensures { result ≡ lowest_ready self.now.plan (counts_in self.now.state) }
+    {
+        for core in 0..self.recording.params.cores {
+            if self.ready(core) {
+                return Some(core);
+            }
+        }
+        None
+    }
+
+    /// Makes room for one more load of each core, so that `advance` takes no memory. After want of memory
+    /// the replay is as it was.
+    pub fn make_room(&mut self) -> Result<(), AllocError>
+        ensures plan { self.new.plan ≡ self.old.plan }
+        ensures state { self.new.state ≡ self.old.state }
+        ensures room { OnOk result (IsTrue self.new.roomy) }
+    {
+        self.loads.make_room()
+    }
+
+    /// Whether there is room for one more load of each core.
+    pub fn has_room(&self) -> bool
+        ensures { result ≡ self.now.roomy }
+    {
+        self.loads.has_room()
+    }
+
+    /// One place of the play: the core, which is ready, retires its next instruction, unless its program
+    /// is done.
+    pub fn advance(&mut self, core: u8) -> Advanced
+        requires ready { is_ready self.old.plan (counts_in self.old.state) core ≡ true }
+        requires room { IsTrue self.old.roomy }
+        ensures plan { self.new.plan ≡ self.old.plan }
+        ensures place { Advances self.old.plan self.old.state core result self.new.state }
+    {
+        let need = self.cores[core as usize].need(&self.image);
+        if need.is_done() {
+            return Advanced::Short;
+        }
+        let used = need.access();
+        let old = old_value(&self.memory, used);
+        let value = self.cores[core as usize].finish(&self.image, old);
+        let count = self.cores[core as usize].count();
+        note(&mut self.loads, core, used, count, old);
+        leave(&mut self.memory, used, value);
+        let at = Instr { core, count };
+        Advanced::Retired {
+            access: access(used, at, old, value),
+        }
+    }
+
+    /// How many instructions the core has retired.
+    pub fn count(&self, core: u8) -> u32
+        requires { core < length self.now.plan.totals }
+        ensures { result ≡ counts_in self.now.state core }
+    {
+        self.cores[core as usize].count()
+    }
+
+    /// How far each core has come.
+    pub fn cut(&self) -> Cut
+        ensures { result ≡ cut_of self.now.plan (counts_in self.now.state) }
+    {
+        let cores = self.recording.params.cores;
+        let mut counts = [0; PLACES];
+        for core in 0..cores {
+            counts[core as usize] = self.cores[core as usize].count();
+        }
+        Cut { cores, counts }
+    }
+
+    /// Whether each core has retired its total.
+    pub fn whole(&self) -> bool
+        ensures { IsTrue result ↔ Full self.now.plan (counts_in self.now.state) }
+    {
+        for core in 0..self.recording.params.cores {
+            let total = self.recording.totals.as_slice()[core as usize];
+            if self.cores[core as usize].count() != total {
+                return false;
+            }
+        }
+        true
+    }
+
+    /// What the play has come to.
+    pub fn into_outcome(self, alloc: Global) -> Result<Outcome, AllocError>
+        ensures { IfOk result (λ outcome. outcome ≡ self.entry.state) }
+    {
+        let Replay {
+            image,
+            cores,
+            memory,
+            loads,
+            ..
+        } = self;
+        Ok(Outcome {
+            cores: Items::from_vec(cores),
+            words: words_of(alloc, &memory, image.words())?,
+            loads: loads.into_items(alloc)?,
+        })
+    }
+
+    /// Plays the low order: at each place the lowest-numbered core that is ready, until there is none.
+    pub fn run(
+        alloc: Global,
+        recording: &Recording,
+        which: Which,
+    ) -> Result<Outcome, ReplayFault>
+        requires { Valid recording.now }
+        ensures { MatchResult result (Replays (plan_of which recording.now)) (Refuses (plan_of which recording.now)) }
+    {
+        let mut replay = Replay::new(alloc, recording, which)?;
+        while let Some(core) = replay.lowest() {
+            replay.make_room()?;
+            if let Advanced::Short = replay.advance(core) {
+                let count = replay.count(core);
+                return Err(ReplayFault::Short { core, count });
+            }
+        }
+        if !replay.whole() {
+            return Err(ReplayFault::Stuck { cut: replay.cut() });
+        }
+        Ok(replay.into_outcome(alloc)?)
+    }
+}
+
+// The sources of a core's next instruction.
+impl<'a> Replay<'a> {
+    fn is_sourced(&self, core: u8, count: u32) -> bool
+        requires { core < length self.now.plan.totals }
+        ensures { result ≡ is_sourced self.now.plan.edges (counts_in self.now.state) core count }
+    {
+        let at = Instr { core, count };
+        for of in 0..self.recording.params.cores {
+            if of != core && !self.is_met(of, at) {
+                return false;
+            }
+        }
+        true
+    }
+
+    fn is_met(&self, of: u8, at: Instr) -> bool
+        requires of { of < length self.now.plan.totals }
+        requires at { at.core < length self.now.plan.totals }
+        requires differ { of ≢ at.core }
+        ensures { IsTrue result ↔ IsMet self.now.plan.edges (counts_in self.now.state) of at }
+    {
+        match self.recording.source(self.which, of, at) {
+            Some(count) => count <= self.cores[of as usize].count(),
+            None => true,
+        }
+    }
+}
+
+/// The cores before their first instruction.
+fn cores_of(alloc: Global, cores: u8, limit: u32) -> Result<Vec<Core>, AllocError>
+    ensures { IfOk result (λ list. list.items ≡ map (λ c. starting c limit) (range_with_len 0 cores)) }
+{
+    let mut list = Vec::new(alloc);
+    for id in 0..cores {
+        list.push(Core::new(id, limit))?;
+    }
+    Ok(list)
+}
+
+/// The words of the memory, of which there are `words`.
+fn words_of(alloc: Global, memory: &Memory, words: u32) -> Result<Items<u32>, AllocError>
+    requires { length memory.now ≡ words }
+    ensures { IfOk result (λ list. list ≡ memory.now) }
+{
+    let mut list = Items::new(alloc);
+    for word in 0..words {
+        list.push(memory.get(word))?;
+    }
+    Ok(list)
+}
