@@ -4,3 +4,6 @@ pub mod Ready
 pub mod Low
 pub mod Places
 pub mod Fronts
+pub mod Sources
+pub mod Steps
+pub mod Runs

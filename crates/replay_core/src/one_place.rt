@@ -33,7 +33,13 @@ pub(crate) fn leave(memory: &mut Memory, used: Option<(Kind, u32)>, value: u32)
 }
 
 /// Notes the value that the core's instruction found, where it reads.
-pub(crate) fn note(loads: &mut LoadLists, core: u8, used: Option<(Kind, u32)>, count: u32, value: u32)
+pub(crate) fn note(
+    loads: &mut LoadLists,
+    core: u8,
+    used: Option<(Kind, u32)>,
+    count: u32,
+    value: u32,
+)
     requires core { core < length loads.old.lists }
     requires room { IsTrue loads.old.roomy }
     ensures { AreNoted loads.old.lists core used count value loads.new.lists }
@@ -46,7 +52,12 @@ pub(crate) fn note(loads: &mut LoadLists, core: u8, used: Option<(Kind, u32)>, c
 }
 
 /// The access, if the instruction makes one.
-pub(crate) fn access(used: Option<(Kind, u32)>, at: Instr, before: u32, after: u32) -> Option<Access>
+pub(crate) fn access(
+    used: Option<(Kind, u32)>,
+    at: Instr,
+    before: u32,
+    after: u32,
+) -> Option<Access>
     ensures { told result ≡ accesses_by used at before after }
 {
     match used {

@@ -81,16 +81,15 @@ impl<'a> Replay<'a> {
         ensures test { result ≡ is_ready self.now.plan (counts_in self.now.state) core }
         ensures order { (order : List ℕ) → IsReplayOrder self.now.plan order → self.now.state ≡ played self.now.plan order → IsTrue result ↔ IsReplayOrder self.now.plan (order ++ core ∷ []) }
     {
-        let count = self.cores[core as usize].count();
-        count < self.recording.totals.as_slice()[core as usize]
-            && self.is_sourced(core, count + 1)
+        let count = self.count(core);
+        count < self.total(core) && self.is_sourced(core, count + 1)
     }
 
     /// The lowest-numbered core that is ready.
     pub fn lowest(&self) -> Option<u8>
         ensures { result ≡ lowest_ready self.now.plan (counts_in self.now.state) }
     {
-        for core in 0..self.recording.params.cores {
+        for core in 0..self.cores() {
             if self.ready(core) {
                 return Some(core);
             }
@@ -139,6 +138,22 @@ impl<'a> Replay<'a> {
         }
     }
 
+    /// How many cores there are.
+    pub fn cores(&self) -> u8
+        ensures all { result ≡ length self.now.plan.totals }
+        ensures few { result ≤ CORES_MAX }
+    {
+        self.recording.params.cores
+    }
+
+    /// How many instructions the core retired in the recording.
+    pub fn total(&self, core: u8) -> u32
+        requires { core < length self.now.plan.totals }
+        ensures { result ≡ slice_index self.now.plan.totals core }
+    {
+        self.recording.totals.as_slice()[core as usize]
+    }
+
     /// How many instructions the core has retired.
     pub fn count(&self, core: u8) -> u32
         requires { core < length self.now.plan.totals }
@@ -151,10 +166,10 @@ impl<'a> Replay<'a> {
     pub fn cut(&self) -> Cut
         ensures { result ≡ cut_of self.now.plan (counts_in self.now.state) }
     {
-        let cores = self.recording.params.cores;
+        let cores = self.cores();
         let mut counts = [0; PLACES];
         for core in 0..cores {
-            counts[core as usize] = self.cores[core as usize].count();
+            counts[core as usize] = self.count(core);
         }
         Cut { cores, counts }
     }
@@ -163,9 +178,8 @@ impl<'a> Replay<'a> {
     pub fn whole(&self) -> bool
         ensures { IsTrue result ↔ Full self.now.plan (counts_in self.now.state) }
     {
-        for core in 0..self.recording.params.cores {
-            let total = self.recording.totals.as_slice()[core as usize];
-            if self.cores[core as usize].count() != total {
+        for core in 0..self.cores() {
+            if self.count(core) != self.total(core) {
                 return false;
             }
         }
@@ -191,11 +205,7 @@ impl<'a> Replay<'a> {
     }
 
     /// Plays the low order: at each place the lowest-numbered core that is ready, until there is none.
-    pub fn run(
-        alloc: Global,
-        recording: &Recording,
-        which: Which,
-    ) -> Result<Outcome, ReplayFault>
+    pub fn run(alloc: Global, recording: &Recording, which: Which) -> Result<Outcome, ReplayFault>
         requires { Valid recording.now }
         ensures { MatchResult result (Replays (plan_of which recording.now)) (Refuses (plan_of which recording.now)) }
     {
@@ -220,8 +230,9 @@ impl<'a> Replay<'a> {
         requires { core < length self.now.plan.totals }
         ensures { result ≡ is_sourced self.now.plan.edges (counts_in self.now.state) core count }
     {
+        let _ = &self.recording;
         let at = Instr { core, count };
-        for of in 0..self.recording.params.cores {
+        for of in 0..self.cores() {
             if of != core && !self.is_met(of, at) {
                 return false;
             }
@@ -236,7 +247,7 @@ impl<'a> Replay<'a> {
         ensures { IsTrue result ↔ IsMet self.now.plan.edges (counts_in self.now.state) of at }
     {
         match self.recording.source(self.which, of, at) {
-            Some(count) => count <= self.cores[of as usize].count(),
+            Some(count) => count <= self.count(of),
             None => true,
         }
     }

@@ -1,0 +1,116 @@
+//! Recordings whose logs were worked out by hand.
+use crate::{Advanced, Replay, ReplayFault};
+use log_codec::{Recording, read};
+use rtr_types::{Cut, Which};
+use rv_core::{LoadNote, Outcome};
+use std::alloc::Global;
+use std::test::Fail;
+
+// Two cores, each of which stores its number and 5 to word 8: the header and the image. The totals and
+// the logs follow.
+const TWO_STORES: [u8; 21] = [
+    0x52, 0x54, 0x52, 1, 2, 0x90, 0x4e, 0x10, 0x0c, 0x93, 2, 0x55, 0, 0x23, 0x20, 0x50, 2, 0x73, 0,
+    0, 0,
+];
+
+// Two cores that store to word 16 and load it in turn, with the totals and the logs: 0:3 before 1:2,
+// and 1:3 before 0:4.
+const IN_TURN: [u8; 57] = [
+    0x52, 0x54, 0x52, 1, 2, 0x90, 0x4e, 0x20, 0x20, 0x63, 0x1a, 5, 0, 0x93, 2, 0x70, 0, 0x23, 0x20,
+    0x50, 4, 3, 0x23, 0, 4, 0x73, 0, 0, 0, 0x83, 0x23, 0, 4, 0x23, 0x20, 0xa0, 4, 0x73, 0, 0, 0, 5,
+    4, 1, 2, 3, 1, 4, 3, 1, 1, 3, 2, 1, 1, 3, 4,
+];
+
+// The recording of two stores with these totals and logs.
+fn two_stores(alloc: Global, rest: &[u8]) -> Result<Recording, Fail> {
+    let mut bytes = Vec::from_slice(alloc, &TWO_STORES)?;
+    bytes.extend_from_slice(rest)?;
+    Ok(read(alloc, &bytes)?)
+}
+
+// How the replay is refused, if it is.
+fn refused(alloc: Global, rest: &[u8], which: Which) -> Result<Option<ReplayFault>, Fail> {
+    let recording = two_stores(alloc, rest)?;
+    Ok(Replay::run(alloc, &recording, which).err())
+}
+
+// A cut of two cores.
+fn cut(first: u32, second: u32) -> Cut {
+    Cut {
+        cores: 2,
+        counts: [first, second, 0, 0, 0, 0, 0, 0],
+    }
+}
+
+// A log that goes round, a total past the program's end, and a log that leaves the two stores open.
+#[test]
+fn logs_by_hand(rt: HostRuntime) -> Result<(), Fail> {
+    let round = [3, 3, 1, 2, 2, 1, 2, 2, 0, 0];
+    let stuck = Some(ReplayFault::Stuck { cut: cut(1, 1) });
+    assert_eq!(rt; refused(rt.alloc(), &round, Which::Reduced)?, stuck);
+    let past = [4, 3, 1, 2, 2, 0, 0, 0];
+    let short = Some(ReplayFault::Short { core: 0, count: 3 });
+    assert_eq!(rt; refused(rt.alloc(), &past, Which::Reduced)?, short);
+    let open = [3, 3, 0, 0, 0, 0];
+    assert_eq!(rt; refused(rt.alloc(), &open, Which::Reduced)?, None);
+    Ok(())
+}
+
+// A regulated log that goes round where the reduced one doesn't.
+#[test]
+fn stuck_by_one_log(rt: HostRuntime) -> Result<(), Fail> {
+    let rest = [3, 3, 1, 2, 2, 0, 1, 1, 2, 2, 1, 1, 2, 2];
+    let stuck = Some(ReplayFault::Stuck { cut: cut(1, 1) });
+    assert_eq!(rt; refused(rt.alloc(), &rest, Which::Reduced)?, None);
+    assert_eq!(rt; refused(rt.alloc(), &rest, Which::Regulated)?, stuck);
+    Ok(())
+}
+
+// What each of the two cores in turn leaves.
+fn is_left(outcome: &Outcome) -> bool {
+    let [first, second] = outcome.cores.as_slice() else {
+        return false;
+    };
+    let [ones, others] = outcome.loads.as_slice() else {
+        return false;
+    };
+    let load = LoadNote {
+        count: 4,
+        word: 16,
+        value: 1,
+    };
+    let other = LoadNote {
+        count: 2,
+        word: 16,
+        value: 7,
+    };
+    (first.count(), first.pc(), first.reg(5), first.reg(6)) == (5, 0x14, 7, 1)
+        && (second.count(), second.pc(), second.reg(7), second.reg(10)) == (4, 0x20, 7, 1)
+        && outcome.words.len() == 32
+        && outcome.words.as_slice().get(16).copied() == Some(1)
+        && ones.as_slice() == [load].as_slice()
+        && others.as_slice() == [other].as_slice()
+}
+
+// The low order of each log, and another whole order, leave the same.
+#[test]
+fn in_turn(rt: HostRuntime) -> Result<(), Fail> {
+    let recording = read(rt.alloc(), &IN_TURN)?;
+    for which in [Which::Reduced, Which::Regulated] {
+        let outcome = Replay::run(rt.alloc(), &recording, which)?;
+        assert!(rt; is_left(&outcome));
+        let mut replay = Replay::new(rt.alloc(), &recording, which)?;
+        for core in [1, 0, 0, 0, 1, 1, 1, 0, 0] {
+            assert!(rt; !replay.whole());
+            replay.make_room()?;
+            assert!(rt; replay.has_room());
+            assert!(rt; core < replay.cores() && replay.ready(core));
+            assert!(rt; replay.advance(core) != Advanced::Short);
+        }
+        assert!(rt; replay.whole());
+        assert_eq!(rt; replay.cut(), cut(5, 4));
+        assert_eq!(rt; replay.lowest(), None);
+        assert!(rt; is_left(&replay.into_outcome(rt.alloc())?));
+    }
+    Ok(())
+}

@@ -1,0 +1,15 @@
+use Rattle.std.proofs.Common.{◌≡◌, ℕ, List}
+use Rattle.replay_core.specs.Plans.{plan_of}
+use Rattle.replay_core.specs.Orders.{counts_in}
+use Rattle.replay_core.proofs.Low.{left}
+use Rattle.replay_core.proofs.Fronts.{Going}
+use Rattle.replay_core.proofs.replay.Replay.run.Given as goal
+
+abbrev pub invariant-loop-core : goal.invariant-loop-core
+invariant-loop-core l = record {
+  plan_is : l.replay.plan ≡ plan_of l.fn.which l.recording;
+  along : (order : List ℕ) × Going (plan_of l.fn.which l.recording) order l.replay.state;
+}
+
+abbrev pub decreases-loop-core : goal.decreases-loop-core
+decreases-loop-core l = left l.replay.plan.totals (counts_in l.replay.state) 0
