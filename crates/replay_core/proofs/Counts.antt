@@ -1,7 +1,7 @@
 -- Counts with one more of a core.
-use Rattle.std.proofs.Common.{◌≡◌, ◌≢◌, ℕ, ◌+◌, ◌≤◌, List, [], ◌∷◌, ◌++◌, eq-eqb, ne_eqb, refl, subst, arith}
+use Rattle.std.proofs.Common.{◌≡◌, ◌≢◌, ℕ, ◌+◌, ◌≤◌, [], ◌∷◌, eq-eqb, ne_eqb, refl, subst, arith}
 use native.Mathlib.Decide.{ℕ_discrete}
-use Rattle.replay_core.specs.Orders.{bump, counts}
+use Rattle.replay_core.specs.Orders.{bump}
 use Rattle.replay_core.specs.Laws.{CountsOnLaw}
 
 pub bump_here : (f : ℕ → ℕ) (c : ℕ) → bump f c c ≡ f c + 1

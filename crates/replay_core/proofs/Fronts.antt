@@ -1,15 +1,14 @@
 -- Fronts of the low order, and what a run along it comes to.
-use Rattle.std.proofs.Common.{inl, inr, ◌≡◌, ◌⊎◌, ℕ, ◌+◌, ◌<◌, ◌≤◌, true, false, List, [], ◌∷◌, ◌++◌, length, refl, sym, ap, ◌∙◌, subst, arith, append-nil, append_assoc}
+use Rattle.std.proofs.Common.{inl, inr, ◌≡◌, ◌⊎◌, ℕ, ◌<◌, true, false, List, [], ◌∷◌, ◌++◌, length, refl, sym, ap, ◌∙◌, subst, arith, append-nil, append_assoc}
 use Rattle.std.specs.Prelude.{Option, Some, None}
 use Rattle.rtr_types.specs.declared.cuts.Cut.{Cut}
 use Rattle.rv_core.specs.declared.outcomes.Outcome.{Outcome}
 use Rattle.rv_core.specs.Steps.{is_done}
 use Rattle.replay_core.specs.Plans.{Plan}
-use Rattle.replay_core.specs.Play.{core_at, need_at, place, start, play, Plays, first_short, played}
+use Rattle.replay_core.specs.Play.{need_at, place, start, Plays, first_short, played}
 use Rattle.replay_core.specs.Orders.{bump, counts, nought, counts_in, Ready, Ordered, Full, lowest_ready, low_order}
 use Rattle.replay_core.specs.Answers.{cut_of, Replays, EndsAt}
 use Rattle.replay_core.specs.Laws.{Lowest, LowFront, LowFrontLaw, LowEndLaw}
-use Rattle.replay_core.proofs.Counts.{counts_on}
 use Rattle.replay_core.proofs.Lists.{play_on, plays_join, short_on, short_law}
 use Rattle.replay_core.proofs.Low.{IsLowest, lowest_is, left, left_step, low_order_law}
 use Rattle.replay_core.proofs.Places.{place_known, play_law}

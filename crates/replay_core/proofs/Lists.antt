@@ -1,12 +1,12 @@
 -- What a longer list does, by what its front does.
-use Rattle.std.proofs.Common.{◌≡◌, ℕ, ◌+◌, Bool, true, false, List, [], ◌∷◌, ◌++◌, append_assoc, append-nil, refl, sym, ap, subst, ◌∙◌}
+use Rattle.std.proofs.Common.{◌≡◌, ℕ, Bool, true, false, List, [], ◌∷◌, ◌++◌, append_assoc, refl, sym, ap, subst, ◌∙◌}
 use Rattle.std.specs.Prelude.{cond, Option, Some, None}
 use Rattle.rtr_types.specs.declared.accesses.Access.{Access}
 use Rattle.rv_core.specs.declared.outcomes.Outcome.{Outcome}
 use Rattle.rv_core.specs.Steps.{is_done}
 use Rattle.replay_core.specs.Plans.{Plan}
 use Rattle.replay_core.specs.Play.{core_at, need_at, place, touched, play, accesses, Plays, first_short}
-use Rattle.replay_core.specs.Orders.{bump, counts, nought, Ready, Ordered, IsReplayOrder}
+use Rattle.replay_core.specs.Orders.{bump, counts, nought, Ready, Ordered}
 use Rattle.replay_core.specs.Laws.{PlayOnLaw, AccessesOnLaw, PlaysOnLaw, OrderedOnLaw, PlacesLaw, OneMoreLaw, ShortLaw}
 
 pub play_on : PlayOnLaw

@@ -1,7 +1,6 @@
 -- What is known after a place, and after the places of a replay order.
-use Rattle.std.proofs.Common.{inl, inr, ◌≡◌, ◌≢◌, ℕ, subst, ◌+◌, ◌<◌, ◌≤◌, Bool, true, false, cond, List, [], ◌∷◌, length, get_or, sym, refl, ap, ◌∙◌, arith, length-set, get_or-set_same, get_or-set_other}
-use Rattle.std.specs.Prelude.{slice_index, slice_set, Option, Some, None}
-use Rattle.std.specs.List.{range_with_len}
+use Rattle.std.proofs.Common.{inl, inr, ◌≡◌, ℕ, subst, ◌+◌, ◌<◌, ◌≤◌, Bool, true, false, cond, List, [], ◌∷◌, length, sym, refl, ap, ◌∙◌, arith, length-set, get_or-set_same, get_or-set_other}
+use Rattle.std.specs.Prelude.{slice_index, slice_set, Some, None}
 use Rattle.std.proofs.Math.Path.{fun_ext}
 use Rattle.std.proofs.lemmas.Bool.{cases_lt}
 use Rattle.std.proofs.lemmas.List.{get_or_past, length-replicate}
@@ -15,9 +14,9 @@ use Rattle.rv_core.specs.States.{starting}
 use Rattle.rv_core.specs.Steps.{after}
 use Rattle.rv_core.proofs.LawLemmas.{start_law, count_law, number_law, limit_law}
 use Rattle.replay_core.specs.Plans.{Plan}
-use Rattle.replay_core.specs.Play.{Use, use_of, words_after, core_at, loads_at, need_at, old_at, new_at, place, start, play, played}
+use Rattle.replay_core.specs.Play.{Use, use_of, words_after, core_at, need_at, old_at, new_at, place, start, play}
 use Rattle.replay_core.specs.Orders.{bump, counts, nought, counts_in, Ready, Ordered}
-use Rattle.replay_core.specs.Laws.{PlaceKnown, PlaceLaw, PlayKnown, PlayLaw}
+use Rattle.replay_core.specs.Laws.{PlaceLaw, PlayKnown, PlayLaw}
 use Rattle.replay_core.proofs.Counts.{bump_same, bump_else}
 
 -- ---- one place

@@ -1,6 +1,6 @@
 -- A run along the low order, as the code goes it.
-use Rattle.std.proofs.Common.{◌≡◌, ◌∙◌, ℕ, ◌+◌, ◌<◌, true, false, List, [], ◌∷◌, ◌++◌, length, refl, sym, ap, subst, arith}
-use Rattle.std.specs.Prelude.{Option, Some, None}
+use Rattle.std.proofs.Common.{◌≡◌, ◌∙◌, ℕ, ◌<◌, true, false, List, [], ◌∷◌, ◌++◌, length, sym, ap, subst, arith}
+use Rattle.std.specs.Prelude.{Some, None}
 use Rattle.rtr_types.specs.declared.cuts.Cut.{Cut}
 use Rattle.rv_core.specs.declared.outcomes.Outcome.{Outcome}
 use Rattle.rv_core.specs.Steps.{is_done}

@@ -1,6 +1,6 @@
 -- What the look-ups of sources tell of a core that may be ready.
-use Rattle.std.proofs.Common.{inl, inr, ◌≡◌, ◌≢◌, ◌⊎◌, ℕ, zero, suc, ◌+◌, ◌-◌, ◌<◌, ◌≤◌, Bool, true, false, leb, ltb, List, [], ◌∷◌, ◌++◌, length, refl, sym, ap, subst, ◌∙◌, arith}
-use Rattle.std.specs.Prelude.{slice_index, nat_lt, nat_le, Option, Some, None, IsTrue}
+use Rattle.std.proofs.Common.{inl, inr, ◌≡◌, ◌≢◌, ◌⊎◌, ℕ, suc, ◌+◌, ◌<◌, ◌≤◌, Bool, true, false, leb, List, [], ◌∷◌, ◌++◌, length, refl, sym, ap, subst, ◌∙◌, arith}
+use Rattle.std.specs.Prelude.{slice_index, nat_lt, Option, Some, None, IsTrue}
 use Rattle.std.specs.List.{Contains}
 use Rattle.std.proofs.lemmas.Bool.{leb-true}
 use Rattle.std.proofs.lemmas.Bool.Decides.{nat_tests}
@@ -14,7 +14,7 @@ use Rattle.log_codec.specs.Sources.{HasEdge}
 use Rattle.log_codec.proofs.SourceLaws.{edges-within}
 use Rattle.replay_core.specs.Plans.{Plan, plan_of}
 use Rattle.replay_core.specs.Play.{instr, played}
-use Rattle.replay_core.specs.Orders.{counts, nought, counts_in, Sourced, Ready, IsReplayOrder, is_sourced, is_ready, lowest}
+use Rattle.replay_core.specs.Orders.{counts, nought, counts_in, Ready, IsReplayOrder, is_sourced, is_ready, lowest}
 use Rattle.replay_core.specs.Answers.{IsMet}
 use Rattle.replay_core.proofs.Lists.{one_more}
 use Rattle.replay_core.proofs.Ready.{sourced_true, sourced_is, ready_true, ready_is, source_within, within_sourced}

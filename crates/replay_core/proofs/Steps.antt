@@ -1,28 +1,25 @@
 -- What the code of one place does is the definition's place.
-use Rattle.std.proofs.Common.{inl, inr, ◌≡◌, ◌≢◌, ℕ, ◌+◌, ◌<◌, ◌≤◌, Bool, true, false, cond, List, [], ◌∷◌, length, get_or, refl, sym, ap, subst, ◌∙◌, arith}
-use Rattle.std.specs.Prelude.{nat_lt, slice_index, slice_set, Option, Some, None}
+use Rattle.std.proofs.Common.{inl, inr, ◌≡◌, ℕ, ◌+◌, ◌<◌, ◌≤◌, true, false, cond, List, length, get_or, refl, sym, ap, subst, ◌∙◌, arith}
+use Rattle.std.specs.Prelude.{nat_lt, slice_set, Option}
 use Rattle.std.proofs.lemmas.Bool.{cases_lt}
 use Rattle.std.proofs.lemmas.Bool.Decides.{nat_tests}
 use Rattle.std.proofs.lemmas.List.FromFn.{fill_by_all}
 use Rattle.rtr_types.specs.declared.TheConstants.{CORES_MAX}
 use Rattle.rtr_types.specs.declared.cuts.Cut.{Cut}
-use Rattle.std.proofs.lemmas.List.{get_or_default}
 use Rattle.rtr_types.specs.declared.accesses.Access.{Access}
-use Rattle.rtr_types.specs.declared.accesses.Kind.{Kind}
 use Rattle.image_mem.specs.Contents.{Contents}
 use Rattle.rv_core.specs.declared.core_state.Core.{Core}
 use Rattle.rv_core.specs.declared.core_state.Need.{Need}
 use Rattle.rv_core.specs.declared.core_state.Need.TheVariants.{Local, Load, Store, Done}
 use Rattle.rv_core.specs.declared.outcomes.LoadNote.{LoadNote}
 use Rattle.rv_core.specs.declared.outcomes.Outcome.{Outcome}
-use Rattle.rv_core.specs.States.{starting}
 use Rattle.rv_core.specs.Steps.{need, after, wrote, is_done, access_of}
 use Rattle.rv_core.proofs.LawLemmas.{count_law, load_within_law, store_within_law}
 use Rattle.replay_core.specs.declared.answers.Advanced.{Advanced}
 use Rattle.replay_core.specs.declared.answers.Advanced.TheVariants as advanced
 use Rattle.replay_core.specs.Plans.{Plan}
 use Rattle.replay_core.specs.Play.{Use, use_of, old_for, words_after, loads_after, accesses_by, core_at, loads_at, instr, need_at, old_at, new_at, place, touched}
-use Rattle.replay_core.specs.Answers.{told, Retires, Stays, Advances, UsesWithin, AreNoted, cut_of}
+use Rattle.replay_core.specs.Answers.{told, Retires, Advances, UsesWithin, AreNoted, cut_of}
 
 -- the word that a need uses is one of the memory's
 pub uses-within : (image : Contents) (core : Core) (n : Need) → need image core ≡ n → UsesWithin (access_of n) image.words

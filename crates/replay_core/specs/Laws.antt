@@ -1,12 +1,12 @@
 -- What holds of every plan, list of cores and play.
-use Rattle.std.specs.Prelude.{◌≡◌, ◌≢◌, ℕ, ◌+◌, ◌<◌, ◌≤◌, ◌↔◌, true, List, [], ◌∷◌, ◌++◌, length, slice_index, None}
+use Rattle.std.specs.Prelude.{◌≡◌, ◌≢◌, ℕ, ◌<◌, ◌≤◌, ◌↔◌, true, List, [], ◌∷◌, ◌++◌, length, slice_index, None}
 use Rattle.std.specs.List.{Contains}
 use Rattle.rtr_types.specs.declared.nodes.Edge.{Edge}
 use Rattle.rtr_types.specs.declared.nodes.Instr.{Instr}
 use Rattle.rv_core.specs.declared.outcomes.Outcome.{Outcome}
 use Rattle.rv_core.specs.Steps.{after}
 use Rattle.replay_core.specs.Plans.{Plan}
-use Rattle.replay_core.specs.Play.{core_at, loads_at, instr, old_at, place, start, play, accesses, Plays, first_short, played}
+use Rattle.replay_core.specs.Play.{core_at, loads_at, instr, old_at, place, play, accesses, Plays, first_short, played}
 use Rattle.replay_core.specs.Orders.{bump, counts, nought, counts_in, Sourced, Ready, Ordered, IsReplayOrder, is_ready, low_order}
 
 -- ---- longer lists: with `c ∷ []` for `ys`, one more place at the end

@@ -1,4 +1,7 @@
 //! Recordings whose logs were worked out by hand.
+ghost use Rattle.std.specs.Prelude.{IfOk};
+ghost use Rattle.log_codec.specs.Validity.{Valid};
+
 use crate::{Advanced, Replay, ReplayFault};
 use log_codec::{Recording, read};
 use rtr_types::{Cut, Which};
@@ -22,7 +25,9 @@ const IN_TURN: [u8; 57] = [
 ];
 
 // The recording of two stores with these totals and logs.
-fn two_stores(alloc: Global, rest: &[u8]) -> Result<Recording, Fail> {
+fn two_stores(alloc: Global, rest: &[u8]) -> Result<Recording, Fail>
+    ensures { IfOk result (λ recording. Valid recording) }
+{
     let mut bytes = Vec::from_slice(alloc, &TWO_STORES)?;
     bytes.extend_from_slice(rest)?;
     Ok(read(alloc, &bytes)?)

@@ -1,5 +1,4 @@
-use Rattle.std.proofs.Common.{◌≡◌, ◌≢◌, ◌∙◌, ap, sym, arith, length, false, true}
-use Rattle.replay_core.specs.Plans.{Plan}
+use Rattle.std.proofs.Common.{◌≢◌, ap, arith, length}
 use Rattle.replay_core.specs.Play.{instr}
 use Rattle.replay_core.specs.Orders.{counts_in}
 use Rattle.replay_core.specs.Answers.{UnderWay, IsMet}

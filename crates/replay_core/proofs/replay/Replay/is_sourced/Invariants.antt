@@ -1,4 +1,4 @@
-use Rattle.std.proofs.Common.{◌≡◌, ◌≢◌, ◌<◌, ℕ}
+use Rattle.std.proofs.Common.{◌≢◌, ◌<◌, ℕ}
 use Rattle.replay_core.specs.Orders.{counts_in}
 use Rattle.replay_core.specs.Answers.{IsMet}
 use Rattle.replay_core.proofs.replay.Replay.is_sourced.Given as goal

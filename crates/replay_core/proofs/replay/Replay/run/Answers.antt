@@ -1,7 +1,7 @@
-use Rattle.std.proofs.Common.{◌≡◌, ◌∙◌, ◌++◌, ◌∷◌, ℕ, ◌<◌, List, [], length, ap, sym, subst}
+use Rattle.std.proofs.Common.{◌∙◌, ◌++◌, ◌∷◌, [], sym}
 use Rattle.replay_core.specs.Plans.{plan_of}
 use Rattle.replay_core.proofs.Fronts.{going_start}
-use Rattle.replay_core.proofs.Runs.{whole_at, stuck_at, ready_with_room, inside_with_room, short_at, still_of, still_going, fewer}
+use Rattle.replay_core.proofs.Runs.{whole_at, stuck_at, ready_with_room, inside_with_room, short_at, still_going, fewer}
 use Rattle.replay_core.proofs.replay.Replay.run.Goals as goal
 
 pub loop-core-init : goal.loop-core-init
