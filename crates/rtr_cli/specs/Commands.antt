@@ -1,7 +1,8 @@
 -- What each command makes of an input.
-use Rattle.std.specs.Prelude.{ℕ, ◌*◌, List, [], ◌∷◌, Result, Ok, Err}
+use Rattle.std.specs.Prelude.{ℕ, ◌*◌, List, [], map, Result, Ok, Err}
 use Rattle.image_mem.specs.Contents.{Contents}
-use Rattle.flat_run.specs.Runs.{Standing, ran}
+use Rattle.machine_run.specs.Outcomes.{outcome_of}
+use Rattle.schedule_pick.specs.Choices.{choices_of}
 use Rattle.log_codec.specs.declared.recording.Recording.{Recording}
 use Rattle.log_codec.specs.Reading.{whole_at}
 use Rattle.log_codec.specs.Spelling.{spelling}
@@ -16,33 +17,26 @@ use Rattle.rtr_cli.specs.declared.commands.TheConstants.{RECORDING_BYTES_MAX}
 -- the most bytes of input that the command takes
 abbrev pub most_of : Command → ℕ
 most_of (Record params) = 4 * params.words
-most_of (Run params loads) = 4 * params.words
+most_of (Run params choices seed loads) = 4 * params.words
 most_of Print = RECORDING_BYTES_MAX
 
 -- the image that the input is
 abbrev pub image_of : Params → (input : List ℕ) → Contents
 image_of params input = record { bytes = input; words = params.words }
 
--- what the run of that image comes to
-abbrev pub state_of : Params → (input : List ℕ) → Standing
-state_of params input = ran (image_of params input) params.limit
+-- the outcome of the run of that image under the schedule of these choice bytes and this seed
+abbrev pub outcome_of_input : Params → (choices : List ℕ) (seed : ℕ) → (input : List ℕ) → Outcome
+outcome_of_input params choices seed input = outcome_of (image_of params input) params (choices_of choices seed)
 
--- the recording of that run: a run of one core has no edges
+-- the recording of the run on one core, which has no edges; its one core moves alone, so that it runs
+-- alike under every schedule
 abbrev pub recording_of : Params → (input : List ℕ) → Recording
 recording_of params input = record {
   params = params;
   image = input;
-  totals = (state_of params input).core.count ∷ [];
+  totals = map (λ k. k.count) (outcome_of_input params [] 0 input).cores;
   reduced = [];
   regulated = [];
-}
-
--- the outcome of that run
-abbrev pub outcome_of : Params → (input : List ℕ) → Outcome
-outcome_of params input = record {
-  cores = (state_of params input).core ∷ [];
-  words = (state_of params input).words;
-  loads = (state_of params input).loads ∷ [];
 }
 
 -- the logs of the recording that the input spells, or the first part that has no reading
@@ -53,5 +47,5 @@ logs_of (Err part) = Err part
 -- the output of the command for an input, or the first part of the input that has no reading
 abbrev pub made : Command → (input : List ℕ) → Result (List ℕ) ℕ
 made (Record params) input = Ok (spelling (recording_of params input))
-made (Run params loads) input = Ok (state_lines (outcome_of params input) (image_of params input) loads)
+made (Run params choices seed loads) input = Ok (state_lines (outcome_of_input params choices seed input) (image_of params input) loads)
 made Print input = logs_of (whole_at input)

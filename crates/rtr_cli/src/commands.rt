@@ -1,17 +1,21 @@
 //! What each command makes of its input, before a byte is given.
-ghost use Rattle.std.specs.Prelude.{◌≡◌, ◌*◌, ◌<◌, ◌≤◌, IfOk, length, vec_len};
+ghost use Rattle.std.specs.Prelude.{◌≡◌, ◌*◌, ◌<◌, ◌≤◌, IfOk, List, length, map, vec_len};
 ghost use Rattle.image_mem.specs.Contents.{Contents};
 ghost use Rattle.log_codec.specs.Faults.{Gives};
 ghost use Rattle.log_codec.specs.Spelling.{spelling};
 ghost use Rattle.rtr_types.specs.Parameters.{Fits};
 ghost use Rattle.state_text.specs.States.{state_lines};
 ghost use Rattle.tool_words.specs.Commands.{HasFittingParams};
-ghost use Rattle.rtr_cli.specs.Commands.{image_of, made, most_of, outcome_of, recording_of, state_of, logs_of};
+ghost use Rattle.machine_run.specs.Outcomes.{outcome_of};
+ghost use Rattle.rtr_cli.specs.Commands.{image_of, made, most_of, outcome_of_input, recording_of, logs_of};
 
-use flat_run::{a_run_ends, a_run_fits_its_image, run_flat};
 use image_mem::Image;
 use log_codec::{CodecFault, Recording, read, spell};
+use machine_run::laws::a_run_fits_its_image;
+use machine_run::run_machine;
 use rtr_types::{Items, Params};
+use rv_core::Core;
+use schedule_pick::Schedule;
 use state_text::{logs_text, state_text};
 use std::alloc::{AllocError, Global};
 use tool_words::Command;
@@ -30,14 +34,22 @@ pub(crate) fn most_of(command: &Command) -> usize
 }
 
 /// The whole output of the command for this input.
-pub(crate) fn make(alloc: Global, command: &Command, bytes: Vec<u8>) -> Result<Vec<u8>, CodecFault>
-    requires fits { HasFittingParams command.now }
-    requires within { vec_len bytes ≤ most_of command.now }
-    ensures { Gives (λ out. out.items) result (made command.now bytes.items) }
+pub(crate) fn make(alloc: Global, command: Command, bytes: Vec<u8>) -> Result<Vec<u8>, CodecFault>
+    requires fits { HasFittingParams command }
+    requires within { vec_len bytes ≤ most_of command }
+    ensures { Gives (λ out. out.items) result (made command bytes.items) }
 {
     match command {
         Command::Record { params } => Ok(record(alloc, params, bytes)?),
-        Command::Run { params, loads } => Ok(run(alloc, params, *loads, bytes)?),
+        Command::Run {
+            params,
+            choices,
+            seed,
+            loads,
+        } => {
+            let schedule = Schedule::new(choices.into_vec(), seed);
+            Ok(run(alloc, params, schedule, loads, bytes)?)
+        }
         Command::Print => {
             let recording = read(alloc, bytes.as_slice())?;
             Ok(logs_text(alloc, &recording)?)
@@ -45,38 +57,53 @@ pub(crate) fn make(alloc: Global, command: &Command, bytes: Vec<u8>) -> Result<V
     }
 }
 
-/// The recording of a run of the image, spelled.
-fn record(alloc: Global, params: &Params, bytes: Vec<u8>) -> Result<Vec<u8>, AllocError>
-    requires fits { Fits params.now }
-    requires one_core { params.now.cores ≡ 1 }
-    requires within { vec_len bytes ≤ 4 * params.now.words }
-    ensures { IfOk result (λ out. out.items ≡ spelling (recording_of params.now bytes.items)) }
+/// The recording of a run of the image on one core, spelled.
+fn record(alloc: Global, params: Params, bytes: Vec<u8>) -> Result<Vec<u8>, AllocError>
+    requires fits { Fits params }
+    requires one_core { params.cores ≡ 1 }
+    requires within { vec_len bytes ≤ 4 * params.words }
+    ensures { IfOk result (λ out. out.items ≡ spelling (recording_of params bytes.items)) }
 {
+    a_run_fits_its_image();
     let image = image(bytes, params.words);
-    a_run_ends();
-    let outcome = run_flat(alloc, &image, params.limit)?;
-    let mut totals = Items::new(alloc);
-    totals.push(outcome.cores.as_slice()[0].count())?;
+    let ran = run_machine(alloc, image, params, Schedule::new(Vec::new(alloc), 0))?;
     let recording = Recording {
-        params: *params,
-        image: Items::from_vec(image.into_bytes()),
-        totals,
+        params,
+        image: Items::from_vec(ran.image.into_bytes()),
+        totals: totals_of(alloc, ran.outcome.cores.as_slice())?,
         reduced: Items::new(alloc),
         regulated: Items::new(alloc),
     };
     spell(alloc, &recording)
 }
 
-/// The text of how a run of the image ended.
-fn run(alloc: Global, params: &Params, loads: bool, bytes: Vec<u8>) -> Result<Vec<u8>, AllocError>
-    requires fits { Fits params.now }
-    requires within { vec_len bytes ≤ 4 * params.now.words }
-    ensures { IfOk result (λ out. out.items ≡ state_lines (outcome_of params.now bytes.items) (image_of params.now bytes.items) loads) }
+/// How many instructions each core retired.
+fn totals_of(alloc: Global, cores: &[Core]) -> Result<Items<u32>, AllocError>
+    ensures { IfOk result (λ totals. totals ≡ map (λ k. k.count) cores.now) }
 {
-    let image = image(bytes, params.words);
+    let mut totals = Items::new(alloc);
+    for core in cores {
+        totals.push(core.count())?;
+    }
+    Ok(totals)
+}
+
+/// The text of how a run of the image ended.
+fn run(
+    alloc: Global,
+    params: Params,
+    schedule: Schedule,
+    loads: bool,
+    bytes: Vec<u8>,
+) -> Result<Vec<u8>, AllocError>
+    requires fits { Fits params }
+    requires within { vec_len bytes ≤ 4 * params.words }
+    ensures { IfOk result (λ out. out.items ≡ state_lines (outcome_of (image_of params bytes.items) params schedule) (image_of params bytes.items) loads) }
+{
     a_run_fits_its_image();
-    let outcome = run_flat(alloc, &image, params.limit)?;
-    state_text(alloc, &outcome, &image, loads)
+    let image = image(bytes, params.words);
+    let ran = run_machine(alloc, image, params, schedule)?;
+    state_text(alloc, &ran.outcome, &ran.image, loads)
 }
 
 /// The image of these bytes, which fit into the memory.

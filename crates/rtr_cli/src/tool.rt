@@ -12,7 +12,7 @@ use crate::commands::{make, most_of};
 use log_codec::CodecFault;
 use rtr_io::{ReadEnd, Sink, Source, WriteFault, read_all, write_all};
 use state_text::{Exit, fault_text};
-use std::alloc::Global;
+use std::alloc::{AllocError, Global};
 use tool_words::{Command, meaning, what_words_mean_fits};
 
 /// Does what the words mean: reads the input to its end, gives the output, and tells the report how it
@@ -45,9 +45,10 @@ pub fn run_tool<I: Source, O: Sink, E: Sink>(
     ensures told { Tells (fault_line result) (E.got report.old) (E.got report.new) (E.faults report.old) (E.faults report.new) }
 {
     what_words_mean_fits();
-    let exit = match meaning(words) {
-        Some(command) => perform(alloc, &command, input, output),
-        None => Exit::Usage,
+    let exit = match meaning(alloc, words) {
+        Ok(Some(command)) => perform(alloc, command, input, output),
+        Ok(None) => Exit::Usage,
+        Err(AllocError) => Exit::OutOfMemory,
     };
     tell(report, &exit);
     exit
@@ -56,18 +57,18 @@ pub fn run_tool<I: Source, O: Sink, E: Sink>(
 /// Reads the input, makes the whole output, and gives it.
 fn perform<I: Source, O: Sink>(
     alloc: Global,
-    command: &Command,
+    command: Command,
     input: &mut I,
     output: &mut O,
 ) -> Exit
-    requires { HasFittingParams command.now }
-    ensures answered { Answers command.now result (I.left input.old) (I.left input.new) (O.got output.old) (O.got output.new) }
+    requires { HasFittingParams command }
+    ensures answered { Answers command result (I.left input.old) (I.left input.new) (O.got output.old) (O.got output.new) }
     ensures read_fault { result ≡ Exit.ReadFault → HasRisen (I.faults input.old) (I.faults input.new) }
     ensures no_read_fault { (result ≡ Exit.ReadFault) ⊎ (I.faults input.new ≡ I.faults input.old) }
     ensures write_fault { result ≡ Exit.WriteFault → HasRisen (O.faults output.old) (O.faults output.new) }
     ensures no_write_fault { (result ≡ Exit.WriteFault) ⊎ (O.faults output.new ≡ O.faults output.old) }
 {
-    let bytes = match read_all(alloc, input, most_of(command)) {
+    let bytes = match read_all(alloc, input, most_of(&command)) {
         Ok(bytes) => bytes,
         Err(ReadEnd::ReadFault) => return Exit::ReadFault,
         Err(ReadEnd::TooLarge) => return Exit::TooLarge,

@@ -1,22 +1,29 @@
 -- Every setting that is put in is in its range, so the parameters fit.
-use Rattle.std.proofs.Common.{◌≡◌, ℕ, ◌≤◌, ◌%◌, Bool, true, false, List, [], ◌∷◌, Option, Some, None, refl, sym, ap, arith, rules, ◌==◌, nat_le, ◌&&◌, is_none, cond, subst}
+use Rattle.std.proofs.Common.{◌≡◌, ℕ, ◌≤◌, ◌%◌, Bool, true, false, List, [], ◌∷◌, Option, Some, None, refl, sym, ap, arith, rules, ◌==◌, nat_le, ◌&&◌, ◌-◌, ◌^◌, unwrap_or, cond, subst}
 use Rattle.std.specs.Option.{option_and_then, option_map}
 use Rattle.std.specs.Str.Parse.{digits_value}
 use Rattle.std.proofs.lemmas.Bool.Decides.{nat_tests}
 use Rattle.rtr_types.specs.Parameters.{Fits}
+use Rattle.rtr_types.specs.declared.TheConstants.{CORES_MAX}
 use Rattle.rtr_types.specs.declared.parameters.TheConstants.{LIMIT_MAX, WORDS_MIN, WORDS_MAX}
 use Rattle.tool_words.specs.declared.command.Command.{Command}
 use Rattle.tool_words.specs.declared.command.Verb.{Verb}
 use Rattle.tool_words.specs.declared.command.Verb.TheVariants.{Record, Run, Print}
 use Rattle.tool_words.specs.declared.options.Name.{Name}
-use Rattle.tool_words.specs.declared.options.Name.TheVariants.{Limit, Words, Loads}
-use Rattle.tool_words.specs.declared.options.Settings.{Settings}
+use Rattle.tool_words.specs.declared.options.Name.TheVariants.{Cores, Limit, Words, Choices, Seed, Loads}
+use Rattle.tool_words.specs.Settings.{Settings}
 use Rattle.tool_words.specs.Numerals.{is_numeral, number_between}
-use Rattle.tool_words.specs.Options.{no_settings, params_of, put, whole_blocks}
+use Rattle.tool_words.specs.declared.options.TheConstants.{CORES_DEFAULT, LIMIT_DEFAULT, WORDS_DEFAULT}
+use Rattle.tool_words.specs.Choices.{are_choices}
+use Rattle.tool_words.specs.Options.{is_set, no_settings, params_of, put, put_new, whole_blocks}
 use Rattle.tool_words.specs.Commands.{HasFittingParams, command_of, verb_named}
 use Rattle.tool_words.specs.Reading.{Set, settings, settled, settled_by, FittingLaw}
 
--- a limit that is set is in range, and so is a number of words
+-- a number of cores that is set is in range, and so are a limit and a number of words
+abbrev CoresFit : Option ℕ → Type 0
+CoresFit None = Unit {0}
+CoresFit (Some n) = (1 ≤ n) × (n ≤ CORES_MAX)
+
 abbrev LimitFits : Option ℕ → Type 0
 LimitFits None = Unit {0}
 LimitFits (Some n) = (1 ≤ n) × (n ≤ LIMIT_MAX)
@@ -26,6 +33,7 @@ WordsFit None = Unit {0}
 WordsFit (Some n) = (WORDS_MIN ≤ n) × (n ≤ WORDS_MAX) × (n % 4 ≡ 0)
 
 record AreFitting (s : Settings) : Type 0 where
+  cores : CoresFit s.cores
   limit : LimitFits s.limit
   words : WordsFit s.words
 
@@ -50,6 +58,10 @@ if-some : {A : Type 0} (b : Bool) (o : Option A) (a : A) → cond b o None ≡ S
 if-some true o a h = h
 if-some false o a h = absurd (cc)
 
+if-none : {A : Type 0} (b : Bool) (o : Option A) (a : A) → cond b None o ≡ Some a → o ≡ Some a
+if-none true o a h = absurd (cc)
+if-none false o a h = h
+
 whole_blocks-range : (text : List ℕ) (n : ℕ) → whole_blocks text ≡ Some n → WordsFit (Some n)
 whole_blocks-range text n h =
     let parts = and_then-some (λ m. cond (m % 4 == 0) (Some m) None) (number_between WORDS_MIN WORDS_MAX text) n h in
@@ -67,23 +79,42 @@ whole_blocks-range text n h =
         divides m n true is e = let same : m ≡ n = cc in let zero : m % 4 ≡ 0 = grind (arith, nat_tests) in rw (← same) zero
         divides m n false is e = absurd (cc)
 
-put-fits : (s t : Settings) (name : Name) (text : List ℕ) → put s name text ≡ Some t → AreFitting s → AreFitting t
-put-fits s t Limit text h fit =
-    let made = map-some (λ n. record s { limit = Some n }) (number_between 1 LIMIT_MAX text) t (if-some (is_none s.limit) _ t h) in
+-- settings that differ in nothing that has a range
+alike : (s t : Settings) → t.cores ≡ s.cores → t.limit ≡ s.limit → t.words ≡ s.words → AreFitting s → AreFitting t
+alike s t cores limit words fit = record { cores = rw cores fit.cores; limit = rw limit fit.limit; words = rw words fit.words }
+
+put_new-fits : (s t : Settings) (name : Name) (text : List ℕ) → put_new s name text ≡ Some t → AreFitting s → AreFitting t
+put_new-fits s t Cores text h fit =
+    let made = map-some (λ n. record s { cores = Some n }) (number_between 1 CORES_MAX text) t h in
+    let cores : t.cores ≡ Some made.0 = ap (λ u. u.cores) (sym made.2) in
+    let limit : t.limit ≡ s.limit = ap (λ u. u.limit) (sym made.2) in
+    let words : t.words ≡ s.words = ap (λ u. u.words) (sym made.2) in
+    record { cores = rw cores (number_between-range 1 CORES_MAX made.0 text made.1); limit = rw limit fit.limit; words = rw words fit.words }
+put_new-fits s t Limit text h fit =
+    let made = map-some (λ n. record s { limit = Some n }) (number_between 1 LIMIT_MAX text) t h in
+    let cores : t.cores ≡ s.cores = ap (λ u. u.cores) (sym made.2) in
     let limit : t.limit ≡ Some made.0 = ap (λ u. u.limit) (sym made.2) in
     let words : t.words ≡ s.words = ap (λ u. u.words) (sym made.2) in
-    record { limit = rw limit (number_between-range 1 LIMIT_MAX made.0 text made.1); words = rw words fit.words }
-put-fits s t Words text h fit =
-    let made = map-some (λ n. record s { words = Some n }) (whole_blocks text) t (if-some (is_none s.words) _ t h) in
+    record { cores = rw cores fit.cores; limit = rw limit (number_between-range 1 LIMIT_MAX made.0 text made.1); words = rw words fit.words }
+put_new-fits s t Words text h fit =
+    let made = map-some (λ n. record s { words = Some n }) (whole_blocks text) t h in
+    let cores : t.cores ≡ s.cores = ap (λ u. u.cores) (sym made.2) in
     let limit : t.limit ≡ s.limit = ap (λ u. u.limit) (sym made.2) in
     let words : t.words ≡ Some made.0 = ap (λ u. u.words) (sym made.2) in
-    record { limit = rw limit fit.limit; words = rw words (whole_blocks-range text made.0 made.1) }
-put-fits s t Loads text h fit =
-    let is : Some (record s { loads = true }) ≡ Some t = if-some _ _ t h in
+    record { cores = rw cores fit.cores; limit = rw limit fit.limit; words = rw words (whole_blocks-range text made.0 made.1) }
+put_new-fits s t Choices text h fit =
+    let is : Some (record s { choices = Some text }) ≡ Some t = if-some (are_choices text) _ t h in
+    let same : record s { choices = Some text } ≡ t = cc in
+    alike s t (ap (λ u. u.cores) (sym same)) (ap (λ u. u.limit) (sym same)) (ap (λ u. u.words) (sym same)) fit
+put_new-fits s t Seed text h fit =
+    let made = map-some (λ n. record s { seed = Some n }) (number_between 0 (2 ^ 64 - 1) text) t h in
+    alike s t (ap (λ u. u.cores) (sym made.2)) (ap (λ u. u.limit) (sym made.2)) (ap (λ u. u.words) (sym made.2)) fit
+put_new-fits s t Loads text h fit =
     let same : record s { loads = true } ≡ t = cc in
-    let limit : t.limit ≡ s.limit = ap (λ u. u.limit) (sym same) in
-    let words : t.words ≡ s.words = ap (λ u. u.words) (sym same) in
-    record { limit = rw limit fit.limit; words = rw words fit.words }
+    alike s t (ap (λ u. u.cores) (sym same)) (ap (λ u. u.limit) (sym same)) (ap (λ u. u.words) (sym same)) fit
+
+put-fits : (s t : Settings) (name : Name) (text : List ℕ) → put s name text ≡ Some t → AreFitting s → AreFitting t
+put-fits s t name text h fit = put_new-fits s t name text (if-none (is_set s name) (put_new s name text) t h) fit
 
 settled-fits : (list : List Set) (s t : Settings) → settled s list ≡ Some t → AreFitting s → AreFitting t
 settled-fits [] s t h fit = let same : s ≡ t = cc in let P : Settings → Type 0 = λ u. AreFitting u in subst P same fit
@@ -95,20 +126,33 @@ settled_by-fits : (verb : Verb) (words : List (List ℕ)) (t : Settings) → set
 unfolding settled_by
 settled_by-fits verb words t h =
     let parts = and_then-some (settled no_settings) (settings verb words) t h in
-    settled-fits parts.0 no_settings t parts.2 (record { limit = tt; words = tt })
+    settled-fits parts.0 no_settings t parts.2 (record { cores = tt; limit = tt; words = tt })
+
+-- with a default for what isn't set
+cores-in : (o : Option ℕ) → CoresFit o → (1 ≤ unwrap_or o CORES_DEFAULT) × (unwrap_or o CORES_DEFAULT ≤ CORES_MAX)
+cores-in None fit = (omega arith, omega arith)
+cores-in (Some n) fit = fit
+
+limit-in : (o : Option ℕ) → LimitFits o → (1 ≤ unwrap_or o LIMIT_DEFAULT) × (unwrap_or o LIMIT_DEFAULT ≤ LIMIT_MAX)
+limit-in None fit = (omega arith, omega arith)
+limit-in (Some n) fit = fit
+
+words-in : (o : Option ℕ) → WordsFit o → WordsFit (Some (unwrap_or o WORDS_DEFAULT))
+words-in None fit = (omega arith, omega arith, refl)
+words-in (Some n) fit = fit
 
 params-fit : (s : Settings) → AreFitting s → Fits (params_of s)
-params-fit s fit = by-options s.limit s.words s.loads fit.limit fit.words
-  where
-    by-options : (limit words : Option ℕ) (loads : Bool) → LimitFits limit → WordsFit words → Fits (params_of (record { limit = limit; words = words; loads = loads }))
-    by-options None None loads l w = search rules
-    by-options (Some n) None loads l w = search (rules, l)
-    by-options None (Some m) loads l w = search (rules, w)
-    by-options (Some n) (Some m) loads l w = search (rules, l, w)
+params-fit s fit =
+    let cores = cores-in s.cores fit.cores in
+    let limit = limit-in s.limit fit.limit in
+    let words = words-in s.words fit.words in
+    search (rules, cores, limit, words)
 
 command-fits : (verb : Verb) (s : Settings) → AreFitting s → HasFittingParams (command_of verb s)
-command-fits Record s fit = record { fits = params-fit s fit; one_core = refl }
-command-fits Run s fit = record { fits = params-fit s fit; one_core = refl }
+command-fits Record s fit =
+    let fits = params-fit s fit in
+    record { fits = search (rules, fits); one_core = refl }
+command-fits Run s fit = params-fit s fit
 command-fits Print s fit = tt
 
 pub fitting_law : FittingLaw

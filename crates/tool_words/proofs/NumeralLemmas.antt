@@ -14,15 +14,15 @@ own = numerals_by_value (λ ds. list_all is_ascii_digit ds ≡ true) (search rul
 is_numeral-digits : (text : List ℕ) → is_numeral text ≡ true → (list_all is_ascii_digit text ≡ true) × (0 < length text)
 is_numeral-digits text h = grind (arith, nat_tests)
 
--- std reads a numeral just where it is below 2 ^ 32, and then its value
-pub read-numeral : {E : Type 0} (text : List ℕ) (r : Result ℕ E) → is_numeral text ≡ true → ParsesUnsigned 32 10 text r →
-    OkIff r (digits_value 10 text < 2 ^ 32) (digits_value 10 text)
+-- std reads a numeral just where it is below 2 ^ 64, and then its value
+pub read-numeral : {E : Type 0} (text : List ℕ) (r : Result ℕ E) → is_numeral text ≡ true → ParsesUnsigned 64 10 text r →
+    OkIff r (digits_value 10 text < 2 ^ 64) (digits_value 10 text)
 read-numeral {E = E} text (Ok n) h p =
     let parts = is_numeral-digits text h in
-    let read = parse_digits own {E = E} 32 text (Ok n) p parts.0 in (read.0.1, read.1)
+    let read = parse_digits own {E = E} 64 text (Ok n) p parts.0 in (read.0.1, read.1)
 read-numeral {E = E} text (Err e) h p =
     let parts = is_numeral-digits text h in
-    λ small. parse_digits own {E = E} 32 text (Err e) p parts.0 (parts.1, small)
+    λ small. parse_digits own {E = E} 64 text (Err e) p parts.0 (parts.1, small)
 
 pub number_between-some : (least most n : ℕ) (text : List ℕ) → is_numeral text ≡ true → n ≡ digits_value 10 text → least ≤ n → n ≤ most →
     number_between least most text ≡ Some n
@@ -35,7 +35,7 @@ unfolding number_between
 number_between-none least most text h = grind (arith, nat_tests)
 
 -- a number in range, as std read it
-pub in-range : {E : Type 0} (least most n : ℕ) (text : List ℕ) (r : Result ℕ E) → is_numeral text ≡ true → ParsesUnsigned 32 10 text r → r ≡ Ok n → least ≤ n → n ≤ most →
+pub in-range : {E : Type 0} (least most n : ℕ) (text : List ℕ) (r : Result ℕ E) → is_numeral text ≡ true → ParsesUnsigned 64 10 text r → r ≡ Ok n → least ≤ n → n ≤ most →
     number_between least most text ≡ Some n
 in-range {E = E} least most n text (Ok m) h p is low high =
     let read : m ≡ digits_value 10 text = (read-numeral {E = E} text (Ok m) h p).1 in
@@ -44,7 +44,7 @@ in-range {E = E} least most n text (Ok m) h p is low high =
 in-range least most n text (Err e) h p is low high = absurd (cc)
 
 -- a number out of range
-pub out-of-range : {E : Type 0} (least most n : ℕ) (text : List ℕ) (r : Result ℕ E) → is_numeral text ≡ true → ParsesUnsigned 32 10 text r → r ≡ Ok n → (least ≤ n → n ≤ most → ⊥) →
+pub out-of-range : {E : Type 0} (least most n : ℕ) (text : List ℕ) (r : Result ℕ E) → is_numeral text ≡ true → ParsesUnsigned 64 10 text r → r ≡ Ok n → (least ≤ n → n ≤ most → ⊥) →
     number_between least most text ≡ None
 out-of-range {E = E} least most n text (Ok m) h p is out =
     let read : m ≡ digits_value 10 text = (read-numeral {E = E} text (Ok m) h p).1 in
@@ -53,7 +53,7 @@ out-of-range {E = E} least most n text (Ok m) h p is out =
 out-of-range least most n text (Err e) h p is out = absurd (cc)
 
 -- a number that std can't hold
-pub too-large : {E : Type 0} (least most : ℕ) (e : E) (text : List ℕ) (r : Result ℕ E) → most < 2 ^ 32 → is_numeral text ≡ true → ParsesUnsigned 32 10 text r → r ≡ Err e →
+pub too-large : {E : Type 0} (least most : ℕ) (e : E) (text : List ℕ) (r : Result ℕ E) → most < 2 ^ 64 → is_numeral text ≡ true → ParsesUnsigned 64 10 text r → r ≡ Err e →
     number_between least most text ≡ None
 too-large least most e text (Ok m) fits h p is = absurd (cc)
 too-large {E = E} least most e text (Err f) fits h p is =

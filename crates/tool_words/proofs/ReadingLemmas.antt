@@ -2,7 +2,7 @@
 use Rattle.std.proofs.Common.{◌≡◌, ℕ, List, [], ◌∷◌, Option, Some, None, refl, ap, sym, ◌∙◌, arith, ◌<◌, length, map, drop, get_or}
 use Rattle.std.specs.Option.{option_and_then}
 use Rattle.tool_words.specs.declared.command.Verb.{Verb}
-use Rattle.tool_words.specs.declared.options.Settings.{Settings}
+use Rattle.tool_words.specs.Settings.{Settings}
 use Rattle.tool_words.specs.Options.{put}
 use Rattle.tool_words.specs.Reading.{Set, alone, valued, prepend, settings, settled, settled_by}
 

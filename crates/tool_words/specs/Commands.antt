@@ -1,5 +1,5 @@
 -- The commands.
-use Rattle.std.specs.Prelude.{◌≡◌, ℕ, List, Option, Some, None, codes, if◌then◌else◌}
+use Rattle.std.specs.Prelude.{◌≡◌, ℕ, List, Option, Some, None, codes, unwrap_or, if◌then◌else◌}
 use Rattle.std.specs.Str.{bytes_eq}
 use Rattle.rtr_types.specs.Parameters.{Fits}
 use Rattle.rtr_types.specs.declared.parameters.Params.{Params}
@@ -7,7 +7,8 @@ use Rattle.tool_words.specs.declared.command.Command.{Command}
 use Rattle.tool_words.specs.declared.command.Command.TheVariants.{Record as RecordRun, Run as RunImage, Print as PrintLogs}
 use Rattle.tool_words.specs.declared.command.Verb.{Verb}
 use Rattle.tool_words.specs.declared.command.Verb.TheVariants.{Record, Run, Print}
-use Rattle.tool_words.specs.declared.options.Settings.{Settings}
+use Rattle.tool_words.specs.Settings.{Settings}
+use Rattle.tool_words.specs.Choices.{bytes_of}
 use Rattle.tool_words.specs.Options.{params_of}
 
 -- the command that a word names, exactly
@@ -17,10 +18,10 @@ verb_named word =
     if bytes_eq word (codes "run") then Some Run else
     if bytes_eq word (codes "print") then Some Print else None
 
--- the command with these settings, and its defaults for the others
+-- the command with these settings, and its defaults for the others; a recording is of one core
 abbrev pub command_of : Verb → Settings → Command
-command_of Record s = RecordRun (params_of s)
-command_of Run s = RunImage (params_of s) s.loads
+command_of Record s = RecordRun (record (params_of s) { cores = 1 })
+command_of Run s = RunImage (params_of s) (bytes_of s.choices) (unwrap_or s.seed 0) s.loads
 command_of Print s = PrintLogs
 
 -- the parameters lie in their ranges, and are those of one core
@@ -28,8 +29,8 @@ pub record AreForOneCore (params : Params) : Type 0 where
   pub fits : Fits params
   pub one_core : params.cores ≡ 1
 
--- the same of the parameters of a command, where it has some
+-- the parameters of a command, where it has some, lie in their ranges; a recording is of one core
 abbrev pub HasFittingParams : Command → Type 0
 HasFittingParams (RecordRun params) = AreForOneCore params
-HasFittingParams (RunImage params loads) = AreForOneCore params
+HasFittingParams (RunImage params choices seed loads) = Fits params
 HasFittingParams PrintLogs = Unit {0}

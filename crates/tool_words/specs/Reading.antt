@@ -5,7 +5,7 @@ use Rattle.std.specs.List.{before_first, after_first, position_or_len}
 use Rattle.tool_words.specs.declared.command.Command.{Command}
 use Rattle.tool_words.specs.declared.command.Verb.{Verb}
 use Rattle.tool_words.specs.declared.options.Name.{Name}
-use Rattle.tool_words.specs.declared.options.Settings.{Settings}
+use Rattle.tool_words.specs.Settings.{Settings}
 use Rattle.tool_words.specs.Commands.{HasFittingParams, command_of, verb_named}
 use Rattle.tool_words.specs.Options.{no_settings, option_of, put, takes_value}
 

@@ -1,17 +1,28 @@
 //! The commands, and which options each takes.
-ghost use Rattle.std.specs.Prelude.{◌≡◌};
+ghost use Rattle.std.specs.Prelude.{◌≡◌, IfOk};
+ghost use Rattle.tool_words.specs.Settings.{seen};
 ghost use Rattle.tool_words.specs.Commands.{command_of, verb_named};
 
+use crate::choices::bytes_of;
 use crate::options::Settings;
-use rtr_types::Params;
+use rtr_types::{Items, Params};
+use std::alloc::{AllocError, Global};
 
 /// What the tool is asked to do, with every option filled in.
-#[derive(Clone, Copy, Debug, PartialEq, Eq)]
+#[derive(Drop)]
 pub enum Command {
-    /// Record a run of the image on the input.
-    Record { params: Params },
-    /// Run the image on the input, and print how the run ended; with `loads` also what was loaded.
-    Run { params: Params, loads: bool },
+    /// Record a run of the image on the input, on one core.
+    Record {
+        params: Params,
+    },
+    /// Run the image on the input, under the schedule of these choice bytes and this seed, and print how
+    /// the run ended; with `loads` also what was loaded.
+    Run {
+        params: Params,
+        choices: Items<u8>,
+        seed: u64,
+        loads: bool,
+    },
     /// Print the logs of the recording on the input.
     Print,
 }
@@ -41,18 +52,21 @@ impl Verb {
     }
 
     /// The command with these settings, and its defaults for the others.
-    pub(crate) fn command(self, settings: &Settings) -> Command
-        ensures { result ≡ command_of self settings.now }
+    pub(crate) fn command(self, alloc: Global, settings: &Settings) -> Result<Command, AllocError>
+        ensures { IfOk result (λ command. command ≡ command_of self (seen settings.now)) }
     {
+        let params = settings.params();
         match self {
-            Verb::Record => Command::Record {
-                params: settings.params(),
-            },
-            Verb::Run => Command::Run {
-                params: settings.params(),
+            Verb::Record => Ok(Command::Record {
+                params: Params { cores: 1, ..params },
+            }),
+            Verb::Run => Ok(Command::Run {
+                params,
+                choices: bytes_of(alloc, settings.choices)?,
+                seed: settings.seed.unwrap_or(0),
                 loads: settings.loads,
-            },
-            Verb::Print => Command::Print,
+            }),
+            Verb::Print => Ok(Command::Print),
         }
     }
 }

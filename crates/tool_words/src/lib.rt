@@ -1,6 +1,7 @@
 //! What the words of a command line mean: one command with all its options filled in, or nothing.
 #![tactic(auto)]
 
+mod choices;
 mod command;
 mod numerals;
 mod options;

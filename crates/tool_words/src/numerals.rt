@@ -1,5 +1,5 @@
 //! Numbers on the command line.
-ghost use Rattle.std.specs.Prelude.{◌≡◌};
+ghost use Rattle.std.specs.Prelude.{◌≡◌, ◌≤◌, IfSome};
 ghost use Rattle.std.specs.Char.{is_ascii_digit};
 ghost use Rattle.std.specs.List.{list_all};
 ghost use Rattle.tool_words.specs.Numerals.{is_numeral, is_padded, number_between};
@@ -27,13 +27,14 @@ fn are_digits(bytes: &[u8]) -> bool
 }
 
 /// The number that the text is, where it lies in the range.
-pub(crate) fn number_between(least: u32, most: u32, text: &str) -> Option<u32>
-    ensures { result ≡ number_between least most text.now }
+pub(crate) fn number_between(least: u64, most: u64, text: &str) -> Option<u64>
+    ensures value { result ≡ number_between least most text.now }
+    ensures within { IfSome result (λ n. (least ≤ n) × (n ≤ most)) }
 {
     if !is_numeral(text.as_bytes()) {
         return None;
     }
-    match text.parse::<u32>() {
+    match text.parse::<u64>() {
         Ok(n) if least <= n && n <= most => Some(n),
         _ => None,
     }

@@ -1,10 +1,16 @@
 //! The options, and what their settings come to.
 ghost use Rattle.std.specs.Prelude.{◌≡◌};
-ghost use Rattle.tool_words.specs.Options.{no_settings, option_of, params_of, put, takes_value, whole_blocks};
+ghost use Rattle.std.specs.Option.{option_map};
+ghost use Rattle.tool_words.specs.Settings.{seen};
+ghost use Rattle.tool_words.specs.Options.{is_set, no_settings, option_of, params_of, put, put_new, takes_value, whole_blocks};
 
+use crate::choices::are_choices;
 use crate::command::Verb;
 use crate::numerals::number_between;
-use rtr_types::{LIMIT_MAX, Params, WORDS_MAX, WORDS_MIN};
+use rtr_types::{CORES_MAX, LIMIT_MAX, Params, WORDS_MAX, WORDS_MIN};
+
+/// The number of cores of a run whose words name none.
+pub(crate) const CORES_DEFAULT: u8 = 1;
 
 /// The limit of a run whose words name none.
 pub(crate) const LIMIT_DEFAULT: u32 = 10_000;
@@ -13,13 +19,16 @@ pub(crate) const LIMIT_DEFAULT: u32 = 10_000;
 pub(crate) const WORDS_DEFAULT: u32 = 16_384;
 
 /// The words of a block, of which a memory has whole ones.
-const BLOCK: u32 = 4;
+const BLOCK: u64 = 4;
 
 /// An option by its name.
 #[derive(Clone, Copy, Debug, PartialEq, Eq)]
 pub(crate) enum Name {
+    Cores,
     Limit,
     Words,
+    Choices,
+    Seed,
     Loads,
 }
 
@@ -29,8 +38,11 @@ impl Name {
         ensures { result ≡ option_of verb word.now }
     {
         match verb {
+            Verb::Run if word == "--cores" => Some(Name::Cores),
             Verb::Record | Verb::Run if word == "--limit" => Some(Name::Limit),
             Verb::Record | Verb::Run if word == "--words" => Some(Name::Words),
+            Verb::Run if word == "--choices" => Some(Name::Choices),
+            Verb::Run if word == "--seed" => Some(Name::Seed),
             Verb::Run if word == "--loads" => Some(Name::Loads),
             _ => None,
         }
@@ -40,60 +52,101 @@ impl Name {
     pub(crate) fn takes_value(self) -> bool
         ensures { result ≡ takes_value self }
     {
-        match self {
-            Name::Limit | Name::Words => true,
-            Name::Loads => false,
-        }
+        self != Name::Loads
     }
 }
 
-/// What the options have been set to; `None` and `false` where one hasn't.
-#[derive(Clone, Copy, Debug, PartialEq, Eq)]
-pub(crate) struct Settings {
+/// What the options have been set to; `None` and `false` where one hasn't. The choices are kept as the
+/// text that spells them, so that reading words takes no memory.
+#[derive(Clone, Copy)]
+pub(crate) struct Settings<'a> {
+    pub(crate) cores: Option<u8>,
     pub(crate) limit: Option<u32>,
     pub(crate) words: Option<u32>,
+    pub(crate) choices: Option<&'a str>,
+    pub(crate) seed: Option<u64>,
     pub(crate) loads: bool,
 }
 
-impl Settings {
+impl<'a> Settings<'a> {
     /// No option is set.
-    pub(crate) fn none() -> Settings
-        ensures { result ≡ no_settings }
+    pub(crate) fn none() -> Settings<'a>
+        ensures { seen result ≡ no_settings }
     {
         Settings {
+            cores: None,
             limit: None,
             words: None,
+            choices: None,
+            seed: None,
             loads: false,
         }
     }
 
     /// With this option set too; `None` where it was set before or has no such value.
-    pub(crate) fn put(self, name: Name, text: &str) -> Option<Settings>
-        ensures { result ≡ put self name text.now }
+    pub(crate) fn put(self, name: Name, text: &'a str) -> Option<Settings<'a>>
+        ensures { option_map (λ s. seen s) result ≡ put (seen self.entry) name text.now }
+    {
+        if self.is_set(name) {
+            None
+        } else {
+            self.put_new(name, text)
+        }
+    }
+
+    /// Whether the option is set.
+    fn is_set(&self, name: Name) -> bool
+        ensures { result ≡ is_set (seen self.now) name }
     {
         match name {
-            Name::Limit if self.limit.is_none() => Some(Settings {
-                limit: Some(number_between(1, LIMIT_MAX, text)?),
+            Name::Cores => self.cores.is_some(),
+            Name::Limit => self.limit.is_some(),
+            Name::Words => self.words.is_some(),
+            Name::Choices => self.choices.is_some(),
+            Name::Seed => self.seed.is_some(),
+            Name::Loads => self.loads,
+        }
+    }
+
+    /// With this option set; `None` where it has no such value.
+    fn put_new(self, name: Name, text: &'a str) -> Option<Settings<'a>>
+        ensures { option_map (λ s. seen s) result ≡ put_new (seen self.entry) name text.now }
+    {
+        match name {
+            Name::Cores => Some(Settings {
+                cores: Some(number_between(1, CORES_MAX as u64, text)? as u8),
                 ..self
             }),
-            Name::Words if self.words.is_none() => Some(Settings {
+            Name::Limit => Some(Settings {
+                limit: Some(number_between(1, LIMIT_MAX as u64, text)? as u32),
+                ..self
+            }),
+            Name::Words => Some(Settings {
                 words: Some(whole_blocks(text)?),
                 ..self
             }),
-            Name::Loads if !self.loads => Some(Settings {
+            Name::Choices if are_choices(text.as_bytes()) => Some(Settings {
+                choices: Some(text),
+                ..self
+            }),
+            Name::Choices => None,
+            Name::Seed => Some(Settings {
+                seed: Some(number_between(0, u64::MAX, text)?),
+                ..self
+            }),
+            Name::Loads => Some(Settings {
                 loads: true,
                 ..self
             }),
-            _ => None,
         }
     }
 
     /// The parameters of a run with these settings.
     pub(crate) fn params(&self) -> Params
-        ensures { result ≡ params_of self.now }
+        ensures { result ≡ params_of (seen self.now) }
     {
         Params {
-            cores: 1,
+            cores: self.cores.unwrap_or(CORES_DEFAULT),
             limit: self.limit.unwrap_or(LIMIT_DEFAULT),
             words: self.words.unwrap_or(WORDS_DEFAULT),
         }
@@ -104,9 +157,9 @@ impl Settings {
 fn whole_blocks(text: &str) -> Option<u32>
     ensures { result ≡ whole_blocks text.now }
 {
-    let words = number_between(WORDS_MIN, WORDS_MAX, text)?;
+    let words = number_between(WORDS_MIN as u64, WORDS_MAX as u64, text)?;
     if words % BLOCK == 0 {
-        Some(words)
+        Some(words as u32)
     } else {
         None
     }

@@ -1,33 +1,49 @@
 //! From words to settings, one after the other.
-ghost use Rattle.std.specs.Prelude.{◌≡◌, ◌<◌, ◌≤◌, IfNone, IfSome, None, Some, drop, length, map, string_bytes};
+ghost use Rattle.std.specs.Prelude.{◌≡◌, ◌≢◌, ◌<◌, ◌≤◌, IfNone, IfOk, IfSome, None, OnErr, Some, drop, length, map, string_bytes};
+ghost use Rattle.tool_words.specs.Commands.{command_of};
 ghost use Rattle.tool_words.specs.Reading.{FittingLaw, alone, meaning, settled_by, valued};
 ghost use Rattle.tool_words.specs.Options.{no_settings};
 ghost use Rattle.std.specs.Option.{option_map};
+ghost use Rattle.tool_words.specs.Settings.{seen};
 
 use crate::command::{Command, Verb};
 use crate::options::{Name, Settings};
+use std::alloc::{AllocError, Global};
 
 /// The command that the words mean, or `None`. The first word is the command; options follow in any
 /// order, each at most once, as `--name value` or `--name=value`, and a flag as `--name`. The word after
 /// `--name` is its value, whatever it begins with. Names are exact, and every other list of words, among
-/// them the empty one, means nothing.
-pub fn meaning(words: &[String]) -> Option<Command>
-    ensures { result ≡ meaning (map string_bytes words.now) }
+/// them the empty one, means nothing. The only refusal is want of memory, for the choice bytes of a
+/// command, and so never where the words mean nothing.
+pub fn meaning(alloc: Global, words: &[String]) -> Result<Option<Command>, AllocError>
+    ensures value { IfOk result (λ command. command ≡ meaning (map string_bytes words.now)) }
+    ensures meaningful { OnErr result (meaning (map string_bytes words.now) ≢ None) }
 {
-    let (first, rest) = words.split_first()?;
-    let verb = Verb::named(first.as_str())?;
-    let settings = read_settings(verb, rest)?;
-    Some(verb.command(&settings))
+    match read(words) {
+        Some((verb, settings)) => Ok(Some(verb.command(alloc, &settings)?)),
+        None => Ok(None),
+    }
 }
 
-/// The parameters of every command that words mean lie in their ranges, and are those of one core.
+/// The parameters of every command that words mean lie in their ranges, and those of `record` are of one
+/// core.
 pub fn what_words_mean_fits()
     ensures { FittingLaw }
 {}
 
+/// The command's name and what its options are set to.
+fn read(words: &[String]) -> Option<(Verb, Settings<'_>)>
+    ensures { meaning (map string_bytes words.now) ≡ option_map (λ r. command_of r.0 (seen r.1)) result }
+{
+    let (first, rest) = words.split_first()?;
+    let verb = Verb::named(first.as_str())?;
+    let settings = read_settings(verb, rest)?;
+    Some((verb, settings))
+}
+
 /// What the words after the command set.
-fn read_settings(verb: Verb, words: &[String]) -> Option<Settings>
-    ensures { result ≡ settled_by verb no_settings (map string_bytes words.now) }
+fn read_settings(verb: Verb, words: &[String]) -> Option<Settings<'_>>
+    ensures { option_map (λ s. seen s) result ≡ settled_by verb no_settings (map string_bytes words.now) }
 {
     let mut settings = Settings::none();
     let mut next = 0;
@@ -41,11 +57,15 @@ fn read_settings(verb: Verb, words: &[String]) -> Option<Settings>
 
 /// The settings with the one that the words begin with, and how many words it took: one, or a name and
 /// its value.
-fn put_next(verb: Verb, settings: Settings, words: &[String]) -> Option<(Settings, usize)>
+fn put_next<'a>(
+    verb: Verb,
+    settings: Settings<'a>,
+    words: &'a [String],
+) -> Option<(Settings<'a>, usize)>
     requires { 0 < length words.now }
-    ensures some { IfSome result (λ r. settled_by verb settings (map string_bytes words.now) ≡ settled_by verb r.0 (map string_bytes (drop r.1 words.now))) }
+    ensures some { IfSome result (λ r. settled_by verb (seen settings.entry) (map string_bytes words.now) ≡ settled_by verb (seen r.0) (map string_bytes (drop r.1 words.now))) }
     ensures used { IfSome result (λ r. (1 ≤ r.1) × (r.1 ≤ length words.now)) }
-    ensures none { IfNone result (settled_by verb settings (map string_bytes words.now) ≡ None) }
+    ensures none { IfNone result (settled_by verb (seen settings.entry) (map string_bytes words.now) ≡ None) }
 {
     let word = words[0].as_str();
     if let Some(setting) = alone(verb, word) {

@@ -14,62 +14,134 @@ fn words(alloc: Global, line: &str) -> Result<Vec<String>, AllocError> {
     Ok(words)
 }
 
-fn run(limit: u32, words: u32, loads: bool) -> Option<Command> {
-    let params = Params {
+/// A line of words and the run that it means.
+struct Row {
+    line: &'static str,
+    cores: u8,
+    limit: u32,
+    words: u32,
+    choices: &'static [u8],
+    seed: u64,
+    loads: bool,
+}
+
+static ROWS: [Row; 5] = [
+    Row {
+        line: "run",
         cores: 1,
-        limit,
-        words,
+        limit: 10_000,
+        words: 16_384,
+        choices: &[],
+        seed: 0,
+        loads: false,
+    },
+    Row {
+        line: "run --loads --words 32",
+        cores: 1,
+        limit: 10_000,
+        words: 32,
+        choices: &[],
+        seed: 0,
+        loads: true,
+    },
+    Row {
+        line: "run --cores 8 --limit=1 --loads",
+        cores: 8,
+        limit: 1,
+        words: 16_384,
+        choices: &[],
+        seed: 0,
+        loads: true,
+    },
+    Row {
+        line: "run --words=262144 --choices 00ff1a --limit 100000",
+        cores: 1,
+        limit: 100_000,
+        words: 262_144,
+        choices: &[0, 255, 26],
+        seed: 0,
+        loads: false,
+    },
+    Row {
+        line: "run --choices=07 --seed 18446744073709551615 --cores=2",
+        cores: 2,
+        limit: 10_000,
+        words: 16_384,
+        choices: &[7],
+        seed: 18_446_744_073_709_551_615,
+        loads: false,
+    },
+];
+
+/// Whether the command is the run of the row.
+fn is_run(command: Option<Command>, row: &Row) -> bool {
+    let Some(
+        Command::Run {
+            params,
+            choices,
+            seed,
+            loads,
+        },
+    ) = command
+    else {
+        return false;
     };
-    Some(Command::Run { params, loads })
+    let wanted = Params {
+        cores: row.cores,
+        limit: row.limit,
+        words: row.words,
+    };
+    params == wanted && choices.as_slice() == row.choices && seed == row.seed && loads == row.loads
 }
 
 #[test]
-fn words_that_mean_a_command(rt: HostRuntime) -> Result<(), Fail> {
-    for (line, command) in [
-        ("run", run(10_000, 16_384, false)),
-        ("run --loads --words 32", run(10_000, 32, true)),
-        ("run --limit=1 --loads", run(1, 16_384, true)),
-        (
-            "run --words=262144 --limit 100000",
-            run(100_000, 262_144, false),
-        ),
-        ("print", Some(Command::Print)),
-    ] {
-        let words = words(rt.alloc(), line)?;
-        assert_eq!(rt; meaning(words.as_slice()), command, "{line}");
+fn words_that_mean_a_run(rt: HostRuntime) -> Result<(), Fail> {
+    for row in &ROWS {
+        let words = words(rt.alloc(), row.line)?;
+        let command = meaning(rt.alloc(), words.as_slice())?;
+        assert!(rt; is_run(command, row), "{}", row.line);
     }
     Ok(())
 }
 
+static FAULTY: [&str; 30] = [
+    "",
+    "records",
+    "--help",
+    "record --help",
+    "record --",
+    "record --loads",
+    "record --words 6",
+    "record --words 262148",
+    "record --words 0",
+    "record --limit 0",
+    "record --limit 100001",
+    "record --limit 4294967297",
+    "record --limit 010",
+    "record --limit +1",
+    "record --limit",
+    "record --limit --words",
+    "record --limit=",
+    "record --limit=1 --limit=1",
+    "record --lim 1",
+    "run --loads --loads",
+    "run --loads=",
+    "run --loads 1",
+    "print --limit 1",
+    "run --cores 0",
+    "run --cores 9",
+    "run --choices 0",
+    "run --choices 0A",
+    "run --choices=",
+    "run --choices 00 --choices 00",
+    "run --seed 18446744073709551616",
+];
+
 #[test]
 fn words_that_mean_nothing(rt: HostRuntime) -> Result<(), Fail> {
-    for line in [
-        "",
-        "records",
-        "--help",
-        "record --help",
-        "record --",
-        "record --loads",
-        "record --words 6",
-        "record --words 262148",
-        "record --words 0",
-        "record --limit 0",
-        "record --limit 100001",
-        "record --limit 4294967297",
-        "record --limit 010",
-        "record --limit +1",
-        "record --limit",
-        "record --limit --words",
-        "record --limit=",
-        "record --limit=1 --limit=1",
-        "record --lim 1",
-        "run --loads --loads",
-        "run --loads=",
-        "run --loads 1",
-        "print --limit 1",
-    ] {
+    for line in FAULTY {
         let words = words(rt.alloc(), line)?;
-        assert_eq!(rt; meaning(words.as_slice()), None, "{line}");
+        assert!(rt; meaning(rt.alloc(), words.as_slice())?.is_none(), "{line}");
     }
     Ok(())
 }

@@ -5,6 +5,6 @@ use Rattle.rtr_cli.proofs.tool.perform.Goals as goal
 -- the input was read, and a part of what the command makes of it was given
 pub returns-clause-answered : goal.returns-clause-answered
 returns-clause-answered g c =
-    let within : length c.in-Ok.bytes.items ≤ most_of c.args.command.now = omega (arith, c.in-Ok.bytes.ok.0, c.in-Ok.ensures.within) in
+    let within : length c.in-Ok.bytes.items ≤ most_of c.args.command = omega (arith, c.in-Ok.bytes.ok.0, c.in-Ok.ensures.within) in
     let part = rw c.as_slice.ensures.value at c.in-Err.ensures.part in
     (c.in-Ok.bytes.items, c.in-Ok-make.out.items, record { taken = c.in-Ok.ensures.bytes; end = c.in-Ok.ensures.end; within = within }, c.in-Ok-make.ensures, part)

@@ -1,0 +1,4 @@
+pub mod NotedLoads
+pub mod Turns
+pub mod Limits
+pub mod Fitting

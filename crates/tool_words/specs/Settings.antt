@@ -1,0 +1,25 @@
+-- What the options have been set to.
+use Rattle.std.specs.Prelude.{ℕ, Bool, List, Option}
+use Rattle.std.specs.Option.{option_map}
+use Rattle.tool_words.specs.declared.options.Settings.{Settings as Held}
+
+-- each option's value, where it is set; of the choices the text, and of the flag whether it is set
+pub record Settings : Type 0 where
+  pub cores : Option ℕ
+  pub limit : Option ℕ
+  pub words : Option ℕ
+  pub choices : Option (List ℕ)
+  pub seed : Option ℕ
+  pub loads : Bool
+
+-- the settings as the code holds them, with the choices' text borrowed from the words
+abbrev pub seen : Held → Settings
+seen s =
+    record {
+      cores = s.cores;
+      limit = s.limit;
+      words = s.words;
+      choices = option_map (λ text. text.now) s.choices;
+      seed = s.seed;
+      loads = s.loads;
+    }
