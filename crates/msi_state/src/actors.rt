@@ -59,12 +59,13 @@ impl<R: Rider, K: Carry> Node<R, K> {
     pub(crate) fn standing(&self, image: &Image) -> Standing
         ensures { result ≡ standing_of image.now self.now }
     {
-        let op = self.core.next_op(image);
-        Standing {
-            need: self.core.need_by_op(image, op),
-            op,
+        let mut standing = Standing {
+            need: Need::Local,
+            op: None,
             waits: self.cache.waits(),
-        }
+        };
+        standing.look_ahead(image, &self.core);
+        standing
     }
 
     /// The core moves: an instruction retires, or a request is sent. What was kept of the core and its

@@ -10,7 +10,7 @@ use Rattle.rv_core.specs.declared.core_state.Halt.{Halt}
 use Rattle.rv_core.specs.declared.core_state.Halt.TheVariants.{Running, Exited, Broke}
 use Rattle.rv_core.specs.declared.core_state.Need.{Need}
 use Rattle.rv_core.specs.declared.core_state.Need.TheVariants.{Local, Load, Store, Done}
-use Rattle.rv_core.specs.declared.core_state.Stop.TheVariants.{Align, Address, Jump}
+use Rattle.rv_core.specs.declared.core_state.Stop.TheVariants.{Align, Address, Fetch, Illegal, Jump}
 use Rattle.rv_core.specs.Steps.{need, is_done, instruction_at, need_of, need_of_word, need_of_fetch, need_at_pc, need_by, need_to_jump, need_to_access}
 
 -- what a core goes on by: the instruction at pc, which is all that it needs and does, below the limit
@@ -38,6 +38,11 @@ fetch_parts : (words : ℕ) (core : Core) (word : Option ℕ) → is_done (need_
 fetch_parts words core None h = cc
 fetch_parts words core (Some word) h = word_parts words core (decoded word) h
 
+-- the stop of a core that finds this word at pc, or none, and no instruction
+abbrev pub stop_at : Option ℕ → Need
+stop_at None = Done Fetch
+stop_at (Some word) = Done Illegal
+
 -- what is needed at pc, where the instruction there is known
 op_needs : (words : ℕ) (core : Core) (word : Option ℕ) (op : Op) → option_and_then decoded word ≡ Some op → need_of_fetch words core word ≡ need_of words core op
 op_needs words core None op found = cc
@@ -46,6 +51,15 @@ op_needs words core (Some word) op found = ap (need_of_word words core) found
 pub needs_of_op : (image : Contents) (core : Core) (op : Op) → instruction_at image core.pc ≡ Some op → need_at_pc image core ≡ need_of image.words core op
 unfolding need_at_pc instruction_at
 needs_of_op image core op found = op_needs image.words core (fetched image core.pc) op found
+
+-- no word can be fetched, or the word is no instruction
+stop_needs : (words : ℕ) (core : Core) (word : Option ℕ) → option_and_then decoded word ≡ None → need_of_fetch words core word ≡ stop_at word
+stop_needs words core None none = refl
+stop_needs words core (Some word) none = ap (need_of_word words core) none
+
+pub stops_without_op : (image : Contents) (core : Core) → instruction_at image core.pc ≡ None → need_at_pc image core ≡ stop_at (fetched image core.pc)
+unfolding need_at_pc instruction_at
+stops_without_op image core none = stop_needs image.words core (fetched image core.pc) none
 
 pub goes_on : (image : Contents) (core : Core) → is_done (need image core) ≡ false → (op : Op) × GoesOnBy image core op
 unfolding need need_at_pc instruction_at

@@ -142,16 +142,10 @@ impl Core {
 
     /// What the next instruction needs. It changes nothing, so an instruction that would stop doesn't
     /// retire.
-    #[tactic(auto, unfolding(crate::specs::Steps::need))]
     pub fn need(&self, image: &Image) -> Need
         ensures { result ≡ need image.now self.now }
     {
-        match self.halt {
-            Halt::Exited => Need::Done(Stop::Exit),
-            Halt::Broke => Need::Done(Stop::Break),
-            Halt::Running if self.count >= self.limit => Need::Done(Stop::Limit),
-            Halt::Running => self.need_at_pc(image),
-        }
+        self.need_by_op(image, self.next_op(image))
     }
 
     /// The instruction at pc: none where no word can be fetched there, and where the word is no
@@ -164,14 +158,16 @@ impl Core {
     }
 
     /// What the next instruction needs, where the one at pc is at hand already.
-    #[tactic(auto, unfolding(crate::specs::Steps::need), using(crate::proofs::StepLemmas::needs_of_op))]
+    #[tactic(auto, unfolding(crate::specs::Steps::need))]
     pub fn need_by_op(&self, image: &Image, op: Option<Op>) -> Need
         requires { op ≡ instruction_at image.now self.now.pc }
         ensures { result ≡ need image.now self.now }
     {
-        match (self.halt, op) {
-            (Halt::Running, Some(op)) if self.count < self.limit => self.need_of(image.words(), op),
-            _ => self.need(image),
+        match self.halt {
+            Halt::Exited => Need::Done(Stop::Exit),
+            Halt::Broke => Need::Done(Stop::Break),
+            Halt::Running if self.count >= self.limit => Need::Done(Stop::Limit),
+            Halt::Running => self.need_at_pc(image, op),
         }
     }
 
@@ -230,16 +226,17 @@ impl Core {
         is_taken(cond, self.reg(left), self.reg(right))
     }
 
-    #[tactic(auto, unfolding(crate::specs::Steps::need_at_pc))]
-    fn need_at_pc(&self, image: &Image) -> Need
+    #[tactic(auto, using(crate::proofs::StepLemmas::needs_of_op, crate::proofs::StepLemmas::stops_without_op))]
+    fn need_at_pc(&self, image: &Image, op: Option<Op>) -> Need
+        requires { op ≡ instruction_at image.now self.now.pc }
         ensures { result ≡ need_at_pc image.now self.now }
     {
-        let Some(word) = image.fetch(self.pc) else {
-            return Need::Done(Stop::Fetch);
-        };
-        match decode(word) {
+        match op {
             Some(op) => self.need_of(image.words(), op),
-            None => Need::Done(Stop::Illegal),
+            None => match image.fetch(self.pc) {
+                Some(_) => Need::Done(Stop::Illegal),
+                None => Need::Done(Stop::Fetch),
+            },
         }
     }
 
