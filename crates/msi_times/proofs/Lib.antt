@@ -1,2 +1,6 @@
 pub mod Holders
 pub mod Newest
+pub mod Past
+pub mod Found
+pub mod Moves
+pub mod Exact
