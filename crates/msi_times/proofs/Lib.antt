@@ -4,3 +4,4 @@ pub mod Past
 pub mod Found
 pub mod Moves
 pub mod Exact
+pub mod Shown
