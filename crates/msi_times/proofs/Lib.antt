@@ -5,3 +5,4 @@ pub mod Found
 pub mod Moves
 pub mod Exact
 pub mod Shown
+pub mod StandsFor
