@@ -6,3 +6,6 @@ pub mod Moves
 pub mod Exact
 pub mod Shown
 pub mod StandsFor
+pub mod Relined
+pub mod Kept
+pub mod Data
