@@ -1,0 +1,72 @@
+-- What a step of a machine with times keeps, and what an access finds.
+use Rattle.std.specs.Prelude.{◌≡◌, ◌≢◌, ℕ, ◌%◌, ◌/◌, false, List, reverse, IsTrue}
+use Rattle.access_times.specs.Riding.{Carrying}
+use Rattle.access_times.specs.Times.{times_riding, write_at, read_at}
+use Rattle.access_times.specs.declared.TheConstants.{BLOCK_WORDS}
+use Rattle.access_times.specs.declared.word_times.Times.{Times}
+use Rattle.clock_core.specs.declared.vector_clock.Clock.{Clock}
+use Rattle.rtr_types.specs.declared.accesses.Access.{Access}
+use Rattle.rtr_types.specs.declared.accesses.Kind.{Kind}
+use Rattle.rtr_types.specs.declared.accesses.Kind.TheVariants.{Load as IsLoad, Store as IsStore}
+use Rattle.rtr_types.specs.declared.nodes.Instr.{Instr}
+use Rattle.rv_core.specs.declared.core_state.Need.{Need}
+use Rattle.rv_core.specs.declared.core_state.Need.TheVariants.{Load, Store}
+use Rattle.msi_cache.specs.Lines.{line_for}
+use Rattle.msi_cache.specs.Table.{is_transient}
+use Rattle.msi_cache.specs.declared.copies.State.TheVariants.{I}
+use Rattle.msi_cache.specs.declared.copies.TheConstants.{LINES}
+use Rattle.msi_sound.specs.Sound.{Sound}
+use Rattle.msi_state.specs.Nodes.{Event, Nothing, Retires, Accesses, Tells, rider_of_event, allows, rider_at}
+use Rattle.msi_state.specs.Ready.{Ready}
+use Rattle.msi_state.specs.States.{State}
+use Rattle.msi_state.specs.Steps.{step, event, retiring, enabled}
+use Rattle.msi_state.specs.declared.actors.Node.{Node}
+use Rattle.msi_state.specs.declared.moves.Move.{Move}
+use Rattle.msi_times.specs.Retirements.{Retirement, noted, MachineStandsFor, StandsAfter, after_event, with_event, RiderNotes, IsExactRider}
+use Rattle.msi_times.specs.StandsFor.{TimesParts}
+
+module _ {R K : Type 0} where
+  -- the line for a word that's asked for is at its place, and doesn't wait
+  pub record MayAsk (parts : TimesParts R) (n : Node R K) (word : ℕ) : Type 0 where
+    pub placed : (line_for parts.riding.fresh n.cache (word / BLOCK_WORDS)).state ≢ I → (line_for parts.riding.fresh n.cache (word / BLOCK_WORDS)).block % LINES ≡ word / BLOCK_WORDS % LINES
+    pub still : is_transient (line_for parts.riding.fresh n.cache (word / BLOCK_WORDS)).state ≡ false
+
+  abbrev pub MayWork : TimesParts R → Need → Node R K → Type 0
+  MayWork parts (Load word) n = allows parts.riding n word IsLoad ≡ false → MayAsk parts n word
+  MayWork parts (Store word whole) n = allows parts.riding n word IsStore ≡ false → MayAsk parts n word
+  MayWork parts _ n = Unit {0}
+
+  -- where an access retires, the rider left is the one found with the access and the clock noted
+  abbrev pub RiderFits : TimesParts R → Clock → R → Event → Node R K → Type 0
+  RiderFits parts clock rider e n = (a : Access) → e ≡ Accesses a → RiderNotes parts (record { access = a; clock = clock }) (rider_at parts.riding n a.word) rider
+
+  -- after each step the machine stands for the retirements with the new one
+  abbrev pub TimedStep : TimesParts R → Carrying K → Type 0
+  TimedStep parts carrying =
+      (h : List Retirement) (s : State R K) (m : Move) (rider : R) (clock : Clock) → Sound parts.riding carrying s → Ready parts.riding carrying s → IsTrue (enabled parts.riding carrying s m) → RiderFits parts clock rider (event parts.riding carrying s m) (retiring parts.riding carrying s m) →
+      StandsAfter parts carrying h s → StandsAfter parts carrying (after_event (event parts.riding carrying s m) clock h) (step parts.riding carrying rider s m)
+
+  -- an access finds exact times
+  abbrev pub Finds : TimesParts R → Carrying K → Type 0
+  Finds parts carrying =
+      (h : List Retirement) (s : State R K) (m : Move) (a : Access) → Sound parts.riding carrying s → Ready parts.riding carrying s → IsTrue (enabled parts.riding carrying s m) → event parts.riding carrying s m ≡ Accesses a →
+      StandsAfter parts carrying h s → IsExactRider parts (noted h) a (rider_at parts.riding (retiring parts.riding carrying s m) a.word)
+
+-- the rider that records times, by its parts
+abbrev pub times_parts : TimesParts Times
+times_parts = record { riding = times_riding; write = write_at; read = read_at }
+
+-- the core whose event it is
+abbrev pub core_of_event : Event → ℕ
+core_of_event Nothing = 0
+core_of_event (Retires at) = at.core
+core_of_event (Accesses a) = a.at.core
+
+-- after a step that the clerk was told of, the machine stands for the list with what retired appended, with the clock
+-- that the clerk then has for its core
+abbrev pub TimedTold : {C K : Type 0} → (C → Instr → K → C → Type 0) → (C → Times → Access → K → C → Times → Type 0) → (C → ℕ → Clock) → Carrying K → Type 0
+TimedTold {C} {K} told_local told_touch clock carrying =
+    (list : List Retirement) (s : State Times K) (m : Move) (old new : C) (rider : Times) (k : K) → Sound times_riding carrying s → Ready times_riding carrying s → IsTrue (enabled times_riding carrying s m) →
+    Tells told_local told_touch (event times_riding carrying s m) k old (rider_of_event times_riding (event times_riding carrying s m) (retiring times_riding carrying s m)) new rider →
+    MachineStandsFor times_parts carrying list s →
+    MachineStandsFor times_parts carrying (with_event (event times_riding carrying s m) (clock new (core_of_event (event times_riding carrying s m))) list) (step times_riding carrying rider s m)
