@@ -9,3 +9,4 @@ pub mod StandsFor
 pub mod Relined
 pub mod Kept
 pub mod Data
+pub mod Sent
