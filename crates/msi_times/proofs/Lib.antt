@@ -10,3 +10,6 @@ pub mod Relined
 pub mod Kept
 pub mod Data
 pub mod Sent
+pub mod Nodes
+pub mod Home
+pub mod Sends
