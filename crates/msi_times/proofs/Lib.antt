@@ -13,3 +13,4 @@ pub mod Sent
 pub mod Nodes
 pub mod Home
 pub mod Sends
+pub mod RiderLaws
