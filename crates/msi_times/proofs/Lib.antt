@@ -14,3 +14,4 @@ pub mod Nodes
 pub mod Home
 pub mod Sends
 pub mod RiderLaws
+pub mod Follows
