@@ -15,3 +15,4 @@ pub mod Home
 pub mod Sends
 pub mod RiderLaws
 pub mod Follows
+pub mod NodeSteps
