@@ -16,3 +16,4 @@ pub mod Sends
 pub mod RiderLaws
 pub mod Follows
 pub mod NodeSteps
+pub mod Counting
