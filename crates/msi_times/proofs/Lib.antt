@@ -17,3 +17,4 @@ pub mod RiderLaws
 pub mod Follows
 pub mod NodeSteps
 pub mod Counting
+pub mod Timed

@@ -15,7 +15,7 @@ use Rattle.rtr_types.specs.declared.accesses.Access.{Access}
 use Rattle.msi_cache.specs.declared.copies.Line.{Line}
 use Rattle.msi_cache.specs.declared.messages.FromHome.{FromHome}
 use Rattle.msi_cache.specs.declared.messages.Response.{Response}
-use Rattle.msi_cache.specs.Table.{Signal, row}
+use Rattle.msi_cache.specs.Table.{is_transient}
 use Rattle.msi_cache.specs.Messages.{signal, block_of}
 use Rattle.msi_cache.specs.Lines.{line_for, line_after, answer, is_allowed}
 use Rattle.msi_protocol.specs.Phases.{picture}
@@ -38,7 +38,7 @@ use Rattle.msi_times.proofs.StandsFor.{same_sights, finds}
 use Rattle.msi_times.specs.NodeSights.{of_block, line_if, node_sight, AllStandFor}
 use Rattle.msi_state.specs.Sights.{cons_if}
 use Rattle.msi_times.specs.Retirements.{noted_after, RiderNotes}
-use Rattle.msi_times.specs.TimedSteps.{MayAsk, MayWork}
+use Rattle.msi_cache.specs.declared.copies.State.TheVariants.{I}
 use Rattle.msi_sound.proofs.Views.{node_at-set}
 use Rattle.msi_times.proofs.Nodes.{node_received, row_block, words_left}
 use Rattle.msi_times.proofs.Follows.{Follows, NotesAll, follows_trans, follows_same, follows_received, follows_asking, follows_access}
@@ -51,17 +51,17 @@ module _ {R : Type 0} where
   data_silent : (l : Line R) (m : FromHome R) → is_data m ≡ true → answer l m ≡ None
   data_silent l m e = grind arith
 
-  head_signal : (b : ℕ) (x : Payload R) (q : List Signal) (m : FromHome R) (rest : List (FromHome R)) → map (signal_with b x) q ≡ m ∷ rest → (more : List Signal) × (q ≡ signal m ∷ more)
-  head_signal b x [] m rest e = absurd cc
-  head_signal b x (g ∷ q) m rest e = (q, ap (λ (k : Signal). k ∷ q) (kind g ∙ ap signal (first (signal_with b x g) m (map (signal_with b x) q) rest e)))
-    where
-      kind : (g : Signal) → g ≡ signal (signal_with b x g)
-      kind g = grind arith
-
-      first : (m n : FromHome R) (p q : List (FromHome R)) → m ∷ p ≡ n ∷ q → m ≡ n
-      first m n p q e = cc
-
 module _ {R K : Type 0} where
+  -- the line for a word that's asked for is at its place, and doesn't wait
+  pub record MayAsk (parts : TimesParts R) (n : Node R K) (word : ℕ) : Type 0 where
+    pub placed : (line_for parts.riding.fresh n.cache (word / BLOCK_WORDS)).state ≢ I → (line_for parts.riding.fresh n.cache (word / BLOCK_WORDS)).block % LINES ≡ word / BLOCK_WORDS % LINES
+    pub still : is_transient (line_for parts.riding.fresh n.cache (word / BLOCK_WORDS)).state ≡ false
+
+  abbrev pub MayWork : TimesParts R → Need → Node R K → Type 0
+  MayWork parts (NeedsLoad word) n = allows parts.riding n word IsLoad ≡ false → MayAsk parts n word
+  MayWork parts (NeedsStore word whole) n = allows parts.riding n word IsStore ≡ false → MayAsk parts n word
+  MayWork parts _ n = Unit {0}
+
   -- what a node's move needs: what holds of its lines, and that the rider left is right
   pub record NodeReady (parts : TimesParts R) (c : ℕ) (h : List NotedAccess) (n : Node R K) : Type 0 where
     pub below : c < CORES_MAX
@@ -97,19 +97,6 @@ module _ {R K : Type 0} where
       trying_word riding n word kind a e = grind arith
 
   -- ---- a message
-
-  -- the line of a message's block holds the block
-  pub message_there : (parts : TimesParts R) (h : List NotedAccess) (entry : Entry R) (sights : ℕ → Sight R) (c : ℕ) (n : Node R K) (mail : Mail (FromHome R) K) (rest : List (Mail (FromHome R) K)) → c < CORES_MAX → n.messages.items ≡ mail ∷ rest → sights c ≡ node_sight parts.riding (block_of mail.item) n → StandsFor parts h (block_of mail.item) entry sights →
-      (line_for parts.riding.fresh n.cache (block_of mail.item)).block ≡ block_of mail.item
-  message_there parts h entry sights c n mail rest lc is shows f =
-      let b : ℕ = block_of mail.item in
-      let s : Seat (Payload R) = f.block.seats c in
-      let seen : shown b s ≡ node_sight parts.riding b n = f.shows c lc ∙ shows in
-      let t : (b == b) ≡ true = grind (arith, nat_tests) in
-      let head : map (signal_with b s.sent) (picture s.phase).messages ≡ mail.item ∷ of_block block_of b rest = ap (λ (x : Sight R). x.messages) seen ∙ (ap (of_block block_of b) is ∙ ap (λ (u : Bool). cons_if u mail.item (of_block block_of b rest)) t) in
-      let g = head_signal b s.sent (picture s.phase).messages mail.item (of_block block_of b rest) head in
-      let there : is_some (row (signal mail.item) (picture s.phase).line) ≡ true = message_row s.phase (signal mail.item) g.0 g.1 in
-      row_block b (line_for parts.riding.fresh n.cache b) mail.item (ap (λ (x : Sight R). is_some (row (signal mail.item) x.line.state)) (sym seen) ∙ there)
 
   -- the node after a BlockData is taken
   pub taken_follows : (parts : TimesParts R) → AbsorbsAll parts → (carrying : Carrying K) (c : ℕ) (h : List NotedAccess) (n : Node R K) (mail : Mail (FromHome R) K) (rest : List (Mail (FromHome R) K)) → c < CORES_MAX → length n.cache ≡ LINES → n.messages.items ≡ mail ∷ rest → (line_for parts.riding.fresh n.cache (block_of mail.item)).block ≡ block_of mail.item → is_data mail.item ≡ true → Follows parts c h h n (node_taking parts.riding carrying n mail rest)

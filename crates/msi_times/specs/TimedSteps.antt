@@ -26,16 +26,6 @@ use Rattle.msi_times.specs.Retirements.{Retirement, noted, MachineStandsFor, Sta
 use Rattle.msi_times.specs.StandsFor.{TimesParts}
 
 module _ {R K : Type 0} where
-  -- the line for a word that's asked for is at its place, and doesn't wait
-  pub record MayAsk (parts : TimesParts R) (n : Node R K) (word : ℕ) : Type 0 where
-    pub placed : (line_for parts.riding.fresh n.cache (word / BLOCK_WORDS)).state ≢ I → (line_for parts.riding.fresh n.cache (word / BLOCK_WORDS)).block % LINES ≡ word / BLOCK_WORDS % LINES
-    pub still : is_transient (line_for parts.riding.fresh n.cache (word / BLOCK_WORDS)).state ≡ false
-
-  abbrev pub MayWork : TimesParts R → Need → Node R K → Type 0
-  MayWork parts (Load word) n = allows parts.riding n word IsLoad ≡ false → MayAsk parts n word
-  MayWork parts (Store word whole) n = allows parts.riding n word IsStore ≡ false → MayAsk parts n word
-  MayWork parts _ n = Unit {0}
-
   -- where an access retires, the rider left is the one found with the access and the clock noted
   abbrev pub RiderFits : TimesParts R → Clock → R → Event → Node R K → Type 0
   RiderFits parts clock rider e n = (a : Access) → e ≡ Accesses a → RiderNotes parts (record { access = a; clock = clock }) (rider_at parts.riding n a.word) rider
@@ -43,13 +33,13 @@ module _ {R K : Type 0} where
   -- after each step the machine stands for the retirements with the new one
   abbrev pub TimedStep : TimesParts R → Carrying K → Type 0
   TimedStep parts carrying =
-      (h : List Retirement) (s : State R K) (m : Move) (rider : R) (clock : Clock) → Sound parts.riding carrying s → Ready parts.riding carrying s → IsTrue (enabled parts.riding carrying s m) → RiderFits parts clock rider (event parts.riding carrying s m) (retiring parts.riding carrying s m) →
+      (h : List Retirement) (s : State R K) (m : Move) (rider : R) (clock : Clock) → Sound parts.riding carrying s → IsTrue (enabled parts.riding carrying s m) → RiderFits parts clock rider (event parts.riding carrying s m) (retiring parts.riding carrying s m) →
       StandsAfter parts carrying h s → StandsAfter parts carrying (after_event (event parts.riding carrying s m) clock h) (step parts.riding carrying rider s m)
 
   -- an access finds exact times
   abbrev pub Finds : TimesParts R → Carrying K → Type 0
   Finds parts carrying =
-      (h : List Retirement) (s : State R K) (m : Move) (a : Access) → Sound parts.riding carrying s → Ready parts.riding carrying s → IsTrue (enabled parts.riding carrying s m) → event parts.riding carrying s m ≡ Accesses a →
+      (h : List Retirement) (s : State R K) (m : Move) (a : Access) → Sound parts.riding carrying s → IsTrue (enabled parts.riding carrying s m) → event parts.riding carrying s m ≡ Accesses a →
       StandsAfter parts carrying h s → IsExactRider parts (noted h) a (rider_at parts.riding (retiring parts.riding carrying s m) a.word)
 
 -- the rider that records times, by its parts
@@ -66,7 +56,7 @@ core_of_event (Accesses a) = a.at.core
 -- that the clerk then has for its core
 abbrev pub TimedTold : {C K : Type 0} → (C → Instr → K → C → Type 0) → (C → Times → Access → K → C → Times → Type 0) → (C → ℕ → Clock) → Carrying K → Type 0
 TimedTold {C} {K} told_local told_touch clock carrying =
-    (list : List Retirement) (s : State Times K) (m : Move) (old new : C) (rider : Times) (k : K) → Sound times_riding carrying s → Ready times_riding carrying s → IsTrue (enabled times_riding carrying s m) →
+    (list : List Retirement) (s : State Times K) (m : Move) (old new : C) (rider : Times) (k : K) → Sound times_riding carrying s → IsTrue (enabled times_riding carrying s m) →
     Tells told_local told_touch (event times_riding carrying s m) k old (rider_of_event times_riding (event times_riding carrying s m) (retiring times_riding carrying s m)) new rider →
     MachineStandsFor times_parts carrying list s →
     MachineStandsFor times_parts carrying (with_event (event times_riding carrying s m) (clock new (core_of_event (event times_riding carrying s m))) list) (step times_riding carrying rider s m)
