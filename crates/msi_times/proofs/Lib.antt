@@ -18,3 +18,5 @@ pub mod Follows
 pub mod NodeSteps
 pub mod Counting
 pub mod Timed
+pub mod Begins
+pub mod Told
