@@ -1,4 +1,9 @@
 //! The rider that records times, in the protocol's copies and in the whole machine: each copy that
-//! counts has the last write of each word, and no read that is not a load since; a core that may
-//! write finds each core's last read.
+//! counts has the last write of each of its words, and no read but loads since that write; a core
+//! that may write finds each core's last read. The crate has laws alone; the machine's step cites
+//! their definitions.
 #![tactic(auto)]
+
+mod laws;
+
+pub use laws::{timed_steps, timed_tellings};

@@ -1,0 +1,25 @@
+//! What a machine whose riders record times stands for.
+ghost use Rattle.std.specs.Prelude.{ℕ, []};
+ghost use Rattle.access_times.specs.Times.{times_riding};
+ghost use Rattle.image_mem.specs.Contents.{Contents};
+ghost use Rattle.msi_state.specs.States.{state_start};
+ghost use Rattle.msi_times.specs.Retirements.{MachineStandsFor};
+ghost use Rattle.msi_times.specs.TimedSteps.{Finds, TimedStep, TimedTold, times_parts};
+
+use access_times::{Carry, TimesClerk};
+
+/// A new machine stands for the empty list. Where a machine stands for the retirements so far, a step
+/// after which the rider has the retired access noted leaves it standing for these with the step's
+/// own; and the rider that an access finds has the last write of its word, and for an access that
+/// writes each core's last read since, each with its clock, and nothing else.
+pub fn timed_steps<K: Carry>()
+    ensures starts { (image : Contents) (cores limit : ℕ) → MachineStandsFor times_parts K.carrying [] (state_start times_riding K.carrying image cores limit) }
+    ensures stands { TimedStep times_parts K.carrying }
+    ensures finds { Finds times_parts K.carrying }
+{}
+
+/// The same where a clerk that notes with its clocks is told of the step: what retired is appended
+/// with the clock that the clerk then holds for its core.
+pub fn timed_tellings<K: Carry, C: TimesClerk<K>>()
+    ensures { TimedTold C.told_local C.told_touch C.clock K.carrying }
+{}
