@@ -20,3 +20,4 @@ pub mod Counting
 pub mod Timed
 pub mod Begins
 pub mod Told
+pub mod Absorbing

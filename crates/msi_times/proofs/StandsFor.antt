@@ -114,7 +114,7 @@ module _ {R : Type 0} where
       by (inl e) = let t : (d == c) ≡ true = grind (arith, nat_tests) in rw t (subst (λ (x : ℕ). shown b (f (seats x)) ≡ v) (sym e) here)
       by (inr n) = let t : (d == c) ≡ false = grind (arith, nat_tests) in rw t there
 
-  messages_cons : (b : ℕ) (x : Payload R) (m : FromHome R) (rest : List (FromHome R)) (q : List Signal) → map (signal_with b x) q ≡ m ∷ rest → (g : Signal) × (more : List Signal) × (q ≡ g ∷ more)
+  pub messages_cons : (b : ℕ) (x : Payload R) (m : FromHome R) (rest : List (FromHome R)) (q : List Signal) → map (signal_with b x) q ≡ m ∷ rest → (g : Signal) × (more : List Signal) × (q ≡ g ∷ more)
   messages_cons b x m rest [] e = absurd cc
   messages_cons b x m rest (g ∷ more) e = (g, more, refl)
 

@@ -132,7 +132,7 @@ module _ {R K : Type 0} where
       both : (a b d m : Bool) → IsTrue ((a && b) && (not d || m)) → (a ≡ true) × (d ≡ true → m ≡ true)
       both a b d m e = (grind arith, λ is. grind arith)
 
-  receives_well : (parts : TimesParts R) (carrying : Carrying K) (s : State R K) (c : ℕ) (mail : Mail (FromHome R) K) (rest : List (Mail (FromHome R) K)) → Sound parts.riding carrying s → IsTrue (enabled parts.riding carrying s (MessageMove c)) → (node_at carrying s.nodes c).messages.items ≡ mail ∷ rest → ReceivesWell parts carrying s c mail rest
+  pub receives_well : (parts : TimesParts R) (carrying : Carrying K) (s : State R K) (c : ℕ) (mail : Mail (FromHome R) K) (rest : List (Mail (FromHome R) K)) → Sound parts.riding carrying s → IsTrue (enabled parts.riding carrying s (MessageMove c)) → (node_at carrying s.nodes c).messages.items ≡ mail ∷ rest → ReceivesWell parts carrying s c mail rest
   receives_well parts carrying s c mail rest p e is = received_well parts carrying s c mail rest (subst (λ (q : List (Mail (FromHome R) K)). IsTrue (can_receive_in q s.image parts.riding carrying (node_at carrying s.nodes c))) is (rows_there parts.riding carrying s p (MessageMove c) e))
 
   request_within : (parts : TimesParts R) (carrying : Carrying K) (s : State R K) (c : ℕ) (mail : Mail (Request R) K) (rest : List (Mail (Request R) K)) → Sound parts.riding carrying s → IsTrue (enabled parts.riding carrying s (RequestMove c)) → (node_at carrying s.nodes c).requests.items ≡ mail ∷ rest → request_block mail.item < length s.home
