@@ -34,7 +34,7 @@ use Rattle.msi_times.specs.StandsFor.{TimesParts}
 rank_after : (n : NotedAccess) (w d : ℕ) (last : Option (ℕ × Clock)) → (rank (read_after n w d last) ≤ rank last) ⊎ ((d ≡ core_of n) × (rank (read_after n w d last) ≡ n.access.at.count))
 rank_after n w d last = grind (arith, nat_tests)
 
-retired_more : (r : Retirement) (h : List Retirement) (c : ℕ) → retired_by h c ≤ retired_by (r ∷ h) c
+pub retired_more : (r : Retirement) (h : List Retirement) (c : ℕ) → retired_by h c ≤ retired_by (r ∷ h) c
 retired_more r h c = grind (arith, nat_tests)
 
 retired_own : (r : Retirement) (h : List Retirement) (c : ℕ) → c ≡ r.at.core → retired_by (r ∷ h) c ≡ retired_by h c + 1

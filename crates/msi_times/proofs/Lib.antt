@@ -21,3 +21,4 @@ pub mod Timed
 pub mod Begins
 pub mod Told
 pub mod Absorbing
+pub mod ExactTimes
