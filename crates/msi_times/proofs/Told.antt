@@ -1,6 +1,8 @@
 -- A clerk that notes with its clocks leaves the rider right.
-use Rattle.std.proofs.Common.{◌≡◌, ◌≢◌, ◌∙◌, ap, refl, sym, subst, ℕ, List, [], ◌∷◌, ◌++◌, Option, Some, None}
-use Rattle.std.specs.Prelude.{reverse}
+use Rattle.std.proofs.Common.{◌≡◌, ◌≢◌, ◌∙◌, ap, refl, sym, subst, ℕ, ◌==◌, Bool, true, false, List, [], ◌∷◌, ◌++◌, Option, Some, None, arith, inl, inr}
+use Rattle.std.specs.Prelude.{reverse, if◌then◌else◌}
+use Rattle.std.proofs.lemmas.Bool.{cases_eq}
+use Rattle.std.proofs.lemmas.Bool.Decides.{nat_tests}
 use Rattle.std.proofs.lemmas.List.{reverse-append}
 use Rattle.access_times.specs.Riding.{Carrying}
 use Rattle.access_times.specs.Times.{times_noted, times_riding}
@@ -15,7 +17,7 @@ use Rattle.msi_state.specs.declared.actors.Node.{Node}
 use Rattle.msi_times.proofs.RiderLaws.{times_absorb, times_notes}
 use Rattle.msi_times.proofs.Timed.{timed_step}
 use Rattle.msi_times.specs.Retirements.{Retirement, StandsAfter, after_event, with_event, RiderNotes}
-use Rattle.msi_times.specs.TimedSteps.{RiderFits, TimedTold, times_parts, core_of_event}
+use Rattle.msi_times.specs.TimedSteps.{RiderFits, TimedTold, times_parts, core_of_event, last_clock, ClocksTold}
 
 -- what an event retired, put at the end of the list, comes first when that is turned round
 pub event_reversed : (e : Event) (clock : Clock) (list : List Retirement) → after_event e clock (reverse list) ≡ reverse (with_event e clock list)
@@ -41,3 +43,23 @@ module _ {C K : Type 0} where
       subst (λ (h : List Retirement). StandsAfter times_parts carrying h (step times_riding carrying rider s m)) (event_reversed (event times_riding carrying s m) (clock new (core_of_event (event times_riding carrying s m))) list)
       (timed_step times_parts carrying times_absorb (reverse list) s m rider (clock new (core_of_event (event times_riding carrying s m))) p e
       (told_fits told_local told_touch clock notes (event times_riding carrying s m) (retiring times_riding carrying s m) old new rider k told) f)
+
+-- ---- the clerk's clocks
+
+clocks_next : (old new : ℕ → Clock) (r : Retirement) (h : List Retirement) → new r.at.core ≡ r.clock → ((core : ℕ) → core ≢ r.at.core → new core ≡ old core) → ((core : ℕ) → old core ≡ last_clock h core) → (core : ℕ) → new core ≡ last_clock (r ∷ h) core
+clocks_next old new r h own others last core = elim (cases_eq core r.at.core) [
+  | inl e ↦ let t : (r.at.core == core) ≡ true = grind (arith, nat_tests) in ap new e ∙ (own ∙ ap (λ (u : Bool). if u then r.clock else last_clock h core) (sym t))
+  | inr n ↦ let t : (r.at.core == core) ≡ false = grind (arith, nat_tests) in others core n ∙ (last core ∙ ap (λ (u : Bool). if u then r.clock else last_clock h core) (sym t))
+]
+
+pub clocks_told : {C K : Type 0} (told_local : C → Instr → K → C → Type 0) (told_touch : C → Times → Access → K → C → Times → Type 0) (clock : C → ℕ → Clock)
+    → ((c d : C) (at : Instr) (k : K) → told_local c at k d → (core : ℕ) → core ≢ at.core → clock d core ≡ clock c core)
+    → ((c d : C) (before after : Times) (a : Access) (k : K) → told_touch c before a k d after → (core : ℕ) → core ≢ a.at.core → clock d core ≡ clock c core)
+    → ClocksTold told_local told_touch clock
+clocks_told told_local told_touch clock local_keeps touch_keeps list Nothing k old new before after told last = λ core. ap (λ (c : _). clock c core) told ∙ last core
+clocks_told told_local told_touch clock local_keeps touch_keeps list (Retires at) k old new before after told last =
+    let r : Retirement = record { at = at; access = None; clock = clock new at.core } in
+    λ core. clocks_next (clock old) (clock new) r (reverse list) refl (local_keeps old new at k told) last core ∙ ap (λ (h : List Retirement). last_clock h core) (event_reversed (Retires at) (clock new at.core) list)
+clocks_told told_local told_touch clock local_keeps touch_keeps list (Accesses a) k old new before after told last =
+    let r : Retirement = record { at = a.at; access = Some a; clock = clock new a.at.core } in
+    λ core. clocks_next (clock old) (clock new) r (reverse list) refl (touch_keeps old new before after a k told) last core ∙ ap (λ (h : List Retirement). last_clock h core) (event_reversed (Accesses a) (clock new a.at.core) list)

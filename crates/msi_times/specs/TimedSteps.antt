@@ -1,9 +1,10 @@
 -- What a step of a machine with times keeps, and what an access finds.
-use Rattle.std.specs.Prelude.{◌≡◌, ◌≢◌, ℕ, ◌%◌, ◌/◌, false, List, reverse, IsTrue}
+use Rattle.std.specs.Prelude.{◌≡◌, ℕ, ◌==◌, List, [], ◌∷◌, reverse, IsTrue, if◌then◌else◌}
 use Rattle.access_times.specs.Riding.{Carrying}
 use Rattle.access_times.specs.Times.{times_riding, write_at, read_at}
 use Rattle.access_times.specs.declared.TheConstants.{BLOCK_WORDS}
 use Rattle.access_times.specs.declared.word_times.Times.{Times}
+use Rattle.clock_core.specs.Counts.{no_counts}
 use Rattle.clock_core.specs.declared.vector_clock.Clock.{Clock}
 use Rattle.rtr_types.specs.declared.accesses.Access.{Access}
 use Rattle.rtr_types.specs.declared.accesses.Kind.{Kind}
@@ -60,3 +61,18 @@ TimedTold {C} {K} told_local told_touch clock carrying =
     Tells told_local told_touch (event times_riding carrying s m) k old (rider_of_event times_riding (event times_riding carrying s m) (retiring times_riding carrying s m)) new rider →
     MachineStandsFor times_parts carrying list s →
     MachineStandsFor times_parts carrying (with_event (event times_riding carrying s m) (clock new (core_of_event (event times_riding carrying s m))) list) (step times_riding carrying rider s m)
+
+-- the clock noted at the core's last one of the retirements, newest first, and zero before the first
+abbrev pub last_clock : List Retirement → ℕ → Clock
+last_clock [] core = no_counts
+last_clock (r ∷ h) core = if r.at.core == core then r.clock else last_clock h core
+
+-- these clocks are the ones last noted for each core
+abbrev pub AreLastClocks : (ℕ → Clock) → List Retirement → Type 0
+AreLastClocks clock list = (core : ℕ) → clock core ≡ last_clock (reverse list) core
+
+-- a clerk that has the clocks last noted has them after it was told of an event
+abbrev pub ClocksTold : {C K : Type 0} → (C → Instr → K → C → Type 0) → (C → Times → Access → K → C → Times → Type 0) → (C → ℕ → Clock) → Type 0
+ClocksTold {C} {K} told_local told_touch clock =
+    (list : List Retirement) (e : Event) (k : K) (old new : C) (before after : Times) → Tells told_local told_touch e k old before new after →
+    AreLastClocks (clock old) list → AreLastClocks (clock new) (with_event e (clock new (core_of_event e)) list)

@@ -3,8 +3,10 @@ ghost use Rattle.std.specs.Prelude.{ℕ, []};
 ghost use Rattle.access_times.specs.Times.{times_riding};
 ghost use Rattle.image_mem.specs.Contents.{Contents};
 ghost use Rattle.msi_state.specs.States.{state_start};
+ghost use Rattle.msi_times.specs.Absorbing.{MeetAlike};
+ghost use Rattle.msi_times.specs.ExactTimes.{ExactTimesLaw, OrderedLaw};
 ghost use Rattle.msi_times.specs.Retirements.{MachineStandsFor};
-ghost use Rattle.msi_times.specs.TimedSteps.{Finds, TimedStep, TimedTold, times_parts};
+ghost use Rattle.msi_times.specs.TimedSteps.{ClocksTold, Finds, TimedStep, TimedTold, times_parts};
 
 use access_times::{Carry, TimesClerk};
 
@@ -19,7 +21,26 @@ pub fn timed_steps<K: Carry>()
 {}
 
 /// The same where a clerk that notes with its clocks is told of the step: what retired is appended
-/// with the clock that the clerk then holds for its core.
+/// with the clock that the clerk then holds for its core. A clerk that holds the clocks that were last
+/// noted, zero where none was, does so after each step.
 pub fn timed_tellings<K: Carry, C: TimesClerk<K>>()
-    ensures { TimedTold C.told_local C.told_touch C.clock K.carrying }
+    ensures stands { TimedTold C.told_local C.told_touch C.clock K.carrying }
+    ensures clocks { ClocksTold C.told_local C.told_touch C.clock }
+{}
+
+/// Where one rider absorbs another in a run, both have the same last write of each word: absorbing
+/// never leaves a slot as it was because the writes differ.
+pub fn riders_meet_alike<K: Carry>()
+    ensures { MeetAlike times_parts K.carrying }
+{}
+
+/// Where the clocks of a list of retirements are exact, what an access finds by that list is exact: the
+/// last write, and for an access that writes each core's last read since.
+pub fn noted_times_are_exact()
+    ensures { ExactTimesLaw }
+{}
+
+/// The accesses of the retirements that a machine stands for have rising counts for each core.
+pub fn accesses_are_ordered()
+    ensures { OrderedLaw }
 {}

@@ -6,4 +6,6 @@
 
 mod laws;
 
-pub use laws::{timed_steps, timed_tellings};
+pub use laws::{
+    accesses_are_ordered, noted_times_are_exact, riders_meet_alike, timed_steps, timed_tellings,
+};
