@@ -53,6 +53,14 @@ core_of_event Nothing = 0
 core_of_event (Retires at) = at.core
 core_of_event (Accesses a) = a.at.core
 
+-- the list with what a move of the state retires, by the clocks that a clerk has after it
+abbrev pub with_step : {K : Type 0} → Carrying K → State Times K → Move → (ℕ → Clock) → List Retirement → List Retirement
+with_step carrying s m clock list = with_event (event times_riding carrying s m) (clock (core_of_event (event times_riding carrying s m))) list
+
+-- the rider that a move's access finds is exact for it after the list
+abbrev pub StepFinds : {K : Type 0} → Carrying K → State Times K → Move → List Retirement → Type 0
+StepFinds carrying s m list = (a : Access) → event times_riding carrying s m ≡ Accesses a → IsExactRider times_parts (noted (reverse list)) a (rider_at times_riding (retiring times_riding carrying s m) a.word)
+
 -- after a step that the clerk was told of, the machine stands for the list with what retired appended, with the clock
 -- that the clerk then has for its core
 abbrev pub TimedTold : {C K : Type 0} → (C → Instr → K → C → Type 0) → (C → Times → Access → K → C → Times → Type 0) → (C → ℕ → Clock) → Carrying K → Type 0
@@ -60,7 +68,7 @@ TimedTold {C} {K} told_local told_touch clock carrying =
     (list : List Retirement) (s : State Times K) (m : Move) (old new : C) (rider : Times) (k : K) → Sound times_riding carrying s → IsTrue (enabled times_riding carrying s m) →
     Tells told_local told_touch (event times_riding carrying s m) k old (rider_of_event times_riding (event times_riding carrying s m) (retiring times_riding carrying s m)) new rider →
     MachineStandsFor times_parts carrying list s →
-    MachineStandsFor times_parts carrying (with_event (event times_riding carrying s m) (clock new (core_of_event (event times_riding carrying s m))) list) (step times_riding carrying rider s m)
+    MachineStandsFor times_parts carrying (with_step carrying s m (clock new) list) (step times_riding carrying rider s m)
 
 -- the clock noted at the core's last one of the retirements, newest first, and zero before the first
 abbrev pub last_clock : List Retirement → ℕ → Clock
