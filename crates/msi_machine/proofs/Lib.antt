@@ -1,3 +1,4 @@
 pub mod AtHand
 pub mod Choosing
 pub mod Paid
+pub mod Timely

@@ -70,8 +70,12 @@ module _ {R K : Type 0} where
   meets riding carrying s (ResponseMove c) = response_meets_in (node_at carrying s.nodes c).responses.items riding s c
   meets riding carrying s (MessageMove c) = message_meets_in (node_at carrying s.nodes c).messages.items riding carrying s c
 
-  -- riders that meet have the same last write of each word, so that nothing is ever left out by absorbing
+  -- riders that meet in the move have the same last write of each word, so that absorbing leaves nothing out
+  abbrev pub MeetsAlike : TimesParts R → Carrying K → State R K → Move → Type 0
+  MeetsAlike parts carrying s m =
+      (x y : R) → meets parts.riding carrying s m ≡ Some (x, y) → (slot : ℕ) → slot < BLOCK_WORDS → parts.write x slot ≡ parts.write y slot
+
+  -- and they always do
   abbrev pub MeetAlike : TimesParts R → Carrying K → Type 0
   MeetAlike parts carrying =
-      (list : List Retirement) (s : State R K) (m : Move) → Sound parts.riding carrying s → IsTrue (enabled parts.riding carrying s m) → MachineStandsFor parts carrying list s →
-      (x y : R) → meets parts.riding carrying s m ≡ Some (x, y) → (slot : ℕ) → slot < BLOCK_WORDS → parts.write x slot ≡ parts.write y slot
+      (list : List Retirement) (s : State R K) (m : Move) → Sound parts.riding carrying s → IsTrue (enabled parts.riding carrying s m) → MachineStandsFor parts carrying list s → MeetsAlike parts carrying s m

@@ -1,0 +1,40 @@
+use Rattle.std.proofs.Common.{◌≡◌, ap, sym, subst}
+use Rattle.access_times.specs.Times.{times_riding}
+use Rattle.access_times.specs.declared.word_times.Times.{Times}
+use Rattle.msi_sound.specs.Sound.{Sound}
+use Rattle.msi_state.specs.Nodes.{carry_after}
+use Rattle.msi_state.specs.States.{Machinery, State}
+use Rattle.msi_state.specs.Steps.{event, retiring, rider_left}
+use Rattle.msi_times.proofs.Absorbing.{meet_alike}
+use Rattle.msi_times.proofs.RiderLaws.{times_absorb}
+use Rattle.msi_times.proofs.Timed.{finds_exact}
+use Rattle.msi_times.proofs.Told.{timed_told, clocks_told}
+use Rattle.msi_times.specs.Retirements.{MachineStandsFor}
+use Rattle.msi_times.specs.TimedSteps.{times_parts, with_step}
+use Rattle.std.specs.Prelude.{reverse}
+use Rattle.msi_machine.proofs.Timely.{taken_enabled}
+use Rattle.msi_machine.proofs.machine.Machine+Times+K.step_timed.Goals as goal
+
+pub returns-clause-stands : goal.returns-clause-stands
+returns-clause-stands g c = λ list f.
+    let sound : Sound times_riding g.K.Carry.carrying c.args.self.now.state = subst (λ (m : Machinery Times g.row.K.Denot). Sound times_riding g.K.Carry.carrying m.state) c.self.view_is c.self.invariant in
+    subst (λ (s : State Times g.row.K.Denot). MachineStandsFor times_parts g.K.Carry.carrying (with_step g.K.Carry.carrying c.args.self.now.state c.step.result.taken (g.C.TimesClerk.clock c.step.new.clerk) list) s) (sym c.step.ensures.state)
+    (timed_told g.C.Clerk.told_local g.C.Clerk.told_touch g.C.TimesClerk.clock g.met.C.TimesClerk.touch_notes g.K.Carry.carrying list c.args.self.now.state c.step.result.taken c.args.clerk.now c.step.new.clerk
+    (rider_left times_riding g.K.Carry.carrying c.args.self.now.state c.step.new.self.state c.step.result.taken)
+    (carry_after g.K.Carry.carrying (retiring times_riding g.K.Carry.carrying c.args.self.now.state c.step.result.taken))
+    sound (taken_enabled times_riding g.K.Carry.carrying c.args.self.now.state c.args.choice c.step.result.taken c.step.ensures.some c.step.ensures.taken) c.step.ensures.told f)
+
+pub returns-clause-times : goal.returns-clause-times
+returns-clause-times g c = λ list f a is.
+    let sound : Sound times_riding g.K.Carry.carrying c.args.self.now.state = subst (λ (m : Machinery Times g.row.K.Denot). Sound times_riding g.K.Carry.carrying m.state) c.self.view_is c.self.invariant in
+    finds_exact times_parts g.K.Carry.carrying times_absorb (reverse list) c.args.self.now.state c.step.result.taken a sound (taken_enabled times_riding g.K.Carry.carrying c.args.self.now.state c.args.choice c.step.result.taken c.step.ensures.some c.step.ensures.taken) is f
+
+pub returns-clause-alike : goal.returns-clause-alike
+returns-clause-alike g c = λ list f.
+    let sound : Sound times_riding g.K.Carry.carrying c.args.self.now.state = subst (λ (m : Machinery Times g.row.K.Denot). Sound times_riding g.K.Carry.carrying m.state) c.self.view_is c.self.invariant in
+    meet_alike times_parts g.K.Carry.carrying list c.args.self.now.state c.step.result.taken sound (taken_enabled times_riding g.K.Carry.carrying c.args.self.now.state c.args.choice c.step.result.taken c.step.ensures.some c.step.ensures.taken) f
+
+pub returns-clause-clocks : goal.returns-clause-clocks
+returns-clause-clocks g c = λ list last.
+    clocks_told g.C.Clerk.told_local g.C.Clerk.told_touch g.C.TimesClerk.clock g.met.C.TimesClerk.local_keeps g.met.C.TimesClerk.touch_keeps list (event times_riding g.K.Carry.carrying c.args.self.now.state c.step.result.taken)
+    _ c.args.clerk.now c.step.new.clerk _ _ c.step.ensures.told last
