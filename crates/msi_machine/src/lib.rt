@@ -11,6 +11,8 @@
 mod machine;
 #[cfg(test)]
 mod tests;
+#[cfg(test)]
+mod timed_tests;
 
 pub use machine::Machine;
 pub use msi_state::{Move, Stepped};

@@ -3,6 +3,7 @@ ghost use Rattle.std.specs.Prelude.{◌≡◌, ◌<◌, ◌≤◌, ◌+◌, ◌*
 ghost use Rattle.access_times.specs.Riding.{none_carrying, none_riding};
 ghost use Rattle.access_times.specs.Times.{times_riding};
 ghost use Rattle.rtr_types.specs.Parameters.{Fits};
+ghost use Rattle.rtr_types.specs.declared.TheConstants.{CORES_MAX};
 ghost use Rattle.msi_machine.specs.Writers.{OneWriter};
 ghost use Rattle.msi_state.specs.Bound.{Earns, left, links_empty, total_earned, total_owed, total_retired};
 ghost use Rattle.msi_state.specs.Coherent.{Coherent, Finds, memory_after, opening_memory, word_at};
@@ -153,6 +154,15 @@ impl<R: Rider, K: Carry> Machine<R, K> {
         ensures within { result.now.count ≤ result.now.limit }
     {
         self.parts.core(core)
+    }
+
+    /// Each core's number is its place, and below the greatest number of cores: a law for clerks that keep
+    /// something for each core.
+    pub fn cores_are_numbered(&self)
+        ensures few { length self.now.state.nodes ≤ CORES_MAX }
+        ensures numbers { (core : ℕ) → core < length self.now.state.nodes → (node_at K.carrying self.now.state.nodes core).core.id ≡ core }
+    {
+        let _ = &self.parts;
     }
 }
 
