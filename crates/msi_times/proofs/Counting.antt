@@ -48,11 +48,11 @@ rank_next r h w c None count is before = let more = retired_more r h c in omega 
 rank_next r h w c (Some a) count is before = elim (rank_after (record { access = a; clock = r.clock }) w c (last_read (noted h) w c)) [
   | inl le ↦ let more = retired_more r h c in omega arith
   | inr q ↦
-    let core : c ≡ r.at.core = q.0 ∙ ap (λ (i : Instr). i.core) is in
-    let own = retired_own r h c core in
-    let at : a.at.count ≡ retired_by h c + 1 = ap (λ (i : Instr). i.count) is ∙ count ∙ ap (λ (x : ℕ). retired_by h x + 1) (sym core) in
-    let k = q.1 in
-    omega arith
+      let core : c ≡ r.at.core = q.0 ∙ ap (λ (i : Instr). i.core) is in
+      let own = retired_own r h c core in
+      let at : a.at.count ≡ retired_by h c + 1 = ap (λ (i : Instr). i.count) is ∙ count ∙ ap (λ (x : ℕ). retired_by h x + 1) (sym core) in
+      let k = q.1 in
+      omega arith
 ]
 
 pub rank_retired : (h : List Retirement) (w c : ℕ) → AreInOrder h → rank (last_read (noted h) w c) ≤ retired_by h c

@@ -12,7 +12,7 @@ use Rattle.msi_times.specs.Seats.{Seat, seat_accessed, reads_in, writes_in, Full
 use Rattle.msi_protocol.specs.Copies.{line_counts}
 use Rattle.msi_times.specs.History.{NotedAccess, core_of, read_after, last_read, rank, WordTimes, AbsorbsWell, HasNoted, IsPast, read_rank, Exact, IsExactFor, allows, MayAccess}
 use Rattle.rtr_types.specs.Accesses.{is_write}
-use Rattle.msi_times.proofs.Found.{at_core, found_in, found_request, found_response, found_message, found_wish}
+use Rattle.msi_times.proofs.Found.{main_core, at_core, found_in, found_request, found_response, found_message, found_wish}
 use Rattle.msi_times.proofs.Past.{absorbed_past, absorbed_grows, noted_past, others_past, read_cases}
 use Rattle.msi_times.proofs.Moves.{stands_request, stands_response, stands_message, stands_wish, stands_access, has_request, has_response, has_message, has_wish, has_load, has_store, writer_away}
 
@@ -56,9 +56,6 @@ read_main r p line sent reply may e = grind arith
 
 read_place : {X : Type 0} (r : X → ℕ) (p : Phase) (line sent reply : X) → reads_in p ≡ true → (main_in p line sent reply ≡ line) ⊎ (count_at r (place p) line reply ≡ r line)
 read_place r p line sent reply may = grind arith
-
-main_core : {X : Type 0} (stage : Stage) (c : ℕ) (home : X) (seats : ℕ → Seat X) → is_main (role stage c) ≡ true → main_at stage home seats ≡ main_of (seats c)
-main_core stage c home seats e = grind (arith, nat_tests)
 
 found_mine : {X : Type 0} (r : X → ℕ) (c : ℕ) (line : X) (b : FullBlock X) → c < CORES_MAX → reads_in (b.seats c).phase ≡ true → PhasesFit b → Found r (r line) c (accessing c line b)
 found_mine {X} r c line b lc may st lt = by (is_main (role_in p)) refl (read_place r p line s.sent s.reply may) lt

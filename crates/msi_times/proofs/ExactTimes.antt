@@ -92,8 +92,8 @@ exact_times_law list a rider exact finds =
     let all : List Access = accesses list in
     let turned = clocks-reverse all list exact in
     let found : IsNoteOf all (last_write_in (reverse all) a.word) (write_at rider (a.word % BLOCK_WORDS)) =
-        subst (λ (h : List Access). IsNoteOf all (last_write_in h a.word) (write_at rider (a.word % BLOCK_WORDS))) (sym (accesses-reverse list))
-        (subst (λ (w : Option (Instr × Clock)). IsNoteOf all (last_write_in (accesses (reverse list)) a.word) w) (sym finds.write) (write_noted all (reverse list) a.word turned)) in
+    subst (λ (h : List Access). IsNoteOf all (last_write_in h a.word) (write_at rider (a.word % BLOCK_WORDS))) (sym (accesses-reverse list))
+    (subst (λ (w : Option (Instr × Clock)). IsNoteOf all (last_write_in (accesses (reverse list)) a.word) w) (sym finds.write) (write_noted all (reverse list) a.word turned)) in
     record {
       write = found;
       times = λ writes. record {

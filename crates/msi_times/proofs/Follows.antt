@@ -31,7 +31,7 @@ use Rattle.msi_times.proofs.Nodes.{node_received, sight-received, sight-received
 
 module _ {R : Type 0} where
   same_sight : (v w : Sight R) → v ≡ w → SameSight v w
-  same_sight v w e = record { state = ap (λ (x : Sight R). x.line.state) e; block = ap (λ (x : Sight R). x.line.block) e; load = λ valid. ap (λ (x : Sight R). x.line) e; requests = ap (λ (x : Sight R). x.requests) e; responses = ap (λ (x : Sight R). x.responses) e; messages = ap (λ (x : Sight R). x.messages) e }
+  same_sight v w e = record { state = ap (λ (x : Sight R). x.line.state) e; block = ap (λ (x : Sight R). x.line.block) e; payload = λ valid. ap (λ (x : Sight R). x.line) e; requests = ap (λ (x : Sight R). x.requests) e; responses = ap (λ (x : Sight R). x.responses) e; messages = ap (λ (x : Sight R). x.messages) e }
 
   pub sight_at_same : (c : ℕ) (v : Sight R) (sights : ℕ → Sight R) → sight_at c v sights c ≡ v
   sight_at_same c v sights = let t : (c == c) ≡ true = grind (arith, nat_tests) in ap (λ (u : Bool). if u then v else sights c) t
@@ -175,8 +175,8 @@ module _ {R K : Type 0} where
           line : (sights (core_of noted)).line ≡ l
           line = ap (λ (x : Sight R). x.line) at_core ∙ holds
 
-          load : ◌≡◌ {A = Payload R} (record { words = (sights (core_of noted)).line.words; rider = (sights (core_of noted)).line.rider }) (record { words = l.words; rider = l.rider })
-          load = ap (λ (x : Line R). (let y : Payload R = record { words = x.words; rider = x.rider } in y)) line
+          payload : ◌≡◌ {A = Payload R} (record { words = (sights (core_of noted)).line.words; rider = (sights (core_of noted)).line.rider }) (record { words = l.words; rider = l.rider })
+          payload = ap (λ (x : Line R). (let y : Payload R = record { words = x.words; rider = x.rider } in y)) line
 
           kind_is : noted.access.kind ≡ kind
           kind_is = ap (λ (x : Access). x.kind) is
@@ -191,7 +191,7 @@ module _ {R K : Type 0} where
               subst (λ (x : ℕ). rank (last_read h (word_at k slot) x) < noted.access.at.count) (sym core) (omega arith)
 
           moved : StandsFor parts (noted ∷ h) k entry (sight_at (core_of noted) (sight_accessed words rider (sights (core_of noted))) sights)
-          moved = for_access parts h k noted words rider entry sights (rw core lc) allowed' later (λ slot ls. subst (λ (x : Payload R). HasNoted (slot_times parts slot) noted (word_at k slot) x (record { words = words; rider = rider })) (sym load) (notes slot ls)) s
+          moved = for_access parts h k noted words rider entry sights (rw core lc) allowed' later (λ slot ls. subst (λ (x : Payload R). HasNoted (slot_times parts slot) noted (word_at k slot) x (record { words = words; rider = rider })) (sym payload) (notes slot ls)) s
 
           e : sight_accessed words rider (sights (core_of noted)) ≡ node_sight parts.riding k m
           e = ap (λ (x : Sight R). sight_accessed words rider x) at_core ∙ ap (λ (x : Line R). (let y : Sight R = record (node_sight parts.riding k n) { line = x } in y)) (sym new_line)
@@ -200,6 +200,6 @@ module _ {R K : Type 0} where
       by b entry sights shows s (inl e) = subst (λ (x : ℕ). StandsFor parts (noted ∷ h) x entry (sight_at c (node_sight parts.riding x m) sights)) (sym e) (here entry sights (shows ∙ ap (λ (x : ℕ). node_sight parts.riding x n) e) (subst (λ (x : ℕ). StandsFor parts h x entry sights) e s))
       by b entry sights shows s (inr other) =
           let line = left_other parts.riding n.cache a kind rider b long (λ (e : l.block ≡ b). other (sym e ∙ at)) in
-          let same : SameSight (node_sight parts.riding b n) (node_sight parts.riding b m) = record { state = line.state; block = line.block; load = line.load; requests = refl; responses = refl; messages = refl } in
+          let same : SameSight (node_sight parts.riding b n) (node_sight parts.riding b m) = record { state = line.state; block = line.block; payload = line.payload; requests = refl; responses = refl; messages = refl } in
           let word_is : noted.access.word / BLOCK_WORDS ≡ k = ap (λ (x : Access). x.word / BLOCK_WORDS) is in
           for_elsewhere parts h b noted entry (sight_at c (node_sight parts.riding b m) sights) (λ (e : noted.access.word / BLOCK_WORDS ≡ b). other (sym e ∙ word_is)) (alike_at parts h b entry sights c (node_sight parts.riding b m) (subst (λ (x : Sight R). SameSight x (node_sight parts.riding b m)) (sym shows) same) s)

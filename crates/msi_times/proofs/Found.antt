@@ -132,11 +132,11 @@ main_seat absorbed r (Acks owing q) c home seats each = omega arith
 main_seat absorbed r (Owned o) c home seats each = each o (grind (arith, nat_tests))
 main_seat absorbed r (Data owing q s) c home seats each = each owing (grind (arith, nat_tests))
 
-main_core : {X : Type 0} (stage : Stage) (c : ℕ) (home : X) (seats : ℕ → Seat X) → is_main (role stage c) ≡ true → main_at stage home seats ≡ main_of (seats c)
+pub main_core : {X : Type 0} (stage : Stage) (c : ℕ) (home : X) (seats : ℕ → Seat X) → is_main (role stage c) ≡ true → main_at stage home seats ≡ main_of (seats c)
 main_core stage c home seats e = grind (arith, nat_tests)
 
-below_eight : (stage : Stage) (o : ℕ) → StageFits stage → is_main (role stage o) ≡ true → o < CORES_MAX
-below_eight stage o fits e = grind (arith, nat_tests)
+pub main_below : (stage : Stage) (o : ℕ) → StageFits stage → is_main (role stage o) ≡ true → o < CORES_MAX
+main_below stage o fits e = grind (arith, nat_tests)
 
 pub found_message : {X : Type 0} (P : X → Type 0) (absorbed : X → X → X) (r : X → ℕ) → Grows P absorbed r → (n d c : ℕ) (m : Signal) (rest : List Signal) (b : FullBlock X) → c < CORES_MAX → d < CORES_MAX → (picture (b.seats c).phase).messages ≡ m ∷ rest → PhasesFit b → HoldersHave P b → Found r n d b → Found r n d (messaged absorbed c b)
 found_message {X} P absorbed r g n d c m rest b lc ld asks st h f =
@@ -148,7 +148,7 @@ found_message {X} P absorbed r g n d c m rest b lc ld asks st h f =
 
     each : (o : ℕ) → is_main (role b.stage o) ≡ true → r (main_of (b.seats o)) ≤ r (main_of (seat_if (o == c) (seat_received absorbed (b.seats o)) (b.seats o)))
     each o is = at_core (λ (t : Seat X). r (main_of (b.seats o)) ≤ r (main_of t)) c o (seat_received absorbed (b.seats o)) (b.seats o)
-        (λ (e : o ≡ c). let lo = below_eight b.stage o st.fits is in let q = h.seats o lo in let s = b.seats o in message_main P absorbed r g.left s.phase s.line s.sent s.reply q.line q.sent (ap is_main (st.roles o lo) ∙ is))
+        (λ (e : o ≡ c). let lo = main_below b.stage o st.fits is in let q = h.seats o lo in let s = b.seats o in message_main P absorbed r g.left s.phase s.line s.sent s.reply q.line q.sent (ap is_main (st.roles o lo) ∙ is))
         (λ (e : o ≢ c). omega arith)
 
     here : Seat X

@@ -92,7 +92,7 @@ module _ {R K : Type 0} where
       is_free (entry_at parts.riding.fresh s.home (request_block mail.item)).stage ≡ true →
       Sends (answer_to_request parts.riding.absorbed (entry_at parts.riding.fresh s.home (request_block mail.item)) c mail.item) (request_block mail.item) s.nodes →
       AllStandFor parts carrying h s → AllStandFor parts carrying h (request_moved_in (mail ∷ rest) parts.riding carrying s c)
-  all_request parts well carrying h s c mail rest eight lc lb is free sends f = record { blocks = λ b. by_block b (cases_eq b (request_block mail.item)) }
+  all_request parts well carrying h s c mail rest few lc lb is free sends f = record { blocks = λ b. by_block b (cases_eq b (request_block mail.item)) }
     where
       riding : Riding R
       riding = parts.riding
@@ -183,7 +183,7 @@ module _ {R K : Type 0} where
   pub all_response : (parts : TimesParts R) → AbsorbsAll parts → (carrying : Carrying K) (h : List NotedAccess) (s : State R K) (c : ℕ) (mail : Mail (Response R) K) (rest : List (Mail (Response R) K)) → length s.nodes ≤ CORES_MAX → c < length s.nodes → response_block mail.item < length s.home → (node_at carrying s.nodes c).responses.items ≡ mail ∷ rest →
       Sends (answer_to_response parts.riding.absorbed (entry_at parts.riding.fresh s.home (response_block mail.item)) c mail.item) (response_block mail.item) s.nodes →
       AllStandFor parts carrying h s → AllStandFor parts carrying h (response_moved_in (mail ∷ rest) parts.riding carrying s c)
-  all_response parts well carrying h s c mail rest eight lc lb is sends f = record { blocks = λ b. by_block b (cases_eq b (response_block mail.item)) }
+  all_response parts well carrying h s c mail rest few lc lb is sends f = record { blocks = λ b. by_block b (cases_eq b (response_block mail.item)) }
     where
       riding : Riding R
       riding = parts.riding

@@ -7,8 +7,6 @@ pub mod Exact
 pub mod Shown
 pub mod StandsFor
 pub mod Relined
-pub mod Kept
-pub mod Data
 pub mod Sent
 pub mod Nodes
 pub mod Home

@@ -33,14 +33,14 @@ module _ {R : Type 0} where
   pub record SameLine (l m : Line R) : Type 0 where
     pub state : l.state ≡ m.state
     pub block : l.block ≡ m.block
-    pub load : l.state ≢ I → l ≡ m
+    pub payload : l.state ≢ I → l ≡ m
 
   pub same_line : (l m : Line R) → l ≡ m → SameLine l m
-  same_line l m e = record { state = ap (λ (x : Line R). x.state) e; block = ap (λ (x : Line R). x.block) e; load = λ valid. e }
+  same_line l m e = record { state = ap (λ (x : Line R). x.state) e; block = ap (λ (x : Line R). x.block) e; payload = λ valid. e }
 
   -- lines at a place where two blocks can't both be: one shows nothing of the other
   off_block : (b : ℕ) (l m : Line R) → (l.block ≢ b) ⊎ (l.state ≡ I) → (m.block ≢ b) ⊎ (m.state ≡ I) → SameLine (line_here b l) (line_here b m)
-  off_block b l m p q = record { state = state l p ∙ sym (state m q); block = block l ∙ sym (block m); load = λ valid. absurd (valid (state l p)) }
+  off_block b l m p q = record { state = state l p ∙ sym (state m q); block = block l ∙ sym (block m); payload = λ valid. absurd (valid (state l p)) }
     where
       state : (l : Line R) → (l.block ≢ b) ⊎ (l.state ≡ I) → (line_here b l).state ≡ I
       state l (inl other) = let t : (l.block == b) ≡ false = grind (arith, nat_tests) in rw t refl
@@ -162,7 +162,7 @@ module _ {R K : Type 0} where
       record {
         state = line.state;
         block = line.block;
-        load = line.load;
+        payload = line.payload;
         requests = ap (λ (x : _). of_block request_block b x.items) (sym same.1);
         responses = sym (answered_elsewhere riding carrying b n mail rest (answer_to riding n mail.item) (λ (r : Response R) (e : answer_to riding n mail.item ≡ Some r) (f : response_block r ≡ b). other (sym at ∙ sym (answer_block l mail.item r e) ∙ f)));
         messages = received_messages b n mail rest is other ∙ ap (λ (x : _). of_block block_of b x.items) (sym same.2);
@@ -232,7 +232,7 @@ module _ {R K : Type 0} where
       record {
         state = line.state;
         block = line.block;
-        load = line.load;
+        payload = line.payload;
         requests = sym (of_block-snoc request_block b n.requests.items (record { item = asks l block kind; carry = n.carry }) ∙ (ap (λ (u : Bool). of_block request_block b n.requests.items ++ cons_if u (asks l block kind) []) (let t : (request_block (asks l block kind) == b) ≡ false = grind (arith, nat_tests) in t) ∙ append-nil (of_block request_block b n.requests.items)));
         responses = refl;
         messages = refl;

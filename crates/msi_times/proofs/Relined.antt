@@ -17,7 +17,7 @@ use Rattle.msi_protocol.specs.Copies.{line_counts}
 use Rattle.msi_times.specs.History.{NotedAccess, WordTimes, IsPast, read_rank, rank, last_read, Exact}
 use Rattle.msi_times.specs.Shown.{Payload, Sight, shown}
 use Rattle.msi_times.specs.StandsFor.{TimesParts, slot_times, word_at, StandsFor}
-use Rattle.msi_times.proofs.Found.{found_in}
+use Rattle.msi_times.proofs.Found.{main_below, found_in}
 
 pub relined_counts : (p : Phase) → line_counts p ≡ true → (picture p).line ≢ I
 relined_counts p e = grind arith
@@ -40,9 +40,6 @@ main_idle p x y sent reply is idle = grind arith
 
 place_idle : {X : Type 0} (r : X → ℕ) (p : Phase) (x y reply : X) → (picture p).line ≡ I → count_at r (place p) x reply ≡ count_at r (place p) y reply
 place_idle r p x y reply idle = grind arith
-
-main_role : (stage : Stage) (o : ℕ) → is_main (role stage o) ≡ true → StageFits stage → o < CORES_MAX
-main_role stage o is fits = grind (arith, nat_tests)
 
 abbrev pub relined : {X : Type 0} → (ℕ → X) → FullBlock X → FullBlock X
 relined lines b = record { stage = b.stage; home = b.home; seats = λ d. record { phase = (b.seats d).phase; line = lines d; sent = (b.seats d).sent; reply = (b.seats d).reply; put = (b.seats d).put } }
@@ -82,13 +79,13 @@ exact_relined {X} t h word b lines same e =
     by o lo owns false is = let s = b.seats o in ap (λ (x : X). main_in s.phase x s.sent s.reply) (same o lo (valid_is (picture s.phase).line is))
 
     main_same : main (relined lines b) ≡ main b
-    main_same = main_relined b.stage b.home b.seats lines (λ (o : ℕ) (is : is_main (role b.stage o) ≡ true). let lo = main_role b.stage o is e.stands.fits in by o lo (ap is_main (e.stands.roles o lo) ∙ is) (is_invalid (picture (b.seats o).phase).line) refl)
+    main_same = main_relined b.stage b.home b.seats lines (λ (o : ℕ) (is : is_main (role b.stage o) ≡ true). let lo = main_below b.stage o e.stands.fits is in by o lo (ap is_main (e.stands.roles o lo) ∙ is) (is_invalid (picture (b.seats o).phase).line) refl)
 
 -- sights that differ in what an invalid line carries
 pub record SameSight {R : Type 0} (v w : Sight R) : Type 0 where
   pub state : v.line.state ≡ w.line.state
   pub block : v.line.block ≡ w.line.block
-  pub load : v.line.state ≢ I → v.line ≡ w.line
+  pub payload : v.line.state ≢ I → v.line ≡ w.line
   pub requests : v.requests ≡ w.requests
   pub responses : v.responses ≡ w.responses
   pub messages : v.messages ≡ w.messages
@@ -103,7 +100,7 @@ module _ {R : Type 0} where
         block = relined (λ d. payload_of (w d).line) f.block;
         entry_is = f.entry_is;
         shows = λ d ld. at d (f.block.seats d) (f.shows d ld) (alike d ld);
-        exact = λ slot ls. exact_relined (slot_times parts slot) h (word_at b slot) f.block (λ d. payload_of (w d).line) (λ d ld valid. ap payload_of (sym ((alike d ld).load (λ (e : (v d).line.state ≡ I). valid (ap (λ (x : Sight R). x.line.state) (f.shows d ld) ∙ e))) ∙ ap (λ (x : Sight R). x.line) (sym (f.shows d ld)))) (f.exact slot ls);
+        exact = λ slot ls. exact_relined (slot_times parts slot) h (word_at b slot) f.block (λ d. payload_of (w d).line) (λ d ld valid. ap payload_of (sym ((alike d ld).payload (λ (e : (v d).line.state ≡ I). valid (ap (λ (x : Sight R). x.line.state) (f.shows d ld) ∙ e))) ∙ ap (λ (x : Sight R). x.line) (sym (f.shows d ld)))) (f.exact slot ls);
       }
     where
       at : (d : ℕ) (s : Seat (Payload R)) → shown b s ≡ v d → SameSight (v d) (w d) → shown b (record s { line = payload_of (w d).line }) ≡ w d

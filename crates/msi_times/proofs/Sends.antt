@@ -55,7 +55,7 @@ module _ {R K : Type 0} where
   stage_fits parts carrying h s b f = let g = f.blocks b in subst (λ (e : Entry R). StageFits e.stage) g.entry_is (some_slot parts h b g.block g.exact).fits
 
   pub sends_request : (parts : TimesParts R) (carrying : Carrying K) (h : List NotedAccess) (s : State R K) (c : ℕ) (r : Request R) → AllStandFor parts carrying h s → length s.nodes ≤ CORES_MAX → c < length s.nodes → Sends (answer_to_request parts.riding.absorbed (entry_at parts.riding.fresh s.home (request_block r)) c r) (request_block r) s.nodes
-  sends_request parts carrying h s c r f eight lc = record { each = λ to m is. let q = request_sends parts.riding (entry_at parts.riding.fresh s.home (request_block r)) c r to m (omega arith) (stage_fits parts carrying h s (request_block r) f) is in (elim q.0.0 [ inl e ↦ subst (λ (x : ℕ). x < length s.nodes) (sym e) lc | inr some ↦ there parts carrying h s (request_block r) to f q.0.1 some ], q.1.0, q.1.1) }
+  sends_request parts carrying h s c r f few lc = record { each = λ to m is. let q = request_sends parts.riding (entry_at parts.riding.fresh s.home (request_block r)) c r to m (omega arith) (stage_fits parts carrying h s (request_block r) f) is in (elim q.0.0 [ inl e ↦ subst (λ (x : ℕ). x < length s.nodes) (sym e) lc | inr some ↦ there parts carrying h s (request_block r) to f q.0.1 some ], q.1.0, q.1.1) }
 
   pub sends_response : (parts : TimesParts R) (carrying : Carrying K) (h : List NotedAccess) (s : State R K) (c : ℕ) (r : Response R) → AllStandFor parts carrying h s → Sends (answer_to_response parts.riding.absorbed (entry_at parts.riding.fresh s.home (response_block r)) c r) (response_block r) s.nodes
   sends_response parts carrying h s c r f = record { each = λ to m is. let q = response_sends parts.riding (entry_at parts.riding.fresh s.home (response_block r)) c r to m (stage_fits parts carrying h s (response_block r) f) is in (there parts carrying h s (response_block r) to f q.0.1 q.0.0, q.1.0, q.1.1) }

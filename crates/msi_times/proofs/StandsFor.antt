@@ -162,14 +162,14 @@ module _ {R : Type 0} where
       let bl : FullBlock (Payload R) = f.block in
       let s : Seat (Payload R) = bl.seats c in
       let line : line_with b s ≡ (sights c).line = ap (λ (v : Sight R). v.line) (f.shows c lc) in
-      let load : s.line ≡ record { words = (sights c).line.words; rider = (sights c).line.rider } = ap (λ (l : Line R). (let x : Payload R = record { words = l.words; rider = l.rider } in x)) line in
+      let payload : s.line ≡ record { words = (sights c).line.words; rider = (sights c).line.rider } = ap (λ (l : Line R). (let x : Payload R = record { words = l.words; rider = l.rider } in x)) line in
       let new : Payload R = record { words = words; rider = rider } in
       let may : allows n.access.kind s.phase ≡ true = sym (shown_allows b n.access.kind s) ∙ ap (λ (l : Line R). is_allowed l b n.access.kind) line ∙ allowed in
       record {
         block = accessing c new bl;
         entry_is = f.entry_is;
         shows = λ d ld. seen_at b c (seat_accessed new) bl.seats (sight_accessed words rider (sights c)) sights (ap (λ (v : Sight R). sight_accessed words rider v) (f.shows c lc)) d (f.shows d ld);
-        exact = λ slot ls. exact_access (slot_times parts slot) h (word_at b slot) n new bl (record { core = lc; allowed = may; later = later slot ls }) (subst (λ (x : Payload R). HasNoted (slot_times parts slot) n (word_at b slot) x new) (sym load) (noted slot ls)) (f.exact slot ls);
+        exact = λ slot ls. exact_access (slot_times parts slot) h (word_at b slot) n new bl (record { core = lc; allowed = may; later = later slot ls }) (subst (λ (x : Payload R). HasNoted (slot_times parts slot) n (word_at b slot) x new) (sym payload) (noted slot ls)) (f.exact slot ls);
       }
 
   -- what an access finds
@@ -178,9 +178,9 @@ module _ {R : Type 0} where
   finds parts h b slot kind entry sights c lc ls allowed f =
       let s : Seat (Payload R) = f.block.seats c in
       let line : line_with b s ≡ (sights c).line = ap (λ (v : Sight R). v.line) (f.shows c lc) in
-      let load : s.line ≡ record { words = (sights c).line.words; rider = (sights c).line.rider } = ap (λ (l : Line R). (let x : Payload R = record { words = l.words; rider = l.rider } in x)) line in
+      let payload : s.line ≡ record { words = (sights c).line.words; rider = (sights c).line.rider } = ap (λ (l : Line R). (let x : Payload R = record { words = l.words; rider = l.rider } in x)) line in
       let may : allows kind s.phase ≡ true = sym (shown_allows b kind s) ∙ ap (λ (l : Line R). is_allowed l b kind) line ∙ allowed in
-      subst (λ (x : Payload R). IsExactFor (slot_times parts slot) h (word_at b slot) kind x) load (exact_for (slot_times parts slot) h (word_at b slot) c kind f.block lc may (f.exact slot ls))
+      subst (λ (x : Payload R). IsExactFor (slot_times parts slot) h (word_at b slot) kind x) payload (exact_for (slot_times parts slot) h (word_at b slot) c kind f.block lc may (f.exact slot ls))
 
 -- ---- an access of another block's word
 

@@ -268,4 +268,3 @@ abbrev pub is_away : Role → Bool
 is_away Out = true
 is_away (GiveWaiter s) = true
 is_away _ = false
-
