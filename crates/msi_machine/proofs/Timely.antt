@@ -1,5 +1,5 @@
 -- What a step of a machine with times keeps, and what its access finds, by what the step promises.
-use Rattle.std.proofs.Common.{◌≡◌, ℕ, ◌*◌, ◌<◌, true, List, [], ◌∷◌, length, get_or}
+use Rattle.std.proofs.Common.{◌≡◌, ℕ, ◌*◌, ◌<◌, true, List, length, get_or}
 use Rattle.std.specs.Prelude.{◌%◌, slice_index_or}
 use Rattle.std.proofs.lemmas.List.Elements.{filter_passes}
 use Rattle.std.proofs.lemmas.Nat.{mod_below}

@@ -75,9 +75,7 @@ const READER_EVICTS: [u8; 28] = [
 ];
 
 /// Core 1 reads the word, and its eviction is stalled by core 0's store.
-const CHOICES: [u32; 20] = [
-    1, 1, 1, 1, 1, 0, 0, 0, 0, 0, 0, 0, 0, 0, 0, 0, 0, 0, 0, 0,
-];
+const CHOICES: [u32; 20] = [1, 1, 1, 1, 1, 0, 0, 0, 0, 0, 0, 0, 0, 0, 0, 0, 0, 0, 0, 0];
 
 /// Runs the machine by the choices: the read by core 1 that the store found.
 fn found(alloc: Global) -> Result<Option<(u32, Clock)>, Fail> {

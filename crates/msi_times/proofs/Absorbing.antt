@@ -1,12 +1,12 @@
 -- Riders that meet in a move have the same last writes.
-use Rattle.std.proofs.Common.{◌≡◌, ◌∙◌, ap, refl, sym, subst, ℕ, ◌<◌, ◌==◌, Bool, true, false, List, [], ◌∷◌, length, Option, Some, None, IsTrue, arith}
-use Rattle.std.specs.Prelude.{map, reverse, is_some}
+use Rattle.std.proofs.Common.{◌≡◌, ◌∙◌, ap, refl, sym, ℕ, ◌<◌, ◌==◌, Bool, true, List, [], ◌∷◌, Some, arith}
+use Rattle.std.specs.Prelude.{map, reverse}
 use Rattle.std.proofs.lemmas.Bool.Decides.{nat_tests}
-use Rattle.access_times.specs.Riding.{Riding, Carrying}
+use Rattle.access_times.specs.Riding.{Carrying}
 use Rattle.access_times.specs.declared.TheConstants.{BLOCK_WORDS}
 use Rattle.rtr_types.specs.declared.TheConstants.{CORES_MAX}
 use Rattle.msi_cache.specs.Lines.{line_for}
-use Rattle.msi_cache.specs.Messages.{block_of, ask_of, reply_of, request_block, response_block}
+use Rattle.msi_cache.specs.Messages.{block_of, request_block, response_block}
 use Rattle.msi_cache.specs.Table.{Signal, Ask, Reply}
 use Rattle.msi_cache.specs.declared.copies.Line.{Line}
 use Rattle.msi_cache.specs.declared.messages.FromHome.{FromHome}
@@ -14,29 +14,26 @@ use Rattle.msi_cache.specs.declared.messages.Request.{Request}
 use Rattle.msi_cache.specs.declared.messages.Response.{Response}
 use Rattle.msi_directory.specs.Blocks.{entry_at}
 use Rattle.msi_directory.specs.declared.entries.Entry.{Entry}
-use Rattle.msi_directory.specs.declared.entries.Stage.{Stage}
 use Rattle.msi_protocol.specs.Copies.{line_counts, sent_counts, reply_counts}
-use Rattle.msi_protocol.specs.Phases.{Phase, role, role_in, picture}
+use Rattle.msi_protocol.specs.Phases.{role, role_in, picture}
 use Rattle.msi_progress.proofs.Rested.{core_below, enabled_there}
 use Rattle.msi_sound.proofs.Blocks.{eqb_same}
-use Rattle.msi_sound.specs.Sound.{Sound}
 use Rattle.msi_state.specs.Sights.{cons_if}
-use Rattle.msi_state.specs.States.{State, node_at}
-use Rattle.msi_state.specs.Steps.{enabled, enabled_at}
+use Rattle.msi_state.specs.States.{node_at}
+use Rattle.msi_state.specs.Steps.{enabled_at}
 use Rattle.msi_state.specs.declared.actors.Mail.{Mail}
 use Rattle.msi_state.specs.declared.actors.Node.{Node}
-use Rattle.msi_state.specs.declared.moves.Move.{Move}
 use Rattle.msi_state.specs.declared.moves.Move.TheVariants.{Core as CoreMove, Request as RequestMove, Response as ResponseMove, FromHome as MessageMove}
 use Rattle.msi_times.proofs.Shown.{shown_asked, shown_replied}
-use Rattle.msi_times.proofs.StandsFor.{messages_cons, some_slot}
+use Rattle.msi_times.proofs.StandsFor.{messages_cons}
 use Rattle.msi_times.proofs.Timed.{receives_well}
-use Rattle.msi_times.specs.Absorbing.{request_meets, response_meets, message_meets, request_meets_in, response_meets_in, message_meets_in, meets, MeetAlike}
+use Rattle.msi_times.specs.Absorbing.{request_meets, response_meets, message_meets, request_meets_in, response_meets_in, message_meets_in, MeetAlike}
 use Rattle.msi_times.specs.History.{NotedAccess}
-use Rattle.msi_times.specs.NodeSights.{of_block, line_here, line_if, node_sight}
-use Rattle.msi_times.specs.Retirements.{Retirement, noted, StandsAfter}
+use Rattle.msi_times.specs.NodeSights.{of_block, line_if, node_sight}
+use Rattle.msi_times.specs.Retirements.{noted}
 use Rattle.msi_times.specs.Seats.{Seat, FullBlock, home_counts, put_counts}
-use Rattle.msi_times.specs.Shown.{Payload, Sight, ask_with, reply_with, signal_with, line_with, shown, entry_with}
-use Rattle.msi_times.specs.StandsFor.{TimesParts, slot_times, StandsFor}
+use Rattle.msi_times.specs.Shown.{Payload, Sight, ask_with, reply_with, signal_with, line_with, entry_with}
+use Rattle.msi_times.specs.StandsFor.{TimesParts, StandsFor}
 
 module _ {R : Type 0} where
   -- ---- of one block

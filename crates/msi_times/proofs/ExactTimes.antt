@@ -1,5 +1,5 @@
 -- Exact times in the words on clocks, and the order of the accesses that a machine stands for.
-use Rattle.std.proofs.Common.{◌≡◌, ◌∙◌, ap, refl, sym, subst, ℕ, ◌+◌, ◌<◌, ◌≤◌, ◌==◌, ◌%◌, Bool, true, false, List, [], ◌∷◌, ◌++◌, Option, Some, None, arith, inl, inr, ◌⊎◌}
+use Rattle.std.proofs.Common.{◌≡◌, ◌∙◌, ap, refl, sym, subst, ℕ, ◌+◌, ◌<◌, ◌≤◌, ◌%◌, Bool, true, false, List, [], ◌∷◌, ◌++◌, Option, Some, None, arith, inl, inr}
 use Rattle.std.specs.Prelude.{reverse, if◌then◌else◌, ◌&&◌, nat_eq}
 use Rattle.std.proofs.lemmas.Bool.Decides.{nat_tests}
 use Rattle.std.proofs.lemmas.List.{append-nil, reverse-append}
@@ -11,14 +11,14 @@ use Rattle.rtr_types.specs.declared.TheConstants.{CORES_MAX}
 use Rattle.rtr_types.specs.declared.accesses.Access.{Access}
 use Rattle.rtr_types.specs.declared.nodes.Instr.{Instr}
 use Rattle.conflict_edge.proofs.History.{Rising}
-use Rattle.conflict_edge.proofs.Reversed.{stands_back, stands_forth, reverse-cons}
+use Rattle.conflict_edge.proofs.Reversed.{stands_forth, reverse-cons}
 use Rattle.conflict_edge.specs.Clocks.{last_write as last_write_in, last_read as last_read_in}
 use Rattle.conflict_edge.specs.Conflicts.{CountsRise, StandsIn}
 use Rattle.conflict_edge.specs.Times.{IsExactClock, IsNoteOf}
 use Rattle.msi_times.proofs.Counting.{retired_more}
 use Rattle.msi_times.specs.ExactTimes.{with_access, accesses, IsClockOf, HaveExactClocks, read_note, ExactTimesLaw, OrderedLaw}
 use Rattle.msi_times.specs.History.{last_write, last_read}
-use Rattle.msi_times.specs.Retirements.{Retirement, noted, noted_by, retired_by, IsAccessOf, IsNext, AreInOrder}
+use Rattle.msi_times.specs.Retirements.{Retirement, noted, noted_by, retired_by, IsAccessOf, AreInOrder}
 
 -- ---- lists turned round
 

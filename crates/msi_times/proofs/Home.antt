@@ -1,5 +1,5 @@
 -- A request or a response that the home takes keeps what every block stands for.
-use Rattle.std.proofs.Common.{◌≡◌, ◌≢◌, ◌∙◌, ap, refl, sym, subst, ℕ, ◌<◌, ◌≤◌, ◌==◌, Bool, true, false, nat_lt, List, ◌∷◌, length, arith, inl, inr, ◌⊎◌}
+use Rattle.std.proofs.Common.{◌≡◌, ◌≢◌, ◌∙◌, ap, refl, sym, subst, ℕ, ◌<◌, ◌≤◌, ◌==◌, Bool, true, false, List, ◌∷◌, length, arith, inl, inr, ◌⊎◌}
 use Rattle.msi_directory.specs.Entries.{entry_after_request, entry_after_response, answer_to_request, answer_to_response}
 use Rattle.rtr_types.specs.declared.TheConstants.{CORES_MAX}
 use Rattle.std.specs.Prelude.{if◌then◌else◌, slice_set}

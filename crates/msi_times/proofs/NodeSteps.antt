@@ -1,10 +1,10 @@
 -- What a move of the machine makes it stand for.
-use Rattle.std.proofs.Common.{◌≡◌, ◌≢◌, ◌∙◌, ap, refl, sym, subst, ℕ, ◌+◌, ◌<◌, ◌≤◌, ◌==◌, ◌%◌, ◌/◌, Bool, true, false, List, [], ◌∷◌, length, Option, Some, None, arith, inl, inr, ◌⊎◌}
+use Rattle.std.proofs.Common.{◌≡◌, ◌≢◌, ◌∙◌, ap, refl, sym, subst, ℕ, ◌<◌, ◌≤◌, ◌==◌, ◌%◌, ◌/◌, Bool, true, false, List, [], ◌∷◌, length, Option, None, arith}
 use Rattle.image_mem.specs.Contents.{Contents}
 use Rattle.msi_cache.specs.declared.copies.TheConstants.{LINES}
 use Rattle.rtr_types.specs.declared.TheConstants.{CORES_MAX}
 use Rattle.access_times.specs.declared.TheConstants.{BLOCK_WORDS}
-use Rattle.std.specs.Prelude.{if◌then◌else◌, slice_set, is_some, map}
+use Rattle.std.specs.Prelude.{if◌then◌else◌, slice_set}
 use Rattle.std.proofs.lemmas.List.{length-set}
 use Rattle.std.proofs.lemmas.Bool.Decides.{nat_tests}
 use Rattle.access_times.specs.Riding.{Riding, Carrying}
@@ -16,31 +16,26 @@ use Rattle.msi_cache.specs.declared.copies.Line.{Line}
 use Rattle.msi_cache.specs.declared.messages.FromHome.{FromHome}
 use Rattle.msi_cache.specs.declared.messages.Response.{Response}
 use Rattle.msi_cache.specs.Table.{is_transient}
-use Rattle.msi_cache.specs.Messages.{signal, block_of}
+use Rattle.msi_cache.specs.Messages.{block_of}
 use Rattle.msi_cache.specs.Lines.{line_for, line_after, answer, is_allowed}
-use Rattle.msi_protocol.specs.Phases.{picture}
-use Rattle.msi_protocol.proofs.Keeps.{message_row}
 use Rattle.msi_directory.specs.declared.entries.Entry.{Entry}
 use Rattle.msi_directory.specs.Blocks.{entry_at}
-use Rattle.rv_core.specs.declared.core_state.Core.{Core}
 use Rattle.msi_state.specs.declared.actors.Mail.{Mail}
 use Rattle.msi_state.specs.declared.actors.Node.{Node}
 use Rattle.rv_core.specs.declared.core_state.Need.{Need}
-use Rattle.msi_times.specs.Shown.{Payload, Sight, shown, signal_with}
+use Rattle.msi_times.specs.Shown.{Sight}
 use Rattle.rv_core.specs.Steps.{need}
 use Rattle.msi_state.specs.States.{State, node_at}
 use Rattle.msi_state.specs.Nodes.{Nothing, Accesses, allows, access_of, rider_at, node_accessing, node_asking, node_local, node_trying, event_trying, node_working_in, event_working_in, node_working, event_working, node_taking, node_answering, answer_to, is_data, node_receiving_mail, event_receiving_mail}
-use Rattle.msi_times.specs.Seats.{Seat}
 use Rattle.clock_core.specs.declared.vector_clock.Clock.{Clock}
-use Rattle.msi_times.specs.History.{NotedAccess, core_of, rank, last_read, read_after, IsExactFor}
+use Rattle.msi_times.specs.History.{NotedAccess, rank, last_read, IsExactFor}
 use Rattle.msi_times.specs.StandsFor.{TimesParts, slot_times, word_at, AbsorbsAll, sight_at, StandsFor}
 use Rattle.msi_times.proofs.StandsFor.{same_sights, finds}
-use Rattle.msi_times.specs.NodeSights.{of_block, line_if, node_sight, AllStandFor}
-use Rattle.msi_state.specs.Sights.{cons_if}
+use Rattle.msi_times.specs.NodeSights.{line_if, node_sight, AllStandFor}
 use Rattle.msi_times.specs.Retirements.{noted_after, RiderNotes}
 use Rattle.msi_cache.specs.declared.copies.State.TheVariants.{I}
 use Rattle.msi_sound.proofs.Views.{node_at-set}
-use Rattle.msi_times.proofs.Nodes.{node_received, row_block, words_left}
+use Rattle.msi_times.proofs.Nodes.{node_received, words_left}
 use Rattle.msi_times.proofs.Follows.{Follows, NotesAll, follows_trans, follows_same, follows_received, follows_asking, follows_access}
 
 module _ {R : Type 0} where

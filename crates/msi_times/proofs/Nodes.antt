@@ -1,5 +1,5 @@
 -- What a node's own moves show at each block.
-use Rattle.std.proofs.Common.{◌≡◌, ◌≢◌, ◌∙◌, ap, refl, sym, subst, ℕ, ◌<◌, ◌==◌, ◌%◌, ◌/◌, Bool, true, false, List, [], ◌∷◌, ◌++◌, length, get_or, Option, Some, None, arith, inl, inr, ◌⊎◌}
+use Rattle.std.proofs.Common.{◌≡◌, ◌≢◌, ◌∙◌, ap, refl, sym, subst, ℕ, ◌<◌, ◌==◌, ◌%◌, ◌/◌, Bool, true, false, List, [], ◌∷◌, ◌++◌, length, Option, Some, None, arith, inl, inr, ◌⊎◌}
 use Rattle.msi_sound.proofs.Lines.{set_at}
 use Rattle.msi_cache.specs.declared.copies.TheConstants.{LINES}
 use Rattle.access_times.specs.declared.TheConstants.{BLOCK_WORDS}

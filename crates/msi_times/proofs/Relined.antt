@@ -11,7 +11,7 @@ use Rattle.msi_directory.specs.declared.entries.Stage.TheVariants.{Unshared, Sha
 use Rattle.msi_cache.specs.declared.messages.FromHome.{FromHome}
 use Rattle.msi_cache.specs.declared.messages.Response.{Response}
 use Rattle.msi_cache.specs.declared.messages.Request.{Request}
-use Rattle.msi_protocol.specs.Phases.{Phase, role, role_in, picture, StageFits}
+use Rattle.msi_protocol.specs.Phases.{Phase, role, role_in, picture}
 use Rattle.msi_times.specs.Seats.{Seat, put_counts, main_in, main_of, main_at, place, count_at, own_count, FullBlock, main, is_main}
 use Rattle.msi_protocol.specs.Copies.{line_counts}
 use Rattle.msi_times.specs.History.{NotedAccess, WordTimes, IsPast, read_rank, rank, last_read, Exact}

@@ -1,11 +1,10 @@
 -- What the nodes show after the home's answer is on its way.
-use Rattle.std.proofs.Common.{◌≡◌, ◌∙◌, ap, refl, ℕ, ◌<◌, ◌≤◌, ◌==◌, Bool, true, false, nat_lt, ◌&&◌, List, [], ◌∷◌, ◌++◌, length, Option, Some, None, zero, suc, arith}
+use Rattle.std.proofs.Common.{◌≡◌, ◌∙◌, ap, refl, ℕ, ◌<◌, ◌==◌, Bool, true, false, nat_lt, ◌&&◌, List, [], ◌∷◌, ◌++◌, length, Option, Some, None, arith}
 use Rattle.msi_sound.proofs.Views.{node_at-sent, node_at-told}
-use Rattle.std.specs.Prelude.{if◌then◌else◌, slice_set}
-use Rattle.std.proofs.lemmas.List.{get_or-set_same, get_or-set_other, length-set, append-nil}
+use Rattle.std.specs.Prelude.{if◌then◌else◌}
+use Rattle.std.proofs.lemmas.List.{append-nil}
 use Rattle.std.proofs.lemmas.Bool.Decides.{nat_tests}
 use Rattle.access_times.specs.Riding.{Riding, Carrying}
-use Rattle.rtr_types.specs.declared.core_set.CoreSet.{CoreSet}
 use Rattle.rtr_types.specs.CoreSets.{has}
 use Rattle.msi_protocol.proofs.Members.{has-no_cores}
 use Rattle.msi_cache.specs.declared.messages.FromHome.{FromHome}
@@ -14,8 +13,8 @@ use Rattle.msi_cache.specs.Messages.{block_of}
 use Rattle.msi_directory.specs.declared.entries.HomeAnswer.{HomeAnswer}
 use Rattle.msi_state.specs.declared.actors.Mail.{Mail}
 use Rattle.msi_state.specs.declared.actors.Node.{Node}
-use Rattle.msi_state.specs.States.{node_at, no_node}
-use Rattle.msi_state.specs.Steps.{node_sent, nodes_sent, nodes_told, delivered, delivered_in}
+use Rattle.msi_state.specs.States.{node_at}
+use Rattle.msi_state.specs.Steps.{node_sent, delivered, delivered_in}
 use Rattle.msi_times.specs.Shown.{Sight, sight_told_if, sight_sent, sight_answered}
 use Rattle.msi_state.specs.Sights.{cons_if}
 use Rattle.msi_times.specs.NodeSights.{of_block, node_sight, Sends}

@@ -1,5 +1,5 @@
 -- A clerk that notes with its clocks leaves the rider right.
-use Rattle.std.proofs.Common.{◌≡◌, ◌≢◌, ◌∙◌, ap, refl, sym, subst, ℕ, ◌==◌, Bool, true, false, List, [], ◌∷◌, ◌++◌, Option, Some, None, arith, inl, inr}
+use Rattle.std.proofs.Common.{◌≡◌, ◌≢◌, ◌∙◌, ap, refl, sym, subst, ℕ, ◌==◌, Bool, true, false, List, [], ◌∷◌, Some, None, arith, inl, inr}
 use Rattle.std.specs.Prelude.{reverse, if◌then◌else◌}
 use Rattle.std.proofs.lemmas.Bool.{cases_eq}
 use Rattle.std.proofs.lemmas.Bool.Decides.{nat_tests}
@@ -11,7 +11,6 @@ use Rattle.clock_core.specs.declared.vector_clock.Clock.{Clock}
 use Rattle.rtr_types.specs.declared.accesses.Access.{Access}
 use Rattle.rtr_types.specs.declared.nodes.Instr.{Instr}
 use Rattle.msi_state.specs.Nodes.{Event, Nothing, Retires, Accesses, Tells, rider_of_event, rider_at}
-use Rattle.msi_state.specs.States.{State}
 use Rattle.msi_state.specs.Steps.{event, retiring, step}
 use Rattle.msi_state.specs.declared.actors.Node.{Node}
 use Rattle.msi_times.proofs.RiderLaws.{times_absorb, times_notes}

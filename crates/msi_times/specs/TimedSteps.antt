@@ -2,23 +2,13 @@
 use Rattle.std.specs.Prelude.{◌≡◌, ℕ, ◌==◌, List, [], ◌∷◌, reverse, IsTrue, if◌then◌else◌}
 use Rattle.access_times.specs.Riding.{Carrying}
 use Rattle.access_times.specs.Times.{times_riding, write_at, read_at}
-use Rattle.access_times.specs.declared.TheConstants.{BLOCK_WORDS}
 use Rattle.access_times.specs.declared.word_times.Times.{Times}
 use Rattle.clock_core.specs.Counts.{no_counts}
 use Rattle.clock_core.specs.declared.vector_clock.Clock.{Clock}
 use Rattle.rtr_types.specs.declared.accesses.Access.{Access}
-use Rattle.rtr_types.specs.declared.accesses.Kind.{Kind}
-use Rattle.rtr_types.specs.declared.accesses.Kind.TheVariants.{Load as IsLoad, Store as IsStore}
 use Rattle.rtr_types.specs.declared.nodes.Instr.{Instr}
-use Rattle.rv_core.specs.declared.core_state.Need.{Need}
-use Rattle.rv_core.specs.declared.core_state.Need.TheVariants.{Load, Store}
-use Rattle.msi_cache.specs.Lines.{line_for}
-use Rattle.msi_cache.specs.Table.{is_transient}
-use Rattle.msi_cache.specs.declared.copies.State.TheVariants.{I}
-use Rattle.msi_cache.specs.declared.copies.TheConstants.{LINES}
 use Rattle.msi_sound.specs.Sound.{Sound}
-use Rattle.msi_state.specs.Nodes.{Event, Nothing, Retires, Accesses, Tells, rider_of_event, allows, rider_at}
-use Rattle.msi_state.specs.Ready.{Ready}
+use Rattle.msi_state.specs.Nodes.{Event, Nothing, Retires, Accesses, Tells, rider_of_event, rider_at}
 use Rattle.msi_state.specs.States.{State}
 use Rattle.msi_state.specs.Steps.{step, event, retiring, enabled}
 use Rattle.msi_state.specs.declared.actors.Node.{Node}

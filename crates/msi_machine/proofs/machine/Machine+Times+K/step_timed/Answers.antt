@@ -1,4 +1,4 @@
-use Rattle.std.proofs.Common.{◌≡◌, ap, sym, subst}
+use Rattle.std.proofs.Common.{sym, subst}
 use Rattle.access_times.specs.Times.{times_riding}
 use Rattle.access_times.specs.declared.word_times.Times.{Times}
 use Rattle.msi_sound.specs.Sound.{Sound}
