@@ -20,3 +20,4 @@ pub mod Begins
 pub mod Told
 pub mod Absorbing
 pub mod ExactTimes
+pub mod TimedRuns

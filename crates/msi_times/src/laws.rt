@@ -6,6 +6,7 @@ ghost use Rattle.msi_state.specs.States.{state_start};
 ghost use Rattle.msi_times.specs.Absorbing.{MeetAlike};
 ghost use Rattle.msi_times.specs.ExactTimes.{ExactTimesLaw, OrderedLaw};
 ghost use Rattle.msi_times.specs.Retirements.{MachineStandsFor};
+ghost use Rattle.msi_times.specs.TimedRuns.{TimedRunLaw};
 ghost use Rattle.msi_times.specs.TimedSteps.{ClocksTold, Finds, TimedStep, TimedTold, times_parts};
 
 use access_times::{Carry, TimesClerk};
@@ -28,7 +29,13 @@ pub fn timed_tellings<K: Carry, C: TimesClerk<K>>()
     ensures clocks { ClocksTold C.told_local C.told_touch C.clock }
 {}
 
-/// Where one rider absorbs another in a run, both have the same last write of each word: absorbing
+/// So each state of each run of a machine with times stands for its retirements, each access finds exact
+/// times by them, and riders that meet have the same last writes, whatever clocks are noted.
+pub fn runs_are_timely<K: Carry>()
+    ensures { TimedRunLaw K.carrying }
+{}
+
+/// Where one rider absorbs another, both have the same last write of each word: absorbing
 /// never leaves a slot as it was because the writes differ.
 pub fn riders_meet_alike<K: Carry>()
     ensures { MeetAlike times_parts K.carrying }

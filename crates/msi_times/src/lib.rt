@@ -7,5 +7,6 @@
 mod laws;
 
 pub use laws::{
-    accesses_are_ordered, noted_times_are_exact, riders_meet_alike, timed_steps, timed_tellings,
+    accesses_are_ordered, noted_times_are_exact, riders_meet_alike, runs_are_timely, timed_steps,
+    timed_tellings,
 };

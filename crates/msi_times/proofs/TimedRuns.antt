@@ -1,0 +1,74 @@
+-- Each state of each run of a machine with times is timely.
+use Rattle.std.proofs.Common.{◌≡◌, refl, subst, Bool, true, false, List, [], ◌∷◌}
+use Rattle.std.specs.Prelude.{if◌then◌else◌, reverse}
+use Rattle.access_times.specs.Riding.{Carrying}
+use Rattle.access_times.specs.Times.{times_riding}
+use Rattle.access_times.specs.declared.word_times.Times.{Times}
+use Rattle.clock_core.specs.declared.vector_clock.Clock.{Clock}
+use Rattle.rtr_types.specs.declared.accesses.Access.{Access}
+use Rattle.msi_sound.proofs.Begins.{sound_start}
+use Rattle.msi_sound.proofs.Kept.{sound_kept}
+use Rattle.msi_sound.specs.Sound.{Sound}
+use Rattle.msi_state.specs.Nodes.{Event, Nothing, Retires, Accesses, rider_at}
+use Rattle.msi_state.specs.Steps.{enabled, event, retiring, step}
+use Rattle.msi_state.specs.declared.actors.Node.{Node}
+use Rattle.msi_times.proofs.Absorbing.{meet_alike}
+use Rattle.msi_times.proofs.Begins.{machine_start}
+use Rattle.msi_times.proofs.RiderLaws.{times_absorb, times_fresh, times_notes}
+use Rattle.msi_times.proofs.Timed.{timed_step, finds_exact}
+use Rattle.msi_times.proofs.Told.{event_reversed}
+use Rattle.msi_times.specs.Retirements.{Retirement, StandsAfter, MachineStandsFor, RiderNotes, with_event}
+use Rattle.msi_times.specs.TimedRuns.{TimedMove, TimedState, rider_noted, timed_taking, timed_run, timed_start, TimedRunLaw}
+use Rattle.msi_times.specs.TimedSteps.{RiderFits, times_parts}
+
+module _ {K : Type 0} where
+  noted_fits : (e : Event) (n : Node Times K) (clock : Clock) → RiderFits times_parts clock (rider_noted e n clock) e n
+  noted_fits Nothing n clock a is = absurd cc
+  noted_fits (Retires at) n clock a is = absurd cc
+  noted_fits (Accesses b) n clock a is = subst (λ (x : Access). RiderNotes times_parts (record { access = x; clock = clock }) (rider_at times_riding n x.word) (rider_noted (Accesses b) n clock)) same (times_notes b clock (rider_at times_riding n b.word))
+    where
+      same : b ≡ a
+      same = cc
+
+  record Stands (carrying : Carrying K) (t : TimedState K) : Type 0 where
+    sound : Sound times_riding carrying t.state
+    stands : MachineStandsFor times_parts carrying t.list t.state
+
+  taken_stands : (carrying : Carrying K) (t : TimedState K) (m : TimedMove) → Stands carrying t → Stands carrying (timed_taking carrying t m)
+  taken_stands carrying t m h = by (enabled times_riding carrying t.state m.move) (λ is. moved is)
+    where
+      e : Event
+      e = event times_riding carrying t.state m.move
+
+      rider : Times
+      rider = rider_noted e (retiring times_riding carrying t.state m.move) m.clock
+
+      next : TimedState K
+      next = record { state = step times_riding carrying rider t.state m.move; list = with_event e m.clock t.list }
+
+      moved : enabled times_riding carrying t.state m.move ≡ true → Stands carrying next
+      moved is =
+          record {
+            sound = sound_kept times_riding carrying t.state m.move rider is h.sound;
+            stands = subst (λ (l : List Retirement). StandsAfter times_parts carrying l next.state) (event_reversed e m.clock t.list)
+                (timed_step times_parts carrying times_absorb (reverse t.list) t.state m.move rider m.clock h.sound is (noted_fits e (retiring times_riding carrying t.state m.move) m.clock) h.stands);
+          }
+
+      by : (test : Bool) → (test ≡ true → Stands carrying next) → Stands carrying (if test then next else t)
+      by true f = f refl
+      by false f = h
+
+  run_stands : (carrying : Carrying K) (t : TimedState K) (ms : List TimedMove) → Stands carrying t → Stands carrying (timed_run carrying t ms)
+  run_stands carrying t [] h = h
+  run_stands carrying t (m ∷ ms) h = run_stands carrying (timed_taking carrying t m) ms (taken_stands carrying t m h)
+
+  pub timed_run_law : (carrying : Carrying K) → TimedRunLaw carrying
+  timed_run_law carrying image cores limit ms few small =
+      let start : TimedState K = timed_start carrying image cores limit in
+      let t : TimedState K = timed_run carrying start ms in
+      let h = run_stands carrying start ms (record { sound = sound_start times_riding carrying image cores limit few small; stands = machine_start times_parts carrying times_fresh image cores limit }) in
+      record {
+        stands = h.stands;
+        finds = λ m e a is. finds_exact times_parts carrying times_absorb (reverse t.list) t.state m a h.sound e is h.stands;
+        alike = λ m e. meet_alike times_parts carrying t.list t.state m h.sound e h.stands;
+      }
