@@ -1,5 +1,5 @@
 -- What the cores and their caches stand at after a move.
-use Rattle.std.proofs.Common.{◌≡◌, ◌∙◌, refl, ap, ℕ, ◌<◌, ◌%◌, Bool, true, false, ◌||◌, cond, Option, Some, None, List, [], ◌∷◌, zero, suc, length, get_or}
+use Rattle.std.proofs.Common.{◌≡◌, ◌∙◌, refl, ap, ℕ, ◌<◌, ◌%◌, Bool, true, false, ◌||◌, cond, Option, Some, None, List, [], ◌∷◌, zero, suc, length, get_or, arith}
 use Rattle.std.specs.Prelude.{map, slice_set, slice_index_or}
 use Rattle.std.specs.List.{list_all, list_any}
 use Rattle.std.proofs.Math.Seq.{map-set_same}
@@ -10,21 +10,22 @@ use Rattle.image_mem.specs.Contents.{Contents}
 use Rattle.rtr_types.specs.CoreSets.{has}
 use Rattle.rtr_types.specs.declared.core_set.CoreSet.{CoreSet}
 use Rattle.rv_core.specs.Steps.{is_done}
-use Rattle.msi_cache.specs.Table.{is_transient}
+use Rattle.msi_cache.specs.Table.{Row, Signal, is_transient, row}
+use Rattle.msi_cache.specs.declared.copies.State.{State as LineState}
 use Rattle.msi_cache.specs.declared.copies.TheConstants.{LINES}
 use Rattle.msi_cache.specs.declared.copies.Line.{Line}
 use Rattle.msi_cache.specs.declared.messages.FromHome.{FromHome}
 use Rattle.msi_cache.specs.declared.messages.FromHome.TheVariants.{Inv}
 use Rattle.msi_cache.specs.declared.messages.Request.{Request}
 use Rattle.msi_cache.specs.declared.messages.Response.{Response}
-use Rattle.msi_cache.specs.Lines.{empty_line, lines_put, lines_riding, waits}
-use Rattle.msi_cache.specs.Messages.{request_block, response_block}
+use Rattle.msi_cache.specs.Lines.{empty_line, line_after, line_by, lines_after, lines_put, lines_riding, waits}
+use Rattle.msi_cache.specs.Messages.{block_of, signal, request_block, response_block}
 use Rattle.msi_directory.specs.Blocks.{entry_at}
 use Rattle.msi_directory.specs.Entries.{answer_to_request, answer_to_response}
 use Rattle.msi_state.specs.declared.actors.Mail.{Mail}
 use Rattle.msi_state.specs.declared.actors.Node.{Node}
 use Rattle.msi_state.specs.declared.needs.Standing.{Standing}
-use Rattle.msi_state.specs.Standings.{standing_of, standings_of}
+use Rattle.msi_state.specs.Standings.{ends_wait, standing_of, standings_of}
 use Rattle.msi_state.specs.States.{State, all_done, no_node, node_at}
 use Rattle.msi_state.specs.Steps.{delivered_in, node_requested, node_responded, node_sent, nodes_sent, nodes_told, request_moved, request_moved_in, response_moved, response_moved_in}
 
@@ -33,6 +34,14 @@ any_set_same : {X : Type 0} (test : X → Bool) (xs : List X) (i : ℕ) (y d : X
 any_set_same test [] i y d same = refl
 any_set_same test (x ∷ xs) zero y d same = ap (λ (b : Bool). b || list_any test xs) same
 any_set_same test (x ∷ xs) (suc i) y d same = ap (λ (b : Bool). test x || b) (any_set_same test xs i y d same)
+
+-- the state after a row, or the same where there is none
+abbrev next_of : Option Row → LineState → LineState
+next_of None state = state
+next_of (Some r) state = r.next
+
+same_wait : (m : Signal) (state : LineState) → ends_wait m ≡ false → is_transient (next_of (row m state) state) ≡ is_transient state
+same_wait m state other = grind arith
 
 module _ {R : Type 0} where
   -- an access changes no line's state
@@ -43,6 +52,17 @@ module _ {R : Type 0} where
   pub waits_riding : (fresh : R) (lines : List (Line R)) (block : ℕ) (rider : R) → waits (lines_riding fresh lines block rider) ≡ waits lines
   waits_riding fresh lines block rider =
       any_set_same (λ (line : Line R). is_transient line.state) lines (block % LINES) (record (slice_index_or lines (block % LINES) (empty_line fresh)) { rider = rider }) (empty_line fresh) refl
+
+  state_after : (absorbed : R → R → R) (r : Option Row) (m : FromHome R) (line : Line R) → (line_by absorbed r m line).state ≡ next_of r line.state
+  state_after absorbed None m line = refl
+  state_after absorbed (Some r) m line = refl
+
+  -- only two kinds of messages end a wait, and none begins one
+  pub waits_kept : (riding : Riding R) (lines : List (Line R)) (m : FromHome R) → ends_wait (signal m) ≡ false → waits (lines_after riding lines m) ≡ waits lines
+  waits_kept riding lines m other =
+      let line : Line R = slice_index_or lines (block_of m % LINES) (empty_line riding.fresh) in
+      any_set_same (λ (x : Line R). is_transient x.state) lines (block_of m % LINES) (line_after riding.absorbed line m) (empty_line riding.fresh)
+      (ap is_transient (state_after riding.absorbed (row (signal m) line.state) m line) ∙ same_wait (signal m) line.state other)
 
 module _ {R K : Type 0} where
   -- one node of all is replaced

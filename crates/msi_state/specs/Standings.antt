@@ -1,17 +1,24 @@
 -- What the cores and their caches stand at, from which the moves that can be made are found.
-use Rattle.std.specs.Prelude.{ℕ, Bool, List, length, map}
+use Rattle.std.specs.Prelude.{ℕ, Bool, true, false, List, length, map}
 use Rattle.std.specs.List.{filter}
 use Rattle.access_times.specs.Riding.{Riding, Carrying}
 use Rattle.image_mem.specs.Contents.{Contents}
 use Rattle.rv_core.specs.declared.core_state.Core.{Core}
 use Rattle.rv_core.specs.Steps.{need, instruction_at}
 use Rattle.msi_cache.specs.Lines.{waits}
+use Rattle.msi_cache.specs.Table.{Signal, BlockData, PutAck}
 use Rattle.msi_state.specs.declared.actors.Node.{Node}
 use Rattle.msi_state.specs.declared.moves.Move.{Move}
 use Rattle.msi_state.specs.declared.needs.Standing.{Standing}
 use Rattle.msi_state.specs.Moves.{candidates}
 use Rattle.msi_state.specs.States.{State}
 use Rattle.msi_state.specs.Steps.{enabled}
+
+-- such a message ends the wait of a line that expects it
+abbrev pub ends_wait : Signal → Bool
+ends_wait BlockData = true
+ends_wait PutAck = true
+ends_wait _ = false
 
 -- a core's next instruction and what that needs, beside whether its cache waits
 abbrev pub standing_with : Contents → Core → Bool → Standing

@@ -7,7 +7,7 @@ ghost use Rattle.msi_state.specs.States.{node_start};
 ghost use Rattle.msi_state.specs.Standings.{standing_of};
 ghost use Rattle.msi_state.specs.Nodes.{next_instr, instr_of, allows, access_of, rider_at, carry_after, node_accessing, node_local, node_trying, event_trying, node_working, event_working, node_receiving, event_receiving, node_taken_in, rider_of_event, may_access, can_receive_in, Tells};
 
-use crate::needs::Standing;
+use crate::needs::{Standing, take};
 use crate::sending::post;
 use access_times::{BLOCK_WORDS, Carry, Clerk, Rider};
 use image_mem::Image;
@@ -114,8 +114,7 @@ impl<R: Rider, K: Carry> Node<R, K> {
         let mail = self.messages.pop()?;
         self.carry = self.carry.join(mail.carry);
         let is_data = matches!(&mail.item, FromHome::BlockData { .. });
-        let answer = self.cache.on_home(mail.item);
-        standing.waits = self.cache.waits();
+        let answer = take(&mut self.cache, mail.item, &mut standing.waits);
         if is_data {
             return self.retire_waiting(image, standing, clerk);
         }
