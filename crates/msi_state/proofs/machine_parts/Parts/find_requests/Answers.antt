@@ -1,4 +1,4 @@
-use Rattle.std.proofs.Common.{◌≡◌, ◌∙◌, ap, sym, ◌+◌, ◌<◌, List, length, arith}
+use Rattle.std.proofs.Common.{◌∙◌, ap, sym, ◌+◌, ◌<◌, List, length, arith}
 use Rattle.msi_state.specs.declared.moves.Move.{Move}
 use Rattle.msi_state.specs.declared.moves.Move.TheVariants.{Request}
 use Rattle.msi_state.specs.States.{State}

@@ -1,4 +1,4 @@
-use Rattle.std.proofs.Common.{ap, sym, subst, ◌<◌, List, length}
+use Rattle.std.proofs.Common.{sym, subst, ◌<◌, List, length}
 use Rattle.msi_state.specs.declared.moves.Move.{Move}
 use Rattle.msi_state.proofs.Found.{found_enabled}
 use Rattle.msi_state.proofs.machine_parts.Parts.pick.Goals as goal
