@@ -35,16 +35,41 @@ const STORES: [u8; 12] = [
     0x93, 0x02, 0x55, 0x00, 0x23, 0x20, 0x50, 0x02, 0x73, 0x00, 0x00, 0x00,
 ];
 
-/// A run of two cores over `STORES`: the choices, and what the word at address 32 is at its end. The
-/// fifth choice decides whose store is the last.
-const RUNS: [([u32; 12], u32); 2] = [
-    ([0, 0, 0, 0, 0, 0, 0, 0, 0, 0, 0, 0], 6),
-    ([0, 0, 0, 0, 1, 0, 0, 0, 0, 0, 0, 0], 5),
+/// addi x5,x10,5; sb x5,32(x10); ecall
+const BYTE_STORES: [u8; 12] = [
+    0x93, 0x02, 0x55, 0x00, 0x23, 0x00, 0x55, 0x02, 0x73, 0x00, 0x00, 0x00,
 ];
 
-/// Runs both cores to their ends by these choices: how many retirements there were, and the word.
-fn stored(alloc: Global, choices: &[u32; 12]) -> Result<(u32, u32), Fail> {
-    let image = Image::flat(STORES.to_vec(alloc)?, 16)?;
+/// A run of two cores over an image: its choices, and what the word at address 32 is at its end.
+struct Run {
+    image: [u8; 12],
+    choices: [u32; 14],
+    word: u32,
+}
+
+/// Of the stores to one word, the fifth choice decides whose is the last; those of bytes leave both.
+static RUNS: [Run; 3] = [
+    Run {
+        image: STORES,
+        choices: [0, 0, 0, 0, 0, 0, 0, 0, 0, 0, 0, 0, 0, 0],
+        word: 6,
+    },
+    Run {
+        image: STORES,
+        choices: [0, 0, 0, 0, 1, 0, 0, 0, 0, 0, 0, 0, 0, 0],
+        word: 5,
+    },
+    Run {
+        image: BYTE_STORES,
+        choices: [0, 0, 0, 0, 0, 0, 0, 0, 0, 0, 0, 0, 0, 0],
+        word: 0x605,
+    },
+];
+
+/// Runs both cores to their ends, or through all the choices: how many steps were made, how many
+/// retirements there were, and the word.
+fn stored(alloc: Global, run: &Run) -> Result<(u32, u32, u32), Fail> {
+    let image = Image::flat(run.image.to_vec(alloc)?, 16)?;
     let params = Params {
         cores: 2,
         limit: 10,
@@ -52,22 +77,28 @@ fn stored(alloc: Global, choices: &[u32; 12]) -> Result<(u32, u32), Fail> {
     };
     let mut machine = Machine::<NoRider, NoCarry>::new(alloc, image, params)?;
     let mut clerk = Counter { told: 0 };
-    for choice in choices {
+    let mut steps = 0u32;
+    for choice in &run.choices {
         machine.make_room()?;
         if !machine.done() && machine.has_room() {
             let _ = machine.step(*choice, &mut clerk);
+            steps = steps.saturating_add(1);
         }
     }
     if !machine.done() || machine.core(1).count() != 3 {
-        return Ok((clerk.told, 0));
+        return Ok((steps, clerk.told, 0));
     }
-    Ok((clerk.told, machine.final_word(8)))
+    Ok((steps, clerk.told, machine.final_word(8)))
 }
 
+// Each core retires two instructions by itself and one with its data, after a request was sent and
+// taken. The second to be served also waits for the first to be asked for the block and to answer.
 #[test]
-fn a_choice_decides_whose_store_is_last(rt: HostRuntime) -> Result<(), Fail> {
-    for (choices, word) in &RUNS {
-        assert_eq!(rt; stored(rt.alloc(), choices)?, (6, *word));
+fn two_stores_take_twelve_steps_and_a_choice_decides_which_is_last(
+    rt: HostRuntime,
+) -> Result<(), Fail> {
+    for run in &RUNS {
+        assert_eq!(rt; stored(rt.alloc(), run)?, (12, 6, run.word));
     }
     Ok(())
 }

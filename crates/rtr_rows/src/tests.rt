@@ -1,4 +1,5 @@
 use crate::calls::{ask, bytes, input_of, output_of};
+use crate::run_tables::{FAULTY, RUNS};
 use crate::tables::{CUT_PARTS, CUT_RECORDING, ROWS};
 use std::test::Fail;
 
@@ -34,6 +35,36 @@ fn a_cut_names_the_part_that_it_cuts(rt: HostRuntime) -> Result<(), Fail> {
         let report = format!(in alloc; "rtr: bad input, part {part}\n")?;
         let answer = ask(alloc, "print", cut)?;
         assert_eq!(rt; answer.report.as_slice(), report.as_bytes(), "{len} bytes");
+    }
+    Ok(())
+}
+
+#[test]
+fn each_run_leaves_its_text(rt: HostRuntime) -> Result<(), Fail> {
+    let alloc = rt.alloc();
+    for run in &RUNS {
+        let mut text = String::from_str(alloc, run.state)?;
+        text.push_str(run.loads)?;
+        let answer = ask(alloc, run.words, bytes(alloc, run.image)?)?;
+        assert_eq!(rt; answer.status, 0, "{}", run.words);
+        assert_eq!(rt; answer.output.as_slice(), text.as_bytes(), "{}", run.words);
+        assert_eq!(rt; answer.report.as_slice(), b"".as_slice(), "{}", run.words);
+    }
+    Ok(())
+}
+
+#[test]
+fn words_that_mean_nothing_are_refused(rt: HostRuntime) -> Result<(), Fail> {
+    let alloc = rt.alloc();
+    for words in &FAULTY {
+        let answer = ask(alloc, words, bytes(alloc, "73000000")?)?;
+        assert_eq!(rt; answer.status, 1, "{words}");
+        assert_eq!(rt; answer.output.as_slice(), b"".as_slice(), "{words}");
+        assert_eq!(rt;
+            answer.report.as_slice(),
+            b"rtr: usage\n".as_slice(),
+            "{words}"
+        );
     }
     Ok(())
 }

@@ -1,0 +1,461 @@
+//! Runs of the machine. What each row wants was worked out by hand from the instructions and the tables of
+//! the protocol: a comment says how, where the words of the row and its image don't show it.
+
+/// A call of `run` that ends well: its words and its image, then the lines of cores and memory, and those of
+/// loads, which are asked for by the words. The image is hexadecimal digits.
+pub struct Run {
+    pub words: &'static str,
+    pub image: &'static str,
+    pub state: &'static str,
+    pub loads: &'static str,
+}
+
+macro_rules! run {
+    ($words:expr, $image:expr, $state:expr, $loads:expr) => {
+        Run {
+            words: $words,
+            image: $image,
+            state: $state,
+            loads: $loads,
+        }
+    };
+}
+
+/// ecall
+const END: &str = "73000000";
+
+/// slli x5,x10,2; sw x10,32(x5); lw x6,32(x5); ecall: each core has a word of its own, in one block.
+const OWN_WORDS: &str = "93122500 23a0a202 03a30202 73000000";
+
+/// bne x10,x0,+20; addi x5,x0,7; sw x5,64(x0); lw x6,64(x0); ecall; lw x7,64(x0); sw x10,64(x0); ecall: core 0
+/// writes a word and reads it, core 1 reads it and then writes it.
+const HANDED_OVER: &str = "631a0500 93027000 23205004 03230004 73000000 83230004 2320a004 73000000";
+
+/// addi x5,x10,5; sb x5,32(x10); ecall: each core writes a byte of its own, in one word.
+const OWN_BYTES: &str = "93025500 23005502 73000000";
+
+/// addi x5,x10,5; sw x5,32(x0); ecall: each core writes the same word.
+const ONE_WORD: &str = "93025500 23205002 73000000";
+
+/// addi x5,x10,9; bne x10,x0,+12; sw x5,64(x0); ecall; lw x6,64(x0); lw x7,320(x0); ecall: core 0 writes a word
+/// that core 1 reads, and core 1 then reads one whose block has the same line.
+const READER_EVICTS: &str = "93029500 63160500 23205004 73000000 03230004 83230014 73000000";
+
+/// addi x5,x10,9; bne x10,x0,+16; sw x5,64(x0); lw x7,320(x0); ecall; lw x6,64(x0); ecall: core 0 writes a word
+/// and then reads one whose block has the same line; core 1 reads the first.
+const WRITER_EVICTS: &str = "93029500 63180500 23205004 83230014 73000000 03230004 73000000";
+
+/// The same, but that core 1 writes the first word, by sw x5,64(x0).
+const WRITERS_EVICT: &str = "93029500 63180500 23205004 83230014 73000000 23205004 73000000";
+
+/// bne x10,x0,+12; lw x6,64(x0); ecall; jal x0,+0: core 0 ends, and core 1 jumps to itself for ever.
+const ENDLESS: &str = "63160500 03230004 73000000 6f000000";
+
+/// Three results of each core, at 96 + 4 * core, 128 + 16 * core and 384 + 16 * core, from two words that
+/// all cores load:
+///
+/// - slli x5,x10,4; slli x6,x10,2; lw x7,68(x0);
+/// - lw x8,128(x5); add x8,x8,x7; add x8,x8,x10; sw x8,128(x5): a shared copy that becomes an owned one;
+/// - lw x9,384(x5): a block 16 after that one, which has its line, so that the owned copy goes back;
+/// - lw x11,72(x0); lw x12,96(x6); add x12,x12,x11; add x12,x12,x10; sw x12,96(x6): a word in a block of
+///   four cores, who take it from each other;
+/// - lw x9,128(x5); add x9,x9,x7; sw x9,384(x5): the line goes back two more times, each time from a shared
+///   copy;
+/// - ecall; and the two words, a00 and b00.
+const EIGHT_WORK: &str = "93124500 13132500 83234004 \
+    03a40208 33047400 3304a400 23a08208 \
+    83a40218 \
+    83258004 03260306 3306b600 3306a600 2320c306 \
+    83a40208 b3847400 23a09218 \
+    73000000 000a0000 000b0000";
+
+/// What `EIGHT_WORK` leaves. Each word that is written belongs to one core, and was 0, and the two words
+/// that all cores load are never written; so no schedule changes anything. The results of core c are b00 + c,
+/// a00 + c, and a00 + c + a00.
+const EIGHT_RESULTS: &str = "core 0 exit retired 17 pc 00000044\n\
+    core 0 x7 00000a00\n\
+    core 0 x8 00000a00\n\
+    core 0 x9 00001400\n\
+    core 0 x11 00000b00\n\
+    core 0 x12 00000b00\n\
+    core 1 exit retired 17 pc 00000044\n\
+    core 1 x5 00000010\n\
+    core 1 x6 00000004\n\
+    core 1 x7 00000a00\n\
+    core 1 x8 00000a01\n\
+    core 1 x9 00001401\n\
+    core 1 x10 00000001\n\
+    core 1 x11 00000b00\n\
+    core 1 x12 00000b01\n\
+    core 2 exit retired 17 pc 00000044\n\
+    core 2 x5 00000020\n\
+    core 2 x6 00000008\n\
+    core 2 x7 00000a00\n\
+    core 2 x8 00000a02\n\
+    core 2 x9 00001402\n\
+    core 2 x10 00000002\n\
+    core 2 x11 00000b00\n\
+    core 2 x12 00000b02\n\
+    core 3 exit retired 17 pc 00000044\n\
+    core 3 x5 00000030\n\
+    core 3 x6 0000000c\n\
+    core 3 x7 00000a00\n\
+    core 3 x8 00000a03\n\
+    core 3 x9 00001403\n\
+    core 3 x10 00000003\n\
+    core 3 x11 00000b00\n\
+    core 3 x12 00000b03\n\
+    core 4 exit retired 17 pc 00000044\n\
+    core 4 x5 00000040\n\
+    core 4 x6 00000010\n\
+    core 4 x7 00000a00\n\
+    core 4 x8 00000a04\n\
+    core 4 x9 00001404\n\
+    core 4 x10 00000004\n\
+    core 4 x11 00000b00\n\
+    core 4 x12 00000b04\n\
+    core 5 exit retired 17 pc 00000044\n\
+    core 5 x5 00000050\n\
+    core 5 x6 00000014\n\
+    core 5 x7 00000a00\n\
+    core 5 x8 00000a05\n\
+    core 5 x9 00001405\n\
+    core 5 x10 00000005\n\
+    core 5 x11 00000b00\n\
+    core 5 x12 00000b05\n\
+    core 6 exit retired 17 pc 00000044\n\
+    core 6 x5 00000060\n\
+    core 6 x6 00000018\n\
+    core 6 x7 00000a00\n\
+    core 6 x8 00000a06\n\
+    core 6 x9 00001406\n\
+    core 6 x10 00000006\n\
+    core 6 x11 00000b00\n\
+    core 6 x12 00000b06\n\
+    core 7 exit retired 17 pc 00000044\n\
+    core 7 x5 00000070\n\
+    core 7 x6 0000001c\n\
+    core 7 x7 00000a00\n\
+    core 7 x8 00000a07\n\
+    core 7 x9 00001407\n\
+    core 7 x10 00000007\n\
+    core 7 x11 00000b00\n\
+    core 7 x12 00000b07\n\
+    mem 00000060 00000b00\n\
+    mem 00000064 00000b01\n\
+    mem 00000068 00000b02\n\
+    mem 0000006c 00000b03\n\
+    mem 00000070 00000b04\n\
+    mem 00000074 00000b05\n\
+    mem 00000078 00000b06\n\
+    mem 0000007c 00000b07\n\
+    mem 00000080 00000a00\n\
+    mem 00000090 00000a01\n\
+    mem 000000a0 00000a02\n\
+    mem 000000b0 00000a03\n\
+    mem 000000c0 00000a04\n\
+    mem 000000d0 00000a05\n\
+    mem 000000e0 00000a06\n\
+    mem 000000f0 00000a07\n\
+    mem 00000180 00001400\n\
+    mem 00000190 00001401\n\
+    mem 000001a0 00001402\n\
+    mem 000001b0 00001403\n\
+    mem 000001c0 00001404\n\
+    mem 000001d0 00001405\n\
+    mem 000001e0 00001406\n\
+    mem 000001f0 00001407\n";
+
+/// The loads of `EIGHT_WORK`: each core finds its words 0 at its first loads of them, and at the last load
+/// its own result.
+const EIGHT_LOADS: &str = "load 0 3 00000044 00000a00\n\
+    load 0 4 00000080 00000000\n\
+    load 0 8 00000180 00000000\n\
+    load 0 9 00000048 00000b00\n\
+    load 0 10 00000060 00000000\n\
+    load 0 14 00000080 00000a00\n\
+    load 1 3 00000044 00000a00\n\
+    load 1 4 00000090 00000000\n\
+    load 1 8 00000190 00000000\n\
+    load 1 9 00000048 00000b00\n\
+    load 1 10 00000064 00000000\n\
+    load 1 14 00000090 00000a01\n\
+    load 2 3 00000044 00000a00\n\
+    load 2 4 000000a0 00000000\n\
+    load 2 8 000001a0 00000000\n\
+    load 2 9 00000048 00000b00\n\
+    load 2 10 00000068 00000000\n\
+    load 2 14 000000a0 00000a02\n\
+    load 3 3 00000044 00000a00\n\
+    load 3 4 000000b0 00000000\n\
+    load 3 8 000001b0 00000000\n\
+    load 3 9 00000048 00000b00\n\
+    load 3 10 0000006c 00000000\n\
+    load 3 14 000000b0 00000a03\n\
+    load 4 3 00000044 00000a00\n\
+    load 4 4 000000c0 00000000\n\
+    load 4 8 000001c0 00000000\n\
+    load 4 9 00000048 00000b00\n\
+    load 4 10 00000070 00000000\n\
+    load 4 14 000000c0 00000a04\n\
+    load 5 3 00000044 00000a00\n\
+    load 5 4 000000d0 00000000\n\
+    load 5 8 000001d0 00000000\n\
+    load 5 9 00000048 00000b00\n\
+    load 5 10 00000074 00000000\n\
+    load 5 14 000000d0 00000a05\n\
+    load 6 3 00000044 00000a00\n\
+    load 6 4 000000e0 00000000\n\
+    load 6 8 000001e0 00000000\n\
+    load 6 9 00000048 00000b00\n\
+    load 6 10 00000078 00000000\n\
+    load 6 14 000000e0 00000a06\n\
+    load 7 3 00000044 00000a00\n\
+    load 7 4 000000f0 00000000\n\
+    load 7 8 000001f0 00000000\n\
+    load 7 9 00000048 00000b00\n\
+    load 7 10 0000007c 00000000\n\
+    load 7 14 000000f0 00000a07\n";
+
+/// Eight cores that end at once: register x10 holds the number of its core.
+const EIGHT_ENDS: &str = "core 0 exit retired 1 pc 00000004\n\
+    core 1 exit retired 1 pc 00000004\n\
+    core 1 x10 00000001\n\
+    core 2 exit retired 1 pc 00000004\n\
+    core 2 x10 00000002\n\
+    core 3 exit retired 1 pc 00000004\n\
+    core 3 x10 00000003\n\
+    core 4 exit retired 1 pc 00000004\n\
+    core 4 x10 00000004\n\
+    core 5 exit retired 1 pc 00000004\n\
+    core 5 x10 00000005\n\
+    core 6 exit retired 1 pc 00000004\n\
+    core 6 x10 00000006\n\
+    core 7 exit retired 1 pc 00000004\n\
+    core 7 x10 00000007\n";
+
+/// What `OWN_WORDS` leaves: core 1 alone changes its word, the one at 36.
+const OWN_WORDS_STATE: &str = "core 0 exit retired 4 pc 00000010\n\
+    core 1 exit retired 4 pc 00000010\n\
+    core 1 x5 00000004\n\
+    core 1 x6 00000001\n\
+    core 1 x10 00000001\n\
+    mem 00000024 00000001\n";
+
+/// What `ENDLESS` leaves at the limit of 3: core 0's ECALL still retires there, and so it is an exit.
+const LIMIT_STATE: &str = "core 0 exit retired 3 pc 0000000c\n\
+    core 1 limit retired 3 pc 0000000c\n\
+    core 1 x10 00000001\n";
+
+/// The rows.
+pub static RUNS: [Run; 16] = [
+    // Two words of one block. No core stores to the other's word, so no schedule changes anything.
+    run!(
+        "run --cores 2 --words 16 --seed 5",
+        OWN_WORDS,
+        OWN_WORDS_STATE,
+        ""
+    ),
+    // Here core 1 takes the block from core 0 between the store and the load of core 0.
+    run!(
+        "run --cores 2 --words 16 --choices 0000010101010101010100 --seed 9 --loads",
+        OWN_WORDS,
+        OWN_WORDS_STATE,
+        "load 0 3 00000020 00000000\n\
+            load 1 3 00000024 00000001\n"
+    ),
+    // Core 0 stores 7; core 1's load takes it from the owner by way of the home, and core 1 then owns the
+    // block. That took all the choices, and core 0's load comes after.
+    run!(
+        "run --loads --cores 2 --words 32 --choices 00000001010101010101010101010101",
+        HANDED_OVER,
+        "core 0 exit retired 5 pc 00000014\n\
+            core 0 x5 00000007\n\
+            core 0 x6 00000001\n\
+            core 1 exit retired 4 pc 00000020\n\
+            core 1 x7 00000007\n\
+            core 1 x10 00000001\n\
+            mem 00000040 00000001\n",
+        "load 0 4 00000040 00000001\n\
+            load 1 2 00000040 00000007\n"
+    ),
+    // Bytes of one word: whoever is second, neither store loses the other's byte.
+    run!(
+        "run --cores 2 --words 16 --choices 000000000000000000000000",
+        OWN_BYTES,
+        "core 0 exit retired 3 pc 0000000c\n\
+            core 0 x5 00000005\n\
+            core 1 exit retired 3 pc 0000000c\n\
+            core 1 x5 00000006\n\
+            core 1 x10 00000001\n\
+            mem 00000020 00000605\n",
+        ""
+    ),
+    // One choice decides. After four choices a request of each core is on its link, and the fifth lets one be
+    // first; the store of the other is the last.
+    run!(
+        "run --cores 2 --words 16 --choices 0000000000",
+        ONE_WORD,
+        "core 0 exit retired 3 pc 0000000c\n\
+            core 0 x5 00000005\n\
+            core 1 exit retired 3 pc 0000000c\n\
+            core 1 x5 00000006\n\
+            core 1 x10 00000001\n\
+            mem 00000020 00000006\n",
+        ""
+    ),
+    run!(
+        "run --cores 2 --words 16 --choices 0000000001",
+        ONE_WORD,
+        "core 0 exit retired 3 pc 0000000c\n\
+            core 0 x5 00000005\n\
+            core 1 exit retired 3 pc 0000000c\n\
+            core 1 x5 00000006\n\
+            core 1 x10 00000001\n\
+            mem 00000020 00000005\n",
+        ""
+    ),
+    // A read by the first writer between two writes. Core 1 loads (four choices); core 0 asks to write
+    // (three), core 1 gives up its copy, and core 0 stores (four) and loads (one). Core 1's store comes after.
+    run!(
+        "run --cores 2 --words 32 --choices 010101010000000101010100 --loads",
+        HANDED_OVER,
+        "core 0 exit retired 5 pc 00000014\n\
+            core 0 x5 00000007\n\
+            core 0 x6 00000007\n\
+            core 1 exit retired 4 pc 00000020\n\
+            core 1 x10 00000001\n\
+            mem 00000040 00000001\n",
+        "load 0 4 00000040 00000007\n\
+            load 1 2 00000040 00000000\n"
+    ),
+    // PutS is stalled. Core 1 loads the word (five choices), core 0 asks to write (three), and core 1's next
+    // load sends PutS. The home takes core 0's request first, so Inv meets the copy on its way back (three
+    // more), and PutS arrives when core 0 owns the block. Both loads find 0.
+    run!(
+        "run --cores 2 --words 96 --choices 01010101010000000000000000 --loads",
+        READER_EVICTS,
+        "core 0 exit retired 4 pc 00000010\n\
+            core 0 x5 00000009\n\
+            core 1 exit retired 5 pc 0000001c\n\
+            core 1 x5 0000000a\n\
+            core 1 x10 00000001\n\
+            mem 00000040 00000009\n",
+        "load 1 3 00000040 00000000\n\
+            load 1 4 00000140 00000000\n"
+    ),
+    // PutM is stalled. Core 0 stores 9 (five choices), core 1 asks to read (three), and core 0's load sends
+    // PutM. The home takes core 1's request first, so the forward meets the copy on its way back, and core 1
+    // gets the 9 of it.
+    run!(
+        "run --cores 2 --words 96 --choices 00000001010101010001000000 --loads",
+        WRITER_EVICTS,
+        "core 0 exit retired 5 pc 00000014\n\
+            core 0 x5 00000009\n\
+            core 1 exit retired 4 pc 0000001c\n\
+            core 1 x5 0000000a\n\
+            core 1 x6 00000009\n\
+            core 1 x10 00000001\n\
+            mem 00000040 00000009\n",
+        "load 0 4 00000140 00000000\n\
+            load 1 3 00000040 00000009\n"
+    ),
+    // The same, but that core 1 asks to write: its 10 is stored after the 9, and the PutM that arrives last is
+    // dropped.
+    run!(
+        "run --cores 2 --words 96 --choices 00000001010101010001000000",
+        WRITERS_EVICT,
+        "core 0 exit retired 5 pc 00000014\n\
+            core 0 x5 00000009\n\
+            core 1 exit retired 4 pc 0000001c\n\
+            core 1 x5 0000000a\n\
+            core 1 x10 00000001\n\
+            mem 00000040 0000000a\n",
+        ""
+    ),
+    // A limit. No core stores anything, so no schedule changes anything.
+    run!(
+        "run --cores 2 --limit 3 --words 32",
+        ENDLESS,
+        LIMIT_STATE,
+        ""
+    ),
+    run!(
+        "run --cores 2 --limit 3 --words 32 --choices 01010101 --seed 4 --loads",
+        ENDLESS,
+        LIMIT_STATE,
+        "load 0 2 00000040 00000000\n"
+    ),
+    // Eight cores that share, upgrade and evict, by two schedules.
+    run!(
+        "run --cores 8 --words 128 --seed 1",
+        EIGHT_WORK,
+        EIGHT_RESULTS,
+        ""
+    ),
+    run!(
+        "run --cores 8 --words 128 --seed 18446744073709551615 --loads",
+        EIGHT_WORK,
+        EIGHT_RESULTS,
+        EIGHT_LOADS
+    ),
+    // The most cores and the least of all else.
+    run!(
+        "run --cores=8 --limit=1 --words=4 --choices=ff0007 --seed=0",
+        END,
+        EIGHT_ENDS,
+        ""
+    ),
+    // Bytes that the run doesn't reach are ignored.
+    run!(
+        "run --choices 00ff --loads",
+        END,
+        "core 0 exit retired 1 pc 00000004\n",
+        ""
+    ),
+];
+
+/// Words that mean nothing.
+pub static FAULTY: [&str; 41] = [
+    "run --cores 9",
+    "run --cores 0",
+    "run --cores 01",
+    "run --cores 2 --cores 2",
+    "run --cores 2 --cores=3",
+    "run --cores",
+    "run --cores=",
+    "run --core 2",
+    "run --cores 2 2",
+    "run --choices 0",
+    "run --choices 000",
+    "run --choices 0A",
+    "run --choices 0g",
+    "run --choices 0x00",
+    "run --choices=",
+    "run --choices ",
+    "run --choices",
+    "run --choices 00 --choices 00",
+    "run --seed 18446744073709551616",
+    "run --seed 00",
+    "run --seed -1",
+    "run --seed +1",
+    "run --seed=",
+    "run --seed",
+    "run --seed 1 --seed 1",
+    "run --loads 1",
+    "run --loads=1",
+    "run --loads --loads",
+    "run --limit 0",
+    "run --limit 100001",
+    "run --words 0",
+    "run --words 262148",
+    "run --cores 2 --",
+    "run --help",
+    "print --cores 2",
+    "print --choices 00",
+    "print --seed 0",
+    "print --loads",
+    "record --loads",
+    "record --cores 9",
+    "record --choices 0",
+];
