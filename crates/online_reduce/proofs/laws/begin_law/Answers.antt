@@ -1,0 +1,5 @@
+use Rattle.online_reduce.proofs.Reductions as reductions
+use Rattle.online_reduce.proofs.laws.begin_law.Goals as goal
+
+pub returns : goal.returns
+returns c = reductions.begin_law

@@ -1,0 +1,19 @@
+//! The reduced log, made while the run goes on: each access gets the edges that nothing else implies.
+#![tactic(auto)]
+
+pub mod laws;
+mod one_pair;
+mod pair_lists;
+mod reducer;
+mod rule;
+mod sources;
+#[cfg(test)]
+mod tests;
+
+pub use reducer::Reducer;
+use rtr_types::CORES_MAX;
+pub use rule::EdgeList;
+
+/// The most edges that one access gets, as it has no more candidates: the last write of its word and
+/// each core's last read since.
+const EDGES_MAX: usize = CORES_MAX as usize + 1;

@@ -1,0 +1,142 @@
+//! The online reduction.
+ghost use Rattle.std.specs.Prelude.{◌≡◌, ◌<◌, ◌≤◌, ◌++◌, ◌∷◌, [], List, IfOk, IsTrue, OnErr, OnOk};
+ghost use Rattle.rtr_types.specs.declared.TheConstants.{CORES_MAX};
+ghost use Rattle.rtr_types.specs.declared.accesses.Access.{Access};
+ghost use Rattle.rtr_types.specs.declared.nodes.Edge.{Edge};
+ghost use Rattle.access_times.specs.Times.{times_noted};
+ghost use Rattle.conflict_edge.specs.Times.{IsExactClock};
+
+use crate::pair_lists::PairLists;
+use crate::rule::{EdgeList, clock_into, edges_into, note};
+use crate::sources::candidates;
+use access_times::Times;
+use clock_core::Clock;
+use rtr_types::{Access, CORES_MAX, Instr, Items};
+use std::alloc::{AllocError, Global};
+use std::marker::Model;
+
+/// A place for each core, as the length of an array.
+const PLACES: usize = CORES_MAX as usize;
+
+/// Makes the reduced log of a run, one retired instruction after the other: it keeps the clock of each
+/// core's last instruction and the edges so far, by pair of cores. Contracts see both, and whether one
+/// more retirement needs no memory.
+#[derive(Drop)]
+pub struct Reducer {
+    alloc: Global,
+    cores: u8,
+    clocks: [Clock; PLACES],
+    pairs: PairLists,
+}
+
+impl Model for Reducer {
+    ghost use Rattle.std.specs.Prelude.{◌≡◌, ◌≤◌, length};
+    ghost use Rattle.rtr_types.specs.Pairs.{pair_count};
+    ghost use Rattle.rtr_types.specs.declared.TheConstants.{CORES_MAX};
+    ghost use Rattle.online_reduce.specs.Reduced.{Readied};
+
+    ghost Value = { Readied };
+
+    ghost view = { λ a. record { state = record { cores = a.cores; clocks = a.clocks; lists = a.pairs.lists }; ready = a.pairs.roomy } };
+
+    ghost invariant = { λ a. (a.cores ≤ CORES_MAX) × (length a.clocks ≡ CORES_MAX) × (length a.pairs.lists ≡ pair_count a.cores) };
+}
+
+impl Reducer {
+    ghost use Rattle.online_reduce.specs.Reduced.{IsNext, clock_of, counted, edges_of, retired, unreduced};
+    ghost use Rattle.online_reduce.specs.Exact.{AreCoveringInto, AreExactFor, AreRising, IsExact, IsHeld, IsReduction};
+
+    /// No retirement yet, on so many cores.
+    pub fn new(alloc: Global, cores: u8) -> Result<Reducer, AllocError>
+        requires { cores ≤ CORES_MAX }
+        ensures { IfOk result (λ reducer. reducer.state ≡ unreduced cores) }
+    {
+        let pairs = PairLists::new(alloc, cores)?;
+        Ok(Reducer {
+            alloc,
+            cores,
+            clocks: [Clock::zero(); PLACES],
+            pairs,
+        })
+    }
+
+    /// Makes room for one retirement, which then needs no memory. After want of memory nothing has
+    /// changed.
+    pub fn ready(&mut self) -> Result<(), AllocError>
+        ensures state { self.new.state ≡ self.old.state }
+        ensures ready { OnOk result (IsTrue self.new.ready) }
+        ensures err { OnErr result (self.new ≡ self.old) }
+    {
+        self.pairs.make_room()
+    }
+
+    /// Whether one retirement needs no memory.
+    pub fn is_ready(&self) -> bool
+        ensures { result ≡ self.now.ready }
+    {
+        self.pairs.has_room()
+    }
+
+    /// The clock noted last for the core: the clock of its last retired instruction, and zero before its
+    /// first.
+    pub fn clock(&self, core: u8) -> Clock
+        requires { core < self.now.state.cores }
+        ensures { result ≡ clock_of self.now.state core }
+    {
+        self.clocks[core as usize]
+    }
+
+    /// The core's next instruction retired, without an access.
+    pub fn local(&mut self, at: Instr)
+        requires { IsNext self.old.state at }
+        ensures state { self.new.state ≡ counted self.old.state at }
+        ensures ready { self.new.ready ≡ self.old.ready }
+        ensures exact { (list : List Access) → IsExact list self.old.state → IsExact list self.new.state }
+        ensures reduction { (list : List Access) (edges : List Edge) →
+            IsReduction list self.old.state edges → IsReduction list self.new.state edges }
+    {
+        let mut clock = self.clocks[at.core as usize];
+        clock.set(at.core, at.count);
+        self.clocks[at.core as usize] = clock;
+    }
+
+    /// The core's next instruction retired with the access. Answers the new edges by rising source core,
+    /// puts them into the pairs' lists, and notes the access in the times of its block.
+    pub fn retire(&mut self, access: &Access, times: &mut Times) -> EdgeList
+        requires ready { IsTrue self.old.ready }
+        requires next { IsNext self.old.state access.now.at }
+        ensures edges { result.items ≡ edges_of self.old.state access.now times.old }
+        ensures state { self.new.state ≡ retired self.old.state access.now times.old }
+        ensures times { times.new ≡ times_noted access.now times.old (clock_of self.new.state access.now.at.core) }
+        ensures held { IsHeld access.now times.new (clock_of self.new.state access.now.at.core) }
+        ensures clock { (list : List Access) → IsExact list self.old.state → AreExactFor list access.now times.old →
+            IsExactClock (list ++ access.now ∷ []) access.now.at (clock_of self.new.state access.now.at.core) }
+        ensures covering { (list : List Access) → IsExact list self.old.state → AreExactFor list access.now times.old →
+            AreCoveringInto (list ++ access.now ∷ []) access.now.at result.items }
+        ensures exact { (list : List Access) → IsExact list self.old.state → AreExactFor list access.now times.old →
+            IsExact (list ++ access.now ∷ []) self.new.state }
+        ensures reduction { (list : List Access) (edges : List Edge) →
+            IsReduction list self.old.state edges → AreExactFor list access.now times.old →
+            IsReduction (list ++ access.now ∷ []) self.new.state (edges ++ result.items) }
+    {
+        let at = access.at;
+        let before = self.clocks[at.core as usize];
+        let found = candidates(self.alloc, self.cores, access, times);
+        let edges = edges_into(self.alloc, at, &before, found.as_slice());
+        let clock = clock_into(at, before, found.as_slice());
+        self.clocks[at.core as usize] = clock;
+        self.pairs.add(self.cores, edges.as_slice());
+        note(access, clock, times);
+        edges
+    }
+
+    /// The edges by pair of cores, each list rising in both counts. It takes no memory.
+    pub fn finish(self) -> Items<Items<(u32, u32)>>
+        ensures lists { result ≡ self.state.lists }
+        ensures rising { (list : List Access) (edges : List Edge) →
+            IsReduction list self.state edges → AreRising self.state result }
+    {
+        let Reducer { pairs, .. } = self;
+        pairs.into_items()
+    }
+}

@@ -1,0 +1,88 @@
+//! Which candidates become edges, and what the new clock is.
+ghost use Rattle.std.specs.Prelude.{◌≡◌, ℕ, ◌<◌, ◌≤◌, All, length};
+ghost use Rattle.rtr_types.specs.declared.TheConstants.{CORES_MAX};
+ghost use Rattle.access_times.specs.declared.word_times.Times.{Times};
+ghost use Rattle.access_times.specs.Times.{times_noted};
+ghost use Rattle.online_reduce.specs.Rule.{clock_into, edges_into, is_kept, lets_pass};
+ghost use Rattle.online_reduce.specs.declared.TheConstants.{EDGES_MAX};
+ghost use Rattle.online_reduce.specs.declared.sources.Source.{Source};
+
+use crate::EDGES_MAX;
+use crate::sources::{Source, slot_of};
+use access_times::Times;
+use clock_core::Clock;
+use rtr_types::{Access, Edge, Instr, Kind};
+use smallvec::SmallVec;
+use std::alloc::Global;
+
+/// The edges into one access. The list never allocates.
+pub type EdgeList = SmallVec<Edge, EDGES_MAX>;
+
+/// Whether the candidate is this instruction, or its clock doesn't know of it.
+fn lets_pass(at: Instr, source: &Source) -> bool
+    requires { at.core < CORES_MAX }
+    ensures { result ≡ lets_pass at source.now }
+{
+    source.at == at || !source.clock.covers(at)
+}
+
+/// Whether the candidate at this instruction becomes an edge: neither the clock before on the new
+/// access's core nor the clock of another candidate knows of it.
+fn is_kept(before: &Clock, found: &[Source], at: Instr) -> bool
+    requires { at.core < CORES_MAX }
+    ensures { result ≡ is_kept before.now found.now at }
+{
+    if before.covers(at) {
+        return false;
+    }
+    for source in found {
+        if !lets_pass(at, source) {
+            return false;
+        }
+    }
+    true
+}
+
+/// The edges into an instruction from the candidates that are kept.
+pub fn edges_into(alloc: Global, at: Instr, before: &Clock, found: &[Source]) -> EdgeList
+    requires few { length found.now ≤ EDGES_MAX }
+    requires cores { All (λ s. s.at.core < CORES_MAX) found.now }
+    ensures edges { result.items ≡ edges_into at before.now found.now }
+    ensures few { length result.items ≤ EDGES_MAX }
+{
+    let mut edges = SmallVec::new(alloc);
+    for source in found {
+        if is_kept(before, found, source.at) {
+            edges.push_reserved(Edge {
+                from: source.at,
+                to: at,
+            });
+        }
+    }
+    edges
+}
+
+/// The clock of an instruction, from the one before on its core and those of its candidates.
+pub fn clock_into(at: Instr, before: Clock, found: &[Source]) -> Clock
+    requires { at.core < CORES_MAX }
+    ensures { result ≡ clock_into at before found.now }
+{
+    let mut clock = before;
+    for source in found {
+        clock = clock.merge(source.clock);
+    }
+    clock.set(at.core, at.count);
+    clock
+}
+
+/// Notes the access with its clock in the times of its block.
+pub fn note(access: &Access, clock: Clock, times: &mut Times)
+    requires { access.now.at.core < CORES_MAX }
+    ensures { times.new ≡ times_noted access.now times.old clock }
+{
+    let slot = slot_of(access.word);
+    match access.kind {
+        Kind::Load => times.on_load(slot, access.at, clock),
+        Kind::Store => times.on_store(slot, access.at, clock),
+    }
+}

@@ -1,0 +1,78 @@
+//! Short runs, with the times that one block's words have in them.
+use crate::Reducer;
+use access_times::{Rider, Times};
+use conflict_edge::least_of;
+use rtr_types::{Access, Instr, Kind};
+use std::test::Fail;
+
+/// An access to a word of the first block. Values play no part.
+macro_rules! access {
+    ($core:literal : $count:literal $kind:ident $word:literal) => {
+        Access {
+            at: Instr {
+                core: $core,
+                count: $count,
+            },
+            word: $word,
+            kind: Kind::$kind,
+            before: 0,
+            after: 0,
+        }
+    };
+}
+
+// Core 0's store of word 0 comes after the read 1:1 by way of word 1, so one edge into it is enough.
+static READERS: [Access; 5] = [
+    access!(1: 1 Load 0),
+    access!(1: 2 Store 1),
+    access!(2: 1 Load 1),
+    access!(2: 2 Load 0),
+    access!(0: 1 Store 0),
+];
+
+#[test]
+fn readers_ordered_through_another_word(rt: HostRuntime) -> Result<(), Fail> {
+    let mut reducer = Reducer::new(rt.alloc(), 3)?;
+    let mut times = Times::fresh();
+    let mut edges = Vec::new(rt.alloc());
+    for access in &READERS {
+        let core = access.at.core;
+        assert!(rt; core < 3);
+        assert!(rt; reducer.clock(core).get(core) as u64 + 1 == access.at.count as u64);
+        reducer.ready()?;
+        for edge in reducer.retire(access, &mut times).as_slice() {
+            edges.push(*edge)?;
+        }
+    }
+    let least = least_of(rt.alloc(), &READERS)?;
+    assert_eq!(rt; edges.as_slice(), least.as_slice());
+    let lists = reducer.finish();
+    let lists = lists.as_slice();
+    assert_eq!(rt; lists.len(), 6);
+    assert_eq!(rt;
+        (
+            lists[0].len(),
+            lists[1].len(),
+            lists[2].len(),
+            lists[5].len()
+        ),
+        (0, 0, 0, 0)
+    );
+    assert_eq!(rt; lists[3].as_slice(), [(2, 1)].as_slice());
+    assert_eq!(rt; lists[4].as_slice(), [(2, 1)].as_slice());
+    Ok(())
+}
+
+#[test]
+fn a_local_instruction_counts(rt: HostRuntime) -> Result<(), Fail> {
+    let mut reducer = Reducer::new(rt.alloc(), 2)?;
+    reducer.local(Instr { core: 1, count: 1 });
+    reducer.ready()?;
+    assert!(rt; reducer.is_ready());
+    let mut times = Times::fresh();
+    let edges = reducer.retire(&access!(1: 2 Store 0), &mut times);
+    assert_eq!(rt; edges.len(), 0);
+    assert_eq!(rt; reducer.clock(1).get(1), 2);
+    assert_eq!(rt; reducer.clock(0).get(1), 0);
+    Ok(())
+}
