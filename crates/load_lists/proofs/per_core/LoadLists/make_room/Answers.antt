@@ -15,6 +15,6 @@ returns-in_err-make_room-clause-lists c =
 pub loop-core-preserved : goal.loop-core-preserved
 loop-core-preserved c = record {
   made = made_more c.self.inside.lists.items c.loop-core.self-inside.lists.items c.loop-core.core c.index_mut.result.now c.make_room.new.self
-  (omega (arith, c.loop-core.invariant.length, c.loop-core-test.true)) c.index_mut.ensures.value c.make_room.ensures.notes c.in_ok-make_room.ensures.room c.loop-core.invariant.made;
+      (omega (arith, c.loop-core.invariant.length, c.loop-core-test.true)) c.index_mut.ensures.value c.make_room.ensures.notes c.in_ok-make_room.ensures.room c.loop-core.invariant.made;
   length = length-set c.loop-core.self-inside.lists.items c.loop-core.core c.make_room.new.self ∙ c.loop-core.invariant.length;
 }
