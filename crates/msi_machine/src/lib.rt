@@ -11,6 +11,7 @@
 mod machine;
 #[cfg(test)]
 mod tests;
+mod timed;
 #[cfg(test)]
 mod timed_tests;
 

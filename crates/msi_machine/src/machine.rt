@@ -1,7 +1,6 @@
 //! The machine and its calls.
 ghost use Rattle.std.specs.Prelude.{◌≡◌, ◌<◌, ◌≤◌, ◌+◌, ◌*◌, ◌%◌, ◌^◌, ℕ, IfOk, IsTrue, List, OnOk, Some, false, length, slice_index_or, true};
 ghost use Rattle.access_times.specs.Riding.{none_carrying, none_riding};
-ghost use Rattle.access_times.specs.Times.{times_riding};
 ghost use Rattle.rtr_types.specs.Parameters.{Fits};
 ghost use Rattle.rtr_types.specs.declared.TheConstants.{CORES_MAX};
 ghost use Rattle.msi_machine.specs.Writers.{OneWriter};
@@ -15,11 +14,8 @@ ghost use Rattle.msi_state.specs.Runs.{chosen, opening_state, plain_event, plain
 ghost use Rattle.msi_state.specs.States.{all_done, node_at, state_start};
 ghost use Rattle.msi_state.specs.Steps.{AcceptsNext, TellsOf, event, moves, rider_left, step};
 ghost use Rattle.msi_state.specs.declared.moves.Move.{Move};
-ghost use Rattle.msi_times.specs.Absorbing.{MeetsAlike};
-ghost use Rattle.msi_times.specs.Retirements.{MachineStandsFor, Retirement};
-ghost use Rattle.msi_times.specs.TimedSteps.{AreLastClocks, StepFinds, times_parts, with_step};
 
-use access_times::{Carry, Clerk, Rider, Times, TimesClerk};
+use access_times::{Carry, Clerk, Rider};
 use image_mem::Image;
 use msi_state::{Parts, Stepped};
 use rtr_types::Params;
@@ -31,7 +27,7 @@ use std::marker::Model;
 /// have room for a request.
 #[derive(Drop)]
 pub struct Machine<R: Rider, K: Carry> {
-    parts: Parts<R, K>,
+    pub(crate) parts: Parts<R, K>,
 }
 
 impl<R: Rider, K: Carry> Model for Machine<R, K> {
@@ -163,47 +159,5 @@ impl<R: Rider, K: Carry> Machine<R, K> {
         ensures numbers { (core : ℕ) → core < length self.now.state.nodes → (node_at K.carrying self.now.state.nodes core).core.id ≡ core }
     {
         let _ = &self.parts;
-    }
-}
-
-impl<K: Carry> Machine<Times, K> {
-    /// One step of a machine whose riders record times: `step`, for a clerk that notes each access with
-    /// the clock that it keeps for the core.
-    ///
-    /// For every list of retirements for which the machine stands before: afterwards it stands for the
-    /// list with what retired appended, with the clock that the clerk then holds for its core, or for the
-    /// same list where none retired. The rider that an access finds has the last write of its word in the
-    /// list before and, for an access that writes, each core's last read since that write, each with its
-    /// clock, and nothing else. Riders that meet have the same last writes. A clerk that holds the clocks
-    /// last noted still does.
-    pub fn step_timed<C: TimesClerk<K>>(&mut self, choice: u32, clerk: &mut C) -> Stepped
-        requires more { all_done self.old.state ≡ false }
-        requires roomy { IsTrue (heads_roomy self.old) }
-        requires accepts { AcceptsNext C.accepts clerk.old self.old.state }
-        ensures some { 0 < length (moves times_riding K.carrying self.old.state) }
-        ensures row { IsTrue (has_row_for times_riding K.carrying self.old.state result.taken) }
-        ensures room { HasRoomFor times_riding K.carrying self.old.state result.taken }
-        ensures taken { (d : Move) → result.taken ≡ slice_index_or (moves times_riding K.carrying self.old.state) (choice % length (moves times_riding K.carrying self.old.state)) d }
-        ensures state { self.new.state ≡ step times_riding K.carrying (rider_left times_riding K.carrying self.old.state self.new.state result.taken) self.old.state result.taken }
-        ensures image { self.new.state.image ≡ self.old.state.image }
-        ensures cores { length self.new.state.nodes ≡ length self.old.state.nodes }
-        ensures rooms { self.new.rooms ≡ self.old.rooms }
-        ensures retired { result.retired ≡ instr_of (event times_riding K.carrying self.old.state result.taken) }
-        ensures told { TellsOf C.told_local C.told_touch times_riding K.carrying self.old.state self.new.state result.taken clerk.old clerk.new }
-        ensures chosen { chosen (plain self.old.state) choice ≡ Some result.taken }
-        ensures plain { plain self.new.state ≡ plain_step (plain self.old.state) result.taken }
-        ensures event { event times_riding K.carrying self.old.state result.taken ≡ plain_event (plain self.old.state) result.taken }
-        ensures earns { Earns times_riding self.old.state self.new.state }
-        ensures nearer { left times_riding self.new.state < left times_riding self.old.state }
-        ensures coherent { (memory : ℕ → List ℕ) → Coherent times_riding K.carrying self.old.state memory → Coherent times_riding K.carrying self.new.state (memory_after (event times_riding K.carrying self.old.state result.taken) memory) }
-        ensures finds { (memory : ℕ → List ℕ) → Coherent times_riding K.carrying self.old.state memory → Finds (event times_riding K.carrying self.old.state result.taken) memory }
-        ensures one_writer { OneWriter times_riding K.carrying self.new.state }
-        ensures stands { (list : List Retirement) → MachineStandsFor times_parts K.carrying list self.old.state → MachineStandsFor times_parts K.carrying (with_step K.carrying self.old.state result.taken (C.clock clerk.new) list) self.new.state }
-        ensures times { (list : List Retirement) → MachineStandsFor times_parts K.carrying list self.old.state → StepFinds K.carrying self.old.state result.taken list }
-        ensures alike { (list : List Retirement) → MachineStandsFor times_parts K.carrying list self.old.state → MeetsAlike times_parts K.carrying self.old.state result.taken }
-        ensures clocks { (list : List Retirement) → AreLastClocks (C.clock clerk.old) list → AreLastClocks (C.clock clerk.new) (with_step K.carrying self.old.state result.taken (C.clock clerk.new) list) }
-    {
-        let _ = &self.parts;
-        self.step(choice, clerk)
     }
 }

@@ -13,7 +13,7 @@ use Rattle.msi_times.specs.Retirements.{MachineStandsFor}
 use Rattle.msi_times.specs.TimedSteps.{times_parts, with_step}
 use Rattle.std.specs.Prelude.{reverse}
 use Rattle.msi_machine.proofs.Timely.{taken_enabled}
-use Rattle.msi_machine.proofs.machine.Machine+Times+K.step_timed.Goals as goal
+use Rattle.msi_machine.proofs.timed.Machine+Times+K.step_timed.Goals as goal
 
 pub returns-clause-stands : goal.returns-clause-stands
 returns-clause-stands g c = λ list f.
