@@ -1,4 +1,5 @@
-//! A machine with times, whose reader evicts its copy while it is to give it up.
+//! A machine with times, in runs where copies are given up, forwarded or upgraded while another core waits
+//! for them: each access finds what the accesses before it left.
 ghost use Rattle.std.specs.Prelude.{◌≡◌, ◌≢◌, ◌<◌, ℕ, slice_index, slice_set};
 ghost use Rattle.std.proofs.Common.{◌∙◌, ap};
 ghost use Rattle.std.proofs.lemmas.List.{get_or-set_other};
@@ -7,22 +8,71 @@ ghost use Rattle.clock_core.specs.Counts.{no_counts};
 ghost use Rattle.rtr_types.specs.declared.TheConstants.{CORES_MAX};
 
 use crate::Machine;
-use access_times::{Carry, Clerk, NoCarry, Times, TimesClerk};
+use access_times::{BLOCK_WORDS, Carry, Clerk, NoCarry, Times, TimesClerk};
 use clock_core::Clock;
 use image_mem::Image;
-use rtr_types::{Access, Instr, Kind, Params};
+use rtr_types::{Access, CORES_MAX, Instr, Kind, Params};
 use std::alloc::Global;
 use std::test::Fail;
 
-/// Notes the n-th retirement of a core with the clock that has n at its place alone, and keeps the read
-/// by core 1 that the last store found.
-#[derive(Drop)]
-struct Noter {
-    counts: [u32; 8],
-    found: Option<(u32, Clock)>,
+/// A place for each core, as the length of an array.
+const PLACES: usize = CORES_MAX as usize;
+
+/// The most accesses that a clerk keeps. No run here makes as many.
+const ROOM: usize = 8;
+
+/// The most steps of a run here: (2 * 2 + 4) for each of the 10 instructions at most.
+const STEPS: usize = 80;
+
+/// A write with the clock that was noted for it.
+type Noted = Option<(Instr, Clock)>;
+
+/// The count of a core's read with its clock.
+type Read = Option<(u32, Clock)>;
+
+/// What an access finds of its word: the last write, and each core's last read since.
+#[derive(Clone, Copy, Debug, PartialEq, Eq)]
+struct Found {
+    write: Noted,
+    reads: [Read; PLACES],
 }
 
-impl<K: Carry> Clerk<Times, K> for Noter {
+/// An access, and what it found.
+#[derive(Clone, Copy, Debug, PartialEq, Eq)]
+struct Told {
+    access: Access,
+    found: Found,
+}
+
+/// Notes the n-th retirement of a core with the clock that has n at its place alone, and keeps all
+/// accesses in order.
+#[derive(Drop)]
+struct Keeper {
+    counts: [u32; 8],
+    told: [Option<Told>; ROOM],
+    kept: usize,
+}
+
+impl Keeper {
+    /// Keeps the access with what the rider has of its word.
+    fn keep(&mut self, access: Access, rider: &Times)
+        ensures { self.new.counts ≡ self.old.counts }
+    {
+        let slot = (access.word % 4) as u8;
+        let mut reads = [None; PLACES];
+        for core in 0..CORES_MAX {
+            reads[core as usize] = rider.read_by(slot, core);
+        }
+        let write = rider.write(slot);
+        let found = Found { write, reads };
+        if self.kept < ROOM {
+            self.told[self.kept] = Some(Told { access, found });
+            self.kept += 1;
+        }
+    }
+}
+
+impl<K: Carry> Clerk<Times, K> for Keeper {
     ghost accepts = { λ c at. at.core < CORES_MAX };
 
     ghost told_local = { λ c at k d. d.counts ≡ slice_set c.counts at.core at.count };
@@ -36,6 +86,7 @@ impl<K: Carry> Clerk<Times, K> for Noter {
     }
 
     fn touched(&mut self, access: Access, rider: &mut Times, _carry: K) {
+        self.keep(access, rider);
         let at = access.at;
         self.counts[at.core as usize] = at.count;
         let mut clock = Clock::zero();
@@ -43,15 +94,12 @@ impl<K: Carry> Clerk<Times, K> for Noter {
         let slot = (access.word % 4) as u8;
         match access.kind {
             Kind::Load => rider.on_load(slot, at, clock),
-            Kind::Store => {
-                self.found = rider.read_by(slot, 1);
-                rider.on_store(slot, at, clock);
-            }
+            Kind::Store => rider.on_store(slot, at, clock),
         }
     }
 }
 
-impl<K: Carry> TimesClerk<K> for Noter {
+impl<K: Carry> TimesClerk<K> for Keeper {
     ghost use Rattle.std.specs.Prelude.{List};
 
     ghost clock = { λ c core. slice_set no_counts core (slice_index c.counts core) };
@@ -67,43 +115,274 @@ impl<K: Carry> TimesClerk<K> for Noter {
     ghost touch_notes = { λ c d before after a k told. told.1 };
 }
 
-/// addi x5,x10,9; bne x10,x0,+12; sw x5,64(x0); ecall; lw x6,64(x0); lw x7,320(x0); ecall: core 0 writes a
-/// word that core 1 reads, and core 1 then reads one whose block has the same line.
-const READER_EVICTS: [u8; 28] = [
-    0x93, 0x02, 0x95, 0x00, 0x63, 0x16, 0x05, 0x00, 0x23, 0x20, 0x50, 0x04, 0x73, 0x00, 0x00, 0x00,
-    0x03, 0x23, 0x00, 0x04, 0x83, 0x23, 0x00, 0x14, 0x73, 0x00, 0x00, 0x00,
+/// The clock that a `Keeper` notes for the instruction.
+fn clock_of(at: Instr) -> Clock {
+    let mut clock = Clock::zero();
+    if at.core < CORES_MAX {
+        clock.set(at.core, at.count);
+    }
+    clock
+}
+
+/// The instruction with its clock.
+fn noted(at: Option<Instr>) -> Noted {
+    match at {
+        None => None,
+        Some(at) => Some((at, clock_of(at))),
+    }
+}
+
+/// What the access leaves of its word, from what it was.
+fn after_access(found: Found, access: Access) -> Found {
+    let at = access.at;
+    if access.kind.is_write() {
+        return Found {
+            write: noted(Some(at)),
+            reads: [None; PLACES],
+        };
+    }
+    let mut reads = found.reads;
+    if at.core < CORES_MAX {
+        reads[at.core as usize] = Some((at.count, clock_of(at)));
+    }
+    Found { reads, ..found }
+}
+
+/// What these accesses left of the word: the last write, and each core's last read since.
+fn left_by(accesses: &[Option<Told>], word: u32) -> Found {
+    let mut found = Found {
+        write: None,
+        reads: [None; PLACES],
+    };
+    for told in accesses {
+        if let Some(Told { access, .. }) = told
+            && access.word == word
+        {
+            found = after_access(found, *access);
+        }
+    }
+    found
+}
+
+/// Whether the access found what was left of its word: the write, and where it writes, each read.
+fn fits(told: Told, left: Found) -> bool {
+    let reads = !told.access.kind.is_write() || told.found.reads == left.reads;
+    told.found.write == left.write && reads
+}
+
+/// Whether each of the accesses found what the ones before it left.
+fn all_fit(accesses: &[Option<Told>]) -> bool {
+    for place in 0..accesses.len() {
+        if let Some(told) = accesses[place]
+            && !fits(told, left_by(&accesses[..place], told.access.word))
+        {
+            return false;
+        }
+    }
+    true
+}
+
+/// What the instruction's access found: the write, and the read by the core.
+fn found_at(accesses: &[Option<Told>], at: Instr, reader: u8) -> Option<(Noted, Read)> {
+    for told in accesses {
+        if let Some(Told { access, found }) = told
+            && access.at == at
+            && reader < CORES_MAX
+        {
+            return Some((found.write, found.reads[reader as usize]));
+        }
+    }
+    None
+}
+
+/// A run of two cores: its code and choices, and after these always the first move. Then how many accesses
+/// it makes, and of one of them the write that it finds, and the count of the read by core `reader`.
+struct Row {
+    code: &'static [u32],
+    choices: &'static [u32],
+    accesses: usize,
+    access: Instr,
+    write: Option<Instr>,
+    reader: u8,
+    read: Option<u32>,
+}
+
+/// slli x5,x10,2; sw x10,32(x5); lw x6,32(x5); ecall
+const FALSE_SHARING: [u32; 4] = [0x0025_1293, 0x02a2_a023, 0x0202_a303, 0x0000_0073];
+
+/// bne x10,x0,+20; addi x5,x0,7; sw x5,64(x0); lw x6,64(x0); ecall; lw x7,64(x0); sw x10,64(x0); ecall
+const BOTH_READ_AND_WRITE: [u32; 8] = [
+    0x0005_1a63,
+    0x0070_0293,
+    0x0450_2023,
+    0x0400_2303,
+    0x0000_0073,
+    0x0400_2383,
+    0x04a0_2023,
+    0x0000_0073,
 ];
 
-/// Core 1 reads the word, and its eviction is stalled by core 0's store.
-const CHOICES: [u32; 20] = [1, 1, 1, 1, 1, 0, 0, 0, 0, 0, 0, 0, 0, 0, 0, 0, 0, 0, 0, 0];
+/// addi x5,x10,9; bne x10,x0,+12; sw x5,64(x0); ecall; lw x6,64(x0); lw x7,320(x0); ecall
+const READER_EVICTS: [u32; 7] = [
+    0x0095_0293,
+    0x0005_1663,
+    0x0450_2023,
+    0x0000_0073,
+    0x0400_2303,
+    0x1400_2383,
+    0x0000_0073,
+];
 
-/// Runs the machine by the choices: the read by core 1 that the store found.
-fn found(alloc: Global) -> Result<Option<(u32, Clock)>, Fail> {
-    let image = Image::flat(READER_EVICTS.to_vec(alloc)?, 96)?;
+/// addi x5,x10,9; bne x10,x0,+16; sw x5,64(x0); lw x7,320(x0); ecall; lw x6,64(x0); ecall
+const WRITER_EVICTS: [u32; 7] = [
+    0x0095_0293,
+    0x0005_1863,
+    0x0450_2023,
+    0x1400_2383,
+    0x0000_0073,
+    0x0400_2303,
+    0x0000_0073,
+];
+
+/// The same with sw x5,64(x0) in place of lw x6,64(x0).
+const WRITER_EVICTS_FOR_A_WRITER: [u32; 7] = [
+    0x0095_0293,
+    0x0005_1863,
+    0x0450_2023,
+    0x1400_2383,
+    0x0000_0073,
+    0x0450_2023,
+    0x0000_0073,
+];
+
+static ROWS: [Row; 7] = [
+    // Each core has its own word of one block.
+    Row {
+        code: &FALSE_SHARING,
+        choices: &[0, 1, 0, 1, 0, 1, 0, 1, 0, 1, 0, 1],
+        accesses: 4,
+        access: Instr { core: 1, count: 2 },
+        write: None,
+        reader: 0,
+        read: None,
+    },
+    // Core 1's upgrade takes core 0's copy back.
+    Row {
+        code: &BOTH_READ_AND_WRITE,
+        choices: &[0, 0, 0, 1, 1, 1, 1, 1, 1, 1, 1, 1, 1, 1, 1, 1],
+        accesses: 4,
+        access: Instr { core: 1, count: 3 },
+        write: Some(Instr { core: 0, count: 3 }),
+        reader: 1,
+        read: Some(2),
+    },
+    // Core 0 reads the word again between the two stores.
+    Row {
+        code: &BOTH_READ_AND_WRITE,
+        choices: &[1, 1, 1, 1, 0, 0, 0, 1, 1, 1, 1, 0],
+        accesses: 4,
+        access: Instr { core: 1, count: 3 },
+        write: Some(Instr { core: 0, count: 3 }),
+        reader: 0,
+        read: Some(4),
+    },
+    // Core 1's upgrade waits while core 0's store takes its read copy back.
+    Row {
+        code: &BOTH_READ_AND_WRITE,
+        choices: &[1, 1, 1, 1, 0, 0, 0, 0],
+        accesses: 4,
+        access: Instr { core: 0, count: 3 },
+        write: None,
+        reader: 1,
+        read: Some(2),
+    },
+    // Core 1's eviction of its read copy is stalled while core 0's store takes it back.
+    Row {
+        code: &READER_EVICTS,
+        choices: &[1, 1, 1, 1, 1, 0, 0, 0, 0, 0, 0, 0, 0],
+        accesses: 3,
+        access: Instr { core: 0, count: 3 },
+        write: None,
+        reader: 1,
+        read: Some(3),
+    },
+    // Core 0's eviction of its written copy is stalled while core 1's load or store is forwarded to it.
+    Row {
+        code: &WRITER_EVICTS,
+        choices: &[0, 0, 0, 1, 1, 1, 1, 1, 0, 1, 0, 0],
+        accesses: 3,
+        access: Instr { core: 1, count: 3 },
+        write: Some(Instr { core: 0, count: 3 }),
+        reader: 0,
+        read: None,
+    },
+    Row {
+        code: &WRITER_EVICTS_FOR_A_WRITER,
+        choices: &[0, 0, 0, 1, 1, 1, 1, 1, 0, 1, 0, 0],
+        accesses: 3,
+        access: Instr { core: 1, count: 3 },
+        write: Some(Instr { core: 0, count: 3 }),
+        reader: 0,
+        read: None,
+    },
+];
+
+/// The bytes of the code, each word's lowest first.
+fn bytes_of(alloc: Global, code: &[u32]) -> Result<Vec<u8>, Fail> {
+    let mut bytes = Vec::new(alloc);
+    for word in code {
+        bytes.extend_from_slice(&word.to_le_bytes())?;
+    }
+    Ok(bytes)
+}
+
+/// The accesses of the row's run; none where it didn't end.
+fn accesses_of(alloc: Global, row: &Row) -> Result<[Option<Told>; ROOM], Fail> {
+    let image = Image::flat(bytes_of(alloc, row.code)?, 96)?;
     let params = Params {
         cores: 2,
         limit: 10,
         words: 96,
     };
     let mut machine = Machine::<Times, NoCarry>::new(alloc, image, params)?;
-    let mut clerk = Noter {
+    let mut clerk = Keeper {
         counts: [0; 8],
-        found: None,
+        told: [None; ROOM],
+        kept: 0,
     };
-    for choice in &CHOICES {
+    for step in 0..STEPS {
+        let choice = row.choices.get(step).copied().unwrap_or(0);
         machine.make_room()?;
         if !machine.done() && machine.has_room() {
             machine.cores_are_numbered();
-            let _ = machine.step_timed(*choice, &mut clerk);
+            let _ = machine.step_timed(choice, &mut clerk);
         }
     }
-    Ok(clerk.found)
+    if !machine.done() {
+        return Ok([None; ROOM]);
+    }
+    Ok(clerk.told)
+}
+
+/// What the row says of its access.
+fn said(row: &Row) -> Option<(Noted, Read)> {
+    let read = match row.read {
+        None => None,
+        Some(count) => {
+            let core = row.reader;
+            Some((count, clock_of(Instr { core, count })))
+        }
+    };
+    Some((noted(row.write), read))
 }
 
 #[test]
-fn a_store_finds_the_read_of_an_evicted_copy(rt: HostRuntime) -> Result<(), Fail> {
-    let mut clock = Clock::zero();
-    clock.set(1, 3);
-    assert_eq!(rt; found(rt.alloc())?, Some((3, clock)));
+fn each_access_finds_what_is_left(rt: HostRuntime) -> Result<(), Fail> {
+    for row in &ROWS {
+        let accesses = accesses_of(rt.alloc(), row)?;
+        assert_eq!(rt; accesses.iter().flatten().count(), row.accesses);
+        assert!(rt; all_fit(&accesses));
+        assert_eq!(rt; found_at(&accesses, row.access, row.reader), said(row));
+    }
     Ok(())
 }
