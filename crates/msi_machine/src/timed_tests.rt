@@ -48,7 +48,7 @@ struct Told {
 /// accesses in order.
 #[derive(Drop)]
 struct Keeper {
-    counts: [u32; 8],
+    counts: [u32; PLACES],
     told: [Option<Told>; ROOM],
     kept: usize,
 }
@@ -58,7 +58,7 @@ impl Keeper {
     fn keep(&mut self, access: Access, rider: &Times)
         ensures { self.new.counts ≡ self.old.counts }
     {
-        let slot = (access.word % 4) as u8;
+        let slot = (access.word % BLOCK_WORDS as u32) as u8;
         let mut reads = [None; PLACES];
         for core in 0..CORES_MAX {
             reads[core as usize] = rider.read_by(slot, core);
@@ -91,7 +91,7 @@ impl<K: Carry> Clerk<Times, K> for Keeper {
         self.counts[at.core as usize] = at.count;
         let mut clock = Clock::zero();
         clock.set(at.core, self.counts[at.core as usize]);
-        let slot = (access.word % 4) as u8;
+        let slot = (access.word % BLOCK_WORDS as u32) as u8;
         match access.kind {
             Kind::Load => rider.on_load(slot, at, clock),
             Kind::Store => rider.on_store(slot, at, clock),
@@ -346,7 +346,7 @@ fn accesses_of(alloc: Global, row: &Row) -> Result<[Option<Told>; ROOM], Fail> {
     };
     let mut machine = Machine::<Times, NoCarry>::new(alloc, image, params)?;
     let mut clerk = Keeper {
-        counts: [0; 8],
+        counts: [0; PLACES],
         told: [None; ROOM],
         kept: 0,
     };
