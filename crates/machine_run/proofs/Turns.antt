@@ -59,14 +59,6 @@ lists_event xs Nothing n = ap (λ ys. lists_of ys 0 n) (sym (append-nil xs))
 lists_event xs (Retires at) n = ap (λ ys. lists_of ys 0 n) (sym (append-nil xs))
 lists_event xs (Accesses a) n = lists_more xs a n
 
--- what the clerk was told of
-pub told_lists : {R K : Type 0} (e : Event) (carry : K) (before after : LoadRooms) (r q : R) →
-    Tells (λ (c : LoadRooms) (i : Instr) (k : K) (d : LoadRooms). d.lists ≡ c.lists) (λ (c : LoadRooms) (r : R) (a : Access) (k : K) (d : LoadRooms) (q : R). (d.lists ≡ lists_after c.lists a) × (q ≡ r)) e carry before r after q →
-    after.lists ≡ lists_told before.lists e
-told_lists Nothing carry before after r q is = ap (λ (l : LoadRooms). l.lists) is
-told_lists (Retires at) carry before after r q is = is
-told_lists (Accesses a) carry before after r q is = is.0
-
 -- the step that the next choice takes
 pub record Steps (s s' : PlainState) (loads loads' : List (List LoadNote)) (rest rest' : Choices) (m : Move) : Type 0 where
   pub taken : chosen s (choice_at rest 0) ≡ Some m
@@ -110,20 +102,6 @@ numbered {R} {K} carrying image params schedule t s loads rest fits stands c wit
     let at : (node_at none_carrying (plain s).nodes c).core.id ≡ c =
     ap (λ (u : PlainState). (node_at none_carrying u.nodes c).core.id) stands.state ∙ sound.numbers c (omega (arith, within, same, ap (λ (u : PlainState). length u.nodes) stands.state)) in
     sym (ap (λ n. n.core.id) (plain_node_at carrying s.nodes c)) ∙ at
-
-pub all_numbered : {R K : Type 0} (carrying : Carrying K) (image : Contents) (params : Params) (schedule : Choices) (t : ℕ) (s : State R K) (loads : List (List LoadNote)) (rest : Choices) →
-    Fits params → StandsAt image params schedule t (plain s) loads rest → All (λ (n : Node R K). n.core.id < length loads) s.nodes
-all_numbered {R} {K} carrying image params schedule t s loads rest fits stands =
-    All-from_get_or (λ (n : Node R K). n.core.id < length loads) s.nodes (no_node carrying)
-    (λ c within. omega (
-      arith,
-      within,
-      numbered carrying image params schedule t s loads rest fits stands c within,
-      ap length stands.loads_are,
-      length-map-range_with_len (λ k. loads_of k (accesses image params (choice_at schedule) t)) 0 params.cores,
-      stands.cores,
-      length-map s.nodes plain_node,
-    ))
 
 -- the plain nodes have the same cores
 same_cores : {R K : Type 0} (nodes : List (Node R K)) → map (λ n. n.core) (map plain_node nodes) ≡ map (λ (n : Node R K). n.core) nodes

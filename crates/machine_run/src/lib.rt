@@ -1,8 +1,6 @@
-//! A run of the machine from its start to its end, with the loads of each core.
+//! The runs of the machine from their start to their end: what a run comes to, with the loads of each
+//! core, and where it stands after each step. The crate has definitions and laws alone; the recorder
+//! makes the runs.
 #![tactic(auto)]
 
-mod clerk;
 pub mod laws;
-mod run;
-
-pub use run::{Ran, run_machine};

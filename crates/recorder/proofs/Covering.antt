@@ -1,0 +1,231 @@
+-- The test of covering pairs is right.
+use Rattle.std.proofs.Common.{◌≡◌, ◌≢◌, ◌∙◌, refl, sym, ap, subst, ℕ, ◌<◌, ◌≤◌, ◌&&◌, ◌||◌, ◌⊎◌, inl, inr, Bool, true, false, not, nat_eq, nat_le, List, [], ◌∷◌, reverse, arith}
+use Rattle.std.specs.List.{list_any}
+use Rattle.std.proofs.lemmas.Bool.Decides.{nat_tests}
+use Rattle.rtr_types.specs.declared.accesses.Access.{Access}
+use Rattle.rtr_types.specs.declared.nodes.Instr.{Instr}
+use Rattle.clock_core.proofs.Paths.{instr_eq, joined, last_at, more, one}
+use Rattle.clock_core.specs.Order.{Before, IsOrLeads, Step}
+use Rattle.conflict_edge.proofs.History.{Pair, and_true, do_conflict-true, do_conflict-yes, ends}
+use Rattle.conflict_edge.proofs.Reach.{clock_law}
+use Rattle.conflict_edge.proofs.Reversed.{pair_back, pair_forth, rising_back, stands_back}
+use Rattle.conflict_edge.proofs.Scan.{arrives}
+use Rattle.conflict_edge.proofs.TwoForms.{acyclic, cores_differ}
+use Rattle.conflict_edge.specs.Clocks.{clock}
+use Rattle.conflict_edge.specs.Conflicts.{ConflictPair, Conflicts, CountsRise, StandsIn, do_conflict}
+use Rattle.conflict_edge.specs.Least.{Covering}
+use Rattle.online_reduce.proofs.Rises.{AtAccess, pair_source}
+use Rattle.online_reduce.specs.Rule.{is_same}
+use Rattle.recorder.specs.LeastLists.{is_covering, reaches, stands_between}
+
+pub both : (a b : Bool) → a ≡ true → b ≡ true → (a && b) ≡ true
+both a b p q = rw (p, q) refl
+
+-- ---- accesses of a list
+
+pub positive : (list : List Access) (a : Access) → CountsRise list → StandsIn list a → 1 ≤ a.at.count
+positive [] a rise stands = absurd stands
+positive (b ∷ later) a rise (inl e) = subst (λ (x : Access). 1 ≤ x.at.count) e rise.0
+positive (b ∷ later) a rise (inr s) = positive later a rise.2 s
+
+-- two accesses of one instruction are one
+pub one_access : (list : List Access) (a b : Access) → CountsRise list → StandsIn list a → StandsIn list b → a.at ≡ b.at → a ≡ b
+one_access [] a b rise s t same = absurd s
+one_access (c ∷ later) a b rise (inl e) (inl f) same = sym e ∙ f
+one_access (c ∷ later) a b rise (inl e) (inr t) same =
+    let is : c.at ≡ b.at = ap (λ (x : Access). x.at) e ∙ same in
+    let lt = rise.1 b t (ap (λ (i : Instr). i.core) is) in
+    let eq : c.at.count ≡ b.at.count = ap (λ (i : Instr). i.count) is in
+    absurd (omega arith)
+one_access (c ∷ later) a b rise (inr s) (inl f) same =
+    let is : c.at ≡ a.at = ap (λ (x : Access). x.at) f ∙ sym same in
+    let lt = rise.1 a s (ap (λ (i : Instr). i.core) is) in
+    let eq : c.at.count ≡ a.at.count = ap (λ (i : Instr). i.count) is in
+    absurd (omega arith)
+one_access (c ∷ later) a b rise (inr s) (inr t) same = one_access later a b rise.2 s t same
+
+turned_conflict : (a b : Access) → Conflicts a b → Conflicts b a
+turned_conflict a b c = (λ same. c.0 (sym same), sym c.1, turned c.2)
+  where
+    turned : {A B : Type 0} → A ⊎ B → B ⊎ A
+    turned (inl x) = inr x
+    turned (inr x) = inl x
+
+-- one of two accesses that conflict comes first
+one_first : (list : List Access) (a b : Access) → StandsIn list a → StandsIn list b → Conflicts a b → ConflictPair list a.at b.at ⊎ ConflictPair list b.at a.at
+one_first [] a b s t c = absurd s
+one_first (d ∷ later) a b (inl e) (inl f) c = absurd (c.0 (ap (λ (x : Access). x.at.core) (sym e ∙ f)))
+one_first (d ∷ later) a b (inl e) (inr t) c = inl (inl (ap (λ (x : Access). x.at) e, b, t, refl, subst (λ (x : Access). Conflicts x b) (sym e) c))
+one_first (d ∷ later) a b (inr s) (inl f) c = inr (inl (ap (λ (x : Access). x.at) f, a, s, refl, subst (λ (x : Access). Conflicts x a) (sym f) (turned_conflict a b c)))
+one_first (d ∷ later) a b (inr s) (inr t) c = by (one_first later a b s t c)
+  where
+    by : ConflictPair later a.at b.at ⊎ ConflictPair later b.at a.at → ConflictPair (d ∷ later) a.at b.at ⊎ ConflictPair (d ∷ later) b.at a.at
+    by (inl p) = inl (inr p)
+    by (inr p) = inr (inr p)
+
+-- ---- the tests
+
+same_is : (x y : Instr) → is_same x y ≡ true → x ≡ y
+same_is x y e = let p = and_true (nat_eq x.core y.core) (nat_eq x.count y.count) e in instr_eq x y (eq x.core y.core p.0) (eq x.count y.count p.1)
+  where
+    eq : (m n : ℕ) → nat_eq m n ≡ true → m ≡ n
+    eq m n t = grind (arith, nat_tests)
+
+is_same_itself : (x y : Instr) → x ≡ y → not (is_same x y) ≡ true → ⊥
+is_same_itself x y e t = let core : x.core ≡ y.core = ap (λ (i : Instr). i.core) e in let count : x.count ≡ y.count = ap (λ (i : Instr). i.count) e in grind (arith, nat_tests)
+
+other_differs : (x y : Instr) → x ≢ y → not (is_same x y) ≡ true
+other_differs x y d = by (is_same x y) (same_is x y)
+  where
+    by : (b : Bool) → (b ≡ true → x ≡ y) → not b ≡ true
+    by true f = absurd (d (f refl))
+    by false f = refl
+
+reaches_leads : (list : List Access) (x y : Instr) → CountsRise list → 1 ≤ x.count → reaches list x y ≡ true → IsOrLeads (ConflictPair list) x y
+reaches_leads list x y rise pos e = (clock_law list y rise x pos).0 (le x.count (clock (reverse list) y x.core) e)
+  where
+    le : (m n : ℕ) → nat_le m n ≡ true → m ≤ n
+    le m n t = grind (arith, nat_tests)
+
+leads_reaches : (list : List Access) (x y : Instr) → CountsRise list → 1 ≤ x.count → IsOrLeads (ConflictPair list) x y → reaches list x y ≡ true
+leads_reaches list x y rise pos leads = le x.count (clock (reverse list) y x.core) ((clock_law list y rise x pos).1 leads)
+  where
+    le : (m n : ℕ) → m ≤ n → nat_le m n ≡ true
+    le m n t = grind (arith, nat_tests)
+
+-- ---- what stands between
+
+-- an access that stands strictly between two instructions
+record Between (list : List Access) (x y : Instr) : Type 0 where
+  access : Access
+  stands : StandsIn list access
+  after : Before (ConflictPair list) x access.at
+  before : Before (ConflictPair list) access.at y
+
+-- where an instruction stands between two cores' instructions, so does an access
+between : (list : List Access) (x z y : Instr) → CountsRise list → x.core ≢ y.core → Before (ConflictPair list) x z → Before (ConflictPair list) z y → Between list x y
+between list x z y rise differ p q = let l = last_at E q.0 z y q.1 in by l.0 (up l.0 l.1) l.2
+  where
+    E : Instr → Instr → Type 0
+    E = ConflictPair list
+
+    up : (w : Instr) → (z ≡ w) ⊎ Before (ConflictPair list) z w → Before (ConflictPair list) x w
+    up w (inl e) = subst (λ (v : Instr). Before (ConflictPair list) x v) e p
+    up w (inr r) = joined (ConflictPair list) x z w p r
+
+    by : (w : Instr) → Before (ConflictPair list) x w → Step (ConflictPair list) w y → Between list x y
+    by w r (inl s) =
+        let a = arrives (reverse list) (rising_back list rise) x w (more (ConflictPair list) (Pair (reverse list)) (pair_forth list) x w r) (λ (same : x.core ≡ w.core). differ (same ∙ s.0)) in
+        let le = a.count_le in
+        let lt = s.1 in
+        record {
+          access = a.there;
+          stands = stands_back list a.there a.stands;
+          after = more (Pair (reverse list)) (ConflictPair list) (pair_back list) x a.there.at a.before;
+          before = one (ConflictPair list) a.there.at y (inl (a.core_is ∙ s.0, omega arith));
+        }
+    by w r (inr s) =
+        let a : AtAccess list w = pair_source list w y s in
+        record {
+          access = a.access;
+          stands = a.stands;
+          after = subst (λ (v : Instr). Before (ConflictPair list) x v) (sym a.at_is) r;
+          before = one (ConflictPair list) a.access.at y (inr (subst (λ (v : Instr). ConflictPair list v y) (sym a.at_is) s));
+        }
+
+-- one of a list passes a test
+passes : (p : Access → Bool) (list : List Access) (a : Access) → StandsIn list a → p a ≡ true → list_any p list ≡ true
+passes p [] a s e = absurd s
+passes p (b ∷ later) a (inl f) e = rw (ap p f ∙ e) refl
+passes p (b ∷ later) a (inr s) e = by (p b) (passes p later a s e)
+  where
+    by : (t : Bool) → list_any p later ≡ true → (t || list_any p later) ≡ true
+    by true r = refl
+    by false r = r
+
+passed : (p : Access → Bool) (list : List Access) → ((a : Access) → StandsIn list a → p a ≡ true → ⊥) → list_any p list ≡ false
+passed p [] none = refl
+passed p (b ∷ later) none = by (p b) (none b (inl refl)) (passed p later (λ a s. none a (inr s)))
+  where
+    by : (t : Bool) → (t ≡ true → ⊥) → list_any p later ≡ false → (t || list_any p later) ≡ false
+    by true fails r = absurd (fails refl)
+    by false fails r = r
+
+-- ---- the test of a pair
+
+pub covering_is : (list : List Access) (x y : Access) → CountsRise list → StandsIn list x → StandsIn list y → is_covering list x y ≡ true → Covering list x.at y.at
+covering_is list x y rise sx sy e = (pair, free)
+  where
+    E : Instr → Instr → Type 0
+    E = ConflictPair list
+
+    parts : ((do_conflict x y && reaches list x.at y.at) ≡ true) × (not (list_any (stands_between list x y) list) ≡ true)
+    parts = and_true (do_conflict x y && reaches list x.at y.at) (not (list_any (stands_between list x y) list)) e
+
+    tests : (do_conflict x y ≡ true) × (reaches list x.at y.at ≡ true)
+    tests = and_true (do_conflict x y) (reaches list x.at y.at) parts.0
+
+    conflict : Conflicts x y
+    conflict = do_conflict-true x y tests.0
+
+    order : IsOrLeads (ConflictPair list) x.at y.at → Before (ConflictPair list) x.at y.at
+    order (inl same) = absurd (conflict.0 (ap (λ (i : Instr). i.core) same))
+    order (inr p) = p
+
+    leads : Before (ConflictPair list) x.at y.at
+    leads = order (reaches_leads list x.at y.at rise (positive list x rise sx) tests.1)
+
+    pair : ConflictPair list x.at y.at
+    pair = by (one_first list x y sx sy conflict)
+      where
+        by : ConflictPair list x.at y.at ⊎ ConflictPair list y.at x.at → ConflictPair list x.at y.at
+        by (inl p) = p
+        by (inr p) = absurd (acyclic list rise x.at (joined (ConflictPair list) x.at y.at x.at leads (one (ConflictPair list) y.at x.at (inr p))))
+
+    none : list_any (stands_between list x y) list ≡ true → ⊥
+    none t = let wrong : true ≡ false = sym parts.1 ∙ ap not t in absurd cc
+
+    apart : (u v : Instr) → Before (ConflictPair list) u v → not (is_same u v) ≡ true
+    apart u v p = other_differs u v (λ (same : u ≡ v). acyclic list rise v (subst (λ (w : Instr). Before (ConflictPair list) w v) same p))
+
+    apart_back : (u v : Instr) → Before (ConflictPair list) u v → not (is_same v u) ≡ true
+    apart_back u v p = other_differs v u (λ (same : v ≡ u). acyclic list rise v (subst (λ (w : Instr). Before (ConflictPair list) w v) (sym same) p))
+
+    free : (z : Instr) → Before (ConflictPair list) x.at z → Before (ConflictPair list) z y.at → ⊥
+    free z p q =
+        let b = between list x.at z y.at rise conflict.0 p q in
+        let w : Access = b.access in
+        none (passes (stands_between list x y) list w b.stands
+        (both (not (is_same w.at x.at) && not (is_same w.at y.at)) (reaches list x.at w.at && reaches list w.at y.at)
+        (both (not (is_same w.at x.at)) (not (is_same w.at y.at)) (apart_back x.at w.at b.after) (apart w.at y.at b.before))
+        (both (reaches list x.at w.at) (reaches list w.at y.at)
+        (leads_reaches list x.at w.at rise (positive list x rise sx) (inr b.after)) (leads_reaches list w.at y.at rise (positive list w rise b.stands) (inr b.before)))))
+
+pub covering_passes : (list : List Access) (x y : Access) → CountsRise list → StandsIn list x → StandsIn list y → Covering list x.at y.at → is_covering list x y ≡ true
+covering_passes list x y rise sx sy cover =
+    both (do_conflict x y && reaches list x.at y.at) (not (list_any (stands_between list x y) list))
+    (both (do_conflict x y) (reaches list x.at y.at) (do_conflict-yes x y conflict) (leads_reaches list x.at y.at rise (positive list x rise sx) (inr (one (ConflictPair list) x.at y.at (inr cover.0)))))
+    (ap not (passed (stands_between list x y) list none))
+  where
+    conflict : Conflicts x y
+    conflict =
+        let f = ends (reverse list) x.at y.at (pair_forth list x.at y.at cover.0) in
+        subst (λ (a : Access). Conflicts a y) (one_access list f.first x rise (stands_back list f.first f.first_stands) sx f.first_at)
+        (subst (λ (b : Access). Conflicts f.first b) (one_access list f.second y rise (stands_back list f.second f.second_stands) sy f.second_at) f.conflict)
+
+    strictly : (u v : Instr) → not (is_same u v) ≡ true → IsOrLeads (ConflictPair list) u v → Before (ConflictPair list) u v
+    strictly u v t (inl same) = absurd (is_same_itself u v same t)
+    strictly u v t (inr p) = p
+
+    strictly_back : (u v : Instr) → not (is_same v u) ≡ true → IsOrLeads (ConflictPair list) u v → Before (ConflictPair list) u v
+    strictly_back u v t (inl same) = absurd (is_same_itself v u (sym same) t)
+    strictly_back u v t (inr p) = p
+
+    none : (z : Access) → StandsIn list z → stands_between list x y z ≡ true → ⊥
+    none z sz t =
+        let p = and_true (not (is_same z.at x.at) && not (is_same z.at y.at)) (reaches list x.at z.at && reaches list z.at y.at) t in
+        let d = and_true (not (is_same z.at x.at)) (not (is_same z.at y.at)) p.0 in
+        let r = and_true (reaches list x.at z.at) (reaches list z.at y.at) p.1 in
+        cover.1 z.at
+        (strictly_back x.at z.at d.0 (reaches_leads list x.at z.at rise (positive list x rise sx) r.0))
+        (strictly z.at y.at d.1 (reaches_leads list z.at y.at rise (positive list z rise sz) r.1))

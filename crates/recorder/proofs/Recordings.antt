@@ -1,0 +1,191 @@
+-- What is recorded at the end of a run: it is valid, and its reduced log is the least set.
+use Rattle.std.proofs.Common.{◌≡◌, ◌∙◌, refl, sym, ap, subst, ℕ, ◌<◌, ◌≤◌, ◌*◌, ◌⊎◌, inl, inr, List, [], ◌∷◌, length, arith, map, true}
+use Rattle.std.specs.Prelude.{All, slice_index, slice_index_or, replicate}
+use Rattle.std.specs.List.{Contains}
+use Rattle.std.proofs.lemmas.List.{get_or-map, get_or-replicate, length-map, length-replicate}
+use Rattle.std.proofs.lemmas.List.Elements.{All-map}
+use Rattle.access_times.specs.declared.carries.NoCarry.{NoCarry}
+use Rattle.access_times.specs.declared.word_times.Times.{Times}
+use Rattle.image_mem.specs.Contents.{Contents}
+use Rattle.rtr_types.specs.Parameters.{Fits}
+use Rattle.rtr_types.specs.Pairs.{pair_count, pair_place, source_at, target_at}
+use Rattle.rtr_types.proofs.PairPlaces.{places-paired}
+use Rattle.rtr_types.specs.declared.accesses.Access.{Access}
+use Rattle.rtr_types.specs.declared.nodes.Edge.{Edge}
+use Rattle.rtr_types.specs.declared.nodes.Instr.{Instr}
+use Rattle.rtr_types.specs.declared.pairs.Which.TheVariants.{Reduced as ReducedLog}
+use Rattle.rtr_types.specs.declared.parameters.Params.{Params}
+use Rattle.rv_core.specs.declared.core_state.Core.{Core}
+use Rattle.rv_core.specs.declared.outcomes.LoadNote.{LoadNote}
+use Rattle.rv_core.specs.declared.outcomes.Outcome.{Outcome}
+use Rattle.schedule_pick.specs.Choices.{Choices, choice_at}
+use Rattle.clock_core.specs.Order.{Among}
+use Rattle.conflict_edge.proofs.TwoForms.{covering_law}
+use Rattle.conflict_edge.specs.Conflicts.{CountsRise}
+use Rattle.conflict_edge.specs.Least.{Covering, IsLeast}
+use Rattle.log_codec.proofs.SourceLaws.{edges-are-paired}
+use Rattle.log_codec.specs.Sources.{log_edges}
+use Rattle.log_codec.specs.Turns.{StandInTurn, follow}
+use Rattle.log_codec.specs.Validity.{AreEdges, AreVectors, EdgeStands, Valid, bound_at}
+use Rattle.log_codec.specs.declared.recording.Recording.{Recording}
+use Rattle.stride_vector.specs.declared.StrideVector.{StrideVector}
+use Rattle.msi_bound.proofs.Ends.{one_end}
+use Rattle.msi_bound.specs.Ends.{end_of}
+use Rattle.msi_plain.proofs.Shows.{plain_done}
+use Rattle.msi_state.specs.Plain.{plain, plain_node}
+use Rattle.msi_state.specs.Runs.{accesses}
+use Rattle.msi_state.specs.States.{State, all_done, no_node, node_at}
+use Rattle.msi_state.specs.declared.actors.Node.{Node}
+use Rattle.online_reduce.proofs.ByPair.{length-by_pair}
+use Rattle.online_reduce.specs.Exact.{IsReduction}
+use Rattle.online_reduce.specs.Lists.{RiseWithin}
+use Rattle.online_reduce.specs.Reduced.{Reduced, count_of}
+use Rattle.machine_run.proofs.Fitting.{run_fits_law}
+use Rattle.machine_run.proofs.Turns.{outcome_is, stands_end}
+use Rattle.machine_run.specs.Outcomes.{RunFits, outcome_of}
+use Rattle.recorder.proofs.LeastLists.{contains, in_list, least_lists_law, reduced_lists}
+use Rattle.recorder.proofs.SortedPairs.{In}
+use Rattle.recorder.specs.Clerks.{Noted}
+use Rattle.recorder.specs.LeastLists.{AreOf, least_lists}
+use Rattle.recorder.specs.Recordings.{accesses_of, outcome_left, recording_from, recording_of}
+use Rattle.recorder.specs.Standing.{RecordsAt, no_carrying}
+
+-- ---- the reduced log
+
+among_in : (edges : List Edge) (x y : Instr) → Among edges x y → In edges (record { from = x; to = y })
+among_in [] x y s = absurd s
+among_in (e ∷ edges) x y (inl s) = inl (is e.from e.to s.0 s.1)
+  where
+    is : (u v : Instr) → u ≡ x → v ≡ y → ◌≡◌ {A = Edge} (record { from = u; to = v }) (record { from = x; to = y })
+    is u v p q = ap (λ (w : Instr). (let made : Edge = record { from = w; to = v } in made)) p ∙ ap (λ (w : Instr). (let made : Edge = record { from = x; to = w } in made)) q
+among_in (e ∷ edges) x y (inr s) = inr (among_in edges x y s)
+
+in_among : (edges : List Edge) (x y : Instr) → In edges (record { from = x; to = y }) → Among edges x y
+in_among [] x y s = absurd s
+in_among (e ∷ edges) x y (inl s) = inl (ap (λ (d : Edge). d.from) s, ap (λ (d : Edge). d.to) s)
+in_among (e ∷ edges) x y (inr s) = inr (in_among edges x y s)
+
+-- a recording whose lists are those of the covering pairs has the least set as its reduced log
+pub least_log : (r : Recording) (list : List Access) → CountsRise list → AreOf r.params.cores list → r.reduced ≡ least_lists r.params.cores list → IsLeast list (log_edges ReducedLog r)
+least_log r list rise of is = (covering_law list edges rise).1 (λ x y. (to x y, back x y))
+  where
+    edges : List Edge
+    edges = log_edges ReducedLog r
+
+    to : (x y : Instr) → Among (log_edges ReducedLog r) x y → Covering list x y
+    to x y s =
+        let q = (edges-are-paired ReducedLog r x y).0 (contains (log_edges ReducedLog r) (record { from = x; to = y }) (among_in (log_edges ReducedLog r) x y s)) in
+        (least_lists_law r.params.cores list rise of x y).1 (q.0, subst (λ (ls : List (List (ℕ × ℕ))). Contains (slice_index_or ls (pair_place r.params.cores x.core y.core) []) (x.count, y.count)) is q.1)
+
+    back : (x y : Instr) → Covering list x y → Among (log_edges ReducedLog r) x y
+    back x y cover =
+        let q = (least_lists_law r.params.cores list rise of x y).0 cover in
+        in_among (log_edges ReducedLog r) x y (in_list (log_edges ReducedLog r) (record { from = x; to = y })
+        ((edges-are-paired ReducedLog r x y).1 (q.0, subst (λ (ls : List (List (ℕ × ℕ))). Contains (slice_index_or ls (pair_place r.params.cores x.core y.core) []) (x.count, y.count)) (sym is) q.1)))
+
+-- ---- validity
+
+rise_stands : (most last : ℕ × ℕ) (edges : List (ℕ × ℕ)) → RiseWithin most last edges → StandInTurn (EdgeStands most) follow last edges
+rise_stands most last [] rise = tt
+rise_stands most last (e ∷ edges) rise = (record { rises = record { source = rise.0; target = rise.1 }; source_most = rise.2; target_most = rise.3 }, rise_stands most e edges rise.4)
+
+-- what is recorded of an outcome and a reduction that fit each other is valid
+pub valid_from : (params : Params) (image : Contents) (outcome : Outcome) (list : List Access) (r : Reduced) (edges : List Edge) → Fits params → length image.bytes ≤ 4 * params.words → RunFits image params outcome → r.cores ≡ params.cores →
+    ((core : ℕ) → core < params.cores → slice_index (map (λ (k : Core). k.count) outcome.cores) core ≡ count_of r core) → IsReduction list r edges → Valid (recording_from params image outcome r.lists)
+valid_from params image outcome list r edges fits room run cores counts h = record {
+  params = fits;
+  image = room;
+  each_core = each;
+  totals = All-map (λ t. t ≤ params.limit) (λ (k : Core). k.count) outcome.cores run.counts;
+  each_reduced = ap length h.by_pairs ∙ length-by_pair r.cores edges ∙ ap pair_count cores;
+  reduced = λ place lt.
+      let below : place < pair_count r.cores = rw cores lt in
+      let pair = (places-paired r.cores place below).0 in
+      subst (λ (most : ℕ × ℕ). AreEdges most (slice_index_or r.lists place [])) (bound place pair.source pair.target)
+      (rise_stands (count_of r (source_at r.cores place), count_of r (target_at r.cores place)) (0, 0) (slice_index_or r.lists place []) (h.rising place below));
+  each_regulated = length-replicate {A = List StrideVector} (pair_count params.cores) [];
+  regulated = λ place lt. subst (λ (vs : List StrideVector). AreVectors (bound_at totals place) vs) (sym (get_or-replicate {A = List StrideVector} (pair_count params.cores) place [] [] lt)) tt;
+}
+  where
+    totals : List ℕ
+    totals = map (λ (k : Core). k.count) outcome.cores
+
+    each : length (map (λ (k : Core). k.count) outcome.cores) ≡ params.cores
+    each = length-map outcome.cores (λ (k : Core). k.count) ∙ run.cores
+
+    bound : (place : ℕ) → source_at r.cores place < r.cores → target_at r.cores place < r.cores →
+        ◌≡◌ {A = ℕ × ℕ} (count_of r (source_at r.cores place), count_of r (target_at r.cores place)) (bound_at (map (λ (k : Core). k.count) outcome.cores) place)
+    bound place source target =
+        let long : length (map (λ (k : Core). k.count) outcome.cores) ≡ r.cores = length-map outcome.cores (λ (k : Core). k.count) ∙ run.cores ∙ sym cores in
+        let first : slice_index (map (λ (k : Core). k.count) outcome.cores) (source_at r.cores place) ≡ count_of r (source_at r.cores place) = counts (source_at r.cores place) (omega (arith, source, cores)) in
+        let second : slice_index (map (λ (k : Core). k.count) outcome.cores) (target_at r.cores place) ≡ count_of r (target_at r.cores place) = counts (target_at r.cores place) (omega (arith, target, cores)) in
+        rw long (pair_is (sym first) (sym second))
+      where
+        pair_is : {a b c d : ℕ} → a ≡ c → b ≡ d → ◌≡◌ {A = ℕ × ℕ} (a, b) (c, d)
+        pair_is p q = cc
+
+-- ---- the end of a run
+
+-- the counts of the cores are the reduction's
+counts_are : (image : Contents) (params : Params) (schedule : Choices) (t : ℕ) (s : State Times NoCarry) (c : Noted) (rest : Choices) → RecordsAt image params schedule t s c rest → (core : ℕ) → core < params.cores →
+    slice_index (map (λ (k : Core). k.count) (map (λ (n : Node Times NoCarry). n.core) s.nodes)) core ≡ count_of c.reduction.state core
+counts_are image params schedule t s c rest h core lt =
+    let few : length s.nodes ≡ params.cores = sym (length-map s.nodes plain_node) ∙ h.run.cores in
+    let none : Node Times NoCarry = no_node no_carrying in
+    let within : core < length s.nodes = omega (arith, lt, few) in
+    get_or-map (λ (k : Core). k.count) (map (λ (n : Node Times NoCarry). n.core) s.nodes) core none.core 0 (omega (arith, within, length-map s.nodes (λ (n : Node Times NoCarry). n.core)))
+    ∙ ap (λ (k : Core). k.count) (get_or-map (λ (n : Node Times NoCarry). n.core) s.nodes core none none.core within)
+    ∙ h.machine.counts core within
+    ∙ sym (h.reduces.counts core (omega (arith, lt, h.cores)))
+
+-- what holds at the end
+pub record Ended (image : Contents) (params : Params) (schedule : Choices) (s : State Times NoCarry) (c : Noted) : Type 0 where
+  pub outcome : outcome_left s c.loads.lists ≡ outcome_of image params schedule
+  pub edges : List Edge
+  pub reduction : IsReduction (accesses_of image params schedule) c.reduction.state edges
+  pub cores : c.reduction.state.cores ≡ params.cores
+  pub counts : (core : ℕ) → core < params.cores → slice_index (map (λ (k : Core). k.count) (outcome_left s c.loads.lists).cores) core ≡ count_of c.reduction.state core
+
+pub ended : (image : Contents) (params : Params) (schedule : Choices) (t : ℕ) (s : State Times NoCarry) (c : Noted) (rest : Choices) → Fits params → all_done s ≡ true → RecordsAt image params schedule t s c rest → Ended image params schedule s c
+unfolding accesses_of
+ended image params schedule t s c rest fits done h =
+    let last : t ≡ end_of image params (choice_at schedule) =
+    one_end image params (choice_at schedule) t (record { cores = fits.cores; limit = omega (arith, fits.limit) }) (stands_end image params schedule t (plain s) c.loads.lists rest (sym (plain_done s) ∙ done) h.run) in
+    record {
+      outcome = outcome_is image params schedule t s c.loads.lists rest fits done h.run;
+      edges = h.edges;
+      reduction = subst (λ (u : ℕ). IsReduction (accesses image params (choice_at schedule) u) c.reduction.state h.edges) last h.reduces.reduction;
+      cores = h.cores;
+      counts = counts_are image params schedule t s c rest h;
+    }
+
+-- the accesses are of the run's cores
+of_cores : (cores : ℕ) (list : List Access) (r : Reduced) (edges : List Edge) → r.cores ≡ cores → IsReduction list r edges → AreOf cores list
+of_cores cores list r edges is h a stands = subst (λ (n : ℕ). a.at.core < n) is (h.exact.within a stands).0
+
+-- what is recorded there
+abbrev pub recording_left : Params → State Times NoCarry → Noted → Recording
+recording_left params s c = recording_from params s.image (outcome_left s c.loads.lists) c.reduction.state.lists
+
+module _ (image : Contents) (params : Params) (schedule : Choices) (s : State Times NoCarry) (c : Noted) (same : s.image ≡ image) (h : Ended image params schedule s c) where
+  lists_are : c.reduction.state.lists ≡ least_lists params.cores (accesses_of image params schedule)
+  lists_are = reduced_lists (accesses_of image params schedule) c.reduction.state h.edges h.reduction ∙ ap (λ (n : ℕ). least_lists n (accesses_of image params schedule)) h.cores
+
+  -- the recording is the one that the definition names
+  pub recording_is : recording_left params s c ≡ recording_of image params schedule
+  unfolding recording_of
+  recording_is =
+      ap (λ (i : Contents). recording_from params i (outcome_left s c.loads.lists) c.reduction.state.lists) same
+      ∙ ap (λ (o : Outcome). recording_from params image o c.reduction.state.lists) h.outcome
+      ∙ ap (λ (ls : List (List (ℕ × ℕ))). recording_from params image (outcome_of image params schedule) ls) lists_are
+
+  pub recording_valid : Fits params → image.words ≡ params.words → length image.bytes ≤ 4 * params.words → Valid (recording_left params s c)
+  recording_valid fits words room =
+      subst (λ (i : Contents). Valid (recording_from params i (outcome_left s c.loads.lists) c.reduction.state.lists)) (sym same)
+      (valid_from params image (outcome_left s c.loads.lists) (accesses_of image params schedule) c.reduction.state h.edges fits room
+      (subst (λ (o : Outcome). RunFits image params o) (sym h.outcome) (run_fits_law image params schedule fits words)) h.cores h.counts h.reduction)
+
+  pub recording_least : IsLeast (accesses_of image params schedule) (log_edges ReducedLog (recording_left params s c))
+  recording_least =
+      least_log (recording_left params s c) (accesses_of image params schedule) h.reduction.exact.rise
+      (of_cores params.cores (accesses_of image params schedule) c.reduction.state h.edges h.cores h.reduction) lists_are

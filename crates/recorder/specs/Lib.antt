@@ -1,0 +1,4 @@
+pub mod Clerks
+pub mod LeastLists
+pub mod Recordings
+pub mod Standing

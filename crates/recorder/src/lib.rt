@@ -1,0 +1,14 @@
+//! The recorder: one run of an image on the machine, under one schedule, with what orders it. While the
+//! run goes on each access gets the edges that nothing else implies, from times that lie beside the
+//! caches' copies; the recorder holds no list of accesses.
+#![tactic(auto)]
+
+mod clerk;
+mod finished;
+pub mod laws;
+mod run;
+#[cfg(test)]
+mod tests;
+
+pub use finished::Recorded;
+pub use run::record_run;

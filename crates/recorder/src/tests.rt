@@ -1,0 +1,129 @@
+//! Runs whose accesses were worked out by hand, with the least set of each.
+ghost use Rattle.std.specs.Prelude.{◌≤◌};
+
+use crate::{Recorded, record_run};
+use image_mem::Image;
+use log_codec::Recording;
+use rtr_types::Params;
+use rv_core::LoadNote;
+use schedule_pick::Schedule;
+use std::alloc::Global;
+use std::test::Fail;
+
+/// Records a run of the code on so many cores over 64 words. The generator's choices come after these.
+fn recorded(alloc: Global, code: &[u32], cores: u8, choices: &[u8]) -> Result<Recorded, Fail>
+    requires some { 1 ≤ cores }
+    requires few { cores ≤ 3 }
+{
+    let mut bytes = Vec::new(alloc);
+    for word in code {
+        for byte in word.to_le_bytes() {
+            bytes.push(byte)?;
+        }
+    }
+    let image = Image::flat(bytes, 64).ok().ok_or("the image fits")?;
+    let params = Params {
+        cores,
+        limit: 100,
+        words: 64,
+    };
+    let schedule = Schedule::new(choices.to_vec(alloc)?, 0);
+    Ok(record_run(alloc, image, params, schedule)?)
+}
+
+/// The edges of the pair of cores at a place.
+fn edges_at(recording: &Recording, place: usize) -> &[(u32, u32)] {
+    match recording.reduced.as_slice().get(place) {
+        Some(edges) => edges.as_slice(),
+        None => &[],
+    }
+}
+
+// Core 0 stores 7 to word 16 as its third instruction and loads it as its fourth; core 1 loads the word
+// as its second and stores its number, 1, there as its third. The choices let core 1's load come after
+// the first store, and its store before core 0's load. Three pairs conflict, and two edges imply them.
+#[test]
+fn both_cores_conflict(rt: HostRuntime) -> Result<(), Fail> {
+    let code = [
+        0x0005_1a63u32,
+        0x0070_0293,
+        0x0450_2023,
+        0x0400_2303,
+        0x0000_0073,
+        0x0400_2383,
+        0x04a0_2023,
+        0x0000_0073,
+    ];
+    let choices = [0u8, 0, 0, 1, 1, 1, 1, 1, 1, 1, 1, 1, 1, 1, 1, 1];
+    let run = recorded(rt.alloc(), &code, 2, &choices)?;
+    assert_eq!(rt; run.recording.totals.as_slice(), [5u32, 4].as_slice());
+    assert_eq!(rt; edges_at(&run.recording, 0), [(3u32, 2u32)].as_slice());
+    assert_eq!(rt; edges_at(&run.recording, 1), [(3u32, 4u32)].as_slice());
+    assert_eq!(rt; run.recording.regulated.len(), 2);
+    assert_eq!(rt; run.recording.image.len(), 32);
+    assert_eq!(rt; run.outcome.words.as_slice().get(16).copied(), Some(1));
+    let first = LoadNote {
+        count: 4,
+        word: 16,
+        value: 1,
+    };
+    let second = LoadNote {
+        count: 2,
+        word: 16,
+        value: 7,
+    };
+    let loads = run.outcome.loads.as_slice();
+    assert_eq!(rt; loads.len(), 2);
+    assert_eq!(rt; loads[0].as_slice(), [first].as_slice());
+    assert_eq!(rt; loads[1].as_slice(), [second].as_slice());
+    Ok(())
+}
+
+// Core 0's store of word 16 comes after core 1's load of it by way of word 32, which core 1 then stores
+// and core 2 loads before it loads word 16. So one edge into the store is enough, that from core 2.
+#[test]
+fn readers_ordered_through_another_word(rt: HostRuntime) -> Result<(), Fail> {
+    let code = [
+        0x0010_0293u32,
+        0x0055_0863,
+        0x0005_1c63,
+        0x0450_2023,
+        0x0000_0073,
+        0x0400_2303,
+        0x0850_2023,
+        0x0000_0073,
+        0x0800_2383,
+        0x0400_2303,
+        0x0000_0073,
+    ];
+    let choices = [
+        1u8, 1, 1, 2, 2, 1, 2, 2, 1, 1, 1, 1, 1, 1, 1, 1, 1, 1, 1, 1, 1,
+    ];
+    let run = recorded(rt.alloc(), &code, 3, &choices)?;
+    assert_eq!(rt; run.recording.totals.as_slice(), [5u32, 5, 6].as_slice());
+    for place in 0..6 {
+        let edges = edges_at(&run.recording, place);
+        match place {
+            3 => assert_eq!(rt; edges, [(4u32, 4u32)].as_slice()),
+            4 => assert_eq!(rt; edges, [(5u32, 4u32)].as_slice()),
+            _ => assert_eq!(rt; edges.len(), 0),
+        }
+    }
+    Ok(())
+}
+
+// Both cores store 5 and their number to word 8 as their second instruction. The fifth choice decides
+// whose store comes last.
+#[test]
+fn one_choice_decides(rt: HostRuntime) -> Result<(), Fail> {
+    let code = [0x0055_0293u32, 0x0250_2023, 0x0000_0073];
+    let first = recorded(rt.alloc(), &code, 2, &[0, 0, 0, 0, 0])?;
+    assert_eq!(rt; edges_at(&first.recording, 0), [(2u32, 2u32)].as_slice());
+    assert_eq!(rt; edges_at(&first.recording, 1).len(), 0);
+    assert_eq!(rt; first.outcome.words.as_slice().get(8).copied(), Some(6));
+    let second = recorded(rt.alloc(), &code, 2, &[0, 0, 0, 0, 1])?;
+    assert_eq!(rt; edges_at(&second.recording, 0).len(), 0);
+    assert_eq!(rt; edges_at(&second.recording, 1), [(2u32, 2u32)].as_slice());
+    assert_eq!(rt; second.outcome.words.as_slice().get(8).copied(), Some(5));
+    Ok(())
+}
