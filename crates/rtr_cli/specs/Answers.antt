@@ -6,7 +6,7 @@ use Rattle.rtr_io.specs.Moved.{GivesPart, TakesJust}
 use Rattle.state_text.specs.declared.exits.Exit.{Exit}
 use Rattle.state_text.specs.declared.exits.Exit.TheVariants.{Done, Usage, TooLarge, Bad, ReadFault, WriteFault, OutOfMemory}
 use Rattle.tool_words.specs.declared.command.Command.{Command}
-use Rattle.rtr_cli.specs.Commands.{made, most_of}
+use Rattle.rtr_cli.specs.Commands.{Promised, made, most_of}
 
 -- the input was read to its end, and these bytes were its rest; there are at most `most` of them
 pub record IsRead (most : ℕ) (old new : Option (List ℕ)) (bytes : List ℕ) : Type 0 where
@@ -15,10 +15,11 @@ pub record IsRead (most : ℕ) (old new : Option (List ℕ)) (bytes : List ℕ) 
   pub within : length bytes ≤ most
 
 -- what a command's exit says of the bytes that the input had left and of those that the output got.
--- At Done the output got exactly what the command makes of the input, and at WriteFault a part of it.
+-- At Done the output got exactly what the command makes of the input, which is as promised, and at
+-- WriteFault a part of it.
 abbrev pub Answers : Command → Exit → (left left' got got' : Option (List ℕ)) → Type 0
 Answers command Done left left' got got' =
-    (input : List ℕ) × (out : List ℕ) × IsRead (most_of command) left left' input × (made command input ≡ Ok out) × Appends got got' out
+    (input : List ℕ) × (out : List ℕ) × IsRead (most_of command) left left' input × (made command input ≡ Ok out) × Promised command input × Appends got got' out
 Answers command WriteFault left left' got got' =
     (input : List ℕ) × (out : List ℕ) × IsRead (most_of command) left left' input × (made command input ≡ Ok out) × GivesPart out got got'
 Answers command (Bad part) left left' got got' =

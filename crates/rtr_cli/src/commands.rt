@@ -1,20 +1,22 @@
 //! What each command makes of its input, before a byte is given.
-ghost use Rattle.std.specs.Prelude.{◌≡◌, ◌*◌, ◌<◌, ◌≤◌, IfOk, List, length, map, vec_len};
-ghost use Rattle.image_mem.specs.Contents.{Contents};
+ghost use Rattle.std.specs.Prelude.{◌≡◌, ◌*◌, ◌≤◌, IfOk, OnOk, vec_len};
+ghost use Rattle.conflict_edge.specs.Least.{IsLeast};
 ghost use Rattle.log_codec.specs.Faults.{Gives};
+ghost use Rattle.log_codec.specs.Sources.{log_edges};
+ghost use Rattle.rtr_types.specs.declared.pairs.Which.TheVariants.{Reduced};
 ghost use Rattle.log_codec.specs.Spelling.{spelling};
+ghost use Rattle.machine_run.specs.Outcomes.{outcome_of};
+ghost use Rattle.recorder.specs.Recordings.{accesses_of, recording_of};
 ghost use Rattle.rtr_types.specs.Parameters.{Fits};
 ghost use Rattle.state_text.specs.States.{state_lines};
 ghost use Rattle.tool_words.specs.Commands.{HasFittingParams};
-ghost use Rattle.machine_run.specs.Outcomes.{outcome_of};
-ghost use Rattle.rtr_cli.specs.Commands.{image_of, made, most_of, outcome_of_input, recording_of, logs_of};
+ghost use Rattle.rtr_cli.specs.Commands.{Promised, image_of, made, most_of, outcome_of_input, recording_of_input, logs_of};
 
 use image_mem::Image;
 use log_codec::{CodecFault, Recording, read, spell};
 use machine_run::laws::a_run_fits_its_image;
-use machine_run::run_machine;
-use rtr_types::{Items, Params};
-use rv_core::Core;
+use recorder::{Recorded, record_run};
+use rtr_types::Params;
 use schedule_pick::Schedule;
 use state_text::{logs_text, state_text};
 use std::alloc::{AllocError, Global};
@@ -28,7 +30,7 @@ pub(crate) fn most_of(command: &Command) -> usize
     ensures { result ≡ most_of command.now }
 {
     match command {
-        Command::Record { params } | Command::Run { params, .. } => 4 * params.words as usize,
+        Command::Record { params, .. } | Command::Run { params, .. } => 4 * params.words as usize,
         Command::Print => RECORDING_BYTES_MAX,
     }
 }
@@ -37,10 +39,18 @@ pub(crate) fn most_of(command: &Command) -> usize
 pub(crate) fn make(alloc: Global, command: Command, bytes: Vec<u8>) -> Result<Vec<u8>, CodecFault>
     requires fits { HasFittingParams command }
     requires within { vec_len bytes ≤ most_of command }
-    ensures { Gives (λ out. out.items) result (made command bytes.items) }
+    ensures made { Gives (λ out. out.items) result (made command bytes.items) }
+    ensures promised { OnOk result (Promised command bytes.items) }
 {
     match command {
-        Command::Record { params } => Ok(record(alloc, params, bytes)?),
+        Command::Record {
+            params,
+            choices,
+            seed,
+        } => {
+            let schedule = Schedule::new(choices.into_vec(), seed);
+            Ok(record(alloc, params, schedule, bytes)?)
+        }
         Command::Run {
             params,
             choices,
@@ -57,35 +67,21 @@ pub(crate) fn make(alloc: Global, command: Command, bytes: Vec<u8>) -> Result<Ve
     }
 }
 
-/// The recording of a run of the image on one core, spelled.
-fn record(alloc: Global, params: Params, bytes: Vec<u8>) -> Result<Vec<u8>, AllocError>
+/// The recording of a run of the image, spelled.
+fn record(
+    alloc: Global,
+    params: Params,
+    schedule: Schedule,
+    bytes: Vec<u8>,
+) -> Result<Vec<u8>, AllocError>
     requires fits { Fits params }
-    requires one_core { params.cores ≡ 1 }
     requires within { vec_len bytes ≤ 4 * params.words }
-    ensures { IfOk result (λ out. out.items ≡ spelling (recording_of params bytes.items)) }
+    ensures made { IfOk result (λ out. out.items ≡ spelling (recording_of (image_of params bytes.items) params schedule)) }
+    ensures least { OnOk result (IsLeast (accesses_of (image_of params bytes.items) params schedule) (log_edges Reduced (recording_of (image_of params bytes.items) params schedule))) }
 {
-    a_run_fits_its_image();
     let image = image(bytes, params.words);
-    let ran = run_machine(alloc, image, params, Schedule::new(Vec::new(alloc), 0))?;
-    let recording = Recording {
-        params,
-        image: Items::from_vec(ran.image.into_bytes()),
-        totals: totals_of(alloc, ran.outcome.cores.as_slice())?,
-        reduced: Items::new(alloc),
-        regulated: Items::new(alloc),
-    };
-    spell(alloc, &recording)
-}
-
-/// How many instructions each core retired.
-fn totals_of(alloc: Global, cores: &[Core]) -> Result<Items<u32>, AllocError>
-    ensures { IfOk result (λ totals. totals ≡ map (λ k. k.count) cores.now) }
-{
-    let mut totals = Items::new(alloc);
-    for core in cores {
-        totals.push(core.count())?;
-    }
-    Ok(totals)
+    let recorded = record_run(alloc, image, params, schedule)?;
+    spell(alloc, &recorded.recording)
 }
 
 /// The text of how a run of the image ended.
@@ -101,9 +97,11 @@ fn run(
     ensures { IfOk result (λ out. out.items ≡ state_lines (outcome_of (image_of params bytes.items) params schedule) (image_of params bytes.items) loads) }
 {
     a_run_fits_its_image();
-    let image = image(bytes, params.words);
-    let ran = run_machine(alloc, image, params, schedule)?;
-    state_text(alloc, &ran.outcome, &ran.image, loads)
+    let opening = image(bytes, params.words);
+    let Recorded { recording, outcome } = record_run(alloc, opening, params, schedule)?;
+    let Recording { image: bytes, .. } = recording;
+    let image = image(bytes.into_vec(), params.words);
+    state_text(alloc, &outcome, &image, loads)
 }
 
 /// The image of these bytes, which fit into the memory.

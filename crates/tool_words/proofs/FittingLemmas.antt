@@ -149,9 +149,7 @@ params-fit s fit =
     search (rules, cores, limit, words)
 
 command-fits : (verb : Verb) (s : Settings) → AreFitting s → HasFittingParams (command_of verb s)
-command-fits Record s fit =
-    let fits = params-fit s fit in
-    record { fits = search (rules, fits); one_core = refl }
+command-fits Record s fit = params-fit s fit
 command-fits Run s fit = params-fit s fit
 command-fits Print s fit = tt
 

@@ -1,5 +1,5 @@
 -- The commands.
-use Rattle.std.specs.Prelude.{◌≡◌, ℕ, List, Option, Some, None, codes, unwrap_or, if◌then◌else◌}
+use Rattle.std.specs.Prelude.{ℕ, List, Option, Some, None, codes, unwrap_or, if◌then◌else◌}
 use Rattle.std.specs.Str.{bytes_eq}
 use Rattle.rtr_types.specs.Parameters.{Fits}
 use Rattle.rtr_types.specs.declared.parameters.Params.{Params}
@@ -18,19 +18,14 @@ verb_named word =
     if bytes_eq word (codes "run") then Some Run else
     if bytes_eq word (codes "print") then Some Print else None
 
--- the command with these settings, and its defaults for the others; a recording is of one core
+-- the command with these settings, and its defaults for the others
 abbrev pub command_of : Verb → Settings → Command
-command_of Record s = RecordRun (record (params_of s) { cores = 1 })
+command_of Record s = RecordRun (params_of s) (bytes_of s.choices) (unwrap_or s.seed 0)
 command_of Run s = RunImage (params_of s) (bytes_of s.choices) (unwrap_or s.seed 0) s.loads
 command_of Print s = PrintLogs
 
--- the parameters lie in their ranges, and are those of one core
-pub record AreForOneCore (params : Params) : Type 0 where
-  pub fits : Fits params
-  pub one_core : params.cores ≡ 1
-
--- the parameters of a command, where it has some, lie in their ranges; a recording is of one core
+-- the parameters of a command, where it has some, lie in their ranges
 abbrev pub HasFittingParams : Command → Type 0
-HasFittingParams (RecordRun params) = AreForOneCore params
+HasFittingParams (RecordRun params choices seed) = Fits params
 HasFittingParams (RunImage params choices seed loads) = Fits params
 HasFittingParams PrintLogs = Unit {0}

@@ -26,11 +26,11 @@ option_named word =
 
 -- the command takes the option
 abbrev pub takes : Verb → Name → Bool
-takes Record Cores = false
+takes Record Cores = true
 takes Record Limit = true
 takes Record Words = true
-takes Record Choices = false
-takes Record Seed = false
+takes Record Choices = true
+takes Record Seed = true
 takes Record Loads = false
 takes Run name = true
 takes Print name = false

@@ -11,9 +11,11 @@ use std::alloc::{AllocError, Global};
 /// What the tool is asked to do, with every option filled in.
 #[derive(Drop)]
 pub enum Command {
-    /// Record a run of the image on the input, on one core.
+    /// Record a run of the image on the input, under the schedule of these choice bytes and this seed.
     Record {
         params: Params,
+        choices: Items<u8>,
+        seed: u64,
     },
     /// Run the image on the input, under the schedule of these choice bytes and this seed, and print how
     /// the run ended; with `loads` also what was loaded.
@@ -58,7 +60,9 @@ impl Verb {
         let params = settings.params();
         match self {
             Verb::Record => Ok(Command::Record {
-                params: Params { cores: 1, ..params },
+                params,
+                choices: bytes_of(alloc, settings.choices)?,
+                seed: settings.seed.unwrap_or(0),
             }),
             Verb::Run => Ok(Command::Run {
                 params,

@@ -38,11 +38,11 @@ impl Name {
         ensures { result ≡ option_of verb word.now }
     {
         match verb {
-            Verb::Run if word == "--cores" => Some(Name::Cores),
+            Verb::Record | Verb::Run if word == "--cores" => Some(Name::Cores),
             Verb::Record | Verb::Run if word == "--limit" => Some(Name::Limit),
             Verb::Record | Verb::Run if word == "--words" => Some(Name::Words),
-            Verb::Run if word == "--choices" => Some(Name::Choices),
-            Verb::Run if word == "--seed" => Some(Name::Seed),
+            Verb::Record | Verb::Run if word == "--choices" => Some(Name::Choices),
+            Verb::Record | Verb::Run if word == "--seed" => Some(Name::Seed),
             Verb::Run if word == "--loads" => Some(Name::Loads),
             _ => None,
         }

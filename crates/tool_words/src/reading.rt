@@ -25,8 +25,7 @@ pub fn meaning(alloc: Global, words: &[String]) -> Result<Option<Command>, Alloc
     }
 }
 
-/// The parameters of every command that words mean lie in their ranges, and those of `record` are of one
-/// core.
+/// The parameters of every command that words mean lie in their ranges.
 pub fn what_words_mean_fits()
     ensures { FittingLaw }
 {}

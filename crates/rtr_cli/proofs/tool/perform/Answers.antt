@@ -7,4 +7,11 @@ pub returns-clause-answered : goal.returns-clause-answered
 returns-clause-answered g c =
     let within : length c.in-Ok.bytes.items ≤ most_of c.args.command = omega (arith, c.in-Ok.bytes.ok.0, c.in-Ok.ensures.within) in
     let part = rw c.as_slice.ensures.value at c.in-Err.ensures.part in
-    (c.in-Ok.bytes.items, c.in-Ok-make.out.items, record { taken = c.in-Ok.ensures.bytes; end = c.in-Ok.ensures.end; within = within }, c.in-Ok-make.ensures, part)
+    (c.in-Ok.bytes.items, c.in-Ok-make.out.items, record { taken = c.in-Ok.ensures.bytes; end = c.in-Ok.ensures.end; within = within }, c.in-Ok-make.ensures.made, part)
+
+-- or all of it
+pub returns-in-Ok-write_all-clause-answered : goal.returns-in-Ok-write_all-clause-answered
+returns-in-Ok-write_all-clause-answered g c =
+    let within : length c.in-Ok.bytes.items ≤ most_of c.args.command = omega (arith, c.in-Ok.bytes.ok.0, c.in-Ok.ensures.within) in
+    let whole = rw c.as_slice.ensures.value at c.in-Ok-write_all.ensures.all in
+    (c.in-Ok.bytes.items, c.in-Ok-make.out.items, record { taken = c.in-Ok.ensures.bytes; end = c.in-Ok.ensures.end; within = within }, c.in-Ok-make.ensures.made, c.in-Ok-make.ensures.promised, whole)
