@@ -1,5 +1,5 @@
 -- What a run comes to fits its image and its parameters.
-use Rattle.std.proofs.Common.{◌≡◌, refl, sym, ap, subst, ◌∙◌, ℕ, zero, suc, ◌+◌, ◌<◌, ◌≤◌, ◌^◌, ◌==◌, ◌&&◌, Bool, true, false, cond, List, [], ◌∷◌, length, Option, Some, None, arith}
+use Rattle.std.proofs.Common.{◌≡◌, refl, ap, ◌∙◌, ℕ, zero, suc, ◌+◌, ◌<◌, ◌≤◌, ◌^◌, ◌==◌, ◌&&◌, Bool, true, false, cond, List, [], ◌∷◌, length, Option, Some, None, arith}
 use Rattle.std.specs.Prelude.{All, map}
 use Rattle.std.specs.List.{range_with_len}
 use Rattle.std.proofs.lemmas.List.{length-map}
@@ -8,13 +8,9 @@ use Rattle.std.proofs.lemmas.List.FromFn.{length-map-range_with_len}
 use Rattle.access_times.specs.Riding.{none_carrying, none_riding}
 use Rattle.image_mem.specs.Contents.{Contents}
 use Rattle.rtr_types.specs.Accesses.{is_read}
-use Rattle.rtr_types.specs.Parameters.{Fits}
-use Rattle.rtr_types.specs.declared.TheConstants.{CORES_MAX}
-use Rattle.rtr_types.specs.declared.parameters.TheConstants.{LIMIT_MAX}
 use Rattle.rtr_types.specs.declared.accesses.Access.{Access}
 use Rattle.rtr_types.specs.declared.parameters.Params.{Params}
 use Rattle.rv_core.specs.declared.core_state.Core.{Core}
-use Rattle.rv_core.specs.declared.outcomes.LoadNote.{LoadNote}
 use Rattle.schedule_pick.specs.Choices.{choice_at}
 use Rattle.msi_bound.specs.Ends.{end_of}
 use Rattle.msi_bound.proofs.Capacity.{cores_kept}
@@ -26,7 +22,7 @@ use Rattle.msi_state.specs.declared.moves.Move.{Move}
 use Rattle.msi_state.specs.States.{PlainState, no_node, node_at, node_start}
 use Rattle.msi_state.specs.Runs.{accesses, chosen, loads_of, run, stepped_by}
 use Rattle.machine_run.specs.Loads.{note_of}
-use Rattle.machine_run.specs.Outcomes.{RunFits, RunFitsLaw, outcome_of}
+use Rattle.machine_run.specs.Outcomes.{RunFitsLaw, outcome_of}
 use Rattle.machine_run.proofs.Limits.{run_limits}
 
 cores_stepped : (s : PlainState) (taken : Option Move) → length (stepped_by s taken).nodes ≡ length s.nodes

@@ -1,5 +1,5 @@
 -- Each core keeps the limit that it was given.
-use Rattle.std.proofs.Common.{◌≡◌, refl, sym, ap, subst, ◌∙◌, ℕ, zero, suc, ◌<◌, ◌≤◌, ◌==◌, ◌^◌, true, false, Bool, List, [], ◌∷◌, length, Option, Some, None, arith, IsTrue}
+use Rattle.std.proofs.Common.{◌≡◌, refl, ap, ◌∙◌, ℕ, zero, suc, ◌<◌, ◌≤◌, ◌==◌, ◌^◌, true, false, Bool, List, [], ◌∷◌, length, Option, Some, None, arith, IsTrue}
 use Rattle.std.specs.Prelude.{slice_set, if◌then◌else◌}
 use Rattle.std.proofs.lemmas.List.{length-set}
 use Rattle.access_times.specs.Riding.{Riding, Carrying, none_riding, none_carrying}
@@ -19,7 +19,7 @@ use Rattle.msi_state.specs.declared.actors.Mail.{Mail}
 use Rattle.msi_state.specs.declared.actors.Node.{Node}
 use Rattle.msi_state.specs.declared.moves.Move.{Move}
 use Rattle.msi_state.specs.declared.moves.Move.TheVariants.{Core as CoreMove, Request as RequestMove, Response as ResponseMove, FromHome as MessageMove}
-use Rattle.msi_state.specs.States.{State, PlainState, node_at, node_start, state_start}
+use Rattle.msi_state.specs.States.{State, PlainState, node_at}
 use Rattle.msi_state.proofs.Start.{node_start_at}
 use Rattle.msi_state.specs.Nodes.{node_receiving_in}
 use Rattle.msi_state.specs.Steps.{enabled, enabled_at, step, node_requested, node_responded, request_moved_in, response_moved_in}

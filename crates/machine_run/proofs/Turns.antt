@@ -1,28 +1,23 @@
 -- Where a machine stands in its run, from its start to its end.
-use Rattle.std.proofs.Common.{◌≡◌, refl, sym, ap, subst, ◌∙◌, ℕ, zero, suc, ◌+◌, ◌<◌, ◌≤◌, ◌^◌, Bool, true, false, List, [], ◌∷◌, ◌++◌, append-nil, length, Option, Some, None, arith, inl, inr}
-use Rattle.std.specs.Prelude.{map, replicate, All, slice_index_or}
-use Rattle.std.specs.List.{range_with_len}
+use Rattle.std.proofs.Common.{◌≡◌, refl, sym, ap, ◌∙◌, ℕ, zero, suc, ◌+◌, ◌<◌, true, false, List, [], ◌∷◌, ◌++◌, append-nil, length, Some, arith, inl, inr}
+use Rattle.std.specs.Prelude.{map, replicate}
 use Rattle.std.proofs.lemmas.Bool.{cases_eq}
 use Rattle.std.proofs.lemmas.List.{length-map}
-use Rattle.std.proofs.lemmas.List.Elements.{All-from_get_or}
 use Rattle.std.proofs.lemmas.List.FromFn.{length-map-range_with_len}
 use Rattle.access_times.specs.Riding.{Carrying, none_riding, none_carrying}
 use Rattle.image_mem.specs.Contents.{Contents}
 use Rattle.rtr_types.specs.Parameters.{Fits}
-use Rattle.rtr_types.specs.declared.TheConstants.{CORES_MAX}
-use Rattle.rtr_types.specs.declared.parameters.TheConstants.{LIMIT_MAX}
 use Rattle.rtr_types.specs.declared.accesses.Access.{Access}
-use Rattle.rtr_types.specs.declared.nodes.Instr.{Instr}
 use Rattle.rtr_types.specs.declared.parameters.Params.{Params}
 use Rattle.rv_core.specs.declared.outcomes.LoadNote.{LoadNote}
 use Rattle.schedule_pick.specs.Choices.{Choices, choice_at, choices_after}
 use Rattle.schedule_pick.proofs.ChoiceLemmas.{following_law}
 use Rattle.msi_state.specs.declared.actors.Node.{Node}
 use Rattle.msi_state.specs.declared.moves.Move.{Move}
-use Rattle.msi_state.specs.Nodes.{Event, Nothing, Retires, Accesses, Tells, next_instr}
+use Rattle.msi_state.specs.Nodes.{Event, Nothing, Retires, Accesses}
 use Rattle.msi_state.specs.Plain.{plain, plain_node}
-use Rattle.msi_state.specs.States.{PlainState, State, all_done, node_at, node_start, no_node}
-use Rattle.msi_state.specs.Runs.{IsRunEnd, accesses, accesses_in, chosen, event_by, loads_of, opening_state, outcome_at, plain_event, plain_step, run, stepped_by}
+use Rattle.msi_state.specs.States.{PlainState, State, all_done, node_at, node_start}
+use Rattle.msi_state.specs.Runs.{IsRunEnd, accesses, accesses_in, chosen, event_by, opening_state, outcome_at, plain_event, plain_step, run, stepped_by}
 use Rattle.rv_core.specs.declared.core_state.Core.{Core}
 use Rattle.rv_core.specs.declared.outcomes.Outcome.{Outcome}
 use Rattle.msi_state.specs.FinalMemory.{final_memory}
@@ -33,8 +28,7 @@ use Rattle.msi_plain.proofs.Plains.{plain_node_at}
 use Rattle.msi_sound.specs.Sound.{Sound}
 use Rattle.msi_sound.proofs.Begins.{sound_run}
 use Rattle.msi_bound.proofs.Capacity.{cores_kept}
-use Rattle.load_lists.specs.Lists.{LoadRooms}
-use Rattle.machine_run.specs.Loads.{lists_after, lists_told}
+use Rattle.machine_run.specs.Loads.{lists_told}
 use Rattle.machine_run.specs.Outcomes.{StandsAt, outcome_of}
 use Rattle.machine_run.proofs.NotedLoads.{lists_of, lists_more}
 

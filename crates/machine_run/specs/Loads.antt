@@ -1,5 +1,5 @@
 -- The loads of each core after one more access.
-use Rattle.std.specs.Prelude.{ℕ, List, if◌then◌else◌}
+use Rattle.std.specs.Prelude.{List, if◌then◌else◌}
 use Rattle.rtr_types.specs.Accesses.{is_read}
 use Rattle.rtr_types.specs.declared.accesses.Access.{Access}
 use Rattle.rv_core.specs.declared.outcomes.LoadNote.{LoadNote}

@@ -1,5 +1,5 @@
 -- The test of covering pairs is right.
-use Rattle.std.proofs.Common.{◌≡◌, ◌≢◌, ◌∙◌, refl, sym, ap, subst, ℕ, ◌<◌, ◌≤◌, ◌&&◌, ◌||◌, ◌⊎◌, inl, inr, Bool, true, false, not, nat_eq, nat_le, List, [], ◌∷◌, reverse, arith}
+use Rattle.std.proofs.Common.{◌≡◌, ◌≢◌, ◌∙◌, refl, sym, ap, subst, ℕ, ◌≤◌, ◌&&◌, ◌||◌, ◌⊎◌, inl, inr, Bool, true, false, not, nat_eq, nat_le, List, [], ◌∷◌, reverse, arith}
 use Rattle.std.specs.List.{list_any}
 use Rattle.std.proofs.lemmas.Bool.Decides.{nat_tests}
 use Rattle.rtr_types.specs.declared.accesses.Access.{Access}
@@ -10,7 +10,7 @@ use Rattle.conflict_edge.proofs.History.{Pair, and_true, do_conflict-true, do_co
 use Rattle.conflict_edge.proofs.Reach.{clock_law}
 use Rattle.conflict_edge.proofs.Reversed.{pair_back, pair_forth, rising_back, stands_back}
 use Rattle.conflict_edge.proofs.Scan.{arrives}
-use Rattle.conflict_edge.proofs.TwoForms.{acyclic, cores_differ}
+use Rattle.conflict_edge.proofs.TwoForms.{acyclic}
 use Rattle.conflict_edge.specs.Clocks.{clock}
 use Rattle.conflict_edge.specs.Conflicts.{ConflictPair, Conflicts, CountsRise, StandsIn, do_conflict}
 use Rattle.conflict_edge.specs.Least.{Covering}

@@ -1,6 +1,6 @@
 -- The pairs' lists of the covering pairs: what they hold, and that a reduction has just these.
-use Rattle.std.proofs.Common.{◌≡◌, ◌∙◌, refl, sym, ap, subst, ℕ, zero, suc, ◌<◌, ◌≤◌, ◌⊎◌, inl, inr, List, [], ◌∷◌, length, arith}
-use Rattle.std.specs.Prelude.{slice_index_or, ⊤}
+use Rattle.std.proofs.Common.{◌≡◌, ◌∙◌, sym, ap, subst, ℕ, zero, suc, ◌<◌, inl, inr, List, [], ◌∷◌, length, arith}
+use Rattle.std.specs.Prelude.{slice_index_or}
 use Rattle.std.specs.List.{Contains}
 use Rattle.std.proofs.lemmas.List.{same_lists}
 use Rattle.std.proofs.lemmas.List.FromFn.{get_or-map-range_with_len, length-map-range_with_len}
@@ -9,9 +9,7 @@ use Rattle.rtr_types.specs.Pairs.{IsPair, pair_count, pair_place, source_at, tar
 use Rattle.rtr_types.specs.declared.accesses.Access.{Access}
 use Rattle.rtr_types.specs.declared.nodes.Edge.{Edge}
 use Rattle.rtr_types.specs.declared.nodes.Instr.{Instr}
-use Rattle.clock_core.specs.Order.{Among}
 use Rattle.conflict_edge.proofs.TwoForms.{cores_differ}
-use Rattle.conflict_edge.specs.Conflicts.{CountsRise}
 use Rattle.conflict_edge.specs.Least.{Covering}
 use Rattle.online_reduce.proofs.ByPair.{by_pair_at, length-by_pair}
 use Rattle.online_reduce.proofs.Reductions.{listed_law}
@@ -19,9 +17,9 @@ use Rattle.online_reduce.proofs.Rises.{AtAccess, pair_source, pair_target}
 use Rattle.online_reduce.specs.Exact.{IsReduction}
 use Rattle.online_reduce.specs.Lists.{RiseWithin, pair_edges}
 use Rattle.online_reduce.specs.Reduced.{Reduced, count_of}
-use Rattle.recorder.proofs.PairLists.{Covers, covers_pair, pair_covers, pair_sorted}
-use Rattle.recorder.proofs.SortedPairs.{Below, In, Sorted, sorted_is}
-use Rattle.recorder.specs.LeastLists.{AreOf, LeastListsLaw, least_lists, pair_list}
+use Rattle.recorder.proofs.PairLists.{covers_pair, pair_covers, pair_sorted}
+use Rattle.recorder.proofs.SortedPairs.{In, Sorted, sorted_is}
+use Rattle.recorder.specs.LeastLists.{LeastListsLaw, least_lists, pair_list}
 
 module _ {X : Type 0} where
   contains_in : (xs : List X) (e : X) (k : ℕ) → k < length xs → slice_index_or xs k e ≡ e → In xs e

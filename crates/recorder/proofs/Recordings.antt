@@ -1,6 +1,6 @@
 -- What is recorded at the end of a run: it is valid, and its reduced log is the least set.
-use Rattle.std.proofs.Common.{◌≡◌, ◌∙◌, refl, sym, ap, subst, ℕ, ◌<◌, ◌≤◌, ◌*◌, ◌⊎◌, inl, inr, List, [], ◌∷◌, length, arith, map, true}
-use Rattle.std.specs.Prelude.{All, slice_index, slice_index_or, replicate}
+use Rattle.std.proofs.Common.{◌≡◌, ◌∙◌, sym, ap, subst, ℕ, ◌<◌, ◌≤◌, ◌*◌, inl, inr, List, [], ◌∷◌, length, arith, map, true}
+use Rattle.std.specs.Prelude.{slice_index, slice_index_or}
 use Rattle.std.specs.List.{Contains}
 use Rattle.std.proofs.lemmas.List.{get_or-map, get_or-replicate, length-map, length-replicate}
 use Rattle.std.proofs.lemmas.List.Elements.{All-map}
@@ -16,7 +16,6 @@ use Rattle.rtr_types.specs.declared.nodes.Instr.{Instr}
 use Rattle.rtr_types.specs.declared.pairs.Which.TheVariants.{Reduced as ReducedLog}
 use Rattle.rtr_types.specs.declared.parameters.Params.{Params}
 use Rattle.rv_core.specs.declared.core_state.Core.{Core}
-use Rattle.rv_core.specs.declared.outcomes.LoadNote.{LoadNote}
 use Rattle.rv_core.specs.declared.outcomes.Outcome.{Outcome}
 use Rattle.schedule_pick.specs.Choices.{Choices, choice_at}
 use Rattle.clock_core.specs.Order.{Among}
@@ -34,7 +33,7 @@ use Rattle.msi_bound.specs.Ends.{end_of}
 use Rattle.msi_plain.proofs.Shows.{plain_done}
 use Rattle.msi_state.specs.Plain.{plain, plain_node}
 use Rattle.msi_state.specs.Runs.{accesses}
-use Rattle.msi_state.specs.States.{State, all_done, no_node, node_at}
+use Rattle.msi_state.specs.States.{State, all_done, no_node}
 use Rattle.msi_state.specs.declared.actors.Node.{Node}
 use Rattle.online_reduce.proofs.ByPair.{length-by_pair}
 use Rattle.online_reduce.specs.Exact.{IsReduction}

@@ -3,13 +3,12 @@ use Rattle.std.proofs.Common.{◌≡◌, ◌≢◌, ◌∙◌, refl, sym, ap, su
 use Rattle.std.specs.Prelude.{◌%◌, reverse, slice_index, if◌then◌else◌}
 use Rattle.std.proofs.lemmas.Bool.{cases_eq}
 use Rattle.std.proofs.lemmas.Bool.Decides.{nat_tests}
-use Rattle.std.proofs.lemmas.List.{get_or-set_other, get_or-set_same, reverse-append}
+use Rattle.std.proofs.lemmas.List.{get_or-set_same, reverse-append}
 use Rattle.access_times.specs.declared.word_times.Times.{Times}
-use Rattle.access_times.specs.Times.{read_at, write_at}
+use Rattle.access_times.specs.Times.{read_at}
 use Rattle.access_times.specs.declared.TheConstants.{BLOCK_WORDS}
 use Rattle.clock_core.specs.Counts.{no_counts}
 use Rattle.clock_core.specs.declared.vector_clock.Clock.{Clock}
-use Rattle.rtr_types.specs.declared.TheConstants.{CORES_MAX}
 use Rattle.rtr_types.specs.declared.accesses.Access.{Access}
 use Rattle.rtr_types.specs.declared.nodes.Edge.{Edge}
 use Rattle.rtr_types.specs.declared.nodes.Instr.{Instr}
@@ -19,15 +18,13 @@ use Rattle.conflict_edge.proofs.Steps.{rising}
 use Rattle.conflict_edge.specs.Clocks.{last_read}
 use Rattle.conflict_edge.specs.Conflicts.{CountsRise, StandsIn}
 use Rattle.conflict_edge.specs.Times.{IsExactClock, IsNoteOf}
-use Rattle.msi_state.specs.Nodes.{Event, Nothing, Retires, Accesses}
-use Rattle.msi_times.proofs.Told.{event_reversed}
 use Rattle.msi_times.specs.ExactTimes.{FindsExactTimes, HaveExactClocks, IsClockOf, accesses, with_access}
 use Rattle.msi_times.specs.ExactTimes as times
-use Rattle.msi_times.specs.Retirements.{Retirement, after_event, retired_by, with_event}
-use Rattle.online_reduce.proofs.ExactNext.{retired_own}
+use Rattle.msi_times.specs.Retirements.{Retirement, retired_by}
+use Rattle.online_reduce.proofs.ExactNext.{other_clocks_law, retired_own}
 use Rattle.online_reduce.proofs.Reductions.{count_law, retire_law}
 use Rattle.online_reduce.proofs.Step.{next_of}
-use Rattle.online_reduce.specs.Exact.{AreExactFor, IsExact, IsReduction, last_of, read_note}
+use Rattle.online_reduce.specs.Exact.{AreExactFor, IsExact, IsReduction, read_note}
 use Rattle.online_reduce.specs.Reduced.{IsNext, Reduced, clock_of, count_of, counted, edges_of, retired}
 use Rattle.recorder.specs.Standing.{Reduces}
 
@@ -105,14 +102,14 @@ local_counted list r at exact next = record {
   cores = refl;
   own = ap (λ (c : Clock). slice_index c at.core) (get_or-set_same r.clocks at.core _ no_counts (let core = next.core in let few = exact.few in let places = exact.places in omega arith))
       ∙ get_or-set_same (clock_of r at.core) at.core at.count 0 (let core = next.core in let few = exact.few in omega (arith, exact.wide at.core next.core));
-  others = λ core differ. ap (λ (c : Clock). slice_index c core) (get_or-set_other r.clocks at.core core _ no_counts differ);
+  others = λ core differ. ap (λ (c : Clock). slice_index c core) ((other_clocks_law r core).0 at differ);
 }
 
 access_counted : (list : List Access) (r : Reduced) (a : Access) (rider : Times) → IsExact list r → IsNext r a.at → AreExactFor list a rider → Counted r a.at (retired r a rider)
 access_counted list r a rider exact next times = record {
   cores = refl;
   own = retired_own list r a rider (next_of list r a rider exact next times);
-  others = λ core differ. ap (λ (c : Clock). slice_index c core) (get_or-set_other r.clocks a.at.core core _ no_counts differ);
+  others = λ core differ. ap (λ (c : Clock). slice_index c core) ((other_clocks_law r core).1 a rider differ);
 }
 
 -- an instruction without an access retired

@@ -1,7 +1,6 @@
 -- Where a run that is recorded stands, from its start on.
-use Rattle.std.proofs.Common.{◌≡◌, ◌∙◌, refl, sym, ap, subst, ℕ, suc, ◌+◌, ◌<◌, ◌≤◌, ◌⊎◌, inl, inr, Bool, true, false, List, [], ◌∷◌, ◌++◌, append-nil, length, Option, Some, None, arith}
-use Rattle.std.specs.Prelude.{map, reverse, replicate, All, slice_index, slice_index_or}
-use Rattle.std.specs.List.{range_with_len}
+use Rattle.std.proofs.Common.{◌≡◌, ◌∙◌, refl, sym, ap, subst, ℕ, suc, ◌+◌, ◌<◌, ◌≤◌, ◌⊎◌, inl, inr, false, List, [], ◌∷◌, ◌++◌, append-nil, length, Some, None, arith}
+use Rattle.std.specs.Prelude.{reverse, replicate, All, slice_index, slice_index_or}
 use Rattle.std.proofs.lemmas.List.{get_or-replicate, get_or_past, length-map, length-replicate}
 use Rattle.std.proofs.lemmas.List.Elements.{All-from_get_or}
 use Rattle.std.proofs.lemmas.List.FromFn.{length-map-range_with_len}
@@ -19,12 +18,11 @@ use Rattle.rtr_types.specs.declared.nodes.Instr.{Instr}
 use Rattle.rtr_types.specs.declared.parameters.Params.{Params}
 use Rattle.rv_core.specs.declared.outcomes.LoadNote.{LoadNote}
 use Rattle.schedule_pick.specs.Choices.{Choices, choice_at}
-use Rattle.msi_plain.proofs.Plains.{plain_node_at}
 use Rattle.msi_state.specs.Nodes.{Event, Nothing, Retires, Accesses, Tells, next_instr, rider_at, rider_of_event}
 use Rattle.msi_state.specs.Plain.{plain, plain_node}
 use Rattle.msi_state.specs.Runs.{accesses, accesses_in, chosen, event_by, loads_of, opening_state, plain_event, run}
 use Rattle.msi_state.specs.States.{PlainState, State, all_done, no_node, node_at, state_start}
-use Rattle.msi_state.specs.Steps.{TellsOf, event, retiring}
+use Rattle.msi_state.specs.Steps.{event, retiring}
 use Rattle.msi_state.specs.declared.actors.Node.{Node}
 use Rattle.msi_state.specs.declared.moves.Move.{Move}
 use Rattle.msi_times.proofs.Begins.{machine_start}
@@ -32,11 +30,11 @@ use Rattle.msi_times.proofs.ExactTimes.{exact_times_law}
 use Rattle.msi_times.proofs.RiderLaws.{times_fresh}
 use Rattle.msi_times.specs.ExactTimes.{FindsExactTimes, HaveExactClocks}
 use Rattle.msi_times.specs.ExactTimes as times
-use Rattle.msi_times.specs.Retirements.{IsExactRider, MachineStandsFor, Retirement, noted, retired_by, with_event}
+use Rattle.msi_times.specs.Retirements.{IsExactRider, MachineStandsFor, Retirement, noted, with_event}
 use Rattle.msi_times.specs.TimedSteps.{StepFinds, core_of_event, times_parts, with_step}
 use Rattle.online_reduce.proofs.Reductions.{begin_law}
 use Rattle.online_reduce.specs.Exact.{AreExactFor}
-use Rattle.online_reduce.specs.Reduced.{IsNext, Reduced, clock_of, count_of, counted, edges_of, retired, unreduced}
+use Rattle.online_reduce.specs.Reduced.{Reduced, clock_of, count_of, counted, edges_of, unreduced}
 use Rattle.machine_run.proofs.Turns.{Steps, numbered, stands_next, stands_start}
 use Rattle.machine_run.specs.Loads.{lists_told}
 use Rattle.machine_run.specs.Outcomes.{StandsAt}

@@ -1,5 +1,5 @@
 -- The least set of a list of accesses, by pair of cores, as one function of the list.
-use Rattle.std.specs.Prelude.{◌≡◌, ℕ, List, [], Bool, not, ◌&&◌, nat_eq, nat_le, ◌<◌, ◌↔◌, map, reverse, slice_index_or}
+use Rattle.std.specs.Prelude.{ℕ, List, [], Bool, not, ◌&&◌, nat_eq, nat_le, ◌<◌, ◌↔◌, map, reverse, slice_index_or}
 use Rattle.std.specs.List.{Contains, filter, flat_map, list_any, range_with_len}
 use Rattle.rtr_types.specs.Pairs.{IsPair, pair_count, pair_place, source_at, target_at}
 use Rattle.rtr_types.specs.declared.accesses.Access.{Access}

@@ -1,9 +1,8 @@
 //! Who is told of the run's retirements.
 ghost use Rattle.std.specs.Prelude.{◌≡◌, ◌≤◌, [], IfOk, IsTrue, OnOk, replicate};
 ghost use Rattle.std.proofs.Common.{◌∙◌, ap};
-ghost use Rattle.std.proofs.lemmas.List.{get_or-set_other};
 ghost use Rattle.rtr_types.specs.declared.TheConstants.{CORES_MAX};
-ghost use Rattle.clock_core.specs.Counts.{no_counts};
+ghost use Rattle.online_reduce.proofs.ExactNext.{other_clocks_law};
 ghost use Rattle.online_reduce.specs.Reduced.{clock_of, unreduced};
 
 use access_times::{Clerk, NoCarry, Times, TimesClerk};
@@ -106,12 +105,11 @@ impl TimesClerk<NoCarry> for RunClerk {
     ghost clock = { λ c core. clock_of c.reduction.state core };
 
     ghost local_keeps = { λ c d at k told core other.
-        ap (λ (r : Reduced). clock_of r core) told.reduction
-        ∙ get_or-set_other c.reduction.state.clocks at.core core _ no_counts other };
+        ap (λ (r : Reduced). clock_of r core) told.reduction ∙ (other_clocks_law c.reduction.state core).0 at other };
 
     ghost touch_keeps = { λ c d before after a k told core other.
         ap (λ (r : Reduced). clock_of r core) told.reduction
-        ∙ get_or-set_other c.reduction.state.clocks a.at.core core _ no_counts other };
+        ∙ (other_clocks_law c.reduction.state core).1 a before other };
 
     ghost touch_notes = { λ c d before after a k told. told.times };
 }

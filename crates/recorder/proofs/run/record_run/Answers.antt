@@ -1,4 +1,4 @@
-use Rattle.std.proofs.Common.{◌≡◌, suc, ap, sym, subst, ◌∙◌, IfOk, arith}
+use Rattle.std.proofs.Common.{suc, ap, sym, subst, ◌∙◌, arith}
 use Rattle.std.proofs.lemmas.Result.{IfOk-weaker}
 use Rattle.rtr_types.specs.declared.pairs.Which.TheVariants.{Reduced}
 use Rattle.conflict_edge.specs.Least.{IsLeast}

@@ -1,10 +1,7 @@
-use Rattle.std.proofs.Common.{◌≡◌, ◌<◌, ap, sym, subst, ◌∙◌, false}
-use Rattle.access_times.specs.Times.{times_riding}
+use Rattle.std.proofs.Common.{◌≡◌, ap, sym, ◌∙◌, false}
 use Rattle.access_times.specs.declared.carries.NoCarry.{NoCarry}
 use Rattle.access_times.specs.declared.word_times.Times.{Times}
-use Rattle.schedule_pick.specs.Choices.{choice_at}
 use Rattle.msi_plain.proofs.Shows.{plain_done}
-use Rattle.msi_state.specs.Bound.{left}
 use Rattle.msi_state.specs.Nodes.{Event}
 use Rattle.msi_state.specs.Plain.{plain}
 use Rattle.msi_state.specs.Runs.{chosen}
