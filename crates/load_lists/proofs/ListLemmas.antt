@@ -1,6 +1,6 @@
 -- One list of loads is changed, or gets room.
 use Rattle.std.proofs.Common.{◌≡◌, ℕ, ◌+◌, ◌<◌, Bool, true, ◌&&◌, List, [], ◌∷◌, ◌++◌, length, take, get_or, refl, sym, ap, ◌∙◌, arith, zero, suc}
-use Rattle.std.specs.Prelude.{map, nat_lt, slice_index_or, slice_set, replicate}
+use Rattle.std.specs.Prelude.{map, slice_index_or, slice_set}
 use Rattle.std.specs.List.{list_all}
 use Rattle.std.proofs.lemmas.List.{map-set, take_more_set, length-map}
 use Rattle.std.proofs.lemmas.List.Folds.{list_all-append}

@@ -1,5 +1,5 @@
 -- Lists of loads and their room.
-use Rattle.std.specs.Prelude.{ℕ, Bool, true, ◌&&◌, List, [], ◌∷◌, ◌++◌, length, map, nat_lt, slice_index_or, slice_set}
+use Rattle.std.specs.Prelude.{ℕ, Bool, List, [], ◌∷◌, ◌++◌, length, map, nat_lt, slice_index_or, slice_set}
 use Rattle.std.specs.List.{list_all}
 use Rattle.rv_core.specs.declared.outcomes.LoadNote.{LoadNote}
 

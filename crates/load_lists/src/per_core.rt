@@ -99,11 +99,11 @@ mod tests {
             word: 17,
             value: 8,
         };
-        for note in [first, second] {
-            loads.make_room()?;
-            assert!(rt; loads.has_room());
-            loads.note(1, note);
-        }
+        loads.make_room()?;
+        loads.note(1, first);
+        loads.make_room()?;
+        assert!(rt; loads.has_room());
+        loads.note(1, second);
         let items = loads.into_items(rt.alloc())?;
         let lists = items.as_slice();
         assert_eq!(rt; lists.len(), 2);

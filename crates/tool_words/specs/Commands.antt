@@ -2,7 +2,6 @@
 use Rattle.std.specs.Prelude.{ℕ, List, Option, Some, None, codes, unwrap_or, if◌then◌else◌}
 use Rattle.std.specs.Str.{bytes_eq}
 use Rattle.rtr_types.specs.Parameters.{Fits}
-use Rattle.rtr_types.specs.declared.parameters.Params.{Params}
 use Rattle.tool_words.specs.declared.command.Command.{Command}
 use Rattle.tool_words.specs.declared.command.Command.TheVariants.{Record as RecordRun, Run as RunImage, Print as PrintLogs}
 use Rattle.tool_words.specs.declared.command.Verb.{Verb}

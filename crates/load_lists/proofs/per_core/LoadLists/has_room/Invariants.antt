@@ -1,4 +1,4 @@
-use Rattle.std.proofs.Common.{◌≡◌, true, take, ap}
+use Rattle.std.proofs.Common.{◌≡◌, true, take}
 use Rattle.std.specs.List.{list_all}
 use Rattle.load_lists.specs.Lists.{is_roomy}
 use Rattle.load_lists.proofs.per_core.LoadLists.has_room.Given as goal

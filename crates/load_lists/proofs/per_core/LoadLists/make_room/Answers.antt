@@ -1,9 +1,7 @@
-use Rattle.std.proofs.Common.{ap, ◌∙◌, sym, arith, length, take, ◌≡◌, Bool, true}
-use Rattle.std.specs.Prelude.{List}
-use Rattle.std.specs.List.{list_all}
-use Rattle.std.proofs.lemmas.List.{length-set, take_all}
+use Rattle.std.proofs.Common.{ap, ◌∙◌, arith}
+use Rattle.std.proofs.lemmas.List.{length-set}
 use Rattle.std.proofs.Math.Seq.{map-set_same}
-use Rattle.load_lists.specs.Lists.{LoadRoom, is_roomy}
+use Rattle.load_lists.specs.Lists.{LoadRoom}
 use Rattle.load_lists.proofs.ListLemmas.{made_more}
 use Rattle.load_lists.proofs.per_core.LoadLists.make_room.Goals as goal
 
