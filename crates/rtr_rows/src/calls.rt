@@ -1,5 +1,6 @@
 //! One call of the tool over streams in memory, and the bytes that rows spell.
 
+use crate::record_tables::Recorded;
 use crate::tables::Row;
 use rtr_cli::run_tool;
 use rtr_io::{MemSink, MemSource};
@@ -72,6 +73,19 @@ pub fn output_of(alloc: Global, row: &Row, input: &[u8]) -> Result<Vec<u8>, Allo
     output.extend_from_slice(rest.as_slice())?;
     output.extend_from_slice(row.text.as_bytes())?;
     Ok(output)
+}
+
+/// The bytes of a recording that a row wants.
+pub fn recording_of(alloc: Global, row: &Recorded) -> Result<Vec<u8>, AllocError> {
+    let mut recording = bytes(alloc, row.header)?;
+    let image = bytes(alloc, row.image)?;
+    recording.extend_from_slice(image.as_slice())?;
+    let rest = bytes(alloc, row.rest)?;
+    recording.extend_from_slice(rest.as_slice())?;
+    for _ in 0..row.zeros {
+        recording.push(0)?;
+    }
+    Ok(recording)
 }
 
 /// The tool's answer to these words and this input, where nothing fails.

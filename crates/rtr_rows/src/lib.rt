@@ -7,6 +7,8 @@ mod calls;
 #[cfg(test)]
 mod faults;
 #[cfg(test)]
+mod record_tables;
+#[cfg(test)]
 mod run_tables;
 #[cfg(test)]
 mod tables;

@@ -22,34 +22,35 @@ macro_rules! run {
 }
 
 /// ecall
-const END: &str = "73000000";
+pub const END: &str = "73000000";
 
 /// slli x5,x10,2; sw x10,32(x5); lw x6,32(x5); ecall: each core has a word of its own, in one block.
-const OWN_WORDS: &str = "93122500 23a0a202 03a30202 73000000";
+pub const OWN_WORDS: &str = "93122500 23a0a202 03a30202 73000000";
 
 /// bne x10,x0,+20; addi x5,x0,7; sw x5,64(x0); lw x6,64(x0); ecall; lw x7,64(x0); sw x10,64(x0); ecall: core 0
 /// writes a word and reads it, core 1 reads it and then writes it.
-const HANDED_OVER: &str = "631a0500 93027000 23205004 03230004 73000000 83230004 2320a004 73000000";
+pub const HANDED_OVER: &str =
+    "631a0500 93027000 23205004 03230004 73000000 83230004 2320a004 73000000";
 
 /// addi x5,x10,5; sb x5,32(x10); ecall: each core writes a byte of its own, in one word.
-const OWN_BYTES: &str = "93025500 23005502 73000000";
+pub const OWN_BYTES: &str = "93025500 23005502 73000000";
 
 /// addi x5,x10,5; sw x5,32(x0); ecall: each core writes the same word.
-const ONE_WORD: &str = "93025500 23205002 73000000";
+pub const ONE_WORD: &str = "93025500 23205002 73000000";
 
 /// addi x5,x10,9; bne x10,x0,+12; sw x5,64(x0); ecall; lw x6,64(x0); lw x7,320(x0); ecall: core 0 writes a word
 /// that core 1 reads, and core 1 then reads one whose block has the same line.
-const READER_EVICTS: &str = "93029500 63160500 23205004 73000000 03230004 83230014 73000000";
+pub const READER_EVICTS: &str = "93029500 63160500 23205004 73000000 03230004 83230014 73000000";
 
 /// addi x5,x10,9; bne x10,x0,+16; sw x5,64(x0); lw x7,320(x0); ecall; lw x6,64(x0); ecall: core 0 writes a word
 /// and then reads one whose block has the same line; core 1 reads the first.
-const WRITER_EVICTS: &str = "93029500 63180500 23205004 83230014 73000000 03230004 73000000";
+pub const WRITER_EVICTS: &str = "93029500 63180500 23205004 83230014 73000000 03230004 73000000";
 
 /// The same, but that core 1 writes the first word, by sw x5,64(x0).
-const WRITERS_EVICT: &str = "93029500 63180500 23205004 83230014 73000000 23205004 73000000";
+pub const WRITERS_EVICT: &str = "93029500 63180500 23205004 83230014 73000000 23205004 73000000";
 
 /// bne x10,x0,+12; lw x6,64(x0); ecall; jal x0,+0: core 0 ends, and core 1 jumps to itself for ever.
-const ENDLESS: &str = "63160500 03230004 73000000 6f000000";
+pub const ENDLESS: &str = "63160500 03230004 73000000 6f000000";
 
 /// Three results of each core, at 96 + 4 * core, 128 + 16 * core and 384 + 16 * core, from two words that
 /// all cores load:
@@ -62,7 +63,7 @@ const ENDLESS: &str = "63160500 03230004 73000000 6f000000";
 /// - lw x9,128(x5); add x9,x9,x7; sw x9,384(x5): the line goes back two more times, each time from a shared
 ///   copy;
 /// - ecall; and the two words, a00 and b00.
-const EIGHT_WORK: &str = "93124500 13132500 83234004 \
+pub const EIGHT_WORK: &str = "93124500 13132500 83234004 \
     03a40208 33047400 3304a400 23a08208 \
     83a40218 \
     83258004 03260306 3306b600 3306a600 2320c306 \

@@ -1,4 +1,5 @@
-use crate::calls::{ask, bytes, input_of, output_of};
+use crate::calls::{ask, bytes, input_of, output_of, recording_of};
+use crate::record_tables::RECORDINGS;
 use crate::run_tables::{FAULTY, RUNS};
 use crate::tables::{CUT_PARTS, CUT_RECORDING, ROWS};
 use std::test::Fail;
@@ -49,6 +50,28 @@ fn each_run_leaves_its_text(rt: HostRuntime) -> Result<(), Fail> {
         assert_eq!(rt; answer.status, 0, "{}", run.words);
         assert_eq!(rt; answer.output.as_slice(), text.as_bytes(), "{}", run.words);
         assert_eq!(rt; answer.report.as_slice(), b"".as_slice(), "{}", run.words);
+    }
+    Ok(())
+}
+
+#[test]
+fn each_run_is_recorded_and_printed(rt: HostRuntime) -> Result<(), Fail> {
+    let alloc = rt.alloc();
+    for row in &RECORDINGS {
+        let wanted = recording_of(alloc, row)?;
+        let made = ask(alloc, row.words, bytes(alloc, row.image)?)?;
+        assert_eq!(rt; made.status, 0, "{}", row.words);
+        assert_eq!(rt; made.output.as_slice(), wanted.as_slice(), "{}", row.words);
+        assert_eq!(rt; made.report.as_slice(), b"".as_slice(), "{}", row.words);
+        let said = ask(alloc, "print", made.output)?;
+        assert_eq!(rt; said.status, 0, "{}", row.words);
+        assert_eq!(rt;
+            said.output.as_slice(),
+            row.text.as_bytes(),
+            "{}",
+            row.words
+        );
+        assert_eq!(rt; said.report.as_slice(), b"".as_slice(), "{}", row.words);
     }
     Ok(())
 }
