@@ -16,7 +16,7 @@ use Rattle.conflict_edge.specs.Conflicts.{ConflictPair, Conflicts, CountsRise, S
 use Rattle.conflict_edge.specs.Least.{Covering}
 use Rattle.online_reduce.proofs.Rises.{AtAccess, pair_source}
 use Rattle.online_reduce.specs.Rule.{is_same}
-use Rattle.recorder.specs.LeastLists.{is_covering, reaches, stands_between}
+use Rattle.recorder.specs.LeastLists.{is_covering, is_or_leads, stands_between}
 
 pub both : (a b : Bool) → a ≡ true → b ≡ true → (a && b) ≡ true
 both a b p q = rw (p, q) refl
@@ -81,14 +81,14 @@ other_differs x y d = by (is_same x y) (same_is x y)
     by true f = absurd (d (f refl))
     by false f = refl
 
-reaches_leads : (list : List Access) (x y : Instr) → CountsRise list → 1 ≤ x.count → reaches list x y ≡ true → IsOrLeads (ConflictPair list) x y
-reaches_leads list x y rise pos e = (clock_law list y rise x pos).0 (le x.count (clock (reverse list) y x.core) e)
+test_leads : (list : List Access) (x y : Instr) → CountsRise list → 1 ≤ x.count → is_or_leads list x y ≡ true → IsOrLeads (ConflictPair list) x y
+test_leads list x y rise pos e = (clock_law list y rise x pos).0 (le x.count (clock (reverse list) y x.core) e)
   where
     le : (m n : ℕ) → nat_le m n ≡ true → m ≤ n
     le m n t = grind (arith, nat_tests)
 
-leads_reaches : (list : List Access) (x y : Instr) → CountsRise list → 1 ≤ x.count → IsOrLeads (ConflictPair list) x y → reaches list x y ≡ true
-leads_reaches list x y rise pos leads = le x.count (clock (reverse list) y x.core) ((clock_law list y rise x pos).1 leads)
+leads_test : (list : List Access) (x y : Instr) → CountsRise list → 1 ≤ x.count → IsOrLeads (ConflictPair list) x y → is_or_leads list x y ≡ true
+leads_test list x y rise pos leads = le x.count (clock (reverse list) y x.core) ((clock_law list y rise x pos).1 leads)
   where
     le : (m n : ℕ) → m ≤ n → nat_le m n ≡ true
     le m n t = grind (arith, nat_tests)
@@ -159,11 +159,11 @@ covering_is list x y rise sx sy e = (pair, free)
     E : Instr → Instr → Type 0
     E = ConflictPair list
 
-    parts : ((do_conflict x y && reaches list x.at y.at) ≡ true) × (not (list_any (stands_between list x y) list) ≡ true)
-    parts = and_true (do_conflict x y && reaches list x.at y.at) (not (list_any (stands_between list x y) list)) e
+    parts : ((do_conflict x y && is_or_leads list x.at y.at) ≡ true) × (not (list_any (stands_between list x y) list) ≡ true)
+    parts = and_true (do_conflict x y && is_or_leads list x.at y.at) (not (list_any (stands_between list x y) list)) e
 
-    tests : (do_conflict x y ≡ true) × (reaches list x.at y.at ≡ true)
-    tests = and_true (do_conflict x y) (reaches list x.at y.at) parts.0
+    tests : (do_conflict x y ≡ true) × (is_or_leads list x.at y.at ≡ true)
+    tests = and_true (do_conflict x y) (is_or_leads list x.at y.at) parts.0
 
     conflict : Conflicts x y
     conflict = do_conflict-true x y tests.0
@@ -173,7 +173,7 @@ covering_is list x y rise sx sy e = (pair, free)
     order (inr p) = p
 
     leads : Before (ConflictPair list) x.at y.at
-    leads = order (reaches_leads list x.at y.at rise (positive list x rise sx) tests.1)
+    leads = order (test_leads list x.at y.at rise (positive list x rise sx) tests.1)
 
     pair : ConflictPair list x.at y.at
     pair = by (one_first list x y sx sy conflict)
@@ -196,15 +196,15 @@ covering_is list x y rise sx sy e = (pair, free)
         let b = between list x.at z y.at rise conflict.0 p q in
         let w : Access = b.access in
         none (passes (stands_between list x y) list w b.stands
-        (both (not (is_same w.at x.at) && not (is_same w.at y.at)) (reaches list x.at w.at && reaches list w.at y.at)
+        (both (not (is_same w.at x.at) && not (is_same w.at y.at)) (is_or_leads list x.at w.at && is_or_leads list w.at y.at)
         (both (not (is_same w.at x.at)) (not (is_same w.at y.at)) (apart_back x.at w.at b.after) (apart w.at y.at b.before))
-        (both (reaches list x.at w.at) (reaches list w.at y.at)
-        (leads_reaches list x.at w.at rise (positive list x rise sx) (inr b.after)) (leads_reaches list w.at y.at rise (positive list w rise b.stands) (inr b.before)))))
+        (both (is_or_leads list x.at w.at) (is_or_leads list w.at y.at)
+        (leads_test list x.at w.at rise (positive list x rise sx) (inr b.after)) (leads_test list w.at y.at rise (positive list w rise b.stands) (inr b.before)))))
 
 pub covering_passes : (list : List Access) (x y : Access) → CountsRise list → StandsIn list x → StandsIn list y → Covering list x.at y.at → is_covering list x y ≡ true
 covering_passes list x y rise sx sy cover =
-    both (do_conflict x y && reaches list x.at y.at) (not (list_any (stands_between list x y) list))
-    (both (do_conflict x y) (reaches list x.at y.at) (do_conflict-yes x y conflict) (leads_reaches list x.at y.at rise (positive list x rise sx) (inr (one (ConflictPair list) x.at y.at (inr cover.0)))))
+    both (do_conflict x y && is_or_leads list x.at y.at) (not (list_any (stands_between list x y) list))
+    (both (do_conflict x y) (is_or_leads list x.at y.at) (do_conflict-yes x y conflict) (leads_test list x.at y.at rise (positive list x rise sx) (inr (one (ConflictPair list) x.at y.at (inr cover.0)))))
     (ap not (passed (stands_between list x y) list none))
   where
     conflict : Conflicts x y
@@ -223,9 +223,9 @@ covering_passes list x y rise sx sy cover =
 
     none : (z : Access) → StandsIn list z → stands_between list x y z ≡ true → ⊥
     none z sz t =
-        let p = and_true (not (is_same z.at x.at) && not (is_same z.at y.at)) (reaches list x.at z.at && reaches list z.at y.at) t in
+        let p = and_true (not (is_same z.at x.at) && not (is_same z.at y.at)) (is_or_leads list x.at z.at && is_or_leads list z.at y.at) t in
         let d = and_true (not (is_same z.at x.at)) (not (is_same z.at y.at)) p.0 in
-        let r = and_true (reaches list x.at z.at) (reaches list z.at y.at) p.1 in
+        let r = and_true (is_or_leads list x.at z.at) (is_or_leads list z.at y.at) p.1 in
         cover.1 z.at
-        (strictly_back x.at z.at d.0 (reaches_leads list x.at z.at rise (positive list x rise sx) r.0))
-        (strictly z.at y.at d.1 (reaches_leads list z.at y.at rise (positive list z rise sz) r.1))
+        (strictly_back x.at z.at d.0 (test_leads list x.at z.at rise (positive list x rise sx) r.0))
+        (strictly z.at y.at d.1 (test_leads list z.at y.at rise (positive list z rise sz) r.1))

@@ -9,17 +9,17 @@ use Rattle.conflict_edge.specs.Conflicts.{CountsRise, StandsIn, do_conflict}
 use Rattle.conflict_edge.specs.Least.{Covering}
 use Rattle.online_reduce.specs.Rule.{is_same}
 
--- x is y or comes before it, by program order and the conflict pairs: y's clock, which counts what does, has x
-abbrev pub reaches : List Access → Instr → Instr → Bool
-reaches list x y = nat_le x.count (clock (reverse list) y x.core)
+-- x is y or leads to it, by program order and the conflict pairs: y's clock, which counts what does, has x
+abbrev pub is_or_leads : List Access → Instr → Instr → Bool
+is_or_leads list x y = nat_le x.count (clock (reverse list) y x.core)
 
 -- z stands strictly between x and y
 abbrev pub stands_between : List Access → Access → Access → Access → Bool
-stands_between list x y z = (not (is_same z.at x.at) && not (is_same z.at y.at)) && (reaches list x.at z.at && reaches list z.at y.at)
+stands_between list x y z = (not (is_same z.at x.at) && not (is_same z.at y.at)) && (is_or_leads list x.at z.at && is_or_leads list z.at y.at)
 
 -- x and y conflict, x comes before y, and no access stands between
 abbrev pub is_covering : List Access → Access → Access → Bool
-is_covering list x y = (do_conflict x y && reaches list x.at y.at) && not (list_any (stands_between list x y) list)
+is_covering list x y = (do_conflict x y && is_or_leads list x.at y.at) && not (list_any (stands_between list x y) list)
 
 -- the accesses of a core that cover y
 abbrev pub sources_of : List Access → (from : ℕ) → Access → List Access
