@@ -1,0 +1,174 @@
+//! Runs of eight cores, whose recorded edges are the least set of the run's accesses by the plain definition.
+ghost use Rattle.std.specs.Prelude.{◌≡◌, IfOk};
+ghost use Rattle.conflict_edge.specs.Conflicts.{are_after, do_counts_rise};
+
+use access_times::{Carry, Clerk, NoCarry, NoRider, Rider};
+use conflict_edge::{ACCESSES_MAX, least_of};
+use image_mem::Image;
+use log_codec::Recording;
+use msi_machine::Machine;
+use recorder::record_run;
+use rtr_types::{Access, CORES_MAX, Edge, Instr, Params, pair_count, pair_of};
+use schedule_pick::Schedule;
+use std::alloc::{AllocError, Global};
+use std::test::Fail;
+
+/// Eight cores make three rounds of six accesses:
+///
+/// - addi x13,x0,3; slli x5,x10,2;
+/// - lw x6,64(x5); addi x6,x6,1; sw x6,68(x5): a core reads its word and writes the next core's;
+/// - lw x7,128(x0); sw x6,128(x0): all cores read and write one word;
+/// - lw x8,320(x5); sb x10,321(x10): words whose blocks have the lines of the first ones, so that copies
+///   go back, and bytes of words that others read;
+/// - addi x13,x13,-1; bne x13,x0,-32; ecall.
+const CODE: [u32; 12] = [
+    0x0030_0693,
+    0x0025_1293,
+    0x0402_a303,
+    0x0013_0313,
+    0x0462_a223,
+    0x0800_2383,
+    0x0860_2023,
+    0x1402_a403,
+    0x14a5_00a3,
+    0xfff6_8693,
+    0xfe06_90e3,
+    0x0000_0073,
+];
+
+/// How many accesses a run has: eight cores, three rounds, six accesses.
+const ACCESSES: usize = 144;
+
+/// The most steps of a run: (2 * 8 + 4) for each of the 30 instructions of each core.
+const STEPS: u32 = 4800;
+
+const PARAMS: Params = Params {
+    cores: CORES_MAX,
+    limit: 100,
+    words: 128,
+};
+
+static SEEDS: [u64; 3] = [1, 20_261_127, u64::MAX];
+
+/// Holds the access that it was told of last. It accepts each instruction.
+#[derive(Drop)]
+struct Keeper {
+    told: Option<Access>,
+}
+
+impl<R: Rider, K: Carry> Clerk<R, K> for Keeper {
+    ghost accepts = { λ c i. Unit {0} };
+
+    ghost told_local = { λ c i k d. Unit {0} };
+
+    ghost told_touch = { λ c r a k d q. q ≡ r };
+
+    fn local(&mut self, _at: Instr, _carry: K) {}
+
+    fn touched(&mut self, access: Access, _rider: &mut R, _carry: K) {
+        self.told = Some(access);
+    }
+}
+
+/// The image of the code.
+fn image(alloc: Global) -> Result<Image, Fail>
+    ensures { IfOk result (λ image. image.words ≡ 128) }
+{
+    let mut bytes = Vec::new(alloc);
+    for word in &CODE {
+        bytes.extend_from_slice(&word.to_le_bytes())?;
+    }
+    Ok(Image::flat(bytes, PARAMS.words)?)
+}
+
+/// The accesses of a run under the seed, in the order of retirement, by a machine that records no times.
+fn accesses_of(alloc: Global, seed: u64) -> Result<Vec<Access>, Fail> {
+    let mut machine = Machine::<NoRider, NoCarry>::new(alloc, image(alloc)?, PARAMS)?;
+    let mut schedule = Schedule::new(Vec::new(alloc), seed);
+    let mut accesses = Vec::new(alloc);
+    for _ in 0..STEPS {
+        machine.make_room()?;
+        if !machine.done() {
+            let mut keeper = Keeper { told: None };
+            let _ = machine.step(schedule.next(), &mut keeper);
+            accesses.extend(keeper.told)?;
+        }
+    }
+    Ok(accesses)
+}
+
+/// Whether counts begin at 1 and rise for each core, and each core is in range.
+fn counts_rise(list: &[Access]) -> bool
+    ensures { result ≡ do_counts_rise list.now }
+{
+    match list.split_first() {
+        None => true,
+        Some((first, later)) => {
+            let fits = 1 <= first.at.count && first.at.core < CORES_MAX;
+            fits && is_before(first, later) && counts_rise(later)
+        }
+    }
+}
+
+/// Whether the access has a smaller count than each of the others that is of its core.
+fn is_before(access: &Access, others: &[Access]) -> bool
+    ensures { result ≡ are_after access.now others.now }
+{
+    match others.split_first() {
+        None => true,
+        Some((other, rest)) => {
+            let apart = access.at.core != other.at.core;
+            (apart || access.at.count < other.at.count) && is_before(access, rest)
+        }
+    }
+}
+
+/// The edges of the recording, by pair of cores.
+fn edges_of(alloc: Global, recording: &Recording) -> Result<Vec<Edge>, AllocError> {
+    let mut edges = Vec::new(alloc);
+    for place in 0..pair_count(CORES_MAX) {
+        if let Some(list) = recording.reduced.as_slice().get(place) {
+            push_edges(&mut edges, pair_of(CORES_MAX, place), list.as_slice())?;
+        }
+    }
+    Ok(edges)
+}
+
+/// Adds the edges of one pair of cores, the source first.
+fn push_edges(
+    edges: &mut Vec<Edge>,
+    pair: (u8, u8),
+    list: &[(u32, u32)],
+) -> Result<(), AllocError> {
+    let (source, target) = pair;
+    for (before, after) in list {
+        edges.push(Edge {
+            from: Instr {
+                core: source,
+                count: *before,
+            },
+            to: Instr {
+                core: target,
+                count: *after,
+            },
+        })?;
+    }
+    Ok(())
+}
+
+#[test]
+fn the_edges_are_the_least_set_of_the_accesses(rt: HostRuntime) -> Result<(), Fail> {
+    let alloc = rt.alloc();
+    for seed in &SEEDS {
+        let accesses = accesses_of(alloc, *seed)?;
+        assert_eq!(rt; accesses.len(), ACCESSES);
+        assert!(rt; accesses.len() <= ACCESSES_MAX && counts_rise(&accesses));
+        let least = least_of(alloc, &accesses)?;
+        let schedule = Schedule::new(Vec::new(alloc), *seed);
+        let run = record_run(alloc, image(alloc)?, PARAMS, schedule)?;
+        let edges = edges_of(alloc, &run.recording)?;
+        assert_eq!(rt; edges.as_slice(), least.as_slice(), "seed {seed}");
+        assert!(rt; !least.is_empty());
+    }
+    Ok(())
+}
