@@ -1,5 +1,6 @@
 -- The messages' kinds and blocks, for every type of riders.
-use Rattle.std.specs.Prelude.{ℕ}
+use Rattle.std.specs.Prelude.{ℕ, Option, Some, None}
+use Rattle.std.specs.Borrow.{Bor}
 use Rattle.msi_cache.specs.Table.{Signal, Ask, Reply}
 use Rattle.msi_cache.specs.declared.messages.FromHome.{FromHome}
 use Rattle.msi_cache.specs.declared.messages.FromHome.TheVariants.{FwdGetS, FwdGetM, Inv, PutAck, BlockData}
@@ -48,3 +49,39 @@ module _ {R : Type 0} where
   abbrev pub response_block : Response R → ℕ
   response_block (InvAck block rider) = block
   response_block (OwnerData block words rider) = block
+
+module _ {A B : Type 0} where
+  -- the request with another rider, made of its own
+  abbrev pub request_with : (A → B) → Request A → Request B
+  request_with f (GetS block) = GetS block
+  request_with f (GetM block) = GetM block
+  request_with f (PutS block rider) = PutS block (f rider)
+  request_with f (PutM block words rider) = PutM block words (f rider)
+
+  -- the response with another rider
+  abbrev pub response_with : (A → B) → Response A → Response B
+  response_with f (InvAck block rider) = InvAck block (f rider)
+  response_with f (OwnerData block words rider) = OwnerData block words (f rider)
+
+  -- the message from home with another rider
+  abbrev pub message_with : (A → B) → FromHome A → FromHome B
+  message_with f (FwdGetS block) = FwdGetS block
+  message_with f (FwdGetM block) = FwdGetM block
+  message_with f (Inv block) = Inv block
+  message_with f (PutAck block) = PutAck block
+  message_with f (BlockData block words rider) = BlockData block words (f rider)
+
+module _ {R : Type 0} where
+  -- a message whose rider is lent, as it is to be read: with the rider itself
+  abbrev pub request_seen : Request (Bor R) → Request R
+  request_seen request = request_with (λ rider. rider.now) request
+
+  abbrev pub response_seen : Response (Bor R) → Response R
+  response_seen response = response_with (λ rider. rider.now) response
+
+  abbrev pub message_seen : FromHome (Bor R) → FromHome R
+  message_seen message = message_with (λ rider. rider.now) message
+
+  abbrev pub answer_seen : Option (Response (Bor R)) → Option (Response R)
+  answer_seen None = None
+  answer_seen (Some response) = Some (response_seen response)

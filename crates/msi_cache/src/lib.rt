@@ -7,7 +7,9 @@
 mod controller;
 mod copies;
 mod messages;
+mod slots;
 
 pub use controller::{Cache, riders_change_no_plain_part};
 pub use copies::{LINES, Line, State};
 pub use messages::{FromHome, Request, Response};
+pub use slots::{FromHomeSlot, RequestSlot, ResponseSlot};

@@ -1,13 +1,13 @@
 //! The messages between a cache and the home. Those that move a copy of a block have its four words
 //! and what rides on the copy.
 ghost use Rattle.std.specs.Prelude.{◌≡◌};
-ghost use Rattle.msi_cache.specs.Messages.{block_of, request_block, response_block};
+ghost use Rattle.msi_cache.specs.Messages.{block_of, message_seen, message_with, request_block, request_seen, response_block, response_seen};
 
 use access_times::BLOCK_WORDS;
 
 /// What a cache asks of the home: to share a block, to own it, or to give a shared or an owned copy
 /// back.
-#[derive(Debug, Drop, PartialEq, Eq)]
+#[derive(Clone, Copy, Debug, PartialEq, Eq)]
 pub enum Request<R> {
     GetS {
         block: u32,
@@ -38,10 +38,58 @@ impl<R> Request<R> {
             | Request::PutM { block, .. } => *block,
         }
     }
+
+    /// The request with its rider lent.
+    pub fn lent(&self) -> Request<&R>
+        ensures { request_seen result ≡ self.now }
+    {
+        match self {
+            Request::GetS { block } => Request::GetS { block: *block },
+            Request::GetM { block } => Request::GetM { block: *block },
+            Request::PutS { block, rider } => Request::PutS {
+                block: *block,
+                rider,
+            },
+            Request::PutM {
+                block,
+                words,
+                rider,
+            } => Request::PutM {
+                block: *block,
+                words: *words,
+                rider,
+            },
+        }
+    }
+}
+
+impl<'a, R: Copy> Request<&'a R> {
+    /// The request with a copy of the rider that it was lent.
+    pub fn owned(self) -> Request<R>
+        ensures { result ≡ request_seen self.entry }
+    {
+        match self {
+            Request::GetS { block } => Request::GetS { block },
+            Request::GetM { block } => Request::GetM { block },
+            Request::PutS { block, rider } => Request::PutS {
+                block,
+                rider: *rider,
+            },
+            Request::PutM {
+                block,
+                words,
+                rider,
+            } => Request::PutM {
+                block,
+                words,
+                rider: *rider,
+            },
+        }
+    }
 }
 
 /// What a cache answers to the home: that it has given up its shared copy, or the copy that it owns.
-#[derive(Debug, Drop, PartialEq, Eq)]
+#[derive(Clone, Copy, Debug, PartialEq, Eq)]
 pub enum Response<R> {
     InvAck {
         block: u32,
@@ -63,11 +111,55 @@ impl<R> Response<R> {
             Response::InvAck { block, .. } | Response::OwnerData { block, .. } => *block,
         }
     }
+
+    /// The response with its rider lent.
+    pub fn lent(&self) -> Response<&R>
+        ensures { response_seen result ≡ self.now }
+    {
+        match self {
+            Response::InvAck { block, rider } => Response::InvAck {
+                block: *block,
+                rider,
+            },
+            Response::OwnerData {
+                block,
+                words,
+                rider,
+            } => Response::OwnerData {
+                block: *block,
+                words: *words,
+                rider,
+            },
+        }
+    }
+}
+
+impl<'a, R: Copy> Response<&'a R> {
+    /// The response with a copy of the rider that it was lent.
+    pub fn owned(self) -> Response<R>
+        ensures { result ≡ response_seen self.entry }
+    {
+        match self {
+            Response::InvAck { block, rider } => Response::InvAck {
+                block,
+                rider: *rider,
+            },
+            Response::OwnerData {
+                block,
+                words,
+                rider,
+            } => Response::OwnerData {
+                block,
+                words,
+                rider: *rider,
+            },
+        }
+    }
 }
 
 /// What the home sends to a cache: that the owned copy is to be shared or given up, that a shared copy
 /// is to be given up, that a Put was taken, or the block's data, which end a miss.
-#[derive(Debug, Drop, PartialEq, Eq)]
+#[derive(Clone, Copy, Debug, PartialEq, Eq)]
 pub enum FromHome<R> {
     FwdGetS {
         block: u32,
@@ -99,6 +191,46 @@ impl<R> FromHome<R> {
             | FromHome::Inv { block }
             | FromHome::PutAck { block }
             | FromHome::BlockData { block, .. } => *block,
+        }
+    }
+
+    /// The message with its rider lent.
+    pub fn lent(&self) -> FromHome<&R>
+        ensures { message_seen result ≡ self.now }
+    {
+        match self {
+            FromHome::FwdGetS { block } => FromHome::FwdGetS { block: *block },
+            FromHome::FwdGetM { block } => FromHome::FwdGetM { block: *block },
+            FromHome::Inv { block } => FromHome::Inv { block: *block },
+            FromHome::PutAck { block } => FromHome::PutAck { block: *block },
+            FromHome::BlockData {
+                block,
+                words,
+                rider,
+            } => FromHome::BlockData {
+                block: *block,
+                words: *words,
+                rider,
+            },
+        }
+    }
+}
+
+impl<R: Copy> FromHome<R> {
+    /// The message with this rider, where it has one, in place of its own.
+    pub fn riding<T: Copy>(self, rider: T) -> FromHome<T>
+        ensures { result ≡ message_with (λ own. rider) self }
+    {
+        match self {
+            FromHome::FwdGetS { block } => FromHome::FwdGetS { block },
+            FromHome::FwdGetM { block } => FromHome::FwdGetM { block },
+            FromHome::Inv { block } => FromHome::Inv { block },
+            FromHome::PutAck { block } => FromHome::PutAck { block },
+            FromHome::BlockData { block, words, .. } => FromHome::BlockData {
+                block,
+                words,
+                rider,
+            },
         }
     }
 }
