@@ -3,7 +3,7 @@ ghost use Rattle.std.specs.Prelude.{◌≡◌, ◌<◌, ℕ, List, IfOk, IsTrue,
 ghost use Rattle.std.specs.Borrow.{sem};
 ghost use Rattle.msi_cache.specs.Lent.{LendsRider};
 ghost use Rattle.msi_cache.specs.Lines.{answer, asks, can_read, can_write, empty_line, has_row, is_allowed, line_for, lines_after, lines_asking, lines_put, wanted, waits, SameElsewhere};
-ghost use Rattle.msi_cache.specs.Messages.{block_of};
+ghost use Rattle.msi_cache.specs.Messages.{answer_seen, block_of, message_seen, request_seen};
 ghost use Rattle.msi_cache.specs.PlainPart.{PlainOnHome, PlainPut, PlainRider, PlainWant};
 ghost use Rattle.msi_cache.specs.declared.copies.Line.{Line};
 ghost use Rattle.msi_cache.specs.declared.messages.FromHome.{FromHome};
@@ -127,7 +127,9 @@ impl<R: Rider> Cache<R> {
         ensures lines { self.new ≡ lines_asking R.riding self.old block kind }
         ensures elsewhere { SameElsewhere R.riding.fresh self.old self.new block }
     {
-        self.lines[block as usize % LINES].want(block, kind)
+        let request = self.wanted(block, kind).owned();
+        self.ask(block, kind);
+        request
     }
 
     /// Takes a message for which the table has a row at the line that holds its block. Only that line
@@ -138,7 +140,55 @@ impl<R: Rider> Cache<R> {
         ensures lines { self.new ≡ lines_after R.riding self.old message }
         ensures elsewhere { SameElsewhere R.riding.fresh self.old self.new (block_of message) }
     {
-        self.lines[message.block() as usize % LINES].on_home(message)
+        let answer = match self.answer(message.lent()) {
+            Some(response) => Some(response.owned()),
+            None => None,
+        };
+        self.hear(message.lent());
+        answer
+    }
+}
+
+// The same in two halves, so that a message goes to its place without being copied on the way.
+impl<R: Rider> Cache<R> {
+    /// What to ask of home for an access that isn't allowed yet, while no line waits, as `want` answers it.
+    /// The rider is lent.
+    pub fn wanted(&self, block: u32, kind: Kind) -> Request<&R>
+        requires still { waits self.now ≡ false }
+        requires needed { is_allowed (line_for R.riding.fresh self.now block) block kind ≡ false }
+        ensures row { IsTrue (is_some (wanted (line_for R.riding.fresh self.now block) block kind)) }
+        ensures asks { request_seen result ≡ asks (line_for R.riding.fresh self.now block) block kind }
+    {
+        self.lines[block as usize % LINES].wanted(block, kind)
+    }
+
+    /// What is wanted was asked for. Only the line where the block goes changes: it waits from then on.
+    pub fn ask(&mut self, block: u32, kind: Kind)
+        requires still { waits self.old ≡ false }
+        requires needed { is_allowed (line_for R.riding.fresh self.old block) block kind ≡ false }
+        ensures lines { self.new ≡ lines_asking R.riding self.old block kind }
+        ensures elsewhere { SameElsewhere R.riding.fresh self.old self.new block }
+    {
+        self.lines[block as usize % LINES].ask(block, kind);
+    }
+
+    /// What home has to hear once the cache has taken this message, as `on_home` answers it. The rider is
+    /// lent.
+    pub fn answer(&self, message: FromHome<&R>) -> Option<Response<&R>>
+        requires { IsTrue (has_row (line_for R.riding.fresh self.now (block_of (message_seen message))) (message_seen message)) }
+        ensures { answer_seen result ≡ answer (line_for R.riding.fresh self.now (block_of (message_seen message.entry))) (message_seen message.entry) }
+    {
+        self.lines[message.block() as usize % LINES].answer(message)
+    }
+
+    /// Takes a message for which the table has a row at the line that holds its block. Only that line
+    /// changes.
+    pub fn hear(&mut self, message: FromHome<&R>)
+        requires { IsTrue (has_row (line_for R.riding.fresh self.old (block_of (message_seen message))) (message_seen message)) }
+        ensures lines { self.new ≡ lines_after R.riding self.old (message_seen message.entry) }
+        ensures elsewhere { SameElsewhere R.riding.fresh self.old self.new (block_of (message_seen message.entry)) }
+    {
+        self.lines[message.block() as usize % LINES].hear(message);
     }
 }
 

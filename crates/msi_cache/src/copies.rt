@@ -1,6 +1,7 @@
 //! One line of a cache: a block's copy and the state that it is in.
 ghost use Rattle.std.specs.Prelude.{◌≡◌, IsTrue, false, is_some};
 ghost use Rattle.msi_cache.specs.Lines.{answer, asks, can_read, can_write, empty_line, has_row, is_allowed, line_after, line_asking, wanted};
+ghost use Rattle.msi_cache.specs.Messages.{answer_seen, message_seen, request_seen};
 ghost use Rattle.msi_cache.specs.Table.{Signal, is_transient, row};
 ghost use Rattle.msi_cache.specs.declared.copies.State.{State};
 ghost use Rattle.msi_cache.specs.declared.messages.FromHome.{FromHome};
@@ -105,125 +106,122 @@ impl<R: Rider> Line<R> {
         has_row && self.block == message.block()
     }
 
-    /// Asks home for what the access needs: the block, or first that another block's copy is taken
-    /// back. The line then waits.
-    pub(crate) fn want(&mut self, block: u32, kind: Kind) -> Request<R>
+    /// What to ask home for, for an access that isn't allowed yet: the block, or first that another block's
+    /// copy is taken back.
+    pub(crate) fn wanted(&self, block: u32, kind: Kind) -> Request<&R>
+        requires still { is_transient self.now.state ≡ false }
+        requires needed { is_allowed self.now block kind ≡ false }
+        ensures row { IsTrue (is_some (wanted self.now block kind)) }
+        ensures asks { request_seen result ≡ asks self.now block kind }
+    {
+        let rider = &self.rider;
+        match self.state {
+            State::S if self.block == block => Request::GetM { block },
+            State::S => Request::PutS {
+                block: self.block,
+                rider,
+            },
+            State::M => Request::PutM {
+                block: self.block,
+                words: self.words,
+                rider,
+            },
+            _ if kind.is_write() => Request::GetM { block },
+            _ => Request::GetS { block },
+        }
+    }
+
+    /// What is wanted was asked for: the line waits for it.
+    pub(crate) fn ask(&mut self, block: u32, kind: Kind)
         requires still { is_transient self.old.state ≡ false }
         requires needed { is_allowed self.old block kind ≡ false }
-        ensures row { IsTrue (is_some (wanted self.old block kind)) }
-        ensures asks { result ≡ asks self.old block kind }
-        ensures line { self.new ≡ line_asking self.old block kind }
+        ensures { self.new ≡ line_asking self.old block kind }
     {
-        match self.state {
-            State::S if self.block == block => {
-                self.state = State::SmD;
-                Request::GetM { block }
-            }
-            State::S => {
-                self.state = State::SiA;
-                Request::PutS {
-                    block: self.block,
-                    rider: self.rider,
+        self.state = match self.state {
+            State::S if self.block == block => State::SmD,
+            State::S => State::SiA,
+            State::M => State::MiA,
+            _ => {
+                self.block = block;
+                if kind.is_write() {
+                    State::ImD
+                } else {
+                    State::IsD
                 }
             }
-            State::M => {
-                self.state = State::MiA;
-                Request::PutM {
-                    block: self.block,
-                    words: self.words,
-                    rider: self.rider,
-                }
-            }
-            _ => self.miss(block, kind),
+        };
+    }
+
+    /// What home has to hear once the line has taken this message about its block: none where the table's
+    /// row has no answer. It has the words and the rider that the line has before.
+    pub(crate) fn answer(&self, message: FromHome<&R>) -> Option<Response<&R>>
+        requires { IsTrue (has_row self.now (message_seen message)) }
+        ensures { answer_seen result ≡ answer self.now (message_seen message.entry) }
+    {
+        let (block, rider) = (self.block, &self.rider);
+        match message {
+            FromHome::BlockData { .. } | FromHome::PutAck { .. } => None,
+            FromHome::Inv { .. } => Some(Response::InvAck { block, rider }),
+            FromHome::FwdGetS { .. } | FromHome::FwdGetM { .. } => Some(Response::OwnerData {
+                block,
+                words: self.words,
+                rider,
+            }),
         }
     }
 
-    /// Asks home for the block, where the line holds nothing.
-    fn miss(&mut self, block: u32, kind: Kind) -> Request<R>
-        requires { self.old.state ≡ State.I }
-        ensures asks { result ≡ asks self.old block kind }
-        ensures line { self.new ≡ line_asking self.old block kind }
-    {
-        self.block = block;
-        if kind.is_write() {
-            self.state = State::ImD;
-            Request::GetM { block }
-        } else {
-            self.state = State::IsD;
-            Request::GetS { block }
-        }
-    }
-
-    /// Takes a message from home about this line's block, and answers what home has to hear.
-    pub(crate) fn on_home(&mut self, message: FromHome<R>) -> Option<Response<R>>
-        requires { IsTrue (has_row self.old message) }
-        ensures line { self.new ≡ line_after R.riding.absorbed self.old message }
-        ensures answer { result ≡ answer self.old message }
+    /// Takes a message from home about this line's block.
+    pub(crate) fn hear(&mut self, message: FromHome<&R>)
+        requires { IsTrue (has_row self.old (message_seen message)) }
+        ensures { self.new ≡ line_after R.riding.absorbed self.old (message_seen message.entry) }
     {
         match message {
-            FromHome::BlockData { words, rider, .. } => {
-                self.fill(words, rider);
-                None
-            }
-            FromHome::PutAck { .. } => {
-                self.state = State::I;
-                None
-            }
+            FromHome::BlockData { words, rider, .. } => self.fill(words, rider),
+            FromHome::PutAck { .. } => self.state = State::I,
             FromHome::Inv { .. } => {
                 self.state = match self.state {
                     State::SmD => State::ImD,
                     State::SiA => State::IiA,
                     _ => State::I,
                 };
-                Some(Response::InvAck {
-                    block: self.block,
-                    rider: self.rider,
-                })
             }
             FromHome::FwdGetS { .. } => {
                 self.state = match self.state {
                     State::MiA => State::SiA,
                     _ => State::S,
                 };
-                Some(self.owner_data())
             }
             FromHome::FwdGetM { .. } => {
                 self.state = match self.state {
                     State::MiA => State::IiA,
                     _ => State::I,
                 };
-                Some(self.owner_data())
             }
         }
     }
 
     /// Takes the data that end a miss. A read copy that is upgraded has been read in the meantime,
     /// so the new rider absorbs the old one.
-    fn fill(&mut self, words: [u32; BLOCK_WORDS], rider: R)
+    fn fill(&mut self, words: [u32; BLOCK_WORDS], rider: &R)
         requires { IsTrue (is_some (row Signal.BlockData self.old.state)) }
-        ensures { self.new ≡ line_after R.riding.absorbed self.old (FromHome.BlockData self.old.block words rider) }
+        ensures { self.new ≡ line_after R.riding.absorbed self.old (FromHome.BlockData self.old.block words rider.now) }
     {
-        let old = self.rider;
         self.words = words;
-        self.rider = rider;
         match self.state {
-            State::IsD => self.state = State::S,
             State::SmD => {
+                let old = self.rider;
+                self.rider = *rider;
                 self.rider.absorb(&old);
                 self.state = State::M;
             }
-            _ => self.state = State::M,
-        }
-    }
-
-    /// The copy that this line owns, for home.
-    fn owner_data(&self) -> Response<R>
-        ensures { result ≡ Response.OwnerData self.now.block self.now.words self.now.rider }
-    {
-        Response::OwnerData {
-            block: self.block,
-            words: self.words,
-            rider: self.rider,
+            State::IsD => {
+                self.rider = *rider;
+                self.state = State::S;
+            }
+            _ => {
+                self.rider = *rider;
+                self.state = State::M;
+            }
         }
     }
 }
