@@ -1,5 +1,5 @@
 -- What a link is to contracts.
-use Rattle.std.specs.Prelude.{ℕ, List, [], ◌∷◌, Bool, true, false}
+use Rattle.std.specs.Prelude.{ℕ, List, [], ◌∷◌, ◌++◌, take, drop, Bool, true, false}
 
 -- how many items the link has room for, and those that it holds, oldest first
 pub record Queue (T : Type 0) : Type 0 where
@@ -10,3 +10,8 @@ pub record Queue (T : Type 0) : Type 0 where
 abbrev pub is_nil : {X : Type 0} → List X → Bool
 is_nil [] = true
 is_nil (x ∷ xs) = false
+
+-- what lies in the `count` places of a ring from place `first` on: behind the last place of the list
+-- comes its place 0
+unfoldable pub around : {X : Type 0} → List X → ℕ → ℕ → List X
+around list first count = take count (drop first list ++ take first list)

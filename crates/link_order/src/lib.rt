@@ -1,11 +1,12 @@
 //! Ordered links of bounded length, between the actors of the machine.
 #![tactic(auto)]
 
-ghost use Rattle.std.specs.Prelude.{◌≡◌, ◌≤◌, ◌↔◌, ◌++◌, ◌∷◌, [], List, length, IfOk, IfErr, OnOk, IsErr, MatchOption};
+ghost use Rattle.std.specs.Prelude.{◌≡◌, ◌≤◌, ◌↔◌, ◌++◌, ◌∷◌, ◌+◌, ◌<◌, ◌⊎◌, drop, [], List, length, IfOk, IfErr, OnOk, IsErr, MatchOption};
+ghost use Rattle.std.specs.Borrow.{sem};
 ghost use Rattle.link_order.specs.Queue.{is_nil};
+ghost use Rattle.link_order.specs.Lent.{LendsPlace};
 
 use std::alloc::{AllocError, Global};
-use std::collections::VecDeque;
 use std::marker::Model;
 
 #[cfg(test)]
@@ -16,76 +17,152 @@ mod tests;
 pub struct Full<T>(pub T);
 
 /// A queue with a capacity, oldest item first. All its room is taken when it is made.
+///
+/// Its places are a ring, and each holds a value at all times: an item may be written where it lies,
+/// and dropped where it lies.
 #[derive(Drop)]
 pub struct Link<T> {
     capacity: u32,
-    queue: VecDeque<T>,
+    slots: Vec<T>,
+    // the place of the oldest item, which is 0 where there is no place
+    first: usize,
+    count: usize,
 }
 
 impl<T> Model for Link<T> {
-    ghost use Rattle.std.specs.Prelude.{◌≤◌};
-    ghost use Rattle.std.specs.VecDeque.{deque_len, deque_capacity};
-    ghost use Rattle.link_order.specs.Queue.{Queue};
+    ghost use Rattle.std.specs.Prelude.{◌≡◌, ◌≤◌, ◌-◌, length};
+    ghost use Rattle.link_order.specs.Queue.{Queue, around};
 
     ghost Value = { Queue T };
 
-    ghost view = { λ a. record { room = a.capacity; items = a.queue.items } };
+    ghost view = { λ a. record { room = a.capacity; items = around a.slots.items a.first a.count } };
 
-    ghost invariant = { λ a. (a.capacity ≤ deque_capacity a.queue) × (deque_len a.queue ≤ a.capacity) };
+    ghost invariant = { λ a. (length a.slots.items ≡ a.capacity) × (a.count ≤ a.capacity) × (a.first ≤ a.capacity - 1) };
 }
 
-impl<T> Link<T> {
+/// The place that lies `ahead` places behind place `first` in a ring of `capacity` places.
+fn place(first: usize, ahead: usize, capacity: usize) -> usize
+    requires first { first < capacity }
+    requires ahead { ahead ≤ capacity }
+    ensures within { result < capacity }
+    ensures round { (result ≡ first + ahead) ⊎ (result + capacity ≡ first + ahead) }
+{
+    let before_the_end = capacity - first;
+    if ahead < before_the_end {
+        first + ahead
+    } else {
+        ahead - before_the_end
+    }
+}
+
+impl<T: Copy + Default> Link<T> {
     /// An empty link with room for `capacity` items.
     pub fn new(alloc: Global, capacity: u32) -> Result<Link<T>, AllocError>
         ensures { IfOk result (λ link. link ≡ record { room = capacity; items = [] }) }
     {
-        let queue = VecDeque::with_capacity(alloc, capacity as usize)?;
-        Ok(Link { capacity, queue })
+        Link::filled(alloc, capacity, T::default())
+    }
+}
+
+impl<T: Copy> Link<T> {
+    /// An empty link with room for `capacity` items. Until the first item comes to a place, the place
+    /// holds `blank`.
+    #[tactic(auto, using(crate::proofs::Rings::around_none))]
+    pub fn filled(alloc: Global, capacity: u32, blank: T) -> Result<Link<T>, AllocError>
+        ensures { IfOk result (λ link. link ≡ record { room = capacity; items = [] }) }
+    {
+        let slots = vec![in alloc; blank; capacity as usize]?;
+        Ok(Link {
+            capacity,
+            slots,
+            first: 0,
+            count: 0,
+        })
     }
 
     /// Puts the item behind all others. Where the link is full it stays as it was, and the item comes
     /// back.
+    #[tactic(auto, using(crate::proofs::Rings::length_around, crate::proofs::Rings::around_write))]
     pub fn push(&mut self, item: T) -> Result<(), Full<T>>
         ensures room { self.new.room ≡ self.old.room }
         ensures full { IsErr result ↔ (length self.old.items ≡ self.old.room) }
         ensures pushed { OnOk result (self.new.items ≡ self.old.items ++ item ∷ []) }
         ensures handed_back { IfErr result (λ full. (full.0 ≡ item) × (self.new.items ≡ self.old.items)) }
     {
-        if self.queue.len() == self.capacity as usize {
+        if self.count == self.capacity as usize {
             return Err(Full(item));
         }
-        self.queue.push_back_reserved(item);
+        let place = place(self.first, self.count, self.capacity as usize);
+        self.slots[place] = item;
+        self.count += 1;
         Ok(())
     }
 
+    /// Puts a place behind all others and lends it: what is left in it is the newest item. Until then
+    /// it holds a value that lay there before.
+    #[tactic(auto, using(crate::proofs::Rings::length_around, crate::proofs::Rings::around_write))]
+    pub fn push_place(&mut self) -> &mut T
+        requires { length self.old.items < self.old.room }
+        ensures* lends { sem 𝓛 (LendsPlace T.row self.entry result) }
+    {
+        let place = place(self.first, self.count, self.capacity as usize);
+        self.count += 1;
+        &mut self.slots[place]
+    }
+
     /// Takes the oldest item out: none where the link is empty.
+    #[tactic(auto, using(crate::proofs::Rings::around_none, crate::proofs::Rings::around_next))]
     pub fn pop(&mut self) -> Option<T>
         ensures room { self.new.room ≡ self.old.room }
         ensures item { MatchOption result ((self.old.items ≡ []) × (self.new.items ≡ [])) (λ item. self.old.items ≡ item ∷ self.new.items) }
     {
-        self.queue.pop_front()
+        if self.count == 0 {
+            return None;
+        }
+        let oldest = self.first;
+        self.first = place(oldest, 1, self.capacity as usize);
+        self.count -= 1;
+        Some(self.slots[oldest])
+    }
+
+    /// Drops the oldest item, where there is one.
+    #[tactic(auto, using(crate::proofs::Rings::around_dropped, crate::proofs::Rings::none_dropped))]
+    pub fn drop_head(&mut self)
+        ensures room { self.new.room ≡ self.old.room }
+        ensures items { self.new.items ≡ drop 1 self.old.items }
+    {
+        if self.count > 0 {
+            self.first = place(self.first, 1, self.capacity as usize);
+            self.count -= 1;
+        }
     }
 
     /// The oldest item: none where the link is empty.
+    #[tactic(auto, using(crate::proofs::Rings::around_none))]
     pub fn head(&self) -> Option<&T>
         ensures { MatchOption result (self.now.items ≡ []) (λ item. (rest : List T) × (self.now.items ≡ item.now ∷ rest)) }
     {
-        self.queue.front()
+        if self.count == 0 {
+            return None;
+        }
+        Some(&self.slots[self.first])
     }
 
     /// How many items the link holds, which is never above its capacity.
+    #[tactic(auto, using(crate::proofs::Rings::length_around))]
     pub fn len(&self) -> usize
         ensures length { result ≡ length self.now.items }
         ensures within { length self.now.items ≤ self.now.room }
     {
-        self.queue.len()
+        self.count
     }
 
     /// Whether the link holds no item.
+    #[tactic(auto, using(crate::proofs::Rings::nil_length))]
     pub fn is_empty(&self) -> bool
         ensures { result ≡ is_nil self.now.items }
     {
-        self.queue.is_empty()
+        self.len() == 0
     }
 
     /// How many items the link has room for in all.
