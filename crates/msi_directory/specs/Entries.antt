@@ -1,7 +1,7 @@
 -- What the table does to a block's entry, for every type of riders.
 use Rattle.std.specs.Prelude.{ℕ, Bool, Option, Some, None, is_some, List}
 use Rattle.rtr_types.specs.CoreSets.{no_cores}
-use Rattle.msi_cache.specs.Messages.{ask_of, reply_of, request_block, response_block}
+use Rattle.msi_cache.specs.Messages.{ask_of, reply_of, request_block, response_block, message_with}
 use Rattle.msi_cache.specs.declared.messages.FromHome.{FromHome}
 use Rattle.msi_cache.specs.declared.messages.Response.{Response}
 use Rattle.msi_cache.specs.declared.messages.Response.TheVariants.{InvAck, OwnerData}
@@ -55,6 +55,15 @@ module _ {R : Type 0} where
   abbrev pub answer_by : Option HomeRow → ℕ → Entry R → HomeAnswer R
   answer_by None block e = record { invalidate = no_cores; send = None }
   answer_by (Some r) block e = record { invalidate = r.invalidate; send = sent r.send block e }
+
+  -- a message that is sent, with this rider where it has data
+  abbrev pub sent_riding : R → Option (ℕ × FromHome (Unit {0})) → Option (ℕ × FromHome R)
+  sent_riding rider None = None
+  sent_riding rider (Some (core, m)) = Some (core, message_with (λ none. rider) m)
+
+  -- the answer with this rider on the message that it sends, where that message has data
+  abbrev pub answer_riding : R → HomeAnswer (Unit {0}) → HomeAnswer R
+  answer_riding rider answer = record { invalidate = answer.invalidate; send = sent_riding rider answer.send }
 
   -- the words that a request brings, or else these
   abbrev pub request_words : Request R → List ℕ → List ℕ

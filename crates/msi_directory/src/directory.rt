@@ -1,10 +1,10 @@
 //! The home of all blocks.
 ghost use Rattle.std.specs.Prelude.{◌≡◌, ◌<◌, ◌/◌, ◌%◌, ◌*◌, ◌+◌, ◌^◌, ℕ, List, IfOk, IsTrue, OnErr, OnOk, length, slice_index, slice_set, true};
-ghost use Rattle.msi_cache.specs.Messages.{request_block, response_block};
+ghost use Rattle.msi_cache.specs.Messages.{request_block, request_seen, response_block, response_seen};
 ghost use Rattle.msi_cache.specs.declared.messages.Request.{Request};
 ghost use Rattle.msi_cache.specs.declared.messages.Response.{Response};
 ghost use Rattle.msi_directory.specs.Blocks.{SameElsewhere, block_count, entries_after_request, entries_after_response, entry_at, has_room, opening_entries, opening_entry};
-ghost use Rattle.msi_directory.specs.Entries.{answer_to_request, answer_to_response, entry_after_request, entry_after_response, has_request_row, has_response_row};
+ghost use Rattle.msi_directory.specs.Entries.{answer_riding, answer_to_request, answer_to_response, entry_after_request, entry_after_response, has_request_row, has_response_row};
 ghost use Rattle.msi_directory.specs.Fitting.{stage_fits};
 ghost use Rattle.msi_directory.specs.PlainPart.{PlainRequest, PlainResponse};
 ghost use Rattle.msi_directory.specs.Table.{is_free, owner_of};
@@ -90,7 +90,15 @@ impl<R: Rider> Home<R> {
         requires { request_block request.now < length self.now.entries }
         ensures { result ≡ is_free (entry_at R.riding.fresh self.now.entries (request_block request.now)).stage }
     {
-        self.entries[request.block() as usize].stage.is_free()
+        self.is_free(request.block())
+    }
+
+    /// Whether a request for the block, one of the memory's, can be taken now: the block isn't busy.
+    pub fn is_free(&self, block: u32) -> bool
+        requires { block < length self.now.entries }
+        ensures { result ≡ is_free (entry_at R.riding.fresh self.now.entries block).stage }
+    {
+        self.entries[block as usize].stage.is_free()
     }
 
     /// Whether the table has a row for the request, sent by core `from`.
@@ -121,7 +129,23 @@ impl<R: Rider> Home<R> {
         ensures elsewhere { SameElsewhere R.riding.fresh self.old.entries self.new.entries (request_block request) }
         ensures answer { result ≡ answer_to_request R.riding.absorbed (entry_at R.riding.fresh self.old.entries (request_block request)) from request }
     {
-        self.entries[request.block() as usize].on_request(from, request)
+        let block = request.block();
+        let answer = self.serve(from, request.lent());
+        answer.riding(*self.rider(block))
+    }
+
+    /// Takes a request as `on_request` does, with its rider lent. The answer has no rider: data are
+    /// sent with the block's `rider`, as it is after the call.
+    pub fn serve(&mut self, from: u8, request: Request<&R>) -> HomeAnswer<()>
+        requires from { from < CORES_MAX }
+        requires within { request_block (request_seen request) < length self.old.entries }
+        requires room { IsTrue (has_room self.old.rooms (request_block (request_seen request))) }
+        requires row { IsTrue (has_request_row (entry_at R.riding.fresh self.old.entries (request_block (request_seen request))).stage from (request_seen request)) }
+        ensures blocks { self.new ≡ record self.old { entries = entries_after_request R.riding self.old.entries from (request_seen request.entry) } }
+        ensures elsewhere { SameElsewhere R.riding.fresh self.old.entries self.new.entries (request_block (request_seen request.entry)) }
+        ensures answer { answer_riding (entry_at R.riding.fresh self.new.entries (request_block (request_seen request.entry))).rider result ≡ answer_to_request R.riding.absorbed (entry_at R.riding.fresh self.old.entries (request_block (request_seen request.entry))) from (request_seen request.entry) }
+    {
+        self.entries[request.block() as usize].serve(from, request)
     }
 
     /// Takes a response from core `from`, about a block at which the table has a row for it. Only that
@@ -134,7 +158,30 @@ impl<R: Rider> Home<R> {
         ensures elsewhere { SameElsewhere R.riding.fresh self.old.entries self.new.entries (response_block response) }
         ensures answer { result ≡ answer_to_response R.riding.absorbed (entry_at R.riding.fresh self.old.entries (response_block response)) from response }
     {
-        self.entries[response.block() as usize].on_response(from, response)
+        let block = response.block();
+        let answer = self.collect(from, response.lent());
+        answer.riding(*self.rider(block))
+    }
+
+    /// Takes a response as `on_response` does, with its rider lent. The answer has no rider: data are
+    /// sent with the block's `rider`, as it is after the call.
+    pub fn collect(&mut self, from: u8, response: Response<&R>) -> HomeAnswer<()>
+        requires from { from < CORES_MAX }
+        requires within { response_block (response_seen response) < length self.old.entries }
+        requires row { IsTrue (has_response_row (entry_at R.riding.fresh self.old.entries (response_block (response_seen response))).stage from (response_seen response)) }
+        ensures blocks { self.new ≡ record self.old { entries = entries_after_response R.riding self.old.entries from (response_seen response.entry) } }
+        ensures elsewhere { SameElsewhere R.riding.fresh self.old.entries self.new.entries (response_block (response_seen response.entry)) }
+        ensures answer { answer_riding (entry_at R.riding.fresh self.new.entries (response_block (response_seen response.entry))).rider result ≡ answer_to_response R.riding.absorbed (entry_at R.riding.fresh self.old.entries (response_block (response_seen response.entry))) from (response_seen response.entry) }
+    {
+        self.entries[response.block() as usize].collect(from, response)
+    }
+
+    /// The rider on the home's copy of the block, one of the memory's.
+    pub fn rider(&self, block: u32) -> &R
+        requires { block < length self.now.entries }
+        ensures { result.now ≡ (entry_at R.riding.fresh self.now.entries block).rider }
+    {
+        &self.entries[block as usize].rider
     }
 
     /// The home's copy of a memory word, by the word's index. Where a cache owns the block it is an old

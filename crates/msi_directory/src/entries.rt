@@ -1,10 +1,11 @@
 //! A block's entry at the home, and the table's rows on it.
 ghost use Rattle.std.specs.Prelude.{◌≡◌, ◌<◌, IsTrue, None, Some, is_some};
+ghost use Rattle.msi_cache.specs.Messages.{request_seen, response_seen};
 ghost use Rattle.msi_cache.specs.Table.{Ask, Reply};
 ghost use Rattle.msi_cache.specs.declared.messages.FromHome.{FromHome};
 ghost use Rattle.msi_cache.specs.declared.messages.Request.{Request};
 ghost use Rattle.msi_cache.specs.declared.messages.Response.{Response};
-ghost use Rattle.msi_directory.specs.Entries.{answer_by, answer_to_request, answer_to_response, entry_after_request, entry_after_response, entry_by, has_request_row, has_response_row};
+ghost use Rattle.msi_directory.specs.Entries.{answer_by, answer_riding, answer_to_request, answer_to_response, entry_after_request, entry_after_response, entry_by, has_request_row, has_response_row};
 ghost use Rattle.msi_directory.specs.Fitting.{stage_fits};
 ghost use Rattle.msi_directory.specs.Table.{is_free, own_from, owner_of, request_row, response_row, shared_by};
 ghost use Rattle.rtr_types.specs.CoreSets.{no_cores};
@@ -58,13 +59,13 @@ impl Stage {
 
 /// What the home answers: the cores to which it sends Inv, and the one other message that it sends,
 /// with the core to which it goes. There is none exactly where the table's row sends no single message.
-#[derive(Debug, Drop, PartialEq, Eq)]
+#[derive(Clone, Copy, Debug, PartialEq, Eq)]
 pub struct HomeAnswer<R> {
     pub invalidate: CoreSet,
     pub send: Option<(u8, FromHome<R>)>,
 }
 
-impl<R> HomeAnswer<R> {
+impl HomeAnswer<()> {
     /// The answer that sends nothing.
     fn nothing() -> Self
         ensures { result ≡ record { invalidate = no_cores; send = None } }
@@ -76,12 +77,26 @@ impl<R> HomeAnswer<R> {
     }
 
     /// The answer that sends one message.
-    fn one(to: u8, message: FromHome<R>) -> Self
+    fn one(to: u8, message: FromHome<()>) -> Self
         ensures { result ≡ record { invalidate = no_cores; send = Some (to, message) } }
     {
         HomeAnswer {
             invalidate: CoreSet::empty(),
             send: Some((to, message)),
+        }
+    }
+
+    /// The answer with this rider on the message that it sends, where that message has data.
+    pub fn riding<T: Copy>(self, rider: T) -> HomeAnswer<T>
+        ensures { result ≡ answer_riding rider self }
+    {
+        let send = match self.send {
+            Some((to, message)) => Some((to, message.riding(rider))),
+            None => None,
+        };
+        HomeAnswer {
+            invalidate: self.invalidate,
+            send,
         }
     }
 }
@@ -118,17 +133,18 @@ impl<R: Rider> Entry<R> {
         }
     }
 
-    /// Takes a request for this block.
-    pub(crate) fn on_request(&mut self, from: u8, request: Request<R>) -> HomeAnswer<R>
+    /// Takes a request for this block. The answer has no rider: data are sent with the entry's own, as
+    /// it is afterwards.
+    pub(crate) fn serve(&mut self, from: u8, request: Request<&R>) -> HomeAnswer<()>
         requires from { from < CORES_MAX }
-        requires row { IsTrue (has_request_row self.old.stage from request) }
-        ensures entry { self.new ≡ entry_after_request R.riding.absorbed self.old from request }
-        ensures answer { result ≡ answer_to_request R.riding.absorbed self.old from request }
+        requires row { IsTrue (has_request_row self.old.stage from (request_seen request)) }
+        ensures entry { self.new ≡ entry_after_request R.riding.absorbed self.old from (request_seen request.entry) }
+        ensures answer { answer_riding self.new.rider result ≡ answer_to_request R.riding.absorbed self.old from (request_seen request.entry) }
     {
         match request {
             Request::GetS { block } => self.get_shared(from, block),
             Request::GetM { block } => self.get_owned(from, block),
-            Request::PutS { block, rider } => self.put_shared(from, block, &rider),
+            Request::PutS { block, rider } => self.put_shared(from, block, rider),
             Request::PutM {
                 block,
                 words,
@@ -137,17 +153,21 @@ impl<R: Rider> Entry<R> {
         }
     }
 
-    /// Takes a response about this block.
-    pub(crate) fn on_response(&mut self, from: u8, response: Response<R>) -> HomeAnswer<R>
+    /// Takes a response about this block. The answer has no rider: data are sent with the entry's own,
+    /// as it is afterwards.
+    pub(crate) fn collect(&mut self, from: u8, response: Response<&R>) -> HomeAnswer<()>
         requires from { from < CORES_MAX }
         requires fits { IsTrue (stage_fits self.old.stage) }
-        requires row { IsTrue (has_response_row self.old.stage from response) }
-        ensures entry { self.new ≡ entry_after_response R.riding.absorbed self.old from response }
-        ensures answer { result ≡ answer_to_response R.riding.absorbed self.old from response }
+        requires row { IsTrue (has_response_row self.old.stage from (response_seen response)) }
+        ensures entry { self.new ≡ entry_after_response R.riding.absorbed self.old from (response_seen response.entry) }
+        ensures answer { answer_riding self.new.rider result ≡ answer_to_response R.riding.absorbed self.old from (response_seen response.entry) }
     {
         match response {
-            Response::InvAck { block, rider } => {
-                self.rider.absorb(&rider);
+            Response::InvAck {
+                block,
+                rider: reads,
+            } => {
+                self.rider.absorb(reads);
                 self.acknowledge(from, block)
             }
             Response::OwnerData {
@@ -156,18 +176,18 @@ impl<R: Rider> Entry<R> {
                 rider,
             } => {
                 self.words = words;
-                self.rider = rider;
+                self.rider = *rider;
                 self.hand_over(from, block)
             }
         }
     }
 
     /// A core wants to share the block.
-    fn get_shared(&mut self, from: u8, block: u32) -> HomeAnswer<R>
+    fn get_shared(&mut self, from: u8, block: u32) -> HomeAnswer<()>
         requires from { from < CORES_MAX }
         requires row { IsTrue (is_some (request_row self.old.stage from Ask.GetS)) }
         ensures entry { self.new ≡ entry_after_request R.riding.absorbed self.old from (Request.GetS block) }
-        ensures answer { result ≡ answer_to_request R.riding.absorbed self.old from (Request.GetS block) }
+        ensures answer { answer_riding self.new.rider result ≡ answer_to_request R.riding.absorbed self.old from (Request.GetS block) }
     {
         match self.stage {
             Stage::Owned { owner } => {
@@ -192,11 +212,11 @@ impl<R: Rider> Entry<R> {
     }
 
     /// A core wants to own the block.
-    fn get_owned(&mut self, from: u8, block: u32) -> HomeAnswer<R>
+    fn get_owned(&mut self, from: u8, block: u32) -> HomeAnswer<()>
         requires from { from < CORES_MAX }
         requires row { IsTrue (is_some (request_row self.old.stage from Ask.GetM)) }
         ensures entry { self.new ≡ entry_after_request R.riding.absorbed self.old from (Request.GetM block) }
-        ensures answer { result ≡ answer_to_request R.riding.absorbed self.old from (Request.GetM block) }
+        ensures answer { answer_riding self.new.rider result ≡ answer_to_request R.riding.absorbed self.old from (Request.GetM block) }
     {
         match self.stage {
             Stage::Owned { owner } => {
@@ -216,9 +236,9 @@ impl<R: Rider> Entry<R> {
     }
 
     /// A core is to own the block once the others no longer share it.
-    fn take_from(&mut self, others: CoreSet, requester: u8, block: u32) -> HomeAnswer<R>
+    fn take_from(&mut self, others: CoreSet, requester: u8, block: u32) -> HomeAnswer<()>
         ensures entry { self.new ≡ entry_by R.riding.absorbed (own_from others requester) self.old self.old.words self.old.rider }
-        ensures answer { result ≡ answer_by (own_from others requester) block self.new }
+        ensures answer { answer_riding self.new.rider result ≡ answer_by (own_from others requester) block self.new }
     {
         if others.is_empty() {
             self.stage = Stage::Owned { owner: requester };
@@ -235,11 +255,11 @@ impl<R: Rider> Entry<R> {
     }
 
     /// A core gives up its shared copy. What it read goes with it, unless it no longer shares.
-    fn put_shared(&mut self, from: u8, block: u32, rider: &R) -> HomeAnswer<R>
+    fn put_shared(&mut self, from: u8, block: u32, rider: &R) -> HomeAnswer<()>
         requires from { from < CORES_MAX }
         requires row { IsTrue (has_request_row self.old.stage from (Request.PutS block rider.now)) }
         ensures entry { self.new ≡ entry_after_request R.riding.absorbed self.old from (Request.PutS block rider.now) }
-        ensures answer { result ≡ answer_to_request R.riding.absorbed self.old from (Request.PutS block rider.now) }
+        ensures answer { answer_riding self.new.rider result ≡ answer_to_request R.riding.absorbed self.old from (Request.PutS block rider.now) }
     {
         if let Stage::Shared { by } = self.stage
             && by.has(from)
@@ -257,12 +277,12 @@ impl<R: Rider> Entry<R> {
         from: u8,
         block: u32,
         words: [u32; BLOCK_WORDS],
-        rider: R,
-    ) -> HomeAnswer<R>
+        rider: &R,
+    ) -> HomeAnswer<()>
         requires from { from < CORES_MAX }
-        requires row { IsTrue (has_request_row self.old.stage from (Request.PutM block words rider)) }
-        ensures entry { self.new ≡ entry_after_request R.riding.absorbed self.old from (Request.PutM block words rider) }
-        ensures answer { result ≡ answer_to_request R.riding.absorbed self.old from (Request.PutM block words rider) }
+        requires row { IsTrue (has_request_row self.old.stage from (Request.PutM block words rider.now)) }
+        ensures entry { self.new ≡ entry_after_request R.riding.absorbed self.old from (Request.PutM block words rider.now) }
+        ensures answer { answer_riding self.new.rider result ≡ answer_to_request R.riding.absorbed self.old from (Request.PutM block words rider.now) }
     {
         match self.stage {
             Stage::Shared { by } if by.has(from) => {
@@ -271,7 +291,7 @@ impl<R: Rider> Entry<R> {
             Stage::Owned { owner } if owner == from => {
                 self.stage = Stage::Unshared;
                 self.words = words;
-                self.rider = rider;
+                self.rider = *rider;
             }
             _ => {}
         }
@@ -279,11 +299,11 @@ impl<R: Rider> Entry<R> {
     }
 
     /// A core has given up its shared copy. At the last one the requester owns the block.
-    fn acknowledge(&mut self, from: u8, block: u32) -> HomeAnswer<R>
+    fn acknowledge(&mut self, from: u8, block: u32) -> HomeAnswer<()>
         requires from { from < CORES_MAX }
         requires row { IsTrue (is_some (response_row self.old.stage from Reply.InvAck)) }
         ensures entry { self.new ≡ entry_by (λ old other. old) (response_row self.old.stage from Reply.InvAck) self.old self.old.words self.old.rider }
-        ensures answer { result ≡ answer_by (response_row self.old.stage from Reply.InvAck) block self.new }
+        ensures answer { answer_riding self.new.rider result ≡ answer_by (response_row self.old.stage from Reply.InvAck) block self.new }
     {
         let Stage::Acks { of, requester } = self.stage else {
             return HomeAnswer::nothing();
@@ -301,12 +321,12 @@ impl<R: Rider> Entry<R> {
     }
 
     /// The owner has given its data, which the entry has by now. The requester gets the block.
-    fn hand_over(&mut self, from: u8, block: u32) -> HomeAnswer<R>
+    fn hand_over(&mut self, from: u8, block: u32) -> HomeAnswer<()>
         requires from { from < CORES_MAX }
         requires fits { IsTrue (stage_fits self.old.stage) }
         requires row { IsTrue (is_some (response_row self.old.stage from Reply.OwnerData)) }
         ensures entry { self.new ≡ entry_by (λ old other. old) (response_row self.old.stage from Reply.OwnerData) self.old self.old.words self.old.rider }
-        ensures answer { result ≡ answer_by (response_row self.old.stage from Reply.OwnerData) block self.new }
+        ensures answer { answer_riding self.new.rider result ≡ answer_by (response_row self.old.stage from Reply.OwnerData) block self.new }
     {
         let Stage::Data {
             requester,
@@ -326,16 +346,16 @@ impl<R: Rider> Entry<R> {
         self.give(requester, block)
     }
 
-    /// Sends the home's copy, as it is now.
-    fn give(&self, to: u8, block: u32) -> HomeAnswer<R>
-        ensures { result ≡ record { invalidate = no_cores; send = Some (to, FromHome.BlockData block self.now.words self.now.rider) } }
+    /// Sends the home's copy, as it is now. Its rider is left to whoever sends the answer.
+    fn give(&self, to: u8, block: u32) -> HomeAnswer<()>
+        ensures { result ≡ record { invalidate = no_cores; send = Some (to, FromHome.BlockData block self.now.words tt) } }
     {
         HomeAnswer::one(
             to,
             FromHome::BlockData {
                 block,
                 words: self.words,
-                rider: self.rider,
+                rider: (),
             },
         )
     }

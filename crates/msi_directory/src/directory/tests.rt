@@ -377,10 +377,13 @@ fn hands_a_shared_block_to_one_owner(rt: HostRuntime) -> Result<(), Fail> {
     assert_eq!(rt; take(&rt, &mut home, Step::GetM(1)), invalidates(1));
     assert!(rt; home.blocks() == 4);
     assert_eq!(rt; home.can_take(&Request::GetS { block: 2 }), false);
+    assert_eq!(rt; home.is_free(2), false);
     assert_eq!(rt; home.owner(2), None);
     assert_eq!(rt; take(&rt, &mut home, Step::InvAck(0, 7)), data(1, 0, 7));
     assert!(rt; home.blocks() == 4);
     assert_eq!(rt; home.owner(2), Some(1));
+    assert_eq!(rt; home.is_free(2), true);
+    assert_eq!(rt; *home.rider(2), Trail { digits: 7 });
     Ok(())
 }
 
