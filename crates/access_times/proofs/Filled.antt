@@ -17,16 +17,23 @@ pub reads_filled : (a b reads : List (Option (ℕ × Clock))) (core : ℕ) → l
 unfolding reads_absorbed
 reads_filled a b reads core long end done = fill_by_all (λ k. newer_read (read_in a k) (read_in b k)) reads CORES_MAX None long (λ k lt. done k (omega arith))
 
-pub slot_filled : (a b : SlotTimes) (reads : List (Option (ℕ × Clock))) → is_same_write a.write b.write ≡ true → reads ≡ reads_absorbed a.reads b.reads → ◌≡◌ {A = SlotTimes} (record { write = a.write; reads = reads }) (slot_absorbed a b)
-slot_filled a b reads same e = by (is_same_write a.write b.write) same
+pub slot_filled : (a b x : SlotTimes) → is_same_write a.write b.write ≡ true → x.write ≡ a.write → x.reads ≡ reads_absorbed a.reads b.reads → x ≡ slot_absorbed a b
+slot_filled a b x same w e = by (is_same_write a.write b.write) same
   where
-    by : (t : Bool) → t ≡ true → ◌≡◌ {A = SlotTimes} (record { write = a.write; reads = reads }) (if t then record a { reads = reads_absorbed a.reads b.reads } else a)
-    by true _ = ap (λ (r : List (Option (ℕ × Clock))). (let s : SlotTimes = record { write = a.write; reads = r } in s)) e
+    by : (t : Bool) → t ≡ true → x ≡ (if t then record a { reads = reads_absorbed a.reads b.reads } else a)
+    by true _ =
+        ap (λ (r : List (Option (ℕ × Clock))). (let s : SlotTimes = record { write = x.write; reads = r } in s)) e
+        ∙ ap (λ (v : Option (Instr × Clock)). (let s : SlotTimes = record { write = v; reads = reads_absorbed a.reads b.reads } in s)) w
     by false f = absurd cc
 
-pub slots_filled : (a b : Times) (slots : List SlotTimes) (slot : ℕ) → length slots ≡ BLOCK_WORDS → BLOCK_WORDS ≤ slot → ((k : ℕ) → k < slot → slice_index_or slots k missing_slot ≡ slot_absorbed (slot_at a k) (slot_at b k)) → ◌≡◌ {A = Times} (record { slots = slots }) (times_absorbed a b)
+pub slot_stored : (at : Instr) (clock : Clock) (x : SlotTimes) (core : ℕ) → x.write ≡ Some (at, clock) → length x.reads ≡ CORES_MAX → CORES_MAX ≤ core → ((k : ℕ) → k < core → read_in x.reads k ≡ None) → ◌≡◌ {A = SlotTimes} x (record { write = Some (at, clock); reads = no_reads })
+slot_stored at clock x core w long end done =
+    ap (λ (r : List (Option (ℕ × Clock))). (let s : SlotTimes = record { write = x.write; reads = r } in s)) (fill_by_all (λ k. None) x.reads CORES_MAX None long (λ k lt. done k (omega arith)))
+    ∙ ap (λ (v : Option (Instr × Clock)). (let s : SlotTimes = record { write = v; reads = no_reads } in s)) w
+
+pub slots_filled : (a b x : Times) (slot : ℕ) → length x.slots ≡ BLOCK_WORDS → BLOCK_WORDS ≤ slot → ((k : ℕ) → k < slot → slot_at x k ≡ slot_absorbed (slot_at a k) (slot_at b k)) → x ≡ times_absorbed a b
 unfolding times_absorbed
-slots_filled a b slots slot long end done = ap (λ (x : List SlotTimes). (let t : Times = record { slots = x } in t)) (fill_by_all (λ k. slot_absorbed (slot_at a k) (slot_at b k)) slots BLOCK_WORDS missing_slot long (λ k lt. done k (omega arith)))
+slots_filled a b x slot long end done = ap (λ (y : List SlotTimes). (let t : Times = record { slots = y } in t)) (fill_by_all (λ k. slot_absorbed (slot_at a k) (slot_at b k)) x.slots BLOCK_WORDS missing_slot long (λ k lt. done k (omega arith)))
 
 -- a list with one place set is the list of what is at each place
 set_filled : {X : Type 0} (xs : List X) (n j : ℕ) (x d : X) (f : ℕ → X) → length xs ≡ n → j < n → f j ≡ x → ((k : ℕ) → (k ≡ j → ⊥) → f k ≡ slice_index_or xs k d) → slice_set xs j x ≡ map f (range_with_len 0 n)
@@ -46,8 +53,8 @@ load_set t slot at clock x long lt e =
     ap (λ (y : List SlotTimes). (let u : Times = record { slots = y } in u))
     (set_filled t.slots BLOCK_WORDS slot x missing_slot (λ k. if k == slot then slot_loaded (slot_at t k) at clock else slot_at t k) long lt (grind (arith, nat_tests)) (λ k other. grind (arith, nat_tests)))
 
-pub store_set : (t : Times) (slot : ℕ) (at : Instr) (clock : Clock) → length t.slots ≡ BLOCK_WORDS → slot < BLOCK_WORDS → ◌≡◌ {A = Times} (record { slots = slice_set t.slots slot (record { write = Some (at, clock); reads = no_reads }) }) (times_stored t slot at clock)
+pub store_set : (t : Times) (slot : ℕ) (at : Instr) (clock : Clock) (x : SlotTimes) → length t.slots ≡ BLOCK_WORDS → slot < BLOCK_WORDS → x ≡ record { write = Some (at, clock); reads = no_reads } → ◌≡◌ {A = Times} (record { slots = slice_set t.slots slot x }) (times_stored t slot at clock)
 unfolding times_stored
-store_set t slot at clock long lt =
+store_set t slot at clock x long lt e =
     ap (λ (y : List SlotTimes). (let u : Times = record { slots = y } in u))
-    (set_filled t.slots BLOCK_WORDS slot (record { write = Some (at, clock); reads = no_reads }) missing_slot (λ k. if k == slot then record { write = Some (at, clock); reads = no_reads } else slot_at t k) long lt (grind (arith, nat_tests)) (λ k other. grind (arith, nat_tests)))
+    (set_filled t.slots BLOCK_WORDS slot x missing_slot (λ k. if k == slot then record { write = Some (at, clock); reads = no_reads } else slot_at t k) long lt (grind (arith, nat_tests)) (λ k other. grind (arith, nat_tests)))

@@ -1,8 +1,8 @@
 //! The rider that records when the words of its block were accessed.
-ghost use Rattle.std.specs.Prelude.{◌≡◌, ℕ, ◌<◌};
+ghost use Rattle.std.specs.Prelude.{◌≡◌, ℕ, ◌<◌, if◌then◌else◌};
 ghost use Rattle.rtr_types.specs.declared.TheConstants.{CORES_MAX};
 ghost use Rattle.access_times.specs.declared.TheConstants.{BLOCK_WORDS};
-ghost use Rattle.access_times.specs.Times.{is_same_write, newer_read, read_at, read_in, slot_absorbed, slot_loaded, times_loaded, times_stored, write_at};
+ghost use Rattle.access_times.specs.Times.{is_same_write, newer_read, no_reads, read_at, read_in, slot_absorbed, slot_loaded, times_loaded, times_stored, write_at};
 
 use crate::BLOCK_WORDS;
 use crate::riders::Rider;
@@ -34,55 +34,51 @@ pub struct Times {
 }
 
 /// Whether the two are one write with one clock, or both are none.
-fn is_same_write(one: Option<(Instr, Clock)>, other: Option<(Instr, Clock)>) -> bool
-    ensures { result ≡ is_same_write one other }
+fn is_same_write(one: &Option<(Instr, Clock)>, other: &Option<(Instr, Clock)>) -> bool
+    ensures { result ≡ is_same_write one.now other.now }
 {
     match (one, other) {
         (None, None) => true,
         (Some((at, clock)), Some((other_at, other_clock))) => {
-            at.core == other_at.core && at.count == other_at.count && clock == other_clock
+            at.core == other_at.core && at.count == other_at.count && *clock == *other_clock
         }
         _ => false,
     }
 }
 
-/// The read with the greater count; the first where they are of one count.
-fn newer_read(one: Option<(u32, Clock)>, other: Option<(u32, Clock)>) -> Option<(u32, Clock)>
-    ensures { result ≡ newer_read one other }
+/// Whether the other read is there and of a greater count, or there is no own one.
+fn is_newer(other: &Option<(u32, Clock)>, own: &Option<(u32, Clock)>) -> bool
+    ensures { newer_read own.now other.now ≡ (if result then other.now else own.now) }
 {
-    match (one, other) {
-        (None, _) => other,
-        (_, None) => one,
-        (Some((count, _)), Some((other_count, _))) => {
-            if count < other_count { other } else { one }
-        }
+    match (other, own) {
+        (None, _) => false,
+        (_, None) => true,
+        (Some((other_count, _)), Some((count, _))) => *count < *other_count,
     }
 }
 
 impl SlotTimes {
-    /// The times with the newer reads of both, where the last writes are the same; else the first.
-    fn absorbed(&self, other: &SlotTimes) -> SlotTimes
-        ensures { result ≡ slot_absorbed self.now other.now }
+    /// Takes over the other's newer reads, where the last writes are the same. It writes in place and
+    /// copies only what it takes, since two copies of a block mostly have the same reads.
+    fn absorb(&mut self, other: &SlotTimes)
+        ensures { self.new ≡ slot_absorbed self.old other.now }
     {
-        if !is_same_write(self.write, other.write) {
-            return *self;
+        if !is_same_write(&self.write, &other.write) {
+            return;
         }
-        let mut reads = [None; PLACES];
         for core in 0..PLACES {
-            reads[core] = newer_read(self.reads[core], other.reads[core]);
-        }
-        SlotTimes {
-            write: self.write,
-            reads,
+            if is_newer(&other.reads[core], &self.reads[core]) {
+                self.reads[core] = other.reads[core];
+            }
         }
     }
 
     /// The core's last read since the last write.
-    fn read_by(&self, core: u8) -> Option<(u32, Clock)>
+    fn last_read(&self, core: u8) -> &Option<(u32, Clock)>
         requires { core < CORES_MAX }
-        ensures { result ≡ read_in self.now.reads core }
+        ensures { result.now ≡ read_in self.now.reads core }
     {
-        self.reads[core as usize]
+        &self.reads[core as usize]
     }
 
     /// Notes the read.
@@ -91,6 +87,18 @@ impl SlotTimes {
         ensures { self.new ≡ slot_loaded self.old at clock }
     {
         self.reads[at.core as usize] = Some((at.count, clock));
+    }
+
+    /// Notes the write, and forgets the reads.
+    fn on_store(&mut self, at: Instr, clock: Clock)
+        ensures { self.new ≡ record { write = Some (at, clock); reads = no_reads } }
+    {
+        self.write = Some((at, clock));
+        for core in 0..PLACES {
+            if self.reads[core].is_some() {
+                self.reads[core] = None;
+            }
+        }
     }
 }
 
@@ -106,11 +114,9 @@ impl Rider for Times {
     }
 
     fn absorb(&mut self, other: &Self) {
-        let mut slots = [NO_TIMES; BLOCK_WORDS];
         for slot in 0..BLOCK_WORDS {
-            slots[slot] = self.slots[slot].absorbed(&other.slots[slot]);
+            self.slots[slot].absorb(&other.slots[slot]);
         }
-        self.slots = slots;
     }
 }
 
@@ -120,7 +126,15 @@ impl Times {
         requires { slot < BLOCK_WORDS }
         ensures { result ≡ write_at self.now slot }
     {
-        self.slots[slot as usize].write
+        *self.last_write(slot)
+    }
+
+    /// The same where it lies, for a caller that needs no copy.
+    pub fn last_write(&self, slot: u8) -> &Option<(Instr, Clock)>
+        requires { slot < BLOCK_WORDS }
+        ensures { result.now ≡ write_at self.now slot }
+    {
+        &self.slots[slot as usize].write
     }
 
     /// The count of the core's last read of the slot's word since that write, with its clock.
@@ -129,7 +143,16 @@ impl Times {
         requires core { core < CORES_MAX }
         ensures { result ≡ read_at self.now slot core }
     {
-        self.slots[slot as usize].read_by(core)
+        *self.last_read(slot, core)
+    }
+
+    /// The same where it lies, for a caller that needs no copy.
+    pub fn last_read(&self, slot: u8, core: u8) -> &Option<(u32, Clock)>
+        requires slot { slot < BLOCK_WORDS }
+        requires core { core < CORES_MAX }
+        ensures { result.now ≡ read_at self.now slot core }
+    {
+        self.slots[slot as usize].last_read(core)
     }
 
     /// Notes the read.
@@ -146,10 +169,7 @@ impl Times {
         requires { slot < BLOCK_WORDS }
         ensures { self.new ≡ times_stored self.old slot at clock }
     {
-        self.slots[slot as usize] = SlotTimes {
-            write: Some((at, clock)),
-            reads: [None; PLACES],
-        };
+        self.slots[slot as usize].on_store(at, clock);
     }
 }
 

@@ -7,4 +7,4 @@ use Rattle.access_times.proofs.word_times.Times.on_store.Goals as goal
 pub returns : goal.returns
 returns c =
     let long : length c.args.self.now.slots ≡ BLOCK_WORDS = grind (arith, common_steps) in
-    store_set c.args.self.now c.args.slot c.args.at c.args.clock long c.requires
+    store_set c.args.self.now c.args.slot c.args.at c.args.clock _ long c.requires c.on_store.ensures

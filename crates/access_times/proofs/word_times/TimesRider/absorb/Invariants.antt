@@ -1,10 +1,11 @@
-use Rattle.std.proofs.Common.{◌≡◌, ℕ, ◌<◌, length, slice_index_or}
+use Rattle.std.proofs.Common.{◌≡◌, ℕ, ◌<◌, ◌≤◌, length}
 use Rattle.access_times.specs.declared.TheConstants.{BLOCK_WORDS}
-use Rattle.access_times.specs.Times.{slot_absorbed, slot_at, missing_slot}
+use Rattle.access_times.specs.Times.{slot_absorbed, slot_at}
 use Rattle.access_times.proofs.word_times.TimesRider.absorb.Given as goal
 
 abbrev pub invariant-loop-slot : goal.invariant-loop-slot
 invariant-loop-slot l = record {
-  long : length l.slots ≡ BLOCK_WORDS;
-  done : (k : ℕ) → k < l.slot → slice_index_or l.slots k missing_slot ≡ slot_absorbed (slot_at l.self k) (slot_at l.other k);
+  long : length l.self.slots ≡ BLOCK_WORDS;
+  done : (k : ℕ) → k < l.slot → slot_at l.self k ≡ slot_absorbed (slot_at l.fn.self k) (slot_at l.other k);
+  rest : (k : ℕ) → l.slot ≤ k → slot_at l.self k ≡ slot_at l.fn.self k;
 }
