@@ -135,6 +135,29 @@ module _ {X : Type 0} where
       let e : count - 1 + 1 ≡ count = omega arith in
       rw e at (around_more list first (count - 1) next x (omega arith) starts (record { within = within; round = round }))
 
+  taken_at : (list : List X) (first count next k : ℕ) (y d : X) → count < length list → first < length list → IsPlace first 1 (length list) next → k < count →
+      get_or (around (set list first y) next count) k d ≡ get_or (around list next count) k d
+  taken_at list first count next k y d fits starts is h =
+      let p : (p : ℕ) × IsPlace next k (length list) p = a_place next k (length list) is.within (omega arith) in
+      let further : IsPlace first (suc k) (length list) p.0 = one_further first next k (length list) p.0 starts (omega arith) is p.1 in
+      let here : IsPlace first 0 (length list) first = record { within = starts; round = inl (omega arith) } in
+      let other : first ≢ p.0 = apart first 0 (suc k) (length list) first p.0 (omega arith) (omega arith) here further in
+      get_or_around (set list first y) (length list) next count k p.0 d (length-set list first y) h (omega arith) is.within p.1
+      ∙ get_or-set_other list first p.0 y d (λ e. other (sym e))
+      ∙ sym (get_or_around list (length list) next count k p.0 d refl h (omega arith) is.within p.1)
+
+  -- whatever is left in the place of the oldest item, the others are as they were
+  pub around_taken : (list : List X) (first count next : ℕ) (x y : X) → 0 < count → count ≤ length list → first < length list → next < length list →
+      (next ≡ first + 1) ⊎ (next + length list ≡ first + 1) → around list first count ≡ get_or list first x ∷ around (set list first y) next (count - 1)
+  around_taken list first count next x y some fits starts within round =
+      let whole : length (set list first y) ≡ length list = length-set list first y in
+      let there : length (around list next (count - 1)) ≡ count - 1 = length_around list next (count - 1) (omega arith) in
+      let left : length (around (set list first y) next (count - 1)) ≡ count - 1 = length_around (set list first y) next (count - 1) (omega (arith, whole)) in
+      let same : around (set list first y) next (count - 1) ≡ around list next (count - 1) =
+      same_lists _ _ (rw (left, there) refl)
+      (λ k d h. taken_at list first (count - 1) next k y d (omega arith) starts (record { within = within; round = round }) (rw left at h)) in
+      around_next list first count next x some fits starts within round ∙ ap (λ rest. get_or list first x ∷ rest) (sym same)
+
   -- what is left where the oldest item is dropped
   pub around_dropped : (list : List X) (first count next : ℕ) → 0 < count → count ≤ length list → first < length list → next < length list →
       (next ≡ first + 1) ⊎ (next + length list ≡ first + 1) → around list next (count - 1) ≡ drop 1 (around list first count)

@@ -8,6 +8,7 @@ ghost use Rattle.link_order.specs.Lent.{LendsPlace};
 
 use std::alloc::{AllocError, Global};
 use std::marker::Model;
+use std::mem;
 
 #[cfg(test)]
 mod tests;
@@ -55,23 +56,17 @@ fn place(first: usize, ahead: usize, capacity: usize) -> usize
     }
 }
 
-impl<T: Copy + Default> Link<T> {
-    /// An empty link with room for `capacity` items.
+impl<T: Drop + Default> Link<T> {
+    /// An empty link with room for `capacity` items. Until the first item comes to a place, the place
+    /// holds the type's default value.
+    #[tactic(auto, using(crate::proofs::Rings::around_none))]
     pub fn new(alloc: Global, capacity: u32) -> Result<Link<T>, AllocError>
         ensures { IfOk result (λ link. link ≡ record { room = capacity; items = [] }) }
     {
-        Link::filled(alloc, capacity, T::default())
-    }
-}
-
-impl<T: Copy> Link<T> {
-    /// An empty link with room for `capacity` items. Until the first item comes to a place, the place
-    /// holds `blank`.
-    #[tactic(auto, using(crate::proofs::Rings::around_none))]
-    pub fn filled(alloc: Global, capacity: u32, blank: T) -> Result<Link<T>, AllocError>
-        ensures { IfOk result (λ link. link ≡ record { room = capacity; items = [] }) }
-    {
-        let slots = vec![in alloc; blank; capacity as usize]?;
+        let mut slots = Vec::with_capacity(alloc, capacity as usize)?;
+        for made in 0..capacity {
+            slots.push(T::default())?;
+        }
         Ok(Link {
             capacity,
             slots,
@@ -98,20 +93,8 @@ impl<T: Copy> Link<T> {
         Ok(())
     }
 
-    /// Puts a place behind all others and lends it: what is left in it is the newest item. Until then
-    /// it holds a value that lay there before.
-    #[tactic(auto, using(crate::proofs::Rings::length_around, crate::proofs::Rings::around_write))]
-    pub fn push_place(&mut self) -> &mut T
-        requires { length self.old.items < self.old.room }
-        ensures* lends { sem 𝓛 (LendsPlace T.row self.entry result) }
-    {
-        let place = place(self.first, self.count, self.capacity as usize);
-        self.count += 1;
-        &mut self.slots[place]
-    }
-
     /// Takes the oldest item out: none where the link is empty.
-    #[tactic(auto, using(crate::proofs::Rings::around_none, crate::proofs::Rings::around_next))]
+    #[tactic(auto, using(crate::proofs::Rings::around_none, crate::proofs::Rings::around_taken))]
     pub fn pop(&mut self) -> Option<T>
         ensures room { self.new.room ≡ self.old.room }
         ensures item { MatchOption result ((self.old.items ≡ []) × (self.new.items ≡ [])) (λ item. self.old.items ≡ item ∷ self.new.items) }
@@ -122,7 +105,22 @@ impl<T: Copy> Link<T> {
         let oldest = self.first;
         self.first = place(oldest, 1, self.capacity as usize);
         self.count -= 1;
-        Some(self.slots[oldest])
+        Some(mem::take(&mut self.slots[oldest]))
+    }
+}
+
+// What moves no item.
+impl<T> Link<T> {
+    /// Puts a place behind all others and lends it: what is left in it is the newest item. Until then
+    /// it holds a value that lay there before.
+    #[tactic(auto, using(crate::proofs::Rings::length_around, crate::proofs::Rings::around_write))]
+    pub fn push_place(&mut self) -> &mut T
+        requires { length self.old.items < self.old.room }
+        ensures* lends { sem 𝓛 (LendsPlace T.row self.entry result) }
+    {
+        let place = place(self.first, self.count, self.capacity as usize);
+        self.count += 1;
+        &mut self.slots[place]
     }
 
     /// Drops the oldest item, where there is one.
