@@ -23,15 +23,17 @@ impl<R> Model for RequestSlot<R> {
     ghost view = { λ a. request_with (λ u. a.rider) a.bare };
 }
 
-impl<R: Rider> RequestSlot<R> {
-    /// A place that was never written. Contracts see some request in it, which nobody sent.
-    pub fn blank() -> Self {
+/// A place that was never written: contracts see some request in it, which nobody sent.
+impl<R: Rider> Default for RequestSlot<R> {
+    fn default() -> Self {
         RequestSlot {
             bare: Request::GetS { block: 0 },
             rider: R::fresh(),
         }
     }
+}
 
+impl<R: Rider> RequestSlot<R> {
     /// Puts the request here.
     pub fn put(&mut self, request: Request<&R>)
         ensures { self.new ≡ request_seen request.entry }
@@ -92,9 +94,9 @@ impl<R> Model for ResponseSlot<R> {
     ghost view = { λ a. response_with (λ u. a.rider) a.bare };
 }
 
-impl<R: Rider> ResponseSlot<R> {
-    /// A place that was never written. Contracts see some response in it, which nobody sent.
-    pub fn blank() -> Self {
+/// A place that was never written: contracts see some response in it, which nobody sent.
+impl<R: Rider> Default for ResponseSlot<R> {
+    fn default() -> Self {
         ResponseSlot {
             bare: Response::InvAck {
                 block: 0,
@@ -103,7 +105,9 @@ impl<R: Rider> ResponseSlot<R> {
             rider: R::fresh(),
         }
     }
+}
 
+impl<R: Rider> ResponseSlot<R> {
     /// Puts the response here.
     pub fn put(&mut self, response: Response<&R>)
         ensures { self.new ≡ response_seen response.entry }
@@ -160,15 +164,17 @@ impl<R> Model for FromHomeSlot<R> {
     ghost view = { λ a. message_with (λ u. a.rider) a.bare };
 }
 
-impl<R: Rider> FromHomeSlot<R> {
-    /// A place that was never written. Contracts see some message in it, which nobody sent.
-    pub fn blank() -> Self {
+/// A place that was never written: contracts see some message in it, which nobody sent.
+impl<R: Rider> Default for FromHomeSlot<R> {
+    fn default() -> Self {
         FromHomeSlot {
             bare: FromHome::PutAck { block: 0 },
             rider: R::fresh(),
         }
     }
+}
 
+impl<R: Rider> FromHomeSlot<R> {
     /// Puts the message here.
     pub fn put(&mut self, message: FromHome<&R>)
         ensures { self.new ≡ message_seen message.entry }
