@@ -59,7 +59,7 @@ module _ {R : Type 0} where
   -- a message that is sent, with this rider where it has data
   abbrev pub sent_riding : R → Option (ℕ × FromHome (Unit {0})) → Option (ℕ × FromHome R)
   sent_riding rider None = None
-  sent_riding rider (Some (core, m)) = Some (core, message_with (λ none. rider) m)
+  sent_riding rider (Some (core, m)) = Some (core, message_with (λ own. rider) m)
 
   -- the answer with this rider on the message that it sends, where that message has data
   abbrev pub answer_riding : R → HomeAnswer (Unit {0}) → HomeAnswer R

@@ -1,4 +1,3 @@
-use Rattle.std.proofs.Common.{◌≡◌, None, Some}
 use Rattle.msi_directory.proofs.entries.HomeAnswer+unit.riding.Goals as goal
 use Rattle.msi_directory.proofs.entries.HomeAnswer+unit.riding.Goals.{in-Some, in-None}
 
