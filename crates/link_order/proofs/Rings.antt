@@ -11,6 +11,7 @@ pub record IsPlace (first ahead room place : ℕ) : Type 0 where
   pub within : place < room
   pub round : (place ≡ first + ahead) ⊎ (place + room ≡ first + ahead)
 
+-- so many places behind the first there is a place
 a_place : (first ahead room : ℕ) → first < room → ahead ≤ room → (place : ℕ) × IsPlace first ahead room place
 a_place first ahead room starts fits =
     elim (cases_lt ahead (room - first)) [
@@ -44,6 +45,7 @@ nil_length [] = refl
 nil_length (x ∷ xs) = search rules
 
 module _ {X : Type 0} where
+  -- a ring holds as many items as it says
   pub length_around : (list : List X) (first count : ℕ) → count ≤ length list → length (around list first count) ≡ count
   unfolding around
   length_around list first count fits =
@@ -51,16 +53,19 @@ module _ {X : Type 0} where
       let enough : count ≤ length (drop first list ++ take first list) = omega (arith, whole) in
       length-take-le count (drop first list ++ take first list) enough
 
+  -- a ring of no items is the empty list
   pub around_none : (list : List X) (first : ℕ) → around list first 0 ≡ []
   unfolding around
   around_none list first = refl
 
+  -- what lies `i` places behind the oldest item, where that is no further than the last place
   at_once : (list : List X) (first count i place : ℕ) (d : X) → i < count → first < length list → place < length list → place ≡ first + i → get_or (around list first count) i d ≡ get_or list place d
   unfolding around
   at_once list first count i place d h starts lies e =
       let near : i < length (drop first list) = rw (length-drop first list) (omega arith) in
       rw (get_or-take count (drop first list ++ take first list) i d h, get_or-append (drop first list) (take first list) d i near, get_or-drop first list i d, e) refl
 
+  -- what lies there where it is further
   come_round : (list : List X) (first count i place : ℕ) (d : X) → i < count → count ≤ length list → first < length list → place + length list ≡ first + i → get_or (around list first count) i d ≡ get_or list place d
   unfolding around
   come_round list first count i place d h fits starts e =
@@ -69,7 +74,7 @@ module _ {X : Type 0} where
       let same : i - (length list - first) ≡ place = omega arith in
       rw (get_or-take count (drop first list ++ take first list) i d h, get_or-append_right (drop first list) (take first list) (length list - first) i d (length-drop first list) far, get_or-take first list (i - (length list - first)) d near, same) refl
 
-  -- what lies `i` places behind the oldest item
+  -- what lies `i` places behind the oldest item, wherever that is
   get_or_around : (list : List X) (room first count i place : ℕ) (d : X) → length list ≡ room → i < count → count ≤ room → first < room → IsPlace first i room place → get_or (around list first count) i d ≡ get_or list place d
   get_or_around list room first count i place d whole h fits starts is =
       let within : place < room = is.within in
@@ -78,6 +83,7 @@ module _ {X : Type 0} where
         | inr e ↦ come_round list first count i place d h (omega (arith, whole)) (omega (arith, whole)) (omega (arith, whole, e))
       ]
 
+  -- each item of a ring that was written to is where the list with the new item behind it has it
   written_at : (list : List X) (first count place k : ℕ) (x d : X) → count < length list → first < length list → IsPlace first count (length list) place → k < count + 1 →
       get_or (around (set list place x) first (count + 1)) k d ≡ get_or (around list first count ++ x ∷ []) k d
   written_at list first count place k x d fits starts is h =
@@ -111,6 +117,7 @@ module _ {X : Type 0} where
       same_lists _ _ (rw (there, length-append (around list first count) (x ∷ []), here) refl)
       (λ k d h. written_at list first count place k x d fits starts (record { within = within; round = round }) (rw there at h))
 
+  -- each item lies in the first place, or one place nearer behind the next one
   next_at : (list : List X) (first count next k : ℕ) (x d : X) → count < length list → first < length list → IsPlace first 1 (length list) next → k < count + 1 →
       get_or (around list first (count + 1)) k d ≡ get_or (get_or list first x ∷ around list next count) k d
   next_at list first count next zero x d fits starts is h =
@@ -164,6 +171,7 @@ module _ {X : Type 0} where
   around_dropped [] first count next some fits starts within round = absurd (omega (arith, starts))
   around_dropped (x ∷ xs) first count next some fits starts within round = ap (drop 1) (sym (around_next (x ∷ xs) first count next x some fits starts within round))
 
+  -- where there is no item nothing is dropped
   pub none_dropped : (list : List X) (first count : ℕ) → count ≤ 0 → around list first count ≡ drop 1 (around list first count)
   none_dropped list first count none =
       let e : count ≡ 0 = omega arith in
@@ -177,6 +185,13 @@ module _ {X : Type 0} where
       let p : (p : ℕ) × IsPlace first 1 (length list) p = a_place first 1 (length list) begins (omega arith) in
       let next : around list first count ≡ get_or list first x ∷ around list p.0 (count - 1) = around_next list first count p.0 x (omega arith) (omega (arith, whole)) begins p.1.within p.1.round in
       (around list p.0 (count - 1), ap (λ (q : Queue X). q.items) (sym view) ∙ next ∙ ap (λ y. y ∷ around list p.0 (count - 1)) (sym read))
+
+  -- and what lies behind it is all but the first
+  pub all_but_oldest : (queue : Queue X) (list : List X) (room first count : ℕ) (x : X) → record { room = room; items = around list first count } ≡ queue →
+      length list ≡ room → count ≤ room → first ≤ room - 1 → count ≢ 0 → x ≡ get_or list first x → queue.items ≡ x ∷ drop 1 queue.items
+  all_but_oldest queue list room first count x view whole fits starts some read =
+      let held : (rest : List X) × (queue.items ≡ x ∷ rest) = oldest queue list room first count x view whole fits starts some read in
+      held.1 ∙ ap (λ rest. x ∷ rest) (sym (ap (drop 1) held.1))
 
   -- a lent place leaves a ring as a ring is to be, whatever is left in it
   pub lent_fits : (queue : Queue X) (list : List X) (place room first count : ℕ) → record { room = room; items = around list first count } ≡ queue →

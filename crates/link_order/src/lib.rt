@@ -1,7 +1,7 @@
 //! Ordered links of bounded length, between the actors of the machine.
 #![tactic(auto)]
 
-ghost use Rattle.std.specs.Prelude.{◌≡◌, ◌≤◌, ◌↔◌, ◌++◌, ◌∷◌, ◌+◌, ◌<◌, ◌⊎◌, drop, [], List, length, IfOk, IfErr, OnOk, IsErr, MatchOption};
+ghost use Rattle.std.specs.Prelude.{◌≡◌, ◌≤◌, ◌↔◌, ◌++◌, ◌∷◌, ◌+◌, ◌<◌, ◌⊎◌, drop, [], List, length, IfOk, IfErr, IfSome, OnOk, IsErr, MatchOption};
 ghost use Rattle.std.specs.Borrow.{sem};
 ghost use Rattle.link_order.specs.Queue.{is_nil};
 ghost use Rattle.link_order.specs.Lent.{LendsPlace};
@@ -138,7 +138,8 @@ impl<T> Link<T> {
     /// The oldest item: none where the link is empty.
     #[tactic(auto, using(crate::proofs::Rings::around_none))]
     pub fn head(&self) -> Option<&T>
-        ensures { MatchOption result (self.now.items ≡ []) (λ item. (rest : List T) × (self.now.items ≡ item.now ∷ rest)) }
+        ensures item { MatchOption result (self.now.items ≡ []) (λ item. (rest : List T) × (self.now.items ≡ item.now ∷ rest)) }
+        ensures rest { IfSome result (λ item. self.now.items ≡ item.now ∷ drop 1 self.now.items) }
     {
         if self.count == 0 {
             return None;

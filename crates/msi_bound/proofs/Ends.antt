@@ -55,7 +55,8 @@ first_is (suc n) test t = by_test (test t) refl (first_is n test (t + 1))
 -- ---- the sums at the start and at the end
 
 module _ {R K : Type 0} where
-  owed_start : (riding : Riding R) (carrying : Carrying K) (limit : ℕ) (ids : List ℕ) → sum_by owed (map (node_start riding carrying limit) ids) ≡ 0
+  -- no core owes anything at the start
+  pub owed_start : (riding : Riding R) (carrying : Carrying K) (limit : ℕ) (ids : List ℕ) → sum_by owed (map (node_start riding carrying limit) ids) ≡ 0
   owed_start riding carrying limit [] = refl
   owed_start riding carrying limit (id ∷ ids) =
       let rest = owed_start riding carrying limit ids in
@@ -78,7 +79,7 @@ module _ {R K : Type 0} where
   done_base (Store w whole) riding cores n is = absurd (cc)
 
   -- a core whose program is done has paid with the instructions that retired
-  done_earned : (image : Contents) (riding : Riding R) (cores : ℕ) (ns : List (Node R K)) → list_all (λ (n : Node R K). is_done (need image n.core)) ns ≡ true → sum_by (earned image riding cores) ns ≡ (2 * cores + 4) * sum_by (λ (n : Node R K). n.core.count) ns
+  pub done_earned : (image : Contents) (riding : Riding R) (cores : ℕ) (ns : List (Node R K)) → list_all (λ (n : Node R K). is_done (need image n.core)) ns ≡ true → sum_by (earned image riding cores) ns ≡ (2 * cores + 4) * sum_by (λ (n : Node R K). n.core.count) ns
   done_earned image riding cores [] is = omega arith
   done_earned image riding cores (n ∷ ns) is =
       let here = both (is_done (need image n.core)) (list_all (λ (n : Node R K). is_done (need image n.core)) ns) is in

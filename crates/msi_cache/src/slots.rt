@@ -1,7 +1,7 @@
 //! The places in which messages lie while they are under way. A message is written where it is to lie, and
 //! read where it lies: only a rider that it really has is copied.
 ghost use Rattle.std.specs.Prelude.{◌≡◌};
-ghost use Rattle.msi_cache.specs.Messages.{message_seen, request_seen, response_seen};
+ghost use Rattle.msi_cache.specs.Messages.{message_seen, request_block, request_seen, response_block, response_seen};
 
 use crate::messages::{FromHome, Request, Response};
 use access_times::Rider;
@@ -58,6 +58,13 @@ impl<R: Rider> RequestSlot<R> {
                 self.rider = *rider;
             }
         }
+    }
+
+    /// The block that the request is about.
+    pub fn block(&self) -> u32
+        ensures { result ≡ request_block self.now }
+    {
+        self.bare.block()
     }
 
     /// The request that lies here, with its rider lent.
@@ -130,6 +137,13 @@ impl<R: Rider> ResponseSlot<R> {
                 self.rider = *rider;
             }
         }
+    }
+
+    /// The block that the response is about.
+    pub fn block(&self) -> u32
+        ensures { result ≡ response_block self.now }
+    {
+        self.bare.block()
     }
 
     /// The response that lies here, with its rider lent.

@@ -36,7 +36,8 @@ module _ {R K : Type 0} where
   nothing_shown b [] (x ∷ xs) messages e = absurd (cc)
   nothing_shown b (x ∷ xs) responses messages e = absurd (cc)
 
-  all_quiet : (riding : Riding R) (carrying : Carrying K) (s : State R K) (b d : ℕ) → links_empty s ≡ true → is_quiet (node_view riding b (node_at carrying s.nodes d)) ≡ true
+  -- where no link holds anything, nothing of a block is under way
+  pub all_quiet : (riding : Riding R) (carrying : Carrying K) (s : State R K) (b d : ℕ) → links_empty s ≡ true → is_quiet (node_view riding b (node_at carrying s.nodes d)) ≡ true
   all_quiet riding carrying s b d empty = by_place (le_or_lt (length s.nodes) d)
     where
       by_place : (length s.nodes ≤ d) ⊎ (d < length s.nodes) → is_quiet (node_view riding b (node_at carrying s.nodes d)) ≡ true

@@ -2,35 +2,28 @@
 use Rattle.std.proofs.Common.{◌≡◌, ◌∙◌, ap, refl, sym, subst, ℕ, ◌<◌, ◌≤◌, ◌==◌, Bool, true, false, nat_lt, List, [], ◌∷◌, length, inl, inr, ◌⊎◌, arith}
 use Rattle.std.specs.Prelude.{◌&&◌, if◌then◌else◌}
 use Rattle.std.proofs.lemmas.Bool.Decides.{nat_tests}
-use Rattle.std.proofs.lemmas.List.Sums.{AllPass-from_list_all}
 use Rattle.access_times.specs.Riding.{Riding, Carrying}
 use Rattle.rtr_types.specs.declared.TheConstants.{CORES_MAX}
-use Rattle.link_order.specs.Queue.{is_nil as no_items}
 use Rattle.msi_cache.specs.declared.copies.Line.{Line}
 use Rattle.msi_cache.specs.declared.copies.State.{State as LineState}
 use Rattle.msi_cache.specs.declared.copies.State.TheVariants.{I, M}
-use Rattle.msi_cache.specs.declared.messages.FromHome.{FromHome}
-use Rattle.msi_cache.specs.declared.messages.Request.{Request}
-use Rattle.msi_cache.specs.declared.messages.Response.{Response}
 use Rattle.msi_cache.specs.Lines.{line_for, can_read, can_write}
 use Rattle.msi_cache.specs.Table.{is_readable, is_writable}
 use Rattle.msi_directory.specs.Blocks.{entry_at}
 use Rattle.msi_directory.specs.declared.entries.Stage.{Stage}
 use Rattle.msi_directory.specs.declared.entries.Stage.TheVariants.{Unshared, Shared, Owned, Acks, Data}
 use Rattle.msi_protocol.specs.Phases.{StageFits, Out, Owner, role}
-use Rattle.msi_protocol.specs.Promises.{is_nil, is_quiet, settled}
+use Rattle.msi_protocol.specs.Promises.{settled}
 use Rattle.msi_protocol.proofs.Keeps.{one_writer_holds}
 use Rattle.msi_protocol.proofs.Quiet.{quiet_agrees}
-use Rattle.msi_state.specs.declared.actors.Mail.{Mail}
-use Rattle.msi_state.specs.declared.actors.Node.{Node}
-use Rattle.msi_state.specs.Bound.{are_links_empty}
 use Rattle.msi_state.specs.FinalMemory.{at_hand, at_hand_in}
-use Rattle.msi_state.specs.Sights.{line_state, asks_of, replies_of, signals_of}
-use Rattle.msi_state.specs.States.{State, node_at, no_node, all_done}
+use Rattle.msi_state.specs.Sights.{line_state}
+use Rattle.msi_state.specs.States.{State, node_at, all_done}
 use Rattle.msi_sound.specs.Sound.{Sound}
-use Rattle.msi_sound.specs.Views.{node_view, block_in}
-use Rattle.msi_sound.proofs.Blocks.{le_or_lt, past_view, there}
+use Rattle.msi_sound.specs.Views.{block_in}
+use Rattle.msi_sound.proofs.Blocks.{there}
 use Rattle.msi_progress.proofs.Ending.{links_left}
+use Rattle.msi_data.proofs.Final.{all_quiet}
 use Rattle.msi_machine.specs.Writers.{OneWriter}
 
 writable_seen : {R : Type 0} (b : ℕ) (line : Line R) → can_write line b ≡ is_writable (line_state b line)
@@ -56,23 +49,6 @@ module _ {R K : Type 0} where
       readable_seen b (line_for riding.fresh (node_at carrying s.nodes d).cache b)
       ∙ one_writer_holds (block_in riding carrying s b) (h.blocks b) c d (below c (length s.nodes) CORES_MAX lc h.cores) (below d (length s.nodes) CORES_MAX ld h.cores) apart (sym (writable_seen b (line_for riding.fresh (node_at carrying s.nodes c).cache b)) ∙ writes)
 
-  -- a node whose links are empty has nothing of a block under way
-  quiet_view : (riding : Riding R) (b : ℕ) (n : Node R K) → are_links_empty n ≡ true → is_quiet (node_view riding b n) ≡ true
-  quiet_view riding b n e = by_items n.requests.items n.responses.items n.messages.items e
-    where
-      by_items : (q : List (Mail (Request R) K)) (r : List (Mail (Response R) K)) (m : List (Mail (FromHome R) K)) → (no_items q && (no_items r && no_items m)) ≡ true → (is_nil (asks_of b q) && is_nil (replies_of b r) && is_nil (signals_of b m)) ≡ true
-      by_items [] [] [] e = refl
-      by_items [] [] (x ∷ m) e = absurd (cc)
-      by_items [] (x ∷ r) m e = absurd (cc)
-      by_items (x ∷ q) r m e = absurd (cc)
-
-  all_quiet : (riding : Riding R) (carrying : Carrying K) (s : State R K) (b : ℕ) → Sound riding carrying s → all_done s ≡ true → (d : ℕ) → is_quiet (node_view riding b (node_at carrying s.nodes d)) ≡ true
-  all_quiet riding carrying s b h done d = by_place (le_or_lt (length s.nodes) d)
-    where
-      by_place : (length s.nodes ≤ d) ⊎ (d < length s.nodes) → is_quiet (node_view riding b (node_at carrying s.nodes d)) ≡ true
-      by_place (inl past) = ap is_quiet (past_view riding carrying s.nodes b d past)
-      by_place (inr within) = quiet_view riding b (node_at carrying s.nodes d) (AllPass-from_list_all are_links_empty s.nodes (links_left riding carrying s h done) d (no_node carrying) within)
-
   pub ends_at_hand : (riding : Riding R) (carrying : Carrying K) (s : State R K) → Sound riding carrying s → all_done s ≡ true → (b : ℕ) → at_hand riding carrying s b ≡ true
   ends_at_hand riding carrying s h done b = by_stage (entry_at riding.fresh s.home b).stage refl
     where
@@ -94,5 +70,5 @@ module _ {R K : Type 0} where
           let known : o < CORES_MAX = subst StageFits is (h.blocks b).fits in
           let named : role (entry_at riding.fresh s.home b).stage o ≡ Owner = ap (λ (x : Stage). role x o) is ∙ owner_role o in
           let lo : o < length s.nodes = there riding carrying s.nodes (entry_at riding.fresh s.home b).stage b o ((h.blocks b).stands o known) (λ (out : role (entry_at riding.fresh s.home b).stage o ≡ Out). cc) in
-          let line : line_state b (line_for riding.fresh (node_at carrying s.nodes o).cache b) ≡ M = (quiet_agrees (block_in riding carrying s b) (h.blocks b) (λ d ld. all_quiet riding carrying s b h done d)).lines o known ∙ ap settled named in
+          let line : line_state b (line_for riding.fresh (node_at carrying s.nodes o).cache b) ≡ M = (quiet_agrees (block_in riding carrying s b) (h.blocks b) (λ d ld. all_quiet riding carrying s b d (links_left riding carrying s h done))).lines o known ∙ ap settled named in
           both (nat_lt o (length s.nodes)) (can_read (line_for riding.fresh (node_at carrying s.nodes o).cache b) b) (below_test o (length s.nodes) lo) (readable_seen b (line_for riding.fresh (node_at carrying s.nodes o).cache b) ∙ ap is_readable line)

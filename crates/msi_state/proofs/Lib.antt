@@ -4,3 +4,4 @@ pub mod Roomy
 pub mod Start
 pub mod Standings
 pub mod Found
+pub mod Served

@@ -3,6 +3,9 @@ ghost use Rattle.std.specs.Prelude.{◌≡◌, ◌<◌, ◌≤◌, ◌/◌, All,
 ghost use Rattle.access_times.specs.declared.TheConstants.{BLOCK_WORDS};
 ghost use Rattle.rtr_types.specs.declared.TheConstants.{CORES_MAX};
 ghost use Rattle.link_order.specs.Queue.{is_nil};
+ghost use Rattle.msi_cache.specs.Messages.{request_block, response_block};
+ghost use Rattle.msi_directory.specs.Blocks.{entries_after_request, entries_after_response, entry_at, has_room};
+ghost use Rattle.msi_directory.specs.Entries.{answer_riding, answer_to_request, answer_to_response, has_request_row, has_response_row};
 ghost use Rattle.msi_state.specs.declared.moves.Move.{Move};
 ghost use Rattle.msi_state.specs.FinalMemory.{at_hand, final_word};
 ghost use Rattle.msi_state.specs.Nodes.{instr_of};
@@ -16,7 +19,8 @@ use crate::needs::Standing;
 use crate::sending::deliver;
 use access_times::{BLOCK_WORDS, Carry, Clerk, Rider};
 use image_mem::Image;
-use msi_directory::Home;
+use msi_cache::{RequestSlot, ResponseSlot};
+use msi_directory::{Home, HomeAnswer};
 use rtr_types::{CORES_MAX, Instr};
 use rv_core::Core;
 use std::alloc::{AllocError, Global};
@@ -85,7 +89,7 @@ impl<R: Rider, K: Carry> Actors<R, K> {
         ensures { result ≡ head_free (node_at K.carrying self.now.state.nodes core).requests.items R.riding self.now.state.home }
     {
         match self.nodes[core as usize].requests.head() {
-            Some(mail) => self.home.can_take(&mail.item),
+            Some(mail) => self.home.is_free(mail.item.block()),
             None => false,
         }
     }
@@ -224,13 +228,15 @@ impl<R: Rider, K: Carry> Actors<R, K> {
         ensures state { self.new.state ≡ request_moved R.riding K.carrying self.old.state c }
         ensures rooms { self.new.rooms ≡ self.old.rooms }
     {
-        let Some(mail) = self.nodes[c as usize].requests.pop() else {
+        let Some(mail) = self.nodes[c as usize].requests.head() else {
             return;
         };
-        self.carry = self.carry.join(mail.carry);
         let block = mail.item.block();
-        let answer = self.home.on_request(c, mail.item);
-        deliver(self.nodes.as_mut_slice(), answer, block, self.carry);
+        self.carry = self.carry.join(mail.carry);
+        let answer = serve(&mut self.home, c, &mail.item);
+        self.nodes[c as usize].requests.drop_head();
+        let rider = self.home.rider(block);
+        deliver(self.nodes.as_mut_slice(), answer, block, rider, self.carry);
     }
 
     pub(crate) fn take_response(&mut self, c: u8)
@@ -242,14 +248,39 @@ impl<R: Rider, K: Carry> Actors<R, K> {
         ensures state { self.new.state ≡ response_moved R.riding K.carrying self.old.state c }
         ensures rooms { self.new.rooms ≡ self.old.rooms }
     {
-        let Some(mail) = self.nodes[c as usize].responses.pop() else {
+        let Some(mail) = self.nodes[c as usize].responses.head() else {
             return;
         };
-        self.carry = self.carry.join(mail.carry);
         let block = mail.item.block();
-        let answer = self.home.on_response(c, mail.item);
-        deliver(self.nodes.as_mut_slice(), answer, block, self.carry);
+        self.carry = self.carry.join(mail.carry);
+        let answer = collect(&mut self.home, c, &mail.item);
+        self.nodes[c as usize].responses.drop_head();
+        let rider = self.home.rider(block);
+        deliver(self.nodes.as_mut_slice(), answer, block, rider, self.carry);
     }
+}
+
+/// The home takes the request that lies here. The rider that goes with the answer is its block's.
+fn serve<R: Rider>(home: &mut Home<R>, from: u8, request: &RequestSlot<R>) -> HomeAnswer<()>
+    requires from { from < CORES_MAX }
+    requires within { request_block request.now < length home.old.entries }
+    requires room { IsTrue (has_room home.old.rooms (request_block request.now)) }
+    requires row { IsTrue (has_request_row (entry_at R.riding.fresh home.old.entries (request_block request.now)).stage from request.now) }
+    ensures entries { home.new ≡ record home.old { entries = entries_after_request R.riding home.old.entries from request.now } }
+    ensures answer { answer_riding (entry_at R.riding.fresh home.new.entries (request_block request.now)).rider result ≡ answer_to_request R.riding.absorbed (entry_at R.riding.fresh home.old.entries (request_block request.now)) from request.now }
+{
+    home.serve(from, request.open())
+}
+
+/// The home takes the response that lies here. The rider that goes with the answer is its block's.
+fn collect<R: Rider>(home: &mut Home<R>, from: u8, response: &ResponseSlot<R>) -> HomeAnswer<()>
+    requires from { from < CORES_MAX }
+    requires within { response_block response.now < length home.old.entries }
+    requires row { IsTrue (has_response_row (entry_at R.riding.fresh home.old.entries (response_block response.now)).stage from response.now) }
+    ensures entries { home.new ≡ record home.old { entries = entries_after_response R.riding home.old.entries from response.now } }
+    ensures answer { answer_riding (entry_at R.riding.fresh home.new.entries (response_block response.now)).rider result ≡ answer_to_response R.riding.absorbed (entry_at R.riding.fresh home.old.entries (response_block response.now)) from response.now }
+{
+    home.collect(from, response.open())
 }
 
 /// Makes room for the block of each request link's head.

@@ -7,21 +7,30 @@ ghost use Rattle.msi_state.specs.States.{node_start};
 ghost use Rattle.msi_state.specs.Standings.{standing_of};
 ghost use Rattle.msi_state.specs.Nodes.{next_instr, instr_of, allows, access_of, rider_at, carry_after, node_accessing, node_local, node_trying, event_trying, node_working, event_working, node_receiving, event_receiving, node_taken_in, rider_of_event, may_access, can_receive_in, Tells};
 
-use crate::needs::{Standing, take};
-use crate::sending::post;
+use crate::needs::{Standing, hear};
 use access_times::{BLOCK_WORDS, Carry, Clerk, Rider};
 use image_mem::Image;
 use link_order::Link;
-use msi_cache::{Cache, FromHome, Request, Response};
+use msi_cache::{Cache, FromHome, FromHomeSlot, RequestSlot, ResponseSlot};
 use rtr_types::{Access, CORES_MAX, Instr, Kind};
 use rv_core::{Core, Need};
 use std::alloc::{AllocError, Global};
 
 /// What is on a link: a message, and its sender's carry as it was once the sender had done all else.
-#[derive(Clone, Copy)]
+#[derive(Drop)]
 pub struct Mail<T, K> {
     pub item: T,
     pub carry: K,
+}
+
+/// A place on a link that was never written.
+impl<T: Default, K: Carry> Default for Mail<T, K> {
+    fn default() -> Self {
+        Mail {
+            item: T::default(),
+            carry: K::none(),
+        }
+    }
 }
 
 /// A core with its carry and its cache, and its three links: requests to home, responses to home and
@@ -31,9 +40,9 @@ pub struct Node<R, K> {
     pub core: Core,
     pub carry: K,
     pub cache: Cache<R>,
-    pub requests: Link<Mail<Request<R>, K>>,
-    pub responses: Link<Mail<Response<R>, K>>,
-    pub messages: Link<Mail<FromHome<R>, K>>,
+    pub requests: Link<Mail<RequestSlot<R>, K>>,
+    pub responses: Link<Mail<ResponseSlot<R>, K>>,
+    pub messages: Link<Mail<FromHomeSlot<R>, K>>,
 }
 
 impl<R: Rider, K: Carry> Node<R, K> {
@@ -111,15 +120,19 @@ impl<R: Rider, K: Carry> Node<R, K> {
         ensures told { let taken = node_taken_in self.old.messages.items R.riding K.carrying self.old in Tells C.told_local C.told_touch (event_receiving image.now R.riding K.carrying self.old) (carry_after K.carrying taken) clerk.old (rider_of_event R.riding (event_receiving image.now R.riding K.carrying self.old) taken) clerk.new (rider_of_event R.riding (event_receiving image.now R.riding K.carrying self.old) self.new) }
         ensures renewed { standing.new ≡ standing_of image.now self.new }
     {
-        let mail = self.messages.pop()?;
+        let mail = self.messages.head()?;
+        let message = mail.item.open();
         self.carry = self.carry.join(mail.carry);
-        let is_data = matches!(&mail.item, FromHome::BlockData { .. });
-        let answer = take(&mut self.cache, mail.item, &mut standing.waits);
+        if let Some(response) = self.cache.answer(message) {
+            let reply = self.responses.push_place();
+            reply.item.put(response);
+            reply.carry = self.carry;
+        }
+        let is_data = matches!(message, FromHome::BlockData { .. });
+        hear(&mut self.cache, message, &mut standing.waits);
+        self.messages.drop_head();
         if is_data {
             return self.retire_waiting(image, standing, clerk);
-        }
-        if let Some(response) = answer {
-            post(&mut self.responses, response, self.carry);
         }
         None
     }
@@ -222,8 +235,10 @@ impl<R: Rider, K: Carry> Node<R, K> {
         if self.cache.allows(block, kind) {
             return Some(self.retire_access(image, word, kind, standing, clerk));
         }
-        let request = self.cache.want(block, kind);
-        post(&mut self.requests, request, self.carry);
+        let mail = self.requests.push_place();
+        mail.item.put(self.cache.wanted(block, kind));
+        mail.carry = self.carry;
+        self.cache.ask(block, kind);
         standing.waits = self.cache.waits();
         None
     }

@@ -2,13 +2,13 @@
 ghost use Rattle.std.specs.Prelude.{◌≡◌, ◌&&◌, IsTrue, not};
 ghost use Rattle.std.specs.List.{list_all};
 ghost use Rattle.rv_core.specs.Steps.{is_done};
-ghost use Rattle.msi_cache.specs.Lines.{answer, has_row, line_for, lines_after, waits};
-ghost use Rattle.msi_cache.specs.Messages.{block_of, signal};
+ghost use Rattle.msi_cache.specs.Lines.{has_row, line_for, lines_after, waits};
+ghost use Rattle.msi_cache.specs.Messages.{block_of, message_seen, signal};
 ghost use Rattle.msi_state.specs.Standings.{ends_wait, standing_with};
 
 use access_times::Rider;
 use image_mem::Image;
-use msi_cache::{Cache, FromHome, Response};
+use msi_cache::{Cache, FromHome};
 use rv_core::{Core, Need};
 use rv_decode::Op;
 
@@ -47,8 +47,8 @@ pub(crate) fn are_done(standings: &[Standing]) -> bool
 }
 
 // Whether such a message ends the wait of a line that expects it.
-fn ends_wait<R>(message: &FromHome<R>) -> bool
-    ensures { result ≡ ends_wait (signal message.now) }
+fn ends_wait<R>(message: FromHome<&R>) -> bool
+    ensures { result ≡ ends_wait (signal message.entry) }
 {
     matches!(
         message,
@@ -58,22 +58,15 @@ fn ends_wait<R>(message: &FromHome<R>) -> bool
 
 /// The cache takes a message from home, and what was kept of its waiting is renewed.
 #[tactic(auto, using(crate::proofs::Standings::waits_kept))]
-pub(crate) fn take<R: Rider>(
-    cache: &mut Cache<R>,
-    message: FromHome<R>,
-    waiting: &mut bool,
-) -> Option<Response<R>>
-    requires row { IsTrue (has_row (line_for R.riding.fresh cache.old (block_of message)) message) }
+pub(crate) fn hear<R: Rider>(cache: &mut Cache<R>, message: FromHome<&R>, waiting: &mut bool)
+    requires row { IsTrue (has_row (line_for R.riding.fresh cache.old (block_of (message_seen message))) (message_seen message)) }
     requires waits { waiting.old ≡ waits cache.old }
-    ensures answer { result ≡ answer (line_for R.riding.fresh cache.old (block_of message)) message }
-    ensures lines { cache.new ≡ lines_after R.riding cache.old message }
+    ensures lines { cache.new ≡ lines_after R.riding cache.old (message_seen message.entry) }
     ensures waits { waiting.new ≡ waits cache.new }
 {
+    cache.hear(message);
     // no other message changes whether a line waits
-    let may_end = ends_wait(&message);
-    let answer = cache.on_home(message);
-    if may_end {
+    if ends_wait(message) {
         *waiting = cache.waits();
     }
-    answer
 }

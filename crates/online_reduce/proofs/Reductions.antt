@@ -33,7 +33,8 @@ use Rattle.online_reduce.proofs.Step.{Next, next_of, covering_into}
 
 -- ---- the start
 
-no_count : (core : ℕ) → slice_index_or (replicate CORES_MAX no_counts) core no_counts ≡ no_counts
+-- and it is every core's at the start
+pub no_count : (core : ℕ) → slice_index_or (replicate CORES_MAX no_counts) core no_counts ≡ no_counts
 no_count core = by (order core CORES_MAX)
   where
     order : (m n : ℕ) → (m < n) ⊎ (n ≤ m)
@@ -43,7 +44,8 @@ no_count core = by (order core CORES_MAX)
     by (inl lt) = get_or-replicate CORES_MAX core no_counts no_counts lt
     by (inr past) = get_or_past (replicate CORES_MAX no_counts) core no_counts (omega (arith, length-replicate CORES_MAX no_counts))
 
-none_counted : (i : ℕ) → slice_index no_counts i ≡ 0
+-- the clock that knows of nothing counts nothing
+pub none_counted : (i : ℕ) → slice_index no_counts i ≡ 0
 none_counted i = by (order i CORES_MAX)
   where
     order : (m n : ℕ) → (m < n) ⊎ (n ≤ m)

@@ -32,7 +32,7 @@ use Rattle.msi_times.specs.ExactTimes.{FindsExactTimes, HaveExactClocks}
 use Rattle.msi_times.specs.ExactTimes as times
 use Rattle.msi_times.specs.Retirements.{IsExactRider, MachineStandsFor, Retirement, noted, with_event}
 use Rattle.msi_times.specs.TimedSteps.{StepFinds, core_of_event, times_parts, with_step}
-use Rattle.online_reduce.proofs.Reductions.{begin_law}
+use Rattle.online_reduce.proofs.Reductions.{begin_law, no_count, none_counted}
 use Rattle.online_reduce.specs.Exact.{AreExactFor}
 use Rattle.online_reduce.specs.Reduced.{Reduced, clock_of, count_of, counted, edges_of, unreduced}
 use Rattle.machine_run.proofs.Turns.{Steps, numbered, stands_next, stands_start}
@@ -44,19 +44,8 @@ use Rattle.recorder.specs.Standing.{RecordsAt, Reduces, no_carrying}
 
 -- ---- the start
 
-none_counted : (cores core : ℕ) → count_of (unreduced cores) core ≡ 0
-none_counted cores core = by (order core CORES_MAX)
-  where
-    order : (m n : ℕ) → (m < n) ⊎ (n ≤ m)
-    order m n = grind arith
-
-    zero_at : (i : ℕ) → (i < CORES_MAX) ⊎ (CORES_MAX ≤ i) → slice_index no_counts i ≡ 0
-    zero_at i (inl lt) = get_or-replicate {A = ℕ} CORES_MAX i 0 0 lt
-    zero_at i (inr past) = get_or_past no_counts i 0 (omega (arith, length-replicate {A = ℕ} CORES_MAX 0))
-
-    by : (core < CORES_MAX) ⊎ (CORES_MAX ≤ core) → slice_index (slice_index_or (replicate CORES_MAX no_counts) core no_counts) core ≡ 0
-    by (inl lt) = ap (λ (c : Clock). slice_index c core) (get_or-replicate CORES_MAX core no_counts no_counts lt) ∙ zero_at core (inl lt)
-    by (inr past) = ap (λ (c : Clock). slice_index c core) (get_or_past (replicate CORES_MAX no_counts) core no_counts (omega (arith, past, length-replicate CORES_MAX no_counts))) ∙ zero_at core (inr past)
+none_before : (cores core : ℕ) → count_of (unreduced cores) core ≡ 0
+none_before cores core = ap (λ (c : Clock). slice_index c core) (no_count core) ∙ none_counted core
 
 -- before the first choice
 pub records_start : (image : Contents) (params : Params) (schedule : Choices) (s : State Times NoCarry) (clerk : Noted) → Fits params → s ≡ state_start times_riding no_carrying image params.cores params.limit →
@@ -70,7 +59,7 @@ records_start image params schedule s clerk fits is opening unmade none = record
   reduces = subst (λ (r : Reduced). Reduces [] [] r []) (sym unmade) (record {
     accesses_are = refl;
     exact = tt;
-    counts = λ core lt. none_counted params.cores core;
+    counts = λ core lt. none_before params.cores core;
     reduction = begin_law params.cores fits.cores;
   });
 }

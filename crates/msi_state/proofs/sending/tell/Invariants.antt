@@ -1,7 +1,7 @@
 use Rattle.std.proofs.Common.{◌≡◌, ◌≤◌, ◌<◌, ℕ, List, length, slice_index_or, true}
 use Rattle.rtr_types.specs.CoreSets.{has}
 use Rattle.msi_state.specs.Steps.{nodes_told}
-use Rattle.msi_cache.specs.declared.messages.FromHome.TheVariants.{Inv}
+use Rattle.msi_cache.specs.Messages.{message_seen}
 use Rattle.msi_state.proofs.sending.tell.Given as goal
 
 pub record Told {X : Type 0} (room : ℕ → X → Type 0) (nodes so_far : List X) (n : ℕ) : Type 0 where
@@ -9,4 +9,4 @@ pub record Told {X : Type 0} (room : ℕ → X → Type 0) (nodes so_far : List 
   pub room_above : (k : ℕ) (d : X) → n ≤ k → k < length nodes → room k (slice_index_or nodes k d)
 
 abbrev pub invariant-loop-n : goal.invariant-loop-n
-invariant-loop-n g l = Told (λ k n. has l.set k ≡ true → length n.messages.items < n.messages.room) l.nodes (nodes_told g.K.Carry.carrying l.set (Inv l.block) l.carry l.n l.fn.nodes) l.n
+invariant-loop-n g l = Told (λ k n. has l.set k ≡ true → length n.messages.items < n.messages.room) l.nodes (nodes_told g.K.Carry.carrying l.set (message_seen l.message) l.carry l.n l.fn.nodes) l.n
