@@ -226,3 +226,72 @@ found_more n a t = ap (λ (k : ℕ). candidates k a t) (let e : n + 1 ≡ suc n 
 
 pub room_more : (n : ℕ) (a : Access) (t : Times) → n < CORES_MAX → length (candidates n a t) + length (candidates_from a t n) ≤ EDGES_MAX
 room_more n a t lt = omega (arith, sym (length-append (candidates n a t) (candidates_from a t n)), ap length (found_more n a t), found_few (n + 1) a t (omega arith))
+
+-- ---- none, or the one of a load
+
+pub none_more : (n : ℕ) (a : Access) (t : Times) → candidates n a t ≡ [] → candidates_from a t n ≡ [] → candidates (n + 1) a t ≡ []
+none_more n a t before here = found_more n a t ∙ rw (before, here) refl
+
+reads_none : (a : Access) (core : ℕ) (r : Option (ℕ × Clock)) → is_write a.kind ≡ false → read_from a core r ≡ None
+reads_none a core None loads = refl
+reads_none a core (Some r) loads = rw loads refl
+
+load_from : (a : Access) (t : Times) (core : ℕ) (w : Option (Instr × Clock)) → is_write a.kind ≡ false → write_at t (a.word % BLOCK_WORDS) ≡ w →
+    candidates_from a t core ≡ option_to_list (write_from a core w) ++ []
+load_from a t core w loads noted =
+    ap (λ (v : Option (Instr × Clock)). option_to_list (write_from a core v) ++ option_to_list (read_from a core (read_at t (a.word % BLOCK_WORDS) core))) noted
+    ∙ ap (λ (v : Option Source). option_to_list (write_from a core w) ++ option_to_list v) (reads_none a core (read_at t (a.word % BLOCK_WORDS) core) loads)
+
+not_by : (a : Access) (core : ℕ) (w : Instr × Clock) → nat_eq w.0.core core && not (nat_eq core a.at.core) ≡ false → write_from a core (Some w) ≡ None
+not_by a core w e = by (nat_eq w.0.core core && not (nat_eq core a.at.core)) e
+  where
+    by : (b : Bool) → b ≡ false → (if b then Some (let s : Source = record { at = w.0; clock = w.1 } in s) else None) ≡ None
+    by false f = refl
+    by true f = absurd cc
+
+-- a load has no candidate where the word's last write is of no other core
+pub load_none : (n : ℕ) (a : Access) (t : Times) (w : Option (Instr × Clock)) → is_write a.kind ≡ false → write_at t (a.word % BLOCK_WORDS) ≡ w → ((k : ℕ) → k < n → write_from a k w ≡ None) → candidates n a t ≡ []
+unfolding candidates
+load_none zero a t w loads noted none = refl
+load_none (suc n) a t w loads noted none =
+    ap (λ (xs : List Source). xs ++ candidates_from a t n) (load_none n a t w loads noted (λ k lt. none k (omega arith)))
+    ∙ load_from a t n w loads noted
+    ∙ ap (λ (v : Option Source). option_to_list v ++ []) (none n (omega arith))
+
+pub load_unwritten : (n : ℕ) (a : Access) (t : Times) → is_write a.kind ≡ false → write_at t (a.word % BLOCK_WORDS) ≡ None → candidates n a t ≡ []
+load_unwritten n a t loads noted = load_none n a t None loads noted (λ k lt. refl)
+
+pub load_own : (n : ℕ) (a : Access) (t : Times) (w : Instr × Clock) → is_write a.kind ≡ false → write_at t (a.word % BLOCK_WORDS) ≡ Some w → ((w.0.core < n) × (w.0.core ≢ a.at.core) → ⊥) → candidates n a t ≡ []
+load_own n a t w loads noted own = load_none n a t (Some w) loads noted (λ k lt. not_by a k w (by (nat_eq w.0.core k && not (nat_eq k a.at.core)) k lt refl))
+  where
+    by : (b : Bool) (k : ℕ) → k < n → nat_eq w.0.core k && not (nat_eq k a.at.core) ≡ b → b ≡ false
+    by false k lt e = refl
+    by true k lt e =
+        let both = and_true (nat_eq w.0.core k) (not (nat_eq k a.at.core)) e in
+        let one : nat_eq w.0.core k ≡ true = both.0 in
+        let two : not (nat_eq k a.at.core) ≡ true = both.1 in
+        let is : w.0.core ≡ k = grind (arith, nat_tests) in
+        let differ : k ≢ a.at.core = grind (arith, nat_tests) in
+        absurd (own (omega arith, λ (f : w.0.core ≡ a.at.core). differ (sym is ∙ f)))
+
+-- and else it is the one
+pub load_one : (n : ℕ) (a : Access) (t : Times) (s : Source) → is_write a.kind ≡ false → write_at t (a.word % BLOCK_WORDS) ≡ Some (s.at, s.clock) → s.at.core < n → s.at.core ≢ a.at.core → candidates n a t ≡ s ∷ []
+unfolding candidates
+load_one zero a t s loads noted lt other = absurd (omega arith)
+load_one (suc n) a t s loads noted lt other = by (λ below. load_one n a t s loads noted below other) (split s.at.core n)
+  where
+    split : (i j : ℕ) → (i < j) ⊎ (j ≤ i)
+    split i j = grind arith
+
+    by : (s.at.core < n → candidates n a t ≡ s ∷ []) → (s.at.core < n) ⊎ (n ≤ s.at.core) → candidates n a t ++ candidates_from a t n ≡ s ∷ []
+    by before (inl below) =
+        let differ : s.at.core ≢ n = omega arith in
+        let none : write_from a n (Some (s.at, s.clock)) ≡ None = not_by a n (s.at, s.clock) (grind (arith, nat_tests)) in
+        ap (λ (xs : List Source). xs ++ candidates_from a t n) (before below)
+        ∙ ap (λ (xs : List Source). s ∷ xs) (load_from a t n (Some (s.at, s.clock)) loads noted ∙ ap (λ (v : Option Source). option_to_list v ++ []) none)
+    by before (inr past) =
+        let e : s.at.core ≡ n = omega arith in
+        let none : candidates n a t ≡ [] = load_none n a t (Some (s.at, s.clock)) loads noted (λ k lt. not_by a k (s.at, s.clock) (let differ : s.at.core ≢ k = omega arith in grind (arith, nat_tests))) in
+        ap (λ (xs : List Source). xs ++ candidates_from a t n) none
+        ∙ load_from a t n (Some (s.at, s.clock)) loads noted
+        ∙ ap (λ (v : Option Source). option_to_list v ++ []) (wrote_back a n s e (λ f. other (e ∙ f)))

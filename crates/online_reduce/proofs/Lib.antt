@@ -12,3 +12,4 @@ pub mod Rises
 pub mod Reductions
 pub mod Retired
 pub mod Held
+pub mod Touched

@@ -1,5 +1,5 @@
 -- What the two retirements leave, from the parts that the code has.
-use Rattle.std.proofs.Common.{◌≡◌, ◌≢◌, ℕ, ◌<◌, ◌≤◌, List, length, get_or, refl, ◌∙◌, ap, arith}
+use Rattle.std.proofs.Common.{◌≡◌, ◌≢◌, ℕ, ◌<◌, ◌≤◌, List, [], length, get_or, refl, sym, ◌∙◌, ap, arith}
 use Rattle.std.specs.Prelude.{All, map, slice_set}
 use Rattle.std.specs.List.{filter}
 use Rattle.std.proofs.lemmas.List.{get_or_default}
@@ -29,15 +29,14 @@ cores_fit n a t found few is =
     All-same (λ (s : Source). s.at.core < CORES_MAX) found (candidates n a t) is
     (All-weaker (λ (s : Source). (s.at.core < n) × (s.at.core ≢ a.at.core)) (λ (s : Source). s.at.core < CORES_MAX) (λ s q. let lt = q.0 in omega arith) (candidates n a t) (other_cores n a t))
 
-pub edges_pair : (n : ℕ) (a : Access) (t : Times) (before : Clock) (found : List Source) (edges : List Edge) → a.at.core < n → found ≡ candidates n a t → edges ≡ edges_into a.at before found →
-    All (λ (e : Edge). IsPair n e.from.core e.to.core) edges
+pub sources_pair : (m n : ℕ) (a : Access) (t : Times) (found : List Source) → m ≡ n → a.at.core < n → found ≡ candidates n a t → All (λ (s : Source). IsPair m s.at.core a.at.core) found
+sources_pair m n a t found same lt is =
+    All-same (λ (s : Source). IsPair m s.at.core a.at.core) found (candidates n a t) is
+    (All-weaker (λ (s : Source). (s.at.core < n) × (s.at.core ≢ a.at.core)) (λ (s : Source). IsPair m s.at.core a.at.core) (λ s q. (let below = q.0 in record { source = omega arith; target = omega arith; differ = q.1 })) (candidates n a t) (other_cores n a t))
+
+pub no_edges : (n : ℕ) (r : Reduced) (a : Access) (t : Times) → n ≡ r.cores → candidates n a t ≡ [] → [] ≡ edges_of r a t
 unfolding edges_into
-edges_pair n a t before found edges lt is given =
-    All-same (λ (e : Edge). IsPair n e.from.core e.to.core) edges (map (edge_to a.at) (filter (λ (s : Source). is_kept before found s.at) found)) given
-    (All-map (λ (e : Edge). IsPair n e.from.core e.to.core) (edge_to a.at) (filter (λ (s : Source). is_kept before found s.at) found)
-    (All-filter (λ (s : Source). is_kept before found s.at) (λ (s : Source). IsPair n s.at.core a.at.core) found
-    (All-same (λ (s : Source). IsPair n s.at.core a.at.core) found (candidates n a t) is
-    (All-weaker (λ (s : Source). (s.at.core < n) × (s.at.core ≢ a.at.core)) (λ (s : Source). IsPair n s.at.core a.at.core) (λ s q. record { source = q.0; target = lt; differ = q.1 }) (candidates n a t) (other_cores n a t)))))
+no_edges n r a t same none = ap (edges_into a.at (clock_of r a.at.core)) (sym none ∙ ap (λ (k : ℕ). candidates k a t) same)
 
 -- ---- the state after
 

@@ -2,9 +2,9 @@
 use Rattle.std.proofs.Common.{◌≡◌, ◌≢◌, ℕ, zero, suc, ◌+◌, ◌<◌, ◌≤◌, ◌⊎◌, Bool, true, false, ◌&&◌, List, [], ◌∷◌, ◌++◌, length, take, get_or, refl, sym, ap, ◌∙◌, inl, inr, arith}
 use Rattle.std.specs.Prelude.{map, slice_index_or, slice_set}
 use Rattle.std.specs.List.{list_all}
-use Rattle.std.proofs.lemmas.List.{map-set, take_more_set, length-map, length-set, length_push, get_or-set_same, get_or-set_other}
+use Rattle.std.proofs.lemmas.List.{map-set, take_all, take_more_set, length-map, length-set, length_push, get_or-set_same, get_or-set_other}
 use Rattle.std.proofs.lemmas.List.Folds.{list_all-append, list_all_at}
-use Rattle.std.proofs.lemmas.List.Sums.{fold_more}
+use Rattle.std.proofs.lemmas.List.Sums.{fold-append}
 use Rattle.std.proofs.Math.Seq.{map-set_same}
 use Rattle.std.proofs.lemmas.Bool.Decides.{nat_tests}
 use Rattle.conflict_edge.proofs.History.{and_true}
@@ -40,6 +40,10 @@ made_more before rooms i old new within is kept has made = record {
   where
     both : (a b : Bool) → a ≡ true → b ≡ true → (a && (b && true)) ≡ true
     both a b p q = rw (p, q) refl
+
+-- all lists were gone over
+pub all_made : (before rooms : List PairRoom) (i : ℕ) → length rooms ≤ i → Made before rooms i → list_all is_roomy rooms ≡ true
+all_made before rooms i past made = ap (list_all is_roomy) (sym (take_all i rooms past)) ∙ made.roomy
 
 -- a list without room: not all have it, before and after
 pub none_made : (before rooms : List PairRoom) (i : ℕ) (old new : PairRoom) → i < length rooms → length rooms ≡ length before → old ≡ get_or rooms i old → new ≡ old → is_roomy old ≡ false → Made before rooms i →
@@ -87,19 +91,31 @@ room_left rooms i n old new e within is more kept had k d lt = by (cases k i)
         let was = had k d (omega (arith, lt, length-set rooms i new)) in
         omega (arith, was, ap (λ (r : PairRoom). length r.edges) there, ap (λ (r : PairRoom). r.room) there)
 
+-- fewer are to come
+pub room_same : (rooms : List PairRoom) (n m : ℕ) → m ≤ n → HaveRoom rooms n → HaveRoom rooms m
+room_same rooms n m le had k d lt = let was = had k d lt in omega arith
+
+-- all still have room, where the changed one has
+pub still_roomy : (rooms : List PairRoom) (i : ℕ) (new : PairRoom) → list_all is_roomy rooms ≡ true → is_roomy new ≡ true → list_all is_roomy (slice_set rooms i new) ≡ true
+still_roomy [] i new all has = all
+still_roomy (r ∷ rooms) zero new all has = rw (has, (and_true (is_roomy r) (list_all is_roomy rooms) all).1) refl
+still_roomy (r ∷ rooms) (suc i) new all has =
+    let both = and_true (is_roomy r) (list_all is_roomy rooms) all in
+    rw (both.0, still_roomy rooms i new both.1 has) refl
+
 -- one more edge is put at the end of its pair's list
-pub added : (cores : ℕ) (lists : List (List (ℕ × ℕ))) (edges : List Edge) (n place : ℕ) (d : Edge) (rooms : List PairRoom) (old new : PairRoom) → n < length edges →
-    place ≡ pair_place cores (get_or edges n d).from.core (get_or edges n d).to.core → place < length rooms → old ≡ get_or rooms place old → new.edges ≡ old.edges ++ counts (get_or edges n d) ∷ [] →
-    map edges_in rooms ≡ with_edges cores lists (take n edges) →
-    map edges_in (slice_set rooms place new) ≡ with_edges cores lists (take (n + 1) edges)
+pub added : (cores : ℕ) (lists : List (List (ℕ × ℕ))) (edges : List Edge) (place : ℕ) (e : Edge) (rooms : List PairRoom) (old new : PairRoom) →
+    place ≡ pair_place cores e.from.core e.to.core → place < length rooms → old ≡ get_or rooms place old → new.edges ≡ old.edges ++ counts e ∷ [] →
+    map edges_in rooms ≡ with_edges cores lists edges →
+    map edges_in (slice_set rooms place new) ≡ with_edges cores lists (edges ++ e ∷ [])
 unfolding with_edges
-added cores lists edges n place d rooms old new lt at within is more was =
+added cores lists edges place e rooms old new at within is more was =
     map-set edges_in rooms place new
     ∙ ap (λ (es : List (ℕ × ℕ)). slice_set (map edges_in rooms) place es)
-    (more ∙ ap (λ (es : List (ℕ × ℕ)). es ++ counts (get_or edges n d) ∷ []) (ap edges_in is ∙ sym (map-get rooms place old within)))
-    ∙ ap (λ (p : ℕ). slice_set (map edges_in rooms) p (slice_index_or (map edges_in rooms) p [] ++ counts (get_or edges n d) ∷ [])) at
-    ∙ ap (λ (ls : List (List (ℕ × ℕ))). with_edge cores ls (get_or edges n d)) was
-    ∙ sym (fold_more (with_edge cores) lists edges n d lt)
+    (more ∙ ap (λ (es : List (ℕ × ℕ)). es ++ counts e ∷ []) (ap edges_in is ∙ sym (map-get rooms place old within)))
+    ∙ ap (λ (p : ℕ). slice_set (map edges_in rooms) p (slice_index_or (map edges_in rooms) p [] ++ counts e ∷ [])) at
+    ∙ ap (λ (ls : List (List (ℕ × ℕ))). with_edge cores ls e) was
+    ∙ sym (fold-append (with_edge cores) lists edges (e ∷ []))
 
 pub length-added : (cores : ℕ) (lists : List (List (ℕ × ℕ))) (edges : List Edge) → length (with_edges cores lists edges) ≡ length lists
 unfolding with_edges

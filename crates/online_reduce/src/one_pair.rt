@@ -49,13 +49,16 @@ impl PairList {
         self.edges.reserve(EDGES_MAX)
     }
 
-    /// Puts an edge at the end: the source's count, and the target's.
-    pub(crate) fn push(&mut self, from: u32, to: u32)
+    /// Puts an edge at the end: the source's count, and the target's. Answers whether there is still
+    /// room for all edges that one access may get.
+    pub(crate) fn push(&mut self, from: u32, to: u32) -> bool
         requires { length self.old.edges < self.old.room }
         ensures edges { self.new.edges ≡ self.old.edges ++ (from, to) ∷ [] }
         ensures room { self.new.room ≡ self.old.room }
+        ensures roomy { result ≡ is_roomy self.new }
     {
         self.edges.push_reserved((from, to));
+        self.has_room()
     }
 
     /// The edges.

@@ -1,11 +1,16 @@
 //! The edges of each pair of cores.
 ghost use Rattle.std.specs.Prelude.{◌≡◌, ◌≤◌, [], All, IfOk, IsTrue, OnErr, OnOk, length, replicate};
 ghost use Rattle.rtr_types.specs.Pairs.{IsPair, pair_count};
+ghost use Rattle.rtr_types.specs.declared.TheConstants.{CORES_MAX};
 ghost use Rattle.online_reduce.specs.Lists.{with_edges};
+ghost use Rattle.online_reduce.specs.Rule.{edges_into};
 ghost use Rattle.online_reduce.specs.declared.TheConstants.{EDGES_MAX};
 
 use crate::one_pair::PairList;
-use rtr_types::{Edge, Items, pair_at, pair_count};
+use crate::rule::is_kept;
+use crate::sources::Source;
+use clock_core::Clock;
+use rtr_types::{Instr, Items, pair_at, pair_count};
 use std::alloc::{AllocError, Global};
 use std::marker::Model;
 
@@ -16,17 +21,21 @@ pub(crate) struct PairLists {
     lists: Vec<PairList>,
     /// Empty, with room for all lists, so that they are handed out without taking memory.
     finished: Vec<Items<(u32, u32)>>,
+    /// Set only where each list has room for the edges of one more access, so that this is looked up
+    /// once and not at each step of a machine.
+    known_roomy: bool,
 }
 
 impl Model for PairLists {
-    ghost use Rattle.std.specs.Prelude.{◌≡◌, ◌≤◌, [], vec_len, vec_capacity};
-    ghost use Rattle.online_reduce.specs.Lists.{PairRooms, seen_as};
+    ghost use Rattle.std.specs.Prelude.{◌≡◌, ◌≤◌, [], IsTrue, vec_len, vec_capacity};
+    ghost use Rattle.std.specs.List.{list_all};
+    ghost use Rattle.online_reduce.specs.Lists.{PairRooms, is_roomy, seen_as};
 
     ghost Value = { PairRooms };
 
     ghost view = { λ a. seen_as a.lists.items };
 
-    ghost invariant = { λ a. (vec_len a.finished ≡ 0) × (vec_len a.lists ≤ vec_capacity a.finished) };
+    ghost invariant = { λ a. (vec_len a.finished ≡ 0) × (vec_len a.lists ≤ vec_capacity a.finished) × (IsTrue a.known_roomy → IsTrue (list_all is_roomy a.lists.items)) };
 }
 
 impl PairLists {
@@ -40,13 +49,20 @@ impl PairLists {
             lists.push(PairList::new(alloc))?;
         }
         let finished = Vec::with_capacity(alloc, count)?;
-        Ok(PairLists { lists, finished })
+        Ok(PairLists {
+            lists,
+            finished,
+            known_roomy: false,
+        })
     }
 
     /// Whether there is room for the edges of one more access.
     pub(crate) fn has_room(&self) -> bool
         ensures { result ≡ self.now.roomy }
     {
+        if self.known_roomy {
+            return true;
+        }
         for list in &self.lists {
             if !list.has_room() {
                 return false;
@@ -61,23 +77,32 @@ impl PairLists {
         ensures roomy { OnOk result (IsTrue self.new.roomy) }
         ensures err { OnErr result (self.new ≡ self.old) }
     {
+        if self.known_roomy {
+            return Ok(());
+        }
         for place in 0..self.lists.len() {
             self.lists[place].make_room()?;
         }
+        self.known_roomy = true;
         Ok(())
     }
 
-    /// Puts the edges at the ends of their pairs' lists.
-    pub(crate) fn add(&mut self, cores: u8, edges: &[Edge])
+    /// Puts the edges into an instruction, those from the candidates that are kept, at the ends of
+    /// their pairs' lists.
+    pub(crate) fn add(&mut self, cores: u8, at: Instr, before: &Clock, found: &[Source])
+        requires cores { cores ≤ CORES_MAX }
         requires room { IsTrue self.old.roomy }
-        requires few { length edges.now ≤ EDGES_MAX }
-        requires pairs { All (λ e. IsPair cores e.from.core e.to.core) edges.now }
+        requires few { length found.now ≤ EDGES_MAX }
+        requires pairs { All (λ s. IsPair cores s.at.core at.core) found.now }
         requires lists { length self.old.lists ≡ pair_count cores }
-        ensures { self.new.lists ≡ with_edges cores self.old.lists edges.now }
+        ensures { self.new.lists ≡ with_edges cores self.old.lists (edges_into at before.now found.now) }
     {
-        for edge in edges {
-            let place = pair_at(cores, edge.from.core, edge.to.core);
-            self.lists[place].push(edge.from.count, edge.to.count);
+        for source in found {
+            if is_kept(before, found, source.at) {
+                let place = pair_at(cores, source.at.core, at.core);
+                let roomy = self.lists[place].push(source.at.count, at.count);
+                self.known_roomy &= roomy;
+            }
         }
     }
 
@@ -88,6 +113,7 @@ impl PairLists {
         let PairLists {
             lists,
             mut finished,
+            ..
         } = self;
         for list in lists {
             finished.push_reserved(list.into_items());

@@ -1,17 +1,19 @@
 //! The online reduction.
-ghost use Rattle.std.specs.Prelude.{◌≡◌, ◌<◌, ◌≤◌, ◌++◌, ◌∷◌, [], List, IfOk, IsTrue, OnErr, OnOk};
+ghost use Rattle.std.specs.Prelude.{◌≡◌, ◌<◌, ◌≤◌, ◌++◌, ◌∷◌, [], List, IfOk, IsTrue, OnErr, OnOk, false};
 ghost use Rattle.rtr_types.specs.declared.TheConstants.{CORES_MAX};
 ghost use Rattle.rtr_types.specs.declared.accesses.Access.{Access};
 ghost use Rattle.rtr_types.specs.declared.nodes.Edge.{Edge};
+ghost use Rattle.rtr_types.specs.Accesses.{is_write};
 ghost use Rattle.access_times.specs.Times.{times_noted};
 ghost use Rattle.conflict_edge.specs.Times.{IsExactClock};
 
 use crate::pair_lists::PairLists;
 use crate::rule::{EdgeList, clock_into, edges_into, note};
-use crate::sources::candidates;
+use crate::sources::{Source, candidates, is_alone, is_of_other, slot_of};
 use access_times::Times;
 use clock_core::Clock;
-use rtr_types::{Access, CORES_MAX, Instr, Items};
+use rtr_types::{Access, CORES_MAX, Instr, Items, Kind};
+use smallvec::SmallVec;
 use std::alloc::{AllocError, Global};
 use std::marker::Model;
 
@@ -43,6 +45,7 @@ impl Model for Reducer {
 }
 
 impl Reducer {
+    ghost use Rattle.online_reduce.specs.Sources.{candidates};
     ghost use Rattle.online_reduce.specs.Reduced.{IsNext, clock_of, counted, edges_of, retired, unreduced};
     ghost use Rattle.online_reduce.specs.Exact.{AreCoveringInto, AreExactFor, AreRising, IsExact, IsHeld, IsReduction};
 
@@ -119,15 +122,99 @@ impl Reducer {
             IsReduction list self.old.state edges → AreExactFor list access.now times.old →
             IsReduction (list ++ access.now ∷ []) self.new.state (edges ++ result.items) }
     {
+        let edges = self.edges(access, times);
+        self.touch(access, times);
+        edges
+    }
+
+    /// The same without an answer, for a caller that takes the edges from the lists at the end.
+    pub fn touch(&mut self, access: &Access, times: &mut Times)
+        requires ready { IsTrue self.old.ready }
+        requires next { IsNext self.old.state access.now.at }
+        ensures state { self.new.state ≡ retired self.old.state access.now times.old }
+        ensures times { times.new ≡ times_noted access.now times.old (clock_of self.new.state access.now.at.core) }
+        ensures held { IsHeld access.now times.new (clock_of self.new.state access.now.at.core) }
+        ensures clock { (list : List Access) → IsExact list self.old.state → AreExactFor list access.now times.old →
+            IsExactClock (list ++ access.now ∷ []) access.now.at (clock_of self.new.state access.now.at.core) }
+        ensures exact { (list : List Access) → IsExact list self.old.state → AreExactFor list access.now times.old →
+            IsExact (list ++ access.now ∷ []) self.new.state }
+        ensures reduction { (list : List Access) (edges : List Edge) →
+            IsReduction list self.old.state edges → AreExactFor list access.now times.old →
+            IsReduction (list ++ access.now ∷ []) self.new.state (edges ++ edges_of self.old.state access.now times.old) }
+    {
+        match access.kind {
+            Kind::Load => self.touch_load(access, times),
+            Kind::Store => self.touch_store(access, times),
+        }
+    }
+
+    /// The edges that the access gets.
+    fn edges(&self, access: &Access, times: &Times) -> EdgeList
+        requires { IsNext self.now.state access.now.at }
+        ensures { result.items ≡ edges_of self.now.state access.now times.now }
+    {
+        if is_alone(self.cores, access, times) {
+            return SmallVec::new(self.alloc);
+        }
+        let found = candidates(self.alloc, self.cores, access, times);
+        let before = &self.clocks[access.at.core as usize];
+        edges_into(self.alloc, access.at, before, found.as_slice())
+    }
+
+    /// A load, which has at most one candidate, so that no list of them is made.
+    fn touch_load(&mut self, access: &Access, times: &mut Times)
+        requires load { is_write access.now.kind ≡ false }
+        requires ready { IsTrue self.old.ready }
+        requires next { IsNext self.old.state access.now.at }
+        ensures state { self.new.state ≡ retired self.old.state access.now times.old }
+        ensures times { times.new ≡ times_noted access.now times.old (clock_of self.new.state access.now.at.core) }
+        ensures held { IsHeld access.now times.new (clock_of self.new.state access.now.at.core) }
+    {
+        if let Some((at, clock)) = times.last_write(slot_of(access.word)) {
+            if is_of_other(self.cores, access, *at) {
+                let found = [Source {
+                    at: *at,
+                    clock: *clock,
+                }];
+                self.settle(access, &found, times);
+                return;
+            }
+        }
+        self.settle(access, &[], times);
+    }
+
+    /// A store, whose candidates are listed only where there may be one.
+    fn touch_store(&mut self, access: &Access, times: &mut Times)
+        requires ready { IsTrue self.old.ready }
+        requires next { IsNext self.old.state access.now.at }
+        ensures state { self.new.state ≡ retired self.old.state access.now times.old }
+        ensures times { times.new ≡ times_noted access.now times.old (clock_of self.new.state access.now.at.core) }
+        ensures held { IsHeld access.now times.new (clock_of self.new.state access.now.at.core) }
+    {
+        if is_alone(self.cores, access, times) {
+            self.settle(access, &[], times);
+        } else {
+            let found = candidates(self.alloc, self.cores, access, times);
+            self.settle(access, found.as_slice(), times);
+        }
+    }
+
+    /// Puts the access's edges into the pairs' lists, keeps its clock and notes it, once its candidates
+    /// are found.
+    fn settle(&mut self, access: &Access, found: &[Source], times: &mut Times)
+        requires ready { IsTrue self.old.ready }
+        requires next { IsNext self.old.state access.now.at }
+        requires found { found.now ≡ candidates self.old.state.cores access.now times.old }
+        ensures state { self.new.state ≡ retired self.old.state access.now times.old }
+        ensures times { times.new ≡ times_noted access.now times.old (clock_of self.new.state access.now.at.core) }
+        ensures held { IsHeld access.now times.new (clock_of self.new.state access.now.at.core) }
+    {
         let at = access.at;
         let before = self.clocks[at.core as usize];
-        let found = candidates(self.alloc, self.cores, access, times);
-        let edges = edges_into(self.alloc, at, &before, found.as_slice());
-        let clock = clock_into(at, before, found.as_slice());
+        self.pairs.add(self.cores, at, &before, found);
+        let clock = clock_into(at, before, found);
         self.clocks[at.core as usize] = clock;
-        self.pairs.add(self.cores, edges.as_slice());
         note(access, clock, times);
-        edges
     }
 
     /// The edges by pair of cores, each list rising in both counts. It takes no memory.

@@ -28,7 +28,7 @@ fn lets_pass(at: Instr, source: &Source) -> bool
 
 /// Whether the candidate at this instruction becomes an edge: neither the clock before on the new
 /// access's core nor the clock of another candidate knows of it.
-fn is_kept(before: &Clock, found: &[Source], at: Instr) -> bool
+pub fn is_kept(before: &Clock, found: &[Source], at: Instr) -> bool
     requires { at.core < CORES_MAX }
     ensures { result ≡ is_kept before.now found.now at }
 {

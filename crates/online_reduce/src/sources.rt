@@ -1,10 +1,9 @@
 //! The accesses that a new one may need an edge from.
-ghost use Rattle.std.specs.Prelude.{◌≡◌, ◌<◌, ◌≤◌, ◌++◌, ◌%◌, IfSome, length};
+ghost use Rattle.std.specs.Prelude.{◌≡◌, ◌≢◌, ◌<◌, ◌≤◌, ◌↔◌, ◌++◌, ◌%◌, [], IsTrue, false, length};
 ghost use Rattle.std.specs.Option.{option_to_list};
 ghost use Rattle.smallvec.specs.SmallVec.{HasRoomFor};
 ghost use Rattle.rtr_types.specs.declared.TheConstants.{CORES_MAX};
 ghost use Rattle.access_times.specs.declared.TheConstants.{BLOCK_WORDS};
-ghost use Rattle.access_times.specs.Times.{read_at, write_at};
 ghost use Rattle.online_reduce.specs.Sources.{candidates, candidates_from, read_from, write_from};
 ghost use Rattle.online_reduce.specs.declared.TheConstants.{EDGES_MAX};
 
@@ -55,44 +54,76 @@ fn push_candidates(found: &mut Sources, access: &Access, core: u8, times: &Times
     ensures capacity { found.new.capacity ≡ found.old.capacity }
 {
     let slot = slot_of(access.word);
-    let write = write_from(access, core, times.write(slot));
-    let read = read_from(access, core, times.read_by(slot, core));
-    push_some(found, write);
-    push_some(found, read);
+    push_write(found, access, core, times.last_write(slot));
+    push_read(found, access, core, times.last_read(slot, core));
 }
 
-/// The noted write, where this core made it and not the access's own.
-fn write_from(access: &Access, core: u8, write: Option<(Instr, Clock)>) -> Option<Source>
-    ensures { result ≡ write_from access.now core write }
-{
-    let (at, clock) = write?;
-    if at.core == core && core != access.at.core {
-        Some(Source { at, clock })
-    } else {
-        None
-    }
-}
-
-/// The core's noted read, where the access writes and is of another core.
-fn read_from(access: &Access, core: u8, read: Option<(u32, Clock)>) -> Option<Source>
-    ensures { result ≡ read_from access.now core read }
-{
-    let (count, clock) = read?;
-    if access.kind.is_write() && core != access.at.core {
-        let at = Instr { core, count };
-        Some(Source { at, clock })
-    } else {
-        None
-    }
-}
-
-/// Adds the candidate, where there is one.
-fn push_some(found: &mut Sources, source: Option<Source>)
-    requires { HasRoomFor found.old (length (option_to_list source)) }
-    ensures items { found.new.items ≡ found.old.items ++ option_to_list source }
+/// Adds the noted write, where this core made it and not the access's own.
+fn push_write(found: &mut Sources, access: &Access, core: u8, write: &Option<(Instr, Clock)>)
+    requires { HasRoomFor found.old (length (option_to_list (write_from access.now core write.now))) }
+    ensures items { found.new.items ≡ found.old.items ++ option_to_list (write_from access.now core write.now) }
     ensures capacity { found.new.capacity ≡ found.old.capacity }
 {
-    if let Some(source) = source {
-        found.push_reserved(source);
+    if let Some((at, clock)) = write {
+        if at.core == core && core != access.at.core {
+            found.push_reserved(Source {
+                at: *at,
+                clock: *clock,
+            });
+        }
     }
+}
+
+/// Adds the core's noted read, where the access writes and is of another core.
+fn push_read(found: &mut Sources, access: &Access, core: u8, read: &Option<(u32, Clock)>)
+    requires { HasRoomFor found.old (length (option_to_list (read_from access.now core read.now))) }
+    ensures items { found.new.items ≡ found.old.items ++ option_to_list (read_from access.now core read.now) }
+    ensures capacity { found.new.capacity ≡ found.old.capacity }
+{
+    if let Some((count, clock)) = read {
+        if access.kind.is_write() && core != access.at.core {
+            let at = Instr {
+                core,
+                count: *count,
+            };
+            found.push_reserved(Source { at, clock: *clock });
+        }
+    }
+}
+
+/// Whether the access has no candidate, which is cheaper to see than to list them.
+pub fn is_alone(cores: u8, access: &Access, times: &Times) -> bool
+    requires { cores ≤ CORES_MAX }
+    ensures { IsTrue result → candidates cores access.now times.now ≡ [] }
+{
+    for core in 0..cores {
+        if may_give(access, core, times) {
+            return false;
+        }
+    }
+    true
+}
+
+/// Whether this core is not the access's own, and wrote the word last or, where the access writes, read
+/// it since.
+fn may_give(access: &Access, core: u8, times: &Times) -> bool
+    requires { core < CORES_MAX }
+    ensures { result ≡ false → candidates_from access.now times.now core ≡ [] }
+{
+    if core == access.at.core {
+        return false;
+    }
+    let slot = slot_of(access.word);
+    match times.last_write(slot) {
+        Some((at, _)) if at.core == core => true,
+        _ => access.kind.is_write() && times.last_read(slot, core).is_some(),
+    }
+}
+
+/// The one candidate that a load may have, the last write of its word, is of one of so many cores and
+/// not of its own.
+pub fn is_of_other(cores: u8, access: &Access, at: Instr) -> bool
+    ensures { IsTrue result ↔ ((at.core < cores) × (at.core ≢ access.now.at.core)) }
+{
+    at.core < cores && at.core != access.at.core
 }
