@@ -229,9 +229,16 @@ room_more n a t lt = omega (arith, sym (length-append (candidates n a t) (candid
 
 -- ---- none, or the one of a load
 
-pub none_more : (n : ℕ) (a : Access) (t : Times) → candidates n a t ≡ [] → candidates_from a t n ≡ [] → candidates (n + 1) a t ≡ []
-none_more n a t before here = found_more n a t ∙ rw (before, here) refl
+-- neither writes nor reads give one
+pub none_found : (n : ℕ) (a : Access) (t : Times) → ((k : ℕ) → k < n → write_from a k (write_at t (a.word % BLOCK_WORDS)) ≡ None) → ((k : ℕ) → k < n → read_from a k (read_at t (a.word % BLOCK_WORDS) k) ≡ None) → candidates n a t ≡ []
+unfolding candidates
+none_found zero a t unwritten unread = refl
+none_found (suc n) a t unwritten unread =
+    ap (λ (xs : List Source). xs ++ candidates_from a t n) (none_found n a t (λ k lt. unwritten k (omega arith)) (λ k lt. unread k (omega arith)))
+    ∙ ap (λ (v : Option Source). option_to_list v ++ option_to_list (read_from a n (read_at t (a.word % BLOCK_WORDS) n))) (unwritten n (omega arith))
+    ∙ ap (λ (v : Option Source). option_to_list v) (unread n (omega arith))
 
+-- a load has no read as a candidate
 reads_none : (a : Access) (core : ℕ) (r : Option (ℕ × Clock)) → is_write a.kind ≡ false → read_from a core r ≡ None
 reads_none a core None loads = refl
 reads_none a core (Some r) loads = rw loads refl
@@ -261,18 +268,22 @@ load_none (suc n) a t w loads noted none =
 pub load_unwritten : (n : ℕ) (a : Access) (t : Times) → is_write a.kind ≡ false → write_at t (a.word % BLOCK_WORDS) ≡ None → candidates n a t ≡ []
 load_unwritten n a t loads noted = load_none n a t None loads noted (λ k lt. refl)
 
-pub load_own : (n : ℕ) (a : Access) (t : Times) (w : Instr × Clock) → is_write a.kind ≡ false → write_at t (a.word % BLOCK_WORDS) ≡ Some w → ((w.0.core < n) × (w.0.core ≢ a.at.core) → ⊥) → candidates n a t ≡ []
-load_own n a t w loads noted own = load_none n a t (Some w) loads noted (λ k lt. not_by a k w (by (nat_eq w.0.core k && not (nat_eq k a.at.core)) k lt refl))
+-- the write is not of one of these cores, or of the access's own
+pub own_gives_none : (n : ℕ) (a : Access) (w : Instr × Clock) → ((w.0.core < n) × (w.0.core ≢ a.at.core) → ⊥) → (k : ℕ) → k < n → write_from a k (Some w) ≡ None
+own_gives_none n a w own k lt = not_by a k w (by (nat_eq w.0.core k && not (nat_eq k a.at.core)) refl)
   where
-    by : (b : Bool) (k : ℕ) → k < n → nat_eq w.0.core k && not (nat_eq k a.at.core) ≡ b → b ≡ false
-    by false k lt e = refl
-    by true k lt e =
+    by : (b : Bool) → nat_eq w.0.core k && not (nat_eq k a.at.core) ≡ b → b ≡ false
+    by false e = refl
+    by true e =
         let both = and_true (nat_eq w.0.core k) (not (nat_eq k a.at.core)) e in
         let one : nat_eq w.0.core k ≡ true = both.0 in
         let two : not (nat_eq k a.at.core) ≡ true = both.1 in
         let is : w.0.core ≡ k = grind (arith, nat_tests) in
         let differ : k ≢ a.at.core = grind (arith, nat_tests) in
         absurd (own (omega arith, λ (f : w.0.core ≡ a.at.core). differ (sym is ∙ f)))
+
+pub load_own : (n : ℕ) (a : Access) (t : Times) (w : Instr × Clock) → is_write a.kind ≡ false → write_at t (a.word % BLOCK_WORDS) ≡ Some w → ((w.0.core < n) × (w.0.core ≢ a.at.core) → ⊥) → candidates n a t ≡ []
+load_own n a t w loads noted own = load_none n a t (Some w) loads noted (own_gives_none n a w own)
 
 -- and else it is the one
 pub load_one : (n : ℕ) (a : Access) (t : Times) (s : Source) → is_write a.kind ≡ false → write_at t (a.word % BLOCK_WORDS) ≡ Some (s.at, s.clock) → s.at.core < n → s.at.core ≢ a.at.core → candidates n a t ≡ s ∷ []

@@ -194,9 +194,21 @@ impl Reducer {
         if is_alone(self.cores, access, times) {
             self.settle(access, &[], times);
         } else {
-            let found = candidates(self.alloc, self.cores, access, times);
-            self.settle(access, found.as_slice(), times);
+            self.touch_listed(access, times);
         }
+    }
+
+    /// An access whose candidates are listed. It is apart so that an access without candidates makes
+    /// no room on the stack for the list.
+    fn touch_listed(&mut self, access: &Access, times: &mut Times)
+        requires ready { IsTrue self.old.ready }
+        requires next { IsNext self.old.state access.now.at }
+        ensures state { self.new.state ≡ retired self.old.state access.now times.old }
+        ensures times { times.new ≡ times_noted access.now times.old (clock_of self.new.state access.now.at.core) }
+        ensures held { IsHeld access.now times.new (clock_of self.new.state access.now.at.core) }
+    {
+        let found = candidates(self.alloc, self.cores, access, times);
+        self.settle(access, found.as_slice(), times);
     }
 
     /// Puts the access's edges into the pairs' lists, keeps its clock and notes it, once its candidates

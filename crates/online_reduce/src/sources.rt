@@ -1,9 +1,10 @@
 //! The accesses that a new one may need an edge from.
-ghost use Rattle.std.specs.Prelude.{◌≡◌, ◌≢◌, ◌<◌, ◌≤◌, ◌↔◌, ◌++◌, ◌%◌, [], IsTrue, false, length};
+ghost use Rattle.std.specs.Prelude.{◌≡◌, ◌≢◌, ℕ, ◌<◌, ◌≤◌, ◌↔◌, ◌++◌, ◌%◌, [], IsTrue, None, false, length};
 ghost use Rattle.std.specs.Option.{option_to_list};
 ghost use Rattle.smallvec.specs.SmallVec.{HasRoomFor};
 ghost use Rattle.rtr_types.specs.declared.TheConstants.{CORES_MAX};
 ghost use Rattle.access_times.specs.declared.TheConstants.{BLOCK_WORDS};
+ghost use Rattle.access_times.specs.Times.{read_at, write_at};
 ghost use Rattle.online_reduce.specs.Sources.{candidates, candidates_from, read_from, write_from};
 ghost use Rattle.online_reduce.specs.declared.TheConstants.{EDGES_MAX};
 
@@ -96,34 +97,49 @@ pub fn is_alone(cores: u8, access: &Access, times: &Times) -> bool
     requires { cores ≤ CORES_MAX }
     ensures { IsTrue result → candidates cores access.now times.now ≡ [] }
 {
+    !is_written(cores, access, times) && is_unread(cores, access, times)
+}
+
+/// Whether the noted write is a candidate.
+fn is_written(cores: u8, access: &Access, times: &Times) -> bool
+    ensures { result ≡ false →
+        (core : ℕ) → core < cores → write_from access.now core (write_at times.now (access.now.word % BLOCK_WORDS)) ≡ None }
+{
+    match times.last_write(slot_of(access.word)) {
+        Some((at, _)) => is_of_other(cores, access, *at),
+        None => false,
+    }
+}
+
+/// Whether a write at this instruction is a candidate of the access: one of so many cores made it, and
+/// not the access's own.
+pub fn is_of_other(cores: u8, access: &Access, at: Instr) -> bool
+    ensures { IsTrue result ↔ ((at.core < cores) × (at.core ≢ access.now.at.core)) }
+{
+    at.core < cores && at.core != access.at.core
+}
+
+/// Whether no noted read is a candidate.
+fn is_unread(cores: u8, access: &Access, times: &Times) -> bool
+    requires { cores ≤ CORES_MAX }
+    ensures { IsTrue result →
+        (core : ℕ) → core < cores → read_from access.now core (read_at times.now (access.now.word % BLOCK_WORDS) core) ≡ None }
+{
+    if !access.kind.is_write() {
+        return true;
+    }
     for core in 0..cores {
-        if may_give(access, core, times) {
+        if is_read_by(core, access, times) {
             return false;
         }
     }
     true
 }
 
-/// Whether this core is not the access's own, and wrote the word last or, where the access writes, read
-/// it since.
-fn may_give(access: &Access, core: u8, times: &Times) -> bool
+/// Whether a read by this core is noted, and it is not the access's own.
+fn is_read_by(core: u8, access: &Access, times: &Times) -> bool
     requires { core < CORES_MAX }
-    ensures { result ≡ false → candidates_from access.now times.now core ≡ [] }
+    ensures { result ≡ false → read_from access.now core (read_at times.now (access.now.word % BLOCK_WORDS) core) ≡ None }
 {
-    if core == access.at.core {
-        return false;
-    }
-    let slot = slot_of(access.word);
-    match times.last_write(slot) {
-        Some((at, _)) if at.core == core => true,
-        _ => access.kind.is_write() && times.last_read(slot, core).is_some(),
-    }
-}
-
-/// The one candidate that a load may have, the last write of its word, is of one of so many cores and
-/// not of its own.
-pub fn is_of_other(cores: u8, access: &Access, at: Instr) -> bool
-    ensures { IsTrue result ↔ ((at.core < cores) × (at.core ≢ access.now.at.core)) }
-{
-    at.core < cores && at.core != access.at.core
+    core != access.at.core && times.last_read(slot_of(access.word), core).is_some()
 }

@@ -1,11 +1,5 @@
-use Rattle.std.proofs.Common.{refl}
-use Rattle.online_reduce.specs.Sources.{candidates}
-use Rattle.online_reduce.proofs.Found.{none_more}
+use Rattle.online_reduce.proofs.Found.{none_found}
 use Rattle.online_reduce.proofs.sources.is_alone.Goals as goal
 
-pub loop-core-init : goal.loop-core-init
-unfolding candidates
-loop-core-init c = refl
-
-pub loop-core-preserved : goal.loop-core-preserved
-loop-core-preserved c = none_more c.loop-core.core c.args.access.now c.args.times.now c.loop-core.invariant (c.may_give.ensures c.if-may_give.false)
+pub returns-then-not-is_written : goal.returns-then-not-is_written
+returns-then-not-is_written c unread = none_found c.args.cores c.args.access.now c.args.times.now (c.is_written.ensures c.if-not-is_written.true) (c.is_unread.ensures unread)
