@@ -1,9 +1,8 @@
 -- What the two retirements leave, from the parts that the code has.
 use Rattle.std.proofs.Common.{◌≡◌, ◌≢◌, ℕ, ◌<◌, ◌≤◌, List, [], length, get_or, refl, sym, ◌∙◌, ap, arith}
-use Rattle.std.specs.Prelude.{All, map, slice_set}
-use Rattle.std.specs.List.{filter}
+use Rattle.std.specs.Prelude.{All, slice_set}
 use Rattle.std.proofs.lemmas.List.{get_or_default}
-use Rattle.std.proofs.lemmas.List.Elements.{All-same, All-map, All-filter, All-weaker}
+use Rattle.std.proofs.lemmas.List.Elements.{All-same, All-weaker}
 use Rattle.rtr_types.specs.Pairs.{IsPair}
 use Rattle.rtr_types.specs.declared.TheConstants.{CORES_MAX}
 use Rattle.rtr_types.specs.declared.nodes.Instr.{Instr}
@@ -14,7 +13,7 @@ use Rattle.clock_core.specs.declared.vector_clock.Clock.{Clock}
 use Rattle.access_times.specs.declared.word_times.Times.{Times}
 use Rattle.online_reduce.specs.declared.sources.Source.{Source}
 use Rattle.online_reduce.specs.Sources.{candidates}
-use Rattle.online_reduce.specs.Rule.{edge_to, edges_into, clock_into, is_kept}
+use Rattle.online_reduce.specs.Rule.{edges_into, clock_into}
 use Rattle.online_reduce.specs.Lists.{with_edges}
 use Rattle.online_reduce.specs.Reduced.{Reduced, clock_of, counted, retired, edges_of}
 use Rattle.online_reduce.proofs.Found.{all_from_one, one_noted}

@@ -156,7 +156,7 @@ impl Reducer {
         if is_alone(self.cores, access, times) {
             return SmallVec::new(self.alloc);
         }
-        let found = candidates(self.alloc, self.cores, access, times);
+        let found = candidates(self.cores, access, times);
         let before = &self.clocks[access.at.core as usize];
         edges_into(self.alloc, access.at, before, found.as_slice())
     }
@@ -207,7 +207,7 @@ impl Reducer {
         ensures times { times.new ≡ times_noted access.now times.old (clock_of self.new.state access.now.at.core) }
         ensures held { IsHeld access.now times.new (clock_of self.new.state access.now.at.core) }
     {
-        let found = candidates(self.alloc, self.cores, access, times);
+        let found = candidates(self.cores, access, times);
         self.settle(access, found.as_slice(), times);
     }
 

@@ -1,7 +1,6 @@
 //! The accesses that a new one may need an edge from.
-ghost use Rattle.std.specs.Prelude.{◌≡◌, ◌≢◌, ℕ, ◌<◌, ◌≤◌, ◌↔◌, ◌++◌, ◌%◌, [], IsTrue, None, false, length};
+ghost use Rattle.std.specs.Prelude.{◌≡◌, ◌≢◌, ℕ, ◌+◌, ◌<◌, ◌≤◌, ◌↔◌, ◌++◌, ◌∷◌, ◌%◌, [], IsTrue, None, false, length};
 ghost use Rattle.std.specs.Option.{option_to_list};
-ghost use Rattle.smallvec.specs.SmallVec.{HasRoomFor};
 ghost use Rattle.rtr_types.specs.declared.TheConstants.{CORES_MAX};
 ghost use Rattle.access_times.specs.declared.TheConstants.{BLOCK_WORDS};
 ghost use Rattle.access_times.specs.Times.{read_at, write_at};
@@ -12,8 +11,7 @@ use crate::EDGES_MAX;
 use access_times::{BLOCK_WORDS, Times};
 use clock_core::Clock;
 use rtr_types::{Access, Instr};
-use smallvec::SmallVec;
-use std::alloc::Global;
+use std::marker::Model;
 
 /// An access that a new one may need an edge from, with its clock.
 #[derive(Clone, Copy, Debug, Default)]
@@ -22,8 +20,53 @@ pub struct Source {
     pub clock: Clock,
 }
 
-/// Candidates of one access.
-pub type Sources = SmallVec<Source, EDGES_MAX>;
+/// Candidates of one access. They lie in the value, which is filled where it stands. Contracts see the
+/// list.
+#[derive(Drop)]
+pub struct Sources {
+    places: [Source; EDGES_MAX],
+    len: usize,
+}
+
+impl Model for Sources {
+    ghost use Rattle.std.specs.Prelude.{List, ◌≡◌, ◌≤◌, length, take};
+    ghost use Rattle.online_reduce.specs.declared.TheConstants.{EDGES_MAX};
+    ghost use Rattle.online_reduce.specs.declared.sources.Source.{Source};
+
+    ghost Value = { List Source };
+
+    ghost view = { λ a. take a.len a.places };
+
+    ghost invariant = { λ a. (a.len ≤ EDGES_MAX) × (length a.places ≡ EDGES_MAX) };
+}
+
+impl Sources {
+    /// No candidates.
+    fn new() -> Sources
+        ensures { result ≡ [] }
+    {
+        Sources {
+            places: [Source::default(); EDGES_MAX],
+            len: 0,
+        }
+    }
+
+    /// Puts a candidate at the end.
+    fn push(&mut self, source: Source)
+        requires { length self.old < EDGES_MAX }
+        ensures { self.new ≡ self.old ++ source ∷ [] }
+    {
+        self.places[self.len] = source;
+        self.len += 1;
+    }
+
+    /// The candidates, oldest first.
+    pub fn as_slice(&self) -> &[Source]
+        ensures { result.now ≡ self.now }
+    {
+        &self.places[..self.len]
+    }
+}
 
 /// The slot of a word in its block.
 pub fn slot_of(word: u32) -> u8
@@ -35,12 +78,12 @@ pub fn slot_of(word: u32) -> u8
 
 /// The candidates of an access, by rising core: the last write of its word and, where it writes, each
 /// core's last read since, as far as other cores made them.
-pub fn candidates(alloc: Global, cores: u8, access: &Access, times: &Times) -> Sources
+pub fn candidates(cores: u8, access: &Access, times: &Times) -> Sources
     requires { cores ≤ CORES_MAX }
-    ensures found { result.items ≡ candidates cores access.now times.now }
-    ensures few { length result.items ≤ EDGES_MAX }
+    ensures found { result ≡ candidates cores access.now times.now }
+    ensures few { length result ≤ EDGES_MAX }
 {
-    let mut found = SmallVec::new(alloc);
+    let mut found = Sources::new();
     for core in 0..cores {
         push_candidates(&mut found, access, core, times);
     }
@@ -50,9 +93,8 @@ pub fn candidates(alloc: Global, cores: u8, access: &Access, times: &Times) -> S
 /// Adds the candidates of one core.
 fn push_candidates(found: &mut Sources, access: &Access, core: u8, times: &Times)
     requires core { core < CORES_MAX }
-    requires room { HasRoomFor found.old (length (candidates_from access.now times.now core)) }
-    ensures items { found.new.items ≡ found.old.items ++ candidates_from access.now times.now core }
-    ensures capacity { found.new.capacity ≡ found.old.capacity }
+    requires room { length found.old + length (candidates_from access.now times.now core) ≤ EDGES_MAX }
+    ensures { found.new ≡ found.old ++ candidates_from access.now times.now core }
 {
     let slot = slot_of(access.word);
     push_write(found, access, core, times.last_write(slot));
@@ -61,13 +103,12 @@ fn push_candidates(found: &mut Sources, access: &Access, core: u8, times: &Times
 
 /// Adds the noted write, where this core made it and not the access's own.
 fn push_write(found: &mut Sources, access: &Access, core: u8, write: &Option<(Instr, Clock)>)
-    requires { HasRoomFor found.old (length (option_to_list (write_from access.now core write.now))) }
-    ensures items { found.new.items ≡ found.old.items ++ option_to_list (write_from access.now core write.now) }
-    ensures capacity { found.new.capacity ≡ found.old.capacity }
+    requires { length found.old + length (option_to_list (write_from access.now core write.now)) ≤ EDGES_MAX }
+    ensures { found.new ≡ found.old ++ option_to_list (write_from access.now core write.now) }
 {
     if let Some((at, clock)) = write {
         if at.core == core && core != access.at.core {
-            found.push_reserved(Source {
+            found.push(Source {
                 at: *at,
                 clock: *clock,
             });
@@ -77,9 +118,8 @@ fn push_write(found: &mut Sources, access: &Access, core: u8, write: &Option<(In
 
 /// Adds the core's noted read, where the access writes and is of another core.
 fn push_read(found: &mut Sources, access: &Access, core: u8, read: &Option<(u32, Clock)>)
-    requires { HasRoomFor found.old (length (option_to_list (read_from access.now core read.now))) }
-    ensures items { found.new.items ≡ found.old.items ++ option_to_list (read_from access.now core read.now) }
-    ensures capacity { found.new.capacity ≡ found.old.capacity }
+    requires { length found.old + length (option_to_list (read_from access.now core read.now)) ≤ EDGES_MAX }
+    ensures { found.new ≡ found.old ++ option_to_list (read_from access.now core read.now) }
 {
     if let Some((count, clock)) = read {
         if access.kind.is_write() && core != access.at.core {
@@ -87,7 +127,7 @@ fn push_read(found: &mut Sources, access: &Access, core: u8, read: &Option<(u32,
                 core,
                 count: *count,
             };
-            found.push_reserved(Source { at, clock: *clock });
+            found.push(Source { at, clock: *clock });
         }
     }
 }

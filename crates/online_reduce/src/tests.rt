@@ -76,3 +76,30 @@ fn a_local_instruction_counts(rt: HostRuntime) -> Result<(), Fail> {
     assert_eq!(rt; reducer.clock(0).get(1), 0);
     Ok(())
 }
+
+// Core 1 reads what core 0 wrote, core 0 reads its own write, and then writes over core 1's read.
+static SHARED: [Access; 4] = [
+    access!(0: 1 Store 0),
+    access!(1: 1 Load 0),
+    access!(0: 2 Load 0),
+    access!(0: 3 Store 0),
+];
+
+#[test]
+fn touches_leave_their_edges_in_the_lists(rt: HostRuntime) -> Result<(), Fail> {
+    let mut reducer = Reducer::new(rt.alloc(), 2)?;
+    let mut times = Times::fresh();
+    for access in &SHARED {
+        let core = access.at.core;
+        assert!(rt; core < 2);
+        assert!(rt; reducer.clock(core).get(core) as u64 + 1 == access.at.count as u64);
+        reducer.ready()?;
+        reducer.touch(access, &mut times);
+    }
+    let lists = reducer.finish();
+    let lists = lists.as_slice();
+    assert_eq!(rt; lists.len(), 2);
+    assert_eq!(rt; lists[0].as_slice(), [(1, 1)].as_slice());
+    assert_eq!(rt; lists[1].as_slice(), [(1, 3)].as_slice());
+    Ok(())
+}

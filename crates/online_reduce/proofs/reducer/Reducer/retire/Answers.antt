@@ -1,4 +1,4 @@
-use Rattle.std.proofs.Common.{◌≡◌, ◌++◌, ◌∷◌, [], List, sym, subst}
+use Rattle.std.proofs.Common.{◌++◌, ◌∷◌, [], List, sym, subst}
 use Rattle.rtr_types.specs.declared.nodes.Edge.{Edge}
 use Rattle.online_reduce.specs.Exact.{IsReduction}
 use Rattle.online_reduce.proofs.Touched.{covering_after}

@@ -1,6 +1,4 @@
-use Rattle.std.proofs.Common.{◌≡◌, ◌%◌, ◌<◌, ◌∙◌, ap, sym, arith, Option, Some, None, ℕ}
-use Rattle.rtr_types.specs.declared.nodes.Instr.{Instr}
-use Rattle.clock_core.specs.declared.vector_clock.Clock.{Clock}
+use Rattle.std.proofs.Common.{◌≡◌, ◌%◌, ◌∙◌, ap, sym, arith, Some, ℕ}
 use Rattle.access_times.specs.declared.TheConstants.{BLOCK_WORDS}
 use Rattle.access_times.specs.Times.{write_at}
 use Rattle.online_reduce.proofs.Found.{load_one, load_own, load_unwritten}
@@ -23,10 +21,10 @@ settle-requires-2-clause-found c =
       | in-Some+else-is_of_other w ↦
           let same = ap (λ v. v.state.cores) w.self.view_is in
           sym (load_own c.args.self.now.state.cores c.args.access.now c.args.times.now (w.in-Some.at, w.in-Some.clock) c.requires.load (noted ∙ w.in-Some.is) (
-            λ other.
-              let is = w.is_of_other.ensures.1 (let within = other.0 in omega arith, other.1) in
-              let fails = w.if-is_of_other.false in
-              absurd cc
+          λ other.
+          let is = w.is_of_other.ensures.1 (let within = other.0 in omega arith, other.1) in
+          let fails = w.if-is_of_other.false in
+          absurd cc
           ))
       | in_default w ↦ sym (load_unwritten c.args.self.now.state.cores c.args.access.now c.args.times.now c.requires.load (noted ∙ w.in_default.is))
     ]
