@@ -127,7 +127,8 @@ impl Reducer {
         edges
     }
 
-    /// The same without an answer, for a caller that takes the edges from the lists at the end.
+    /// The same without an answer, at less cost, for a caller that takes the edges from the lists at the
+    /// end.
     pub fn touch(&mut self, access: &Access, times: &mut Times)
         requires ready { IsTrue self.old.ready }
         requires next { IsNext self.old.state access.now.at }
@@ -136,6 +137,8 @@ impl Reducer {
         ensures held { IsHeld access.now times.new (clock_of self.new.state access.now.at.core) }
         ensures clock { (list : List Access) → IsExact list self.old.state → AreExactFor list access.now times.old →
             IsExactClock (list ++ access.now ∷ []) access.now.at (clock_of self.new.state access.now.at.core) }
+        ensures covering { (list : List Access) → IsExact list self.old.state → AreExactFor list access.now times.old →
+            AreCoveringInto (list ++ access.now ∷ []) access.now.at (edges_of self.old.state access.now times.old) }
         ensures exact { (list : List Access) → IsExact list self.old.state → AreExactFor list access.now times.old →
             IsExact (list ++ access.now ∷ []) self.new.state }
         ensures reduction { (list : List Access) (edges : List Edge) →
@@ -198,8 +201,8 @@ impl Reducer {
         }
     }
 
-    /// An access whose candidates are listed. It is apart so that an access without candidates makes
-    /// no room on the stack for the list.
+    /// An access whose candidates are listed. It is apart so that a store without candidates makes no
+    /// room on the stack for their list.
     fn touch_listed(&mut self, access: &Access, times: &mut Times)
         requires ready { IsTrue self.old.ready }
         requires next { IsNext self.old.state access.now.at }

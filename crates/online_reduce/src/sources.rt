@@ -20,8 +20,8 @@ pub struct Source {
     pub clock: Clock,
 }
 
-/// Candidates of one access. They lie in the value, which is filled where it stands. Contracts see the
-/// list.
+/// Candidates of one access, in places of the value itself, so that no list is moved to grow. Contracts
+/// see the list.
 #[derive(Drop)]
 pub struct Sources {
     places: [Source; EDGES_MAX],
@@ -60,7 +60,7 @@ impl Sources {
         self.len += 1;
     }
 
-    /// The candidates, oldest first.
+    /// The candidates, in the order in which they were put.
     pub fn as_slice(&self) -> &[Source]
         ensures { result.now ≡ self.now }
     {
