@@ -95,7 +95,7 @@ impl Clerk<Times, NoCarry> for RunClerk {
             };
             self.loads.note(access.at.core, note);
         }
-        let _edges = self.reducer.retire(&access, rider);
+        self.reducer.touch(&access, rider);
     }
 }
 
