@@ -1,21 +1,20 @@
 -- What the home answers goes to cores that are there, and is what the step delivers.
-use Rattle.std.proofs.Common.{rules, arith, ◌≡◌, ◌∙◌, refl, sym, ap, subst, ℕ, ◌<◌, ◌==◌, ◌&&◌, Bool, true, false, IsTrue, Option, Some, None, List, [], ◌∷◌, ◌++◌, length, drop, take}
+use Rattle.std.proofs.Common.{arith, ◌≡◌, ◌∙◌, refl, sym, ap, subst, ℕ, ◌<◌, ◌==◌, ◌&&◌, Bool, true, false, IsTrue, Option, Some, None, List, ◌∷◌, ◌++◌, length, drop, take}
 use Rattle.std.specs.Prelude.{if◌then◌else◌, nat_lt, slice_set, All}
 use Rattle.std.specs.Option.{IfSome}
 use Rattle.std.proofs.lemmas.Bool.Decides.{nat_tests}
 use Rattle.std.proofs.lemmas.List.Elements.{All-get_or}
 use Rattle.std.proofs.Math.Seq.{take-append_seam}
 use Rattle.access_times.specs.Riding.{Riding, Carrying}
-use Rattle.rtr_types.specs.declared.core_set.CoreSet.{CoreSet}
 use Rattle.link_order.specs.Queue.{Queue}
-use Rattle.rtr_types.specs.CoreSets.{has, with_core, without_core, is_none}
+use Rattle.rtr_types.specs.CoreSets.{has, without_core, is_none}
 use Rattle.msi_cache.specs.Table.{Ask, Reply}
 use Rattle.msi_cache.specs.Messages.{ask_of, reply_of, request_block, response_block}
 use Rattle.msi_cache.specs.declared.messages.Request.{Request}
 use Rattle.msi_cache.specs.declared.messages.Response.{Response}
 use Rattle.msi_directory.specs.Blocks.{no_entry, entry_at, entries_after_request, entries_after_response}
 use Rattle.msi_directory.specs.Entries.{answer_by, answer_riding, answer_to_request, answer_to_response, entry_after_request, entry_after_response, has_request_row, has_response_row, sent}
-use Rattle.msi_directory.specs.Table.{Send, NoMessage, HomeRow, request_row, response_row, own_from, acknowledged}
+use Rattle.msi_directory.specs.Table.{Send, NoMessage, HomeRow, request_row, response_row}
 use Rattle.msi_directory.specs.declared.entries.Stage.TheVariants.{Unshared, Shared, Owned, Acks, Data}
 use Rattle.msi_directory.specs.declared.entries.Stage.{Stage}
 use Rattle.msi_directory.specs.declared.entries.Entry.{Entry}
@@ -111,14 +110,14 @@ module _ {R : Type 0} where
       let e : Entry R = entry_at riding.fresh home (request_block request) in
       subst (λ (a : HomeAnswer R). IfSome a.send (λ s. s.0 < n)) (sym is)
       (answer_below (request_row e.stage c (ask_of request)) (request_block request) (entry_after_request riding.absorbed e c request) n
-          (request_below e.stage c (ask_of request) n h (names_at riding.fresh home n (request_block request) names within)))
+      (request_below e.stage c (ask_of request) n h (names_at riding.fresh home n (request_block request) names within)))
 
   pub response_named : (riding : Riding R) (home : List (Entry R)) (n c : ℕ) (response : Response R) (answer : HomeAnswer R) → All (λ x. IsTrue (names_below x.stage n)) home → response_block response < length home → answer ≡ answer_to_response riding.absorbed (entry_at riding.fresh home (response_block response)) c response → IfSome answer.send (λ s. s.0 < n)
   response_named riding home n c response answer names within is =
       let e : Entry R = entry_at riding.fresh home (response_block response) in
       subst (λ (a : HomeAnswer R). IfSome a.send (λ s. s.0 < n)) (sym is)
       (answer_below (response_row e.stage c (reply_of response)) (response_block response) (entry_after_response riding.absorbed e c response) n
-          (response_below e.stage c (reply_of response) n (names_at riding.fresh home n (response_block response) names within)))
+      (response_below e.stage c (reply_of response) n (names_at riding.fresh home n (response_block response) names within)))
 
 module _ {R K : Type 0} where
   -- what the home does with the head of core c's requests, and the delivery of its answer, are the step

@@ -1,17 +1,15 @@
 -- Where a run that is recorded stands, from its start on.
-use Rattle.std.proofs.Common.{◌≡◌, ◌∙◌, refl, sym, ap, subst, ℕ, suc, ◌+◌, ◌<◌, ◌≤◌, ◌⊎◌, inl, inr, false, List, [], ◌∷◌, ◌++◌, append-nil, length, Some, None, arith}
-use Rattle.std.specs.Prelude.{reverse, replicate, All, slice_index, slice_index_or}
-use Rattle.std.proofs.lemmas.List.{get_or-replicate, get_or_past, length-map, length-replicate}
+use Rattle.std.proofs.Common.{◌≡◌, ◌∙◌, refl, sym, ap, subst, ℕ, suc, ◌+◌, ◌<◌, false, List, [], ◌∷◌, ◌++◌, append-nil, length, Some, None, arith}
+use Rattle.std.specs.Prelude.{reverse, replicate, All, slice_index}
+use Rattle.std.proofs.lemmas.List.{length-map}
 use Rattle.std.proofs.lemmas.List.Elements.{All-from_get_or}
 use Rattle.std.proofs.lemmas.List.FromFn.{length-map-range_with_len}
 use Rattle.access_times.specs.Times.{times_riding}
 use Rattle.access_times.specs.declared.carries.NoCarry.{NoCarry}
 use Rattle.access_times.specs.declared.word_times.Times.{Times}
-use Rattle.clock_core.specs.Counts.{no_counts}
 use Rattle.clock_core.specs.declared.vector_clock.Clock.{Clock}
 use Rattle.image_mem.specs.Contents.{Contents}
 use Rattle.rtr_types.specs.Parameters.{Fits}
-use Rattle.rtr_types.specs.declared.TheConstants.{CORES_MAX}
 use Rattle.rtr_types.specs.declared.accesses.Access.{Access}
 use Rattle.rtr_types.specs.declared.nodes.Edge.{Edge}
 use Rattle.rtr_types.specs.declared.nodes.Instr.{Instr}

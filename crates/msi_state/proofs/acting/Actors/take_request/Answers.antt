@@ -1,5 +1,5 @@
 -- The home takes the request, and its answer goes on its way.
-use Rattle.std.proofs.Common.{rules, arith, ◌≡◌, ◌∙◌, ap, sym, subst, ◌<◌, ◌∷◌, ◌++◌, IsTrue, List, length, drop, take}
+use Rattle.std.proofs.Common.{arith, ◌≡◌, ◌∙◌, ap, sym, subst, ◌<◌, ◌∷◌, ◌++◌, IsTrue, List, length, drop, take}
 use Rattle.std.specs.Prelude.{All, slice_set}
 use Rattle.std.specs.Option.{IfSome}
 use Rattle.std.proofs.lemmas.Bool.Decides.{nat_tests}
@@ -8,7 +8,7 @@ use Rattle.msi_cache.specs.Messages.{request_block}
 use Rattle.msi_directory.specs.Blocks.{entry_at}
 use Rattle.msi_directory.specs.Entries.{answer_riding, answer_to_request}
 use Rattle.msi_directory.specs.declared.entries.Entry.{Entry}
-use Rattle.msi_state.specs.Ready.{can_request_in, names_below}
+use Rattle.msi_state.specs.Ready.{names_below}
 use Rattle.msi_state.specs.States.{Machinery, State, node_at}
 use Rattle.msi_state.specs.Steps.{node_requested, request_moved}
 use Rattle.msi_state.specs.declared.actors.Node.{Node}
@@ -26,7 +26,7 @@ deliver-requires-clause-to g c =
     subst (λ (n : Node g.row.R.Denot g.row.K.Denot). n.requests.items ≡ c.in-Some.mail.now ∷ drop 1 n.requests.items) (here ∙ ap (λ ns. node_at g.K.Carry.carrying ns c.args.c) nodes) c.in-Some.ensures.rest in
     let names : All (λ (e : Entry g.row.R.Denot). IsTrue (names_below e.stage (length c.args.self.now.state.nodes))) c.args.self.now.state.home = c.requires.names in
     let whole : answer_riding c.rider-rider.result.now c.serve-answer.result
-        ≡ answer_to_request g.R.Rider.riding.absorbed (entry_at g.R.Rider.riding.fresh c.args.self.now.state.home (request_block c.in-Some.mail.now.item)) c.args.c c.in-Some.mail.now.item =
+    ≡ answer_to_request g.R.Rider.riding.absorbed (entry_at g.R.Rider.riding.fresh c.args.self.now.state.home (request_block c.in-Some.mail.now.item)) c.args.c c.in-Some.mail.now.item =
     ridden g.R.Rider.riding.fresh c.serve-answer.new.home.entries c.block-block.result (request_block c.in-Some.mail.now.item) c.rider-rider.result.now c.serve-answer.result _ c.rider-rider.ensures c.block-block.ensures c.serve-answer.ensures.answer
     ∙ ap (λ entries. answer_to_request g.R.Rider.riding.absorbed (entry_at g.R.Rider.riding.fresh entries (request_block c.in-Some.mail.now.item)) c.args.c c.in-Some.mail.now.item) home in
     let within : request_block c.in-Some.mail.now.item < length c.args.self.now.state.home = request_within g.R.Rider.riding c.args.self.now.state c.args.c old.requests.items c.in-Some.mail.now (drop 1 old.requests.items) head c.requires.row in
@@ -45,7 +45,7 @@ returns-clause-state g c =
     let head : old.requests.items ≡ c.in-Some.mail.now ∷ drop 1 old.requests.items =
     subst (λ (n : Node g.row.R.Denot g.row.K.Denot). n.requests.items ≡ c.in-Some.mail.now ∷ drop 1 n.requests.items) here c.in-Some.ensures.rest in
     let whole : answer_riding c.rider-rider.result.now c.serve-answer.result
-        ≡ answer_to_request g.R.Rider.riding.absorbed (entry_at g.R.Rider.riding.fresh c.self.inside.home.entries (request_block c.in-Some.mail.now.item)) c.args.c c.in-Some.mail.now.item =
+    ≡ answer_to_request g.R.Rider.riding.absorbed (entry_at g.R.Rider.riding.fresh c.self.inside.home.entries (request_block c.in-Some.mail.now.item)) c.args.c c.in-Some.mail.now.item =
     ridden g.R.Rider.riding.fresh c.serve-answer.new.home.entries c.block-block.result (request_block c.in-Some.mail.now.item) c.rider-rider.result.now c.serve-answer.result _ c.rider-rider.ensures c.block-block.ensures c.serve-answer.ensures.answer in
     let taken : record c.index_mut.result.now { requests = c.drop_head.new.self } ≡ node_requested old (drop 1 old.requests.items) =
     request_taken c.index_mut.result.now c.drop_head.new.self c.drop_head.ensures.room c.drop_head.ensures.items

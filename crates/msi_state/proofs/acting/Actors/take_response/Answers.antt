@@ -1,5 +1,5 @@
 -- The home takes the response, and its answer goes on its way.
-use Rattle.std.proofs.Common.{rules, arith, ◌≡◌, ◌∙◌, ap, sym, subst, ◌<◌, ◌∷◌, ◌++◌, IsTrue, List, length, drop, take}
+use Rattle.std.proofs.Common.{arith, ◌≡◌, ◌∙◌, ap, sym, subst, ◌<◌, ◌∷◌, ◌++◌, IsTrue, List, length, drop, take}
 use Rattle.std.specs.Prelude.{All, slice_set}
 use Rattle.std.specs.Option.{IfSome}
 use Rattle.std.proofs.lemmas.Bool.Decides.{nat_tests}
@@ -8,7 +8,7 @@ use Rattle.msi_cache.specs.Messages.{response_block}
 use Rattle.msi_directory.specs.Blocks.{entry_at}
 use Rattle.msi_directory.specs.Entries.{answer_riding, answer_to_response}
 use Rattle.msi_directory.specs.declared.entries.Entry.{Entry}
-use Rattle.msi_state.specs.Ready.{can_respond_in, names_below}
+use Rattle.msi_state.specs.Ready.{names_below}
 use Rattle.msi_state.specs.States.{Machinery, State, node_at}
 use Rattle.msi_state.specs.Steps.{node_responded, response_moved}
 use Rattle.msi_state.specs.declared.actors.Node.{Node}
@@ -26,7 +26,7 @@ deliver-requires-clause-to g c =
     subst (λ (n : Node g.row.R.Denot g.row.K.Denot). n.responses.items ≡ c.in-Some.mail.now ∷ drop 1 n.responses.items) (here ∙ ap (λ ns. node_at g.K.Carry.carrying ns c.args.c) nodes) c.in-Some.ensures.rest in
     let names : All (λ (e : Entry g.row.R.Denot). IsTrue (names_below e.stage (length c.args.self.now.state.nodes))) c.args.self.now.state.home = c.requires.names in
     let whole : answer_riding c.rider-rider.result.now c.collect-answer.result
-        ≡ answer_to_response g.R.Rider.riding.absorbed (entry_at g.R.Rider.riding.fresh c.args.self.now.state.home (response_block c.in-Some.mail.now.item)) c.args.c c.in-Some.mail.now.item =
+    ≡ answer_to_response g.R.Rider.riding.absorbed (entry_at g.R.Rider.riding.fresh c.args.self.now.state.home (response_block c.in-Some.mail.now.item)) c.args.c c.in-Some.mail.now.item =
     ridden g.R.Rider.riding.fresh c.collect-answer.new.home.entries c.block-block.result (response_block c.in-Some.mail.now.item) c.rider-rider.result.now c.collect-answer.result _ c.rider-rider.ensures c.block-block.ensures c.collect-answer.ensures.answer
     ∙ ap (λ entries. answer_to_response g.R.Rider.riding.absorbed (entry_at g.R.Rider.riding.fresh entries (response_block c.in-Some.mail.now.item)) c.args.c c.in-Some.mail.now.item) home in
     let within : response_block c.in-Some.mail.now.item < length c.args.self.now.state.home = response_within g.R.Rider.riding c.args.self.now.state c.args.c old.responses.items c.in-Some.mail.now (drop 1 old.responses.items) head c.requires.row in
@@ -45,7 +45,7 @@ returns-clause-state g c =
     let head : old.responses.items ≡ c.in-Some.mail.now ∷ drop 1 old.responses.items =
     subst (λ (n : Node g.row.R.Denot g.row.K.Denot). n.responses.items ≡ c.in-Some.mail.now ∷ drop 1 n.responses.items) here c.in-Some.ensures.rest in
     let whole : answer_riding c.rider-rider.result.now c.collect-answer.result
-        ≡ answer_to_response g.R.Rider.riding.absorbed (entry_at g.R.Rider.riding.fresh c.self.inside.home.entries (response_block c.in-Some.mail.now.item)) c.args.c c.in-Some.mail.now.item =
+    ≡ answer_to_response g.R.Rider.riding.absorbed (entry_at g.R.Rider.riding.fresh c.self.inside.home.entries (response_block c.in-Some.mail.now.item)) c.args.c c.in-Some.mail.now.item =
     ridden g.R.Rider.riding.fresh c.collect-answer.new.home.entries c.block-block.result (response_block c.in-Some.mail.now.item) c.rider-rider.result.now c.collect-answer.result _ c.rider-rider.ensures c.block-block.ensures c.collect-answer.ensures.answer in
     let taken : record c.index_mut.result.now { responses = c.drop_head.new.self } ≡ node_responded old (drop 1 old.responses.items) =
     response_taken c.index_mut.result.now c.drop_head.new.self c.drop_head.ensures.room c.drop_head.ensures.items
