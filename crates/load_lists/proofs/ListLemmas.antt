@@ -1,8 +1,8 @@
 -- One list of loads is changed, or gets room.
-use Rattle.std.proofs.Common.{◌≡◌, ℕ, ◌+◌, ◌<◌, Bool, true, ◌&&◌, List, [], ◌∷◌, ◌++◌, length, take, get_or, refl, sym, ap, ◌∙◌, arith, zero, suc}
+use Rattle.std.proofs.Common.{◌≡◌, ℕ, ◌+◌, ◌<◌, Bool, true, ◌&&◌, List, [], ◌∷◌, ◌++◌, length, take, get_or, refl, sym, ap, subst, ◌∙◌, ◌≤◌, arith, zero, suc, IsTrue}
 use Rattle.std.specs.Prelude.{map, slice_index_or, slice_set}
 use Rattle.std.specs.List.{list_all}
-use Rattle.std.proofs.lemmas.List.{map-set, take_more_set, length-map}
+use Rattle.std.proofs.lemmas.List.{map-set, take_all, take_more_set, length-map}
 use Rattle.std.proofs.lemmas.List.Folds.{list_all-append}
 use Rattle.std.proofs.Math.Seq.{map-set_same}
 use Rattle.std.proofs.lemmas.Bool.Decides.{nat_tests}
@@ -43,3 +43,32 @@ made_more before rooms i old new within is kept has made = record {
 
 pub length-seen : (rooms : List LoadRoom) (lists : List (List LoadNote)) → map (λ (l : LoadRoom). l.notes) rooms ≡ lists → length rooms ≡ length lists
 length-seen rooms lists is = sym (length-map rooms (λ (l : LoadRoom). l.notes)) ∙ ap length is
+
+both_true : (a b : Bool) → IsTrue a → IsTrue b → IsTrue (a && b)
+both_true a b p q = grind arith
+
+first_true : (a b : Bool) → IsTrue (a && b) → IsTrue a
+first_true a b p = grind arith
+
+second_true : (a b : Bool) → IsTrue (a && b) → IsTrue b
+second_true a b p = grind arith
+
+-- each list still has room where the one that changed has
+pub still_roomy : (rooms : List LoadRoom) (i : ℕ) (new : LoadRoom) → IsTrue (list_all is_roomy rooms) → IsTrue (is_roomy new) → IsTrue (list_all is_roomy (slice_set rooms i new))
+still_roomy [] i new all has = all
+still_roomy (r ∷ rooms) zero new all has = both_true (is_roomy new) (list_all is_roomy rooms) has (second_true (is_roomy r) (list_all is_roomy rooms) all)
+still_roomy (r ∷ rooms) (suc i) new all has =
+    both_true (is_roomy r) (list_all is_roomy (slice_set rooms i new)) (first_true (is_roomy r) (list_all is_roomy rooms) all)
+    (still_roomy rooms i new (second_true (is_roomy r) (list_all is_roomy rooms) all) has)
+
+-- what is known of the lists after a load was put at the end of one
+pub known_after : (rooms : List LoadRoom) (i : ℕ) (new : LoadRoom) (known roomy : Bool) → (IsTrue known → IsTrue (list_all is_roomy rooms)) → roomy ≡ is_roomy new → IsTrue (known && roomy) → IsTrue (list_all is_roomy (slice_set rooms i new))
+known_after rooms i new known roomy before is both =
+    still_roomy rooms i new (before (first_true known roomy both)) (subst IsTrue is (second_true known roomy both))
+
+-- once room was made for each list, all have it
+pub all_made : (before rooms : List LoadRoom) (n : ℕ) → length rooms ≤ n → Made before rooms n → IsTrue (list_all is_roomy rooms)
+all_made before rooms n whole made = is_true (list_all is_roomy rooms) (ap (list_all is_roomy) (sym (take_all n rooms whole)) ∙ made.roomy)
+  where
+    is_true : (b : Bool) → b ≡ true → IsTrue b
+    is_true b e = grind arith

@@ -46,12 +46,14 @@ impl LoadList {
         self.notes.reserve(1)
     }
 
-    /// Puts the load at the end.
-    pub(crate) fn note(&mut self, note: LoadNote)
+    /// Puts the load at the end, and answers whether there is room for one load more.
+    pub(crate) fn note(&mut self, note: LoadNote) -> bool
         requires { length self.old.notes < self.old.room }
-        ensures { self.new.notes ≡ self.old.notes ++ note ∷ [] }
+        ensures notes { self.new.notes ≡ self.old.notes ++ note ∷ [] }
+        ensures room { result ≡ nat_lt (length self.new.notes) self.new.room }
     {
         self.notes.push_reserved(note);
+        self.has_room()
     }
 
     /// The loads.

@@ -13,14 +13,21 @@ use std::marker::Model;
 #[derive(Drop)]
 pub struct LoadLists {
     lists: Vec<LoadList>,
+    /// Set only where each list has room for one more load, so that this is looked up once and not at
+    /// each step of a machine.
+    known_roomy: bool,
 }
 
 impl Model for LoadLists {
-    ghost use Rattle.load_lists.specs.Lists.{LoadRooms, seen_as};
+    ghost use Rattle.std.specs.Prelude.{IsTrue};
+    ghost use Rattle.std.specs.List.{list_all};
+    ghost use Rattle.load_lists.specs.Lists.{LoadRooms, is_roomy, seen_as};
 
     ghost Value = { LoadRooms };
 
     ghost view = { λ a. seen_as a.lists.items };
+
+    ghost invariant = { λ a. IsTrue a.known_roomy → IsTrue (list_all is_roomy a.lists.items) };
 }
 
 impl LoadLists {
@@ -32,7 +39,10 @@ impl LoadLists {
         for core in 0..cores {
             lists.push(LoadList::new(alloc))?;
         }
-        Ok(LoadLists { lists })
+        Ok(LoadLists {
+            lists,
+            known_roomy: false,
+        })
     }
 
     /// Makes room for one more load of each core, so that `note` needs no memory. After want of memory
@@ -41,9 +51,13 @@ impl LoadLists {
         ensures lists { self.new.lists ≡ self.old.lists }
         ensures roomy { OnOk result (IsTrue self.new.roomy) }
     {
+        if self.known_roomy {
+            return Ok(());
+        }
         for core in 0..self.lists.len() {
             self.lists[core].make_room()?;
         }
+        self.known_roomy = true;
         Ok(())
     }
 
@@ -51,6 +65,9 @@ impl LoadLists {
     pub fn has_room(&self) -> bool
         ensures { result ≡ self.now.roomy }
     {
+        if self.known_roomy {
+            return true;
+        }
         for list in &self.lists {
             if !list.has_room() {
                 return false;
@@ -65,14 +82,15 @@ impl LoadLists {
         requires room { IsTrue self.old.roomy }
         ensures { self.new.lists ≡ noted self.old.lists core note }
     {
-        self.lists[core as usize].note(note);
+        let roomy = self.lists[core as usize].note(note);
+        self.known_roomy &= roomy;
     }
 
     /// The lists.
     pub fn into_items(self, alloc: Global) -> Result<Items<Items<LoadNote>>, AllocError>
         ensures { IfOk result (λ items. items ≡ self.lists) }
     {
-        let LoadLists { lists } = self;
+        let LoadLists { lists, .. } = self;
         let mut items = Items::new(alloc);
         for list in lists {
             items.push(list.into_items())?;

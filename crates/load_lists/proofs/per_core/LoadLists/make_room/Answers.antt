@@ -2,7 +2,7 @@ use Rattle.std.proofs.Common.{ap, ◌∙◌, arith}
 use Rattle.std.proofs.lemmas.List.{length-set}
 use Rattle.std.proofs.Math.Seq.{map-set_same}
 use Rattle.load_lists.specs.Lists.{LoadRoom}
-use Rattle.load_lists.proofs.ListLemmas.{made_more}
+use Rattle.load_lists.proofs.ListLemmas.{all_made, made_more}
 use Rattle.load_lists.proofs.per_core.LoadLists.make_room.Goals as goal
 
 pub returns-in_err-make_room-clause-lists : goal.returns-in_err-make_room-clause-lists
@@ -15,4 +15,8 @@ loop-core-preserved c = record {
   made = made_more c.self.inside.lists.items c.loop-core.self-inside.lists.items c.loop-core.core c.index_mut.result.now c.make_room.new.self
       (omega (arith, c.loop-core.invariant.length, c.loop-core-test.true)) c.index_mut.ensures.value c.make_room.ensures.notes c.in_ok-make_room.ensures.room c.loop-core.invariant.made;
   length = length-set c.loop-core.self-inside.lists.items c.loop-core.core c.make_room.new.self ∙ c.loop-core.invariant.length;
+  known = c.loop-core.invariant.known;
 }
+
+pub invariant_of-self-2 : goal.invariant_of-self-2
+invariant_of-self-2 c = λ e. all_made c.self.inside.lists.items c.loop-core.self-inside.lists.items c.loop-core.core (omega (arith, c.loop-core.invariant.length, c.loop-core-test.false)) c.loop-core.invariant.made

@@ -2,12 +2,15 @@ use Rattle.std.proofs.Common.{ap, ◌∙◌, arith}
 use Rattle.std.specs.Prelude.{List}
 use Rattle.rv_core.specs.declared.outcomes.LoadNote.{LoadNote}
 use Rattle.load_lists.specs.Lists.{noted}
-use Rattle.load_lists.proofs.ListLemmas.{noted_at, length-seen}
+use Rattle.load_lists.proofs.ListLemmas.{known_after, noted_at, length-seen}
 use Rattle.load_lists.proofs.per_core.LoadLists.note.Goals as goal
 
 pub returns : goal.returns
 returns c =
     let is = ap (λ v. v.lists) c.self.view_is in
-    noted_at c.self.inside.lists.items c.args.core c.args.note c.index_mut.result.now c.note.new.self
-    (omega (arith, length-seen c.self.inside.lists.items c.args.self.now.lists is, c.requires.core)) c.index_mut.ensures.value c.note.ensures
+    noted_at c.self.inside.lists.items c.args.core c.args.note c.index_mut.result.now c.note-roomy.new.self
+    (omega (arith, length-seen c.self.inside.lists.items c.args.self.now.lists is, c.requires.core)) c.index_mut.ensures.value c.note-roomy.ensures.notes
     ∙ ap (λ (lists : List (List LoadNote)). noted lists c.args.core c.args.note) is
+
+pub invariant_of-self : goal.invariant_of-self
+invariant_of-self c = λ e. known_after c.self.inside.lists.items c.args.core c.note-roomy.new.self c.self.inside.known_roomy c.note-roomy.result c.self.invariant c.note-roomy.ensures.room e
