@@ -43,7 +43,7 @@ note_of list (Some b) (Some n) at clock is e =
 
 -- an access that stands here has its note
 noted_of : (list : List Access) (here : Option Access) (note : Option (Instr × Clock)) (b : Access) → IsNoteOf list here note → here ≡ Some b → (n : Instr × Clock) × (note ≡ Some n) × (n.0 ≡ b.at)
-noted_of list None note b is e = absurd (none_some b e)
+noted_of list None n b is e = absurd (none_some b e)
 noted_of list (Some d) None b is e = absurd is
 noted_of list (Some d) (Some n) b is e = (n, refl, is.0 ∙ ap (λ (v : Access). v.at) (some_is d b e))
 

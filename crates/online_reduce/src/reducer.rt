@@ -12,7 +12,7 @@ use crate::rule::{EdgeList, clock_into, edges_into, note};
 use crate::sources::{Source, candidates, is_alone, is_of_other, slot_of};
 use access_times::Times;
 use clock_core::Clock;
-use rtr_types::{Access, CORES_MAX, Instr, Items, Kind};
+use rtr_types::{Access, CORES_MAX, Instr, Items};
 use smallvec::SmallVec;
 use std::alloc::{AllocError, Global};
 use std::marker::Model;
@@ -145,9 +145,10 @@ impl Reducer {
             IsReduction list self.old.state edges → AreExactFor list access.now times.old →
             IsReduction (list ++ access.now ∷ []) self.new.state (edges ++ edges_of self.old.state access.now times.old) }
     {
-        match access.kind {
-            Kind::Load => self.touch_load(access, times),
-            Kind::Store => self.touch_store(access, times),
+        if access.kind.is_write() {
+            self.touch_store(access, times);
+        } else {
+            self.touch_load(access, times);
         }
     }
 
@@ -164,7 +165,7 @@ impl Reducer {
         edges_into(self.alloc, access.at, before, found.as_slice())
     }
 
-    /// A load, which has at most one candidate, so that no list of them is made.
+    /// An access that only reads: it has at most one candidate, so that no list of them is made.
     fn touch_load(&mut self, access: &Access, times: &mut Times)
         requires load { is_write access.now.kind ≡ false }
         requires ready { IsTrue self.old.ready }
@@ -186,7 +187,7 @@ impl Reducer {
         self.settle(access, &[], times);
     }
 
-    /// A store, whose candidates are listed only where there may be one.
+    /// An access that writes, whose candidates are listed only where there may be one.
     fn touch_store(&mut self, access: &Access, times: &mut Times)
         requires ready { IsTrue self.old.ready }
         requires next { IsNext self.old.state access.now.at }

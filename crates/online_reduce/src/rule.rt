@@ -11,7 +11,7 @@ use crate::EDGES_MAX;
 use crate::sources::{Source, slot_of};
 use access_times::Times;
 use clock_core::Clock;
-use rtr_types::{Access, Edge, Instr, Kind};
+use rtr_types::{Access, Edge, Instr};
 use smallvec::SmallVec;
 use std::alloc::Global;
 
@@ -81,8 +81,9 @@ pub fn note(access: &Access, clock: Clock, times: &mut Times)
     ensures { times.new ≡ times_noted access.now times.old clock }
 {
     let slot = slot_of(access.word);
-    match access.kind {
-        Kind::Load => times.on_load(slot, access.at, clock),
-        Kind::Store => times.on_store(slot, access.at, clock),
+    if access.kind.is_write() {
+        times.on_store(slot, access.at, clock);
+    } else {
+        times.on_load(slot, access.at, clock);
     }
 }
