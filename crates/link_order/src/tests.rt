@@ -21,7 +21,7 @@ fn hands_back_what_it_has_no_room_for(rt: HostRuntime) -> Result<(), Fail> {
 
 #[test]
 fn goes_round(rt: HostRuntime) -> Result<(), Fail> {
-    let mut link = Link::filled(rt.alloc(), 2, 9u32)?;
+    let mut link = Link::<u32>::new(rt.alloc(), 2)?;
     link.drop_head();
     assert_eq!(rt; (link.len(), link.capacity()), (0, 2));
     *link.push_place() = 5;
