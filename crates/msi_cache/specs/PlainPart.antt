@@ -3,14 +3,11 @@ use Rattle.std.specs.Prelude.{◌≡◌, ℕ, List, Option, Some, None, map}
 use Rattle.access_times.specs.Riding.{Riding, none_riding}
 use Rattle.rtr_types.specs.declared.accesses.Kind.{Kind}
 use Rattle.msi_cache.specs.Lines.{has_row, answer, asks, is_allowed, waits, lines_after, lines_asking, lines_put, lines_riding, line_for}
-use Rattle.msi_cache.specs.Messages.{block_of}
+use Rattle.msi_cache.specs.Messages.{block_of, message_with, request_with, response_with}
 use Rattle.msi_cache.specs.declared.copies.Line.{Line}
 use Rattle.msi_cache.specs.declared.messages.FromHome.{FromHome}
-use Rattle.msi_cache.specs.declared.messages.FromHome.TheVariants.{FwdGetS, FwdGetM, Inv, PutAck, BlockData}
 use Rattle.msi_cache.specs.declared.messages.Response.{Response}
-use Rattle.msi_cache.specs.declared.messages.Response.TheVariants.{InvAck, OwnerData}
 use Rattle.msi_cache.specs.declared.messages.Request.{Request}
-use Rattle.msi_cache.specs.declared.messages.Request.TheVariants.{GetS, GetM, PutS, PutM}
 
 module _ {R : Type 0} where
   abbrev pub plain_line : Line R → Line (Unit {0})
@@ -20,21 +17,13 @@ module _ {R : Type 0} where
   plain_lines lines = map plain_line lines
 
   abbrev pub plain_message : FromHome R → FromHome (Unit {0})
-  plain_message (FwdGetS block) = FwdGetS block
-  plain_message (FwdGetM block) = FwdGetM block
-  plain_message (Inv block) = Inv block
-  plain_message (PutAck block) = PutAck block
-  plain_message (BlockData block words rider) = BlockData block words tt
+  plain_message m = message_with (λ rider. tt) m
 
   abbrev pub plain_response : Response R → Response (Unit {0})
-  plain_response (InvAck block rider) = InvAck block tt
-  plain_response (OwnerData block words rider) = OwnerData block words tt
+  plain_response response = response_with (λ rider. tt) response
 
   abbrev pub plain_request : Request R → Request (Unit {0})
-  plain_request (GetS block) = GetS block
-  plain_request (GetM block) = GetM block
-  plain_request (PutS block rider) = PutS block tt
-  plain_request (PutM block words rider) = PutM block words tt
+  plain_request request = request_with (λ rider. tt) request
 
   abbrev pub plain_answer : Option (Response R) → Option (Response (Unit {0}))
   plain_answer None = None

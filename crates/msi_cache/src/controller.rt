@@ -1,5 +1,5 @@
 //! A core's cache.
-ghost use Rattle.std.specs.Prelude.{◌≡◌, ◌<◌, ℕ, List, IfOk, IsTrue, false, length, replicate, slice_index, is_some};
+ghost use Rattle.std.specs.Prelude.{◌≡◌, ◌<◌, ℕ, List, IfOk, IsTrue, false, true, length, replicate, slice_index, is_some};
 ghost use Rattle.std.specs.Borrow.{sem};
 ghost use Rattle.msi_cache.specs.Lent.{LendsRider};
 ghost use Rattle.msi_cache.specs.Lines.{answer, asks, can_read, can_write, empty_line, has_row, is_allowed, line_for, lines_after, lines_asking, lines_put, wanted, waits, SameElsewhere};
@@ -167,6 +167,7 @@ impl<R: Rider> Cache<R> {
         requires still { waits self.old ≡ false }
         requires needed { is_allowed (line_for R.riding.fresh self.old block) block kind ≡ false }
         ensures lines { self.new ≡ lines_asking R.riding self.old block kind }
+        ensures waits { waits self.new ≡ true }
         ensures elsewhere { SameElsewhere R.riding.fresh self.old self.new block }
     {
         self.lines[block as usize % LINES].ask(block, kind);

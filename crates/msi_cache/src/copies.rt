@@ -1,5 +1,5 @@
 //! One line of a cache: a block's copy and the state that it is in.
-ghost use Rattle.std.specs.Prelude.{◌≡◌, IsTrue, false, is_some};
+ghost use Rattle.std.specs.Prelude.{◌≡◌, IsTrue, false, true, is_some};
 ghost use Rattle.msi_cache.specs.Lines.{answer, asks, can_read, can_write, empty_line, has_row, is_allowed, line_after, line_asking, wanted};
 ghost use Rattle.msi_cache.specs.Messages.{answer_seen, message_seen, request_seen};
 ghost use Rattle.msi_cache.specs.Table.{Signal, is_transient, row};
@@ -135,7 +135,8 @@ impl<R: Rider> Line<R> {
     pub(crate) fn ask(&mut self, block: u32, kind: Kind)
         requires still { is_transient self.old.state ≡ false }
         requires needed { is_allowed self.old block kind ≡ false }
-        ensures { self.new ≡ line_asking self.old block kind }
+        ensures line { self.new ≡ line_asking self.old block kind }
+        ensures waits { is_transient self.new.state ≡ true }
     {
         self.state = match self.state {
             State::S if self.block == block => State::SmD,

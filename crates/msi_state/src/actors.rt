@@ -239,7 +239,7 @@ impl<R: Rider, K: Carry> Node<R, K> {
         mail.item.put(self.cache.wanted(block, kind));
         mail.carry = self.carry;
         self.cache.ask(block, kind);
-        standing.waits = self.cache.waits();
+        standing.waits = true;
         None
     }
 
