@@ -4,6 +4,7 @@ ghost use Rattle.std.specs.Prelude.{◌*◌, ◌+◌, ◌%◌, ◌^◌};
 
 use super::*;
 use crate::copies::State;
+use crate::slots::{FromHomeSlot, RequestSlot, ResponseSlot};
 use std::process::Abort;
 use std::test::Fail;
 
@@ -335,4 +336,31 @@ fn writes_a_word_and_lends_the_rider(rt: HostRuntime) -> Result<(), Fail> {
     assert_eq!(rt; take(&rt, &mut cache, Step::FwdGetM), given);
     assert!(rt; !cache.can_read(4));
     Ok(())
+}
+
+#[test]
+fn messages_lie_in_their_places(rt: HostRuntime) {
+    let rider = Trail { digits: 7 };
+    let put = Request::PutM {
+        block: 4,
+        words: [1, 2, 3, 4],
+        rider,
+    };
+    let mut request = RequestSlot::<Trail>::default();
+    request.put(put.lent());
+    assert_eq!(rt; (request.block(), request.open().owned()), (4, put));
+    request.put(Request::GetS { block: 5 });
+    assert_eq!(rt; request.open().owned(), Request::GetS { block: 5 });
+    let ack = Response::InvAck { block: 4, rider };
+    let mut response = ResponseSlot::<Trail>::default();
+    response.put(ack.lent());
+    assert_eq!(rt; (response.block(), response.open().owned()), (4, ack));
+    let data = FromHome::<()>::BlockData {
+        block: 4,
+        words: [1, 2, 3, 4],
+        rider: (),
+    };
+    let mut message = FromHomeSlot::<Trail>::default();
+    message.put(data.riding(&rider));
+    assert_eq!(rt; message.open(), data.riding(&rider));
 }
