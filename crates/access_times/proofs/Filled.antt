@@ -5,12 +5,11 @@ use Rattle.std.proofs.lemmas.List.{get_or-set_same, get_or-set_other, length-set
 use Rattle.std.proofs.lemmas.Bool.Decides.{nat_tests}
 use Rattle.std.specs.List.{range_with_len}
 use Rattle.std.proofs.lemmas.List.FromFn.{fill_by_all}
-use Rattle.rtr_types.specs.declared.nodes.Instr.{Instr}
-use Rattle.rtr_types.specs.declared.TheConstants.{CORES_MAX}
-use Rattle.clock_core.specs.declared.vector_clock.Clock.{Clock}
-use Rattle.access_times.specs.declared.TheConstants.{BLOCK_WORDS}
-use Rattle.access_times.specs.declared.word_times.SlotTimes.{SlotTimes}
-use Rattle.access_times.specs.declared.word_times.Times.{Times}
+use Rattle.rtr_types.specs.declared.instr.Instr.{Instr}
+use Rattle.clock_core.specs.declared.clock.Clock.{Clock}
+use Rattle.rtr_types.specs.declared.TheConstants.{BLOCK_WORDS, CORES_MAX}
+use Rattle.access_times.specs.declared.times.SlotTimes.{SlotTimes}
+use Rattle.access_times.specs.declared.times.Times.{Times}
 use Rattle.access_times.specs.Times.{newer_read, read_in, no_reads, slot_loaded, times_loaded, times_stored, reads_absorbed, slot_absorbed, is_same_write, slot_at, missing_slot, times_absorbed}
 
 pub reads_filled : (a b reads : List (Option (ℕ × Clock))) (core : ℕ) → length reads ≡ CORES_MAX → CORES_MAX ≤ core → ((k : ℕ) → k < core → read_in reads k ≡ newer_read (read_in a k) (read_in b k)) → reads ≡ reads_absorbed a b

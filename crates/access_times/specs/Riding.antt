@@ -1,5 +1,5 @@
 -- What a type of riders and one of carries compute, each as one value that definitions can take.
-use Rattle.rtr_types.specs.declared.nodes.Instr.{Instr}
+use Rattle.rtr_types.specs.declared.instr.Instr.{Instr}
 
 -- a rider that holds nothing, and the first rider once it has absorbed the second
 pub record Riding (R : Type 0) : Type 0 where

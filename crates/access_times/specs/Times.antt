@@ -3,15 +3,14 @@
 use Rattle.std.specs.Prelude.{ℕ, ◌==◌, ◌%◌, nat_lt, Bool, true, false, ◌&&◌, Option, Some, None, List, [], slice_index_or, replicate, map, if◌then◌else◌}
 use Rattle.std.specs.List.{range_with_len}
 use Rattle.std.specs.Str.{bytes_eq}
-use Rattle.rtr_types.specs.declared.nodes.Instr.{Instr}
-use Rattle.rtr_types.specs.declared.accesses.Access.{Access}
-use Rattle.rtr_types.specs.declared.accesses.Kind.{Kind}
-use Rattle.rtr_types.specs.declared.accesses.Kind.TheVariants.{Load}
-use Rattle.rtr_types.specs.declared.TheConstants.{CORES_MAX}
-use Rattle.clock_core.specs.declared.vector_clock.Clock.{Clock}
-use Rattle.access_times.specs.declared.TheConstants.{BLOCK_WORDS}
-use Rattle.access_times.specs.declared.word_times.SlotTimes.{SlotTimes}
-use Rattle.access_times.specs.declared.word_times.Times.{Times}
+use Rattle.rtr_types.specs.declared.instr.Instr.{Instr}
+use Rattle.rtr_types.specs.declared.access.Access.{Access}
+use Rattle.rtr_types.specs.declared.access.Kind.{Kind}
+use Rattle.rtr_types.specs.declared.access.Kind.TheVariants.{Load}
+use Rattle.clock_core.specs.declared.clock.Clock.{Clock}
+use Rattle.rtr_types.specs.declared.TheConstants.{BLOCK_WORDS, CORES_MAX}
+use Rattle.access_times.specs.declared.times.SlotTimes.{SlotTimes}
+use Rattle.access_times.specs.declared.times.Times.{Times}
 use Rattle.access_times.specs.Riding.{Riding}
 
 -- both are none, or they are one write with one clock

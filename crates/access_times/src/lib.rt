@@ -2,22 +2,18 @@
 //! each retirement.
 #![tactic(auto)]
 
-mod carries;
-mod clerks;
+mod carry;
+mod clerk;
 #[cfg(test)]
 mod noter_tests;
-mod riders;
+mod rider;
 #[cfg(test)]
 mod tests;
-mod times_clerks;
-mod word_times;
+mod times;
+mod times_clerk;
 
-pub use carries::{Carry, NoCarry};
-pub use clerks::Clerk;
-pub use riders::{NoRider, Rider};
-pub use times_clerks::TimesClerk;
-pub use word_times::Times;
-
-/// How many words a block has. A word's block is `word / BLOCK_WORDS`, its slot in the block is
-/// `word % BLOCK_WORDS`.
-pub const BLOCK_WORDS: usize = 4;
+pub use carry::{Carry, NoCarry};
+pub use clerk::Clerk;
+pub use rider::{NoRider, Rider};
+pub use times::Times;
+pub use times_clerk::TimesClerk;

@@ -1,6 +1,6 @@
 -- Paths, over any relation.
 use Rattle.std.proofs.Common.{◌≡◌, ℕ, zero, suc, ◌⊎◌, ◌∙◌, ap, subst, refl, inl, inr}
-use Rattle.rtr_types.specs.declared.nodes.Instr.{Instr}
+use Rattle.rtr_types.specs.declared.instr.Instr.{Instr}
 use Rattle.clock_core.specs.Order.{Relation, Step, Path, Before, Within}
 
 pub joined_at : (E : Relation) (n : ℕ) (x y z : Instr) → Path E n x y → Before E y z → Before E x z

@@ -1,7 +1,7 @@
 -- A clock merged over predecessors is reachability.
 use Rattle.std.proofs.Common.{◌≡◌, ◌≢◌, ℕ, ◌-◌, ◌<◌, ◌≤◌, ◌⊎◌, ◌↔◌, List, [], ◌∷◌, refl, sym, ◌∙◌, ap, subst, inl, inr, arith, true, false, nat_eq, max}
 use Rattle.std.proofs.lemmas.Bool.Decides.{nat_tests}
-use Rattle.rtr_types.specs.declared.nodes.Instr.{Instr}
+use Rattle.rtr_types.specs.declared.instr.Instr.{Instr}
 use Rattle.clock_core.specs.Order.{Relation, ProgramOrder, Step, Before, IsOrLeads, Among, previous}
 use Rattle.clock_core.specs.Reach.{IsClock, merged_over, with_own, IsOneOf, MergeLaw, OneClockLaw}
 use Rattle.clock_core.proofs.Paths.{joined, one, instr_eq, last_at}

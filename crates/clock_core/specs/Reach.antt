@@ -1,7 +1,7 @@
 -- Clocks as reachability.
 use Rattle.std.specs.Prelude.{◌≡◌, ℕ, ◌≤◌, ◌⊎◌, ◌↔◌, List, [], ◌∷◌, max, nat_eq, if◌then◌else◌}
-use Rattle.rtr_types.specs.declared.nodes.Instr.{Instr}
-use Rattle.rtr_types.specs.declared.nodes.Edge.{Edge}
+use Rattle.rtr_types.specs.declared.instr.Instr.{Instr}
+use Rattle.rtr_types.specs.declared.instr.Edge.{Edge}
 use Rattle.clock_core.specs.Order.{Relation, Before, IsOrLeads, Among, previous}
 
 -- at place i the clock has the number of instructions of core i that are y or lead to y, which are the first ones of that core

@@ -1,11 +1,11 @@
 //! What comes before what, and what clocks mean.
 ghost use Rattle.std.specs.Prelude.{◌≡◌, ℕ, List, max, slice_index};
-ghost use Rattle.rtr_types.specs.declared.nodes.Edge.{Edge};
-ghost use Rattle.rtr_types.specs.declared.nodes.Instr.{Instr};
+ghost use Rattle.rtr_types.specs.declared.instr.Edge.{Edge};
+ghost use Rattle.rtr_types.specs.declared.instr.Instr.{Instr};
 ghost use Rattle.clock_core.specs.Counts.{merged, no_counts};
 ghost use Rattle.clock_core.specs.Order.{Among, Before, ProgramOrder, Within};
 ghost use Rattle.clock_core.specs.Reach.{MergeLaw, OneClockLaw};
-ghost use Rattle.clock_core.specs.declared.vector_clock.Clock.{Clock};
+ghost use Rattle.clock_core.specs.declared.clock.Clock.{Clock};
 
 /// What is before by a list of edges has program order and the edges, is transitive, and grows with
 /// the edges.

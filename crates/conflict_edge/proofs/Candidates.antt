@@ -1,10 +1,10 @@
 -- What the candidates of an access stand for.
 use Rattle.std.proofs.Common.{◌≡◌, ◌≢◌, ℕ, ◌⊎◌, List, [], ◌∷◌, ◌++◌, reverse, refl, sym, ◌∙◌, ap, subst, inl, inr, arith, true, Some, None, Option}
 use Rattle.rtr_types.specs.Accesses.{is_write}
-use Rattle.rtr_types.specs.declared.nodes.Instr.{Instr}
-use Rattle.rtr_types.specs.declared.accesses.Access.{Access}
+use Rattle.rtr_types.specs.declared.instr.Instr.{Instr}
+use Rattle.rtr_types.specs.declared.access.Access.{Access}
 use Rattle.clock_core.specs.Order.{Before, Among, previous}
-use Rattle.clock_core.specs.declared.vector_clock.Clock.{Clock}
+use Rattle.clock_core.specs.declared.clock.Clock.{Clock}
 use Rattle.clock_core.proofs.Paths.{joined, one, mapped}
 use Rattle.conflict_edge.specs.Clocks.{last_write, last_read, Candidate, CandidatesLaw}
 use Rattle.conflict_edge.specs.Times.{IsNoteOf, IsNoted, TimesLaw}

@@ -7,8 +7,8 @@ use Rattle.conflict_edge.proofs.Ranks.{no_cycle}
 use Rattle.conflict_edge.proofs.History.{Pair, Rising, reaches-true, reaches-false, reaches-yes, reaches-no, do_conflict-true, do_conflict-yes, cases, ends, older}
 use Rattle.conflict_edge.specs.Clocks.{reaches, greatest, clock}
 use Rattle.conflict_edge.specs.Conflicts.{Conflicts, do_conflict, StandsIn}
-use Rattle.rtr_types.specs.declared.accesses.Access.{Access}
-use Rattle.rtr_types.specs.declared.nodes.Instr.{Instr}
+use Rattle.rtr_types.specs.declared.access.Access.{Access}
+use Rattle.rtr_types.specs.declared.instr.Instr.{Instr}
 
 -- the equations of the clock
 pub clock-newest : (a : Access) (h : List Access) (y : Instr) (i : ℕ) → reaches a y ≡ true → clock (a ∷ h) y i ≡ max (clock h y i) (greatest (λ b. clock h b.at i) a h)

@@ -6,8 +6,8 @@ use Rattle.clock_core.specs.Order.{Relation}
 use Rattle.conflict_edge.specs.Clocks.{reaches}
 use Rattle.conflict_edge.specs.Conflicts.{Conflicts, do_conflict, StandsIn}
 use Rattle.rtr_types.specs.Accesses.{is_write}
-use Rattle.rtr_types.specs.declared.accesses.Access.{Access}
-use Rattle.rtr_types.specs.declared.nodes.Instr.{Instr}
+use Rattle.rtr_types.specs.declared.access.Access.{Access}
+use Rattle.rtr_types.specs.declared.instr.Instr.{Instr}
 
 -- an access of h that conflicts with a is at x
 abbrev pub Source : List Access → Access → Instr → Type 0

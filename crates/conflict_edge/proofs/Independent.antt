@@ -3,8 +3,8 @@ use Rattle.std.proofs.Common.{◌≡◌, ◌≢◌, ℕ, zero, suc, ◌⊎◌, L
 use Rattle.clock_core.proofs.Paths.{joined, one, mapped, instr_eq}
 use Rattle.clock_core.specs.Order.{Relation, Within, Step, Path, Before, Among}
 use Rattle.conflict_edge.specs.Least.{Others}
-use Rattle.rtr_types.specs.declared.nodes.Edge.{Edge}
-use Rattle.rtr_types.specs.declared.nodes.Instr.{Instr}
+use Rattle.rtr_types.specs.declared.instr.Edge.{Edge}
+use Rattle.rtr_types.specs.declared.instr.Instr.{Instr}
 
 pub cases_instr : (x y : Instr) → (x ≡ y) ⊎ (x ≢ y)
 cases_instr x y = elim (nat x.core y.core) [

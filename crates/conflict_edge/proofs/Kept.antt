@@ -8,8 +8,8 @@ use Rattle.conflict_edge.proofs.Independent.{cases_instr}
 use Rattle.conflict_edge.proofs.Ranks.{rank, goes, no_cycle, rank-before, rank-pair}
 use Rattle.conflict_edge.specs.Clocks.{clock}
 use Rattle.conflict_edge.specs.Conflicts.{Conflicts, do_conflict, StandsIn}
-use Rattle.rtr_types.specs.declared.accesses.Access.{Access}
-use Rattle.rtr_types.specs.declared.nodes.Instr.{Instr}
+use Rattle.rtr_types.specs.declared.access.Access.{Access}
+use Rattle.rtr_types.specs.declared.instr.Instr.{Instr}
 
 abbrev pub Cover : List Access → Relation
 Cover h x y = Pair h x y × ((z : Instr) → Before (Pair h) x z → Before (Pair h) z y → ⊥)

@@ -5,7 +5,7 @@ use Rattle.std.proofs.lemmas.Bool.Decides.{nat_tests}
 use Rattle.clock_core.proofs.Paths.{more}
 use Rattle.conflict_edge.specs.declared.TheConstants.{ACCESSES_MAX}
 use Rattle.clock_core.specs.Order.{Among, previous}
-use Rattle.clock_core.specs.declared.vector_clock.Clock.{Clock}
+use Rattle.clock_core.specs.declared.clock.Clock.{Clock}
 use Rattle.conflict_edge.proofs.Clocks.{clock-older}
 use Rattle.conflict_edge.proofs.History.{and_true, or_true, Pair, Rising, ends, older, reaches-no}
 use Rattle.conflict_edge.proofs.Kept.{Cover, kept_covers, covers_kept}
@@ -18,9 +18,9 @@ use Rattle.conflict_edge.specs.Least.{Covering}
 use Rattle.conflict_edge.specs.Scan.{AreExactClocks, AddsCoveringInto, AreCovering}
 use Rattle.conflict_edge.specs.Times.{IsExactClock}
 use Rattle.rtr_types.specs.declared.TheConstants.{CORES_MAX}
-use Rattle.rtr_types.specs.declared.accesses.Access.{Access}
-use Rattle.rtr_types.specs.declared.nodes.Edge.{Edge}
-use Rattle.rtr_types.specs.declared.nodes.Instr.{Instr}
+use Rattle.rtr_types.specs.declared.access.Access.{Access}
+use Rattle.rtr_types.specs.declared.instr.Edge.{Edge}
+use Rattle.rtr_types.specs.declared.instr.Instr.{Instr}
 
 -- ---- one access more
 

@@ -15,9 +15,9 @@ use Rattle.conflict_edge.proofs.Steps.{At, push_found, skip_found, uncovered}
 use Rattle.conflict_edge.specs.Conflicts.{Conflicts, StandsIn}
 use Rattle.conflict_edge.specs.Least.{is_edge, AreOnce}
 use Rattle.rtr_types.specs.declared.TheConstants.{CORES_MAX}
-use Rattle.rtr_types.specs.declared.accesses.Access.{Access}
-use Rattle.rtr_types.specs.declared.nodes.Edge.{Edge}
-use Rattle.rtr_types.specs.declared.nodes.Instr.{Instr}
+use Rattle.rtr_types.specs.declared.access.Access.{Access}
+use Rattle.rtr_types.specs.declared.instr.Edge.{Edge}
+use Rattle.rtr_types.specs.declared.instr.Instr.{Instr}
 
 eq_true : (m n : ℕ) → nat_eq m n ≡ true → m ≡ n
 eq_true m n e = grind (arith, nat_tests)

@@ -10,9 +10,9 @@ use Rattle.conflict_edge.proofs.Ranks.{no_cycle}
 use Rattle.conflict_edge.specs.Clocks.{clock, last_write, last_read, Candidate, IsKept}
 use Rattle.conflict_edge.specs.Conflicts.{Conflicts, StandsIn}
 use Rattle.rtr_types.specs.Accesses.{is_write}
-use Rattle.rtr_types.specs.declared.accesses.Access.{Access}
-use Rattle.rtr_types.specs.declared.accesses.Kind.{Kind}
-use Rattle.rtr_types.specs.declared.nodes.Instr.{Instr}
+use Rattle.rtr_types.specs.declared.access.Access.{Access}
+use Rattle.rtr_types.specs.declared.access.Kind.{Kind}
+use Rattle.rtr_types.specs.declared.instr.Instr.{Instr}
 
 pub cases_kind : (k : Kind) → (is_write k ≡ false) ⊎ (is_write k ≡ true)
 cases_kind k = by (is_write k)

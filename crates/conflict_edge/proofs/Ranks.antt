@@ -4,8 +4,8 @@ use Rattle.clock_core.specs.Order.{ProgramOrder, Step, Path, Before}
 use Rattle.conflict_edge.proofs.History.{Pair, Rising, reaches-false, reaches-yes, reaches-no, cases, ends, older}
 use Rattle.conflict_edge.specs.Clocks.{reaches}
 use Rattle.conflict_edge.specs.Conflicts.{StandsIn}
-use Rattle.rtr_types.specs.declared.accesses.Access.{Access}
-use Rattle.rtr_types.specs.declared.nodes.Instr.{Instr}
+use Rattle.rtr_types.specs.declared.access.Access.{Access}
+use Rattle.rtr_types.specs.declared.instr.Instr.{Instr}
 
 pub rank : List Access → Instr → ℕ
 rank [] y = 0

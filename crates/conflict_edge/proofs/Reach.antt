@@ -10,8 +10,8 @@ use Rattle.conflict_edge.proofs.Reversed.{pair_back, pair_forth, rising_back, re
 use Rattle.conflict_edge.specs.Clocks.{clock, Candidate, IsKept, ClockLaw, OnlineLaw, OnlineClockLaw, KeptClockLaw}
 use Rattle.conflict_edge.specs.Conflicts.{ConflictPair, CountsRise}
 use Rattle.conflict_edge.specs.Least.{Covering}
-use Rattle.rtr_types.specs.declared.accesses.Access.{Access}
-use Rattle.rtr_types.specs.declared.nodes.Instr.{Instr}
+use Rattle.rtr_types.specs.declared.access.Access.{Access}
+use Rattle.rtr_types.specs.declared.instr.Instr.{Instr}
 
 up_back : (list : List Access) (x y : Instr) → UpTo (reverse list) x y → IsOrLeads (ConflictPair list) x y
 up_back list x y (inl e) = inl e

@@ -5,8 +5,8 @@ use Rattle.std.proofs.Common.{◌≡◌, ◌<◌, ◌≤◌, ◌⊎◌, List, []
 use Rattle.clock_core.specs.Order.{Within}
 use Rattle.conflict_edge.proofs.History.{Pair, Rising}
 use Rattle.conflict_edge.specs.Conflicts.{Conflicts, StandsIn, ConflictPair, CountsRise}
-use Rattle.rtr_types.specs.declared.accesses.Access.{Access}
-use Rattle.rtr_types.specs.declared.nodes.Instr.{Instr}
+use Rattle.rtr_types.specs.declared.access.Access.{Access}
+use Rattle.rtr_types.specs.declared.instr.Instr.{Instr}
 
 pub reverse-cons : (a : Access) (list : List Access) → reverse (a ∷ list) ≡ reverse list ++ (a ∷ [])
 reverse-cons a list = reverse_onto list a []

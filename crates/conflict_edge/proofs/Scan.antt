@@ -11,9 +11,9 @@ use Rattle.conflict_edge.proofs.Ranks.{rank, rank-newest, rank-older, rank-le, r
 use Rattle.conflict_edge.specs.Clocks.{reaches, clock}
 use Rattle.conflict_edge.specs.Conflicts.{Conflicts, StandsIn}
 use Rattle.rtr_types.specs.declared.TheConstants.{CORES_MAX}
-use Rattle.rtr_types.specs.declared.accesses.Access.{Access}
-use Rattle.rtr_types.specs.declared.nodes.Edge.{Edge}
-use Rattle.rtr_types.specs.declared.nodes.Instr.{Instr}
+use Rattle.rtr_types.specs.declared.access.Access.{Access}
+use Rattle.rtr_types.specs.declared.instr.Edge.{Edge}
+use Rattle.rtr_types.specs.declared.instr.Instr.{Instr}
 
 -- b leads to a by one step, or along the core
 abbrev pub Direct : Access → Access → Type 0

@@ -8,9 +8,9 @@ use Rattle.conflict_edge.proofs.TwoForms.{covering_law}
 use Rattle.conflict_edge.specs.Conflicts.{CountsRise}
 use Rattle.conflict_edge.specs.Least.{IsLeast}
 use Rattle.conflict_edge.specs.Scan.{AreCovering}
-use Rattle.rtr_types.specs.declared.accesses.Access.{Access}
-use Rattle.rtr_types.specs.declared.nodes.Edge.{Edge}
-use Rattle.rtr_types.specs.declared.nodes.Instr.{Instr}
+use Rattle.rtr_types.specs.declared.access.Access.{Access}
+use Rattle.rtr_types.specs.declared.instr.Edge.{Edge}
+use Rattle.rtr_types.specs.declared.instr.Instr.{Instr}
 
 abbrev edge_of : Instr → Instr → Edge
 edge_of x y = record { from = x; to = y }

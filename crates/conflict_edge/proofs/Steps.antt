@@ -15,9 +15,9 @@ use Rattle.conflict_edge.specs.Conflicts.{Conflicts, StandsIn, ConflictPair, Cou
 use Rattle.conflict_edge.specs.Least.{Covering}
 use Rattle.conflict_edge.specs.Scan.{AddsCoveringInto}
 use Rattle.rtr_types.specs.declared.TheConstants.{CORES_MAX}
-use Rattle.rtr_types.specs.declared.accesses.Access.{Access}
-use Rattle.rtr_types.specs.declared.nodes.Edge.{Edge}
-use Rattle.rtr_types.specs.declared.nodes.Instr.{Instr}
+use Rattle.rtr_types.specs.declared.access.Access.{Access}
+use Rattle.rtr_types.specs.declared.instr.Edge.{Edge}
+use Rattle.rtr_types.specs.declared.instr.Instr.{Instr}
 
 -- the list around its element before s
 pub record At (e : List Access) (s : ℕ) (b : Access) : Type 0 where

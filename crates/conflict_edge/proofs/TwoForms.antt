@@ -9,9 +9,9 @@ use Rattle.conflict_edge.proofs.Ranks.{no_cycle}
 use Rattle.conflict_edge.proofs.Reversed.{pair_back, pair_forth, rising_back}
 use Rattle.conflict_edge.specs.Conflicts.{ConflictPair, CountsRise}
 use Rattle.conflict_edge.specs.Least.{Suffices, IsLeast, Covering, Others, CoveringLaw, IndependentLaw, OneLeastLaw, SourceLaw}
-use Rattle.rtr_types.specs.declared.accesses.Access.{Access}
-use Rattle.rtr_types.specs.declared.nodes.Edge.{Edge}
-use Rattle.rtr_types.specs.declared.nodes.Instr.{Instr}
+use Rattle.rtr_types.specs.declared.access.Access.{Access}
+use Rattle.rtr_types.specs.declared.instr.Edge.{Edge}
+use Rattle.rtr_types.specs.declared.instr.Instr.{Instr}
 
 pub acyclic : (list : List Access) → CountsRise list → (x : Instr) → Before (ConflictPair list) x x → ⊥
 acyclic list rise x p = no_cycle (reverse list) (rising_back list rise) x (more (ConflictPair list) (Pair (reverse list)) (pair_forth list) x x p)

@@ -3,9 +3,9 @@
 -- Lists named `earlier` have the newest access first, as `reverse list` of a list in order.
 use Rattle.std.specs.Prelude.{◌≡◌, ◌≢◌, ℕ, ◌<◌, ◌≤◌, ◌⊎◌, ◌↔◌, List, [], ◌∷◌, ◌++◌, reverse, Bool, nat_eq, nat_le, ◌&&◌, if◌then◌else◌, max, Option, Some, None, IsTrue}
 use Rattle.rtr_types.specs.Accesses.{is_write}
-use Rattle.rtr_types.specs.declared.nodes.Instr.{Instr}
-use Rattle.rtr_types.specs.declared.nodes.Edge.{Edge}
-use Rattle.rtr_types.specs.declared.accesses.Access.{Access}
+use Rattle.rtr_types.specs.declared.instr.Instr.{Instr}
+use Rattle.rtr_types.specs.declared.instr.Edge.{Edge}
+use Rattle.rtr_types.specs.declared.access.Access.{Access}
 use Rattle.clock_core.specs.Order.{Before, Among, previous}
 use Rattle.clock_core.specs.Reach.{IsClock}
 use Rattle.conflict_edge.specs.Conflicts.{do_conflict, ConflictPair, CountsRise}

@@ -1,7 +1,7 @@
 -- Conflict pairs of a list of accesses, the oldest first.
 use Rattle.std.specs.Prelude.{◌≡◌, ◌≢◌, ◌<◌, ◌≤◌, ◌⊎◌, List, [], ◌∷◌, ⊤, Bool, true, not, ◌&&◌, ◌||◌, nat_eq, nat_lt, nat_le, IsTrue, length}
 use Rattle.rtr_types.specs.Accesses.{is_write}
-use Rattle.rtr_types.specs.declared.accesses.Access.{Access}
+use Rattle.rtr_types.specs.declared.access.Access.{Access}
 use Rattle.rtr_types.specs.declared.TheConstants.{CORES_MAX}
 use Rattle.clock_core.specs.Order.{Relation}
 use Rattle.conflict_edge.specs.declared.TheConstants.{ACCESSES_MAX}

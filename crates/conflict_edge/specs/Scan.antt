@@ -1,10 +1,10 @@
 -- What the plain reduction has after each access.
 use Rattle.std.specs.Prelude.{◌≡◌, ℕ, ◌<◌, ◌⊎◌, ◌↔◌, List, slice_index_or, length}
-use Rattle.rtr_types.specs.declared.nodes.Instr.{Instr}
-use Rattle.rtr_types.specs.declared.nodes.Edge.{Edge}
-use Rattle.rtr_types.specs.declared.accesses.Access.{Access}
+use Rattle.rtr_types.specs.declared.instr.Instr.{Instr}
+use Rattle.rtr_types.specs.declared.instr.Edge.{Edge}
+use Rattle.rtr_types.specs.declared.access.Access.{Access}
 use Rattle.clock_core.specs.Order.{Among}
-use Rattle.clock_core.specs.declared.vector_clock.Clock.{Clock}
+use Rattle.clock_core.specs.declared.clock.Clock.{Clock}
 use Rattle.conflict_edge.specs.Least.{Covering}
 use Rattle.conflict_edge.specs.Times.{IsExactClock}
 

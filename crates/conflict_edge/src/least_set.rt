@@ -1,6 +1,6 @@
 //! The least set of a list of accesses, by the plain definition.
 ghost use Rattle.std.specs.Prelude.{ℕ, ◌≡◌, ◌++◌, ◌∷◌, [], length, IsTrue, IfOk, OnOk};
-ghost use Rattle.rtr_types.specs.declared.nodes.Instr.{Instr};
+ghost use Rattle.rtr_types.specs.declared.instr.Instr.{Instr};
 ghost use Rattle.clock_core.specs.Order.{Among};
 ghost use Rattle.conflict_edge.specs.Conflicts.{AreCores, CountsRise, is_short_history};
 ghost use Rattle.conflict_edge.specs.Least.{AreOnce, IsLeast, IsOrdered};

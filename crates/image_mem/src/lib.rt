@@ -2,12 +2,12 @@
 //! little-endian, as the RISC-V Unprivileged ISA (20191213) has them.
 #![tactic(auto)]
 
-mod flat_image;
+mod image;
 mod lanes;
+mod memory;
 #[cfg(test)]
 mod tests;
-mod word_memory;
 
-pub use flat_image::{Image, TooLarge};
+pub use image::{Image, TooLarge};
 pub use lanes::{merge_lanes, merged_words};
-pub use word_memory::Memory;
+pub use memory::Memory;

@@ -6,8 +6,8 @@ use Rattle.std.proofs.lemmas.List.{map-set, take_all, take_more_set, length-map}
 use Rattle.std.proofs.lemmas.List.Folds.{list_all-append}
 use Rattle.std.proofs.Math.Seq.{map-set_same}
 use Rattle.std.proofs.lemmas.Bool.Decides.{nat_tests}
-use Rattle.rv_core.specs.declared.outcomes.LoadNote.{LoadNote}
-use Rattle.load_lists.specs.Lists.{LoadRoom, is_roomy, noted}
+use Rattle.rv_core.specs.declared.outcome.LoadNote.{LoadNote}
+use Rattle.load_lists.specs.Lists.{LoadRoom, is_roomy, with_note}
 
 -- what a list is at its place, seen as loads alone
 map-get : (rooms : List LoadRoom) (i : ℕ) (d : LoadRoom) → i < length rooms → slice_index_or (map (λ (l : LoadRoom). l.notes) rooms) i [] ≡ (get_or rooms i d).notes
@@ -17,7 +17,7 @@ map-get (r ∷ rooms) (suc i) d within = map-get rooms i d (omega arith)
 
 -- a load is put at the end of one list
 pub noted_at : (rooms : List LoadRoom) (i : ℕ) (note : LoadNote) (old new : LoadRoom) → i < length rooms → old ≡ get_or rooms i old → new.notes ≡ old.notes ++ note ∷ [] →
-    map (λ (l : LoadRoom). l.notes) (slice_set rooms i new) ≡ noted (map (λ (l : LoadRoom). l.notes) rooms) i note
+    map (λ (l : LoadRoom). l.notes) (slice_set rooms i new) ≡ with_note (map (λ (l : LoadRoom). l.notes) rooms) i note
 noted_at rooms i note old new within is more =
     map-set (λ (l : LoadRoom). l.notes) rooms i new
     ∙ ap (λ (ns : List LoadNote). slice_set (map (λ (l : LoadRoom). l.notes) rooms) i ns)

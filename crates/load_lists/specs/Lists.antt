@@ -1,7 +1,7 @@
 -- Lists of loads and their room.
 use Rattle.std.specs.Prelude.{ℕ, Bool, List, [], ◌∷◌, ◌++◌, length, map, nat_lt, slice_index_or, slice_set}
 use Rattle.std.specs.List.{list_all}
-use Rattle.rv_core.specs.declared.outcomes.LoadNote.{LoadNote}
+use Rattle.rv_core.specs.declared.outcome.LoadNote.{LoadNote}
 
 -- one core's loads, and how many there is room for
 pub record LoadRoom : Type 0 where
@@ -21,5 +21,5 @@ abbrev pub seen_as : List LoadRoom → LoadRooms
 seen_as rooms = record { lists = map (λ l. l.notes) rooms; roomy = list_all is_roomy rooms }
 
 -- the lists with one more load of this core
-abbrev pub noted : List (List LoadNote) → (core : ℕ) → LoadNote → List (List LoadNote)
-noted lists core note = slice_set lists core (slice_index_or lists core [] ++ note ∷ [])
+abbrev pub with_note : List (List LoadNote) → (core : ℕ) → LoadNote → List (List LoadNote)
+with_note lists core note = slice_set lists core (slice_index_or lists core [] ++ note ∷ [])

@@ -1,7 +1,7 @@
 //! What each core's loads got, in lists that take their room beforehand.
 #![tactic(auto)]
 
-mod one_list;
-mod per_core;
+mod load_list;
+mod loads_by_core;
 
-pub use per_core::LoadLists;
+pub use loads_by_core::LoadLists;

@@ -6,13 +6,13 @@ use Rattle.std.specs.Cmp.Lexicographic.{same_text}
 use Rattle.std.proofs.lemmas.Bool.Decides.{nat_tests}
 use Rattle.std.proofs.lemmas.List.{take_at, drop_at, take-append-drop, length-append, length-take}
 use Rattle.rtr_types.specs.declared.TheConstants.{CORES_MAX}
-use Rattle.rtr_types.specs.declared.parameters.Params.{Params}
-use Rattle.rtr_types.specs.declared.parameters.TheConstants.{LIMIT_MAX, WORDS_MIN, WORDS_MAX}
+use Rattle.rtr_types.specs.declared.params.Params.{Params}
+use Rattle.rtr_types.specs.declared.params.TheConstants.{LIMIT_MAX, WORDS_MIN, WORDS_MAX}
 use Rattle.rtr_types.specs.Parameters.{Fits}
 use Rattle.varint_core.specs.declared.Varint.{Varint}
 use Rattle.varint_core.specs.Leb128.{reading}
 use Rattle.varint_core.proofs.Spelled as varint
-use Rattle.log_codec.specs.declared.fault.TheConstants.{HEADER, IMAGE, TOTALS}
+use Rattle.log_codec.specs.declared.codec_fault.TheConstants.{HEADER, IMAGE, TOTALS}
 use Rattle.log_codec.specs.Faults.{◌>>=◌}
 use Rattle.log_codec.specs.Laws.{IsBytes}
 use Rattle.log_codec.specs.Validity.{fits}

@@ -4,8 +4,8 @@ use Rattle.std.specs.Prelude.{All}
 use Rattle.std.specs.List.{AllByRecursion}
 use Rattle.std.proofs.lemmas.List.Elements.{All-from_recursion, recursion_from_All}
 use Rattle.std.proofs.lemmas.List.{append-nil, drop_more, drop_all}
-use Rattle.log_codec.specs.declared.fault.CodecFault.{CodecFault}
-use Rattle.log_codec.specs.declared.fault.CodecFault.TheVariants as faults
+use Rattle.log_codec.specs.declared.codec_fault.CodecFault.{CodecFault}
+use Rattle.log_codec.specs.declared.codec_fault.CodecFault.TheVariants as faults
 use Rattle.log_codec.specs.Faults.{◌>>=◌, Fails}
 use Rattle.log_codec.specs.Turns.{read_in_turn, spelled_in_turn, StandInTurn, stand_in_turn, stay, count_up}
 use Rattle.log_codec.specs.Laws.{IsBytes}

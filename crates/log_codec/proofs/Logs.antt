@@ -8,7 +8,7 @@ use Rattle.std.proofs.lemmas.List.Sums.{sum_by-cons}
 use Rattle.std.proofs.lemmas.Bool.Decides.{nat_tests}
 use Rattle.stride_vector.specs.declared.StrideVector.{StrideVector}
 use Rattle.stride_vector.specs.Vectors.{last_of}
-use Rattle.log_codec.specs.declared.fault.TheConstants.{REDUCED, REGULATED}
+use Rattle.log_codec.specs.declared.codec_fault.TheConstants.{REDUCED, REGULATED}
 use Rattle.log_codec.specs.Faults.{◌>>=◌}
 use Rattle.log_codec.specs.Laws.{IsBytes}
 use Rattle.log_codec.specs.Turns.{read_in_turn, spelled_in_turn, StandInTurn, follow}

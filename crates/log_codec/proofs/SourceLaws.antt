@@ -6,8 +6,8 @@ use Rattle.std.specs.List.Sorted.{IsPartitionPoint, IsNonDecreasingBy}
 use Rattle.std.proofs.lemmas.Bool.{cases_lt, leb-true, leb-false}
 use Rattle.std.proofs.lemmas.List.{get_or_default}
 use Rattle.std.proofs.lemmas.List.FromFn.{length-range_with_len, get_or-range_with_len}
-use Rattle.rtr_types.specs.declared.nodes.Instr.{Instr}
-use Rattle.rtr_types.specs.declared.nodes.Edge.{Edge}
+use Rattle.rtr_types.specs.declared.instr.Instr.{Instr}
+use Rattle.rtr_types.specs.declared.instr.Edge.{Edge}
 use Rattle.rtr_types.specs.declared.pairs.Which.{Which}
 use Rattle.rtr_types.specs.declared.pairs.Which.TheVariants.{Reduced, Regulated}
 use Rattle.rtr_types.specs.Pairs.{IsPair, pair_count, pair_place, source_at, target_at}
@@ -18,7 +18,7 @@ use Rattle.stride_vector.proofs.Sources.{positions-rise}
 use Rattle.log_codec.specs.declared.recording.Recording.{Recording}
 use Rattle.log_codec.specs.Turns.{StandInTurn, follow}
 use Rattle.log_codec.specs.Validity.{Valid, EdgeRises, bound_at, AreEdges, AreVectors}
-use Rattle.log_codec.specs.Sources.{pair_edges, edge_between, edges_at, log_edges, HasEdge, EdgesArePaired, EdgesWithin, OneSource, AreApart}
+use Rattle.log_codec.specs.Sources.{edges_of_pair, edge_between, edges_at, log_edges, HasEdge, EdgesArePaired, EdgesWithin, OneSource, AreApart}
 use Rattle.log_codec.proofs.Whole.{edges_listed, totals_small}
 use Rattle.log_codec.proofs.Tested.{edges_by_pair, vectors_by_pair}
 use Rattle.log_codec.proofs.Looked.{one_place, rising-falls_not, contains-map, map-contains, contains-flat, flat-contains}
@@ -28,23 +28,23 @@ use Rattle.log_codec.proofs.Rises.{no_edge, no_vector, targets-rise, edge_stands
 
 -- what the law says of an edge
 abbrev Paired : Which → Recording → Edge → Type 0
-Paired which r e = IsPair r.params.cores e.from.core e.to.core × Contains (pair_edges which r (pair_place r.params.cores e.from.core e.to.core)) (e.from.count, e.to.count)
+Paired which r e = IsPair r.params.cores e.from.core e.to.core × Contains (edges_of_pair which r (pair_place r.params.cores e.from.core e.to.core)) (e.from.count, e.to.count)
 
 paired-at : (which : Which) (r : Recording) (place : ℕ) (e : Edge) → place < pair_count r.params.cores → Contains (edges_at which r place) e → Paired which r e
 paired-at which r place e below has =
     let cores = r.params.cores in
-    let made = map-contains (edge_between (source_at cores place) (target_at cores place)) (pair_edges which r place) no_edge e has in
+    let made = map-contains (edge_between (source_at cores place) (target_at cores place)) (edges_of_pair which r place) no_edge e has in
     let pair = places-paired cores place below in
-    let there = subst (λ (p : ℕ). Contains (pair_edges which r p) (made.0.0, made.0.1)) (sym pair.1) made.1 in
+    let there = subst (λ (p : ℕ). Contains (edges_of_pair which r p) (made.0.0, made.0.1)) (sym pair.1) made.1 in
     subst (Paired which r) made.2 (pair.0, there)
 
-at-paired : (which : Which) (r : Recording) (from to : Instr) → IsPair r.params.cores from.core to.core → Contains (pair_edges which r (pair_place r.params.cores from.core to.core)) (from.count, to.count) →
+at-paired : (which : Which) (r : Recording) (from to : Instr) → IsPair r.params.cores from.core to.core → Contains (edges_of_pair which r (pair_place r.params.cores from.core to.core)) (from.count, to.count) →
     Contains (edges_at which r (pair_place r.params.cores from.core to.core)) (record { from = from; to = to })
 at-paired which r from to pair has =
     let cores = r.params.cores in
     let place = pair_place cores from.core to.core in
     let placed = pairs-placed cores from.core to.core pair in
-    let made = contains-map (edge_between (source_at cores place) (target_at cores place)) (pair_edges which r place) (from.count, to.count) has in
+    let made = contains-map (edge_between (source_at cores place) (target_at cores place)) (edges_of_pair which r place) (from.count, to.count) has in
     let source : Contains (edges_at which r place) (edge_between from.core (target_at cores place) (from.count, to.count)) = subst (λ (c : ℕ). Contains (edges_at which r place) (edge_between c (target_at cores place) (from.count, to.count))) placed.1 made in
     subst (λ (c : ℕ). Contains (edges_at which r place) (edge_between from.core c (from.count, to.count))) placed.2 source
 
@@ -125,7 +125,7 @@ vectors_apart r v place below =
     let small = totals_small r place v in
     are-apart (bound_at r.totals place) (get_or r.regulated place []) small.0 small.1 (v.regulated place below)
 
-one-in : (which : Which) (r : Recording) (place a c b : ℕ) → Valid r → place < pair_count r.params.cores → Contains (pair_edges which r place) (a, b) → Contains (pair_edges which r place) (c, b) → a ≡ c
+one-in : (which : Which) (r : Recording) (place a c b : ℕ) → Valid r → place < pair_count r.params.cores → Contains (edges_of_pair which r place) (a, b) → Contains (edges_of_pair which r place) (c, b) → a ≡ c
 one-in Reduced r place a c b v below first second = one_edge (get_or r.reduced place []) a c b (edges_listed r v place (subst (λ (n : ℕ). place < n) (sym v.each_reduced) below)).rising first second
 one-in Regulated r place a c b v below first second = one_position (get_or r.regulated place []) a c b (vectors_apart r v place below) first second
 
@@ -133,7 +133,7 @@ pub one-source : OneSource
 one-source which r from other to v first second core =
     let p = (edges-are-paired which r from to).0 first in
     let q = (edges-are-paired which r other to).0 second in
-    let there : Contains (pair_edges which r (pair_place r.params.cores from.core to.core)) (other.count, to.count) = subst (λ (c : ℕ). Contains (pair_edges which r (pair_place r.params.cores c to.core)) (other.count, to.count)) (sym core) q.1 in
+    let there : Contains (edges_of_pair which r (pair_place r.params.cores from.core to.core)) (other.count, to.count) = subst (λ (c : ℕ). Contains (edges_of_pair which r (pair_place r.params.cores c to.core)) (other.count, to.count)) (sym core) q.1 in
     let below = (pairs-placed r.params.cores from.core to.core p.0).0 in
     let count = one-in which r (pair_place r.params.cores from.core to.core) from.count other.count to.count v below p.1 there in
     ap (λ (c : ℕ). instr c from.count) core ∙ ap (λ (n : ℕ). instr other.core n) count
@@ -172,7 +172,7 @@ position-inside most vectors a b h has =
     let high_b = at.target_most in
     subst (Inside most) p.is (record { some_source = omega arith; some_target = omega arith; source_most = omega arith; target_most = omega arith })
 
-inside : (which : Which) (r : Recording) (from to : Instr) → Valid r → IsPair r.params.cores from.core to.core → Contains (pair_edges which r (pair_place r.params.cores from.core to.core)) (from.count, to.count) →
+inside : (which : Which) (r : Recording) (from to : Instr) → Valid r → IsPair r.params.cores from.core to.core → Contains (edges_of_pair which r (pair_place r.params.cores from.core to.core)) (from.count, to.count) →
     Inside (slice_index r.totals from.core, slice_index r.totals to.core) (from.count, to.count)
 inside Reduced r from to v pair has = edge-inside (slice_index r.totals from.core, slice_index r.totals to.core) (get_or r.reduced (pair_place r.params.cores from.core to.core) []) (from.count, to.count) (edges_by_pair r from.core to.core v pair) has
 inside Regulated r from to v pair has = position-inside (slice_index r.totals from.core, slice_index r.totals to.core) (get_or r.regulated (pair_place r.params.cores from.core to.core) []) from.count to.count (vectors_by_pair r from.core to.core v pair) has
@@ -247,11 +247,11 @@ pub list_at : {X : Type 0} (lists slice : List (List X)) (place : ℕ) (item out
 list_at lists slice place item out slice_is item_is out_is below =
     out_is ∙ item_is ∙ ap (λ ls. get_or ls place item) slice_is ∙ get_or_default lists place item [] below
 
-pub found_edge : (which : Which) (r : Recording) (of : ℕ) (at : Instr) (edges : List (ℕ × ℕ)) (result : Option ℕ) → IsPair r.params.cores of at.core → edges ≡ pair_edges which r (pair_place r.params.cores of at.core) →
+pub found_edge : (which : Which) (r : Recording) (of : ℕ) (at : Instr) (edges : List (ℕ × ℕ)) (result : Option ℕ) → IsPair r.params.cores of at.core → edges ≡ edges_of_pair which r (pair_place r.params.cores of at.core) →
     IfSome result (λ a. Contains edges (a, at.count)) → IfSome result (λ a. HasEdge which r (record { core = of; count = a }) at)
 found_edge which r of at edges None pair is found = tt
 found_edge which r of at edges (Some a) pair is found = (edges-are-paired which r (record { core = of; count = a }) at).1 (pair, subst (λ es. Contains es (a, at.count)) is found)
 
-pub edge_in : (which : Which) (r : Recording) (of a : ℕ) (at : Instr) (edges : List (ℕ × ℕ)) → edges ≡ pair_edges which r (pair_place r.params.cores of at.core) →
+pub edge_in : (which : Which) (r : Recording) (of a : ℕ) (at : Instr) (edges : List (ℕ × ℕ)) → edges ≡ edges_of_pair which r (pair_place r.params.cores of at.core) →
     HasEdge which r (record { core = of; count = a }) at → Contains edges (a, at.count)
 edge_in which r of a at edges is has = subst (λ es. Contains es (a, at.count)) (sym is) ((edges-are-paired which r (record { core = of; count = a }) at).0 has).1

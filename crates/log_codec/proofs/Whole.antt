@@ -3,12 +3,12 @@ use Rattle.std.proofs.Common.{◌≡◌, ℕ, ◌+◌, ◌-◌, ◌^◌, ◌<◌
 use Rattle.std.specs.Prelude.{All, IfOk}
 use Rattle.std.proofs.lemmas.Bool.{cases_lt, eqb-true}
 use Rattle.std.proofs.lemmas.List.{append-nil, nil_from_length, get_or_past, take_at, drop_at, length-append}
-use Rattle.rtr_types.specs.declared.parameters.Params.{Params}
+use Rattle.rtr_types.specs.declared.params.Params.{Params}
 use Rattle.rtr_types.specs.Pairs.{pair_count, source_at, target_at}
 use Rattle.stride_vector.specs.declared.StrideVector.{StrideVector}
-use Rattle.log_codec.specs.declared.fault.TheConstants.{END}
+use Rattle.log_codec.specs.declared.codec_fault.TheConstants.{END}
 use Rattle.log_codec.specs.declared.recording.Recording.{Recording}
-use Rattle.log_codec.specs.declared.fault.CodecFault.{CodecFault}
+use Rattle.log_codec.specs.declared.codec_fault.CodecFault.{CodecFault}
 use Rattle.log_codec.specs.Faults.{◌>>=◌, Fails, Gives}
 use Rattle.log_codec.specs.Turns.{read_in_turn, StandInTurn, stay, follow, count_up}
 use Rattle.log_codec.specs.Validity.{Valid, EdgeRises, EdgeStands, AreEdges, AreVectors, IsListed, bound_at}

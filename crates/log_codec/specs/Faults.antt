@@ -1,7 +1,7 @@
 -- Readings that name the part in which they fail.
 use Rattle.std.specs.Prelude.{◌≡◌, ℕ, Result, Ok, Err}
-use Rattle.log_codec.specs.declared.fault.CodecFault.{CodecFault}
-use Rattle.log_codec.specs.declared.fault.CodecFault.TheVariants as faults
+use Rattle.log_codec.specs.declared.codec_fault.CodecFault.{CodecFault}
+use Rattle.log_codec.specs.declared.codec_fault.CodecFault.TheVariants as faults
 
 infixl 10 ◌>>=◌
 abbrev pub ◌>>=◌ : {A B : Type 0} → Result A ℕ → (A → Result B ℕ) → Result B ℕ

@@ -1,8 +1,8 @@
 -- The edges of a recording's logs, and which of them lead to an instruction.
 use Rattle.std.specs.Prelude.{◌≡◌, ℕ, ◌<◌, ◌≤◌, ◌↔◌, List, [], map, length, slice_index, slice_index_or}
 use Rattle.std.specs.List.{Contains, flat_map, range_with_len}
-use Rattle.rtr_types.specs.declared.nodes.Instr.{Instr}
-use Rattle.rtr_types.specs.declared.nodes.Edge.{Edge}
+use Rattle.rtr_types.specs.declared.instr.Instr.{Instr}
+use Rattle.rtr_types.specs.declared.instr.Edge.{Edge}
 use Rattle.rtr_types.specs.declared.pairs.Which.{Which}
 use Rattle.rtr_types.specs.declared.pairs.Which.TheVariants.{Reduced, Regulated}
 use Rattle.rtr_types.specs.Pairs.{IsPair, pair_count, pair_place, source_at, target_at}
@@ -12,9 +12,9 @@ use Rattle.log_codec.specs.declared.recording.Recording.{Recording}
 use Rattle.log_codec.specs.Validity.{Valid}
 
 -- the edges of the pair at a place, each a count of the source and one of the target
-abbrev pub pair_edges : Which → Recording → ℕ → List (ℕ × ℕ)
-pair_edges Reduced r place = slice_index_or r.reduced place []
-pair_edges Regulated r place = flat_map edges_of (slice_index_or r.regulated place [])
+abbrev pub edges_of_pair : Which → Recording → ℕ → List (ℕ × ℕ)
+edges_of_pair Reduced r place = slice_index_or r.reduced place []
+edges_of_pair Regulated r place = flat_map edges_of (slice_index_or r.regulated place [])
 
 -- the edge between two cores at these counts
 abbrev pub edge_between : ℕ → ℕ → ℕ × ℕ → Edge
@@ -22,7 +22,7 @@ edge_between from to counts = record { from = record { core = from; count = coun
 
 -- the same with the cores of the edges
 abbrev pub edges_at : Which → Recording → ℕ → List Edge
-edges_at which r place = map (edge_between (source_at r.params.cores place) (target_at r.params.cores place)) (pair_edges which r place)
+edges_at which r place = map (edge_between (source_at r.params.cores place) (target_at r.params.cores place)) (edges_of_pair which r place)
 
 -- all edges of a log, pair by pair
 unfoldable pub log_edges : Which → Recording → List Edge
@@ -43,7 +43,7 @@ pub record EdgeWithin (r : Recording) (from to : Instr) : Type 0 where
 -- a log's edges are those of its pairs
 abbrev pub EdgesArePaired : Type 0
 EdgesArePaired = (which : Which) (r : Recording) (from to : Instr) →
-    HasEdge which r from to ↔ (IsPair r.params.cores from.core to.core × Contains (pair_edges which r (pair_place r.params.cores from.core to.core)) (from.count, to.count))
+    HasEdge which r from to ↔ (IsPair r.params.cores from.core to.core × Contains (edges_of_pair which r (pair_place r.params.cores from.core to.core)) (from.count, to.count))
 
 -- they lie within the totals
 abbrev pub EdgesWithin : Type 0

@@ -1,6 +1,6 @@
 -- The one spelling of each recording, part by part.
 use Rattle.std.specs.Prelude.{ℕ, ◌-◌, List, [], ◌∷◌, ◌++◌, length, nat_lt, if◌then◌else◌}
-use Rattle.rtr_types.specs.declared.parameters.Params.{Params}
+use Rattle.rtr_types.specs.declared.params.Params.{Params}
 use Rattle.stride_vector.specs.declared.StrideVector.{StrideVector}
 use Rattle.varint_core.specs.Leb128 as leb128
 use Rattle.log_codec.specs.declared.recording.Recording.{Recording}

@@ -6,7 +6,7 @@ ghost use Rattle.log_codec.specs.Turns.{read_in_turn, follow};
 ghost use Rattle.log_codec.specs.Validity.{bound_at};
 ghost use Rattle.log_codec.specs.Reading.{edge_at, edges_at, reduced_at};
 
-use crate::fault::{CodecFault, REDUCED};
+use crate::codec_fault::{CodecFault, REDUCED};
 use crate::fields::number;
 use rtr_types::{CORES_MAX, Items, pair_count, pair_of};
 use std::alloc::Global;

@@ -3,7 +3,7 @@ ghost use Rattle.std.specs.Prelude.{◌≡◌, ◌≤◌, length, IfOk};
 ghost use Rattle.log_codec.specs.Faults.{Gives};
 ghost use Rattle.log_codec.specs.Reading.{number_at, magic_at, params_of, header_at, image_at, total_at, totals_at};
 
-use crate::fault::{CodecFault, HEADER, IMAGE, TOTALS};
+use crate::codec_fault::{CodecFault, HEADER, IMAGE, TOTALS};
 use rtr_types::{CORES_MAX, Items, Params};
 use std::alloc::Global;
 use varint_core::take_u32;

@@ -2,8 +2,8 @@
 //! that each recording has.
 #![tactic(auto)]
 
+mod codec_fault;
 mod edges;
-mod fault;
 mod fields;
 mod laws;
 mod reading;
@@ -12,7 +12,7 @@ mod sources;
 mod vectors;
 mod writing;
 
-pub use fault::{CodecFault, END, HEADER, IMAGE, REDUCED, REGULATED, TOTALS};
+pub use codec_fault::{CodecFault, END, HEADER, IMAGE, REDUCED, REGULATED, TOTALS};
 pub use laws::{prefix_free, source_laws, spelling_laws, validity_laws};
 pub use reading::{read, read_front};
 pub use recording::Recording;

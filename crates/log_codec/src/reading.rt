@@ -6,8 +6,8 @@ ghost use Rattle.log_codec.specs.Spelling.{spelling};
 ghost use Rattle.log_codec.specs.Validity.{Valid};
 ghost use Rattle.log_codec.specs.declared.recording.Recording.{Recording};
 
+use crate::codec_fault::{CodecFault, END};
 use crate::edges::reduced;
-use crate::fault::{CodecFault, END};
 use crate::fields::{header, image, totals};
 use crate::recording::Recording;
 use crate::vectors::regulated;

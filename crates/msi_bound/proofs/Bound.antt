@@ -9,8 +9,8 @@ use Rattle.rtr_types.specs.declared.core_set.CoreSet.{CoreSet}
 use Rattle.rtr_types.specs.CoreSets.{has, no_cores}
 use Rattle.msi_cache.specs.declared.messages.FromHome.{FromHome}
 use Rattle.msi_protocol.proofs.Members.{has-no_cores}
-use Rattle.msi_state.specs.declared.actors.Mail.{Mail}
-use Rattle.msi_state.specs.declared.actors.Node.{Node}
+use Rattle.msi_state.specs.declared.node.Mail.{Mail}
+use Rattle.msi_state.specs.declared.node.Node.{Node}
 use Rattle.msi_state.specs.States.{node_at, no_node}
 use Rattle.msi_state.specs.Steps.{node_sent, nodes_sent, nodes_told}
 use Rattle.msi_state.specs.Bound.{debt, debts, owed}

@@ -16,11 +16,11 @@ use Rattle.msi_cache.specs.declared.messages.FromHome.{FromHome}
 use Rattle.msi_cache.specs.declared.messages.Request.{Request}
 use Rattle.msi_cache.specs.declared.messages.Response.{Response}
 use Rattle.msi_cache.specs.Messages.{request_block, response_block}
-use Rattle.msi_directory.specs.declared.entries.HomeAnswer.{HomeAnswer}
+use Rattle.msi_directory.specs.declared.entry.HomeAnswer.{HomeAnswer}
 use Rattle.msi_directory.specs.Entries.{answer_to_request, answer_to_response}
 use Rattle.msi_directory.specs.Blocks.{entry_at}
-use Rattle.msi_state.specs.declared.actors.Mail.{Mail}
-use Rattle.msi_state.specs.declared.actors.Node.{Node}
+use Rattle.msi_state.specs.declared.node.Mail.{Mail}
+use Rattle.msi_state.specs.declared.node.Node.{Node}
 use Rattle.msi_state.specs.declared.moves.Move.{Move}
 use Rattle.msi_state.specs.declared.moves.Move.TheVariants.{Core as CoreMove, Request as RequestMove, Response as ResponseMove, FromHome as MessageMove}
 use Rattle.msi_state.specs.States.{State, node_at, no_node}

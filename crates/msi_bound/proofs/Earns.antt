@@ -6,34 +6,33 @@ use Rattle.std.specs.List.{sum_by}
 use Rattle.std.proofs.lemmas.List.Sums.{sum_by-set}
 use Rattle.std.proofs.lemmas.Bool.Decides.{nat_tests}
 use Rattle.access_times.specs.Riding.{Riding, Carrying}
-use Rattle.access_times.specs.declared.TheConstants.{BLOCK_WORDS}
-use Rattle.rtr_types.specs.declared.TheConstants.{CORES_MAX}
+use Rattle.rtr_types.specs.declared.TheConstants.{BLOCK_WORDS, CORES_MAX}
 use Rattle.rtr_types.specs.declared.core_set.CoreSet.{CoreSet}
 use Rattle.rtr_types.specs.CoreSets.{has, without_core, is_none}
 use Rattle.rtr_types.proofs.Members.{has-without_same}
 use Rattle.rv_core.specs.declared.core_state.Need.{Need}
 use Rattle.rv_core.specs.declared.core_state.Need.TheVariants.{Local, Load, Store, Done}
 use Rattle.rv_core.specs.Steps.{need}
-use Rattle.msi_cache.specs.declared.copies.Line.{Line}
-use Rattle.msi_cache.specs.declared.copies.State.{State as LineState}
-use Rattle.msi_cache.specs.declared.copies.State.TheVariants.{I}
-use Rattle.msi_cache.specs.declared.copies.TheConstants.{LINES}
+use Rattle.msi_cache.specs.declared.line.Line.{Line}
+use Rattle.msi_cache.specs.declared.line.State.{State as LineState}
+use Rattle.msi_cache.specs.declared.line.State.TheVariants.{I}
+use Rattle.msi_cache.specs.declared.line.TheConstants.{LINES}
 use Rattle.msi_cache.specs.declared.messages.FromHome.{FromHome}
 use Rattle.msi_cache.specs.declared.messages.FromHome.TheVariants.{Inv}
 use Rattle.msi_cache.specs.declared.messages.Request.{Request}
 use Rattle.msi_cache.specs.Table.{Signal, Ask, Reply, is_transient}
 use Rattle.msi_cache.specs.Messages.{signal, ask_of, request_block}
 use Rattle.msi_cache.specs.Lines.{line_for, empty_line}
-use Rattle.msi_directory.specs.declared.entries.HomeAnswer.{HomeAnswer}
-use Rattle.msi_directory.specs.declared.entries.Stage.{Stage}
-use Rattle.msi_directory.specs.declared.entries.Stage.TheVariants.{Unshared, Shared, Owned, Acks, Data}
+use Rattle.msi_directory.specs.declared.entry.HomeAnswer.{HomeAnswer}
+use Rattle.msi_directory.specs.declared.entry.Stage.{Stage}
+use Rattle.msi_directory.specs.declared.entry.Stage.TheVariants.{Unshared, Shared, Owned, Acks, Data}
 use Rattle.msi_directory.specs.Table.{is_free}
 use Rattle.msi_directory.specs.Blocks.{entry_at}
 use Rattle.msi_protocol.specs.Block.{View, HomeStep, request_step, response_step}
 use Rattle.msi_protocol.specs.Controllers.{kind_sent}
 use Rattle.msi_protocol.specs.Phases.{Phase, picture, Out, role, role_in, StageFits}
-use Rattle.msi_state.specs.declared.actors.Mail.{Mail}
-use Rattle.msi_state.specs.declared.actors.Node.{Node}
+use Rattle.msi_state.specs.declared.node.Mail.{Mail}
+use Rattle.msi_state.specs.declared.node.Node.{Node}
 use Rattle.msi_state.specs.States.{State, node_at, no_node}
 use Rattle.msi_state.specs.Steps.{node_sent, nodes_sent, nodes_told, delivered, delivered_in, node_requested}
 use Rattle.msi_state.specs.Sights.{asks_of, cons_if}

@@ -1,7 +1,7 @@
 -- The moment at which a run ends.
 use Rattle.std.specs.Prelude.{ℕ, ◌+◌, ◌*◌, Bool, zero, suc, if◌then◌else◌}
 use Rattle.image_mem.specs.Contents.{Contents}
-use Rattle.rtr_types.specs.declared.parameters.Params.{Params}
+use Rattle.rtr_types.specs.declared.params.Params.{Params}
 use Rattle.msi_state.specs.States.{all_done}
 use Rattle.msi_state.specs.Runs.{run}
 

@@ -4,12 +4,12 @@ use Rattle.std.specs.Prelude.{slice_set}
 use Rattle.std.proofs.lemmas.List.{map-set, set-get_or}
 use Rattle.std.proofs.Math.ListN.{get_or-map}
 use Rattle.access_times.specs.Riding.{Riding, none_riding}
-use Rattle.rtr_types.specs.declared.accesses.Kind.{Kind}
+use Rattle.rtr_types.specs.declared.access.Kind.{Kind}
 use Rattle.msi_cache.specs.Messages.{block_of}
 use Rattle.msi_cache.specs.Lines.{has_row, line_after, line_asking, answer, asks, line_for, empty_line, waits, lines_with}
 use Rattle.msi_cache.specs.PlainPart.{plain_line, plain_lines, plain_message, plain_answer, plain_request, PlainOnHome, PlainWant, PlainPut, PlainRider}
-use Rattle.msi_cache.specs.declared.copies.Line.{Line}
-use Rattle.msi_cache.specs.declared.copies.TheConstants.{LINES}
+use Rattle.msi_cache.specs.declared.line.Line.{Line}
+use Rattle.msi_cache.specs.declared.line.TheConstants.{LINES}
 use Rattle.msi_cache.specs.declared.messages.FromHome.{FromHome}
 
 module _ {R : Type 0} where

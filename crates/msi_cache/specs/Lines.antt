@@ -3,12 +3,12 @@ use Rattle.std.specs.Prelude.{◌≡◌, ◌≢◌, ℕ, ◌%◌, ◌==◌, Bool
 use Rattle.std.specs.List.{list_any}
 use Rattle.access_times.specs.Riding.{Riding}
 use Rattle.rtr_types.specs.Accesses.{is_write}
-use Rattle.rtr_types.specs.declared.accesses.Kind.{Kind}
+use Rattle.rtr_types.specs.declared.access.Kind.{Kind}
 use Rattle.msi_cache.specs.Table.{Effect, Keep, Take, TakeAbsorbing, Row, row, Reply, Ask, WantRow, want_row, is_readable, is_writable, is_transient}
 use Rattle.msi_cache.specs.Messages.{signal, block_of}
-use Rattle.msi_cache.specs.declared.copies.TheConstants.{LINES}
-use Rattle.msi_cache.specs.declared.copies.State.TheVariants.{I}
-use Rattle.msi_cache.specs.declared.copies.Line.{Line}
+use Rattle.msi_cache.specs.declared.line.TheConstants.{LINES}
+use Rattle.msi_cache.specs.declared.line.State.TheVariants.{I}
+use Rattle.msi_cache.specs.declared.line.Line.{Line}
 use Rattle.msi_cache.specs.declared.messages.FromHome.{FromHome}
 use Rattle.msi_cache.specs.declared.messages.FromHome.TheVariants.{BlockData}
 use Rattle.msi_cache.specs.declared.messages.Response.{Response}

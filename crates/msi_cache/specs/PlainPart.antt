@@ -1,10 +1,10 @@
 -- The plain part of a cache and of its messages: what is left where the riders are forgotten.
 use Rattle.std.specs.Prelude.{◌≡◌, ℕ, List, Option, Some, None, map}
 use Rattle.access_times.specs.Riding.{Riding, none_riding}
-use Rattle.rtr_types.specs.declared.accesses.Kind.{Kind}
+use Rattle.rtr_types.specs.declared.access.Kind.{Kind}
 use Rattle.msi_cache.specs.Lines.{has_row, answer, asks, is_allowed, waits, lines_after, lines_asking, lines_put, lines_riding, line_for}
 use Rattle.msi_cache.specs.Messages.{block_of, message_with, request_with, response_with}
-use Rattle.msi_cache.specs.declared.copies.Line.{Line}
+use Rattle.msi_cache.specs.declared.line.Line.{Line}
 use Rattle.msi_cache.specs.declared.messages.FromHome.{FromHome}
 use Rattle.msi_cache.specs.declared.messages.Response.{Response}
 use Rattle.msi_cache.specs.declared.messages.Request.{Request}

@@ -3,8 +3,8 @@
 -- acknowledgements: a cache counts none, and one BlockData ends each miss. No rider is in it. What
 -- becomes of a line's words and rider is the column of effects.
 use Rattle.std.specs.Prelude.{Bool, true, false, Option, Some, None}
-use Rattle.msi_cache.specs.declared.copies.State.{State}
-use Rattle.msi_cache.specs.declared.copies.State.TheVariants.{I, S, M, IsD, ImD, SmD, MiA, SiA, IiA}
+use Rattle.msi_cache.specs.declared.line.State.{State}
+use Rattle.msi_cache.specs.declared.line.State.TheVariants.{I, S, M, IsD, ImD, SmD, MiA, SiA, IiA}
 
 -- the messages from home, without what they carry
 pub data Signal : Type 0 where

@@ -4,12 +4,12 @@
 //! acknowledgements.
 #![tactic(auto)]
 
-mod controller;
-mod copies;
+mod cache;
+mod line;
 mod messages;
 mod slots;
 
-pub use controller::{Cache, riders_change_no_plain_part};
-pub use copies::{LINES, Line, State};
+pub use cache::{Cache, riders_change_no_plain_part};
+pub use line::{LINES, Line, State};
 pub use messages::{FromHome, Request, Response};
 pub use slots::{FromHomeSlot, RequestSlot, ResponseSlot};

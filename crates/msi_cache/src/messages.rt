@@ -3,7 +3,7 @@
 ghost use Rattle.std.specs.Prelude.{◌≡◌};
 ghost use Rattle.msi_cache.specs.Messages.{block_of, message_seen, message_with, request_block, request_seen, response_block, response_seen};
 
-use access_times::BLOCK_WORDS;
+use rtr_types::BLOCK_WORDS;
 
 /// What a cache asks of the home: to share a block, to own it, or to give a shared or an owned copy
 /// back.

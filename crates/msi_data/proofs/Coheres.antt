@@ -5,28 +5,27 @@ use Rattle.std.proofs.lemmas.List.{length-set}
 use Rattle.std.proofs.lemmas.Bool.{cases_eq}
 use Rattle.std.proofs.lemmas.Bool.Decides.{nat_tests}
 use Rattle.access_times.specs.Riding.{Riding, Carrying}
-use Rattle.access_times.specs.declared.TheConstants.{BLOCK_WORDS}
+use Rattle.rtr_types.specs.declared.TheConstants.{BLOCK_WORDS, CORES_MAX}
 use Rattle.rtr_types.specs.Accesses.{is_write}
-use Rattle.rtr_types.specs.declared.TheConstants.{CORES_MAX}
-use Rattle.rtr_types.specs.declared.accesses.Kind.{Kind}
-use Rattle.msi_cache.specs.declared.copies.TheConstants.{LINES}
-use Rattle.msi_cache.specs.declared.copies.Line.{Line}
-use Rattle.msi_cache.specs.declared.copies.State.{State as LineState}
-use Rattle.msi_cache.specs.declared.copies.State.TheVariants.{I, M, MiA}
+use Rattle.rtr_types.specs.declared.access.Kind.{Kind}
+use Rattle.msi_cache.specs.declared.line.TheConstants.{LINES}
+use Rattle.msi_cache.specs.declared.line.Line.{Line}
+use Rattle.msi_cache.specs.declared.line.State.{State as LineState}
+use Rattle.msi_cache.specs.declared.line.State.TheVariants.{I, M, MiA}
 use Rattle.msi_cache.specs.declared.messages.FromHome.{FromHome}
 use Rattle.msi_cache.specs.declared.messages.Response.{Response}
 use Rattle.msi_cache.specs.declared.messages.Request.{Request}
 use Rattle.msi_cache.specs.Table.{Signal, Row, row}
 use Rattle.msi_cache.specs.Messages.{signal, block_of, request_block, response_block}
 use Rattle.msi_cache.specs.Lines.{line_for, empty_line, is_allowed, line_asking, line_after, line_by, asks, answer_by}
-use Rattle.msi_directory.specs.declared.entries.Stage.{Stage}
+use Rattle.msi_directory.specs.declared.entry.Stage.{Stage}
 use Rattle.msi_directory.specs.Blocks.{entry_at}
 use Rattle.msi_protocol.specs.Block.{View}
 use Rattle.msi_protocol.specs.Phases.{Phase, Stands, BlockHolds, picture, role}
 use Rattle.msi_protocol.specs.NextPhases.{may_write}
 use Rattle.msi_protocol.proofs.Keeps.{writer_role, one_role}
-use Rattle.msi_state.specs.declared.actors.Mail.{Mail}
-use Rattle.msi_state.specs.declared.actors.Node.{Node}
+use Rattle.msi_state.specs.declared.node.Mail.{Mail}
+use Rattle.msi_state.specs.declared.node.Node.{Node}
 use Rattle.msi_state.specs.States.{State, node_at}
 use Rattle.msi_state.specs.Nodes.{access_of, node_accessing, node_asking, node_taking, node_answering, answer_to}
 use Rattle.msi_state.specs.Sights.{line_state, signals_of, cons_if}

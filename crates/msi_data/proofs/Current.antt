@@ -6,9 +6,9 @@ use Rattle.std.proofs.lemmas.Bool.{cases_eq}
 use Rattle.std.proofs.lemmas.Bool.Decides.{nat_tests}
 use Rattle.access_times.specs.Riding.{Riding, Carrying}
 use Rattle.rtr_types.specs.CoreSets.{has}
-use Rattle.msi_cache.specs.declared.copies.TheConstants.{LINES}
-use Rattle.msi_cache.specs.declared.copies.State.{State as LineState}
-use Rattle.msi_cache.specs.declared.copies.State.TheVariants.{MiA}
+use Rattle.msi_cache.specs.declared.line.TheConstants.{LINES}
+use Rattle.msi_cache.specs.declared.line.State.{State as LineState}
+use Rattle.msi_cache.specs.declared.line.State.TheVariants.{MiA}
 use Rattle.msi_cache.specs.declared.messages.FromHome.{FromHome}
 use Rattle.msi_cache.specs.declared.messages.FromHome.TheVariants.{Inv}
 use Rattle.msi_cache.specs.declared.messages.Response.{Response}
@@ -16,21 +16,21 @@ use Rattle.msi_cache.specs.declared.messages.Request.{Request}
 use Rattle.msi_cache.specs.Table.{Signal, Ask}
 use Rattle.msi_cache.specs.Messages.{signal, ask_of, block_of, request_block, response_block}
 use Rattle.msi_cache.specs.Lines.{line_for}
-use Rattle.msi_directory.specs.declared.entries.Entry.{Entry}
-use Rattle.msi_directory.specs.declared.entries.HomeAnswer.{HomeAnswer}
-use Rattle.msi_directory.specs.declared.entries.Stage.{Stage}
-use Rattle.msi_directory.specs.declared.entries.Stage.TheVariants.{Owned}
+use Rattle.msi_directory.specs.declared.entry.Entry.{Entry}
+use Rattle.msi_directory.specs.declared.entry.HomeAnswer.{HomeAnswer}
+use Rattle.msi_directory.specs.declared.entry.Stage.{Stage}
+use Rattle.msi_directory.specs.declared.entry.Stage.TheVariants.{Owned}
 use Rattle.msi_directory.specs.Entries.{has_response_row, entry_after_request, answer_to_request, entry_after_response, answer_to_response}
 use Rattle.msi_directory.specs.Blocks.{entry_at, no_entry}
 use Rattle.msi_protocol.specs.Block.{View}
 use Rattle.msi_protocol.specs.Phases.{Phase, picture, role, role_in}
 use Rattle.msi_protocol.proofs.Controllers.{request_makes_step, response_makes_step}
-use Rattle.msi_state.specs.declared.actors.Mail.{Mail}
-use Rattle.msi_state.specs.declared.actors.Node.{Node}
+use Rattle.msi_state.specs.declared.node.Mail.{Mail}
+use Rattle.msi_state.specs.declared.node.Node.{Node}
 use Rattle.msi_state.specs.States.{State, node_at}
 use Rattle.msi_state.specs.Steps.{node_sent, delivered, delivered_in, node_requested, node_responded, request_moved_in, response_moved_in}
 use Rattle.msi_state.specs.Sights.{line_state, signals_of, asks_of, cons_if}
-use Rattle.msi_state.specs.Coherent.{is_ack, has_ack, line_current, home_current, data_words, reply_words, put_words, SentIs, ReplyIs, PutIs, Each, NodeCurrent, Current}
+use Rattle.msi_state.specs.Coherent.{is_ack, has_ack, line_current, home_counts, data_words, reply_words, put_words, SentIs, ReplyIs, PutIs, Each, NodeCurrent, Current}
 use Rattle.msi_sound.specs.Sound.{Sound}
 use Rattle.msi_sound.proofs.Views.{signals_of-snoc, node_at-set, node_at-told, node_at-sent}
 use Rattle.msi_sound.proofs.Blocks.{eqb_same, length-delivered}
@@ -54,16 +54,16 @@ current_more : (s : LineState) (ms more : List Signal) → line_current s (ms ++
 current_more s ms more e = let fewer : has_ack (ms ++ more) ≡ false → has_ack ms ≡ false = has_ack_more ms more in grind (arith, nat_tests, fewer)
 
 -- data that the home sends are its own words, where these are current, or those that it just got
-request_sent : {R : Type 0} (absorbed : R → R → R) (e : Entry R) (c : ℕ) (r : Request R) (cur : List ℕ) (to : ℕ) (m : FromHome R) → (home_current e.stage ≡ true → e.words ≡ cur) → (answer_to_request absorbed e c r).send ≡ Some (to, m) → (w : List ℕ) → data_words m ≡ Some w → w ≡ cur
+request_sent : {R : Type 0} (absorbed : R → R → R) (e : Entry R) (c : ℕ) (r : Request R) (cur : List ℕ) (to : ℕ) (m : FromHome R) → (home_counts e.stage ≡ true → e.words ≡ cur) → (answer_to_request absorbed e c r).send ≡ Some (to, m) → (w : List ℕ) → data_words m ≡ Some w → w ≡ cur
 request_sent absorbed e c r cur to m h is w words = grind (arith, nat_tests, h)
 
-request_home : {R : Type 0} (absorbed : R → R → R) (e : Entry R) (c : ℕ) (r : Request R) (cur : List ℕ) → (home_current e.stage ≡ true → e.words ≡ cur) → (e.stage ≡ Owned c → (w : List ℕ) → put_words r ≡ Some w → w ≡ cur) → home_current (entry_after_request absorbed e c r).stage ≡ true → (entry_after_request absorbed e c r).words ≡ cur
+request_home : {R : Type 0} (absorbed : R → R → R) (e : Entry R) (c : ℕ) (r : Request R) (cur : List ℕ) → (home_counts e.stage ≡ true → e.words ≡ cur) → (e.stage ≡ Owned c → (w : List ℕ) → put_words r ≡ Some w → w ≡ cur) → home_counts (entry_after_request absorbed e c r).stage ≡ true → (entry_after_request absorbed e c r).words ≡ cur
 request_home absorbed e c r cur h put now = grind (arith, nat_tests, h, put)
 
-response_sent : {R : Type 0} (absorbed : R → R → R) (e : Entry R) (c : ℕ) (r : Response R) (cur : List ℕ) (to : ℕ) (m : FromHome R) → (home_current e.stage ≡ true → e.words ≡ cur) → ((w : List ℕ) → reply_words r ≡ Some w → w ≡ cur) → has_response_row e.stage c r ≡ true → (answer_to_response absorbed e c r).send ≡ Some (to, m) → (w : List ℕ) → data_words m ≡ Some w → w ≡ cur
+response_sent : {R : Type 0} (absorbed : R → R → R) (e : Entry R) (c : ℕ) (r : Response R) (cur : List ℕ) (to : ℕ) (m : FromHome R) → (home_counts e.stage ≡ true → e.words ≡ cur) → ((w : List ℕ) → reply_words r ≡ Some w → w ≡ cur) → has_response_row e.stage c r ≡ true → (answer_to_response absorbed e c r).send ≡ Some (to, m) → (w : List ℕ) → data_words m ≡ Some w → w ≡ cur
 response_sent absorbed e c r cur to m h reply row is w words = grind (arith, nat_tests, h, reply)
 
-response_home : {R : Type 0} (absorbed : R → R → R) (e : Entry R) (c : ℕ) (r : Response R) (cur : List ℕ) → (home_current e.stage ≡ true → e.words ≡ cur) → ((w : List ℕ) → reply_words r ≡ Some w → w ≡ cur) → has_response_row e.stage c r ≡ true → home_current (entry_after_response absorbed e c r).stage ≡ true → (entry_after_response absorbed e c r).words ≡ cur
+response_home : {R : Type 0} (absorbed : R → R → R) (e : Entry R) (c : ℕ) (r : Response R) (cur : List ℕ) → (home_counts e.stage ≡ true → e.words ≡ cur) → ((w : List ℕ) → reply_words r ≡ Some w → w ≡ cur) → has_response_row e.stage c r ≡ true → home_counts (entry_after_response absorbed e c r).stage ≡ true → (entry_after_response absorbed e c r).words ≡ cur
 response_home absorbed e c r cur h reply row now = grind (arith, nat_tests, h, reply)
 
 -- an owner that gives its copy back still has the current words
@@ -102,7 +102,7 @@ module _ {R K : Type 0} where
       by_test false e = h d ld (λ (f : d ≡ c). absurd (grind (arith, nat_tests)))
 
   -- the home took a message of core c about a block, which leaves the core's node and the block's entry so
-  home_answers : (riding : Riding R) (carrying : Carrying K) (s : State R K) (c : ℕ) (popped : Node R K) (block : ℕ) (e : Entry R) (answered : HomeAnswer R) (k : K) (b : ℕ) (cur : List ℕ) → c < length s.nodes → block < length s.home → ((to : ℕ) (m : FromHome R) → answered.send ≡ Some (to, m) → (to < length s.nodes) × SentIs b cur m) → NodeCurrent riding b cur popped → (block ≡ b → home_current e.stage ≡ true → e.words ≡ cur) → Current riding carrying s b cur → Current riding carrying (record s { nodes = delivered carrying answered block k (slice_set s.nodes c popped); home = slice_set s.home block e; carry = k }) b cur
+  home_answers : (riding : Riding R) (carrying : Carrying K) (s : State R K) (c : ℕ) (popped : Node R K) (block : ℕ) (e : Entry R) (answered : HomeAnswer R) (k : K) (b : ℕ) (cur : List ℕ) → c < length s.nodes → block < length s.home → ((to : ℕ) (m : FromHome R) → answered.send ≡ Some (to, m) → (to < length s.nodes) × SentIs b cur m) → NodeCurrent riding b cur popped → (block ≡ b → home_counts e.stage ≡ true → e.words ≡ cur) → Current riding carrying s b cur → Current riding carrying (record s { nodes = delivered carrying answered block k (slice_set s.nodes c popped); home = slice_set s.home block e; carry = k }) b cur
   home_answers riding carrying s c popped block e answered k b cur lc lb sends here entry h =
       record {
         home = by_home (cases_eq block b);
@@ -117,14 +117,14 @@ module _ {R K : Type 0} where
       nodes : (d : ℕ) → d < length (slice_set s.nodes c popped) → NodeCurrent riding b cur (node_at carrying (slice_set s.nodes c popped) d)
       nodes d ld = nodes_current riding carrying b cur s.nodes c popped lc here (λ y ly other. h.nodes y ly) d (rw length-set at ld)
 
-      by_home : (block ≡ b) ⊎ (block ≢ b) → home_current (entry_at riding.fresh (slice_set s.home block e) b).stage ≡ true → (entry_at riding.fresh (slice_set s.home block e) b).words ≡ cur
+      by_home : (block ≡ b) ⊎ (block ≢ b) → home_counts (entry_at riding.fresh (slice_set s.home block e) b).stage ≡ true → (entry_at riding.fresh (slice_set s.home block e) b).words ≡ cur
       by_home (inl same) =
-          subst (λ (x : ℕ). home_current (entry_at riding.fresh (slice_set s.home block e) x).stage ≡ true → (entry_at riding.fresh (slice_set s.home block e) x).words ≡ cur) same
-          (subst (λ (x : Entry R). home_current x.stage ≡ true → x.words ≡ cur) (sym (get_or-set_same s.home block e (no_entry riding.fresh) lb)) (entry same))
-      by_home (inr other) = subst (λ (x : Entry R). home_current x.stage ≡ true → x.words ≡ cur) (sym (get_or-set_other s.home block b e (no_entry riding.fresh) (λ (f : b ≡ block). other (sym f)))) h.home
+          subst (λ (x : ℕ). home_counts (entry_at riding.fresh (slice_set s.home block e) x).stage ≡ true → (entry_at riding.fresh (slice_set s.home block e) x).words ≡ cur) same
+          (subst (λ (x : Entry R). home_counts x.stage ≡ true → x.words ≡ cur) (sym (get_or-set_same s.home block e (no_entry riding.fresh) lb)) (entry same))
+      by_home (inr other) = subst (λ (x : Entry R). home_counts x.stage ≡ true → x.words ≡ cur) (sym (get_or-set_other s.home block b e (no_entry riding.fresh) (λ (f : b ≡ block). other (sym f)))) h.home
 
-  home_there : (riding : Riding R) (carrying : Carrying K) (s : State R K) (block b : ℕ) (cur : List ℕ) → block ≡ b → Current riding carrying s b cur → home_current (entry_at riding.fresh s.home block).stage ≡ true → (entry_at riding.fresh s.home block).words ≡ cur
-  home_there riding carrying s block b cur same k = subst (λ (x : ℕ). home_current (entry_at riding.fresh s.home x).stage ≡ true → (entry_at riding.fresh s.home x).words ≡ cur) (sym same) k.home
+  home_there : (riding : Riding R) (carrying : Carrying K) (s : State R K) (block b : ℕ) (cur : List ℕ) → block ≡ b → Current riding carrying s b cur → home_counts (entry_at riding.fresh s.home block).stage ≡ true → (entry_at riding.fresh s.home block).words ≡ cur
+  home_there riding carrying s block b cur same k = subst (λ (x : ℕ). home_counts (entry_at riding.fresh s.home x).stage ≡ true → (entry_at riding.fresh s.home x).words ≡ cur) (sym same) k.home
 
   -- a request keeps what is current
   pub request_current : (riding : Riding R) (carrying : Carrying K) (s : State R K) (c : ℕ) (mail : Mail (Request R) K) (rest : List (Mail (Request R) K)) (b : ℕ) (cur : List ℕ) → Sound riding carrying s → c < length s.nodes → (node_at carrying s.nodes c).requests.items ≡ mail ∷ rest → Current riding carrying s b cur → Current riding carrying (request_moved_in (mail ∷ rest) riding carrying s c) b cur

@@ -5,23 +5,23 @@ use Rattle.std.proofs.lemmas.List.Sums.{AllPass-from_list_all}
 use Rattle.access_times.specs.Riding.{Riding, Carrying}
 use Rattle.rtr_types.specs.declared.TheConstants.{CORES_MAX}
 use Rattle.link_order.specs.Queue.{is_nil}
-use Rattle.msi_cache.specs.declared.copies.State.{State as LineState}
-use Rattle.msi_cache.specs.declared.copies.State.TheVariants.{M}
+use Rattle.msi_cache.specs.declared.line.State.{State as LineState}
+use Rattle.msi_cache.specs.declared.line.State.TheVariants.{M}
 use Rattle.msi_cache.specs.declared.messages.FromHome.{FromHome}
 use Rattle.msi_cache.specs.declared.messages.Response.{Response}
 use Rattle.msi_cache.specs.declared.messages.Request.{Request}
 use Rattle.msi_cache.specs.Lines.{line_for}
-use Rattle.msi_directory.specs.declared.entries.Stage.{Stage}
-use Rattle.msi_directory.specs.declared.entries.Stage.TheVariants.{Unshared, Shared, Owned, Acks, Data}
+use Rattle.msi_directory.specs.declared.entry.Stage.{Stage}
+use Rattle.msi_directory.specs.declared.entry.Stage.TheVariants.{Unshared, Shared, Owned, Acks, Data}
 use Rattle.msi_directory.specs.Table.{is_free}
 use Rattle.msi_directory.specs.Blocks.{entry_at}
 use Rattle.msi_protocol.specs.Phases.{StageFits, Out, Owner, role}
 use Rattle.msi_protocol.specs.Promises.{is_quiet, is_nil as is_none_of, Agrees, settled}
 use Rattle.msi_protocol.proofs.Quiet.{quiet_agrees}
-use Rattle.msi_state.specs.declared.actors.Mail.{Mail}
-use Rattle.msi_state.specs.declared.actors.Node.{Node}
+use Rattle.msi_state.specs.declared.node.Mail.{Mail}
+use Rattle.msi_state.specs.declared.node.Node.{Node}
 use Rattle.msi_state.specs.Bound.{are_links_empty, links_empty}
-use Rattle.msi_state.specs.Coherent.{Coherent, home_current, line_current}
+use Rattle.msi_state.specs.Coherent.{Coherent, home_counts, line_current}
 use Rattle.msi_state.specs.FinalMemory.{final_in, final_words}
 use Rattle.msi_state.specs.Sights.{line_state, asks_of, replies_of, signals_of}
 use Rattle.msi_state.specs.States.{State, node_at, no_node}
@@ -53,8 +53,8 @@ module _ {R K : Type 0} where
       agrees = quiet_agrees (block_in riding carrying s b) (h.blocks b) (λ d ld. all_quiet riding carrying s b d empty)
 
       by_stage : (stage : Stage) → (entry_at riding.fresh s.home b).stage ≡ stage → final_in stage riding carrying s b ≡ memory b
-      by_stage Unshared e = (k b).home (ap home_current e)
-      by_stage (Shared by) e = (k b).home (ap home_current e)
+      by_stage Unshared e = (k b).home (ap home_counts e)
+      by_stage (Shared by) e = (k b).home (ap home_counts e)
       by_stage (Acks awaited requester) e = absurd (let busy : is_free (entry_at riding.fresh s.home b).stage ≡ false = ap is_free e in let free = agrees.free in cc)
       by_stage (Data giver requester share) e = absurd (let busy : is_free (entry_at riding.fresh s.home b).stage ≡ false = ap is_free e in let free = agrees.free in cc)
       by_stage (Owned owner) e =

@@ -3,13 +3,13 @@ use Rattle.std.proofs.Common.{◌≡◌, ◌∙◌, refl, ℕ, ◌<◌, ◌==◌
 use Rattle.std.specs.Prelude.{if◌then◌else◌, slice_index, slice_set}
 use Rattle.std.proofs.lemmas.List.{length-set, get_or-set_same, get_or-set_other}
 use Rattle.std.proofs.lemmas.Bool.Decides.{nat_tests}
-use Rattle.access_times.specs.declared.TheConstants.{BLOCK_WORDS}
+use Rattle.rtr_types.specs.declared.TheConstants.{BLOCK_WORDS}
 use Rattle.rtr_types.specs.Accesses.{is_write}
-use Rattle.rtr_types.specs.declared.accesses.Access.{Access}
-use Rattle.rtr_types.specs.declared.accesses.Kind.{Kind}
-use Rattle.rtr_types.specs.declared.accesses.Kind.TheVariants.{Load as IsLoad, Store as IsStore}
+use Rattle.rtr_types.specs.declared.access.Access.{Access}
+use Rattle.rtr_types.specs.declared.access.Kind.{Kind}
+use Rattle.rtr_types.specs.declared.access.Kind.TheVariants.{Load as IsLoad, Store as IsStore}
 use Rattle.msi_state.specs.Nodes.{Nothing, Retires, Accesses}
-use Rattle.msi_state.specs.Coherent.{accessed, WordsFit, word_at, LastWrite}
+use Rattle.msi_state.specs.Coherent.{accessed, WordsFit, word_of, LastWrite}
 
 same_place : (x y : ℕ) → x / BLOCK_WORDS ≡ y / BLOCK_WORDS → x % BLOCK_WORDS ≡ y % BLOCK_WORDS → x ≡ y
 same_place x y q r = omega arith
@@ -25,22 +25,22 @@ written_fits a IsStore memory h b = by_test (b == a.word / BLOCK_WORDS)
     by_test true = length-set (memory b) (a.word % BLOCK_WORDS) a.after ∙ h b
     by_test false = h b
 
-written_word : (a : Access) (kind : Kind) (memory : ℕ → List ℕ) → WordsFit memory → (word : ℕ) → word_at (accessed kind a memory) word ≡ (if is_write kind && (a.word == word) then a.after else word_at memory word)
+written_word : (a : Access) (kind : Kind) (memory : ℕ → List ℕ) → WordsFit memory → (word : ℕ) → word_of (accessed kind a memory) word ≡ (if is_write kind && (a.word == word) then a.after else word_of memory word)
 written_word a IsLoad memory h word = refl
 written_word a IsStore memory h word = by_test (word / BLOCK_WORDS == a.word / BLOCK_WORDS) refl
   where
-    by_test : (t : Bool) → (word / BLOCK_WORDS == a.word / BLOCK_WORDS) ≡ t → slice_index (if t then slice_set (memory (word / BLOCK_WORDS)) (a.word % BLOCK_WORDS) a.after else memory (word / BLOCK_WORDS)) (word % BLOCK_WORDS) ≡ (if a.word == word then a.after else word_at memory word)
+    by_test : (t : Bool) → (word / BLOCK_WORDS == a.word / BLOCK_WORDS) ≡ t → slice_index (if t then slice_set (memory (word / BLOCK_WORDS)) (a.word % BLOCK_WORDS) a.after else memory (word / BLOCK_WORDS)) (word % BLOCK_WORDS) ≡ (if a.word == word then a.after else word_of memory word)
     by_test true e =
         let block : word / BLOCK_WORDS ≡ a.word / BLOCK_WORDS = grind (arith, nat_tests) in
         let same : (word % BLOCK_WORDS ≡ a.word % BLOCK_WORDS) → word ≡ a.word = λ (r : word % BLOCK_WORDS ≡ a.word % BLOCK_WORDS). same_place word a.word block r in
         set_word (memory (word / BLOCK_WORDS)) (a.word % BLOCK_WORDS) (word % BLOCK_WORDS) a.after (h (word / BLOCK_WORDS)) (omega arith) ∙ by_slot (word % BLOCK_WORDS == a.word % BLOCK_WORDS) refl same
       where
-        by_slot : (u : Bool) → (word % BLOCK_WORDS == a.word % BLOCK_WORDS) ≡ u → (word % BLOCK_WORDS ≡ a.word % BLOCK_WORDS → word ≡ a.word) → (if u then a.after else word_at memory word) ≡ (if a.word == word then a.after else word_at memory word)
+        by_slot : (u : Bool) → (word % BLOCK_WORDS == a.word % BLOCK_WORDS) ≡ u → (word % BLOCK_WORDS ≡ a.word % BLOCK_WORDS → word ≡ a.word) → (if u then a.after else word_of memory word) ≡ (if a.word == word then a.after else word_of memory word)
         by_slot true f same = let at : (a.word == word) ≡ true = let w : word ≡ a.word = same (grind (arith, nat_tests)) in grind (arith, nat_tests) in rw at refl
         by_slot false f same = let at : (a.word == word) ≡ false = grind (arith, nat_tests) in rw at refl
     by_test false e = let at : (a.word == word) ≡ false = grind (arith, nat_tests) in rw at refl
 
-pub last_write : LastWrite
-last_write Nothing memory h = (h, λ word. refl)
-last_write (Retires at) memory h = (h, λ word. refl)
-last_write (Accesses a) memory h = (written_fits a a.kind memory h, written_word a a.kind memory h)
+pub last_write_found : LastWrite
+last_write_found Nothing memory h = (h, λ word. refl)
+last_write_found (Retires at) memory h = (h, λ word. refl)
+last_write_found (Accesses a) memory h = (written_fits a a.kind memory h, written_word a a.kind memory h)

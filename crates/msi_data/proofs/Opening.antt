@@ -4,19 +4,19 @@ use Rattle.std.specs.Prelude.{if◌then◌else◌, slice_index}
 use Rattle.std.proofs.lemmas.List.{get_or-replicate, get_or_past}
 use Rattle.std.proofs.lemmas.List.FromFn.{length-map-range_with_len, get_or-map-range_with_len}
 use Rattle.access_times.specs.Riding.{Riding, Carrying}
-use Rattle.access_times.specs.declared.TheConstants.{BLOCK_WORDS}
+use Rattle.rtr_types.specs.declared.TheConstants.{BLOCK_WORDS}
 use Rattle.image_mem.specs.Contents.{Contents, opening_word}
 use Rattle.image_mem.proofs.WordLemmas.{opening_word-past}
-use Rattle.msi_cache.specs.declared.copies.TheConstants.{LINES}
-use Rattle.msi_cache.specs.declared.copies.Line.{Line}
-use Rattle.msi_cache.specs.declared.copies.State.TheVariants.{I}
+use Rattle.msi_cache.specs.declared.line.TheConstants.{LINES}
+use Rattle.msi_cache.specs.declared.line.Line.{Line}
+use Rattle.msi_cache.specs.declared.line.State.TheVariants.{I}
 use Rattle.msi_cache.specs.Lines.{empty_line}
-use Rattle.msi_directory.specs.declared.entries.Entry.{Entry}
+use Rattle.msi_directory.specs.declared.entry.Entry.{Entry}
 use Rattle.msi_directory.specs.Blocks.{block_count, opening_entry, opening_entries, entry_at, no_entry}
 use Rattle.msi_directory.proofs.Openings.{openings_counted}
-use Rattle.msi_state.specs.declared.actors.Node.{Node}
+use Rattle.msi_state.specs.declared.node.Node.{Node}
 use Rattle.msi_state.specs.States.{node_start, state_start}
-use Rattle.msi_state.specs.Coherent.{Coherent, Current, NodeCurrent, WordsFit, opening_memory, word_at, line_current}
+use Rattle.msi_state.specs.Coherent.{Coherent, Current, NodeCurrent, WordsFit, opening_memory, word_of, line_current}
 use Rattle.msi_state.specs.Sights.{line_state}
 use Rattle.msi_state.proofs.Start.{node_start_at}
 use Rattle.msi_sound.proofs.Blocks.{le_or_lt}
@@ -49,7 +49,7 @@ opening_slot image b (suc (suc (suc zero))) word lt is = ap (opening_word image)
 opening_slot image b (suc (suc (suc (suc slot)))) word lt is = absurd (omega arith)
 
 -- a word of the memory opens as the image has it
-pub opening_at : {R : Type 0} (fresh : R) (image : Contents) (word : ℕ) → word < image.words → word_at (home_memory fresh image) word ≡ opening_word image word
+pub opening_at : {R : Type 0} (fresh : R) (image : Contents) (word : ℕ) → word < image.words → word_of (home_memory fresh image) word ≡ opening_word image word
 opening_at fresh image word within =
     ap (λ (words : List ℕ). slice_index words (word % BLOCK_WORDS)) (home_within fresh image (word / BLOCK_WORDS) (omega arith))
     ∙ opening_slot image (word / BLOCK_WORDS) (word % BLOCK_WORDS) word (omega arith) (omega arith)

@@ -5,30 +5,30 @@ use Rattle.std.specs.List.{list_any}
 use Rattle.std.proofs.lemmas.List.{length-set}
 use Rattle.std.proofs.lemmas.Bool.Decides.{nat_tests}
 use Rattle.access_times.specs.Riding.{Riding, Carrying}
-use Rattle.access_times.specs.declared.TheConstants.{BLOCK_WORDS}
+use Rattle.rtr_types.specs.declared.TheConstants.{BLOCK_WORDS}
 use Rattle.image_mem.specs.Contents.{Contents}
 use Rattle.rtr_types.specs.Accesses.{is_write}
-use Rattle.rtr_types.specs.declared.accesses.Access.{Access}
-use Rattle.rtr_types.specs.declared.accesses.Kind.{Kind}
-use Rattle.msi_cache.specs.declared.copies.TheConstants.{LINES}
-use Rattle.msi_cache.specs.declared.copies.Line.{Line}
-use Rattle.msi_cache.specs.declared.copies.State.{State as LineState}
-use Rattle.msi_cache.specs.declared.copies.State.TheVariants.{I, M, MiA}
+use Rattle.rtr_types.specs.declared.access.Access.{Access}
+use Rattle.rtr_types.specs.declared.access.Kind.{Kind}
+use Rattle.msi_cache.specs.declared.line.TheConstants.{LINES}
+use Rattle.msi_cache.specs.declared.line.Line.{Line}
+use Rattle.msi_cache.specs.declared.line.State.{State as LineState}
+use Rattle.msi_cache.specs.declared.line.State.TheVariants.{I, M, MiA}
 use Rattle.msi_cache.specs.declared.messages.FromHome.{FromHome}
 use Rattle.msi_cache.specs.declared.messages.Response.{Response}
 use Rattle.msi_cache.specs.declared.messages.Request.{Request}
 use Rattle.msi_cache.specs.Table.{Signal, Ask, Reply}
 use Rattle.msi_cache.specs.Messages.{signal, ask_of, reply_of, block_of, request_block, response_block}
 use Rattle.msi_cache.specs.Lines.{line_for, empty_line, is_allowed, lines_put, lines_riding}
-use Rattle.msi_directory.specs.declared.entries.Stage.{Stage}
+use Rattle.msi_directory.specs.declared.entry.Stage.{Stage}
 use Rattle.msi_protocol.specs.Block.{View}
 use Rattle.msi_protocol.specs.Phases.{Phase, Stands, picture, role, role_in}
 use Rattle.msi_protocol.specs.NextPhases.{may_read, may_write}
-use Rattle.msi_state.specs.declared.actors.Mail.{Mail}
-use Rattle.msi_state.specs.declared.actors.Node.{Node}
+use Rattle.msi_state.specs.declared.node.Mail.{Mail}
+use Rattle.msi_state.specs.declared.node.Node.{Node}
 use Rattle.msi_state.specs.Nodes.{lines_accessed, access_of, node_accessing}
 use Rattle.msi_state.specs.Sights.{line_state, signals_of, replies_of, asks_of, cons_if}
-use Rattle.msi_state.specs.Coherent.{line_current, home_current, data_words, reply_words, put_words, SentIs, ReplyIs, PutIs, Each, NodeCurrent}
+use Rattle.msi_state.specs.Coherent.{line_current, home_counts, data_words, reply_words, put_words, SentIs, ReplyIs, PutIs, Each, NodeCurrent}
 use Rattle.msi_sound.specs.Views.{node_view}
 use Rattle.msi_sound.proofs.Lines.{set_at, riding_same}
 
@@ -89,7 +89,7 @@ writer_sent p e = grind arith
 writer_replied : (p : Phase) → (picture p).line ≡ M → list_any is_data_reply (picture p).responses ≡ false
 writer_replied p e = grind arith
 
-pub writer_home : (stage : Stage) (c : ℕ) → may_write (role stage c) ≡ true → home_current stage ≡ false
+pub writer_home : (stage : Stage) (c : ℕ) → may_write (role stage c) ≡ true → home_counts stage ≡ false
 writer_home stage c e = grind arith
 
 module _ {R K : Type 0} where

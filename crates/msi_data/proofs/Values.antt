@@ -5,12 +5,12 @@ use Rattle.std.proofs.lemmas.List.Elements.{All-push, All-nil}
 use Rattle.std.proofs.lemmas.List.{append-nil}
 use Rattle.image_mem.specs.Contents.{Contents, opening_word}
 use Rattle.rtr_types.specs.Accesses.{is_write}
-use Rattle.rtr_types.specs.declared.accesses.Access.{Access}
+use Rattle.rtr_types.specs.declared.access.Access.{Access}
 use Rattle.msi_state.specs.Nodes.{Event, Nothing, Retires, Accesses}
-use Rattle.msi_state.specs.Coherent.{memory_after, Finds, WordsFit, word_at}
+use Rattle.msi_state.specs.Coherent.{memory_after, Finds, WordsFit, word_of}
 use Rattle.msi_state.specs.Runs.{accesses_in}
 use Rattle.msi_data.specs.LastValues.{last_value, EachFindsLast}
-use Rattle.msi_data.proofs.Memory.{last_write}
+use Rattle.msi_data.proofs.Memory.{last_write_found}
 use Rattle.msi_data.proofs.Opening.{home_memory, home_fits, opening_at}
 
 last_value-snoc : (opening word : ℕ) (list : List Access) (a : Access) → last_value opening word (list ++ a ∷ []) ≡ (if a.word == word then a.after else last_value opening word list)
@@ -44,7 +44,7 @@ split-snoc (z ∷ list) (y ∷ earlier) later a x is =
 -- the memory that these accesses left of what the image has, each of which found what it was
 pub record Found (image : Contents) (memory : ℕ → List ℕ) (list : List Access) : Type 0 where
   pub fits : WordsFit memory
-  pub values : (word : ℕ) → word < image.words → word_at memory word ≡ last_value (opening_word image word) word list
+  pub values : (word : ℕ) → word < image.words → word_of memory word ≡ last_value (opening_word image word) word list
   pub found : EachFindsLast image list
   pub within : All (λ a. a.word < image.words) list
 
@@ -62,11 +62,11 @@ found_none fresh image =
       within = All-nil (λ a. a.word < image.words);
     }
 
-found_access : (image : Contents) (memory : ℕ → List ℕ) (list : List Access) (a : Access) → Found image memory list → a.before ≡ word_at memory a.word → a.word < image.words → (is_write a.kind ≡ false → a.after ≡ a.before) → Found image (memory_after (Accesses a) memory) (list ++ a ∷ [])
+found_access : (image : Contents) (memory : ℕ → List ℕ) (list : List Access) (a : Access) → Found image memory list → a.before ≡ word_of memory a.word → a.word < image.words → (is_write a.kind ≡ false → a.after ≡ a.before) → Found image (memory_after (Accesses a) memory) (list ++ a ∷ [])
 found_access image memory list a h finds within reads =
     record {
-      fits = (last_write (Accesses a) memory h.fits).0;
-      values = λ word lt. (last_write (Accesses a) memory h.fits).1 word ∙ (left word lt (is_write a.kind) (a.word == word) refl refl ∙ sym (last_value-snoc (opening_word image word) word list a));
+      fits = (last_write_found (Accesses a) memory h.fits).0;
+      values = λ word lt. (last_write_found (Accesses a) memory h.fits).1 word ∙ (left word lt (is_write a.kind) (a.word == word) refl refl ∙ sym (last_value-snoc (opening_word image word) word list a));
       found = λ earlier later x is. elim (split-snoc list earlier later a x is) [
         | inl p ↦ subst (λ (e : List Access). x.before ≡ last_value (opening_word image x.word) x.word e) (sym p.0) (subst (λ (y : Access). y.before ≡ last_value (opening_word image y.word) y.word list) (sym p.1) (finds ∙ h.values a.word within))
         | inr p ↦ h.found earlier p.0 x p.1
@@ -74,10 +74,10 @@ found_access image memory list a h finds within reads =
       within = All-push (λ (x : Access). x.word < image.words) list a h.within within;
     }
   where
-    left : (word : ℕ) → word < image.words → (writes here : Bool) → is_write a.kind ≡ writes → (a.word == word) ≡ here → (if writes && here then a.after else word_at memory word) ≡ (if here then a.after else last_value (opening_word image word) word list)
+    left : (word : ℕ) → word < image.words → (writes here : Bool) → is_write a.kind ≡ writes → (a.word == word) ≡ here → (if writes && here then a.after else word_of memory word) ≡ (if here then a.after else last_value (opening_word image word) word list)
     left word lt true true w e = refl
     left word lt true false w e = h.values word lt
-    left word lt false true w e = ap (λ (x : ℕ). word_at memory x) (sym (eqb-true a.word word e)) ∙ (sym finds ∙ sym (reads w))
+    left word lt false true w e = ap (λ (x : ℕ). word_of memory x) (sym (eqb-true a.word word e)) ∙ (sym finds ∙ sym (reads w))
     left word lt false false w e = h.values word lt
 
 pub found_more : (image : Contents) (memory : ℕ → List ℕ) (list : List Access) (e : Event) → Found image memory list → Finds e memory → Honest image.words e → Found image (memory_after e memory) (list ++ accesses_in e)

@@ -2,7 +2,7 @@
 use Rattle.std.specs.Prelude.{◌≡◌, ℕ, ◌==◌, List, [], ◌∷◌, ◌++◌, map, if◌then◌else◌}
 use Rattle.std.specs.List.{range_with_len}
 use Rattle.image_mem.specs.Contents.{Contents, opening_word}
-use Rattle.rtr_types.specs.declared.accesses.Access.{Access}
+use Rattle.rtr_types.specs.declared.access.Access.{Access}
 
 -- the value after of the last of the accesses to the word; where none is to the word, the opening value
 abbrev pub last_value : (opening word : ℕ) → List Access → ℕ

@@ -11,7 +11,7 @@ ghost use Rattle.msi_state.specs.States.{State, all_done, state_start};
 ghost use Rattle.msi_state.specs.Steps.{enabled, event, step};
 ghost use Rattle.msi_state.specs.declared.moves.Move.{Move};
 ghost use Rattle.rtr_types.specs.declared.TheConstants.{CORES_MAX};
-ghost use Rattle.rtr_types.specs.declared.parameters.Params.{Params};
+ghost use Rattle.rtr_types.specs.declared.params.Params.{Params};
 
 use access_times::{Carry, Rider};
 

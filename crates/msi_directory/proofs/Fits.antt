@@ -15,9 +15,9 @@ use Rattle.msi_cache.specs.declared.messages.Response.{Response}
 use Rattle.msi_directory.specs.Table.{HomeRow, request_row, response_row, own_from, acknowledged, shared_by, given}
 use Rattle.msi_directory.specs.Entries.{entry_by, entry_after_request, entry_after_response, request_words, request_rider, response_words, response_rider}
 use Rattle.msi_directory.specs.Fitting.{set_fits, core_fits, stage_fits}
-use Rattle.msi_directory.specs.declared.entries.Stage.{Stage}
-use Rattle.msi_directory.specs.declared.entries.Stage.TheVariants.{Unshared, Shared, Owned, Acks, Data}
-use Rattle.msi_directory.specs.declared.entries.Entry.{Entry}
+use Rattle.msi_directory.specs.declared.entry.Stage.{Stage}
+use Rattle.msi_directory.specs.declared.entry.Stage.TheVariants.{Unshared, Shared, Owned, Acks, Data}
+use Rattle.msi_directory.specs.declared.entry.Entry.{Entry}
 
 bits_with : (s : CoreSet) (c : ℕ) → s.bits < 256 → (with_core s c).bits < 256
 unfolding with_core

@@ -12,7 +12,7 @@ use Rattle.msi_directory.specs.Table.{HomeRow, Send, request_row, response_row}
 use Rattle.msi_directory.specs.Entries.{entry_by, sent, answer_by, request_words, request_rider, response_words, response_rider, entry_after_request, entry_after_response, answer_to_request, answer_to_response}
 use Rattle.msi_directory.specs.Blocks.{entry_at, no_entry}
 use Rattle.msi_directory.specs.PlainPart.{plain_entry, plain_entries, plain_send, plain_home_answer, PlainRequest, PlainResponse}
-use Rattle.msi_directory.specs.declared.entries.Entry.{Entry}
+use Rattle.msi_directory.specs.declared.entry.Entry.{Entry}
 
 module _ {R : Type 0} where
   plain_entry_at : (fresh : R) (entries : List (Entry R)) (block : ℕ) → entry_at tt (plain_entries entries) block ≡ plain_entry (entry_at fresh entries block)

@@ -4,14 +4,14 @@
 use Rattle.std.specs.Prelude.{◌≡◌, ◌≢◌, ℕ, ◌+◌, ◌-◌, ◌*◌, ◌/◌, Bool, false, List, [], ◌∷◌, map, slice_index_or, slice_set}
 use Rattle.std.specs.List.{range_with_len}
 use Rattle.access_times.specs.Riding.{Riding}
-use Rattle.access_times.specs.declared.TheConstants.{BLOCK_WORDS}
+use Rattle.rtr_types.specs.declared.TheConstants.{BLOCK_WORDS}
 use Rattle.image_mem.specs.Contents.{Contents, opening_word}
 use Rattle.msi_cache.specs.Messages.{request_block, response_block}
 use Rattle.msi_cache.specs.declared.messages.Response.{Response}
 use Rattle.msi_cache.specs.declared.messages.Request.{Request}
 use Rattle.msi_directory.specs.Entries.{entry_after_request, entry_after_response}
-use Rattle.msi_directory.specs.declared.entries.Stage.TheVariants.{Unshared}
-use Rattle.msi_directory.specs.declared.entries.Entry.{Entry}
+use Rattle.msi_directory.specs.declared.entry.Stage.TheVariants.{Unshared}
+use Rattle.msi_directory.specs.declared.entry.Entry.{Entry}
 
 -- the entry of each block of the memory, by the block's number, and for each whether a request for it
 -- needs no memory

@@ -8,9 +8,9 @@ use Rattle.msi_cache.specs.declared.messages.Response.TheVariants.{InvAck, Owner
 use Rattle.msi_cache.specs.declared.messages.Request.{Request}
 use Rattle.msi_cache.specs.declared.messages.Request.TheVariants.{PutS, PutM}
 use Rattle.msi_directory.specs.Table.{Send, NoMessage, HomeEffect, Keep, Absorb, Take, HomeRow, request_row, response_row}
-use Rattle.msi_directory.specs.declared.entries.Stage.{Stage}
-use Rattle.msi_directory.specs.declared.entries.Entry.{Entry}
-use Rattle.msi_directory.specs.declared.entries.HomeAnswer.{HomeAnswer}
+use Rattle.msi_directory.specs.declared.entry.Stage.{Stage}
+use Rattle.msi_directory.specs.declared.entry.Entry.{Entry}
+use Rattle.msi_directory.specs.declared.entry.HomeAnswer.{HomeAnswer}
 
 -- the words after a row, of the old ones and those of the message
 abbrev pub words_by : HomeEffect → List ℕ → List ℕ → List ℕ

@@ -8,8 +8,8 @@ use Rattle.msi_cache.specs.declared.messages.Response.{Response}
 use Rattle.msi_cache.specs.declared.messages.Request.{Request}
 use Rattle.msi_directory.specs.Entries.{has_request_row, has_response_row, answer_to_request, answer_to_response}
 use Rattle.msi_directory.specs.Blocks.{entry_at, entries_after_request, entries_after_response}
-use Rattle.msi_directory.specs.declared.entries.Entry.{Entry}
-use Rattle.msi_directory.specs.declared.entries.HomeAnswer.{HomeAnswer}
+use Rattle.msi_directory.specs.declared.entry.Entry.{Entry}
+use Rattle.msi_directory.specs.declared.entry.HomeAnswer.{HomeAnswer}
 
 module _ {R : Type 0} where
   abbrev pub plain_entry : Entry R → Entry (Unit {0})

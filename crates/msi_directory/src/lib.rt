@@ -4,8 +4,8 @@
 //! the owner's data.
 #![tactic(auto)]
 
-mod directory;
-mod entries;
+mod entry;
+mod home;
 
-pub use directory::{Home, home_rows_fit, riders_change_no_plain_part};
-pub use entries::{Entry, HomeAnswer, Stage};
+pub use entry::{Entry, HomeAnswer, Stage};
+pub use home::{Home, home_rows_fit, riders_change_no_plain_part};

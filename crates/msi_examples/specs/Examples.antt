@@ -1,16 +1,16 @@
 -- Runs of two cores that were worked out by hand, and what each step of the first of them does.
 use Rattle.std.specs.Prelude.{◌≡◌, ℕ, true, List, [], ◌∷◌, Some}
 use Rattle.image_mem.specs.Contents.{Contents}
-use Rattle.rtr_types.specs.declared.parameters.Params.{Params}
-use Rattle.rtr_types.specs.declared.nodes.Instr.{Instr}
-use Rattle.rtr_types.specs.declared.accesses.Kind.TheVariants.{Load, Store}
+use Rattle.rtr_types.specs.declared.params.Params.{Params}
+use Rattle.rtr_types.specs.declared.instr.Instr.{Instr}
+use Rattle.rtr_types.specs.declared.access.Kind.TheVariants.{Load, Store}
 use Rattle.rv_core.specs.declared.core_state.Stop.TheVariants.{Exit, Limit}
-use Rattle.rv_core.specs.declared.outcomes.LoadNote.{LoadNote}
+use Rattle.rv_core.specs.declared.outcome.LoadNote.{LoadNote}
 use Rattle.msi_state.specs.declared.moves.Move.{Move}
 use Rattle.msi_state.specs.declared.moves.Move.TheVariants.{Core, Request, Response, FromHome}
 use Rattle.msi_state.specs.Nodes.{Nothing, Retires, Accesses}
 use Rattle.msi_state.specs.Runs.{opening_state, run}
-use Rattle.msi_examples.specs.Followed.{Taken, Seen, followed, then_zeros, ends_at, seen, loads_by}
+use Rattle.msi_examples.specs.Followed.{StepTaken, Seen, followed, then_zeros, ends_at, seen, loads_by}
 use Rattle.msi_examples.specs.Images.{scaled_words, handed_over, bytes_of_a_word, one_word, reader_evicts, writer_evicts, writers_evict, endless}
 
 -- two cores over an image, each of at most so many instructions
@@ -22,17 +22,17 @@ abbrev pub instr : (c count : ℕ) → Instr
 instr c count = record { core = c; count = count }
 
 -- a move in which nothing retires, a local instruction, a load that finds a value, and a store
-abbrev pub quiet : Move → Taken
+abbrev pub quiet : Move → StepTaken
 quiet move = record { move = Some move; told = Nothing }
 
-abbrev pub local : Move → Instr → Taken
+abbrev pub local : Move → Instr → StepTaken
 local move at = record { move = Some move; told = Retires at }
 
-abbrev pub loads : Move → Instr → (word value : ℕ) → Taken
+abbrev pub loads : Move → Instr → (word value : ℕ) → StepTaken
 loads move at word value =
     record { move = Some move; told = Accesses (record { at = at; word = word; kind = Load; before = value; after = value }) }
 
-abbrev pub stores : Move → Instr → (word before after : ℕ) → Taken
+abbrev pub stores : Move → Instr → (word before after : ℕ) → StepTaken
 stores move at word before after =
     record { move = Some move; told = Accesses (record { at = at; word = word; kind = Store; before = before; after = after }) }
 

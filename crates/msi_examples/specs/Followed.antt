@@ -3,9 +3,9 @@ use Rattle.std.specs.Prelude.{ℕ, ◌+◌, ◌==◌, ◌&&◌, Bool, not, List,
 use Rattle.std.specs.List.{range_with_len, list_all}
 use Rattle.access_times.specs.Riding.{none_riding, none_carrying}
 use Rattle.image_mem.specs.Contents.{Contents, opening_words}
-use Rattle.rtr_types.specs.declared.parameters.Params.{Params}
+use Rattle.rtr_types.specs.declared.params.Params.{Params}
 use Rattle.rv_core.specs.declared.core_state.Stop.{Stop}
-use Rattle.rv_core.specs.declared.outcomes.LoadNote.{LoadNote}
+use Rattle.rv_core.specs.declared.outcome.LoadNote.{LoadNote}
 use Rattle.rv_core.specs.Steps.{need, stop_of}
 use Rattle.msi_state.specs.declared.moves.Move.{Move}
 use Rattle.msi_state.specs.States.{PlainState, all_done}
@@ -14,12 +14,12 @@ use Rattle.msi_state.specs.FinalMemory.{final_memory}
 use Rattle.msi_state.specs.Runs.{chosen, stepped_by, event_by, run, totals, accesses, loads_of}
 
 -- the move that a choice took, and what it told the clerk
-pub record Taken : Type 0 where
+pub record StepTaken : Type 0 where
   pub move : Option Move
   pub told : Event
 
 -- what each of the choices did, from this state on
-abbrev pub followed : PlainState → List ℕ → List Taken
+abbrev pub followed : PlainState → List ℕ → List StepTaken
 followed s [] = []
 followed s (choice ∷ choices) =
     let move = chosen s choice in

@@ -4,14 +4,14 @@ use Rattle.std.specs.Prelude.{◌&&◌, if◌then◌else◌}
 use Rattle.std.proofs.lemmas.Bool.Decides.{nat_tests}
 use Rattle.access_times.specs.Riding.{Riding, Carrying}
 use Rattle.rtr_types.specs.declared.TheConstants.{CORES_MAX}
-use Rattle.msi_cache.specs.declared.copies.Line.{Line}
-use Rattle.msi_cache.specs.declared.copies.State.{State as LineState}
-use Rattle.msi_cache.specs.declared.copies.State.TheVariants.{I, M}
+use Rattle.msi_cache.specs.declared.line.Line.{Line}
+use Rattle.msi_cache.specs.declared.line.State.{State as LineState}
+use Rattle.msi_cache.specs.declared.line.State.TheVariants.{I, M}
 use Rattle.msi_cache.specs.Lines.{line_for, can_read, can_write}
 use Rattle.msi_cache.specs.Table.{is_readable, is_writable}
 use Rattle.msi_directory.specs.Blocks.{entry_at}
-use Rattle.msi_directory.specs.declared.entries.Stage.{Stage}
-use Rattle.msi_directory.specs.declared.entries.Stage.TheVariants.{Unshared, Shared, Owned, Acks, Data}
+use Rattle.msi_directory.specs.declared.entry.Stage.{Stage}
+use Rattle.msi_directory.specs.declared.entry.Stage.TheVariants.{Unshared, Shared, Owned, Acks, Data}
 use Rattle.msi_protocol.specs.Phases.{StageFits, Out, Owner, role}
 use Rattle.msi_protocol.specs.Promises.{settled}
 use Rattle.msi_protocol.proofs.Keeps.{one_writer_holds}
@@ -24,7 +24,7 @@ use Rattle.msi_sound.specs.Views.{block_in}
 use Rattle.msi_sound.proofs.Blocks.{there}
 use Rattle.msi_progress.proofs.Ending.{links_left}
 use Rattle.msi_data.proofs.Final.{all_quiet}
-use Rattle.msi_machine.specs.Writers.{OneWriter}
+use Rattle.msi_machine.specs.Writers.{OneWriterEach}
 
 writable_seen : {R : Type 0} (b : ℕ) (line : Line R) → can_write line b ≡ is_writable (line_state b line)
 writable_seen b line = by_test (line.block == b) line.state
@@ -44,7 +44,7 @@ below : (c n m : ℕ) → c < n → n ≤ m → c < m
 below c n m lt le = omega arith
 
 module _ {R K : Type 0} where
-  pub one_writer : (riding : Riding R) (carrying : Carrying K) (s : State R K) → Sound riding carrying s → OneWriter riding carrying s
+  pub one_writer : (riding : Riding R) (carrying : Carrying K) (s : State R K) → Sound riding carrying s → OneWriterEach riding carrying s
   one_writer riding carrying s h b c d lc ld apart writes =
       readable_seen b (line_for riding.fresh (node_at carrying s.nodes d).cache b)
       ∙ one_writer_holds (block_in riding carrying s b) (h.blocks b) c d (below c (length s.nodes) CORES_MAX lc h.cores) (below d (length s.nodes) CORES_MAX ld h.cores) apart (sym (writable_seen b (line_for riding.fresh (node_at carrying s.nodes c).cache b)) ∙ writes)

@@ -3,9 +3,9 @@ ghost use Rattle.std.specs.Prelude.{◌≡◌, ◌<◌, ◌≤◌, ◌+◌, ◌*
 ghost use Rattle.access_times.specs.Riding.{none_carrying, none_riding};
 ghost use Rattle.rtr_types.specs.Parameters.{Fits};
 ghost use Rattle.rtr_types.specs.declared.TheConstants.{CORES_MAX};
-ghost use Rattle.msi_machine.specs.Writers.{OneWriter};
+ghost use Rattle.msi_machine.specs.Writers.{OneWriterEach};
 ghost use Rattle.msi_state.specs.Bound.{Earns, left, links_empty, total_earned, total_owed, total_retired};
-ghost use Rattle.msi_state.specs.Coherent.{Coherent, Finds, memory_after, opening_memory, word_at};
+ghost use Rattle.msi_state.specs.Coherent.{Coherent, Finds, memory_after, opening_memory, word_of};
 ghost use Rattle.msi_state.specs.FinalMemory.{final_word, final_words};
 ghost use Rattle.msi_state.specs.Nodes.{instr_of};
 ghost use Rattle.msi_state.specs.Plain.{plain};
@@ -50,7 +50,7 @@ impl<R: Rider, K: Carry> Machine<R, K> {
         ensures plain { IfOk result (λ machine. plain machine.state ≡ opening_state image params) }
         ensures coherent { IfOk result (λ machine. Coherent R.riding K.carrying machine.state (opening_memory image)) }
         ensures idle { IfOk result (λ machine. total_owed machine.state ≡ 0) }
-        ensures one_writer { IfOk result (λ machine. OneWriter R.riding K.carrying machine.state) }
+        ensures one_writer { IfOk result (λ machine. OneWriterEach R.riding K.carrying machine.state) }
     {
         let words = image.words();
         prove!(words == params.words);
@@ -117,7 +117,7 @@ impl<R: Rider, K: Carry> Machine<R, K> {
         ensures nearer { left R.riding self.new.state < left R.riding self.old.state }
         ensures coherent { (memory : ℕ → List ℕ) → Coherent R.riding K.carrying self.old.state memory → Coherent R.riding K.carrying self.new.state (memory_after (event R.riding K.carrying self.old.state result.taken) memory) }
         ensures finds { (memory : ℕ → List ℕ) → Coherent R.riding K.carrying self.old.state memory → Finds (event R.riding K.carrying self.old.state result.taken) memory }
-        ensures one_writer { OneWriter R.riding K.carrying self.new.state }
+        ensures one_writer { OneWriterEach R.riding K.carrying self.new.state }
     {
         self.parts.step(choice, clerk)
     }
@@ -129,7 +129,7 @@ impl<R: Rider, K: Carry> Machine<R, K> {
         requires within { word < self.now.state.image.words }
         ensures value { result ≡ final_word R.riding K.carrying self.now.state word }
         ensures plain { result ≡ final_word none_riding none_carrying (plain self.now.state) word }
-        ensures last { (memory : ℕ → List ℕ) → Coherent R.riding K.carrying self.now.state memory → result ≡ word_at memory word }
+        ensures last { (memory : ℕ → List ℕ) → Coherent R.riding K.carrying self.now.state memory → result ≡ word_of memory word }
     {
         self.parts.final_word(word)
     }

@@ -2,7 +2,7 @@
 ghost use Rattle.std.specs.Prelude.{◌≡◌, ◌<◌, ◌%◌, ℕ, IsTrue, List, Some, [], false, length, slice_index_or};
 ghost use Rattle.access_times.specs.Times.{times_riding};
 ghost use Rattle.image_mem.specs.Contents.{Contents};
-ghost use Rattle.msi_machine.specs.Writers.{OneWriter};
+ghost use Rattle.msi_machine.specs.Writers.{OneWriterEach};
 ghost use Rattle.msi_state.specs.Bound.{Earns, left};
 ghost use Rattle.msi_state.specs.Coherent.{Coherent, Finds, memory_after};
 ghost use Rattle.msi_state.specs.Nodes.{instr_of};
@@ -57,7 +57,7 @@ impl<K: Carry> Machine<Times, K> {
         ensures nearer { left times_riding self.new.state < left times_riding self.old.state }
         ensures coherent { (memory : ℕ → List ℕ) → Coherent times_riding K.carrying self.old.state memory → Coherent times_riding K.carrying self.new.state (memory_after (event times_riding K.carrying self.old.state result.taken) memory) }
         ensures finds { (memory : ℕ → List ℕ) → Coherent times_riding K.carrying self.old.state memory → Finds (event times_riding K.carrying self.old.state result.taken) memory }
-        ensures one_writer { OneWriter times_riding K.carrying self.new.state }
+        ensures one_writer { OneWriterEach times_riding K.carrying self.new.state }
         ensures stands { (list : List Retirement) → MachineStandsFor times_parts K.carrying list self.old.state → MachineStandsFor times_parts K.carrying (with_step K.carrying self.old.state result.taken (C.clock clerk.new) list) self.new.state }
         ensures times { (list : List Retirement) → MachineStandsFor times_parts K.carrying list self.old.state → StepFinds K.carrying self.old.state result.taken list }
         ensures alike { (list : List Retirement) → MachineStandsFor times_parts K.carrying list self.old.state → MeetsAlike times_parts K.carrying self.old.state result.taken }

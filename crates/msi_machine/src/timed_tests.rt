@@ -8,10 +8,10 @@ ghost use Rattle.clock_core.specs.Counts.{no_counts};
 ghost use Rattle.rtr_types.specs.declared.TheConstants.{CORES_MAX};
 
 use crate::Machine;
-use access_times::{BLOCK_WORDS, Carry, Clerk, NoCarry, Times, TimesClerk};
+use access_times::{Carry, Clerk, NoCarry, Times, TimesClerk};
 use clock_core::Clock;
 use image_mem::Image;
-use rtr_types::{Access, CORES_MAX, Instr, Kind, Params};
+use rtr_types::{Access, BLOCK_WORDS, CORES_MAX, Instr, Kind, Params};
 use std::alloc::Global;
 use std::test::Fail;
 

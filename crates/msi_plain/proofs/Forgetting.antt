@@ -11,7 +11,7 @@ use Rattle.msi_cache.proofs.Forgets.{plain_on_home, plain_block}
 use Rattle.msi_cache.specs.Lines.{line_for, answer}
 use Rattle.msi_cache.specs.Messages.{request_block, response_block}
 use Rattle.msi_cache.specs.PlainPart.{plain_lines, plain_message, plain_response, plain_request, plain_answer}
-use Rattle.msi_cache.specs.declared.copies.Line.{Line}
+use Rattle.msi_cache.specs.declared.line.Line.{Line}
 use Rattle.msi_cache.specs.declared.messages.FromHome.{FromHome}
 use Rattle.msi_cache.specs.declared.messages.FromHome.TheVariants.{Inv}
 use Rattle.msi_cache.specs.declared.messages.Request.{Request}
@@ -20,10 +20,10 @@ use Rattle.msi_directory.proofs.Forgets.{plain_on_request, plain_on_response}
 use Rattle.msi_directory.specs.Blocks.{entry_at, entries_after_request, entries_after_response}
 use Rattle.msi_directory.specs.Entries.{answer_to_request, answer_to_response}
 use Rattle.msi_directory.specs.PlainPart.{plain_entries, plain_send, plain_home_answer}
-use Rattle.msi_directory.specs.declared.entries.Entry.{Entry}
-use Rattle.msi_directory.specs.declared.entries.HomeAnswer.{HomeAnswer}
-use Rattle.msi_state.specs.declared.actors.Mail.{Mail}
-use Rattle.msi_state.specs.declared.actors.Node.{Node}
+use Rattle.msi_directory.specs.declared.entry.Entry.{Entry}
+use Rattle.msi_directory.specs.declared.entry.HomeAnswer.{HomeAnswer}
+use Rattle.msi_state.specs.declared.node.Mail.{Mail}
+use Rattle.msi_state.specs.declared.node.Node.{Node}
 use Rattle.msi_state.specs.declared.moves.Move.{Move}
 use Rattle.msi_state.specs.declared.moves.Move.TheVariants.{Core as CoreMove, Request as RequestMove, Response as ResponseMove, FromHome as MessageMove}
 use Rattle.msi_state.specs.Nodes.{pushed, is_data, Nothing, node_working, node_taking, node_answering, answer_to, node_receiving, node_receiving_in, event_working, event_receiving, event_receiving_in}

@@ -4,11 +4,11 @@ use Rattle.std.specs.Prelude.{map, slice_set, if◌then◌else◌}
 use Rattle.std.proofs.lemmas.List.{map-set, map-append}
 use Rattle.std.proofs.Math.ListN.{get_or-map}
 use Rattle.access_times.specs.Riding.{Riding, Carrying, none_riding, none_carrying}
-use Rattle.access_times.specs.declared.TheConstants.{BLOCK_WORDS}
+use Rattle.rtr_types.specs.declared.TheConstants.{BLOCK_WORDS}
 use Rattle.image_mem.specs.Contents.{Contents}
-use Rattle.rtr_types.specs.declared.accesses.Access.{Access}
-use Rattle.rtr_types.specs.declared.accesses.Kind.{Kind}
-use Rattle.rtr_types.specs.declared.accesses.Kind.TheVariants.{Load as IsLoad, Store as IsStore}
+use Rattle.rtr_types.specs.declared.access.Access.{Access}
+use Rattle.rtr_types.specs.declared.access.Kind.{Kind}
+use Rattle.rtr_types.specs.declared.access.Kind.TheVariants.{Load as IsLoad, Store as IsStore}
 use Rattle.rv_core.specs.declared.core_state.Need.{Need}
 use Rattle.rv_core.specs.declared.core_state.Need.TheVariants.{Local, Load, Store, Done}
 use Rattle.rv_core.specs.Steps.{need, after}
@@ -16,10 +16,10 @@ use Rattle.link_order.specs.Queue.{Queue}
 use Rattle.msi_cache.proofs.Forgets.{plain_line_for, plain_lines_with, plain_put, plain_want}
 use Rattle.msi_cache.specs.Lines.{line_for, lines_with, lines_riding, lines_asking, asks}
 use Rattle.msi_cache.specs.PlainPart.{plain_lines, plain_request}
-use Rattle.msi_cache.specs.declared.copies.Line.{Line}
+use Rattle.msi_cache.specs.declared.line.Line.{Line}
 use Rattle.msi_cache.specs.declared.messages.Request.{Request}
-use Rattle.msi_state.specs.declared.actors.Mail.{Mail}
-use Rattle.msi_state.specs.declared.actors.Node.{Node}
+use Rattle.msi_state.specs.declared.node.Mail.{Mail}
+use Rattle.msi_state.specs.declared.node.Node.{Node}
 use Rattle.msi_state.specs.declared.moves.Move.TheVariants.{Core as CoreMove}
 use Rattle.msi_state.specs.States.{State, node_at, no_node}
 use Rattle.msi_state.specs.Nodes.{pushed, access_of, node_accessing, node_asking, node_trying, allows, lines_accessed, node_working_in, node_working, Accesses, Nothing, event_trying, event_working_in, event_working}

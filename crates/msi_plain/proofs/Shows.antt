@@ -8,16 +8,16 @@ use Rattle.rv_core.specs.Steps.{need, is_done}
 use Rattle.msi_cache.proofs.Forgets.{plain_line_for}
 use Rattle.msi_cache.specs.Lines.{line_for, empty_line}
 use Rattle.msi_cache.specs.PlainPart.{plain_line}
-use Rattle.msi_cache.specs.declared.copies.Line.{Line}
-use Rattle.msi_cache.specs.declared.copies.TheConstants.{LINES}
+use Rattle.msi_cache.specs.declared.line.Line.{Line}
+use Rattle.msi_cache.specs.declared.line.TheConstants.{LINES}
 use Rattle.msi_cache.specs.declared.messages.Request.TheVariants.{GetS}
 use Rattle.msi_directory.proofs.Forgets.{plain_on_request}
 use Rattle.msi_directory.specs.Blocks.{entry_at, opening_entry, opening_entries, block_count}
 use Rattle.msi_directory.specs.PlainPart.{plain_entry, plain_entries}
-use Rattle.msi_directory.specs.declared.entries.Entry.{Entry}
-use Rattle.msi_directory.specs.declared.entries.Stage.{Stage}
-use Rattle.msi_directory.specs.declared.entries.Stage.TheVariants.{Unshared, Shared, Owned, Acks, Data}
-use Rattle.msi_state.specs.declared.actors.Node.{Node}
+use Rattle.msi_directory.specs.declared.entry.Entry.{Entry}
+use Rattle.msi_directory.specs.declared.entry.Stage.{Stage}
+use Rattle.msi_directory.specs.declared.entry.Stage.TheVariants.{Unshared, Shared, Owned, Acks, Data}
+use Rattle.msi_state.specs.declared.node.Node.{Node}
 use Rattle.msi_state.specs.FinalMemory.{final_in}
 use Rattle.msi_state.specs.Plain.{plain_node, plain}
 use Rattle.msi_state.specs.States.{State, PlainState, node_at, node_start}

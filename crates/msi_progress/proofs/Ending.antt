@@ -7,17 +7,17 @@ use Rattle.std.proofs.lemmas.List.Sums.{AllPass-from_list_all, list_all-from_All
 use Rattle.access_times.specs.Riding.{Riding, Carrying}
 use Rattle.rv_core.specs.declared.core_state.Need.{Need}
 use Rattle.rv_core.specs.Steps.{need, is_done}
-use Rattle.msi_cache.specs.declared.copies.State.{State as LineState}
-use Rattle.msi_cache.specs.declared.copies.TheConstants.{LINES}
-use Rattle.msi_cache.specs.declared.copies.Line.{Line}
+use Rattle.msi_cache.specs.declared.line.State.{State as LineState}
+use Rattle.msi_cache.specs.declared.line.TheConstants.{LINES}
+use Rattle.msi_cache.specs.declared.line.Line.{Line}
 use Rattle.msi_cache.specs.declared.messages.Request.{Request}
 use Rattle.msi_cache.specs.declared.messages.Response.{Response}
 use Rattle.msi_cache.specs.declared.messages.FromHome.{FromHome}
 use Rattle.msi_cache.specs.Table.{is_transient}
 use Rattle.msi_cache.specs.Lines.{line_for}
 use Rattle.msi_cache.specs.Messages.{response_block, block_of, signal}
-use Rattle.msi_state.specs.declared.actors.Mail.{Mail}
-use Rattle.msi_state.specs.declared.actors.Node.{Node}
+use Rattle.msi_state.specs.declared.node.Mail.{Mail}
+use Rattle.msi_state.specs.declared.node.Node.{Node}
 use Rattle.msi_state.specs.declared.moves.Move.{Move}
 use Rattle.msi_state.specs.declared.moves.Move.TheVariants.{Core as CoreMove, Request as RequestMove, Response as ResponseMove, FromHome as MessageMove}
 use Rattle.msi_state.specs.Bound.{are_links_empty, links_empty}

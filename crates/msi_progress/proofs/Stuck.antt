@@ -8,24 +8,24 @@ use Rattle.std.proofs.lemmas.Bool.Decides.{nat_tests}
 use Rattle.access_times.specs.Riding.{Riding, Carrying}
 use Rattle.rv_core.specs.Steps.{need, is_done}
 use Rattle.link_order.specs.Queue.{is_nil as is_link_nil}
-use Rattle.msi_cache.specs.declared.copies.TheConstants.{LINES}
-use Rattle.msi_cache.specs.declared.copies.Line.{Line}
-use Rattle.msi_cache.specs.declared.copies.State.TheVariants.{I}
+use Rattle.msi_cache.specs.declared.line.TheConstants.{LINES}
+use Rattle.msi_cache.specs.declared.line.Line.{Line}
+use Rattle.msi_cache.specs.declared.line.State.TheVariants.{I}
 use Rattle.msi_cache.specs.declared.messages.Request.{Request}
 use Rattle.msi_cache.specs.declared.messages.Response.{Response}
 use Rattle.msi_cache.specs.declared.messages.FromHome.{FromHome}
 use Rattle.msi_cache.specs.Table.{is_transient}
 use Rattle.msi_cache.specs.Lines.{line_for, waits, empty_line}
 use Rattle.msi_cache.specs.Messages.{request_block}
-use Rattle.msi_directory.specs.declared.entries.Stage.{Stage}
+use Rattle.msi_directory.specs.declared.entry.Stage.{Stage}
 use Rattle.msi_directory.specs.Blocks.{entry_at}
 use Rattle.msi_directory.specs.Table.{is_free}
 use Rattle.msi_protocol.specs.Block.{View}
 use Rattle.msi_protocol.specs.Phases.{Phase, picture, role, role_in}
 use Rattle.msi_protocol.specs.Promises.{is_nil, is_moving}
 use Rattle.msi_protocol.proofs.Keeps.{busy_moves}
-use Rattle.msi_state.specs.declared.actors.Mail.{Mail}
-use Rattle.msi_state.specs.declared.actors.Node.{Node}
+use Rattle.msi_state.specs.declared.node.Mail.{Mail}
+use Rattle.msi_state.specs.declared.node.Node.{Node}
 use Rattle.msi_state.specs.declared.moves.Move.{Move}
 use Rattle.msi_state.specs.declared.moves.Move.TheVariants.{Core as CoreMove, Request as RequestMove, Response as ResponseMove, FromHome as MessageMove}
 use Rattle.msi_state.specs.Moves.{candidate, candidates}

@@ -1,6 +1,6 @@
 -- That no link of a state has more on it than it has room for.
 use Rattle.std.specs.Prelude.{◌≤◌, length, All}
-use Rattle.msi_state.specs.declared.actors.Node.{Node}
+use Rattle.msi_state.specs.declared.node.Node.{Node}
 use Rattle.msi_state.specs.States.{State}
 
 -- each of the node's links has room for what is on it

@@ -4,17 +4,17 @@ use Rattle.std.specs.Prelude.{is_some, ◌&&◌, ◌==◌}
 use Rattle.std.proofs.lemmas.Bool.Decides.{nat_tests}
 use Rattle.access_times.specs.Riding.{Riding}
 use Rattle.rtr_types.specs.CoreSets.{no_cores}
-use Rattle.msi_cache.specs.declared.copies.State.{State}
-use Rattle.msi_cache.specs.declared.copies.State.TheVariants.{I}
-use Rattle.msi_cache.specs.declared.copies.Line.{Line}
+use Rattle.msi_cache.specs.declared.line.State.{State}
+use Rattle.msi_cache.specs.declared.line.State.TheVariants.{I}
+use Rattle.msi_cache.specs.declared.line.Line.{Line}
 use Rattle.msi_cache.specs.declared.messages.FromHome.{FromHome}
 use Rattle.msi_cache.specs.declared.messages.Request.{Request}
 use Rattle.msi_cache.specs.declared.messages.Response.{Response}
 use Rattle.msi_cache.specs.Table.{Signal, Ask, Reply, Row, row, want_row}
 use Rattle.msi_cache.specs.Messages.{signal, ask_of, reply_of, block_of, request_block, response_block}
 use Rattle.msi_cache.specs.Lines.{has_row, line_by, answer_by}
-use Rattle.msi_directory.specs.declared.entries.Stage.{Stage}
-use Rattle.msi_directory.specs.declared.entries.Entry.{Entry}
+use Rattle.msi_directory.specs.declared.entry.Stage.{Stage}
+use Rattle.msi_directory.specs.declared.entry.Entry.{Entry}
 use Rattle.msi_directory.specs.Table.{Send, HomeRow, request_row, response_row}
 use Rattle.msi_directory.specs.Entries.{entry_by, sent, answer_by as home_answer_by, request_words, request_rider, response_words, response_rider}
 use Rattle.msi_protocol.specs.Block.{home_step, signalled, view, message_row_taken, ToEvict, wish_row}

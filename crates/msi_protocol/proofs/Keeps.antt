@@ -7,11 +7,11 @@ use Rattle.rtr_types.specs.declared.TheConstants.{CORES_MAX}
 use Rattle.rtr_types.specs.declared.core_set.CoreSet.{CoreSet}
 use Rattle.rtr_types.specs.CoreSets.{has, without_core, is_none}
 use Rattle.rtr_types.proofs.Members.{has-with_same, has-with_other, has-without_same, has-without_other, has-none, has-some}
-use Rattle.msi_cache.specs.declared.copies.State.{State}
-use Rattle.msi_cache.specs.declared.copies.State.TheVariants.{M}
+use Rattle.msi_cache.specs.declared.line.State.{State}
+use Rattle.msi_cache.specs.declared.line.State.TheVariants.{M}
 use Rattle.msi_cache.specs.Table.{Signal, Ask, Reply, row, is_readable, is_writable}
-use Rattle.msi_directory.specs.declared.entries.Stage.{Stage}
-use Rattle.msi_directory.specs.declared.entries.Stage.TheVariants.{Unshared, Shared, Owned, Acks, Data}
+use Rattle.msi_directory.specs.declared.entry.Stage.{Stage}
+use Rattle.msi_directory.specs.declared.entry.Stage.TheVariants.{Unshared, Shared, Owned, Acks, Data}
 use Rattle.msi_directory.specs.Table.{is_free}
 use Rattle.msi_directory.specs.Fitting.{stage_fits}
 use Rattle.msi_protocol.proofs.Members.{has-no_cores, with_nonempty, with_below, without_below}

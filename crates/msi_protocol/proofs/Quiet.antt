@@ -3,9 +3,9 @@ use Rattle.std.proofs.Common.{◌≡◌, ◌≢◌, ◌∙◌, ap, refl, sym, su
 use Rattle.std.specs.Prelude.{◌&&◌, if◌then◌else◌}
 use Rattle.std.proofs.lemmas.Bool.Decides.{nat_tests}
 use Rattle.rtr_types.specs.declared.TheConstants.{CORES_MAX}
-use Rattle.msi_cache.specs.declared.copies.State.TheVariants.{I}
+use Rattle.msi_cache.specs.declared.line.State.TheVariants.{I}
 use Rattle.msi_cache.specs.Table.{Signal, Ask, Reply, is_transient}
-use Rattle.msi_directory.specs.declared.entries.Stage.{Stage}
+use Rattle.msi_directory.specs.declared.entry.Stage.{Stage}
 use Rattle.msi_directory.specs.Table.{is_free}
 use Rattle.msi_protocol.specs.Block.{View, view, Block, BlockMove, TakesRequest, TakesResponse, TakesMessage, Wishes, Wish, after_request, after_response, core_of, moved, block_move, block_run, block_start, request_by, response_by, message_by, wish_by}
 use Rattle.msi_protocol.specs.Phases.{Phase, Idle, Out, role, role_in, picture, BlockHolds}

@@ -1,8 +1,8 @@
 -- A run of one block that can be followed by hand.
 use Rattle.std.specs.Prelude.{◌≡◌, List, [], ◌∷◌}
 use Rattle.rtr_types.specs.CoreSets.{with_core, no_cores}
-use Rattle.msi_cache.specs.declared.copies.State.TheVariants.{I, S, M}
-use Rattle.msi_directory.specs.declared.entries.Stage.TheVariants.{Shared, Owned}
+use Rattle.msi_cache.specs.declared.line.State.TheVariants.{I, S, M}
+use Rattle.msi_directory.specs.declared.entry.Stage.TheVariants.{Shared, Owned}
 use Rattle.msi_protocol.specs.Block.{view, Block, BlockMove, TakesRequest, TakesResponse, TakesMessage, Wishes, ToLoad, ToStore}
 
 -- core 0 asks to write and gets the block; core 1 asks to read, and gets it once core 0 has given it

@@ -2,8 +2,8 @@
 use Rattle.std.specs.Prelude.{ℕ, ◌==◌, Bool, true, false, if◌then◌else◌}
 use Rattle.rtr_types.specs.CoreSets.{has, without_core, is_none}
 use Rattle.msi_cache.specs.Table.{Ask}
-use Rattle.msi_directory.specs.declared.entries.Stage.{Stage}
-use Rattle.msi_directory.specs.declared.entries.Stage.TheVariants.{Shared, Owned, Acks}
+use Rattle.msi_directory.specs.declared.entry.Stage.{Stage}
+use Rattle.msi_directory.specs.declared.entry.Stage.TheVariants.{Shared, Owned, Acks}
 use Rattle.msi_protocol.specs.Block.{Wish, ToLoad, ToStore, ToEvict}
 use Rattle.msi_protocol.specs.Phases.{Role, Out, Owner, Acker, Giver, GiveWaiter, OfShared, OfModified, FromModified, FromShared, FromInvalid, Phase, Idle, AsksS, AsksM, PutsLate, PutDone, Holds, Fills, Upgrades, Puts, Owns, FillsM, UpgradeFills, PutsM, HoldsTold, FillsTold, UpgradesTold, PutsTold, Acked, AckedAsksS, AckedAsksM, AckedPuts, AwaitsAcks, UpgradeAwaitsAcks, OwnsTold, FillsMTold, UpgradeFillsTold, PutsMTold, GaveHolds, GaveUpgrades, GavePuts, GaveAll, GaveAllAsksS, GaveAllAsksM, GaveAllPuts, AwaitsData}
 

@@ -3,11 +3,11 @@
 use Rattle.std.specs.Prelude.{◌≡◌, ◌≢◌, ℕ, ◌<◌, ◌^◌, ◌==◌, Bool, true, false, [], ◌∷◌, if◌then◌else◌}
 use Rattle.rtr_types.specs.declared.TheConstants.{CORES_MAX}
 use Rattle.rtr_types.specs.CoreSets.{has, is_none}
-use Rattle.msi_cache.specs.declared.copies.State.{State}
-use Rattle.msi_cache.specs.declared.copies.State.TheVariants.{I, S, M, IsD, ImD, SmD, MiA, SiA, IiA}
+use Rattle.msi_cache.specs.declared.line.State.{State}
+use Rattle.msi_cache.specs.declared.line.State.TheVariants.{I, S, M, IsD, ImD, SmD, MiA, SiA, IiA}
 use Rattle.msi_cache.specs.Table.{Signal, Ask, Reply}
-use Rattle.msi_directory.specs.declared.entries.Stage.{Stage}
-use Rattle.msi_directory.specs.declared.entries.Stage.TheVariants.{Unshared, Shared, Owned, Acks, Data}
+use Rattle.msi_directory.specs.declared.entry.Stage.{Stage}
+use Rattle.msi_directory.specs.declared.entry.Stage.TheVariants.{Unshared, Shared, Owned, Acks, Data}
 use Rattle.msi_protocol.specs.Block.{View, view, Block}
 
 -- what the home takes a core for: it has no copy; it shares; it owns; it is to acknowledge that it gave

@@ -1,8 +1,8 @@
 -- What the protocol promises of a block.
 use Rattle.std.specs.Prelude.{◌≡◌, ◌≢◌, ℕ, ◌<◌, ◌≤◌, nat_lt, Bool, true, false, not, ◌&&◌, ◌||◌, is_some, List, [], ◌∷◌, length}
 use Rattle.rtr_types.specs.declared.TheConstants.{CORES_MAX}
-use Rattle.msi_cache.specs.declared.copies.State.{State}
-use Rattle.msi_cache.specs.declared.copies.State.TheVariants.{I, S, M}
+use Rattle.msi_cache.specs.declared.line.State.{State}
+use Rattle.msi_cache.specs.declared.line.State.TheVariants.{I, S, M}
 use Rattle.msi_cache.specs.Table.{Signal, Ask, Reply, row, is_readable, is_writable, is_transient}
 use Rattle.msi_directory.specs.Table.{is_free}
 use Rattle.msi_protocol.specs.Block.{View, view, Block, BlockMove, core_of, has_ask_row, has_reply_row}

@@ -1,7 +1,7 @@
 //! What holds of a block, whatever moves are made from the start.
 ghost use Rattle.std.specs.Prelude.{◌≡◌, ℕ, IsTrue, List, true};
 ghost use Rattle.msi_directory.specs.Fitting.{stage_fits};
-ghost use Rattle.msi_directory.specs.declared.entries.Stage.{Stage};
+ghost use Rattle.msi_directory.specs.declared.entry.Stage.{Stage};
 ghost use Rattle.msi_protocol.specs.Block.{Block, BlockMove, block_move, block_run, block_start};
 ghost use Rattle.msi_protocol.specs.Example.{BothShare, FirstOwns, store_again, store_then_load};
 ghost use Rattle.msi_protocol.specs.Phases.{BlockHolds, StageFits};

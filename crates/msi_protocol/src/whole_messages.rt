@@ -1,11 +1,11 @@
 //! What the moves of one block have to do with the controllers, whose messages carry words and riders.
 ghost use Rattle.std.specs.Prelude.{Bool, ℕ};
-ghost use Rattle.msi_cache.specs.declared.copies.Line.{Line};
-ghost use Rattle.msi_cache.specs.declared.copies.State.{State};
+ghost use Rattle.msi_cache.specs.declared.line.Line.{Line};
+ghost use Rattle.msi_cache.specs.declared.line.State.{State};
 ghost use Rattle.msi_cache.specs.declared.messages.FromHome.{FromHome};
 ghost use Rattle.msi_cache.specs.declared.messages.Request.{Request};
 ghost use Rattle.msi_cache.specs.declared.messages.Response.{Response};
-ghost use Rattle.msi_directory.specs.declared.entries.Entry.{Entry};
+ghost use Rattle.msi_directory.specs.declared.entry.Entry.{Entry};
 ghost use Rattle.msi_protocol.specs.Controllers.{AsksAsWished, RequestAsMoved, ResponseAsMoved, TakesAsMoved};
 ghost use Rattle.msi_protocol.specs.Copies.{AbsorbingKeeps, Copies, CountedPass, copies_received};
 ghost use Rattle.msi_protocol.specs.NextPhases.{received};

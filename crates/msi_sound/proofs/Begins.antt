@@ -8,20 +8,20 @@ use Rattle.std.proofs.lemmas.Nat.{mod_below}
 use Rattle.access_times.specs.Riding.{Riding, Carrying, none_riding, none_carrying}
 use Rattle.image_mem.specs.Contents.{Contents}
 use Rattle.rtr_types.specs.declared.TheConstants.{CORES_MAX}
-use Rattle.rtr_types.specs.declared.parameters.Params.{Params}
+use Rattle.rtr_types.specs.declared.params.Params.{Params}
 use Rattle.rv_core.specs.Steps.{need}
 use Rattle.rv_core.proofs.LawLemmas.{start_law}
-use Rattle.msi_cache.specs.declared.copies.Line.{Line}
-use Rattle.msi_cache.specs.declared.copies.State.TheVariants.{I}
-use Rattle.msi_cache.specs.declared.copies.TheConstants.{LINES}
+use Rattle.msi_cache.specs.declared.line.Line.{Line}
+use Rattle.msi_cache.specs.declared.line.State.TheVariants.{I}
+use Rattle.msi_cache.specs.declared.line.TheConstants.{LINES}
 use Rattle.msi_cache.specs.Lines.{empty_line}
-use Rattle.msi_directory.specs.declared.entries.Entry.{Entry}
-use Rattle.msi_directory.specs.declared.entries.Stage.TheVariants.{Unshared}
+use Rattle.msi_directory.specs.declared.entry.Entry.{Entry}
+use Rattle.msi_directory.specs.declared.entry.Stage.TheVariants.{Unshared}
 use Rattle.msi_directory.specs.Blocks.{opening_entry, block_count, no_entry, entry_at}
 use Rattle.msi_directory.proofs.Openings.{openings_counted}
 use Rattle.msi_protocol.specs.Block.{view}
 use Rattle.msi_protocol.specs.Phases.{Idle}
-use Rattle.msi_state.specs.declared.actors.Node.{Node}
+use Rattle.msi_state.specs.declared.node.Node.{Node}
 use Rattle.msi_state.specs.declared.moves.Move.{Move}
 use Rattle.msi_state.specs.States.{State, PlainState, node_at, node_start, state_start}
 use Rattle.msi_state.specs.Moves.{candidates}
@@ -31,7 +31,7 @@ use Rattle.msi_state.specs.Sights.{line_state}
 use Rattle.msi_state.proofs.Start.{node_start_at}
 use Rattle.msi_sound.specs.Views.{node_view}
 use Rattle.msi_sound.specs.Sound.{Sound, NodeFits, LineFits}
-use Rattle.msi_sound.specs.Walks.{Taken, taking, walked}
+use Rattle.msi_sound.specs.Walks.{MoveTaken, taking, walked}
 use Rattle.msi_sound.proofs.Lines.{still_fits_need}
 use Rattle.msi_sound.proofs.Blocks.{past_view, block_shows, le_or_lt}
 use Rattle.msi_sound.proofs.Kept.{sound_kept}
@@ -92,14 +92,14 @@ module _ {R K : Type 0} where
       seen b d (inr within) = ap (node_view riding b) (node_start_at riding carrying limit cores d within) ∙ start_view riding carrying limit d b
 
   -- a move that isn't enabled changes nothing
-  sound_taking : (riding : Riding R) (carrying : Carrying K) (s : State R K) (taken : Taken R) → Sound riding carrying s → Sound riding carrying (taking riding carrying s taken)
+  sound_taking : (riding : Riding R) (carrying : Carrying K) (s : State R K) (taken : MoveTaken R) → Sound riding carrying s → Sound riding carrying (taking riding carrying s taken)
   sound_taking riding carrying s taken h = by_test (enabled riding carrying s taken.move) (λ is. sound_kept riding carrying s taken.move taken.rider is h)
     where
       by_test : (t : Bool) → (t ≡ true → Sound riding carrying (step riding carrying taken.rider s taken.move)) → Sound riding carrying (if t then step riding carrying taken.rider s taken.move else s)
       by_test true f = f refl
       by_test false f = h
 
-  pub sound_walked : (riding : Riding R) (carrying : Carrying K) (s : State R K) (taken : List (Taken R)) → Sound riding carrying s → Sound riding carrying (walked riding carrying s taken)
+  pub sound_walked : (riding : Riding R) (carrying : Carrying K) (s : State R K) (taken : List (MoveTaken R)) → Sound riding carrying s → Sound riding carrying (walked riding carrying s taken)
   sound_walked riding carrying s [] h = h
   sound_walked riding carrying s (taken ∷ later) h = sound_walked riding carrying (taking riding carrying s taken) later (sound_taking riding carrying s taken h)
 

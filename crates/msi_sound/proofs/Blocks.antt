@@ -7,15 +7,15 @@ use Rattle.std.proofs.lemmas.Bool.Decides.{nat_tests}
 use Rattle.access_times.specs.Riding.{Riding, Carrying}
 use Rattle.rtr_types.specs.declared.TheConstants.{CORES_MAX}
 use Rattle.rtr_types.specs.CoreSets.{has}
-use Rattle.msi_cache.specs.declared.copies.State.TheVariants.{I}
+use Rattle.msi_cache.specs.declared.line.State.TheVariants.{I}
 use Rattle.msi_cache.specs.declared.messages.FromHome.{FromHome}
 use Rattle.msi_cache.specs.declared.messages.FromHome.TheVariants.{Inv}
 use Rattle.msi_cache.specs.declared.messages.Request.{Request}
 use Rattle.msi_cache.specs.Table.{Signal, Ask}
 use Rattle.msi_cache.specs.Messages.{ask_of, request_block}
-use Rattle.msi_directory.specs.declared.entries.Entry.{Entry}
-use Rattle.msi_directory.specs.declared.entries.Stage.{Stage}
-use Rattle.msi_directory.specs.declared.entries.HomeAnswer.{HomeAnswer}
+use Rattle.msi_directory.specs.declared.entry.Entry.{Entry}
+use Rattle.msi_directory.specs.declared.entry.Stage.{Stage}
+use Rattle.msi_directory.specs.declared.entry.HomeAnswer.{HomeAnswer}
 use Rattle.msi_directory.specs.Table.{is_free}
 use Rattle.msi_directory.specs.Entries.{entry_after_request, answer_to_request}
 use Rattle.msi_directory.specs.Blocks.{entry_at, no_entry}
@@ -25,8 +25,8 @@ use Rattle.msi_protocol.specs.Phases.{Phase, picture, role_in, role, Out, StageF
 use Rattle.msi_protocol.specs.NextPhases.{after_other}
 use Rattle.msi_protocol.proofs.Controllers.{request_makes_step}
 use Rattle.msi_protocol.proofs.Keeps.{request_stands_own, request_stands_other, other_view, fits_request}
-use Rattle.msi_state.specs.declared.actors.Mail.{Mail}
-use Rattle.msi_state.specs.declared.actors.Node.{Node}
+use Rattle.msi_state.specs.declared.node.Mail.{Mail}
+use Rattle.msi_state.specs.declared.node.Node.{Node}
 use Rattle.msi_state.specs.States.{State, node_at, no_node}
 use Rattle.msi_state.specs.Steps.{delivered, delivered_in, node_requested, request_moved_in}
 use Rattle.msi_state.specs.Sights.{asks_of, cons_if}

@@ -4,28 +4,28 @@ use Rattle.std.specs.Prelude.{if◌then◌else◌, slice_index_or, slice_set}
 use Rattle.std.proofs.lemmas.List.{length-set, append-nil}
 use Rattle.std.proofs.lemmas.Bool.Decides.{nat_tests}
 use Rattle.access_times.specs.Riding.{Riding, Carrying}
-use Rattle.access_times.specs.declared.TheConstants.{BLOCK_WORDS}
+use Rattle.rtr_types.specs.declared.TheConstants.{BLOCK_WORDS}
 use Rattle.image_mem.specs.Contents.{Contents}
-use Rattle.rtr_types.specs.declared.accesses.Kind.{Kind}
-use Rattle.rtr_types.specs.declared.accesses.Kind.TheVariants.{Load as IsLoad, Store as IsStore}
+use Rattle.rtr_types.specs.declared.access.Kind.{Kind}
+use Rattle.rtr_types.specs.declared.access.Kind.TheVariants.{Load as IsLoad, Store as IsStore}
 use Rattle.rv_core.specs.declared.core_state.Need.{Need}
 use Rattle.rv_core.specs.declared.core_state.Need.TheVariants.{Local, Load, Store, Done}
 use Rattle.rv_core.specs.Steps.{need, is_done, access_of as need_access}
 use Rattle.rv_core.proofs.LawLemmas.{number_law}
-use Rattle.msi_cache.specs.declared.copies.Line.{Line}
-use Rattle.msi_cache.specs.declared.copies.State.{State as LineState}
-use Rattle.msi_cache.specs.declared.copies.TheConstants.{LINES}
+use Rattle.msi_cache.specs.declared.line.Line.{Line}
+use Rattle.msi_cache.specs.declared.line.State.{State as LineState}
+use Rattle.msi_cache.specs.declared.line.TheConstants.{LINES}
 use Rattle.msi_cache.specs.declared.messages.Request.{Request}
 use Rattle.msi_cache.specs.Table.{Ask}
 use Rattle.msi_cache.specs.Messages.{ask_of, request_block}
 use Rattle.msi_cache.specs.Lines.{line_for, lines_asking, line_asking, asks, is_allowed, empty_line}
-use Rattle.msi_directory.specs.declared.entries.Stage.{Stage}
+use Rattle.msi_directory.specs.declared.entry.Stage.{Stage}
 use Rattle.msi_directory.specs.Blocks.{block_count}
 use Rattle.msi_protocol.specs.Block.{View, Wish, wish_row, after_wish}
 use Rattle.msi_protocol.specs.Phases.{Stands, BlockHolds}
 use Rattle.msi_protocol.proofs.Keeps.{wish_stands}
-use Rattle.msi_state.specs.declared.actors.Node.{Node}
-use Rattle.msi_state.specs.declared.actors.Mail.{Mail}
+use Rattle.msi_state.specs.declared.node.Node.{Node}
+use Rattle.msi_state.specs.declared.node.Mail.{Mail}
 use Rattle.msi_state.specs.States.{State, node_at, no_node}
 use Rattle.msi_state.specs.Nodes.{allows, access_of, node_accessing, node_local, node_asking, node_trying, node_working_in, pushed}
 use Rattle.msi_state.specs.Sights.{line_state, asks_of, cons_if}

@@ -5,20 +5,20 @@ use Rattle.std.proofs.lemmas.List.{get_or_past}
 use Rattle.std.proofs.lemmas.Bool.Decides.{nat_tests}
 use Rattle.access_times.specs.Riding.{Riding, Carrying}
 use Rattle.rtr_types.specs.declared.TheConstants.{CORES_MAX}
-use Rattle.msi_cache.specs.declared.copies.Line.{Line}
-use Rattle.msi_cache.specs.declared.copies.State.{State as LineState}
-use Rattle.msi_cache.specs.declared.copies.State.TheVariants.{I}
+use Rattle.msi_cache.specs.declared.line.Line.{Line}
+use Rattle.msi_cache.specs.declared.line.State.{State as LineState}
+use Rattle.msi_cache.specs.declared.line.State.TheVariants.{I}
 use Rattle.msi_cache.specs.declared.messages.Response.{Response}
 use Rattle.msi_cache.specs.declared.messages.Request.{Request}
 use Rattle.msi_cache.specs.Table.{Ask, is_transient}
 use Rattle.msi_cache.specs.Messages.{ask_of, reply_of, request_block, response_block}
 use Rattle.msi_cache.specs.Lines.{line_for}
-use Rattle.msi_directory.specs.declared.entries.Stage.{Stage}
+use Rattle.msi_directory.specs.declared.entry.Stage.{Stage}
 use Rattle.msi_directory.specs.Blocks.{entry_at, no_entry}
 use Rattle.msi_protocol.specs.Block.{View, has_reply_row}
 use Rattle.msi_protocol.specs.Phases.{Phase, picture, Stands, BlockHolds}
-use Rattle.msi_state.specs.declared.actors.Mail.{Mail}
-use Rattle.msi_state.specs.declared.actors.Node.{Node}
+use Rattle.msi_state.specs.declared.node.Mail.{Mail}
+use Rattle.msi_state.specs.declared.node.Node.{Node}
 use Rattle.msi_state.specs.States.{State, node_at}
 use Rattle.msi_state.specs.Sights.{asks_of, line_state, cons_if}
 use Rattle.msi_sound.specs.Views.{node_view, block_in}

@@ -8,20 +8,20 @@ use Rattle.access_times.specs.Riding.{Riding, Carrying}
 use Rattle.image_mem.specs.Contents.{Contents}
 use Rattle.rtr_types.specs.declared.TheConstants.{CORES_MAX}
 use Rattle.rv_core.specs.Steps.{need, is_done}
-use Rattle.msi_cache.specs.declared.copies.TheConstants.{LINES}
+use Rattle.msi_cache.specs.declared.line.TheConstants.{LINES}
 use Rattle.msi_cache.specs.declared.messages.FromHome.{FromHome}
 use Rattle.msi_cache.specs.declared.messages.Response.{Response}
 use Rattle.msi_cache.specs.declared.messages.Request.{Request}
 use Rattle.msi_cache.specs.Messages.{block_of, request_block, response_block}
 use Rattle.msi_cache.specs.Lines.{waits}
-use Rattle.msi_directory.specs.declared.entries.Entry.{Entry}
-use Rattle.msi_directory.specs.declared.entries.HomeAnswer.{HomeAnswer}
+use Rattle.msi_directory.specs.declared.entry.Entry.{Entry}
+use Rattle.msi_directory.specs.declared.entry.HomeAnswer.{HomeAnswer}
 use Rattle.msi_directory.specs.Entries.{entry_after_request, answer_to_request, entry_after_response, answer_to_response}
 use Rattle.msi_directory.specs.Blocks.{entry_at}
 use Rattle.msi_protocol.specs.Phases.{BlockHolds}
 use Rattle.msi_protocol.proofs.Keeps.{one_writer_holds}
-use Rattle.msi_state.specs.declared.actors.Mail.{Mail}
-use Rattle.msi_state.specs.declared.actors.Node.{Node}
+use Rattle.msi_state.specs.declared.node.Mail.{Mail}
+use Rattle.msi_state.specs.declared.node.Node.{Node}
 use Rattle.msi_state.specs.declared.moves.Move.{Move}
 use Rattle.msi_state.specs.declared.moves.Move.TheVariants.{Core as CoreMove, Request as RequestMove, Response as ResponseMove, FromHome as MessageMove}
 use Rattle.msi_state.specs.States.{State, node_at}

@@ -4,25 +4,24 @@ use Rattle.std.specs.Prelude.{if◌then◌else◌, slice_index_or, slice_set}
 use Rattle.std.proofs.lemmas.List.{get_or-set_same, get_or-set_other, length-set}
 use Rattle.std.proofs.lemmas.Bool.Decides.{nat_tests}
 use Rattle.access_times.specs.Riding.{Riding, Carrying}
-use Rattle.access_times.specs.declared.TheConstants.{BLOCK_WORDS}
+use Rattle.rtr_types.specs.declared.TheConstants.{BLOCK_WORDS, CORES_MAX}
 use Rattle.image_mem.specs.Contents.{Contents}
-use Rattle.rtr_types.specs.declared.TheConstants.{CORES_MAX}
-use Rattle.rtr_types.specs.declared.accesses.Access.{Access}
-use Rattle.rtr_types.specs.declared.accesses.Kind.{Kind}
-use Rattle.rtr_types.specs.declared.accesses.Kind.TheVariants.{Load as IsLoad, Store as IsStore}
+use Rattle.rtr_types.specs.declared.access.Access.{Access}
+use Rattle.rtr_types.specs.declared.access.Kind.{Kind}
+use Rattle.rtr_types.specs.declared.access.Kind.TheVariants.{Load as IsLoad, Store as IsStore}
 use Rattle.rv_core.specs.declared.core_state.Core.{Core}
 use Rattle.rv_core.specs.declared.core_state.Need.{Need}
 use Rattle.rv_core.specs.declared.core_state.Need.TheVariants.{Local, Load, Store, Done}
 use Rattle.rv_core.specs.Steps.{need, is_done, access_of as need_access}
 use Rattle.rv_core.proofs.LawLemmas.{count_law, limit_law, room_law, load_within_law, store_within_law}
-use Rattle.msi_cache.specs.declared.copies.Line.{Line}
-use Rattle.msi_cache.specs.declared.copies.State.{State as LineState}
-use Rattle.msi_cache.specs.declared.copies.State.TheVariants.{I}
-use Rattle.msi_cache.specs.declared.copies.TheConstants.{LINES}
+use Rattle.msi_cache.specs.declared.line.Line.{Line}
+use Rattle.msi_cache.specs.declared.line.State.{State as LineState}
+use Rattle.msi_cache.specs.declared.line.State.TheVariants.{I}
+use Rattle.msi_cache.specs.declared.line.TheConstants.{LINES}
 use Rattle.msi_cache.specs.Lines.{lines_riding, empty_line, waits}
 use Rattle.msi_cache.specs.Table.{is_transient}
 use Rattle.msi_directory.specs.Blocks.{block_count}
-use Rattle.msi_state.specs.declared.actors.Node.{Node}
+use Rattle.msi_state.specs.declared.node.Node.{Node}
 use Rattle.msi_state.specs.Nodes.{lines_accessed, access_of, node_accessing, node_local}
 use Rattle.msi_sound.specs.Sound.{LineFits, NodeFits, fits_need, needed_block}
 

@@ -4,28 +4,28 @@ use Rattle.std.specs.Prelude.{if◌then◌else◌, slice_index_or, is_some}
 use Rattle.std.proofs.lemmas.List.{get_or-set_same, length-set, append-nil}
 use Rattle.std.proofs.lemmas.Bool.Decides.{nat_tests}
 use Rattle.access_times.specs.Riding.{Riding, Carrying}
-use Rattle.access_times.specs.declared.TheConstants.{BLOCK_WORDS}
+use Rattle.rtr_types.specs.declared.TheConstants.{BLOCK_WORDS}
 use Rattle.image_mem.specs.Contents.{Contents}
-use Rattle.rtr_types.specs.declared.accesses.Kind.TheVariants.{Load as IsLoad, Store as IsStore}
+use Rattle.rtr_types.specs.declared.access.Kind.TheVariants.{Load as IsLoad, Store as IsStore}
 use Rattle.rv_core.specs.declared.core_state.Need.{Need}
 use Rattle.rv_core.specs.declared.core_state.Need.TheVariants.{Local, Load, Store, Done}
 use Rattle.rv_core.specs.Steps.{need}
-use Rattle.msi_cache.specs.declared.copies.Line.{Line}
-use Rattle.msi_cache.specs.declared.copies.State.{State as LineState}
-use Rattle.msi_cache.specs.declared.copies.State.TheVariants.{I}
-use Rattle.msi_cache.specs.declared.copies.TheConstants.{LINES}
+use Rattle.msi_cache.specs.declared.line.Line.{Line}
+use Rattle.msi_cache.specs.declared.line.State.{State as LineState}
+use Rattle.msi_cache.specs.declared.line.State.TheVariants.{I}
+use Rattle.msi_cache.specs.declared.line.TheConstants.{LINES}
 use Rattle.msi_cache.specs.declared.messages.FromHome.{FromHome}
 use Rattle.msi_cache.specs.declared.messages.Response.{Response}
 use Rattle.msi_cache.specs.Table.{Signal, Reply, Row, row, is_transient}
 use Rattle.msi_cache.specs.Messages.{signal, block_of, reply_of, response_block}
 use Rattle.msi_cache.specs.Lines.{line_for, line_by, line_after, lines_after, is_allowed, empty_line, answer_by, replied}
-use Rattle.msi_directory.specs.declared.entries.Stage.{Stage}
+use Rattle.msi_directory.specs.declared.entry.Stage.{Stage}
 use Rattle.msi_directory.specs.Blocks.{block_count}
 use Rattle.msi_protocol.specs.Block.{View, after_message, replies}
 use Rattle.msi_protocol.specs.Phases.{Stands, picture}
 use Rattle.msi_protocol.proofs.Keeps.{message_stands, message_row}
-use Rattle.msi_state.specs.declared.actors.Node.{Node}
-use Rattle.msi_state.specs.declared.actors.Mail.{Mail}
+use Rattle.msi_state.specs.declared.node.Node.{Node}
+use Rattle.msi_state.specs.declared.node.Mail.{Mail}
 use Rattle.msi_state.specs.Nodes.{is_data, may_access, node_working, node_taking, node_answering, answer_to, node_receiving_mail}
 use Rattle.msi_state.specs.Sights.{line_state, replies_of, signals_of, cons_if}
 use Rattle.msi_sound.specs.Views.{node_view}

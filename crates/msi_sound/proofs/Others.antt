@@ -14,9 +14,9 @@ use Rattle.msi_cache.specs.declared.messages.Response.{Response}
 use Rattle.msi_cache.specs.declared.messages.Request.{Request}
 use Rattle.msi_cache.specs.Table.{Signal, Ask, Reply}
 use Rattle.msi_cache.specs.Messages.{signal, ask_of, reply_of, request_block, response_block}
-use Rattle.msi_directory.specs.declared.entries.Entry.{Entry}
-use Rattle.msi_directory.specs.declared.entries.Stage.{Stage}
-use Rattle.msi_directory.specs.declared.entries.HomeAnswer.{HomeAnswer}
+use Rattle.msi_directory.specs.declared.entry.Entry.{Entry}
+use Rattle.msi_directory.specs.declared.entry.Stage.{Stage}
+use Rattle.msi_directory.specs.declared.entry.HomeAnswer.{HomeAnswer}
 use Rattle.msi_directory.specs.Entries.{entry_after_request, answer_to_request, entry_after_response, answer_to_response}
 use Rattle.msi_directory.specs.Blocks.{entry_at, no_entry}
 use Rattle.msi_protocol.specs.Block.{request_step, response_step, has_reply_row}
@@ -24,8 +24,8 @@ use Rattle.msi_protocol.specs.Controllers.{kind_sent}
 use Rattle.msi_protocol.specs.Phases.{role, Out, StageFits, BlockHolds}
 use Rattle.msi_protocol.proofs.Controllers.{request_makes_step, response_makes_step}
 use Rattle.msi_protocol.proofs.Keeps.{rows_hold}
-use Rattle.msi_state.specs.declared.actors.Mail.{Mail}
-use Rattle.msi_state.specs.declared.actors.Node.{Node}
+use Rattle.msi_state.specs.declared.node.Mail.{Mail}
+use Rattle.msi_state.specs.declared.node.Node.{Node}
 use Rattle.msi_state.specs.States.{State, node_at, no_node}
 use Rattle.msi_state.specs.Steps.{node_sent, delivered, delivered_in, request_moved_in, response_moved_in}
 use Rattle.msi_state.specs.Sights.{replies_of, cons_if}

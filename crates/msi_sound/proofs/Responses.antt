@@ -6,13 +6,13 @@ use Rattle.std.proofs.lemmas.Bool.{cases_eq}
 use Rattle.std.proofs.lemmas.Bool.Decides.{nat_tests}
 use Rattle.access_times.specs.Riding.{Riding, Carrying}
 use Rattle.rtr_types.specs.declared.TheConstants.{CORES_MAX}
-use Rattle.msi_cache.specs.declared.copies.State.TheVariants.{I}
+use Rattle.msi_cache.specs.declared.line.State.TheVariants.{I}
 use Rattle.msi_cache.specs.declared.messages.FromHome.{FromHome}
 use Rattle.msi_cache.specs.declared.messages.Response.{Response}
 use Rattle.msi_cache.specs.Table.{Reply}
 use Rattle.msi_cache.specs.Messages.{reply_of, response_block}
-use Rattle.msi_directory.specs.declared.entries.Entry.{Entry}
-use Rattle.msi_directory.specs.declared.entries.Stage.{Stage}
+use Rattle.msi_directory.specs.declared.entry.Entry.{Entry}
+use Rattle.msi_directory.specs.declared.entry.Stage.{Stage}
 use Rattle.msi_directory.specs.Entries.{entry_after_response, answer_to_response}
 use Rattle.msi_directory.specs.Blocks.{entry_at, no_entry}
 use Rattle.msi_protocol.specs.Block.{HomeStep, View, view, response_step, has_reply_row, response_taken, after_response, after_step}
@@ -20,8 +20,8 @@ use Rattle.msi_protocol.specs.Phases.{Phase, picture, Stands, BlockHolds}
 use Rattle.msi_protocol.specs.NextPhases.{after_others_response}
 use Rattle.msi_protocol.proofs.Controllers.{response_makes_step}
 use Rattle.msi_protocol.proofs.Keeps.{response_stands_own, response_stands_other, others_response_view, fits_response, response_has_row}
-use Rattle.msi_state.specs.declared.actors.Mail.{Mail}
-use Rattle.msi_state.specs.declared.actors.Node.{Node}
+use Rattle.msi_state.specs.declared.node.Mail.{Mail}
+use Rattle.msi_state.specs.declared.node.Node.{Node}
 use Rattle.msi_state.specs.States.{State, node_at}
 use Rattle.msi_state.specs.Steps.{node_responded, response_moved_in}
 use Rattle.msi_state.specs.Sights.{replies_of, cons_if}

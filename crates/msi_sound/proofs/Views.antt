@@ -10,12 +10,12 @@ use Rattle.msi_cache.specs.declared.messages.FromHome.{FromHome}
 use Rattle.msi_cache.specs.declared.messages.FromHome.TheVariants.{Inv}
 use Rattle.msi_cache.specs.Table.{Signal}
 use Rattle.msi_cache.specs.Messages.{signal, block_of}
-use Rattle.msi_directory.specs.declared.entries.HomeAnswer.{HomeAnswer}
+use Rattle.msi_directory.specs.declared.entry.HomeAnswer.{HomeAnswer}
 use Rattle.msi_protocol.specs.Block.{View, told_if, sent_to}
 use Rattle.msi_protocol.specs.Controllers.{kind_sent, SendsAlone}
 use Rattle.msi_protocol.proofs.Members.{has-no_cores}
-use Rattle.msi_state.specs.declared.actors.Mail.{Mail}
-use Rattle.msi_state.specs.declared.actors.Node.{Node}
+use Rattle.msi_state.specs.declared.node.Mail.{Mail}
+use Rattle.msi_state.specs.declared.node.Node.{Node}
 use Rattle.msi_state.specs.States.{node_at, no_node}
 use Rattle.msi_state.specs.Steps.{node_sent, nodes_sent, nodes_told, delivered, delivered_in}
 use Rattle.msi_state.specs.Sights.{signals_of, cons_if}

@@ -3,11 +3,11 @@ use Rattle.std.proofs.Common.{◌≡◌, ◌≢◌, ℕ, ◌==◌, ◌%◌, Bool
 use Rattle.std.specs.Prelude.{if◌then◌else◌}
 use Rattle.std.proofs.lemmas.Bool.Decides.{nat_tests}
 use Rattle.rtr_types.specs.Accesses.{is_write}
-use Rattle.rtr_types.specs.declared.accesses.Kind.{Kind}
-use Rattle.msi_cache.specs.declared.copies.Line.{Line}
-use Rattle.msi_cache.specs.declared.copies.State.{State}
-use Rattle.msi_cache.specs.declared.copies.State.TheVariants.{I, S}
-use Rattle.msi_cache.specs.declared.copies.TheConstants.{LINES}
+use Rattle.rtr_types.specs.declared.access.Kind.{Kind}
+use Rattle.msi_cache.specs.declared.line.Line.{Line}
+use Rattle.msi_cache.specs.declared.line.State.{State}
+use Rattle.msi_cache.specs.declared.line.State.TheVariants.{I, S}
+use Rattle.msi_cache.specs.declared.line.TheConstants.{LINES}
 use Rattle.msi_cache.specs.Table.{WantRow, is_transient}
 use Rattle.msi_cache.specs.Messages.{ask_of, request_block}
 use Rattle.msi_cache.specs.Lines.{line_asking, asks, is_allowed}

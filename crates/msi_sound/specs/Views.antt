@@ -4,7 +4,7 @@ use Rattle.access_times.specs.Riding.{Riding, Carrying}
 use Rattle.msi_cache.specs.Lines.{line_for}
 use Rattle.msi_directory.specs.Blocks.{entry_at}
 use Rattle.msi_protocol.specs.Block.{View, Block}
-use Rattle.msi_state.specs.declared.actors.Node.{Node}
+use Rattle.msi_state.specs.declared.node.Node.{Node}
 use Rattle.msi_state.specs.States.{State, node_at}
 use Rattle.msi_state.specs.Sights.{line_state, asks_of, replies_of, signals_of}
 

@@ -3,13 +3,13 @@ ghost use Rattle.std.specs.Prelude.{ℕ, ◌<◌, ◌≤◌, ◌^◌, IsTrue, Li
 ghost use Rattle.access_times.specs.Riding.{none_carrying, none_riding};
 ghost use Rattle.image_mem.specs.Contents.{Contents};
 ghost use Rattle.msi_sound.specs.Sound.{OneWriterEverywhere, Sound};
-ghost use Rattle.msi_sound.specs.Walks.{Taken, walked};
+ghost use Rattle.msi_sound.specs.Walks.{MoveTaken, walked};
 ghost use Rattle.msi_state.specs.Runs.{run};
 ghost use Rattle.msi_state.specs.States.{State, state_start};
 ghost use Rattle.msi_state.specs.Steps.{enabled, step};
 ghost use Rattle.msi_state.specs.declared.moves.Move.{Move};
 ghost use Rattle.rtr_types.specs.declared.TheConstants.{CORES_MAX};
-ghost use Rattle.rtr_types.specs.declared.parameters.Params.{Params};
+ghost use Rattle.rtr_types.specs.declared.params.Params.{Params};
 
 use access_times::{Carry, Rider};
 
@@ -28,7 +28,7 @@ pub fn every_step_keeps_it<R: Rider, K: Carry>()
 /// So each state is sound that moves lead to from the start, whatever moves they are and whatever riders
 /// clerks leave.
 pub fn every_state_from_a_start_is_sound<R: Rider, K: Carry>()
-    ensures { (image : Contents) (cores limit : ℕ) → cores ≤ CORES_MAX → limit < 2 ^ 32 → (taken : List (Taken R))
+    ensures { (image : Contents) (cores limit : ℕ) → cores ≤ CORES_MAX → limit < 2 ^ 32 → (taken : List (MoveTaken R))
         → Sound R.riding K.carrying (walked R.riding K.carrying (state_start R.riding K.carrying image cores limit) taken) }
 {}
 

@@ -5,8 +5,8 @@ use Rattle.std.proofs.lemmas.List.{get_or_default}
 use Rattle.std.proofs.lemmas.Bool.Decides.{nat_tests}
 use Rattle.access_times.specs.Riding.{Carrying}
 use Rattle.msi_cache.specs.declared.messages.FromHome.{FromHome}
-use Rattle.msi_directory.specs.declared.entries.HomeAnswer.{HomeAnswer}
-use Rattle.msi_state.specs.declared.actors.Node.{Node}
+use Rattle.msi_directory.specs.declared.entry.HomeAnswer.{HomeAnswer}
+use Rattle.msi_state.specs.declared.node.Node.{Node}
 use Rattle.msi_state.specs.States.{node_at, no_node}
 use Rattle.msi_state.specs.Ready.{hears_in, HasRoomTo, HasRoomIn}
 

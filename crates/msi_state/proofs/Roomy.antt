@@ -7,8 +7,8 @@ use Rattle.std.proofs.lemmas.List.Folds.{list_all_more, list_any_at}
 use Rattle.msi_cache.specs.declared.messages.Request.{Request}
 use Rattle.msi_cache.specs.Messages.{request_block}
 use Rattle.msi_directory.specs.Blocks.{Blocks, has_room}
-use Rattle.msi_state.specs.declared.actors.Mail.{Mail}
-use Rattle.msi_state.specs.declared.actors.Node.{Node}
+use Rattle.msi_state.specs.declared.node.Mail.{Mail}
+use Rattle.msi_state.specs.declared.node.Node.{Node}
 use Rattle.msi_state.specs.Ready.{RoomsMade, are_heads_roomy, head_roomy, head_is, is_head}
 
 -- some heads' blocks have got room, and the first so many heads' blocks have it

@@ -15,12 +15,12 @@ use Rattle.msi_cache.specs.declared.messages.Response.{Response}
 use Rattle.msi_directory.specs.Blocks.{no_entry, entry_at, entries_after_request, entries_after_response}
 use Rattle.msi_directory.specs.Entries.{answer_by, answer_riding, answer_to_request, answer_to_response, entry_after_request, entry_after_response, has_request_row, has_response_row, sent}
 use Rattle.msi_directory.specs.Table.{Send, NoMessage, HomeRow, request_row, response_row}
-use Rattle.msi_directory.specs.declared.entries.Stage.TheVariants.{Unshared, Shared, Owned, Acks, Data}
-use Rattle.msi_directory.specs.declared.entries.Stage.{Stage}
-use Rattle.msi_directory.specs.declared.entries.Entry.{Entry}
-use Rattle.msi_directory.specs.declared.entries.HomeAnswer.{HomeAnswer}
-use Rattle.msi_state.specs.declared.actors.Mail.{Mail}
-use Rattle.msi_state.specs.declared.actors.Node.{Node}
+use Rattle.msi_directory.specs.declared.entry.Stage.TheVariants.{Unshared, Shared, Owned, Acks, Data}
+use Rattle.msi_directory.specs.declared.entry.Stage.{Stage}
+use Rattle.msi_directory.specs.declared.entry.Entry.{Entry}
+use Rattle.msi_directory.specs.declared.entry.HomeAnswer.{HomeAnswer}
+use Rattle.msi_state.specs.declared.node.Mail.{Mail}
+use Rattle.msi_state.specs.declared.node.Node.{Node}
 use Rattle.msi_state.specs.Ready.{can_request_in, can_respond_in, names_below}
 use Rattle.msi_state.specs.States.{State, node_at}
 use Rattle.msi_state.specs.Steps.{delivered, node_requested, node_responded, request_moved, request_moved_in, response_moved, response_moved_in}

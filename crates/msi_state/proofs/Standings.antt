@@ -11,9 +11,9 @@ use Rattle.rtr_types.specs.CoreSets.{has}
 use Rattle.rtr_types.specs.declared.core_set.CoreSet.{CoreSet}
 use Rattle.rv_core.specs.Steps.{is_done}
 use Rattle.msi_cache.specs.Table.{Row, Signal, is_transient, row}
-use Rattle.msi_cache.specs.declared.copies.State.{State as LineState}
-use Rattle.msi_cache.specs.declared.copies.TheConstants.{LINES}
-use Rattle.msi_cache.specs.declared.copies.Line.{Line}
+use Rattle.msi_cache.specs.declared.line.State.{State as LineState}
+use Rattle.msi_cache.specs.declared.line.TheConstants.{LINES}
+use Rattle.msi_cache.specs.declared.line.Line.{Line}
 use Rattle.msi_cache.specs.declared.messages.FromHome.{FromHome}
 use Rattle.msi_cache.specs.declared.messages.FromHome.TheVariants.{Inv}
 use Rattle.msi_cache.specs.declared.messages.Request.{Request}
@@ -22,9 +22,9 @@ use Rattle.msi_cache.specs.Lines.{empty_line, line_after, line_by, lines_after, 
 use Rattle.msi_cache.specs.Messages.{block_of, signal, request_block, response_block}
 use Rattle.msi_directory.specs.Blocks.{entry_at}
 use Rattle.msi_directory.specs.Entries.{answer_to_request, answer_to_response}
-use Rattle.msi_state.specs.declared.actors.Mail.{Mail}
-use Rattle.msi_state.specs.declared.actors.Node.{Node}
-use Rattle.msi_state.specs.declared.needs.Standing.{Standing}
+use Rattle.msi_state.specs.declared.node.Mail.{Mail}
+use Rattle.msi_state.specs.declared.node.Node.{Node}
+use Rattle.msi_state.specs.declared.standing.Standing.{Standing}
 use Rattle.msi_state.specs.Standings.{ends_wait, standing_of, standings_of}
 use Rattle.msi_state.specs.States.{State, all_done, no_node, node_at}
 use Rattle.msi_state.specs.Steps.{delivered_in, node_requested, node_responded, node_sent, nodes_sent, nodes_told, request_moved, request_moved_in, response_moved, response_moved_in}

@@ -4,20 +4,20 @@
 use Rattle.std.specs.Prelude.{ℕ, ◌+◌, ◌*◌, ◌-◌, ◌/◌, ◌==◌, ◌≤◌, Bool, true, false, ◌&&◌, List, [], ◌∷◌, length, if◌then◌else◌}
 use Rattle.std.specs.List.{sum_by, list_all}
 use Rattle.access_times.specs.Riding.{Riding}
-use Rattle.access_times.specs.declared.TheConstants.{BLOCK_WORDS}
+use Rattle.rtr_types.specs.declared.TheConstants.{BLOCK_WORDS}
 use Rattle.image_mem.specs.Contents.{Contents}
 use Rattle.rv_core.specs.declared.core_state.Need.{Need}
 use Rattle.rv_core.specs.declared.core_state.Need.TheVariants.{Local, Load, Store, Done}
 use Rattle.rv_core.specs.Steps.{need}
 use Rattle.link_order.specs.Queue.{is_nil}
-use Rattle.msi_cache.specs.declared.copies.State.{State as LineState}
-use Rattle.msi_cache.specs.declared.copies.State.TheVariants.{I, S, M, IsD, ImD, SmD, MiA, SiA, IiA}
-use Rattle.msi_cache.specs.declared.copies.Line.{Line}
+use Rattle.msi_cache.specs.declared.line.State.{State as LineState}
+use Rattle.msi_cache.specs.declared.line.State.TheVariants.{I, S, M, IsD, ImD, SmD, MiA, SiA, IiA}
+use Rattle.msi_cache.specs.declared.line.Line.{Line}
 use Rattle.msi_cache.specs.declared.messages.FromHome.{FromHome}
 use Rattle.msi_cache.specs.declared.messages.FromHome.TheVariants.{FwdGetS, FwdGetM, Inv, PutAck, BlockData}
 use Rattle.msi_cache.specs.Lines.{line_for}
-use Rattle.msi_state.specs.declared.actors.Mail.{Mail}
-use Rattle.msi_state.specs.declared.actors.Node.{Node}
+use Rattle.msi_state.specs.declared.node.Mail.{Mail}
+use Rattle.msi_state.specs.declared.node.Node.{Node}
 use Rattle.msi_state.specs.States.{State}
 
 -- the steps that a message still brings to another core's access: its delivery, and that of its answer

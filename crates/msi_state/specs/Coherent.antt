@@ -1,13 +1,13 @@
 -- Which copies of a block's words are current: those that count have the words of the memory.
 use Rattle.std.specs.Prelude.{◌≡◌, ℕ, ◌+◌, ◌*◌, ◌/◌, ◌%◌, ◌<◌, ◌==◌, Bool, true, false, not, ◌&&◌, Option, Some, None, List, [], ◌∷◌, length, slice_index, slice_set, if◌then◌else◌}
 use Rattle.access_times.specs.Riding.{Riding, Carrying}
-use Rattle.access_times.specs.declared.TheConstants.{BLOCK_WORDS}
+use Rattle.rtr_types.specs.declared.TheConstants.{BLOCK_WORDS}
 use Rattle.image_mem.specs.Contents.{Contents, opening_word}
 use Rattle.rtr_types.specs.Accesses.{is_write}
-use Rattle.rtr_types.specs.declared.accesses.Access.{Access}
-use Rattle.rtr_types.specs.declared.accesses.Kind.{Kind}
-use Rattle.msi_cache.specs.declared.copies.State.{State as LineState}
-use Rattle.msi_cache.specs.declared.copies.State.TheVariants.{S, M, SmD, MiA}
+use Rattle.rtr_types.specs.declared.access.Access.{Access}
+use Rattle.rtr_types.specs.declared.access.Kind.{Kind}
+use Rattle.msi_cache.specs.declared.line.State.{State as LineState}
+use Rattle.msi_cache.specs.declared.line.State.TheVariants.{S, M, SmD, MiA}
 use Rattle.msi_cache.specs.declared.messages.FromHome.{FromHome}
 use Rattle.msi_cache.specs.declared.messages.FromHome.TheVariants.{BlockData}
 use Rattle.msi_cache.specs.declared.messages.Response.{Response}
@@ -17,11 +17,11 @@ use Rattle.msi_cache.specs.declared.messages.Request.TheVariants.{PutM}
 use Rattle.msi_cache.specs.Table.{Signal}
 use Rattle.msi_cache.specs.Messages.{block_of, request_block, response_block}
 use Rattle.msi_cache.specs.Lines.{line_for}
-use Rattle.msi_directory.specs.declared.entries.Stage.{Stage}
-use Rattle.msi_directory.specs.declared.entries.Stage.TheVariants.{Owned, Data}
+use Rattle.msi_directory.specs.declared.entry.Stage.{Stage}
+use Rattle.msi_directory.specs.declared.entry.Stage.TheVariants.{Owned, Data}
 use Rattle.msi_directory.specs.Blocks.{entry_at}
-use Rattle.msi_state.specs.declared.actors.Mail.{Mail}
-use Rattle.msi_state.specs.declared.actors.Node.{Node}
+use Rattle.msi_state.specs.declared.node.Mail.{Mail}
+use Rattle.msi_state.specs.declared.node.Node.{Node}
 use Rattle.msi_state.specs.States.{State, node_at}
 use Rattle.msi_state.specs.Nodes.{Event, Accesses}
 use Rattle.msi_state.specs.Sights.{line_state, signals_of}
@@ -44,10 +44,10 @@ line_current MiA ms = not (has_ack ms)
 line_current _ ms = false
 
 -- the home has the current words: no cache owns the block or is to give it
-abbrev pub home_current : Stage → Bool
-home_current (Owned owner) = false
-home_current (Data «of» requester share) = false
-home_current _ = true
+abbrev pub home_counts : Stage → Bool
+home_counts (Owned owner) = false
+home_counts (Data «of» requester share) = false
+home_counts _ = true
 
 module _ {R : Type 0} where
   -- the words that a message moves
@@ -87,7 +87,7 @@ pub record NodeCurrent {R K : Type 0} (riding : Riding R) (b : ℕ) (cur : List 
 
 -- the copies of a block that count have these words
 pub record Current {R K : Type 0} (riding : Riding R) (carrying : Carrying K) (s : State R K) (b : ℕ) (cur : List ℕ) : Type 0 where
-  pub home : home_current (entry_at riding.fresh s.home b).stage ≡ true → (entry_at riding.fresh s.home b).words ≡ cur
+  pub home : home_counts (entry_at riding.fresh s.home b).stage ≡ true → (entry_at riding.fresh s.home b).words ≡ cur
   pub nodes : (d : ℕ) → d < length s.nodes → NodeCurrent riding b cur (node_at carrying s.nodes d)
 
 module _ {R K : Type 0} where
@@ -108,12 +108,12 @@ memory_after (Accesses a) memory b = accessed a.kind a memory b
 memory_after _ memory b = memory b
 
 -- the word of a memory, by its index
-abbrev pub word_at : (ℕ → List ℕ) → ℕ → ℕ
-word_at memory word = slice_index (memory (word / BLOCK_WORDS)) (word % BLOCK_WORDS)
+abbrev pub word_of : (ℕ → List ℕ) → ℕ → ℕ
+word_of memory word = slice_index (memory (word / BLOCK_WORDS)) (word % BLOCK_WORDS)
 
 -- an access finds the memory's word
 abbrev pub Finds : Event → (ℕ → List ℕ) → Type 0
-Finds (Accesses a) memory = a.before ≡ word_at memory a.word
+Finds (Accesses a) memory = a.before ≡ word_of memory a.word
 Finds _ memory = Unit {0}
 
 -- the memory at the start: each block as the image has it
@@ -141,4 +141,4 @@ value_after _ = 0
 
 -- a word is what the last write to it left
 abbrev pub LastWrite : Type 0
-LastWrite = (e : Event) (memory : ℕ → List ℕ) → WordsFit memory → WordsFit (memory_after e memory) × ((word : ℕ) → word_at (memory_after e memory) word ≡ (if writes_to e word then value_after e else word_at memory word))
+LastWrite = (e : Event) (memory : ℕ → List ℕ) → WordsFit memory → WordsFit (memory_after e memory) × ((word : ℕ) → word_of (memory_after e memory) word ≡ (if writes_to e word then value_after e else word_of memory word))

@@ -3,10 +3,10 @@
 use Rattle.std.specs.Prelude.{ℕ, ◌/◌, ◌%◌, Bool, true, ◌&&◌, nat_lt, List, length, map, slice_index}
 use Rattle.std.specs.List.{range_with_len}
 use Rattle.access_times.specs.Riding.{Riding, Carrying}
-use Rattle.access_times.specs.declared.TheConstants.{BLOCK_WORDS}
+use Rattle.rtr_types.specs.declared.TheConstants.{BLOCK_WORDS}
 use Rattle.msi_cache.specs.Lines.{line_for, can_read}
-use Rattle.msi_directory.specs.declared.entries.Stage.{Stage}
-use Rattle.msi_directory.specs.declared.entries.Stage.TheVariants.{Owned}
+use Rattle.msi_directory.specs.declared.entry.Stage.{Stage}
+use Rattle.msi_directory.specs.declared.entry.Stage.TheVariants.{Owned}
 use Rattle.msi_directory.specs.Blocks.{entry_at}
 use Rattle.msi_state.specs.States.{State, node_at}
 

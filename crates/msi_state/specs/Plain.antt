@@ -4,8 +4,8 @@ use Rattle.access_times.specs.Riding.{Riding, Carrying, none_riding, none_carryi
 use Rattle.link_order.specs.Queue.{Queue}
 use Rattle.msi_cache.specs.PlainPart.{plain_lines, plain_message, plain_response, plain_request}
 use Rattle.msi_directory.specs.PlainPart.{plain_entries}
-use Rattle.msi_state.specs.declared.actors.Mail.{Mail}
-use Rattle.msi_state.specs.declared.actors.Node.{Node}
+use Rattle.msi_state.specs.declared.node.Mail.{Mail}
+use Rattle.msi_state.specs.declared.node.Node.{Node}
 use Rattle.msi_state.specs.declared.moves.Move.{Move}
 use Rattle.msi_state.specs.States.{State, PlainState}
 use Rattle.msi_state.specs.Steps.{step, moves, event}

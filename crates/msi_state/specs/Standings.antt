@@ -7,9 +7,9 @@ use Rattle.rv_core.specs.declared.core_state.Core.{Core}
 use Rattle.rv_core.specs.Steps.{need, instruction_at}
 use Rattle.msi_cache.specs.Lines.{waits}
 use Rattle.msi_cache.specs.Table.{Signal, BlockData, PutAck}
-use Rattle.msi_state.specs.declared.actors.Node.{Node}
+use Rattle.msi_state.specs.declared.node.Node.{Node}
 use Rattle.msi_state.specs.declared.moves.Move.{Move}
-use Rattle.msi_state.specs.declared.needs.Standing.{Standing}
+use Rattle.msi_state.specs.declared.standing.Standing.{Standing}
 use Rattle.msi_state.specs.Moves.{candidates}
 use Rattle.msi_state.specs.States.{State}
 use Rattle.msi_state.specs.Steps.{enabled}

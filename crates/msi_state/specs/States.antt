@@ -6,11 +6,11 @@ use Rattle.image_mem.specs.Contents.{Contents}
 use Rattle.rtr_types.specs.declared.TheConstants.{CORES_MAX}
 use Rattle.rv_core.specs.States.{starting}
 use Rattle.rv_core.specs.Steps.{need, is_done}
-use Rattle.msi_cache.specs.declared.copies.TheConstants.{LINES}
+use Rattle.msi_cache.specs.declared.line.TheConstants.{LINES}
 use Rattle.msi_cache.specs.Lines.{empty_line}
-use Rattle.msi_directory.specs.declared.entries.Entry.{Entry}
+use Rattle.msi_directory.specs.declared.entry.Entry.{Entry}
 use Rattle.msi_directory.specs.Blocks.{opening_entries}
-use Rattle.msi_state.specs.declared.actors.Node.{Node}
+use Rattle.msi_state.specs.declared.node.Node.{Node}
 
 -- the image that the cores run, which never changes; each core with its cache, its carry and its three
 -- links; the home's entry of each block of the memory; and the home's carry

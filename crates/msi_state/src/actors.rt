@@ -1,271 +1,302 @@
-//! A core with its cache and links, and what it does in a move.
-ghost use Rattle.std.specs.Prelude.{◌≡◌, ◌<◌, ◌/◌, ◌%◌, IfOk, IsTrue, false, length};
-ghost use Rattle.access_times.specs.declared.TheConstants.{BLOCK_WORDS};
-ghost use Rattle.msi_cache.specs.Lines.{waits};
-ghost use Rattle.rv_core.specs.Steps.{need, is_done};
-ghost use Rattle.msi_state.specs.States.{node_start};
-ghost use Rattle.msi_state.specs.Standings.{standing_of};
-ghost use Rattle.msi_state.specs.Nodes.{next_instr, instr_of, allows, access_of, rider_at, carry_after, node_accessing, node_local, node_trying, event_trying, node_working, event_working, node_receiving, event_receiving, node_taken_in, rider_of_event, may_access, can_receive_in, Tells};
+//! The actors of a machine, the image that its cores run, and each kind of move in code.
+ghost use Rattle.std.specs.Prelude.{◌≡◌, ◌<◌, ◌≤◌, ◌/◌, All, IfOk, IsTrue, OnOk, length, not, slice_set, true};
+ghost use Rattle.rtr_types.specs.declared.TheConstants.{BLOCK_WORDS, CORES_MAX};
+ghost use Rattle.link_order.specs.Queue.{is_nil};
+ghost use Rattle.msi_cache.specs.Messages.{request_block, response_block};
+ghost use Rattle.msi_directory.specs.Blocks.{entries_after_request, entries_after_response, entry_at, has_room};
+ghost use Rattle.msi_directory.specs.Entries.{answer_riding, answer_to_request, answer_to_response, has_request_row, has_response_row};
+ghost use Rattle.msi_state.specs.declared.moves.Move.{Move};
+ghost use Rattle.msi_state.specs.FinalMemory.{at_hand, final_word};
+ghost use Rattle.msi_state.specs.Nodes.{instr_of};
+ghost use Rattle.msi_state.specs.Ready.{NamesFit, HeadsFit, heads_roomy, HasRoomTo, Ready, RoomsMade, are_heads_roomy, head_roomy, head_within, can_request_in, can_respond_in, request_answer_in, response_answer_in};
+ghost use Rattle.msi_state.specs.Standings.{standing_of, standings_of};
+ghost use Rattle.msi_state.specs.States.{node_at, state_start};
+ghost use Rattle.msi_state.specs.Steps.{AcceptsNext, TellsOf, enabled, event, head_free, request_moved, response_moved, rider_left, step};
 
-use crate::needs::{Standing, hear};
-use access_times::{BLOCK_WORDS, Carry, Clerk, Rider};
+use crate::node::Node;
+use crate::sending::deliver;
+use crate::standing::Standing;
+use access_times::{Carry, Clerk, Rider};
 use image_mem::Image;
-use link_order::Link;
-use msi_cache::{Cache, FromHome, FromHomeSlot, RequestSlot, ResponseSlot};
-use rtr_types::{Access, CORES_MAX, Instr, Kind};
-use rv_core::{Core, Need};
+use msi_cache::{RequestSlot, ResponseSlot};
+use msi_directory::{Home, HomeAnswer};
+use rtr_types::{BLOCK_WORDS, CORES_MAX, Instr};
+use rv_core::Core;
 use std::alloc::{AllocError, Global};
+use std::marker::Model;
 
-/// What is on a link: a message, and its sender's carry as it was once the sender had done all else.
+/// The image that the cores run, the nodes, the home and the home's carry. Contracts see the state, and
+/// which of the home's blocks have room for a request.
+///
+/// It has no invariant, so that each kind of move owes only what it does.
 #[derive(Drop)]
-pub struct Mail<T, K> {
-    pub item: T,
-    pub carry: K,
+pub struct Actors<R, K> {
+    image: Image,
+    nodes: Vec<Node<R, K>>,
+    home: Home<R>,
+    carry: K,
 }
 
-/// A place on a link that was never written.
-impl<T: Default, K: Carry> Default for Mail<T, K> {
-    fn default() -> Self {
-        Mail {
-            item: T::default(),
-            carry: K::none(),
-        }
-    }
+impl<R, K> Model for Actors<R, K> {
+    ghost use Rattle.msi_state.specs.States.{Machinery};
+
+    ghost Value = { Machinery R K };
+
+    ghost view = { λ a. record { state = record { image = a.image; nodes = a.nodes.items; home = a.home.entries; carry = a.carry }; rooms = a.home.rooms } };
 }
 
-/// A core with its carry and its cache, and its three links: requests to home, responses to home and
-/// messages from home.
-#[derive(Drop)]
-pub struct Node<R, K> {
-    pub core: Core,
-    pub carry: K,
-    pub cache: Cache<R>,
-    pub requests: Link<Mail<RequestSlot<R>, K>>,
-    pub responses: Link<Mail<ResponseSlot<R>, K>>,
-    pub messages: Link<Mail<FromHomeSlot<R>, K>>,
-}
-
-impl<R: Rider, K: Carry> Node<R, K> {
-    /// The node of this number at the start.
-    pub(crate) fn new(alloc: Global, id: u8, limit: u32) -> Result<Node<R, K>, AllocError>
-        ensures { IfOk result (λ n. n ≡ node_start R.riding K.carrying limit id) }
+impl<R: Rider, K: Carry> Actors<R, K> {
+    /// The actors at the start, with so many cores, each of which retires at most `limit`
+    /// instructions.
+    #[tactic(auto, using(crate::proofs::Counting::map_range_more))]
+    pub(crate) fn new(
+        alloc: Global,
+        image: Image,
+        cores: u8,
+        limit: u32,
+    ) -> Result<Actors<R, K>, AllocError>
+        ensures { IfOk result (λ actors. actors.state ≡ state_start R.riding K.carrying image cores limit) }
     {
-        let cache = Cache::new(alloc)?;
-        let requests = Link::new(alloc, 1)?;
-        let responses = Link::new(alloc, CORES_MAX as u32)?;
-        let messages = Link::new(alloc, CORES_MAX as u32)?;
-        Ok(Node {
-            core: Core::new(id, limit),
+        let home = Home::new(alloc, &image)?;
+        let mut nodes = Vec::with_capacity(alloc, cores as usize)?;
+        for id in 0..cores {
+            nodes.push(Node::new(alloc, id, limit)?)?;
+        }
+        Ok(Actors {
+            image,
+            nodes,
+            home,
             carry: K::none(),
-            cache,
-            requests,
-            responses,
-            messages,
         })
     }
 
-    /// What the core needs next, and whether the cache waits.
-    pub(crate) fn standing(&self, image: &Image) -> Standing
-        ensures { result ≡ standing_of image.now self.now }
+    /// What each core and its cache stand at.
+    pub(crate) fn standings(&self, alloc: Global) -> Result<Vec<Standing>, AllocError>
+        ensures { IfOk result (λ found. found.items ≡ standings_of self.now.state) }
     {
-        let mut standing = Standing {
-            need: Need::Local,
-            op: None,
-            waits: self.cache.waits(),
-        };
-        standing.look_ahead(image, &self.core);
-        standing
+        let mut found = Vec::with_capacity(alloc, self.nodes.len())?;
+        for node in &self.nodes {
+            found.push(node.standing(&self.image))?;
+        }
+        Ok(found)
     }
 
-    /// The core moves: an instruction retires, or a request is sent. What was kept of the core and its
-    /// cache is renewed.
-    pub(crate) fn work<C: Clerk<R, K>>(
-        &mut self,
-        image: &Image,
-        standing: &mut Standing,
-        clerk: &mut C,
-    ) -> Option<Instr>
-        requires stands { standing.old ≡ standing_of image.now self.old }
-        requires more { is_done (need image.now self.old.core) ≡ false }
-        requires still { waits self.old.cache ≡ false }
-        requires accepts { C.accepts clerk.old (next_instr self.old.core) }
-        requires room { length self.old.requests.items < self.old.requests.room }
-        ensures node { self.new ≡ node_working image.now R.riding K.carrying (rider_of_event R.riding (event_working image.now R.riding self.old) self.new) self.old }
-        ensures retired { result ≡ instr_of (event_working image.now R.riding self.old) }
-        ensures told { Tells C.told_local C.told_touch (event_working image.now R.riding self.old) (carry_after K.carrying self.old) clerk.old (rider_of_event R.riding (event_working image.now R.riding self.old) self.old) clerk.new (rider_of_event R.riding (event_working image.now R.riding self.old) self.new) }
-        ensures renewed { standing.new ≡ standing_of image.now self.new }
+    /// Whether there is a request of the core that the home can take.
+    pub(crate) fn has_free_head(&self, core: u8) -> bool
+        requires here { core < length self.now.state.nodes }
+        requires heads { HeadsFit self.now.state }
+        ensures { result ≡ head_free (node_at K.carrying self.now.state.nodes core).requests.items R.riding self.now.state.home }
     {
-        match standing.need {
-            Need::Local => Some(self.retire_local(image, standing, clerk)),
-            Need::Load { word } => self.try_access(image, word, Kind::Load, standing, clerk),
-            Need::Store { word, .. } => self.try_access(image, word, Kind::Store, standing, clerk),
-            Need::Done(_) => None,
+        match self.nodes[core as usize].requests.head() {
+            Some(mail) => self.home.is_free(mail.item.block()),
+            None => false,
         }
     }
 
-    /// The head of the messages from home is received. What was kept of the core and its cache is
-    /// renewed.
-    pub(crate) fn receive<C: Clerk<R, K>>(
-        &mut self,
-        image: &Image,
-        standing: &mut Standing,
-        clerk: &mut C,
-    ) -> Option<Instr>
-        requires stands { standing.old ≡ standing_of image.now self.old }
-        requires row { IsTrue (can_receive_in self.old.messages.items image.now R.riding K.carrying self.old) }
-        requires accepts { is_done (need image.now self.old.core) ≡ false → C.accepts clerk.old (next_instr self.old.core) }
-        requires room { length self.old.responses.items < self.old.responses.room }
-        ensures node { self.new ≡ node_receiving image.now R.riding K.carrying (rider_of_event R.riding (event_receiving image.now R.riding K.carrying self.old) self.new) self.old }
-        ensures retired { result ≡ instr_of (event_receiving image.now R.riding K.carrying self.old) }
-        ensures told { let taken = node_taken_in self.old.messages.items R.riding K.carrying self.old in Tells C.told_local C.told_touch (event_receiving image.now R.riding K.carrying self.old) (carry_after K.carrying taken) clerk.old (rider_of_event R.riding (event_receiving image.now R.riding K.carrying self.old) taken) clerk.new (rider_of_event R.riding (event_receiving image.now R.riding K.carrying self.old) self.new) }
-        ensures renewed { standing.new ≡ standing_of image.now self.new }
+    /// Whether there is a response of the core.
+    pub(crate) fn has_response(&self, core: u8) -> bool
+        requires { core < length self.now.state.nodes }
+        ensures { result ≡ not (is_nil (node_at K.carrying self.now.state.nodes core).responses.items) }
     {
-        let mail = self.messages.head()?;
-        let message = mail.item.open();
-        self.carry = self.carry.join(mail.carry);
-        if let Some(response) = self.cache.answer(message) {
-            let reply = self.responses.push_place();
-            reply.item.put(response);
-            reply.carry = self.carry;
-        }
-        let is_data = matches!(message, FromHome::BlockData { .. });
-        hear(&mut self.cache, message, &mut standing.waits);
-        self.messages.drop_head();
-        if is_data {
-            return self.retire_waiting(image, standing, clerk);
-        }
-        None
+        !self.nodes[core as usize].responses.is_empty()
     }
 
-    /// The instruction that retires next.
-    #[tactic(auto, using(rv_core::proofs::LawLemmas::room_law))]
-    fn next_instr(&self, image: &Image) -> Instr
-        requires more { is_done (need image.now self.now.core) ≡ false }
-        ensures { result ≡ next_instr self.now.core }
+    /// Whether there is a message from home to the core.
+    pub(crate) fn has_message(&self, core: u8) -> bool
+        requires { core < length self.now.state.nodes }
+        ensures { result ≡ not (is_nil (node_at K.carrying self.now.state.nodes core).messages.items) }
     {
-        prove!(self.core.count < self.core.limit);
-        Instr {
-            core: self.core.id(),
-            count: self.core.count() + 1,
-        }
+        !self.nodes[core as usize].messages.is_empty()
     }
 
-    /// A local instruction retires.
-    fn retire_local<C: Clerk<R, K>>(
-        &mut self,
-        image: &Image,
-        standing: &mut Standing,
-        clerk: &mut C,
-    ) -> Instr
-        requires stands { standing.old ≡ standing_of image.now self.old }
-        requires more { is_done (need image.now self.old.core) ≡ false }
-        requires accepts { C.accepts clerk.old (next_instr self.old.core) }
-        ensures node { self.new ≡ node_local image.now K.carrying self.old }
-        ensures retired { result ≡ next_instr self.old.core }
-        ensures told { C.told_local clerk.old (next_instr self.old.core) (carry_after K.carrying self.old) clerk.new }
-        ensures renewed { standing.new ≡ standing_of image.now self.new }
+    /// The image that the machine runs.
+    pub(crate) fn into_image(self) -> Image
+        ensures { result ≡ self.state.image }
     {
-        let at = self.next_instr(image);
-        let _value = self.core.finish_op(image, standing.op, 0);
-        standing.look_ahead(image, &self.core);
-        self.carry = self.carry.retire(at);
-        clerk.local(at, self.carry);
-        at
+        let Actors { image, .. } = self;
+        image
     }
 
-    /// An access that the cache allows retires.
-    fn retire_access<C: Clerk<R, K>>(
-        &mut self,
-        image: &Image,
-        word: u32,
-        kind: Kind,
-        standing: &mut Standing,
-        clerk: &mut C,
-    ) -> Instr
-        requires stands { standing.old ≡ standing_of image.now self.old }
-        requires more { is_done (need image.now self.old.core) ≡ false }
-        requires allowed { IsTrue (allows R.riding self.old word kind) }
-        requires accepts { C.accepts clerk.old (next_instr self.old.core) }
-        ensures node { self.new ≡ node_accessing image.now R.riding K.carrying (rider_at R.riding self.new word) self.old word kind }
-        ensures retired { result ≡ next_instr self.old.core }
-        ensures told { C.told_touch clerk.old (rider_at R.riding self.old word) (access_of image.now R.riding self.old word kind) (carry_after K.carrying self.old) clerk.new (rider_at R.riding self.new word) }
-        ensures renewed { standing.new ≡ standing_of image.now self.new }
+    /// How many cores there are.
+    pub(crate) fn cores(&self) -> u8
+        requires { length self.now.state.nodes ≤ CORES_MAX }
+        ensures { result ≡ length self.now.state.nodes }
+    {
+        self.nodes.len() as u8
+    }
+
+    /// A core.
+    pub(crate) fn core(&self, core: u8) -> &Core
+        requires { core < length self.now.state.nodes }
+        ensures { result.now ≡ (node_at K.carrying self.now.state.nodes core).core }
+    {
+        &self.nodes[core as usize].core
+    }
+
+    /// A word of the memory, by its index, once its block's words are at hand: the owner's where a cache
+    /// owns the block, else the home's.
+    pub(crate) fn final_word(&self, word: u32) -> u32
+        requires within { word / BLOCK_WORDS < length self.now.state.home }
+        requires at_hand { IsTrue (at_hand R.riding K.carrying self.now.state (word / BLOCK_WORDS)) }
+        ensures { result ≡ final_word R.riding K.carrying self.now.state word }
     {
         let block = word / BLOCK_WORDS as u32;
         let slot = (word % BLOCK_WORDS as u32) as u8;
-        let at = self.next_instr(image);
-        let before = self.cache.word(block, slot);
-        let after = self.core.finish_op(image, standing.op, before);
-        standing.look_ahead(image, &self.core);
-        self.carry = self.carry.retire(at);
-        if kind.is_write() {
-            self.cache.put_word(block, slot, after);
+        match self.home.owner(block) {
+            Some(owner) => self.nodes[owner as usize].cache.word(block, slot),
+            None => self.home.word(word),
         }
-        let access = Access {
-            at,
-            word,
-            kind,
-            before,
-            after,
+    }
+
+    /// Makes room in the home for the block of each request link's head, so that no move needs memory.
+    /// After want of memory some of these blocks may have got room, and all else is unchanged.
+    pub(crate) fn make_room(&mut self) -> Result<(), AllocError>
+        requires { HeadsFit self.old.state }
+        ensures state { self.new.state ≡ self.old.state }
+        ensures rooms { RoomsMade self.old.state.nodes self.old.rooms self.new.rooms }
+        ensures ok { OnOk result (heads_roomy self.new ≡ true) }
+    {
+        make_room_for_heads(&mut self.home, self.nodes.as_slice())
+    }
+
+    /// Whether the home has room for the block of each request link's head.
+    pub(crate) fn has_room(&self) -> bool
+        requires { HeadsFit self.now.state }
+        ensures { result ≡ heads_roomy self.now }
+    {
+        for node in &self.nodes {
+            if let Some(mail) = node.requests.head()
+                && !self.home.has_room(mail.item.block())
+            {
+                return false;
+            }
+        }
+        true
+    }
+}
+
+// Each kind of move.
+impl<R: Rider, K: Carry> Actors<R, K> {
+    #[tactic(auto, using(crate::proofs::Standings::node_stands))]
+    pub(crate) fn move_core<C: Clerk<R, K>>(
+        &mut self,
+        c: u8,
+        standing: &mut Standing,
+        clerk: &mut C,
+    ) -> Option<Instr>
+        requires stands { standing.old ≡ standing_of self.old.state.image (node_at K.carrying self.old.state.nodes c) }
+        requires enabled { IsTrue (enabled R.riding K.carrying self.old.state (Move.Core c)) }
+        requires ready { Ready R.riding K.carrying self.old.state }
+        requires accepts { AcceptsNext C.accepts clerk.old self.old.state }
+        ensures state { self.new.state ≡ step R.riding K.carrying (rider_left R.riding K.carrying self.old.state self.new.state (Move.Core c)) self.old.state (Move.Core c) }
+        ensures rooms { self.new.rooms ≡ self.old.rooms }
+        ensures retired { result ≡ instr_of (event R.riding K.carrying self.old.state (Move.Core c)) }
+        ensures told { TellsOf C.told_local C.told_touch R.riding K.carrying self.old.state self.new.state (Move.Core c) clerk.old clerk.new }
+        ensures renewed { standings_of self.new.state ≡ slice_set (standings_of self.old.state) c standing.new }
+    {
+        self.nodes[c as usize].work(&self.image, standing, clerk)
+    }
+
+    #[tactic(auto, using(crate::proofs::Standings::node_stands))]
+    pub(crate) fn take_message<C: Clerk<R, K>>(
+        &mut self,
+        c: u8,
+        standing: &mut Standing,
+        clerk: &mut C,
+    ) -> Option<Instr>
+        requires stands { standing.old ≡ standing_of self.old.state.image (node_at K.carrying self.old.state.nodes c) }
+        requires enabled { IsTrue (enabled R.riding K.carrying self.old.state (Move.FromHome c)) }
+        requires ready { Ready R.riding K.carrying self.old.state }
+        requires accepts { AcceptsNext C.accepts clerk.old self.old.state }
+        ensures state { self.new.state ≡ step R.riding K.carrying (rider_left R.riding K.carrying self.old.state self.new.state (Move.FromHome c)) self.old.state (Move.FromHome c) }
+        ensures rooms { self.new.rooms ≡ self.old.rooms }
+        ensures retired { result ≡ instr_of (event R.riding K.carrying self.old.state (Move.FromHome c)) }
+        ensures told { TellsOf C.told_local C.told_touch R.riding K.carrying self.old.state self.new.state (Move.FromHome c) clerk.old clerk.new }
+        ensures renewed { standings_of self.new.state ≡ slice_set (standings_of self.old.state) c standing.new }
+    {
+        self.nodes[c as usize].receive(&self.image, standing, clerk)
+    }
+
+    pub(crate) fn take_request(&mut self, c: u8)
+        requires cores { length self.old.state.nodes ≤ CORES_MAX }
+        requires here { c < length self.old.state.nodes }
+        requires names { NamesFit self.old.state }
+        requires row { IsTrue (can_request_in (node_at K.carrying self.old.state.nodes c).requests.items R.riding self.old.state c) }
+        requires room { HasRoomTo K.carrying (request_answer_in (node_at K.carrying self.old.state.nodes c).requests.items R.riding self.old.state c) self.old.state.nodes }
+        requires roomy { IsTrue (head_roomy (node_at K.carrying self.old.state.nodes c).requests.items self.old.rooms) }
+        ensures state { self.new.state ≡ request_moved R.riding K.carrying self.old.state c }
+        ensures rooms { self.new.rooms ≡ self.old.rooms }
+    {
+        let Some(mail) = self.nodes[c as usize].requests.head() else {
+            return;
         };
-        clerk.touched(access, self.cache.rider(block), self.carry);
-        at
+        let block = mail.item.block();
+        self.carry = self.carry.join(mail.carry);
+        let answer = serve(&mut self.home, c, &mail.item);
+        self.nodes[c as usize].requests.drop_head();
+        let rider = self.home.rider(block);
+        deliver(self.nodes.as_mut_slice(), answer, block, rider, self.carry);
     }
 
-    /// An access retires where the cache allows it, and else what it needs is asked for.
-    fn try_access<C: Clerk<R, K>>(
-        &mut self,
-        image: &Image,
-        word: u32,
-        kind: Kind,
-        standing: &mut Standing,
-        clerk: &mut C,
-    ) -> Option<Instr>
-        requires stands { standing.old ≡ standing_of image.now self.old }
-        requires more { is_done (need image.now self.old.core) ≡ false }
-        requires still { waits self.old.cache ≡ false }
-        requires accepts { C.accepts clerk.old (next_instr self.old.core) }
-        requires room { length self.old.requests.items < self.old.requests.room }
-        ensures node { self.new ≡ node_trying image.now R.riding K.carrying (rider_at R.riding self.new word) self.old word kind }
-        ensures retired { result ≡ instr_of (event_trying image.now R.riding self.old word kind) }
-        ensures told { Tells C.told_local C.told_touch (event_trying image.now R.riding self.old word kind) (carry_after K.carrying self.old) clerk.old (rider_at R.riding self.old word) clerk.new (rider_at R.riding self.new word) }
-        ensures renewed { standing.new ≡ standing_of image.now self.new }
+    pub(crate) fn take_response(&mut self, c: u8)
+        requires cores { length self.old.state.nodes ≤ CORES_MAX }
+        requires here { c < length self.old.state.nodes }
+        requires names { NamesFit self.old.state }
+        requires row { IsTrue (can_respond_in (node_at K.carrying self.old.state.nodes c).responses.items R.riding self.old.state c) }
+        requires room { HasRoomTo K.carrying (response_answer_in (node_at K.carrying self.old.state.nodes c).responses.items R.riding self.old.state c) self.old.state.nodes }
+        ensures state { self.new.state ≡ response_moved R.riding K.carrying self.old.state c }
+        ensures rooms { self.new.rooms ≡ self.old.rooms }
     {
-        let block = word / BLOCK_WORDS as u32;
-        if self.cache.allows(block, kind) {
-            return Some(self.retire_access(image, word, kind, standing, clerk));
-        }
-        let mail = self.requests.push_place();
-        mail.item.put(self.cache.wanted(block, kind));
-        mail.carry = self.carry;
-        self.cache.ask(block, kind);
-        standing.waits = true;
-        None
+        let Some(mail) = self.nodes[c as usize].responses.head() else {
+            return;
+        };
+        let block = mail.item.block();
+        self.carry = self.carry.join(mail.carry);
+        let answer = collect(&mut self.home, c, &mail.item);
+        self.nodes[c as usize].responses.drop_head();
+        let rider = self.home.rider(block);
+        deliver(self.nodes.as_mut_slice(), answer, block, rider, self.carry);
     }
+}
 
-    /// The access that the core needs retires.
-    fn retire_waiting<C: Clerk<R, K>>(
-        &mut self,
-        image: &Image,
-        standing: &mut Standing,
-        clerk: &mut C,
-    ) -> Option<Instr>
-        requires stands { standing.old ≡ standing_of image.now self.old }
-        requires ready { IsTrue (may_access (need image.now self.old.core) R.riding self.old) }
-        requires accepts { C.accepts clerk.old (next_instr self.old.core) }
-        ensures node { self.new ≡ node_working image.now R.riding K.carrying (rider_of_event R.riding (event_working image.now R.riding self.old) self.new) self.old }
-        ensures retired { result ≡ instr_of (event_working image.now R.riding self.old) }
-        ensures told { Tells C.told_local C.told_touch (event_working image.now R.riding self.old) (carry_after K.carrying self.old) clerk.old (rider_of_event R.riding (event_working image.now R.riding self.old) self.old) clerk.new (rider_of_event R.riding (event_working image.now R.riding self.old) self.new) }
-        ensures renewed { standing.new ≡ standing_of image.now self.new }
-    {
-        match standing.need {
-            Need::Load { word } => {
-                Some(self.retire_access(image, word, Kind::Load, standing, clerk))
-            }
-            Need::Store { word, .. } => {
-                Some(self.retire_access(image, word, Kind::Store, standing, clerk))
-            }
-            _ => None,
+/// The home takes the request that lies here. The rider that goes with the answer is its block's.
+fn serve<R: Rider>(home: &mut Home<R>, from: u8, request: &RequestSlot<R>) -> HomeAnswer<()>
+    requires from { from < CORES_MAX }
+    requires within { request_block request.now < length home.old.entries }
+    requires room { IsTrue (has_room home.old.rooms (request_block request.now)) }
+    requires row { IsTrue (has_request_row (entry_at R.riding.fresh home.old.entries (request_block request.now)).stage from request.now) }
+    ensures entries { home.new ≡ record home.old { entries = entries_after_request R.riding home.old.entries from request.now } }
+    ensures answer { answer_riding (entry_at R.riding.fresh home.new.entries (request_block request.now)).rider result ≡ answer_to_request R.riding.absorbed (entry_at R.riding.fresh home.old.entries (request_block request.now)) from request.now }
+{
+    home.serve(from, request.open())
+}
+
+/// The home takes the response that lies here. The rider that goes with the answer is its block's.
+fn collect<R: Rider>(home: &mut Home<R>, from: u8, response: &ResponseSlot<R>) -> HomeAnswer<()>
+    requires from { from < CORES_MAX }
+    requires within { response_block response.now < length home.old.entries }
+    requires row { IsTrue (has_response_row (entry_at R.riding.fresh home.old.entries (response_block response.now)).stage from response.now) }
+    ensures entries { home.new ≡ record home.old { entries = entries_after_response R.riding home.old.entries from response.now } }
+    ensures answer { answer_riding (entry_at R.riding.fresh home.new.entries (response_block response.now)).rider result ≡ answer_to_response R.riding.absorbed (entry_at R.riding.fresh home.old.entries (response_block response.now)) from response.now }
+{
+    home.collect(from, response.open())
+}
+
+/// Makes room for the block of each request link's head.
+#[tactic(auto, using(crate::proofs::Roomy::making_none, crate::proofs::Roomy::making_one, crate::proofs::Roomy::making_same))]
+fn make_room_for_heads<R: Rider, K: Carry>(
+    home: &mut Home<R>,
+    nodes: &[Node<R, K>],
+) -> Result<(), AllocError>
+    requires { All (λ n. IsTrue (head_within n.requests.items (length home.old.entries))) nodes.now }
+    ensures entries { home.new.entries ≡ home.old.entries }
+    ensures rooms { RoomsMade nodes.now home.old.rooms home.new.rooms }
+    ensures ok { OnOk result (are_heads_roomy nodes.now home.new.rooms ≡ true) }
+{
+    for node in nodes {
+        if let Some(mail) = node.requests.head() {
+            home.make_room(mail.item.block())?;
         }
     }
+    Ok(())
 }

@@ -7,16 +7,16 @@
 //! of a run, so only the machine above, which keeps that, is to call it.
 #![tactic(auto)]
 
-mod acting;
 mod actors;
-mod machine_parts;
 mod move_list;
 mod moves;
-mod needs;
+mod node;
+mod parts;
 mod sending;
+mod standing;
 #[cfg(test)]
 mod tests;
 
-pub use actors::{Mail, Node};
-pub use machine_parts::{Parts, Stepped};
 pub use moves::Move;
+pub use node::{Mail, Node};
+pub use parts::{Parts, Stepped};

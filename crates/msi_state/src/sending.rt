@@ -7,7 +7,7 @@ ghost use Rattle.msi_state.specs.Nodes.{pushed};
 ghost use Rattle.msi_state.specs.Ready.{HasRoomIn, HasRoomTo};
 ghost use Rattle.msi_state.specs.Steps.{delivered, nodes_told};
 
-use crate::actors::{Mail, Node};
+use crate::node::{Mail, Node};
 use access_times::{Carry, Rider};
 use link_order::Link;
 use msi_cache::{FromHome, FromHomeSlot};

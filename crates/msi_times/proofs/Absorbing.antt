@@ -3,17 +3,16 @@ use Rattle.std.proofs.Common.{◌≡◌, ◌∙◌, ap, refl, sym, ℕ, ◌<◌,
 use Rattle.std.specs.Prelude.{map, reverse}
 use Rattle.std.proofs.lemmas.Bool.Decides.{nat_tests}
 use Rattle.access_times.specs.Riding.{Carrying}
-use Rattle.access_times.specs.declared.TheConstants.{BLOCK_WORDS}
-use Rattle.rtr_types.specs.declared.TheConstants.{CORES_MAX}
+use Rattle.rtr_types.specs.declared.TheConstants.{BLOCK_WORDS, CORES_MAX}
 use Rattle.msi_cache.specs.Lines.{line_for}
 use Rattle.msi_cache.specs.Messages.{block_of, request_block, response_block}
 use Rattle.msi_cache.specs.Table.{Signal, Ask, Reply}
-use Rattle.msi_cache.specs.declared.copies.Line.{Line}
+use Rattle.msi_cache.specs.declared.line.Line.{Line}
 use Rattle.msi_cache.specs.declared.messages.FromHome.{FromHome}
 use Rattle.msi_cache.specs.declared.messages.Request.{Request}
 use Rattle.msi_cache.specs.declared.messages.Response.{Response}
 use Rattle.msi_directory.specs.Blocks.{entry_at}
-use Rattle.msi_directory.specs.declared.entries.Entry.{Entry}
+use Rattle.msi_directory.specs.declared.entry.Entry.{Entry}
 use Rattle.msi_protocol.specs.Copies.{line_counts, sent_counts, reply_counts}
 use Rattle.msi_protocol.specs.Phases.{role, role_in, picture}
 use Rattle.msi_progress.proofs.Rested.{core_below, enabled_there}
@@ -21,8 +20,8 @@ use Rattle.msi_sound.proofs.Blocks.{eqb_same}
 use Rattle.msi_state.specs.Sights.{cons_if}
 use Rattle.msi_state.specs.States.{node_at}
 use Rattle.msi_state.specs.Steps.{enabled_at}
-use Rattle.msi_state.specs.declared.actors.Mail.{Mail}
-use Rattle.msi_state.specs.declared.actors.Node.{Node}
+use Rattle.msi_state.specs.declared.node.Mail.{Mail}
+use Rattle.msi_state.specs.declared.node.Node.{Node}
 use Rattle.msi_state.specs.declared.moves.Move.TheVariants.{Core as CoreMove, Request as RequestMove, Response as ResponseMove, FromHome as MessageMove}
 use Rattle.msi_times.proofs.Shown.{shown_asked, shown_replied}
 use Rattle.msi_times.proofs.StandsFor.{messages_cons}
@@ -30,7 +29,7 @@ use Rattle.msi_times.proofs.Timed.{receives_well}
 use Rattle.msi_times.specs.Absorbing.{request_meets, response_meets, message_meets, request_meets_in, response_meets_in, message_meets_in, MeetAlike}
 use Rattle.msi_times.specs.History.{NotedAccess}
 use Rattle.msi_times.specs.NodeSights.{of_block, line_if, node_sight}
-use Rattle.msi_times.specs.Retirements.{noted}
+use Rattle.msi_times.specs.Retirements.{noted_accesses}
 use Rattle.msi_times.specs.Seats.{Seat, FullBlock, home_counts, put_counts}
 use Rattle.msi_times.specs.Shown.{Payload, Sight, ask_with, reply_with, signal_with, line_with, entry_with}
 use Rattle.msi_times.specs.StandsFor.{TimesParts, StandsFor}
@@ -113,7 +112,7 @@ module _ {R K : Type 0} where
       by [] is met = absurd cc
       by (mail ∷ rest) is met =
           let b : ℕ = request_block mail.item in
-          request_alike parts (noted (reverse list)) b (entry_at parts.riding.fresh s.home b) (λ d. node_sight parts.riding b (node_at carrying s.nodes d)) c mail.item (of_block request_block b rest) x y lc
+          request_alike parts (noted_accesses (reverse list)) b (entry_at parts.riding.fresh s.home b) (λ d. node_sight parts.riding b (node_at carrying s.nodes d)) c mail.item (of_block request_block b rest) x y lc
           (ap (of_block request_block b) is ∙ ap (λ (t : Bool). cons_if t mail.item (of_block request_block b rest)) (eqb_same b)) (f.all.blocks b) met slot ls
   meet_alike parts carrying list s (ResponseMove c) p e f x y met slot ls = by (node_at carrying s.nodes c).responses.items refl met
     where
@@ -124,7 +123,7 @@ module _ {R K : Type 0} where
       by [] is met = absurd cc
       by (mail ∷ rest) is met =
           let b : ℕ = response_block mail.item in
-          response_alike parts (noted (reverse list)) b (entry_at parts.riding.fresh s.home b) (λ d. node_sight parts.riding b (node_at carrying s.nodes d)) c mail.item (of_block response_block b rest) x y lc
+          response_alike parts (noted_accesses (reverse list)) b (entry_at parts.riding.fresh s.home b) (λ d. node_sight parts.riding b (node_at carrying s.nodes d)) c mail.item (of_block response_block b rest) x y lc
           (ap (of_block response_block b) is ∙ ap (λ (t : Bool). cons_if t mail.item (of_block response_block b rest)) (eqb_same b)) (f.all.blocks b) met slot ls
   meet_alike parts carrying list s (MessageMove c) p e f x y met slot ls = by (node_at carrying s.nodes c).messages.items refl met
     where
@@ -141,6 +140,6 @@ module _ {R K : Type 0} where
           let l : Line R = line_for parts.riding.fresh n.cache b in
           let fits = receives_well parts carrying s c mail rest p e is in
           let holds : (l.block == b) ≡ true = rw fits.0 (eqb_same b) in
-          message_alike parts (noted (reverse list)) b (entry_at parts.riding.fresh s.home b) (λ d. node_sight parts.riding b (node_at carrying s.nodes d)) c mail.item (of_block block_of b rest) x y lc
+          message_alike parts (noted_accesses (reverse list)) b (entry_at parts.riding.fresh s.home b) (λ d. node_sight parts.riding b (node_at carrying s.nodes d)) c mail.item (of_block block_of b rest) x y lc
           (ap (of_block block_of b) is ∙ ap (λ (t : Bool). cons_if t mail.item (of_block block_of b rest)) (eqb_same b)) (f.all.blocks b)
           (ap (λ (t : Bool). message_meets (line_if t b l) mail.item) holds ∙ met) slot ls

@@ -8,17 +8,17 @@ use Rattle.access_times.specs.Riding.{Riding, Carrying}
 use Rattle.image_mem.specs.Contents.{Contents}
 use Rattle.rv_core.proofs.LawLemmas.{start_law}
 use Rattle.msi_cache.specs.Lines.{empty_line, line_for}
-use Rattle.msi_cache.specs.declared.copies.Line.{Line}
-use Rattle.msi_cache.specs.declared.copies.State.TheVariants.{I}
-use Rattle.msi_cache.specs.declared.copies.TheConstants.{LINES}
+use Rattle.msi_cache.specs.declared.line.Line.{Line}
+use Rattle.msi_cache.specs.declared.line.State.TheVariants.{I}
+use Rattle.msi_cache.specs.declared.line.TheConstants.{LINES}
 use Rattle.msi_directory.proofs.Openings.{openings_counted}
 use Rattle.msi_directory.specs.Blocks.{block_count, entry_at, no_entry, opening_entry, opening_entries}
-use Rattle.msi_directory.specs.declared.entries.Entry.{Entry}
-use Rattle.msi_directory.specs.declared.entries.Stage.TheVariants.{Unshared}
+use Rattle.msi_directory.specs.declared.entry.Entry.{Entry}
+use Rattle.msi_directory.specs.declared.entry.Stage.TheVariants.{Unshared}
 use Rattle.msi_sound.proofs.Blocks.{le_or_lt}
 use Rattle.msi_state.proofs.Start.{node_start_at}
 use Rattle.msi_state.specs.States.{node_at, no_node, node_start, state_start}
-use Rattle.msi_state.specs.declared.actors.Node.{Node}
+use Rattle.msi_state.specs.declared.node.Node.{Node}
 use Rattle.msi_times.proofs.StandsFor.{IsFresh, for_start, same_sights}
 use Rattle.msi_times.specs.NodeSights.{line_here, line_if, node_sight}
 use Rattle.msi_times.specs.Retirements.{StandsAfter}

@@ -4,13 +4,12 @@ use Rattle.std.specs.Prelude.{if◌then◌else◌, slice_set}
 use Rattle.std.proofs.lemmas.Bool.Decides.{nat_tests}
 use Rattle.std.proofs.lemmas.List.{length-set}
 use Rattle.access_times.specs.Riding.{Riding, Carrying}
-use Rattle.access_times.specs.declared.TheConstants.{BLOCK_WORDS}
-use Rattle.clock_core.specs.declared.vector_clock.Clock.{Clock}
+use Rattle.rtr_types.specs.declared.TheConstants.{BLOCK_WORDS, CORES_MAX}
+use Rattle.clock_core.specs.declared.clock.Clock.{Clock}
 use Rattle.image_mem.specs.Contents.{Contents}
-use Rattle.rtr_types.specs.declared.TheConstants.{CORES_MAX}
-use Rattle.rtr_types.specs.declared.accesses.Access.{Access}
-use Rattle.rtr_types.specs.declared.accesses.Kind.TheVariants.{Load as IsLoad, Store as IsStore}
-use Rattle.rtr_types.specs.declared.nodes.Instr.{Instr}
+use Rattle.rtr_types.specs.declared.access.Access.{Access}
+use Rattle.rtr_types.specs.declared.access.Kind.TheVariants.{Load as IsLoad, Store as IsStore}
+use Rattle.rtr_types.specs.declared.instr.Instr.{Instr}
 use Rattle.rv_core.specs.Steps.{need}
 use Rattle.rv_core.specs.declared.core_state.Need.{Need}
 use Rattle.rv_core.specs.declared.core_state.Need.TheVariants.{Local, Load as NeedsLoad, Store as NeedsStore, Done}
@@ -20,13 +19,13 @@ use Rattle.msi_cache.specs.declared.messages.Response.{Response}
 use Rattle.msi_sound.proofs.Views.{node_at-set}
 use Rattle.msi_state.specs.Nodes.{Event, Nothing, Retires, Accesses, allows, access_of, node_accessing, node_asking, node_working, event_working, node_working_in, event_working_in, node_taking, node_answering, answer_to, is_data, node_receiving_mail, event_receiving_mail}
 use Rattle.msi_state.specs.States.{State, node_at}
-use Rattle.msi_state.specs.declared.actors.Mail.{Mail}
-use Rattle.msi_state.specs.declared.actors.Node.{Node}
+use Rattle.msi_state.specs.declared.node.Mail.{Mail}
+use Rattle.msi_state.specs.declared.node.Node.{Node}
 use Rattle.msi_times.proofs.Follows.{Follows}
 use Rattle.msi_times.proofs.NodeSteps.{all_set}
-use Rattle.msi_times.specs.History.{NotedAccess, core_of, rank, last_read, read_after}
+use Rattle.msi_times.specs.History.{NotedAccess, core_of, rank, last_noted_read, read_after}
 use Rattle.msi_times.specs.NodeSights.{AllStandFor}
-use Rattle.msi_times.specs.Retirements.{Retirement, noted, noted_by, retired_by, AreInOrder, IsAccessOf, StandsAfter, after_event, noted_after}
+use Rattle.msi_times.specs.Retirements.{Retirement, noted_accesses, noted_by, retired_by, AreInOrder, IsAccessOf, StandsAfter, after_event, noted_after}
 use Rattle.msi_times.specs.StandsFor.{TimesParts}
 
 -- ---- the last reads are no later than what retired
@@ -43,9 +42,9 @@ retired_own r h c e = grind (arith, nat_tests)
 retired_other : (r : Retirement) (h : List Retirement) (c : ℕ) → r.at.core ≢ c → retired_by (r ∷ h) c ≡ retired_by h c
 retired_other r h c n = grind (arith, nat_tests)
 
-rank_next : (r : Retirement) (h : List Retirement) (w c : ℕ) (o : Option Access) → r.at.count ≡ retired_by h r.at.core + 1 → IsAccessOf o r.at → rank (last_read (noted h) w c) ≤ retired_by h c → rank (last_read (noted_by o r.clock (noted h)) w c) ≤ retired_by (r ∷ h) c
+rank_next : (r : Retirement) (h : List Retirement) (w c : ℕ) (o : Option Access) → r.at.count ≡ retired_by h r.at.core + 1 → IsAccessOf o r.at → rank (last_noted_read (noted_accesses h) w c) ≤ retired_by h c → rank (last_noted_read (noted_by o r.clock (noted_accesses h)) w c) ≤ retired_by (r ∷ h) c
 rank_next r h w c None count is before = let more = retired_more r h c in omega arith
-rank_next r h w c (Some a) count is before = elim (rank_after (record { access = a; clock = r.clock }) w c (last_read (noted h) w c)) [
+rank_next r h w c (Some a) count is before = elim (rank_after (record { access = a; clock = r.clock }) w c (last_noted_read (noted_accesses h) w c)) [
   | inl le ↦ let more = retired_more r h c in omega arith
   | inr q ↦
       let core : c ≡ r.at.core = q.0 ∙ ap (λ (i : Instr). i.core) is in
@@ -55,7 +54,7 @@ rank_next r h w c (Some a) count is before = elim (rank_after (record { access =
       omega arith
 ]
 
-pub rank_retired : (h : List Retirement) (w c : ℕ) → AreInOrder h → rank (last_read (noted h) w c) ≤ retired_by h c
+pub rank_retired : (h : List Retirement) (w c : ℕ) → AreInOrder h → rank (last_noted_read (noted_accesses h) w c) ≤ retired_by h c
 rank_retired [] w c order = omega arith
 rank_retired (r ∷ h) w c order = rank_next r h w c r.access order.0.count order.0.access (rank_retired h w c order.1)
 
@@ -67,7 +66,7 @@ IsCounted Nothing id old new = new ≡ old
 IsCounted (Retires at) id old new = (at.core ≡ id) × (at.count ≡ old + 1) × (new ≡ old + 1)
 IsCounted (Accesses a) id old new = (a.at.core ≡ id) × (a.at.count ≡ old + 1) × (new ≡ old + 1)
 
-noted_event : (e : Event) (clock : Clock) (h : List Retirement) → noted_after e clock (noted h) ≡ noted (after_event e clock h)
+noted_event : (e : Event) (clock : Clock) (h : List Retirement) → noted_after e clock (noted_accesses h) ≡ noted_accesses (after_event e clock h)
 noted_event Nothing clock h = refl
 noted_event (Retires at) clock h = refl
 noted_event (Accesses a) clock h = refl
@@ -107,10 +106,10 @@ module _ {R K : Type 0} where
   -- ---- the whole state
 
   -- a node is another: the machine stands for the retirements after the event
-  pub machine_set : (parts : TimesParts R) (carrying : Carrying K) (h : List Retirement) (s : State R K) (c : ℕ) (m : Node R K) (e : Event) (clock : Clock) → c < CORES_MAX → c < length s.nodes → (node_at carrying s.nodes c).core.id ≡ c → Follows parts c (noted h) (noted_after e clock (noted h)) (node_at carrying s.nodes c) m → CountedAfter (node_at carrying s.nodes c) m e → StandsAfter parts carrying h s → StandsAfter parts carrying (after_event e clock h) (record s { nodes = slice_set s.nodes c m })
+  pub machine_set : (parts : TimesParts R) (carrying : Carrying K) (h : List Retirement) (s : State R K) (c : ℕ) (m : Node R K) (e : Event) (clock : Clock) → c < CORES_MAX → c < length s.nodes → (node_at carrying s.nodes c).core.id ≡ c → Follows parts c (noted_accesses h) (noted_after e clock (noted_accesses h)) (node_at carrying s.nodes c) m → CountedAfter (node_at carrying s.nodes c) m e → StandsAfter parts carrying h s → StandsAfter parts carrying (after_event e clock h) (record s { nodes = slice_set s.nodes c m })
   machine_set parts carrying h s c m e clock below lc id follows counted f =
       record {
-        all = subst (λ (k : List NotedAccess). AllStandFor parts carrying k (record s { nodes = slice_set s.nodes c m })) (noted_event e clock h) (all_set parts carrying (noted h) (noted_after e clock (noted h)) s c m lc follows f.all);
+        all = subst (λ (k : List NotedAccess). AllStandFor parts carrying k (record s { nodes = slice_set s.nodes c m })) (noted_event e clock h) (all_set parts carrying (noted_accesses h) (noted_after e clock (noted_accesses h)) s c m lc follows f.all);
         counts = λ d ld. ap (λ (n : Node R K). n.core.count) (node_at-set carrying s.nodes c m d lc) ∙ by_count d (rw length-set at ld) (d == c) refl;
         order = ordered e counted;
       }

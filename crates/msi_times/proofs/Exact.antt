@@ -3,14 +3,14 @@ use Rattle.std.proofs.Common.{◌≡◌, ◌≢◌, ◌∙◌, ◌⊎◌, inl, i
 use Rattle.rtr_types.specs.declared.TheConstants.{CORES_MAX}
 use Rattle.std.proofs.lemmas.Bool.Decides.{nat_tests}
 use Rattle.msi_directory.specs.Table.{is_free}
-use Rattle.msi_directory.specs.declared.entries.Stage.{Stage}
-use Rattle.rtr_types.specs.declared.accesses.Kind.{Kind}
+use Rattle.msi_directory.specs.declared.entry.Stage.{Stage}
+use Rattle.rtr_types.specs.declared.access.Kind.{Kind}
 use Rattle.msi_cache.specs.Table.{Signal, Ask, Reply}
 use Rattle.msi_protocol.specs.Block.{Wish}
 use Rattle.msi_protocol.specs.Phases.{Phase, role, role_in, picture}
 use Rattle.msi_times.specs.Seats.{Seat, seat_accessed, reads_in, writes_in, FullBlock, seat_if, main, main_of, main_in, main_at, place, count_at, own_count, requested, responded, messaged, wishing, accessing, PhasesFit, HoldersHave, Found, is_main, is_away}
 use Rattle.msi_protocol.specs.Copies.{line_counts}
-use Rattle.msi_times.specs.History.{NotedAccess, core_of, read_after, last_read, rank, WordTimes, AbsorbsWell, HasNoted, IsPast, read_rank, Exact, IsExactFor, allows, MayAccess}
+use Rattle.msi_times.specs.History.{NotedAccess, core_of, read_after, last_noted_read, rank, WordTimes, AbsorbsWell, HasNoted, IsPast, read_rank, Exact, IsExactFor, allows, MayAccess}
 use Rattle.rtr_types.specs.Accesses.{is_write}
 use Rattle.msi_times.proofs.Found.{main_core, at_core, found_in, found_request, found_response, found_message, found_wish}
 use Rattle.msi_times.proofs.Past.{absorbed_past, absorbed_grows, noted_past, others_past, read_cases}
@@ -21,7 +21,7 @@ exact_request t well h word c a rest b lc free asks e =
     record {
       stands = stands_request t.absorbed c a rest b lc free asks e.stands;
       holders = has_request (IsPast t h word) t.absorbed (absorbed_past t well h word) c a rest b lc free asks e.stands e.holders;
-      found = λ d ld. found_request (IsPast t h word) t.absorbed (read_rank t d) (absorbed_grows t well h word d ld) (rank (last_read h word d)) d c a rest b lc ld free asks e.stands e.holders (e.found d ld);
+      found = λ d ld. found_request (IsPast t h word) t.absorbed (read_rank t d) (absorbed_grows t well h word d ld) (rank (last_noted_read h word d)) d c a rest b lc ld free asks e.stands e.holders (e.found d ld);
     }
 
 pub exact_response : {X : Type 0} (t : WordTimes X) → AbsorbsWell t → (h : List NotedAccess) (word c : ℕ) (a : Reply) (rest : List Reply) (b : FullBlock X) → c < CORES_MAX → (picture (b.seats c).phase).responses ≡ a ∷ rest → Exact t h word b → Exact t h word (responded t.absorbed c a b)
@@ -29,7 +29,7 @@ exact_response t well h word c a rest b lc asks e =
     record {
       stands = stands_response t.absorbed c a rest b lc asks e.stands;
       holders = has_response (IsPast t h word) t.absorbed (absorbed_past t well h word) c a rest b lc asks e.stands e.holders;
-      found = λ d ld. found_response (IsPast t h word) t.absorbed (read_rank t d) (absorbed_grows t well h word d ld) (rank (last_read h word d)) d c a rest b lc ld asks e.stands e.holders (e.found d ld);
+      found = λ d ld. found_response (IsPast t h word) t.absorbed (read_rank t d) (absorbed_grows t well h word d ld) (rank (last_noted_read h word d)) d c a rest b lc ld asks e.stands e.holders (e.found d ld);
     }
 
 pub exact_message : {X : Type 0} (t : WordTimes X) → AbsorbsWell t → (h : List NotedAccess) (word c : ℕ) (m : Signal) (rest : List Signal) (b : FullBlock X) → c < CORES_MAX → (picture (b.seats c).phase).messages ≡ m ∷ rest → Exact t h word b → Exact t h word (messaged t.absorbed c b)
@@ -37,7 +37,7 @@ exact_message t well h word c m rest b lc asks e =
     record {
       stands = stands_message t.absorbed c m rest b asks e.stands;
       holders = has_message (IsPast t h word) t.absorbed (absorbed_past t well h word) c b e.holders;
-      found = λ d ld. found_message (IsPast t h word) t.absorbed (read_rank t d) (absorbed_grows t well h word d ld) (rank (last_read h word d)) d c m rest b lc ld asks e.stands e.holders (e.found d ld);
+      found = λ d ld. found_message (IsPast t h word) t.absorbed (read_rank t d) (absorbed_grows t well h word d ld) (rank (last_noted_read h word d)) d c m rest b lc ld asks e.stands e.holders (e.found d ld);
     }
 
 pub exact_wish : {X : Type 0} (t : WordTimes X) (h : List NotedAccess) (word c : ℕ) (w : Wish) (b : FullBlock X) → Exact t h word b → Exact t h word (wishing c w b)
@@ -45,7 +45,7 @@ exact_wish t h word c w b e =
     record {
       stands = stands_wish c w b e.stands;
       holders = has_wish (IsPast t h word) c w b e.holders;
-      found = λ d ld. found_wish (read_rank t d) (rank (last_read h word d)) d c w b (e.found d ld);
+      found = λ d ld. found_wish (read_rank t d) (rank (last_noted_read h word d)) d c w b (e.found d ld);
     }
 
 -- ---- an access
@@ -112,7 +112,7 @@ exact_access {X} t h word n line b may noted e =
     record {
       stands = stands_access c line b e.stands;
       holders = by (is_write n.access.kind) refl;
-      found = λ d ld. found d ld (read_cases n word d (t.read s.line d) (last_read h word d));
+      found = λ d ld. found d ld (read_cases n word d (t.read s.line d) (last_noted_read h word d));
     }
   where
     c : ℕ
@@ -134,13 +134,13 @@ exact_access {X} t h word n line b may noted e =
     by true w = has_store (IsPast t (n ∷ h) word) c line b may.core (allows_write n.access.kind s.phase may.allowed w) new e.stands
     by false w = has_load (IsPast t h word) (IsPast t (n ∷ h) word) c line b reads (λ (x : X) (p : IsPast t h word x). others_past t n h word x w may.later p) new e.holders
 
-    found : (d : ℕ) → d < CORES_MAX → (rank (last_read (n ∷ h) word d) ≡ 0) ⊎ (((rank (last_read (n ∷ h) word d) ≡ rank (last_read h word d)) × (rank (read_after n word d (t.read s.line d)) ≡ rank (t.read s.line d))) ⊎ ((d ≡ c) × (rank (read_after n word d (t.read s.line d)) ≡ rank (last_read (n ∷ h) word d)))) → Found (read_rank t d) (rank (last_read (n ∷ h) word d)) d (accessing c line b)
+    found : (d : ℕ) → d < CORES_MAX → (rank (last_noted_read (n ∷ h) word d) ≡ 0) ⊎ (((rank (last_noted_read (n ∷ h) word d) ≡ rank (last_noted_read h word d)) × (rank (read_after n word d (t.read s.line d)) ≡ rank (t.read s.line d))) ⊎ ((d ≡ c) × (rank (read_after n word d (t.read s.line d)) ≡ rank (last_noted_read (n ∷ h) word d)))) → Found (read_rank t d) (rank (last_noted_read (n ∷ h) word d)) d (accessing c line b)
     found d ld (inl none) lt = absurd (omega arith)
     found d ld (inr (inl same)) lt =
         let k = ap rank (noted.read d ld) ∙ same.1 in
-        subst (λ (m : ℕ). Found (read_rank t d) m d (accessing c line b)) (sym same.0) (found_still (read_rank t d) (rank (last_read h word d)) d c line b k (e.found d ld)) lt
+        subst (λ (m : ℕ). Found (read_rank t d) m d (accessing c line b)) (sym same.0) (found_still (read_rank t d) (rank (last_noted_read h word d)) d c line b k (e.found d ld)) lt
     found d ld (inr (inr mine)) lt =
-        let k : read_rank t d line ≡ rank (last_read (n ∷ h) word d) = ap rank (noted.read d ld) ∙ mine.1 in
+        let k : read_rank t d line ≡ rank (last_noted_read (n ∷ h) word d) = ap rank (noted.read d ld) ∙ mine.1 in
         let at_c : Found (read_rank t d) (read_rank t d line) c (accessing c line b) = found_mine (read_rank t d) c line b may.core reads e.stands in
         subst (λ (m : ℕ). Found (read_rank t d) m d (accessing c line b)) k (subst (λ (x : ℕ). Found (read_rank t d) (read_rank t d line) x (accessing c line b)) (sym mine.0) at_c) lt
 
@@ -172,9 +172,9 @@ exact_for {X} t h word c k b lc may e = record { write = past.write; reads = rea
         (λ (q : d ≡ c). let u = b.seats d in writer_place (read_rank t d) u.phase u.line u.reply (ap (λ (x : ℕ). writes_in (b.seats x).phase) q ∙ writes))
         (λ (q : d ≢ c). let u = b.seats d in away_place (read_rank t d) u.phase u.line u.reply (ap is_away (e.stands.roles d ld) ∙ writer_away b.stage c d s.phase q writes (e.stands.roles c lc)))
 
-    reads : is_write k ≡ true → (d : ℕ) → d < CORES_MAX → t.read s.line d ≡ last_read h word d
+    reads : is_write k ≡ true → (d : ℕ) → d < CORES_MAX → t.read s.line d ≡ last_noted_read h word d
     reads w d ld =
         let writes = allows_write k s.phase may w in
         let m = ap (read_rank t d) (writer_main b.stage c b.home b.seats writes (e.stands.roles c lc)) in
-        let le = not_behind (read_rank t d (main b)) (rank (last_read h word d)) (own_count (read_rank t d) (b.seats d)) (e.found d ld) (own writes d ld) in
-        (past.reads d ld).same (subst (λ (x : ℕ). rank (last_read h word d) ≤ x) m le)
+        let le = not_behind (read_rank t d (main b)) (rank (last_noted_read h word d)) (own_count (read_rank t d) (b.seats d)) (e.found d ld) (own writes d ld) in
+        (past.reads d ld).same (subst (λ (x : ℕ). rank (last_noted_read h word d) ≤ x) m le)

@@ -1,28 +1,27 @@
 -- What a node's moves make each block stand for.
 use Rattle.std.proofs.Common.{◌≡◌, ◌≢◌, ◌∙◌, ap, refl, sym, subst, ℕ, ◌+◌, ◌<◌, ◌≤◌, ◌==◌, ◌%◌, ◌/◌, Bool, true, false, List, ◌∷◌, length, arith, inl, inr, ◌⊎◌}
 use Rattle.image_mem.specs.Contents.{Contents}
-use Rattle.msi_cache.specs.declared.copies.TheConstants.{LINES}
-use Rattle.rtr_types.specs.declared.TheConstants.{CORES_MAX}
-use Rattle.access_times.specs.declared.TheConstants.{BLOCK_WORDS}
+use Rattle.msi_cache.specs.declared.line.TheConstants.{LINES}
+use Rattle.rtr_types.specs.declared.TheConstants.{BLOCK_WORDS, CORES_MAX}
 use Rattle.std.specs.Prelude.{if◌then◌else◌, slice_index_or}
 use Rattle.std.proofs.lemmas.Bool.{cases_eq}
 use Rattle.std.proofs.lemmas.Bool.Decides.{nat_tests}
 use Rattle.access_times.specs.Riding.{Carrying}
-use Rattle.rtr_types.specs.declared.accesses.Kind.{Kind}
-use Rattle.rtr_types.specs.declared.accesses.Access.{Access}
-use Rattle.msi_cache.specs.declared.copies.Line.{Line}
-use Rattle.msi_cache.specs.declared.copies.State.TheVariants.{I}
+use Rattle.rtr_types.specs.declared.access.Kind.{Kind}
+use Rattle.rtr_types.specs.declared.access.Access.{Access}
+use Rattle.msi_cache.specs.declared.line.Line.{Line}
+use Rattle.msi_cache.specs.declared.line.State.TheVariants.{I}
 use Rattle.msi_cache.specs.declared.messages.FromHome.{FromHome}
 use Rattle.msi_cache.specs.Messages.{block_of, request_block}
 use Rattle.msi_cache.specs.Lines.{line_for, asks, is_allowed, empty_line}
 use Rattle.msi_cache.specs.Table.{is_transient}
-use Rattle.msi_directory.specs.declared.entries.Entry.{Entry}
-use Rattle.msi_state.specs.declared.actors.Mail.{Mail}
-use Rattle.msi_state.specs.declared.actors.Node.{Node}
+use Rattle.msi_directory.specs.declared.entry.Entry.{Entry}
+use Rattle.msi_state.specs.declared.node.Mail.{Mail}
+use Rattle.msi_state.specs.declared.node.Node.{Node}
 use Rattle.msi_state.specs.Nodes.{node_asking, node_accessing, access_of, rider_at}
 use Rattle.msi_times.specs.Shown.{Payload, Sight, sight_received, sight_asking, sight_accessed}
-use Rattle.msi_times.specs.History.{NotedAccess, core_of, rank, last_read, HasNoted}
-use Rattle.msi_times.specs.StandsFor.{TimesParts, slot_times, word_at, AbsorbsAll, sight_at, StandsFor}
+use Rattle.msi_times.specs.History.{NotedAccess, core_of, rank, last_noted_read, HasNoted}
+use Rattle.msi_times.specs.StandsFor.{TimesParts, slot_times, word_number, AbsorbsAll, sight_at, StandsFor}
 use Rattle.msi_times.proofs.StandsFor.{for_message, for_wish, for_access, for_elsewhere, same_sights}
 use Rattle.msi_times.proofs.Relined.{SameSight, alike_sights}
 use Rattle.msi_state.specs.Sights.{cons_if}
@@ -57,7 +56,7 @@ pub record Follows {R K : Type 0} (parts : TimesParts R) (c : ℕ) (h k : List N
 
 -- the rider is the old one with the access noted, in each slot
 abbrev pub NotesAll : {R : Type 0} → TimesParts R → NotedAccess → ℕ → Payload R → Payload R → Type 0
-NotesAll parts n b old new = (slot : ℕ) → slot < BLOCK_WORDS → HasNoted (slot_times parts slot) n (word_at b slot) old new
+NotesAll parts n b old new = (slot : ℕ) → slot < BLOCK_WORDS → HasNoted (slot_times parts slot) n (word_number b slot) old new
 
 module _ {R K : Type 0} where
   pub follows_trans : (parts : TimesParts R) (c : ℕ) (h k j : List NotedAccess) (n m p : Node R K) → Follows parts c h k n m → Follows parts c k j m p → Follows parts c h j n p
@@ -131,7 +130,7 @@ module _ {R K : Type 0} where
 
   -- an access of the node's core, noted with a clock
   pub follows_access : (image : Contents) (parts : TimesParts R) (carrying : Carrying K) (c : ℕ) (h : List NotedAccess) (n : Node R K) (word : ℕ) (kind : Kind) (rider : R) (noted : NotedAccess) → c < CORES_MAX → length n.cache ≡ LINES → n.core.id ≡ c → is_allowed (line_for parts.riding.fresh n.cache (word / BLOCK_WORDS)) (word / BLOCK_WORDS) kind ≡ true → noted.access ≡ access_of image parts.riding n word kind
-      → ((w : ℕ) → rank (last_read h w c) ≤ n.core.count)
+      → ((w : ℕ) → rank (last_noted_read h w c) ≤ n.core.count)
       → NotesAll parts noted (word / BLOCK_WORDS) (record { words = (line_for parts.riding.fresh n.cache (word / BLOCK_WORDS)).words; rider = rider_at parts.riding n word }) (record { words = words_left kind (line_for parts.riding.fresh n.cache (word / BLOCK_WORDS)) (access_of image parts.riding n word kind); rider = rider })
       → Follows parts c h (noted ∷ h) n (node_accessing image parts.riding carrying rider n word kind)
   follows_access image parts carrying c h n word kind rider noted lc long id allowed is counts notes = record { each = λ b entry sights shows s. by b entry sights shows s (cases_eq b k) }
@@ -184,14 +183,14 @@ module _ {R K : Type 0} where
           allowed' : is_allowed (sights (core_of noted)).line k noted.access.kind ≡ true
           allowed' = ap (λ (x : Line R). is_allowed x k noted.access.kind) line ∙ (ap (λ (x : Kind). is_allowed l k x) kind_is ∙ allowed)
 
-          later : (slot : ℕ) → slot < BLOCK_WORDS → rank (last_read h (word_at k slot) (core_of noted)) < noted.access.at.count
+          later : (slot : ℕ) → slot < BLOCK_WORDS → rank (last_noted_read h (word_number k slot) (core_of noted)) < noted.access.at.count
           later slot ls =
-              let up = counts (word_at k slot) in
+              let up = counts (word_number k slot) in
               let count : noted.access.at.count ≡ n.core.count + 1 = ap (λ (x : Access). x.at.count) is in
-              subst (λ (x : ℕ). rank (last_read h (word_at k slot) x) < noted.access.at.count) (sym core) (omega arith)
+              subst (λ (x : ℕ). rank (last_noted_read h (word_number k slot) x) < noted.access.at.count) (sym core) (omega arith)
 
           moved : StandsFor parts (noted ∷ h) k entry (sight_at (core_of noted) (sight_accessed words rider (sights (core_of noted))) sights)
-          moved = for_access parts h k noted words rider entry sights (rw core lc) allowed' later (λ slot ls. subst (λ (x : Payload R). HasNoted (slot_times parts slot) noted (word_at k slot) x (record { words = words; rider = rider })) (sym payload) (notes slot ls)) s
+          moved = for_access parts h k noted words rider entry sights (rw core lc) allowed' later (λ slot ls. subst (λ (x : Payload R). HasNoted (slot_times parts slot) noted (word_number k slot) x (record { words = words; rider = rider })) (sym payload) (notes slot ls)) s
 
           e : sight_accessed words rider (sights (core_of noted)) ≡ node_sight parts.riding k m
           e = ap (λ (x : Sight R). sight_accessed words rider x) at_core ∙ ap (λ (x : Line R). (let y : Sight R = record (node_sight parts.riding k n) { line = x } in y)) (sym new_line)

@@ -2,7 +2,7 @@
 use Rattle.std.proofs.Common.{◌≡◌, ℕ, true, IsTrue, List, ◌∷◌, arith}
 use Rattle.std.proofs.lemmas.Bool.Decides.{nat_tests}
 use Rattle.rtr_types.specs.CoreSets.{has}
-use Rattle.msi_directory.specs.declared.entries.Stage.{Stage}
+use Rattle.msi_directory.specs.declared.entry.Stage.{Stage}
 use Rattle.msi_directory.specs.Table.{is_free}
 use Rattle.msi_cache.specs.Table.{Ask, Reply}
 use Rattle.msi_protocol.specs.Block.{Wish, request_step}

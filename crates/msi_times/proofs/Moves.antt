@@ -3,7 +3,7 @@ use Rattle.std.proofs.Common.{◌≡◌, ◌≢◌, ◌∙◌, ap, sym, subst, �
 use Rattle.rtr_types.specs.declared.TheConstants.{CORES_MAX}
 use Rattle.std.proofs.lemmas.Bool.Decides.{nat_tests}
 use Rattle.msi_directory.specs.Table.{is_free}
-use Rattle.msi_directory.specs.declared.entries.Stage.{Stage}
+use Rattle.msi_directory.specs.declared.entry.Stage.{Stage}
 use Rattle.msi_cache.specs.Table.{Signal, Ask, Reply}
 use Rattle.msi_protocol.specs.Block.{Wish, request_step, response_step}
 use Rattle.msi_protocol.specs.Phases.{Phase, role, role_in, picture}

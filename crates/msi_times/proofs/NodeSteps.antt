@@ -1,39 +1,38 @@
 -- What a move of the machine makes it stand for.
 use Rattle.std.proofs.Common.{◌≡◌, ◌≢◌, ◌∙◌, ap, refl, sym, subst, ℕ, ◌<◌, ◌≤◌, ◌==◌, ◌%◌, ◌/◌, Bool, true, false, List, [], ◌∷◌, length, Option, None, arith}
 use Rattle.image_mem.specs.Contents.{Contents}
-use Rattle.msi_cache.specs.declared.copies.TheConstants.{LINES}
-use Rattle.rtr_types.specs.declared.TheConstants.{CORES_MAX}
-use Rattle.access_times.specs.declared.TheConstants.{BLOCK_WORDS}
+use Rattle.msi_cache.specs.declared.line.TheConstants.{LINES}
+use Rattle.rtr_types.specs.declared.TheConstants.{BLOCK_WORDS, CORES_MAX}
 use Rattle.std.specs.Prelude.{if◌then◌else◌, slice_set}
 use Rattle.std.proofs.lemmas.List.{length-set}
 use Rattle.std.proofs.lemmas.Bool.Decides.{nat_tests}
 use Rattle.access_times.specs.Riding.{Riding, Carrying}
-use Rattle.rtr_types.specs.declared.accesses.Kind.{Kind}
-use Rattle.rtr_types.specs.declared.accesses.Kind.TheVariants.{Load as IsLoad, Store as IsStore}
+use Rattle.rtr_types.specs.declared.access.Kind.{Kind}
+use Rattle.rtr_types.specs.declared.access.Kind.TheVariants.{Load as IsLoad, Store as IsStore}
 use Rattle.rv_core.specs.declared.core_state.Need.TheVariants.{Local, Load as NeedsLoad, Store as NeedsStore, Done}
-use Rattle.rtr_types.specs.declared.accesses.Access.{Access}
-use Rattle.msi_cache.specs.declared.copies.Line.{Line}
+use Rattle.rtr_types.specs.declared.access.Access.{Access}
+use Rattle.msi_cache.specs.declared.line.Line.{Line}
 use Rattle.msi_cache.specs.declared.messages.FromHome.{FromHome}
 use Rattle.msi_cache.specs.declared.messages.Response.{Response}
 use Rattle.msi_cache.specs.Table.{is_transient}
 use Rattle.msi_cache.specs.Messages.{block_of}
 use Rattle.msi_cache.specs.Lines.{line_for, line_after, answer, is_allowed}
-use Rattle.msi_directory.specs.declared.entries.Entry.{Entry}
+use Rattle.msi_directory.specs.declared.entry.Entry.{Entry}
 use Rattle.msi_directory.specs.Blocks.{entry_at}
-use Rattle.msi_state.specs.declared.actors.Mail.{Mail}
-use Rattle.msi_state.specs.declared.actors.Node.{Node}
+use Rattle.msi_state.specs.declared.node.Mail.{Mail}
+use Rattle.msi_state.specs.declared.node.Node.{Node}
 use Rattle.rv_core.specs.declared.core_state.Need.{Need}
 use Rattle.msi_times.specs.Shown.{Sight}
 use Rattle.rv_core.specs.Steps.{need}
 use Rattle.msi_state.specs.States.{State, node_at}
 use Rattle.msi_state.specs.Nodes.{Nothing, Accesses, allows, access_of, rider_at, node_accessing, node_asking, node_local, node_trying, event_trying, node_working_in, event_working_in, node_working, event_working, node_taking, node_answering, answer_to, is_data, node_receiving_mail, event_receiving_mail}
-use Rattle.clock_core.specs.declared.vector_clock.Clock.{Clock}
-use Rattle.msi_times.specs.History.{NotedAccess, rank, last_read, IsExactFor}
-use Rattle.msi_times.specs.StandsFor.{TimesParts, slot_times, word_at, AbsorbsAll, sight_at, StandsFor}
+use Rattle.clock_core.specs.declared.clock.Clock.{Clock}
+use Rattle.msi_times.specs.History.{NotedAccess, rank, last_noted_read, IsExactFor}
+use Rattle.msi_times.specs.StandsFor.{TimesParts, slot_times, word_number, AbsorbsAll, sight_at, StandsFor}
 use Rattle.msi_times.proofs.StandsFor.{same_sights, finds}
 use Rattle.msi_times.specs.NodeSights.{line_if, node_sight, AllStandFor}
 use Rattle.msi_times.specs.Retirements.{noted_after, RiderNotes}
-use Rattle.msi_cache.specs.declared.copies.State.TheVariants.{I}
+use Rattle.msi_cache.specs.declared.line.State.TheVariants.{I}
 use Rattle.msi_sound.proofs.Views.{node_at-set}
 use Rattle.msi_times.proofs.Nodes.{node_received, words_left}
 use Rattle.msi_times.proofs.Follows.{Follows, NotesAll, follows_trans, follows_same, follows_received, follows_asking, follows_access}
@@ -62,7 +61,7 @@ module _ {R K : Type 0} where
     pub below : c < CORES_MAX
     pub all_lines : length n.cache ≡ LINES
     pub id : n.core.id ≡ c
-    pub counts : (w : ℕ) → rank (last_read h w c) ≤ n.core.count
+    pub counts : (w : ℕ) → rank (last_noted_read h w c) ≤ n.core.count
 
   trying_follows : (image : Contents) (parts : TimesParts R) (carrying : Carrying K) (c : ℕ) (h : List NotedAccess) (n : Node R K) (word : ℕ) (kind : Kind) (rider : R) (clock : Clock) → NodeReady parts c h n → (allows parts.riding n word kind ≡ false → MayAsk parts n word) →
       ((a : Access) → event_trying image parts.riding n word kind ≡ Accesses a → RiderNotes parts (record { access = a; clock = clock }) (rider_at parts.riding n word) rider) →
@@ -148,7 +147,7 @@ module _ {R K : Type 0} where
       l : Line R
       l = line_for parts.riding.fresh n.cache (word / BLOCK_WORDS)
 
-      word_is : word_at (word / BLOCK_WORDS) (word % BLOCK_WORDS) ≡ word
+      word_is : word_number (word / BLOCK_WORDS) (word % BLOCK_WORDS) ≡ word
       word_is = omega arith
 
       at : l.block ≡ word / BLOCK_WORDS

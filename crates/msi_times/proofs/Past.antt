@@ -2,10 +2,10 @@
 use Rattle.std.proofs.Common.{◌≡◌, ◌∙◌, ◌⊎◌, ap, sym, subst, ℕ, ◌<◌, ◌≤◌, false, Option, List, ◌∷◌, arith}
 use Rattle.rtr_types.specs.declared.TheConstants.{CORES_MAX}
 use Rattle.std.proofs.lemmas.Bool.Decides.{nat_tests}
-use Rattle.rtr_types.specs.declared.nodes.Instr.{Instr}
+use Rattle.rtr_types.specs.declared.instr.Instr.{Instr}
 use Rattle.msi_times.proofs.Newest.{Grows}
-use Rattle.clock_core.specs.declared.vector_clock.Clock.{Clock}
-use Rattle.msi_times.specs.History.{NotedAccess, core_of, write_after, read_after, last_write, last_read, rank, WordTimes, AbsorbsWell, HasNoted, FitsLast, IsPast, read_rank}
+use Rattle.clock_core.specs.declared.clock.Clock.{Clock}
+use Rattle.msi_times.specs.History.{NotedAccess, core_of, write_after, read_after, last_noted_write, last_noted_read, rank, WordTimes, AbsorbsWell, HasNoted, FitsLast, IsPast, read_rank}
 use Rattle.rtr_types.specs.Accesses.{is_write}
 use Rattle.access_times.specs.Times.{newer_read}
 
@@ -29,7 +29,7 @@ absorbed_past t well h word x y p q =
     let e : t.write x ≡ t.write y = p.write ∙ sym q.write in
     record {
       write = well.write x y e ∙ p.write;
-      reads = λ d ld. rw (well.read x y d ld e) (newer_fits (t.read x d) (t.read y d) (last_read h word d) (p.reads d ld) (q.reads d ld));
+      reads = λ d ld. rw (well.read x y d ld e) (newer_fits (t.read x d) (t.read y d) (last_noted_read h word d) (p.reads d ld) (q.reads d ld));
     }
 
 pub absorbed_grows : {X : Type 0} (t : WordTimes X) → AbsorbsWell t → (h : List NotedAccess) (word d : ℕ) → d < CORES_MAX → Grows (IsPast t h word) t.absorbed (read_rank t d)
@@ -52,7 +52,7 @@ pub noted_past : {X : Type 0} (t : WordTimes X) (n : NotedAccess) (h : List Note
 noted_past t n h word x y noted p =
     record {
       write = noted.write ∙ ap (write_after n word) p.write;
-      reads = λ d ld. let f = p.reads d ld in rw (noted.read d ld) (record { below = after_below n word d (t.read x d) (last_read h word d) f.below; same = λ le. after_same n word d (t.read x d) (last_read h word d) f.same le });
+      reads = λ d ld. let f = p.reads d ld in rw (noted.read d ld) (record { below = after_below n word d (t.read x d) (last_noted_read h word d) f.below; same = λ le. after_same n word d (t.read x d) (last_noted_read h word d) f.same le });
     }
 
 -- the others after a load
@@ -65,14 +65,14 @@ load_same n word d read last load later below same le = grind (arith, nat_tests)
 load_write : (n : NotedAccess) (word : ℕ) (old : Option (Instr × Clock)) → is_write n.access.kind ≡ false → write_after n word old ≡ old
 load_write n word old load = grind (arith, nat_tests)
 
-pub others_past : {X : Type 0} (t : WordTimes X) (n : NotedAccess) (h : List NotedAccess) (word : ℕ) (x : X) → is_write n.access.kind ≡ false → rank (last_read h word (core_of n)) < n.access.at.count → IsPast t h word x → IsPast t (n ∷ h) word x
+pub others_past : {X : Type 0} (t : WordTimes X) (n : NotedAccess) (h : List NotedAccess) (word : ℕ) (x : X) → is_write n.access.kind ≡ false → rank (last_noted_read h word (core_of n)) < n.access.at.count → IsPast t h word x → IsPast t (n ∷ h) word x
 others_past t n h word x load later p =
     record {
-      write = p.write ∙ sym (load_write n word (last_write h word) load);
+      write = p.write ∙ sym (load_write n word (last_noted_write h word) load);
       reads = λ d ld.
           let f = p.reads d ld in
-          let at : d ≡ core_of n → rank (last_read h word d) < n.access.at.count = λ (e : d ≡ core_of n). subst (λ (c : ℕ). rank (last_read h word c) < n.access.at.count) (sym e) later in
-          record { below = load_below n word d (t.read x d) (last_read h word d) load at f.below; same = λ le. load_same n word d (t.read x d) (last_read h word d) load at f.below f.same le };
+          let at : d ≡ core_of n → rank (last_noted_read h word d) < n.access.at.count = λ (e : d ≡ core_of n). subst (λ (c : ℕ). rank (last_noted_read h word c) < n.access.at.count) (sym e) later in
+          record { below = load_below n word d (t.read x d) (last_noted_read h word d) load at f.below; same = λ le. load_same n word d (t.read x d) (last_noted_read h word d) load at f.below f.same le };
     }
 
 -- the counts of a core's last read, and in the rider that the access is noted in

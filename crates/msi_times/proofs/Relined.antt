@@ -2,21 +2,21 @@
 use Rattle.std.proofs.Common.{◌≡◌, ◌≢◌, ◌∙◌, inl, ap, refl, sym, subst, ℕ, ◌<◌, Bool, true, false, List, arith}
 use Rattle.rtr_types.specs.declared.TheConstants.{CORES_MAX}
 use Rattle.std.proofs.lemmas.Bool.Decides.{nat_tests}
-use Rattle.msi_cache.specs.declared.copies.Line.{Line}
-use Rattle.msi_cache.specs.declared.copies.State.{State}
-use Rattle.msi_cache.specs.declared.copies.State.TheVariants.{I}
-use Rattle.msi_directory.specs.declared.entries.Entry.{Entry}
-use Rattle.msi_directory.specs.declared.entries.Stage.{Stage}
-use Rattle.msi_directory.specs.declared.entries.Stage.TheVariants.{Unshared, Shared, Owned, Acks, Data}
+use Rattle.msi_cache.specs.declared.line.Line.{Line}
+use Rattle.msi_cache.specs.declared.line.State.{State}
+use Rattle.msi_cache.specs.declared.line.State.TheVariants.{I}
+use Rattle.msi_directory.specs.declared.entry.Entry.{Entry}
+use Rattle.msi_directory.specs.declared.entry.Stage.{Stage}
+use Rattle.msi_directory.specs.declared.entry.Stage.TheVariants.{Unshared, Shared, Owned, Acks, Data}
 use Rattle.msi_cache.specs.declared.messages.FromHome.{FromHome}
 use Rattle.msi_cache.specs.declared.messages.Response.{Response}
 use Rattle.msi_cache.specs.declared.messages.Request.{Request}
 use Rattle.msi_protocol.specs.Phases.{Phase, role, role_in, picture}
 use Rattle.msi_times.specs.Seats.{Seat, put_counts, main_in, main_of, main_at, place, count_at, own_count, FullBlock, main, is_main}
 use Rattle.msi_protocol.specs.Copies.{line_counts}
-use Rattle.msi_times.specs.History.{NotedAccess, WordTimes, IsPast, read_rank, rank, last_read, Exact}
+use Rattle.msi_times.specs.History.{NotedAccess, WordTimes, IsPast, read_rank, rank, last_noted_read, Exact}
 use Rattle.msi_times.specs.Shown.{Payload, Sight, shown}
-use Rattle.msi_times.specs.StandsFor.{TimesParts, slot_times, word_at, StandsFor}
+use Rattle.msi_times.specs.StandsFor.{TimesParts, slot_times, word_number, StandsFor}
 use Rattle.msi_times.proofs.Found.{main_below, found_in}
 
 pub relined_counts : (p : Phase) → line_counts p ≡ true → (picture p).line ≢ I
@@ -67,7 +67,7 @@ exact_relined {X} t h word b lines same e =
               put = λ counts. q.put counts ∙ sym (same d ld (relined_counts s.phase (put_line s.phase counts)));
             };
       };
-      found = λ d ld. found_in (read_rank t d) (rank (last_read h word d)) (main b) (main (relined lines b)) (b.seats d) ((relined lines b).seats d) (let k = ap (read_rank t d) main_same in omega arith) (inl (let k = own_same d ld (is_invalid (picture (b.seats d).phase).line) refl in omega arith)) (e.found d ld);
+      found = λ d ld. found_in (read_rank t d) (rank (last_noted_read h word d)) (main b) (main (relined lines b)) (b.seats d) ((relined lines b).seats d) (let k = ap (read_rank t d) main_same in omega arith) (inl (let k = own_same d ld (is_invalid (picture (b.seats d).phase).line) refl in omega arith)) (e.found d ld);
     }
   where
     own_same : (d : ℕ) → d < CORES_MAX → (k : Bool) → is_invalid (picture (b.seats d).phase).line ≡ k → own_count (read_rank t d) ((relined lines b).seats d) ≡ own_count (read_rank t d) (b.seats d)
@@ -100,7 +100,7 @@ module _ {R : Type 0} where
         block = relined (λ d. payload_of (w d).line) f.block;
         entry_is = f.entry_is;
         shows = λ d ld. at d (f.block.seats d) (f.shows d ld) (alike d ld);
-        exact = λ slot ls. exact_relined (slot_times parts slot) h (word_at b slot) f.block (λ d. payload_of (w d).line) (λ d ld valid. ap payload_of (sym ((alike d ld).payload (λ (e : (v d).line.state ≡ I). valid (ap (λ (x : Sight R). x.line.state) (f.shows d ld) ∙ e))) ∙ ap (λ (x : Sight R). x.line) (sym (f.shows d ld)))) (f.exact slot ls);
+        exact = λ slot ls. exact_relined (slot_times parts slot) h (word_number b slot) f.block (λ d. payload_of (w d).line) (λ d ld valid. ap payload_of (sym ((alike d ld).payload (λ (e : (v d).line.state ≡ I). valid (ap (λ (x : Sight R). x.line.state) (f.shows d ld) ∙ e))) ∙ ap (λ (x : Sight R). x.line) (sym (f.shows d ld)))) (f.exact slot ls);
       }
     where
       at : (d : ℕ) (s : Seat (Payload R)) → shown b s ≡ v d → SameSight (v d) (w d) → shown b (record s { line = payload_of (w d).line }) ≡ w d

@@ -5,12 +5,12 @@ use Rattle.rtr_types.specs.declared.TheConstants.{CORES_MAX}
 use Rattle.std.proofs.lemmas.Bool.Decides.{nat_tests}
 use Rattle.access_times.specs.Riding.{Riding, Carrying}
 use Rattle.rtr_types.specs.CoreSets.{no_cores}
-use Rattle.msi_cache.specs.declared.copies.State.TheVariants.{I}
+use Rattle.msi_cache.specs.declared.line.State.TheVariants.{I}
 use Rattle.msi_cache.specs.declared.messages.FromHome.{FromHome}
 use Rattle.msi_cache.specs.declared.messages.Request.{Request}
 use Rattle.msi_cache.specs.declared.messages.Response.{Response}
 use Rattle.msi_cache.specs.Messages.{block_of, request_block, response_block}
-use Rattle.msi_directory.specs.declared.entries.Entry.{Entry}
+use Rattle.msi_directory.specs.declared.entry.Entry.{Entry}
 use Rattle.msi_directory.specs.Blocks.{entry_at}
 use Rattle.msi_protocol.specs.Phases.{Phase, Role, Out, role, role_in, picture, StageFits}
 use Rattle.msi_protocol.specs.Block.{view}

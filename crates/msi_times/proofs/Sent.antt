@@ -10,9 +10,9 @@ use Rattle.msi_protocol.proofs.Members.{has-no_cores}
 use Rattle.msi_cache.specs.declared.messages.FromHome.{FromHome}
 use Rattle.msi_cache.specs.declared.messages.FromHome.TheVariants.{Inv}
 use Rattle.msi_cache.specs.Messages.{block_of}
-use Rattle.msi_directory.specs.declared.entries.HomeAnswer.{HomeAnswer}
-use Rattle.msi_state.specs.declared.actors.Mail.{Mail}
-use Rattle.msi_state.specs.declared.actors.Node.{Node}
+use Rattle.msi_directory.specs.declared.entry.HomeAnswer.{HomeAnswer}
+use Rattle.msi_state.specs.declared.node.Mail.{Mail}
+use Rattle.msi_state.specs.declared.node.Node.{Node}
 use Rattle.msi_state.specs.States.{node_at}
 use Rattle.msi_state.specs.Steps.{node_sent, delivered, delivered_in}
 use Rattle.msi_times.specs.Shown.{Sight, sight_told_if, sight_sent, sight_answered}

@@ -7,14 +7,14 @@ use Rattle.std.specs.Prelude.{map}
 use Rattle.std.proofs.lemmas.Bool.Decides.{nat_tests}
 use Rattle.access_times.specs.Riding.{Riding}
 use Rattle.rtr_types.specs.declared.core_set.CoreSet.{CoreSet}
-use Rattle.rtr_types.specs.declared.accesses.Kind.{Kind}
+use Rattle.rtr_types.specs.declared.access.Kind.{Kind}
 use Rattle.rtr_types.specs.CoreSets.{has, without_core, is_none}
 use Rattle.msi_cache.specs.declared.messages.FromHome.{FromHome}
 use Rattle.msi_cache.specs.declared.messages.Response.{Response}
 use Rattle.msi_cache.specs.declared.messages.Request.{Request}
 use Rattle.msi_cache.specs.Lines.{asks, is_allowed}
 use Rattle.msi_cache.specs.Table.{is_transient, Ask, Reply}
-use Rattle.msi_directory.specs.declared.entries.Entry.{Entry}
+use Rattle.msi_directory.specs.declared.entry.Entry.{Entry}
 use Rattle.msi_directory.specs.Table.{is_free}
 use Rattle.rtr_types.proofs.Members.{has-with_same, has-with_other, has-without_same, has-without_other, has-none}
 use Rattle.msi_protocol.proofs.Members.{has-no_cores}
@@ -22,7 +22,7 @@ use Rattle.msi_protocol.specs.Block.{has_reply_row}
 use Rattle.msi_protocol.specs.Phases.{role, role_in, picture, StageFits}
 use Rattle.msi_times.specs.Seats.{Seat, FullBlock, seat_received, seat_wished, home_requested, seat_own, seat_other, home_responded, seat_answered, seat_others, requested, responded, seat_accessed}
 use Rattle.msi_times.specs.Shown.{Payload, payload_absorbed, ask_with, reply_with, line_with, shown, entry_with, sight_received, sight_asking, after_request_at, after_response_at, wish_in, sight_accessed}
-use Rattle.msi_cache.specs.declared.copies.State.TheVariants.{I}
+use Rattle.msi_cache.specs.declared.line.State.TheVariants.{I}
 use Rattle.msi_times.specs.History.{allows}
 
 module _ {R : Type 0} where

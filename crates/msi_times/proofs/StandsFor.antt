@@ -2,35 +2,34 @@
 use Rattle.std.proofs.Common.{◌≡◌, ◌≢◌, ◌∙◌, ◌⊎◌, inl, inr, ap, refl, sym, subst, ℕ, ◌/◌, ◌<◌, ◌==◌, true, false, Option, None, List, [], ◌∷◌, arith}
 use Rattle.rtr_types.specs.Accesses.{is_write}
 use Rattle.msi_directory.specs.Entries.{entry_after_request, entry_after_response}
-use Rattle.rtr_types.specs.declared.TheConstants.{CORES_MAX}
-use Rattle.access_times.specs.declared.TheConstants.{BLOCK_WORDS}
+use Rattle.rtr_types.specs.declared.TheConstants.{BLOCK_WORDS, CORES_MAX}
 use Rattle.std.specs.Prelude.{map}
 use Rattle.std.proofs.lemmas.Bool.{cases_eq}
 use Rattle.std.proofs.lemmas.Bool.Decides.{nat_tests}
 use Rattle.access_times.specs.Riding.{Riding}
-use Rattle.rtr_types.specs.declared.accesses.Kind.{Kind}
-use Rattle.msi_cache.specs.declared.copies.Line.{Line}
-use Rattle.msi_cache.specs.declared.copies.State.{State}
-use Rattle.msi_cache.specs.declared.copies.State.TheVariants.{I}
+use Rattle.rtr_types.specs.declared.access.Kind.{Kind}
+use Rattle.msi_cache.specs.declared.line.Line.{Line}
+use Rattle.msi_cache.specs.declared.line.State.{State}
+use Rattle.msi_cache.specs.declared.line.State.TheVariants.{I}
 use Rattle.msi_cache.specs.declared.messages.FromHome.{FromHome}
 use Rattle.msi_cache.specs.declared.messages.Response.{Response}
 use Rattle.msi_cache.specs.declared.messages.Request.{Request}
 use Rattle.msi_cache.specs.Table.{Signal, is_transient, Ask, Reply}
 use Rattle.msi_cache.specs.Lines.{is_allowed}
-use Rattle.msi_directory.specs.declared.entries.Entry.{Entry}
+use Rattle.msi_directory.specs.declared.entry.Entry.{Entry}
 use Rattle.msi_directory.specs.Table.{is_free}
-use Rattle.msi_directory.specs.declared.entries.Stage.{Stage}
+use Rattle.msi_directory.specs.declared.entry.Stage.{Stage}
 use Rattle.msi_protocol.specs.Block.{Wish, View, view}
 use Rattle.msi_protocol.specs.Phases.{Phase, Idle, picture}
 use Rattle.msi_protocol.specs.NextPhases.{after_other, after_others_response}
 use Rattle.msi_protocol.proofs.Keeps.{response_has_row}
 use Rattle.msi_times.specs.Seats.{Seat, FullBlock, seat_if, requested, responded, messaged, wishing, accessing, seat_own, seat_other, seat_answered, seat_others, seat_received, seat_wished, seat_accessed, home_requested, home_responded, sent_served, PhasesFit, Found}
-use Rattle.msi_directory.specs.declared.entries.Stage.TheVariants.{Unshared}
+use Rattle.msi_directory.specs.declared.entry.Stage.TheVariants.{Unshared}
 use Rattle.msi_times.proofs.Moves.{still_has}
-use Rattle.clock_core.specs.declared.vector_clock.Clock.{Clock}
-use Rattle.msi_times.specs.History.{WordTimes, IsPast, FitsLast, read_rank, NotedAccess, core_of, rank, last_read, last_write, HasNoted, Exact, IsExactFor, allows}
+use Rattle.clock_core.specs.declared.clock.Clock.{Clock}
+use Rattle.msi_times.specs.History.{WordTimes, IsPast, FitsLast, read_rank, NotedAccess, core_of, rank, last_noted_read, last_noted_write, HasNoted, Exact, IsExactFor, allows}
 use Rattle.msi_times.specs.Shown.{Payload, payload_absorbed, ask_with, reply_with, signal_with, Sight, line_with, shown, entry_with, sight_received, sight_asking, sight_accessed, after_request_at, after_response_at, wish_in}
-use Rattle.msi_times.specs.StandsFor.{TimesParts, slot_times, word_at, AbsorbsAll, sight_at, StandsFor}
+use Rattle.msi_times.specs.StandsFor.{TimesParts, slot_times, word_number, AbsorbsAll, sight_at, StandsFor}
 use Rattle.msi_times.proofs.Found.{at_core}
 use Rattle.msi_times.proofs.Exact.{exact_request, exact_response, exact_message, exact_wish, exact_access, exact_for}
 use Rattle.msi_times.proofs.Shown.{shown_received, shown_asked, shown_own, shown_entry, shown_other, shown_replied, shown_responder, shown_response_entry, shown_others, shown_wish, shown_allows}
@@ -48,7 +47,7 @@ module _ {R : Type 0} where
   response_cong riding b c d e f q r qs rs v w ef qr qrs vw =
       ap (λ (x : Entry R). after_response_at riding x b c q qs d v) ef ∙ ap (λ (x : Response R). after_response_at riding f b c x qs d v) (sym qr) ∙ ap (λ (x : List (Response R)). after_response_at riding f b c r x d v) (sym qrs) ∙ ap (λ (x : Sight R). after_response_at riding f b c r rs d x) vw
 
-  pub some_slot : (parts : TimesParts R) (h : List NotedAccess) (b : ℕ) (block : FullBlock (Payload R)) → ((slot : ℕ) → slot < BLOCK_WORDS → Exact (slot_times parts slot) h (word_at b slot) block) → PhasesFit block
+  pub some_slot : (parts : TimesParts R) (h : List NotedAccess) (b : ℕ) (block : FullBlock (Payload R)) → ((slot : ℕ) → slot < BLOCK_WORDS → Exact (slot_times parts slot) h (word_number b slot) block) → PhasesFit block
   some_slot parts h b block exact = (exact 0 (omega arith)).stands
 
   pub for_request : (parts : TimesParts R) → AbsorbsAll parts → (h : List NotedAccess) (b : ℕ) (entry : Entry R) (sights : ℕ → Sight R) (c : ℕ) (request : Request R) (rest : List (Request R)) → c < CORES_MAX → is_free entry.stage ≡ true → (sights c).requests ≡ request ∷ rest → StandsFor parts h b entry sights
@@ -63,7 +62,7 @@ module _ {R : Type 0} where
         block = requested (payload_absorbed parts.riding) c q.0 bl;
         entry_is = sym (shown_entry parts.riding b c q.0 q.1 bl free' q.2 (st.roles c lc)) ∙ ap (λ (e : Entry R). (entry_after_request parts.riding.absorbed e c (ask_with b s.put q.0))) f.entry_is ∙ ap (λ (r : Request R). (entry_after_request parts.riding.absorbed entry c r)) (sym q.3);
         shows = λ d ld. seen f.block f.entry_is f.shows q.0 q.1 q.2 q.3 q.4 free' st d ld;
-        exact = λ slot ls. exact_request (slot_times parts slot) (well slot ls) h (word_at b slot) c q.0 q.1 bl lc free' q.2 (f.exact slot ls);
+        exact = λ slot ls. exact_request (slot_times parts slot) (well slot ls) h (word_number b slot) c q.0 q.1 bl lc free' q.2 (f.exact slot ls);
       }
     where
       seen : (bl : FullBlock (Payload R)) → entry_with bl ≡ entry → ((d : ℕ) → d < CORES_MAX → shown b (bl.seats d) ≡ sights d) → (a : Ask) (more : List Ask) → (picture (bl.seats c).phase).requests ≡ a ∷ more → request ≡ ask_with b (bl.seats c).put a → rest ≡ map (ask_with b (bl.seats c).put) more → is_free bl.stage ≡ true → PhasesFit bl →
@@ -90,7 +89,7 @@ module _ {R : Type 0} where
         block = responded (payload_absorbed parts.riding) c q.0 bl;
         entry_is = sym (shown_response_entry parts.riding b c q.0 q.1 bl q.2 (st.roles c lc)) ∙ ap (λ (e : Entry R). (entry_after_response parts.riding.absorbed e c (reply_with b s.reply q.0))) f.entry_is ∙ ap (λ (r : Response R). (entry_after_response parts.riding.absorbed entry c r)) (sym q.3);
         shows = λ d ld. seen f.block f.entry_is f.shows q.0 q.1 q.2 q.3 q.4 st d ld;
-        exact = λ slot ls. exact_response (slot_times parts slot) (well slot ls) h (word_at b slot) c q.0 q.1 bl lc q.2 (f.exact slot ls);
+        exact = λ slot ls. exact_response (slot_times parts slot) (well slot ls) h (word_number b slot) c q.0 q.1 bl lc q.2 (f.exact slot ls);
       }
     where
       seen : (bl : FullBlock (Payload R)) → entry_with bl ≡ entry → ((d : ℕ) → d < CORES_MAX → shown b (bl.seats d) ≡ sights d) → (a : Reply) (more : List Reply) → (picture (bl.seats c).phase).responses ≡ a ∷ more → response ≡ reply_with b (bl.seats c).reply a → rest ≡ map (reply_with b (bl.seats c).reply) more → PhasesFit bl →
@@ -130,7 +129,7 @@ module _ {R : Type 0} where
         block = messaged (payload_absorbed parts.riding) c bl;
         entry_is = f.entry_is;
         shows = λ d ld. seen_at b c (seat_received (payload_absorbed parts.riding)) bl.seats (sight_received parts.riding m rest (sights c)) sights here d (f.shows d ld);
-        exact = λ slot ls. exact_message (slot_times parts slot) (well slot ls) h (word_at b slot) c q.0 q.1 bl lc q.2 (f.exact slot ls);
+        exact = λ slot ls. exact_message (slot_times parts slot) (well slot ls) h (word_number b slot) c q.0 q.1 bl lc q.2 (f.exact slot ls);
       }
 
   -- a core asks for this block or, where the line has this one, for another
@@ -148,13 +147,13 @@ module _ {R : Type 0} where
         block = wishing c w bl;
         entry_is = f.entry_is;
         shows = λ d ld. seen_at b c (seat_wished w) bl.seats (sight_asking block kind (sights c)) sights here d (f.shows d ld);
-        exact = λ slot ls. exact_wish (slot_times parts slot) h (word_at b slot) c w bl (f.exact slot ls);
+        exact = λ slot ls. exact_wish (slot_times parts slot) h (word_number b slot) c w bl (f.exact slot ls);
       }
 
   -- an access of a word of the block, which leaves these words and this rider in the line
   pub for_access : (parts : TimesParts R) (h : List NotedAccess) (b : ℕ) (n : NotedAccess) (words : List ℕ) (rider : R) (entry : Entry R) (sights : ℕ → Sight R) → core_of n < CORES_MAX → is_allowed (sights (core_of n)).line b n.access.kind ≡ true
-      → ((slot : ℕ) → slot < BLOCK_WORDS → rank (last_read h (word_at b slot) (core_of n)) < n.access.at.count)
-      → ((slot : ℕ) → slot < BLOCK_WORDS → HasNoted (slot_times parts slot) n (word_at b slot) (record { words = (sights (core_of n)).line.words; rider = (sights (core_of n)).line.rider }) (record { words = words; rider = rider }))
+      → ((slot : ℕ) → slot < BLOCK_WORDS → rank (last_noted_read h (word_number b slot) (core_of n)) < n.access.at.count)
+      → ((slot : ℕ) → slot < BLOCK_WORDS → HasNoted (slot_times parts slot) n (word_number b slot) (record { words = (sights (core_of n)).line.words; rider = (sights (core_of n)).line.rider }) (record { words = words; rider = rider }))
       → StandsFor parts h b entry sights
       → StandsFor parts (n ∷ h) b entry (sight_at (core_of n) (sight_accessed words rider (sights (core_of n))) sights)
   for_access parts h b n words rider entry sights lc allowed later noted f =
@@ -169,25 +168,25 @@ module _ {R : Type 0} where
         block = accessing c new bl;
         entry_is = f.entry_is;
         shows = λ d ld. seen_at b c (seat_accessed new) bl.seats (sight_accessed words rider (sights c)) sights (ap (λ (v : Sight R). sight_accessed words rider v) (f.shows c lc)) d (f.shows d ld);
-        exact = λ slot ls. exact_access (slot_times parts slot) h (word_at b slot) n new bl (record { core = lc; allowed = may; later = later slot ls }) (subst (λ (x : Payload R). HasNoted (slot_times parts slot) n (word_at b slot) x new) (sym payload) (noted slot ls)) (f.exact slot ls);
+        exact = λ slot ls. exact_access (slot_times parts slot) h (word_number b slot) n new bl (record { core = lc; allowed = may; later = later slot ls }) (subst (λ (x : Payload R). HasNoted (slot_times parts slot) n (word_number b slot) x new) (sym payload) (noted slot ls)) (f.exact slot ls);
       }
 
   -- what an access finds
   pub finds : (parts : TimesParts R) (h : List NotedAccess) (b slot : ℕ) (kind : Kind) (entry : Entry R) (sights : ℕ → Sight R) (c : ℕ) → c < CORES_MAX → slot < BLOCK_WORDS → is_allowed (sights c).line b kind ≡ true → StandsFor parts h b entry sights
-      → IsExactFor (slot_times parts slot) h (word_at b slot) kind (record { words = (sights c).line.words; rider = (sights c).line.rider })
+      → IsExactFor (slot_times parts slot) h (word_number b slot) kind (record { words = (sights c).line.words; rider = (sights c).line.rider })
   finds parts h b slot kind entry sights c lc ls allowed f =
       let s : Seat (Payload R) = f.block.seats c in
       let line : line_with b s ≡ (sights c).line = ap (λ (v : Sight R). v.line) (f.shows c lc) in
       let payload : s.line ≡ record { words = (sights c).line.words; rider = (sights c).line.rider } = ap (λ (l : Line R). (let x : Payload R = record { words = l.words; rider = l.rider } in x)) line in
       let may : allows kind s.phase ≡ true = sym (shown_allows b kind s) ∙ ap (λ (l : Line R). is_allowed l b kind) line ∙ allowed in
-      subst (λ (x : Payload R). IsExactFor (slot_times parts slot) h (word_at b slot) kind x) payload (exact_for (slot_times parts slot) h (word_at b slot) c kind f.block lc may (f.exact slot ls))
+      subst (λ (x : Payload R). IsExactFor (slot_times parts slot) h (word_number b slot) kind x) payload (exact_for (slot_times parts slot) h (word_number b slot) c kind f.block lc may (f.exact slot ls))
 
 -- ---- an access of another block's word
 
-elsewhere_write : (n : NotedAccess) (h : List NotedAccess) (word : ℕ) → n.access.word ≢ word → last_write (n ∷ h) word ≡ last_write h word
+elsewhere_write : (n : NotedAccess) (h : List NotedAccess) (word : ℕ) → n.access.word ≢ word → last_noted_write (n ∷ h) word ≡ last_noted_write h word
 elsewhere_write n h word other = grind (arith, nat_tests)
 
-elsewhere_read : (n : NotedAccess) (h : List NotedAccess) (word d : ℕ) → n.access.word ≢ word → last_read (n ∷ h) word d ≡ last_read h word d
+elsewhere_read : (n : NotedAccess) (h : List NotedAccess) (word d : ℕ) → n.access.word ≢ word → last_noted_read (n ∷ h) word d ≡ last_noted_read h word d
 elsewhere_read n h word d other = grind (arith, nat_tests)
 
 past_elsewhere : {X : Type 0} (t : WordTimes X) (n : NotedAccess) (h : List NotedAccess) (word : ℕ) (x : X) → n.access.word ≢ word → IsPast t h word x → IsPast t (n ∷ h) word x
@@ -214,7 +213,7 @@ for_elsewhere parts h b n entry sights other f =
       block = f.block;
       entry_is = f.entry_is;
       shows = f.shows;
-      exact = λ slot ls. exact_elsewhere (slot_times parts slot) n h (word_at b slot) f.block (λ (e : n.access.word ≡ word_at b slot). other (omega arith)) (f.exact slot ls);
+      exact = λ slot ls. exact_elsewhere (slot_times parts slot) n h (word_number b slot) f.block (λ (e : n.access.word ≡ word_number b slot). other (omega arith)) (f.exact slot ls);
     }
 
 -- ---- the start

@@ -1,18 +1,17 @@
 -- Every move of the machine, and what an access finds.
 use Rattle.std.proofs.Common.{◌≡◌, ◌∙◌, ap, refl, sym, subst, ℕ, ◌<◌, ◌==◌, ◌%◌, ◌/◌, Bool, true, false, nat_lt, ◌&&◌, List, [], ◌∷◌, length, Option, Some, None, arith, IsTrue}
-use Rattle.msi_cache.specs.declared.copies.TheConstants.{LINES}
+use Rattle.msi_cache.specs.declared.line.TheConstants.{LINES}
 use Rattle.image_mem.specs.Contents.{Contents}
 use Rattle.msi_directory.specs.Entries.{answer_to_request, answer_to_response}
-use Rattle.rtr_types.specs.declared.TheConstants.{CORES_MAX}
-use Rattle.access_times.specs.declared.TheConstants.{BLOCK_WORDS}
+use Rattle.rtr_types.specs.declared.TheConstants.{BLOCK_WORDS, CORES_MAX}
 use Rattle.std.specs.Prelude.{if◌then◌else◌, slice_set, is_some, not, ◌||◌}
 use Rattle.std.proofs.lemmas.List.{length-set}
 use Rattle.std.proofs.lemmas.Bool.Decides.{nat_tests}
 use Rattle.access_times.specs.Riding.{Carrying}
 use Rattle.rtr_types.specs.CoreSets.{has}
-use Rattle.rtr_types.specs.declared.accesses.Kind.TheVariants.{Load as IsLoad, Store as IsStore}
+use Rattle.rtr_types.specs.declared.access.Kind.TheVariants.{Load as IsLoad, Store as IsStore}
 use Rattle.rv_core.specs.declared.core_state.Need.TheVariants.{Local, Load as NeedsLoad, Store as NeedsStore, Done}
-use Rattle.rtr_types.specs.declared.accesses.Access.{Access}
+use Rattle.rtr_types.specs.declared.access.Access.{Access}
 use Rattle.msi_cache.specs.declared.messages.FromHome.{FromHome}
 use Rattle.msi_cache.specs.declared.messages.FromHome.TheVariants.{Inv}
 use Rattle.msi_cache.specs.declared.messages.Request.{Request}
@@ -20,13 +19,13 @@ use Rattle.msi_cache.specs.declared.messages.Response.{Response}
 use Rattle.msi_cache.specs.Table.{row}
 use Rattle.msi_cache.specs.Messages.{signal, block_of, request_block, response_block}
 use Rattle.msi_cache.specs.Lines.{waits, line_for}
-use Rattle.msi_directory.specs.declared.entries.Entry.{Entry}
-use Rattle.msi_directory.specs.declared.entries.HomeAnswer.{HomeAnswer}
+use Rattle.msi_directory.specs.declared.entry.Entry.{Entry}
+use Rattle.msi_directory.specs.declared.entry.HomeAnswer.{HomeAnswer}
 use Rattle.msi_directory.specs.Blocks.{entry_at}
 use Rattle.msi_directory.specs.Table.{is_free}
 use Rattle.rv_core.specs.declared.core_state.Core.{Core}
-use Rattle.msi_state.specs.declared.actors.Mail.{Mail}
-use Rattle.msi_state.specs.declared.actors.Node.{Node}
+use Rattle.msi_state.specs.declared.node.Mail.{Mail}
+use Rattle.msi_state.specs.declared.node.Node.{Node}
 use Rattle.msi_state.specs.declared.moves.Move.{Move}
 use Rattle.msi_state.specs.declared.moves.Move.TheVariants.{Core as CoreMove, Request as RequestMove, Response as ResponseMove, FromHome as MessageMove}
 use Rattle.rv_core.specs.declared.core_state.Need.{Need}
@@ -37,13 +36,13 @@ use Rattle.msi_state.specs.Nodes.{Nothing, Accesses, allows, access_of, rider_at
 use Rattle.msi_state.specs.Ready.{can_request_in, can_respond_in}
 use Rattle.msi_state.specs.Steps.{node_sent, delivered, delivered_in, node_requested, node_responded, request_moved_in, response_moved_in, step, event, enabled}
 use Rattle.msi_state.specs.Moves.{core_of}
-use Rattle.clock_core.specs.declared.vector_clock.Clock.{Clock}
+use Rattle.clock_core.specs.declared.clock.Clock.{Clock}
 use Rattle.msi_times.specs.History.{NotedAccess}
 use Rattle.msi_times.specs.StandsFor.{TimesParts, AbsorbsAll, StandsFor, sight_at}
 use Rattle.msi_times.proofs.Follows.{sight_at_same}
 use Rattle.msi_times.specs.NodeSights.{node_sight, AllStandFor, Sends}
-use Rattle.msi_times.specs.Retirements.{Retirement, noted, StandsAfter, after_event, RiderNotes, IsExactRider}
-use Rattle.msi_times.specs.TimedSteps.{RiderFits, TimedStep, Finds}
+use Rattle.msi_times.specs.Retirements.{Retirement, noted_accesses, StandsAfter, after_event, RiderNotes, IsExactRider}
+use Rattle.msi_times.specs.TimedSteps.{RiderFits, TimedStep, FindsTimes}
 use Rattle.msi_sound.proofs.Views.{node_at-set, node_at-sent, node_at-told}
 use Rattle.msi_times.proofs.Sends.{sends_request, sends_response}
 use Rattle.msi_times.proofs.Home.{all_request, all_response, length-request, length-response}
@@ -77,7 +76,7 @@ module _ {R K : Type 0} where
       by false f = refl
 
   -- the cores are as they were, and the blocks stand for the same
-  same_cores : (parts : TimesParts R) (carrying : Carrying K) (h : List Retirement) (s t : State R K) → length t.nodes ≡ length s.nodes → ((d : ℕ) → (node_at carrying t.nodes d).core ≡ (node_at carrying s.nodes d).core) → AllStandFor parts carrying (noted h) t → StandsAfter parts carrying h s → StandsAfter parts carrying h t
+  same_cores : (parts : TimesParts R) (carrying : Carrying K) (h : List Retirement) (s t : State R K) → length t.nodes ≡ length s.nodes → ((d : ℕ) → (node_at carrying t.nodes d).core ≡ (node_at carrying s.nodes d).core) → AllStandFor parts carrying (noted_accesses h) t → StandsAfter parts carrying h s → StandsAfter parts carrying h t
   same_cores parts carrying h s t long same all f =
       record {
         all = all;
@@ -85,7 +84,7 @@ module _ {R K : Type 0} where
         order = f.order;
       }
 
-  ready : (parts : TimesParts R) (carrying : Carrying K) (h : List Retirement) (s : State R K) (c : ℕ) → c < length s.nodes → Sound parts.riding carrying s → StandsAfter parts carrying h s → NodeReady parts c (noted h) (node_at carrying s.nodes c)
+  ready : (parts : TimesParts R) (carrying : Carrying K) (h : List Retirement) (s : State R K) (c : ℕ) → c < length s.nodes → Sound parts.riding carrying s → StandsAfter parts carrying h s → NodeReady parts c (noted_accesses h) (node_at carrying s.nodes c)
   ready parts carrying h s c lc p f =
       record {
         below = core_below parts.riding carrying s c p lc;
@@ -147,7 +146,7 @@ module _ {R K : Type 0} where
   timed_core parts carrying h s c rider clock lc still p notes f =
       let n : Node R K = node_at carrying s.nodes c in
       machine_set parts carrying h s c (node_working s.image parts.riding carrying rider n) (event_working s.image parts.riding n) clock (core_below parts.riding carrying s c p lc) lc (p.numbers c lc)
-      (working_follows s.image parts carrying c (noted h) n (need s.image n.core) rider clock (ready parts carrying h s c lc p f) (may_work parts carrying s c (need s.image n.core) lc still p) notes) (working_counted s.image parts.riding carrying rider n (need s.image n.core)) f
+      (working_follows s.image parts carrying c (noted_accesses h) n (need s.image n.core) rider clock (ready parts carrying h s c lc p f) (may_work parts carrying s c (need s.image n.core) lc still p) notes) (working_counted s.image parts.riding carrying rider n (need s.image n.core)) f
 
   pub timed_message : (parts : TimesParts R) → AbsorbsAll parts → (carrying : Carrying K) (h : List Retirement) (s : State R K) (c : ℕ) (mail : Mail (FromHome R) K) (rest : List (Mail (FromHome R) K)) (rider : R) (clock : Clock) → c < length s.nodes → (node_at carrying s.nodes c).messages.items ≡ mail ∷ rest → Sound parts.riding carrying s → ReceivesWell parts carrying s c mail rest →
       ((a : Access) → event_receiving_mail s.image parts.riding carrying (node_at carrying s.nodes c) mail rest ≡ Accesses a → RiderNotes parts (record { access = a; clock = clock }) (rider_at parts.riding (node_taking parts.riding carrying (node_at carrying s.nodes c) mail rest) a.word) rider) →
@@ -156,27 +155,27 @@ module _ {R K : Type 0} where
       let n : Node R K = node_at carrying s.nodes c in
       let r = ready parts carrying h s c lc p f in
       machine_set parts carrying h s c (node_receiving_mail s.image parts.riding carrying rider n mail rest) (event_receiving_mail s.image parts.riding carrying n mail rest) clock (core_below parts.riding carrying s c p lc) lc (p.numbers c lc)
-      (receiving_follows s.image parts well carrying c (noted h) n mail rest rider clock r is fits.0 (λ (e : is_data mail.item ≡ true). may_fill parts (node_taking parts.riding carrying n mail rest) (need s.image n.core) (fits.1 e)) notes) (receiving_counted s.image parts.riding carrying rider n mail rest) f
+      (receiving_follows s.image parts well carrying c (noted_accesses h) n mail rest rider clock r is fits.0 (λ (e : is_data mail.item ≡ true). may_fill parts (node_taking parts.riding carrying n mail rest) (need s.image n.core) (fits.1 e)) notes) (receiving_counted s.image parts.riding carrying rider n mail rest) f
 
   pub timed_request : (parts : TimesParts R) → AbsorbsAll parts → (carrying : Carrying K) (h : List Retirement) (s : State R K) (c : ℕ) (mail : Mail (Request R) K) (rest : List (Mail (Request R) K)) → c < length s.nodes → (node_at carrying s.nodes c).requests.items ≡ mail ∷ rest → is_free (entry_at parts.riding.fresh s.home (request_block mail.item)).stage ≡ true → request_block mail.item < length s.home → Sound parts.riding carrying s →
       StandsAfter parts carrying h s → StandsAfter parts carrying h (request_moved_in (mail ∷ rest) parts.riding carrying s c)
   timed_request parts well carrying h s c mail rest lc is free within p f =
-      let sends = sends_request parts carrying (noted h) s c mail.item f.all p.cores lc in
+      let sends = sends_request parts carrying (noted_accesses h) s c mail.item f.all p.cores lc in
       let ns : List (Node R K) = slice_set s.nodes c (node_requested (node_at carrying s.nodes c) rest) in
       let long : length ns ≡ length s.nodes = length-set s.nodes c (node_requested (node_at carrying s.nodes c) rest) in
       same_cores parts carrying h s (request_moved_in (mail ∷ rest) parts.riding carrying s c) (length-request parts.riding carrying s c mail rest)
       (λ d. core-delivered carrying (answer_to_request parts.riding.absorbed (entry_at parts.riding.fresh s.home (request_block mail.item)) c mail.item) (request_block mail.item) (carrying.joined s.carry mail.carry) ns d (record { each = λ to m e. let g = sends.each to m e in (rw long g.0, g.1, g.2) }) ∙ core_set carrying s.nodes c (node_requested (node_at carrying s.nodes c) rest) d lc refl)
-      (all_request parts well carrying (noted h) s c mail rest p.cores lc within is free sends f.all) f
+      (all_request parts well carrying (noted_accesses h) s c mail rest p.cores lc within is free sends f.all) f
 
   pub timed_response : (parts : TimesParts R) → AbsorbsAll parts → (carrying : Carrying K) (h : List Retirement) (s : State R K) (c : ℕ) (mail : Mail (Response R) K) (rest : List (Mail (Response R) K)) → c < length s.nodes → (node_at carrying s.nodes c).responses.items ≡ mail ∷ rest → response_block mail.item < length s.home → Sound parts.riding carrying s →
       StandsAfter parts carrying h s → StandsAfter parts carrying h (response_moved_in (mail ∷ rest) parts.riding carrying s c)
   timed_response parts well carrying h s c mail rest lc is within p f =
-      let sends = sends_response parts carrying (noted h) s c mail.item f.all in
+      let sends = sends_response parts carrying (noted_accesses h) s c mail.item f.all in
       let ns : List (Node R K) = slice_set s.nodes c (node_responded (node_at carrying s.nodes c) rest) in
       let long : length ns ≡ length s.nodes = length-set s.nodes c (node_responded (node_at carrying s.nodes c) rest) in
       same_cores parts carrying h s (response_moved_in (mail ∷ rest) parts.riding carrying s c) (length-response parts.riding carrying s c mail rest)
       (λ d. core-delivered carrying (answer_to_response parts.riding.absorbed (entry_at parts.riding.fresh s.home (response_block mail.item)) c mail.item) (response_block mail.item) (carrying.joined s.carry mail.carry) ns d (record { each = λ to m e. let g = sends.each to m e in (rw long g.0, g.1, g.2) }) ∙ core_set carrying s.nodes c (node_responded (node_at carrying s.nodes c) rest) d lc refl)
-      (all_response parts well carrying (noted h) s c mail rest p.cores lc within is sends f.all) f
+      (all_response parts well carrying (noted_accesses h) s c mail rest p.cores lc within is sends f.all) f
 
   -- ---- the law
 
@@ -231,13 +230,13 @@ module _ {R K : Type 0} where
       by true allowed g = let q = f (word / BLOCK_WORDS) in let is : access_of image parts.riding n word IsStore ≡ a = grind arith in subst (λ (x : Access). IsExactRider parts h x (rider_at parts.riding n x.word)) is (node_finds parts h q.0 q.1 c n word IsStore lc q.2 q.3 allowed)
       by false allowed g = absurd (grind arith)
 
-  pub finds_exact : (parts : TimesParts R) (carrying : Carrying K) → AbsorbsAll parts → Finds parts carrying
+  pub finds_exact : (parts : TimesParts R) (carrying : Carrying K) → AbsorbsAll parts → FindsTimes parts carrying
   finds_exact parts carrying well h s (RequestMove c) a p e is f = absurd (grind arith)
   finds_exact parts carrying well h s (ResponseMove c) a p e is f = absurd (grind arith)
   finds_exact parts carrying well h s (CoreMove c) a p e is f =
       let lc = enabled_below parts carrying s (CoreMove c) e in
       let n : Node R K = node_at carrying s.nodes c in
-      working_finds s.image parts (noted h) c n (need s.image n.core) a (ready parts carrying h s c lc p f).below is (λ (b : ℕ). (entry_at parts.riding.fresh s.home b, λ d. node_sight parts.riding b (node_at carrying s.nodes d), refl, f.all.blocks b))
+      working_finds s.image parts (noted_accesses h) c n (need s.image n.core) a (ready parts carrying h s c lc p f).below is (λ (b : ℕ). (entry_at parts.riding.fresh s.home b, λ d. node_sight parts.riding b (node_at carrying s.nodes d), refl, f.all.blocks b))
   finds_exact parts carrying well h s (MessageMove c) a p e is f = by (node_at carrying s.nodes c).messages.items refl is
     where
       n : Node R K
@@ -246,15 +245,15 @@ module _ {R K : Type 0} where
       lc : c < length s.nodes
       lc = enabled_below parts carrying s (MessageMove c) e
 
-      by : (q : List (Mail (FromHome R) K)) → n.messages.items ≡ q → event_receiving_in q s.image parts.riding carrying n ≡ Accesses a → IsExactRider parts (noted h) a (rider_at parts.riding (node_taken_in q parts.riding carrying n) a.word)
+      by : (q : List (Mail (FromHome R) K)) → n.messages.items ≡ q → event_receiving_in q s.image parts.riding carrying n ≡ Accesses a → IsExactRider parts (noted_accesses h) a (rider_at parts.riding (node_taken_in q parts.riding carrying n) a.word)
       by [] items g = absurd (grind arith)
       by (mail ∷ rest) items g = by_data (is_data mail.item) refl g
         where
-          by_data : (t : Bool) → is_data mail.item ≡ t → (if t then event_working s.image parts.riding (node_taking parts.riding carrying n mail rest) else Nothing) ≡ Accesses a → IsExactRider parts (noted h) a (rider_at parts.riding (node_taking parts.riding carrying n mail rest) a.word)
+          by_data : (t : Bool) → is_data mail.item ≡ t → (if t then event_working s.image parts.riding (node_taking parts.riding carrying n mail rest) else Nothing) ≡ Accesses a → IsExactRider parts (noted_accesses h) a (rider_at parts.riding (node_taking parts.riding carrying n mail rest) a.word)
           by_data false holds k = absurd (grind arith)
           by_data true holds k =
               let r = ready parts carrying h s c lc p f in
               let fits = receives_well parts carrying s c mail rest p e items in
               let taken : Node R K = node_taking parts.riding carrying n mail rest in
-              let follows = taken_follows parts well carrying c (noted h) n mail rest r.below r.all_lines items fits.0 holds in
-              working_finds s.image parts (noted h) c taken (need s.image n.core) a r.below k (λ (b : ℕ). (entry_at parts.riding.fresh s.home b, sight_at c (node_sight parts.riding b taken) (λ d. node_sight parts.riding b (node_at carrying s.nodes d)), sight_at_same c (node_sight parts.riding b taken) (λ d. node_sight parts.riding b (node_at carrying s.nodes d)), follows.each b (entry_at parts.riding.fresh s.home b) (λ d. node_sight parts.riding b (node_at carrying s.nodes d)) refl (f.all.blocks b)))
+              let follows = taken_follows parts well carrying c (noted_accesses h) n mail rest r.below r.all_lines items fits.0 holds in
+              working_finds s.image parts (noted_accesses h) c taken (need s.image n.core) a r.below k (λ (b : ℕ). (entry_at parts.riding.fresh s.home b, sight_at c (node_sight parts.riding b taken) (λ d. node_sight parts.riding b (node_at carrying s.nodes d)), sight_at_same c (node_sight parts.riding b taken) (λ d. node_sight parts.riding b (node_at carrying s.nodes d)), follows.each b (entry_at parts.riding.fresh s.home b) (λ d. node_sight parts.riding b (node_at carrying s.nodes d)) refl (f.all.blocks b)))

@@ -3,15 +3,15 @@ use Rattle.std.proofs.Common.{◌≡◌, refl, subst, Bool, true, false, List, [
 use Rattle.std.specs.Prelude.{if◌then◌else◌, reverse}
 use Rattle.access_times.specs.Riding.{Carrying}
 use Rattle.access_times.specs.Times.{times_riding}
-use Rattle.access_times.specs.declared.word_times.Times.{Times}
-use Rattle.clock_core.specs.declared.vector_clock.Clock.{Clock}
-use Rattle.rtr_types.specs.declared.accesses.Access.{Access}
+use Rattle.access_times.specs.declared.times.Times.{Times}
+use Rattle.clock_core.specs.declared.clock.Clock.{Clock}
+use Rattle.rtr_types.specs.declared.access.Access.{Access}
 use Rattle.msi_sound.proofs.Begins.{sound_start}
 use Rattle.msi_sound.proofs.Kept.{sound_kept}
 use Rattle.msi_sound.specs.Sound.{Sound}
 use Rattle.msi_state.specs.Nodes.{Event, Nothing, Retires, Accesses, rider_at}
 use Rattle.msi_state.specs.Steps.{enabled, event, retiring, step}
-use Rattle.msi_state.specs.declared.actors.Node.{Node}
+use Rattle.msi_state.specs.declared.node.Node.{Node}
 use Rattle.msi_times.proofs.Absorbing.{meet_alike}
 use Rattle.msi_times.proofs.Begins.{machine_start}
 use Rattle.msi_times.proofs.RiderLaws.{times_absorb, times_fresh, times_notes}

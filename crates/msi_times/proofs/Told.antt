@@ -6,13 +6,13 @@ use Rattle.std.proofs.lemmas.Bool.Decides.{nat_tests}
 use Rattle.std.proofs.lemmas.List.{reverse-append}
 use Rattle.access_times.specs.Riding.{Carrying}
 use Rattle.access_times.specs.Times.{times_noted, times_riding}
-use Rattle.access_times.specs.declared.word_times.Times.{Times}
-use Rattle.clock_core.specs.declared.vector_clock.Clock.{Clock}
-use Rattle.rtr_types.specs.declared.accesses.Access.{Access}
-use Rattle.rtr_types.specs.declared.nodes.Instr.{Instr}
+use Rattle.access_times.specs.declared.times.Times.{Times}
+use Rattle.clock_core.specs.declared.clock.Clock.{Clock}
+use Rattle.rtr_types.specs.declared.access.Access.{Access}
+use Rattle.rtr_types.specs.declared.instr.Instr.{Instr}
 use Rattle.msi_state.specs.Nodes.{Event, Nothing, Retires, Accesses, Tells, rider_of_event, rider_at}
 use Rattle.msi_state.specs.Steps.{event, retiring, step}
-use Rattle.msi_state.specs.declared.actors.Node.{Node}
+use Rattle.msi_state.specs.declared.node.Node.{Node}
 use Rattle.msi_times.proofs.RiderLaws.{times_absorb, times_notes}
 use Rattle.msi_times.proofs.Timed.{timed_step}
 use Rattle.msi_times.specs.Retirements.{Retirement, StandsAfter, after_event, with_event, RiderNotes}

@@ -1,22 +1,22 @@
 -- The two riders that meet where a move makes one absorb the other.
 use Rattle.std.specs.Prelude.{◌≡◌, ℕ, ◌<◌, Option, Some, None, List, [], ◌∷◌, IsTrue}
 use Rattle.access_times.specs.Riding.{Riding, Carrying}
-use Rattle.access_times.specs.declared.TheConstants.{BLOCK_WORDS}
+use Rattle.rtr_types.specs.declared.TheConstants.{BLOCK_WORDS}
 use Rattle.msi_cache.specs.Lines.{line_for, rider_of}
 use Rattle.msi_cache.specs.Messages.{signal, block_of, ask_of, reply_of, request_block, response_block}
 use Rattle.msi_cache.specs.Table.{Effect, Row, row}
-use Rattle.msi_cache.specs.declared.copies.Line.{Line}
+use Rattle.msi_cache.specs.declared.line.Line.{Line}
 use Rattle.msi_cache.specs.declared.messages.FromHome.{FromHome}
 use Rattle.msi_cache.specs.declared.messages.Request.{Request}
 use Rattle.msi_cache.specs.declared.messages.Response.{Response}
 use Rattle.msi_directory.specs.Blocks.{entry_at}
 use Rattle.msi_directory.specs.Entries.{request_rider, response_rider}
 use Rattle.msi_directory.specs.Table.{HomeEffect, HomeRow, request_row, response_row}
-use Rattle.msi_directory.specs.declared.entries.Entry.{Entry}
+use Rattle.msi_directory.specs.declared.entry.Entry.{Entry}
 use Rattle.msi_sound.specs.Sound.{Sound}
 use Rattle.msi_state.specs.States.{State, node_at}
 use Rattle.msi_state.specs.Steps.{enabled}
-use Rattle.msi_state.specs.declared.actors.Mail.{Mail}
+use Rattle.msi_state.specs.declared.node.Mail.{Mail}
 use Rattle.msi_state.specs.declared.moves.Move.{Move}
 use Rattle.msi_state.specs.declared.moves.Move.TheVariants.{Core as CoreMove, Request as RequestMove, Response as ResponseMove, FromHome as MessageMove}
 use Rattle.msi_times.specs.Retirements.{Retirement, MachineStandsFor}

@@ -2,10 +2,10 @@
 use Rattle.std.specs.Prelude.{◌≡◌, ℕ, ◌<◌, ◌≤◌, ◌==◌, Bool, true, ◌&&◌, Option, Some, None, List, [], ◌∷◌, if◌then◌else◌}
 use Rattle.rtr_types.specs.Accesses.{is_write}
 use Rattle.rtr_types.specs.declared.TheConstants.{CORES_MAX}
-use Rattle.rtr_types.specs.declared.nodes.Instr.{Instr}
-use Rattle.rtr_types.specs.declared.accesses.Access.{Access}
-use Rattle.rtr_types.specs.declared.accesses.Kind.{Kind}
-use Rattle.clock_core.specs.declared.vector_clock.Clock.{Clock}
+use Rattle.rtr_types.specs.declared.instr.Instr.{Instr}
+use Rattle.rtr_types.specs.declared.access.Access.{Access}
+use Rattle.rtr_types.specs.declared.access.Kind.{Kind}
+use Rattle.clock_core.specs.declared.clock.Clock.{Clock}
 use Rattle.access_times.specs.Times.{newer_read}
 use Rattle.msi_protocol.specs.Phases.{Phase}
 use Rattle.msi_times.specs.Seats.{FullBlock, PhasesFit, HoldersHave, Found, reads_in, writes_in}
@@ -29,13 +29,13 @@ read_after n word d old =
     then (if is_write n.access.kind then None else if n.access.at.core == d then Some (n.access.at.count, n.clock) else old)
     else old
 
-abbrev pub last_write : List NotedAccess → ℕ → Option (Instr × Clock)
-last_write [] word = None
-last_write (n ∷ h) word = write_after n word (last_write h word)
+abbrev pub last_noted_write : List NotedAccess → ℕ → Option (Instr × Clock)
+last_noted_write [] word = None
+last_noted_write (n ∷ h) word = write_after n word (last_noted_write h word)
 
-abbrev pub last_read : List NotedAccess → ℕ → ℕ → Option (ℕ × Clock)
-last_read [] word d = None
-last_read (n ∷ h) word d = read_after n word d (last_read h word d)
+abbrev pub last_noted_read : List NotedAccess → ℕ → ℕ → Option (ℕ × Clock)
+last_noted_read [] word d = None
+last_noted_read (n ∷ h) word d = read_after n word d (last_noted_read h word d)
 
 -- the count of a read, and 0 for none
 abbrev pub rank : Option (ℕ × Clock) → ℕ
@@ -65,8 +65,8 @@ pub record FitsLast (read last : Option (ℕ × Clock)) : Type 0 where
 
 -- what each holder has of the word: the last write, and no read that isn't of the past
 pub record IsPast {X : Type 0} (t : WordTimes X) (h : List NotedAccess) (word : ℕ) (x : X) : Type 0 where
-  pub write : t.write x ≡ last_write h word
-  pub reads : (d : ℕ) → d < CORES_MAX → FitsLast (t.read x d) (last_read h word d)
+  pub write : t.write x ≡ last_noted_write h word
+  pub reads : (d : ℕ) → d < CORES_MAX → FitsLast (t.read x d) (last_noted_read h word d)
 
 abbrev pub read_rank : {X : Type 0} → WordTimes X → ℕ → X → ℕ
 read_rank t d x = rank (t.read x d)
@@ -75,12 +75,12 @@ read_rank t d x = rank (t.read x d)
 pub record Exact {X : Type 0} (t : WordTimes X) (h : List NotedAccess) (word : ℕ) (b : FullBlock X) : Type 0 where
   pub stands : PhasesFit b
   pub holders : HoldersHave (IsPast t h word) b
-  pub found : (d : ℕ) → d < CORES_MAX → Found (read_rank t d) (rank (last_read h word d)) d b
+  pub found : (d : ℕ) → d < CORES_MAX → Found (read_rank t d) (rank (last_noted_read h word d)) d b
 
 -- the rider is exact for an access of the word: it has the last write and, for one that writes, each core's last read
 pub record IsExactFor {X : Type 0} (t : WordTimes X) (h : List NotedAccess) (word : ℕ) (kind : Kind) (x : X) : Type 0 where
-  pub write : t.write x ≡ last_write h word
-  pub reads : is_write kind ≡ true → (d : ℕ) → d < CORES_MAX → t.read x d ≡ last_read h word d
+  pub write : t.write x ≡ last_noted_write h word
+  pub reads : is_write kind ≡ true → (d : ℕ) → d < CORES_MAX → t.read x d ≡ last_noted_read h word d
 
 -- the line allows an access of the kind
 abbrev pub allows : Kind → Phase → Bool
@@ -90,4 +90,4 @@ allows kind p = if is_write kind then writes_in p else reads_in p
 pub record MayAccess {X : Type 0} (h : List NotedAccess) (word : ℕ) (b : FullBlock X) (n : NotedAccess) : Type 0 where
   pub core : core_of n < CORES_MAX
   pub allowed : allows n.access.kind (b.seats (core_of n)).phase ≡ true
-  pub later : rank (last_read h word (core_of n)) < n.access.at.count
+  pub later : rank (last_noted_read h word (core_of n)) < n.access.at.count

@@ -4,15 +4,15 @@ use Rattle.access_times.specs.Riding.{Riding, Carrying}
 use Rattle.rtr_types.specs.CoreSets.{no_cores}
 use Rattle.msi_cache.specs.Lines.{line_for}
 use Rattle.msi_cache.specs.Messages.{block_of, request_block, response_block}
-use Rattle.msi_cache.specs.declared.copies.Line.{Line}
-use Rattle.msi_cache.specs.declared.copies.State.TheVariants.{I}
+use Rattle.msi_cache.specs.declared.line.Line.{Line}
+use Rattle.msi_cache.specs.declared.line.State.TheVariants.{I}
 use Rattle.msi_cache.specs.declared.messages.FromHome.{FromHome}
 use Rattle.msi_directory.specs.Blocks.{entry_at}
-use Rattle.msi_directory.specs.declared.entries.HomeAnswer.{HomeAnswer}
+use Rattle.msi_directory.specs.declared.entry.HomeAnswer.{HomeAnswer}
 use Rattle.msi_state.specs.Sights.{cons_if}
 use Rattle.msi_state.specs.States.{State, node_at}
-use Rattle.msi_state.specs.declared.actors.Mail.{Mail}
-use Rattle.msi_state.specs.declared.actors.Node.{Node}
+use Rattle.msi_state.specs.declared.node.Mail.{Mail}
+use Rattle.msi_state.specs.declared.node.Node.{Node}
 use Rattle.msi_times.specs.History.{NotedAccess}
 use Rattle.msi_times.specs.Shown.{Sight}
 use Rattle.msi_times.specs.StandsFor.{TimesParts, StandsFor}

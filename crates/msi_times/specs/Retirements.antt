@@ -1,18 +1,17 @@
 -- A machine stands for a list of retirements.
 use Rattle.std.specs.Prelude.{◌≡◌, ℕ, ◌+◌, ◌<◌, ◌%◌, ◌/◌, ◌==◌, Option, Some, None, List, [], ◌∷◌, ◌++◌, length, reverse, if◌then◌else◌}
 use Rattle.access_times.specs.Riding.{Carrying}
-use Rattle.access_times.specs.declared.TheConstants.{BLOCK_WORDS}
-use Rattle.clock_core.specs.declared.vector_clock.Clock.{Clock}
-use Rattle.rtr_types.specs.declared.TheConstants.{CORES_MAX}
-use Rattle.rtr_types.specs.declared.accesses.Access.{Access}
-use Rattle.rtr_types.specs.declared.nodes.Instr.{Instr}
+use Rattle.rtr_types.specs.declared.TheConstants.{BLOCK_WORDS, CORES_MAX}
+use Rattle.clock_core.specs.declared.clock.Clock.{Clock}
+use Rattle.rtr_types.specs.declared.access.Access.{Access}
+use Rattle.rtr_types.specs.declared.instr.Instr.{Instr}
 use Rattle.msi_state.specs.Nodes.{Event, Nothing, Retires, Accesses}
 use Rattle.msi_state.specs.States.{State, node_at}
 use Rattle.msi_times.specs.History.{NotedAccess, write_after, read_after, IsExactFor}
 use Rattle.msi_times.specs.NodeSights.{AllStandFor}
-use Rattle.msi_times.specs.StandsFor.{TimesParts, slot_times, word_at}
+use Rattle.msi_times.specs.StandsFor.{TimesParts, slot_times, word_number}
 
--- an instruction that retired, with its access if it made one, and the clock that was noted for it
+-- an instruction that retired, with its access if it made one, and the clock that was noted_accesses for it
 pub record Retirement : Type 0 where
   pub at : Instr
   pub access : Option Access
@@ -23,9 +22,9 @@ noted_by None clock h = h
 noted_by (Some a) clock h = record { access = a; clock = clock } ∷ h
 
 -- the accesses among the retirements, each with its clock
-abbrev pub noted : List Retirement → List NotedAccess
-noted [] = []
-noted (r ∷ h) = noted_by r.access r.clock (noted h)
+abbrev pub noted_accesses : List Retirement → List NotedAccess
+noted_accesses [] = []
+noted_accesses (r ∷ h) = noted_by r.access r.clock (noted_accesses h)
 
 -- how many of the retirements are of the core
 abbrev pub retired_by : List Retirement → ℕ → ℕ
@@ -37,7 +36,7 @@ IsAccessOf None at = Unit {0}
 IsAccessOf (Some a) at = a.at ≡ at
 
 -- the retirement is its core's next one after these
-pub record IsNext (h : List Retirement) (r : Retirement) : Type 0 where
+pub record ComesNext (h : List Retirement) (r : Retirement) : Type 0 where
   pub core : r.at.core < CORES_MAX
   pub count : r.at.count ≡ retired_by h r.at.core + 1
   pub access : IsAccessOf r.access r.at
@@ -45,11 +44,11 @@ pub record IsNext (h : List Retirement) (r : Retirement) : Type 0 where
 -- each of the retirements, newest first, is the next one of its core
 abbrev pub AreInOrder : List Retirement → Type 0
 AreInOrder [] = Unit {0}
-AreInOrder (r ∷ h) = IsNext h r × AreInOrder h
+AreInOrder (r ∷ h) = ComesNext h r × AreInOrder h
 
 -- the machine stands for the retirements, newest first
 pub record StandsAfter {R K : Type 0} (parts : TimesParts R) (carrying : Carrying K) (h : List Retirement) (s : State R K) : Type 0 where
-  pub all : AllStandFor parts carrying (noted h) s
+  pub all : AllStandFor parts carrying (noted_accesses h) s
   pub counts : (c : ℕ) → c < length s.nodes → (node_at carrying s.nodes c).core.count ≡ retired_by h c
   pub order : AreInOrder h
 
@@ -74,10 +73,10 @@ noted_after Nothing clock h = h
 noted_after (Retires at) clock h = h
 noted_after (Accesses a) clock h = record { access = a; clock = clock } ∷ h
 
--- the rider is the old one with the access noted, in each slot
+-- the rider is the old one with the access noted_accesses, in each slot
 pub record RiderNotes {R : Type 0} (parts : TimesParts R) (n : NotedAccess) (old new : R) : Type 0 where
-  pub write : (slot : ℕ) → slot < BLOCK_WORDS → parts.write new slot ≡ write_after n (word_at (n.access.word / BLOCK_WORDS) slot) (parts.write old slot)
-  pub read : (slot d : ℕ) → slot < BLOCK_WORDS → d < CORES_MAX → parts.read new slot d ≡ read_after n (word_at (n.access.word / BLOCK_WORDS) slot) d (parts.read old slot d)
+  pub write : (slot : ℕ) → slot < BLOCK_WORDS → parts.write new slot ≡ write_after n (word_number (n.access.word / BLOCK_WORDS) slot) (parts.write old slot)
+  pub read : (slot d : ℕ) → slot < BLOCK_WORDS → d < CORES_MAX → parts.read new slot d ≡ read_after n (word_number (n.access.word / BLOCK_WORDS) slot) d (parts.read old slot d)
 
 -- the rider is exact for the access after these: in its word's slot it has the last write and, for an access that
 -- writes, each core's last read since, each with its clock, and nothing else

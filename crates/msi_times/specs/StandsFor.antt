@@ -1,11 +1,10 @@
 -- A block as the cache and the home have it stands for a list of accesses.
 use Rattle.std.specs.Prelude.{◌≡◌, ℕ, ◌+◌, ◌*◌, ◌<◌, ◌==◌, Option, List, if◌then◌else◌}
 use Rattle.access_times.specs.Riding.{Riding}
-use Rattle.access_times.specs.declared.TheConstants.{BLOCK_WORDS}
-use Rattle.rtr_types.specs.declared.TheConstants.{CORES_MAX}
-use Rattle.rtr_types.specs.declared.nodes.Instr.{Instr}
-use Rattle.clock_core.specs.declared.vector_clock.Clock.{Clock}
-use Rattle.msi_directory.specs.declared.entries.Entry.{Entry}
+use Rattle.rtr_types.specs.declared.TheConstants.{BLOCK_WORDS, CORES_MAX}
+use Rattle.rtr_types.specs.declared.instr.Instr.{Instr}
+use Rattle.clock_core.specs.declared.clock.Clock.{Clock}
+use Rattle.msi_directory.specs.declared.entry.Entry.{Entry}
 use Rattle.msi_times.specs.Seats.{FullBlock}
 use Rattle.msi_times.specs.Shown.{Payload, payload_absorbed, Sight, shown, entry_with}
 use Rattle.msi_times.specs.History.{NotedAccess, WordTimes, AbsorbsWell, Exact}
@@ -16,8 +15,8 @@ pub record TimesParts (R : Type 0) : Type 0 where
   pub write : R → ℕ → Option (Instr × Clock)
   pub read : R → ℕ → ℕ → Option (ℕ × Clock)
 
-abbrev pub word_at : ℕ → ℕ → ℕ
-word_at b slot = b * BLOCK_WORDS + slot
+abbrev pub word_number : ℕ → ℕ → ℕ
+word_number b slot = b * BLOCK_WORDS + slot
 
 module _ {R : Type 0} where
   -- a copy's rider as it is for one slot's word
@@ -37,4 +36,4 @@ pub record StandsFor {R : Type 0} (parts : TimesParts R) (h : List NotedAccess) 
   pub block : FullBlock (Payload R)
   pub entry_is : entry_with block ≡ entry
   pub shows : (d : ℕ) → d < CORES_MAX → shown b (block.seats d) ≡ sights d
-  pub exact : (slot : ℕ) → slot < BLOCK_WORDS → Exact (slot_times parts slot) h (word_at b slot) block
+  pub exact : (slot : ℕ) → slot < BLOCK_WORDS → Exact (slot_times parts slot) h (word_number b slot) block

@@ -2,14 +2,14 @@
 use Rattle.std.specs.Prelude.{ℕ, ◌<◌, ◌≤◌, ◌^◌, List, [], ◌∷◌, IsTrue, if◌then◌else◌}
 use Rattle.access_times.specs.Riding.{Carrying}
 use Rattle.access_times.specs.Times.{fresh_times, times_noted, times_riding}
-use Rattle.access_times.specs.declared.word_times.Times.{Times}
-use Rattle.clock_core.specs.declared.vector_clock.Clock.{Clock}
+use Rattle.access_times.specs.declared.times.Times.{Times}
+use Rattle.clock_core.specs.declared.clock.Clock.{Clock}
 use Rattle.image_mem.specs.Contents.{Contents}
 use Rattle.rtr_types.specs.declared.TheConstants.{CORES_MAX}
 use Rattle.msi_state.specs.Nodes.{Event, Accesses, rider_at}
 use Rattle.msi_state.specs.States.{State, state_start}
 use Rattle.msi_state.specs.Steps.{enabled, event, retiring, step}
-use Rattle.msi_state.specs.declared.actors.Node.{Node}
+use Rattle.msi_state.specs.declared.node.Node.{Node}
 use Rattle.msi_state.specs.declared.moves.Move.{Move}
 use Rattle.msi_times.specs.Absorbing.{MeetsAlike}
 use Rattle.msi_times.specs.Retirements.{Retirement, MachineStandsFor, with_event}

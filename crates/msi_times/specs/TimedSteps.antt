@@ -2,22 +2,22 @@
 use Rattle.std.specs.Prelude.{◌≡◌, ℕ, ◌==◌, List, [], ◌∷◌, reverse, IsTrue, if◌then◌else◌}
 use Rattle.access_times.specs.Riding.{Carrying}
 use Rattle.access_times.specs.Times.{times_riding, write_at, read_at}
-use Rattle.access_times.specs.declared.word_times.Times.{Times}
+use Rattle.access_times.specs.declared.times.Times.{Times}
 use Rattle.clock_core.specs.Counts.{no_counts}
-use Rattle.clock_core.specs.declared.vector_clock.Clock.{Clock}
-use Rattle.rtr_types.specs.declared.accesses.Access.{Access}
-use Rattle.rtr_types.specs.declared.nodes.Instr.{Instr}
+use Rattle.clock_core.specs.declared.clock.Clock.{Clock}
+use Rattle.rtr_types.specs.declared.access.Access.{Access}
+use Rattle.rtr_types.specs.declared.instr.Instr.{Instr}
 use Rattle.msi_sound.specs.Sound.{Sound}
 use Rattle.msi_state.specs.Nodes.{Event, Nothing, Retires, Accesses, Tells, rider_of_event, rider_at}
 use Rattle.msi_state.specs.States.{State}
 use Rattle.msi_state.specs.Steps.{step, event, retiring, enabled}
-use Rattle.msi_state.specs.declared.actors.Node.{Node}
+use Rattle.msi_state.specs.declared.node.Node.{Node}
 use Rattle.msi_state.specs.declared.moves.Move.{Move}
-use Rattle.msi_times.specs.Retirements.{Retirement, noted, MachineStandsFor, StandsAfter, after_event, with_event, RiderNotes, IsExactRider}
+use Rattle.msi_times.specs.Retirements.{Retirement, noted_accesses, MachineStandsFor, StandsAfter, after_event, with_event, RiderNotes, IsExactRider}
 use Rattle.msi_times.specs.StandsFor.{TimesParts}
 
 module _ {R K : Type 0} where
-  -- where an access retires, the rider left is the one found with the access and the clock noted
+  -- where an access retires, the rider left is the one found with the access and the clock noted_accesses
   abbrev pub RiderFits : TimesParts R → Clock → R → Event → Node R K → Type 0
   RiderFits parts clock rider e n = (a : Access) → e ≡ Accesses a → RiderNotes parts (record { access = a; clock = clock }) (rider_at parts.riding n a.word) rider
 
@@ -28,10 +28,10 @@ module _ {R K : Type 0} where
       StandsAfter parts carrying h s → StandsAfter parts carrying (after_event (event parts.riding carrying s m) clock h) (step parts.riding carrying rider s m)
 
   -- an access finds exact times
-  abbrev pub Finds : TimesParts R → Carrying K → Type 0
-  Finds parts carrying =
+  abbrev pub FindsTimes : TimesParts R → Carrying K → Type 0
+  FindsTimes parts carrying =
       (h : List Retirement) (s : State R K) (m : Move) (a : Access) → Sound parts.riding carrying s → IsTrue (enabled parts.riding carrying s m) → event parts.riding carrying s m ≡ Accesses a →
-      StandsAfter parts carrying h s → IsExactRider parts (noted h) a (rider_at parts.riding (retiring parts.riding carrying s m) a.word)
+      StandsAfter parts carrying h s → IsExactRider parts (noted_accesses h) a (rider_at parts.riding (retiring parts.riding carrying s m) a.word)
 
 -- the rider that records times, by its parts
 abbrev pub times_parts : TimesParts Times
@@ -49,7 +49,7 @@ with_step carrying s m clock list = with_event (event times_riding carrying s m)
 
 -- the rider that a move's access finds is exact for it after the list
 abbrev pub StepFinds : {K : Type 0} → Carrying K → State Times K → Move → List Retirement → Type 0
-StepFinds carrying s m list = (a : Access) → event times_riding carrying s m ≡ Accesses a → IsExactRider times_parts (noted (reverse list)) a (rider_at times_riding (retiring times_riding carrying s m) a.word)
+StepFinds carrying s m list = (a : Access) → event times_riding carrying s m ≡ Accesses a → IsExactRider times_parts (noted_accesses (reverse list)) a (rider_at times_riding (retiring times_riding carrying s m) a.word)
 
 -- after a step that the clerk was told of, the machine stands for the list with what retired appended, with the clock
 -- that the clerk then has for its core
@@ -60,16 +60,16 @@ TimedTold {C} {K} told_local told_touch clock carrying =
     MachineStandsFor times_parts carrying list s →
     MachineStandsFor times_parts carrying (with_step carrying s m (clock new) list) (step times_riding carrying rider s m)
 
--- the clock noted at the core's last one of the retirements, newest first, and zero before the first
+-- the clock noted_accesses at the core's last one of the retirements, newest first, and zero before the first
 abbrev pub last_clock : List Retirement → ℕ → Clock
 last_clock [] core = no_counts
 last_clock (r ∷ h) core = if r.at.core == core then r.clock else last_clock h core
 
--- these clocks are the ones last noted for each core
+-- these clocks are the ones last noted_accesses for each core
 abbrev pub AreLastClocks : (ℕ → Clock) → List Retirement → Type 0
 AreLastClocks clock list = (core : ℕ) → clock core ≡ last_clock (reverse list) core
 
--- a clerk that has the clocks last noted has them after it was told of an event
+-- a clerk that has the clocks last noted_accesses has them after it was told of an event
 abbrev pub ClocksTold : {C K : Type 0} → (C → Instr → K → C → Type 0) → (C → Times → Access → K → C → Times → Type 0) → (C → ℕ → Clock) → Type 0
 ClocksTold {C} {K} told_local told_touch clock =
     (list : List Retirement) (e : Event) (k : K) (old new : C) (before after : Times) → Tells told_local told_touch e k old before new after →

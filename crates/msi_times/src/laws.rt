@@ -7,7 +7,7 @@ ghost use Rattle.msi_times.specs.Absorbing.{MeetAlike};
 ghost use Rattle.msi_times.specs.ExactTimes.{ExactTimesLaw, OrderedLaw};
 ghost use Rattle.msi_times.specs.Retirements.{MachineStandsFor};
 ghost use Rattle.msi_times.specs.TimedRuns.{TimedRunLaw};
-ghost use Rattle.msi_times.specs.TimedSteps.{ClocksTold, Finds, TimedStep, TimedTold, times_parts};
+ghost use Rattle.msi_times.specs.TimedSteps.{ClocksTold, FindsTimes, TimedStep, TimedTold, times_parts};
 
 use access_times::{Carry, TimesClerk};
 
@@ -18,7 +18,7 @@ use access_times::{Carry, TimesClerk};
 pub fn timed_steps<K: Carry>()
     ensures starts { (image : Contents) (cores limit : ℕ) → MachineStandsFor times_parts K.carrying [] (state_start times_riding K.carrying image cores limit) }
     ensures stands { TimedStep times_parts K.carrying }
-    ensures finds { Finds times_parts K.carrying }
+    ensures finds { FindsTimes times_parts K.carrying }
 {}
 
 /// The same where a clerk that notes with its clocks is told of the step: what retired is appended

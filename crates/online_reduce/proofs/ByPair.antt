@@ -8,8 +8,8 @@ use Rattle.std.proofs.lemmas.List.FromFn.{get_or-map-range_with_len, length-rang
 use Rattle.std.proofs.lemmas.Bool.Decides.{nat_tests}
 use Rattle.rtr_types.specs.Pairs.{IsPair, pair_count, pair_place, source_at, target_at}
 use Rattle.rtr_types.proofs.PairPlaces.{pairs-placed, places-paired}
-use Rattle.rtr_types.specs.declared.nodes.Instr.{Instr}
-use Rattle.rtr_types.specs.declared.nodes.Edge.{Edge}
+use Rattle.rtr_types.specs.declared.instr.Instr.{Instr}
+use Rattle.rtr_types.specs.declared.instr.Edge.{Edge}
 use Rattle.clock_core.specs.Order.{Among}
 use Rattle.conflict_edge.proofs.History.{and_true, cases}
 use Rattle.online_reduce.specs.Exact.{SourcesRise}

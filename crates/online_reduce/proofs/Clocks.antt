@@ -2,17 +2,17 @@
 use Rattle.std.proofs.Common.{◌≡◌, ◌≢◌, ℕ, ◌<◌, ◌≤◌, ◌⊎◌, List, [], ◌∷◌, ◌++◌, length, max, refl, sym, ◌∙◌, ap, subst, inl, inr, arith, true, false, Bool, nat_eq, slice_index}
 use Rattle.std.specs.List.{fold}
 use Rattle.std.proofs.lemmas.Bool.Decides.{nat_tests}
-use Rattle.rtr_types.specs.declared.nodes.Instr.{Instr}
-use Rattle.rtr_types.specs.declared.accesses.Access.{Access}
+use Rattle.rtr_types.specs.declared.instr.Instr.{Instr}
+use Rattle.rtr_types.specs.declared.access.Access.{Access}
 use Rattle.clock_core.specs.Counts.{merged}
-use Rattle.clock_core.specs.declared.vector_clock.Clock.{Clock}
+use Rattle.clock_core.specs.declared.clock.Clock.{Clock}
 use Rattle.clock_core.proofs.Merging.{get_or-merged}
 use Rattle.conflict_edge.specs.Clocks.{clock, greatest, reaches}
 use Rattle.conflict_edge.specs.Conflicts.{StandsIn, CountsRise}
 use Rattle.conflict_edge.proofs.Clocks.{clock-newest, clock-older}
 use Rattle.conflict_edge.proofs.History.{reaches-true, reaches-false, reaches-yes, reaches-no}
 use Rattle.conflict_edge.proofs.Scan.{stands-split}
-use Rattle.online_reduce.specs.declared.sources.Source.{Source}
+use Rattle.online_reduce.specs.declared.source.Source.{Source}
 use Rattle.online_reduce.specs.Sources.{IsOneOf}
 use Rattle.online_reduce.specs.Rule.{merged_with}
 

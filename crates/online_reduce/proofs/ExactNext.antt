@@ -4,12 +4,12 @@ use Rattle.std.specs.Prelude.{slice_set, slice_index_or}
 use Rattle.std.specs.List.{fold}
 use Rattle.std.proofs.lemmas.List.{get_or-set_same, get_or-set_other, length-set}
 use Rattle.rtr_types.specs.declared.TheConstants.{CORES_MAX}
-use Rattle.rtr_types.specs.declared.nodes.Instr.{Instr}
-use Rattle.rtr_types.specs.declared.accesses.Access.{Access}
+use Rattle.rtr_types.specs.declared.instr.Instr.{Instr}
+use Rattle.rtr_types.specs.declared.access.Access.{Access}
 use Rattle.clock_core.specs.Counts.{no_counts}
-use Rattle.clock_core.specs.declared.vector_clock.Clock.{Clock}
+use Rattle.clock_core.specs.declared.clock.Clock.{Clock}
 use Rattle.clock_core.proofs.Reach.{same_below}
-use Rattle.access_times.specs.declared.word_times.Times.{Times}
+use Rattle.access_times.specs.declared.times.Times.{Times}
 use Rattle.conflict_edge.specs.Clocks.{clock, IsBelowMerged}
 use Rattle.conflict_edge.specs.Conflicts.{StandsIn}
 use Rattle.conflict_edge.specs.Times.{IsExactClock}
@@ -18,7 +18,7 @@ use Rattle.conflict_edge.proofs.Online.{nat_cases}
 use Rattle.conflict_edge.proofs.Reach.{online_clock_law, kept_clock_law}
 use Rattle.conflict_edge.proofs.Reversed.{rising_back, stands_back}
 use Rattle.conflict_edge.proofs.Scan.{stands-split}
-use Rattle.online_reduce.specs.declared.sources.Source.{Source}
+use Rattle.online_reduce.specs.declared.source.Source.{Source}
 use Rattle.online_reduce.specs.Sources.{candidates, IsOneOf}
 use Rattle.online_reduce.specs.Rule.{clock_into, merged_with}
 use Rattle.online_reduce.specs.Reduced.{Reduced, IsNext, clock_of, count_of, counted, retired, next_clock, OtherClocksLaw}

@@ -5,10 +5,10 @@ use Rattle.std.specs.List.{filter, fold}
 use Rattle.std.proofs.lemmas.List.{append-nil, map-append, take_all}
 use Rattle.std.proofs.lemmas.List.Elements.{filter_more}
 use Rattle.std.proofs.lemmas.List.Sums.{fold_more}
-use Rattle.rtr_types.specs.declared.nodes.Instr.{Instr}
-use Rattle.rtr_types.specs.declared.nodes.Edge.{Edge}
-use Rattle.clock_core.specs.declared.vector_clock.Clock.{Clock}
-use Rattle.online_reduce.specs.declared.sources.Source.{Source}
+use Rattle.rtr_types.specs.declared.instr.Instr.{Instr}
+use Rattle.rtr_types.specs.declared.instr.Edge.{Edge}
+use Rattle.clock_core.specs.declared.clock.Clock.{Clock}
+use Rattle.online_reduce.specs.declared.source.Source.{Source}
 use Rattle.online_reduce.specs.Rule.{edge_to, edges_into, is_kept, merged_with}
 
 -- the edges from some of the candidates

@@ -1,12 +1,11 @@
 -- With exact times the candidates that are found are the candidates, each with its exact clock.
 use Rattle.std.proofs.Common.{◌≡◌, ◌≢◌, ℕ, ◌%◌, ◌<◌, ◌≤◌, ◌⊎◌, List, [], ◌∷◌, reverse, refl, sym, ◌∙◌, ap, subst, inl, inr, arith, true, false, Option, Some, None}
 use Rattle.rtr_types.specs.Accesses.{is_write}
-use Rattle.rtr_types.specs.declared.TheConstants.{CORES_MAX}
-use Rattle.rtr_types.specs.declared.nodes.Instr.{Instr}
-use Rattle.rtr_types.specs.declared.accesses.Access.{Access}
-use Rattle.clock_core.specs.declared.vector_clock.Clock.{Clock}
-use Rattle.access_times.specs.declared.TheConstants.{BLOCK_WORDS}
-use Rattle.access_times.specs.declared.word_times.Times.{Times}
+use Rattle.rtr_types.specs.declared.instr.Instr.{Instr}
+use Rattle.rtr_types.specs.declared.access.Access.{Access}
+use Rattle.clock_core.specs.declared.clock.Clock.{Clock}
+use Rattle.rtr_types.specs.declared.TheConstants.{BLOCK_WORDS, CORES_MAX}
+use Rattle.access_times.specs.declared.times.Times.{Times}
 use Rattle.access_times.specs.Times.{write_at, read_at}
 use Rattle.conflict_edge.specs.Clocks.{last_write, last_read, Candidate}
 use Rattle.conflict_edge.specs.Conflicts.{StandsIn}
@@ -14,7 +13,7 @@ use Rattle.conflict_edge.specs.Times.{IsNoteOf, IsExactClock}
 use Rattle.conflict_edge.proofs.History.{Rising}
 use Rattle.conflict_edge.proofs.Reversed.{stands_back}
 use Rattle.conflict_edge.proofs.Online.{cases_kind, nat_cases, none_some, some_is, last_write-word, last_write-load, last_read-word, last_read-store, last_read-at, last_read-core, last_write-is, last_read-is}
-use Rattle.online_reduce.specs.declared.sources.Source.{Source}
+use Rattle.online_reduce.specs.declared.source.Source.{Source}
 use Rattle.online_reduce.specs.Sources.{candidates, IsOneOf}
 use Rattle.online_reduce.specs.Exact.{AreExactFor, read_note}
 use Rattle.online_reduce.proofs.Found.{IsNotedIn, one_noted, noted_one}

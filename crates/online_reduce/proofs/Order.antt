@@ -5,12 +5,12 @@ use Rattle.std.specs.List.{filter}
 use Rattle.std.specs.Option.{option_to_list}
 use Rattle.std.proofs.lemmas.List.{map-append, append-nil}
 use Rattle.std.proofs.lemmas.List.Elements.{filter-append}
-use Rattle.rtr_types.specs.declared.nodes.Instr.{Instr}
-use Rattle.rtr_types.specs.declared.nodes.Edge.{Edge}
-use Rattle.rtr_types.specs.declared.accesses.Access.{Access}
-use Rattle.clock_core.specs.declared.vector_clock.Clock.{Clock}
-use Rattle.access_times.specs.declared.word_times.Times.{Times}
-use Rattle.online_reduce.specs.declared.sources.Source.{Source}
+use Rattle.rtr_types.specs.declared.instr.Instr.{Instr}
+use Rattle.rtr_types.specs.declared.instr.Edge.{Edge}
+use Rattle.rtr_types.specs.declared.access.Access.{Access}
+use Rattle.clock_core.specs.declared.clock.Clock.{Clock}
+use Rattle.access_times.specs.declared.times.Times.{Times}
+use Rattle.online_reduce.specs.declared.source.Source.{Source}
 use Rattle.online_reduce.specs.Sources.{candidates_from, candidates}
 use Rattle.online_reduce.specs.Rule.{edge_to, is_kept}
 use Rattle.online_reduce.specs.Exact.{SourcesRise}

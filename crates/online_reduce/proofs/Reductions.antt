@@ -8,14 +8,14 @@ use Rattle.std.proofs.lemmas.Bool.Decides.{nat_tests}
 use Rattle.rtr_types.specs.Pairs.{IsPair, pair_count, pair_place, source_at, target_at}
 use Rattle.rtr_types.proofs.PairPlaces.{pairs-placed}
 use Rattle.rtr_types.specs.declared.TheConstants.{CORES_MAX}
-use Rattle.rtr_types.specs.declared.nodes.Instr.{Instr}
-use Rattle.rtr_types.specs.declared.nodes.Edge.{Edge}
-use Rattle.rtr_types.specs.declared.accesses.Access.{Access}
+use Rattle.rtr_types.specs.declared.instr.Instr.{Instr}
+use Rattle.rtr_types.specs.declared.instr.Edge.{Edge}
+use Rattle.rtr_types.specs.declared.access.Access.{Access}
 use Rattle.clock_core.proofs.Paths.{instr_eq}
 use Rattle.clock_core.specs.Counts.{no_counts}
 use Rattle.clock_core.specs.Order.{Among}
-use Rattle.clock_core.specs.declared.vector_clock.Clock.{Clock}
-use Rattle.access_times.specs.declared.word_times.Times.{Times}
+use Rattle.clock_core.specs.declared.clock.Clock.{Clock}
+use Rattle.access_times.specs.declared.times.Times.{Times}
 use Rattle.conflict_edge.specs.Clocks.{clock}
 use Rattle.conflict_edge.specs.Conflicts.{ConflictPair}
 use Rattle.conflict_edge.specs.Least.{Covering}

@@ -9,7 +9,7 @@ use Rattle.std.proofs.Math.Seq.{map-set_same}
 use Rattle.std.proofs.lemmas.Bool.Decides.{nat_tests}
 use Rattle.conflict_edge.proofs.History.{and_true}
 use Rattle.rtr_types.specs.Pairs.{pair_place}
-use Rattle.rtr_types.specs.declared.nodes.Edge.{Edge}
+use Rattle.rtr_types.specs.declared.instr.Edge.{Edge}
 use Rattle.online_reduce.specs.declared.TheConstants.{EDGES_MAX}
 use Rattle.online_reduce.specs.Lists.{PairRoom, is_roomy, counts, with_edge, with_edges}
 

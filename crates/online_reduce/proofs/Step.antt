@@ -1,11 +1,10 @@
 -- One retirement with exact times: its edges are the covering pairs into it, and its clock is exact.
 use Rattle.std.proofs.Common.{◌≡◌, ◌≢◌, ℕ, ◌%◌, ◌<◌, ◌≤◌, ◌⊎◌, List, [], ◌∷◌, ◌++◌, reverse, sym, ◌∙◌, ap, subst, inl, inr, arith, true, false, Some, slice_index}
-use Rattle.rtr_types.specs.declared.TheConstants.{CORES_MAX}
-use Rattle.rtr_types.specs.declared.nodes.Instr.{Instr}
-use Rattle.rtr_types.specs.declared.accesses.Access.{Access}
+use Rattle.rtr_types.specs.declared.instr.Instr.{Instr}
+use Rattle.rtr_types.specs.declared.access.Access.{Access}
 use Rattle.clock_core.specs.Order.{Among, previous}
-use Rattle.access_times.specs.declared.TheConstants.{BLOCK_WORDS}
-use Rattle.access_times.specs.declared.word_times.Times.{Times}
+use Rattle.rtr_types.specs.declared.TheConstants.{BLOCK_WORDS, CORES_MAX}
+use Rattle.access_times.specs.declared.times.Times.{Times}
 use Rattle.access_times.specs.Times.{write_at, read_at}
 use Rattle.conflict_edge.specs.Clocks.{clock, last_write, last_read, IsKept}
 use Rattle.conflict_edge.specs.Conflicts.{StandsIn, CountsRise}
@@ -15,7 +14,7 @@ use Rattle.conflict_edge.proofs.Clocks.{own_clock}
 use Rattle.conflict_edge.proofs.History.{Rising, cases}
 use Rattle.conflict_edge.proofs.Reach.{online_law}
 use Rattle.conflict_edge.proofs.Reversed.{rising_back}
-use Rattle.online_reduce.specs.declared.sources.Source.{Source}
+use Rattle.online_reduce.specs.declared.source.Source.{Source}
 use Rattle.online_reduce.specs.Sources.{write_from, read_from, candidates_from, candidates, IsOneOf}
 use Rattle.online_reduce.specs.Rule.{is_kept, edges_into}
 use Rattle.online_reduce.specs.Reduced.{Reduced, IsNext, clock_of, count_of, edges_of}

@@ -1,8 +1,8 @@
 -- What holds once a retirement with an access has left its state.
 use Rattle.std.proofs.Common.{◌≡◌, List, [], ◌∷◌, ◌++◌, sym, subst}
-use Rattle.rtr_types.specs.declared.nodes.Edge.{Edge}
-use Rattle.rtr_types.specs.declared.accesses.Access.{Access}
-use Rattle.access_times.specs.declared.word_times.Times.{Times}
+use Rattle.rtr_types.specs.declared.instr.Edge.{Edge}
+use Rattle.rtr_types.specs.declared.access.Access.{Access}
+use Rattle.access_times.specs.declared.times.Times.{Times}
 use Rattle.conflict_edge.specs.Times.{IsExactClock}
 use Rattle.online_reduce.specs.Reduced.{Reduced, IsNext, clock_of, retired, edges_of}
 use Rattle.online_reduce.specs.Exact.{AreCoveringInto, AreExactFor, IsExact, IsReduction}

@@ -2,7 +2,7 @@
 use Rattle.std.specs.Prelude.{ℕ, ◌<◌, ◌≤◌, ◌+◌, List, [], ◌∷◌, ◌++◌, ⊤, Bool, ◌&&◌, nat_eq, nat_le, map, length, slice_index_or, slice_set}
 use Rattle.std.specs.List.{filter, list_all, fold, range_with_len}
 use Rattle.rtr_types.specs.Pairs.{pair_count, pair_place, source_at, target_at}
-use Rattle.rtr_types.specs.declared.nodes.Edge.{Edge}
+use Rattle.rtr_types.specs.declared.instr.Edge.{Edge}
 use Rattle.online_reduce.specs.declared.TheConstants.{EDGES_MAX}
 
 -- one pair's edges, and how many there is room for

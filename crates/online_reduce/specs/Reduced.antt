@@ -2,12 +2,12 @@
 use Rattle.std.specs.Prelude.{◌≡◌, ◌≢◌, ℕ, ◌+◌, ◌<◌, List, [], Bool, replicate, slice_index, slice_index_or, slice_set}
 use Rattle.rtr_types.specs.Pairs.{pair_count}
 use Rattle.rtr_types.specs.declared.TheConstants.{CORES_MAX}
-use Rattle.rtr_types.specs.declared.nodes.Instr.{Instr}
-use Rattle.rtr_types.specs.declared.nodes.Edge.{Edge}
-use Rattle.rtr_types.specs.declared.accesses.Access.{Access}
+use Rattle.rtr_types.specs.declared.instr.Instr.{Instr}
+use Rattle.rtr_types.specs.declared.instr.Edge.{Edge}
+use Rattle.rtr_types.specs.declared.access.Access.{Access}
 use Rattle.clock_core.specs.Counts.{no_counts}
-use Rattle.clock_core.specs.declared.vector_clock.Clock.{Clock}
-use Rattle.access_times.specs.declared.word_times.Times.{Times}
+use Rattle.clock_core.specs.declared.clock.Clock.{Clock}
+use Rattle.access_times.specs.declared.times.Times.{Times}
 use Rattle.online_reduce.specs.Sources.{candidates}
 use Rattle.online_reduce.specs.Rule.{edges_into, clock_into}
 use Rattle.online_reduce.specs.Lists.{with_edges}

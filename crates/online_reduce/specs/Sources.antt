@@ -2,13 +2,13 @@
 use Rattle.std.specs.Prelude.{◌≡◌, ℕ, zero, suc, ◌%◌, ◌⊎◌, List, [], ◌∷◌, ◌++◌, ◌&&◌, not, nat_eq, Option, Some, None, if◌then◌else◌}
 use Rattle.std.specs.Option.{option_to_list}
 use Rattle.rtr_types.specs.Accesses.{is_write}
-use Rattle.rtr_types.specs.declared.nodes.Instr.{Instr}
-use Rattle.rtr_types.specs.declared.accesses.Access.{Access}
-use Rattle.clock_core.specs.declared.vector_clock.Clock.{Clock}
-use Rattle.access_times.specs.declared.TheConstants.{BLOCK_WORDS}
-use Rattle.access_times.specs.declared.word_times.Times.{Times}
+use Rattle.rtr_types.specs.declared.instr.Instr.{Instr}
+use Rattle.rtr_types.specs.declared.access.Access.{Access}
+use Rattle.clock_core.specs.declared.clock.Clock.{Clock}
+use Rattle.rtr_types.specs.declared.TheConstants.{BLOCK_WORDS}
+use Rattle.access_times.specs.declared.times.Times.{Times}
 use Rattle.access_times.specs.Times.{write_at, read_at}
-use Rattle.online_reduce.specs.declared.sources.Source.{Source}
+use Rattle.online_reduce.specs.declared.source.Source.{Source}
 
 -- the noted write, where this core made it and not a's
 abbrev pub write_from : Access → ℕ → Option (Instr × Clock) → Option Source

@@ -2,11 +2,11 @@
 #![tactic(auto)]
 
 pub mod laws;
-mod one_pair;
+mod pair_list;
 mod pair_lists;
 mod reducer;
 mod rule;
-mod sources;
+mod source;
 #[cfg(test)]
 mod tests;
 

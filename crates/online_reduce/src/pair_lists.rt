@@ -6,9 +6,9 @@ ghost use Rattle.online_reduce.specs.Lists.{with_edges};
 ghost use Rattle.online_reduce.specs.Rule.{edges_into};
 ghost use Rattle.online_reduce.specs.declared.TheConstants.{EDGES_MAX};
 
-use crate::one_pair::PairList;
+use crate::pair_list::PairList;
 use crate::rule::is_kept;
-use crate::sources::Source;
+use crate::source::Source;
 use clock_core::Clock;
 use rtr_types::{Instr, Items, pair_at, pair_count};
 use std::alloc::{AllocError, Global};

@@ -1,15 +1,15 @@
 //! The online reduction.
 ghost use Rattle.std.specs.Prelude.{◌≡◌, ◌<◌, ◌≤◌, ◌++◌, ◌∷◌, [], List, IfOk, IsTrue, OnErr, OnOk, false};
 ghost use Rattle.rtr_types.specs.declared.TheConstants.{CORES_MAX};
-ghost use Rattle.rtr_types.specs.declared.accesses.Access.{Access};
-ghost use Rattle.rtr_types.specs.declared.nodes.Edge.{Edge};
+ghost use Rattle.rtr_types.specs.declared.access.Access.{Access};
+ghost use Rattle.rtr_types.specs.declared.instr.Edge.{Edge};
 ghost use Rattle.rtr_types.specs.Accesses.{is_write};
 ghost use Rattle.access_times.specs.Times.{times_noted};
 ghost use Rattle.conflict_edge.specs.Times.{IsExactClock};
 
 use crate::pair_lists::PairLists;
 use crate::rule::{EdgeList, clock_into, edges_into, note};
-use crate::sources::{Source, candidates, is_alone, is_of_other, slot_of};
+use crate::source::{Source, candidates, is_alone, is_of_other, slot_of};
 use access_times::Times;
 use clock_core::Clock;
 use rtr_types::{Access, CORES_MAX, Instr, Items};

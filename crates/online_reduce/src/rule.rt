@@ -1,14 +1,14 @@
 //! Which candidates become edges, and what the new clock is.
 ghost use Rattle.std.specs.Prelude.{◌≡◌, ℕ, ◌<◌, ◌≤◌, All, length};
 ghost use Rattle.rtr_types.specs.declared.TheConstants.{CORES_MAX};
-ghost use Rattle.access_times.specs.declared.word_times.Times.{Times};
+ghost use Rattle.access_times.specs.declared.times.Times.{Times};
 ghost use Rattle.access_times.specs.Times.{times_noted};
 ghost use Rattle.online_reduce.specs.Rule.{clock_into, edges_into, is_kept, lets_pass};
 ghost use Rattle.online_reduce.specs.declared.TheConstants.{EDGES_MAX};
-ghost use Rattle.online_reduce.specs.declared.sources.Source.{Source};
+ghost use Rattle.online_reduce.specs.declared.source.Source.{Source};
 
 use crate::EDGES_MAX;
-use crate::sources::{Source, slot_of};
+use crate::source::{Source, slot_of};
 use access_times::Times;
 use clock_core::Clock;
 use rtr_types::{Access, Edge, Instr};

@@ -2,8 +2,8 @@
 use Rattle.std.proofs.Common.{◌≡◌, ◌∙◌, refl, sym, ap, subst, ℕ, ◌&&◌, ◌⊎◌, inl, inr, Bool, true, false, cond, nat_eq, List, [], ◌∷◌, map, arith}
 use Rattle.std.specs.List.{filter, flat_map}
 use Rattle.std.proofs.lemmas.Bool.Decides.{nat_tests}
-use Rattle.rtr_types.specs.declared.accesses.Access.{Access}
-use Rattle.rtr_types.specs.declared.nodes.Instr.{Instr}
+use Rattle.rtr_types.specs.declared.access.Access.{Access}
+use Rattle.rtr_types.specs.declared.instr.Instr.{Instr}
 use Rattle.clock_core.proofs.Paths.{instr_eq}
 use Rattle.conflict_edge.proofs.History.{and_true, cases}
 use Rattle.conflict_edge.specs.Conflicts.{CountsRise, StandsIn}
@@ -11,7 +11,7 @@ use Rattle.conflict_edge.specs.Least.{Covering}
 use Rattle.online_reduce.proofs.Rises.{AtAccess, pair_source, pair_target}
 use Rattle.recorder.proofs.Covering.{both, covering_is, covering_passes}
 use Rattle.recorder.proofs.SortedPairs.{Below, In, Sorted, in_cases, in_left, in_right, sorted_append}
-use Rattle.recorder.specs.LeastLists.{edges_into, is_covering, pair_list}
+use Rattle.recorder.specs.LeastLists.{covering_counts, is_covering, pair_list}
 
 eq_of : (m n : ℕ) → nat_eq m n ≡ true → m ≡ n
 eq_of m n t = grind (arith, nat_tests)
@@ -90,38 +90,38 @@ record Target (list some : List Access) (from to : ℕ) (e : ℕ × ℕ) : Type 
   core : access.at.core ≡ to
   source : Source list list from access e
 
-target_in : (list some : List Access) (from to : ℕ) (e : ℕ × ℕ) → In (flat_map (edges_into list from) (filter (is_of to) some)) e → Target list some from to e
+target_in : (list some : List Access) (from to : ℕ) (e : ℕ × ℕ) → In (flat_map (covering_counts list from) (filter (is_of to) some)) e → Target list some from to e
 target_in list [] from to e s = absurd s
 target_in list (y ∷ some) from to e s = by (cases (is_of to y)) s (λ t. wider (target_in list some from to e t))
   where
     wider : Target list some from to e → Target list (y ∷ some) from to e
     wider r = record { access = r.access; stands = inr r.stands; core = r.core; source = r.source }
 
-    head : is_of to y ≡ true → In (edges_into list from y) e ⊎ In (flat_map (edges_into list from) (filter (is_of to) some)) e → (In (flat_map (edges_into list from) (filter (is_of to) some)) e → Target list (y ∷ some) from to e) → Target list (y ∷ some) from to e
+    head : is_of to y ≡ true → In (covering_counts list from y) e ⊎ In (flat_map (covering_counts list from) (filter (is_of to) some)) e → (In (flat_map (covering_counts list from) (filter (is_of to) some)) e → Target list (y ∷ some) from to e) → Target list (y ∷ some) from to e
     head test (inl t) rest = record { access = y; stands = inl refl; core = eq_of y.at.core to test; source = source_in list list from y e t }
     head test (inr t) rest = rest t
 
-    by : (is_of to y ≡ true) ⊎ (is_of to y ≡ false) → In (flat_map (edges_into list from) (filter (is_of to) (y ∷ some))) e → (In (flat_map (edges_into list from) (filter (is_of to) some)) e → Target list (y ∷ some) from to e) → Target list (y ∷ some) from to e
-    by (inl test) t rest = head test (in_cases (edges_into list from y) (flat_map (edges_into list from) (filter (is_of to) some)) e (rw test at t)) rest
+    by : (is_of to y ≡ true) ⊎ (is_of to y ≡ false) → In (flat_map (covering_counts list from) (filter (is_of to) (y ∷ some))) e → (In (flat_map (covering_counts list from) (filter (is_of to) some)) e → Target list (y ∷ some) from to e) → Target list (y ∷ some) from to e
+    by (inl test) t rest = head test (in_cases (covering_counts list from y) (flat_map (covering_counts list from) (filter (is_of to) some)) e (rw test at t)) rest
     by (inr test) t rest = rest (rw test at t)
 
-in_target : (list some : List Access) (from to : ℕ) (y : Access) (e : ℕ × ℕ) → StandsIn some y → y.at.core ≡ to → In (edges_into list from y) e → In (flat_map (edges_into list from) (filter (is_of to) some)) e
+in_target : (list some : List Access) (from to : ℕ) (y : Access) (e : ℕ × ℕ) → StandsIn some y → y.at.core ≡ to → In (covering_counts list from y) e → In (flat_map (covering_counts list from) (filter (is_of to) some)) e
 in_target list [] from to y e s core t = absurd s
 in_target list (z ∷ some) from to y e (inl same) core t =
     let test : is_of to z ≡ true = of_eq z.at.core to (ap (λ (a : Access). a.at.core) same ∙ core) in
-    rw test (in_left (edges_into list from z) (flat_map (edges_into list from) (filter (is_of to) some)) e (subst (λ (a : Access). In (edges_into list from a) e) (sym same) t))
+    rw test (in_left (covering_counts list from z) (flat_map (covering_counts list from) (filter (is_of to) some)) e (subst (λ (a : Access). In (covering_counts list from a) e) (sym same) t))
 in_target list (z ∷ some) from to y e (inr s) core t = by (is_of to z) (in_target list some from to y e s core t)
   where
-    by : (b : Bool) → In (flat_map (edges_into list from) (filter (is_of to) some)) e → In (flat_map (edges_into list from) (cond b (z ∷ filter (is_of to) some) (filter (is_of to) some))) e
-    by true r = in_right (edges_into list from z) (flat_map (edges_into list from) (filter (is_of to) some)) e r
+    by : (b : Bool) → In (flat_map (covering_counts list from) (filter (is_of to) some)) e → In (flat_map (covering_counts list from) (cond b (z ∷ filter (is_of to) some) (filter (is_of to) some))) e
+    by true r = in_right (covering_counts list from z) (flat_map (covering_counts list from) (filter (is_of to) some)) e r
     by false r = r
 
 -- they rise by their targets
-targets_sorted : (list some : List Access) (from to : ℕ) → CountsRise list → CountsRise some → Sorted (flat_map (edges_into list from) (filter (is_of to) some))
+targets_sorted : (list some : List Access) (from to : ℕ) → CountsRise list → CountsRise some → Sorted (flat_map (covering_counts list from) (filter (is_of to) some))
 targets_sorted list [] from to rise rises = tt
 targets_sorted list (y ∷ some) from to rise rises = by (cases (is_of to y)) (targets_sorted list some from to rise rises.2)
   where
-    below : is_of to y ≡ true → (e f : ℕ × ℕ) → In (edges_into list from y) e → In (flat_map (edges_into list from) (filter (is_of to) some)) f → Below e f
+    below : is_of to y ≡ true → (e f : ℕ × ℕ) → In (covering_counts list from y) e → In (flat_map (covering_counts list from) (filter (is_of to) some)) f → Below e f
     below test e f s t =
         let q = source_in list list from y e s in
         let r = target_in list some from to f t in
@@ -130,8 +130,8 @@ targets_sorted list (y ∷ some) from to rise rises = by (cases (is_of to y)) (t
         let its : r.access.at.count ≡ f.1 = ap (λ (g : ℕ × ℕ). g.1) r.source.is in
         inl (omega arith)
 
-    by : (is_of to y ≡ true) ⊎ (is_of to y ≡ false) → Sorted (flat_map (edges_into list from) (filter (is_of to) some)) → Sorted (flat_map (edges_into list from) (filter (is_of to) (y ∷ some)))
-    by (inl test) rest = rw test (sorted_append (edges_into list from y) (flat_map (edges_into list from) (filter (is_of to) some)) (sources_sorted list list from y rise) rest (below test))
+    by : (is_of to y ≡ true) ⊎ (is_of to y ≡ false) → Sorted (flat_map (covering_counts list from) (filter (is_of to) some)) → Sorted (flat_map (covering_counts list from) (filter (is_of to) (y ∷ some)))
+    by (inl test) rest = rw test (sorted_append (covering_counts list from y) (flat_map (covering_counts list from) (filter (is_of to) some)) (sources_sorted list list from y rise) rest (below test))
     by (inr test) rest = rw test rest
 
 -- ---- the pair's list
@@ -160,7 +160,7 @@ covers_pair list x y rise cover =
     let is : Covering list a.access.at b.access.at = subst (λ (u : Instr). Covering list u b.access.at) (sym a.at_is) (subst (λ (v : Instr). Covering list x v) (sym b.at_is) cover) in
     let test : is_covering list a.access b.access ≡ true = covering_passes list a.access b.access rise a.stands b.stands is in
     let core : nat_eq a.access.at.core x.core ≡ true = of_eq a.access.at.core x.core (ap (λ (i : Instr). i.core) a.at_is) in
-    subst (λ (g : ℕ × ℕ). In (flat_map (edges_into list x.core) (filter (is_of y.core) list)) g) (same a.access.at b.access.at a.at_is b.at_is)
+    subst (λ (g : ℕ × ℕ). In (flat_map (covering_counts list x.core) (filter (is_of y.core) list)) g) (same a.access.at b.access.at a.at_is b.at_is)
     (in_target list list x.core y.core b.access (counts b.access a.access) b.stands (ap (λ (i : Instr). i.core) b.at_is)
     (in_source list list x.core b.access a.access a.stands (both (nat_eq a.access.at.core x.core) (is_covering list a.access b.access) core test)))
   where

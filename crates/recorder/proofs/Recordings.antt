@@ -4,19 +4,19 @@ use Rattle.std.specs.Prelude.{slice_index, slice_index_or}
 use Rattle.std.specs.List.{Contains}
 use Rattle.std.proofs.lemmas.List.{get_or-map, get_or-replicate, length-map, length-replicate}
 use Rattle.std.proofs.lemmas.List.Elements.{All-map}
-use Rattle.access_times.specs.declared.carries.NoCarry.{NoCarry}
-use Rattle.access_times.specs.declared.word_times.Times.{Times}
+use Rattle.access_times.specs.declared.carry.NoCarry.{NoCarry}
+use Rattle.access_times.specs.declared.times.Times.{Times}
 use Rattle.image_mem.specs.Contents.{Contents}
 use Rattle.rtr_types.specs.Parameters.{Fits}
 use Rattle.rtr_types.specs.Pairs.{pair_count, pair_place, source_at, target_at}
 use Rattle.rtr_types.proofs.PairPlaces.{places-paired}
-use Rattle.rtr_types.specs.declared.accesses.Access.{Access}
-use Rattle.rtr_types.specs.declared.nodes.Edge.{Edge}
-use Rattle.rtr_types.specs.declared.nodes.Instr.{Instr}
+use Rattle.rtr_types.specs.declared.access.Access.{Access}
+use Rattle.rtr_types.specs.declared.instr.Edge.{Edge}
+use Rattle.rtr_types.specs.declared.instr.Instr.{Instr}
 use Rattle.rtr_types.specs.declared.pairs.Which.TheVariants.{Reduced as ReducedLog}
-use Rattle.rtr_types.specs.declared.parameters.Params.{Params}
+use Rattle.rtr_types.specs.declared.params.Params.{Params}
 use Rattle.rv_core.specs.declared.core_state.Core.{Core}
-use Rattle.rv_core.specs.declared.outcomes.Outcome.{Outcome}
+use Rattle.rv_core.specs.declared.outcome.Outcome.{Outcome}
 use Rattle.schedule_pick.specs.Choices.{Choices, choice_at}
 use Rattle.clock_core.specs.Order.{Among}
 use Rattle.conflict_edge.proofs.TwoForms.{covering_law}
@@ -34,19 +34,19 @@ use Rattle.msi_plain.proofs.Shows.{plain_done}
 use Rattle.msi_state.specs.Plain.{plain, plain_node}
 use Rattle.msi_state.specs.Runs.{accesses}
 use Rattle.msi_state.specs.States.{State, all_done, no_node}
-use Rattle.msi_state.specs.declared.actors.Node.{Node}
+use Rattle.msi_state.specs.declared.node.Node.{Node}
 use Rattle.online_reduce.proofs.ByPair.{length-by_pair}
 use Rattle.online_reduce.specs.Exact.{IsReduction}
 use Rattle.online_reduce.specs.Lists.{RiseWithin}
 use Rattle.online_reduce.specs.Reduced.{Reduced, count_of}
-use Rattle.machine_run.proofs.Fitting.{run_fits_law}
-use Rattle.machine_run.proofs.Turns.{outcome_is, stands_end}
-use Rattle.machine_run.specs.Outcomes.{RunFits, outcome_of}
+use Rattle.run_outcome.proofs.Fitting.{run_fits_law}
+use Rattle.run_outcome.proofs.Turns.{outcome_is, stands_end}
+use Rattle.run_outcome.specs.Outcomes.{RunFits, outcome_of}
 use Rattle.recorder.proofs.LeastLists.{contains, in_list, least_lists_law, reduced_lists}
 use Rattle.recorder.proofs.SortedPairs.{In}
 use Rattle.recorder.specs.Clerks.{Noted}
 use Rattle.recorder.specs.LeastLists.{AreOf, least_lists}
-use Rattle.recorder.specs.Recordings.{accesses_of, outcome_left, recording_from, recording_of}
+use Rattle.recorder.specs.Recordings.{run_accesses, outcome_left, recording_from, recording_of}
 use Rattle.recorder.specs.Standing.{RecordsAt, no_carrying}
 
 -- ---- the reduced log
@@ -141,12 +141,12 @@ counts_are image params schedule t s c rest h core lt =
 pub record Ended (image : Contents) (params : Params) (schedule : Choices) (s : State Times NoCarry) (c : Noted) : Type 0 where
   pub outcome : outcome_left s c.loads.lists ≡ outcome_of image params schedule
   pub edges : List Edge
-  pub reduction : IsReduction (accesses_of image params schedule) c.reduction.state edges
+  pub reduction : IsReduction (run_accesses image params schedule) c.reduction.state edges
   pub cores : c.reduction.state.cores ≡ params.cores
   pub counts : (core : ℕ) → core < params.cores → slice_index (map (λ (k : Core). k.count) (outcome_left s c.loads.lists).cores) core ≡ count_of c.reduction.state core
 
 pub ended : (image : Contents) (params : Params) (schedule : Choices) (t : ℕ) (s : State Times NoCarry) (c : Noted) (rest : Choices) → Fits params → all_done s ≡ true → RecordsAt image params schedule t s c rest → Ended image params schedule s c
-unfolding accesses_of
+unfolding run_accesses
 ended image params schedule t s c rest fits done h =
     let last : t ≡ end_of image params (choice_at schedule) =
     one_end image params (choice_at schedule) t (record { cores = fits.cores; limit = omega (arith, fits.limit) }) (stands_end image params schedule t (plain s) c.loads.lists rest (sym (plain_done s) ∙ done) h.run) in
@@ -167,8 +167,8 @@ abbrev pub recording_left : Params → State Times NoCarry → Noted → Recordi
 recording_left params s c = recording_from params s.image (outcome_left s c.loads.lists) c.reduction.state.lists
 
 module _ (image : Contents) (params : Params) (schedule : Choices) (s : State Times NoCarry) (c : Noted) (same : s.image ≡ image) (h : Ended image params schedule s c) where
-  lists_are : c.reduction.state.lists ≡ least_lists params.cores (accesses_of image params schedule)
-  lists_are = reduced_lists (accesses_of image params schedule) c.reduction.state h.edges h.reduction ∙ ap (λ (n : ℕ). least_lists n (accesses_of image params schedule)) h.cores
+  lists_are : c.reduction.state.lists ≡ least_lists params.cores (run_accesses image params schedule)
+  lists_are = reduced_lists (run_accesses image params schedule) c.reduction.state h.edges h.reduction ∙ ap (λ (n : ℕ). least_lists n (run_accesses image params schedule)) h.cores
 
   -- the recording is the one that the definition names
   pub recording_is : recording_left params s c ≡ recording_of image params schedule
@@ -181,10 +181,10 @@ module _ (image : Contents) (params : Params) (schedule : Choices) (s : State Ti
   pub recording_valid : Fits params → image.words ≡ params.words → length image.bytes ≤ 4 * params.words → Valid (recording_left params s c)
   recording_valid fits words room =
       subst (λ (i : Contents). Valid (recording_from params i (outcome_left s c.loads.lists) c.reduction.state.lists)) (sym same)
-      (valid_from params image (outcome_left s c.loads.lists) (accesses_of image params schedule) c.reduction.state h.edges fits room
+      (valid_from params image (outcome_left s c.loads.lists) (run_accesses image params schedule) c.reduction.state h.edges fits room
       (subst (λ (o : Outcome). RunFits image params o) (sym h.outcome) (run_fits_law image params schedule fits words)) h.cores h.counts h.reduction)
 
-  pub recording_least : IsLeast (accesses_of image params schedule) (log_edges ReducedLog (recording_left params s c))
+  pub recording_least : IsLeast (run_accesses image params schedule) (log_edges ReducedLog (recording_left params s c))
   recording_least =
-      least_log (recording_left params s c) (accesses_of image params schedule) h.reduction.exact.rise
-      (of_cores params.cores (accesses_of image params schedule) c.reduction.state h.edges h.cores h.reduction) lists_are
+      least_log (recording_left params s c) (run_accesses image params schedule) h.reduction.exact.rise
+      (of_cores params.cores (run_accesses image params schedule) c.reduction.state h.edges h.cores h.reduction) lists_are

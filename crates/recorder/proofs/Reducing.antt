@@ -4,21 +4,21 @@ use Rattle.std.specs.Prelude.{◌%◌, reverse, slice_index, if◌then◌else◌
 use Rattle.std.proofs.lemmas.Bool.{cases_eq}
 use Rattle.std.proofs.lemmas.Bool.Decides.{nat_tests}
 use Rattle.std.proofs.lemmas.List.{get_or-set_same, reverse-append}
-use Rattle.access_times.specs.declared.word_times.Times.{Times}
+use Rattle.access_times.specs.declared.times.Times.{Times}
 use Rattle.access_times.specs.Times.{read_at}
-use Rattle.access_times.specs.declared.TheConstants.{BLOCK_WORDS}
+use Rattle.rtr_types.specs.declared.TheConstants.{BLOCK_WORDS}
 use Rattle.clock_core.specs.Counts.{no_counts}
-use Rattle.clock_core.specs.declared.vector_clock.Clock.{Clock}
-use Rattle.rtr_types.specs.declared.accesses.Access.{Access}
-use Rattle.rtr_types.specs.declared.nodes.Edge.{Edge}
-use Rattle.rtr_types.specs.declared.nodes.Instr.{Instr}
+use Rattle.clock_core.specs.declared.clock.Clock.{Clock}
+use Rattle.rtr_types.specs.declared.access.Access.{Access}
+use Rattle.rtr_types.specs.declared.instr.Edge.{Edge}
+use Rattle.rtr_types.specs.declared.instr.Instr.{Instr}
 use Rattle.conflict_edge.proofs.Reach.{kept_clock_law}
 use Rattle.conflict_edge.proofs.Reversed.{stands_forth}
 use Rattle.conflict_edge.proofs.Steps.{rising}
 use Rattle.conflict_edge.specs.Clocks.{last_read}
 use Rattle.conflict_edge.specs.Conflicts.{CountsRise, StandsIn}
 use Rattle.conflict_edge.specs.Times.{IsExactClock, IsNoteOf}
-use Rattle.msi_times.specs.ExactTimes.{FindsExactTimes, HaveExactClocks, IsClockOf, accesses, with_access}
+use Rattle.msi_times.specs.ExactTimes.{FindsExactTimes, HaveExactClocks, IsClockOf, retired_accesses, with_access}
 use Rattle.msi_times.specs.ExactTimes as times
 use Rattle.msi_times.specs.Retirements.{Retirement, retired_by}
 use Rattle.online_reduce.proofs.ExactNext.{other_clocks_law, retired_own}
@@ -42,13 +42,13 @@ found_exact list a rider found = record {
       subst (λ (n : Option (Instr × Clock)). IsNoteOf list (last_read (reverse list) a.word core) n) (same_note core (read_at rider (a.word % BLOCK_WORDS) core)) ((found.times writes).read_is core lt);
 }
 
--- ---- the accesses and the clocks of one retirement more
+-- ---- the retired_accesses and the clocks of one retirement more
 
-accesses_more : (list : List Retirement) (r : Retirement) → accesses (list ++ r ∷ []) ≡ accesses list ++ with_access r.access []
+accesses_more : (list : List Retirement) (r : Retirement) → retired_accesses (list ++ r ∷ []) ≡ retired_accesses list ++ with_access r.access []
 accesses_more [] r = refl
 accesses_more (q ∷ list) r = by q.access (accesses_more list r)
   where
-    by : (o : Option Access) → accesses (list ++ r ∷ []) ≡ accesses list ++ with_access r.access [] → with_access o (accesses (list ++ r ∷ [])) ≡ with_access o (accesses list) ++ with_access r.access []
+    by : (o : Option Access) → retired_accesses (list ++ r ∷ []) ≡ retired_accesses list ++ with_access r.access [] → with_access o (retired_accesses (list ++ r ∷ [])) ≡ with_access o (retired_accesses list) ++ with_access r.access []
     by None same = same
     by (Some a) same = ap (λ (l : List Access). a ∷ l) same
 
@@ -61,11 +61,11 @@ clock_stays : (all : List Access) (a b : Access) (clock : Clock) → CountsRise 
 clock_stays all a b clock rise stands exact i lt =
     exact i lt ∙ sym (kept_clock_law all a b.at i rise (λ (same : b.at.core ≡ a.at.core). (rising all a rise).1 b (stands_forth all b stands) same))
 
-clocks_stay : (all : List Access) (a : Access) (list : List Retirement) → CountsRise (all ++ a ∷ []) → ((b : Access) → StandsIn (accesses list) b → StandsIn all b) → HaveExactClocks all list → HaveExactClocks (all ++ a ∷ []) list
+clocks_stay : (all : List Access) (a : Access) (list : List Retirement) → CountsRise (all ++ a ∷ []) → ((b : Access) → StandsIn (retired_accesses list) b → StandsIn all b) → HaveExactClocks all list → HaveExactClocks (all ++ a ∷ []) list
 clocks_stay all a [] rise within exact = tt
 clocks_stay all a (q ∷ list) rise within exact = by q.access within exact.0 (λ inside. clocks_stay all a list rise inside exact.1)
   where
-    by : (o : Option Access) → ((b : Access) → StandsIn (with_access o (accesses list)) b → StandsIn all b) → IsClockOf all o q.clock → (((b : Access) → StandsIn (accesses list) b → StandsIn all b) → HaveExactClocks (all ++ a ∷ []) list) →
+    by : (o : Option Access) → ((b : Access) → StandsIn (with_access o (retired_accesses list)) b → StandsIn all b) → IsClockOf all o q.clock → (((b : Access) → StandsIn (retired_accesses list) b → StandsIn all b) → HaveExactClocks (all ++ a ∷ []) list) →
         IsClockOf (all ++ a ∷ []) o q.clock × HaveExactClocks (all ++ a ∷ []) list
     by None inside own rest = (tt, rest inside)
     by (Some b) inside own rest = (clock_stays all a b q.clock rise (inside b (inl refl)) own, rest (λ d s. inside d (inr s)))
@@ -118,7 +118,7 @@ pub reduces_local : (list : List Retirement) (all : List Access) (r : Reduced) (
 reduces_local list all r edges at clock next h =
     let q : Retirement = record { at = at; access = None; clock = clock } in
     record {
-      accesses_are = accesses_more list q ∙ append-nil (accesses list) ∙ h.accesses_are;
+      accesses_are = accesses_more list q ∙ append-nil (retired_accesses list) ∙ h.accesses_are;
       exact = clocks_more all list q h.exact tt;
       counts = counts_more list q r (counted r at) next (local_counted all r at h.reduction.exact next) h.counts;
       reduction = count_law all r edges at next h.reduction;

@@ -5,37 +5,37 @@ use Rattle.std.proofs.lemmas.List.{length-map}
 use Rattle.std.proofs.lemmas.List.Elements.{All-from_get_or}
 use Rattle.std.proofs.lemmas.List.FromFn.{length-map-range_with_len}
 use Rattle.access_times.specs.Times.{times_riding}
-use Rattle.access_times.specs.declared.carries.NoCarry.{NoCarry}
-use Rattle.access_times.specs.declared.word_times.Times.{Times}
-use Rattle.clock_core.specs.declared.vector_clock.Clock.{Clock}
+use Rattle.access_times.specs.declared.carry.NoCarry.{NoCarry}
+use Rattle.access_times.specs.declared.times.Times.{Times}
+use Rattle.clock_core.specs.declared.clock.Clock.{Clock}
 use Rattle.image_mem.specs.Contents.{Contents}
 use Rattle.rtr_types.specs.Parameters.{Fits}
-use Rattle.rtr_types.specs.declared.accesses.Access.{Access}
-use Rattle.rtr_types.specs.declared.nodes.Edge.{Edge}
-use Rattle.rtr_types.specs.declared.nodes.Instr.{Instr}
-use Rattle.rtr_types.specs.declared.parameters.Params.{Params}
-use Rattle.rv_core.specs.declared.outcomes.LoadNote.{LoadNote}
+use Rattle.rtr_types.specs.declared.access.Access.{Access}
+use Rattle.rtr_types.specs.declared.instr.Edge.{Edge}
+use Rattle.rtr_types.specs.declared.instr.Instr.{Instr}
+use Rattle.rtr_types.specs.declared.params.Params.{Params}
+use Rattle.rv_core.specs.declared.outcome.LoadNote.{LoadNote}
 use Rattle.schedule_pick.specs.Choices.{Choices, choice_at}
 use Rattle.msi_state.specs.Nodes.{Event, Nothing, Retires, Accesses, Tells, next_instr, rider_at, rider_of_event}
 use Rattle.msi_state.specs.Plain.{plain, plain_node}
 use Rattle.msi_state.specs.Runs.{accesses, accesses_in, chosen, event_by, loads_of, opening_state, plain_event, run}
 use Rattle.msi_state.specs.States.{PlainState, State, all_done, no_node, node_at, state_start}
 use Rattle.msi_state.specs.Steps.{event, retiring}
-use Rattle.msi_state.specs.declared.actors.Node.{Node}
+use Rattle.msi_state.specs.declared.node.Node.{Node}
 use Rattle.msi_state.specs.declared.moves.Move.{Move}
 use Rattle.msi_times.proofs.Begins.{machine_start}
 use Rattle.msi_times.proofs.ExactTimes.{exact_times_law}
 use Rattle.msi_times.proofs.RiderLaws.{times_fresh}
 use Rattle.msi_times.specs.ExactTimes.{FindsExactTimes, HaveExactClocks}
 use Rattle.msi_times.specs.ExactTimes as times
-use Rattle.msi_times.specs.Retirements.{IsExactRider, MachineStandsFor, Retirement, noted, with_event}
+use Rattle.msi_times.specs.Retirements.{IsExactRider, MachineStandsFor, Retirement, noted_accesses, with_event}
 use Rattle.msi_times.specs.TimedSteps.{StepFinds, core_of_event, times_parts, with_step}
 use Rattle.online_reduce.proofs.Reductions.{begin_law, no_count, none_counted}
 use Rattle.online_reduce.specs.Exact.{AreExactFor}
 use Rattle.online_reduce.specs.Reduced.{Reduced, clock_of, count_of, counted, edges_of, unreduced}
-use Rattle.machine_run.proofs.Turns.{Steps, numbered, stands_next, stands_start}
-use Rattle.machine_run.specs.Loads.{lists_told}
-use Rattle.machine_run.specs.Outcomes.{StandsAt}
+use Rattle.run_outcome.proofs.Turns.{Steps, numbered, stands_next, stands_start}
+use Rattle.run_outcome.specs.Loads.{lists_told}
+use Rattle.run_outcome.specs.Outcomes.{StandsAt}
 use Rattle.recorder.proofs.Reducing.{found_exact, reduces_access, reduces_local}
 use Rattle.recorder.specs.Clerks.{IsAwaited, Noted, ToldLocal, ToldTouch}
 use Rattle.recorder.specs.Standing.{RecordsAt, Reduces, no_carrying}
@@ -117,9 +117,9 @@ pub record Turned (s s' : State Times NoCarry) (m : Move) (c d : Noted) (rest re
   pub stands : (list : List Retirement) → MachineStandsFor times_parts no_carrying list s → MachineStandsFor times_parts no_carrying (with_step no_carrying s m (clock_of d.reduction.state) list) s'
   pub finds : (list : List Retirement) → MachineStandsFor times_parts no_carrying list s → StepFinds no_carrying s m list
 
--- the times that an access finds are exact, since the noted clocks are
+-- the times that an access finds are exact, since the noted_accesses clocks are
 step_exact : (e : Event) (n : Node Times NoCarry) (list : List Retirement) (all : List Access) → times.accesses list ≡ all → HaveExactClocks all list →
-    ((a : Access) → e ≡ Accesses a → IsExactRider times_parts (noted (reverse list)) a (rider_at times_riding n a.word)) → (a : Access) → e ≡ Accesses a → AreExactFor all a (rider_of_event times_riding e n)
+    ((a : Access) → e ≡ Accesses a → IsExactRider times_parts (noted_accesses (reverse list)) a (rider_at times_riding n a.word)) → (a : Access) → e ≡ Accesses a → AreExactFor all a (rider_of_event times_riding e n)
 step_exact Nothing n list all are exact finds a is = absurd cc
 step_exact (Retires at) n list all are exact finds a is = absurd cc
 step_exact (Accesses b) n list all are exact finds a is = subst (λ (x : Access). AreExactFor all x (rider_at times_riding n b.word)) same (found_exact all b (rider_at times_riding n b.word)

@@ -1,11 +1,11 @@
 -- What the recorder's clerk holds, and what it does when it is told of a retirement.
 use Rattle.std.specs.Prelude.{◌≡◌, ◌<◌, IsTrue, length}
 use Rattle.access_times.specs.Times.{times_noted}
-use Rattle.access_times.specs.declared.word_times.Times.{Times}
-use Rattle.rtr_types.specs.declared.accesses.Access.{Access}
-use Rattle.rtr_types.specs.declared.nodes.Instr.{Instr}
+use Rattle.access_times.specs.declared.times.Times.{Times}
+use Rattle.rtr_types.specs.declared.access.Access.{Access}
+use Rattle.rtr_types.specs.declared.instr.Instr.{Instr}
 use Rattle.load_lists.specs.Lists.{LoadRooms}
-use Rattle.machine_run.specs.Loads.{lists_after}
+use Rattle.run_outcome.specs.Loads.{lists_after}
 use Rattle.online_reduce.specs.Reduced.{IsNext, Readied, clock_of, counted, retired}
 
 -- the reduction of the run so far, and each core's loads so far, each with whether one more retirement needs no memory

@@ -2,8 +2,8 @@
 use Rattle.std.specs.Prelude.{ℕ, List, [], Bool, not, ◌&&◌, nat_eq, nat_le, ◌<◌, ◌↔◌, map, reverse, slice_index_or}
 use Rattle.std.specs.List.{Contains, filter, flat_map, list_any, range_with_len}
 use Rattle.rtr_types.specs.Pairs.{IsPair, pair_count, pair_place, source_at, target_at}
-use Rattle.rtr_types.specs.declared.accesses.Access.{Access}
-use Rattle.rtr_types.specs.declared.nodes.Instr.{Instr}
+use Rattle.rtr_types.specs.declared.access.Access.{Access}
+use Rattle.rtr_types.specs.declared.instr.Instr.{Instr}
 use Rattle.conflict_edge.specs.Clocks.{clock}
 use Rattle.conflict_edge.specs.Conflicts.{CountsRise, StandsIn, do_conflict}
 use Rattle.conflict_edge.specs.Least.{Covering}
@@ -25,12 +25,12 @@ is_covering list x y = (do_conflict x y && is_or_leads list x.at y.at) && not (l
 abbrev pub sources_of : List Access → (from : ℕ) → Access → List Access
 sources_of list from y = filter (λ x. nat_eq x.at.core from && is_covering list x y) list
 
-abbrev pub edges_into : List Access → (from : ℕ) → Access → List (ℕ × ℕ)
-edges_into list from y = map (λ x. (x.at.count, y.at.count)) (sources_of list from y)
+abbrev pub covering_counts : List Access → (from : ℕ) → Access → List (ℕ × ℕ)
+covering_counts list from y = map (λ x. (x.at.count, y.at.count)) (sources_of list from y)
 
 -- the covering pairs from the one core to the other, by target, each as its two counts
 unfoldable pub pair_list : List Access → (from to : ℕ) → List (ℕ × ℕ)
-pair_list list from to = flat_map (edges_into list from) (filter (λ y. nat_eq y.at.core to) list)
+pair_list list from to = flat_map (covering_counts list from) (filter (λ y. nat_eq y.at.core to) list)
 
 -- the covering pairs by pair of cores
 unfoldable pub least_lists : (cores : ℕ) → List Access → List (List (ℕ × ℕ))

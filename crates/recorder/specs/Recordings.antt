@@ -3,10 +3,10 @@ use Rattle.std.specs.Prelude.{ℕ, List, [], map, replicate}
 use Rattle.access_times.specs.Riding.{none_carrying, none_riding}
 use Rattle.image_mem.specs.Contents.{Contents}
 use Rattle.rtr_types.specs.Pairs.{pair_count}
-use Rattle.rtr_types.specs.declared.accesses.Access.{Access}
-use Rattle.rtr_types.specs.declared.parameters.Params.{Params}
-use Rattle.rv_core.specs.declared.outcomes.LoadNote.{LoadNote}
-use Rattle.rv_core.specs.declared.outcomes.Outcome.{Outcome}
+use Rattle.rtr_types.specs.declared.access.Access.{Access}
+use Rattle.rtr_types.specs.declared.params.Params.{Params}
+use Rattle.rv_core.specs.declared.outcome.LoadNote.{LoadNote}
+use Rattle.rv_core.specs.declared.outcome.Outcome.{Outcome}
 use Rattle.schedule_pick.specs.Choices.{Choices, choice_at}
 use Rattle.log_codec.specs.declared.recording.Recording.{Recording}
 use Rattle.msi_bound.specs.Ends.{end_of}
@@ -14,12 +14,12 @@ use Rattle.msi_state.specs.FinalMemory.{final_memory}
 use Rattle.msi_state.specs.Plain.{plain}
 use Rattle.msi_state.specs.Runs.{accesses}
 use Rattle.msi_state.specs.States.{State}
-use Rattle.machine_run.specs.Outcomes.{outcome_of}
+use Rattle.run_outcome.specs.Outcomes.{outcome_of}
 use Rattle.recorder.specs.LeastLists.{least_lists}
 
 -- the data accesses of the whole run, in the order in which their instructions retired
-unfoldable pub accesses_of : Contents → Params → Choices → List Access
-accesses_of image params schedule = accesses image params (choice_at schedule) (end_of image params (choice_at schedule))
+unfoldable pub run_accesses : Contents → Params → Choices → List Access
+run_accesses image params schedule = accesses image params (choice_at schedule) (end_of image params (choice_at schedule))
 
 -- what a state leaves with these loads: its cores, its memory and the loads
 abbrev pub outcome_left : {R K : Type 0} → State R K → List (List LoadNote) → Outcome
@@ -38,4 +38,4 @@ recording_from params image outcome reduced =
 
 -- the recording of the run: its edges are the least set of its accesses
 unfoldable pub recording_of : Contents → Params → Choices → Recording
-recording_of image params schedule = recording_from params image (outcome_of image params schedule) (least_lists params.cores (accesses_of image params schedule))
+recording_of image params schedule = recording_from params image (outcome_of image params schedule) (least_lists params.cores (run_accesses image params schedule))

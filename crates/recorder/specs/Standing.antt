@@ -1,12 +1,12 @@
 -- Where a run that is recorded stands.
 use Rattle.std.specs.Prelude.{◌≡◌, ℕ, ◌<◌, List, reverse}
 use Rattle.access_times.specs.Riding.{Carrying}
-use Rattle.access_times.specs.declared.carries.NoCarry.{NoCarry}
-use Rattle.access_times.specs.declared.word_times.Times.{Times}
+use Rattle.access_times.specs.declared.carry.NoCarry.{NoCarry}
+use Rattle.access_times.specs.declared.times.Times.{Times}
 use Rattle.image_mem.specs.Contents.{Contents}
-use Rattle.rtr_types.specs.declared.accesses.Access.{Access}
-use Rattle.rtr_types.specs.declared.nodes.Edge.{Edge}
-use Rattle.rtr_types.specs.declared.parameters.Params.{Params}
+use Rattle.rtr_types.specs.declared.access.Access.{Access}
+use Rattle.rtr_types.specs.declared.instr.Edge.{Edge}
+use Rattle.rtr_types.specs.declared.params.Params.{Params}
 use Rattle.schedule_pick.specs.Choices.{Choices, choice_at}
 use Rattle.msi_state.specs.Plain.{plain}
 use Rattle.msi_state.specs.Runs.{accesses}
@@ -17,7 +17,7 @@ use Rattle.msi_times.specs.Retirements.{MachineStandsFor, Retirement, retired_by
 use Rattle.msi_times.specs.TimedSteps.{times_parts}
 use Rattle.online_reduce.specs.Exact.{IsReduction}
 use Rattle.online_reduce.specs.Reduced.{Reduced, count_of}
-use Rattle.machine_run.specs.Outcomes.{StandsAt}
+use Rattle.run_outcome.specs.Outcomes.{StandsAt}
 use Rattle.recorder.specs.Clerks.{Noted}
 
 abbrev pub no_carrying : Carrying NoCarry

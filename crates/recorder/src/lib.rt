@@ -3,12 +3,12 @@
 //! caches' copies; the recorder holds no list of accesses.
 #![tactic(auto)]
 
-mod clerk;
-mod finished;
 pub mod laws;
+mod recorded;
 mod run;
+mod run_clerk;
 #[cfg(test)]
 mod tests;
 
-pub use finished::Recorded;
+pub use recorded::Recorded;
 pub use run::record_run;

@@ -5,20 +5,20 @@ ghost use Rattle.conflict_edge.specs.Least.{IsLeast};
 ghost use Rattle.image_mem.specs.Contents.{Contents};
 ghost use Rattle.log_codec.specs.Sources.{log_edges};
 ghost use Rattle.log_codec.specs.Validity.{Valid};
-ghost use Rattle.machine_run.specs.Outcomes.{outcome_of};
+ghost use Rattle.run_outcome.specs.Outcomes.{outcome_of};
 ghost use Rattle.msi_state.specs.Bound.{left};
 ghost use Rattle.msi_state.specs.Nodes.{next_instr};
 ghost use Rattle.msi_state.specs.States.{all_done};
 ghost use Rattle.rtr_types.specs.Parameters.{Fits};
 ghost use Rattle.rtr_types.specs.declared.pairs.Which.TheVariants.{Reduced};
-ghost use Rattle.rtr_types.specs.declared.parameters.Params.{Params};
+ghost use Rattle.rtr_types.specs.declared.params.Params.{Params};
 ghost use Rattle.schedule_pick.specs.Choices.{Choices};
 ghost use Rattle.recorder.specs.Clerks.{IsAwaited};
-ghost use Rattle.recorder.specs.Recordings.{accesses_of, recording_of};
+ghost use Rattle.recorder.specs.Recordings.{run_accesses, recording_of};
 ghost use Rattle.recorder.specs.Standing.{RecordsAt};
 
-use crate::clerk::RunClerk;
-use crate::finished::{Recorded, finished};
+use crate::recorded::{Recorded, finished};
+use crate::run_clerk::RunClerk;
 use access_times::{NoCarry, Times};
 use image_mem::Image;
 use msi_machine::Machine;
@@ -43,7 +43,7 @@ pub fn record_run(
     ensures outcome { IfOk result (λ run. run.outcome ≡ outcome_of image params schedule) }
     ensures recording { IfOk result (λ run. run.recording ≡ recording_of image params schedule) }
     ensures valid { IfOk result (λ run. Valid run.recording) }
-    ensures least { IfOk result (λ run. IsLeast (accesses_of image params schedule) (log_edges Reduced run.recording)) }
+    ensures least { IfOk result (λ run. IsLeast (run_accesses image params schedule) (log_edges Reduced run.recording)) }
 {
     let words = image.words();
     prove!(words == params.words);

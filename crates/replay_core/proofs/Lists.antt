@@ -1,11 +1,11 @@
 -- What a longer list does, by what its front does.
 use Rattle.std.proofs.Common.{◌≡◌, ℕ, Bool, true, false, List, [], ◌∷◌, ◌++◌, append_assoc, refl, sym, ap, subst, ◌∙◌}
 use Rattle.std.specs.Prelude.{cond, Option, Some, None}
-use Rattle.rtr_types.specs.declared.accesses.Access.{Access}
-use Rattle.rv_core.specs.declared.outcomes.Outcome.{Outcome}
+use Rattle.rtr_types.specs.declared.access.Access.{Access}
+use Rattle.rv_core.specs.declared.outcome.Outcome.{Outcome}
 use Rattle.rv_core.specs.Steps.{is_done}
 use Rattle.replay_core.specs.Plans.{Plan}
-use Rattle.replay_core.specs.Play.{core_at, need_at, place, touched, play, accesses, Plays, first_short}
+use Rattle.replay_core.specs.Play.{core_at, need_at, place, touched, play, accesses_from, Plays, first_short}
 use Rattle.replay_core.specs.Orders.{bump, counts, nought, Ready, Ordered}
 use Rattle.replay_core.specs.Laws.{PlayOnLaw, AccessesOnLaw, PlaysOnLaw, OrderedOnLaw, PlacesLaw, OneMoreLaw, ShortLaw}
 
@@ -17,7 +17,7 @@ pub accesses_on : AccessesOnLaw
 accesses_on p s [] ys = refl
 accesses_on p s (c ∷ xs) ys =
     ap (λ (l : List Access). touched p s c ++ l) (accesses_on p (place p s c) xs ys)
-    ∙ sym (append_assoc (touched p s c) (accesses p (place p s c) xs) (accesses p (play p (place p s c) xs) ys))
+    ∙ sym (append_assoc (touched p s c) (accesses_from p (place p s c) xs) (accesses_from p (play p (place p s c) xs) ys))
 
 -- ---- plays
 

@@ -9,7 +9,7 @@ use native.Mathlib.Decide.{ℕ_discrete}
 use Rattle.rtr_types.specs.Accesses.{is_write}
 use Rattle.image_mem.specs.Contents.{opening_word}
 use Rattle.rv_core.specs.declared.core_state.Core.{Core}
-use Rattle.rv_core.specs.declared.outcomes.Outcome.{Outcome}
+use Rattle.rv_core.specs.declared.outcome.Outcome.{Outcome}
 use Rattle.rv_core.specs.States.{starting}
 use Rattle.rv_core.specs.Steps.{after}
 use Rattle.rv_core.proofs.LawLemmas.{start_law, count_law, number_law, limit_law}

@@ -1,8 +1,8 @@
 -- A run along the low order, as the code goes it.
 use Rattle.std.proofs.Common.{◌≡◌, ◌∙◌, ℕ, ◌<◌, true, false, List, [], ◌∷◌, ◌++◌, length, sym, ap, subst, arith}
 use Rattle.std.specs.Prelude.{Some, None}
-use Rattle.rtr_types.specs.declared.cuts.Cut.{Cut}
-use Rattle.rv_core.specs.declared.outcomes.Outcome.{Outcome}
+use Rattle.rtr_types.specs.declared.cut.Cut.{Cut}
+use Rattle.rv_core.specs.declared.outcome.Outcome.{Outcome}
 use Rattle.rv_core.specs.Steps.{is_done}
 use Rattle.replay_core.specs.declared.answers.Advanced.{Advanced}
 use Rattle.replay_core.specs.declared.answers.Advanced.TheVariants as advanced

@@ -2,14 +2,14 @@
 use Rattle.std.specs.Prelude.{◌≡◌, ◌<◌, ◌≤◌, ℕ, Bool, true, false, List, [], ◌∷◌, length, map, nat_lt, slice_index_or, slice_set, Option, Some, None, if◌then◌else◌}
 use Rattle.std.specs.List.{Contains, range_with_len}
 use Rattle.rtr_types.specs.declared.TheConstants.{CORES_MAX}
-use Rattle.rtr_types.specs.declared.nodes.Instr.{Instr}
-use Rattle.rtr_types.specs.declared.nodes.Edge.{Edge}
-use Rattle.rtr_types.specs.declared.accesses.Access.{Access}
-use Rattle.rtr_types.specs.declared.cuts.Cut.{Cut}
+use Rattle.rtr_types.specs.declared.instr.Instr.{Instr}
+use Rattle.rtr_types.specs.declared.instr.Edge.{Edge}
+use Rattle.rtr_types.specs.declared.access.Access.{Access}
+use Rattle.rtr_types.specs.declared.cut.Cut.{Cut}
 use Rattle.image_mem.specs.Contents.{Contents}
 use Rattle.rv_core.specs.declared.core_state.Core.{Core}
-use Rattle.rv_core.specs.declared.outcomes.LoadNote.{LoadNote}
-use Rattle.rv_core.specs.declared.outcomes.Outcome.{Outcome}
+use Rattle.rv_core.specs.declared.outcome.LoadNote.{LoadNote}
+use Rattle.rv_core.specs.declared.outcome.Outcome.{Outcome}
 use Rattle.rv_core.specs.Steps.{is_done}
 use Rattle.log_codec.specs.declared.recording.Recording.{Recording}
 use Rattle.log_codec.specs.Validity.{Valid}
@@ -17,7 +17,7 @@ use Rattle.replay_core.specs.declared.answers.Advanced.{Advanced}
 use Rattle.replay_core.specs.declared.answers.Advanced.TheVariants as advanced
 use Rattle.replay_core.specs.declared.answers.ReplayFault.{ReplayFault}
 use Rattle.replay_core.specs.declared.answers.ReplayFault.TheVariants as faults
-use Rattle.replay_core.specs.Plans.{Plan, image_of}
+use Rattle.replay_core.specs.Plans.{Plan, recorded_image}
 use Rattle.replay_core.specs.Play.{Use, loads_after, instr, need_at, place, touched, start, first_short, played}
 use Rattle.replay_core.specs.Orders.{counts, nought, IsWhole, low_order}
 
@@ -92,7 +92,7 @@ IsMet edges f of at = (a : ℕ) → Contains edges (record { from = instr of a; 
 -- the parts of a replay belong to its recording
 pub record HoldsTogether (r : Recording) (image : Contents) (cores : List Core) (words : List ℕ) (loads : List (List LoadNote)) : Type 0 where
   pub valid : Valid r
-  pub image_is : image ≡ image_of r
+  pub image_is : image ≡ recorded_image r
   pub all_cores : length cores ≡ r.params.cores
   pub all_words : length words ≡ r.params.words
   pub all_loads : length loads ≡ r.params.cores

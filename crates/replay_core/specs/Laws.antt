@@ -1,12 +1,12 @@
 -- What holds of every plan, list of cores and play.
 use Rattle.std.specs.Prelude.{◌≡◌, ◌≢◌, ℕ, ◌<◌, ◌≤◌, ◌↔◌, true, List, [], ◌∷◌, ◌++◌, length, slice_index, None}
 use Rattle.std.specs.List.{Contains}
-use Rattle.rtr_types.specs.declared.nodes.Edge.{Edge}
-use Rattle.rtr_types.specs.declared.nodes.Instr.{Instr}
-use Rattle.rv_core.specs.declared.outcomes.Outcome.{Outcome}
+use Rattle.rtr_types.specs.declared.instr.Edge.{Edge}
+use Rattle.rtr_types.specs.declared.instr.Instr.{Instr}
+use Rattle.rv_core.specs.declared.outcome.Outcome.{Outcome}
 use Rattle.rv_core.specs.Steps.{after}
 use Rattle.replay_core.specs.Plans.{Plan}
-use Rattle.replay_core.specs.Play.{core_at, loads_at, instr, old_at, place, play, accesses, Plays, first_short, played}
+use Rattle.replay_core.specs.Play.{core_at, loads_at, instr, old_at, place, play, accesses_from, Plays, first_short, played}
 use Rattle.replay_core.specs.Orders.{bump, counts, nought, counts_in, Sourced, Ready, Ordered, IsReplayOrder, is_ready, low_order}
 
 -- ---- longer lists: with `c ∷ []` for `ys`, one more place at the end
@@ -18,7 +18,7 @@ abbrev pub PlayOnLaw : Type 0
 PlayOnLaw = (p : Plan) (s : Outcome) (xs ys : List ℕ) → play p s (xs ++ ys) ≡ play p (play p s xs) ys
 
 abbrev pub AccessesOnLaw : Type 0
-AccessesOnLaw = (p : Plan) (s : Outcome) (xs ys : List ℕ) → accesses p s (xs ++ ys) ≡ accesses p s xs ++ accesses p (play p s xs) ys
+AccessesOnLaw = (p : Plan) (s : Outcome) (xs ys : List ℕ) → accesses_from p s (xs ++ ys) ≡ accesses_from p s xs ++ accesses_from p (play p s xs) ys
 
 abbrev pub PlaysOnLaw : Type 0
 PlaysOnLaw = (p : Plan) (s : Outcome) (xs ys : List ℕ) → Plays p s (xs ++ ys) ↔ (Plays p s xs × Plays p (play p s xs) ys)

@@ -1,7 +1,7 @@
 -- Replay orders of a log, whole ones, and the low order. How far a list has come is a count for each core, as a function.
 use Rattle.std.specs.Prelude.{◌≡◌, ℕ, zero, suc, ◌+◌, ◌<◌, ◌≤◌, ◌==◌, Bool, true, ◌&&◌, ◌||◌, not, nat_lt, nat_le, nat_eq, List, [], ◌∷◌, length, slice_index, sum, Option, Some, None, if◌then◌else◌}
-use Rattle.rtr_types.specs.declared.nodes.Edge.{Edge}
-use Rattle.rv_core.specs.declared.outcomes.Outcome.{Outcome}
+use Rattle.rtr_types.specs.declared.instr.Edge.{Edge}
+use Rattle.rv_core.specs.declared.outcome.Outcome.{Outcome}
 use Rattle.replay_core.specs.Plans.{Plan}
 use Rattle.replay_core.specs.Play.{core_at}
 

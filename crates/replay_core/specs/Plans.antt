@@ -1,6 +1,6 @@
 -- What a replay takes of a recording and of one of its logs.
 use Rattle.std.specs.Prelude.{ℕ, List}
-use Rattle.rtr_types.specs.declared.nodes.Edge.{Edge}
+use Rattle.rtr_types.specs.declared.instr.Edge.{Edge}
 use Rattle.rtr_types.specs.declared.pairs.Which.{Which}
 use Rattle.image_mem.specs.Contents.{Contents}
 use Rattle.log_codec.specs.declared.recording.Recording.{Recording}
@@ -14,8 +14,8 @@ pub record Plan : Type 0 where
   pub edges : List Edge
 
 -- the recording's bytes over a memory of its words
-abbrev pub image_of : Recording → Contents
-image_of r = record { bytes = r.image; words = r.params.words }
+abbrev pub recorded_image : Recording → Contents
+recorded_image r = record { bytes = r.image; words = r.params.words }
 
 abbrev pub plan_of : Which → Recording → Plan
-plan_of which r = record { image = image_of r; limit = r.params.limit; totals = r.totals; edges = log_edges which r }
+plan_of which r = record { image = recorded_image r; limit = r.params.limit; totals = r.totals; edges = log_edges which r }

@@ -1,16 +1,16 @@
 -- The play of a list of cores: at each place its core retires one instruction, over one flat memory. What a play has
--- come to is an outcome; the accesses stand apart from it, so that two lists can end in the same outcome.
+-- come to is an outcome; the accesses_from stand apart from it, so that two lists can end in the same outcome.
 use Rattle.std.specs.Prelude.{◌≡◌, ℕ, ◌+◌, false, List, [], ◌∷◌, ◌++◌, length, map, replicate, slice_index, slice_index_or, slice_set, Option, Some, None, if◌then◌else◌}
 use Rattle.std.specs.List.{range_with_len}
-use Rattle.rtr_types.specs.declared.nodes.Instr.{Instr}
-use Rattle.rtr_types.specs.declared.accesses.Access.{Access}
-use Rattle.rtr_types.specs.declared.accesses.Kind.{Kind}
+use Rattle.rtr_types.specs.declared.instr.Instr.{Instr}
+use Rattle.rtr_types.specs.declared.access.Access.{Access}
+use Rattle.rtr_types.specs.declared.access.Kind.{Kind}
 use Rattle.rtr_types.specs.Accesses.{is_read, is_write}
 use Rattle.image_mem.specs.Contents.{opening_words}
 use Rattle.rv_core.specs.declared.core_state.Core.{Core}
 use Rattle.rv_core.specs.declared.core_state.Need.{Need}
-use Rattle.rv_core.specs.declared.outcomes.LoadNote.{LoadNote}
-use Rattle.rv_core.specs.declared.outcomes.Outcome.{Outcome}
+use Rattle.rv_core.specs.declared.outcome.LoadNote.{LoadNote}
+use Rattle.rv_core.specs.declared.outcome.Outcome.{Outcome}
 use Rattle.rv_core.specs.States.{starting}
 use Rattle.rv_core.specs.Steps.{need, after, wrote, is_done, access_of}
 use Rattle.replay_core.specs.Plans.{Plan}
@@ -94,10 +94,10 @@ abbrev pub play : Plan → Outcome → List ℕ → Outcome
 play p s [] = s
 play p s (c ∷ cs) = play p (place p s c) cs
 
--- their accesses, in order
-abbrev pub accesses : Plan → Outcome → List ℕ → List Access
-accesses p s [] = []
-accesses p s (c ∷ cs) = touched p s c ++ accesses p (place p s c) cs
+-- their accesses_from, in order
+abbrev pub accesses_from : Plan → Outcome → List ℕ → List Access
+accesses_from p s [] = []
+accesses_from p s (c ∷ cs) = touched p s c ++ accesses_from p (place p s c) cs
 
 -- the play falls short nowhere: no place has a core whose program is done
 abbrev pub Plays : Plan → Outcome → List ℕ → Type 0
@@ -114,4 +114,4 @@ abbrev pub played : Plan → List ℕ → Outcome
 played p order = play p (start p) order
 
 abbrev pub accesses_of : Plan → List ℕ → List Access
-accesses_of p order = accesses p (start p) order
+accesses_of p order = accesses_from p (start p) order

@@ -1,7 +1,7 @@
 //! A replay under way.
 ghost use Rattle.std.specs.Prelude.{◌≡◌, ◌<◌, ◌≤◌, ◌≢◌, ◌↔◌, ℕ, List, [], ◌++◌, ◌∷◌, true, length, map, slice_index, IfOk, OnOk, IsTrue, MatchResult};
 ghost use Rattle.std.specs.List.{range_with_len};
-ghost use Rattle.rtr_types.specs.declared.nodes.Instr.{Instr as SomeInstr};
+ghost use Rattle.rtr_types.specs.declared.instr.Instr.{Instr as SomeInstr};
 ghost use Rattle.rv_core.specs.States.{starting};
 ghost use Rattle.log_codec.specs.Validity.{Valid};
 ghost use Rattle.replay_core.specs.Plans.{plan_of};

@@ -1,7 +1,7 @@
 -- What a recording has of its run.
 use Rattle.std.proofs.Common.{◌≡◌, refl}
 use Rattle.image_mem.specs.Contents.{Contents}
-use Rattle.rtr_types.specs.declared.parameters.Params.{Params}
+use Rattle.rtr_types.specs.declared.params.Params.{Params}
 use Rattle.schedule_pick.specs.Choices.{Choices}
 use Rattle.recorder.specs.Recordings.{recording_of}
 

@@ -3,8 +3,8 @@ use Rattle.std.specs.Prelude.{◌≡◌, ℕ, ◌+◌, ◌≤◌, ◌⊎◌, Lis
 use Rattle.std.specs.Io.KnownBytes.{Appends, Consumes, IsAtEnd, Keeps}
 use Rattle.rtr_io.specs.Faults.{HasRisen}
 use Rattle.rtr_io.specs.Moved.{GivesPart, TakesJust}
-use Rattle.state_text.specs.declared.exits.Exit.{Exit}
-use Rattle.state_text.specs.declared.exits.Exit.TheVariants.{Done, Usage, TooLarge, Bad, ReadFault, WriteFault, OutOfMemory}
+use Rattle.state_text.specs.declared.exit.Exit.{Exit}
+use Rattle.state_text.specs.declared.exit.Exit.TheVariants.{Done, Usage, TooLarge, Bad, ReadFault, WriteFault, OutOfMemory}
 use Rattle.tool_words.specs.declared.command.Command.{Command}
 use Rattle.rtr_cli.specs.Commands.{Promised, made, most_of}
 

@@ -1,9 +1,9 @@
 -- What each command makes of an input.
 use Rattle.std.specs.Prelude.{ℕ, ◌*◌, List, Result, Ok, Err}
-use Rattle.recorder.specs.Recordings.{accesses_of, recording_of}
-use Rattle.rtr_types.specs.declared.accesses.Access.{Access}
+use Rattle.recorder.specs.Recordings.{run_accesses, recording_of}
+use Rattle.rtr_types.specs.declared.access.Access.{Access}
 use Rattle.image_mem.specs.Contents.{Contents}
-use Rattle.machine_run.specs.Outcomes.{outcome_of}
+use Rattle.run_outcome.specs.Outcomes.{outcome_of}
 use Rattle.schedule_pick.specs.Choices.{choices_of}
 use Rattle.log_codec.specs.declared.recording.Recording.{Recording}
 use Rattle.conflict_edge.specs.Least.{IsLeast}
@@ -11,8 +11,8 @@ use Rattle.log_codec.specs.Sources.{log_edges}
 use Rattle.rtr_types.specs.declared.pairs.Which.TheVariants.{Reduced}
 use Rattle.log_codec.specs.Reading.{whole_at}
 use Rattle.log_codec.specs.Spelling.{spelling}
-use Rattle.rtr_types.specs.declared.parameters.Params.{Params}
-use Rattle.rv_core.specs.declared.outcomes.Outcome.{Outcome}
+use Rattle.rtr_types.specs.declared.params.Params.{Params}
+use Rattle.rv_core.specs.declared.outcome.Outcome.{Outcome}
 use Rattle.state_text.specs.Logs.{logs_lines}
 use Rattle.state_text.specs.States.{state_lines}
 use Rattle.tool_words.specs.declared.command.Command.{Command}
@@ -39,7 +39,7 @@ recording_of_input params choices seed input = recording_of (image_of params inp
 
 -- the accesses of that run
 abbrev pub accesses_of_input : Params → (choices : List ℕ) (seed : ℕ) → (input : List ℕ) → List Access
-accesses_of_input params choices seed input = accesses_of (image_of params input) params (choices_of choices seed)
+accesses_of_input params choices seed input = run_accesses (image_of params input) params (choices_of choices seed)
 
 -- the logs of the recording that the input spells, or the first part that has no reading
 abbrev pub logs_of : Result Recording ℕ → Result (List ℕ) ℕ

@@ -5,8 +5,8 @@ ghost use Rattle.log_codec.specs.Faults.{Gives};
 ghost use Rattle.log_codec.specs.Sources.{log_edges};
 ghost use Rattle.rtr_types.specs.declared.pairs.Which.TheVariants.{Reduced};
 ghost use Rattle.log_codec.specs.Spelling.{spelling};
-ghost use Rattle.machine_run.specs.Outcomes.{outcome_of};
-ghost use Rattle.recorder.specs.Recordings.{accesses_of, recording_of};
+ghost use Rattle.run_outcome.specs.Outcomes.{outcome_of};
+ghost use Rattle.recorder.specs.Recordings.{run_accesses, recording_of};
 ghost use Rattle.rtr_types.specs.Parameters.{Fits};
 ghost use Rattle.state_text.specs.States.{state_lines};
 ghost use Rattle.tool_words.specs.Commands.{HasFittingParams};
@@ -14,9 +14,9 @@ ghost use Rattle.rtr_cli.specs.Commands.{Promised, image_of, made, most_of, outc
 
 use image_mem::Image;
 use log_codec::{CodecFault, Recording, read, spell};
-use machine_run::laws::a_run_fits_its_image;
 use recorder::{Recorded, record_run};
 use rtr_types::Params;
+use run_outcome::laws::a_run_fits_its_image;
 use schedule_pick::Schedule;
 use state_text::{logs_text, state_text};
 use std::alloc::{AllocError, Global};
@@ -77,7 +77,7 @@ fn record(
     requires fits { Fits params }
     requires within { vec_len bytes ≤ 4 * params.words }
     ensures made { IfOk result (λ out. out.items ≡ spelling (recording_of (image_of params bytes.items) params schedule)) }
-    ensures least { OnOk result (IsLeast (accesses_of (image_of params bytes.items) params schedule) (log_edges Reduced (recording_of (image_of params bytes.items) params schedule))) }
+    ensures least { OnOk result (IsLeast (run_accesses (image_of params bytes.items) params schedule) (log_edges Reduced (recording_of (image_of params bytes.items) params schedule))) }
 {
     let image = image(bytes, params.words);
     let recorded = record_run(alloc, image, params, schedule)?;

@@ -1,7 +1,7 @@
 -- What the kinds of access do to memory.
 use Rattle.std.specs.Prelude.{Bool, true, false}
-use Rattle.rtr_types.specs.declared.accesses.Kind.{Kind}
-use Rattle.rtr_types.specs.declared.accesses.Kind.TheVariants.{Load, Store}
+use Rattle.rtr_types.specs.declared.access.Kind.{Kind}
+use Rattle.rtr_types.specs.declared.access.Kind.TheVariants.{Load, Store}
 
 -- an access of this kind takes the word's value
 abbrev pub is_read : Kind → Bool

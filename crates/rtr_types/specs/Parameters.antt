@@ -1,8 +1,8 @@
 -- The ranges of a run's parameters.
 use Rattle.std.specs.Prelude.{◌≡◌, ◌≤◌, ◌%◌}
-use Rattle.rtr_types.specs.declared.parameters.Params.{Params}
+use Rattle.rtr_types.specs.declared.params.Params.{Params}
 use Rattle.rtr_types.specs.declared.TheConstants.{CORES_MAX}
-use Rattle.rtr_types.specs.declared.parameters.TheConstants.{LIMIT_MAX, WORDS_MIN, WORDS_MAX}
+use Rattle.rtr_types.specs.declared.params.TheConstants.{LIMIT_MAX, WORDS_MIN, WORDS_MAX}
 
 -- the parameters lie in their ranges
 pub record Fits (p : Params) : Type 0 where

@@ -2,22 +2,26 @@
 //! cores, and the parameters of a run.
 #![tactic(auto)]
 
-mod accesses;
+mod access;
 mod core_set;
-mod cuts;
-mod item_list;
-mod nodes;
+mod cut;
+mod instr;
+mod items;
 mod pairs;
-mod parameters;
+mod params;
 
-pub use accesses::{Access, Kind};
+pub use access::{Access, Kind};
 pub use core_set::{CoreSet, core_set_laws};
-pub use cuts::Cut;
-pub use item_list::Items;
-pub use nodes::{Edge, Instr};
+pub use cut::Cut;
+pub use instr::{Edge, Instr};
+pub use items::Items;
 pub use pairs::{Which, pair_at, pair_count, pair_laws, pair_of};
-pub use parameters::{LIMIT_MAX, Params, WORDS_MAX, WORDS_MIN};
+pub use params::{LIMIT_MAX, Params, WORDS_MAX, WORDS_MIN};
 
 /// The greatest number of cores of a machine. Every array, capacity and inline size that counts
 /// cores is written with it.
 pub const CORES_MAX: u8 = 8;
+
+/// How many words a block has: what caches, home and messages hold and move at once. A word's block is
+/// `word / BLOCK_WORDS`, its slot in the block is `word % BLOCK_WORDS`.
+pub const BLOCK_WORDS: usize = 4;

@@ -1,6 +1,6 @@
 -- The laws of a core's steps.
 use Rattle.std.proofs.Common.{◌≡◌, ◌<◌, ℕ, ◌+◌, ◌^◌, true, Option, Some, None, refl, sym, ◌∙◌, ap, lit<}
-use Rattle.rv_decode.specs.declared.instructions.Op.{Op}
+use Rattle.rv_decode.specs.declared.op.Op.{Op}
 use Rattle.image_mem.specs.Contents.{Contents}
 use Rattle.rv_core.specs.declared.core_state.Core.{Core}
 use Rattle.rv_core.specs.States.{starting, retired, word_after}

@@ -2,7 +2,7 @@
 use Rattle.std.proofs.Common.{◌≡◌, ◌<◌, ℕ, ◌*◌, ◌/◌, ◌%◌, Bool, true, false, Option, Some, None, nat_le, nat_eq, refl, sym, ◌∙◌, ap, arith}
 use Rattle.std.specs.Prelude.{option_and_then, if◌then◌else◌, ◌==◌}
 use Rattle.std.proofs.lemmas.Bool.Decides.{nat_tests}
-use Rattle.rv_decode.specs.declared.instructions.Op.{Op}
+use Rattle.rv_decode.specs.declared.op.Op.{Op}
 use Rattle.rv_decode.specs.Table.{decoded}
 use Rattle.image_mem.specs.Contents.{Contents, fetched}
 use Rattle.rv_core.specs.declared.core_state.Core.{Core}

@@ -1,8 +1,8 @@
 -- A need never stops at the total.
 use Rattle.std.proofs.Common.{◌≡◌, ℕ, ◌/◌, ◌%◌, ◌*◌, Bool, true, false, Option, Some, None, nat_le, nat_eq, refl, sym, ◌∙◌, ap}
 use Rattle.std.specs.Prelude.{if◌then◌else◌}
-use Rattle.rv_decode.specs.declared.instructions.Op.{Op}
-use Rattle.rv_decode.specs.declared.instructions.Op.TheVariants.{Jal, Jalr, Branch, Load as Loads, Store as Stores}
+use Rattle.rv_decode.specs.declared.op.Op.{Op}
+use Rattle.rv_decode.specs.declared.op.Op.TheVariants.{Jal, Jalr, Branch, Load as Loads, Store as Stores}
 use Rattle.rv_decode.specs.Table.{decoded}
 use Rattle.image_mem.specs.Contents.{fetched}
 use Rattle.rv_core.specs.declared.core_state.Core.{Core}

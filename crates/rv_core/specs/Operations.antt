@@ -2,12 +2,12 @@
 -- 2.6. A register's value is its 32 bits, as a number below 2 ^ 32.
 use Rattle.std.specs.Prelude.{ℕ, ℤ, ◌+◌, ◌-◌, ◌*◌, ◌/◌, ◌%◌, ◌^◌, Bool, not, ◌==◌, nat_lt, nat_le, int_lt, if◌then◌else◌, bit_and, bit_or, bit_xor}
 use Rattle.std.specs.Int.{w8, w16, w32, cast_signed, cast_unsigned, int_shr}
-use Rattle.rv_decode.specs.declared.instructions.Alu.{Alu}
-use Rattle.rv_decode.specs.declared.instructions.Alu.TheVariants.{Add, Sub, Sll, Slt, Sltu, Xor, Srl, Sra, Or, And}
-use Rattle.rv_decode.specs.declared.instructions.Cond.{Cond}
-use Rattle.rv_decode.specs.declared.instructions.Cond.TheVariants.{Eq, Ne, Lt, Ge, Ltu, Geu}
-use Rattle.rv_decode.specs.declared.instructions.Width.{Width}
-use Rattle.rv_decode.specs.declared.instructions.Width.TheVariants.{Byte, Half, Word, ByteU, HalfU}
+use Rattle.rv_decode.specs.declared.op.Alu.{Alu}
+use Rattle.rv_decode.specs.declared.op.Alu.TheVariants.{Add, Sub, Sll, Slt, Sltu, Xor, Srl, Sra, Or, And}
+use Rattle.rv_decode.specs.declared.op.Cond.{Cond}
+use Rattle.rv_decode.specs.declared.op.Cond.TheVariants.{Eq, Ne, Lt, Ge, Ltu, Geu}
+use Rattle.rv_decode.specs.declared.op.Width.{Width}
+use Rattle.rv_decode.specs.declared.op.Width.TheVariants.{Byte, Half, Word, ByteU, HalfU}
 
 -- the 32 bits of a signed number, and the signed number that 32 bits are, as two's complement
 abbrev pub bits_of : ℤ → ℕ

@@ -1,14 +1,14 @@
 -- What a core's next instruction needs, the core after it, and the word's value after it. Where several
 -- stops hold, the first of their order is taken.
 use Rattle.std.specs.Prelude.{ℕ, ◌+◌, ◌*◌, ◌/◌, ◌%◌, ◌==◌, nat_le, Bool, true, false, if◌then◌else◌, Option, Some, None, option_and_then}
-use Rattle.rv_decode.specs.declared.instructions.Op.{Op}
-use Rattle.rv_decode.specs.declared.instructions.Op.TheVariants.{Jal, Jalr, Branch, Load as Loads, Store as Stores}
-use Rattle.rv_decode.specs.declared.instructions.Width.{Width}
-use Rattle.rv_decode.specs.declared.instructions.Width.TheVariants.{Word}
+use Rattle.rv_decode.specs.declared.op.Op.{Op}
+use Rattle.rv_decode.specs.declared.op.Op.TheVariants.{Jal, Jalr, Branch, Load as Loads, Store as Stores}
+use Rattle.rv_decode.specs.declared.op.Width.{Width}
+use Rattle.rv_decode.specs.declared.op.Width.TheVariants.{Word}
 use Rattle.rv_decode.specs.Table.{decoded}
 use Rattle.image_mem.specs.Contents.{Contents, fetched}
-use Rattle.rtr_types.specs.declared.accesses.Kind.{Kind}
-use Rattle.rtr_types.specs.declared.accesses.Kind.TheVariants.{Load as Loading, Store as Storing}
+use Rattle.rtr_types.specs.declared.access.Kind.{Kind}
+use Rattle.rtr_types.specs.declared.access.Kind.TheVariants.{Load as Loading, Store as Storing}
 use Rattle.rv_core.specs.declared.core_state.Core.{Core}
 use Rattle.rv_core.specs.declared.core_state.Halt.{Halt}
 use Rattle.rv_core.specs.declared.core_state.Halt.TheVariants.{Running, Exited, Broke}

@@ -9,9 +9,9 @@ mod core_state;
 mod lane_access;
 pub mod laws;
 mod operations;
-mod outcomes;
+mod outcome;
 #[cfg(test)]
 mod tests;
 
 pub use core_state::{Core, Halt, Need, REGISTERS, Stop};
-pub use outcomes::{LoadNote, Outcome};
+pub use outcome::{LoadNote, Outcome};

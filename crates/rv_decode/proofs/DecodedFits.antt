@@ -2,8 +2,8 @@
 use Rattle.std.proofs.Common.{◌≡◌, ℕ, Bool, true, false, cond, nat_eq, ◌%◌, ◌^◌, ◌<◌, arith, Option, Some, None, IfSome, option_map, ℤ, pos}
 use Rattle.std.proofs.lemmas.Bool.Decides.{nat_tests}
 use Rattle.std.proofs.lemmas.Int.{ints}
-use Rattle.rv_decode.specs.declared.instructions.Alu.{Alu}
-use Rattle.rv_decode.specs.declared.instructions.Op.{Op}
+use Rattle.rv_decode.specs.declared.op.Alu.{Alu}
+use Rattle.rv_decode.specs.declared.op.Op.{Op}
 use Rattle.rv_decode.specs.Fields.{signed, opcode, funct3, funct7, rs2, immediate_i, immediate_s, immediate_b, immediate_j}
 use Rattle.rv_decode.specs.Ranges.{Fits, IsImmediate, IsShiftAmount, IsBranchOffset, IsJumpOffset, IsStored, IsAluImmediate}
 use Rattle.rv_decode.specs.Table.{decoded, condition_of, loaded_width, stored_width, shift_of, immediate_alu, register_alu, jump_and_link_register, branch, load, store, constant_shift, alu_immediate, alu_register, fence, system}

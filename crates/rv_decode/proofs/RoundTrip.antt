@@ -1,13 +1,13 @@
 -- An instruction's word is read back as that instruction.
 use Rattle.std.proofs.Common.{◌≡◌, ℕ, ◌<◌, refl, ap, sym, subst, ◌∙◌, Some, ℤ, pos, lit<}
-use Rattle.rv_decode.specs.declared.instructions.Cond.{Cond}
-use Rattle.rv_decode.specs.declared.instructions.Cond.TheVariants.{Eq, Ne, Lt, Ge, Ltu, Geu}
-use Rattle.rv_decode.specs.declared.instructions.Width.{Width}
-use Rattle.rv_decode.specs.declared.instructions.Width.TheVariants.{Byte, Half, Word, ByteU, HalfU}
-use Rattle.rv_decode.specs.declared.instructions.Alu.{Alu}
-use Rattle.rv_decode.specs.declared.instructions.Alu.TheVariants.{Add, Sub, Sll, Slt, Sltu, Xor, Srl, Sra, Or, And}
-use Rattle.rv_decode.specs.declared.instructions.Op.{Op}
-use Rattle.rv_decode.specs.declared.instructions.Op.TheVariants.{Lui, Auipc, Jal, Jalr, Branch, Load, Store, AluImm, AluReg, Fence, Ecall, Ebreak}
+use Rattle.rv_decode.specs.declared.op.Cond.{Cond}
+use Rattle.rv_decode.specs.declared.op.Cond.TheVariants.{Eq, Ne, Lt, Ge, Ltu, Geu}
+use Rattle.rv_decode.specs.declared.op.Width.{Width}
+use Rattle.rv_decode.specs.declared.op.Width.TheVariants.{Byte, Half, Word, ByteU, HalfU}
+use Rattle.rv_decode.specs.declared.op.Alu.{Alu}
+use Rattle.rv_decode.specs.declared.op.Alu.TheVariants.{Add, Sub, Sll, Slt, Sltu, Xor, Srl, Sra, Or, And}
+use Rattle.rv_decode.specs.declared.op.Op.{Op}
+use Rattle.rv_decode.specs.declared.op.Op.TheVariants.{Lui, Auipc, Jal, Jalr, Branch, Load, Store, AluImm, AluReg, Fence, Ecall, Ebreak}
 use Rattle.rv_decode.specs.Fields.{field}
 use Rattle.rv_decode.specs.Ranges.{Fits, IsRegister, IsStored, IsAluImmediate}
 use Rattle.rv_decode.specs.Table.{decoded, condition_of, loaded_width, stored_width, register_alu, jump_and_link_register, branch, load, store, constant_shift, alu_immediate, alu_register, fence, system}

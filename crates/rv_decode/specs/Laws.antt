@@ -1,6 +1,6 @@
 -- What holds of words and instructions in general.
 use Rattle.std.specs.Prelude.{◌≡◌, ℕ, Some, IfSome}
-use Rattle.rv_decode.specs.declared.instructions.Op.{Op}
+use Rattle.rv_decode.specs.declared.op.Op.{Op}
 use Rattle.rv_decode.specs.Ranges.{Fits}
 use Rattle.rv_decode.specs.Table.{decoded}
 use Rattle.rv_decode.specs.Words.{encoding}

@@ -1,14 +1,14 @@
 -- The table of RV32I: which instruction a word is, by opcode, then funct3, then funct7, in the order of
 -- the RISC-V Unprivileged ISA's listing of chapter 24.
 use Rattle.std.specs.Prelude.{ℕ, pos, ◌==◌, if◌then◌else◌, Option, Some, None, option_map}
-use Rattle.rv_decode.specs.declared.instructions.Cond.{Cond}
-use Rattle.rv_decode.specs.declared.instructions.Cond.TheVariants.{Eq, Ne, Lt, Ge, Ltu, Geu}
-use Rattle.rv_decode.specs.declared.instructions.Width.{Width}
-use Rattle.rv_decode.specs.declared.instructions.Width.TheVariants.{Byte, Half, Word, ByteU, HalfU}
-use Rattle.rv_decode.specs.declared.instructions.Alu.{Alu}
-use Rattle.rv_decode.specs.declared.instructions.Alu.TheVariants.{Add, Sub, Sll, Slt, Sltu, Xor, Srl, Sra, Or, And}
-use Rattle.rv_decode.specs.declared.instructions.Op.{Op}
-use Rattle.rv_decode.specs.declared.instructions.Op.TheVariants.{Lui, Auipc, Jal, Jalr, Branch, Load, Store, AluImm, AluReg, Fence, Ecall, Ebreak}
+use Rattle.rv_decode.specs.declared.op.Cond.{Cond}
+use Rattle.rv_decode.specs.declared.op.Cond.TheVariants.{Eq, Ne, Lt, Ge, Ltu, Geu}
+use Rattle.rv_decode.specs.declared.op.Width.{Width}
+use Rattle.rv_decode.specs.declared.op.Width.TheVariants.{Byte, Half, Word, ByteU, HalfU}
+use Rattle.rv_decode.specs.declared.op.Alu.{Alu}
+use Rattle.rv_decode.specs.declared.op.Alu.TheVariants.{Add, Sub, Sll, Slt, Sltu, Xor, Srl, Sra, Or, And}
+use Rattle.rv_decode.specs.declared.op.Op.{Op}
+use Rattle.rv_decode.specs.declared.op.Op.TheVariants.{Lui, Auipc, Jal, Jalr, Branch, Load, Store, AluImm, AluReg, Fence, Ecall, Ebreak}
 use Rattle.rv_decode.specs.Fields.{opcode, rd, funct3, rs1, rs2, funct7, immediate_i, immediate_s, immediate_b, immediate_j, upper}
 
 -- BEQ, BNE, BLT, BGE, BLTU, BGEU, by funct3

@@ -2,14 +2,14 @@
 -- sections 2.2 and 2.3.
 use Rattle.std.specs.Prelude.{ℕ, ℤ, ◌+◌, ◌*◌, ◌^◌, Bool, true, false, if◌then◌else◌}
 use Rattle.std.specs.Int.{cast_unsigned, w32}
-use Rattle.rv_decode.specs.declared.instructions.Cond.{Cond}
-use Rattle.rv_decode.specs.declared.instructions.Cond.TheVariants.{Eq, Ne, Lt, Ge, Ltu, Geu}
-use Rattle.rv_decode.specs.declared.instructions.Width.{Width}
-use Rattle.rv_decode.specs.declared.instructions.Width.TheVariants.{Byte, Half, Word, ByteU, HalfU}
-use Rattle.rv_decode.specs.declared.instructions.Alu.{Alu}
-use Rattle.rv_decode.specs.declared.instructions.Alu.TheVariants.{Add, Sub, Sll, Slt, Sltu, Xor, Srl, Sra, Or, And}
-use Rattle.rv_decode.specs.declared.instructions.Op.{Op}
-use Rattle.rv_decode.specs.declared.instructions.Op.TheVariants.{Lui, Auipc, Jal, Jalr, Branch, Load, Store, AluImm, AluReg, Fence, Ecall, Ebreak}
+use Rattle.rv_decode.specs.declared.op.Cond.{Cond}
+use Rattle.rv_decode.specs.declared.op.Cond.TheVariants.{Eq, Ne, Lt, Ge, Ltu, Geu}
+use Rattle.rv_decode.specs.declared.op.Width.{Width}
+use Rattle.rv_decode.specs.declared.op.Width.TheVariants.{Byte, Half, Word, ByteU, HalfU}
+use Rattle.rv_decode.specs.declared.op.Alu.{Alu}
+use Rattle.rv_decode.specs.declared.op.Alu.TheVariants.{Add, Sub, Sll, Slt, Sltu, Xor, Srl, Sra, Or, And}
+use Rattle.rv_decode.specs.declared.op.Op.{Op}
+use Rattle.rv_decode.specs.declared.op.Op.TheVariants.{Lui, Auipc, Jal, Jalr, Branch, Load, Store, AluImm, AluReg, Fence, Ecall, Ebreak}
 use Rattle.rv_decode.specs.Fields.{field}
 
 -- the 32 bits of a signed number as two's complement

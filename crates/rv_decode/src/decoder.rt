@@ -6,7 +6,7 @@ ghost use Rattle.rv_decode.specs.Table.{decoded, condition_of, loaded_width, sto
 use crate::fields::{
     funct3, funct7, immediate_b, immediate_i, immediate_j, immediate_s, opcode, rd, rs1, rs2, upper,
 };
-use crate::instructions::{Alu, Cond, Op, Width};
+use crate::op::{Alu, Cond, Op, Width};
 
 /// The instruction that the word is, or None where it is no instruction of RV32I. Such an instruction
 /// has its registers and immediates in their ranges.

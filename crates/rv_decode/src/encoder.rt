@@ -6,7 +6,7 @@ ghost use Rattle.rv_decode.specs.Words.{encoding, condition_code, width_code, al
 
 use crate::fields::field;
 use crate::formats::{word_b, word_i, word_j, word_r, word_s, word_u};
-use crate::instructions::{Alu, Cond, Op, Width};
+use crate::op::{Alu, Cond, Op, Width};
 
 /// The instruction's word, from which `decode` has the instruction again. FENCE is 0x0FF0000F, which
 /// orders all before it with all after it.

@@ -8,14 +8,14 @@ mod decoder;
 mod encoder;
 mod fields;
 mod formats;
-mod instructions;
 mod laws;
+mod op;
 mod ranges;
 
 pub use decoder::decode;
 pub use encoder::encode;
-pub use instructions::{Alu, Cond, Op, Width};
 pub use laws::{decode_of_encode, decoded_fits};
+pub use op::{Alu, Cond, Op, Width};
 pub use ranges::fits;
 
 #[cfg(test)]

@@ -2,7 +2,7 @@
 ghost use Rattle.std.specs.Prelude.{IsTrue, ◌↔◌, ◌≤ℤ◌};
 ghost use Rattle.rv_decode.specs.Ranges.{Fits, IsRegister, IsUpper, IsImmediate, IsShiftAmount, IsEven, IsBranchOffset, IsJumpOffset, IsStored, IsAluImmediate};
 
-use crate::instructions::{Alu, Op, Width};
+use crate::op::{Alu, Op, Width};
 
 /// Whether the instruction has a word: registers are below 32, `upper` is below 2^20, an immediate is
 /// from -2048 to 2047, the amount of a shift from 0 to 31, a branch offset even and from -4096 to 4094,

@@ -4,7 +4,7 @@ use Rattle.std.proofs.Math.Seq.{drop-cons}
 use Rattle.std.proofs.lemmas.Bool.Decides.{nat_tests}
 use Rattle.rand_pcg.specs.Lcg.{Lcg}
 use Rattle.rand_pcg.specs.Pcg.{pcg32}
-use Rattle.schedule_pick.specs.Choices.{Choices, word_at, choice_at, choices_after, FollowingLaw}
+use Rattle.schedule_pick.specs.Choices.{Choices, drawn_word, choice_at, choices_after, FollowingLaw}
 
 -- what follows the first byte
 following-byte : (byte : ℕ) (bytes : List ℕ) (words : Lcg) (t : ℕ) →
@@ -14,20 +14,20 @@ following-byte byte bytes words t =
     let test : nat_lt t (length bytes) ≡ nat_lt (t + 1) (length (byte ∷ bytes)) = grind (arith, nat_tests) in
     let index : get_or bytes t 0 ≡ get_or (byte ∷ bytes) (t + 1) 0 = rw add-one in
     let rest : t - length bytes ≡ t + 1 - length (byte ∷ bytes) = omega arith in
-    ap (λ b. cond b (get_or bytes t 0) (word_at words (t - length bytes))) test
-    ∙ ap (λ v. cond (nat_lt (t + 1) (length (byte ∷ bytes))) v (word_at words (t - length bytes))) index
-    ∙ ap (λ n. cond (nat_lt (t + 1) (length (byte ∷ bytes))) (get_or (byte ∷ bytes) (t + 1) 0) (word_at words n)) rest
+    ap (λ b. cond b (get_or bytes t 0) (drawn_word words (t - length bytes))) test
+    ∙ ap (λ v. cond (nat_lt (t + 1) (length (byte ∷ bytes))) v (drawn_word words (t - length bytes))) index
+    ∙ ap (λ n. cond (nat_lt (t + 1) (length (byte ∷ bytes))) (get_or (byte ∷ bytes) (t + 1) 0) (drawn_word words n)) rest
 
 -- with no byte left the choices are the words
-words-alone : (words : Lcg) (t : ℕ) → choice_at (record { bytes = []; words = words }) t ≡ word_at words t
+words-alone : (words : Lcg) (t : ℕ) → choice_at (record { bytes = []; words = words }) t ≡ drawn_word words t
 unfolding choice_at
 words-alone words t =
     let test : nat_lt t 0 ≡ false = grind (arith, nat_tests) in
     let whole : t - 0 ≡ t = omega arith in
-    ap (λ b. cond b (get_or {A = ℕ} [] t 0) (word_at words (t - 0))) test ∙ ap (λ n. word_at words n) whole
+    ap (λ b. cond b (get_or {A = ℕ} [] t 0) (drawn_word words (t - 0))) test ∙ ap (λ n. drawn_word words n) whole
 
-following-word : (words : Lcg) (t : ℕ) → word_at (pcg32 words).1 t ≡ word_at words (t + 1)
-unfolding word_at
+following-word : (words : Lcg) (t : ℕ) → drawn_word (pcg32 words).1 t ≡ drawn_word words (t + 1)
+unfolding drawn_word
 following-word words t = rw add-one
 
 following : (bytes : List ℕ) (words : Lcg) (t : ℕ) →
@@ -43,7 +43,7 @@ at-byte : (byte : ℕ) (bytes : List ℕ) (words : Lcg) → choice_at (record { 
 unfolding choice_at
 at-byte byte bytes words =
     let test : nat_lt 0 (length (byte ∷ bytes)) ≡ true = grind (arith, nat_tests) in
-    ap (λ b. cond b byte (word_at words (0 - length (byte ∷ bytes)))) test
+    ap (λ b. cond b byte (drawn_word words (0 - length (byte ∷ bytes)))) test
 
 -- a byte is left
 pub first-byte : (bytes : List ℕ) (next : ℕ) (words : Lcg) → next < length bytes →
@@ -62,7 +62,7 @@ after-byte bytes next words some =
 
 -- no byte is left
 pub first-word : (bytes : List ℕ) (words : Lcg) → bytes ≡ [] → choice_at (record { bytes = bytes; words = words }) 0 ≡ (pcg32 words).0
-unfolding word_at
+unfolding drawn_word
 first-word bytes words none = ap (λ l. choice_at (record { bytes = l; words = words }) 0) none ∙ words-alone words 0
 
 pub after-word : (bytes : List ℕ) (words : Lcg) → bytes ≡ [] → record { bytes = bytes; words = (pcg32 words).1 } ≡ choices_after (record { bytes = bytes; words = words })

@@ -13,13 +13,13 @@ abbrev pub choices_of : (bytes : List ℕ) (seed : ℕ) → Choices
 choices_of bytes seed = record { bytes = bytes; words = started 64 multiplier_64 seed (increment_of 64 0) }
 
 -- the word numbered n, from 0, of a generator
-unfoldable pub word_at : Lcg → ℕ → ℕ
-word_at g zero = (pcg32 g).0
-word_at g (suc n) = word_at (pcg32 g).1 n
+unfoldable pub drawn_word : Lcg → ℕ → ℕ
+drawn_word g zero = (pcg32 g).0
+drawn_word g (suc n) = drawn_word (pcg32 g).1 n
 
 -- the choice numbered t, from 0: the t-th byte, or after k bytes the word numbered t - k
 unfoldable pub choice_at : Choices → ℕ → ℕ
-choice_at c t = if nat_lt t (length c.bytes) then slice_index c.bytes t else word_at c.words (t - length c.bytes)
+choice_at c t = if nat_lt t (length c.bytes) then slice_index c.bytes t else drawn_word c.words (t - length c.bytes)
 
 -- the choices after the first one
 unfoldable pub choices_after : Choices → Choices

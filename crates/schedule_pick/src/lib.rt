@@ -2,9 +2,9 @@
 //! them the 32-bit words of a seeded generator, so it never ends.
 #![tactic(auto)]
 
-mod choices;
 pub mod laws;
+mod schedule;
 #[cfg(test)]
 mod tests;
 
-pub use choices::Schedule;
+pub use schedule::Schedule;

@@ -1,7 +1,7 @@
 -- The exit status and the fault text of each way to end.
 use Rattle.std.specs.Prelude.{ℕ, List, [], ◌++◌, codes, decimal}
-use Rattle.state_text.specs.declared.exits.Exit.{Exit}
-use Rattle.state_text.specs.declared.exits.Exit.TheVariants.{Done, Usage, TooLarge, Bad, ReadFault, WriteFault, OutOfMemory}
+use Rattle.state_text.specs.declared.exit.Exit.{Exit}
+use Rattle.state_text.specs.declared.exit.Exit.TheVariants.{Done, Usage, TooLarge, Bad, ReadFault, WriteFault, OutOfMemory}
 use Rattle.state_text.specs.Pieces.{line}
 
 -- the exit status: a number of the tool's whole table, so that it stays where further ways to end come

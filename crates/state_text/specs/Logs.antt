@@ -3,7 +3,7 @@
 use Rattle.std.specs.Prelude.{◌≡◌, ℕ, nat_lt, if◌then◌else◌, List, [], ◌++◌, length, sum_by, codes, decimal}
 use Rattle.std.specs.List.{flat_map, enumerate_from}
 use Rattle.rtr_types.specs.Pairs.{pair_count, source_at, target_at}
-use Rattle.rtr_types.specs.declared.parameters.Params.{Params}
+use Rattle.rtr_types.specs.declared.params.Params.{Params}
 use Rattle.stride_vector.specs.declared.StrideVector.{StrideVector}
 use Rattle.log_codec.specs.Counts.{position_count}
 use Rattle.log_codec.specs.declared.recording.Recording.{Recording}

@@ -2,7 +2,7 @@
 ghost use Rattle.std.specs.Prelude.{◌≡◌, ◌+◌, ◌≤◌, [], ◌++◌, length, decimal};
 ghost use Rattle.state_text.specs.Exits.{fault_line};
 
-use crate::exits::Exit;
+use crate::exit::Exit;
 use itoa::Buffer;
 use std::marker::Model;
 

@@ -3,13 +3,13 @@
 //! the definitions in `specs/` give line by line.
 #![tactic(auto)]
 
-mod exits;
+mod exit;
 mod faults;
-mod hex;
+mod hex_word;
 mod logs;
 mod states;
 
-pub use exits::Exit;
+pub use exit::Exit;
 pub use faults::{FAULT_TEXT_MAX, FaultText, fault_text};
 pub use logs::logs_text;
 pub use states::state_text;

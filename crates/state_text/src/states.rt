@@ -3,7 +3,7 @@ ghost use Rattle.std.specs.Prelude.{◌≡◌, ◌<◌, ◌≤◌, ◌++◌, OnO
 ghost use Rattle.std.specs.List.{flat_map, enumerate_from};
 ghost use Rattle.state_text.specs.States.{stop_name, stop_line, register_line, register_lines, core_lines, memory_line, load_line, load_lines, state_lines, IsOutcomeOf, LoadsWithin};
 
-use crate::hex::HexWord;
+use crate::hex_word::HexWord;
 use image_mem::Image;
 use rtr_types::{Items, WORDS_MAX};
 use rv_core::{Core, LoadNote, Outcome, REGISTERS, Stop};

@@ -1,10 +1,10 @@
 use Rattle.std.proofs.Common.{arith, ◌≡◌, length, take, slice_index_or, sym, subst, ap}
 use Rattle.std.proofs.lemmas.List.{take_more, take_all, length-take, length_push}
 use Rattle.conflict_edge.specs.Scan.{AreExactClocks}
-use Rattle.rtr_types.specs.declared.accesses.Kind.TheVariants.{Load}
+use Rattle.rtr_types.specs.declared.access.Kind.TheVariants.{Load}
 use Rattle.conflict_edge.proofs.Next.{no_old, prefix_rise, prefix_cores, covering_next, exact_next}
 use Rattle.conflict_edge.specs.Scan.{AreCovering}
-use Rattle.rtr_types.specs.declared.accesses.Access.{Access}
+use Rattle.rtr_types.specs.declared.access.Access.{Access}
 use Rattle.conflict_edge.proofs.least_set.covering_pairs.Goals as goal
 
 -- what stands at an index past the end

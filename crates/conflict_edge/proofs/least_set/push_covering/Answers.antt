@@ -1,9 +1,9 @@
 use Rattle.std.proofs.Common.{arith, ◌≡◌, ℕ, ◌<◌, ◌≤◌, ◌-◌, drop, reverse, zero, suc, length, slice_index, slice_index_or, List, [], ◌∷◌, inl, inr, sym, ◌∙◌, refl, ap, subst, Vec, Global}
-use Rattle.rtr_types.specs.declared.accesses.Access.{Access}
-use Rattle.rtr_types.specs.declared.accesses.Kind.TheVariants.{Load}
-use Rattle.rtr_types.specs.declared.nodes.Edge.{Edge}
+use Rattle.rtr_types.specs.declared.access.Access.{Access}
+use Rattle.rtr_types.specs.declared.access.Kind.TheVariants.{Load}
+use Rattle.rtr_types.specs.declared.instr.Edge.{Edge}
 use Rattle.rtr_types.specs.declared.TheConstants.{CORES_MAX}
-use Rattle.clock_core.specs.declared.vector_clock.Clock.{Clock}
+use Rattle.clock_core.specs.declared.clock.Clock.{Clock}
 use Rattle.conflict_edge.specs.Times.{IsExactClock}
 use Rattle.conflict_edge.proofs.Once.{Noted, noted_push, noted_skip}
 use Rattle.conflict_edge.proofs.Reversed.{stands_forth}

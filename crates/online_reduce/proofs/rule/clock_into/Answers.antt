@@ -1,6 +1,6 @@
 use Rattle.std.proofs.Common.{◌∙◌, ap, arith}
 use Rattle.std.specs.Prelude.{slice_set}
-use Rattle.clock_core.specs.declared.vector_clock.Clock.{Clock}
+use Rattle.clock_core.specs.declared.clock.Clock.{Clock}
 use Rattle.online_reduce.specs.Rule.{clock_into}
 use Rattle.online_reduce.proofs.Loops.{merged_more, merged_all}
 use Rattle.online_reduce.proofs.rule.clock_into.Goals as goal

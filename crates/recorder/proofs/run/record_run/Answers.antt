@@ -7,7 +7,7 @@ use Rattle.log_codec.specs.Validity.{Valid}
 use Rattle.log_codec.specs.declared.recording.Recording.{Recording}
 use Rattle.recorder.proofs.Recordings.{ended, recording_is, recording_least, recording_valid}
 use Rattle.recorder.proofs.Standing.{all_awaited, records_start}
-use Rattle.recorder.specs.Recordings.{accesses_of}
+use Rattle.recorder.specs.Recordings.{run_accesses}
 use Rattle.recorder.proofs.run.record_run.Goals as goal
 
 pub loop-machine-init : goal.loop-machine-init
@@ -58,6 +58,6 @@ returns-clause-least c =
     let stands = c.loop-machine.invariant.stands in
     let at = ended c.args.image c.args.params c.args.schedule stands.0 c.loop-machine.machine.state c.loop-machine.clerk c.loop-machine.choices c.requires.fits (sym c.loop-machine-test.ensures.done) stands.1 in
     IfOk-weaker c.finished.result _ _
-    (λ run is. subst (λ (r : Recording). IsLeast (accesses_of c.args.image c.args.params c.args.schedule) (log_edges Reduced r)) (sym is)
+    (λ run is. subst (λ (r : Recording). IsLeast (run_accesses c.args.image c.args.params c.args.schedule) (log_edges Reduced r)) (sym is)
     (recording_least c.args.image c.args.params c.args.schedule c.loop-machine.machine.state c.loop-machine.clerk c.loop-machine.invariant.image at))
     c.finished.ensures.recording

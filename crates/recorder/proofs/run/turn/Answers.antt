@@ -1,12 +1,12 @@
 use Rattle.std.proofs.Common.{◌≡◌, ap, sym, ◌∙◌, false}
-use Rattle.access_times.specs.declared.carries.NoCarry.{NoCarry}
-use Rattle.access_times.specs.declared.word_times.Times.{Times}
+use Rattle.access_times.specs.declared.carry.NoCarry.{NoCarry}
+use Rattle.access_times.specs.declared.times.Times.{Times}
 use Rattle.msi_plain.proofs.Shows.{plain_done}
 use Rattle.msi_state.specs.Nodes.{Event}
 use Rattle.msi_state.specs.Plain.{plain}
 use Rattle.msi_state.specs.Runs.{chosen}
 use Rattle.msi_state.specs.States.{State, all_done}
-use Rattle.machine_run.specs.Loads.{lists_told}
+use Rattle.run_outcome.specs.Loads.{lists_told}
 use Rattle.recorder.proofs.Standing.{Turned, records_next, records_same, told_lists}
 use Rattle.recorder.proofs.run.turn.Goals as goal
 

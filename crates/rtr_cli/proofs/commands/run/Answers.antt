@@ -2,8 +2,8 @@ use Rattle.std.proofs.Common.{◌≡◌, ◌≤◌, ◌*◌, ap, sym, ◌∙◌,
 use Rattle.std.proofs.lemmas.Result.{IfOk-weaker}
 use Rattle.image_mem.specs.Contents.{Contents}
 use Rattle.log_codec.specs.declared.recording.Recording.{Recording}
-use Rattle.rv_core.specs.declared.outcomes.Outcome.{Outcome}
-use Rattle.machine_run.specs.Outcomes.{outcome_of}
+use Rattle.rv_core.specs.declared.outcome.Outcome.{Outcome}
+use Rattle.run_outcome.specs.Outcomes.{outcome_of}
 use Rattle.state_text.specs.States.{state_lines}
 use Rattle.rtr_cli.specs.Commands.{image_of}
 use Rattle.rtr_cli.proofs.RecordingLemmas.{recorded_image}

@@ -6,7 +6,7 @@ use Rattle.stride_vector.specs.declared.StrideVector.{StrideVector}
 use Rattle.stride_vector.specs.Vectors.{edges_of}
 use Rattle.log_codec.specs.Turns.{StandInTurn, follow}
 use Rattle.log_codec.specs.Validity.{EdgeRises}
-use Rattle.log_codec.specs.Sources.{AreApart, pair_edges}
+use Rattle.log_codec.specs.Sources.{AreApart, edges_of_pair}
 use Rattle.log_codec.proofs.Whole.{edges_listed}
 use Rattle.log_codec.proofs.SourceLaws.{list_at, vectors_apart, found_edge, edge_in}
 use Rattle.log_codec.proofs.recording.Recording.source.Goals as goal
@@ -25,20 +25,20 @@ vector_source-requires c =
     let is = list_at r.regulated c.as_slice-in-Regulated.result.now c.pair_at-place.result c.index-as_slice-place-in-Regulated.result c.as_slice-in-Regulated-2.result.now c.as_slice-in-Regulated.ensures c.index-as_slice-place-in-Regulated.is c.as_slice-in-Regulated-2.ensures below in
     subst AreApart (sym is) (vectors_apart r c.requires.valid c.pair_at-place.result c.pair_at-place.ensures.within)
 
-reduced-is : (c : goal.After-edge_source) → c.as_slice-in-Reduced.result.now ≡ pair_edges c.args.which c.args.self.now (pair_place c.args.self.now.params.cores c.args.of c.args.at.core)
+reduced-is : (c : goal.After-edge_source) → c.as_slice-in-Reduced.result.now ≡ edges_of_pair c.args.which c.args.self.now (pair_place c.args.self.now.params.cores c.args.of c.args.at.core)
 reduced-is c =
     let r = c.args.self.now in
     let below : c.pair_at-place.result < length r.reduced = subst (λ (n : ℕ). c.pair_at-place.result < n) (sym c.requires.valid.each_reduced) c.pair_at-place.ensures.within in
     let is = list_at r.reduced c.as_slice.result.now c.pair_at-place.result c.index-as_slice-place.result c.as_slice-in-Reduced.result.now c.as_slice.ensures c.index-as_slice-place.is c.as_slice-in-Reduced.ensures below in
-    is ∙ ap (λ (p : ℕ). get_or r.reduced p []) c.pair_at-place.ensures.place ∙ sym (ap (λ (w : Which). pair_edges w r (pair_place r.params.cores c.args.of c.args.at.core)) c.in-Reduced.is)
+    is ∙ ap (λ (p : ℕ). get_or r.reduced p []) c.pair_at-place.ensures.place ∙ sym (ap (λ (w : Which). edges_of_pair w r (pair_place r.params.cores c.args.of c.args.at.core)) c.in-Reduced.is)
 
-regulated-is : (c : goal.After-vector_source) → flat_map edges_of c.as_slice-in-Regulated-2.result.now ≡ pair_edges c.args.which c.args.self.now (pair_place c.args.self.now.params.cores c.args.of c.args.at.core)
+regulated-is : (c : goal.After-vector_source) → flat_map edges_of c.as_slice-in-Regulated-2.result.now ≡ edges_of_pair c.args.which c.args.self.now (pair_place c.args.self.now.params.cores c.args.of c.args.at.core)
 regulated-is c =
     let r = c.args.self.now in
     let below : c.pair_at-place.result < length r.regulated = subst (λ (n : ℕ). c.pair_at-place.result < n) (sym c.requires.valid.each_regulated) c.pair_at-place.ensures.within in
     let is = list_at r.regulated c.as_slice-in-Regulated.result.now c.pair_at-place.result c.index-as_slice-place-in-Regulated.result c.as_slice-in-Regulated-2.result.now c.as_slice-in-Regulated.ensures c.index-as_slice-place-in-Regulated.is c.as_slice-in-Regulated-2.ensures below in
     ap (λ (vs : List StrideVector). flat_map edges_of vs) (is ∙ ap (λ (p : ℕ). get_or r.regulated p []) c.pair_at-place.ensures.place)
-    ∙ sym (ap (λ (w : Which). pair_edges w r (pair_place r.params.cores c.args.of c.args.at.core)) c.in-Regulated.is)
+    ∙ sym (ap (λ (w : Which). edges_of_pair w r (pair_place r.params.cores c.args.of c.args.at.core)) c.in-Regulated.is)
 
 pub returns-in-Reduced-clause-found : goal.returns-in-Reduced-clause-found
 returns-in-Reduced-clause-found c = found_edge c.args.which c.args.self.now c.args.of c.args.at c.as_slice-in-Reduced.result.now c.edge_source.result c.requires.pair (reduced-is c) c.edge_source.ensures.found

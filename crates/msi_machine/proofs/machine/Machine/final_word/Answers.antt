@@ -1,6 +1,6 @@
 use Rattle.std.proofs.Common.{◌≡◌, ◌∙◌, ap, sym, subst, ℕ, ◌/◌, ◌%◌, List}
 use Rattle.std.specs.Prelude.{slice_index}
-use Rattle.access_times.specs.declared.TheConstants.{BLOCK_WORDS}
+use Rattle.rtr_types.specs.declared.TheConstants.{BLOCK_WORDS}
 use Rattle.msi_state.specs.Coherent.{Coherent}
 use Rattle.msi_state.specs.States.{Machinery, State, all_done}
 use Rattle.msi_plain.proofs.Shows.{plain_words}

@@ -1,5 +1,5 @@
 use Rattle.std.proofs.Common.{sym, subst, []}
-use Rattle.access_times.specs.declared.word_times.Times.{Times}
+use Rattle.access_times.specs.declared.times.Times.{Times}
 use Rattle.msi_state.specs.States.{State}
 use Rattle.msi_times.proofs.Begins.{machine_start}
 use Rattle.msi_times.proofs.RiderLaws.{times_fresh}

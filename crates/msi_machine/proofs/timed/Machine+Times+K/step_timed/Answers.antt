@@ -1,6 +1,6 @@
 use Rattle.std.proofs.Common.{sym, subst}
 use Rattle.access_times.specs.Times.{times_riding}
-use Rattle.access_times.specs.declared.word_times.Times.{Times}
+use Rattle.access_times.specs.declared.times.Times.{Times}
 use Rattle.msi_sound.specs.Sound.{Sound}
 use Rattle.msi_state.specs.Nodes.{carry_after}
 use Rattle.msi_state.specs.States.{Machinery, State}

@@ -1,5 +1,5 @@
 use Rattle.std.proofs.Common.{◌++◌, ◌∷◌, [], List, sym, subst}
-use Rattle.rtr_types.specs.declared.nodes.Edge.{Edge}
+use Rattle.rtr_types.specs.declared.instr.Edge.{Edge}
 use Rattle.online_reduce.specs.Exact.{IsReduction}
 use Rattle.online_reduce.proofs.Touched.{covering_after}
 use Rattle.online_reduce.proofs.reducer.Reducer.retire.Goals as goal

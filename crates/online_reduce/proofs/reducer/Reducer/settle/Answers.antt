@@ -2,8 +2,8 @@ use Rattle.std.proofs.Common.{◌∙◌, ◌<◌, ap, sym, subst, arith, length,
 use Rattle.std.specs.Prelude.{slice_set}
 use Rattle.std.proofs.lemmas.List.{length-set, get_or-set_same}
 use Rattle.clock_core.specs.Counts.{no_counts}
-use Rattle.clock_core.specs.declared.vector_clock.Clock.{Clock}
-use Rattle.access_times.specs.declared.word_times.Times.{Times}
+use Rattle.clock_core.specs.declared.clock.Clock.{Clock}
+use Rattle.access_times.specs.declared.times.Times.{Times}
 use Rattle.access_times.specs.Times.{times_noted}
 use Rattle.online_reduce.specs.Exact.{IsHeld}
 use Rattle.online_reduce.proofs.Found.{found_few}

@@ -1,5 +1,5 @@
 use Rattle.std.proofs.Common.{◌≡◌, ◌%◌, ◌∙◌, ap, sym, arith, Some, ℕ}
-use Rattle.access_times.specs.declared.TheConstants.{BLOCK_WORDS}
+use Rattle.rtr_types.specs.declared.TheConstants.{BLOCK_WORDS}
 use Rattle.access_times.specs.Times.{write_at}
 use Rattle.online_reduce.proofs.Found.{load_one, load_own, load_unwritten}
 use Rattle.online_reduce.proofs.reducer.Reducer.touch_load.Goals as goal

@@ -4,15 +4,15 @@ use Rattle.std.proofs.lemmas.List.FromFn.{length-map-range_with_len}
 use Rattle.image_mem.specs.Contents.{Contents}
 use Rattle.rv_core.specs.States.{starting}
 use Rattle.rv_core.specs.declared.core_state.Core.{Core}
-use Rattle.rv_core.specs.declared.outcomes.LoadNote.{LoadNote}
-use Rattle.replay_core.specs.Plans.{image_of}
+use Rattle.rv_core.specs.declared.outcome.LoadNote.{LoadNote}
+use Rattle.replay_core.specs.Plans.{recorded_image}
 use Rattle.replay_core.proofs.replay.Replay.new.Goals as goal
 
 pub invariant_of-result : goal.invariant_of-result
 invariant_of-result c =
     let r = c.args.recording.now in
     let contents = λ (bytes : List ℕ). let x : Contents = record { bytes = bytes; words = r.params.words } in x in
-    let image_is : c.in-Ok.image ≡ image_of r = c.in-Ok.ensures.image ∙ ap contents (c.in_ok-bytes.ensures.items ∙ c.as_slice.ensures) in
+    let image_is : c.in-Ok.image ≡ recorded_image r = c.in-Ok.ensures.image ∙ ap contents (c.in_ok-bytes.ensures.items ∙ c.as_slice.ensures) in
     record {
       valid = c.requires;
       image_is = image_is;

@@ -1,0 +1,208 @@
+//! The rider that records when the words of its block were accessed.
+ghost use Rattle.std.specs.Prelude.{◌≡◌, ℕ, ◌<◌, if◌then◌else◌};
+ghost use Rattle.rtr_types.specs.declared.TheConstants.{BLOCK_WORDS, CORES_MAX};
+ghost use Rattle.access_times.specs.Times.{is_same_write, newer_read, no_reads, read_at, read_in, slot_absorbed, slot_loaded, times_loaded, times_stored, write_at};
+
+use crate::rider::Rider;
+use clock_core::Clock;
+use rtr_types::{BLOCK_WORDS, CORES_MAX, Instr};
+
+/// A place for each core, as the length of an array.
+const PLACES: usize = CORES_MAX as usize;
+
+/// The times of one word: its last write, and each core's last read since that write, each with the
+/// clock that was noted for it.
+#[derive(Clone, Copy, Debug)]
+struct SlotTimes {
+    write: Option<(Instr, Clock)>,
+    reads: [Option<(u32, Clock)>; PLACES],
+}
+
+/// The times of no access.
+const NO_TIMES: SlotTimes = SlotTimes {
+    write: None,
+    reads: [None; PLACES],
+};
+
+/// The rider that records: for each slot of the block the last write, and for each core its last
+/// read since that write, each with the clock that was noted for it.
+#[derive(Clone, Copy, Debug)]
+pub struct Times {
+    slots: [SlotTimes; BLOCK_WORDS],
+}
+
+/// Whether the two are one write with one clock, or both are none.
+fn is_same_write(one: &Option<(Instr, Clock)>, other: &Option<(Instr, Clock)>) -> bool
+    ensures { result ≡ is_same_write one.now other.now }
+{
+    match (one, other) {
+        (None, None) => true,
+        (Some((at, clock)), Some((other_at, other_clock))) => {
+            at.core == other_at.core && at.count == other_at.count && *clock == *other_clock
+        }
+        _ => false,
+    }
+}
+
+/// Whether the other read is there and of a greater count, or there is no own one.
+fn is_newer(other: &Option<(u32, Clock)>, own: &Option<(u32, Clock)>) -> bool
+    ensures { newer_read own.now other.now ≡ (if result then other.now else own.now) }
+{
+    match (other, own) {
+        (None, _) => false,
+        (_, None) => true,
+        (Some((other_count, _)), Some((count, _))) => *count < *other_count,
+    }
+}
+
+impl SlotTimes {
+    /// Takes over the other's newer reads, where the last writes are the same. It writes in place and
+    /// copies only what it takes, since two copies of a block mostly have the same reads.
+    fn absorb(&mut self, other: &SlotTimes)
+        ensures { self.new ≡ slot_absorbed self.old other.now }
+    {
+        if !is_same_write(&self.write, &other.write) {
+            return;
+        }
+        for core in 0..PLACES {
+            if is_newer(&other.reads[core], &self.reads[core]) {
+                self.reads[core] = other.reads[core];
+            }
+        }
+    }
+
+    /// The core's last read since the last write.
+    fn last_read(&self, core: u8) -> &Option<(u32, Clock)>
+        requires { core < CORES_MAX }
+        ensures { result.now ≡ read_in self.now.reads core }
+    {
+        &self.reads[core as usize]
+    }
+
+    /// Notes the read.
+    fn on_load(&mut self, at: Instr, clock: Clock)
+        requires { at.core < CORES_MAX }
+        ensures { self.new ≡ slot_loaded self.old at clock }
+    {
+        self.reads[at.core as usize] = Some((at.count, clock));
+    }
+
+    /// Notes the write, and forgets the reads.
+    fn on_store(&mut self, at: Instr, clock: Clock)
+        ensures { self.new ≡ record { write = Some (at, clock); reads = no_reads } }
+    {
+        self.write = Some((at, clock));
+        for core in 0..PLACES {
+            if self.reads[core].is_some() {
+                self.reads[core] = None;
+            }
+        }
+    }
+}
+
+impl Rider for Times {
+    ghost use Rattle.access_times.specs.Times.{times_riding};
+
+    ghost riding = { times_riding };
+
+    fn fresh() -> Self {
+        Times {
+            slots: [NO_TIMES; BLOCK_WORDS],
+        }
+    }
+
+    fn absorb(&mut self, other: &Self) {
+        for slot in 0..BLOCK_WORDS {
+            self.slots[slot].absorb(&other.slots[slot]);
+        }
+    }
+}
+
+impl Times {
+    /// The last write of the slot's word, with its clock.
+    pub fn write(&self, slot: u8) -> Option<(Instr, Clock)>
+        requires { slot < BLOCK_WORDS }
+        ensures { result ≡ write_at self.now slot }
+    {
+        *self.last_write(slot)
+    }
+
+    /// The same where it lies, for a caller that needs no copy.
+    pub fn last_write(&self, slot: u8) -> &Option<(Instr, Clock)>
+        requires { slot < BLOCK_WORDS }
+        ensures { result.now ≡ write_at self.now slot }
+    {
+        &self.slots[slot as usize].write
+    }
+
+    /// The count of the core's last read of the slot's word since that write, with its clock.
+    pub fn read_by(&self, slot: u8, core: u8) -> Option<(u32, Clock)>
+        requires slot { slot < BLOCK_WORDS }
+        requires core { core < CORES_MAX }
+        ensures { result ≡ read_at self.now slot core }
+    {
+        *self.last_read(slot, core)
+    }
+
+    /// The same where it lies, for a caller that needs no copy.
+    pub fn last_read(&self, slot: u8, core: u8) -> &Option<(u32, Clock)>
+        requires slot { slot < BLOCK_WORDS }
+        requires core { core < CORES_MAX }
+        ensures { result.now ≡ read_at self.now slot core }
+    {
+        self.slots[slot as usize].last_read(core)
+    }
+
+    /// Notes the read.
+    pub fn on_load(&mut self, slot: u8, at: Instr, clock: Clock)
+        requires slot { slot < BLOCK_WORDS }
+        requires core { at.core < CORES_MAX }
+        ensures { self.new ≡ times_loaded self.old slot at clock }
+    {
+        self.slots[slot as usize].on_load(at, clock);
+    }
+
+    /// Notes the write, and forgets the reads of the slot's word.
+    pub fn on_store(&mut self, slot: u8, at: Instr, clock: Clock)
+        requires { slot < BLOCK_WORDS }
+        ensures { self.new ≡ times_stored self.old slot at clock }
+    {
+        self.slots[slot as usize].on_store(at, clock);
+    }
+}
+
+#[cfg(test)]
+mod tests {
+    use super::*;
+
+    /// The clock that knows of the core's first instructions alone.
+    fn only(core: u8, count: u32) -> Clock
+        requires { core < CORES_MAX }
+    {
+        let mut clock = Clock::zero();
+        clock.set(core, count);
+        clock
+    }
+
+    #[test]
+    fn a_write_forgets_reads_and_absorbing_keeps_the_newer(rt: HostRuntime) {
+        let first = Instr { core: 2, count: 4 };
+        let mut home = Times::fresh();
+        assert!(rt; home.write(1).is_none());
+        home.on_load(1, Instr { core: 0, count: 1 }, only(0, 1));
+        home.on_store(1, first, only(2, 4));
+        assert_eq!(rt; home.write(1), Some((first, only(2, 4))));
+        assert!(rt; home.read_by(1, 0).is_none());
+        let mut copy = home;
+        home.on_load(1, Instr { core: 0, count: 2 }, only(0, 2));
+        copy.on_load(1, Instr { core: 0, count: 3 }, only(0, 3));
+        copy.on_load(1, Instr { core: 1, count: 5 }, only(1, 5));
+        home.absorb(&copy);
+        assert_eq!(rt; home.read_by(1, 0), Some((3, only(0, 3))));
+        assert_eq!(rt; home.read_by(1, 1), Some((5, only(1, 5))));
+        assert!(rt; home.read_by(0, 1).is_none());
+        home.on_store(1, Instr { core: 1, count: 6 }, only(1, 6));
+        home.absorb(&copy);
+        assert!(rt; home.read_by(1, 0).is_none());
+    }
+}

@@ -1,0 +1,51 @@
+//! A flat memory of words.
+ghost use Rattle.std.specs.Prelude.{◌≡◌, ◌<◌, IfOk, length, slice_index, slice_set};
+ghost use Rattle.image_mem.specs.Contents.{opening_words};
+
+use crate::image::Image;
+use std::alloc::{AllocError, Global};
+use std::marker::Model;
+
+/// The words of a memory, by index.
+#[derive(Drop)]
+pub struct Memory {
+    words: Vec<u32>,
+}
+
+impl Model for Memory {
+    ghost use Rattle.std.specs.Prelude.{List, ℕ};
+
+    ghost Value = { List ℕ };
+
+    ghost view = { λ m. m.words.items };
+}
+
+impl Memory {
+    /// The memory as the image has it at the start. The only refusal is want of memory.
+    pub fn new(alloc: Global, image: &Image) -> Result<Memory, AllocError>
+        ensures words { IfOk result (λ memory. memory ≡ opening_words image.now) }
+        ensures length { IfOk result (λ memory. length memory ≡ image.now.words) }
+    {
+        let mut words = Vec::with_capacity(alloc, image.words() as usize)?;
+        for word in 0..image.words() {
+            words.push(image.word(word))?;
+        }
+        Ok(Memory { words })
+    }
+
+    /// The value of a word.
+    pub fn get(&self, word: u32) -> u32
+        requires { word < length self.now }
+        ensures { result ≡ slice_index self.now word }
+    {
+        self.words[word as usize]
+    }
+
+    /// Gives a word this value, and changes no other.
+    pub fn put(&mut self, word: u32, value: u32)
+        requires { word < length self.old }
+        ensures { self.new ≡ slice_set self.old word value }
+    {
+        self.words[word as usize] = value;
+    }
+}

@@ -1,5 +1,0 @@
-use Rattle.machine_run.proofs.Fitting.{run_fits_law}
-use Rattle.machine_run.proofs.laws.a_run_fits_its_image.Goals as goal
-
-pub returns : goal.returns
-returns c = run_fits_law

@@ -1,0 +1,366 @@
+//! Each row of the table once, by calls, with a rider that leaves a trail. What is expected was worked
+//! out by hand from the table of the protocol.
+ghost use Rattle.std.specs.Prelude.{◌*◌, ◌+◌, ◌%◌, ◌^◌};
+
+use super::*;
+use crate::line::State;
+use crate::slots::{FromHomeSlot, RequestSlot, ResponseSlot};
+use std::process::Abort;
+use std::test::Fail;
+
+/// A rider whose decimal digits are the riders that it absorbed, in order, after its own.
+#[derive(Clone, Copy, Debug, PartialEq, Eq)]
+struct Trail {
+    digits: u32,
+}
+
+impl Rider for Trail {
+    ghost riding = { record { fresh = record { digits = 0 }; absorbed = λ a b. record { digits = (a.digits * 10 % 2 ^ 32 + b.digits) % 2 ^ 32 } } };
+
+    fn fresh() -> Self {
+        Trail { digits: 0 }
+    }
+
+    fn absorb(&mut self, other: &Self) {
+        self.digits = self.digits.wrapping_mul(10).wrapping_add(other.digits);
+    }
+}
+
+/// What happens to the line of block 4, with block 20 as the other block that goes there. `Data` has
+/// the number as each of its words and as its rider.
+#[derive(Clone, Copy, Debug)]
+enum Step {
+    Load(u32),
+    Store(u32),
+    Data(u32),
+    Ack,
+    Inv,
+    FwdGetS,
+    FwdGetM,
+}
+
+/// What a step answers.
+#[derive(Debug, Drop, PartialEq, Eq)]
+enum Said {
+    Asked(Request<Trail>),
+    Replied(Option<Response<Trail>>),
+}
+
+/// A message about the block.
+fn message(step: Step, block: u32) -> Option<FromHome<Trail>> {
+    match step {
+        Step::Load(_) | Step::Store(_) => None,
+        Step::Data(mark) => Some(FromHome::BlockData {
+            block,
+            words: [mark; 4],
+            rider: Trail { digits: mark },
+        }),
+        Step::Ack => Some(FromHome::PutAck { block }),
+        Step::Inv => Some(FromHome::Inv { block }),
+        Step::FwdGetS => Some(FromHome::FwdGetS { block }),
+        Step::FwdGetM => Some(FromHome::FwdGetM { block }),
+    }
+}
+
+fn ask(rt: &impl Abort, cache: &mut Cache<Trail>, block: u32, kind: Kind) -> Said {
+    assert!(rt; !cache.waits());
+    assert!(rt; !cache.allows(block, kind));
+    Said::Asked(cache.want(block, kind))
+}
+
+fn take(rt: &impl Abort, cache: &mut Cache<Trail>, step: Step) -> Said {
+    match step {
+        Step::Load(block) => ask(rt, cache, block, Kind::Load),
+        Step::Store(block) => ask(rt, cache, block, Kind::Store),
+        _ => {
+            let heard = message(step, 4).expect(rt, "a message");
+            assert!(rt; cache.expects(&heard));
+            Said::Replied(cache.on_home(heard))
+        }
+    }
+}
+
+/// Takes the steps of the path, and then the step, which has to answer so and to leave the line of
+/// block 4 in this state, with this word and this trail.
+fn row(
+    rt: &impl Abort,
+    alloc: Global,
+    path: &[Step],
+    step: Step,
+    said: Said,
+    left: (State, u32, u32),
+) -> Result<(), Fail> {
+    let mut cache = Cache::new(alloc)?;
+    for before in path {
+        take(rt, &mut cache, *before);
+    }
+    assert_eq!(rt; take(rt, &mut cache, step), said, "{step:?}");
+    let line = cache.lines[4];
+    assert_eq!(rt;
+        (line.state, line.words[0], line.rider.digits),
+        left,
+        "{step:?}"
+    );
+    Ok(())
+}
+
+fn asked(request: Request<Trail>) -> Said {
+    Said::Asked(request)
+}
+
+fn silent() -> Said {
+    Said::Replied(None)
+}
+
+fn inv_ack(trail: u32) -> Said {
+    Said::Replied(Some(Response::InvAck {
+        block: 4,
+        rider: Trail { digits: trail },
+    }))
+}
+
+fn owner_data(word: u32, trail: u32) -> Said {
+    Said::Replied(Some(Response::OwnerData {
+        block: 4,
+        words: [word; 4],
+        rider: Trail { digits: trail },
+    }))
+}
+
+const SHARED: [Step; 2] = [Step::Load(4), Step::Data(1)];
+
+const OWNED: [Step; 2] = [Step::Store(4), Step::Data(1)];
+
+#[test]
+fn asks_home_for_what_an_access_needs(rt: HostRuntime) -> Result<(), Fail> {
+    let get_s = asked(Request::GetS { block: 4 });
+    row(
+        &rt,
+        rt.alloc(),
+        &[],
+        Step::Load(4),
+        get_s,
+        (State::IsD, 0, 0),
+    )?;
+    let get_m = asked(Request::GetM { block: 4 });
+    row(
+        &rt,
+        rt.alloc(),
+        &[],
+        Step::Store(4),
+        get_m,
+        (State::ImD, 0, 0),
+    )?;
+    let upgrade = asked(Request::GetM { block: 4 });
+    row(
+        &rt,
+        rt.alloc(),
+        &SHARED,
+        Step::Store(4),
+        upgrade,
+        (State::SmD, 1, 1),
+    )?;
+    let put_s = asked(Request::PutS {
+        block: 4,
+        rider: Trail { digits: 1 },
+    });
+    row(
+        &rt,
+        rt.alloc(),
+        &SHARED,
+        Step::Store(20),
+        put_s,
+        (State::SiA, 1, 1),
+    )?;
+    let put_m = asked(Request::PutM {
+        block: 4,
+        words: [1; 4],
+        rider: Trail { digits: 1 },
+    });
+    row(
+        &rt,
+        rt.alloc(),
+        &OWNED,
+        Step::Load(20),
+        put_m,
+        (State::MiA, 1, 1),
+    )
+}
+
+#[test]
+fn takes_data_and_acknowledgements(rt: HostRuntime) -> Result<(), Fail> {
+    let data = Step::Data(2);
+    row(
+        &rt,
+        rt.alloc(),
+        &[Step::Load(4)],
+        data,
+        silent(),
+        (State::S, 2, 2),
+    )?;
+    row(
+        &rt,
+        rt.alloc(),
+        &[Step::Store(4)],
+        data,
+        silent(),
+        (State::M, 2, 2),
+    )?;
+    let upgrade = [Step::Load(4), Step::Data(1), Step::Store(4)];
+    row(&rt, rt.alloc(), &upgrade, data, silent(), (State::M, 2, 21))?;
+    let put_s = [Step::Load(4), Step::Data(1), Step::Load(20)];
+    row(
+        &rt,
+        rt.alloc(),
+        &put_s,
+        Step::Ack,
+        silent(),
+        (State::I, 1, 1),
+    )?;
+    let put_m = [Step::Store(4), Step::Data(1), Step::Load(20)];
+    row(
+        &rt,
+        rt.alloc(),
+        &put_m,
+        Step::Ack,
+        silent(),
+        (State::I, 1, 1),
+    )?;
+    let stalled = [Step::Load(4), Step::Data(1), Step::Load(20), Step::Inv];
+    row(
+        &rt,
+        rt.alloc(),
+        &stalled,
+        Step::Ack,
+        silent(),
+        (State::I, 1, 1),
+    )
+}
+
+#[test]
+fn gives_copies_up(rt: HostRuntime) -> Result<(), Fail> {
+    row(
+        &rt,
+        rt.alloc(),
+        &SHARED,
+        Step::Inv,
+        inv_ack(1),
+        (State::I, 1, 1),
+    )?;
+    let upgrade = [Step::Load(4), Step::Data(1), Step::Store(4)];
+    row(
+        &rt,
+        rt.alloc(),
+        &upgrade,
+        Step::Inv,
+        inv_ack(1),
+        (State::ImD, 1, 1),
+    )?;
+    let put_s = [Step::Load(4), Step::Data(1), Step::Load(20)];
+    row(
+        &rt,
+        rt.alloc(),
+        &put_s,
+        Step::Inv,
+        inv_ack(1),
+        (State::IiA, 1, 1),
+    )?;
+    let put_m = [Step::Store(4), Step::Data(1), Step::Load(20)];
+    row(
+        &rt,
+        rt.alloc(),
+        &OWNED,
+        Step::FwdGetS,
+        owner_data(1, 1),
+        (State::S, 1, 1),
+    )?;
+    row(
+        &rt,
+        rt.alloc(),
+        &put_m,
+        Step::FwdGetS,
+        owner_data(1, 1),
+        (State::SiA, 1, 1),
+    )?;
+    row(
+        &rt,
+        rt.alloc(),
+        &OWNED,
+        Step::FwdGetM,
+        owner_data(1, 1),
+        (State::I, 1, 1),
+    )?;
+    row(
+        &rt,
+        rt.alloc(),
+        &put_m,
+        Step::FwdGetM,
+        owner_data(1, 1),
+        (State::IiA, 1, 1),
+    )
+}
+
+#[test]
+fn evicts_a_shared_block_for_another(rt: HostRuntime) -> Result<(), Fail> {
+    let mut cache = Cache::<Trail>::new(rt.alloc())?;
+    let get_s = asked(Request::GetS { block: 4 });
+    assert_eq!(rt; take(&rt, &mut cache, Step::Load(4)), get_s);
+    assert_eq!(rt; take(&rt, &mut cache, Step::Data(7)), silent());
+    let put_s = asked(Request::PutS {
+        block: 4,
+        rider: Trail { digits: 7 },
+    });
+    assert_eq!(rt; take(&rt, &mut cache, Step::Load(20)), put_s);
+    assert_eq!(rt; take(&rt, &mut cache, Step::Inv), inv_ack(7));
+    assert_eq!(rt; take(&rt, &mut cache, Step::Ack), silent());
+    let get_s = asked(Request::GetS { block: 20 });
+    assert_eq!(rt; take(&rt, &mut cache, Step::Load(20)), get_s);
+    Ok(())
+}
+
+#[test]
+fn writes_a_word_and_lends_the_rider(rt: HostRuntime) -> Result<(), Fail> {
+    let mut cache = Cache::<Trail>::new(rt.alloc())?;
+    take(&rt, &mut cache, Step::Store(4));
+    take(&rt, &mut cache, Step::Data(7));
+    assert!(rt; cache.can_write(4) && !cache.can_write(20) && !cache.can_read(20));
+    cache.put_word(4, 2, 9);
+    assert!(rt; cache.can_read(4));
+    assert_eq!(rt; (cache.word(4, 1), cache.word(4, 2)), (7, 9));
+    cache.rider(4).absorb(&Trail { digits: 3 });
+    let given = Said::Replied(Some(Response::OwnerData {
+        block: 4,
+        words: [7, 7, 9, 7],
+        rider: Trail { digits: 73 },
+    }));
+    assert_eq!(rt; take(&rt, &mut cache, Step::FwdGetM), given);
+    assert!(rt; !cache.can_read(4));
+    Ok(())
+}
+
+#[test]
+fn messages_lie_in_their_places(rt: HostRuntime) {
+    let rider = Trail { digits: 7 };
+    let put = Request::PutM {
+        block: 4,
+        words: [1, 2, 3, 4],
+        rider,
+    };
+    let mut request = RequestSlot::<Trail>::default();
+    request.put(put.lent());
+    assert_eq!(rt; (request.block(), request.open().owned()), (4, put));
+    request.put(Request::GetS { block: 5 });
+    assert_eq!(rt; request.open().owned(), Request::GetS { block: 5 });
+    let ack = Response::InvAck { block: 4, rider };
+    let mut response = ResponseSlot::<Trail>::default();
+    response.put(ack.lent());
+    assert_eq!(rt; (response.block(), response.open().owned()), (4, ack));
+    let data = FromHome::<()>::BlockData {
+        block: 4,
+        words: [1, 2, 3, 4],
+        rider: (),
+    };
+    let mut message = FromHomeSlot::<Trail>::default();
+    message.put(data.riding(&rider));
+    assert_eq!(rt; message.open(), data.riding(&rider));
+}

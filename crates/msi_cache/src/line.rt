@@ -1,0 +1,228 @@
+//! One line of a cache: a block's copy and the state that it is in.
+ghost use Rattle.std.specs.Prelude.{◌≡◌, IsTrue, false, true, is_some};
+ghost use Rattle.msi_cache.specs.Lines.{answer, asks, can_read, can_write, empty_line, has_row, is_allowed, line_after, line_asking, wanted};
+ghost use Rattle.msi_cache.specs.Messages.{answer_seen, message_seen, request_seen};
+ghost use Rattle.msi_cache.specs.Table.{Signal, is_transient, row};
+ghost use Rattle.msi_cache.specs.declared.line.State.{State};
+ghost use Rattle.msi_cache.specs.declared.messages.FromHome.{FromHome};
+ghost use Rattle.msi_cache.specs.declared.messages.Response.{Response};
+
+use crate::messages::{FromHome, Request, Response};
+use access_times::Rider;
+use rtr_types::{BLOCK_WORDS, Kind};
+
+/// How many lines a cache has. It is direct-mapped: block `b` goes to line `b % LINES`.
+pub const LINES: usize = 16;
+
+/// The state of a line, by the Primer's names: the stable `I` (invalid), `S` (shared) and `M`
+/// (modified), and the transient ones, in which the line waits for a message. `IsD`, `ImD` and `SmD`
+/// wait for data on their way from the first state to the second; `MiA`, `SiA` and `IiA` wait for the
+/// acknowledgement of a Put.
+#[derive(Clone, Copy, Debug, PartialEq, Eq)]
+pub enum State {
+    I,
+    S,
+    M,
+    IsD,
+    ImD,
+    SmD,
+    MiA,
+    SiA,
+    IiA,
+}
+
+impl State {
+    /// Whether the line waits for a message from home.
+    pub fn is_transient(self) -> bool
+        ensures { result ≡ is_transient self }
+    {
+        !matches!(self, State::I | State::S | State::M)
+    }
+}
+
+/// A line: its state, and the copy of the block that it is for. In `I` the copy means nothing.
+#[derive(Clone, Copy, Debug, PartialEq, Eq)]
+pub struct Line<R> {
+    pub state: State,
+    pub block: u32,
+    pub words: [u32; BLOCK_WORDS],
+    pub rider: R,
+}
+
+impl<R: Rider> Line<R> {
+    /// A line that holds nothing.
+    pub(crate) fn empty() -> Self
+        ensures { result ≡ empty_line R.riding.fresh }
+    {
+        Line {
+            state: State::I,
+            block: 0,
+            words: [0; BLOCK_WORDS],
+            rider: R::fresh(),
+        }
+    }
+
+    /// Whether the line has the block's copy and it may be read.
+    pub(crate) fn can_read(&self, block: u32) -> bool
+        ensures { result ≡ can_read self.now block }
+    {
+        self.block == block && matches!(self.state, State::S | State::M | State::SmD)
+    }
+
+    /// Whether the line has the block's copy and it may be written.
+    pub(crate) fn can_write(&self, block: u32) -> bool
+        ensures { result ≡ can_write self.now block }
+    {
+        self.block == block && matches!(self.state, State::M)
+    }
+
+    /// Whether an access of this kind may be made at the line now.
+    pub(crate) fn allows(&self, block: u32, kind: Kind) -> bool
+        ensures { result ≡ is_allowed self.now block kind }
+    {
+        if kind.is_write() {
+            self.can_write(block)
+        } else {
+            self.can_read(block)
+        }
+    }
+
+    /// Whether the message is about the line's block and the table has a row for it.
+    pub(crate) fn expects(&self, message: &FromHome<R>) -> bool
+        ensures { result ≡ has_row self.now message.now }
+    {
+        let has_row = match message {
+            FromHome::BlockData { .. } => {
+                matches!(self.state, State::IsD | State::ImD | State::SmD)
+            }
+            FromHome::PutAck { .. } => {
+                matches!(self.state, State::MiA | State::SiA | State::IiA)
+            }
+            FromHome::Inv { .. } => matches!(self.state, State::S | State::SmD | State::SiA),
+            FromHome::FwdGetS { .. } | FromHome::FwdGetM { .. } => {
+                matches!(self.state, State::M | State::MiA)
+            }
+        };
+        has_row && self.block == message.block()
+    }
+
+    /// What to ask home for, for an access that isn't allowed yet: the block, or first that another block's
+    /// copy is taken back.
+    pub(crate) fn wanted(&self, block: u32, kind: Kind) -> Request<&R>
+        requires still { is_transient self.now.state ≡ false }
+        requires needed { is_allowed self.now block kind ≡ false }
+        ensures row { IsTrue (is_some (wanted self.now block kind)) }
+        ensures asks { request_seen result ≡ asks self.now block kind }
+    {
+        let rider = &self.rider;
+        match self.state {
+            State::S if self.block == block => Request::GetM { block },
+            State::S => Request::PutS {
+                block: self.block,
+                rider,
+            },
+            State::M => Request::PutM {
+                block: self.block,
+                words: self.words,
+                rider,
+            },
+            _ if kind.is_write() => Request::GetM { block },
+            _ => Request::GetS { block },
+        }
+    }
+
+    /// What is wanted was asked for: the line waits for it.
+    pub(crate) fn ask(&mut self, block: u32, kind: Kind)
+        requires still { is_transient self.old.state ≡ false }
+        requires needed { is_allowed self.old block kind ≡ false }
+        ensures line { self.new ≡ line_asking self.old block kind }
+        ensures waits { is_transient self.new.state ≡ true }
+    {
+        self.state = match self.state {
+            State::S if self.block == block => State::SmD,
+            State::S => State::SiA,
+            State::M => State::MiA,
+            _ => {
+                self.block = block;
+                if kind.is_write() {
+                    State::ImD
+                } else {
+                    State::IsD
+                }
+            }
+        };
+    }
+
+    /// What home has to hear once the line has taken this message about its block: none where the table's
+    /// row has no answer. It has the words and the rider that the line has before.
+    pub(crate) fn answer(&self, message: FromHome<&R>) -> Option<Response<&R>>
+        requires { IsTrue (has_row self.now (message_seen message)) }
+        ensures { answer_seen result ≡ answer self.now (message_seen message.entry) }
+    {
+        let (block, rider) = (self.block, &self.rider);
+        match message {
+            FromHome::BlockData { .. } | FromHome::PutAck { .. } => None,
+            FromHome::Inv { .. } => Some(Response::InvAck { block, rider }),
+            FromHome::FwdGetS { .. } | FromHome::FwdGetM { .. } => Some(Response::OwnerData {
+                block,
+                words: self.words,
+                rider,
+            }),
+        }
+    }
+
+    /// Takes a message from home about this line's block.
+    pub(crate) fn hear(&mut self, message: FromHome<&R>)
+        requires { IsTrue (has_row self.old (message_seen message)) }
+        ensures { self.new ≡ line_after R.riding.absorbed self.old (message_seen message.entry) }
+    {
+        match message {
+            FromHome::BlockData { words, rider, .. } => self.fill(words, rider),
+            FromHome::PutAck { .. } => self.state = State::I,
+            FromHome::Inv { .. } => {
+                self.state = match self.state {
+                    State::SmD => State::ImD,
+                    State::SiA => State::IiA,
+                    _ => State::I,
+                };
+            }
+            FromHome::FwdGetS { .. } => {
+                self.state = match self.state {
+                    State::MiA => State::SiA,
+                    _ => State::S,
+                };
+            }
+            FromHome::FwdGetM { .. } => {
+                self.state = match self.state {
+                    State::MiA => State::IiA,
+                    _ => State::I,
+                };
+            }
+        }
+    }
+
+    /// Takes the data that end a miss. A read copy that is upgraded has been read in the meantime,
+    /// so the new rider absorbs the old one.
+    fn fill(&mut self, words: [u32; BLOCK_WORDS], rider: &R)
+        requires { IsTrue (is_some (row Signal.BlockData self.old.state)) }
+        ensures { self.new ≡ line_after R.riding.absorbed self.old (FromHome.BlockData self.old.block words rider.now) }
+    {
+        self.words = words;
+        match self.state {
+            State::SmD => {
+                let old = self.rider;
+                self.rider = *rider;
+                self.rider.absorb(&old);
+                self.state = State::M;
+            }
+            State::IsD => {
+                self.rider = *rider;
+                self.state = State::S;
+            }
+            _ => {
+                self.rider = *rider;
+                self.state = State::M;
+            }
+        }
+    }
+}

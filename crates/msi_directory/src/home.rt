@@ -1,0 +1,236 @@
+//! The home of all blocks.
+ghost use Rattle.std.specs.Prelude.{◌≡◌, ◌<◌, ◌/◌, ◌%◌, ◌*◌, ◌+◌, ◌^◌, ℕ, List, IfOk, IsTrue, OnErr, OnOk, length, slice_index, slice_set, true};
+ghost use Rattle.msi_cache.specs.Messages.{request_block, request_seen, response_block, response_seen};
+ghost use Rattle.msi_cache.specs.declared.messages.Request.{Request};
+ghost use Rattle.msi_cache.specs.declared.messages.Response.{Response};
+ghost use Rattle.msi_directory.specs.Blocks.{SameElsewhere, block_count, entries_after_request, entries_after_response, entry_at, has_room, opening_entries, opening_entry};
+ghost use Rattle.msi_directory.specs.Entries.{answer_riding, answer_to_request, answer_to_response, entry_after_request, entry_after_response, has_request_row, has_response_row};
+ghost use Rattle.msi_directory.specs.Fitting.{stage_fits};
+ghost use Rattle.msi_directory.specs.PlainPart.{PlainRequest, PlainResponse};
+ghost use Rattle.msi_directory.specs.Table.{is_free, owner_of};
+ghost use Rattle.msi_directory.specs.declared.entry.Entry.{Entry};
+
+use crate::entry::{Entry, HomeAnswer, Stage};
+
+#[cfg(test)]
+mod tests;
+
+use access_times::Rider;
+use image_mem::Image;
+use msi_cache::{Request, Response};
+use rtr_types::{BLOCK_WORDS, CORES_MAX};
+use std::alloc::{AllocError, Global};
+use std::marker::Model;
+
+/// The home: an entry for each block of the memory. Contracts see the entries of all blocks, and which
+/// blocks have room, so that a request for them needs no memory.
+#[derive(Drop)]
+pub struct Home<R> {
+    entries: Vec<Entry<R>>,
+}
+
+impl<R> Model for Home<R> {
+    ghost use Rattle.std.specs.Prelude.{All, IsTrue, length, replicate, true};
+    ghost use Rattle.msi_directory.specs.Blocks.{Blocks};
+    ghost use Rattle.msi_directory.specs.Fitting.{stage_fits};
+
+    ghost Value = { Blocks R };
+
+    ghost view = { λ a. record { entries = a.entries.items; rooms = replicate (length a.entries.items) true } };
+
+    ghost invariant = { λ a. All (λ e. IsTrue (stage_fits e.stage)) a.entries.items };
+}
+
+impl<R: Rider> Home<R> {
+    /// A home over the image: each block is held by no cache, and has its opening words and a fresh
+    /// rider. A last block that the memory's words fill only in part is filled up with zeros.
+    pub fn new(alloc: Global, image: &Image) -> Result<Home<R>, AllocError>
+        ensures blocks { IfOk result (λ home. length home.entries ≡ block_count image.now.words) }
+        ensures opening { IfOk result (λ home. home.entries ≡ opening_entries R.riding.fresh image.now) }
+    {
+        let blocks = image.words().div_ceil(BLOCK_WORDS as u32);
+        let mut entries = Vec::with_capacity(alloc, blocks as usize)?;
+        for block in 0..blocks {
+            entries.push(opening_entry(image, block))?;
+        }
+        Ok(Home { entries })
+    }
+
+    /// How many blocks the memory has. Blocks are numbered from 0.
+    pub fn blocks(&self) -> usize
+        ensures { result ≡ length self.now.entries }
+    {
+        self.entries.len()
+    }
+
+    /// Makes room for the block, one of the memory's: once it answers Ok, a request for the block needs
+    /// no memory. No block's entry changes, and no other block's room. After want of memory nothing has
+    /// changed.
+    pub fn make_room(&mut self, block: u32) -> Result<(), AllocError>
+        requires { block < length self.old.entries }
+        ensures ok { OnOk result (self.new ≡ record self.old { rooms = slice_set self.old.rooms block true }) }
+        ensures room { OnOk result (has_room self.new.rooms block ≡ true) }
+        ensures err { OnErr result (self.new ≡ self.old) }
+    {
+        // each block has an entry of its own from the start
+        let _ = &self.entries;
+        Ok(())
+    }
+
+    /// Whether a request for the block, one of the memory's, needs no memory.
+    pub fn has_room(&self, block: u32) -> bool
+        requires { block < length self.now.entries }
+        ensures { result ≡ has_room self.now.rooms block }
+    {
+        (block as usize) < self.entries.len()
+    }
+
+    /// Whether the home can take the request now: exactly where its block isn't busy.
+    pub fn can_take(&self, request: &Request<R>) -> bool
+        requires { request_block request.now < length self.now.entries }
+        ensures { result ≡ is_free (entry_at R.riding.fresh self.now.entries (request_block request.now)).stage }
+    {
+        self.is_free(request.block())
+    }
+
+    /// Whether a request for the block, one of the memory's, can be taken now: the block isn't busy.
+    pub fn is_free(&self, block: u32) -> bool
+        requires { block < length self.now.entries }
+        ensures { result ≡ is_free (entry_at R.riding.fresh self.now.entries block).stage }
+    {
+        self.entries[block as usize].stage.is_free()
+    }
+
+    /// Whether the table has a row for the request, sent by core `from`.
+    pub fn expects_request(&self, from: u8, request: &Request<R>) -> bool
+        requires { request_block request.now < length self.now.entries }
+        ensures { result ≡ has_request_row (entry_at R.riding.fresh self.now.entries (request_block request.now)).stage from request.now }
+    {
+        self.entries[request.block() as usize].expects_request(from, request)
+    }
+
+    /// Whether the table has a row for the response, sent by core `from`.
+    pub fn expects_response(&self, from: u8, response: &Response<R>) -> bool
+        requires from { from < CORES_MAX }
+        requires within { response_block response.now < length self.now.entries }
+        ensures { result ≡ has_response_row (entry_at R.riding.fresh self.now.entries (response_block response.now)).stage from response.now }
+    {
+        self.entries[response.block() as usize].expects_response(from, response)
+    }
+
+    /// Takes a request from core `from`, for a block that has room and at which the table has a row for
+    /// it, so that it isn't busy. Only that block's entry changes.
+    pub fn on_request(&mut self, from: u8, request: Request<R>) -> HomeAnswer<R>
+        requires from { from < CORES_MAX }
+        requires within { request_block request < length self.old.entries }
+        requires room { IsTrue (has_room self.old.rooms (request_block request)) }
+        requires row { IsTrue (has_request_row (entry_at R.riding.fresh self.old.entries (request_block request)).stage from request) }
+        ensures blocks { self.new ≡ record self.old { entries = entries_after_request R.riding self.old.entries from request } }
+        ensures elsewhere { SameElsewhere R.riding.fresh self.old.entries self.new.entries (request_block request) }
+        ensures answer { result ≡ answer_to_request R.riding.absorbed (entry_at R.riding.fresh self.old.entries (request_block request)) from request }
+    {
+        let block = request.block();
+        let answer = self.serve(from, request.lent());
+        answer.riding(*self.rider(block))
+    }
+
+    /// Takes a request as `on_request` does, with its rider lent. The answer has no rider: data are
+    /// sent with the block's `rider`, as it is after the call.
+    pub fn serve(&mut self, from: u8, request: Request<&R>) -> HomeAnswer<()>
+        requires from { from < CORES_MAX }
+        requires within { request_block (request_seen request) < length self.old.entries }
+        requires room { IsTrue (has_room self.old.rooms (request_block (request_seen request))) }
+        requires row { IsTrue (has_request_row (entry_at R.riding.fresh self.old.entries (request_block (request_seen request))).stage from (request_seen request)) }
+        ensures blocks { self.new ≡ record self.old { entries = entries_after_request R.riding self.old.entries from (request_seen request.entry) } }
+        ensures elsewhere { SameElsewhere R.riding.fresh self.old.entries self.new.entries (request_block (request_seen request.entry)) }
+        ensures answer { answer_riding (entry_at R.riding.fresh self.new.entries (request_block (request_seen request.entry))).rider result ≡ answer_to_request R.riding.absorbed (entry_at R.riding.fresh self.old.entries (request_block (request_seen request.entry))) from (request_seen request.entry) }
+    {
+        self.entries[request.block() as usize].serve(from, request)
+    }
+
+    /// Takes a response from core `from`, about a block at which the table has a row for it. Only that
+    /// block's entry changes.
+    pub fn on_response(&mut self, from: u8, response: Response<R>) -> HomeAnswer<R>
+        requires from { from < CORES_MAX }
+        requires within { response_block response < length self.old.entries }
+        requires row { IsTrue (has_response_row (entry_at R.riding.fresh self.old.entries (response_block response)).stage from response) }
+        ensures blocks { self.new ≡ record self.old { entries = entries_after_response R.riding self.old.entries from response } }
+        ensures elsewhere { SameElsewhere R.riding.fresh self.old.entries self.new.entries (response_block response) }
+        ensures answer { result ≡ answer_to_response R.riding.absorbed (entry_at R.riding.fresh self.old.entries (response_block response)) from response }
+    {
+        let block = response.block();
+        let answer = self.collect(from, response.lent());
+        answer.riding(*self.rider(block))
+    }
+
+    /// Takes a response as `on_response` does, with its rider lent. The answer has no rider: data are
+    /// sent with the block's `rider`, as it is after the call.
+    pub fn collect(&mut self, from: u8, response: Response<&R>) -> HomeAnswer<()>
+        requires from { from < CORES_MAX }
+        requires within { response_block (response_seen response) < length self.old.entries }
+        requires row { IsTrue (has_response_row (entry_at R.riding.fresh self.old.entries (response_block (response_seen response))).stage from (response_seen response)) }
+        ensures blocks { self.new ≡ record self.old { entries = entries_after_response R.riding self.old.entries from (response_seen response.entry) } }
+        ensures elsewhere { SameElsewhere R.riding.fresh self.old.entries self.new.entries (response_block (response_seen response.entry)) }
+        ensures answer { answer_riding (entry_at R.riding.fresh self.new.entries (response_block (response_seen response.entry))).rider result ≡ answer_to_response R.riding.absorbed (entry_at R.riding.fresh self.old.entries (response_block (response_seen response.entry))) from (response_seen response.entry) }
+    {
+        self.entries[response.block() as usize].collect(from, response)
+    }
+
+    /// The rider on the home's copy of the block, one of the memory's.
+    pub fn rider(&self, block: u32) -> &R
+        requires { block < length self.now.entries }
+        ensures { result.now ≡ (entry_at R.riding.fresh self.now.entries block).rider }
+    {
+        &self.entries[block as usize].rider
+    }
+
+    /// The home's copy of a memory word, by the word's index. Where a cache owns the block it is an old
+    /// one.
+    pub fn word(&self, word: u32) -> u32
+        requires { word / BLOCK_WORDS < length self.now.entries }
+        ensures { result ≡ slice_index (entry_at R.riding.fresh self.now.entries (word / BLOCK_WORDS)).words (word % BLOCK_WORDS) }
+    {
+        let word = word as usize;
+        self.entries[word / BLOCK_WORDS].words[word % BLOCK_WORDS]
+    }
+
+    /// The core whose cache owns the block: none exactly where no cache does.
+    pub fn owner(&self, block: u32) -> Option<u8>
+        requires { block < length self.now.entries }
+        ensures { result ≡ owner_of (entry_at R.riding.fresh self.now.entries block).stage }
+    {
+        self.entries[block as usize].stage.owner()
+    }
+}
+
+/// A block as the image has it.
+fn opening_entry<R: Rider>(image: &Image, block: u32) -> Entry<R>
+    requires { block * BLOCK_WORDS + 3 < 2 ^ 32 }
+    ensures { result ≡ opening_entry R.riding.fresh image.now block }
+{
+    let first = block * BLOCK_WORDS as u32;
+    Entry {
+        stage: Stage::Unshared,
+        words: [
+            image.word(first),
+            image.word(first + 1),
+            image.word(first + 2),
+            image.word(first + 3),
+        ],
+        rider: R::fresh(),
+    }
+}
+
+/// Each row of the table leaves a stage that fits: the cores that it names exist, and a set of cores
+/// that it keeps has some core.
+pub fn home_rows_fit<R: Rider>()
+    ensures request { (e : Entry R) (c : ℕ) (request : Request R) → c < CORES_MAX → IsTrue (stage_fits e.stage) → IsTrue (stage_fits (entry_after_request R.riding.absorbed e c request).stage) }
+    ensures response { (e : Entry R) (c : ℕ) (response : Response R) → c < CORES_MAX → IsTrue (stage_fits e.stage) → IsTrue (stage_fits (entry_after_response R.riding.absorbed e c response).stage) }
+{}
+
+/// What rides changes nothing else: with the riders forgotten, each call does to a home what it does
+/// to the same home where nothing rides, needs the same of it, and answers the same.
+pub fn riders_change_no_plain_part<R: Rider>()
+    ensures on_request { (entries : List (Entry R)) (c : ℕ) (request : Request R) → PlainRequest R.riding entries c request }
+    ensures on_response { (entries : List (Entry R)) (c : ℕ) (response : Response R) → PlainResponse R.riding entries c response }
+{}

@@ -1,0 +1,315 @@
+//! The parts of a machine, and its moves in code.
+ghost use Rattle.std.specs.Prelude.{◌≡◌, ◌<◌, ◌≤◌, ◌*◌, ◌/◌, ◌%◌, [], IfOk, IsTrue, OnOk, length, true, slice_index_or};
+ghost use Rattle.rtr_types.specs.declared.TheConstants.{BLOCK_WORDS, CORES_MAX};
+ghost use Rattle.msi_state.specs.declared.moves.Move.{Move};
+ghost use Rattle.msi_state.specs.FinalMemory.{at_hand, final_word};
+ghost use Rattle.msi_state.specs.Nodes.{instr_of};
+ghost use Rattle.msi_state.specs.Ready.{HeadsFit, heads_roomy, Ready, RoomsMade};
+ghost use Rattle.msi_state.specs.Standings.{moves_below};
+ghost use Rattle.msi_state.specs.States.{node_at, state_start, all_done};
+ghost use Rattle.msi_state.specs.Steps.{AcceptsNext, TellsOf, enabled, event, moves, rider_left, step};
+
+use crate::actors::Actors;
+use crate::move_list::MoveList;
+use crate::moves::Move;
+use crate::standing::{Standing, are_done};
+use access_times::{Carry, Clerk, Rider};
+use image_mem::Image;
+use rtr_types::{BLOCK_WORDS, CORES_MAX, Instr};
+use rv_core::Core;
+use std::alloc::{AllocError, Global};
+use std::marker::Model;
+
+/// What a step did: the move that was made, and the instruction that retired in it. There is none
+/// exactly where no instruction retired.
+#[derive(Clone, Copy, Debug, PartialEq, Eq)]
+pub struct Stepped {
+    pub taken: Move,
+    pub retired: Option<Instr>,
+}
+
+/// The parts of a machine: the image that it runs, its nodes, its home and the home's carry, and beside
+/// them what each core and its cache stand at. Contracts see the state, and which of the home's blocks
+/// have room for a request.
+///
+/// It is for the machine alone, whose states always meet what these calls need.
+#[derive(Drop)]
+pub struct Parts<R, K> {
+    actors: Actors<R, K>,
+    standings: Vec<Standing>,
+}
+
+impl<R, K> Model for Parts<R, K> {
+    ghost use Rattle.std.specs.Prelude.{◌≡◌};
+    ghost use Rattle.msi_state.specs.States.{Machinery};
+    ghost use Rattle.msi_state.specs.Standings.{standings_of};
+
+    ghost Value = { Machinery R K };
+
+    ghost view = { λ a. a.actors };
+
+    ghost invariant = { λ a. a.standings.items ≡ standings_of a.actors.state };
+}
+
+impl<R: Rider, K: Carry> Parts<R, K> {
+    /// The parts of a machine at its start, with so many cores, each of which retires at most `limit`
+    /// instructions.
+    pub fn new(
+        alloc: Global,
+        image: Image,
+        cores: u8,
+        limit: u32,
+    ) -> Result<Parts<R, K>, AllocError>
+        ensures { IfOk result (λ parts. parts.state ≡ state_start R.riding K.carrying image cores limit) }
+    {
+        let actors = Actors::new(alloc, image, cores, limit)?;
+        let standings = actors.standings(alloc)?;
+        Ok(Parts { actors, standings })
+    }
+
+    /// Whether each core's program is done.
+    #[tactic(auto, using(crate::proofs::Standings::all_done_stands))]
+    pub fn done(&self) -> bool
+        ensures { result ≡ all_done self.now.state }
+    {
+        are_done(self.standings.as_slice())
+    }
+
+    /// Whether the move can be made.
+    pub fn is_enabled(&self, taken: Move) -> bool
+        requires { HeadsFit self.now.state }
+        ensures { result ≡ enabled R.riding K.carrying self.now.state taken }
+    {
+        if taken.core() as usize >= self.standings.len() {
+            return false;
+        }
+        match taken {
+            Move::Core(c) => self.may_move(c),
+            Move::Request(c) => self.may_take_request(c),
+            Move::Response(c) => self.may_take_response(c),
+            Move::FromHome(c) => self.may_take_message(c),
+        }
+    }
+
+    /// How many moves can be made.
+    pub fn count_moves(&self) -> u32
+        requires cores { length self.now.state.nodes ≤ CORES_MAX }
+        requires heads { HeadsFit self.now.state }
+        ensures { result ≡ length (moves R.riding K.carrying self.now.state) }
+    {
+        let mut found = MoveList::new();
+        self.find_moves(&mut found);
+        found.len()
+    }
+
+    /// The move of this number, from 0, among those that can be made.
+    pub fn pick(&self, number: u32) -> Move
+        requires cores { length self.now.state.nodes ≤ CORES_MAX }
+        requires heads { HeadsFit self.now.state }
+        requires within { number < length (moves R.riding K.carrying self.now.state) }
+        ensures chosen { (d : Move) → result ≡ slice_index_or (moves R.riding K.carrying self.now.state) number d }
+        ensures enabled { IsTrue (enabled R.riding K.carrying self.now.state result) }
+    {
+        let mut found = MoveList::new();
+        self.find_moves(&mut found);
+        found.get(number)
+    }
+
+    /// The image that the machine runs.
+    pub fn into_image(self) -> Image
+        ensures { result ≡ self.state.image }
+    {
+        let Parts { actors, .. } = self;
+        actors.into_image()
+    }
+
+    /// How many cores there are.
+    pub fn cores(&self) -> u8
+        requires { length self.now.state.nodes ≤ CORES_MAX }
+        ensures { result ≡ length self.now.state.nodes }
+    {
+        self.actors.cores()
+    }
+
+    /// A core.
+    pub fn core(&self, core: u8) -> &Core
+        requires { core < length self.now.state.nodes }
+        ensures { result.now ≡ (node_at K.carrying self.now.state.nodes core).core }
+    {
+        self.actors.core(core)
+    }
+
+    /// A word of the memory, by its index, once its block's words are at hand: the owner's where a cache
+    /// owns the block, else the home's.
+    pub fn final_word(&self, word: u32) -> u32
+        requires within { word / BLOCK_WORDS < length self.now.state.home }
+        requires at_hand { IsTrue (at_hand R.riding K.carrying self.now.state (word / BLOCK_WORDS)) }
+        ensures { result ≡ final_word R.riding K.carrying self.now.state word }
+    {
+        self.actors.final_word(word)
+    }
+
+    /// Makes room in the home for the block of each request link's head, so that no move needs memory.
+    /// After want of memory some of these blocks may have got room, and all else is unchanged.
+    pub fn make_room(&mut self) -> Result<(), AllocError>
+        requires { HeadsFit self.old.state }
+        ensures state { self.new.state ≡ self.old.state }
+        ensures rooms { RoomsMade self.old.state.nodes self.old.rooms self.new.rooms }
+        ensures ok { OnOk result (heads_roomy self.new ≡ true) }
+    {
+        self.actors.make_room()
+    }
+
+    /// Whether the home has room for the block of each request link's head.
+    pub fn has_room(&self) -> bool
+        requires { HeadsFit self.now.state }
+        ensures { result ≡ heads_roomy self.now }
+    {
+        self.actors.has_room()
+    }
+
+    /// One step: of the moves that can be made, the one that the choice numbers, counted around.
+    pub fn step<C: Clerk<R, K>>(&mut self, choice: u32, clerk: &mut C) -> Stepped
+        requires some { 0 < length (moves R.riding K.carrying self.old.state) }
+        requires ready { Ready R.riding K.carrying self.old.state }
+        requires roomy { IsTrue (heads_roomy self.old) }
+        requires accepts { AcceptsNext C.accepts clerk.old self.old.state }
+        ensures enabled { IsTrue (enabled R.riding K.carrying self.old.state result.taken) }
+        ensures taken { (d : Move) → result.taken ≡ slice_index_or (moves R.riding K.carrying self.old.state) (choice % length (moves R.riding K.carrying self.old.state)) d }
+        ensures state { self.new.state ≡ step R.riding K.carrying (rider_left R.riding K.carrying self.old.state self.new.state result.taken) self.old.state result.taken }
+        ensures rooms { self.new.rooms ≡ self.old.rooms }
+        ensures retired { result.retired ≡ instr_of (event R.riding K.carrying self.old.state result.taken) }
+        ensures told { TellsOf C.told_local C.told_touch R.riding K.carrying self.old.state self.new.state result.taken clerk.old clerk.new }
+    {
+        let mut found = MoveList::new();
+        self.find_moves(&mut found);
+        let taken = found.get(choice % found.len());
+        let retired = self.make_move(taken, clerk);
+        Stepped { taken, retired }
+    }
+
+    /// Makes a move that can be made.
+    pub fn make_move<C: Clerk<R, K>>(&mut self, taken: Move, clerk: &mut C) -> Option<Instr>
+        requires enabled { IsTrue (enabled R.riding K.carrying self.old.state taken) }
+        requires ready { Ready R.riding K.carrying self.old.state }
+        requires roomy { IsTrue (heads_roomy self.old) }
+        requires accepts { AcceptsNext C.accepts clerk.old self.old.state }
+        ensures state { self.new.state ≡ step R.riding K.carrying (rider_left R.riding K.carrying self.old.state self.new.state taken) self.old.state taken }
+        ensures rooms { self.new.rooms ≡ self.old.rooms }
+        ensures retired { result ≡ instr_of (event R.riding K.carrying self.old.state taken) }
+        ensures told { TellsOf C.told_local C.told_touch R.riding K.carrying self.old.state self.new.state taken clerk.old clerk.new }
+    {
+        match taken {
+            Move::Core(c) => {
+                let standing = &mut self.standings[c as usize];
+                self.actors.move_core(c, standing, clerk)
+            }
+            Move::Request(c) => {
+                self.actors.take_request(c);
+                None
+            }
+            Move::Response(c) => {
+                self.actors.take_response(c);
+                None
+            }
+            Move::FromHome(c) => {
+                let standing = &mut self.standings[c as usize];
+                self.actors.take_message(c, standing, clerk)
+            }
+        }
+    }
+}
+
+// What moves can be made.
+impl<R: Rider, K: Carry> Parts<R, K> {
+    fn may_move(&self, c: u8) -> bool
+        requires { c < length self.now.state.nodes }
+        ensures { result ≡ enabled R.riding K.carrying self.now.state (Move.Core c) }
+    {
+        self.standings[c as usize].may_move()
+    }
+
+    fn may_take_request(&self, c: u8) -> bool
+        requires here { c < length self.now.state.nodes }
+        requires heads { HeadsFit self.now.state }
+        ensures { result ≡ enabled R.riding K.carrying self.now.state (Move.Request c) }
+    {
+        self.actors.has_free_head(c)
+    }
+
+    fn may_take_response(&self, c: u8) -> bool
+        requires { c < length self.now.state.nodes }
+        ensures { result ≡ enabled R.riding K.carrying self.now.state (Move.Response c) }
+    {
+        self.actors.has_response(c)
+    }
+
+    fn may_take_message(&self, c: u8) -> bool
+        requires { c < length self.now.state.nodes }
+        ensures { result ≡ enabled R.riding K.carrying self.now.state (Move.FromHome c) }
+    {
+        self.actors.has_message(c)
+    }
+
+    /// Finds the moves that can be made, in order.
+    fn find_moves(&self, found: &mut MoveList)
+        requires cores { length self.now.state.nodes ≤ CORES_MAX }
+        requires heads { HeadsFit self.now.state }
+        requires none { found.old ≡ [] }
+        ensures { found.new ≡ moves R.riding K.carrying self.now.state }
+    {
+        self.find_core_moves(found);
+        self.find_requests(found);
+        self.find_responses(found);
+        self.find_messages(found);
+    }
+
+    fn find_core_moves(&self, found: &mut MoveList)
+        requires cores { length self.now.state.nodes ≤ CORES_MAX }
+        requires before { found.old ≡ moves_below R.riding K.carrying self.now.state 0 }
+        ensures { found.new ≡ moves_below R.riding K.carrying self.now.state (length self.now.state.nodes) }
+    {
+        for c in 0..self.cores() {
+            if self.may_move(c) {
+                found.push(Move::Core(c));
+            }
+        }
+    }
+
+    fn find_requests(&self, found: &mut MoveList)
+        requires cores { length self.now.state.nodes ≤ CORES_MAX }
+        requires heads { HeadsFit self.now.state }
+        requires before { found.old ≡ moves_below R.riding K.carrying self.now.state (length self.now.state.nodes) }
+        ensures { found.new ≡ moves_below R.riding K.carrying self.now.state (2 * length self.now.state.nodes) }
+    {
+        for c in 0..self.cores() {
+            if self.may_take_request(c) {
+                found.push(Move::Request(c));
+            }
+        }
+    }
+
+    fn find_responses(&self, found: &mut MoveList)
+        requires cores { length self.now.state.nodes ≤ CORES_MAX }
+        requires before { found.old ≡ moves_below R.riding K.carrying self.now.state (2 * length self.now.state.nodes) }
+        ensures { found.new ≡ moves_below R.riding K.carrying self.now.state (3 * length self.now.state.nodes) }
+    {
+        for c in 0..self.cores() {
+            if self.may_take_response(c) {
+                found.push(Move::Response(c));
+            }
+        }
+    }
+
+    fn find_messages(&self, found: &mut MoveList)
+        requires cores { length self.now.state.nodes ≤ CORES_MAX }
+        requires before { found.old ≡ moves_below R.riding K.carrying self.now.state (3 * length self.now.state.nodes) }
+        ensures { found.new ≡ moves_below R.riding K.carrying self.now.state (4 * length self.now.state.nodes) }
+    {
+        for c in 0..self.cores() {
+            if self.may_take_message(c) {
+                found.push(Move::FromHome(c));
+            }
+        }
+    }
+}

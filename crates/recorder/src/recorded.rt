@@ -1,0 +1,113 @@
+//! What a run came to.
+ghost use Rattle.std.specs.Prelude.{◌≡◌, IfOk, [], length, map, replicate, true};
+ghost use Rattle.access_times.specs.Riding.{none_carrying, none_riding};
+ghost use Rattle.msi_state.specs.FinalMemory.{final_memory};
+ghost use Rattle.msi_state.specs.Plain.{plain};
+ghost use Rattle.msi_state.specs.States.{all_done};
+ghost use Rattle.rtr_types.specs.Pairs.{pair_count};
+ghost use Rattle.recorder.specs.Recordings.{outcome_left, recording_from};
+
+use crate::run_clerk::{RunClerk, RunNotes};
+use access_times::{NoCarry, Times};
+use log_codec::Recording;
+use msi_machine::Machine;
+use rtr_types::{Items, Params, pair_count};
+use rv_core::{Core, Outcome};
+use std::alloc::{AllocError, Global};
+use stride_vector::StrideVector;
+
+/// The recording of a run, and what the run came to.
+#[derive(Drop)]
+pub struct Recorded {
+    pub recording: Recording,
+    pub outcome: Outcome,
+}
+
+/// What the machine and the clerk hold at the end of a run.
+pub(crate) fn finished(
+    alloc: Global,
+    machine: Machine<Times, NoCarry>,
+    clerk: RunClerk,
+    params: Params,
+) -> Result<Recorded, AllocError>
+    requires done { all_done machine.state ≡ true }
+    requires cores { params.cores ≡ length machine.state.nodes }
+    requires words { params.words ≡ machine.state.image.words }
+    ensures outcome { IfOk result (λ run. run.outcome ≡ outcome_left machine.state clerk.loads.lists) }
+    ensures recording { IfOk result (λ run.
+        run.recording ≡ recording_from params machine.state.image (outcome_left machine.state clerk.loads.lists) clerk.reduction.state.lists) }
+{
+    let cores = cores_of(alloc, &machine, params.cores)?;
+    let words = words_of(alloc, &machine, params.words)?;
+    let totals = totals_of(alloc, cores.as_slice())?;
+    let regulated = no_vectors(alloc, params.cores)?;
+    let RunNotes { reduced, loads } = clerk.finish(alloc)?;
+    let recording = Recording {
+        params,
+        image: Items::from_vec(machine.into_image().into_bytes()),
+        totals,
+        reduced,
+        regulated,
+    };
+    let outcome = Outcome {
+        cores,
+        words,
+        loads,
+    };
+    Ok(Recorded { recording, outcome })
+}
+
+/// The cores of the machine, of which there are so many.
+fn cores_of(
+    alloc: Global,
+    machine: &Machine<Times, NoCarry>,
+    cores: u8,
+) -> Result<Items<Core>, AllocError>
+    requires { cores ≡ length machine.now.state.nodes }
+    ensures { IfOk result (λ list. list ≡ map (λ n. n.core) machine.now.state.nodes) }
+{
+    let mut list = Items::new(alloc);
+    for core in 0..cores {
+        list.push(*machine.core(core))?;
+    }
+    Ok(list)
+}
+
+/// The words of the memory at the end, of which there are so many.
+fn words_of(
+    alloc: Global,
+    machine: &Machine<Times, NoCarry>,
+    words: u32,
+) -> Result<Items<u32>, AllocError>
+    requires done { all_done machine.now.state ≡ true }
+    requires words { words ≡ machine.now.state.image.words }
+    ensures { IfOk result (λ list. list ≡ final_memory none_riding none_carrying (plain machine.now.state)) }
+{
+    let mut list = Items::new(alloc);
+    for word in 0..words {
+        list.push(machine.final_word(word))?;
+    }
+    Ok(list)
+}
+
+/// How many instructions each core retired.
+fn totals_of(alloc: Global, cores: &[Core]) -> Result<Items<u32>, AllocError>
+    ensures { IfOk result (λ totals. totals ≡ map (λ k. k.count) cores.now) }
+{
+    let mut totals = Items::new(alloc);
+    for core in cores {
+        totals.push(core.count())?;
+    }
+    Ok(totals)
+}
+
+/// No vectors, for each pair of cores.
+fn no_vectors(alloc: Global, cores: u8) -> Result<Items<Items<StrideVector>>, AllocError>
+    ensures { IfOk result (λ lists. lists ≡ replicate (pair_count cores) []) }
+{
+    let mut lists = Items::new(alloc);
+    for place in 0..pair_count(cores) {
+        lists.push(Items::new(alloc))?;
+    }
+    Ok(lists)
+}
