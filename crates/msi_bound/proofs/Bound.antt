@@ -8,7 +8,7 @@ use Rattle.access_times.specs.Riding.{Carrying}
 use Rattle.rtr_types.specs.declared.core_set.CoreSet.{CoreSet}
 use Rattle.rtr_types.specs.CoreSets.{has, no_cores}
 use Rattle.msi_cache.specs.declared.messages.FromHome.{FromHome}
-use Rattle.msi_protocol.proofs.Members.{has-no_cores}
+use Rattle.rtr_types.proofs.Members.{has-no_cores}
 use Rattle.msi_state.specs.declared.node.Mail.{Mail}
 use Rattle.msi_state.specs.declared.node.Node.{Node}
 use Rattle.msi_state.specs.States.{node_at, no_node}

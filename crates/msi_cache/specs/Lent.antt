@@ -3,7 +3,7 @@ use Rattle.std.specs.Prelude.{ℕ, List}
 use Rattle.std.specs.Borrow.{Fml, RattleType, MutBor, Lends}
 use Rattle.msi_cache.specs.Lines.{lines_riding}
 use Rattle.msi_cache.specs.declared.line.Line.{Line}
-use Rattle.msi_cache.specs.contracts.controller.Cache.{the_row}
+use Rattle.msi_cache.specs.contracts.cache.Cache.{the_row}
 
 -- the cache ends with the last value behind the loan as the rider of the block's copy, and with
 -- nothing else changed

@@ -1,13 +1,12 @@
 -- Each row of the table leaves a stage that fits.
-use Rattle.std.proofs.Common.{◌≡◌, ℕ, ◌*◌, ◌^◌, ◌%◌, ◌<◌, arith, refl, Bool, true, false, IsTrue, Option, Some, None, List}
+use Rattle.std.proofs.Common.{◌≡◌, ℕ, ◌<◌, arith, refl, ap, not, Bool, true, false, IsTrue, Option, Some, None, List}
 use Rattle.std.specs.Prelude.{if◌then◌else◌, ◌&&◌, ◌==◌, All, length, slice_index_or, slice_set}
 use Rattle.std.proofs.lemmas.List.Elements.{All-set}
-use Rattle.std.specs.Int.{bit_not, w8}
-use Rattle.std.proofs.lemmas.Nat.{or_of_8, and_le_l, mod_below}
 use Rattle.std.proofs.lemmas.Bool.Decides.{nat_tests}
-use Rattle.rtr_types.proofs.Members.{has-with_same, has-none}
+use Rattle.rtr_types.proofs.Members.{no_cores_below, with_nonempty, with_below, without_below}
+use Rattle.rtr_types.specs.declared.TheConstants.{CORES_MAX}
 use Rattle.rtr_types.specs.declared.core_set.CoreSet.{CoreSet}
-use Rattle.rtr_types.specs.CoreSets.{has, with_core, without_core, is_none, no_cores}
+use Rattle.rtr_types.specs.CoreSets.{has, with_core, without_core, is_below, is_none, no_cores}
 use Rattle.msi_cache.specs.Table.{Ask, Reply}
 use Rattle.msi_cache.specs.Messages.{ask_of, reply_of}
 use Rattle.msi_cache.specs.declared.messages.Request.{Request}
@@ -19,39 +18,6 @@ use Rattle.msi_directory.specs.declared.entry.Stage.{Stage}
 use Rattle.msi_directory.specs.declared.entry.Stage.TheVariants.{Unshared, Shared, Owned, Acks, Data}
 use Rattle.msi_directory.specs.declared.entry.Entry.{Entry}
 
-bits_with : (s : CoreSet) (c : ℕ) → s.bits < 256 → (with_core s c).bits < 256
-unfolding with_core
-bits_with s c h = or_of_8 s.bits (1 * 2 ^ c % 256) h (mod_below (1 * 2 ^ c) 256 (omega arith))
-
-bits_without : (s : CoreSet) (c : ℕ) → s.bits < 256 → (without_core s c).bits < 256
-unfolding without_core
-bits_without s c h = let low = and_le_l s.bits (bit_not w8 (1 * 2 ^ c % 256)) in omega arith
-
-some_with : (s : CoreSet) (c : ℕ) → c < 8 → is_none (with_core s c) ≡ false
-some_with s c h = by_cases (is_none (with_core s c)) refl
-  where
-    by_cases : (b : Bool) → is_none (with_core s c) ≡ b → b ≡ false
-    by_cases false e = refl
-    by_cases true e = let gone = has-none (with_core s c) c e in let here = has-with_same s c h in cc
-
--- a set that is known to be in range fits where it isn't empty
-fits_some : (s : CoreSet) → s.bits < 256 → is_none s ≡ false → IsTrue (set_fits s)
-fits_some s low some = grind (arith, nat_tests)
-
-in_range : (s : CoreSet) → IsTrue (set_fits s) → s.bits < 256
-in_range s h = grind (arith, nat_tests)
-
-fits_with : (s : CoreSet) (c : ℕ) → c < 8 → s.bits < 256 → IsTrue (set_fits (with_core s c))
-fits_with s c h low = fits_some (with_core s c) (bits_with s c low) (some_with s c h)
-
-core_below : (c : ℕ) → c < 8 → IsTrue (core_fits c)
-core_below c h = grind (arith, nat_tests)
-
--- the stage of a row fits, if there is a row
-abbrev row_fits : Option HomeRow → Bool
-row_fits None = true
-row_fits (Some r) = stage_fits r.next
-
 both : (a b : Bool) → IsTrue a → IsTrue b → IsTrue (a && b)
 both a b h k = grind arith
 
@@ -61,36 +27,54 @@ first_of_both a b h = grind arith
 second_of_both : (a b : Bool) → IsTrue (a && b) → IsTrue b
 second_of_both a b h = grind arith
 
+-- a set that is known to be in range fits where it isn't empty
+fits_some : (s : CoreSet) → IsTrue (is_below s) → is_none s ≡ false → IsTrue (set_fits s)
+fits_some s low some = both (not (is_none s)) (is_below s) (ap not some) low
+
+in_range : (s : CoreSet) → IsTrue (set_fits s) → IsTrue (is_below s)
+in_range s h = second_of_both (not (is_none s)) (is_below s) h
+
+fits_with : (s : CoreSet) (c : ℕ) → c < CORES_MAX → IsTrue (is_below s) → IsTrue (set_fits (with_core s c))
+fits_with s c h low = fits_some (with_core s c) (with_below s c low) (with_nonempty s c h)
+
+core_below : (c : ℕ) → c < CORES_MAX → IsTrue (core_fits c)
+core_below c h = grind (arith, nat_tests)
+
+-- the stage of a row fits, if there is a row
+abbrev row_fits : Option HomeRow → Bool
+row_fits None = true
+row_fits (Some r) = stage_fits r.next
+
 -- a fact of a choice holds where it holds of both branches
 chosen : {X : Type 0} (P : X → Type 0) (b : Bool) (x y : X) → (b ≡ true → P x) → (b ≡ false → P y) → P (if b then x else y)
 chosen P true x y f g = f refl
 chosen P false x y f g = g refl
 
-shared_fits : (s : CoreSet) → s.bits < 256 → IsTrue (stage_fits (shared_by s))
+shared_fits : (s : CoreSet) → IsTrue (is_below s) → IsTrue (stage_fits (shared_by s))
 shared_fits s low = chosen (λ t. IsTrue (stage_fits t)) (is_none s) Unshared (Shared s) (λ e. refl) (λ e. fits_some s low e)
 
-left_fits : (left : CoreSet) (requester : ℕ) → left.bits < 256 → IsTrue (core_fits requester) → is_none left ≡ false → IsTrue (stage_fits (Acks left requester))
+left_fits : (left : CoreSet) (requester : ℕ) → IsTrue (is_below left) → IsTrue (core_fits requester) → is_none left ≡ false → IsTrue (stage_fits (Acks left requester))
 left_fits left requester low h e = both (set_fits left) (core_fits requester) (fits_some left low e) h
 
-own_fits : (others : CoreSet) (c : ℕ) → others.bits < 256 → c < 8 → IsTrue (row_fits (own_from others c))
+own_fits : (others : CoreSet) (c : ℕ) → IsTrue (is_below others) → c < CORES_MAX → IsTrue (row_fits (own_from others c))
 own_fits others c low h = chosen (λ r. IsTrue (row_fits r)) (is_none others) _ _ (λ e. core_below c h) (λ e. left_fits others c low (core_below c h) e)
 
-acknowledged_fits : (left : CoreSet) (requester : ℕ) → left.bits < 256 → IsTrue (core_fits requester) → IsTrue (row_fits (acknowledged left requester))
+acknowledged_fits : (left : CoreSet) (requester : ℕ) → IsTrue (is_below left) → IsTrue (core_fits requester) → IsTrue (row_fits (acknowledged left requester))
 acknowledged_fits left requester low h = chosen (λ r. IsTrue (row_fits r)) (is_none left) _ _ (λ e. h) (λ e. left_fits left requester low h e)
 
-given_fits : (share : Bool) (c requester : ℕ) → c < 8 → IsTrue (core_fits requester) → IsTrue (stage_fits (given share c requester))
-given_fits true c requester h k = fits_with (with_core no_cores c) requester (grind (arith, nat_tests)) (bits_with no_cores c (omega arith))
+given_fits : (share : Bool) (c requester : ℕ) → c < CORES_MAX → IsTrue (core_fits requester) → IsTrue (stage_fits (given share c requester))
+given_fits true c requester h k = fits_with (with_core no_cores c) requester (grind (arith, nat_tests)) (with_below no_cores c no_cores_below)
 given_fits false c requester h k = k
 
-request_fits : (stage : Stage) (c : ℕ) (ask : Ask) → c < 8 → IsTrue (stage_fits stage) → IsTrue (row_fits (request_row stage c ask))
-request_fits Unshared c Ask.GetS h fits = fits_with no_cores c h (omega arith)
+request_fits : (stage : Stage) (c : ℕ) (ask : Ask) → c < CORES_MAX → IsTrue (stage_fits stage) → IsTrue (row_fits (request_row stage c ask))
+request_fits Unshared c Ask.GetS h fits = fits_with no_cores c h no_cores_below
 request_fits Unshared c Ask.GetM h fits = core_below c h
 request_fits Unshared c Ask.PutS h fits = refl
 request_fits Unshared c Ask.PutM h fits = refl
 request_fits (Shared by) c Ask.GetS h fits = fits_with by c h (in_range by fits)
-request_fits (Shared by) c Ask.GetM h fits = own_fits (without_core by c) c (bits_without by c (in_range by fits)) h
-request_fits (Shared by) c Ask.PutS h fits = chosen (λ r. IsTrue (row_fits r)) (has by c) _ _ (λ e. shared_fits (without_core by c) (bits_without by c (in_range by fits))) (λ e. fits)
-request_fits (Shared by) c Ask.PutM h fits = chosen (λ r. IsTrue (row_fits r)) (has by c) _ _ (λ e. shared_fits (without_core by c) (bits_without by c (in_range by fits))) (λ e. fits)
+request_fits (Shared by) c Ask.GetM h fits = own_fits (without_core by c) c (without_below by c (in_range by fits)) h
+request_fits (Shared by) c Ask.PutS h fits = chosen (λ r. IsTrue (row_fits r)) (has by c) _ _ (λ e. shared_fits (without_core by c) (without_below by c (in_range by fits))) (λ e. fits)
+request_fits (Shared by) c Ask.PutM h fits = chosen (λ r. IsTrue (row_fits r)) (has by c) _ _ (λ e. shared_fits (without_core by c) (without_below by c (in_range by fits))) (λ e. fits)
 request_fits (Owned owner) c Ask.GetS h fits = both (core_fits owner) (core_fits c) fits (core_below c h)
 request_fits (Owned owner) c Ask.GetM h fits = both (core_fits owner) (core_fits c) fits (core_below c h)
 request_fits (Owned owner) c Ask.PutS h fits = chosen (λ r. IsTrue (row_fits r)) (c == owner) _ _ (λ e. refl) (λ e. fits)
@@ -98,11 +82,11 @@ request_fits (Owned owner) c Ask.PutM h fits = chosen (λ r. IsTrue (row_fits r)
 request_fits (Acks «of» requester) c ask h fits = refl
 request_fits (Data «of» requester share) c ask h fits = refl
 
-response_fits : (stage : Stage) (c : ℕ) (reply : Reply) → c < 8 → IsTrue (stage_fits stage) → IsTrue (row_fits (response_row stage c reply))
+response_fits : (stage : Stage) (c : ℕ) (reply : Reply) → c < CORES_MAX → IsTrue (stage_fits stage) → IsTrue (row_fits (response_row stage c reply))
 response_fits (Acks «of» requester) c Reply.InvAck h fits =
     let range = in_range «of» (first_of_both (set_fits «of») (core_fits requester) fits) in
     chosen (λ r. IsTrue (row_fits r)) (has «of» c) _ _
-    (λ e. acknowledged_fits (without_core «of» c) requester (bits_without «of» c range) (second_of_both (set_fits «of») (core_fits requester) fits))
+    (λ e. acknowledged_fits (without_core «of» c) requester (without_below «of» c range) (second_of_both (set_fits «of») (core_fits requester) fits))
     (λ e. refl)
 response_fits (Data «of» requester share) c Reply.OwnerData h fits =
     chosen (λ r. IsTrue (row_fits r)) (c == «of») _ _
@@ -119,10 +103,10 @@ module _ {R : Type 0} where
   entry_by_fits absorbed None e words rider fits old = old
   entry_by_fits absorbed (Some r) e words rider fits old = fits
 
-  pub request_keeps_fit : (absorbed : R → R → R) (e : Entry R) (c : ℕ) (request : Request R) → c < 8 → IsTrue (stage_fits e.stage) → IsTrue (stage_fits (entry_after_request absorbed e c request).stage)
+  pub request_keeps_fit : (absorbed : R → R → R) (e : Entry R) (c : ℕ) (request : Request R) → c < CORES_MAX → IsTrue (stage_fits e.stage) → IsTrue (stage_fits (entry_after_request absorbed e c request).stage)
   request_keeps_fit absorbed e c request h fits = entry_by_fits absorbed (request_row e.stage c (ask_of request)) e (request_words request e.words) (request_rider request e.rider) (request_fits e.stage c (ask_of request) h fits) fits
 
-  pub response_keeps_fit : (absorbed : R → R → R) (e : Entry R) (c : ℕ) (response : Response R) → c < 8 → IsTrue (stage_fits e.stage) → IsTrue (stage_fits (entry_after_response absorbed e c response).stage)
+  pub response_keeps_fit : (absorbed : R → R → R) (e : Entry R) (c : ℕ) (response : Response R) → c < CORES_MAX → IsTrue (stage_fits e.stage) → IsTrue (stage_fits (entry_after_response absorbed e c response).stage)
   response_keeps_fit absorbed e c response h fits = entry_by_fits absorbed (response_row e.stage c (reply_of response)) e (response_words response e.words) (response_rider response) (response_fits e.stage c (reply_of response) h fits) fits
 
   -- each block's stage fits
@@ -132,10 +116,10 @@ module _ {R : Type 0} where
   one_fits : (entries : List (Entry R)) (block : ℕ) (e : Entry R) → AllFit entries → block < length entries → e ≡ slice_index_or entries block e → IsTrue (stage_fits e.stage)
   one_fits entries block e fits within is = rw is (fits block e within)
 
-  pub request_keeps_all : (absorbed : R → R → R) (entries : List (Entry R)) (block : ℕ) (old new : Entry R) (c : ℕ) (request : Request R) → AllFit entries → block < length entries → old ≡ slice_index_or entries block old → c < 8 → new ≡ entry_after_request absorbed old c request → AllFit (slice_set entries block new)
+  pub request_keeps_all : (absorbed : R → R → R) (entries : List (Entry R)) (block : ℕ) (old new : Entry R) (c : ℕ) (request : Request R) → AllFit entries → block < length entries → old ≡ slice_index_or entries block old → c < CORES_MAX → new ≡ entry_after_request absorbed old c request → AllFit (slice_set entries block new)
   request_keeps_all absorbed entries block old new c request fits within is h row =
       All-set (λ (e : Entry R). IsTrue (stage_fits e.stage)) entries block new (rw row (request_keeps_fit absorbed old c request h (one_fits entries block old fits within is))) fits
 
-  pub response_keeps_all : (absorbed : R → R → R) (entries : List (Entry R)) (block : ℕ) (old new : Entry R) (c : ℕ) (response : Response R) → AllFit entries → block < length entries → old ≡ slice_index_or entries block old → c < 8 → new ≡ entry_after_response absorbed old c response → AllFit (slice_set entries block new)
+  pub response_keeps_all : (absorbed : R → R → R) (entries : List (Entry R)) (block : ℕ) (old new : Entry R) (c : ℕ) (response : Response R) → AllFit entries → block < length entries → old ≡ slice_index_or entries block old → c < CORES_MAX → new ≡ entry_after_response absorbed old c response → AllFit (slice_set entries block new)
   response_keeps_all absorbed entries block old new c response fits within is h row =
       All-set (λ (e : Entry R). IsTrue (stage_fits e.stage)) entries block new (rw row (response_keeps_fit absorbed old c response h (one_fits entries block old fits within is))) fits

@@ -1,14 +1,14 @@
 -- What every stage keeps: the cores that it names exist, and a set that it keeps isn't empty.
-use Rattle.std.specs.Prelude.{ℕ, Bool, true, ◌&&◌, not, nat_lt, ◌^◌}
+use Rattle.std.specs.Prelude.{ℕ, Bool, true, ◌&&◌, not, nat_lt}
 use Rattle.rtr_types.specs.declared.TheConstants.{CORES_MAX}
 use Rattle.rtr_types.specs.declared.core_set.CoreSet.{CoreSet}
-use Rattle.rtr_types.specs.CoreSets.{is_none}
+use Rattle.rtr_types.specs.CoreSets.{is_below, is_none}
 use Rattle.msi_directory.specs.declared.entry.Stage.{Stage}
 use Rattle.msi_directory.specs.declared.entry.Stage.TheVariants.{Unshared, Shared, Owned, Acks, Data}
 
 -- a set of some cores, all below the greatest number of cores
 abbrev pub set_fits : CoreSet → Bool
-set_fits set = not (is_none set) && nat_lt set.bits (2 ^ CORES_MAX)
+set_fits set = not (is_none set) && is_below set
 
 abbrev pub core_fits : ℕ → Bool
 core_fits core = nat_lt core CORES_MAX

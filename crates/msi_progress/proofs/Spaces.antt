@@ -22,7 +22,7 @@ use Rattle.msi_protocol.specs.Block.{View, has_reply_row, response_step}
 use Rattle.msi_protocol.specs.Controllers.{kind_sent}
 use Rattle.msi_protocol.specs.Phases.{StageFits, picture, role}
 use Rattle.msi_protocol.proofs.Controllers.{response_makes_step}
-use Rattle.msi_protocol.proofs.Members.{has-no_cores}
+use Rattle.rtr_types.proofs.Members.{has-no_cores}
 use Rattle.msi_protocol.proofs.Quiet.{few_under_way}
 use Rattle.msi_state.specs.declared.node.Mail.{Mail}
 use Rattle.msi_state.specs.declared.node.Node.{Node}

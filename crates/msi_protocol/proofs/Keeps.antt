@@ -6,7 +6,7 @@ use Rattle.std.proofs.lemmas.Bool.Decides.{nat_tests}
 use Rattle.rtr_types.specs.declared.TheConstants.{CORES_MAX}
 use Rattle.rtr_types.specs.declared.core_set.CoreSet.{CoreSet}
 use Rattle.rtr_types.specs.CoreSets.{has, without_core, is_none}
-use Rattle.rtr_types.proofs.Members.{has-with_same, has-with_other, has-without_same, has-without_other, has-none, has-some}
+use Rattle.rtr_types.proofs.Members.{has-with_same, has-with_other, has-without_same, has-without_other, has-none, has-some, has-no_cores, with_nonempty, with_below, without_below, no_cores_below}
 use Rattle.msi_cache.specs.declared.line.State.{State}
 use Rattle.msi_cache.specs.declared.line.State.TheVariants.{M}
 use Rattle.msi_cache.specs.Table.{Signal, Ask, Reply, row, is_readable, is_writable}
@@ -14,7 +14,6 @@ use Rattle.msi_directory.specs.declared.entry.Stage.{Stage}
 use Rattle.msi_directory.specs.declared.entry.Stage.TheVariants.{Unshared, Shared, Owned, Acks, Data}
 use Rattle.msi_directory.specs.Table.{is_free}
 use Rattle.msi_directory.specs.Fitting.{stage_fits}
-use Rattle.msi_protocol.proofs.Members.{has-no_cores, with_nonempty, with_below, without_below}
 use Rattle.msi_protocol.specs.Block.{View, Block, request_step, response_step, has_ask_row, has_reply_row, after_request, after_response, after_message, after_wish, Wish, BlockMove, TakesRequest, TakesResponse, TakesMessage, Wishes, core_of, moved, block_move, block_run, block_start, request_by, response_by, message_by, wish_by, view_if}
 use Rattle.msi_protocol.specs.Promises.{OneWriter, HasRows, BusyMoves, is_moving}
 use Rattle.msi_protocol.specs.Phases.{Phase, Idle, role, role_in, picture, StageFits, Stands, BlockHolds}

@@ -1,4 +1,3 @@
-pub mod Members
 pub mod Keeps
 pub mod Quiet
 pub mod Controllers

@@ -1,8 +1,8 @@
 -- Where a core can be with a block, and what the home takes it for. A block is well where each core's
 -- view is the picture of a phase in which the core is what the home takes it for.
-use Rattle.std.specs.Prelude.{◌≡◌, ◌≢◌, ℕ, ◌<◌, ◌^◌, ◌==◌, Bool, true, false, [], ◌∷◌, if◌then◌else◌}
+use Rattle.std.specs.Prelude.{◌≡◌, ◌≢◌, ℕ, ◌<◌, ◌==◌, Bool, true, false, IsTrue, [], ◌∷◌, if◌then◌else◌}
 use Rattle.rtr_types.specs.declared.TheConstants.{CORES_MAX}
-use Rattle.rtr_types.specs.CoreSets.{has, is_none}
+use Rattle.rtr_types.specs.CoreSets.{has, is_below, is_none}
 use Rattle.msi_cache.specs.declared.line.State.{State}
 use Rattle.msi_cache.specs.declared.line.State.TheVariants.{I, S, M, IsD, ImD, SmD, MiA, SiA, IiA}
 use Rattle.msi_cache.specs.Table.{Signal, Ask, Reply}
@@ -186,9 +186,9 @@ pub record Stands (stage : Stage) (d : ℕ) (v : View) : Type 0 where
 -- the cores that a stage names exist, a set that it keeps isn't empty, and nobody waits for himself
 abbrev pub StageFits : Stage → Type 0
 StageFits Unshared = Unit {0}
-StageFits (Shared by) = (is_none by ≡ false) × (by.bits < 2 ^ CORES_MAX)
+StageFits (Shared by) = (is_none by ≡ false) × IsTrue (is_below by)
 StageFits (Owned owner) = owner < CORES_MAX
-StageFits (Acks awaited requester) = (has awaited requester ≡ false) × (requester < CORES_MAX) × (is_none awaited ≡ false) × (awaited.bits < 2 ^ CORES_MAX)
+StageFits (Acks awaited requester) = (has awaited requester ≡ false) × (requester < CORES_MAX) × (is_none awaited ≡ false) × IsTrue (is_below awaited)
 StageFits (Data giver requester share) = (giver ≢ requester) × (requester < CORES_MAX) × (giver < CORES_MAX)
 
 -- the invariant of a block

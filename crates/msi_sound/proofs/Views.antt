@@ -13,7 +13,7 @@ use Rattle.msi_cache.specs.Messages.{signal, block_of}
 use Rattle.msi_directory.specs.declared.entry.HomeAnswer.{HomeAnswer}
 use Rattle.msi_protocol.specs.Block.{View, told_if, sent_to}
 use Rattle.msi_protocol.specs.Controllers.{kind_sent, SendsAlone}
-use Rattle.msi_protocol.proofs.Members.{has-no_cores}
+use Rattle.rtr_types.proofs.Members.{has-no_cores}
 use Rattle.msi_state.specs.declared.node.Mail.{Mail}
 use Rattle.msi_state.specs.declared.node.Node.{Node}
 use Rattle.msi_state.specs.States.{node_at, no_node}

@@ -16,8 +16,7 @@ use Rattle.msi_cache.specs.Lines.{asks, is_allowed}
 use Rattle.msi_cache.specs.Table.{is_transient, Ask, Reply}
 use Rattle.msi_directory.specs.declared.entry.Entry.{Entry}
 use Rattle.msi_directory.specs.Table.{is_free}
-use Rattle.rtr_types.proofs.Members.{has-with_same, has-with_other, has-without_same, has-without_other, has-none}
-use Rattle.msi_protocol.proofs.Members.{has-no_cores}
+use Rattle.rtr_types.proofs.Members.{has-with_same, has-with_other, has-without_same, has-without_other, has-none, has-no_cores}
 use Rattle.msi_protocol.specs.Block.{has_reply_row}
 use Rattle.msi_protocol.specs.Phases.{role, role_in, picture, StageFits}
 use Rattle.msi_times.specs.Seats.{Seat, FullBlock, seat_received, seat_wished, home_requested, seat_own, seat_other, home_responded, seat_answered, seat_others, requested, responded, seat_accessed}
