@@ -1,14 +1,16 @@
 -- What the kinds of access do to memory.
 use Rattle.std.specs.Prelude.{Bool, true, false}
 use Rattle.rtr_types.specs.declared.access.Kind.{Kind}
-use Rattle.rtr_types.specs.declared.access.Kind.TheVariants.{Load, Store}
+use Rattle.rtr_types.specs.declared.access.Kind.TheVariants.{Load, Store, Amo}
 
 -- an access of this kind takes the word's value
 abbrev pub is_read : Kind → Bool
 is_read Load = true
 is_read Store = false
+is_read Amo = true
 
 -- an access of this kind may change the word
 abbrev pub is_write : Kind → Bool
 is_write Load = false
 is_write Store = true
+is_write Amo = true

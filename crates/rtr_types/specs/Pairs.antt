@@ -16,7 +16,8 @@ source_at cores place = place / (cores - 1)
 
 -- the target of the pair at a place
 abbrev pub target_at : ℕ → ℕ → ℕ
-target_at cores place = if nat_lt (place % (cores - 1)) (place / (cores - 1)) then place % (cores - 1) else place % (cores - 1) + 1
+target_at cores place =
+    if nat_lt (place % (cores - 1)) (place / (cores - 1)) then place % (cores - 1) else place % (cores - 1) + 1
 
 -- two different cores
 pub record IsPair (cores from to : ℕ) : Type 0 where
@@ -27,17 +28,22 @@ pub record IsPair (cores from to : ℕ) : Type 0 where
 -- each pair has a place, and is the pair at it
 abbrev pub PairsPlaced : Type 0
 PairsPlaced = (cores from to : ℕ) → IsPair cores from to →
-    (pair_place cores from to < pair_count cores) × (source_at cores (pair_place cores from to) ≡ from) × (target_at cores (pair_place cores from to) ≡ to)
+    (pair_place cores from to < pair_count cores)
+    × (source_at cores (pair_place cores from to) ≡ from)
+    × (target_at cores (pair_place cores from to) ≡ to)
 
 -- each place is that of a pair
 abbrev pub PlacesPaired : Type 0
 PlacesPaired = (cores place : ℕ) → place < pair_count cores →
-    IsPair cores (source_at cores place) (target_at cores place) × (pair_place cores (source_at cores place) (target_at cores place) ≡ place)
+    IsPair cores (source_at cores place) (target_at cores place)
+    × (pair_place cores (source_at cores place) (target_at cores place) ≡ place)
 
 -- the pairs of a source stand before those of a later one
 abbrev pub SourcesRise : Type 0
-SourcesRise = (cores from to later other : ℕ) → IsPair cores from to → IsPair cores later other → from < later → pair_place cores from to < pair_place cores later other
+SourcesRise = (cores from to later other : ℕ) → IsPair cores from to → IsPair cores later other → from < later
+    → pair_place cores from to < pair_place cores later other
 
 -- among a source's pairs those with a target before stand before
 abbrev pub TargetsRise : Type 0
-TargetsRise = (cores from to later : ℕ) → IsPair cores from to → IsPair cores from later → to < later → pair_place cores from to < pair_place cores from later
+TargetsRise = (cores from to later : ℕ) → IsPair cores from to → IsPair cores from later → to < later
+    → pair_place cores from to < pair_place cores from later

@@ -4,11 +4,13 @@ ghost use Rattle.rtr_types.specs.Accesses.{is_read, is_write};
 
 use crate::instr::Instr;
 
-/// What an access does to its word.
+/// What an access does to its word: a load reads it, a store writes it, and an atomic memory operation
+/// does both in one step.
 #[derive(Clone, Copy, Debug, PartialEq, Eq)]
 pub enum Kind {
     Load,
     Store,
+    Amo,
 }
 
 impl Kind {
@@ -17,7 +19,7 @@ impl Kind {
         ensures { result ≡ is_read self }
     {
         match self {
-            Kind::Load => true,
+            Kind::Load | Kind::Amo => true,
             Kind::Store => false,
         }
     }
@@ -28,7 +30,7 @@ impl Kind {
     {
         match self {
             Kind::Load => false,
-            Kind::Store => true,
+            Kind::Store | Kind::Amo => true,
         }
     }
 }

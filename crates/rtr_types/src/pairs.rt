@@ -1,6 +1,7 @@
 //! The two logs, and the order in which the pairs of cores stand in them.
 ghost use Rattle.std.specs.Prelude.{◌≡◌, ◌<◌, ◌≤◌};
-ghost use Rattle.rtr_types.specs.Pairs.{IsPair, pair_count, pair_place, source_at, target_at, PairsPlaced, PlacesPaired, SourcesRise, TargetsRise};
+ghost use Rattle.rtr_types.specs.Pairs.{IsPair, pair_count, pair_place, source_at, target_at, PairsPlaced};
+ghost use Rattle.rtr_types.specs.Pairs.{PlacesPaired, SourcesRise, TargetsRise};
 
 /// One of the two order logs of a recording.
 #[derive(Clone, Copy, Debug, PartialEq, Eq)]

@@ -1,13 +1,14 @@
 -- The laws of a core's steps.
 use Rattle.std.proofs.Common.{◌≡◌, ◌<◌, ℕ, ◌+◌, ◌^◌, true, Option, Some, None, refl, sym, ◌∙◌, ap, lit<}
+use Rattle.rtr_types.specs.declared.access.Kind.{Kind}
 use Rattle.rv_decode.specs.declared.op.Op.{Op}
 use Rattle.image_mem.specs.Contents.{Contents}
 use Rattle.rv_core.specs.declared.core_state.Core.{Core}
 use Rattle.rv_core.specs.States.{starting, retired, word_after}
-use Rattle.rv_core.specs.Steps.{after, wrote, is_done, instruction_at, after_instruction, word_after_instruction}
-use Rattle.rv_core.specs.Laws.{StartLaw, CountLaw, NumberLaw, LimitLaw, RoomLaw, LoadWithinLaw, StoreWithinLaw, LocalLaw, StoreLaw, WholeLaw, LocalValueLaw, LoadValueLaw, ValueLaw}
-use Rattle.rv_core.proofs.StepLemmas.{goes_on}
-use Rattle.rv_core.proofs.OpLemmas.{loading, storing, staying, word_after-below}
+use Rattle.rv_core.specs.Steps.{need, after, wrote, is_done, is_whole, access_of, instruction_at, after_instruction, word_after_instruction}
+use Rattle.rv_core.specs.Laws.{StartLaw, CountLaw, NumberLaw, LimitLaw, RoomLaw, WithinLaw, LocalLaw, UnreadLaw, WholeLaw, LocalValueLaw, UnwrittenLaw, ValueLaw}
+use Rattle.rv_core.proofs.StepLemmas.{GoesOnBy, goes_on}
+use Rattle.rv_core.proofs.OpLemmas.{Accessing, access_goes, accessing, whole_store, covering, staying, word_after-below}
 
 pub start_law : StartLaw
 unfolding starting
@@ -54,15 +55,15 @@ pub wrote-op : (image : Contents) (core : Core) (op : Op) (old : ℕ) → instru
 unfolding wrote
 wrote-op image core op old e = rw e refl
 
-pub load_within_law : LoadWithinLaw
-load_within_law image core word h =
-    let (op, goes) = goes_on image core (ap is_done h) in
-    (loading image.words core op word (sym goes.needs ∙ h)).within
+-- the instruction by which a core makes an access
+accesses_by : (image : Contents) (core : Core) (kind : Kind) (word : ℕ) → access_of (need image core) ≡ Some (kind, word)
+    → (op : Op) × GoesOnBy image core op × Accessing image.words core op kind word
+accesses_by image core kind word h =
+    let (op, goes) = goes_on image core (access_goes _ kind word h) in
+    (op, goes, accessing image.words core op kind word (sym (ap access_of goes.needs) ∙ h))
 
-pub store_within_law : StoreWithinLaw
-store_within_law image core word whole h =
-    let (op, goes) = goes_on image core (ap is_done h) in
-    (storing image.words core op word whole (sym goes.needs ∙ h)).within
+pub within_law : WithinLaw
+within_law image core kind word h = (accesses_by image core kind word h).2.within
 
 pub local_law : LocalLaw
 local_law image core one other h =
@@ -70,17 +71,17 @@ local_law image core one other h =
     let stays = staying image.words core op (sym goes.needs ∙ h) in
     after-op image core op one goes.at_pc ∙ stays.same one other ∙ sym (after-op image core op other goes.at_pc)
 
-pub store_law : StoreLaw
-store_law image core word whole one other h =
-    let (op, goes) = goes_on image core (ap is_done h) in
-    let stores = storing image.words core op word whole (sym goes.needs ∙ h) in
-    after-op image core op one goes.at_pc ∙ stores.same one other ∙ sym (after-op image core op other goes.at_pc)
+pub unread_law : UnreadLaw
+unread_law image core kind word one other h blind =
+    let (op, goes, accesses) = accesses_by image core kind word h in
+    after-op image core op one goes.at_pc ∙ accesses.unread blind one other ∙ sym (after-op image core op other goes.at_pc)
 
 pub whole_law : WholeLaw
-whole_law image core word one other h =
-    let (op, goes) = goes_on image core (ap is_done h) in
-    let stores = storing image.words core op word true (sym goes.needs ∙ h) in
-    wrote-op image core op one goes.at_pc ∙ stores.covered refl one other ∙ sym (wrote-op image core op other goes.at_pc)
+whole_law image core one other h =
+    let (word, stores) = whole_store (need image core) h in
+    let (op, goes) = goes_on image core (ap is_done stores) in
+    let same = covering image.words core op word (sym goes.needs ∙ stores) one other in
+    wrote-op image core op one goes.at_pc ∙ same ∙ sym (wrote-op image core op other goes.at_pc)
 
 pub local_value_law : LocalValueLaw
 local_value_law image core old h =
@@ -88,11 +89,10 @@ local_value_law image core old h =
     let stays = staying image.words core op (sym goes.needs ∙ h) in
     wrote-op image core op old goes.at_pc ∙ stays.nothing old
 
-pub load_value_law : LoadValueLaw
-load_value_law image core word old h =
-    let (op, goes) = goes_on image core (ap is_done h) in
-    let loads = loading image.words core op word (sym goes.needs ∙ h) in
-    wrote-op image core op old goes.at_pc ∙ loads.kept old
+pub unwritten_law : UnwrittenLaw
+unwritten_law image core kind word old h keeps =
+    let (op, goes, accesses) = accesses_by image core kind word h in
+    wrote-op image core op old goes.at_pc ∙ accesses.unwritten keeps old
 
 value_by : (core : Core) (op : Option Op) (old : ℕ) → old < 2 ^ 32 → word_after_instruction core op old < 2 ^ 32
 value_by core None old h = lit< tt

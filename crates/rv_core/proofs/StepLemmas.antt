@@ -9,9 +9,9 @@ use Rattle.rv_core.specs.declared.core_state.Core.{Core}
 use Rattle.rv_core.specs.declared.core_state.Halt.{Halt}
 use Rattle.rv_core.specs.declared.core_state.Halt.TheVariants.{Running, Exited, Broke}
 use Rattle.rv_core.specs.declared.core_state.Need.{Need}
-use Rattle.rv_core.specs.declared.core_state.Need.TheVariants.{Local, Load, Store, Done}
+use Rattle.rv_core.specs.declared.core_state.Need.TheVariants.{Local, Done}
 use Rattle.rv_core.specs.declared.core_state.Stop.TheVariants.{Align, Address, Fetch, Illegal, Jump}
-use Rattle.rv_core.specs.Steps.{need, is_done, instruction_at, need_of, need_of_word, need_of_fetch, need_at_pc, need_by, need_to_jump, need_to_access}
+use Rattle.rv_core.specs.Steps.{need, is_done, access_of, instruction_at, need_of, need_of_word, need_of_fetch, need_at_pc, need_by, need_to_jump, need_to_access}
 
 -- what a core goes on by: the instruction at pc, which is all that it needs and does, below the limit
 pub record GoesOnBy (image : Contents) (core : Core) (op : Op) : Type 0 where
@@ -100,23 +100,15 @@ access_parts words address size access h =
       needs = parts.2;
     }
 
--- neither a load nor a store
-unfoldable pub touches : Need → Bool
-touches Local = false
-touches (Load word) = true
-touches (Store word whole) = true
-touches (Done stop) = false
-
-jump_by : (aligned : Bool) → touches (if aligned then Local else Done Jump) ≡ false
-unfolding touches
+-- a jump or branch makes no access
+jump_by : (aligned : Bool) → access_of (if aligned then Local else Done Jump) ≡ None
 jump_by true = refl
 jump_by false = refl
 
-pub jump_untouching : (target : ℕ) → touches (need_to_jump target) ≡ false
+pub jump_accesses : (target : ℕ) → access_of (need_to_jump target) ≡ None
 unfolding need_to_jump
-jump_untouching target = jump_by (target % 4 == 0)
+jump_accesses target = jump_by (target % 4 == 0)
 
-pub branch_untouching : (taken : Bool) (target : ℕ) → touches (if taken then need_to_jump target else Local) ≡ false
-unfolding touches
-branch_untouching true target = jump_untouching target
-branch_untouching false target = refl
+pub branch_accesses : (taken : Bool) (target : ℕ) → access_of (if taken then need_to_jump target else Local) ≡ None
+branch_accesses true target = jump_accesses target
+branch_accesses false target = refl

@@ -2,18 +2,18 @@
 use Rattle.std.proofs.Common.{◌≡◌, ℕ, ◌/◌, ◌%◌, ◌*◌, Bool, true, false, Option, Some, None, nat_le, nat_eq, refl, sym, ◌∙◌, ap}
 use Rattle.std.specs.Prelude.{if◌then◌else◌}
 use Rattle.rv_decode.specs.declared.op.Op.{Op}
-use Rattle.rv_decode.specs.declared.op.Op.TheVariants.{Jal, Jalr, Branch, Load as Loads, Store as Stores}
+use Rattle.rv_decode.specs.declared.op.Op.TheVariants.{Jal, Jalr, Branch, Load as Loads, Store as Stores, Amo as Amos}
 use Rattle.rv_decode.specs.Table.{decoded}
 use Rattle.image_mem.specs.Contents.{fetched}
 use Rattle.rv_core.specs.declared.core_state.Core.{Core}
 use Rattle.rv_core.specs.declared.core_state.Halt.{Halt}
 use Rattle.rv_core.specs.declared.core_state.Halt.TheVariants.{Running, Exited, Broke}
 use Rattle.rv_core.specs.declared.core_state.Need.{Need}
-use Rattle.rv_core.specs.declared.core_state.Need.TheVariants.{Local, Load, Store, Done}
+use Rattle.rv_core.specs.declared.core_state.Need.TheVariants.{Local, Load, Store, Amo, Done}
 use Rattle.rv_core.specs.declared.core_state.Stop.TheVariants.{Exit, Break, Limit, Fetch, Illegal, Jump, Align, Address, Total}
 use Rattle.rv_core.specs.Operations.{moved, size_of}
-use Rattle.rv_core.specs.States.{address_of, register_target, branches}
-use Rattle.rv_core.specs.Steps.{need, is_whole, need_of, need_of_word, need_of_fetch, need_at_pc, need_by, need_to_jump, need_to_access}
+use Rattle.rv_core.specs.States.{register, address_of, register_target, branches}
+use Rattle.rv_core.specs.Steps.{need, is_word, need_of, need_of_word, need_of_fetch, need_at_pc, need_by, need_to_jump, need_to_access}
 use Rattle.rv_core.specs.Laws.{TotalLaw}
 
 -- stops at the total
@@ -21,6 +21,7 @@ is_total : Need → Bool
 is_total Local = false
 is_total (Load word) = false
 is_total (Store word whole) = false
+is_total (Amo word) = false
 is_total (Done Exit) = false
 is_total (Done Break) = false
 is_total (Done Limit) = false
@@ -66,7 +67,8 @@ by_op words core (Loads width rd rs1 immediate) =
     access_total words (address_of core rs1 immediate) (size_of width) (Load (address_of core rs1 immediate / 4)) refl
 by_op words core (Stores width rs1 rs2 immediate) =
     access_total words (address_of core rs1 immediate) (size_of width)
-    (Store (address_of core rs1 immediate / 4) (is_whole width)) refl
+    (Store (address_of core rs1 immediate / 4) (is_word width)) refl
+by_op words core (Amos op rd rs1 rs2) = access_total words (register core rs1) 4 (Amo (register core rs1 / 4)) refl
 by_op words core _ = refl
 
 by_word : (words : ℕ) (core : Core) (found : Option Op) → is_total (need_of_word words core found) ≡ false

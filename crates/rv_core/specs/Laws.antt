@@ -1,16 +1,19 @@
 -- What holds of a core's steps whatever the instructions are: the layers above know a step by these laws.
 -- An image, a core and a word's old value are any at all where nothing else is said.
-use Rattle.std.specs.Prelude.{◌≡◌, ◌≢◌, ◌<◌, ℕ, ◌+◌, ◌^◌, Bool, true, false}
+use Rattle.std.specs.Prelude.{◌≡◌, ◌≢◌, ◌<◌, ℕ, ◌+◌, ◌^◌, true, false, Some}
+use Rattle.rtr_types.specs.declared.access.Kind.{Kind}
+use Rattle.rtr_types.specs.Accesses.{is_read, is_write}
 use Rattle.image_mem.specs.Contents.{Contents}
 use Rattle.rv_core.specs.declared.core_state.Core.{Core}
-use Rattle.rv_core.specs.declared.core_state.Need.TheVariants.{Local, Load, Store, Done}
+use Rattle.rv_core.specs.declared.core_state.Need.TheVariants.{Local, Done}
 use Rattle.rv_core.specs.declared.core_state.Stop.TheVariants.{Total}
 use Rattle.rv_core.specs.States.{starting}
-use Rattle.rv_core.specs.Steps.{need, after, wrote, is_done}
+use Rattle.rv_core.specs.Steps.{need, after, wrote, is_done, is_whole, access_of}
 
 -- a core starts with its number and limit and with no retired instruction
 abbrev pub StartLaw : Type 0
-StartLaw = (id limit : ℕ) → ((starting id limit).id ≡ id) × ((starting id limit).limit ≡ limit) × ((starting id limit).count ≡ 0)
+StartLaw = (id limit : ℕ) →
+    ((starting id limit).id ≡ id) × ((starting id limit).limit ≡ limit) × ((starting id limit).count ≡ 0)
 
 -- a step counts one instruction more, and keeps the core's number and limit
 abbrev pub CountLaw : Type 0
@@ -26,34 +29,33 @@ LimitLaw = (image : Contents) (core : Core) (old : ℕ) → (after image core ol
 abbrev pub RoomLaw : Type 0
 RoomLaw = (image : Contents) (core : Core) → is_done (need image core) ≡ false → core.count < core.limit
 
--- a load's and a store's word is one of the memory's
-abbrev pub LoadWithinLaw : Type 0
-LoadWithinLaw = (image : Contents) (core : Core) (word : ℕ) → need image core ≡ Load word → word < image.words
-
-abbrev pub StoreWithinLaw : Type 0
-StoreWithinLaw = (image : Contents) (core : Core) (word : ℕ) (whole : Bool) → need image core ≡ Store word whole
+-- the word of an access is one of the memory's
+abbrev pub WithinLaw : Type 0
+WithinLaw = (image : Contents) (core : Core) (kind : Kind) (word : ℕ) → access_of (need image core) ≡ Some (kind, word)
     → word < image.words
 
--- the core after a local instruction, and after a store, doesn't depend on what a word held
+-- the core after a local instruction, and after an access that doesn't read, doesn't depend on what a word held
 abbrev pub LocalLaw : Type 0
 LocalLaw = (image : Contents) (core : Core) (one other : ℕ) → need image core ≡ Local
     → after image core one ≡ after image core other
 
-abbrev pub StoreLaw : Type 0
-StoreLaw = (image : Contents) (core : Core) (word : ℕ) (whole : Bool) (one other : ℕ) → need image core ≡ Store word whole
+abbrev pub UnreadLaw : Type 0
+UnreadLaw = (image : Contents) (core : Core) (kind : Kind) (word one other : ℕ)
+    → access_of (need image core) ≡ Some (kind, word) → is_read kind ≡ false
     → after image core one ≡ after image core other
 
 -- a store of a whole word writes the same whatever the word held
 abbrev pub WholeLaw : Type 0
-WholeLaw = (image : Contents) (core : Core) (word one other : ℕ) → need image core ≡ Store word true
+WholeLaw = (image : Contents) (core : Core) (one other : ℕ) → is_whole (need image core) ≡ true
     → wrote image core one ≡ wrote image core other
 
--- a local instruction answers 0, and a load leaves its word as it was
+-- a local instruction answers 0, and an access that doesn't write leaves its word as it was
 abbrev pub LocalValueLaw : Type 0
 LocalValueLaw = (image : Contents) (core : Core) (old : ℕ) → need image core ≡ Local → wrote image core old ≡ 0
 
-abbrev pub LoadValueLaw : Type 0
-LoadValueLaw = (image : Contents) (core : Core) (word old : ℕ) → need image core ≡ Load word → wrote image core old ≡ old
+abbrev pub UnwrittenLaw : Type 0
+UnwrittenLaw = (image : Contents) (core : Core) (kind : Kind) (word old : ℕ)
+    → access_of (need image core) ≡ Some (kind, word) → is_write kind ≡ false → wrote image core old ≡ old
 
 -- a word stays a word
 abbrev pub ValueLaw : Type 0

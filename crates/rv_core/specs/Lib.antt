@@ -1,3 +1,4 @@
+pub mod Atomics
 pub mod Laws
 pub mod Operations
 pub mod States

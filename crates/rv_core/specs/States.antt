@@ -1,12 +1,16 @@
 -- A core's state: its registers, and what an instruction makes of them.
-use Rattle.std.specs.Prelude.{ℕ, ℤ, ◌+◌, ◌%◌, ◌==◌, Bool, true, if◌then◌else◌, List, slice_index, slice_set, replicate, Option, Some, None}
+use Rattle.std.specs.Prelude.{ℕ, ℤ, ◌+◌, ◌%◌, ◌==◌, Bool, true, if◌then◌else◌, List, slice_index, slice_set, replicate}
+use Rattle.std.specs.Prelude.{Option, Some, None}
 use Rattle.rv_decode.specs.declared.op.Op.{Op}
-use Rattle.rv_decode.specs.declared.op.Op.TheVariants.{Lui, Auipc, Jal, Jalr, Branch, Load, Store, AluImm, AluReg, Ecall, Ebreak}
+use Rattle.rv_decode.specs.declared.op.Op.TheVariants.{Lui, Auipc, Jal, Jalr, Branch, Load, Store, AluImm}
+use Rattle.rv_decode.specs.declared.op.Op.TheVariants.{AluReg, Amo, Fence, Ecall, Ebreak}
 use Rattle.rv_decode.specs.declared.op.Cond.{Cond}
 use Rattle.rv_core.specs.declared.core_state.Core.{Core}
 use Rattle.rv_core.specs.declared.core_state.Halt.{Halt}
 use Rattle.rv_core.specs.declared.core_state.Halt.TheVariants.{Running, Exited, Broke}
-use Rattle.rv_core.specs.Operations.{bits_of, wrapped_sum, computed, upper_value, is_taken, moved, without_low_bit, size_of, loaded}
+use Rattle.rv_core.specs.Atomics.{exchanged}
+use Rattle.rv_core.specs.Operations.{bits_of, wrapped_sum, computed, upper_value, is_taken, moved, without_low_bit}
+use Rattle.rv_core.specs.Operations.{size_of, loaded}
 use Rattle.image_mem.specs.Lanes.{merged}
 
 -- the core before its first instruction: pc is 0, x10 is the core's number, every other register is 0
@@ -48,7 +52,8 @@ next_pc core (Branch cond rs1 rs2 offset) =
     if branches core cond rs1 rs2 then moved core.pc offset else wrapped_sum core.pc 4
 next_pc core _ = wrapped_sum core.pc 4
 
--- the register that an instruction writes, with its value; `old` is the word that a load finds
+-- the register that an instruction writes, with its value; `old` is the word that a load or an atomic memory
+-- operation finds
 unfoldable pub result_of : Core → Op → (old : ℕ) → Option (ℕ × ℕ)
 result_of core (Lui rd upper) old = Some (rd, upper_value upper)
 result_of core (Auipc rd upper) old = Some (rd, wrapped_sum core.pc (upper_value upper))
@@ -60,7 +65,12 @@ result_of core (AluImm alu rd rs1 immediate) old =
     Some (rd, computed alu (register core rs1) (bits_of immediate))
 result_of core (AluReg alu rd rs1 rs2) old =
     Some (rd, computed alu (register core rs1) (register core rs2))
-result_of core _ old = None
+result_of core (Branch cond rs1 rs2 offset) old = None
+result_of core (Store width rs1 rs2 immediate) old = None
+result_of core (Amo op rd rs1 rs2) old = Some (rd, old)
+result_of core Fence old = None
+result_of core Ecall old = None
+result_of core Ebreak old = None
 
 -- the registers after such a write
 abbrev pub registers_after : List ℕ → Option (ℕ × ℕ) → List ℕ
@@ -84,15 +94,36 @@ retired core op old = record {
   halt = halt_after core op;
 }
 
--- the value after an instruction of the word that it needs: a load leaves it, a store replaces lanes.
--- An instruction that needs none has 0.
+-- the value after an instruction of the word that it needs: a load leaves it, a store replaces lanes, an atomic
+-- memory operation combines it with rs2 as this was before. An instruction that needs none has 0.
 unfoldable pub word_after : Core → Op → (old : ℕ) → ℕ
 word_after core (Load width rd rs1 immediate) old = old
 word_after core (Store width rs1 rs2 immediate) old =
     merged old (register core rs2) (address_of core rs1 immediate % 4) (size_of width)
-word_after core _ old = 0
+word_after core (Amo op rd rs1 rs2) old = exchanged op old (register core rs2)
+word_after core (Lui rd upper) old = 0
+word_after core (Auipc rd upper) old = 0
+word_after core (Jal rd offset) old = 0
+word_after core (Jalr rd rs1 immediate) old = 0
+word_after core (Branch cond rs1 rs2 offset) old = 0
+word_after core (AluImm alu rd rs1 immediate) old = 0
+word_after core (AluReg alu rd rs1 rs2) old = 0
+word_after core Fence old = 0
+word_after core Ecall old = 0
+word_after core Ebreak old = 0
 
 -- a store's address is a multiple of its size; this holds of every other instruction
 abbrev pub stores_aligned : Core → Op → Bool
 stores_aligned core (Store width rs1 rs2 immediate) = address_of core rs1 immediate % size_of width == 0
-stores_aligned core _ = true
+stores_aligned core (Lui rd upper) = true
+stores_aligned core (Auipc rd upper) = true
+stores_aligned core (Jal rd offset) = true
+stores_aligned core (Jalr rd rs1 immediate) = true
+stores_aligned core (Branch cond rs1 rs2 offset) = true
+stores_aligned core (Load width rd rs1 immediate) = true
+stores_aligned core (AluImm alu rd rs1 immediate) = true
+stores_aligned core (AluReg alu rd rs1 rs2) = true
+stores_aligned core (Amo op rd rs1 rs2) = true
+stores_aligned core Fence = true
+stores_aligned core Ecall = true
+stores_aligned core Ebreak = true

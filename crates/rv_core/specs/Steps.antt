@@ -1,23 +1,27 @@
 -- What a core's next instruction needs, the core after it, and the word's value after it. Where several
 -- stops hold, the first of their order is taken.
-use Rattle.std.specs.Prelude.{ℕ, ◌+◌, ◌*◌, ◌/◌, ◌%◌, ◌==◌, nat_le, Bool, true, false, if◌then◌else◌, Option, Some, None, option_and_then}
+use Rattle.std.specs.Prelude.{ℕ, ◌+◌, ◌*◌, ◌/◌, ◌%◌, ◌==◌, nat_le, Bool, true, false, if◌then◌else◌, Option, Some, None}
+use Rattle.std.specs.Prelude.{option_and_then}
 use Rattle.rv_decode.specs.declared.op.Op.{Op}
-use Rattle.rv_decode.specs.declared.op.Op.TheVariants.{Jal, Jalr, Branch, Load as Loads, Store as Stores}
+use Rattle.rv_decode.specs.declared.op.Op.TheVariants.{Lui, Auipc, Jal, Jalr, Branch, Load as Loads}
+use Rattle.rv_decode.specs.declared.op.Op.TheVariants.{Store as Stores, AluImm, AluReg, Amo as Amos, Fence}
+use Rattle.rv_decode.specs.declared.op.Op.TheVariants.{Ecall, Ebreak}
 use Rattle.rv_decode.specs.declared.op.Width.{Width}
-use Rattle.rv_decode.specs.declared.op.Width.TheVariants.{Word}
+use Rattle.rv_decode.specs.declared.op.Width.TheVariants.{Byte, Half, Word, ByteU, HalfU}
 use Rattle.rv_decode.specs.Table.{decoded}
 use Rattle.image_mem.specs.Contents.{Contents, fetched}
 use Rattle.rtr_types.specs.declared.access.Kind.{Kind}
-use Rattle.rtr_types.specs.declared.access.Kind.TheVariants.{Load as Loading, Store as Storing}
+use Rattle.rtr_types.specs.declared.access.Kind.TheVariants.{Load as Loading, Store as Storing, Amo as Exchanging}
 use Rattle.rv_core.specs.declared.core_state.Core.{Core}
 use Rattle.rv_core.specs.declared.core_state.Halt.{Halt}
 use Rattle.rv_core.specs.declared.core_state.Halt.TheVariants.{Running, Exited, Broke}
 use Rattle.rv_core.specs.declared.core_state.Need.{Need}
-use Rattle.rv_core.specs.declared.core_state.Need.TheVariants.{Local, Load, Store, Done}
+use Rattle.rv_core.specs.declared.core_state.Need.TheVariants.{Local, Load, Store, Amo, Done}
 use Rattle.rv_core.specs.declared.core_state.Stop.{Stop}
-use Rattle.rv_core.specs.declared.core_state.Stop.TheVariants.{Exit, Break, Limit, Fetch, Illegal, Jump, Align, Address, Total}
+use Rattle.rv_core.specs.declared.core_state.Stop.TheVariants.{Exit, Break, Limit, Fetch, Illegal, Jump, Align, Address}
+use Rattle.rv_core.specs.declared.core_state.Stop.TheVariants.{Total}
 use Rattle.rv_core.specs.Operations.{moved, size_of}
-use Rattle.rv_core.specs.States.{address_of, register_target, branches, retired, word_after}
+use Rattle.rv_core.specs.States.{register, address_of, register_target, branches, retired, word_after}
 
 -- the program is done
 abbrev pub is_done : Need → Bool
@@ -34,16 +38,28 @@ abbrev pub access_of : Need → Option (Kind × ℕ)
 access_of Local = None
 access_of (Load word) = Some (Loading, word)
 access_of (Store word whole) = Some (Storing, word)
+access_of (Amo word) = Some (Exchanging, word)
 access_of (Done stop) = None
 
 -- the instruction at pc
 unfoldable pub instruction_at : Contents → (pc : ℕ) → Option Op
 instruction_at image pc = option_and_then decoded (fetched image pc)
 
+-- a store that leaves nothing of what its word held
+abbrev pub is_whole : Need → Bool
+is_whole Local = false
+is_whole (Load word) = false
+is_whole (Store word whole) = whole
+is_whole (Amo word) = false
+is_whole (Done stop) = false
+
 -- a store of this width writes the whole word
-abbrev pub is_whole : Width → Bool
-is_whole Word = true
-is_whole _ = false
+abbrev pub is_word : Width → Bool
+is_word Byte = false
+is_word Half = false
+is_word Word = true
+is_word ByteU = false
+is_word HalfU = false
 
 -- a jump or taken branch to a target
 unfoldable pub need_to_jump : (target : ℕ) → Need
@@ -65,8 +81,17 @@ need_of words core (Loads width rd rs1 immediate) =
     need_to_access words address (size_of width) (Load (address / 4))
 need_of words core (Stores width rs1 rs2 immediate) =
     let address = address_of core rs1 immediate in
-    need_to_access words address (size_of width) (Store (address / 4) (is_whole width))
-need_of words core _ = Local
+    need_to_access words address (size_of width) (Store (address / 4) (is_word width))
+need_of words core (Amos op rd rs1 rs2) =
+    let address = register core rs1 in
+    need_to_access words address 4 (Amo (address / 4))
+need_of words core (Lui rd upper) = Local
+need_of words core (Auipc rd upper) = Local
+need_of words core (AluImm alu rd rs1 immediate) = Local
+need_of words core (AluReg alu rd rs1 rs2) = Local
+need_of words core Fence = Local
+need_of words core Ecall = Local
+need_of words core Ebreak = Local
 
 -- what a core needs whose word at pc is this instruction, or none
 abbrev pub need_of_word : (words : ℕ) → Core → Option Op → Need

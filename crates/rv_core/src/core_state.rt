@@ -1,8 +1,11 @@
 //! One core: its state, what its next instruction needs, and the retiring of that instruction.
 ghost use Rattle.std.specs.Prelude.{◌≡◌, ◌<◌, ◌+◌, ◌^◌, ◌%◌, true, false};
-ghost use Rattle.rv_core.specs.States.{starting, register, address_of, register_target, branches, next_pc, result_of, written, halt_after, retired, word_after, stores_aligned};
-ghost use Rattle.rv_core.specs.Steps.{need, after, wrote, is_done, access_of, stop_of, instruction_at, need_of, need_to_jump, need_to_access, need_at_pc};
+ghost use Rattle.rv_core.specs.States.{starting, register, address_of, register_target, branches, next_pc, result_of};
+ghost use Rattle.rv_core.specs.States.{written, halt_after, retired, word_after, stores_aligned};
+ghost use Rattle.rv_core.specs.Steps.{need, after, wrote, is_done, is_whole, access_of, stop_of, instruction_at};
+ghost use Rattle.rv_core.specs.Steps.{need_of, need_to_jump, need_to_access, need_at_pc};
 
+use crate::atomics::exchanged;
 use crate::branches::{is_taken, moved, without_low_bit};
 use crate::lane_access::{loaded, size_of};
 use crate::operations::compute;
@@ -29,21 +32,23 @@ pub enum Stop {
     Illegal,
     /// A jump or taken branch has a target that is no multiple of 4.
     Jump,
-    /// The address of a load or store is no multiple of its size.
+    /// The address of an access is no multiple of its size.
     Align,
-    /// The address of a load or store is past the memory.
+    /// The address of an access is past the memory.
     Address,
     /// The core has retired its total.
     Total,
 }
 
 /// What a core's next instruction needs of memory. A word is named by its index, `address / 4`, also
-/// where the instruction moves only a part of it; `whole` is true for SW alone.
+/// where the instruction moves only a part of it; `whole` is true for SW alone. An atomic memory operation
+/// reads and writes a whole word in one step.
 #[derive(Clone, Copy, Debug, PartialEq, Eq)]
 pub enum Need {
     Local,
     Load { word: u32 },
     Store { word: u32, whole: bool },
+    Amo { word: u32 },
     Done(Stop),
 }
 
@@ -55,6 +60,16 @@ impl Need {
         matches!(self, Need::Done(_))
     }
 
+    /// Whether it is a store that leaves nothing of what its word held.
+    pub fn is_whole(self) -> bool
+        ensures { result ≡ is_whole self }
+    {
+        match self {
+            Need::Store { whole, .. } => whole,
+            Need::Local | Need::Load { .. } | Need::Amo { .. } | Need::Done(_) => false,
+        }
+    }
+
     /// The access that the instruction makes, and the index of its word. None for a local instruction
     /// and where the program is done.
     pub fn access(self) -> Option<(Kind, u32)>
@@ -63,6 +78,7 @@ impl Need {
         match self {
             Need::Load { word } => Some((Kind::Load, word)),
             Need::Store { word, .. } => Some((Kind::Store, word)),
+            Need::Amo { word } => Some((Kind::Amo, word)),
             Need::Local | Need::Done(_) => None,
         }
     }
@@ -172,7 +188,8 @@ impl Core {
     }
 
     /// Retires the next instruction, which finds the value `old` in its word, and answers the word's
-    /// value after. A local instruction ignores `old` and answers 0.
+    /// value after. A local instruction ignores `old` and answers 0. An atomic memory operation reads both
+    /// of its registers before rd gets `old`.
     pub fn finish(&mut self, image: &Image, old: u32) -> u32
         requires { is_done (need image.now self.old) ≡ false }
         ensures core { self.new ≡ after image.now self.old old }
@@ -280,7 +297,14 @@ impl Core {
                 let whole = width == Width::Word;
                 need_to_access(words, address, size_of(width), Need::Store { word, whole })
             }
-            _ => Need::Local,
+            Op::Amo { rs1, .. } => {
+                let address = self.reg(rs1);
+                let word = address / 4;
+                need_to_access(words, address, 4, Need::Amo { word })
+            }
+            Op::Lui { .. } | Op::Auipc { .. } | Op::AluImm { .. } | Op::AluReg { .. } =>
+                Need::Local,
+            Op::Fence | Op::Ecall | Op::Ebreak => Need::Local,
         }
     }
 
@@ -321,7 +345,8 @@ impl Core {
             Op::AluReg { alu, rd, rs1, rs2 } => {
                 Some((rd, compute(alu, self.reg(rs1), self.reg(rs2))))
             }
-            _ => None,
+            Op::Amo { rd, .. } => Some((rd, old)),
+            Op::Branch { .. } | Op::Store { .. } | Op::Fence | Op::Ecall | Op::Ebreak => None,
         }
     }
 
@@ -370,7 +395,10 @@ impl Core {
                 self.address_of(rs1, imm),
                 size_of(width),
             ),
-            _ => 0,
+            Op::Amo { op, rs2, .. } => exchanged(op, old, self.reg(rs2)),
+            Op::Lui { .. } | Op::Auipc { .. } | Op::AluImm { .. } | Op::AluReg { .. } => 0,
+            Op::Jal { .. } | Op::Jalr { .. } | Op::Branch { .. } => 0,
+            Op::Fence | Op::Ecall | Op::Ebreak => 0,
         }
     }
 }

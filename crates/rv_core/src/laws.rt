@@ -1,6 +1,7 @@
 //! What holds of a core's steps whatever the instructions are. The layers above know a step by these
 //! laws, and never open the instruction set.
-ghost use Rattle.rv_core.specs.Laws.{StartLaw, CountLaw, NumberLaw, LimitLaw, RoomLaw, LoadWithinLaw, StoreWithinLaw, LocalLaw, StoreLaw, WholeLaw, LocalValueLaw, LoadValueLaw, ValueLaw, TotalLaw};
+ghost use Rattle.rv_core.specs.Laws.{StartLaw, CountLaw, NumberLaw, LimitLaw, RoomLaw, WithinLaw, LocalLaw, UnreadLaw};
+ghost use Rattle.rv_core.specs.Laws.{WholeLaw, LocalValueLaw, UnwrittenLaw, ValueLaw, TotalLaw};
 
 /// A core starts with its number and limit, and with no retired instruction.
 pub fn a_core_starts_at_0()
@@ -20,23 +21,23 @@ pub fn a_need_leaves_room()
     ensures total { TotalLaw }
 {}
 
-/// The word of a load or store is one of the memory's.
+/// The word of an access is one of the memory's.
 pub fn words_are_within()
-    ensures load { LoadWithinLaw }
-    ensures store { StoreWithinLaw }
+    ensures { WithinLaw }
 {}
 
-/// What a word held matters to the core after a load alone, and to what a store of a part writes.
+/// What a word held matters to the core after an access that reads alone, and to nothing that a store of
+/// a whole word does.
 pub fn what_a_word_held_matters_to()
     ensures local { LocalLaw }
-    ensures store { StoreLaw }
+    ensures unread { UnreadLaw }
     ensures whole { WholeLaw }
 {}
 
-/// What a word holds after a step: a local instruction answers 0, a load leaves its word, and no value
-/// reaches 2^32.
+/// What a word holds after a step: a local instruction answers 0, an access that doesn't write leaves its
+/// word, and no value reaches 2^32.
 pub fn values_are_words()
     ensures local { LocalValueLaw }
-    ensures load { LoadValueLaw }
+    ensures unwritten { UnwrittenLaw }
     ensures value { ValueLaw }
 {}

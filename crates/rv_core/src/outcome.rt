@@ -3,7 +3,8 @@
 use crate::core_state::Core;
 use rtr_types::Items;
 
-/// A retired load of one core: its count, the index of its word, and the value of the whole word.
+/// What a retired load or atomic memory operation of one core read: the instruction's count, the index of
+/// its word, and the value that the whole word had before it.
 #[derive(Clone, Copy, Debug, PartialEq, Eq)]
 pub struct LoadNote {
     pub count: u32,
@@ -12,7 +13,7 @@ pub struct LoadNote {
 }
 
 /// What a run or a replay leaves: the cores by number, the words of memory by index, and for each
-/// core its loads in program order.
+/// core what its loads and atomic memory operations read, in program order.
 #[derive(Drop)]
 pub struct Outcome {
     pub cores: Items<Core>,

@@ -1,10 +1,11 @@
 //! Values from outside. The instruction words were made by LLVM's assembler. The results of the
 //! arithmetic at the edges were computed in C, and those of single instructions were worked out by
 //! hand from the standard's text.
+use crate::atomics::exchanged;
 use crate::operations::compute;
 use crate::{Core, Need, Stop};
 use image_mem::Image;
-use rv_decode::Alu;
+use rv_decode::{Alu, AmoOp};
 use std::alloc::Global;
 use std::process::Abort;
 use std::test::Fail;
@@ -194,6 +195,107 @@ fn operations_at_the_edges(rt: HostRuntime) {
     }
 }
 
+// An atomic memory operation, and what it leaves by the word's old value and then by rs2.
+type Exchanges = (AmoOp, [[u32; 5]; 5]);
+
+const EXCHANGES: [Exchanges; 4] = [
+    (
+        AmoOp::Min,
+        [
+            [0, 0, 0xffff_ffff, 0, 0x8000_0000],
+            [0, 1, 0xffff_ffff, 1, 0x8000_0000],
+            [
+                0xffff_ffff,
+                0xffff_ffff,
+                0xffff_ffff,
+                0xffff_ffff,
+                0x8000_0000,
+            ],
+            [0, 1, 0xffff_ffff, 0x7fff_ffff, 0x8000_0000],
+            [
+                0x8000_0000,
+                0x8000_0000,
+                0x8000_0000,
+                0x8000_0000,
+                0x8000_0000,
+            ],
+        ],
+    ),
+    (
+        AmoOp::Max,
+        [
+            [0, 1, 0, 0x7fff_ffff, 0],
+            [1, 1, 1, 0x7fff_ffff, 1],
+            [0, 1, 0xffff_ffff, 0x7fff_ffff, 0xffff_ffff],
+            [
+                0x7fff_ffff,
+                0x7fff_ffff,
+                0x7fff_ffff,
+                0x7fff_ffff,
+                0x7fff_ffff,
+            ],
+            [0, 1, 0xffff_ffff, 0x7fff_ffff, 0x8000_0000],
+        ],
+    ),
+    (
+        AmoOp::Minu,
+        [
+            [0, 0, 0, 0, 0],
+            [0, 1, 1, 1, 1],
+            [0, 1, 0xffff_ffff, 0x7fff_ffff, 0x8000_0000],
+            [0, 1, 0x7fff_ffff, 0x7fff_ffff, 0x7fff_ffff],
+            [0, 1, 0x8000_0000, 0x7fff_ffff, 0x8000_0000],
+        ],
+    ),
+    (
+        AmoOp::Maxu,
+        [
+            [0, 1, 0xffff_ffff, 0x7fff_ffff, 0x8000_0000],
+            [1, 1, 0xffff_ffff, 0x7fff_ffff, 0x8000_0000],
+            [
+                0xffff_ffff,
+                0xffff_ffff,
+                0xffff_ffff,
+                0xffff_ffff,
+                0xffff_ffff,
+            ],
+            [
+                0x7fff_ffff,
+                0x7fff_ffff,
+                0xffff_ffff,
+                0x7fff_ffff,
+                0x8000_0000,
+            ],
+            [
+                0x8000_0000,
+                0x8000_0000,
+                0xffff_ffff,
+                0x8000_0000,
+                0x8000_0000,
+            ],
+        ],
+    ),
+];
+
+fn exchanges_are(rt: &impl Abort, op: AmoOp, exchanges: &[[u32; 5]; 5]) {
+    for (old, row) in EDGES.iter().zip(exchanges.iter()) {
+        for (value, want) in EDGES.iter().zip(row.iter()) {
+            assert_eq!(rt;
+                exchanged(op, *old, *value),
+                *want,
+                "{op:?} of {old:x} and {value:x}"
+            );
+        }
+    }
+}
+
+#[test]
+fn exchanges_at_the_edges(rt: HostRuntime) {
+    for (op, exchanges) in EXCHANGES.iter() {
+        exchanges_are(&rt, *op, exchanges);
+    }
+}
+
 // An image with this instruction at address 16, over 64 words, and a core that stands there with these
 // values of x1 and x2.
 fn at_16(alloc: Global, word: u32, x1: u32, x2: u32) -> Result<(Image, Core), Fail> {
@@ -303,6 +405,57 @@ fn loads_and_stores_act_on_lanes(rt: HostRuntime) -> Result<(), Fail> {
     Ok(())
 }
 
+#[test]
+fn atomics_act_on_their_word(rt: HostRuntime) -> Result<(), Fail> {
+    // The word, the memory word's value before and after it, and x1, x2 and x3 after it. Before it, x1 is
+    // 32 and x2 is -6.
+    let steps = [
+        (0x0820_a1af, 10, 0xffff_fffa, 32, 0xffff_fffa, 10), // amoswap.w x3, x2, (x1)
+        (0x0020_a1af, 10, 4, 32, 0xffff_fffa, 10), // amoadd.w x3, x2, (x1)
+        (0x2020_a1af, 10, 0xffff_fff0, 32, 0xffff_fffa, 10), // amoxor.w x3, x2, (x1)
+        (0x6020_a1af, 15, 10, 32, 0xffff_fffa, 15), // amoand.w x3, x2, (x1)
+        (0x4020_a1af, 5, 0xffff_ffff, 32, 0xffff_fffa, 5), // amoor.w x3, x2, (x1)
+        (0x8020_a1af, 10, 0xffff_fffa, 32, 0xffff_fffa, 10), // amomin.w x3, x2, (x1)
+        (0xa020_a1af, 10, 10, 32, 0xffff_fffa, 10), // amomax.w x3, x2, (x1)
+        (0xc020_a1af, 10, 10, 32, 0xffff_fffa, 10), // amominu.w x3, x2, (x1)
+        (0xe020_a1af, 10, 0xffff_fffa, 32, 0xffff_fffa, 10), // amomaxu.w x3, x2, (x1)
+        (0x0020_a12f, 10, 4, 32, 10, 0), // amoadd.w x2, x2, (x1)
+        (0x0020_a0af, 10, 4, 10, 0xffff_fffa, 0), // amoadd.w x1, x2, (x1)
+        (0x0020_a02f, 10, 4, 32, 0xffff_fffa, 0), // amoadd.w x0, x2, (x1)
+    ];
+    for (word, old, value, x1, x2, x3) in steps {
+        let (image, mut core) = at_16(rt.alloc(), word, 32, 0xffff_fffa)?;
+        let need = core.need(&image);
+        assert_eq!(rt; need, Need::Amo { word: 8 }, "{word:x}");
+        assert!(rt; !need.is_done());
+        assert!(rt; !need.is_whole());
+        assert_eq!(rt; core.finish(&image, old), value, "{word:x}");
+        assert_eq!(rt;
+            [core.reg(1), core.reg(2), core.reg(3)],
+            [x1, x2, x3],
+            "{word:x}"
+        );
+        assert_eq!(rt; core.pc(), 20, "{word:x}");
+    }
+    Ok(())
+}
+
+#[test]
+fn atomics_stop_by_their_address(rt: HostRuntime) -> Result<(), Fail> {
+    // x1, and why amoadd.w x3, x2, (x1) stops over 64 words.
+    for (x1, stop) in [
+        (255, Stop::Align),
+        (254, Stop::Align),
+        (252, Stop::Total),
+        (256, Stop::Address),
+        (258, Stop::Align),
+    ] {
+        let (image, core) = at_16(rt.alloc(), 0x0020_a1af, x1, 1)?;
+        assert_eq!(rt; core.stop(&image), stop, "{x1}");
+    }
+    Ok(())
+}
+
 // A core of number 3 and this limit, after its first instruction, ADDI x5, x0, 1.
 fn after_one(rt: &impl Abort, image: &Image, limit: u32) -> Core {
     let mut core = Core::new(3, limit);
@@ -321,6 +474,8 @@ fn stops_retire_nothing(rt: HostRuntime) -> Result<(), Fail> {
         (0x0400_2303, Stop::Address), // lw x6, 64(x0)
         (0x0410_2303, Stop::Align), // lw x6, 65(x0)
         (0x0000_100f, Stop::Illegal), // fence.i
+        (0x1002_a32f, Stop::Illegal), // lr.w x6, (x5)
+        (0x0002_a32f, Stop::Align), // amoadd.w x6, x0, (x5)
         (0x0ff0_000f, Stop::Total), // fence
     ];
     for (word, stop) in stops {

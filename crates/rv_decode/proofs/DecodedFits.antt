@@ -4,9 +4,10 @@ use Rattle.std.proofs.lemmas.Bool.Decides.{nat_tests}
 use Rattle.std.proofs.lemmas.Int.{ints}
 use Rattle.rv_decode.specs.declared.op.Alu.{Alu}
 use Rattle.rv_decode.specs.declared.op.Op.{Op}
-use Rattle.rv_decode.specs.Fields.{signed, opcode, funct3, funct7, rs2, immediate_i, immediate_s, immediate_b, immediate_j}
+use Rattle.rv_decode.specs.Atomics.{amo_of}
+use Rattle.rv_decode.specs.Fields.{signed, opcode, funct3, funct5, funct7, rs2, immediate_i, immediate_s, immediate_b, immediate_j}
 use Rattle.rv_decode.specs.Ranges.{Fits, IsImmediate, IsShiftAmount, IsBranchOffset, IsJumpOffset, IsStored, IsAluImmediate}
-use Rattle.rv_decode.specs.Table.{decoded, condition_of, loaded_width, stored_width, shift_of, immediate_alu, register_alu, jump_and_link_register, branch, load, store, constant_shift, alu_immediate, alu_register, fence, system}
+use Rattle.rv_decode.specs.Table.{decoded, condition_of, loaded_width, stored_width, shift_of, immediate_alu, register_alu, jump_and_link_register, branch, load, store, constant_shift, alu_immediate, alu_register, atomic, fence, system}
 use Rattle.rv_decode.proofs.BuiltFields.{field_below}
 
 -- ---- immediates
@@ -132,6 +133,14 @@ register_fits word =
     (anything (register_alu (funct3 word) (funct7 word)))
     (λ alu known. (field_below word 7 5, field_below word 15 5, field_below word 20 5))
 
+atomic_fits : (word : ℕ) → IfSome (atomic word) Fits
+unfolding atomic
+atomic_fits word =
+    chosen Fits (nat_eq (funct3 word) 2) _ _
+    (made (λ _. Unit {0}) (amo_of (funct5 word)) _ (anything (amo_of (funct5 word)))
+    (λ op known. (field_below word 7 5, field_below word 15 5, field_below word 20 5)))
+    tt
+
 fence_fits : (word : ℕ) → IfSome (fence word) Fits
 unfolding fence
 fence_fits word = chosen Fits (nat_eq (funct3 word) 0) _ _ tt tt
@@ -155,5 +164,6 @@ in_range word =
     (next 0x23 _ _ (store_fits word)
     (next 0x13 _ _ (immediate_fits word)
     (next 0x33 _ _ (register_fits word)
+    (next 0x2F _ _ (atomic_fits word)
     (next 0x0F _ _ (fence_fits word)
-    (next 0x73 _ _ (system_fits word) tt))))))))))
+    (next 0x73 _ _ (system_fits word) tt)))))))))))

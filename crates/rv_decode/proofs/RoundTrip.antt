@@ -1,16 +1,19 @@
 -- An instruction's word is read back as that instruction.
-use Rattle.std.proofs.Common.{◌≡◌, ℕ, ◌<◌, refl, ap, sym, subst, ◌∙◌, Some, ℤ, pos, lit<}
+use Rattle.std.proofs.Common.{◌≡◌, ℕ, ◌*◌, ◌<◌, refl, arith, ap, sym, subst, ◌∙◌, Some, ℤ, pos, lit<}
 use Rattle.rv_decode.specs.declared.op.Cond.{Cond}
 use Rattle.rv_decode.specs.declared.op.Cond.TheVariants.{Eq, Ne, Lt, Ge, Ltu, Geu}
 use Rattle.rv_decode.specs.declared.op.Width.{Width}
 use Rattle.rv_decode.specs.declared.op.Width.TheVariants.{Byte, Half, Word, ByteU, HalfU}
 use Rattle.rv_decode.specs.declared.op.Alu.{Alu}
 use Rattle.rv_decode.specs.declared.op.Alu.TheVariants.{Add, Sub, Sll, Slt, Sltu, Xor, Srl, Sra, Or, And}
+use Rattle.rv_decode.specs.declared.op.AmoOp.{AmoOp}
+use Rattle.rv_decode.specs.declared.op.AmoOp.TheVariants as amo
 use Rattle.rv_decode.specs.declared.op.Op.{Op}
-use Rattle.rv_decode.specs.declared.op.Op.TheVariants.{Lui, Auipc, Jal, Jalr, Branch, Load, Store, AluImm, AluReg, Fence, Ecall, Ebreak}
-use Rattle.rv_decode.specs.Fields.{field}
+use Rattle.rv_decode.specs.declared.op.Op.TheVariants.{Lui, Auipc, Jal, Jalr, Branch, Load, Store, AluImm, AluReg, Amo, Fence, Ecall, Ebreak}
+use Rattle.rv_decode.specs.Atomics.{amo_of, amo_code}
+use Rattle.rv_decode.specs.Fields.{field, funct5, funct7}
 use Rattle.rv_decode.specs.Ranges.{Fits, IsRegister, IsStored, IsAluImmediate}
-use Rattle.rv_decode.specs.Table.{decoded, condition_of, loaded_width, stored_width, register_alu, jump_and_link_register, branch, load, store, constant_shift, alu_immediate, alu_register, fence, system}
+use Rattle.rv_decode.specs.Table.{decoded, condition_of, loaded_width, stored_width, register_alu, jump_and_link_register, branch, load, store, constant_shift, alu_immediate, alu_register, atomic, fence, system}
 use Rattle.rv_decode.specs.Words.{bits_of, encoding, condition_code, width_code, alu_code, alu_variant, alu_immediate_word}
 use Rattle.rv_decode.proofs.BuiltFields.{field_below, amount_whole, FieldsR, FieldsI, FieldsS, FieldsB, FieldsU, FieldsJ, fields_r, fields_i, fields_s, fields_b, fields_u, fields_j}
 
@@ -66,6 +69,17 @@ register_known Sra = refl
 register_known Or = refl
 register_known And = refl
 
+amo_known : (op : AmoOp) → amo_of (amo_code op) ≡ Some op
+amo_known amo.Swap = refl
+amo_known amo.Add = refl
+amo_known amo.Xor = refl
+amo_known amo.And = refl
+amo_known amo.Or = refl
+amo_known amo.Min = refl
+amo_known amo.Max = refl
+amo_known amo.Minu = refl
+amo_known amo.Maxu = refl
+
 condition_small : (cond : Cond) → condition_code cond < 8
 condition_small Eq = lit< tt
 condition_small Ne = lit< tt
@@ -93,6 +107,18 @@ alu_small Sra = (lit< tt, lit< tt)
 alu_small Or = (lit< tt, lit< tt)
 alu_small And = (lit< tt, lit< tt)
 
+-- with aq and rl as 0 the number fills funct7
+amo_small : (op : AmoOp) → amo_code op * 4 < 128
+amo_small amo.Swap = lit< tt
+amo_small amo.Add = lit< tt
+amo_small amo.Xor = lit< tt
+amo_small amo.And = lit< tt
+amo_small amo.Or = lit< tt
+amo_small amo.Min = lit< tt
+amo_small amo.Max = lit< tt
+amo_small amo.Minu = lit< tt
+amo_small amo.Maxu = lit< tt
+
 -- ---- the opcodes with a funct3
 
 reads_branch : (word a b : ℕ) (cond : Cond) (offset : ℤ)
@@ -118,6 +144,17 @@ reads_register : (word d a b : ℕ) (alu : Alu)
 unfolding decoded alu_register
 reads_register word d a b alu at =
     simp (at.opcode_is, at.funct3_is, at.funct7_is, register_known alu, at.rd_is, at.rs1_is, at.rs2_is)
+
+-- funct5 is the upper five bits of funct7
+upper_five : (word code : ℕ) → funct7 word ≡ code * 4 → funct5 word ≡ code
+unfolding field
+upper_five word code at = omega arith
+
+reads_amo : (word d a b : ℕ) (op : AmoOp)
+    → FieldsR word 0x2F 2 (amo_code op * 4) d a b → decoded word ≡ Some (Amo op d a b)
+unfolding decoded atomic
+reads_amo word d a b op at =
+    simp (at.opcode_is, at.funct3_is, upper_five word (amo_code op) at.funct7_is, amo_known op, at.rd_is, at.rs1_is, at.rs2_is)
 
 -- ---- register and immediate
 
@@ -209,6 +246,9 @@ back (AluImm alu d a imm) fits = immediate_back alu d a imm fits.0 fits.1 fits.2
 back (AluReg alu d a b) fits =
     reads_register _ d a b alu
     (fields_r 0x33 (alu_code alu) (alu_variant alu) d a b (lit< tt) (alu_small alu).0 (alu_small alu).1 fits.0 fits.1 fits.2)
+back (Amo op d a b) fits =
+    reads_amo _ d a b op
+    (fields_r 0x2F 2 (amo_code op * 4) d a b (lit< tt) (lit< tt) (amo_small op) fits.0 fits.1 fits.2)
 back Fence fits = fence_back
 back Ecall fits = ecall_back
 back Ebreak fits = ebreak_back

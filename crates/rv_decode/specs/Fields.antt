@@ -29,6 +29,10 @@ rs2 word = field word 20 5
 abbrev pub funct7 : ℕ → ℕ
 funct7 word = field word 25 7
 
+-- which atomic memory operation: bits 31..27, above the bits aq and rl
+abbrev pub funct5 : ℕ → ℕ
+funct5 word = field word 27 5
+
 -- I: bits 31..20 are 11..0
 abbrev pub immediate_i : ℕ → ℤ
 immediate_i word = signed 12 (field word 20 12)

@@ -1,3 +1,4 @@
+pub mod Atomics
 pub mod Fields
 pub mod Laws
 pub mod Ranges

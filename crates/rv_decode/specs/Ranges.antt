@@ -5,7 +5,8 @@ use Rattle.rv_decode.specs.declared.op.Width.TheVariants.{Byte, Half, Word, Byte
 use Rattle.rv_decode.specs.declared.op.Alu.{Alu}
 use Rattle.rv_decode.specs.declared.op.Alu.TheVariants.{Add, Sub, Sll, Slt, Sltu, Xor, Srl, Sra, Or, And}
 use Rattle.rv_decode.specs.declared.op.Op.{Op}
-use Rattle.rv_decode.specs.declared.op.Op.TheVariants.{Lui, Auipc, Jal, Jalr, Branch, Load, Store, AluImm, AluReg, Fence, Ecall, Ebreak}
+use Rattle.rv_decode.specs.declared.op.Op.TheVariants.{Lui, Auipc, Jal, Jalr, Branch, Load, Store, AluImm}
+use Rattle.rv_decode.specs.declared.op.Op.TheVariants.{AluReg, Amo, Fence, Ecall, Ebreak}
 
 -- x0 to x31
 abbrev pub IsRegister : ℕ → Type 0
@@ -64,6 +65,7 @@ Fits (Load width rd rs1 imm) = IsRegister rd × IsRegister rs1 × IsImmediate im
 Fits (Store width rs1 rs2 imm) = IsRegister rs1 × IsRegister rs2 × IsImmediate imm × IsStored width
 Fits (AluImm alu rd rs1 imm) = IsRegister rd × IsRegister rs1 × IsAluImmediate alu imm
 Fits (AluReg alu rd rs1 rs2) = IsRegister rd × IsRegister rs1 × IsRegister rs2
+Fits (Amo op rd rs1 rs2) = IsRegister rd × IsRegister rs1 × IsRegister rs2
 Fits Fence = ⊤
 Fits Ecall = ⊤
 Fits Ebreak = ⊤

@@ -1,5 +1,6 @@
--- The table of RV32I: which instruction a word is, by opcode, then funct3, then funct7, in the order of
--- the RISC-V Unprivileged ISA's listing of chapter 24.
+-- The table of RV32I and of the atomic memory operations of RV32A: which instruction a word is, by opcode,
+-- then funct3, then funct7 or its upper five bits, in the order of the RISC-V Unprivileged ISA's listing of
+-- chapter 24.
 use Rattle.std.specs.Prelude.{ℕ, pos, ◌==◌, if◌then◌else◌, Option, Some, None, option_map}
 use Rattle.rv_decode.specs.declared.op.Cond.{Cond}
 use Rattle.rv_decode.specs.declared.op.Cond.TheVariants.{Eq, Ne, Lt, Ge, Ltu, Geu}
@@ -8,8 +9,11 @@ use Rattle.rv_decode.specs.declared.op.Width.TheVariants.{Byte, Half, Word, Byte
 use Rattle.rv_decode.specs.declared.op.Alu.{Alu}
 use Rattle.rv_decode.specs.declared.op.Alu.TheVariants.{Add, Sub, Sll, Slt, Sltu, Xor, Srl, Sra, Or, And}
 use Rattle.rv_decode.specs.declared.op.Op.{Op}
-use Rattle.rv_decode.specs.declared.op.Op.TheVariants.{Lui, Auipc, Jal, Jalr, Branch, Load, Store, AluImm, AluReg, Fence, Ecall, Ebreak}
-use Rattle.rv_decode.specs.Fields.{opcode, rd, funct3, rs1, rs2, funct7, immediate_i, immediate_s, immediate_b, immediate_j, upper}
+use Rattle.rv_decode.specs.declared.op.Op.TheVariants.{Lui, Auipc, Jal, Jalr, Branch, Load, Store, AluImm}
+use Rattle.rv_decode.specs.declared.op.Op.TheVariants.{AluReg, Amo, Fence, Ecall, Ebreak}
+use Rattle.rv_decode.specs.Atomics.{amo_of}
+use Rattle.rv_decode.specs.Fields.{opcode, rd, funct3, rs1, rs2, funct7, funct5, immediate_i, immediate_s, immediate_b}
+use Rattle.rv_decode.specs.Fields.{immediate_j, upper}
 
 -- BEQ, BNE, BLT, BGE, BLTU, BGEU, by funct3
 abbrev pub condition_of : ℕ → Option Cond
@@ -129,6 +133,12 @@ alu_register word =
     (λ alu. AluReg alu (rd word) (rs1 word) (rs2 word))
     (register_alu (funct3 word) (funct7 word))
 
+-- opcode 0x2F: the atomic memory operations on a word, which have funct3 2. The bits aq and rl order an
+-- operation among others; here each is ordered already, so they are ignored.
+unfoldable pub atomic : ℕ → Option Op
+atomic word =
+    if funct3 word == 2 then option_map (λ op. Amo op (rd word) (rs1 word) (rs2 word)) (amo_of (funct5 word)) else None
+
 -- opcode 0x0F: FENCE, its other bits ignored; FENCE.I has funct3 1
 unfoldable pub fence : ℕ → Option Op
 fence word = if funct3 word == 0 then Some Fence else None
@@ -152,6 +162,7 @@ decoded word =
     else if opcode word == 0x23 then store word
     else if opcode word == 0x13 then alu_immediate word
     else if opcode word == 0x33 then alu_register word
+    else if opcode word == 0x2F then atomic word
     else if opcode word == 0x0F then fence word
     else if opcode word == 0x73 then system word
     else None

@@ -9,7 +9,9 @@ use Rattle.rv_decode.specs.declared.op.Width.TheVariants.{Byte, Half, Word, Byte
 use Rattle.rv_decode.specs.declared.op.Alu.{Alu}
 use Rattle.rv_decode.specs.declared.op.Alu.TheVariants.{Add, Sub, Sll, Slt, Sltu, Xor, Srl, Sra, Or, And}
 use Rattle.rv_decode.specs.declared.op.Op.{Op}
-use Rattle.rv_decode.specs.declared.op.Op.TheVariants.{Lui, Auipc, Jal, Jalr, Branch, Load, Store, AluImm, AluReg, Fence, Ecall, Ebreak}
+use Rattle.rv_decode.specs.declared.op.Op.TheVariants.{Lui, Auipc, Jal, Jalr, Branch, Load, Store, AluImm}
+use Rattle.rv_decode.specs.declared.op.Op.TheVariants.{AluReg, Amo, Fence, Ecall, Ebreak}
+use Rattle.rv_decode.specs.Atomics.{amo_code}
 use Rattle.rv_decode.specs.Fields.{field}
 
 -- the 32 bits of a signed number as two's complement
@@ -122,7 +124,8 @@ alu_immediate_word alu rd rs1 imm =
     then word_r 0x13 (alu_code alu) (alu_variant alu) rd rs1 (field (bits_of imm) 0 5)
     else word_i 0x13 (alu_code alu) rd rs1 imm
 
--- FENCE is the one that orders all before it with all after it
+-- FENCE is the one that orders all before it with all after it. An atomic memory operation has the bits aq and
+-- rl, the lower two of funct7, as 0.
 unfoldable pub encoding : Op → ℕ
 encoding (Lui rd upper) = word_u 0x37 rd upper
 encoding (Auipc rd upper) = word_u 0x17 rd upper
@@ -133,6 +136,7 @@ encoding (Load width rd rs1 imm) = word_i 0x03 (width_code width) rd rs1 imm
 encoding (Store width rs1 rs2 imm) = word_s 0x23 (width_code width) rs1 rs2 imm
 encoding (AluImm alu rd rs1 imm) = alu_immediate_word alu rd rs1 imm
 encoding (AluReg alu rd rs1 rs2) = word_r 0x33 (alu_code alu) (alu_variant alu) rd rs1 rs2
+encoding (Amo op rd rs1 rs2) = word_r 0x2F 2 (amo_code op * 4) rd rs1 rs2
 encoding Fence = 0x0FF0000F
 encoding Ecall = 0x00000073
 encoding Ebreak = 0x00100073

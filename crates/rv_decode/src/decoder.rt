@@ -1,15 +1,20 @@
 //! From a word to its instruction.
 ghost use Rattle.std.specs.Prelude.{◌≡◌, IfSome};
 ghost use Rattle.rv_decode.specs.Ranges.{Fits};
-ghost use Rattle.rv_decode.specs.Table.{decoded, condition_of, loaded_width, stored_width, shift_of, immediate_alu, plain_alu, register_alu, jump_and_link_register, branch, load, store, constant_shift, alu_immediate, alu_register, fence, system};
+ghost use Rattle.rv_decode.specs.Table.{decoded, condition_of, loaded_width, stored_width, shift_of, immediate_alu};
+ghost use Rattle.rv_decode.specs.Table.{plain_alu, register_alu, jump_and_link_register, branch, load, store};
+ghost use Rattle.rv_decode.specs.Table.{constant_shift, alu_immediate, alu_register, atomic, fence, system};
+ghost use Rattle.rv_decode.specs.Atomics.{amo_of};
 
 use crate::fields::{
-    funct3, funct7, immediate_b, immediate_i, immediate_j, immediate_s, opcode, rd, rs1, rs2, upper,
+    funct3, funct5, funct7, immediate_b, immediate_i, immediate_j, immediate_s, opcode, rd, rs1,
+    rs2, upper,
 };
-use crate::op::{Alu, Cond, Op, Width};
+use crate::op::{Alu, AmoOp, Cond, Op, Width};
 
-/// The instruction that the word is, or None where it is no instruction of RV32I. Such an instruction
-/// has its registers and immediates in their ranges.
+/// The instruction that the word is, or None where it is neither an instruction of RV32I nor an atomic memory
+/// operation on a word. An atomic memory operation is read whatever its bits aq and rl are. An instruction has
+/// its registers and immediates in their ranges.
 #[tactic(auto, using(crate::proofs::DecodedFits::in_range))]
 pub fn decode(word: u32) -> Option<Op>
     ensures table { result ≡ decoded word }
@@ -41,6 +46,7 @@ fn by_opcode(word: u32) -> Option<Op>
         0x23 => store(word),
         0x13 => alu_immediate(word),
         0x33 => alu_register(word),
+        0x2F => atomic(word),
         0x0F => fence(word),
         0x73 => system(word),
         _ => None,
@@ -230,6 +236,39 @@ fn plain_alu(funct3: u32) -> Option<Alu>
         5 => Some(Alu::Srl),
         6 => Some(Alu::Or),
         7 => Some(Alu::And),
+        _ => None,
+    }
+}
+
+#[tactic(auto, unfolding(crate::specs::Table::atomic))]
+fn atomic(word: u32) -> Option<Op>
+    ensures { result ≡ atomic word }
+{
+    if funct3(word) != 2 {
+        return None;
+    }
+    let op = amo_of(funct5(word))?;
+    Some(Op::Amo {
+        op,
+        rd: rd(word),
+        rs1: rs1(word),
+        rs2: rs2(word),
+    })
+}
+
+fn amo_of(funct5: u32) -> Option<AmoOp>
+    ensures { result ≡ amo_of funct5 }
+{
+    match funct5 {
+        1 => Some(AmoOp::Swap),
+        0 => Some(AmoOp::Add),
+        4 => Some(AmoOp::Xor),
+        12 => Some(AmoOp::And),
+        8 => Some(AmoOp::Or),
+        16 => Some(AmoOp::Min),
+        20 => Some(AmoOp::Max),
+        24 => Some(AmoOp::Minu),
+        28 => Some(AmoOp::Maxu),
         _ => None,
     }
 }

@@ -2,14 +2,16 @@
 ghost use Rattle.std.specs.Prelude.{◌≡◌, Some};
 ghost use Rattle.rv_decode.specs.Ranges.{Fits, IsRegister};
 ghost use Rattle.rv_decode.specs.Table.{decoded};
-ghost use Rattle.rv_decode.specs.Words.{encoding, condition_code, width_code, alu_code, alu_variant, is_shift, alu_immediate_word};
+ghost use Rattle.rv_decode.specs.Atomics.{amo_code};
+ghost use Rattle.rv_decode.specs.Words.{encoding, condition_code, width_code, alu_code, alu_variant, is_shift};
+ghost use Rattle.rv_decode.specs.Words.{alu_immediate_word};
 
 use crate::fields::field;
 use crate::formats::{word_b, word_i, word_j, word_r, word_s, word_u};
-use crate::op::{Alu, Cond, Op, Width};
+use crate::op::{Alu, AmoOp, Cond, Op, Width};
 
 /// The instruction's word, from which `decode` has the instruction again. FENCE is 0x0FF0000F, which
-/// orders all before it with all after it.
+/// orders all before it with all after it. An atomic memory operation has the bits aq and rl as 0.
 #[tactic(auto, using(crate::proofs::RoundTrip::back), unfolding(crate::specs::Words::encoding))]
 pub fn encode(op: &Op) -> u32
     requires { Fits op.now }
@@ -43,6 +45,7 @@ pub fn encode(op: &Op) -> u32
         Op::AluReg { alu, rd, rs1, rs2 } => {
             word_r(0x33, alu_code(alu), alu_variant(alu), rd, rs1, rs2)
         }
+        Op::Amo { op, rd, rs1, rs2 } => word_r(0x2F, 2, amo_code(op) * 4, rd, rs1, rs2),
         Op::Fence => 0x0FF0_000F,
         Op::Ecall => 0x0000_0073,
         Op::Ebreak => 0x0010_0073,
@@ -117,5 +120,22 @@ fn alu_variant(alu: Alu) -> u32
     match alu {
         Alu::Sub | Alu::Sra => 0x20,
         _ => 0,
+    }
+}
+
+/// funct5, the upper five bits of funct7
+fn amo_code(op: AmoOp) -> u32
+    ensures { result ≡ amo_code op }
+{
+    match op {
+        AmoOp::Swap => 1,
+        AmoOp::Add => 0,
+        AmoOp::Xor => 4,
+        AmoOp::And => 12,
+        AmoOp::Or => 8,
+        AmoOp::Min => 16,
+        AmoOp::Max => 20,
+        AmoOp::Minu => 24,
+        AmoOp::Maxu => 28,
     }
 }

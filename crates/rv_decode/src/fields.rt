@@ -1,6 +1,7 @@
 //! The fields of an instruction word, and the immediates that they make up.
 ghost use Rattle.std.specs.Prelude.{◌≡◌, ◌≤◌, ◌<◌, ◌^◌};
-ghost use Rattle.rv_decode.specs.Fields.{field, signed, opcode, rd, funct3, rs1, rs2, funct7, upper, immediate_i, immediate_s, immediate_b, immediate_j};
+ghost use Rattle.rv_decode.specs.Fields.{field, signed, opcode, rd, funct3, rs1, rs2, funct7, funct5, upper};
+ghost use Rattle.rv_decode.specs.Fields.{immediate_i, immediate_s, immediate_b, immediate_j};
 
 /// `width` bits of the word, from bit `low` up.
 #[tactic(auto, using(crate::proofs::Bits::masked))]
@@ -47,6 +48,12 @@ pub fn funct7(word: u32) -> u32
     ensures { result ≡ funct7 word }
 {
     field(word, 25, 7)
+}
+
+pub fn funct5(word: u32) -> u32
+    ensures { result ≡ funct5 word }
+{
+    field(word, 27, 5)
 }
 
 pub fn upper(word: u32) -> u32

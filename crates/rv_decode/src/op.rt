@@ -1,4 +1,4 @@
-//! The instructions of RV32I.
+//! The instructions of RV32I and of the A extension's atomic memory operations.
 
 /// When a branch is taken: a comparison of rs1 with rs2, unsigned for `Ltu` and `Geu`.
 #[derive(Clone, Copy, Debug, PartialEq, Eq)]
@@ -37,9 +37,25 @@ pub enum Alu {
     And,
 }
 
-/// An instruction of RV32I. `rd`, `rs1` and `rs2` are numbers of registers, from 0 to 31. `upper`, below
-/// 2^20, stands for `upper * 4096`. `imm` and `offset` are sign-extended, and `offset` counts bytes from
-/// the instruction's own address. `fits` says which values have a word.
+/// What an atomic memory operation makes of its word's old value and of rs2: `Swap` leaves rs2, `Add`
+/// wraps at 32 bits, `Min` and `Max` compare with sign, `Minu` and `Maxu` without.
+#[derive(Clone, Copy, Debug, PartialEq, Eq)]
+pub enum AmoOp {
+    Swap,
+    Add,
+    Xor,
+    And,
+    Or,
+    Min,
+    Max,
+    Minu,
+    Maxu,
+}
+
+/// An instruction of RV32I, or an atomic memory operation on a word. `rd`, `rs1` and `rs2` are numbers of
+/// registers, from 0 to 31. `upper`, below 2^20, stands for `upper * 4096`. `imm` and `offset` are
+/// sign-extended, and `offset` counts bytes from the instruction's own address. An atomic memory operation
+/// has its whole address in rs1. `fits` says which values have a word.
 #[derive(Clone, Copy, Debug, PartialEq, Eq)]
 pub enum Op {
     Lui {
@@ -85,6 +101,12 @@ pub enum Op {
     },
     AluReg {
         alu: Alu,
+        rd: u8,
+        rs1: u8,
+        rs2: u8,
+    },
+    Amo {
+        op: AmoOp,
         rd: u8,
         rs1: u8,
         rs2: u8,

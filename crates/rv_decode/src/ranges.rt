@@ -1,6 +1,7 @@
 //! Which instructions have a word.
 ghost use Rattle.std.specs.Prelude.{IsTrue, ◌↔◌, ◌≤ℤ◌};
-ghost use Rattle.rv_decode.specs.Ranges.{Fits, IsRegister, IsUpper, IsImmediate, IsShiftAmount, IsEven, IsBranchOffset, IsJumpOffset, IsStored, IsAluImmediate};
+ghost use Rattle.rv_decode.specs.Ranges.{Fits, IsRegister, IsUpper, IsImmediate, IsShiftAmount, IsEven, IsBranchOffset};
+ghost use Rattle.rv_decode.specs.Ranges.{IsJumpOffset, IsStored, IsAluImmediate};
 
 use crate::op::{Alu, Op, Width};
 
@@ -33,6 +34,7 @@ pub fn fits(op: &Op) -> bool
             is_register(rd) && is_register(rs1) && is_alu_immediate(alu, imm)
         }
         Op::AluReg { rd, rs1, rs2, .. } => is_register(rd) && is_register(rs1) && is_register(rs2),
+        Op::Amo { rd, rs1, rs2, .. } => is_register(rd) && is_register(rs1) && is_register(rs2),
         Op::Fence | Op::Ecall | Op::Ebreak => true,
     }
 }

@@ -1,5 +1,5 @@
 //! Words from an outside assembler (LLVM 14's `llvm-mc`), each read and written.
-use crate::{Alu, Cond, Op, Width, decode, encode, fits};
+use crate::{Alu, AmoOp, Cond, Op, Width, decode, encode, fits};
 use std::process::Abort;
 
 fn goes_both_ways(rt: &impl Abort, word: u32, op: Op) {
@@ -182,6 +182,32 @@ fn uppers_and_jumps(rt: HostRuntime) {
     );
 }
 
+fn amo(op: AmoOp, rd: u8, rs2: u8, rs1: u8) -> Op {
+    Op::Amo { op, rd, rs1, rs2 }
+}
+
+#[test]
+fn atomics(rt: HostRuntime) {
+    goes_both_ways(&rt, 0x0821_a0af, amo(AmoOp::Swap, 1, 2, 3));
+    goes_both_ways(&rt, 0x0053_a32f, amo(AmoOp::Add, 6, 5, 7));
+    goes_both_ways(&rt, 0x21ee_afaf, amo(AmoOp::Xor, 31, 30, 29));
+    goes_both_ways(&rt, 0x60b6_252f, amo(AmoOp::And, 10, 11, 12));
+    goes_both_ways(&rt, 0x40d7_202f, amo(AmoOp::Or, 0, 13, 14));
+    goes_both_ways(&rt, 0x8008_27af, amo(AmoOp::Min, 15, 0, 16));
+    goes_both_ways(&rt, 0xa129_a8af, amo(AmoOp::Max, 17, 18, 19));
+    goes_both_ways(&rt, 0xc15b_2a2f, amo(AmoOp::Minu, 20, 21, 22));
+    goes_both_ways(&rt, 0xe18c_abaf, amo(AmoOp::Maxu, 23, 24, 25));
+    // `amoswap.w.aq`, `amoadd.w.rl` and `amomaxu.w.aqrl`
+    let ordered = [
+        (0x0c21_a0af, amo(AmoOp::Swap, 1, 2, 3)),
+        (0x0253_a32f, amo(AmoOp::Add, 6, 5, 7)),
+        (0xe78c_abaf, amo(AmoOp::Maxu, 23, 24, 25)),
+    ];
+    for (word, op) in ordered {
+        assert_eq!(rt; decode(word), Some(op), "{word:08x}");
+    }
+}
+
 #[test]
 fn whole_words(rt: HostRuntime) {
     goes_both_ways(&rt, 0x0ff0_000f, Op::Fence);
@@ -195,7 +221,7 @@ fn whole_words(rt: HostRuntime) {
 
 #[test]
 fn other_words(rt: HostRuntime) {
-    // FENCE.I, CSRRW, CSRRS, MRET, WFI, MUL, DIVU, LR.W, AMOADD.W
+    // FENCE.I, CSRRW, CSRRS, MRET, WFI, MUL, DIVU, LR.W, LR.W.AQRL, SC.W
     for word in [
         0x0000_100f,
         0x3052_9073,
@@ -204,12 +230,13 @@ fn other_words(rt: HostRuntime) {
         0x1050_0073,
         0x02c5_8533,
         0x02c5_d533,
-        0x1005_252f,
-        0x00b6_252f,
+        0x1002_a32f,
+        0x1602_a32f,
+        0x1872_a32f,
     ] {
         assert_eq!(rt; decode(word), None, "{word:08x}");
     }
-    // of RV64I: LWU, LD, SD, ADDIW, ADDW, and SRLI by 32
+    // of RV64: LWU, LD, SD, ADDIW, ADDW, SRLI by 32, and AMOADD.D
     for word in [
         0x0001_6083,
         0x0001_3083,
@@ -217,6 +244,7 @@ fn other_words(rt: HostRuntime) {
         0x0031_009b,
         0x0031_00bb,
         0x0205_5313,
+        0x0053_b32f,
     ] {
         assert_eq!(rt; decode(word), None, "{word:08x}");
     }
@@ -245,6 +273,7 @@ fn outside_the_ranges(rt: HostRuntime) {
         imm(Alu::Sra, 1, 2, 32),
         imm(Alu::Sll, 1, 2, -1),
         reg(Alu::Add, 32, 0, 0),
+        amo(AmoOp::Swap, 1, 2, 32),
         Op::Store {
             width: Width::ByteU,
             rs1: 1,
