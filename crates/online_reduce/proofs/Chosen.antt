@@ -10,7 +10,8 @@ use Rattle.clock_core.specs.declared.clock.Clock.{Clock}
 use Rattle.conflict_edge.proofs.History.{and_true, or_true}
 use Rattle.online_reduce.specs.declared.source.Source.{Source}
 use Rattle.online_reduce.specs.Sources.{IsOneOf}
-use Rattle.online_reduce.specs.Rule.{is_same, is_above, lets_pass, is_kept, edge_to}
+use Rattle.online_reduce.specs.Rule.{is_above, lets_pass, is_kept, edge_to}
+use Rattle.rtr_types.specs.Accesses.{is_same}
 use Rattle.online_reduce.proofs.Loops.{chosen}
 
 same_instr : (x y : Instr) → is_same x y ≡ true → x ≡ y

@@ -1,15 +1,12 @@
 -- Which candidates become edges, and what the new clock is.
-use Rattle.std.specs.Prelude.{List, Bool, ◌&&◌, ◌||◌, nat_eq, nat_lt, map, slice_index, slice_set}
+use Rattle.std.specs.Prelude.{List, Bool, ◌&&◌, ◌||◌, nat_lt, map, slice_index, slice_set}
 use Rattle.std.specs.List.{filter, list_all, fold}
+use Rattle.rtr_types.specs.Accesses.{is_same}
 use Rattle.rtr_types.specs.declared.instr.Instr.{Instr}
 use Rattle.rtr_types.specs.declared.instr.Edge.{Edge}
 use Rattle.clock_core.specs.Counts.{merged}
 use Rattle.clock_core.specs.declared.clock.Clock.{Clock}
 use Rattle.online_reduce.specs.declared.source.Source.{Source}
-
--- the two are one instruction
-abbrev pub is_same : Instr → Instr → Bool
-is_same x y = nat_eq x.core y.core && nat_eq x.count y.count
 
 -- the clock does not know of the instruction
 abbrev pub is_above : Clock → Instr → Bool

@@ -15,7 +15,7 @@ use Rattle.conflict_edge.specs.Clocks.{clock}
 use Rattle.conflict_edge.specs.Conflicts.{ConflictPair, Conflicts, CountsRise, StandsIn, do_conflict}
 use Rattle.conflict_edge.specs.Least.{Covering}
 use Rattle.online_reduce.proofs.Rises.{AtAccess, pair_source}
-use Rattle.online_reduce.specs.Rule.{is_same}
+use Rattle.rtr_types.specs.Accesses.{is_same}
 use Rattle.recorder.specs.LeastLists.{is_covering, is_or_leads, stands_between}
 
 pub both : (a b : Bool) → a ≡ true → b ≡ true → (a && b) ≡ true

@@ -7,7 +7,7 @@ use Rattle.rtr_types.specs.declared.instr.Instr.{Instr}
 use Rattle.conflict_edge.specs.Clocks.{clock}
 use Rattle.conflict_edge.specs.Conflicts.{CountsRise, StandsIn, do_conflict}
 use Rattle.conflict_edge.specs.Least.{Covering}
-use Rattle.online_reduce.specs.Rule.{is_same}
+use Rattle.rtr_types.specs.Accesses.{is_same}
 
 -- x is y or leads to it, by program order and the conflict pairs: y's clock, which counts what does, has x
 abbrev pub is_or_leads : List Access → Instr → Instr → Bool
