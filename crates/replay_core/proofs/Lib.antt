@@ -4,6 +4,7 @@ pub mod Ready
 pub mod Low
 pub mod Places
 pub mod Fronts
+pub mod Images
 pub mod Sources
 pub mod Steps
 pub mod Runs

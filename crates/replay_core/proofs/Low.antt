@@ -5,7 +5,7 @@ use Rattle.std.proofs.lemmas.List.Sums.{sum_by-cons}
 use native.Mathlib.Decide.{ℕ_discrete}
 use Rattle.replay_core.specs.Plans.{Plan}
 use Rattle.replay_core.specs.Orders.{bump, nought, Ready, Ordered, is_ready, lowest, lowest_ready, low_next, low_from, low_order}
-use Rattle.replay_core.specs.Laws.{Lowest, LowOrderLaw}
+use Rattle.replay_core.specs.Laws.{Lowest, LowOrderLaw, LowestOrderedLaw, LowOrderedLaw, LowestStuckLaw}
 use Rattle.replay_core.proofs.Counts.{bump_else, bump_same}
 use Rattle.replay_core.proofs.Ready.{ready_true, ready_is}
 
@@ -76,6 +76,13 @@ pub low_order_law : LowOrderLaw
 unfolding low_order
 low_order_law p = low_is p (sum p.totals) nought (let a = left_nought p.totals 0 in omega arith)
 
-pub lowest_ordered : (p : Plan) (f : ℕ → ℕ) (order : List ℕ) → Lowest p f order → Ordered p f order
+pub lowest_ordered : LowestOrderedLaw
 lowest_ordered p f [] h = tt
 lowest_ordered p f (c ∷ cs) h = (h.0, lowest_ordered p (bump f c) cs h.2)
+
+pub low_ordered : LowOrderedLaw
+low_ordered p = lowest_ordered p nought (low_order p) (low_order_law p)
+
+pub lowest_stuck : LowestStuckLaw
+lowest_stuck p f [] h c ready = h c ready
+lowest_stuck p f (d ∷ ds) h c ready = lowest_stuck p (bump f d) ds h.2 c ready

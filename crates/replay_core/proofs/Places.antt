@@ -1,22 +1,23 @@
 -- What is known after a place, and after the places of a replay order.
 use Rattle.std.proofs.Common.{inl, inr, ◌≡◌, ℕ, subst, ◌+◌, ◌<◌, ◌≤◌, Bool, true, false, cond, List, [], ◌∷◌, length, sym, refl, ap, ◌∙◌, arith, length-set, get_or-set_same, get_or-set_other}
-use Rattle.std.specs.Prelude.{slice_index, slice_set, Some, None}
+use Rattle.std.specs.Prelude.{slice_index, slice_index_or, slice_set, replicate, Some, None}
 use Rattle.std.proofs.Math.Path.{fun_ext}
 use Rattle.std.proofs.lemmas.Bool.{cases_lt}
-use Rattle.std.proofs.lemmas.List.{get_or_past, length-replicate}
+use Rattle.std.proofs.lemmas.List.{get_or_past, get_or-replicate, length-replicate}
 use Rattle.std.proofs.lemmas.List.FromFn.{length-map-range_with_len, get_or-map-range_with_len}
 use native.Mathlib.Decide.{ℕ_discrete}
 use Rattle.rtr_types.specs.Accesses.{is_write}
 use Rattle.image_mem.specs.Contents.{opening_word}
 use Rattle.rv_core.specs.declared.core_state.Core.{Core}
+use Rattle.rv_core.specs.declared.outcome.LoadNote.{LoadNote}
 use Rattle.rv_core.specs.declared.outcome.Outcome.{Outcome}
 use Rattle.rv_core.specs.States.{starting}
 use Rattle.rv_core.specs.Steps.{after}
 use Rattle.rv_core.proofs.LawLemmas.{start_law, count_law, number_law, limit_law}
 use Rattle.replay_core.specs.Plans.{Plan}
-use Rattle.replay_core.specs.Play.{Use, use_of, words_after, core_at, need_at, old_at, new_at, place, start, play}
+use Rattle.replay_core.specs.Play.{Use, use_of, words_after, core_at, need_at, old_at, new_at, place, touched, start, play}
 use Rattle.replay_core.specs.Orders.{bump, counts, nought, counts_in, Ready, Ordered}
-use Rattle.replay_core.specs.Laws.{PlaceLaw, PlayKnown, PlayLaw}
+use Rattle.replay_core.specs.Laws.{PlayStartLaw, PlaceLaw, PlayKnown, PlayLaw}
 use Rattle.replay_core.proofs.Counts.{bump_same, bump_else}
 
 -- ---- one place
@@ -30,9 +31,12 @@ length-words_after None words value = refl
 length-words_after (Some used) words value = length-written (is_write used.0) words used.1 value
 
 pub place_law : PlaceLaw
-unfolding place
+unfolding place touched
 place_law p s c = record {
   core = λ below. get_or-set_same s.cores c _ (starting 0 0) below;
+  words = refl;
+  loads = λ below. get_or-set_same s.loads c _ [] below;
+  access = refl;
   other_cores = λ i ne. get_or-set_other s.cores c i _ (starting 0 0) ne;
   other_loads = λ i ne. get_or-set_other s.loads c i _ [] ne;
   all_cores = length-set s.cores c _;
@@ -44,6 +48,19 @@ place_law p s c = record {
 
 start-core : (p : Plan) (c : ℕ) → c < length p.totals → core_at (start p) c ≡ starting c p.limit
 start-core p c below = get_or-map-range_with_len (λ i. starting i p.limit) 0 (length p.totals) c c (starting 0 0) below (omega arith)
+
+-- each list is empty, and so is one past the last
+nothing : (n c : ℕ) → ◌≡◌ {A = List LoadNote} (slice_index_or (replicate n []) c []) []
+nothing n c = elim (cases_lt c n) [
+  | inl below ↦ get_or-replicate n c [] [] below
+  | inr past ↦
+      let lists : List (List LoadNote) = replicate n [] in
+      let all : length lists ≡ n = length-replicate n [] in
+      get_or_past lists c [] (omega arith)
+]
+
+pub play_start_law : PlayStartLaw
+play_start_law p = record { core = start-core p; loads = nothing (length p.totals) }
 
 start-count : (p : Plan) (i : ℕ) → counts_in (start p) i ≡ 0
 start-count p i = elim (cases_lt i (length p.totals)) [

@@ -1,6 +1,6 @@
 -- What the code of one place does is the definition's place.
 use Rattle.std.proofs.Common.{inl, inr, ◌≡◌, ℕ, ◌+◌, ◌<◌, ◌≤◌, true, false, cond, List, length, get_or, refl, sym, ap, subst, ◌∙◌, arith}
-use Rattle.std.specs.Prelude.{nat_lt, slice_set, Option}
+use Rattle.std.specs.Prelude.{nat_lt, slice_set, Option, Some, None}
 use Rattle.std.proofs.lemmas.Bool.{cases_lt}
 use Rattle.std.proofs.lemmas.Bool.Decides.{nat_tests}
 use Rattle.std.proofs.lemmas.List.FromFn.{fill_by_all}
@@ -9,12 +9,10 @@ use Rattle.rtr_types.specs.declared.cut.Cut.{Cut}
 use Rattle.rtr_types.specs.declared.access.Access.{Access}
 use Rattle.image_mem.specs.Contents.{Contents}
 use Rattle.rv_core.specs.declared.core_state.Core.{Core}
-use Rattle.rv_core.specs.declared.core_state.Need.{Need}
-use Rattle.rv_core.specs.declared.core_state.Need.TheVariants.{Local, Load, Store, Done}
 use Rattle.rv_core.specs.declared.outcome.LoadNote.{LoadNote}
 use Rattle.rv_core.specs.declared.outcome.Outcome.{Outcome}
 use Rattle.rv_core.specs.Steps.{need, after, wrote, is_done, access_of}
-use Rattle.rv_core.proofs.LawLemmas.{count_law, load_within_law, store_within_law}
+use Rattle.rv_core.proofs.LawLemmas.{count_law, within_law}
 use Rattle.replay_core.specs.declared.answers.Advanced.{Advanced}
 use Rattle.replay_core.specs.declared.answers.Advanced.TheVariants as advanced
 use Rattle.replay_core.specs.Plans.{Plan}
@@ -22,15 +20,9 @@ use Rattle.replay_core.specs.Play.{Use, use_of, old_for, words_after, loads_afte
 use Rattle.replay_core.specs.Answers.{told, Retires, Advances, UsesWithin, AreNoted, cut_of}
 
 -- the word that a need uses is one of the memory's
-pub uses-within : (image : Contents) (core : Core) (n : Need) → need image core ≡ n → UsesWithin (access_of n) image.words
-uses-within image core Local is = tt
-uses-within image core (Load word) is = load_within_law image core word is
-uses-within image core (Store word whole) is = store_within_law image core word whole is
-uses-within image core (Done stop) is = tt
-
 pub used_within : (image : Contents) (core : Core) (used : Use) (words : ℕ) → used ≡ access_of (need image core) → words ≡ image.words → UsesWithin used words
-used_within image core used words is all =
-    subst (λ (u : Use). UsesWithin u words) (sym is) (subst (λ (n : ℕ). UsesWithin (access_of (need image core)) n) (sym all) (uses-within image core (need image core) refl))
+used_within image core None words is all = tt
+used_within image core (Some used) words is all = let within = within_law image core used.0 used.1 (sym is) in omega arith
 
 -- the calls of one place, by what each answers
 pub record Called (p : Plan) (s : Outcome) (c : ℕ) (new_core : Core) (used : Use) (old value count : ℕ) (words : List ℕ) (loads : List (List LoadNote)) (access : Option Access) : Type 0 where

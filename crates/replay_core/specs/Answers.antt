@@ -1,5 +1,6 @@
 -- What a replay answers.
-use Rattle.std.specs.Prelude.{◌≡◌, ◌<◌, ◌≤◌, ℕ, Bool, true, false, List, [], ◌∷◌, length, map, nat_lt, slice_index_or, slice_set, Option, Some, None, if◌then◌else◌}
+use Rattle.std.specs.Prelude.{◌≡◌, ◌<◌, ◌≤◌, ◌↔◌, ℕ, Bool, IsTrue, true, false, List, [], ◌∷◌, ◌++◌, length, map}
+use Rattle.std.specs.Prelude.{nat_lt, slice_index_or, slice_set, Option, Some, None, if◌then◌else◌}
 use Rattle.std.specs.List.{Contains, range_with_len}
 use Rattle.rtr_types.specs.declared.TheConstants.{CORES_MAX}
 use Rattle.rtr_types.specs.declared.instr.Instr.{Instr}
@@ -11,6 +12,7 @@ use Rattle.rv_core.specs.declared.core_state.Core.{Core}
 use Rattle.rv_core.specs.declared.outcome.LoadNote.{LoadNote}
 use Rattle.rv_core.specs.declared.outcome.Outcome.{Outcome}
 use Rattle.rv_core.specs.Steps.{is_done}
+use Rattle.load_lists.specs.Lists.{LoadRooms}
 use Rattle.log_codec.specs.declared.recording.Recording.{Recording}
 use Rattle.log_codec.specs.Validity.{Valid}
 use Rattle.replay_core.specs.declared.answers.Advanced.{Advanced}
@@ -19,7 +21,7 @@ use Rattle.replay_core.specs.declared.answers.ReplayFault.{ReplayFault}
 use Rattle.replay_core.specs.declared.answers.ReplayFault.TheVariants as faults
 use Rattle.replay_core.specs.Plans.{Plan, recorded_image}
 use Rattle.replay_core.specs.Play.{Use, loads_after, instr, need_at, place, touched, start, first_short, played}
-use Rattle.replay_core.specs.Orders.{counts, nought, IsWhole, low_order}
+use Rattle.replay_core.specs.Orders.{counts, nought, IsReplayOrder, IsWhole, low_order}
 
 -- what contracts see of a replay under way: what it plays, what it has come to, and whether each core's loads have
 -- room for one more
@@ -27,6 +29,16 @@ pub record UnderWay : Type 0 where
   pub plan : Plan
   pub state : Outcome
   pub roomy : Bool
+
+-- the parts of a replay, as contracts see them
+abbrev pub under_way : Plan → List Core → List ℕ → LoadRooms → UnderWay
+under_way plan cores words loads =
+    record { plan = plan; state = record { cores = cores; words = words; loads = loads.lists }; roomy = loads.roomy }
+
+-- whether a core's place can be added to the order that was played
+abbrev pub TellsOrders : Plan → Outcome → (core : ℕ) → Bool → Type 0
+TellsOrders p s core answer = (order : List ℕ) → IsReplayOrder p order → s ≡ played p order →
+    IsTrue answer ↔ IsReplayOrder p (order ++ core ∷ [])
 
 -- at most one access, as a list
 abbrev pub told : Option Access → List Access
@@ -76,21 +88,27 @@ Refuses p faults.OutOfMemory = Unit {0}
 
 -- ---- what the parts of the code ask and tell
 
+-- each core's loads, core 0 first
+abbrev pub Loads : Type 0
+Loads = List (List LoadNote)
+
 -- the word that is used is one of so many
 abbrev pub UsesWithin : Use → (words : ℕ) → Type 0
 UsesWithin None words = Unit {0}
 UsesWithin (Some used) words = used.1 < words
 
 -- the core's list has what its instruction noted
-abbrev pub AreNoted : (old : List (List LoadNote)) → (core : ℕ) → Use → (count value : ℕ) → (new : List (List LoadNote)) → Type 0
-AreNoted old core used count value new = new ≡ slice_set old core (loads_after used (slice_index_or old core []) count value)
+abbrev pub AreNoted : (old : Loads) → (core : ℕ) → Use → (count value : ℕ) → (new : Loads) → Type 0
+AreNoted old core used count value new =
+    new ≡ slice_set old core (loads_after used (slice_index_or old core []) count value)
 
 -- core `of` has come as far as the edge from it to `at` asks, if there is one
 abbrev pub IsMet : List Edge → (ℕ → ℕ) → (of : ℕ) → Instr → Type 0
 IsMet edges f of at = (a : ℕ) → Contains edges (record { from = instr of a; to = at }) → a ≤ f of
 
 -- the parts of a replay belong to its recording
-pub record HoldsTogether (r : Recording) (image : Contents) (cores : List Core) (words : List ℕ) (loads : List (List LoadNote)) : Type 0 where
+pub record HoldsTogether (r : Recording) (image : Contents) (cores : List Core) (words : List ℕ) (loads : Loads)
+    : Type 0 where
   pub valid : Valid r
   pub image_is : image ≡ recorded_image r
   pub all_cores : length cores ≡ r.params.cores

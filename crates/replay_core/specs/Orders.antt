@@ -1,5 +1,7 @@
--- Replay orders of a log, whole ones, and the low order. How far a list has come is a count for each core, as a function.
-use Rattle.std.specs.Prelude.{◌≡◌, ℕ, zero, suc, ◌+◌, ◌<◌, ◌≤◌, ◌==◌, Bool, true, ◌&&◌, ◌||◌, not, nat_lt, nat_le, nat_eq, List, [], ◌∷◌, length, slice_index, sum, Option, Some, None, if◌then◌else◌}
+-- Replay orders of a log, whole ones, and the low order. How far a list has come is a count for each core, as a
+-- function.
+use Rattle.std.specs.Prelude.{◌≡◌, ℕ, zero, suc, ◌+◌, ◌<◌, ◌≤◌, ◌==◌, Bool, true, ◌&&◌, ◌||◌, not, nat_lt, nat_le}
+use Rattle.std.specs.Prelude.{nat_eq, List, [], ◌∷◌, length, slice_index, sum, Option, Some, None, if◌then◌else◌}
 use Rattle.rtr_types.specs.declared.instr.Edge.{Edge}
 use Rattle.rv_core.specs.declared.outcome.Outcome.{Outcome}
 use Rattle.replay_core.specs.Plans.{Plan}
@@ -60,7 +62,8 @@ is_sourced [] f c n = true
 is_sourced (e ∷ edges) f c n = is_met e f c n && is_sourced edges f c n
 
 abbrev pub is_ready : Plan → (ℕ → ℕ) → ℕ → Bool
-is_ready p f c = nat_lt c (length p.totals) && (nat_lt (f c) (slice_index p.totals c) && is_sourced p.edges f c (f c + 1))
+is_ready p f c =
+    nat_lt c (length p.totals) && (nat_lt (f c) (slice_index p.totals c) && is_sourced p.edges f c (f c + 1))
 
 -- the lowest of the n cores c, c + 1, .. that is ready
 abbrev pub lowest : Plan → (ℕ → ℕ) → (c n : ℕ) → Option ℕ

@@ -1,6 +1,7 @@
 -- The play of a list of cores: at each place its core retires one instruction, over one flat memory. What a play has
 -- come to is an outcome; the accesses_from stand apart from it, so that two lists can end in the same outcome.
-use Rattle.std.specs.Prelude.{◌≡◌, ℕ, ◌+◌, false, List, [], ◌∷◌, ◌++◌, length, map, replicate, slice_index, slice_index_or, slice_set, Option, Some, None, if◌then◌else◌}
+use Rattle.std.specs.Prelude.{◌≡◌, ℕ, ◌+◌, false, List, [], ◌∷◌, ◌++◌, length, map, replicate, slice_index}
+use Rattle.std.specs.Prelude.{slice_index_or, slice_set, Option, Some, None, if◌then◌else◌}
 use Rattle.std.specs.List.{range_with_len}
 use Rattle.rtr_types.specs.declared.instr.Instr.{Instr}
 use Rattle.rtr_types.specs.declared.access.Access.{Access}
@@ -35,15 +36,17 @@ abbrev pub words_after : Use → (words : List ℕ) → (value : ℕ) → List �
 words_after None words value = words
 words_after (Some used) words value = if is_write used.0 then slice_set words used.1 value else words
 
--- the core's loads after it found a value
+-- the core's loads after it found a value: an access that reads is among them
 abbrev pub loads_after : Use → List LoadNote → (count value : ℕ) → List LoadNote
 loads_after None loads count value = loads
-loads_after (Some used) loads count value = if is_read used.0 then loads ++ record { count = count; word = used.1; value = value } ∷ [] else loads
+loads_after (Some used) loads count value =
+    if is_read used.0 then loads ++ record { count = count; word = used.1; value = value } ∷ [] else loads
 
 -- the access, if there is one
 abbrev pub accesses_by : Use → Instr → (before after : ℕ) → List Access
 accesses_by None at before after = []
-accesses_by (Some used) at before after = record { at = at; word = used.1; kind = used.0; before = before; after = after } ∷ []
+accesses_by (Some used) at before after =
+    record { at = at; word = used.1; kind = used.0; before = before; after = after } ∷ []
 
 -- ---- one place
 
@@ -72,7 +75,9 @@ unfoldable pub place : Plan → Outcome → ℕ → Outcome
 place p s c = record {
   cores = slice_set s.cores c (after p.image (core_at s c) (old_at p s c));
   words = words_after (use_of (need_at p s c)) s.words (new_at p s c);
-  loads = slice_set s.loads c (loads_after (use_of (need_at p s c)) (loads_at s c) ((core_at s c).count + 1) (old_at p s c));
+  loads =
+      slice_set s.loads c
+      (loads_after (use_of (need_at p s c)) (loads_at s c) ((core_at s c).count + 1) (old_at p s c));
 }
 
 -- the access of that instruction, if it has one
@@ -107,7 +112,8 @@ Plays p s (c ∷ cs) = (is_done (need_at p s c) ≡ false) × Plays p (place p s
 -- the first place where it falls short, if there is one: the core, and how many instructions it had retired
 abbrev pub first_short : Plan → Outcome → List ℕ → Option (ℕ × ℕ)
 first_short p s [] = None
-first_short p s (c ∷ cs) = if is_done (need_at p s c) then Some (c, (core_at s c).count) else first_short p (place p s c) cs
+first_short p s (c ∷ cs) =
+    if is_done (need_at p s c) then Some (c, (core_at s c).count) else first_short p (place p s c) cs
 
 -- from the start
 abbrev pub played : Plan → List ℕ → Outcome

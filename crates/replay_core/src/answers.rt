@@ -8,8 +8,8 @@ use std::alloc::AllocError;
 /// What came of a core's next place.
 #[derive(Clone, Copy, Debug, PartialEq, Eq)]
 pub enum Advanced {
-    /// The core has retired one instruction more. A load or store is told with its word's value before
-    /// and after.
+    /// The core has retired one instruction more. An access is told with its word's value before and
+    /// after.
     Retired { access: Option<Access> },
     /// The core's program is done. Nothing changed.
     Short,

@@ -1,13 +1,15 @@
 //! A replay under way.
-ghost use Rattle.std.specs.Prelude.{◌≡◌, ◌<◌, ◌≤◌, ◌≢◌, ◌↔◌, ℕ, List, [], ◌++◌, ◌∷◌, true, length, map, slice_index, IfOk, OnOk, IsTrue, MatchResult};
+ghost use Rattle.std.specs.Prelude.{◌≡◌, ◌<◌, ◌≤◌, ◌≢◌, ◌↔◌, ℕ, List, [], ◌++◌, ◌∷◌, true, length, map, slice_index};
+ghost use Rattle.std.specs.Prelude.{IfOk, OnOk, IsTrue, MatchResult};
 ghost use Rattle.std.specs.List.{range_with_len};
 ghost use Rattle.rtr_types.specs.declared.instr.Instr.{Instr as SomeInstr};
 ghost use Rattle.rv_core.specs.States.{starting};
 ghost use Rattle.log_codec.specs.Validity.{Valid};
 ghost use Rattle.replay_core.specs.Plans.{plan_of};
 ghost use Rattle.replay_core.specs.Play.{core_at, start, played};
-ghost use Rattle.replay_core.specs.Orders.{counts, nought, counts_in, Full, IsReplayOrder, is_ready, is_sourced, lowest_ready};
-ghost use Rattle.replay_core.specs.Answers.{Advances, Replays, Refuses, IsMet, cut_of};
+ghost use Rattle.replay_core.specs.Orders.{counts, nought, counts_in, Full, IsReplayOrder, is_ready, is_sourced};
+ghost use Rattle.replay_core.specs.Orders.{lowest_ready};
+ghost use Rattle.replay_core.specs.Answers.{TellsOrders, Advances, Replays, Refuses, IsMet, cut_of};
 
 use crate::answers::{Advanced, ReplayFault};
 use crate::one_place::{access, leave, note, old_value};
@@ -36,11 +38,11 @@ pub struct Replay<'a> {
 
 impl<'a> Model for Replay<'a> {
     ghost use Rattle.replay_core.specs.Plans.{plan_of};
-    ghost use Rattle.replay_core.specs.Answers.{UnderWay, HoldsTogether};
+    ghost use Rattle.replay_core.specs.Answers.{UnderWay, HoldsTogether, under_way};
 
     ghost Value = { UnderWay };
 
-    ghost view = { λ a. record { plan = plan_of a.which a.recording.now; state = record { cores = a.cores.items; words = a.memory; loads = a.loads.lists }; roomy = a.loads.roomy } };
+    ghost view = { λ a. under_way (plan_of a.which a.recording.now) a.cores.items a.memory a.loads };
 
     ghost invariant = { λ a. HoldsTogether a.recording.now a.image a.cores.items a.memory a.loads.lists };
 }
@@ -79,7 +81,7 @@ impl<'a> Replay<'a> {
     pub fn ready(&self, core: u8) -> bool
         requires { core < length self.now.plan.totals }
         ensures test { result ≡ is_ready self.now.plan (counts_in self.now.state) core }
-        ensures order { (order : List ℕ) → IsReplayOrder self.now.plan order → self.now.state ≡ played self.now.plan order → IsTrue result ↔ IsReplayOrder self.now.plan (order ++ core ∷ []) }
+        ensures order { TellsOrders self.now.plan self.now.state core result }
     {
         let count = self.count(core);
         count < self.total(core) && self.is_sourced(core, count + 1)
@@ -97,8 +99,8 @@ impl<'a> Replay<'a> {
         None
     }
 
-    /// Makes room for one more load of each core, so that `advance` takes no memory. After want of memory
-    /// the replay is as it was.
+    /// Makes room for what one more instruction of each core may read, so that `advance` takes no memory.
+    /// After want of memory the replay is as it was.
     pub fn make_room(&mut self) -> Result<(), AllocError>
         ensures plan { self.new.plan ≡ self.old.plan }
         ensures state { self.new.state ≡ self.old.state }
@@ -107,7 +109,7 @@ impl<'a> Replay<'a> {
         self.loads.make_room()
     }
 
-    /// Whether there is room for one more load of each core.
+    /// Whether there is room for what one more instruction of each core may read.
     pub fn has_room(&self) -> bool
         ensures { result ≡ self.now.roomy }
     {

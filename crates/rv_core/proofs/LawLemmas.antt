@@ -1,11 +1,11 @@
 -- The laws of a core's steps.
-use Rattle.std.proofs.Common.{◌≡◌, ◌<◌, ℕ, ◌+◌, ◌^◌, true, Option, Some, None, refl, sym, ◌∙◌, ap, lit<}
+use Rattle.std.proofs.Common.{◌≡◌, ◌<◌, ℕ, ◌+◌, ◌^◌, Option, Some, None, refl, sym, ◌∙◌, ap, lit<}
 use Rattle.rtr_types.specs.declared.access.Kind.{Kind}
 use Rattle.rv_decode.specs.declared.op.Op.{Op}
 use Rattle.image_mem.specs.Contents.{Contents}
 use Rattle.rv_core.specs.declared.core_state.Core.{Core}
 use Rattle.rv_core.specs.States.{starting, retired, word_after}
-use Rattle.rv_core.specs.Steps.{need, after, wrote, is_done, is_whole, access_of, instruction_at, after_instruction, word_after_instruction}
+use Rattle.rv_core.specs.Steps.{need, after, wrote, is_done, access_of, instruction_at, after_instruction, word_after_instruction}
 use Rattle.rv_core.specs.Laws.{StartLaw, CountLaw, NumberLaw, LimitLaw, RoomLaw, WithinLaw, LocalLaw, UnreadLaw, WholeLaw, LocalValueLaw, UnwrittenLaw, ValueLaw}
 use Rattle.rv_core.proofs.StepLemmas.{GoesOnBy, goes_on}
 use Rattle.rv_core.proofs.OpLemmas.{Accessing, access_goes, accessing, whole_store, covering, staying, word_after-below}

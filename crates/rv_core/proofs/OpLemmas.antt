@@ -1,5 +1,5 @@
 -- What each instruction does, by what it needs.
-use Rattle.std.proofs.Common.{◌≡◌, ◌<◌, ℕ, ◌/◌, ◌%◌, ◌^◌, Bool, true, false, Option, Some, None, refl, sym, ◌∙◌, ap, arith, lit<, mod-lt}
+use Rattle.std.proofs.Common.{◌≡◌, ◌<◌, ℕ, ◌/◌, ◌%◌, ◌^◌, true, false, Some, None, refl, sym, ◌∙◌, ap, arith, lit<, mod-lt}
 use Rattle.std.proofs.lemmas.Bool.Decides.{nat_tests}
 use Rattle.std.proofs.lemmas.Nat.{pow_pos}
 use Rattle.std.proofs.lemmas.Option.{some_pair_parts}
@@ -19,7 +19,7 @@ use Rattle.rv_core.specs.Atomics.{exchanged, combined}
 use Rattle.rv_core.specs.Operations.{size_of, moved}
 use Rattle.rv_core.specs.States.{register, address_of, register_target, branches, retired, result_of, word_after, stores_aligned}
 use Rattle.rv_core.specs.Steps.{is_done, is_whole, is_word, access_of, need_of}
-use Rattle.rv_core.proofs.StepLemmas.{IsPlaced, access_parts, jump_accesses, branch_accesses}
+use Rattle.rv_core.proofs.StepLemmas.{access_parts, jump_accesses, branch_accesses}
 
 -- a store that may be made is aligned
 pub store_aligned : (words : ℕ) (core : Core) (op : Op) → is_done (need_of words core op) ≡ false → stores_aligned core op ≡ true
