@@ -3,5 +3,5 @@ pub mod Phases
 pub mod NextPhases
 pub mod Promises
 pub mod Controllers
-pub mod Copies
+pub mod Counting
 pub mod Example

@@ -12,4 +12,4 @@ pub use laws::{
     fewer_cores_stay_alone, moves_keep_the_invariant, no_core_is_forgotten, one_writer,
     the_example_goes_so,
 };
-pub use whole_messages::{controllers_make_these_moves, copies_keep_what_counts};
+pub use whole_messages::controllers_make_these_moves;

@@ -7,9 +7,6 @@ ghost use Rattle.msi_cache.specs.declared.messages.Request.{Request};
 ghost use Rattle.msi_cache.specs.declared.messages.Response.{Response};
 ghost use Rattle.msi_directory.specs.declared.entry.Entry.{Entry};
 ghost use Rattle.msi_protocol.specs.Controllers.{AsksAsWished, RequestAsMoved, ResponseAsMoved, TakesAsMoved};
-ghost use Rattle.msi_protocol.specs.Copies.{AbsorbingKeeps, Copies, CountedPass, copies_received};
-ghost use Rattle.msi_protocol.specs.NextPhases.{received};
-ghost use Rattle.msi_protocol.specs.Phases.{Phase};
 
 use access_times::Rider;
 
@@ -21,12 +18,4 @@ pub fn controllers_make_these_moves<R: Rider>()
     ensures response { (e : Entry R) (c : ℕ) (response : Response R) → ResponseAsMoved R.riding e c response }
     ensures message { (line : Line R) (m : FromHome R) → TakesAsMoved R.riding line m }
     ensures wish { (state : State) (writes : Bool) → AsksAsWished state writes }
-{}
-
-/// Whatever a copy of the block carries: a test that each copy that counts passes, and that absorbing
-/// keeps, is passed by each copy that counts after the core took its oldest message.
-pub fn copies_keep_what_counts<X>()
-    ensures { (test : X → Bool) (absorbed : X → X → X) → AbsorbingKeeps test absorbed
-        → (p : Phase) (c : Copies X) → CountedPass test p c
-        → CountedPass test (received p) (copies_received absorbed p c) }
 {}

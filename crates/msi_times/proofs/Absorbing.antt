@@ -13,7 +13,7 @@ use Rattle.msi_cache.specs.declared.messages.Request.{Request}
 use Rattle.msi_cache.specs.declared.messages.Response.{Response}
 use Rattle.msi_directory.specs.Blocks.{entry_at}
 use Rattle.msi_directory.specs.declared.entry.Entry.{Entry}
-use Rattle.msi_protocol.specs.Copies.{line_counts, sent_counts, reply_counts}
+use Rattle.msi_protocol.specs.Counting.{line_counts, sent_counts, reply_counts}
 use Rattle.msi_protocol.specs.Phases.{role, role_in, picture}
 use Rattle.msi_progress.proofs.Rested.{core_below, enabled_there}
 use Rattle.msi_sound.proofs.Blocks.{eqb_same}

@@ -9,7 +9,7 @@ use Rattle.msi_cache.specs.Table.{Signal, Ask, Reply}
 use Rattle.msi_protocol.specs.Block.{Wish}
 use Rattle.msi_protocol.specs.Phases.{Phase, role, role_in, picture}
 use Rattle.msi_times.specs.Seats.{Seat, seat_accessed, reads_in, writes_in, FullBlock, seat_if, main, main_of, main_in, main_at, place, count_at, own_count, requested, responded, messaged, wishing, accessing, PhasesFit, HoldersHave, Found, is_main, is_away}
-use Rattle.msi_protocol.specs.Copies.{line_counts}
+use Rattle.msi_protocol.specs.Counting.{line_counts}
 use Rattle.msi_times.specs.History.{NotedAccess, core_of, read_after, last_noted_read, rank, WordTimes, AbsorbsWell, HasNoted, IsPast, read_rank, Exact, IsExactFor, allows, MayAccess}
 use Rattle.rtr_types.specs.Accesses.{is_write}
 use Rattle.msi_times.proofs.Found.{main_core, at_core, found_in, found_request, found_response, found_message, found_wish}

@@ -13,7 +13,7 @@ use Rattle.msi_cache.specs.declared.messages.Response.{Response}
 use Rattle.msi_cache.specs.declared.messages.Request.{Request}
 use Rattle.msi_protocol.specs.Phases.{Phase, role, role_in, picture}
 use Rattle.msi_times.specs.Seats.{Seat, put_counts, main_in, main_of, main_at, place, count_at, own_count, FullBlock, main, is_main}
-use Rattle.msi_protocol.specs.Copies.{line_counts}
+use Rattle.msi_protocol.specs.Counting.{line_counts}
 use Rattle.msi_times.specs.History.{NotedAccess, WordTimes, IsPast, read_rank, rank, last_noted_read, Exact}
 use Rattle.msi_times.specs.Shown.{Payload, Sight, shown}
 use Rattle.msi_times.specs.StandsFor.{TimesParts, slot_times, word_number, StandsFor}

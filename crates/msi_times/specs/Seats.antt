@@ -6,7 +6,7 @@ use Rattle.msi_cache.specs.Table.{Ask, Reply}
 use Rattle.msi_directory.specs.declared.entry.Stage.{Stage}
 use Rattle.msi_directory.specs.declared.entry.Stage.TheVariants.{Shared, Owned, Acks, Data}
 use Rattle.msi_protocol.specs.Block.{Wish, ToEvict, request_step, response_step}
-use Rattle.msi_protocol.specs.Copies.{line_counts, sent_counts, reply_counts}
+use Rattle.msi_protocol.specs.Counting.{line_counts, sent_counts, reply_counts}
 use Rattle.msi_protocol.specs.NextPhases.{after_own, after_other, answered, after_others_response, received, wished}
 use Rattle.msi_protocol.specs.Phases.{OfShared, Role, Out, Owner, Giver, GiveWaiter, role, role_in, StageFits, Phase, Holds, Fills, Upgrades, Puts, Owns, FillsM, UpgradeFills, PutsM, HoldsTold, FillsTold, UpgradesTold, PutsTold, Acked, AckedAsksS, AckedAsksM, AckedPuts, AwaitsAcks, UpgradeAwaitsAcks, OwnsTold, FillsMTold, UpgradeFillsTold, PutsMTold, GaveHolds, GaveUpgrades, GavePuts, GaveAll, GaveAllAsksS, GaveAllAsksM, GaveAllPuts, AwaitsData}
 
