@@ -25,18 +25,14 @@ unfolding has without_core
 has-without_other s c d h k n = rw (bit_at_clear_other set_width s.bits c h d k n)
 
 pub has-none : (s : CoreSet) (d : ℕ) → is_none s ≡ true → has s d ≡ false
-unfolding has is_none
+unfolding has
 has-none s d h = let e : s.bits ≡ 0 = grind (arith, nat_tests) in rw (e, bit_at-zero d)
 
-none-is_none : is_none no_cores ≡ true
-unfolding is_none
-none-is_none = refl
-
 pub has-no_cores : (d : ℕ) → has no_cores d ≡ false
-has-no_cores d = has-none no_cores d none-is_none
+has-no_cores d = has-none no_cores d refl
 
 pub has-some : (s : CoreSet) → IsTrue (is_below s) → is_none s ≡ false → (d : ℕ) × (d < CORES_MAX) × (has s d ≡ true)
-unfolding has is_none is_below
+unfolding has
 has-some s fits h =
     let some : 0 < s.bits = grind (arith, nat_tests) in
     let within : s.bits < 2 ^ CORES_MAX = grind (arith, nat_tests) in
@@ -51,18 +47,17 @@ pub with_nonempty : (s : CoreSet) (c : ℕ) → c < CORES_MAX → is_none (with_
 with_nonempty s c lt = with_nonempty_at s c (is_none (with_core s c)) lt refl
 
 pub no_cores_below : IsTrue (is_below no_cores)
-unfolding is_below
 no_cores_below = grind (arith, nat_tests)
 
 pub with_below : (s : CoreSet) (c : ℕ) → IsTrue (is_below s) → IsTrue (is_below (with_core s c))
-unfolding with_core is_below
+unfolding with_core
 with_below s c fits =
     let within : s.bits < 2 ^ CORES_MAX = grind (arith, nat_tests) in
     let more = or_lt CORES_MAX s.bits (1 * 2 ^ c % 2 ^ CORES_MAX) within (omega arith) in
     grind (arith, nat_tests, more)
 
 pub without_below : (s : CoreSet) (c : ℕ) → IsTrue (is_below s) → IsTrue (is_below (without_core s c))
-unfolding without_core is_below
+unfolding without_core
 without_below s c fits =
     let within : s.bits < 2 ^ CORES_MAX = grind (arith, nat_tests) in
     let less = and_le_l s.bits (bit_not set_width (1 * 2 ^ c % 2 ^ CORES_MAX)) in

@@ -25,9 +25,9 @@ unfoldable pub without_core : CoreSet → ℕ → CoreSet
 without_core s c = record { bits = bit_and s.bits (bit_not set_width (1 * 2 ^ c % 2 ^ CORES_MAX)) }
 
 -- no core is in the set
-unfoldable pub is_none : CoreSet → Bool
+abbrev pub is_none : CoreSet → Bool
 is_none s = s.bits == 0
 
 -- all cores of the set are below the greatest number of cores, which every set that the code holds meets
-unfoldable pub is_below : CoreSet → Bool
+abbrev pub is_below : CoreSet → Bool
 is_below s = nat_lt s.bits (2 ^ CORES_MAX)
