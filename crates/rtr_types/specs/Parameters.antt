@@ -1,7 +1,7 @@
 -- The ranges of a run's parameters.
 use Rattle.std.specs.Prelude.{◌≡◌, ◌≤◌, ◌%◌}
 use Rattle.rtr_types.specs.declared.params.Params.{Params}
-use Rattle.rtr_types.specs.declared.TheConstants.{CORES_MAX}
+use Rattle.rtr_types.specs.declared.TheConstants.{BLOCK_WORDS, CORES_MAX}
 use Rattle.rtr_types.specs.declared.params.TheConstants.{LIMIT_MAX, WORDS_MIN, WORDS_MAX}
 
 -- the parameters lie in their ranges
@@ -12,4 +12,4 @@ pub record Fits (p : Params) : Type 0 where
   pub limit : p.limit ≤ LIMIT_MAX
   pub some_block : WORDS_MIN ≤ p.words
   pub words : p.words ≤ WORDS_MAX
-  pub whole_blocks : p.words % 4 ≡ 0
+  pub whole_blocks : p.words % BLOCK_WORDS ≡ 0

@@ -16,7 +16,7 @@ pub use cut::Cut;
 pub use instr::{Edge, Instr};
 pub use items::Items;
 pub use pairs::{Which, pair_at, pair_count, pair_laws, pair_of};
-pub use params::{LIMIT_MAX, Params, WORDS_MAX, WORDS_MIN};
+pub use params::{LIMIT_MAX, Params, WORDS_MAX, WORDS_MIN, sizes_law};
 
 /// The greatest number of cores of a machine. Every array, capacity and inline size that counts
 /// cores is written with it.

@@ -1,8 +1,9 @@
 //! The parameters of a run.
-ghost use Rattle.std.specs.Prelude.{◌↔◌, IsTrue};
+ghost use Rattle.std.specs.Prelude.{◌≡◌, ◌↔◌, IsTrue};
 ghost use Rattle.rtr_types.specs.Parameters.{Fits};
+ghost use Rattle.rtr_types.specs.Sizes.{block_words, cores_max, limit_max, words_max, words_min};
 
-use crate::CORES_MAX;
+use crate::{BLOCK_WORDS, CORES_MAX};
 
 /// The greatest number of instructions that one core may be given.
 pub const LIMIT_MAX: u32 = 100_000;
@@ -29,7 +30,17 @@ impl Params {
     {
         let cores = 1 <= self.cores && self.cores <= CORES_MAX;
         let limit = 1 <= self.limit && self.limit <= LIMIT_MAX;
-        let words = WORDS_MIN <= self.words && self.words <= WORDS_MAX && self.words % 4 == 0;
+        let blocks = self.words as usize % BLOCK_WORDS == 0;
+        let words = WORDS_MIN <= self.words && self.words <= WORDS_MAX && blocks;
         cores && limit && words
     }
 }
+
+/// The sizes as numbers: what the constants are that every layer cites.
+pub fn sizes_law()
+    ensures cores { CORES_MAX ≡ cores_max }
+    ensures limit { LIMIT_MAX ≡ limit_max }
+    ensures words { WORDS_MIN ≡ words_min }
+    ensures most_words { WORDS_MAX ≡ words_max }
+    ensures block { BLOCK_WORDS ≡ block_words }
+{}

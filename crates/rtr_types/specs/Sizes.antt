@@ -1,0 +1,22 @@
+-- The sizes that users and formats see, as numbers. `sizes_law` ties the code's constants, which all definitions cite, to
+-- these.
+use Rattle.std.specs.Prelude.{ℕ}
+
+-- the greatest number of cores of a machine, and so of places of a link from or to the home
+abbrev pub cores_max : ℕ
+cores_max = 8
+
+-- the greatest number of instructions that a core may be given
+abbrev pub limit_max : ℕ
+limit_max = 100000
+
+-- the words of the smallest memory and of the largest
+abbrev pub words_min : ℕ
+words_min = 4
+
+abbrev pub words_max : ℕ
+words_max = 262144
+
+-- the words of a block, of which a memory has whole ones
+abbrev pub block_words : ℕ
+block_words = 4
