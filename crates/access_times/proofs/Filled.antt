@@ -10,7 +10,7 @@ use Rattle.clock_core.specs.declared.clock.Clock.{Clock}
 use Rattle.rtr_types.specs.declared.TheConstants.{BLOCK_WORDS, CORES_MAX}
 use Rattle.access_times.specs.declared.times.SlotTimes.{SlotTimes}
 use Rattle.access_times.specs.declared.times.Times.{Times}
-use Rattle.access_times.specs.Times.{newer_read, read_in, no_reads, slot_loaded, times_loaded, times_stored, reads_absorbed, slot_absorbed, is_same_write, slot_at, missing_slot, times_absorbed}
+use Rattle.access_times.specs.Times.{newer_read, read_in, read_noted, no_reads, slot_loaded, slot_stored, slot_set, times_loaded, times_stored, reads_absorbed, slot_absorbed, is_same_write, slot_at, missing_slot, times_absorbed}
 
 pub reads_filled : (a b reads : List (Option (ℕ × Clock))) (core : ℕ) → length reads ≡ CORES_MAX → CORES_MAX ≤ core → ((k : ℕ) → k < core → read_in reads k ≡ newer_read (read_in a k) (read_in b k)) → reads ≡ reads_absorbed a b
 unfolding reads_absorbed
@@ -25,8 +25,9 @@ slot_filled a b x same w e = by (is_same_write a.write b.write) same
         ∙ ap (λ (v : Option (Instr × Clock)). (let s : SlotTimes = record { write = v; reads = reads_absorbed a.reads b.reads } in s)) w
     by false f = absurd cc
 
-pub slot_stored : (at : Instr) (clock : Clock) (x : SlotTimes) (core : ℕ) → x.write ≡ Some (at, clock) → length x.reads ≡ CORES_MAX → CORES_MAX ≤ core → ((k : ℕ) → k < core → read_in x.reads k ≡ None) → ◌≡◌ {A = SlotTimes} x (record { write = Some (at, clock); reads = no_reads })
-slot_stored at clock x core w long end done =
+pub stored_filled : (at : Instr) (clock : Clock) (x : SlotTimes) (core : ℕ) → x.write ≡ Some (at, clock) → length x.reads ≡ CORES_MAX → CORES_MAX ≤ core
+    → ((k : ℕ) → k < core → read_in x.reads k ≡ None) → x ≡ slot_stored at clock
+stored_filled at clock x core w long end done =
     ap (λ (r : List (Option (ℕ × Clock))). (let s : SlotTimes = record { write = x.write; reads = r } in s)) (fill_by_all (λ k. None) x.reads CORES_MAX None long (λ k lt. done k (omega arith)))
     ∙ ap (λ (v : Option (Instr × Clock)). (let s : SlotTimes = record { write = v; reads = no_reads } in s)) w
 
@@ -44,16 +45,20 @@ pub read_set : (a : SlotTimes) (at : Instr) (clock : Clock) → length a.reads �
 unfolding slot_loaded
 read_set a at clock long lt =
     ap (λ (r : List (Option (ℕ × Clock))). (let s : SlotTimes = record { write = a.write; reads = r } in s))
-    (set_filled a.reads CORES_MAX at.core (Some (at.count, clock)) None (λ core. if core == at.core then Some (at.count, clock) else read_in a.reads core) long lt (grind (arith, nat_tests)) (λ k other. grind (arith, nat_tests)))
+    (set_filled a.reads CORES_MAX at.core (Some (at.count, clock)) None (λ core. read_noted a at clock core) long lt (grind (arith, nat_tests))
+    (λ k other. grind (arith, nat_tests)))
 
 pub load_set : (t : Times) (slot : ℕ) (at : Instr) (clock : Clock) (x : SlotTimes) → length t.slots ≡ BLOCK_WORDS → slot < BLOCK_WORDS → x ≡ slot_loaded (slot_at t slot) at clock → ◌≡◌ {A = Times} (record { slots = slice_set t.slots slot x }) (times_loaded t slot at clock)
 unfolding times_loaded
 load_set t slot at clock x long lt e =
     ap (λ (y : List SlotTimes). (let u : Times = record { slots = y } in u))
-    (set_filled t.slots BLOCK_WORDS slot x missing_slot (λ k. if k == slot then slot_loaded (slot_at t k) at clock else slot_at t k) long lt (grind (arith, nat_tests)) (λ k other. grind (arith, nat_tests)))
+    (set_filled t.slots BLOCK_WORDS slot x missing_slot (λ k. slot_set t slot (λ a. slot_loaded a at clock) k) long lt (grind (arith, nat_tests))
+    (λ k other. grind (arith, nat_tests)))
 
-pub store_set : (t : Times) (slot : ℕ) (at : Instr) (clock : Clock) (x : SlotTimes) → length t.slots ≡ BLOCK_WORDS → slot < BLOCK_WORDS → x ≡ record { write = Some (at, clock); reads = no_reads } → ◌≡◌ {A = Times} (record { slots = slice_set t.slots slot x }) (times_stored t slot at clock)
+pub store_set : (t : Times) (slot : ℕ) (at : Instr) (clock : Clock) (x : SlotTimes) → length t.slots ≡ BLOCK_WORDS → slot < BLOCK_WORDS
+    → x ≡ slot_stored at clock → ◌≡◌ {A = Times} (record { slots = slice_set t.slots slot x }) (times_stored t slot at clock)
 unfolding times_stored
 store_set t slot at clock x long lt e =
     ap (λ (y : List SlotTimes). (let u : Times = record { slots = y } in u))
-    (set_filled t.slots BLOCK_WORDS slot x missing_slot (λ k. if k == slot then record { write = Some (at, clock); reads = no_reads } else slot_at t k) long lt (grind (arith, nat_tests)) (λ k other. grind (arith, nat_tests)))
+    (set_filled t.slots BLOCK_WORDS slot x missing_slot (λ k. slot_set t slot (λ a. slot_stored at clock) k) long lt (grind (arith, nat_tests))
+    (λ k other. grind (arith, nat_tests)))

@@ -1,12 +1,13 @@
 -- The times of a block's words, as values. Each is written from its places, so that its laws hold of values of any
 -- length.
-use Rattle.std.specs.Prelude.{ℕ, ◌==◌, ◌%◌, nat_lt, Bool, true, false, ◌&&◌, Option, Some, None, List, [], slice_index_or, replicate, map, if◌then◌else◌}
+use Rattle.std.specs.Prelude.{ℕ, ◌==◌, ◌%◌, nat_lt, Bool, true, false, ◌&&◌, Option, Some, None, List, []}
+use Rattle.std.specs.Prelude.{slice_index_or, replicate, map, if◌then◌else◌}
 use Rattle.std.specs.List.{range_with_len}
 use Rattle.std.specs.Str.{bytes_eq}
 use Rattle.rtr_types.specs.declared.instr.Instr.{Instr}
 use Rattle.rtr_types.specs.declared.access.Access.{Access}
 use Rattle.rtr_types.specs.declared.access.Kind.{Kind}
-use Rattle.rtr_types.specs.declared.access.Kind.TheVariants.{Load}
+use Rattle.rtr_types.specs.Accesses.{is_write}
 use Rattle.clock_core.specs.declared.clock.Clock.{Clock}
 use Rattle.rtr_types.specs.declared.TheConstants.{BLOCK_WORDS, CORES_MAX}
 use Rattle.access_times.specs.declared.times.SlotTimes.{SlotTimes}
@@ -52,7 +53,8 @@ abbrev pub slot_at : Times → ℕ → SlotTimes
 slot_at t slot = slice_index_or t.slots slot missing_slot
 
 unfoldable pub times_absorbed : Times → Times → Times
-times_absorbed a b = record { slots = map (λ slot. slot_absorbed (slot_at a slot) (slot_at b slot)) (range_with_len 0 BLOCK_WORDS) }
+times_absorbed a b =
+    record { slots = map (λ slot. slot_absorbed (slot_at a slot) (slot_at b slot)) (range_with_len 0 BLOCK_WORDS) }
 
 unfoldable pub fresh_times : Times
 fresh_times = record { slots = replicate BLOCK_WORDS no_times }
@@ -68,29 +70,36 @@ write_at t slot = (slot_at t slot).write
 abbrev pub read_at : Times → ℕ → ℕ → Option (ℕ × Clock)
 read_at t slot core = read_in (slot_at t slot).reads core
 
+-- the core's read is its newest
+abbrev pub read_noted : SlotTimes → Instr → Clock → ℕ → Option (ℕ × Clock)
+read_noted a at clock core = if core == at.core then Some (at.count, clock) else read_in a.reads core
+
 unfoldable pub slot_loaded : SlotTimes → Instr → Clock → SlotTimes
 slot_loaded a at clock =
-    record {
-      write = a.write;
-      reads = map (λ core. if core == at.core then Some (at.count, clock) else read_in a.reads core) (range_with_len 0 CORES_MAX);
-    }
+    record { write = a.write; reads = map (λ core. read_noted a at clock core) (range_with_len 0 CORES_MAX) }
 
--- a load of the slot's word is noted
+-- a slot's times are others, and the rest are as they were
+abbrev pub slot_set : Times → ℕ → (SlotTimes → SlotTimes) → ℕ → SlotTimes
+slot_set t slot f k = if k == slot then f (slot_at t k) else slot_at t k
+
+-- a read of the slot's word is noted
 unfoldable pub times_loaded : Times → ℕ → Instr → Clock → Times
 times_loaded t slot at clock =
-    record { slots = map (λ k. if k == slot then slot_loaded (slot_at t k) at clock else slot_at t k) (range_with_len 0 BLOCK_WORDS) }
+    record { slots = map (λ k. slot_set t slot (λ a. slot_loaded a at clock) k) (range_with_len 0 BLOCK_WORDS) }
+
+-- the times of a write that is the last access
+abbrev pub slot_stored : Instr → Clock → SlotTimes
+slot_stored at clock = record { write = Some (at, clock); reads = no_reads }
 
 -- a write of the slot's word is noted, and its reads are forgotten
 unfoldable pub times_stored : Times → ℕ → Instr → Clock → Times
 times_stored t slot at clock =
-    record {
-      slots = map (λ k. if k == slot then record { write = Some (at, clock); reads = no_reads } else slot_at t k) (range_with_len 0 BLOCK_WORDS);
-    }
+    record { slots = map (λ k. slot_set t slot (λ a. slot_stored at clock) k) (range_with_len 0 BLOCK_WORDS) }
 
--- an access of the kind is noted: one that only reads is a load, every other counts as a write
+-- an access of the kind is noted: one that writes as a write, whether it reads or not, and any other as a read
 abbrev pub times_noted_as : Kind → Times → ℕ → Instr → Clock → Times
-times_noted_as Load = times_loaded
-times_noted_as _ = times_stored
+times_noted_as kind t slot at clock =
+    if is_write kind then times_stored t slot at clock else times_loaded t slot at clock
 
 -- the access is noted in its word's slot, with the clock
 abbrev pub times_noted : Access → Times → Clock → Times

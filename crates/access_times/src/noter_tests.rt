@@ -36,9 +36,10 @@ impl<K: Carry> Clerk<Times, K> for Noter {
         let mut clock = Clock::zero();
         clock.set(at.core, self.counts[at.core as usize]);
         let slot = (access.word % 4) as u8;
-        match access.kind {
-            Kind::Load => rider.on_load(slot, at, clock),
-            Kind::Store => rider.on_store(slot, at, clock),
+        if access.kind.is_write() {
+            rider.on_store(slot, at, clock);
+        } else {
+            rider.on_load(slot, at, clock);
         }
     }
 }
@@ -50,11 +51,13 @@ impl<K: Carry> TimesClerk<K> for Noter {
 
     ghost local_keeps = { λ c d at k told core other.
         ap (λ (n : Noter). slice_set no_counts core (slice_index n.counts core)) told
-        ∙ ap (λ (count : ℕ). slice_set no_counts core count) (get_or-set_other c.counts at.core core at.count 0 other) };
+        ∙ ap (λ (count : ℕ). slice_set no_counts core count)
+        (get_or-set_other c.counts at.core core at.count 0 other) };
 
     ghost touch_keeps = { λ c d before after a k told core other.
         ap (λ (n : Noter). slice_set no_counts core (slice_index n.counts core)) told.0
-        ∙ ap (λ (count : ℕ). slice_set no_counts core count) (get_or-set_other c.counts a.at.core core a.at.count 0 other) };
+        ∙ ap (λ (count : ℕ). slice_set no_counts core count)
+        (get_or-set_other c.counts a.at.core core a.at.count 0 other) };
 
     ghost touch_notes = { λ c d before after a k told. told.1 };
 }

@@ -12,7 +12,10 @@ struct Absorbed {
 }
 
 impl Rider for Absorbed {
-    ghost riding = { record { fresh = record { riders = 0 }; absorbed = λ a b. record { riders = ((a.riders + b.riders) % 2 ^ 32 + 1) % 2 ^ 32 } } };
+    ghost riding = { record {
+      fresh = record { riders = 0 };
+      absorbed = λ a b. record { riders = ((a.riders + b.riders) % 2 ^ 32 + 1) % 2 ^ 32 };
+    } };
 
     fn fresh() -> Self {
         Absorbed { riders: 0 }

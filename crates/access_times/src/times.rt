@@ -1,7 +1,8 @@
 //! The rider that records when the words of its block were accessed.
 ghost use Rattle.std.specs.Prelude.{◌≡◌, ℕ, ◌<◌, if◌then◌else◌};
 ghost use Rattle.rtr_types.specs.declared.TheConstants.{BLOCK_WORDS, CORES_MAX};
-ghost use Rattle.access_times.specs.Times.{is_same_write, newer_read, no_reads, read_at, read_in, slot_absorbed, slot_loaded, times_loaded, times_stored, write_at};
+ghost use Rattle.access_times.specs.Times.{is_same_write, newer_read, read_at, read_in, slot_absorbed, slot_loaded};
+ghost use Rattle.access_times.specs.Times.{slot_stored, times_loaded, times_stored, write_at};
 
 use crate::rider::Rider;
 use clock_core::Clock;
@@ -11,7 +12,7 @@ use rtr_types::{BLOCK_WORDS, CORES_MAX, Instr};
 const PLACES: usize = CORES_MAX as usize;
 
 /// The times of one word: its last write, and each core's last read since that write, each with the
-/// clock that was noted for it.
+/// clock that was noted for it. An access that reads and writes is a write here.
 #[derive(Clone, Copy, Debug)]
 struct SlotTimes {
     write: Option<(Instr, Clock)>,
@@ -89,7 +90,7 @@ impl SlotTimes {
 
     /// Notes the write, and forgets the reads.
     fn on_store(&mut self, at: Instr, clock: Clock)
-        ensures { self.new ≡ record { write = Some (at, clock); reads = no_reads } }
+        ensures { self.new ≡ slot_stored at clock }
     {
         self.write = Some((at, clock));
         for core in 0..PLACES {
@@ -153,7 +154,7 @@ impl Times {
         self.slots[slot as usize].last_read(core)
     }
 
-    /// Notes the read.
+    /// Notes the read, which doesn't write.
     pub fn on_load(&mut self, slot: u8, at: Instr, clock: Clock)
         requires slot { slot < BLOCK_WORDS }
         requires core { at.core < CORES_MAX }
@@ -162,7 +163,7 @@ impl Times {
         self.slots[slot as usize].on_load(at, clock);
     }
 
-    /// Notes the write, and forgets the reads of the slot's word.
+    /// Notes the write, which may read too, and forgets the reads of the slot's word.
     pub fn on_store(&mut self, slot: u8, at: Instr, clock: Clock)
         requires { slot < BLOCK_WORDS }
         ensures { self.new ≡ times_stored self.old slot at clock }

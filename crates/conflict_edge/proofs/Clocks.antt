@@ -1,10 +1,12 @@
 -- The clock is reachability.
 use Rattle.std.proofs.Common.{◌≡◌, ℕ, zero, suc, ◌<◌, ◌≤◌, ◌⊎◌, List, [], ◌∷◌, refl, sym, ◌∙◌, ap, subst, inl, inr, arith, true, false, nat_eq, max}
+use Rattle.std.proofs.Math.Nat.{eq-or-lt_of_le}
+use Rattle.std.proofs.lemmas.Bool.{cases_Bool, cases_lt}
 use Rattle.std.proofs.lemmas.Bool.Decides.{nat_tests}
 use Rattle.clock_core.proofs.Paths.{joined, one, instr_eq}
 use Rattle.clock_core.specs.Order.{Relation, Step, Path, Before}
 use Rattle.conflict_edge.proofs.Ranks.{no_cycle}
-use Rattle.conflict_edge.proofs.History.{Pair, Rising, reaches-true, reaches-false, reaches-yes, reaches-no, do_conflict-true, do_conflict-yes, cases, ends, older}
+use Rattle.conflict_edge.proofs.History.{Pair, Rising, reaches-true, reaches-false, reaches-yes, reaches-no, do_conflict-true, do_conflict-yes, ends, older}
 use Rattle.conflict_edge.specs.Clocks.{reaches, greatest, clock}
 use Rattle.conflict_edge.specs.Conflicts.{Conflicts, do_conflict, StandsIn}
 use Rattle.rtr_types.specs.declared.access.Access.{Access}
@@ -28,7 +30,7 @@ greatest-le f a (d ∷ h) b (inl e) c =
     let same : f d ≡ f b = ap f e in
     rw yes (omega arith)
 greatest-le f a (d ∷ h) b (inr stands) c =
-    elim (cases (do_conflict d a)) [
+    elim (cases_Bool (do_conflict d a)) [
       | inl e ↦ rw e (omega (arith, greatest-le f a h b stands c))
       | inr e ↦ rw e (greatest-le f a h b stands c)
     ]
@@ -38,7 +40,7 @@ pub greatest-is : (f : Access → ℕ) (a : Access) (h : List Access) (n : ℕ) 
 unfolding greatest
 greatest-is f a [] n pos le = absurd (omega arith)
 greatest-is f a (d ∷ h) n pos le =
-    elim (cases (do_conflict d a)) [
+    elim (cases_Bool (do_conflict d a)) [
       | inl e ↦
           let le' : n ≤ max (f d) (greatest f a h) = rw e at le in
           elim (split n (f d) (greatest f a h) le') [
@@ -58,7 +60,7 @@ pub clock-own : (h : List Access) (y : Instr) → y.count ≤ clock h y y.core
 unfolding clock
 clock-own [] y = let e : nat_eq y.core y.core ≡ true = grind (arith, nat_tests) in rw e (omega arith)
 clock-own (a ∷ h) y =
-    elim (cases (reaches a y)) [
+    elim (cases_Bool (reaches a y)) [
       | inl e ↦ omega (arith, clock-newest a h y y.core e, clock-own h y)
       | inr e ↦ omega (arith, clock-older a h y y.core e, clock-own h y)
     ]
@@ -67,13 +69,13 @@ clock-own (a ∷ h) y =
 pub clock-program : (h : List Access) (x y : Instr) (i : ℕ) → x.core ≡ y.core → x.count ≤ y.count → clock h x i ≤ clock h y i
 unfolding clock
 clock-program [] x y i p q =
-    elim (cases (nat_eq y.core i)) [
+    elim (cases_Bool (nat_eq y.core i)) [
       | inl e ↦ let d : nat_eq x.core i ≡ true = subst (λ (c : ℕ). nat_eq c i ≡ true) (sym p) e in rw (e, d) q
       | inr e ↦ let d : nat_eq x.core i ≡ false = subst (λ (c : ℕ). nat_eq c i ≡ false) (sym p) e in rw (e, d) (omega arith)
     ]
 clock-program (a ∷ h) x y i p q =
-    elim (cases (reaches a y)) [
-      | inl e ↦ elim (cases (reaches a x)) [
+    elim (cases_Bool (reaches a y)) [
+      | inl e ↦ elim (cases_Bool (reaches a x)) [
         | inl d ↦ omega (arith, clock-newest a h y i e, clock-newest a h x i d, clock-program h x y i p q)
         | inr d ↦ omega (arith, clock-newest a h y i e, clock-older a h x i d, clock-program h x y i p q)
       ]
@@ -135,33 +137,27 @@ through a h x b stands c (inr p) = joined (Pair (a ∷ h)) x b.at a.at (widen a 
 
 -- along a core from a to y
 onwards : (a : Access) (h : List Access) (x y : Instr) → (a.at.core ≡ y.core) × (a.at.count ≤ y.count) → Before (Pair (a ∷ h)) x a.at → Before (Pair (a ∷ h)) x y
-onwards a h x y r p = elim (order a.at.count y.count r.1) [
+onwards a h x y r p = elim (eq-or-lt_of_le r.1) [
   | inl e ↦ subst (λ (z : Instr). Before (Pair (a ∷ h)) x z) (instr_eq a.at y r.0 e) p
   | inr lt ↦ joined (Pair (a ∷ h)) x a.at y p (one (Pair (a ∷ h)) a.at y (inl (r.0, lt)))
 ]
-  where
-    order : (m n : ℕ) → m ≤ n → (m ≡ n) ⊎ (m < n)
-    order m n h = grind arith
 
 -- what is in the clock of y is y or leads to it
 pub clock-up_to : (h : List Access) (x y : Instr) → 1 ≤ x.count → x.count ≤ clock h y x.core → UpTo h x y
 unfolding clock
 clock-up_to [] x y pos le =
-    elim (cases (nat_eq y.core x.core)) [
+    elim (cases_Bool (nat_eq y.core x.core)) [
       | inl e ↦
           let same : y.core ≡ x.core = grind (arith, nat_tests) in
           let le' : x.count ≤ y.count = rw e at le in
-          elim (order x.count y.count le') [
+          elim (eq-or-lt_of_le le') [
             | inl d ↦ inl (instr_eq x y (sym same) d)
             | inr lt ↦ inr (one (Pair []) x y (inl (sym same, lt)))
           ]
       | inr e ↦ let le' : x.count ≤ 0 = rw e at le in absurd (omega arith)
     ]
-  where
-    order : (m n : ℕ) → m ≤ n → (m ≡ n) ⊎ (m < n)
-    order m n h = grind arith
 clock-up_to (a ∷ h) x y pos le =
-    elim (cases (reaches a y)) [
+    elim (cases_Bool (reaches a y)) [
       | inl e ↦
           let le' : x.count ≤ max (clock h y x.core) (greatest (λ b. clock h b.at x.core) a h) = rw e at le in
           elim (split x.count (clock h y x.core) (greatest (λ b. clock h b.at x.core) a h) le') [
@@ -176,12 +172,9 @@ clock-up_to (a ∷ h) x y pos le =
     split : (n x y : ℕ) → n ≤ max x y → (n ≤ x) ⊎ (n ≤ y)
     split n x y h = grind arith
 
-le_or_lt : (m n : ℕ) → (m ≤ n) ⊎ (n < m)
-le_or_lt m n = grind arith
-
 -- at its own place the clock of y has the count of y
 pub own_clock : (h : List Access) (y : Instr) → Rising h → clock h y y.core ≡ y.count
-own_clock h y rising = by (le_or_lt (clock h y y.core) y.count)
+own_clock h y rising = by (cases_lt y.count (clock h y y.core))
   where
     x : Instr
     x = record { core = y.core; count = clock h y y.core }
@@ -190,6 +183,6 @@ own_clock h y rising = by (le_or_lt (clock h y y.core) y.count)
     no lt (inl e) = let f : clock h y y.core ≡ y.count = ap (λ (v : Instr). v.count) e in omega arith
     no lt (inr p) = no_cycle h rising y (joined (Pair h) y x y (one (Pair h) y x (inl (refl, lt))) p)
 
-    by : (clock h y y.core ≤ y.count) ⊎ (y.count < clock h y y.core) → clock h y y.core ≡ y.count
-    by (inl le) = omega (arith, clock-own h y)
-    by (inr lt) = absurd (no lt (clock-up_to h x y (omega arith) (omega arith)))
+    by : (y.count < clock h y y.core) ⊎ (clock h y y.core ≤ y.count) → clock h y y.core ≡ y.count
+    by (inr le) = omega (arith, clock-own h y)
+    by (inl lt) = absurd (no lt (clock-up_to h x y (omega arith) (omega arith)))

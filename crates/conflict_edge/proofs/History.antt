@@ -1,5 +1,6 @@
 -- A list of accesses, the newest first.
 use Rattle.std.proofs.Common.{◌≡◌, ◌≢◌, ◌<◌, ◌≤◌, ◌⊎◌, List, [], ◌∷◌, refl, sym, ◌∙◌, ap, subst, inl, inr, arith, true, false, Bool, nat_eq, ◌&&◌, ◌||◌, not}
+use Rattle.std.proofs.lemmas.Bool.{and_parts, or_cases}
 use Rattle.std.specs.Prelude.{⊤}
 use Rattle.std.proofs.lemmas.Bool.Decides.{nat_tests}
 use Rattle.clock_core.specs.Order.{Relation}
@@ -34,10 +35,6 @@ reaches-yes a y p q = grind (arith, nat_tests)
 pub reaches-no : (a : Access) (y : Instr) → (a.at.core ≡ y.core → y.count < a.at.count) → reaches a y ≡ false
 reaches-no a y f = grind (arith, nat_tests)
 
-pub cases : (b : Bool) → (b ≡ true) ⊎ (b ≡ false)
-cases true = inl refl
-cases false = inr refl
-
 -- the ends of a pair
 pub record Ends (h : List Access) (x y : Instr) : Type 0 where
   pub first : Access
@@ -64,21 +61,13 @@ pair_cores h x y p =
     let e = ends h x y p in
     λ same. e.conflict.0 (ap (λ (z : Instr). z.core) e.first_at ∙ same ∙ sym (ap (λ (z : Instr). z.core) e.second_at))
 
-pub and_true : (a b : Bool) → a && b ≡ true → (a ≡ true) × (b ≡ true)
-and_true true b e = (refl, e)
-and_true false b e = absurd cc
-
-pub or_true : (a b : Bool) → a || b ≡ true → (a ≡ true) ⊎ (b ≡ true)
-or_true true b e = inl refl
-or_true false b e = inr e
-
 pub do_conflict-true : (a b : Access) → do_conflict a b ≡ true → Conflicts a b
 do_conflict-true a b e =
-    let p = and_true (not (nat_eq a.at.core b.at.core)) (nat_eq a.word b.word && (is_write a.kind || is_write b.kind)) e in
-    let q = and_true (nat_eq a.word b.word) (is_write a.kind || is_write b.kind) p.1 in
+    let p = and_parts (not (nat_eq a.at.core b.at.core)) (nat_eq a.word b.word && (is_write a.kind || is_write b.kind)) e in
+    let q = and_parts (nat_eq a.word b.word) (is_write a.kind || is_write b.kind) p.1 in
     let cores : not (nat_eq a.at.core b.at.core) ≡ true = p.0 in
     let words : nat_eq a.word b.word ≡ true = q.0 in
-    (grind (arith, nat_tests), grind (arith, nat_tests), or_true (is_write a.kind) (is_write b.kind) q.1)
+    (grind (arith, nat_tests), grind (arith, nat_tests), or_cases (is_write a.kind) (is_write b.kind) q.1)
 
 or_from : (a b : Bool) → (a ≡ true) ⊎ (b ≡ true) → a || b ≡ true
 or_from true b _ = refl

@@ -1,9 +1,10 @@
 -- The pairs that the clocks keep are the covering pairs, and they suffice.
 use Rattle.std.proofs.Common.{◌≡◌, ◌≢◌, ℕ, zero, suc, ◌+◌, ◌<◌, ◌≤◌, ◌⊎◌, List, [], ◌∷◌, refl, sym, ◌∙◌, ap, subst, inl, inr, arith, true, false}
+use Rattle.std.proofs.lemmas.Bool.{cases_Bool, cases_lt}
 use Rattle.clock_core.proofs.Paths.{joined, one, last_at}
 use Rattle.clock_core.specs.Order.{Relation, Within, ProgramOrder, Step, Path, Before, previous}
 use Rattle.conflict_edge.proofs.Clocks.{clock-before, clock-up_to, clock-program, UpTo}
-use Rattle.conflict_edge.proofs.History.{Source, Pair, Rising, cases, Ends, ends, pair_cores, do_conflict-true, do_conflict-yes}
+use Rattle.conflict_edge.proofs.History.{Source, Pair, Rising, Ends, ends, pair_cores, do_conflict-true, do_conflict-yes}
 use Rattle.conflict_edge.proofs.Independent.{cases_instr}
 use Rattle.conflict_edge.proofs.Ranks.{rank, goes, no_cycle, rank-before, rank-pair}
 use Rattle.conflict_edge.specs.Clocks.{clock}
@@ -28,7 +29,7 @@ Blocked h x y = (x.count ≤ clock h (previous y) x.core) ⊎ ((z : Instr) × Pa
 
 decide_source : (P : Instr → Type 0) → ((z : Instr) → P z ⊎ (P z → ⊥)) → (h : List Access) (a : Access) → ((z : Instr) × Source h a z × P z) ⊎ ((z : Instr) → Source h a z → P z → ⊥)
 decide_source P test [] a = inr (λ z s _. s.1)
-decide_source P test (b ∷ h) a = pick (cases (do_conflict b a)) (test b.at) (decide_source P test h a)
+decide_source P test (b ∷ h) a = pick (cases_Bool (do_conflict b a)) (test b.at) (decide_source P test h a)
   where
     pick : (do_conflict b a ≡ true) ⊎ (do_conflict b a ≡ false) → P b.at ⊎ (P b.at → ⊥) → ((z : Instr) × Source h a z × P z) ⊎ ((z : Instr) → Source h a z → P z → ⊥) → ((z : Instr) × Source (b ∷ h) a z × P z) ⊎ ((z : Instr) → Source (b ∷ h) a z → P z → ⊥)
     pick _ _ (inl r) = inl (r.0, (r.1.0, inr r.1.1, r.1.2, r.1.3), r.2)
@@ -67,28 +68,25 @@ pub record Blocks (h : List Access) (x z : Instr) : Type 0 where
   pub other : z ≢ x
   pub reached : x.count ≤ clock h z x.core
 
-order : (m n : ℕ) → (m ≤ n) ⊎ (n < m)
-order m n = grind arith
-
 test_blocks : (h : List Access) (x z : Instr) → Blocks h x z ⊎ (Blocks h x z → ⊥)
-test_blocks h x z = by (cases_instr z x) (order x.count (clock h z x.core))
+test_blocks h x z = by (cases_instr z x) (cases_lt (clock h z x.core) x.count)
   where
-    by : (z ≡ x) ⊎ (z ≢ x) → (x.count ≤ clock h z x.core) ⊎ (clock h z x.core < x.count) → Blocks h x z ⊎ (Blocks h x z → ⊥)
+    by : (z ≡ x) ⊎ (z ≢ x) → (clock h z x.core < x.count) ⊎ (x.count ≤ clock h z x.core) → Blocks h x z ⊎ (Blocks h x z → ⊥)
     by (inl e) _ = inr (λ q. q.other e)
-    by (inr d) (inl le) = inl (record { other = d; reached = le })
-    by (inr d) (inr lt) = inr (λ q. let le = q.reached in omega arith)
+    by (inr d) (inr le) = inl (record { other = d; reached = le })
+    by (inr d) (inl lt) = inr (λ q. let le = q.reached in omega arith)
 
 pub kept_or_blocked : (h : List Access) (x y : Instr) → Pair h x y → Kept h x y ⊎ Blocked h x y
-kept_or_blocked h x y p = pick (order x.count (clock h (previous y) x.core)) (decide_pair (Blocks h x) (test_blocks h x) h y)
+kept_or_blocked h x y p = pick (cases_lt (clock h (previous y) x.core) x.count) (decide_pair (Blocks h x) (test_blocks h x) h y)
   where
-    lt_of : (z : Instr) → (x.count ≤ clock h z x.core) ⊎ (clock h z x.core < x.count) → (x.count ≤ clock h z x.core → ⊥) → clock h z x.core < x.count
-    lt_of z (inl le) f = absurd (f le)
-    lt_of z (inr lt) f = lt
+    lt_of : (z : Instr) → (clock h z x.core < x.count) ⊎ (x.count ≤ clock h z x.core) → (x.count ≤ clock h z x.core → ⊥) → clock h z x.core < x.count
+    lt_of z (inr le) f = absurd (f le)
+    lt_of z (inl lt) f = lt
 
-    pick : (x.count ≤ clock h (previous y) x.core) ⊎ (clock h (previous y) x.core < x.count) → ((z : Instr) × Pair h z y × Blocks h x z) ⊎ ((z : Instr) → Pair h z y → Blocks h x z → ⊥) → Kept h x y ⊎ Blocked h x y
-    pick (inl le) _ = inr (inl le)
-    pick (inr lt) (inl r) = inr (inr (r.0, r.1, r.2.other, r.2.reached))
-    pick (inr lt) (inr f) = inl (record { pair = p; own = lt; others = λ z s d. lt_of z (order x.count (clock h z x.core)) (λ le. f z s (record { other = d; reached = le })) })
+    pick : (clock h (previous y) x.core < x.count) ⊎ (x.count ≤ clock h (previous y) x.core) → ((z : Instr) × Pair h z y × Blocks h x z) ⊎ ((z : Instr) → Pair h z y → Blocks h x z → ⊥) → Kept h x y ⊎ Blocked h x y
+    pick (inr le) _ = inr (inl le)
+    pick (inl lt) (inl r) = inr (inr (r.0, r.1, r.2.other, r.2.reached))
+    pick (inl lt) (inr f) = inl (record { pair = p; own = lt; others = λ z s d. lt_of z (cases_lt (clock h z x.core) x.count) (λ le. f z s (record { other = d; reached = le })) })
 
 -- ---- kept is covering
 

@@ -1,5 +1,6 @@
 -- The covering pairs of a list and one access more.
 use Rattle.std.proofs.Common.{◌≡◌, ◌≢◌, ℕ, ◌+◌, ◌<◌, ◌≤◌, ◌⊎◌, List, [], ◌∷◌, reverse, ◌++◌, length, refl, sym, ◌∙◌, ap, subst, inl, inr, arith, true, get_or, take, drop, not, ◌&&◌, ◌||◌, nat_eq, nat_lt, nat_le}
+use Rattle.std.proofs.lemmas.Bool.{and_parts, or_cases, cases_lt}
 use Rattle.std.proofs.lemmas.List.{take_more, take-append-drop, get_or_append_left, get_or_push, length_push}
 use Rattle.std.proofs.lemmas.Bool.Decides.{nat_tests}
 use Rattle.clock_core.proofs.Paths.{more}
@@ -7,7 +8,7 @@ use Rattle.conflict_edge.specs.declared.TheConstants.{ACCESSES_MAX}
 use Rattle.clock_core.specs.Order.{Among, previous}
 use Rattle.clock_core.specs.declared.clock.Clock.{Clock}
 use Rattle.conflict_edge.proofs.Clocks.{clock-older}
-use Rattle.conflict_edge.proofs.History.{and_true, or_true, Pair, Rising, ends, older, reaches-no}
+use Rattle.conflict_edge.proofs.History.{Pair, Rising, ends, older, reaches-no}
 use Rattle.conflict_edge.proofs.Kept.{Cover, kept_covers, covers_kept}
 use Rattle.conflict_edge.proofs.Reversed.{reverse-next, pair_back, pair_forth, stands_forth}
 use Rattle.conflict_edge.proofs.Scan.{stands-left}
@@ -110,11 +111,8 @@ covering_next l a old new rise was adds x y = (λ s. to ((adds x y).0 s), λ c. 
 
 -- the exact clocks of the longer list
 pub exact_next : (l : List Access) (a : Access) (clocks next : List Clock) (m : Clock) → CountsRise (l ++ (a ∷ [])) → length clocks ≡ length l → AreExactClocks l clocks → IsExactClock (l ++ (a ∷ [])) a.at m → next ≡ clocks ++ (m ∷ []) → AreExactClocks (l ++ (a ∷ [])) next
-exact_next l a clocks next m rise len was now is s d e lt = by (order s (length l))
+exact_next l a clocks next m rise len was now is s d e lt = by (cases_lt s (length l))
   where
-    order : (m n : ℕ) → (m < n) ⊎ (n ≤ m)
-    order m n = grind arith
-
     by : (s < length l) ⊎ (length l ≤ s) → IsExactClock (l ++ (a ∷ [])) (get_or (l ++ (a ∷ [])) s d).at (get_or next s e)
     by (inl below) i fits =
         let b = get_or_append_left l (a ∷ []) d s below in
@@ -144,8 +142,8 @@ prefix_cores l t d lt r a s = r a (subst (λ (g : List Access). StandsIn g a) (n
 after_each : (a : Access) (later : List Access) → are_after a later ≡ true → (b : Access) → StandsIn later b → a.at.core ≡ b.at.core → a.at.count < b.at.count
 after_each a [] e b s same = absurd s
 after_each a (c ∷ later) e b (inl f) same =
-    let t = and_true (not (nat_eq a.at.core c.at.core) || nat_lt a.at.count c.at.count) (are_after a later) e in
-    subst (λ (d : Access). a.at.count < d.at.count) f (by (or_true (not (nat_eq a.at.core c.at.core)) (nat_lt a.at.count c.at.count) t.0))
+    let t = and_parts (not (nat_eq a.at.core c.at.core) || nat_lt a.at.count c.at.count) (are_after a later) e in
+    subst (λ (d : Access). a.at.count < d.at.count) f (by (or_cases (not (nat_eq a.at.core c.at.core)) (nat_lt a.at.count c.at.count) t.0))
   where
     core : a.at.core ≡ c.at.core
     core = same ∙ ap (λ (d : Access). d.at.core) (sym f)
@@ -153,7 +151,7 @@ after_each a (c ∷ later) e b (inl f) same =
     by : (not (nat_eq a.at.core c.at.core) ≡ true) ⊎ (nat_lt a.at.count c.at.count ≡ true) → a.at.count < c.at.count
     by (inl p) = let q = core in absurd (grind (arith, nat_tests))
     by (inr p) = grind (arith, nat_tests)
-after_each a (c ∷ later) e b (inr s) same = after_each a later (and_true (not (nat_eq a.at.core c.at.core) || nat_lt a.at.count c.at.count) (are_after a later) e).1 b s same
+after_each a (c ∷ later) e b (inr s) same = after_each a later (and_parts (not (nat_eq a.at.core c.at.core) || nat_lt a.at.count c.at.count) (are_after a later) e).1 b s same
 
 -- the parts of the test at its first access
 record Tested (a : Access) (later : List Access) : Type 0 where
@@ -164,9 +162,9 @@ record Tested (a : Access) (later : List Access) : Type 0 where
 
 tested : (a : Access) (later : List Access) → do_counts_rise (a ∷ later) ≡ true → Tested a later
 tested a later e =
-    let both = and_true (nat_le 1 a.at.count && nat_lt a.at.core CORES_MAX) (are_after a later && do_counts_rise later) e in
-    let here = and_true (nat_le 1 a.at.count) (nat_lt a.at.core CORES_MAX) both.0 in
-    let there = and_true (are_after a later) (do_counts_rise later) both.1 in
+    let both = and_parts (nat_le 1 a.at.count && nat_lt a.at.core CORES_MAX) (are_after a later && do_counts_rise later) e in
+    let here = and_parts (nat_le 1 a.at.count) (nat_lt a.at.core CORES_MAX) both.0 in
+    let there = and_parts (are_after a later) (do_counts_rise later) both.1 in
     let first : nat_le 1 a.at.count ≡ true = here.0 in
     let core : nat_lt a.at.core CORES_MAX ≡ true = here.1 in
     record { first = grind (arith, nat_tests); core = grind (arith, nat_tests); after = there.0; rest = there.1 }
@@ -181,10 +179,10 @@ in_range (a ∷ later) e b (inl f) = subst (λ (d : Access). d.at.core < CORES_M
 in_range (a ∷ later) e b (inr s) = in_range later (tested a later e).rest b s
 
 pub history_rises : (list : List Access) → is_short_history list ≡ true → CountsRise list
-history_rises list e = rises list (and_true (nat_le (length list) ACCESSES_MAX) (do_counts_rise list) e).1
+history_rises list e = rises list (and_parts (nat_le (length list) ACCESSES_MAX) (do_counts_rise list) e).1
 
 pub history_cores : (list : List Access) → is_short_history list ≡ true → AreCores list
-history_cores list e = in_range list (and_true (nat_le (length list) ACCESSES_MAX) (do_counts_rise list) e).1
+history_cores list e = in_range list (and_parts (nat_le (length list) ACCESSES_MAX) (do_counts_rise list) e).1
 
 -- no covering pair of the list leads into what comes next
 pub no_old : (l : List Access) (a : Access) (x : Instr) → CountsRise (l ++ (a ∷ [])) → Covering l x a.at → ⊥

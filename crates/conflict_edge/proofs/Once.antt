@@ -1,5 +1,6 @@
 -- No edge stands twice.
 use Rattle.std.proofs.Common.{◌≡◌, ℕ, ◌+◌, ◌-◌, ◌<◌, ◌≤◌, ◌⊎◌, List, [], ◌∷◌, reverse, ◌++◌, refl, sym, ◌∙◌, ap, subst, inl, inr, arith, true, false, nat_eq, ◌&&◌, cond, drop}
+use Rattle.std.proofs.lemmas.Bool.{and_parts, cases_Bool}
 use Rattle.std.specs.List.{count_by, sum_by}
 use Rattle.std.specs.List.Sorted.{IsPermutation}
 use Rattle.std.proofs.lemmas.Bool.Decides.{nat_tests}
@@ -7,7 +8,7 @@ use Rattle.std.proofs.lemmas.List.Sorted.{sum_by-IsPermutation}
 use Rattle.std.proofs.lemmas.List.Sums.{sum_by-append}
 use Rattle.clock_core.proofs.Paths.{instr_eq}
 use Rattle.clock_core.specs.Order.{Among}
-use Rattle.conflict_edge.proofs.History.{and_true, Rising, cases}
+use Rattle.conflict_edge.proofs.History.{Rising}
 use Rattle.conflict_edge.proofs.Kept.{Cover}
 use Rattle.conflict_edge.proofs.Ranks.{rank}
 use Rattle.conflict_edge.proofs.Scan.{FoundFrom, Reached, rank-newer, rank-mid}
@@ -24,14 +25,14 @@ eq_true m n e = grind (arith, nat_tests)
 
 is_edge-true : (e : Edge) (x y : Instr) → is_edge x y e ≡ true → (e.from ≡ x) × (e.to ≡ y)
 is_edge-true e x y h =
-    let p = and_true (nat_eq e.from.core x.core && nat_eq e.from.count x.count) (nat_eq e.to.core y.core && nat_eq e.to.count y.count) h in
-    let q = and_true (nat_eq e.from.core x.core) (nat_eq e.from.count x.count) p.0 in
-    let r = and_true (nat_eq e.to.core y.core) (nat_eq e.to.count y.count) p.1 in
+    let p = and_parts (nat_eq e.from.core x.core && nat_eq e.from.count x.count) (nat_eq e.to.core y.core && nat_eq e.to.count y.count) h in
+    let q = and_parts (nat_eq e.from.core x.core) (nat_eq e.from.count x.count) p.0 in
+    let r = and_parts (nat_eq e.to.core y.core) (nat_eq e.to.count y.count) p.1 in
     (instr_eq e.from x (eq_true e.from.core x.core q.0) (eq_true e.from.count x.count q.1), instr_eq e.to y (eq_true e.to.core y.core r.0) (eq_true e.to.count y.count r.1))
 
 count-none : (es : List Edge) (x y : Instr) → (Among es x y → ⊥) → count_by (is_edge x y) es ≡ 0
 count-none [] x y f = refl
-count-none (e ∷ es) x y f = by (cases (is_edge x y e)) (count-none es x y (λ s. f (inr s)))
+count-none (e ∷ es) x y f = by (cases_Bool (is_edge x y e)) (count-none es x y (λ s. f (inr s)))
   where
     by : (is_edge x y e ≡ true) ⊎ (is_edge x y e ≡ false) → count_by (is_edge x y) es ≡ 0 → count_by (is_edge x y) (e ∷ es) ≡ 0
     by (inl h) ih = absurd (f (inl (is_edge-true e x y h)))
@@ -39,7 +40,7 @@ count-none (e ∷ es) x y f = by (cases (is_edge x y e)) (count-none es x y (λ 
 
 -- a new edge is pushed once
 pub once_push : (es : List Edge) (e : Edge) (fs : List Edge) → fs ≡ es ++ (e ∷ []) → AreOnce es → (Among es e.from e.to → ⊥) → AreOnce fs
-once_push es e fs is once fresh x y = by (cases (is_edge x y e))
+once_push es e fs is once fresh x y = by (cases_Bool (is_edge x y e))
   where
     test : Edge → ℕ
     test d = cond (is_edge x y d) 1 0

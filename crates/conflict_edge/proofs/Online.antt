@@ -1,5 +1,7 @@
 -- The online rule keeps exactly the covering pairs.
 use Rattle.std.proofs.Common.{◌≡◌, ◌≢◌, ℕ, ◌-◌, ◌<◌, ◌≤◌, ◌⊎◌, ◌↔◌, List, [], ◌∷◌, refl, sym, ◌∙◌, ap, subst, inl, inr, arith, true, false, Some, None, nat_eq, Bool}
+use Rattle.std.proofs.Math.Nat.{eq-or-lt_of_le}
+use Rattle.std.proofs.lemmas.Bool.{cases_eq, cases_lt}
 use Rattle.std.proofs.lemmas.Bool.Decides.{nat_tests}
 use Rattle.clock_core.proofs.Paths.{joined, one, instr_eq}
 use Rattle.clock_core.specs.Order.{Before, previous}
@@ -54,9 +56,6 @@ pub last_read-core : (b : Access) (h : List Access) (word core : ℕ) → b.word
 unfolding last_read
 last_read-core b h word core p q r = let e : nat_eq b.word word ≡ true = grind (arith, nat_tests) in let d : nat_eq b.at.core core ≡ false = grind (arith, nat_tests) in rw (e, q, d) refl
 
-pub nat_cases : (m n : ℕ) → (m ≡ n) ⊎ (m ≢ n)
-nat_cases m n = grind arith
-
 pub some_is : (b c : Access) → Some b ≡ Some c → b ≡ c
 some_is b c e = cc
 
@@ -72,7 +71,7 @@ pub record IsWrite (h : List Access) (word : ℕ) (b : Access) : Type 0 where
 pub last_write-is : (h : List Access) (word : ℕ) (b : Access) → last_write h word ≡ Some b → IsWrite h word b
 unfolding last_write
 last_write-is [] word b e = absurd (none_some b e)
-last_write-is (c ∷ h) word b e = by (last_write-is h word b) (nat_cases c.word word) (cases_kind c.kind)
+last_write-is (c ∷ h) word b e = by (last_write-is h word b) (cases_eq c.word word) (cases_kind c.kind)
   where
     over : IsWrite h word b → IsWrite (c ∷ h) word b
     over w = record { stands = inr w.stands; word_is = w.word_is; kind_is = w.kind_is }
@@ -92,7 +91,7 @@ pub record IsRead (h : List Access) (word core : ℕ) (b : Access) : Type 0 wher
 pub last_read-is : (h : List Access) (word core : ℕ) (b : Access) → last_read h word core ≡ Some b → IsRead h word core b
 unfolding last_read
 last_read-is [] word core b e = absurd (none_some b e)
-last_read-is (c ∷ h) word core b e = by (last_read-is h word core b) (nat_cases c.word word) (cases_kind c.kind) (nat_cases c.at.core core)
+last_read-is (c ∷ h) word core b e = by (last_read-is h word core b) (cases_eq c.word word) (cases_kind c.kind) (cases_eq c.at.core core)
   where
     over : IsRead h word core b → IsRead (c ∷ h) word core b
     over w = record { stands = inr w.stands; word_is = w.word_is; core_is = w.core_is }
@@ -116,7 +115,7 @@ found (c ∷ h) b rising (inl e) = subst (λ (d : Access). Found (c ∷ h) d) e 
     by : (is_write c.kind ≡ false) ⊎ (is_write c.kind ≡ true) → Found (c ∷ h) c
     by (inl k) = inr (c, last_read-at c h c.word c.at.core refl k refl, k, inl refl)
     by (inr k) = inl (c, last_write-at c h c.word refl k, inl refl)
-found (c ∷ h) b rising (inr s) = by (found h b rising.2 s) (nat_cases c.word b.word) (cases_kind c.kind) (nat_cases c.at.core b.at.core)
+found (c ∷ h) b rising (inr s) = by (found h b rising.2 s) (cases_eq c.word b.word) (cases_kind c.kind) (cases_eq c.at.core b.at.core)
   where
     on_core : c.at.core ≡ b.at.core → Before (Pair (c ∷ h)) b.at c.at
     on_core e = one (Pair (c ∷ h)) b.at c.at (inl (sym e, rising.1 b s (sym e)))
@@ -147,11 +146,8 @@ pub data Leads (h : List Access) (a : Access) (z : Instr) : Type 0 where
 
 -- an access of a's core is at or before the instruction before a
 up_previous : (a : Access) (h : List Access) (c : Access) (z : Instr) → Rising (a ∷ h) → StandsIn h c → c.at.core ≡ a.at.core → UpTo h z c.at → UpTo h z (previous a.at)
-up_previous a h c z rising s e up = by (order c.at.count (a.at.count - 1) (let lt = rising.1 c s e in omega arith)) up
+up_previous a h c z rising s e up = by (eq-or-lt_of_le {n = c.at.count} {m = a.at.count - 1} (let lt = rising.1 c s e in omega arith)) up
   where
-    order : (m n : ℕ) → m ≤ n → (m ≡ n) ⊎ (m < n)
-    order m n le = grind arith
-
     by : (c.at.count ≡ a.at.count - 1) ⊎ (c.at.count < a.at.count - 1) → UpTo h z c.at → UpTo h z (previous a.at)
     by (inl f) u = subst (λ (w : Instr). UpTo h z w) (instr_eq c.at (previous a.at) e f) u
     by (inr lt) (inl g) = inr (subst (λ (w : Instr). Before (Pair h) w (previous a.at)) (sym g) (one (Pair h) c.at (previous a.at) (inl (e, lt))))
@@ -172,7 +168,7 @@ source_leads h a z rising s = by s.0 s.1 s.2 s.3 (found h s.0 rising.2 s.1)
     by b stands e k (inl f) =
         let w : last_write h a.word ≡ Some f.0 = subst (λ (n : ℕ). last_write h n ≡ Some f.0) k.1 f.1 in
         let up : UpTo h z f.0.at = subst (λ (v : Instr). UpTo h v f.0.at) e f.2 in
-        write f.0 w up (nat_cases f.0.at.core a.at.core)
+        write f.0 w up (cases_eq f.0.at.core a.at.core)
     by b stands e k (inr f) =
         let r : last_read h a.word b.at.core ≡ Some f.0 = subst (λ (n : ℕ). last_read h n b.at.core ≡ Some f.0) k.1 f.1 in
         let i = last_read-is h a.word b.at.core f.0 r in
@@ -211,9 +207,6 @@ kept_online h a x rising k = record { pair = inl (refl, src); own = let e = befo
     pos : 1 ≤ x.count
     pos = subst (λ (v : Instr). 1 ≤ v.count) src.2 (stands_pos h src.0 rising.2 src.1)
 
-    order : (m n : ℕ) → (m ≤ n) ⊎ (n < m)
-    order m n = grind arith
-
     joins : (z c : Instr) → UpTo h x z → Before (Pair h) z c → Before (Pair h) x c
     joins z c (inl e) p = subst (λ (v : Instr). Before (Pair h) v c) (sym e) p
     joins z c (inr q) p = joined (Pair h) x z c q p
@@ -230,14 +223,14 @@ kept_online h a x rising k = record { pair = inl (refl, src); own = let e = befo
     in_own z up (inr p) = clock-before h x (previous a.at) rising.2 (joins z (previous a.at) up p)
     in_own z (inr q) (inl f) = clock-before h x (previous a.at) rising.2 (subst (λ (v : Instr). Before (Pair h) x v) f q)
 
-    below_by : (z : Instr) → (z ≢ x) → Leads h a z → (x.count ≤ clock h z x.core) ⊎ (clock h z x.core < x.count) → clock h z x.core < x.count
-    below_by z d _ (inr lt) = lt
-    below_by z d (itself c) (inl le) = k.others z c d
-    below_by z d (onward c cand p) (inl le) = absurd (not_through z c (clock-up_to h x z pos le) cand p)
-    below_by z d (by_own up) (inl le) = let l = in_own z (clock-up_to h x z pos le) up in let lt = k.own in absurd (omega arith)
+    below_by : (z : Instr) → (z ≢ x) → Leads h a z → (clock h z x.core < x.count) ⊎ (x.count ≤ clock h z x.core) → clock h z x.core < x.count
+    below_by z d _ (inl lt) = lt
+    below_by z d (itself c) (inr le) = k.others z c d
+    below_by z d (onward c cand p) (inr le) = absurd (not_through z c (clock-up_to h x z pos le) cand p)
+    below_by z d (by_own up) (inr le) = let l = in_own z (clock-up_to h x z pos le) up in let lt = k.own in absurd (omega arith)
 
     below : (z : Instr) → (z ≢ x) → Leads h a z → clock h z x.core < x.count
-    below z d l = below_by z d l (order x.count (clock h z x.core))
+    below z d l = below_by z d l (cases_lt (clock h z x.core) x.count)
 
 pub online_kept : (h : List Access) (a : Access) (x : Instr) → Rising (a ∷ h) → Kept (a ∷ h) x a.at → IsKept h a x
 online_kept h a x rising k = record { candidate = cand (source_leads h a x rising src); own = own_below; others = λ z c d. let s = candidate_source h a z c in let e = source_clock a h z x.core rising s in let lt = k.others z (inl (refl, s)) d in omega arith }

@@ -1,7 +1,8 @@
 -- The place in the list of the last access at or before an instruction. Pairs go up in it, so nothing leads to itself.
 use Rattle.std.proofs.Common.{◌≡◌, ℕ, zero, suc, ◌<◌, ◌≤◌, ◌⊎◌, List, [], ◌∷◌, length, refl, sym, ◌∙◌, ap, subst, inl, inr, arith, true, false, cond}
+use Rattle.std.proofs.lemmas.Bool.{cases_Bool}
 use Rattle.clock_core.specs.Order.{ProgramOrder, Step, Path, Before}
-use Rattle.conflict_edge.proofs.History.{Pair, Rising, reaches-false, reaches-yes, reaches-no, cases, ends, older}
+use Rattle.conflict_edge.proofs.History.{Pair, Rising, reaches-false, reaches-yes, reaches-no, ends, older}
 use Rattle.conflict_edge.specs.Clocks.{reaches}
 use Rattle.conflict_edge.specs.Conflicts.{StandsIn}
 use Rattle.rtr_types.specs.declared.access.Access.{Access}
@@ -23,7 +24,7 @@ pub rank-le : (h : List Access) (y : Instr) → rank h y ≤ length h
 unfolding rank
 rank-le [] y = omega arith
 rank-le (a ∷ h) y =
-    elim (cases (reaches a y)) [
+    elim (cases_Bool (reaches a y)) [
       | inl e ↦ rw e (omega arith)
       | inr e ↦ rw e (omega (arith, rank-le h y))
     ]
@@ -32,8 +33,8 @@ pub rank-program : (h : List Access) (x y : Instr) → x.core ≡ y.core → x.c
 unfolding rank
 rank-program [] x y p q = omega arith
 rank-program (a ∷ h) x y p q =
-    elim (cases (reaches a y)) [
-      | inl e ↦ elim (cases (reaches a x)) [
+    elim (cases_Bool (reaches a y)) [
+      | inl e ↦ elim (cases_Bool (reaches a x)) [
         | inl d ↦ rw (e, d) (omega arith)
         | inr d ↦ rw (e, d) (omega (arith, rank-le h x))
       ]

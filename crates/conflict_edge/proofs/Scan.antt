@@ -1,5 +1,6 @@
 -- One scan from the newest to the oldest finds the covering pairs into an access, and its clock.
 use Rattle.std.proofs.Common.{◌≡◌, ◌≢◌, ℕ, zero, suc, ◌<◌, ◌≤◌, ◌⊎◌, ◌↔◌, List, [], ◌∷◌, ◌++◌, length, refl, sym, ◌∙◌, ap, subst, inl, inr, arith, true, false, max}
+use Rattle.std.proofs.lemmas.Bool.{cases_eq, cases_lt}
 use Rattle.std.proofs.lemmas.List.{length-append}
 use Rattle.clock_core.proofs.Paths.{joined, one, last_at}
 use Rattle.clock_core.specs.Order.{Step, Path, Before, Among, previous}
@@ -68,12 +69,6 @@ pub record Arrives (h : List Access) (x y : Instr) : Type 0 where
   pub count_le : there.at.count ≤ y.count
   pub before : Before (Pair h) x there.at
 
-nat_cases : (m n : ℕ) → (m ≡ n) ⊎ (m ≢ n)
-nat_cases m n = grind arith
-
-order : (m n : ℕ) → (m ≤ n) ⊎ (n < m)
-order m n = grind arith
-
 arrived : (h : List Access) (x z y : Instr) → Pair h x z → z.core ≡ y.core → z.count ≤ y.count → Arrives h x y
 arrived h x z y p same le =
     let e = ends h x z p in
@@ -82,18 +77,18 @@ arrived h x z y p same le =
 arrives_at : (h : List Access) → Rising h → (n : ℕ) (x y : Instr) → Path (Pair h) n x y → x.core ≢ y.core → Arrives h x y
 arrives_at h rising zero x y (inl s) d = absurd (d s.0)
 arrives_at h rising zero x y (inr s) d = arrived h x y y s refl (omega arith)
-arrives_at h rising (suc n) x y p d = by (nat_cases p.0.core y.core) (arrives_at h rising n p.0 y p.2) p.1 (order p.0.count y.count)
+arrives_at h rising (suc n) x y p d = by (cases_eq p.0.core y.core) (arrives_at h rising n p.0 y p.2) p.1 (cases_lt y.count p.0.count)
   where
     later : p.0.core ≡ y.core → y.count < p.0.count → ⊥
     later e lt = no_cycle h rising y (joined (Pair h) y p.0 y (one (Pair h) y p.0 (inl (sym e, lt))) (n, p.2))
 
-    by : (p.0.core ≡ y.core) ⊎ (p.0.core ≢ y.core) → (p.0.core ≢ y.core → Arrives h p.0 y) → Step (Pair h) x p.0 → (p.0.count ≤ y.count) ⊎ (y.count < p.0.count) → Arrives h x y
+    by : (p.0.core ≡ y.core) ⊎ (p.0.core ≢ y.core) → (p.0.core ≢ y.core → Arrives h p.0 y) → Step (Pair h) x p.0 → (y.count < p.0.count) ⊎ (p.0.count ≤ y.count) → Arrives h x y
     by (inr e) ih s _ =
         let r = ih e in
         record { there = r.there; stands = r.stands; core_is = r.core_is; count_le = r.count_le; before = joined (Pair h) x p.0 r.there.at (one (Pair h) x p.0 s) r.before }
     by (inl e) ih (inl s) _ = absurd (d (s.0 ∙ e))
-    by (inl e) ih (inr s) (inl le) = arrived h x p.0 y s e le
-    by (inl e) ih (inr s) (inr lt) = absurd (later e lt)
+    by (inl e) ih (inr s) (inr le) = arrived h x p.0 y s e le
+    by (inl e) ih (inr s) (inl lt) = absurd (later e lt)
 
 pub arrives : (h : List Access) → Rising h → (x y : Instr) → Before (Pair h) x y → x.core ≢ y.core → Arrives h x y
 arrives h rising x y p d = arrives_at h rising p.0 x y p.1 d
@@ -107,7 +102,7 @@ IsFree h newer a b = (r : Access) → StandsIn newer r → Direct r a → clock 
 pub free_kept : (newer : List Access) (b : Access) (g : List Access) (a : Access) → Rising (a ∷ newer ++ (b ∷ g)) → Conflicts b a → IsFree (newer ++ (b ∷ g)) newer a b → Kept (a ∷ newer ++ (b ∷ g)) b.at a.at
 free_kept newer b g a rising conflict free = record {
   pair = inl (refl, (b, stands_b, refl, conflict));
-  own = let e = before_a a h b.at.core rising in let lt = own_below (order b.at.count (clock h (previous a.at) b.at.core)) in omega arith;
+  own = let e = before_a a h b.at.core rising in let lt = own_below (cases_lt (clock h (previous a.at) b.at.core) b.at.count) in omega arith;
   others = λ z p d. let s = pair_source a h z rising p in let e = source_clock a h z b.at.core rising s in let lt = other_below s.0 s.1 s.2 s.3 z d in omega arith;
 }
   where
@@ -146,20 +141,20 @@ free_kept newer b g a rising conflict free = record {
         let le = clock-before h b.at r.there.at rising.2 r.before in
         omega arith
 
-    own_below : (b.at.count ≤ clock h (previous a.at) b.at.core) ⊎ (clock h (previous a.at) b.at.core < b.at.count) → clock h (previous a.at) b.at.core < b.at.count
-    own_below (inl le) = absurd (through_own (clock-up_to h b.at (previous a.at) pos le))
-    own_below (inr lt) = lt
+    own_below : (clock h (previous a.at) b.at.core < b.at.count) ⊎ (b.at.count ≤ clock h (previous a.at) b.at.core) → clock h (previous a.at) b.at.core < b.at.count
+    own_below (inr le) = absurd (through_own (clock-up_to h b.at (previous a.at) pos le))
+    own_below (inl lt) = lt
 
     other_up : (r : Access) → StandsIn h r → Direct r a → r.at ≢ b.at → UpTo h b.at r.at → clock h r.at b.at.core < b.at.count
     other_up r s direct d (inl e) = absurd (d (sym e))
     other_up r s direct d (inr p) = lt_of r s direct p
 
-    other_cases : (r : Access) → StandsIn h r → Direct r a → r.at ≢ b.at → (b.at.count ≤ clock h r.at b.at.core) ⊎ (clock h r.at b.at.core < b.at.count) → clock h r.at b.at.core < b.at.count
-    other_cases r s direct d (inl le) = other_up r s direct d (clock-up_to h b.at r.at pos le)
-    other_cases r s direct d (inr lt) = lt
+    other_cases : (r : Access) → StandsIn h r → Direct r a → r.at ≢ b.at → (clock h r.at b.at.core < b.at.count) ⊎ (b.at.count ≤ clock h r.at b.at.core) → clock h r.at b.at.core < b.at.count
+    other_cases r s direct d (inr le) = other_up r s direct d (clock-up_to h b.at r.at pos le)
+    other_cases r s direct d (inl lt) = lt
 
     other_below : (r : Access) → StandsIn h r → {z : Instr} → r.at ≡ z → Conflicts r a → (w : Instr) → z ≢ b.at → clock h z b.at.core < b.at.count
-    other_below r s {z} e k w d = subst (λ (v : Instr). clock h v b.at.core < b.at.count) e (other_cases r s (inr k) (λ f. d (sym e ∙ f)) (order b.at.count (clock h r.at b.at.core)))
+    other_below r s {z} e k w d = subst (λ (v : Instr). clock h v b.at.core < b.at.count) e (other_cases r s (inr k) (λ f. d (sym e ∙ f)) (cases_lt (clock h r.at b.at.core) b.at.count))
 
 pub kept_free : (newer : List Access) (b : Access) (g : List Access) (a : Access) → Rising (a ∷ newer ++ (b ∷ g)) → Kept (a ∷ newer ++ (b ∷ g)) b.at a.at → IsFree (newer ++ (b ∷ g)) newer a b
 kept_free newer b g a rising k r s direct = by direct
@@ -340,9 +335,9 @@ not_covered newer b g a m rising fits conflict reached lt = kept_covers (a ∷ n
     pos : 1 ≤ b.at.count
     pos = stands_pos (newer ++ (b ∷ g)) b rising.2 (stands-right newer (b ∷ g) b (inl refl))
 
-    by : (r : Access) → StandsIn newer r → Direct r a → (b.at.count ≤ clock (newer ++ (b ∷ g)) r.at b.at.core) ⊎ (clock (newer ++ (b ∷ g)) r.at b.at.core < b.at.count) → clock (newer ++ (b ∷ g)) r.at b.at.core < b.at.count
-    by r s d (inl le) = let up = (reached b.at.core b.at.count fits pos).1 (r, s, d, le) in absurd (omega arith)
-    by r s d (inr l) = l
+    by : (r : Access) → StandsIn newer r → Direct r a → (clock (newer ++ (b ∷ g)) r.at b.at.core < b.at.count) ⊎ (b.at.count ≤ clock (newer ++ (b ∷ g)) r.at b.at.core) → clock (newer ++ (b ∷ g)) r.at b.at.core < b.at.count
+    by r s d (inr le) = let up = (reached b.at.core b.at.count fits pos).1 (r, s, d, le) in absurd (omega arith)
+    by r s d (inl lt) = lt
 
     free : IsFree (newer ++ (b ∷ g)) newer a b
-    free r s d = by r s d (order b.at.count (clock (newer ++ (b ∷ g)) r.at b.at.core))
+    free r s d = by r s d (cases_lt (clock (newer ++ (b ∷ g)) r.at b.at.core) b.at.count)

@@ -1,5 +1,6 @@
 -- The steps of the scan, at an index.
 use Rattle.std.proofs.Common.{◌≡◌, ◌≢◌, ℕ, zero, suc, ◌+◌, ◌-◌, ◌<◌, ◌≤◌, ◌⊎◌, ◌↔◌, List, [], ◌∷◌, reverse, ◌++◌, length, refl, sym, ◌∙◌, ap, subst, inl, inr, arith, true, false, Bool, max, slice_index, get_or, take, drop, append_assoc}
+use Rattle.std.proofs.lemmas.Bool.{cases_eq, cases_lt}
 use Rattle.std.proofs.lemmas.List.{drop_more, reverse-append, take-append-drop}
 use Rattle.clock_core.proofs.Paths.{more}
 use Rattle.clock_core.proofs.Reach.{same_below}
@@ -99,14 +100,11 @@ covered e s a b m around rising fits r le c =
 
 -- the greater number where the test for at most fails
 pub test_no : (r : Bool) (n m : ℕ) → (r ≡ true → n ≤ m) × (n ≤ m → r ≡ true) → r ≡ false → m < n
-test_no r n m h e = by (order n m)
+test_no r n m h e = by (cases_lt m n)
   where
-    order : (m n : ℕ) → (m ≤ n) ⊎ (n < m)
-    order m n = grind arith
-
-    by : (n ≤ m) ⊎ (m < n) → m < n
-    by (inl le) = let t : true ≡ false = sym (h.1 le) ∙ e in absurd cc
-    by (inr lt) = lt
+    by : (m < n) ⊎ (n ≤ m) → m < n
+    by (inl lt) = lt
+    by (inr le) = let t : true ≡ false = sym (h.1 le) ∙ e in absurd cc
 
 -- a fact fails where its test does
 pub fact_no : (P : Type 0) (r : Bool) → (P → r ≡ true) → r ≡ false → P → ⊥
@@ -119,12 +117,9 @@ not_direct b a f g (inr k) = g k
 
 -- ---- the ends
 
-nat_cases : (m n : ℕ) → (m ≡ n) ⊎ (m ≢ n)
-nat_cases m n = grind arith
-
 -- after the oldest access the clock with the own count is exact
 pub end_clock : (e : List Access) (a : Access) (m w : List ℕ) → Rising (a ∷ reverse e) → Reached (reverse e) (reverse e) a (λ i. slice_index m i) → slice_index w a.at.core ≡ a.at.count → ((i : ℕ) → i ≢ a.at.core → slice_index w i ≡ slice_index m i) → (i : ℕ) → i < CORES_MAX → slice_index w i ≡ clock (reverse (e ++ (a ∷ []))) a.at i
-end_clock e a m w rising reached own others i lt = by (nat_cases i a.at.core) ∙ ap (λ (h : List Access). clock h a.at i) (sym (reverse-next e a))
+end_clock e a m w rising reached own others i lt = by (cases_eq i a.at.core) ∙ ap (λ (h : List Access). clock h a.at i) (sym (reverse-next e a))
   where
     by : (i ≡ a.at.core) ⊎ (i ≢ a.at.core) → slice_index w i ≡ clock (a ∷ reverse e) a.at i
     by (inl f) = ap (λ (k : ℕ). slice_index w k) f ∙ own ∙ sym (own_clock (a ∷ reverse e) a.at rising) ∙ ap (λ (k : ℕ). clock (a ∷ reverse e) a.at k) (sym f)

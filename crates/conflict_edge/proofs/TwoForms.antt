@@ -1,5 +1,6 @@
 -- The two forms of the least set.
 use Rattle.std.proofs.Common.{◌≢◌, ◌↔◌, List, reverse, refl, inr, ◌<◌, ◌⊎◌, inl, sym, arith, ℕ, ◌≡◌}
+use Rattle.std.proofs.lemmas.Bool.{cases_order}
 use Rattle.clock_core.proofs.Paths.{one, more, instr_eq}
 use Rattle.clock_core.specs.Order.{Within, Before, Among}
 use Rattle.conflict_edge.proofs.History.{Pair, pair_cores}
@@ -69,11 +70,8 @@ covering_law list edges rise = (forth, back)
     }
 
 pub source_law : SourceLaw
-source_law list x z y c d same = by (order x.count z.count)
+source_law list x z y c d same = by (cases_order x.count z.count)
   where
-    order : (m n : ℕ) → (m ≡ n) ⊎ (m < n) ⊎ (n < m)
-    order m n = grind arith
-
     by : (x.count ≡ z.count) ⊎ (x.count < z.count) ⊎ (z.count < x.count) → x ≡ z
     by (inl e) = instr_eq x z same e
     by (inr (inl lt)) = absurd (c.1 z (one (ConflictPair list) x z (inl (same, lt))) (one (ConflictPair list) z y (inr d.0)))

@@ -189,6 +189,24 @@ mod tests {
         Ok(())
     }
 
+    // Two cores add to word 8, and a third loads it: the second add is ordered after the first, and the
+    // load after both.
+    #[test]
+    fn two_adds_and_a_load(rt: HostRuntime) -> Result<(), Fail> {
+        let list = [
+            access!(0: 3 Amo 8),
+            access!(1: 3 Amo 8),
+            access!(2: 1 Load 8),
+            access!(0: 4 Amo 8),
+        ];
+        let edges = least_of(rt.alloc(), &list)?;
+        assert_eq!(rt;
+            edges.as_slice(),
+            [edge!(0: 3, 1: 3), edge!(1: 3, 2: 1), edge!(2: 1, 0: 4)].as_slice()
+        );
+        Ok(())
+    }
+
     // Words 8 and 9 stand in one block of the cache, and the cores share no word.
     #[test]
     fn false_sharing_gives_no_edge(rt: HostRuntime) -> Result<(), Fail> {

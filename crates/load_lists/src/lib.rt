@@ -1,4 +1,4 @@
-//! What each core's loads got, in lists that take their room beforehand.
+//! What each core's loads and atomic memory operations read, in lists that take their room beforehand.
 #![tactic(auto)]
 
 mod load_list;

@@ -1,4 +1,4 @@
-//! The loads of one core.
+//! What the instructions of one core read.
 ghost use Rattle.std.specs.Prelude.{◌≡◌, ◌<◌, ◌++◌, [], ◌∷◌, OnOk, length, nat_lt};
 
 use rtr_types::Items;
@@ -6,7 +6,8 @@ use rv_core::LoadNote;
 use std::alloc::{AllocError, Global};
 use std::marker::Model;
 
-/// The loads of one core, oldest first, and how many there is room for.
+/// What a core's loads and atomic memory operations read, oldest first, and how many notes there is room
+/// for.
 #[derive(Drop)]
 pub(crate) struct LoadList {
     notes: Vec<LoadNote>,
@@ -22,7 +23,7 @@ impl Model for LoadList {
 }
 
 impl LoadList {
-    /// No loads. It takes no memory.
+    /// No notes. It takes no memory.
     pub(crate) fn new(alloc: Global) -> LoadList
         ensures { result.notes ≡ [] }
     {
@@ -31,14 +32,14 @@ impl LoadList {
         }
     }
 
-    /// Whether there is room for one load more.
+    /// Whether there is room for one note more.
     pub(crate) fn has_room(&self) -> bool
         ensures { result ≡ nat_lt (length self.now.notes) self.now.room }
     {
         self.notes.len() < self.notes.capacity()
     }
 
-    /// Makes room for one load more.
+    /// Makes room for one note more.
     pub(crate) fn make_room(&mut self) -> Result<(), AllocError>
         ensures notes { self.new.notes ≡ self.old.notes }
         ensures room { OnOk result (length self.new.notes < self.new.room) }
@@ -46,7 +47,7 @@ impl LoadList {
         self.notes.reserve(1)
     }
 
-    /// Puts the load at the end, and answers whether there is room for one load more.
+    /// Puts the note at the end, and answers whether there is room for one more.
     pub(crate) fn note(&mut self, note: LoadNote) -> bool
         requires { length self.old.notes < self.old.room }
         ensures notes { self.new.notes ≡ self.old.notes ++ note ∷ [] }
@@ -56,7 +57,7 @@ impl LoadList {
         self.has_room()
     }
 
-    /// The loads.
+    /// The notes.
     pub(crate) fn into_items(self) -> Items<LoadNote>
         ensures { result ≡ self.notes }
     {

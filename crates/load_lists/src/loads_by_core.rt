@@ -1,4 +1,4 @@
-//! The loads of each core.
+//! What the instructions of each core read.
 ghost use Rattle.std.specs.Prelude.{◌≡◌, ◌<◌, [], IfOk, IsTrue, OnOk, length, replicate};
 ghost use Rattle.load_lists.specs.Lists.{with_note};
 
@@ -8,12 +8,12 @@ use rv_core::LoadNote;
 use std::alloc::{AllocError, Global};
 use std::marker::Model;
 
-/// What each core's loads got: a list for each core, core 0 first, oldest first. Contracts see the lists,
-/// and whether there is room for one more load of each core.
+/// What each core's loads and atomic memory operations read: a list for each core, core 0 first, oldest
+/// first. Contracts see the lists, and whether there is room for one more note of each core.
 #[derive(Drop)]
 pub struct LoadLists {
     lists: Vec<LoadList>,
-    /// Set only where each list has room for one more load, so that this is looked up once and not at
+    /// Set only where each list has room for one more note, so that this is looked up once and not at
     /// each step of a machine.
     known_roomy: bool,
 }
@@ -45,8 +45,8 @@ impl LoadLists {
         })
     }
 
-    /// Makes room for one more load of each core, so that `note` needs no memory. After want of memory
-    /// some lists may have got room; the loads are as they were.
+    /// Makes room for one more note of each core, so that `note` needs no memory. After want of memory
+    /// some lists may have got room; the notes are as they were.
     pub fn make_room(&mut self) -> Result<(), AllocError>
         ensures lists { self.new.lists ≡ self.old.lists }
         ensures roomy { OnOk result (IsTrue self.new.roomy) }
@@ -61,7 +61,7 @@ impl LoadLists {
         Ok(())
     }
 
-    /// Whether there is room for one more load of each core.
+    /// Whether there is room for one more note of each core.
     pub fn has_room(&self) -> bool
         ensures { result ≡ self.now.roomy }
     {
@@ -76,7 +76,7 @@ impl LoadLists {
         true
     }
 
-    /// Puts a load at the end of its core's list.
+    /// Puts a note at the end of its core's list.
     pub fn note(&mut self, core: u8, note: LoadNote)
         requires core { core < length self.old.lists }
         requires room { IsTrue self.old.roomy }

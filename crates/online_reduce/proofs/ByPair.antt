@@ -1,5 +1,6 @@
 -- Edges by pair: adding edges to the pairs' lists is the same as cutting the longer list of edges into pairs.
 use Rattle.std.proofs.Common.{◌≡◌, ◌≢◌, ℕ, ◌+◌, ◌<◌, ◌⊎◌, List, [], ◌∷◌, ◌++◌, length, replicate, refl, sym, ◌∙◌, ap, inl, inr, arith, true, false, Bool, cond, nat_eq, get_or}
+use Rattle.std.proofs.lemmas.Bool.{and_parts, cases_Bool}
 use Rattle.std.specs.Prelude.{map, slice_set, slice_index_or}
 use Rattle.std.specs.List.{filter, fold, range_with_len, AllByRecursion}
 use Rattle.std.proofs.lemmas.List.{map-append, append-nil, append_assoc, same_lists, length-map, length-set, length-replicate, get_or-set_same, get_or-set_other, get_or-replicate, get_or_default}
@@ -11,7 +12,6 @@ use Rattle.rtr_types.proofs.PairPlaces.{pairs-placed, places-paired}
 use Rattle.rtr_types.specs.declared.instr.Instr.{Instr}
 use Rattle.rtr_types.specs.declared.instr.Edge.{Edge}
 use Rattle.clock_core.specs.Order.{Among}
-use Rattle.conflict_edge.proofs.History.{and_true, cases}
 use Rattle.online_reduce.specs.Exact.{SourcesRise}
 use Rattle.online_reduce.specs.Lists.{counts, with_edge, with_edges, is_between, pair_edges, by_pair}
 
@@ -39,7 +39,7 @@ pair_nil from to = refl
 
 pub between_is : (from to : ℕ) (e : Edge) → is_between from to e ≡ true → (e.from.core ≡ from) × (e.to.core ≡ to)
 between_is from to e t =
-    let both = and_true (nat_eq e.from.core from) (nat_eq e.to.core to) t in
+    let both = and_parts (nat_eq e.from.core from) (nat_eq e.to.core to) t in
     let one : nat_eq e.from.core from ≡ true = both.0 in
     let two : nat_eq e.to.core to ≡ true = both.1 in
     (grind (arith, nat_tests), grind (arith, nat_tests))
@@ -73,7 +73,7 @@ pub record OneEdge (from to : ℕ) (edges : List Edge) : Type 0 where
 pub pair_one : (low from to : ℕ) (edges : List Edge) → SourcesRise low edges → (pair_edges from to edges ≡ []) ⊎ OneEdge from to edges
 unfolding pair_edges
 pair_one low from to [] rise = inl refl
-pair_one low from to (e ∷ edges) rise = by (cases (is_between from to e)) (pair_one (e.from.core + 1) from to edges rise.1)
+pair_one low from to (e ∷ edges) rise = by (cases_Bool (is_between from to e)) (pair_one (e.from.core + 1) from to edges rise.1)
   where
     by : (is_between from to e ≡ true) ⊎ (is_between from to e ≡ false) → (pair_edges from to edges ≡ []) ⊎ OneEdge from to edges → (pair_edges from to (e ∷ edges) ≡ []) ⊎ OneEdge from to (e ∷ edges)
     by (inl t) _ =
@@ -143,7 +143,7 @@ by_pair_push cores edges e pair =
         ∙ ap (λ (es : List (ℕ × ℕ)). es ++ counts e ∷ []) (sym here)
 
     elsewhere : (k : ℕ) → k < pair_count cores → k ≢ place → is_between (source_at cores k) (target_at cores k) e ≡ false
-    elsewhere k lt d = by (cases (is_between (source_at cores k) (target_at cores k) e))
+    elsewhere k lt d = by (cases_Bool (is_between (source_at cores k) (target_at cores k) e))
       where
         by : (is_between (source_at cores k) (target_at cores k) e ≡ true) ⊎ (is_between (source_at cores k) (target_at cores k) e ≡ false) → is_between (source_at cores k) (target_at cores k) e ≡ false
         by (inl t) =

@@ -1,5 +1,6 @@
 -- Which candidates are kept, and the edges that they give.
 use Rattle.std.proofs.Common.{◌≡◌, ◌≢◌, ◌<◌, ◌⊎◌, List, [], ◌∷◌, slice_index, refl, sym, ◌∙◌, ap, subst, inl, inr, arith, true, false, Bool, cond, ◌&&◌, ◌||◌, nat_eq}
+use Rattle.std.proofs.lemmas.Bool.{and_parts, or_cases}
 use Rattle.std.specs.Prelude.{map}
 use Rattle.std.specs.List.{filter, list_all}
 use Rattle.std.proofs.lemmas.Bool.Decides.{nat_tests}
@@ -7,7 +8,6 @@ use Rattle.rtr_types.specs.declared.instr.Instr.{Instr}
 use Rattle.clock_core.specs.Order.{Among}
 use Rattle.clock_core.proofs.Paths.{instr_eq}
 use Rattle.clock_core.specs.declared.clock.Clock.{Clock}
-use Rattle.conflict_edge.proofs.History.{and_true, or_true}
 use Rattle.online_reduce.specs.declared.source.Source.{Source}
 use Rattle.online_reduce.specs.Sources.{IsOneOf}
 use Rattle.online_reduce.specs.Rule.{is_above, lets_pass, is_kept, edge_to}
@@ -16,7 +16,7 @@ use Rattle.online_reduce.proofs.Loops.{chosen}
 
 same_instr : (x y : Instr) → is_same x y ≡ true → x ≡ y
 same_instr x y e =
-    let both = and_true (nat_eq x.core y.core) (nat_eq x.count y.count) e in
+    let both = and_parts (nat_eq x.core y.core) (nat_eq x.count y.count) e in
     let one : nat_eq x.core y.core ≡ true = both.0 in
     let two : nat_eq x.count y.count ≡ true = both.1 in
     let p : x.core ≡ y.core = grind (arith, nat_tests) in
@@ -32,12 +32,12 @@ pub record Passes (before : Clock) (found : List Source) (at : Instr) : Type 0 w
 
 all_others : (found : List Source) (at : Instr) → list_all (lets_pass at) found ≡ true → (s : Source) → IsOneOf found s → s.at ≢ at → slice_index s.clock at.core < at.count
 all_others [] at e s one d = absurd one
-all_others (r ∷ found) at e s (inl f) d = subst (λ (v : Source). v.at ≢ at → slice_index v.clock at.core < at.count) f (λ other. by other (or_true (is_same r.at at) (is_above r.clock at) (and_true (lets_pass at r) (list_all (lets_pass at) found) e).0)) d
+all_others (r ∷ found) at e s (inl f) d = subst (λ (v : Source). v.at ≢ at → slice_index v.clock at.core < at.count) f (λ other. by other (or_cases (is_same r.at at) (is_above r.clock at) (and_parts (lets_pass at r) (list_all (lets_pass at) found) e).0)) d
   where
     by : r.at ≢ at → (is_same r.at at ≡ true) ⊎ (is_above r.clock at ≡ true) → slice_index r.clock at.core < at.count
     by other (inl same) = absurd (other (same_instr r.at at same))
     by other (inr above) = grind (arith, nat_tests)
-all_others (r ∷ found) at e s (inr one) d = all_others found at (and_true (lets_pass at r) (list_all (lets_pass at) found) e).1 s one d
+all_others (r ∷ found) at e s (inr one) d = all_others found at (and_parts (lets_pass at r) (list_all (lets_pass at) found) e).1 s one d
 
 others_all : (found : List Source) (at : Instr) → ((s : Source) → IsOneOf found s → s.at ≢ at → slice_index s.clock at.core < at.count) → list_all (lets_pass at) found ≡ true
 others_all [] at f = refl
@@ -58,7 +58,7 @@ others_all (r ∷ found) at f = by (is_same r.at at) refl (others_all found at (
 
 pub kept_passes : (before : Clock) (found : List Source) (at : Instr) → is_kept before found at ≡ true → Passes before found at
 kept_passes before found at e =
-    let both = and_true (is_above before at) (list_all (lets_pass at) found) e in
+    let both = and_parts (is_above before at) (list_all (lets_pass at) found) e in
     let above : is_above before at ≡ true = both.0 in
     record { own = grind (arith, nat_tests); others = all_others found at both.1 }
 

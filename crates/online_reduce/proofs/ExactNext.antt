@@ -1,5 +1,6 @@
 -- A retirement keeps each core's clock exact.
 use Rattle.std.proofs.Common.{◌≡◌, ◌≢◌, ℕ, ◌<◌, ◌≤◌, ◌⊎◌, ◌↔◌, List, [], ◌∷◌, ◌++◌, length, reverse, refl, sym, ◌∙◌, ap, subst, inl, inr, arith, slice_index}
+use Rattle.std.proofs.lemmas.Bool.{cases_eq}
 use Rattle.std.specs.Prelude.{slice_set, slice_index_or}
 use Rattle.std.specs.List.{fold}
 use Rattle.std.proofs.lemmas.List.{get_or-set_same, get_or-set_other, length-set}
@@ -14,7 +15,6 @@ use Rattle.conflict_edge.specs.Clocks.{clock, IsBelowMerged}
 use Rattle.conflict_edge.specs.Conflicts.{StandsIn}
 use Rattle.conflict_edge.specs.Times.{IsExactClock}
 use Rattle.conflict_edge.proofs.Clocks.{own_clock}
-use Rattle.conflict_edge.proofs.Online.{nat_cases}
 use Rattle.conflict_edge.proofs.Reach.{online_clock_law, kept_clock_law}
 use Rattle.conflict_edge.proofs.Reversed.{rising_back, stands_back}
 use Rattle.conflict_edge.proofs.Scan.{stands-split}
@@ -54,7 +54,7 @@ merged_clock list r a t next i n lt = (to, from)
 
 pub next_exact : (list : List Access) (r : Reduced) (a : Access) (t : Times) → Next list r a t → IsExactClock (list ++ (a ∷ [])) a.at (next_clock r a t)
 unfolding clock_into
-next_exact list r a t next i lt = by (nat_cases i a.at.core)
+next_exact list r a t next i lt = by (cases_eq i a.at.core)
   where
     m : Clock
     m = fold merged_with (clock_of r a.at.core) (candidates r.cores a t)
@@ -113,8 +113,8 @@ changed : (list : List Access) (r : Reduced) (lists : List (List (ℕ × ℕ))) 
 changed list r lists at new lt fresh wide others = record {
   own_count = ap (λ (m : Clock). slice_index m at.core) (put_at r at.core new lt) ∙ fresh.own;
   other_count = λ core d. ap (λ (m : Clock). slice_index m core) (put_other r at.core core new d);
-  wide = λ core below. wider core below (nat_cases core at.core);
-  clocks = λ core below. exact core below (nat_cases core at.core);
+  wide = λ core below. wider core below (cases_eq core at.core);
+  clocks = λ core below. exact core below (cases_eq core at.core);
 }
   where
     wider : (core : ℕ) → core < r.cores → (core ≡ at.core) ⊎ (core ≢ at.core) → CORES_MAX ≤ length (slice_index_or (slice_set r.clocks at.core new) core no_counts)
@@ -138,7 +138,7 @@ changed list r lists at new lt fresh wide others = record {
         subst (λ (m : Clock). IsExactClock list (record { core = core; count = slice_index m core }) m) (sym (put_other r at.core core new d)) (others core below d)
 
 grows : {list : List Access} (r : Reduced) (at : Instr) (s : Reduced) → Changed list r at s → IsNext r at → (core : ℕ) → count_of r core ≤ count_of s core
-grows r at s parts next core = by (nat_cases core at.core)
+grows r at s parts next core = by (cases_eq core at.core)
   where
     by : (core ≡ at.core) ⊎ (core ≢ at.core) → count_of r core ≤ count_of s core
     by (inl e) =
@@ -180,7 +180,7 @@ retired_exact list r a t next = record {
     count b le (inr d) = let same = parts.other_count b.at.core d in omega arith
 
     within : (b : Access) → StandsIn list b ⊎ StandsIn (a ∷ []) b → (b.at.core < r.cores) × (b.at.count ≤ count_of (retired r a t) b.at.core)
-    within b (inl s) = let w = next.exact.within b s in (w.0, count b w.1 (nat_cases b.at.core a.at.core))
+    within b (inl s) = let w = next.exact.within b s in (w.0, count b w.1 (cases_eq b.at.core a.at.core))
     within b (inr (inl e)) = subst (λ (v : Access). (v.at.core < r.cores) × (v.at.count ≤ count_of (retired r a t) v.at.core)) e (next.next.core, let same = parts.own_count in omega arith)
     within b (inr (inr s)) = absurd s
 
@@ -197,7 +197,7 @@ counted_parts list r at next exact =
     (record {
       wide = omega (arith, length-set (clock_of r at.core) at.core at.count, exact.wide at.core next.core);
       own = at_own;
-      exact = λ i lt. fresh_at i lt (nat_cases i at.core);
+      exact = λ i lt. fresh_at i lt (cases_eq i at.core);
     })
     exact.wide
     (λ core below d. exact.clocks core below)
@@ -227,7 +227,7 @@ counted_exact list r at next exact = record {
   places = length-set r.clocks at.core (slice_set (clock_of r at.core) at.core at.count) ∙ exact.places;
   wide = parts.wide;
   rise = exact.rise;
-  within = λ b s. let w = exact.within b s in (w.0, count b w.1 (nat_cases b.at.core at.core));
+  within = λ b s. let w = exact.within b s in (w.0, count b w.1 (cases_eq b.at.core at.core));
   clocks = parts.clocks;
 }
   where

@@ -1,5 +1,6 @@
 -- The candidates of an access: what they are, and how many.
 use Rattle.std.proofs.Common.{◌≡◌, ◌≢◌, ℕ, zero, suc, ◌+◌, ◌%◌, ◌<◌, ◌≤◌, ◌⊎◌, List, [], ◌∷◌, ◌++◌, length, refl, sym, ◌∙◌, ap, subst, inl, inr, arith, true, false, Bool, not, ◌&&◌, nat_eq, nat_lt, Option, Some, None}
+use Rattle.std.proofs.lemmas.Bool.{and_parts}
 use Rattle.std.specs.Prelude.{All, if◌then◌else◌}
 use Rattle.std.specs.Option.{option_to_list}
 use Rattle.std.proofs.lemmas.List.{length-append}
@@ -12,7 +13,6 @@ use Rattle.clock_core.specs.declared.clock.Clock.{Clock}
 use Rattle.rtr_types.specs.declared.TheConstants.{BLOCK_WORDS, CORES_MAX}
 use Rattle.access_times.specs.declared.times.Times.{Times}
 use Rattle.access_times.specs.Times.{write_at, read_at}
-use Rattle.conflict_edge.proofs.History.{and_true}
 use Rattle.online_reduce.specs.declared.TheConstants.{EDGES_MAX}
 use Rattle.online_reduce.specs.declared.source.Source.{Source}
 use Rattle.online_reduce.specs.Sources.{write_from, read_from, candidates_from, candidates, IsOneOf}
@@ -75,7 +75,7 @@ wrote a core (Some w) s e = by (nat_eq w.0.core core && not (nat_eq core a.at.co
     by : (b : Bool) → nat_eq w.0.core core && not (nat_eq core a.at.core) ≡ b → (if b then Some (record { at = w.0; clock = w.1 }) else None) ≡ Some s → Wrote a core (Some w) s
     by true t f =
         let is : ◌≡◌ {A = Source} (record { at = w.0; clock = w.1 }) s = cc in
-        let both = and_true (nat_eq w.0.core core) (not (nat_eq core a.at.core)) t in
+        let both = and_parts (nat_eq w.0.core core) (not (nat_eq core a.at.core)) t in
         let one : nat_eq w.0.core core ≡ true = both.0 in
         let two : not (nat_eq core a.at.core) ≡ true = both.1 in
         record {
@@ -99,7 +99,7 @@ did_read a core (Some r) s e = by (is_write a.kind && not (nat_eq core a.at.core
     by : (b : Bool) → is_write a.kind && not (nat_eq core a.at.core) ≡ b → (if b then Some (record { at = record { core = core; count = r.0 }; clock = r.1 }) else None) ≡ Some s → Read a core (Some r) s
     by true t f =
         let is : ◌≡◌ {A = Source} (record { at = record { core = core; count = r.0 }; clock = r.1 }) s = cc in
-        let both = and_true (is_write a.kind) (not (nat_eq core a.at.core)) t in
+        let both = and_parts (is_write a.kind) (not (nat_eq core a.at.core)) t in
         let two : not (nat_eq core a.at.core) ≡ true = both.1 in
         record {
           writes = both.0;
@@ -195,7 +195,7 @@ write_once n a (Some w) = by (nat_eq w.0.core n && not (nat_eq n a.at.core)) ref
     by : (b : Bool) → nat_eq w.0.core n && not (nat_eq n a.at.core) ≡ b →
         length (option_to_list (if b then Some (let s : Source = record { at = w.0; clock = w.1 } in s) else None)) + (if nat_lt w.0.core n then 1 else 0) ≤ (if nat_lt w.0.core (suc n) then 1 else 0)
     by true t =
-        let one : nat_eq w.0.core n ≡ true = (and_true (nat_eq w.0.core n) (not (nat_eq n a.at.core)) t).0 in
+        let one : nat_eq w.0.core n ≡ true = (and_parts (nat_eq w.0.core n) (not (nat_eq n a.at.core)) t).0 in
         grind (arith, nat_tests)
     by false t = grind (arith, nat_tests)
 
@@ -274,7 +274,7 @@ own_gives_none n a w own k lt = not_by a k w (by (nat_eq w.0.core k && not (nat_
     by : (b : Bool) → nat_eq w.0.core k && not (nat_eq k a.at.core) ≡ b → b ≡ false
     by false e = refl
     by true e =
-        let both = and_true (nat_eq w.0.core k) (not (nat_eq k a.at.core)) e in
+        let both = and_parts (nat_eq w.0.core k) (not (nat_eq k a.at.core)) e in
         let one : nat_eq w.0.core k ≡ true = both.0 in
         let two : not (nat_eq k a.at.core) ≡ true = both.1 in
         let is : w.0.core ≡ k = grind (arith, nat_tests) in

@@ -7,7 +7,6 @@ use Rattle.rtr_types.specs.Accesses.{is_write}
 use Rattle.rtr_types.specs.declared.instr.Instr.{Instr}
 use Rattle.rtr_types.specs.declared.access.Access.{Access}
 use Rattle.rtr_types.specs.declared.access.Kind.{Kind}
-use Rattle.rtr_types.specs.declared.access.Kind.TheVariants.{Load, Store}
 use Rattle.clock_core.specs.declared.clock.Clock.{Clock}
 use Rattle.rtr_types.specs.declared.TheConstants.{BLOCK_WORDS, CORES_MAX}
 use Rattle.access_times.specs.declared.times.SlotTimes.{SlotTimes}
@@ -38,11 +37,15 @@ loaded_read s at clock lt =
 
 held_as : (kind : Kind) (t : Times) (slot : ℕ) (at : Instr) (clock : Clock) → slot < BLOCK_WORDS → at.core < CORES_MAX →
     (is_write kind ≡ true → write_at (times_noted_as kind t slot at clock) slot ≡ Some (at, clock)) × (is_write kind ≡ false → read_at (times_noted_as kind t slot at clock) slot at.core ≡ Some (at.count, clock))
-held_as Load t slot at clock lt fits = (
-  (λ e. absurd cc),
-  λ e. ap (λ (s : SlotTimes). read_in s.reads at.core) (loaded_slot t slot at clock lt) ∙ loaded_read (slot_at t slot) at clock fits,
+held_as kind t slot at clock lt fits = (
+  (λ e. ap (λ (x : Times). write_at x slot) (noted true e) ∙ ap (λ (s : SlotTimes). s.write) (stored_slot t slot at clock lt)),
+  λ e. ap (λ (x : Times). read_at x slot at.core) (noted false e)
+      ∙ ap (λ (s : SlotTimes). read_in s.reads at.core) (loaded_slot t slot at clock lt)
+      ∙ loaded_read (slot_at t slot) at clock fits,
 )
-held_as Store t slot at clock lt fits = ((λ e. ap (λ (s : SlotTimes). s.write) (stored_slot t slot at clock lt)), λ e. absurd cc)
+  where
+    noted : (writes : Bool) → is_write kind ≡ writes → times_noted_as kind t slot at clock ≡ (if writes then times_stored t slot at clock else times_loaded t slot at clock)
+    noted writes e = ap (λ (b : Bool). if b then times_stored t slot at clock else times_loaded t slot at clock) e
 
 pub held : (a : Access) (t : Times) (clock : Clock) → a.at.core < CORES_MAX → IsHeld a (times_noted a t clock) clock
 held a t clock fits =

@@ -1,5 +1,6 @@
 -- With exact times the candidates that are found are the candidates, each with its exact clock.
 use Rattle.std.proofs.Common.{◌≡◌, ◌≢◌, ℕ, ◌%◌, ◌<◌, ◌≤◌, ◌⊎◌, List, [], ◌∷◌, reverse, refl, sym, ◌∙◌, ap, subst, inl, inr, arith, true, false, Option, Some, None}
+use Rattle.std.proofs.lemmas.Bool.{cases_eq}
 use Rattle.rtr_types.specs.Accesses.{is_write}
 use Rattle.rtr_types.specs.declared.instr.Instr.{Instr}
 use Rattle.rtr_types.specs.declared.access.Access.{Access}
@@ -12,7 +13,7 @@ use Rattle.conflict_edge.specs.Conflicts.{StandsIn}
 use Rattle.conflict_edge.specs.Times.{IsNoteOf, IsExactClock}
 use Rattle.conflict_edge.proofs.History.{Rising}
 use Rattle.conflict_edge.proofs.Reversed.{stands_back}
-use Rattle.conflict_edge.proofs.Online.{cases_kind, nat_cases, none_some, some_is, last_write-word, last_write-load, last_read-word, last_read-store, last_read-at, last_read-core, last_write-is, last_read-is}
+use Rattle.conflict_edge.proofs.Online.{cases_kind, none_some, some_is, last_write-word, last_write-load, last_read-word, last_read-store, last_read-at, last_read-core, last_write-is, last_read-is}
 use Rattle.online_reduce.specs.declared.source.Source.{Source}
 use Rattle.online_reduce.specs.Sources.{candidates, IsOneOf}
 use Rattle.online_reduce.specs.Exact.{AreExactFor, read_note}
@@ -58,7 +59,7 @@ read_noted core (Some m) n e =
 pub read_later : (h : List Access) (word core : ℕ) (b c : Access) → Rising h → last_write h word ≡ Some b → last_read h word core ≡ Some c → b.at.core ≡ core → b.at.count < c.at.count
 unfolding last_write last_read
 read_later [] word core b c rising w r e = absurd (none_some b w)
-read_later (d ∷ h) word core b c rising w r e = by (λ p q. read_later h word core b c rising.2 p q e) (nat_cases d.word word) (cases_kind d.kind) (nat_cases d.at.core core)
+read_later (d ∷ h) word core b c rising w r e = by (λ p q. read_later h word core b c rising.2 p q e) (cases_eq d.word word) (cases_kind d.kind) (cases_eq d.at.core core)
   where
     by : (last_write h word ≡ Some b → last_read h word core ≡ Some c → b.at.count < c.at.count) → (d.word ≡ word) ⊎ (d.word ≢ word) → (is_write d.kind ≡ false) ⊎ (is_write d.kind ≡ true) → (d.at.core ≡ core) ⊎ (d.at.core ≢ core) → b.at.count < c.at.count
     by before (inr p) _ _ = before (sym (last_write-word d h word p) ∙ w) (sym (last_read-word d h word core p) ∙ r)

@@ -1,5 +1,6 @@
 -- The reduction is kept: the edges are the covering pairs, and they stand by pair, rising.
 use Rattle.std.proofs.Common.{◌≡◌, ◌≢◌, ℕ, ◌<◌, ◌≤◌, ◌⊎◌, ◌↔◌, List, [], ◌∷◌, ◌++◌, length, replicate, refl, sym, ◌∙◌, ap, subst, inl, inr, arith, nat_eq, Bool, false, true, cond, slice_index, if◌then◌else◌}
+use Rattle.std.proofs.lemmas.Bool.{cases_lt}
 use Rattle.std.specs.Prelude.{map, slice_index_or}
 use Rattle.std.specs.List.{AllByRecursion, Contains, filter}
 use Rattle.std.proofs.lemmas.List.{append-nil, length-replicate, get_or-replicate, get_or_past}
@@ -35,22 +36,16 @@ use Rattle.online_reduce.proofs.Step.{Next, next_of, covering_into}
 
 -- and it is every core's at the start
 pub no_count : (core : ℕ) → slice_index_or (replicate CORES_MAX no_counts) core no_counts ≡ no_counts
-no_count core = by (order core CORES_MAX)
+no_count core = by (cases_lt core CORES_MAX)
   where
-    order : (m n : ℕ) → (m < n) ⊎ (n ≤ m)
-    order m n = grind arith
-
     by : (core < CORES_MAX) ⊎ (CORES_MAX ≤ core) → slice_index_or (replicate CORES_MAX no_counts) core no_counts ≡ no_counts
     by (inl lt) = get_or-replicate CORES_MAX core no_counts no_counts lt
     by (inr past) = get_or_past (replicate CORES_MAX no_counts) core no_counts (omega (arith, length-replicate CORES_MAX no_counts))
 
 -- the clock that knows of nothing counts nothing
 pub none_counted : (i : ℕ) → slice_index no_counts i ≡ 0
-none_counted i = by (order i CORES_MAX)
+none_counted i = by (cases_lt i CORES_MAX)
   where
-    order : (m n : ℕ) → (m < n) ⊎ (n ≤ m)
-    order m n = grind arith
-
     by : (i < CORES_MAX) ⊎ (CORES_MAX ≤ i) → slice_index no_counts i ≡ 0
     by (inl lt) = get_or-replicate {A = ℕ} CORES_MAX i 0 0 lt
     by (inr past) = get_or_past no_counts i 0 (omega (arith, length-replicate {A = ℕ} CORES_MAX 0))

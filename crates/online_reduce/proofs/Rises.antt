@@ -1,5 +1,6 @@
 -- Both counts of a pair's edges rise.
 use Rattle.std.proofs.Common.{◌≡◌, ◌≢◌, ℕ, ◌<◌, ◌≤◌, ◌⊎◌, List, [], ◌∷◌, ◌++◌, reverse, refl, sym, ◌∙◌, ap, subst, inl, inr, arith}
+use Rattle.std.proofs.lemmas.Bool.{cases_order}
 use Rattle.std.specs.List.{AllByRecursion}
 use Rattle.rtr_types.specs.declared.instr.Instr.{Instr}
 use Rattle.rtr_types.specs.declared.instr.Edge.{Edge}
@@ -92,11 +93,8 @@ at_pos list x rise a = subst (λ (v : Instr). 1 ≤ v.count) a.at_is (pos_of lis
 -- a covering pair into a comes from above the source of each earlier pair between the two cores
 pub source_above : (list : List Access) (a : Access) (x u v : Instr) → ConflictPair list u v → v.core ≡ a.at.core → v.count < a.at.count → u.core ≡ x.core →
     Covering (list ++ (a ∷ [])) x a.at → u.count < x.count
-source_above list a x u v pair core later same cover = by (order x.count u.count)
+source_above list a x u v pair core later same cover = by (cases_order x.count u.count)
   where
-    order : (m n : ℕ) → (m ≡ n) ⊎ ((m < n) ⊎ (n < m))
-    order m n = grind arith
-
     step : Before (ConflictPair (list ++ (a ∷ []))) u v
     step = one (ConflictPair (list ++ (a ∷ []))) u v (inr (conflict_left list (a ∷ []) u v pair))
 

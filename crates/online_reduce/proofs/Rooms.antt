@@ -1,5 +1,6 @@
 -- The pairs' lists: they get room, and edges.
 use Rattle.std.proofs.Common.{◌≡◌, ◌≢◌, ℕ, zero, suc, ◌+◌, ◌<◌, ◌≤◌, ◌⊎◌, Bool, true, false, ◌&&◌, List, [], ◌∷◌, ◌++◌, length, take, get_or, refl, sym, ap, ◌∙◌, inl, inr, arith}
+use Rattle.std.proofs.lemmas.Bool.{and_parts, cases_eq}
 use Rattle.std.specs.Prelude.{map, slice_index_or, slice_set}
 use Rattle.std.specs.List.{list_all}
 use Rattle.std.proofs.lemmas.List.{map-set, take_all, take_more_set, length-map, length-set, length_push, get_or-set_same, get_or-set_other}
@@ -7,7 +8,6 @@ use Rattle.std.proofs.lemmas.List.Folds.{list_all-append, list_all_at}
 use Rattle.std.proofs.lemmas.List.Sums.{fold-append}
 use Rattle.std.proofs.Math.Seq.{map-set_same}
 use Rattle.std.proofs.lemmas.Bool.Decides.{nat_tests}
-use Rattle.conflict_edge.proofs.History.{and_true}
 use Rattle.rtr_types.specs.Pairs.{pair_place}
 use Rattle.rtr_types.specs.declared.instr.Edge.{Edge}
 use Rattle.online_reduce.specs.declared.TheConstants.{EDGES_MAX}
@@ -63,16 +63,13 @@ HaveRoom rooms n = (k : ℕ) (d : PairRoom) → k < length rooms → length (get
 
 pub have_room : (rooms : List PairRoom) → list_all is_roomy rooms ≡ true → HaveRoom rooms EDGES_MAX
 have_room [] e k d lt = absurd (omega arith)
-have_room (r ∷ rooms) e zero d lt = let t : is_roomy r ≡ true = (and_true (is_roomy r) (list_all is_roomy rooms) e).0 in grind (arith, nat_tests)
-have_room (r ∷ rooms) e (suc k) d lt = have_room rooms (and_true (is_roomy r) (list_all is_roomy rooms) e).1 k d (omega arith)
+have_room (r ∷ rooms) e zero d lt = let t : is_roomy r ≡ true = (and_parts (is_roomy r) (list_all is_roomy rooms) e).0 in grind (arith, nat_tests)
+have_room (r ∷ rooms) e (suc k) d lt = have_room rooms (and_parts (is_roomy r) (list_all is_roomy rooms) e).1 k d (omega arith)
 
 pub room_left : (rooms : List PairRoom) (i n : ℕ) (old new : PairRoom) (e : ℕ × ℕ) → i < length rooms → old ≡ get_or rooms i old → new.edges ≡ old.edges ++ e ∷ [] → new.room ≡ old.room →
     HaveRoom rooms (suc n) → HaveRoom (slice_set rooms i new) n
-room_left rooms i n old new e within is more kept had k d lt = by (cases k i)
+room_left rooms i n old new e within is more kept had k d lt = by (cases_eq k i)
   where
-    cases : (a b : ℕ) → (a ≡ b) ⊎ (a ≢ b)
-    cases a b = grind arith
-
     at : get_or (slice_set rooms i new) i d ≡ new
     at = get_or-set_same rooms i new d within
 
@@ -98,9 +95,9 @@ room_same rooms n m le had k d lt = let was = had k d lt in omega arith
 -- all still have room, where the changed one has
 pub still_roomy : (rooms : List PairRoom) (i : ℕ) (new : PairRoom) → list_all is_roomy rooms ≡ true → is_roomy new ≡ true → list_all is_roomy (slice_set rooms i new) ≡ true
 still_roomy [] i new all has = all
-still_roomy (r ∷ rooms) zero new all has = rw (has, (and_true (is_roomy r) (list_all is_roomy rooms) all).1) refl
+still_roomy (r ∷ rooms) zero new all has = rw (has, (and_parts (is_roomy r) (list_all is_roomy rooms) all).1) refl
 still_roomy (r ∷ rooms) (suc i) new all has =
-    let both = and_true (is_roomy r) (list_all is_roomy rooms) all in
+    let both = and_parts (is_roomy r) (list_all is_roomy rooms) all in
     rw (both.0, still_roomy rooms i new both.1 has) refl
 
 -- one more edge is put at the end of its pair's list

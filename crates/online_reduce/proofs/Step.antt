@@ -1,5 +1,6 @@
 -- One retirement with exact times: its edges are the covering pairs into it, and its clock is exact.
 use Rattle.std.proofs.Common.{◌≡◌, ◌≢◌, ℕ, ◌%◌, ◌<◌, ◌≤◌, ◌⊎◌, List, [], ◌∷◌, ◌++◌, reverse, sym, ◌∙◌, ap, subst, inl, inr, arith, true, false, Some, slice_index}
+use Rattle.std.proofs.lemmas.Bool.{cases_Bool}
 use Rattle.rtr_types.specs.declared.instr.Instr.{Instr}
 use Rattle.rtr_types.specs.declared.access.Access.{Access}
 use Rattle.clock_core.specs.Order.{Among, previous}
@@ -11,7 +12,7 @@ use Rattle.conflict_edge.specs.Conflicts.{StandsIn, CountsRise}
 use Rattle.conflict_edge.specs.Least.{Covering}
 use Rattle.conflict_edge.specs.Times.{IsExactClock}
 use Rattle.conflict_edge.proofs.Clocks.{own_clock}
-use Rattle.conflict_edge.proofs.History.{Rising, cases}
+use Rattle.conflict_edge.proofs.History.{Rising}
 use Rattle.conflict_edge.proofs.Reach.{online_law}
 use Rattle.conflict_edge.proofs.Reversed.{rising_back}
 use Rattle.online_reduce.specs.declared.source.Source.{Source}
@@ -82,7 +83,7 @@ rule_kept list r a t n s one kept = passes_kept (clock_of r a.at.core) (candidat
 write_dropped : (list : List Access) (r : Reduced) (a : Access) (t : Times) → Next list r a t → (core : ℕ) → core < r.cores → (x y : Source) →
     write_from a core (write_at t (a.word % BLOCK_WORDS)) ≡ Some x → read_from a core (read_at t (a.word % BLOCK_WORDS) core) ≡ Some y →
     is_kept (clock_of r a.at.core) (candidates r.cores a t) x.at ≡ false
-write_dropped list r a t n core lt x y w e = by (cases (is_kept (clock_of r a.at.core) (candidates r.cores a t) x.at))
+write_dropped list r a t n core lt x y w e = by (cases_Bool (is_kept (clock_of r a.at.core) (candidates r.cores a t) x.at))
   where
     written : Wrote a core (write_at t (a.word % BLOCK_WORDS)) x
     written = wrote a core (write_at t (a.word % BLOCK_WORDS)) x w

@@ -1,12 +1,13 @@
 -- The test of covering pairs is right.
 use Rattle.std.proofs.Common.{◌≡◌, ◌≢◌, ◌∙◌, refl, sym, ap, subst, ℕ, ◌≤◌, ◌&&◌, ◌||◌, ◌⊎◌, inl, inr, Bool, true, false, not, nat_eq, nat_le, List, [], ◌∷◌, reverse, arith}
+use Rattle.std.proofs.lemmas.Bool.{and_parts}
 use Rattle.std.specs.List.{list_any}
 use Rattle.std.proofs.lemmas.Bool.Decides.{nat_tests}
 use Rattle.rtr_types.specs.declared.access.Access.{Access}
 use Rattle.rtr_types.specs.declared.instr.Instr.{Instr}
 use Rattle.clock_core.proofs.Paths.{instr_eq, joined, last_at, more, one}
 use Rattle.clock_core.specs.Order.{Before, IsOrLeads, Step}
-use Rattle.conflict_edge.proofs.History.{Pair, and_true, do_conflict-true, do_conflict-yes, ends}
+use Rattle.conflict_edge.proofs.History.{Pair, do_conflict-true, do_conflict-yes, ends}
 use Rattle.conflict_edge.proofs.Reach.{clock_law}
 use Rattle.conflict_edge.proofs.Reversed.{pair_back, pair_forth, rising_back, stands_back}
 use Rattle.conflict_edge.proofs.Scan.{arrives}
@@ -66,7 +67,7 @@ one_first (d ∷ later) a b (inr s) (inr t) c = by (one_first later a b s t c)
 -- ---- the tests
 
 same_is : (x y : Instr) → is_same x y ≡ true → x ≡ y
-same_is x y e = let p = and_true (nat_eq x.core y.core) (nat_eq x.count y.count) e in instr_eq x y (eq x.core y.core p.0) (eq x.count y.count p.1)
+same_is x y e = let p = and_parts (nat_eq x.core y.core) (nat_eq x.count y.count) e in instr_eq x y (eq x.core y.core p.0) (eq x.count y.count p.1)
   where
     eq : (m n : ℕ) → nat_eq m n ≡ true → m ≡ n
     eq m n t = grind (arith, nat_tests)
@@ -160,10 +161,10 @@ covering_is list x y rise sx sy e = (pair, free)
     E = ConflictPair list
 
     parts : ((do_conflict x y && is_or_leads list x.at y.at) ≡ true) × (not (list_any (stands_between list x y) list) ≡ true)
-    parts = and_true (do_conflict x y && is_or_leads list x.at y.at) (not (list_any (stands_between list x y) list)) e
+    parts = and_parts (do_conflict x y && is_or_leads list x.at y.at) (not (list_any (stands_between list x y) list)) e
 
     tests : (do_conflict x y ≡ true) × (is_or_leads list x.at y.at ≡ true)
-    tests = and_true (do_conflict x y) (is_or_leads list x.at y.at) parts.0
+    tests = and_parts (do_conflict x y) (is_or_leads list x.at y.at) parts.0
 
     conflict : Conflicts x y
     conflict = do_conflict-true x y tests.0
@@ -223,9 +224,9 @@ covering_passes list x y rise sx sy cover =
 
     none : (z : Access) → StandsIn list z → stands_between list x y z ≡ true → ⊥
     none z sz t =
-        let p = and_true (not (is_same z.at x.at) && not (is_same z.at y.at)) (is_or_leads list x.at z.at && is_or_leads list z.at y.at) t in
-        let d = and_true (not (is_same z.at x.at)) (not (is_same z.at y.at)) p.0 in
-        let r = and_true (is_or_leads list x.at z.at) (is_or_leads list z.at y.at) p.1 in
+        let p = and_parts (not (is_same z.at x.at) && not (is_same z.at y.at)) (is_or_leads list x.at z.at && is_or_leads list z.at y.at) t in
+        let d = and_parts (not (is_same z.at x.at)) (not (is_same z.at y.at)) p.0 in
+        let r = and_parts (is_or_leads list x.at z.at) (is_or_leads list z.at y.at) p.1 in
         cover.1 z.at
         (strictly_back x.at z.at d.0 (test_leads list x.at z.at rise (positive list x rise sx) r.0))
         (strictly z.at y.at d.1 (test_leads list z.at y.at rise (positive list z rise sz) r.1))

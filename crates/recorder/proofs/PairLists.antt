@@ -1,11 +1,11 @@
 -- A pair's list has exactly the covering pairs between its two cores, and it is sorted.
 use Rattle.std.proofs.Common.{◌≡◌, ◌∙◌, refl, sym, ap, subst, ℕ, ◌&&◌, ◌⊎◌, inl, inr, Bool, true, false, cond, nat_eq, List, [], ◌∷◌, map, arith}
+use Rattle.std.proofs.lemmas.Bool.{and_parts, cases_Bool}
 use Rattle.std.specs.List.{filter, flat_map}
 use Rattle.std.proofs.lemmas.Bool.Decides.{nat_tests}
 use Rattle.rtr_types.specs.declared.access.Access.{Access}
 use Rattle.rtr_types.specs.declared.instr.Instr.{Instr}
 use Rattle.clock_core.proofs.Paths.{instr_eq}
-use Rattle.conflict_edge.proofs.History.{and_true, cases}
 use Rattle.conflict_edge.specs.Conflicts.{CountsRise, StandsIn}
 use Rattle.conflict_edge.specs.Least.{Covering}
 use Rattle.online_reduce.proofs.Rises.{AtAccess, pair_source, pair_target}
@@ -43,7 +43,7 @@ record Source (list some : List Access) (from : ℕ) (y : Access) (e : ℕ × �
 
 source_in : (list some : List Access) (from : ℕ) (y : Access) (e : ℕ × ℕ) → In (map (counts y) (filter (is_source list from y) some)) e → Source list some from y e
 source_in list [] from y e s = absurd s
-source_in list (x ∷ some) from y e s = by (cases (is_source list from y x)) s (λ t. wider (source_in list some from y e t))
+source_in list (x ∷ some) from y e s = by (cases_Bool (is_source list from y x)) s (λ t. wider (source_in list some from y e t))
   where
     wider : Source list some from y e → Source list (x ∷ some) from y e
     wider r = record { access = r.access; stands = inr r.stands; passes = r.passes; is = r.is }
@@ -68,13 +68,13 @@ in_source list (z ∷ some) from y x (inr s) test = by (is_source list from y z)
 -- they rise by their sources
 sources_sorted : (list some : List Access) (from : ℕ) (y : Access) → CountsRise some → Sorted (map (counts y) (filter (is_source list from y) some))
 sources_sorted list [] from y rise = tt
-sources_sorted list (x ∷ some) from y rise = by (cases (is_source list from y x)) (sources_sorted list some from y rise.2)
+sources_sorted list (x ∷ some) from y rise = by (cases_Bool (is_source list from y x)) (sources_sorted list some from y rise.2)
   where
     below : is_source list from y x ≡ true → (f : ℕ × ℕ) → In (map (counts y) (filter (is_source list from y) some)) f → Below (counts y x) f
     below test f s =
         let r = source_in list some from y f s in
-        let mine = eq_of x.at.core from (and_true (nat_eq x.at.core from) (is_covering list x y) test).0 in
-        let its = eq_of r.access.at.core from (and_true (nat_eq r.access.at.core from) (is_covering list r.access y) r.passes).0 in
+        let mine = eq_of x.at.core from (and_parts (nat_eq x.at.core from) (is_covering list x y) test).0 in
+        let its = eq_of r.access.at.core from (and_parts (nat_eq r.access.at.core from) (is_covering list r.access y) r.passes).0 in
         let lt = rise.1 r.access r.stands (mine ∙ sym its) in
         subst (λ (g : ℕ × ℕ). Below (counts y x) g) r.is (inr (refl, lt))
 
@@ -92,7 +92,7 @@ record Target (list some : List Access) (from to : ℕ) (e : ℕ × ℕ) : Type 
 
 target_in : (list some : List Access) (from to : ℕ) (e : ℕ × ℕ) → In (flat_map (covering_counts list from) (filter (is_of to) some)) e → Target list some from to e
 target_in list [] from to e s = absurd s
-target_in list (y ∷ some) from to e s = by (cases (is_of to y)) s (λ t. wider (target_in list some from to e t))
+target_in list (y ∷ some) from to e s = by (cases_Bool (is_of to y)) s (λ t. wider (target_in list some from to e t))
   where
     wider : Target list some from to e → Target list (y ∷ some) from to e
     wider r = record { access = r.access; stands = inr r.stands; core = r.core; source = r.source }
@@ -119,7 +119,7 @@ in_target list (z ∷ some) from to y e (inr s) core t = by (is_of to z) (in_tar
 -- they rise by their targets
 targets_sorted : (list some : List Access) (from to : ℕ) → CountsRise list → CountsRise some → Sorted (flat_map (covering_counts list from) (filter (is_of to) some))
 targets_sorted list [] from to rise rises = tt
-targets_sorted list (y ∷ some) from to rise rises = by (cases (is_of to y)) (targets_sorted list some from to rise rises.2)
+targets_sorted list (y ∷ some) from to rise rises = by (cases_Bool (is_of to y)) (targets_sorted list some from to rise rises.2)
   where
     below : is_of to y ≡ true → (e f : ℕ × ℕ) → In (covering_counts list from y) e → In (flat_map (covering_counts list from) (filter (is_of to) some)) f → Below e f
     below test e f s t =
@@ -145,7 +145,7 @@ unfolding pair_list
 pair_covers list from to e rise s =
     let r = target_in list list from to e s in
     let q = r.source in
-    let p = and_true (nat_eq q.access.at.core from) (is_covering list q.access r.access) q.passes in
+    let p = and_parts (nat_eq q.access.at.core from) (is_covering list q.access r.access) q.passes in
     let x : Instr = record { core = from; count = e.0 } in
     let y : Instr = record { core = to; count = e.1 } in
     subst (λ (v : Instr). Covering list x v) (instr_eq r.access.at y r.core (ap (λ (g : ℕ × ℕ). g.1) q.is))

@@ -1,6 +1,7 @@
 -- Fronts of the low order, and what a run along it comes to.
 use Rattle.std.proofs.Common.{inl, inr, ◌≡◌, ◌⊎◌, ℕ, ◌<◌, true, false, List, [], ◌∷◌, ◌++◌, length, refl, sym, ap, ◌∙◌, subst, arith, append-nil, append_assoc}
 use Rattle.std.specs.Prelude.{Option, Some, None}
+use Rattle.std.proofs.lemmas.Bool.{cases_order}
 use Rattle.rtr_types.specs.declared.cut.Cut.{Cut}
 use Rattle.rv_core.specs.declared.outcome.Outcome.{Outcome}
 use Rattle.rv_core.specs.Steps.{is_done}
@@ -21,13 +22,10 @@ pub front_more : (p : Plan) (f : ℕ → ℕ) (xs : List ℕ) (c : ℕ) → LowF
 front_more p f [] c h ready no_lower = (ready, no_lower, tt)
 front_more p f (x ∷ xs) c h ready no_lower = (h.0, h.1, front_more p (bump f x) xs c h.2 ready no_lower)
 
-order3 : (m n : ℕ) → (m ≡ n) ⊎ (m < n) ⊎ (n < m)
-order3 m n = grind arith
-
 front-of : (p : Plan) (f : ℕ → ℕ) (xs ys : List ℕ) → LowFront p f xs → Lowest p f ys → (rest : List ℕ) × (ys ≡ xs ++ rest)
 front-of p f [] ys h l = (ys, refl)
 front-of p f (c ∷ cs) [] h l = absurd (l c h.0)
-front-of p f (c ∷ cs) (d ∷ ds) h l = by (order3 c d) (front-of p (bump f c) cs ds h.2)
+front-of p f (c ∷ cs) (d ∷ ds) h l = by (cases_order c d) (front-of p (bump f c) cs ds h.2)
   where
     by : (c ≡ d) ⊎ (c < d) ⊎ (d < c) → (Lowest p (bump f c) ds → (rest : List ℕ) × (ds ≡ cs ++ rest)) → (rest : List ℕ) × (d ∷ ds ≡ c ∷ cs ++ rest)
     by (inl e) go =

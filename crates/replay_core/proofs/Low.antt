@@ -1,6 +1,7 @@
 -- The low order takes the lowest ready core at each place, until there is none.
 use Rattle.std.proofs.Common.{inl, inr, ◌≡◌, ◌⊎◌, ℕ, subst, zero, suc, ◌+◌, ◌-◌, ◌<◌, ◌≤◌, List, [], ◌∷◌, length, sym, refl, ap, arith, true, false, Bool}
 use Rattle.std.specs.Prelude.{slice_index, sum, Option, Some, None, cond}
+use Rattle.std.proofs.lemmas.Bool.{cases_Bool}
 use Rattle.std.proofs.lemmas.List.Sums.{sum_by-cons}
 use native.Mathlib.Decide.{ℕ_discrete}
 use Rattle.replay_core.specs.Plans.{Plan}
@@ -8,10 +9,6 @@ use Rattle.replay_core.specs.Orders.{bump, nought, Ready, Ordered, is_ready, low
 use Rattle.replay_core.specs.Laws.{Lowest, LowOrderLaw, LowestOrderedLaw, LowOrderedLaw, LowestStuckLaw}
 use Rattle.replay_core.proofs.Counts.{bump_else, bump_same}
 use Rattle.replay_core.proofs.Ready.{ready_true, ready_is}
-
-pub cases : (b : Bool) → (b ≡ true) ⊎ (b ≡ false)
-cases true = inl refl
-cases false = inr refl
 
 -- what is known of the lowest of the n cores from c on
 abbrev pub IsLowest : Plan → (ℕ → ℕ) → ℕ → ℕ → Option ℕ → Type 0
@@ -23,7 +20,7 @@ not_ready p f c t h = let u = ready_is p f c h in cc
 
 pub lowest_is : (p : Plan) (f : ℕ → ℕ) (c n : ℕ) → IsLowest p f c n (lowest p f c n)
 lowest_is p f c zero = λ d from to h. absurd (omega arith)
-lowest_is p f c (suc n) = by (cases (is_ready p f c)) (lowest_is p f (c + 1) n)
+lowest_is p f c (suc n) = by (cases_Bool (is_ready p f c)) (lowest_is p f (c + 1) n)
   where
     over : (o : Option ℕ) → is_ready p f c ≡ false → IsLowest p f (c + 1) n o → IsLowest p f c (suc n) o
     over None t h = λ d from to s. elim (ℕ_discrete c d) [ yes e ↦ not_ready p f c t (subst (λ (x : ℕ). Ready p f x) (sym e) s) | no ne ↦ h d (omega arith) (omega arith) s ]

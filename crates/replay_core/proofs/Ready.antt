@@ -2,6 +2,8 @@
 use Rattle.std.proofs.Common.{◌≡◌, ℕ, zero, suc, ◌+◌, ◌≤◌, List, [], ◌∷◌, length, refl, ap, subst, ◌∙◌, arith, true, false, Bool, nat_eq, ◌&&◌, ◌||◌, not}
 use Rattle.std.specs.Prelude.{slice_index, nat_lt, nat_le}
 use Rattle.std.specs.List.{Contains}
+use Rattle.std.specs.Cmp.Derive.{both_true}
+use Rattle.std.proofs.lemmas.Bool.{and_parts}
 use Rattle.std.proofs.lemmas.Bool.Decides.{nat_tests}
 use Rattle.rtr_types.specs.declared.instr.Edge.{Edge}
 use Rattle.rtr_types.specs.declared.instr.Instr.{Instr}
@@ -9,10 +11,6 @@ use Rattle.replay_core.specs.Plans.{Plan}
 use Rattle.replay_core.specs.Play.{instr}
 use Rattle.replay_core.specs.Orders.{Sourced, Ready, is_sourced, is_ready}
 use Rattle.replay_core.specs.Laws.{SourcedLaw, ReadyTestLaw}
-
-and_true : (a b : Bool) → a && b ≡ true → (a ≡ true) × (b ≡ true)
-and_true true b e = (refl, e)
-and_true false b e = absurd (cc)
 
 or_left : (p q u : Bool) → (not (p && q) || u) ≡ true → p ≡ true → q ≡ true → u ≡ true
 or_left true true u e f g = e
@@ -29,7 +27,7 @@ met_true e f c n t p q =
 pub sourced_true : (es : List Edge) (f : ℕ → ℕ) (c n : ℕ) → is_sourced es f c n ≡ true → Sourced es f c n
 sourced_true [] f c n t = tt
 sourced_true (e ∷ es) f c n t =
-    let p = and_true (not (nat_eq e.to.core c && nat_eq e.to.count n) || nat_le e.from.count (f e.from.core)) (is_sourced es f c n) t in
+    let p = and_parts (not (nat_eq e.to.core c && nat_eq e.to.count n) || nat_le e.from.count (f e.from.core)) (is_sourced es f c n) t in
     (met_true e f c n p.0, sourced_true es f c n p.1)
 
 met_is : (p q u : Bool) → (p ≡ true → q ≡ true → u ≡ true) → (not (p && q) || u) ≡ true
@@ -37,22 +35,18 @@ met_is true true u h = h refl refl
 met_is true false u h = refl
 met_is false q u h = refl
 
-and_is : (a b : Bool) → a ≡ true → b ≡ true → a && b ≡ true
-and_is true b p q = q
-and_is false b p q = absurd (cc)
-
 pub sourced_is : (es : List Edge) (f : ℕ → ℕ) (c n : ℕ) → Sourced es f c n → is_sourced es f c n ≡ true
 sourced_is [] f c n s = refl
 sourced_is (e ∷ es) f c n s =
-    and_is (not (nat_eq e.to.core c && nat_eq e.to.count n) || nat_le e.from.count (f e.from.core)) (is_sourced es f c n)
+    both_true
     (met_is (nat_eq e.to.core c) (nat_eq e.to.count n) (nat_le e.from.count (f e.from.core))
     (λ p q. let a : e.to.core ≡ c = grind (arith, nat_tests) in let b : e.to.count ≡ n = grind (arith, nat_tests) in let d = s.0 a b in grind (arith, nat_tests)))
     (sourced_is es f c n s.1)
 
 pub ready_true : (p : Plan) (f : ℕ → ℕ) (c : ℕ) → is_ready p f c ≡ true → Ready p f c
 ready_true p f c t =
-    let one = and_true (nat_lt c (length p.totals)) (nat_lt (f c) (slice_index p.totals c) && is_sourced p.edges f c (f c + 1)) t in
-    let two = and_true (nat_lt (f c) (slice_index p.totals c)) (is_sourced p.edges f c (f c + 1)) one.1 in
+    let one = and_parts (nat_lt c (length p.totals)) (nat_lt (f c) (slice_index p.totals c) && is_sourced p.edges f c (f c + 1)) t in
+    let two = and_parts (nat_lt (f c) (slice_index p.totals c)) (is_sourced p.edges f c (f c + 1)) one.1 in
     let a : nat_lt c (length p.totals) ≡ true = one.0 in
     let b : nat_lt (f c) (slice_index p.totals c) ≡ true = two.0 in
     record { inside = grind (arith, nat_tests); below = grind (arith, nat_tests); sourced = sourced_true p.edges f c (f c + 1) two.1 }

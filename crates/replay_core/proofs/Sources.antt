@@ -2,7 +2,7 @@
 use Rattle.std.proofs.Common.{inl, inr, ◌≡◌, ◌≢◌, ◌⊎◌, ℕ, suc, ◌+◌, ◌<◌, ◌≤◌, Bool, true, false, leb, List, [], ◌∷◌, ◌++◌, length, refl, sym, ap, subst, ◌∙◌, arith}
 use Rattle.std.specs.Prelude.{slice_index, nat_lt, Option, Some, None, IsTrue}
 use Rattle.std.specs.List.{Contains}
-use Rattle.std.proofs.lemmas.Bool.{leb-true}
+use Rattle.std.proofs.lemmas.Bool.{cases_Bool, leb-true}
 use Rattle.std.proofs.lemmas.Bool.Decides.{nat_tests}
 use Rattle.rtr_types.specs.declared.instr.Edge.{Edge}
 use Rattle.rtr_types.specs.declared.instr.Instr.{Instr}
@@ -18,7 +18,6 @@ use Rattle.replay_core.specs.Orders.{counts, nought, counts_in, Ready, IsReplayO
 use Rattle.replay_core.specs.Answers.{IsMet}
 use Rattle.replay_core.proofs.Lists.{one_more}
 use Rattle.replay_core.proofs.Ready.{sourced_true, sourced_is, ready_true, ready_is, source_within, within_sourced}
-use Rattle.replay_core.proofs.Low.{cases}
 use Rattle.replay_core.proofs.Places.{play_law}
 
 -- an edge's source is another core of the recording
@@ -54,7 +53,7 @@ met_none edges f of at only = (λ t a other. absurd (cc (only a other)), λ met.
 -- ---- all of them
 
 pub unmet : (edges : List Edge) (f : ℕ → ℕ) (of c n : ℕ) → (IsMet edges f of (instr c n) → ⊥) → false ≡ is_sourced edges f c n
-unmet edges f of c n not_met = by (cases (is_sourced edges f c n))
+unmet edges f of c n not_met = by (cases_Bool (is_sourced edges f c n))
   where
     by : (is_sourced edges f c n ≡ true) ⊎ (is_sourced edges f c n ≡ false) → false ≡ is_sourced edges f c n
     by (inl t) = absurd (not_met (λ a has. source_within edges f c n (sourced_true edges f c n t) (instr of a) has))

@@ -24,6 +24,12 @@ const IN_TURN: [u8; 57] = [
     4, 1, 2, 3, 1, 4, 3, 1, 1, 3, 2, 1, 1, 3, 4,
 ];
 
+// Two cores, each of which adds its number and 1 to word 8 by AMOADD.W, core 0 first: 0:3 before 1:3.
+const ADDED_UP: [u8; 36] = [
+    0x52, 0x54, 0x52, 1, 2, 0x90, 0x4e, 0x10, 0x10, 0x93, 3, 0, 2, 0x93, 2, 0x15, 0, 0x2f, 0xa3,
+    0x53, 0, 0x73, 0, 0, 0, 4, 4, 1, 3, 3, 0, 1, 1, 3, 3, 0,
+];
+
 // The recording of two stores with these totals and logs.
 fn two_stores(alloc: Global, rest: &[u8]) -> Result<Recording, Fail>
     ensures { IfOk result (λ recording. Valid recording) }
@@ -95,6 +101,31 @@ fn is_left(outcome: &Outcome) -> bool {
         && outcome.words.as_slice().get(16).copied() == Some(1)
         && ones.as_slice() == [load].as_slice()
         && others.as_slice() == [other].as_slice()
+}
+
+// What each core's AMO found, and what the two leave.
+fn is_added_up(outcome: &Outcome) -> bool {
+    let [ones, others] = outcome.loads.as_slice() else {
+        return false;
+    };
+    let note = |value| LoadNote {
+        count: 3,
+        word: 8,
+        value,
+    };
+    outcome.words.as_slice().get(8).copied() == Some(3)
+        && ones.as_slice() == [note(0)].as_slice()
+        && others.as_slice() == [note(1)].as_slice()
+}
+
+#[test]
+fn added_up(rt: HostRuntime) -> Result<(), Fail> {
+    let recording = read(rt.alloc(), &ADDED_UP)?;
+    for which in [Which::Reduced, Which::Regulated] {
+        let outcome = Replay::run(rt.alloc(), &recording, which)?;
+        assert!(rt; is_added_up(&outcome));
+    }
+    Ok(())
 }
 
 // The low order of each log, and another whole order, leave the same.

@@ -1,6 +1,6 @@
 use Rattle.std.proofs.Common.{◌≡◌, ◌<◌, ◌+◌, ◌-◌, ◌∙◌, ◌++◌, ◌∷◌, [], ap, sym, arith, ℕ, length, refl, vec_len, vec_capacity, take, subst, suc}
+use Rattle.std.proofs.lemmas.Bool.{and_parts}
 use Rattle.std.proofs.lemmas.List.{length-set}
-use Rattle.conflict_edge.proofs.History.{and_true}
 use Rattle.online_reduce.specs.Lists.{PairRoom, counts, with_edges}
 use Rattle.online_reduce.specs.declared.TheConstants.{EDGES_MAX}
 use Rattle.online_reduce.specs.Rule.{edge_to}
@@ -81,7 +81,7 @@ loop-source-preserved c =
             whole = l.invariant.whole ∙ sym (length-set rooms w.pair_at-place.result new);
             len = l.invariant.len;
             finished = l.invariant.finished;
-            known = λ e. (let both = and_true l.self-inside.known_roomy w.push-roomy.result e in still_roomy rooms w.pair_at-place.result new (l.invariant.known both.0) (sym w.push-roomy.ensures.roomy ∙ both.1));
+            known = λ e. (let both = and_parts l.self-inside.known_roomy w.push-roomy.result e in still_roomy rooms w.pair_at-place.result new (l.invariant.known both.0) (sym w.push-roomy.ensures.roomy ∙ both.1));
           }
           )
       | else-is_kept w ↦
