@@ -1,6 +1,6 @@
 -- What a core's instructions can pay for: a step leaves that as it is, so that fewer steps are left after
 -- it.
-use Rattle.std.proofs.Common.{◌≡◌, ◌∙◌, ap, refl, ℕ, ◌+◌, ◌*◌, ◌<◌, ◌≤◌, false, List, [], ◌∷◌, length, get_or, suc, arith, IsTrue}
+use Rattle.std.proofs.Common.{◌≡◌, ◌∙◌, ap, refl, ℕ, ◌+◌, ◌*◌, ◌<◌, ◌≤◌, Bool, true, false, List, [], ◌∷◌, length, get_or, suc, arith, IsTrue}
 use Rattle.std.proofs.Math.Nat.{mul-le-mul_left, mul-add}
 use Rattle.std.specs.Prelude.{slice_set}
 use Rattle.std.specs.List.{sum_by}
@@ -8,9 +8,7 @@ use Rattle.std.proofs.lemmas.List.{length-set}
 use Rattle.std.proofs.lemmas.List.Sums.{sum_by-set, sum_by-cons}
 use Rattle.access_times.specs.Riding.{Riding, Carrying}
 use Rattle.image_mem.specs.Contents.{Contents}
-use Rattle.rv_core.specs.declared.core_state.Need.{Need}
-use Rattle.rv_core.specs.declared.core_state.Need.TheVariants.{Local, Load, Store, Done}
-use Rattle.rv_core.specs.Steps.{need, is_done}
+use Rattle.rv_core.specs.Steps.{need, is_done, access_of as need_access}
 use Rattle.rv_core.proofs.LawLemmas.{room_law}
 use Rattle.msi_cache.specs.declared.messages.FromHome.{FromHome}
 use Rattle.msi_cache.specs.declared.messages.Request.{Request}
@@ -32,7 +30,7 @@ use Rattle.msi_sound.proofs.Blocks.{length-request}
 use Rattle.msi_sound.proofs.Responses.{length-response}
 use Rattle.msi_sound.proofs.Others.{request_to_there, response_to_there}
 use Rattle.msi_progress.proofs.Rested.{enabled_there}
-use Rattle.msi_bound.proofs.NodeEarns.{working_limit, receiving_limit, base_le}
+use Rattle.msi_bound.proofs.NodeEarns.{working_limit, receiving_limit, base_le, done_base}
 use Rattle.msi_bound.proofs.Earns.{sum_delivered}
 use Rattle.msi_bound.proofs.Payments.{earns}
 
@@ -60,7 +58,7 @@ module _ {R K : Type 0} where
   pub capacity_kept : (riding : Riding R) (carrying : Carrying K) (s : State R K) (m : Move) (rider : R) (cores : ℕ) → IsTrue (enabled riding carrying s m) → Sound riding carrying s → sum_by (capacity cores) (step riding carrying rider s m).nodes ≡ sum_by (capacity cores) s.nodes
   capacity_kept riding carrying s (CoreMove c) rider cores e h =
       let p = enabled_there riding carrying s c (CoreMove c) (enabled_at s.image riding s.home (node_at carrying s.nodes c) (CoreMove c)) e in
-      set_capacity carrying cores s.nodes c _ p.0 (working_limit s.image riding carrying rider (node_at carrying s.nodes c) (need s.image (node_at carrying s.nodes c).core))
+      set_capacity carrying cores s.nodes c _ p.0 (working_limit s.image riding carrying rider (node_at carrying s.nodes c) (need_access (need s.image (node_at carrying s.nodes c).core)) (is_done (need s.image (node_at carrying s.nodes c).core)))
   capacity_kept riding carrying s (MessageMove c) rider cores e h =
       let p = enabled_there riding carrying s c (MessageMove c) (enabled_at s.image riding s.home (node_at carrying s.nodes c) (MessageMove c)) e in
       set_capacity carrying cores s.nodes c _ p.0 (by_items (node_at carrying s.nodes c).messages.items)
@@ -97,20 +95,21 @@ module _ {R K : Type 0} where
       rw (sum_by-cons f x xs, sum_by-cons g x xs) (omega arith)
 
   earned_le : (image : Contents) (riding : Riding R) (blocks cores : ℕ) (n : Node R K) → 1 ≤ cores → NodeFits image riding blocks n → earned image riding cores n ≤ capacity cores n
-  earned_le image riding blocks cores n some h = by_need (need image n.core) refl
+  earned_le image riding blocks cores n some h = by_done (is_done (need image n.core)) refl
     where
       more : is_done (need image n.core) ≡ false → earned image riding cores n ≤ capacity cores n
       more m =
-          let le = base_le (need image n.core) riding cores n some in
+          let le = base_le (need_access (need image n.core)) (is_done (need image n.core)) riding cores n some in
           let e : (2 * cores + 4) * (n.core.count + 1) ≤ (2 * cores + 4) * n.core.limit = mul-le-mul_left (2 * cores + 4) (let lt = room_law image n.core m in omega arith) in
           let f : (2 * cores + 4) * (n.core.count + 1) ≡ (2 * cores + 4) * n.core.count + (2 * cores + 4) * 1 = mul-add (2 * cores + 4) n.core.count 1 in
           omega arith
 
-      by_need : (needed : Need) → need image n.core ≡ needed → earned image riding cores n ≤ capacity cores n
-      by_need (Done stop) e = let f : (2 * cores + 4) * n.core.count ≤ (2 * cores + 4) * n.core.limit = mul-le-mul_left (2 * cores + 4) h.count_fits in rw e (omega arith)
-      by_need Local e = more (ap is_done e)
-      by_need (Load w) e = more (ap is_done e)
-      by_need (Store w whole) e = more (ap is_done e)
+      by_done : (t : Bool) → is_done (need image n.core) ≡ t → earned image riding cores n ≤ capacity cores n
+      by_done true e =
+          let f : (2 * cores + 4) * n.core.count ≤ (2 * cores + 4) * n.core.limit = mul-le-mul_left (2 * cores + 4) h.count_fits in
+          let base = done_base (need image n.core) riding cores n e in
+          omega arith
+      by_done false e = more e
 
   -- no core has earned more than its instructions can pay for
   pub total_earned_le : (riding : Riding R) (carrying : Carrying K) (s : State R K) → Sound riding carrying s → total_earned riding s ≤ sum_by (capacity (length s.nodes)) s.nodes

@@ -10,9 +10,8 @@ use Rattle.rtr_types.specs.declared.TheConstants.{BLOCK_WORDS, CORES_MAX}
 use Rattle.rtr_types.specs.declared.core_set.CoreSet.{CoreSet}
 use Rattle.rtr_types.specs.CoreSets.{has, without_core, is_none}
 use Rattle.rtr_types.proofs.Members.{has-without_same}
-use Rattle.rv_core.specs.declared.core_state.Need.{Need}
-use Rattle.rv_core.specs.declared.core_state.Need.TheVariants.{Local, Load, Store, Done}
-use Rattle.rv_core.specs.Steps.{need}
+use Rattle.rtr_types.specs.declared.access.Kind.{Kind}
+use Rattle.rv_core.specs.Steps.{need, access_of as need_access}
 use Rattle.msi_cache.specs.declared.line.Line.{Line}
 use Rattle.msi_cache.specs.declared.line.State.{State as LineState}
 use Rattle.msi_cache.specs.declared.line.State.TheVariants.{I}
@@ -46,7 +45,7 @@ use Rattle.msi_sound.proofs.Held.{view_waits}
 use Rattle.msi_progress.proofs.Waiting.{Wants, wants_one, phase_asks}
 use Rattle.msi_progress.proofs.Spaces.{request_waits}
 use Rattle.msi_bound.proofs.Bound.{members, members-without, no_members, owed-nodes_sent, owed-nodes_told}
-use Rattle.msi_bound.proofs.NodeEarns.{needs_none, no_wait}
+use Rattle.msi_bound.proofs.NodeEarns.{no_wait}
 
 -- what an answer of the home brings to others
 abbrev pub answer_debt : {R : Type 0} → Option (ℕ × FromHome R) → CoreSet → ℕ → ℕ
@@ -198,7 +197,7 @@ module _ {R K : Type 0} where
       both_here same q = rw (same, eqb_same (request_block mail.item)) (omega arith)
 
   -- the base rises by what the request brings to others, and one
-  request_base : (riding : Riding R) (carrying : Carrying K) (s : State R K) (c : ℕ) (mail : Mail (Request R) K) → Sound riding carrying s → c < length s.nodes → (node_at carrying s.nodes c).requests.items ≡ mail ∷ [] → is_free (entry_at riding.fresh s.home (request_block mail.item)).stage ≡ true → (block : ℕ) → needed_block (need s.image (node_at carrying s.nodes c).core) ≡ block →
+  request_base : (riding : Riding R) (carrying : Carrying K) (s : State R K) (c : ℕ) (mail : Mail (Request R) K) → Sound riding carrying s → c < length s.nodes → (node_at carrying s.nodes c).requests.items ≡ mail ∷ [] → is_free (entry_at riding.fresh s.home (request_block mail.item)).stage ≡ true → (block : ℕ) → needed_block (need_access (need s.image (node_at carrying s.nodes c).core)) ≡ block →
       block_base (line_for riding.fresh (node_at carrying s.nodes c).cache block) block false (length s.nodes) + step_debt (request_step (entry_at riding.fresh s.home (request_block mail.item)).stage c (ask_of mail.item)) (length s.nodes) + 1 ≤ block_base (line_for riding.fresh (node_at carrying s.nodes c).cache block) block true (length s.nodes)
   request_base riding carrying s c mail h lc is free block needed =
       let b : ℕ = request_block mail.item in
@@ -207,7 +206,7 @@ module _ {R K : Type 0} where
       let w = (request_waits riding carrying s c mail [] h lc is).0 in
       let l : Line R = line_for riding.fresh n.cache b in
       let at = view_waits b l w.waits in
-      let place : b % LINES ≡ needed_block (need s.image n.core) % LINES = transient_place (length s.home) (need s.image n.core) (b % LINES) l ((h.nodes c lc).lines (b % LINES)) at.1 in
+      let place : b % LINES ≡ needed_block (need_access (need s.image n.core)) % LINES = transient_place (length s.home) (need_access (need s.image n.core)) (b % LINES) l ((h.nodes c lc).lines (b % LINES)) at.1 in
       let same : line_for riding.fresh n.cache block ≡ l = ap (λ (i : ℕ). slice_index_or n.cache i (empty_line riding.fresh)) (sym (place ∙ ap (λ (x : ℕ). x % LINES) needed)) in
       let lc_max : c < CORES_MAX = let g = h.cores in omega arith in
       let st = (h.blocks b).stands c lc_max in
@@ -219,9 +218,9 @@ module _ {R K : Type 0} where
 module _ {R K : Type 0} where
   -- a core whose request is under way needs an access, which pays for the request's delivery and for what
   -- that brings to others
-  pub request_need : (riding : Riding R) (carrying : Carrying K) (s : State R K) (c : ℕ) (mail : Mail (Request R) K) → Sound riding carrying s → c < length s.nodes → (node_at carrying s.nodes c).requests.items ≡ mail ∷ [] → is_free (entry_at riding.fresh s.home (request_block mail.item)).stage ≡ true → (needed : Need) → need s.image (node_at carrying s.nodes c).core ≡ needed →
-      base_in needed riding (length s.nodes) (node_at carrying s.nodes c) + step_debt (request_step (entry_at riding.fresh s.home (request_block mail.item)).stage c (ask_of mail.item)) (length s.nodes) + 1 ≤ base_in needed riding (length s.nodes) (node_requested (node_at carrying s.nodes c) [])
-  request_need riding carrying s c mail h lc is free needed e = by_need needed e
+  pub request_need : (riding : Riding R) (carrying : Carrying K) (s : State R K) (c : ℕ) (mail : Mail (Request R) K) → Sound riding carrying s → c < length s.nodes → (node_at carrying s.nodes c).requests.items ≡ mail ∷ [] → is_free (entry_at riding.fresh s.home (request_block mail.item)).stage ≡ true → (used : Option (Kind × ℕ)) (done : Bool) → need_access (need s.image (node_at carrying s.nodes c).core) ≡ used →
+      base_in used done riding (length s.nodes) (node_at carrying s.nodes c) + step_debt (request_step (entry_at riding.fresh s.home (request_block mail.item)).stage c (ask_of mail.item)) (length s.nodes) + 1 ≤ base_in used done riding (length s.nodes) (node_requested (node_at carrying s.nodes c) [])
+  request_need riding carrying s c mail h lc is free used done e = by_access used e
     where
       n : Node R K
       n = node_at carrying s.nodes c
@@ -232,11 +231,9 @@ module _ {R K : Type 0} where
       waits : is_transient l.state ≡ true
       waits = (view_waits (request_block mail.item) l (request_waits riding carrying s c mail [] h lc is).0.waits).1
 
-      still : needs_none (need s.image n.core) ≡ true → is_transient l.state ≡ false
-      still none = no_wait (need s.image n.core) l.state l.block (request_block mail.item % LINES) none ((h.nodes c lc).lines (request_block mail.item % LINES)).needed_here
+      still : need_access (need s.image n.core) ≡ None → is_transient l.state ≡ false
+      still none = no_wait (need_access (need s.image n.core)) l.state l.block (request_block mail.item % LINES) none ((h.nodes c lc).lines (request_block mail.item % LINES)).needed_here
 
-      by_need : (nd : Need) → need s.image n.core ≡ nd → base_in nd riding (length s.nodes) n + step_debt (request_step (entry_at riding.fresh s.home (request_block mail.item)).stage c (ask_of mail.item)) (length s.nodes) + 1 ≤ base_in nd riding (length s.nodes) (node_requested n [])
-      by_need (Load w) f = rw is (request_base riding carrying s c mail h lc is free (w / BLOCK_WORDS) (ap needed_block f))
-      by_need (Store w whole) f = rw is (request_base riding carrying s c mail h lc is free (w / BLOCK_WORDS) (ap needed_block f))
-      by_need Local f = absurd (let no = still (ap needs_none f) in let yes = waits in cc)
-      by_need (Done stop) f = absurd (let no = still (ap needs_none f) in let yes = waits in cc)
+      by_access : (access : Option (Kind × ℕ)) → need_access (need s.image n.core) ≡ access → base_in access done riding (length s.nodes) n + step_debt (request_step (entry_at riding.fresh s.home (request_block mail.item)).stage c (ask_of mail.item)) (length s.nodes) + 1 ≤ base_in access done riding (length s.nodes) (node_requested n [])
+      by_access (Some (kind, word)) f = rw is (request_base riding carrying s c mail h lc is free (word / BLOCK_WORDS) (ap needed_block f))
+      by_access None f = absurd (let none = still f in let yes = waits in cc)

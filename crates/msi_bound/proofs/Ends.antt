@@ -13,20 +13,19 @@ use Rattle.rtr_types.specs.declared.TheConstants.{CORES_MAX}
 use Rattle.rtr_types.specs.declared.params.TheConstants.{LIMIT_MAX}
 use Rattle.rtr_types.specs.declared.params.Params.{Params}
 use Rattle.rtr_types.specs.Parameters.{Fits}
-use Rattle.rv_core.specs.declared.core_state.Need.{Need}
-use Rattle.rv_core.specs.declared.core_state.Need.TheVariants.{Local, Load, Store, Done}
 use Rattle.rv_core.specs.Steps.{need, is_done}
 use Rattle.rv_core.proofs.LawLemmas.{start_law}
 use Rattle.msi_state.specs.declared.node.Node.{Node}
 use Rattle.msi_state.specs.declared.moves.Move.{Move}
 use Rattle.msi_state.specs.States.{PlainState, node_start, all_done}
 use Rattle.msi_state.specs.Runs.{plain_moves, chosen, chosen_of, stepped_by, opening_state, run, IsRunEnd}
-use Rattle.msi_state.specs.Bound.{owed, base_in, earned, capacity, total_owed, total_earned, total_retired, left}
+use Rattle.msi_state.specs.Bound.{owed, earned, capacity, total_owed, total_earned, total_retired, left}
 use Rattle.msi_sound.specs.Sound.{Sound}
 use Rattle.msi_sound.proofs.Blocks.{le_or_lt}
 use Rattle.msi_sound.proofs.Begins.{chosen_enabled, sound_run}
 use Rattle.msi_progress.proofs.Stuck.{some_move}
 use Rattle.msi_bound.specs.Ends.{most_steps, first_among, end_of}
+use Rattle.msi_bound.proofs.NodeEarns.{done_base}
 use Rattle.msi_bound.proofs.Payments.{earns}
 use Rattle.msi_bound.proofs.Capacity.{cores_kept, capacity_kept, total_earned_le}
 
@@ -71,12 +70,6 @@ module _ {R K : Type 0} where
     where
       one_more : (x y n : ℕ) → x * y + x * (n * y) ≡ x * (suc n * y)
       one_more x y n = grind arith
-
-  done_base : (needed : Need) (riding : Riding R) (cores : ℕ) (n : Node R K) → is_done needed ≡ true → base_in needed riding cores n ≡ 0
-  done_base (Done stop) riding cores n is = refl
-  done_base Local riding cores n is = absurd (cc)
-  done_base (Load w) riding cores n is = absurd (cc)
-  done_base (Store w whole) riding cores n is = absurd (cc)
 
   -- a core whose program is done has paid with the instructions that retired
   pub done_earned : (image : Contents) (riding : Riding R) (cores : ℕ) (ns : List (Node R K)) → list_all (λ (n : Node R K). is_done (need image n.core)) ns ≡ true → sum_by (earned image riding cores) ns ≡ (2 * cores + 4) * sum_by (λ (n : Node R K). n.core.count) ns

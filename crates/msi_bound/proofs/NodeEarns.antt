@@ -8,12 +8,11 @@ use Rattle.access_times.specs.Riding.{Riding, Carrying}
 use Rattle.rtr_types.specs.declared.TheConstants.{BLOCK_WORDS}
 use Rattle.image_mem.specs.Contents.{Contents}
 use Rattle.rtr_types.specs.declared.access.Kind.{Kind}
-use Rattle.rtr_types.specs.declared.access.Kind.TheVariants.{Load as IsLoad, Store as IsStore}
 use Rattle.rv_core.specs.declared.core_state.Core.{Core}
 use Rattle.rv_core.specs.declared.core_state.Need.{Need}
-use Rattle.rv_core.specs.declared.core_state.Need.TheVariants.{Local, Load, Store, Done}
-use Rattle.rv_core.specs.Steps.{need, is_done}
+use Rattle.rv_core.specs.Steps.{need, is_done, access_of as need_access}
 use Rattle.rv_core.proofs.LawLemmas.{count_law, limit_law}
+use Rattle.rv_core.proofs.OpLemmas.{access_goes}
 use Rattle.link_order.specs.Queue.{is_nil}
 use Rattle.msi_cache.specs.declared.line.Line.{Line}
 use Rattle.msi_cache.specs.declared.line.State.{State as LineState}
@@ -43,17 +42,25 @@ line_base_le s same taken cores some = grind (arith, nat_tests)
 
 module _ {R K : Type 0} where
   -- an instruction that hasn't retired has paid for fewer steps than one that has
-  pub base_le : (needed : Need) (riding : Riding R) (cores : ℕ) (n : Node R K) → 1 ≤ cores → base_in needed riding cores n ≤ 2 * cores + 3
-  base_le (Done stop) riding cores n some = omega arith
-  base_le Local riding cores n some = omega arith
-  base_le (Load w) riding cores n some = line_base_le _ _ _ cores some
-  base_le (Store w whole) riding cores n some = line_base_le _ _ _ cores some
+  pub base_le : (used : Option (Kind × ℕ)) (done : Bool) (riding : Riding R) (cores : ℕ) (n : Node R K) → 1 ≤ cores → base_in used done riding cores n ≤ 2 * cores + 3
+  base_le (Some (kind, word)) done riding cores n some = line_base_le _ _ _ cores some
+  base_le None true riding cores n some = omega arith
+  base_le None false riding cores n some = omega arith
+
+  -- nor has one whose program is done paid for any
+  pub done_base : (needed : Need) (riding : Riding R) (cores : ℕ) (n : Node R K) → is_done needed ≡ true → base_in (need_access needed) (is_done needed) riding cores n ≡ 0
+  done_base needed riding cores n is = by_access (need_access needed) (λ kind word e. access_goes needed kind word e)
+    where
+      by_access : (used : Option (Kind × ℕ)) → ((kind : Kind) (word : ℕ) → used ≡ Some (kind, word) → is_done needed ≡ false) → base_in used (is_done needed) riding cores n ≡ 0
+      by_access None more = rw is refl
+      by_access (Some (kind, word)) more = absurd (let goes = more kind word refl in cc)
 
   -- so that a retirement pays for itself
   retiring_earns : (image : Contents) (riding : Riding R) (cores : ℕ) (n m : Node R K) → 1 ≤ cores → m.core.count ≡ n.core.count + 1 → earned image riding cores n + 1 ≤ earned image riding cores m
   retiring_earns image riding cores n m some e =
-      let f = retire_pays cores n.core.count (base_in (need image n.core) riding cores n) (base_in (need image m.core) riding cores m) (base_le (need image n.core) riding cores n some) in
-      subst (λ (c : ℕ). earned image riding cores n + 1 ≤ (2 * cores + 4) * c + base_in (need image m.core) riding cores m) (sym e) f
+      let after = base_in (need_access (need image m.core)) (is_done (need image m.core)) riding cores m in
+      let f = retire_pays cores n.core.count (base_in (need_access (need image n.core)) (is_done (need image n.core)) riding cores n) after (base_le (need_access (need image n.core)) (is_done (need image n.core)) riding cores n some) in
+      subst (λ (c : ℕ). earned image riding cores n + 1 ≤ (2 * cores + 4) * c + after) (sym e) f
 
   accessing_earns : (image : Contents) (riding : Riding R) (carrying : Carrying K) (r : R) (cores : ℕ) (n : Node R K) (word : ℕ) (kind : Kind) → 1 ≤ cores → earned image riding cores n + 1 ≤ earned image riding cores (node_accessing image riding carrying r n word kind)
   accessing_earns image riding carrying r cores n word kind some =
@@ -81,7 +88,7 @@ module _ {R K : Type 0} where
 
   -- a core that tries an access makes it, or asks for it
   trying_earns : (image : Contents) (riding : Riding R) (carrying : Carrying K) (r : R) (cores : ℕ) (n : Node R K) (word : ℕ) (kind : Kind) → 1 ≤ cores →
-      (is_allowed (line_for riding.fresh n.cache (word / BLOCK_WORDS)) (word / BLOCK_WORDS) kind ≡ false → base_in (need image n.core) riding cores n + 1 ≤ base_in (need image n.core) riding cores (node_asking riding n (word / BLOCK_WORDS) kind)) →
+      (is_allowed (line_for riding.fresh n.cache (word / BLOCK_WORDS)) (word / BLOCK_WORDS) kind ≡ false → base_in (need_access (need image n.core)) (is_done (need image n.core)) riding cores n + 1 ≤ base_in (need_access (need image n.core)) (is_done (need image n.core)) riding cores (node_asking riding n (word / BLOCK_WORDS) kind)) →
       earned image riding cores n + 1 ≤ earned image riding cores (node_trying image riding carrying r n word kind)
   trying_earns image riding carrying r cores n word kind some asking = by_test (allows riding n word kind) refl
     where
@@ -90,34 +97,30 @@ module _ {R K : Type 0} where
       by_test false e = let f = asking e in omega arith
 
   -- a core's own move pays for itself
-  pub working_earns : (image : Contents) (riding : Riding R) (carrying : Carrying K) (r : R) (cores blocks : ℕ) (n : Node R K) (needed : Need) → 1 ≤ cores → need image n.core ≡ needed → is_done needed ≡ false → NodeStill riding blocks n → earned image riding cores n + 1 ≤ earned image riding cores (node_working_in needed image riding carrying r n)
-  working_earns image riding carrying r cores blocks n Local some is more h = local_earns image riding carrying cores n some
-  working_earns image riding carrying r cores blocks n (Load w) some is more h =
-      trying_earns image riding carrying r cores n w IsLoad some (λ e. rw is (asking_block riding cores blocks n w IsLoad h e))
-  working_earns image riding carrying r cores blocks n (Store w whole) some is more h =
-      trying_earns image riding carrying r cores n w IsStore some (λ e. rw is (asking_block riding cores blocks n w IsStore h e))
-  working_earns image riding carrying r cores blocks n (Done stop) some is more h = absurd (cc)
+  pub working_earns : (image : Contents) (riding : Riding R) (carrying : Carrying K) (r : R) (cores blocks : ℕ) (n : Node R K) (used : Option (Kind × ℕ)) (done : Bool) → 1 ≤ cores → need_access (need image n.core) ≡ used → done ≡ false → NodeStill riding blocks n → earned image riding cores n + 1 ≤ earned image riding cores (node_working_in used done image riding carrying r n)
+  working_earns image riding carrying r cores blocks n (Some (kind, word)) done some is more h =
+      trying_earns image riding carrying r cores n word kind some (λ e. rw is (asking_block riding cores blocks n word kind h e))
+  working_earns image riding carrying r cores blocks n None true some is more h = absurd (cc)
+  working_earns image riding carrying r cores blocks n None false some is more h = local_earns image riding carrying cores n some
 
   trying_owes : (image : Contents) (riding : Riding R) (carrying : Carrying K) (r : R) (n : Node R K) (word : ℕ) (kind : Kind) (t : Bool) → owed (if t then node_accessing image riding carrying r n word kind else node_asking riding n (word / BLOCK_WORDS) kind) ≡ owed n
   trying_owes image riding carrying r n word kind true = refl
   trying_owes image riding carrying r n word kind false = refl
 
   -- and leaves what is owed
-  pub working_owes : (image : Contents) (riding : Riding R) (carrying : Carrying K) (r : R) (n : Node R K) (needed : Need) → owed (node_working_in needed image riding carrying r n) ≡ owed n
-  working_owes image riding carrying r n Local = refl
-  working_owes image riding carrying r n (Done stop) = refl
-  working_owes image riding carrying r n (Load w) = trying_owes image riding carrying r n w IsLoad (allows riding n w IsLoad)
-  working_owes image riding carrying r n (Store w whole) = trying_owes image riding carrying r n w IsStore (allows riding n w IsStore)
+  pub working_owes : (image : Contents) (riding : Riding R) (carrying : Carrying K) (r : R) (n : Node R K) (used : Option (Kind × ℕ)) (done : Bool) → owed (node_working_in used done image riding carrying r n) ≡ owed n
+  working_owes image riding carrying r n (Some (kind, word)) done = trying_owes image riding carrying r n word kind (allows riding n word kind)
+  working_owes image riding carrying r n None true = refl
+  working_owes image riding carrying r n None false = refl
 
   trying_limit : (image : Contents) (riding : Riding R) (carrying : Carrying K) (r : R) (n : Node R K) (word : ℕ) (kind : Kind) (t : Bool) → (if t then node_accessing image riding carrying r n word kind else node_asking riding n (word / BLOCK_WORDS) kind).core.limit ≡ n.core.limit
   trying_limit image riding carrying r n word kind true = limit_law image n.core _
   trying_limit image riding carrying r n word kind false = refl
 
-  pub working_limit : (image : Contents) (riding : Riding R) (carrying : Carrying K) (r : R) (n : Node R K) (needed : Need) → (node_working_in needed image riding carrying r n).core.limit ≡ n.core.limit
-  working_limit image riding carrying r n Local = limit_law image n.core 0
-  working_limit image riding carrying r n (Done stop) = refl
-  working_limit image riding carrying r n (Load w) = trying_limit image riding carrying r n w IsLoad (allows riding n w IsLoad)
-  working_limit image riding carrying r n (Store w whole) = trying_limit image riding carrying r n w IsStore (allows riding n w IsStore)
+  pub working_limit : (image : Contents) (riding : Riding R) (carrying : Carrying K) (r : R) (n : Node R K) (used : Option (Kind × ℕ)) (done : Bool) → (node_working_in used done image riding carrying r n).core.limit ≡ n.core.limit
+  working_limit image riding carrying r n (Some (kind, word)) done = trying_limit image riding carrying r n word kind (allows riding n word kind)
+  working_limit image riding carrying r n None true = refl
+  working_limit image riding carrying r n None false = limit_law image n.core 0
 
 -- how many answers a message gets
 abbrev answers : {R : Type 0} → Option (Response R) → ℕ
@@ -150,31 +153,26 @@ after_block absorbed l m = by_row (row (signal m) l.state)
     by_row (Some r) = refl
 
 -- no line waits at a core that needs no access
-abbrev pub needs_none : Need → Bool
-needs_none Local = true
-needs_none (Done stop) = true
-needs_none _ = false
-
-pub no_wait : (needed : Need) (s : LineState) (l i : ℕ) → needs_none needed ≡ true → fits_need needed s l i ≡ true → is_transient s ≡ false
-no_wait needed s l i none e = grind (arith, nat_tests)
+pub no_wait : (used : Option (Kind × ℕ)) (s : LineState) (l i : ℕ) → used ≡ None → fits_need used s l i ≡ true → is_transient s ≡ false
+no_wait None s l i none e = grind arith
+no_wait (Some access) s l i none e = absurd (cc)
 
 module _ {R K : Type 0} where
   answering_owes : (n : Node R K) (o : Option (Response R)) → owed (node_answering n o) ≡ owed n + answers o
   answering_owes n None = omega arith
   answering_owes n (Some r) = let e = length-append n.responses.items (record { item = r; carry = n.carry } ∷ []) in omega arith
 
-  answering_base : (needed : Need) (riding : Riding R) (cores : ℕ) (n : Node R K) (o : Option (Response R)) → base_in needed riding cores (node_answering n o) ≡ base_in needed riding cores n
-  answering_base needed riding cores n None = refl
-  answering_base Local riding cores n (Some r) = refl
-  answering_base (Done stop) riding cores n (Some r) = refl
-  answering_base (Load w) riding cores n (Some r) = refl
-  answering_base (Store w whole) riding cores n (Some r) = refl
+  answering_base : (used : Option (Kind × ℕ)) (done : Bool) (riding : Riding R) (cores : ℕ) (n : Node R K) (o : Option (Response R)) → base_in used done riding cores (node_answering n o) ≡ base_in used done riding cores n
+  answering_base used done riding cores n None = refl
+  answering_base (Some (kind, word)) done riding cores n (Some r) = refl
+  answering_base None true riding cores n (Some r) = refl
+  answering_base None false riding cores n (Some r) = refl
 
   answering_earns : (image : Contents) (riding : Riding R) (cores : ℕ) (n : Node R K) (o : Option (Response R)) → earned image riding cores (node_answering n o) ≡ earned image riding cores n
   answering_earns image riding cores n None = refl
-  answering_earns image riding cores n (Some r) = ap (λ (b : ℕ). (2 * cores + 4) * n.core.count + b) (answering_base (need image n.core) riding cores n (Some r))
+  answering_earns image riding cores n (Some r) = ap (λ (b : ℕ). (2 * cores + 4) * n.core.count + b) (answering_base (need_access (need image n.core)) (is_done (need image n.core)) riding cores n (Some r))
 
-  taking_block : (image : Contents) (riding : Riding R) (carrying : Carrying K) (cores blocks : ℕ) (n : Node R K) (mail : Mail (FromHome R) K) (rest : List (Mail (FromHome R) K)) (block : ℕ) → needed_block (need image n.core) ≡ block → is_data mail.item ≡ false → is_some (row (signal mail.item) (line_for riding.fresh n.cache (block_of mail.item)).state) ≡ true → NodeFits image riding blocks n →
+  taking_block : (image : Contents) (riding : Riding R) (carrying : Carrying K) (cores blocks : ℕ) (n : Node R K) (mail : Mail (FromHome R) K) (rest : List (Mail (FromHome R) K)) (block : ℕ) → needed_block (need_access (need image n.core)) ≡ block → is_data mail.item ≡ false → is_some (row (signal mail.item) (line_for riding.fresh n.cache (block_of mail.item)).state) ≡ true → NodeFits image riding blocks n →
       block_base (line_for riding.fresh n.cache block) block (is_nil n.requests.items) cores + answers (answer_to riding n mail.item) + 1
       ≤ block_base (line_for riding.fresh (node_taking riding carrying n mail rest).cache block) block (is_nil n.requests.items) cores + debt mail.item
   taking_block image riding carrying cores blocks n mail rest block needed d there h =
@@ -192,31 +190,28 @@ module _ {R K : Type 0} where
       by_place false e =
           elim (message_debt_or l mail.item d there) [
             | inl le ↦ omega arith
-            | inr wait ↦ absurd (let place = transient_place blocks (need image n.core) (block_of mail.item % LINES) l (h.lines (block_of mail.item % LINES)) wait in let at : block_of mail.item % LINES ≡ block % LINES = place ∙ ap (λ (b : ℕ). b % LINES) needed in grind (arith, nat_tests))
+            | inr wait ↦ absurd (let place = transient_place blocks (need_access (need image n.core)) (block_of mail.item % LINES) l (h.lines (block_of mail.item % LINES)) wait in let at : block_of mail.item % LINES ≡ block % LINES = place ∙ ap (λ (b : ℕ). b % LINES) needed in grind (arith, nat_tests))
           ]
 
-  taking_elsewhere : (image : Contents) (riding : Riding R) (blocks : ℕ) (n : Node R K) (m : FromHome R) → needs_none (need image n.core) ≡ true → is_data m ≡ false → is_some (row (signal m) (line_for riding.fresh n.cache (block_of m)).state) ≡ true → NodeFits image riding blocks n → answers (answer_to riding n m) + 1 ≤ debt m
+  taking_elsewhere : (image : Contents) (riding : Riding R) (blocks : ℕ) (n : Node R K) (m : FromHome R) → need_access (need image n.core) ≡ None → is_data m ≡ false → is_some (row (signal m) (line_for riding.fresh n.cache (block_of m)).state) ≡ true → NodeFits image riding blocks n → answers (answer_to riding n m) + 1 ≤ debt m
   taking_elsewhere image riding blocks n m none d there h =
       let l : Line R = line_for riding.fresh n.cache (block_of m) in
-      message_debt l m d there (no_wait (need image n.core) l.state l.block (block_of m % LINES) none (h.lines (block_of m % LINES)).needed_here)
+      message_debt l m d there (no_wait (need_access (need image n.core)) l.state l.block (block_of m % LINES) none (h.lines (block_of m % LINES)).needed_here)
 
-  taking_base : (image : Contents) (riding : Riding R) (carrying : Carrying K) (cores blocks : ℕ) (n : Node R K) (mail : Mail (FromHome R) K) (rest : List (Mail (FromHome R) K)) (needed : Need) → need image n.core ≡ needed → is_data mail.item ≡ false → is_some (row (signal mail.item) (line_for riding.fresh n.cache (block_of mail.item)).state) ≡ true → NodeFits image riding blocks n →
-      base_in needed riding cores n + answers (answer_to riding n mail.item) + 1 ≤ base_in needed riding cores (node_taking riding carrying n mail rest) + debt mail.item
-  taking_base image riding carrying cores blocks n mail rest (Load w) is d there h = taking_block image riding carrying cores blocks n mail rest (w / BLOCK_WORDS) (ap needed_block is) d there h
-  taking_base image riding carrying cores blocks n mail rest (Store w whole) is d there h = taking_block image riding carrying cores blocks n mail rest (w / BLOCK_WORDS) (ap needed_block is) d there h
-  taking_base image riding carrying cores blocks n mail rest Local is d there h = let le = taking_elsewhere image riding blocks n mail.item (ap needs_none is) d there h in omega arith
-  taking_base image riding carrying cores blocks n mail rest (Done stop) is d there h = let le = taking_elsewhere image riding blocks n mail.item (ap needs_none is) d there h in omega arith
+  taking_base : (image : Contents) (riding : Riding R) (carrying : Carrying K) (cores blocks : ℕ) (n : Node R K) (mail : Mail (FromHome R) K) (rest : List (Mail (FromHome R) K)) (used : Option (Kind × ℕ)) (done : Bool) → need_access (need image n.core) ≡ used → is_data mail.item ≡ false → is_some (row (signal mail.item) (line_for riding.fresh n.cache (block_of mail.item)).state) ≡ true → NodeFits image riding blocks n →
+      base_in used done riding cores n + answers (answer_to riding n mail.item) + 1 ≤ base_in used done riding cores (node_taking riding carrying n mail rest) + debt mail.item
+  taking_base image riding carrying cores blocks n mail rest (Some (kind, word)) done is d there h = taking_block image riding carrying cores blocks n mail rest (word / BLOCK_WORDS) (ap needed_block is) d there h
+  taking_base image riding carrying cores blocks n mail rest None true is d there h = let le = taking_elsewhere image riding blocks n mail.item is d there h in omega arith
+  taking_base image riding carrying cores blocks n mail rest None false is d there h = let le = taking_elsewhere image riding blocks n mail.item is d there h in omega arith
 
   -- the node after the access that data allow, whose core is still n's
   allowed_earns : (image : Contents) (riding : Riding R) (carrying : Carrying K) (r : R) (cores : ℕ) (n taken : Node R K) (word : ℕ) (kind : Kind) → taken.core ≡ n.core → 1 ≤ cores → earned image riding cores n + 1 ≤ earned image riding cores (node_accessing image riding carrying r taken word kind)
   allowed_earns image riding carrying r cores n taken word kind same some =
       retiring_earns image riding cores n (node_accessing image riding carrying r taken word kind) some (count_law image taken.core (access_of image riding taken word kind).before ∙ ap (λ (c : Core). c.count + 1) same)
 
-  data_earns : (image : Contents) (riding : Riding R) (carrying : Carrying K) (r : R) (cores : ℕ) (n taken : Node R K) (needed : Need) → taken.core ≡ n.core → 1 ≤ cores → may_access needed riding taken ≡ true → earned image riding cores n + 1 ≤ earned image riding cores (node_working_in needed image riding carrying r taken)
-  data_earns image riding carrying r cores n taken (Load w) same some is = rw is (allowed_earns image riding carrying r cores n taken w IsLoad same some)
-  data_earns image riding carrying r cores n taken (Store w whole) same some is = rw is (allowed_earns image riding carrying r cores n taken w IsStore same some)
-  data_earns image riding carrying r cores n taken Local same some is = absurd (cc)
-  data_earns image riding carrying r cores n taken (Done stop) same some is = absurd (cc)
+  data_earns : (image : Contents) (riding : Riding R) (carrying : Carrying K) (r : R) (cores : ℕ) (n taken : Node R K) (used : Option (Kind × ℕ)) (done : Bool) → taken.core ≡ n.core → 1 ≤ cores → may_access used riding taken ≡ true → earned image riding cores n + 1 ≤ earned image riding cores (node_working_in used done image riding carrying r taken)
+  data_earns image riding carrying r cores n taken (Some (kind, word)) done same some is = rw is (allowed_earns image riding carrying r cores n taken word kind same some)
+  data_earns image riding carrying r cores n taken None done same some is = absurd (cc)
 
   -- a message's receipt pays for itself
   pub receiving_earns : (image : Contents) (riding : Riding R) (carrying : Carrying K) (r : R) (cores blocks : ℕ) (stage : Stage) (c : ℕ) (n : Node R K) (mail : Mail (FromHome R) K) (rest : List (Mail (FromHome R) K)) → 1 ≤ cores → n.messages.items ≡ mail ∷ rest → Stands stage c (node_view riding (block_of mail.item) n) → NodeFits image riding blocks n →
@@ -243,15 +238,15 @@ module _ {R K : Type 0} where
 
       by_data : (t : Bool) → is_data mail.item ≡ t → earned image riding cores n + owed (if t then node_working image riding carrying r taken else node_answering taken (answer_to riding n mail.item)) + 1 ≤ earned image riding cores (if t then node_working image riding carrying r taken else node_answering taken (answer_to riding n mail.item)) + owed n
       by_data true e =
-          let same : owed (node_working image riding carrying r taken) ≡ owed taken = working_owes image riding carrying r taken (need image n.core) in
+          let same : owed (node_working image riding carrying r taken) ≡ owed taken = working_owes image riding carrying r taken (need_access (need image n.core)) (is_done (need image n.core)) in
           let free = data_debt mail.item e in
           let b : owed n ≡ debt mail.item + owed taken = before in
-          let earns : earned image riding cores n + 1 ≤ earned image riding cores (node_working image riding carrying r taken) = data_earns image riding carrying r cores n taken (need image n.core) refl some (data_ready image riding carrying blocks n mail rest e at there h) in
+          let earns : earned image riding cores n + 1 ≤ earned image riding cores (node_working image riding carrying r taken) = data_earns image riding carrying r cores n taken (need_access (need image n.core)) (is_done (need image n.core)) refl some (data_ready image riding carrying blocks n mail rest e at there h) in
           omega arith
       by_data false e =
           let owes = answering_owes taken (answer_to riding n mail.item) in
           let b : owed n ≡ debt mail.item + owed taken = before in
-          let base = taking_base image riding carrying cores blocks n mail rest (need image n.core) refl e there h in
+          let base = taking_base image riding carrying cores blocks n mail rest (need_access (need image n.core)) (is_done (need image n.core)) refl e there h in
           let kept = answering_earns image riding cores taken (answer_to riding n mail.item) in
           omega arith
 
@@ -263,5 +258,5 @@ module _ {R K : Type 0} where
       by_answer x (Some answered) = refl
 
       by_data : (t : Bool) → (if t then node_working image riding carrying r (node_taking riding carrying n mail rest) else node_answering (node_taking riding carrying n mail rest) (answer_to riding n mail.item)).core.limit ≡ n.core.limit
-      by_data true = working_limit image riding carrying r (node_taking riding carrying n mail rest) (need image n.core)
+      by_data true = working_limit image riding carrying r (node_taking riding carrying n mail rest) (need_access (need image n.core)) (is_done (need image n.core))
       by_data false = by_answer (node_taking riding carrying n mail rest) (answer_to riding n mail.item)

@@ -1,14 +1,13 @@
 -- Each step pays for itself, and so brings the end nearer.
-use Rattle.std.proofs.Common.{◌≡◌, ◌∙◌, ap, refl, sym, subst, ℕ, ◌+◌, ◌*◌, ◌<◌, ◌≤◌, Bool, true, false, not, ◌&&◌, List, [], ◌∷◌, length, Some, arith, IsTrue}
+use Rattle.std.proofs.Common.{◌≡◌, ◌∙◌, ap, refl, sym, subst, ℕ, ◌+◌, ◌*◌, ◌<◌, ◌≤◌, Bool, true, false, not, ◌&&◌, List, [], ◌∷◌, length, Option, Some, None, arith, IsTrue}
 use Rattle.std.specs.Prelude.{slice_set}
 use Rattle.std.specs.List.{sum_by}
 use Rattle.std.proofs.lemmas.List.{length-set}
 use Rattle.std.proofs.lemmas.List.Sums.{sum_by-set}
 use Rattle.access_times.specs.Riding.{Riding, Carrying}
 use Rattle.image_mem.specs.Contents.{Contents}
-use Rattle.rv_core.specs.declared.core_state.Need.{Need}
-use Rattle.rv_core.specs.declared.core_state.Need.TheVariants.{Local, Load, Store, Done}
-use Rattle.rv_core.specs.Steps.{need, is_done}
+use Rattle.rtr_types.specs.declared.access.Kind.{Kind}
+use Rattle.rv_core.specs.Steps.{need, is_done, access_of as need_access}
 use Rattle.link_order.specs.Queue.{is_nil}
 use Rattle.msi_cache.specs.declared.messages.FromHome.{FromHome}
 use Rattle.msi_cache.specs.declared.messages.Request.{Request}
@@ -62,8 +61,8 @@ module _ {R K : Type 0} where
       let n : Node R K = node_at carrying s.nodes c in
       let p = enabled_there riding carrying s c (CoreMove c) (enabled_at s.image riding s.home n (CoreMove c)) e in
       let q = both (is_done (need s.image n.core)) (waits n.cache) p.1 in
-      let le = working_earns s.image riding carrying rider (length s.nodes) (length s.home) n (need s.image n.core) (some_core s c p.0) refl q.0 (fits_still s.image riding (length s.home) n q.1 (h.nodes c p.0)) in
-      let same = working_owes s.image riding carrying rider n (need s.image n.core) in
+      let le = working_earns s.image riding carrying rider (length s.nodes) (length s.home) n (need_access (need s.image n.core)) (is_done (need s.image n.core)) (some_core s c p.0) refl q.0 (fits_still s.image riding (length s.home) n q.1 (h.nodes c p.0)) in
+      let same = working_owes s.image riding carrying rider n (need_access (need s.image n.core)) (is_done (need s.image n.core)) in
       set_earns riding carrying s c (node_working s.image riding carrying rider n) p.0 (omega arith)
     where
       both : (a b : Bool) → (not a && not b) ≡ true → (a ≡ false) × (b ≡ false)
@@ -86,14 +85,13 @@ module _ {R K : Type 0} where
           set_earns riding carrying s c (node_receiving_mail s.image riding carrying rider n mail rest) lc
           (receiving_earns s.image riding carrying rider (length s.nodes) (length s.home) (entry_at riding.fresh s.home (block_of mail.item)).stage c n mail rest (some_core s c lc) is ((h.blocks (block_of mail.item)).stands c (let g = h.cores in let f = lc in omega arith)) (h.nodes c lc))
 
-  base_sent : (needed : Need) (riding : Riding R) (cores : ℕ) (x : Node R K) (g : FromHome R) (k : K) → base_in needed riding cores (node_sent x g k) ≡ base_in needed riding cores x
-  base_sent Local riding cores x g k = refl
-  base_sent (Done stop) riding cores x g k = refl
-  base_sent (Load w) riding cores x g k = refl
-  base_sent (Store w whole) riding cores x g k = refl
+  base_sent : (used : Option (Kind × ℕ)) (done : Bool) (riding : Riding R) (cores : ℕ) (x : Node R K) (g : FromHome R) (k : K) → base_in used done riding cores (node_sent x g k) ≡ base_in used done riding cores x
+  base_sent (Some (kind, word)) done riding cores x g k = refl
+  base_sent None true riding cores x g k = refl
+  base_sent None false riding cores x g k = refl
 
   earned_sent : (image : Contents) (riding : Riding R) (cores : ℕ) (x : Node R K) (g : FromHome R) (k : K) → earned image riding cores (node_sent x g k) ≡ earned image riding cores x
-  earned_sent image riding cores x g k = ap (λ (b : ℕ). (2 * cores + 4) * x.core.count + b) (base_sent (need image x.core) riding cores x g k)
+  earned_sent image riding cores x g k = ap (λ (b : ℕ). (2 * cores + 4) * x.core.count + b) (base_sent (need_access (need image x.core)) (is_done (need image x.core)) riding cores x g k)
 
   -- the home's answer pays for itself where the message's own node has earned what it brings to others
   home_earns : (riding : Riding R) (carrying : Carrying K) (s : State R K) (c : ℕ) (m : Node R K) (answer : HomeAnswer R) (block : ℕ) (k : K) (home : List (Entry R)) (debt : ℕ) → c < length s.nodes → ((to : ℕ) (g : FromHome R) → answer.send ≡ Some (to, g) → to < length s.nodes) → answer_debt answer.send answer.invalidate (length s.nodes) ≡ debt →
@@ -127,18 +125,17 @@ module _ {R K : Type 0} where
           let answer : HomeAnswer R = answer_to_request riding.absorbed entry c mail.item in
           let debt : ℕ = step_debt (request_step entry.stage c (ask_of mail.item)) (length s.nodes) in
           let debt_is : answer_debt answer.send answer.invalidate (length s.nodes) ≡ debt = answer_debt_is answer (request_step entry.stage c (ask_of mail.item)) (length s.nodes) made.send made.invalidate in
-          let le = request_need riding carrying s c mail h lc is free (need s.image n.core) refl in
+          let le = request_need riding carrying s c mail h lc is free (need_access (need s.image n.core)) (is_done (need s.image n.core)) refl in
           home_earns riding carrying s c (node_requested n []) answer b (carrying.joined s.carry mail.carry) (entries_after_request riding s.home c mail.item) debt lc (request_to_there riding carrying s c mail h.cores lc (h.blocks b)) debt_is (omega arith)
 
       by_items : (q : List (Mail (Request R) K)) → n.requests.items ≡ q → c < length s.nodes → head_free q riding s.home ≡ true → Earns riding s (request_moved_in q riding carrying s c)
       by_items [] is lc free = absurd (cc)
       by_items (mail ∷ rest) is lc free = by_rest mail rest is lc free (request_alone riding carrying s c mail rest h lc is)
 
-  base_responded : (needed : Need) (riding : Riding R) (cores : ℕ) (n : Node R K) (rest : List (Mail (Response R) K)) → base_in needed riding cores (node_responded n rest) ≡ base_in needed riding cores n
-  base_responded Local riding cores n rest = refl
-  base_responded (Done stop) riding cores n rest = refl
-  base_responded (Load w) riding cores n rest = refl
-  base_responded (Store w whole) riding cores n rest = refl
+  base_responded : (used : Option (Kind × ℕ)) (done : Bool) (riding : Riding R) (cores : ℕ) (n : Node R K) (rest : List (Mail (Response R) K)) → base_in used done riding cores (node_responded n rest) ≡ base_in used done riding cores n
+  base_responded (Some (kind, word)) done riding cores n rest = refl
+  base_responded None true riding cores n rest = refl
+  base_responded None false riding cores n rest = refl
 
   response_earns : (riding : Riding R) (carrying : Carrying K) (s : State R K) (c : ℕ) → IsTrue (enabled riding carrying s (ResponseMove c)) → Sound riding carrying s → Earns riding s (response_moved riding carrying s c)
   response_earns riding carrying s c e h = by_items n.responses.items refl p.0 (not_empty n.responses.items p.1)
@@ -157,7 +154,7 @@ module _ {R K : Type 0} where
           let made : ResponseAsMoved riding entry c mail.item = response_makes_step riding entry c mail.item in
           let answer : HomeAnswer R = answer_to_response riding.absorbed entry c mail.item in
           let debt_is : answer_debt answer.send answer.invalidate (length s.nodes) ≡ 0 = answer_debt_is answer (response_step entry.stage c (reply_of mail.item)) (length s.nodes) made.send made.invalidate ∙ response_debt entry.stage c (reply_of mail.item) (length s.nodes) in
-          let base = base_responded (need s.image n.core) riding (length s.nodes) n rest in
+          let base = base_responded (need_access (need s.image n.core)) (is_done (need s.image n.core)) riding (length s.nodes) n rest in
           let owes : owed n ≡ owed (node_responded n rest) + 1 = let f : length n.responses.items ≡ length rest + 1 = ap length is ∙ omega arith in omega arith in
           home_earns riding carrying s c (node_responded n rest) answer b (carrying.joined s.carry mail.carry) (entries_after_response riding s.home c mail.item) 0 lc (λ to g f. (response_to_there riding carrying s c mail rest h.cores lc is (h.blocks b) to g f).0) debt_is (omega arith)
 

@@ -34,14 +34,20 @@ pub fn every_step_earns<R: Rider, K: Carry>()
 /// a word where the parameters lie in their ranges. At each moment up to the end, at most `left` of these
 /// steps are still to come.
 pub fn a_run_ends_in_time()
-    ensures ends { (image : Contents) (params : Params) (choices : ℕ → ℕ) → params.cores ≤ CORES_MAX → params.limit < 2 ^ 32
+    ensures ends { (image : Contents) (params : Params) (choices : ℕ → ℕ)
+        → params.cores ≤ CORES_MAX → params.limit < 2 ^ 32
         → IsRunEnd image params choices (end_of image params choices) }
-    ensures alone { (image : Contents) (params : Params) (choices : ℕ → ℕ) (t : ℕ) → params.cores ≤ CORES_MAX → params.limit < 2 ^ 32
+    ensures alone { (image : Contents) (params : Params) (choices : ℕ → ℕ) (t : ℕ)
+        → params.cores ≤ CORES_MAX → params.limit < 2 ^ 32
         → IsRunEnd image params choices t → t ≡ end_of image params choices }
-    ensures in_time { (image : Contents) (params : Params) (choices : ℕ → ℕ) → params.cores ≤ CORES_MAX → params.limit < 2 ^ 32
-        → end_of image params choices ≤ (2 * params.cores + 4) * total_retired (run image params choices (end_of image params choices)) }
-    ensures within { (image : Contents) (params : Params) (choices : ℕ → ℕ) → end_of image params choices ≤ most_steps params }
-    ensures remaining { (image : Contents) (params : Params) (choices : ℕ → ℕ) (t : ℕ) → params.cores ≤ CORES_MAX → params.limit < 2 ^ 32
+    ensures in_time { (image : Contents) (params : Params) (choices : ℕ → ℕ)
+        → params.cores ≤ CORES_MAX → params.limit < 2 ^ 32
+        → end_of image params choices
+        ≤ (2 * params.cores + 4) * total_retired (run image params choices (end_of image params choices)) }
+    ensures within { (image : Contents) (params : Params) (choices : ℕ → ℕ)
+        → end_of image params choices ≤ most_steps params }
+    ensures remaining { (image : Contents) (params : Params) (choices : ℕ → ℕ) (t : ℕ)
+        → params.cores ≤ CORES_MAX → params.limit < 2 ^ 32
         → t ≤ end_of image params choices → t + left none_riding (run image params choices t) ≤ most_steps params }
     ensures few { (params : Params) → Fits params → most_steps params < 2 ^ 32 }
 {}

@@ -32,16 +32,22 @@ module _ {R : Type 0} where
   -- a message does to the plain part what it does where nothing rides, and is answered as there
   pub record PlainOnHome (riding : Riding R) (lines : List (Line R)) (m : FromHome R) : Type 0 where
     pub same_line : plain_line (line_for riding.fresh lines (block_of m)) ≡ line_for tt (plain_lines lines) (block_of m)
-    pub same_row : has_row (line_for riding.fresh lines (block_of m)) m ≡ has_row (line_for tt (plain_lines lines) (block_of m)) (plain_message m)
-    pub same_lines : plain_lines (lines_after riding lines m) ≡ lines_after none_riding (plain_lines lines) (plain_message m)
-    pub same_answer : plain_answer (answer (line_for riding.fresh lines (block_of m)) m) ≡ answer (line_for tt (plain_lines lines) (block_of m)) (plain_message m)
+    pub same_row : has_row (line_for riding.fresh lines (block_of m)) m
+        ≡ has_row (line_for tt (plain_lines lines) (block_of m)) (plain_message m)
+    pub same_lines : plain_lines (lines_after riding lines m)
+        ≡ lines_after none_riding (plain_lines lines) (plain_message m)
+    pub same_answer : plain_answer (answer (line_for riding.fresh lines (block_of m)) m)
+        ≡ answer (line_for tt (plain_lines lines) (block_of m)) (plain_message m)
 
   -- a request is made in the plain part exactly as it is where nothing rides
   pub record PlainWant (riding : Riding R) (lines : List (Line R)) (block : ℕ) (kind : Kind) : Type 0 where
     pub same_waits : waits lines ≡ waits (plain_lines lines)
-    pub same_allowed : is_allowed (line_for riding.fresh lines block) block kind ≡ is_allowed (line_for tt (plain_lines lines) block) block kind
-    pub same_lines : plain_lines (lines_asking riding lines block kind) ≡ lines_asking none_riding (plain_lines lines) block kind
-    pub same_asks : plain_request (asks (line_for riding.fresh lines block) block kind) ≡ asks (line_for tt (plain_lines lines) block) block kind
+    pub same_allowed : is_allowed (line_for riding.fresh lines block) block kind
+        ≡ is_allowed (line_for tt (plain_lines lines) block) block kind
+    pub same_lines : plain_lines (lines_asking riding lines block kind)
+        ≡ lines_asking none_riding (plain_lines lines) block kind
+    pub same_asks : plain_request (asks (line_for riding.fresh lines block) block kind)
+        ≡ asks (line_for tt (plain_lines lines) block) block kind
 
   -- a word is written in the plain part exactly as it is where nothing rides
   abbrev pub PlainPut : Riding R → List (Line R) → ℕ → ℕ → ℕ → Type 0

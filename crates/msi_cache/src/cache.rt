@@ -176,8 +176,10 @@ impl<R: Rider> Cache<R> {
     /// What home has to hear once the cache has taken this message, as `on_home` answers it. The rider is
     /// lent.
     pub fn answer(&self, message: FromHome<&R>) -> Option<Response<&R>>
-        requires { IsTrue (has_row (line_for R.riding.fresh self.now (block_of (message_seen message))) (message_seen message)) }
-        ensures { answer_seen result ≡ answer (line_for R.riding.fresh self.now (block_of (message_seen message.entry))) (message_seen message.entry) }
+        requires { let seen = message_seen message in
+            IsTrue (has_row (line_for R.riding.fresh self.now (block_of seen)) seen) }
+        ensures { let seen = message_seen message.entry in
+            answer_seen result ≡ answer (line_for R.riding.fresh self.now (block_of seen)) seen }
     {
         self.lines[message.block() as usize % LINES].answer(message)
     }
@@ -185,7 +187,8 @@ impl<R: Rider> Cache<R> {
     /// Takes a message for which the table has a row at the line that holds its block. Only that line
     /// changes.
     pub fn hear(&mut self, message: FromHome<&R>)
-        requires { IsTrue (has_row (line_for R.riding.fresh self.old (block_of (message_seen message))) (message_seen message)) }
+        requires { let seen = message_seen message in
+            IsTrue (has_row (line_for R.riding.fresh self.old (block_of seen)) seen) }
         ensures lines { self.new ≡ lines_after R.riding self.old (message_seen message.entry) }
         ensures elsewhere { SameElsewhere R.riding.fresh self.old self.new (block_of (message_seen message.entry)) }
     {

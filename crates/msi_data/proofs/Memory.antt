@@ -7,7 +7,6 @@ use Rattle.rtr_types.specs.declared.TheConstants.{BLOCK_WORDS}
 use Rattle.rtr_types.specs.Accesses.{is_write}
 use Rattle.rtr_types.specs.declared.access.Access.{Access}
 use Rattle.rtr_types.specs.declared.access.Kind.{Kind}
-use Rattle.rtr_types.specs.declared.access.Kind.TheVariants.{Load as IsLoad, Store as IsStore}
 use Rattle.msi_state.specs.Nodes.{Nothing, Retires, Accesses}
 use Rattle.msi_state.specs.Coherent.{accessed, WordsFit, word_of, LastWrite}
 
@@ -18,16 +17,14 @@ set_word : (xs : List ℕ) (i j v : ℕ) → length xs ≡ BLOCK_WORDS → j < B
 set_word xs i j v long lt = grind (arith, nat_tests, get_or-set_same xs i v 0, get_or-set_other xs i j v 0)
 
 written_fits : (a : Access) (kind : Kind) (memory : ℕ → List ℕ) → WordsFit memory → WordsFit (accessed kind a memory)
-written_fits a IsLoad memory h b = h b
-written_fits a IsStore memory h b = by_test (b == a.word / BLOCK_WORDS)
+written_fits a kind memory h b = by_test (is_write kind && (b == a.word / BLOCK_WORDS))
   where
     by_test : (t : Bool) → length (if t then slice_set (memory b) (a.word % BLOCK_WORDS) a.after else memory b) ≡ BLOCK_WORDS
     by_test true = length-set (memory b) (a.word % BLOCK_WORDS) a.after ∙ h b
     by_test false = h b
 
 written_word : (a : Access) (kind : Kind) (memory : ℕ → List ℕ) → WordsFit memory → (word : ℕ) → word_of (accessed kind a memory) word ≡ (if is_write kind && (a.word == word) then a.after else word_of memory word)
-written_word a IsLoad memory h word = refl
-written_word a IsStore memory h word = by_test (word / BLOCK_WORDS == a.word / BLOCK_WORDS) refl
+written_word a kind memory h word = by_write (is_write kind)
   where
     by_test : (t : Bool) → (word / BLOCK_WORDS == a.word / BLOCK_WORDS) ≡ t → slice_index (if t then slice_set (memory (word / BLOCK_WORDS)) (a.word % BLOCK_WORDS) a.after else memory (word / BLOCK_WORDS)) (word % BLOCK_WORDS) ≡ (if a.word == word then a.after else word_of memory word)
     by_test true e =
@@ -39,6 +36,10 @@ written_word a IsStore memory h word = by_test (word / BLOCK_WORDS == a.word / B
         by_slot true f same = let at : (a.word == word) ≡ true = let w : word ≡ a.word = same (grind (arith, nat_tests)) in grind (arith, nat_tests) in rw at refl
         by_slot false f same = let at : (a.word == word) ≡ false = grind (arith, nat_tests) in rw at refl
     by_test false e = let at : (a.word == word) ≡ false = grind (arith, nat_tests) in rw at refl
+
+    by_write : (t : Bool) → slice_index (if t && (word / BLOCK_WORDS == a.word / BLOCK_WORDS) then slice_set (memory (word / BLOCK_WORDS)) (a.word % BLOCK_WORDS) a.after else memory (word / BLOCK_WORDS)) (word % BLOCK_WORDS) ≡ (if t && (a.word == word) then a.after else word_of memory word)
+    by_write true = by_test (word / BLOCK_WORDS == a.word / BLOCK_WORDS) refl
+    by_write false = refl
 
 pub last_write_found : LastWrite
 last_write_found Nothing memory h = (h, λ word. refl)

@@ -8,12 +8,9 @@ use Rattle.image_mem.specs.Contents.{Contents, opening_word}
 use Rattle.rtr_types.specs.Accesses.{is_write}
 use Rattle.rtr_types.specs.declared.access.Access.{Access}
 use Rattle.rtr_types.specs.declared.access.Kind.{Kind}
-use Rattle.rtr_types.specs.declared.access.Kind.TheVariants.{Load as IsLoad, Store as IsStore}
 use Rattle.rtr_types.specs.declared.params.Params.{Params}
-use Rattle.rv_core.specs.declared.core_state.Need.{Need}
-use Rattle.rv_core.specs.declared.core_state.Need.TheVariants.{Local, Load, Store, Done}
-use Rattle.rv_core.specs.Steps.{need, wrote}
-use Rattle.rv_core.proofs.LawLemmas.{load_within_law, store_within_law, load_value_law}
+use Rattle.rv_core.specs.Steps.{need, wrote, is_done, access_of as need_access}
+use Rattle.rv_core.proofs.LawLemmas.{within_law, unwritten_law}
 use Rattle.msi_cache.specs.declared.messages.FromHome.{FromHome}
 use Rattle.msi_cache.specs.declared.messages.Request.{Request}
 use Rattle.msi_cache.specs.declared.messages.Response.{Response}
@@ -48,14 +45,13 @@ module _ {R K : Type 0} where
       by_test true = (within, λ e. reads e a.before)
       by_test false = tt
 
-  working_honest : (image : Contents) (riding : Riding R) (n : Node R K) (needed : Need) → need image n.core ≡ needed → Honest image.words (event_working_in needed image riding n)
-  working_honest image riding n Local is = tt
-  working_honest image riding n (Done stop) is = tt
-  working_honest image riding n (Load word) is = trying_honest image riding n word IsLoad (load_within_law image n.core word is) (λ e old. load_value_law image n.core word old is)
-  working_honest image riding n (Store word whole) is = trying_honest image riding n word IsStore (store_within_law image n.core word whole is) (λ e old. absurd (cc))
+  working_honest : (image : Contents) (riding : Riding R) (n : Node R K) (used : Option (Kind × ℕ)) (done : Bool) → need_access (need image n.core) ≡ used → Honest image.words (event_working_in used done image riding n)
+  working_honest image riding n (Some (kind, word)) done is = trying_honest image riding n word kind (within_law image n.core kind word is) (λ reads old. unwritten_law image n.core kind word old is reads)
+  working_honest image riding n None true is = tt
+  working_honest image riding n None false is = tt
 
   event_honest : (riding : Riding R) (carrying : Carrying K) (s : State R K) (m : Move) → Honest s.image.words (event riding carrying s m)
-  event_honest riding carrying s (CoreMove c) = working_honest s.image riding (node_at carrying s.nodes c) (need s.image (node_at carrying s.nodes c).core) refl
+  event_honest riding carrying s (CoreMove c) = working_honest s.image riding (node_at carrying s.nodes c) (need_access (need s.image (node_at carrying s.nodes c).core)) (is_done (need s.image (node_at carrying s.nodes c).core)) refl
   event_honest riding carrying s (RequestMove c) = tt
   event_honest riding carrying s (ResponseMove c) = tt
   event_honest riding carrying s (MessageMove c) = by_items (node_at carrying s.nodes c).messages.items
@@ -71,7 +67,7 @@ module _ {R K : Type 0} where
           taken = node_taking riding carrying n mail rest
 
           by_data : (t : Bool) → Honest s.image.words (if t then event_working s.image riding taken else Nothing)
-          by_data true = working_honest s.image riding taken (need s.image taken.core) refl
+          by_data true = working_honest s.image riding taken (need_access (need s.image taken.core)) (is_done (need s.image taken.core)) refl
           by_data false = tt
 
   -- no step changes the image

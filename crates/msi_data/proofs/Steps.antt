@@ -1,5 +1,5 @@
 -- Each move keeps the copies that count current, and an access finds the current word.
-use Rattle.std.proofs.Common.{◌≡◌, ◌∙◌, ap, refl, sym, subst, ℕ, ◌<◌, ◌≤◌, ◌==◌, ◌%◌, ◌/◌, Bool, true, false, not, ◌&&◌, List, [], ◌∷◌, length, Option, None, arith, IsTrue, eqb-true}
+use Rattle.std.proofs.Common.{◌≡◌, ◌∙◌, ap, refl, sym, subst, ℕ, ◌<◌, ◌≤◌, ◌==◌, ◌%◌, ◌/◌, Bool, true, false, not, ◌&&◌, List, [], ◌∷◌, length, Option, Some, None, arith, IsTrue, eqb-true}
 use Rattle.std.specs.Prelude.{if◌then◌else◌, slice_index, slice_set, is_some}
 use Rattle.std.proofs.lemmas.List.{length-set, get_or-set_same, set-set}
 use Rattle.std.proofs.lemmas.Bool.Decides.{nat_tests}
@@ -7,10 +7,7 @@ use Rattle.access_times.specs.Riding.{Riding, Carrying}
 use Rattle.rtr_types.specs.declared.TheConstants.{BLOCK_WORDS, CORES_MAX}
 use Rattle.rtr_types.specs.Accesses.{is_write}
 use Rattle.rtr_types.specs.declared.access.Kind.{Kind}
-use Rattle.rtr_types.specs.declared.access.Kind.TheVariants.{Load as IsLoad, Store as IsStore}
-use Rattle.rv_core.specs.declared.core_state.Need.{Need}
-use Rattle.rv_core.specs.declared.core_state.Need.TheVariants.{Local, Load, Store, Done}
-use Rattle.rv_core.specs.Steps.{need, is_done}
+use Rattle.rv_core.specs.Steps.{need, is_done, access_of as need_access}
 use Rattle.msi_cache.specs.declared.line.TheConstants.{LINES}
 use Rattle.msi_cache.specs.declared.line.Line.{Line}
 use Rattle.msi_cache.specs.declared.messages.FromHome.{FromHome}
@@ -95,23 +92,22 @@ module _ {R K : Type 0} where
             finds = tt;
           }
 
-  working_works : (riding : Riding R) (carrying : Carrying K) (s : State R K) (c : ℕ) (r : R) (blocks : ℕ) (needed : Need) (memory : ℕ → List ℕ) → length s.nodes ≤ CORES_MAX → c < length s.nodes → NodeStill riding blocks (node_at carrying s.nodes c) → (may_access needed riding (node_at carrying s.nodes c) ≡ false → (node_at carrying s.nodes c).requests.items ≡ []) → ((b : ℕ) → BlockHolds (block_in riding carrying s b)) → Coherent riding carrying s memory →
-      Works riding carrying (record s { nodes = slice_set s.nodes c (node_working_in needed s.image riding carrying r (node_at carrying s.nodes c)) }) (event_working_in needed s.image riding (node_at carrying s.nodes c)) memory
-  working_works riding carrying s c r blocks Local memory few lc still none holds k =
+  working_works : (riding : Riding R) (carrying : Carrying K) (s : State R K) (c : ℕ) (r : R) (blocks : ℕ) (used : Option (Kind × ℕ)) (done : Bool) (memory : ℕ → List ℕ) → length s.nodes ≤ CORES_MAX → c < length s.nodes → NodeStill riding blocks (node_at carrying s.nodes c) → (may_access used riding (node_at carrying s.nodes c) ≡ false → (node_at carrying s.nodes c).requests.items ≡ []) → ((b : ℕ) → BlockHolds (block_in riding carrying s b)) → Coherent riding carrying s memory →
+      Works riding carrying (record s { nodes = slice_set s.nodes c (node_working_in used done s.image riding carrying r (node_at carrying s.nodes c)) }) (event_working_in used done s.image riding (node_at carrying s.nodes c)) memory
+  working_works riding carrying s c r blocks None false memory few lc still none holds k =
       record {
         coherent = λ b. set_current riding carrying s c (node_local s.image carrying (node_at carrying s.nodes c)) b (memory b) lc (k b) (let q = (k b).nodes c lc in record { line = q.line; sent = q.sent; replied = q.replied; put = q.put });
         finds = tt;
       }
-  working_works riding carrying s c r blocks (Done stop) memory few lc still none holds k = record { coherent = λ b. set_current riding carrying s c (node_at carrying s.nodes c) b (memory b) lc (k b) ((k b).nodes c lc); finds = tt }
-  working_works riding carrying s c r blocks (Load word) memory few lc still none holds k = trying_works riding carrying s c r blocks word IsLoad memory few lc still none holds k
-  working_works riding carrying s c r blocks (Store word whole) memory few lc still none holds k = trying_works riding carrying s c r blocks word IsStore memory few lc still none holds k
+  working_works riding carrying s c r blocks None true memory few lc still none holds k = record { coherent = λ b. set_current riding carrying s c (node_at carrying s.nodes c) b (memory b) lc (k b) ((k b).nodes c lc); finds = tt }
+  working_works riding carrying s c r blocks (Some (kind, word)) done memory few lc still none holds k = trying_works riding carrying s c r blocks word kind memory few lc still none holds k
 
   core_works : (riding : Riding R) (carrying : Carrying K) (s : State R K) (c : ℕ) (rider : R) (memory : ℕ → List ℕ) → IsTrue (enabled riding carrying s (CoreMove c)) → Sound riding carrying s → Coherent riding carrying s memory → Works riding carrying (core_moved riding carrying rider s c) (event_working s.image riding (node_at carrying s.nodes c)) memory
   core_works riding carrying s c rider memory e h k =
       let n : Node R K = node_at carrying s.nodes c in
       let p = enabled_there riding carrying s c (CoreMove c) (enabled_at s.image riding s.home n (CoreMove c)) e in
       let still = neither (is_done (need s.image n.core)) (waits n.cache) p.1 in
-      working_works riding carrying s c rider (length s.home) (need s.image n.core) memory h.cores p.0 (fits_still s.image riding (length s.home) n still (h.nodes c p.0)) (λ f. no_requests riding carrying s c h p.0 still) h.blocks k
+      working_works riding carrying s c rider (length s.home) (need_access (need s.image n.core)) (is_done (need s.image n.core)) memory h.cores p.0 (fits_still s.image riding (length s.home) n still (h.nodes c p.0)) (λ f. no_requests riding carrying s c h p.0 still) h.blocks k
 
   receiving_works : (riding : Riding R) (carrying : Carrying K) (s : State R K) (c : ℕ) (rider : R) (memory : ℕ → List ℕ) (mail : Mail (FromHome R) K) (rest : List (Mail (FromHome R) K)) → Sound riding carrying s → c < length s.nodes → (node_at carrying s.nodes c).messages.items ≡ mail ∷ rest → Coherent riding carrying s memory →
       Works riding carrying (record s { nodes = slice_set s.nodes c (node_receiving_mail s.image riding carrying rider (node_at carrying s.nodes c) mail rest) }) (event_receiving_mail s.image riding carrying (node_at carrying s.nodes c) mail rest) memory
@@ -151,8 +147,11 @@ module _ {R K : Type 0} where
       here : node_at carrying between.nodes c ≡ taken
       here = get_or-set_same s.nodes c taken (no_node carrying) lc
 
-      needed : Need
-      needed = need s.image taken.core
+      used : Option (Kind × ℕ)
+      used = need_access (need s.image taken.core)
+
+      done : Bool
+      done = is_done (need s.image taken.core)
 
       by_data : (t : Bool) → is_data mail.item ≡ t → Works riding carrying (record s { nodes = slice_set s.nodes c (if t then node_working s.image riding carrying rider taken else node_answering taken (answer_to riding n mail.item)) }) (if t then event_working s.image riding taken else Nothing) memory
       by_data false e =
@@ -164,10 +163,10 @@ module _ {R K : Type 0} where
           let silent : answer_to riding n mail.item ≡ None = data_silent l mail.item e there in
           let kept : Keeps riding n taken = subst (λ (o : Option (Response R)). Keeps riding n (node_answering taken o)) silent (answering_keeps riding carrying n mail rest long is at there) in
           let still : NodeStill riding (length s.home) taken = taking_still s.image riding carrying (length s.home) n mail rest e there (h.nodes c lc) in
-          let ok : may_access needed riding taken ≡ true = data_ready s.image riding carrying (length s.home) n mail rest e at there (h.nodes c lc) in
-          let works : Works riding carrying (record between { nodes = slice_set between.nodes c (node_working_in needed s.image riding carrying rider (node_at carrying between.nodes c)) }) (event_working_in needed s.image riding (node_at carrying between.nodes c)) memory =
-          working_works riding carrying between c rider (length s.home) needed memory (rw length-set h.cores) (rw length-set lc) (subst (λ (x : Node R K). NodeStill riding (length s.home) x) (sym here) still) (λ (f : may_access needed riding (node_at carrying between.nodes c) ≡ false). absurd (let g : may_access needed riding taken ≡ false = ap (λ (x : Node R K). may_access needed riding x) (sym here) ∙ f in cc)) (λ b. blocks_kept riding carrying s c taken b lc kept (h.blocks b)) (λ b. set_current riding carrying s c taken b (memory b) lc (k b) (taken_current b)) in
-          let moved : Works riding carrying (record s { nodes = slice_set (slice_set s.nodes c taken) c (node_working s.image riding carrying rider taken) }) (event_working s.image riding taken) memory = subst (λ (x : Node R K). Works riding carrying (record s { nodes = slice_set (slice_set s.nodes c taken) c (node_working_in needed s.image riding carrying rider x) }) (event_working_in needed s.image riding x) memory) here works in
+          let ok : may_access used riding taken ≡ true = data_ready s.image riding carrying (length s.home) n mail rest e at there (h.nodes c lc) in
+          let works : Works riding carrying (record between { nodes = slice_set between.nodes c (node_working_in used done s.image riding carrying rider (node_at carrying between.nodes c)) }) (event_working_in used done s.image riding (node_at carrying between.nodes c)) memory =
+          working_works riding carrying between c rider (length s.home) used done memory (rw length-set h.cores) (rw length-set lc) (subst (λ (x : Node R K). NodeStill riding (length s.home) x) (sym here) still) (λ (f : may_access used riding (node_at carrying between.nodes c) ≡ false). absurd (let g : may_access used riding taken ≡ false = ap (λ (x : Node R K). may_access used riding x) (sym here) ∙ f in cc)) (λ b. blocks_kept riding carrying s c taken b lc kept (h.blocks b)) (λ b. set_current riding carrying s c taken b (memory b) lc (k b) (taken_current b)) in
+          let moved : Works riding carrying (record s { nodes = slice_set (slice_set s.nodes c taken) c (node_working s.image riding carrying rider taken) }) (event_working s.image riding taken) memory = subst (λ (x : Node R K). Works riding carrying (record s { nodes = slice_set (slice_set s.nodes c taken) c (node_working_in used done s.image riding carrying rider x) }) (event_working_in used done s.image riding x) memory) here works in
           subst (λ (ns : List (Node R K)). Works riding carrying (record s { nodes = ns }) (event_working s.image riding taken) memory) (set-set s.nodes c taken (node_working s.image riding carrying rider taken)) moved
 
   -- each move keeps the state coherent, and an access finds the memory's word

@@ -13,8 +13,10 @@ last_value opening word (a ∷ later) = last_value (if a.word == word then a.aft
 -- image has there
 abbrev pub EachFindsLast : Contents → List Access → Type 0
 EachFindsLast image accesses =
-    (earlier later : List Access) (a : Access) → accesses ≡ earlier ++ a ∷ later → a.before ≡ last_value (opening_word image a.word) a.word earlier
+    (earlier later : List Access) (a : Access) → accesses ≡ earlier ++ a ∷ later
+    → a.before ≡ last_value (opening_word image a.word) a.word earlier
 
 -- the memory that the accesses leave
 abbrev pub memory_left : Contents → List Access → List ℕ
-memory_left image accesses = map (λ word. last_value (opening_word image word) word accesses) (range_with_len 0 image.words)
+memory_left image accesses =
+    map (λ word. last_value (opening_word image word) word accesses) (range_with_len 0 image.words)

@@ -25,9 +25,11 @@ pub fn a_start_has_what_the_image_has<R: Rider, K: Carry>()
 /// with the memory after the move's access, whatever rider the clerk leaves; and the access finds the
 /// memory's value.
 pub fn every_step_keeps_data<R: Rider, K: Carry>()
-    ensures coherent { (s : State R K) (move : Move) (rider : R) (memory : ℕ → List ℕ) → IsTrue (enabled R.riding K.carrying s move)
+    ensures coherent { (s : State R K) (move : Move) (rider : R) (memory : ℕ → List ℕ)
+        → IsTrue (enabled R.riding K.carrying s move)
         → Sound R.riding K.carrying s → Coherent R.riding K.carrying s memory
-        → Coherent R.riding K.carrying (step R.riding K.carrying rider s move) (memory_after (event R.riding K.carrying s move) memory) }
+        → Coherent R.riding K.carrying (step R.riding K.carrying rider s move)
+        (memory_after (event R.riding K.carrying s move) memory) }
     ensures finds { (s : State R K) (move : Move) (memory : ℕ → List ℕ) → IsTrue (enabled R.riding K.carrying s move)
         → Sound R.riding K.carrying s → Coherent R.riding K.carrying s memory
         → Finds (event R.riding K.carrying s move) memory }
@@ -41,9 +43,11 @@ pub fn a_word_has_what_was_written_last()
 /// The value before of each access of a run is the value after of the last earlier access to that word,
 /// or what the image has there. And the word is one of the memory's.
 pub fn an_access_finds_the_last_value()
-    ensures finds { (image : Contents) (params : Params) (choices : ℕ → ℕ) (t : ℕ) → params.cores ≤ CORES_MAX → params.limit < 2 ^ 32
+    ensures finds { (image : Contents) (params : Params) (choices : ℕ → ℕ) (t : ℕ)
+        → params.cores ≤ CORES_MAX → params.limit < 2 ^ 32
         → EachFindsLast image (accesses image params choices t) }
-    ensures within { (image : Contents) (params : Params) (choices : ℕ → ℕ) (t : ℕ) → params.cores ≤ CORES_MAX → params.limit < 2 ^ 32
+    ensures within { (image : Contents) (params : Params) (choices : ℕ → ℕ) (t : ℕ)
+        → params.cores ≤ CORES_MAX → params.limit < 2 ^ 32
         → All (λ a. a.word < image.words) (accesses image params choices t) }
 {}
 
@@ -57,10 +61,14 @@ pub fn the_end_has_the_memory<R: Rider, K: Carry>()
 /// Once each core's program is done, the final memory of a run has in each word the value after of the
 /// last access to it, or what the image has there.
 pub fn final_memory_law()
-    ensures word { (image : Contents) (params : Params) (choices : ℕ → ℕ) (t : ℕ) → params.cores ≤ CORES_MAX → params.limit < 2 ^ 32
+    ensures word { (image : Contents) (params : Params) (choices : ℕ → ℕ) (t : ℕ)
+        → params.cores ≤ CORES_MAX → params.limit < 2 ^ 32
         → all_done (run image params choices t) ≡ true → (word : ℕ) → word < image.words
-        → final_word none_riding none_carrying (run image params choices t) word ≡ last_value (opening_word image word) word (accesses image params choices t) }
-    ensures memory { (image : Contents) (params : Params) (choices : ℕ → ℕ) (t : ℕ) → params.cores ≤ CORES_MAX → params.limit < 2 ^ 32
+        → final_word none_riding none_carrying (run image params choices t) word
+        ≡ last_value (opening_word image word) word (accesses image params choices t) }
+    ensures memory { (image : Contents) (params : Params) (choices : ℕ → ℕ) (t : ℕ)
+        → params.cores ≤ CORES_MAX → params.limit < 2 ^ 32
         → all_done (run image params choices t) ≡ true
-        → final_memory none_riding none_carrying (run image params choices t) ≡ memory_left image (accesses image params choices t) }
+        → final_memory none_riding none_carrying (run image params choices t)
+        ≡ memory_left image (accesses image params choices t) }
 {}

@@ -3,6 +3,7 @@ use Rattle.std.specs.Prelude.{◌≡◌, ℕ, true, List, [], ◌∷◌, Some}
 use Rattle.image_mem.specs.Contents.{Contents}
 use Rattle.rtr_types.specs.declared.params.Params.{Params}
 use Rattle.rtr_types.specs.declared.instr.Instr.{Instr}
+use Rattle.rtr_types.specs.declared.access.Access.{Access}
 use Rattle.rtr_types.specs.declared.access.Kind.TheVariants.{Load, Store}
 use Rattle.rv_core.specs.declared.core_state.Stop.TheVariants.{Exit, Limit}
 use Rattle.rv_core.specs.declared.outcome.LoadNote.{LoadNote}
@@ -11,7 +12,7 @@ use Rattle.msi_state.specs.declared.moves.Move.TheVariants.{Core, Request, Respo
 use Rattle.msi_state.specs.Nodes.{Nothing, Retires, Accesses}
 use Rattle.msi_state.specs.Runs.{opening_state, run}
 use Rattle.msi_examples.specs.Followed.{StepTaken, Seen, followed, then_zeros, ends_at, seen, loads_by}
-use Rattle.msi_examples.specs.Images.{scaled_words, handed_over, bytes_of_a_word, one_word, reader_evicts, writer_evicts, writers_evict, endless}
+use Rattle.msi_examples.specs.Images.{scaled_words, handed_over, bytes_of_a_word, one_word, reader_evicts, writer_evicts, writers_evict, endless, sum}
 
 -- two cores over an image, each of at most so many instructions
 abbrev pub two_cores : (limit : ℕ) → Contents → Params
@@ -30,17 +31,20 @@ local move at = record { move = Some move; told = Retires at }
 
 abbrev pub loads : Move → Instr → (word value : ℕ) → StepTaken
 loads move at word value =
-    record { move = Some move; told = Accesses (record { at = at; word = word; kind = Load; before = value; after = value }) }
+    let a : Access = record { at = at; word = word; kind = Load; before = value; after = value } in
+    record { move = Some move; told = Accesses a }
 
 abbrev pub stores : Move → Instr → (word before after : ℕ) → StepTaken
 stores move at word before after =
-    record { move = Some move; told = Accesses (record { at = at; word = word; kind = Store; before = before; after = after }) }
+    let a : Access = record { at = at; word = word; kind = Store; before = before; after = after } in
+    record { move = Some move; told = Accesses a }
 
 abbrev pub load : (count word value : ℕ) → LoadNote
 load count word value = record { count = count; word = word; value = value }
 
 -- by these choices and then zeros the run ends after exactly t choices, and leaves this
-pub record EndsSo (image : Contents) (limit : ℕ) (choices : List ℕ) (t : ℕ) (left : Seen) (found : List (List LoadNote)) : Type 0 where
+pub record EndsSo (image : Contents) (limit : ℕ) (choices : List ℕ) (t : ℕ) (left : Seen)
+    (found : List (List LoadNote)) : Type 0 where
   pub ends : ends_at image (two_cores limit image) (then_zeros choices) t ≡ true
   pub leaves : seen (run image (two_cores limit image) (then_zeros choices) t) ≡ left
   pub finds : loads_by image (two_cores limit image) (then_zeros choices) t ≡ found
@@ -108,6 +112,19 @@ StoreBytes =
       memory = (8, 0x605) ∷ [];
     })
     ([] ∷ [] ∷ [])
+
+-- sums in one word: neither loses the other, and each core has the word that it found among its loads
+abbrev pub SumInTurn : Type 0
+SumInTurn =
+    EndsSo sum 10000 [] 14
+    (record {
+      stops = Exit ∷ Exit ∷ [];
+      retired = 4 ∷ 4 ∷ [];
+      pcs = 0x10 ∷ 0x10 ∷ [];
+      registers = ((5, 1) ∷ (7, 32) ∷ []) ∷ ((5, 2) ∷ (6, 1) ∷ (7, 32) ∷ (10, 1) ∷ []) ∷ [];
+      memory = (8, 3) ∷ [];
+    })
+    ((load 3 8 0 ∷ []) ∷ (load 3 8 1 ∷ []) ∷ [])
 
 -- one choice decides whose store comes last
 abbrev pub left_by_two_stores : (last : ℕ) → Seen

@@ -2,7 +2,7 @@
 //! computed from the definitions of state, moves and step alone.
 #![tactic(auto)]
 
-ghost use Rattle.msi_examples.specs.Examples.{OneHandsOver, HandedOver, ShareFalsely, StoreBytes, SecondStoresLast, FirstStoresLast, ReadBetweenWrites, InvMeetsPut, ForwardMeetsPut, ForwardToOwnMeetsPut, LimitReached};
+ghost use Rattle.msi_examples.specs.Examples.{OneHandsOver, HandedOver, ShareFalsely, StoreBytes, SumInTurn, SecondStoresLast, FirstStoresLast, ReadBetweenWrites, InvMeetsPut, ForwardMeetsPut, ForwardToOwnMeetsPut, LimitReached};
 
 /// A word goes from core 0 to core 1 and back: what each of sixteen choices does, and what the run
 /// leaves.
@@ -20,9 +20,14 @@ pub fn a_block_and_a_word_are_shared()
     ensures word { StoreBytes }
 {}
 
+/// Two cores add to one word by an atomic memory operation.
+#[tactic(auto, using(crate::proofs::Sharing::sum_in_turn))]
+pub fn a_word_is_added_to()
+    ensures { SumInTurn }
+{}
+
 /// Two stores to one word, of which one choice decides the last; and a read by the first writer between
 /// two writes.
-#[tactic(auto, using(crate::proofs::Choosing::second_stores_last, crate::proofs::Choosing::first_stores_last, crate::proofs::Choosing::read_between_writes))]
 pub fn a_choice_decides()
     ensures second { SecondStoresLast }
     ensures first { FirstStoresLast }

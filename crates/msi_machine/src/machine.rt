@@ -1,19 +1,19 @@
 //! The machine and its calls.
-ghost use Rattle.std.specs.Prelude.{◌≡◌, ◌<◌, ◌≤◌, ◌+◌, ◌*◌, ◌%◌, ◌^◌, ℕ, IfOk, IsTrue, List, OnOk, Some, false, length, slice_index_or, true};
+ghost use Rattle.std.specs.Prelude.{◌≡◌, ◌<◌, ◌≤◌, ◌+◌, ◌*◌, ℕ, IfOk, IsTrue, List, OnOk, false, length, true};
 ghost use Rattle.access_times.specs.Riding.{none_carrying, none_riding};
 ghost use Rattle.rtr_types.specs.Parameters.{Fits};
 ghost use Rattle.rtr_types.specs.declared.TheConstants.{CORES_MAX};
+ghost use Rattle.msi_machine.specs.Steppings.{HasMoved, IsTaken, KeepsPromises};
 ghost use Rattle.msi_machine.specs.Writers.{OneWriterEach};
-ghost use Rattle.msi_state.specs.Bound.{Earns, left, links_empty, total_earned, total_owed, total_retired};
-ghost use Rattle.msi_state.specs.Coherent.{Coherent, Finds, memory_after, opening_memory, word_of};
+ghost use Rattle.msi_state.specs.Bound.{links_empty, total_earned, total_owed, total_retired};
+ghost use Rattle.msi_state.specs.Coherent.{Coherent, opening_memory, word_of};
 ghost use Rattle.msi_state.specs.FinalMemory.{final_word, final_words};
 ghost use Rattle.msi_state.specs.Nodes.{instr_of};
 ghost use Rattle.msi_state.specs.Plain.{plain};
-ghost use Rattle.msi_state.specs.Ready.{HasRoomFor, RoomsMade, has_row_for, heads_roomy};
-ghost use Rattle.msi_state.specs.Runs.{chosen, opening_state, plain_event, plain_step};
+ghost use Rattle.msi_state.specs.Ready.{RoomsMade, heads_roomy};
+ghost use Rattle.msi_state.specs.Runs.{opening_state};
 ghost use Rattle.msi_state.specs.States.{all_done, node_at, state_start};
-ghost use Rattle.msi_state.specs.Steps.{AcceptsNext, TellsOf, event, moves, rider_left, step};
-ghost use Rattle.msi_state.specs.declared.moves.Move.{Move};
+ghost use Rattle.msi_state.specs.Steps.{AcceptsNext, TellsOf, event};
 
 use access_times::{Carry, Clerk, Rider};
 use image_mem::Image;
@@ -46,7 +46,8 @@ impl<R: Rider, K: Carry> Machine<R, K> {
     pub fn new(alloc: Global, image: Image, params: Params) -> Result<Machine<R, K>, AllocError>
         requires fits { Fits params }
         requires words { image.words ≡ params.words }
-        ensures start { IfOk result (λ machine. machine.state ≡ state_start R.riding K.carrying image params.cores params.limit) }
+        ensures start { IfOk result (λ machine.
+            machine.state ≡ state_start R.riding K.carrying image params.cores params.limit) }
         ensures plain { IfOk result (λ machine. plain machine.state ≡ opening_state image params) }
         ensures coherent { IfOk result (λ machine. Coherent R.riding K.carrying machine.state (opening_memory image)) }
         ensures idle { IfOk result (λ machine. total_owed machine.state ≡ 0) }
@@ -65,8 +66,10 @@ impl<R: Rider, K: Carry> Machine<R, K> {
         ensures done { result ≡ all_done self.now.state }
         ensures plain { result ≡ all_done (plain self.now.state) }
         ensures links { IsTrue result → links_empty self.now.state ≡ true }
-        ensures paid { IsTrue result → total_earned R.riding self.now.state ≡ (2 * length self.now.state.nodes + 4) * total_retired self.now.state }
-        ensures last { (memory : ℕ → List ℕ) → IsTrue result → Coherent R.riding K.carrying self.now.state memory → (block : ℕ) → final_words R.riding K.carrying self.now.state block ≡ memory block }
+        ensures paid { IsTrue result → total_earned R.riding self.now.state
+            ≡ (2 * length self.now.state.nodes + 4) * total_retired self.now.state }
+        ensures last { (memory : ℕ → List ℕ) → IsTrue result → Coherent R.riding K.carrying self.now.state memory
+            → (block : ℕ) → final_words R.riding K.carrying self.now.state block ≡ memory block }
     {
         self.parts.done()
     }
@@ -100,24 +103,13 @@ impl<R: Rider, K: Carry> Machine<R, K> {
         requires more { all_done self.old.state ≡ false }
         requires roomy { IsTrue (heads_roomy self.old) }
         requires accepts { AcceptsNext C.accepts clerk.old self.old.state }
-        ensures some { 0 < length (moves R.riding K.carrying self.old.state) }
-        ensures row { IsTrue (has_row_for R.riding K.carrying self.old.state result.taken) }
-        ensures room { HasRoomFor R.riding K.carrying self.old.state result.taken }
-        ensures taken { (d : Move) → result.taken ≡ slice_index_or (moves R.riding K.carrying self.old.state) (choice % length (moves R.riding K.carrying self.old.state)) d }
-        ensures state { self.new.state ≡ step R.riding K.carrying (rider_left R.riding K.carrying self.old.state self.new.state result.taken) self.old.state result.taken }
-        ensures image { self.new.state.image ≡ self.old.state.image }
-        ensures cores { length self.new.state.nodes ≡ length self.old.state.nodes }
-        ensures rooms { self.new.rooms ≡ self.old.rooms }
+        ensures taken { IsTaken R.riding K.carrying self.old.state choice result.taken }
+        ensures moved { HasMoved R.riding K.carrying self.old self.new result.taken }
         ensures retired { result.retired ≡ instr_of (event R.riding K.carrying self.old.state result.taken) }
-        ensures told { TellsOf C.told_local C.told_touch R.riding K.carrying self.old.state self.new.state result.taken clerk.old clerk.new }
-        ensures chosen { chosen (plain self.old.state) choice ≡ Some result.taken }
-        ensures plain { plain self.new.state ≡ plain_step (plain self.old.state) result.taken }
-        ensures event { event R.riding K.carrying self.old.state result.taken ≡ plain_event (plain self.old.state) result.taken }
-        ensures earns { Earns R.riding self.old.state self.new.state }
-        ensures nearer { left R.riding self.new.state < left R.riding self.old.state }
-        ensures coherent { (memory : ℕ → List ℕ) → Coherent R.riding K.carrying self.old.state memory → Coherent R.riding K.carrying self.new.state (memory_after (event R.riding K.carrying self.old.state result.taken) memory) }
-        ensures finds { (memory : ℕ → List ℕ) → Coherent R.riding K.carrying self.old.state memory → Finds (event R.riding K.carrying self.old.state result.taken) memory }
-        ensures one_writer { OneWriterEach R.riding K.carrying self.new.state }
+        ensures told { TellsOf C.told_local C.told_touch R.riding K.carrying self.old.state self.new.state
+            result.taken clerk.old clerk.new }
+        ensures keeps { KeepsPromises R.riding K.carrying self.old.state self.new.state
+            (event R.riding K.carrying self.old.state result.taken) }
     {
         self.parts.step(choice, clerk)
     }
@@ -129,7 +121,8 @@ impl<R: Rider, K: Carry> Machine<R, K> {
         requires within { word < self.now.state.image.words }
         ensures value { result ≡ final_word R.riding K.carrying self.now.state word }
         ensures plain { result ≡ final_word none_riding none_carrying (plain self.now.state) word }
-        ensures last { (memory : ℕ → List ℕ) → Coherent R.riding K.carrying self.now.state memory → result ≡ word_of memory word }
+        ensures last { (memory : ℕ → List ℕ) → Coherent R.riding K.carrying self.now.state memory
+            → result ≡ word_of memory word }
     {
         self.parts.final_word(word)
     }
@@ -156,7 +149,8 @@ impl<R: Rider, K: Carry> Machine<R, K> {
     /// something for each core.
     pub fn cores_are_numbered(&self)
         ensures few { length self.now.state.nodes ≤ CORES_MAX }
-        ensures numbers { (core : ℕ) → core < length self.now.state.nodes → (node_at K.carrying self.now.state.nodes core).core.id ≡ core }
+        ensures numbers { (core : ℕ) → core < length self.now.state.nodes
+            → (node_at K.carrying self.now.state.nodes core).core.id ≡ core }
     {
         let _ = &self.parts;
     }

@@ -1,4 +1,4 @@
-//! Two cores that store to one word, over any choices.
+//! Two cores that write one word, over any choices.
 ghost use Rattle.std.specs.Prelude.{◌≡◌, length};
 
 use crate::Machine;
@@ -40,35 +40,57 @@ const BYTE_STORES: [u8; 12] = [
     0x93, 0x02, 0x55, 0x00, 0x23, 0x00, 0x55, 0x02, 0x73, 0x00, 0x00, 0x00,
 ];
 
-/// A run of two cores over an image: its choices, and what the word at address 32 is at its end.
+/// addi x7,x0,32; addi x5,x10,1; amoadd.w x6,x5,(x7); ecall
+const SUM: [u8; 16] = [
+    0x93, 0x03, 0x00, 0x02, 0x93, 0x02, 0x15, 0x00, 0x2f, 0xa3, 0x53, 0x00, 0x73, 0x00, 0x00, 0x00,
+];
+
+/// A run of two cores over an image: its choices, how many steps it takes, how many instructions retire in
+/// it, half of them each core's, and what the word at address 32 is at its end.
 struct Run {
-    image: [u8; 12],
+    image: &'static [u8],
     choices: [u32; 14],
+    steps: u32,
+    retired: u32,
     word: u32,
 }
 
-/// Of the stores to one word, the fifth choice decides whose is the last; those of bytes leave both.
-static RUNS: [Run; 3] = [
+/// Of the stores to one word, the fifth choice decides whose is the last; those of bytes leave both, and so
+/// do sums.
+static RUNS: [Run; 4] = [
     Run {
-        image: STORES,
+        image: &STORES,
         choices: [0, 0, 0, 0, 0, 0, 0, 0, 0, 0, 0, 0, 0, 0],
+        steps: 12,
+        retired: 6,
         word: 6,
     },
     Run {
-        image: STORES,
+        image: &STORES,
         choices: [0, 0, 0, 0, 1, 0, 0, 0, 0, 0, 0, 0, 0, 0],
+        steps: 12,
+        retired: 6,
         word: 5,
     },
     Run {
-        image: BYTE_STORES,
+        image: &BYTE_STORES,
         choices: [0, 0, 0, 0, 0, 0, 0, 0, 0, 0, 0, 0, 0, 0],
+        steps: 12,
+        retired: 6,
         word: 0x605,
+    },
+    Run {
+        image: &SUM,
+        choices: [0, 0, 0, 0, 0, 0, 0, 0, 0, 0, 0, 0, 0, 0],
+        steps: 14,
+        retired: 8,
+        word: 3,
     },
 ];
 
 /// Runs both cores to their ends, or through all the choices: how many steps were made, how many
 /// retirements there were, and the word.
-fn stored(alloc: Global, run: &Run) -> Result<(u32, u32, u32), Fail> {
+fn written(alloc: Global, run: &Run) -> Result<(u32, u32, u32), Fail> {
     let image = Image::flat(run.image.to_vec(alloc)?, 16)?;
     let params = Params {
         cores: 2,
@@ -85,20 +107,21 @@ fn stored(alloc: Global, run: &Run) -> Result<(u32, u32, u32), Fail> {
             steps = steps.saturating_add(1);
         }
     }
-    if !machine.done() || machine.core(1).count() != 3 {
+    if !machine.done() || machine.core(1).count() != run.retired / 2 {
         return Ok((steps, clerk.told, 0));
     }
     Ok((steps, clerk.told, machine.final_word(8)))
 }
 
-// Each core retires two instructions by itself and one with its data, after a request was sent and
+// Each core retires all but one instruction by itself and one with its data, after a request was sent and
 // taken. The second to be served also waits for the first to be asked for the block and to answer.
 #[test]
-fn two_stores_take_twelve_steps_and_a_choice_decides_which_is_last(
+fn two_writes_take_their_steps_and_a_choice_decides_which_is_last(
     rt: HostRuntime,
 ) -> Result<(), Fail> {
     for run in &RUNS {
-        assert_eq!(rt; stored(rt.alloc(), run)?, (12, 6, run.word));
+        let wanted = (run.steps, run.retired, run.word);
+        assert_eq!(rt; written(rt.alloc(), run)?, wanted);
     }
     Ok(())
 }

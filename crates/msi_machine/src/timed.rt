@@ -1,17 +1,12 @@
 //! The machine whose riders record times: its step, for a clerk that notes with its clocks.
-ghost use Rattle.std.specs.Prelude.{◌≡◌, ◌<◌, ◌%◌, ℕ, IsTrue, List, Some, [], false, length, slice_index_or};
+ghost use Rattle.std.specs.Prelude.{◌≡◌, ℕ, IsTrue, List, [], false};
 ghost use Rattle.access_times.specs.Times.{times_riding};
 ghost use Rattle.image_mem.specs.Contents.{Contents};
-ghost use Rattle.msi_machine.specs.Writers.{OneWriterEach};
-ghost use Rattle.msi_state.specs.Bound.{Earns, left};
-ghost use Rattle.msi_state.specs.Coherent.{Coherent, Finds, memory_after};
+ghost use Rattle.msi_machine.specs.Steppings.{HasMoved, IsTaken, KeepsPromises};
 ghost use Rattle.msi_state.specs.Nodes.{instr_of};
-ghost use Rattle.msi_state.specs.Plain.{plain};
-ghost use Rattle.msi_state.specs.Ready.{HasRoomFor, has_row_for, heads_roomy};
-ghost use Rattle.msi_state.specs.Runs.{chosen, plain_event, plain_step};
+ghost use Rattle.msi_state.specs.Ready.{heads_roomy};
 ghost use Rattle.msi_state.specs.States.{all_done, state_start};
-ghost use Rattle.msi_state.specs.Steps.{AcceptsNext, TellsOf, event, moves, rider_left, step};
-ghost use Rattle.msi_state.specs.declared.moves.Move.{Move};
+ghost use Rattle.msi_state.specs.Steps.{AcceptsNext, TellsOf, event};
 ghost use Rattle.msi_times.specs.Absorbing.{MeetsAlike};
 ghost use Rattle.msi_times.specs.Retirements.{MachineStandsFor, Retirement};
 ghost use Rattle.msi_times.specs.TimedSteps.{AreLastClocks, StepFinds, times_parts, with_step};
@@ -24,7 +19,9 @@ impl<K: Carry> Machine<Times, K> {
     /// A machine at the start of an image stands for the empty list of retirements: a law for who has made
     /// one by `new`.
     pub fn a_new_machine_stands_for_nothing_retired(&self)
-        ensures { (image : Contents) (cores limit : ℕ) → self.now.state ≡ state_start times_riding K.carrying image cores limit → MachineStandsFor times_parts K.carrying [] self.now.state }
+        ensures { (image : Contents) (cores limit : ℕ)
+            → self.now.state ≡ state_start times_riding K.carrying image cores limit
+            → MachineStandsFor times_parts K.carrying [] self.now.state }
     {}
 
     /// One step of a machine whose riders record times: `step`, for a clerk that notes each access with
@@ -40,28 +37,23 @@ impl<K: Carry> Machine<Times, K> {
         requires more { all_done self.old.state ≡ false }
         requires roomy { IsTrue (heads_roomy self.old) }
         requires accepts { AcceptsNext C.accepts clerk.old self.old.state }
-        ensures some { 0 < length (moves times_riding K.carrying self.old.state) }
-        ensures row { IsTrue (has_row_for times_riding K.carrying self.old.state result.taken) }
-        ensures room { HasRoomFor times_riding K.carrying self.old.state result.taken }
-        ensures taken { (d : Move) → result.taken ≡ slice_index_or (moves times_riding K.carrying self.old.state) (choice % length (moves times_riding K.carrying self.old.state)) d }
-        ensures state { self.new.state ≡ step times_riding K.carrying (rider_left times_riding K.carrying self.old.state self.new.state result.taken) self.old.state result.taken }
-        ensures image { self.new.state.image ≡ self.old.state.image }
-        ensures cores { length self.new.state.nodes ≡ length self.old.state.nodes }
-        ensures rooms { self.new.rooms ≡ self.old.rooms }
+        ensures taken { IsTaken times_riding K.carrying self.old.state choice result.taken }
+        ensures moved { HasMoved times_riding K.carrying self.old self.new result.taken }
         ensures retired { result.retired ≡ instr_of (event times_riding K.carrying self.old.state result.taken) }
-        ensures told { TellsOf C.told_local C.told_touch times_riding K.carrying self.old.state self.new.state result.taken clerk.old clerk.new }
-        ensures chosen { chosen (plain self.old.state) choice ≡ Some result.taken }
-        ensures plain { plain self.new.state ≡ plain_step (plain self.old.state) result.taken }
-        ensures event { event times_riding K.carrying self.old.state result.taken ≡ plain_event (plain self.old.state) result.taken }
-        ensures earns { Earns times_riding self.old.state self.new.state }
-        ensures nearer { left times_riding self.new.state < left times_riding self.old.state }
-        ensures coherent { (memory : ℕ → List ℕ) → Coherent times_riding K.carrying self.old.state memory → Coherent times_riding K.carrying self.new.state (memory_after (event times_riding K.carrying self.old.state result.taken) memory) }
-        ensures finds { (memory : ℕ → List ℕ) → Coherent times_riding K.carrying self.old.state memory → Finds (event times_riding K.carrying self.old.state result.taken) memory }
-        ensures one_writer { OneWriterEach times_riding K.carrying self.new.state }
-        ensures stands { (list : List Retirement) → MachineStandsFor times_parts K.carrying list self.old.state → MachineStandsFor times_parts K.carrying (with_step K.carrying self.old.state result.taken (C.clock clerk.new) list) self.new.state }
-        ensures times { (list : List Retirement) → MachineStandsFor times_parts K.carrying list self.old.state → StepFinds K.carrying self.old.state result.taken list }
-        ensures alike { (list : List Retirement) → MachineStandsFor times_parts K.carrying list self.old.state → MeetsAlike times_parts K.carrying self.old.state result.taken }
-        ensures clocks { (list : List Retirement) → AreLastClocks (C.clock clerk.old) list → AreLastClocks (C.clock clerk.new) (with_step K.carrying self.old.state result.taken (C.clock clerk.new) list) }
+        ensures told { TellsOf C.told_local C.told_touch times_riding K.carrying self.old.state self.new.state
+            result.taken clerk.old clerk.new }
+        ensures keeps { KeepsPromises times_riding K.carrying self.old.state self.new.state
+            (event times_riding K.carrying self.old.state result.taken) }
+        ensures stands { (list : List Retirement) → MachineStandsFor times_parts K.carrying list self.old.state
+            → let later = with_step K.carrying self.old.state result.taken (C.clock clerk.new) list in
+            MachineStandsFor times_parts K.carrying later self.new.state }
+        ensures times { (list : List Retirement) → MachineStandsFor times_parts K.carrying list self.old.state
+            → StepFinds K.carrying self.old.state result.taken list }
+        ensures alike { (list : List Retirement) → MachineStandsFor times_parts K.carrying list self.old.state
+            → MeetsAlike times_parts K.carrying self.old.state result.taken }
+        ensures clocks { (list : List Retirement) → AreLastClocks (C.clock clerk.old) list
+            → let later = with_step K.carrying self.old.state result.taken (C.clock clerk.new) list in
+            AreLastClocks (C.clock clerk.new) later }
     {
         let _ = &self.parts;
         self.step(choice, clerk)

@@ -11,7 +11,7 @@ use crate::Machine;
 use access_times::{Carry, Clerk, NoCarry, Times, TimesClerk};
 use clock_core::Clock;
 use image_mem::Image;
-use rtr_types::{Access, BLOCK_WORDS, CORES_MAX, Instr, Kind, Params};
+use rtr_types::{Access, BLOCK_WORDS, CORES_MAX, Instr, Params};
 use std::alloc::Global;
 use std::test::Fail;
 
@@ -92,9 +92,10 @@ impl<K: Carry> Clerk<Times, K> for Keeper {
         let mut clock = Clock::zero();
         clock.set(at.core, self.counts[at.core as usize]);
         let slot = (access.word % BLOCK_WORDS as u32) as u8;
-        match access.kind {
-            Kind::Load => rider.on_load(slot, at, clock),
-            Kind::Store => rider.on_store(slot, at, clock),
+        if access.kind.is_write() {
+            rider.on_store(slot, at, clock);
+        } else {
+            rider.on_load(slot, at, clock);
         }
     }
 }
@@ -106,11 +107,13 @@ impl<K: Carry> TimesClerk<K> for Keeper {
 
     ghost local_keeps = { λ c d at k told core other.
         ap (λ (counts : List ℕ). slice_set no_counts core (slice_index counts core)) told
-        ∙ ap (λ (count : ℕ). slice_set no_counts core count) (get_or-set_other c.counts at.core core at.count 0 other) };
+        ∙ ap (λ (count : ℕ). slice_set no_counts core count)
+        (get_or-set_other c.counts at.core core at.count 0 other) };
 
     ghost touch_keeps = { λ c d before after a k told core other.
         ap (λ (counts : List ℕ). slice_set no_counts core (slice_index counts core)) told.0
-        ∙ ap (λ (count : ℕ). slice_set no_counts core count) (get_or-set_other c.counts a.at.core core a.at.count 0 other) };
+        ∙ ap (λ (count : ℕ). slice_set no_counts core count)
+        (get_or-set_other c.counts a.at.core core a.at.count 0 other) };
 
     ghost touch_notes = { λ c d before after a k told. told.1 };
 }

@@ -1,20 +1,18 @@
 -- Forgetting riders and carries goes through a core's own move.
-use Rattle.std.proofs.Common.{◌≡◌, ◌∙◌, ap, refl, sym, ℕ, ◌/◌, ◌%◌, List, [], ◌∷◌, Bool, true, false}
+use Rattle.std.proofs.Common.{◌≡◌, ◌∙◌, ap, refl, sym, ℕ, ◌/◌, ◌%◌, List, [], ◌∷◌, Bool, true, false, Option, Some, None}
 use Rattle.std.specs.Prelude.{map, slice_set, if◌then◌else◌}
 use Rattle.std.proofs.lemmas.List.{map-set, map-append}
 use Rattle.std.proofs.Math.ListN.{get_or-map}
 use Rattle.access_times.specs.Riding.{Riding, Carrying, none_riding, none_carrying}
 use Rattle.rtr_types.specs.declared.TheConstants.{BLOCK_WORDS}
 use Rattle.image_mem.specs.Contents.{Contents}
+use Rattle.rtr_types.specs.Accesses.{is_write}
 use Rattle.rtr_types.specs.declared.access.Access.{Access}
 use Rattle.rtr_types.specs.declared.access.Kind.{Kind}
-use Rattle.rtr_types.specs.declared.access.Kind.TheVariants.{Load as IsLoad, Store as IsStore}
-use Rattle.rv_core.specs.declared.core_state.Need.{Need}
-use Rattle.rv_core.specs.declared.core_state.Need.TheVariants.{Local, Load, Store, Done}
-use Rattle.rv_core.specs.Steps.{need, after}
+use Rattle.rv_core.specs.Steps.{need, after, is_done, access_of as need_access}
 use Rattle.link_order.specs.Queue.{Queue}
 use Rattle.msi_cache.proofs.Forgets.{plain_line_for, plain_lines_with, plain_put, plain_want}
-use Rattle.msi_cache.specs.Lines.{line_for, lines_with, lines_riding, lines_asking, asks}
+use Rattle.msi_cache.specs.Lines.{line_for, lines_with, lines_put, lines_riding, lines_asking, asks}
 use Rattle.msi_cache.specs.PlainPart.{plain_lines, plain_request}
 use Rattle.msi_cache.specs.declared.line.Line.{Line}
 use Rattle.msi_cache.specs.declared.messages.Request.{Request}
@@ -43,8 +41,11 @@ module _ {R : Type 0} where
       ∙ ap (λ (l : Line (Unit {0})). lines_with (plain_lines lines) block (record l { rider = tt })) (sym (plain_line_for fresh lines block))
 
   plain_lines_accessed : (riding : Riding R) (lines : List (Line R)) (a : Access) (kind : Kind) → plain_lines (lines_accessed riding lines a kind) ≡ lines_accessed none_riding (plain_lines lines) a kind
-  plain_lines_accessed riding lines a IsLoad = refl
-  plain_lines_accessed riding lines a IsStore = plain_put riding lines (a.word / BLOCK_WORDS) (a.word % BLOCK_WORDS) a.after
+  plain_lines_accessed riding lines a kind = by_write (is_write kind)
+    where
+      by_write : (t : Bool) → plain_lines (if t then lines_put riding.fresh lines (a.word / BLOCK_WORDS) (a.word % BLOCK_WORDS) a.after else lines) ≡ (if t then lines_put tt (plain_lines lines) (a.word / BLOCK_WORDS) (a.word % BLOCK_WORDS) a.after else plain_lines lines)
+      by_write true = plain_put riding lines (a.word / BLOCK_WORDS) (a.word % BLOCK_WORDS) a.after
+      by_write false = refl
 
 event_if : (t u : Bool) (a b : Access) → t ≡ u → a ≡ b → (if t then Accesses a else Nothing) ≡ (if u then Accesses b else Nothing)
 event_if true u a b t e = rw (← t, e)
@@ -83,27 +84,25 @@ module _ {R K : Type 0} where
       plain_if (allows riding n word kind) (allows none_riding (plain_node n) word kind) (node_accessing image riding carrying r n word kind) (node_asking riding n (word / BLOCK_WORDS) kind) (node_accessing image none_riding none_carrying tt (plain_node n) word kind) (node_asking none_riding (plain_node n) (word / BLOCK_WORDS) kind)
       (plain_allows riding n word kind) (plain_accessing image riding carrying r n word kind) (plain_asking riding n (word / BLOCK_WORDS) kind)
 
-  plain_working_in : (needed : Need) (image : Contents) (riding : Riding R) (carrying : Carrying K) (r : R) (n : Node R K) → plain_node (node_working_in needed image riding carrying r n) ≡ node_working_in needed image none_riding none_carrying tt (plain_node n)
-  plain_working_in Local image riding carrying r n = refl
-  plain_working_in (Load w) image riding carrying r n = plain_trying image riding carrying r n w IsLoad
-  plain_working_in (Store w whole) image riding carrying r n = plain_trying image riding carrying r n w IsStore
-  plain_working_in (Done stop) image riding carrying r n = refl
+  plain_working_in : (used : Option (Kind × ℕ)) (done : Bool) (image : Contents) (riding : Riding R) (carrying : Carrying K) (r : R) (n : Node R K) → plain_node (node_working_in used done image riding carrying r n) ≡ node_working_in used done image none_riding none_carrying tt (plain_node n)
+  plain_working_in (Some (kind, word)) done image riding carrying r n = plain_trying image riding carrying r n word kind
+  plain_working_in None true image riding carrying r n = refl
+  plain_working_in None false image riding carrying r n = refl
 
   pub plain_working : (image : Contents) (riding : Riding R) (carrying : Carrying K) (r : R) (n : Node R K) → plain_node (node_working image riding carrying r n) ≡ node_working image none_riding none_carrying tt (plain_node n)
-  plain_working image riding carrying r n = plain_working_in (need image n.core) image riding carrying r n
+  plain_working image riding carrying r n = plain_working_in (need_access (need image n.core)) (is_done (need image n.core)) image riding carrying r n
 
   plain_event_trying : (image : Contents) (riding : Riding R) (n : Node R K) (word : ℕ) (kind : Kind) → event_trying image riding n word kind ≡ event_trying image none_riding (plain_node n) word kind
   plain_event_trying image riding n word kind =
       event_if (allows riding n word kind) (allows none_riding (plain_node n) word kind) (access_of image riding n word kind) (access_of image none_riding (plain_node n) word kind) (plain_allows riding n word kind) (plain_access image riding n word kind)
 
-  plain_event_working_in : (needed : Need) (image : Contents) (riding : Riding R) (n : Node R K) → event_working_in needed image riding n ≡ event_working_in needed image none_riding (plain_node n)
-  plain_event_working_in Local image riding n = refl
-  plain_event_working_in (Load w) image riding n = plain_event_trying image riding n w IsLoad
-  plain_event_working_in (Store w whole) image riding n = plain_event_trying image riding n w IsStore
-  plain_event_working_in (Done stop) image riding n = refl
+  plain_event_working_in : (used : Option (Kind × ℕ)) (done : Bool) (image : Contents) (riding : Riding R) (n : Node R K) → event_working_in used done image riding n ≡ event_working_in used done image none_riding (plain_node n)
+  plain_event_working_in (Some (kind, word)) done image riding n = plain_event_trying image riding n word kind
+  plain_event_working_in None true image riding n = refl
+  plain_event_working_in None false image riding n = refl
 
   pub plain_event_working : (image : Contents) (riding : Riding R) (n : Node R K) → event_working image riding n ≡ event_working image none_riding (plain_node n)
-  plain_event_working image riding n = plain_event_working_in (need image n.core) image riding n
+  plain_event_working image riding n = plain_event_working_in (need_access (need image n.core)) (is_done (need image n.core)) image riding n
 
   pub plain_core_move : (riding : Riding R) (carrying : Carrying K) (r : R) (s : State R K) (c : ℕ) → PlainStep riding carrying r s (CoreMove c)
   plain_core_move riding carrying r s c =

@@ -10,8 +10,10 @@ ghost use Rattle.msi_state.specs.declared.moves.Move.{Move};
 /// Whatever rides, and whatever rider the clerk leaves on a copy that an access touched: a move does to
 /// the plain part what it does to it where nothing rides, and tells of the same access.
 pub fn riders_change_nothing<R, K>()
-    ensures step { (riding : Riding R) (carrying : Carrying K) (rider : R) (s : State R K) (m : Move) → PlainStep riding carrying rider s m }
-    ensures event { (riding : Riding R) (carrying : Carrying K) (s : State R K) (m : Move) → PlainEvent riding carrying s m }
+    ensures step { (riding : Riding R) (carrying : Carrying K) (rider : R) (s : State R K) (m : Move)
+        → PlainStep riding carrying rider s m }
+    ensures event { (riding : Riding R) (carrying : Carrying K) (s : State R K) (m : Move)
+        → PlainEvent riding carrying s m }
 {}
 
 /// Whatever rides: the moves that can be made are those of the plain part, in the same order, so a
@@ -23,7 +25,9 @@ pub fn the_same_moves_are_there<R, K>()
 /// Whatever rides: the plain part of a machine's start is the start where nothing rides, a machine is at
 /// its end exactly where its plain part is, and it has the same memory.
 pub fn the_plain_part_shows_the_same<R, K>()
-    ensures start { (riding : Riding R) (carrying : Carrying K) (image : Contents) (cores limit : ℕ) → PlainStart riding carrying image cores limit }
+    ensures start { (riding : Riding R) (carrying : Carrying K) (image : Contents) (cores limit : ℕ)
+        → PlainStart riding carrying image cores limit }
     ensures done { (s : State R K) → PlainDone s }
-    ensures words { (riding : Riding R) (carrying : Carrying K) (s : State R K) (block : ℕ) → PlainWords riding carrying s block }
+    ensures words { (riding : Riding R) (carrying : Carrying K) (s : State R K) (block : ℕ)
+        → PlainWords riding carrying s block }
 {}

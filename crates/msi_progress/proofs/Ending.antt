@@ -6,7 +6,7 @@ use Rattle.std.proofs.lemmas.List.{get_or_default}
 use Rattle.std.proofs.lemmas.List.Sums.{AllPass-from_list_all, list_all-from_AllPass}
 use Rattle.access_times.specs.Riding.{Riding, Carrying}
 use Rattle.rv_core.specs.declared.core_state.Need.{Need}
-use Rattle.rv_core.specs.Steps.{need, is_done}
+use Rattle.rv_core.specs.Steps.{need, is_done, access_of as need_access}
 use Rattle.msi_cache.specs.declared.line.State.{State as LineState}
 use Rattle.msi_cache.specs.declared.line.TheConstants.{LINES}
 use Rattle.msi_cache.specs.declared.line.Line.{Line}
@@ -31,7 +31,7 @@ use Rattle.msi_progress.proofs.Waiting.{is_own, items_of, answers_of, Wants, own
 use Rattle.msi_progress.proofs.Spaces.{request_waits}
 
 -- a line of a core that is done doesn't wait
-done_still : (needed : Need) (state : LineState) (l i : ℕ) → is_done needed ≡ true → fits_need needed state l i ≡ true → is_transient state ≡ false
+done_still : (needed : Need) (state : LineState) (l i : ℕ) → is_done needed ≡ true → fits_need (need_access needed) state l i ≡ true → is_transient state ≡ false
 done_still needed state l i done fits = grind arith
 
 filter_none : {X : Type 0} (test : X → Bool) (xs : List X) → ((x : X) → test x ≡ false) → filter test xs ≡ []

@@ -6,7 +6,7 @@ use Rattle.std.proofs.lemmas.List.{get_or_default}
 use Rattle.std.proofs.lemmas.Bool.Decides.{nat_tests}
 use Rattle.access_times.specs.Riding.{Riding, Carrying}
 use Rattle.rtr_types.specs.declared.TheConstants.{CORES_MAX}
-use Rattle.rv_core.specs.Steps.{need}
+use Rattle.rv_core.specs.Steps.{need, access_of as need_access}
 use Rattle.link_order.specs.Queue.{is_nil}
 use Rattle.msi_cache.specs.declared.line.TheConstants.{LINES}
 use Rattle.msi_cache.specs.declared.line.Line.{Line}
@@ -123,9 +123,9 @@ module _ {R K : Type 0} where
       let at : l.block ≡ b = row_place (signal mail.item) b l seen in
       let row_it : is_some (row (signal mail.item) l.state) ≡ true = row_there (signal mail.item) b l seen in
       let same : (l.block == b) ≡ true = rw at (eqb_same b) in
-      and_true (has_row l mail.item) (not (is_data mail.item) || may_access (need s.image n.core) riding (node_taking riding carrying n mail rest)) (rw (same, row_it)) (by_data (is_data mail.item) refl at row_it)
+      and_true (has_row l mail.item) (not (is_data mail.item) || may_access (need_access (need s.image n.core)) riding (node_taking riding carrying n mail rest)) (rw (same, row_it)) (by_data (is_data mail.item) refl at row_it)
     where
-      by_data : (t : Bool) → is_data mail.item ≡ t → (line_for riding.fresh (node_at carrying s.nodes c).cache (block_of mail.item)).block ≡ block_of mail.item → is_some (row (signal mail.item) (line_for riding.fresh (node_at carrying s.nodes c).cache (block_of mail.item)).state) ≡ true → (not t || may_access (need s.image (node_at carrying s.nodes c).core) riding (node_taking riding carrying (node_at carrying s.nodes c) mail rest)) ≡ true
+      by_data : (t : Bool) → is_data mail.item ≡ t → (line_for riding.fresh (node_at carrying s.nodes c).cache (block_of mail.item)).block ≡ block_of mail.item → is_some (row (signal mail.item) (line_for riding.fresh (node_at carrying s.nodes c).cache (block_of mail.item)).state) ≡ true → (not t || may_access (need_access (need s.image (node_at carrying s.nodes c).core)) riding (node_taking riding carrying (node_at carrying s.nodes c) mail rest)) ≡ true
       by_data true e at row_it = data_ready s.image riding carrying (length s.home) (node_at carrying s.nodes c) mail rest e at row_it (h.nodes c lc)
       by_data false e at row_it = refl
 

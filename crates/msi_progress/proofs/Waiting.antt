@@ -5,7 +5,7 @@ use Rattle.std.specs.Prelude.{slice_index_or}
 use Rattle.std.proofs.lemmas.Bool.Decides.{nat_tests}
 use Rattle.access_times.specs.Riding.{Riding, Carrying}
 use Rattle.rtr_types.specs.declared.TheConstants.{CORES_MAX}
-use Rattle.rv_core.specs.Steps.{need}
+use Rattle.rv_core.specs.Steps.{need, access_of as need_access}
 use Rattle.msi_cache.specs.declared.line.TheConstants.{LINES}
 use Rattle.msi_cache.specs.declared.messages.Response.{Response}
 use Rattle.msi_cache.specs.declared.messages.FromHome.{FromHome}
@@ -153,8 +153,8 @@ module _ {R K : Type 0} where
       let fits = h.nodes c p.core in
       let l = view_waits b (line_for riding.fresh n.cache b) p.waits in
       let m = view_waits e (line_for riding.fresh n.cache e) q.waits in
-      let i : b % LINES ≡ needed_block (need s.image n.core) % LINES = transient_place (length s.home) (need s.image n.core) (b % LINES) (line_for riding.fresh n.cache b) (fits.lines (b % LINES)) l.1 in
-      let j : e % LINES ≡ needed_block (need s.image n.core) % LINES = transient_place (length s.home) (need s.image n.core) (e % LINES) (line_for riding.fresh n.cache e) (fits.lines (e % LINES)) m.1 in
+      let i : b % LINES ≡ needed_block (need_access (need s.image n.core)) % LINES = transient_place (length s.home) (need_access (need s.image n.core)) (b % LINES) (line_for riding.fresh n.cache b) (fits.lines (b % LINES)) l.1 in
+      let j : e % LINES ≡ needed_block (need_access (need s.image n.core)) % LINES = transient_place (length s.home) (need_access (need s.image n.core)) (e % LINES) (line_for riding.fresh n.cache e) (fits.lines (e % LINES)) m.1 in
       sym l.0 ∙ (ap (λ (k : ℕ). (slice_index_or n.cache k (empty_line riding.fresh)).block) (i ∙ sym j) ∙ m.0)
 
   abbrev pub requester : Riding R → State R K → ℕ → ℕ

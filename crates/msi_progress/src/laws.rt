@@ -26,11 +26,13 @@ pub fn no_link_overflows<R: Rider, K: Carry>()
 
 /// Until each core's program is done some move is enabled.
 pub fn never_stuck<R: Rider, K: Carry>()
-    ensures { (s : State R K) → Sound R.riding K.carrying s → all_done s ≡ false → 0 < length (moves R.riding K.carrying s) }
+    ensures { (s : State R K) → Sound R.riding K.carrying s → all_done s ≡ false
+        → 0 < length (moves R.riding K.carrying s) }
 {}
 
 /// Once each core's program is done nothing is under way, and no move is enabled.
 pub fn links_are_empty_at_the_end<R: Rider, K: Carry>()
     ensures links { (s : State R K) → Sound R.riding K.carrying s → all_done s ≡ true → links_empty s ≡ true }
-    ensures moves { (s : State R K) → Sound R.riding K.carrying s → all_done s ≡ true → moves R.riding K.carrying s ≡ [] }
+    ensures moves { (s : State R K) → Sound R.riding K.carrying s → all_done s ≡ true
+        → moves R.riding K.carrying s ≡ [] }
 {}

@@ -9,7 +9,7 @@ use Rattle.access_times.specs.Riding.{Riding, Carrying, none_riding, none_carryi
 use Rattle.image_mem.specs.Contents.{Contents}
 use Rattle.rtr_types.specs.declared.TheConstants.{CORES_MAX}
 use Rattle.rtr_types.specs.declared.params.Params.{Params}
-use Rattle.rv_core.specs.Steps.{need}
+use Rattle.rv_core.specs.Steps.{need, access_of as need_access}
 use Rattle.rv_core.proofs.LawLemmas.{start_law}
 use Rattle.msi_cache.specs.declared.line.Line.{Line}
 use Rattle.msi_cache.specs.declared.line.State.TheVariants.{I}
@@ -40,12 +40,12 @@ replicate_at : {X : Type 0} (n i : ℕ) (a : X) → get_or (replicate n a) i a �
 replicate_at n i a = elim (le_or_lt n i) [ inl past ↦ get_or_past (replicate n a) i a (rw length-replicate past) | inr within ↦ get_or-replicate n i a a within ]
 
 module _ {R K : Type 0} where
-  empty_fits : (image : Contents) (riding : Riding R) (carrying : Carrying K) (blocks limit c i : ℕ) → LineFits blocks (need image (node_start riding carrying limit c).core) i (empty_line riding.fresh)
+  empty_fits : (image : Contents) (riding : Riding R) (carrying : Carrying K) (blocks limit c i : ℕ) → LineFits blocks (need_access (need image (node_start riding carrying limit c).core)) i (empty_line riding.fresh)
   empty_fits image riding carrying blocks limit c i =
       record {
         place = λ some. absurd (some refl);
         within = λ some. absurd (some refl);
-        needed_here = still_fits_need (need image (node_start riding carrying limit c).core) I 0 i refl;
+        needed_here = still_fits_need (need_access (need image (node_start riding carrying limit c).core)) I 0 i refl;
       }
 
   start_fits : (image : Contents) (riding : Riding R) (carrying : Carrying K) (blocks limit c : ℕ) → limit < 2 ^ 32 → NodeFits image riding blocks (node_start riding carrying limit c)
@@ -54,7 +54,7 @@ module _ {R K : Type 0} where
         count_fits = rw (start_law c limit).2 (omega arith);
         limit_fits = rw (start_law c limit).1 small;
         all_lines = length-replicate LINES (empty_line riding.fresh);
-        lines = λ i. subst (λ (l : Line R). LineFits blocks (need image (node_start riding carrying limit c).core) i l) (sym (replicate_at LINES i (empty_line riding.fresh))) (empty_fits image riding carrying blocks limit c i);
+        lines = λ i. subst (λ (l : Line R). LineFits blocks (need_access (need image (node_start riding carrying limit c).core)) i l) (sym (replicate_at LINES i (empty_line riding.fresh))) (empty_fits image riding carrying blocks limit c i);
         requests_room = refl;
         responses_room = refl;
         messages_room = refl;

@@ -1,5 +1,5 @@
 -- A core's move, seen at each block, and what it keeps of the node.
-use Rattle.std.proofs.Common.{◌≡◌, ◌≢◌, ◌∙◌, ap, refl, sym, subst, ℕ, ◌<◌, ◌==◌, ◌%◌, ◌/◌, Bool, true, false, List, [], ◌∷◌, ◌++◌, length, Some, arith}
+use Rattle.std.proofs.Common.{◌≡◌, ◌≢◌, ◌∙◌, ap, refl, sym, subst, ℕ, ◌<◌, ◌==◌, ◌%◌, ◌/◌, Bool, true, false, List, [], ◌∷◌, ◌++◌, length, Option, Some, None, arith}
 use Rattle.std.specs.Prelude.{if◌then◌else◌, slice_index_or, slice_set}
 use Rattle.std.proofs.lemmas.List.{length-set, append-nil}
 use Rattle.std.proofs.lemmas.Bool.Decides.{nat_tests}
@@ -7,11 +7,9 @@ use Rattle.access_times.specs.Riding.{Riding, Carrying}
 use Rattle.rtr_types.specs.declared.TheConstants.{BLOCK_WORDS}
 use Rattle.image_mem.specs.Contents.{Contents}
 use Rattle.rtr_types.specs.declared.access.Kind.{Kind}
-use Rattle.rtr_types.specs.declared.access.Kind.TheVariants.{Load as IsLoad, Store as IsStore}
-use Rattle.rv_core.specs.declared.core_state.Need.{Need}
-use Rattle.rv_core.specs.declared.core_state.Need.TheVariants.{Local, Load, Store, Done}
 use Rattle.rv_core.specs.Steps.{need, is_done, access_of as need_access}
 use Rattle.rv_core.proofs.LawLemmas.{number_law}
+use Rattle.rv_core.proofs.OpLemmas.{access_goes}
 use Rattle.msi_cache.specs.declared.line.Line.{Line}
 use Rattle.msi_cache.specs.declared.line.State.{State as LineState}
 use Rattle.msi_cache.specs.declared.line.TheConstants.{LINES}
@@ -95,7 +93,7 @@ module _ {R K : Type 0} where
               by_eq false g = refl
 
 -- a line that asks waits for what is needed
-asks_fits : {R : Type 0} (blocks : ℕ) (l : Line R) (needed : Need) (word : ℕ) (kind : Kind) → word / BLOCK_WORDS < blocks → LineStill blocks (word / BLOCK_WORDS % LINES) l → is_allowed l (word / BLOCK_WORDS) kind ≡ false → need_access needed ≡ Some (kind, word) → LineFits blocks needed (word / BLOCK_WORDS % LINES) (line_asking l (word / BLOCK_WORDS) kind)
+asks_fits : {R : Type 0} (blocks : ℕ) (l : Line R) (needed : Option (Kind × ℕ)) (word : ℕ) (kind : Kind) → word / BLOCK_WORDS < blocks → LineStill blocks (word / BLOCK_WORDS % LINES) l → is_allowed l (word / BLOCK_WORDS) kind ≡ false → needed ≡ Some (kind, word) → LineFits blocks needed (word / BLOCK_WORDS % LINES) (line_asking l (word / BLOCK_WORDS) kind)
 asks_fits blocks l needed word kind within h needs is =
     record {
       place = grind (arith, nat_tests, h.place);
@@ -111,14 +109,14 @@ module _ {R K : Type 0} where
         count_fits = h.count_fits;
         limit_fits = h.limit_fits;
         all_lines = length-set n.cache (word / BLOCK_WORDS % LINES) _ ∙ h.all_lines;
-        lines = λ i. subst (λ (l : Line R). LineFits blocks (need image n.core) i l) (sym (set_at n.cache (word / BLOCK_WORDS % LINES) i (line_asking (line_for riding.fresh n.cache (word / BLOCK_WORDS)) (word / BLOCK_WORDS) kind) (empty_line riding.fresh) (rw h.all_lines (omega arith)))) (by_test i (i == word / BLOCK_WORDS % LINES) refl (old.lines i));
+        lines = λ i. subst (λ (l : Line R). LineFits blocks (need_access (need image n.core)) i l) (sym (set_at n.cache (word / BLOCK_WORDS % LINES) i (line_asking (line_for riding.fresh n.cache (word / BLOCK_WORDS)) (word / BLOCK_WORDS) kind) (empty_line riding.fresh) (rw h.all_lines (omega arith)))) (by_test i (i == word / BLOCK_WORDS % LINES) refl (old.lines i));
         requests_room = h.requests_room;
         responses_room = h.responses_room;
         messages_room = h.messages_room;
       }
     where
-      by_test : (i : ℕ) (t : Bool) → (i == word / BLOCK_WORDS % LINES) ≡ t → LineFits blocks (need image n.core) i (slice_index_or n.cache i (empty_line riding.fresh)) → LineFits blocks (need image n.core) i (if t then line_asking (line_for riding.fresh n.cache (word / BLOCK_WORDS)) (word / BLOCK_WORDS) kind else slice_index_or n.cache i (empty_line riding.fresh))
-      by_test i true e f = let at : i ≡ word / BLOCK_WORDS % LINES = grind (arith, nat_tests) in subst (λ (k : ℕ). LineFits blocks (need image n.core) k (line_asking (line_for riding.fresh n.cache (word / BLOCK_WORDS)) (word / BLOCK_WORDS) kind)) (sym at) (asks_fits blocks (line_for riding.fresh n.cache (word / BLOCK_WORDS)) (need image n.core) word kind within (h.lines (word / BLOCK_WORDS % LINES)) needs is)
+      by_test : (i : ℕ) (t : Bool) → (i == word / BLOCK_WORDS % LINES) ≡ t → LineFits blocks (need_access (need image n.core)) i (slice_index_or n.cache i (empty_line riding.fresh)) → LineFits blocks (need_access (need image n.core)) i (if t then line_asking (line_for riding.fresh n.cache (word / BLOCK_WORDS)) (word / BLOCK_WORDS) kind else slice_index_or n.cache i (empty_line riding.fresh))
+      by_test i true e f = let at : i ≡ word / BLOCK_WORDS % LINES = grind (arith, nat_tests) in subst (λ (k : ℕ). LineFits blocks (need_access (need image n.core)) k (line_asking (line_for riding.fresh n.cache (word / BLOCK_WORDS)) (word / BLOCK_WORDS) kind)) (sym at) (asks_fits blocks (line_for riding.fresh n.cache (word / BLOCK_WORDS)) (need_access (need image n.core)) word kind within (h.lines (word / BLOCK_WORDS % LINES)) needs is)
       by_test i false e f = f
 
   -- where a node's views stand wherever they stood
@@ -157,16 +155,15 @@ module _ {R K : Type 0} where
       by_test false e = record { fits = asking_fits image riding blocks n word kind within e is h; keeps = asking_keeps riding blocks n (word / BLOCK_WORDS) kind h e; number = refl }
 
   -- a core's move keeps what its node keeps
-  pub working_moved : (image : Contents) (riding : Riding R) (carrying : Carrying K) (r : R) (blocks : ℕ) (n : Node R K) (needed : Need) → need image n.core ≡ needed → blocks ≡ block_count image.words → NodeStill riding blocks n → Moved image riding blocks n (node_working_in needed image riding carrying r n)
-  working_moved image riding carrying r blocks n Local is memory h =
+  pub working_moved : (image : Contents) (riding : Riding R) (carrying : Carrying K) (r : R) (blocks : ℕ) (n : Node R K) (used : Option (Kind × ℕ)) (done : Bool) → need_access (need image n.core) ≡ used → is_done (need image n.core) ≡ done → blocks ≡ block_count image.words → NodeStill riding blocks n → Moved image riding blocks n (node_working_in used done image riding carrying r n)
+  working_moved image riding carrying r blocks n (Some (kind, word)) done is spent memory h = trying_moved image riding carrying r blocks n word kind memory (access_goes (need image n.core) kind word is) is h
+  working_moved image riding carrying r blocks n None true is spent memory h = record { fits = still_fits image riding blocks n h; keeps = keeps_same riding n n (λ b. refl); number = refl }
+  working_moved image riding carrying r blocks n None false is spent memory h =
       record {
-        fits = still_fits image riding blocks (node_local image carrying n) (still_local image riding carrying blocks n (ap is_done is) h);
+        fits = still_fits image riding blocks (node_local image carrying n) (still_local image riding carrying blocks n spent h);
         keeps = keeps_same riding n (node_local image carrying n) (λ b. refl);
         number = number_law image n.core 0;
       }
-  working_moved image riding carrying r blocks n (Load word) is memory h = trying_moved image riding carrying r blocks n word IsLoad memory (ap is_done is) (ap need_access is) h
-  working_moved image riding carrying r blocks n (Store word whole) is memory h = trying_moved image riding carrying r blocks n word IsStore memory (ap is_done is) (ap need_access is) h
-  working_moved image riding carrying r blocks n (Done stop) is memory h = record { fits = still_fits image riding blocks n h; keeps = keeps_same riding n n (λ b. refl); number = refl }
 
   -- a state in which one node is another
   pub blocks_kept : (riding : Riding R) (carrying : Carrying K) (s : State R K) (c : ℕ) (m : Node R K) (b : ℕ) → c < length s.nodes → Keeps riding (node_at carrying s.nodes c) m → BlockHolds (block_in riding carrying s b) → BlockHolds (block_in riding carrying (record s { nodes = slice_set s.nodes c m }) b)

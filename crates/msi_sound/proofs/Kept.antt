@@ -7,7 +7,7 @@ use Rattle.std.proofs.lemmas.Bool.Decides.{nat_tests}
 use Rattle.access_times.specs.Riding.{Riding, Carrying}
 use Rattle.image_mem.specs.Contents.{Contents}
 use Rattle.rtr_types.specs.declared.TheConstants.{CORES_MAX}
-use Rattle.rv_core.specs.Steps.{need, is_done}
+use Rattle.rv_core.specs.Steps.{need, is_done, access_of as need_access}
 use Rattle.msi_cache.specs.declared.line.TheConstants.{LINES}
 use Rattle.msi_cache.specs.declared.messages.FromHome.{FromHome}
 use Rattle.msi_cache.specs.declared.messages.Response.{Response}
@@ -76,7 +76,7 @@ module _ {R K : Type 0} where
       let p = both (nat_lt c (length s.nodes)) (enabled_at s.image riding s.home n (CoreMove c)) e in
       let q = both (not (is_done (need s.image n.core))) (not (waits n.cache)) p.1 in
       let lc = there_lt c (length s.nodes) p.0 in
-      moved_sound riding carrying s c (node_working s.image riding carrying rider n) lc (working_moved s.image riding carrying rider (length s.home) n (need s.image n.core) refl h.blocks_there (fits_still s.image riding (length s.home) n (not_true (waits n.cache) q.1) (h.nodes c lc))) h
+      moved_sound riding carrying s c (node_working s.image riding carrying rider n) lc (working_moved s.image riding carrying rider (length s.home) n (need_access (need s.image n.core)) (is_done (need s.image n.core)) refl refl h.blocks_there (fits_still s.image riding (length s.home) n (not_true (waits n.cache) q.1) (h.nodes c lc))) h
 
   message_kept : (riding : Riding R) (carrying : Carrying K) (s : State R K) (c : ℕ) (rider : R) → IsTrue (enabled riding carrying s (MessageMove c)) → Sound riding carrying s → Sound riding carrying (message_moved riding carrying rider s c)
   message_kept riding carrying s c rider e h = by_items (node_at carrying s.nodes c).messages.items refl

@@ -1,24 +1,22 @@
 -- The lines of a cache: which of them wait, and what each move does to them.
-use Rattle.std.proofs.Common.{◌≡◌, ◌≢◌, ◌∙◌, refl, sym, subst, ℕ, ◌<◌, ◌≤◌, ◌==◌, ◌%◌, ◌/◌, ◌^◌, Bool, true, false, ◌||◌, List, [], ◌∷◌, length, get_or, Some, zero, suc, arith}
+use Rattle.std.proofs.Common.{◌≡◌, ◌≢◌, ◌∙◌, refl, sym, subst, ℕ, ◌<◌, ◌≤◌, ◌==◌, ◌%◌, ◌/◌, ◌^◌, Bool, true, false, ◌||◌, List, [], ◌∷◌, length, get_or, Option, Some, zero, suc, arith}
 use Rattle.std.specs.Prelude.{if◌then◌else◌, slice_index_or, slice_set}
 use Rattle.std.proofs.lemmas.List.{get_or-set_same, get_or-set_other, length-set}
 use Rattle.std.proofs.lemmas.Bool.Decides.{nat_tests}
 use Rattle.access_times.specs.Riding.{Riding, Carrying}
 use Rattle.rtr_types.specs.declared.TheConstants.{BLOCK_WORDS, CORES_MAX}
 use Rattle.image_mem.specs.Contents.{Contents}
+use Rattle.rtr_types.specs.Accesses.{is_write}
 use Rattle.rtr_types.specs.declared.access.Access.{Access}
 use Rattle.rtr_types.specs.declared.access.Kind.{Kind}
-use Rattle.rtr_types.specs.declared.access.Kind.TheVariants.{Load as IsLoad, Store as IsStore}
 use Rattle.rv_core.specs.declared.core_state.Core.{Core}
-use Rattle.rv_core.specs.declared.core_state.Need.{Need}
-use Rattle.rv_core.specs.declared.core_state.Need.TheVariants.{Local, Load, Store, Done}
 use Rattle.rv_core.specs.Steps.{need, is_done, access_of as need_access}
-use Rattle.rv_core.proofs.LawLemmas.{count_law, limit_law, room_law, load_within_law, store_within_law}
+use Rattle.rv_core.proofs.LawLemmas.{count_law, limit_law, room_law, within_law}
 use Rattle.msi_cache.specs.declared.line.Line.{Line}
 use Rattle.msi_cache.specs.declared.line.State.{State as LineState}
 use Rattle.msi_cache.specs.declared.line.State.TheVariants.{I}
 use Rattle.msi_cache.specs.declared.line.TheConstants.{LINES}
-use Rattle.msi_cache.specs.Lines.{lines_riding, empty_line, waits}
+use Rattle.msi_cache.specs.Lines.{lines_put, lines_riding, empty_line, waits}
 use Rattle.msi_cache.specs.Table.{is_transient}
 use Rattle.msi_directory.specs.Blocks.{block_count}
 use Rattle.msi_state.specs.declared.node.Node.{Node}
@@ -49,14 +47,14 @@ pub record NodeStill {R K : Type 0} (riding : Riding R) (blocks : ℕ) (n : Node
   pub responses_room : n.responses.room ≡ CORES_MAX
   pub messages_room : n.messages.room ≡ CORES_MAX
 
-pub still_fits_need : (needed : Need) (s : LineState) (l i : ℕ) → is_transient s ≡ false → fits_need needed s l i ≡ true
+pub still_fits_need : (needed : Option (Kind × ℕ)) (s : LineState) (l i : ℕ) → is_transient s ≡ false → fits_need needed s l i ≡ true
 still_fits_need needed s l i e = grind (arith, nat_tests)
 
 -- a line that waits is at the place of the block that is needed
-pub transient_place : {R : Type 0} (blocks : ℕ) (needed : Need) (i : ℕ) (l : Line R) → LineFits blocks needed i l → is_transient l.state ≡ true → i ≡ needed_block needed % LINES
+pub transient_place : {R : Type 0} (blocks : ℕ) (needed : Option (Kind × ℕ)) (i : ℕ) (l : Line R) → LineFits blocks needed i l → is_transient l.state ≡ true → i ≡ needed_block needed % LINES
 transient_place blocks needed i l h e = by_need needed h.needed_here
   where
-    by_need : (n : Need) → fits_need n l.state l.block i ≡ true → i ≡ needed_block n % LINES
+    by_need : (n : Option (Kind × ℕ)) → fits_need n l.state l.block i ≡ true → i ≡ needed_block n % LINES
     by_need n f = grind (arith, nat_tests, h.place)
 
 set_same : {R : Type 0} (lines : List (Line R)) (j : ℕ) (l e : Line R) → j < length lines → Same l (get_or lines j e) → (i : ℕ) → Same (get_or (slice_set lines j l) i e) (get_or lines i e)
@@ -68,12 +66,18 @@ set_same lines j l e within same i = subst (λ (x : Line _). Same x (get_or line
 
 module _ {R : Type 0} where
   pub length-accessed : (riding : Riding R) (lines : List (Line R)) (a : Access) (kind : Kind) → length (lines_accessed riding lines a kind) ≡ length lines
-  length-accessed riding lines a IsLoad = refl
-  length-accessed riding lines a IsStore = length-set lines (a.word / BLOCK_WORDS % LINES) _
+  length-accessed riding lines a kind = by_write (is_write kind)
+    where
+      by_write : (t : Bool) → length (if t then lines_put riding.fresh lines (a.word / BLOCK_WORDS) (a.word % BLOCK_WORDS) a.after else lines) ≡ length lines
+      by_write true = length-set lines (a.word / BLOCK_WORDS % LINES) _
+      by_write false = refl
 
   accessed_same : (riding : Riding R) (lines : List (Line R)) (a : Access) (kind : Kind) → length lines ≡ LINES → (i : ℕ) → Same (get_or (lines_accessed riding lines a kind) i (empty_line riding.fresh)) (get_or lines i (empty_line riding.fresh))
-  accessed_same riding lines a IsLoad long i = record { state = refl; block = refl }
-  accessed_same riding lines a IsStore long i = set_same lines (a.word / BLOCK_WORDS % LINES) _ (empty_line riding.fresh) (omega arith) (record { state = refl; block = refl }) i
+  accessed_same riding lines a kind long i = by_write (is_write kind)
+    where
+      by_write : (t : Bool) → Same (get_or (if t then lines_put riding.fresh lines (a.word / BLOCK_WORDS) (a.word % BLOCK_WORDS) a.after else lines) i (empty_line riding.fresh)) (get_or lines i (empty_line riding.fresh))
+      by_write true = set_same lines (a.word / BLOCK_WORDS % LINES) _ (empty_line riding.fresh) (omega arith) (record { state = refl; block = refl }) i
+      by_write false = record { state = refl; block = refl }
 
   same_trans : {a b c : Line R} → Same a b → Same b c → Same a c
   same_trans p q = record { state = p.state ∙ q.state; block = p.block ∙ q.block }
@@ -95,13 +99,7 @@ block_of_word words word lt = omega arith
 
 -- the block of the word that a core accesses is one of the memory's
 pub needed_within : (image : Contents) (core : Core) (kind : Kind) (word : ℕ) → need_access (need image core) ≡ Some (kind, word) → word / BLOCK_WORDS < block_count image.words
-needed_within image core kind word is = block_of_word image.words word (by_need (need image core) refl is)
-  where
-    by_need : (needed : Need) → need image core ≡ needed → need_access needed ≡ Some (kind, word) → word < image.words
-    by_need Local e f = absurd (cc)
-    by_need (Done stop) e f = absurd (cc)
-    by_need (Load w) e f = let lt = load_within_law image core w e in grind arith
-    by_need (Store w whole) e f = let lt = store_within_law image core w whole e in grind arith
+needed_within image core kind word is = block_of_word image.words word (within_law image core kind word is)
 
 -- a core at its limit is done
 pub need_done : (image : Contents) (core : Core) → core.limit ≤ core.count → is_done (need image core) ≡ true
@@ -118,7 +116,7 @@ module _ {R K : Type 0} where
         count_fits = h.count_fits;
         limit_fits = h.limit_fits;
         all_lines = h.all_lines;
-        lines = λ i. record { place = (h.lines i).place; within = (h.lines i).within; needed_here = still_fits_need (need image n.core) (slice_index_or n.cache i (empty_line riding.fresh)).state (slice_index_or n.cache i (empty_line riding.fresh)).block i (h.lines i).still };
+        lines = λ i. record { place = (h.lines i).place; within = (h.lines i).within; needed_here = still_fits_need (need_access (need image n.core)) (slice_index_or n.cache i (empty_line riding.fresh)).state (slice_index_or n.cache i (empty_line riding.fresh)).block i (h.lines i).still };
         requests_room = h.requests_room;
         responses_room = h.responses_room;
         messages_room = h.messages_room;

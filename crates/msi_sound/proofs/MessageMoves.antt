@@ -6,10 +6,8 @@ use Rattle.std.proofs.lemmas.Bool.Decides.{nat_tests}
 use Rattle.access_times.specs.Riding.{Riding, Carrying}
 use Rattle.rtr_types.specs.declared.TheConstants.{BLOCK_WORDS}
 use Rattle.image_mem.specs.Contents.{Contents}
-use Rattle.rtr_types.specs.declared.access.Kind.TheVariants.{Load as IsLoad, Store as IsStore}
-use Rattle.rv_core.specs.declared.core_state.Need.{Need}
-use Rattle.rv_core.specs.declared.core_state.Need.TheVariants.{Local, Load, Store, Done}
-use Rattle.rv_core.specs.Steps.{need}
+use Rattle.rtr_types.specs.declared.access.Kind.{Kind}
+use Rattle.rv_core.specs.Steps.{need, is_done, access_of as need_access}
 use Rattle.msi_cache.specs.declared.line.Line.{Line}
 use Rattle.msi_cache.specs.declared.line.State.{State as LineState}
 use Rattle.msi_cache.specs.declared.line.State.TheVariants.{I}
@@ -48,7 +46,7 @@ row_there g b l e = by_test (l.block == b) e
     by_test false f = absurd (grind arith)
 
 -- a line that has a row keeps fitting
-row_fits : {R : Type 0} (absorbed : R → R → R) (blocks : ℕ) (needed : Need) (i : ℕ) (l : Line R) (m : FromHome R) → is_some (row (signal m) l.state) ≡ true → LineFits blocks needed i l → LineFits blocks needed i (line_after absorbed l m)
+row_fits : {R : Type 0} (absorbed : R → R → R) (blocks : ℕ) (needed : Option (Kind × ℕ)) (i : ℕ) (l : Line R) (m : FromHome R) → is_some (row (signal m) l.state) ≡ true → LineFits blocks needed i l → LineFits blocks needed i (line_after absorbed l m)
 row_fits absorbed blocks needed i l m e h =
     record {
       place = grind (arith, nat_tests, h.place);
@@ -56,7 +54,7 @@ row_fits absorbed blocks needed i l m e h =
       needed_here = by_need needed h.needed_here;
     }
   where
-    by_need : (n : Need) → fits_need n l.state l.block i ≡ true → fits_need n (line_after absorbed l m).state (line_after absorbed l m).block i ≡ true
+    by_need : (n : Option (Kind × ℕ)) → fits_need n l.state l.block i ≡ true → fits_need n (line_after absorbed l m).state (line_after absorbed l m).block i ≡ true
     by_need n f = grind (arith, nat_tests, h.place)
 
 data_transient : (s : LineState) → is_some (row Signal.BlockData s) ≡ true → is_transient s ≡ true
@@ -72,16 +70,12 @@ data_signal : {R : Type 0} (m : FromHome R) → is_data m ≡ true → signal m 
 data_signal m e = grind arith
 
 -- the data that comes is what the core needs
-data_for_load : {R : Type 0} (absorbed : R → R → R) (word i : ℕ) (l : Line R) (m : FromHome R) → is_data m ≡ true → is_some (row (signal m) l.state) ≡ true → fits_need (Load word) l.state l.block i ≡ true →
-    (l.block ≡ word / BLOCK_WORDS) × (is_allowed (line_after absorbed l m) (word / BLOCK_WORDS) IsLoad ≡ true)
-data_for_load absorbed word i l m d e f = (grind (arith, nat_tests), grind (arith, nat_tests))
-
-data_for_store : {R : Type 0} (absorbed : R → R → R) (word : ℕ) (whole : Bool) (i : ℕ) (l : Line R) (m : FromHome R) → is_data m ≡ true → is_some (row (signal m) l.state) ≡ true → fits_need (Store word whole) l.state l.block i ≡ true →
-    (l.block ≡ word / BLOCK_WORDS) × (is_allowed (line_after absorbed l m) (word / BLOCK_WORDS) IsStore ≡ true)
-data_for_store absorbed word whole i l m d e f = (grind (arith, nat_tests), grind (arith, nat_tests))
+data_for : {R : Type 0} (absorbed : R → R → R) (kind : Kind) (word i : ℕ) (l : Line R) (m : FromHome R) → is_data m ≡ true → is_some (row (signal m) l.state) ≡ true → fits_need (Some (kind, word)) l.state l.block i ≡ true →
+    (l.block ≡ word / BLOCK_WORDS) × (is_allowed (line_after absorbed l m) (word / BLOCK_WORDS) kind ≡ true)
+data_for absorbed kind word i l m d e f = (grind (arith, nat_tests), grind (arith, nat_tests))
 
 -- and where it needs none, none comes
-no_data : {R : Type 0} (l : Line R) (i : ℕ) (m : FromHome R) → is_data m ≡ true → is_some (row (signal m) l.state) ≡ true → fits_need Local l.state l.block i ≡ false
+no_data : {R : Type 0} (l : Line R) (i : ℕ) (m : FromHome R) → is_data m ≡ true → is_some (row (signal m) l.state) ≡ true → fits_need None l.state l.block i ≡ false
 no_data l i m d e = grind arith
 
 reply_if : (t : Bool) (v : View) (r : Reply) → record v { responses = v.responses ++ cons_if t r [] } ≡ (if t then record v { responses = v.responses ++ r ∷ [] } else v)
@@ -201,14 +195,14 @@ module _ {R K : Type 0} where
         count_fits = h.count_fits;
         limit_fits = h.limit_fits;
         all_lines = length-set n.cache (block_of mail.item % LINES) _ ∙ h.all_lines;
-        lines = λ i. subst (λ (l : Line R). LineFits blocks (need image n.core) i l) (sym (set_at n.cache (block_of mail.item % LINES) i (line_after riding.absorbed (line_for riding.fresh n.cache (block_of mail.item)) mail.item) (empty_line riding.fresh) (rw h.all_lines (omega arith)))) (by_test i (i == block_of mail.item % LINES) refl (h.lines i));
+        lines = λ i. subst (λ (l : Line R). LineFits blocks (need_access (need image n.core)) i l) (sym (set_at n.cache (block_of mail.item % LINES) i (line_after riding.absorbed (line_for riding.fresh n.cache (block_of mail.item)) mail.item) (empty_line riding.fresh) (rw h.all_lines (omega arith)))) (by_test i (i == block_of mail.item % LINES) refl (h.lines i));
         requests_room = h.requests_room;
         responses_room = h.responses_room;
         messages_room = h.messages_room;
       }
     where
-      by_test : (i : ℕ) (t : Bool) → (i == block_of mail.item % LINES) ≡ t → LineFits blocks (need image n.core) i (slice_index_or n.cache i (empty_line riding.fresh)) → LineFits blocks (need image n.core) i (if t then line_after riding.absorbed (line_for riding.fresh n.cache (block_of mail.item)) mail.item else slice_index_or n.cache i (empty_line riding.fresh))
-      by_test i true e f = let at : i ≡ block_of mail.item % LINES = grind (arith, nat_tests) in subst (λ (k : ℕ). LineFits blocks (need image n.core) k (line_after riding.absorbed (line_for riding.fresh n.cache (block_of mail.item)) mail.item)) (sym at) (row_fits riding.absorbed blocks (need image n.core) (block_of mail.item % LINES) (line_for riding.fresh n.cache (block_of mail.item)) mail.item there (h.lines (block_of mail.item % LINES)))
+      by_test : (i : ℕ) (t : Bool) → (i == block_of mail.item % LINES) ≡ t → LineFits blocks (need_access (need image n.core)) i (slice_index_or n.cache i (empty_line riding.fresh)) → LineFits blocks (need_access (need image n.core)) i (if t then line_after riding.absorbed (line_for riding.fresh n.cache (block_of mail.item)) mail.item else slice_index_or n.cache i (empty_line riding.fresh))
+      by_test i true e f = let at : i ≡ block_of mail.item % LINES = grind (arith, nat_tests) in subst (λ (k : ℕ). LineFits blocks (need_access (need image n.core)) k (line_after riding.absorbed (line_for riding.fresh n.cache (block_of mail.item)) mail.item)) (sym at) (row_fits riding.absorbed blocks (need_access (need image n.core)) (block_of mail.item % LINES) (line_for riding.fresh n.cache (block_of mail.item)) mail.item there (h.lines (block_of mail.item % LINES)))
       by_test i false e f = f
 
   -- after data no line waits
@@ -236,13 +230,13 @@ module _ {R K : Type 0} where
       by_test i true e u f = data_still riding.absorbed (line_for riding.fresh n.cache (block_of mail.item)) mail.item is_it there
       by_test i false e false f = f
       by_test i false e true f =
-          let here : i ≡ needed_block (need image n.core) % LINES = transient_place blocks (need image n.core) i (slice_index_or n.cache i (empty_line riding.fresh)) (h.lines i) f in
-          let that : block_of mail.item % LINES ≡ needed_block (need image n.core) % LINES = transient_place blocks (need image n.core) (block_of mail.item % LINES) (line_for riding.fresh n.cache (block_of mail.item)) (h.lines (block_of mail.item % LINES)) waiting in
+          let here : i ≡ needed_block (need_access (need image n.core)) % LINES = transient_place blocks (need_access (need image n.core)) i (slice_index_or n.cache i (empty_line riding.fresh)) (h.lines i) f in
+          let that : block_of mail.item % LINES ≡ needed_block (need_access (need image n.core)) % LINES = transient_place blocks (need_access (need image n.core)) (block_of mail.item % LINES) (line_for riding.fresh n.cache (block_of mail.item)) (h.lines (block_of mail.item % LINES)) waiting in
           absurd (grind (arith, nat_tests))
 
   -- the access that the core needs is allowed where data came
-  pub data_ready : (image : Contents) (riding : Riding R) (carrying : Carrying K) (blocks : ℕ) (n : Node R K) (mail : Mail (FromHome R) K) (rest : List (Mail (FromHome R) K)) → is_data mail.item ≡ true → (line_for riding.fresh n.cache (block_of mail.item)).block ≡ block_of mail.item → is_some (row (signal mail.item) (line_for riding.fresh n.cache (block_of mail.item)).state) ≡ true → NodeFits image riding blocks n → may_access (need image n.core) riding (node_taking riding carrying n mail rest) ≡ true
-  data_ready image riding carrying blocks n mail rest is_it at there h = by_need (need image n.core) (h.lines (block_of mail.item % LINES)).needed_here
+  pub data_ready : (image : Contents) (riding : Riding R) (carrying : Carrying K) (blocks : ℕ) (n : Node R K) (mail : Mail (FromHome R) K) (rest : List (Mail (FromHome R) K)) → is_data mail.item ≡ true → (line_for riding.fresh n.cache (block_of mail.item)).block ≡ block_of mail.item → is_some (row (signal mail.item) (line_for riding.fresh n.cache (block_of mail.item)).state) ≡ true → NodeFits image riding blocks n → may_access (need_access (need image n.core)) riding (node_taking riding carrying n mail rest) ≡ true
+  data_ready image riding carrying blocks n mail rest is_it at there h = by_need (need_access (need image n.core)) (h.lines (block_of mail.item % LINES)).needed_here
     where
       old_line : Line R
       old_line = line_for riding.fresh n.cache (block_of mail.item)
@@ -255,15 +249,11 @@ module _ {R K : Type 0} where
           let same : word / BLOCK_WORDS ≡ block_of mail.item = sym e ∙ at in
           ap (λ (x : ℕ). line_for riding.fresh (node_taking riding carrying n mail rest).cache x) same ∙ get_or-set_same n.cache (block_of mail.item % LINES) new_line (empty_line riding.fresh) (rw h.all_lines (omega arith))
 
-      by_need : (needed : Need) → fits_need needed old_line.state old_line.block (block_of mail.item % LINES) ≡ true → may_access needed riding (node_taking riding carrying n mail rest) ≡ true
-      by_need Local f = absurd (let none = no_data old_line (block_of mail.item % LINES) mail.item is_it there in cc)
-      by_need (Done stop) f = absurd (let none = no_data old_line (block_of mail.item % LINES) mail.item is_it there in cc)
-      by_need (Load word) f =
-          let p = data_for_load riding.absorbed word (block_of mail.item % LINES) old_line mail.item is_it there f in
-          ap (λ (l : Line R). is_allowed l (word / BLOCK_WORDS) IsLoad) (here word p.0) ∙ p.1
-      by_need (Store word whole) f =
-          let p = data_for_store riding.absorbed word whole (block_of mail.item % LINES) old_line mail.item is_it there f in
-          ap (λ (l : Line R). is_allowed l (word / BLOCK_WORDS) IsStore) (here word p.0) ∙ p.1
+      by_need : (needed : Option (Kind × ℕ)) → fits_need needed old_line.state old_line.block (block_of mail.item % LINES) ≡ true → may_access needed riding (node_taking riding carrying n mail rest) ≡ true
+      by_need None f = absurd (let none = no_data old_line (block_of mail.item % LINES) mail.item is_it there in cc)
+      by_need (Some (kind, word)) f =
+          let p = data_for riding.absorbed kind word (block_of mail.item % LINES) old_line mail.item is_it there f in
+          ap (λ (l : Line R). is_allowed l (word / BLOCK_WORDS) kind) (here word p.0) ∙ p.1
 
   answering_fits : (image : Contents) (riding : Riding R) (blocks : ℕ) (n : Node R K) (o : Option (Response R)) → NodeFits image riding blocks n → NodeFits image riding blocks (node_answering n o)
   answering_fits image riding blocks n None h = h
@@ -295,7 +285,7 @@ module _ {R K : Type 0} where
       by_data : (t : Bool) → is_data mail.item ≡ t → Moved image riding blocks n (if t then node_working image riding carrying r taken else node_answering taken (answer_to riding n mail.item))
       by_data true e =
           let silent : answer_to riding n mail.item ≡ None = data_silent l mail.item e there in
-          let moved = working_moved image riding carrying r blocks taken (need image n.core) refl memory (taking_still image riding carrying blocks n mail rest e there h) in
+          let moved = working_moved image riding carrying r blocks taken (need_access (need image n.core)) (is_done (need image n.core)) refl refl memory (taking_still image riding carrying blocks n mail rest e there h) in
           let kept : Keeps riding n taken = subst (λ (o : Option (Response R)). Keeps riding n (node_answering taken o)) silent (answering_keeps riding carrying n mail rest h.all_lines is at there) in
           record { fits = moved.fits; keeps = keeps_trans riding n taken (node_working image riding carrying r taken) kept moved.keeps; number = moved.number }
       by_data false e =

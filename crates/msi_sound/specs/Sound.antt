@@ -1,11 +1,11 @@
 -- What each state of a run keeps.
-use Rattle.std.specs.Prelude.{◌≡◌, ◌≢◌, ℕ, ◌%◌, ◌/◌, ◌<◌, ◌≤◌, ◌^◌, ◌==◌, Bool, true, false, not, length, slice_index_or}
+use Rattle.std.specs.Prelude.{◌≡◌, ◌≢◌, ℕ, ◌%◌, ◌/◌, ◌<◌, ◌≤◌, ◌^◌, ◌==◌, Bool, true, not, ◌&&◌, Option, Some, None, length, slice_index_or}
 use Rattle.access_times.specs.Riding.{Riding, Carrying}
 use Rattle.rtr_types.specs.declared.TheConstants.{BLOCK_WORDS, CORES_MAX}
 use Rattle.image_mem.specs.Contents.{Contents}
-use Rattle.rv_core.specs.declared.core_state.Need.{Need}
-use Rattle.rv_core.specs.declared.core_state.Need.TheVariants.{Load, Store}
-use Rattle.rv_core.specs.Steps.{need}
+use Rattle.rtr_types.specs.Accesses.{is_write}
+use Rattle.rtr_types.specs.declared.access.Kind.{Kind}
+use Rattle.rv_core.specs.Steps.{need, access_of}
 use Rattle.msi_cache.specs.declared.line.TheConstants.{LINES}
 use Rattle.msi_cache.specs.declared.line.Line.{Line}
 use Rattle.msi_cache.specs.declared.line.State.{State as LineState}
@@ -19,41 +19,30 @@ use Rattle.msi_state.specs.declared.node.Node.{Node}
 use Rattle.msi_state.specs.States.{State, node_at}
 use Rattle.msi_sound.specs.Views.{block_in}
 
--- the block that a core needs
-abbrev pub needed_block : Need → ℕ
-needed_block (Load word) = word / BLOCK_WORDS
-needed_block (Store word whole) = word / BLOCK_WORDS
-needed_block _ = 0
+-- the block of the access that a core needs
+abbrev pub needed_block : Option (Kind × ℕ) → ℕ
+needed_block None = 0
+needed_block (Some (kind, word)) = word / BLOCK_WORDS
 
--- a line at place i, which is for the block l, may be in this state while block b is to be read: it
--- waits for that block's data to read, or for the end of a Put that makes place for the block
-abbrev pub fits_load : LineState → (l i b : ℕ) → Bool
-fits_load IsD l i b = l == b
-fits_load ImD l i b = false
-fits_load SmD l i b = false
-fits_load MiA l i b = i == b % LINES
-fits_load SiA l i b = i == b % LINES
-fits_load IiA l i b = i == b % LINES
-fits_load _ l i b = true
+-- a line at place i, which is for the block l, waits for what an access to block b needs that writes or
+-- not: for that block's data, or for the end of a Put that makes place for the block; a line that doesn't
+-- wait does so for any
+abbrev pub serves : LineState → (writes : Bool) → (l i b : ℕ) → Bool
+serves IsD writes l i b = not writes && (l == b)
+serves ImD writes l i b = writes && (l == b)
+serves SmD writes l i b = writes && (l == b)
+serves MiA writes l i b = i == b % LINES
+serves SiA writes l i b = i == b % LINES
+serves IiA writes l i b = i == b % LINES
+serves _ writes l i b = true
 
--- and while block b is to be written
-abbrev pub fits_store : LineState → (l i b : ℕ) → Bool
-fits_store IsD l i b = false
-fits_store ImD l i b = l == b
-fits_store SmD l i b = l == b
-fits_store MiA l i b = i == b % LINES
-fits_store SiA l i b = i == b % LINES
-fits_store IiA l i b = i == b % LINES
-fits_store _ l i b = true
+-- a line that waits does so for the access that the core needs
+abbrev pub fits_need : Option (Kind × ℕ) → LineState → (l i : ℕ) → Bool
+fits_need None state l i = not (is_transient state)
+fits_need (Some (kind, word)) state l i = serves state (is_write kind) l i (word / BLOCK_WORDS)
 
--- a line that waits does so for the word that the core needs
-abbrev pub fits_need : Need → LineState → (l i : ℕ) → Bool
-fits_need (Load word) state l i = fits_load state l i (word / BLOCK_WORDS)
-fits_need (Store word whole) state l i = fits_store state l i (word / BLOCK_WORDS)
-fits_need _ state l i = not (is_transient state)
-
--- a line at place i of a cache over so many blocks, whose core has this need
-pub record LineFits {R : Type 0} (blocks : ℕ) (needed : Need) (i : ℕ) (l : Line R) : Type 0 where
+-- a line at place i of a cache over so many blocks, whose core needs this access
+pub record LineFits {R : Type 0} (blocks : ℕ) (needed : Option (Kind × ℕ)) (i : ℕ) (l : Line R) : Type 0 where
   pub place : l.state ≢ I → l.block % LINES ≡ i
   pub within : l.state ≢ I → l.block < blocks
   pub needed_here : fits_need needed l.state l.block i ≡ true
@@ -62,7 +51,8 @@ pub record NodeFits {R K : Type 0} (image : Contents) (riding : Riding R) (block
   pub count_fits : n.core.count ≤ n.core.limit
   pub limit_fits : n.core.limit < 2 ^ 32
   pub all_lines : length n.cache ≡ LINES
-  pub lines : (i : ℕ) → LineFits blocks (need image n.core) i (slice_index_or n.cache i (empty_line riding.fresh))
+  pub lines : (i : ℕ)
+      → LineFits blocks (access_of (need image n.core)) i (slice_index_or n.cache i (empty_line riding.fresh))
   pub requests_room : n.requests.room ≡ 1
   pub responses_room : n.responses.room ≡ CORES_MAX
   pub messages_room : n.messages.room ≡ CORES_MAX

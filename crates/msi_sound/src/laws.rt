@@ -29,12 +29,14 @@ pub fn every_step_keeps_it<R: Rider, K: Carry>()
 /// clerks leave.
 pub fn every_state_from_a_start_is_sound<R: Rider, K: Carry>()
     ensures { (image : Contents) (cores limit : ℕ) → cores ≤ CORES_MAX → limit < 2 ^ 32 → (taken : List (MoveTaken R))
-        → Sound R.riding K.carrying (walked R.riding K.carrying (state_start R.riding K.carrying image cores limit) taken) }
+        → let start = state_start R.riding K.carrying image cores limit in
+        Sound R.riding K.carrying (walked R.riding K.carrying start taken) }
 {}
 
 /// And so is each state of a run, whatever its choices are.
 pub fn every_state_of_a_run_is_sound()
-    ensures { (image : Contents) (params : Params) (choices : ℕ → ℕ) (t : ℕ) → params.cores ≤ CORES_MAX → params.limit < 2 ^ 32
+    ensures { (image : Contents) (params : Params) (choices : ℕ → ℕ) (t : ℕ)
+        → params.cores ≤ CORES_MAX → params.limit < 2 ^ 32
         → Sound none_riding none_carrying (run image params choices t) }
 {}
 

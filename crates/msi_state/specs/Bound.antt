@@ -1,14 +1,13 @@
 -- How many steps a run may take. Each instruction pays for 2 P + 4 steps, P the number of cores. Of
 -- these a core has earned, besides those of its retired instructions, the steps that the access under
 -- way may have cost so far; what a message still brings to another core's access is owed.
-use Rattle.std.specs.Prelude.{ℕ, ◌+◌, ◌*◌, ◌-◌, ◌/◌, ◌==◌, ◌≤◌, Bool, true, false, ◌&&◌, List, [], ◌∷◌, length, if◌then◌else◌}
+use Rattle.std.specs.Prelude.{ℕ, ◌+◌, ◌*◌, ◌-◌, ◌/◌, ◌==◌, ◌≤◌, Bool, true, false, ◌&&◌, Option, Some, None, List, [], ◌∷◌, length, if◌then◌else◌}
 use Rattle.std.specs.List.{sum_by, list_all}
 use Rattle.access_times.specs.Riding.{Riding}
 use Rattle.rtr_types.specs.declared.TheConstants.{BLOCK_WORDS}
 use Rattle.image_mem.specs.Contents.{Contents}
-use Rattle.rv_core.specs.declared.core_state.Need.{Need}
-use Rattle.rv_core.specs.declared.core_state.Need.TheVariants.{Local, Load, Store, Done}
-use Rattle.rv_core.specs.Steps.{need}
+use Rattle.rtr_types.specs.declared.access.Kind.{Kind}
+use Rattle.rv_core.specs.Steps.{need, is_done, access_of}
 use Rattle.link_order.specs.Queue.{is_nil}
 use Rattle.msi_cache.specs.declared.line.State.{State as LineState}
 use Rattle.msi_cache.specs.declared.line.State.TheVariants.{I, S, M, IsD, ImD, SmD, MiA, SiA, IiA}
@@ -59,16 +58,20 @@ module _ {R : Type 0} where
   block_base line block taken cores = line_base line.state (line.block == block) taken cores
 
 module _ {R K : Type 0} where
-  -- the steps that a core's next instruction may have cost so far
-  abbrev pub base_in : Need → Riding R → (cores : ℕ) → Node R K → ℕ
-  base_in (Done stop) riding cores n = 0
-  base_in Local riding cores n = 3
-  base_in (Load word) riding cores n = block_base (line_for riding.fresh n.cache (word / BLOCK_WORDS)) (word / BLOCK_WORDS) (is_nil n.requests.items) cores
-  base_in (Store word whole) riding cores n = block_base (line_for riding.fresh n.cache (word / BLOCK_WORDS)) (word / BLOCK_WORDS) (is_nil n.requests.items) cores
+  -- the steps that a core's next instruction may have cost so far, by the access that the core needs and
+  -- whether its program is done
+  abbrev pub base_in : Option (Kind × ℕ) → (done : Bool) → Riding R → (cores : ℕ) → Node R K → ℕ
+  base_in (Some (kind, word)) done riding cores n =
+      let block = word / BLOCK_WORDS in
+      block_base (line_for riding.fresh n.cache block) block (is_nil n.requests.items) cores
+  base_in None true riding cores n = 0
+  base_in None false riding cores n = 3
 
   -- the steps that a core's instructions have paid for
   abbrev pub earned : Contents → Riding R → (cores : ℕ) → Node R K → ℕ
-  earned image riding cores n = (2 * cores + 4) * n.core.count + base_in (need image n.core) riding cores n
+  earned image riding cores n =
+      let needed = need image n.core in
+      (2 * cores + 4) * n.core.count + base_in (access_of needed) (is_done needed) riding cores n
 
   -- the steps that a core's instructions can pay for
   abbrev pub capacity : (cores : ℕ) → Node R K → ℕ

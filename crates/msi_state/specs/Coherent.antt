@@ -80,13 +80,15 @@ Each P (mail ∷ rest) = P mail.item × Each P rest
 
 -- the copies of a block at one core that count are current
 pub record NodeCurrent {R K : Type 0} (riding : Riding R) (b : ℕ) (cur : List ℕ) (n : Node R K) : Type 0 where
-  pub line : line_current (line_state b (line_for riding.fresh n.cache b)) (signals_of b n.messages.items) ≡ true → (line_for riding.fresh n.cache b).words ≡ cur
+  pub line : line_current (line_state b (line_for riding.fresh n.cache b)) (signals_of b n.messages.items) ≡ true
+      → (line_for riding.fresh n.cache b).words ≡ cur
   pub sent : Each (SentIs b cur) n.messages.items
   pub replied : Each (ReplyIs b cur) n.responses.items
   pub put : line_state b (line_for riding.fresh n.cache b) ≡ MiA → Each (PutIs b cur) n.requests.items
 
 -- the copies of a block that count have these words
-pub record Current {R K : Type 0} (riding : Riding R) (carrying : Carrying K) (s : State R K) (b : ℕ) (cur : List ℕ) : Type 0 where
+pub record Current {R K : Type 0} (riding : Riding R) (carrying : Carrying K) (s : State R K) (b : ℕ)
+    (cur : List ℕ) : Type 0 where
   pub home : home_counts (entry_at riding.fresh s.home b).stage ≡ true → (entry_at riding.fresh s.home b).words ≡ cur
   pub nodes : (d : ℕ) → d < length s.nodes → NodeCurrent riding b cur (node_at carrying s.nodes d)
 
@@ -141,4 +143,8 @@ value_after _ = 0
 
 -- a word is what the last write to it left
 abbrev pub LastWrite : Type 0
-LastWrite = (e : Event) (memory : ℕ → List ℕ) → WordsFit memory → WordsFit (memory_after e memory) × ((word : ℕ) → word_of (memory_after e memory) word ≡ (if writes_to e word then value_after e else word_of memory word))
+LastWrite =
+    (e : Event) (memory : ℕ → List ℕ) → WordsFit memory
+    → let left = memory_after e memory in
+    WordsFit left
+    × ((word : ℕ) → word_of left word ≡ (if writes_to e word then value_after e else word_of memory word))

@@ -13,7 +13,8 @@ use Rattle.msi_state.specs.States.{State, node_at}
 module _ {R K : Type 0} where
   -- a block's words, by its stage at the home
   abbrev pub final_in : Stage → Riding R → Carrying K → State R K → ℕ → List ℕ
-  final_in (Owned owner) riding carrying s block = (line_for riding.fresh (node_at carrying s.nodes owner).cache block).words
+  final_in (Owned owner) riding carrying s block =
+      (line_for riding.fresh (node_at carrying s.nodes owner).cache block).words
   final_in stage riding carrying s block = (entry_at riding.fresh s.home block).words
 
   abbrev pub final_words : Riding R → Carrying K → State R K → ℕ → List ℕ
@@ -21,7 +22,8 @@ module _ {R K : Type 0} where
 
   -- a word of the memory, by its index
   abbrev pub final_word : Riding R → Carrying K → State R K → ℕ → ℕ
-  final_word riding carrying s word = slice_index (final_words riding carrying s (word / BLOCK_WORDS)) (word % BLOCK_WORDS)
+  final_word riding carrying s word =
+      slice_index (final_words riding carrying s (word / BLOCK_WORDS)) (word % BLOCK_WORDS)
 
   -- all words of the memory, by index
   abbrev pub final_memory : Riding R → Carrying K → State R K → List ℕ
@@ -31,7 +33,8 @@ module _ {R K : Type 0} where
   -- holds the block
   abbrev pub at_hand_in : Stage → Riding R → Carrying K → State R K → ℕ → Bool
   at_hand_in (Owned owner) riding carrying s block =
-      nat_lt owner (length s.nodes) && can_read (line_for riding.fresh (node_at carrying s.nodes owner).cache block) block
+      nat_lt owner (length s.nodes)
+      && can_read (line_for riding.fresh (node_at carrying s.nodes owner).cache block) block
   at_hand_in stage riding carrying s block = true
 
   abbrev pub at_hand : Riding R → Carrying K → State R K → ℕ → Bool

@@ -8,11 +8,8 @@ use Rattle.rtr_types.specs.Accesses.{is_write}
 use Rattle.rtr_types.specs.declared.instr.Instr.{Instr}
 use Rattle.rtr_types.specs.declared.access.Access.{Access}
 use Rattle.rtr_types.specs.declared.access.Kind.{Kind}
-use Rattle.rtr_types.specs.declared.access.Kind.TheVariants.{Load as IsLoad, Store as IsStore}
 use Rattle.rv_core.specs.declared.core_state.Core.{Core}
-use Rattle.rv_core.specs.declared.core_state.Need.{Need}
-use Rattle.rv_core.specs.declared.core_state.Need.TheVariants.{Local, Load, Store, Done}
-use Rattle.rv_core.specs.Steps.{need, after, wrote}
+use Rattle.rv_core.specs.Steps.{need, after, wrote, is_done, access_of as need_access}
 use Rattle.link_order.specs.Queue.{Queue}
 use Rattle.msi_cache.specs.declared.line.Line.{Line}
 use Rattle.msi_cache.specs.declared.messages.FromHome.{FromHome}
@@ -108,25 +105,30 @@ module _ {R K : Type 0} where
   event_trying image riding node word kind =
       if allows riding node word kind then Accesses (access_of image riding node word kind) else Nothing
 
-  -- the node after its core moves, by what the core needs
-  abbrev pub node_working_in : Need → Contents → Riding R → Carrying K → R → Node R K → Node R K
-  node_working_in Local image riding carrying rider node = node_local image carrying node
-  node_working_in (Load word) image riding carrying rider node = node_trying image riding carrying rider node word IsLoad
-  node_working_in (Store word whole) image riding carrying rider node = node_trying image riding carrying rider node word IsStore
-  node_working_in (Done stop) image riding carrying rider node = node
+  -- the node after its core moves, by the access that the core needs and whether its program is done: an
+  -- access is tried, and an instruction without one retires
+  abbrev pub node_working_in : Option (Kind × ℕ) → (done : Bool) → Contents → Riding R → Carrying K → R → Node R K
+      → Node R K
+  node_working_in (Some (kind, word)) done image riding carrying rider node =
+      node_trying image riding carrying rider node word kind
+  node_working_in None true image riding carrying rider node = node
+  node_working_in None false image riding carrying rider node = node_local image carrying node
 
   abbrev pub node_working : Contents → Riding R → Carrying K → R → Node R K → Node R K
-  node_working image riding carrying rider node = node_working_in (need image node.core) image riding carrying rider node
+  node_working image riding carrying rider node =
+      let needed = need image node.core in
+      node_working_in (need_access needed) (is_done needed) image riding carrying rider node
 
   -- what the clerk is told as the core moves
-  abbrev pub event_working_in : Need → Contents → Riding R → Node R K → Event
-  event_working_in Local image riding node = Retires (next_instr node.core)
-  event_working_in (Load word) image riding node = event_trying image riding node word IsLoad
-  event_working_in (Store word whole) image riding node = event_trying image riding node word IsStore
-  event_working_in (Done stop) image riding node = Nothing
+  abbrev pub event_working_in : Option (Kind × ℕ) → (done : Bool) → Contents → Riding R → Node R K → Event
+  event_working_in (Some (kind, word)) done image riding node = event_trying image riding node word kind
+  event_working_in None true image riding node = Nothing
+  event_working_in None false image riding node = Retires (next_instr node.core)
 
   abbrev pub event_working : Contents → Riding R → Node R K → Event
-  event_working image riding node = event_working_in (need image node.core) image riding node
+  event_working image riding node =
+      let needed = need image node.core in
+      event_working_in (need_access needed) (is_done needed) image riding node
 
   -- the rider on the copy that an event's access touches
   abbrev pub rider_of_event : Riding R → Event → Node R K → R
@@ -135,13 +137,28 @@ module _ {R K : Type 0} where
 
   -- what the clerk's calls do to it, once it was told of the event: with this carry, and with these
   -- riders before and after
-  abbrev pub Tells : {C : Type 0} → (C → Instr → K → C → Type 0) → (C → R → Access → K → C → R → Type 0) → Event → K → C → R → C → R → Type 0
+  abbrev pub Tells : {C : Type 0} → (C → Instr → K → C → Type 0) → (C → R → Access → K → C → R → Type 0) → Event → K
+      → C → R → C → R → Type 0
   Tells told_local told_touch Nothing carry old before new after = new ≡ old
   Tells told_local told_touch (Retires at) carry old before new after = told_local old at carry new
   Tells told_local told_touch (Accesses a) carry old before new after = told_touch old before a carry new after
 
+  -- what the clerk's calls do to it, once it was told of the event in which the core of node n retired and
+  -- that made the node m of it
+  abbrev pub TellsAt : {C : Type 0} → (C → Instr → K → C → Type 0) → (C → R → Access → K → C → R → Type 0)
+      → Riding R → Carrying K → Event → (n m : Node R K) → (before after : C) → Type 0
+  TellsAt told_local told_touch riding carrying e n m before after =
+      Tells told_local told_touch e (carry_after carrying n)
+      before (rider_of_event riding e n) after (rider_of_event riding e m)
+
+  -- the node m is n after its core moved, with the rider that was left on the copy that was touched
+  abbrev pub HasWorked : Contents → Riding R → Carrying K → (n m : Node R K) → Type 0
+  HasWorked image riding carrying n m =
+      m ≡ node_working image riding carrying (rider_of_event riding (event_working image riding n) m) n
+
   -- the node with the head of its messages taken off its link and applied to its cache
-  abbrev pub node_taking : Riding R → Carrying K → Node R K → Mail (FromHome R) K → List (Mail (FromHome R) K) → Node R K
+  abbrev pub node_taking : Riding R → Carrying K → Node R K → Mail (FromHome R) K → List (Mail (FromHome R) K)
+      → Node R K
   node_taking riding carrying node mail rest =
       record node {
         carry = carrying.joined node.carry mail.carry;
@@ -160,31 +177,42 @@ module _ {R K : Type 0} where
 
   -- the node after it received a message: after a block's data its core retires the instruction that
   -- waited for them, and any other message may be answered
-  abbrev pub node_receiving_mail : Contents → Riding R → Carrying K → R → Node R K → Mail (FromHome R) K → List (Mail (FromHome R) K) → Node R K
+  abbrev pub node_receiving_mail : Contents → Riding R → Carrying K → R → Node R K → Mail (FromHome R) K
+      → List (Mail (FromHome R) K) → Node R K
   node_receiving_mail image riding carrying rider node mail rest =
       let taken = node_taking riding carrying node mail rest in
       if is_data mail.item
       then node_working image riding carrying rider taken
       else node_answering taken (answer_to riding node mail.item)
 
-  abbrev pub event_receiving_mail : Contents → Riding R → Carrying K → Node R K → Mail (FromHome R) K → List (Mail (FromHome R) K) → Event
+  abbrev pub event_receiving_mail : Contents → Riding R → Carrying K → Node R K → Mail (FromHome R) K
+      → List (Mail (FromHome R) K) → Event
   event_receiving_mail image riding carrying node mail rest =
       if is_data mail.item then event_working image riding (node_taking riding carrying node mail rest) else Nothing
 
   -- the node after the head of its messages is received
   abbrev pub node_receiving_in : List (Mail (FromHome R) K) → Contents → Riding R → Carrying K → R → Node R K → Node R K
   node_receiving_in [] image riding carrying rider node = node
-  node_receiving_in (mail ∷ rest) image riding carrying rider node = node_receiving_mail image riding carrying rider node mail rest
+  node_receiving_in (mail ∷ rest) image riding carrying rider node =
+      node_receiving_mail image riding carrying rider node mail rest
 
   abbrev pub node_receiving : Contents → Riding R → Carrying K → R → Node R K → Node R K
-  node_receiving image riding carrying rider node = node_receiving_in node.messages.items image riding carrying rider node
+  node_receiving image riding carrying rider node =
+      node_receiving_in node.messages.items image riding carrying rider node
 
   abbrev pub event_receiving_in : List (Mail (FromHome R) K) → Contents → Riding R → Carrying K → Node R K → Event
   event_receiving_in [] image riding carrying node = Nothing
-  event_receiving_in (mail ∷ rest) image riding carrying node = event_receiving_mail image riding carrying node mail rest
+  event_receiving_in (mail ∷ rest) image riding carrying node =
+      event_receiving_mail image riding carrying node mail rest
 
   abbrev pub event_receiving : Contents → Riding R → Carrying K → Node R K → Event
   event_receiving image riding carrying node = event_receiving_in node.messages.items image riding carrying node
+
+  -- the node m is n after it received a message, with the rider that was left on the copy that was touched
+  abbrev pub HasReceived : Contents → Riding R → Carrying K → (n m : Node R K) → Type 0
+  HasReceived image riding carrying n m =
+      let e = event_receiving image riding carrying n in
+      m ≡ node_receiving image riding carrying (rider_of_event riding e m) n
 
   -- the node with the head of its messages applied, which is the node whose core may then retire
   abbrev pub node_taken_in : List (Mail (FromHome R) K) → Riding R → Carrying K → Node R K → Node R K
@@ -192,14 +220,14 @@ module _ {R K : Type 0} where
   node_taken_in (mail ∷ rest) riding carrying node = node_taking riding carrying node mail rest
 
   -- the node's core needs an access that its cache allows
-  abbrev pub may_access : Need → Riding R → Node R K → Bool
-  may_access (Load word) riding node = allows riding node word IsLoad
-  may_access (Store word whole) riding node = allows riding node word IsStore
-  may_access _ riding node = false
+  abbrev pub may_access : Option (Kind × ℕ) → Riding R → Node R K → Bool
+  may_access None riding node = false
+  may_access (Some (kind, word)) riding node = allows riding node word kind
 
   -- the head of the messages has a row in the cache's table, and data let the core's access be made
   abbrev pub can_receive_in : List (Mail (FromHome R) K) → Contents → Riding R → Carrying K → Node R K → Bool
   can_receive_in [] image riding carrying node = false
   can_receive_in (mail ∷ rest) image riding carrying node =
       has_row (line_for riding.fresh node.cache (block_of mail.item)) mail.item
-      && (not (is_data mail.item) || may_access (need image node.core) riding (node_taking riding carrying node mail rest))
+      && (not (is_data mail.item)
+      || may_access (need_access (need image node.core)) riding (node_taking riding carrying node mail rest))

@@ -33,7 +33,8 @@ module _ {R K : Type 0} where
 
   -- riders and carries change nothing of a step but themselves
   abbrev pub PlainStep : Riding R → Carrying K → R → State R K → Move → Type 0
-  PlainStep riding carrying rider s m = plain (step riding carrying rider s m) ≡ step none_riding none_carrying tt (plain s) m
+  PlainStep riding carrying rider s m =
+      plain (step riding carrying rider s m) ≡ step none_riding none_carrying tt (plain s) m
 
   -- nor do they change which moves there are, or what they tell
   abbrev pub PlainMoves : Riding R → Carrying K → State R K → Type 0

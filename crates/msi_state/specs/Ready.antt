@@ -61,8 +61,10 @@ module _ {R K : Type 0} where
   abbrev pub has_row_for : Riding R → Carrying K → State R K → Move → Bool
   has_row_for riding carrying s (CoreMove c) = true
   has_row_for riding carrying s (RequestMove c) = can_request_in (node_at carrying s.nodes c).requests.items riding s c
-  has_row_for riding carrying s (ResponseMove c) = can_respond_in (node_at carrying s.nodes c).responses.items riding s c
-  has_row_for riding carrying s (MessageMove c) = can_receive_in (node_at carrying s.nodes c).messages.items s.image riding carrying (node_at carrying s.nodes c)
+  has_row_for riding carrying s (ResponseMove c) =
+      can_respond_in (node_at carrying s.nodes c).responses.items riding s c
+  has_row_for riding carrying s (MessageMove c) =
+      can_receive_in (node_at carrying s.nodes c).messages.items s.image riding carrying (node_at carrying s.nodes c)
 
   -- each core that the home names is there
   abbrev pub NamesFit : State R K → Type 0
@@ -78,27 +80,37 @@ module _ {R K : Type 0} where
 
   -- each core of the set has room for a message
   abbrev pub HasRoomIn : CoreSet → List (Node R K) → Type 0
-  HasRoomIn set nodes = (k : ℕ) (d : Node R K) → k < length nodes → has set k ≡ true → length (slice_index_or nodes k d).messages.items < (slice_index_or nodes k d).messages.room
+  HasRoomIn set nodes =
+      (k : ℕ) (d : Node R K) → k < length nodes → has set k ≡ true
+      → length (slice_index_or nodes k d).messages.items < (slice_index_or nodes k d).messages.room
 
   -- each core that the answer goes to has room for a message
   abbrev pub HasRoomTo : Carrying K → HomeAnswer R → List (Node R K) → Type 0
-  HasRoomTo carrying answer nodes = (d : ℕ) → d < length nodes → hears answer d ≡ true → length (node_at carrying nodes d).messages.items < (node_at carrying nodes d).messages.room
+  HasRoomTo carrying answer nodes =
+      (d : ℕ) → d < length nodes → hears answer d ≡ true
+      → length (node_at carrying nodes d).messages.items < (node_at carrying nodes d).messages.room
 
   -- what the home answers to the head of these requests, and of these responses, of core c
   abbrev pub request_answer_in : List (Mail (Request R) K) → Riding R → State R K → ℕ → HomeAnswer R
   request_answer_in [] riding s c = no_answer
-  request_answer_in (mail ∷ rest) riding s c = answer_to_request riding.absorbed (entry_at riding.fresh s.home (request_block mail.item)) c mail.item
+  request_answer_in (mail ∷ rest) riding s c =
+      answer_to_request riding.absorbed (entry_at riding.fresh s.home (request_block mail.item)) c mail.item
 
   abbrev pub response_answer_in : List (Mail (Response R) K) → Riding R → State R K → ℕ → HomeAnswer R
   response_answer_in [] riding s c = no_answer
-  response_answer_in (mail ∷ rest) riding s c = answer_to_response riding.absorbed (entry_at riding.fresh s.home (response_block mail.item)) c mail.item
+  response_answer_in (mail ∷ rest) riding s c =
+      answer_to_response riding.absorbed (entry_at riding.fresh s.home (response_block mail.item)) c mail.item
 
   -- no link that the move pushes to is full
   abbrev pub HasRoomFor : Riding R → Carrying K → State R K → Move → Type 0
-  HasRoomFor riding carrying s (CoreMove c) = length (node_at carrying s.nodes c).requests.items < (node_at carrying s.nodes c).requests.room
-  HasRoomFor riding carrying s (RequestMove c) = HasRoomTo carrying (request_answer_in (node_at carrying s.nodes c).requests.items riding s c) s.nodes
-  HasRoomFor riding carrying s (ResponseMove c) = HasRoomTo carrying (response_answer_in (node_at carrying s.nodes c).responses.items riding s c) s.nodes
-  HasRoomFor riding carrying s (MessageMove c) = length (node_at carrying s.nodes c).responses.items < (node_at carrying s.nodes c).responses.room
+  HasRoomFor riding carrying s (CoreMove c) =
+      length (node_at carrying s.nodes c).requests.items < (node_at carrying s.nodes c).requests.room
+  HasRoomFor riding carrying s (RequestMove c) =
+      HasRoomTo carrying (request_answer_in (node_at carrying s.nodes c).requests.items riding s c) s.nodes
+  HasRoomFor riding carrying s (ResponseMove c) =
+      HasRoomTo carrying (response_answer_in (node_at carrying s.nodes c).responses.items riding s c) s.nodes
+  HasRoomFor riding carrying s (MessageMove c) =
+      length (node_at carrying s.nodes c).responses.items < (node_at carrying s.nodes c).responses.room
 
 -- what the moves of a state rest on
 pub record Ready {R K : Type 0} (riding : Riding R) (carrying : Carrying K) (s : State R K) : Type 0 where

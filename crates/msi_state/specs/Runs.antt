@@ -78,7 +78,8 @@ accesses_in _ = []
 -- the instructions that retired within the first t choices, in the order in which they did
 abbrev pub retirements : Contents → Params → (choices : ℕ → ℕ) → (t : ℕ) → List Instr
 retirements image params choices zero = []
-retirements image params choices (suc t) = retirements image params choices t ++ retired_in (event_at image params choices t)
+retirements image params choices (suc t) =
+    retirements image params choices t ++ retired_in (event_at image params choices t)
 
 -- the data accesses of the first t choices, in the order in which their instructions retired
 abbrev pub accesses : Contents → Params → (choices : ℕ → ℕ) → (t : ℕ) → List Access

@@ -23,7 +23,8 @@ module _ {R K : Type 0} where
   -- the kinds of those of the responses that are about the block
   abbrev pub replies_of : (block : ℕ) → List (Mail (Response R) K) → List Reply
   replies_of block [] = []
-  replies_of block (mail ∷ rest) = cons_if (response_block mail.item == block) (reply_of mail.item) (replies_of block rest)
+  replies_of block (mail ∷ rest) =
+      cons_if (response_block mail.item == block) (reply_of mail.item) (replies_of block rest)
 
   -- the kinds of those of the messages from home that are about the block
   abbrev pub signals_of : (block : ℕ) → List (Mail (FromHome R) K) → List Signal

@@ -67,8 +67,9 @@ module _ {R K : Type 0} where
       let carry = carrying.joined s.carry mail.carry in
       let block = request_block mail.item in
       let answer = answer_to_request riding.absorbed (entry_at riding.fresh s.home block) c mail.item in
+      let nodes = slice_set s.nodes c (node_requested (node_at carrying s.nodes c) rest) in
       record s {
-        nodes = delivered carrying answer block carry (slice_set s.nodes c (node_requested (node_at carrying s.nodes c) rest));
+        nodes = delivered carrying answer block carry nodes;
         home = entries_after_request riding s.home c mail.item;
         carry = carry;
       }
@@ -83,14 +84,16 @@ module _ {R K : Type 0} where
       let carry = carrying.joined s.carry mail.carry in
       let block = response_block mail.item in
       let answer = answer_to_response riding.absorbed (entry_at riding.fresh s.home block) c mail.item in
+      let nodes = slice_set s.nodes c (node_responded (node_at carrying s.nodes c) rest) in
       record s {
-        nodes = delivered carrying answer block carry (slice_set s.nodes c (node_responded (node_at carrying s.nodes c) rest));
+        nodes = delivered carrying answer block carry nodes;
         home = entries_after_response riding s.home c mail.item;
         carry = carry;
       }
 
   abbrev pub response_moved : Riding R → Carrying K → State R K → ℕ → State R K
-  response_moved riding carrying s c = response_moved_in (node_at carrying s.nodes c).responses.items riding carrying s c
+  response_moved riding carrying s c =
+      response_moved_in (node_at carrying s.nodes c).responses.items riding carrying s c
 
   -- the state after core c moves
   abbrev pub core_moved : Riding R → Carrying K → R → State R K → ℕ → State R K
@@ -100,7 +103,8 @@ module _ {R K : Type 0} where
   -- the state after core c receives the head of its messages
   abbrev pub message_moved : Riding R → Carrying K → R → State R K → ℕ → State R K
   message_moved riding carrying rider s c =
-      record s { nodes = slice_set s.nodes c (node_receiving s.image riding carrying rider (node_at carrying s.nodes c)) }
+      let node = node_at carrying s.nodes c in
+      record s { nodes = slice_set s.nodes c (node_receiving s.image riding carrying rider node) }
 
   -- the head of these requests is one that the home can take: its block isn't busy
   abbrev pub head_free : List (Mail (Request R) K) → Riding R → List (Entry R) → Bool
@@ -139,15 +143,22 @@ module _ {R K : Type 0} where
 
   -- the node whose core may retire in a move: after the message's row, if the move is a message's
   abbrev pub retiring : Riding R → Carrying K → State R K → Move → Node R K
-  retiring riding carrying s (MessageMove c) = node_taken_in (node_at carrying s.nodes c).messages.items riding carrying (node_at carrying s.nodes c)
+  retiring riding carrying s (MessageMove c) =
+      node_taken_in (node_at carrying s.nodes c).messages.items riding carrying (node_at carrying s.nodes c)
   retiring riding carrying s m = node_at carrying s.nodes (core_of m)
 
   -- the rider that a move left on the copy that its access touched, read in the state after it
   abbrev pub rider_left : Riding R → Carrying K → State R K → State R K → Move → R
-  rider_left riding carrying old new m = rider_of_event riding (event riding carrying old m) (node_at carrying new.nodes (core_of m))
+  rider_left riding carrying old new m =
+      rider_of_event riding (event riding carrying old m) (node_at carrying new.nodes (core_of m))
+
+  -- the new state is the old one after the move, with the rider that was left on the copy that it touched
+  abbrev pub StepsTo : Riding R → Carrying K → (old new : State R K) → Move → Type 0
+  StepsTo riding carrying old new m = new ≡ step riding carrying (rider_left riding carrying old new m) old m
 
   -- what the clerk's calls do to it, once it was told of the move that made the new state of the old
-  abbrev pub TellsOf : {C : Type 0} → (C → Instr → K → C → Type 0) → (C → R → Access → K → C → R → Type 0) → Riding R → Carrying K → (old new : State R K) → Move → (before after : C) → Type 0
+  abbrev pub TellsOf : {C : Type 0} → (C → Instr → K → C → Type 0) → (C → R → Access → K → C → R → Type 0)
+      → Riding R → Carrying K → (old new : State R K) → Move → (before after : C) → Type 0
   TellsOf told_local told_touch riding carrying old new m before after =
       Tells told_local told_touch (event riding carrying old m)
       (carry_after carrying (retiring riding carrying old m))
@@ -156,4 +167,5 @@ module _ {R K : Type 0} where
 
   -- the clerk accepts the next instruction of each core whose program isn't done
   abbrev pub AcceptsNext : {C : Type 0} → (C → Instr → Type 0) → C → State R K → Type 0
-  AcceptsNext accepts clerk s = All (λ n. is_done (need s.image n.core) ≡ false → accepts clerk (next_instr n.core)) s.nodes
+  AcceptsNext accepts clerk s =
+      All (λ n. is_done (need s.image n.core) ≡ false → accepts clerk (next_instr n.core)) s.nodes

@@ -8,10 +8,10 @@ ghost use Rattle.msi_directory.specs.Entries.{answer_riding, answer_to_request, 
 ghost use Rattle.msi_state.specs.declared.moves.Move.{Move};
 ghost use Rattle.msi_state.specs.FinalMemory.{at_hand, final_word};
 ghost use Rattle.msi_state.specs.Nodes.{instr_of};
-ghost use Rattle.msi_state.specs.Ready.{NamesFit, HeadsFit, heads_roomy, HasRoomTo, Ready, RoomsMade, are_heads_roomy, head_roomy, head_within, can_request_in, can_respond_in, request_answer_in, response_answer_in};
+ghost use Rattle.msi_state.specs.Ready.{NamesFit, HeadsFit, heads_roomy, HasRoomFor, Ready, RoomsMade, are_heads_roomy, has_row_for, head_roomy, head_within};
 ghost use Rattle.msi_state.specs.Standings.{standing_of, standings_of};
 ghost use Rattle.msi_state.specs.States.{node_at, state_start};
-ghost use Rattle.msi_state.specs.Steps.{AcceptsNext, TellsOf, enabled, event, head_free, request_moved, response_moved, rider_left, step};
+ghost use Rattle.msi_state.specs.Steps.{AcceptsNext, StepsTo, TellsOf, enabled, event, head_free, request_moved, response_moved};
 
 use crate::node::Node;
 use crate::sending::deliver;
@@ -42,7 +42,10 @@ impl<R, K> Model for Actors<R, K> {
 
     ghost Value = { Machinery R K };
 
-    ghost view = { λ a. record { state = record { image = a.image; nodes = a.nodes.items; home = a.home.entries; carry = a.carry }; rooms = a.home.rooms } };
+    ghost view = { λ a. record {
+      state = record { image = a.image; nodes = a.nodes.items; home = a.home.entries; carry = a.carry };
+      rooms = a.home.rooms;
+    } };
 }
 
 impl<R: Rider, K: Carry> Actors<R, K> {
@@ -85,7 +88,8 @@ impl<R: Rider, K: Carry> Actors<R, K> {
     pub(crate) fn has_free_head(&self, core: u8) -> bool
         requires here { core < length self.now.state.nodes }
         requires heads { HeadsFit self.now.state }
-        ensures { result ≡ head_free (node_at K.carrying self.now.state.nodes core).requests.items R.riding self.now.state.home }
+        ensures { let items = (node_at K.carrying self.now.state.nodes core).requests.items in
+            result ≡ head_free items R.riding self.now.state.home }
     {
         match self.nodes[core as usize].requests.head() {
             Some(mail) => self.home.is_free(mail.item.block()),
@@ -188,10 +192,11 @@ impl<R: Rider, K: Carry> Actors<R, K> {
         requires enabled { IsTrue (enabled R.riding K.carrying self.old.state (Move.Core c)) }
         requires ready { Ready R.riding K.carrying self.old.state }
         requires accepts { AcceptsNext C.accepts clerk.old self.old.state }
-        ensures state { self.new.state ≡ step R.riding K.carrying (rider_left R.riding K.carrying self.old.state self.new.state (Move.Core c)) self.old.state (Move.Core c) }
+        ensures state { StepsTo R.riding K.carrying self.old.state self.new.state (Move.Core c) }
         ensures rooms { self.new.rooms ≡ self.old.rooms }
         ensures retired { result ≡ instr_of (event R.riding K.carrying self.old.state (Move.Core c)) }
-        ensures told { TellsOf C.told_local C.told_touch R.riding K.carrying self.old.state self.new.state (Move.Core c) clerk.old clerk.new }
+        ensures told { TellsOf C.told_local C.told_touch R.riding K.carrying self.old.state self.new.state
+            (Move.Core c) clerk.old clerk.new }
         ensures renewed { standings_of self.new.state ≡ slice_set (standings_of self.old.state) c standing.new }
     {
         self.nodes[c as usize].work(&self.image, standing, clerk)
@@ -208,10 +213,11 @@ impl<R: Rider, K: Carry> Actors<R, K> {
         requires enabled { IsTrue (enabled R.riding K.carrying self.old.state (Move.FromHome c)) }
         requires ready { Ready R.riding K.carrying self.old.state }
         requires accepts { AcceptsNext C.accepts clerk.old self.old.state }
-        ensures state { self.new.state ≡ step R.riding K.carrying (rider_left R.riding K.carrying self.old.state self.new.state (Move.FromHome c)) self.old.state (Move.FromHome c) }
+        ensures state { StepsTo R.riding K.carrying self.old.state self.new.state (Move.FromHome c) }
         ensures rooms { self.new.rooms ≡ self.old.rooms }
         ensures retired { result ≡ instr_of (event R.riding K.carrying self.old.state (Move.FromHome c)) }
-        ensures told { TellsOf C.told_local C.told_touch R.riding K.carrying self.old.state self.new.state (Move.FromHome c) clerk.old clerk.new }
+        ensures told { TellsOf C.told_local C.told_touch R.riding K.carrying self.old.state self.new.state
+            (Move.FromHome c) clerk.old clerk.new }
         ensures renewed { standings_of self.new.state ≡ slice_set (standings_of self.old.state) c standing.new }
     {
         self.nodes[c as usize].receive(&self.image, standing, clerk)
@@ -221,8 +227,8 @@ impl<R: Rider, K: Carry> Actors<R, K> {
         requires cores { length self.old.state.nodes ≤ CORES_MAX }
         requires here { c < length self.old.state.nodes }
         requires names { NamesFit self.old.state }
-        requires row { IsTrue (can_request_in (node_at K.carrying self.old.state.nodes c).requests.items R.riding self.old.state c) }
-        requires room { HasRoomTo K.carrying (request_answer_in (node_at K.carrying self.old.state.nodes c).requests.items R.riding self.old.state c) self.old.state.nodes }
+        requires row { IsTrue (has_row_for R.riding K.carrying self.old.state (Move.Request c)) }
+        requires room { HasRoomFor R.riding K.carrying self.old.state (Move.Request c) }
         requires roomy { IsTrue (head_roomy (node_at K.carrying self.old.state.nodes c).requests.items self.old.rooms) }
         ensures state { self.new.state ≡ request_moved R.riding K.carrying self.old.state c }
         ensures rooms { self.new.rooms ≡ self.old.rooms }
@@ -242,8 +248,8 @@ impl<R: Rider, K: Carry> Actors<R, K> {
         requires cores { length self.old.state.nodes ≤ CORES_MAX }
         requires here { c < length self.old.state.nodes }
         requires names { NamesFit self.old.state }
-        requires row { IsTrue (can_respond_in (node_at K.carrying self.old.state.nodes c).responses.items R.riding self.old.state c) }
-        requires room { HasRoomTo K.carrying (response_answer_in (node_at K.carrying self.old.state.nodes c).responses.items R.riding self.old.state c) self.old.state.nodes }
+        requires row { IsTrue (has_row_for R.riding K.carrying self.old.state (Move.Response c)) }
+        requires room { HasRoomFor R.riding K.carrying self.old.state (Move.Response c) }
         ensures state { self.new.state ≡ response_moved R.riding K.carrying self.old.state c }
         ensures rooms { self.new.rooms ≡ self.old.rooms }
     {
@@ -264,9 +270,13 @@ fn serve<R: Rider>(home: &mut Home<R>, from: u8, request: &RequestSlot<R>) -> Ho
     requires from { from < CORES_MAX }
     requires within { request_block request.now < length home.old.entries }
     requires room { IsTrue (has_room home.old.rooms (request_block request.now)) }
-    requires row { IsTrue (has_request_row (entry_at R.riding.fresh home.old.entries (request_block request.now)).stage from request.now) }
-    ensures entries { home.new ≡ record home.old { entries = entries_after_request R.riding home.old.entries from request.now } }
-    ensures answer { answer_riding (entry_at R.riding.fresh home.new.entries (request_block request.now)).rider result ≡ answer_to_request R.riding.absorbed (entry_at R.riding.fresh home.old.entries (request_block request.now)) from request.now }
+    requires row { let entry = entry_at R.riding.fresh home.old.entries (request_block request.now) in
+        IsTrue (has_request_row entry.stage from request.now) }
+    ensures entries { home.new
+        ≡ record home.old { entries = entries_after_request R.riding home.old.entries from request.now } }
+    ensures answer { let old = entry_at R.riding.fresh home.old.entries (request_block request.now) in
+        let new = entry_at R.riding.fresh home.new.entries (request_block request.now) in
+        answer_riding new.rider result ≡ answer_to_request R.riding.absorbed old from request.now }
 {
     home.serve(from, request.open())
 }
@@ -275,9 +285,13 @@ fn serve<R: Rider>(home: &mut Home<R>, from: u8, request: &RequestSlot<R>) -> Ho
 fn collect<R: Rider>(home: &mut Home<R>, from: u8, response: &ResponseSlot<R>) -> HomeAnswer<()>
     requires from { from < CORES_MAX }
     requires within { response_block response.now < length home.old.entries }
-    requires row { IsTrue (has_response_row (entry_at R.riding.fresh home.old.entries (response_block response.now)).stage from response.now) }
-    ensures entries { home.new ≡ record home.old { entries = entries_after_response R.riding home.old.entries from response.now } }
-    ensures answer { answer_riding (entry_at R.riding.fresh home.new.entries (response_block response.now)).rider result ≡ answer_to_response R.riding.absorbed (entry_at R.riding.fresh home.old.entries (response_block response.now)) from response.now }
+    requires row { let entry = entry_at R.riding.fresh home.old.entries (response_block response.now) in
+        IsTrue (has_response_row entry.stage from response.now) }
+    ensures entries { home.new
+        ≡ record home.old { entries = entries_after_response R.riding home.old.entries from response.now } }
+    ensures answer { let old = entry_at R.riding.fresh home.old.entries (response_block response.now) in
+        let new = entry_at R.riding.fresh home.new.entries (response_block response.now) in
+        answer_riding new.rider result ≡ answer_to_response R.riding.absorbed old from response.now }
 {
     home.collect(from, response.open())
 }

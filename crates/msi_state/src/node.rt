@@ -2,10 +2,10 @@
 ghost use Rattle.std.specs.Prelude.{◌≡◌, ◌<◌, ◌/◌, ◌%◌, IfOk, IsTrue, false, length};
 ghost use Rattle.rtr_types.specs.declared.TheConstants.{BLOCK_WORDS};
 ghost use Rattle.msi_cache.specs.Lines.{waits};
-ghost use Rattle.rv_core.specs.Steps.{need, is_done};
+ghost use Rattle.rv_core.specs.Steps.{need, is_done, access_of as need_access};
 ghost use Rattle.msi_state.specs.States.{node_start};
 ghost use Rattle.msi_state.specs.Standings.{standing_of};
-ghost use Rattle.msi_state.specs.Nodes.{next_instr, instr_of, allows, access_of, rider_at, carry_after, node_accessing, node_local, node_trying, event_trying, node_working, event_working, node_receiving, event_receiving, node_taken_in, rider_of_event, may_access, can_receive_in, Tells};
+ghost use Rattle.msi_state.specs.Nodes.{next_instr, instr_of, allows, access_of, rider_at, carry_after, node_accessing, node_local, node_trying, event_trying, event_working, event_receiving, node_taken_in, may_access, can_receive_in, Tells, TellsAt, HasWorked, HasReceived};
 
 use crate::standing::{Standing, hear};
 use access_times::{Carry, Clerk, Rider};
@@ -90,16 +90,15 @@ impl<R: Rider, K: Carry> Node<R, K> {
         requires still { waits self.old.cache ≡ false }
         requires accepts { C.accepts clerk.old (next_instr self.old.core) }
         requires room { length self.old.requests.items < self.old.requests.room }
-        ensures node { self.new ≡ node_working image.now R.riding K.carrying (rider_of_event R.riding (event_working image.now R.riding self.old) self.new) self.old }
+        ensures node { HasWorked image.now R.riding K.carrying self.old self.new }
         ensures retired { result ≡ instr_of (event_working image.now R.riding self.old) }
-        ensures told { Tells C.told_local C.told_touch (event_working image.now R.riding self.old) (carry_after K.carrying self.old) clerk.old (rider_of_event R.riding (event_working image.now R.riding self.old) self.old) clerk.new (rider_of_event R.riding (event_working image.now R.riding self.old) self.new) }
+        ensures told { TellsAt C.told_local C.told_touch R.riding K.carrying (event_working image.now R.riding self.old)
+            self.old self.new clerk.old clerk.new }
         ensures renewed { standing.new ≡ standing_of image.now self.new }
     {
-        match standing.need {
-            Need::Local => Some(self.retire_local(image, standing, clerk)),
-            Need::Load { word } => self.try_access(image, word, Kind::Load, standing, clerk),
-            Need::Store { word, .. } => self.try_access(image, word, Kind::Store, standing, clerk),
-            Need::Done(_) => None,
+        match standing.need.access() {
+            Some((kind, word)) => self.try_access(image, word, kind, standing, clerk),
+            None => Some(self.retire_local(image, standing, clerk)),
         }
     }
 
@@ -113,11 +112,14 @@ impl<R: Rider, K: Carry> Node<R, K> {
     ) -> Option<Instr>
         requires stands { standing.old ≡ standing_of image.now self.old }
         requires row { IsTrue (can_receive_in self.old.messages.items image.now R.riding K.carrying self.old) }
-        requires accepts { is_done (need image.now self.old.core) ≡ false → C.accepts clerk.old (next_instr self.old.core) }
+        requires accepts { is_done (need image.now self.old.core) ≡ false
+            → C.accepts clerk.old (next_instr self.old.core) }
         requires room { length self.old.responses.items < self.old.responses.room }
-        ensures node { self.new ≡ node_receiving image.now R.riding K.carrying (rider_of_event R.riding (event_receiving image.now R.riding K.carrying self.old) self.new) self.old }
+        ensures node { HasReceived image.now R.riding K.carrying self.old self.new }
         ensures retired { result ≡ instr_of (event_receiving image.now R.riding K.carrying self.old) }
-        ensures told { let taken = node_taken_in self.old.messages.items R.riding K.carrying self.old in Tells C.told_local C.told_touch (event_receiving image.now R.riding K.carrying self.old) (carry_after K.carrying taken) clerk.old (rider_of_event R.riding (event_receiving image.now R.riding K.carrying self.old) taken) clerk.new (rider_of_event R.riding (event_receiving image.now R.riding K.carrying self.old) self.new) }
+        ensures told { TellsAt C.told_local C.told_touch R.riding K.carrying
+            (event_receiving image.now R.riding K.carrying self.old)
+            (node_taken_in self.old.messages.items R.riding K.carrying self.old) self.new clerk.old clerk.new }
         ensures renewed { standing.new ≡ standing_of image.now self.new }
     {
         let mail = self.messages.head()?;
@@ -186,9 +188,12 @@ impl<R: Rider, K: Carry> Node<R, K> {
         requires more { is_done (need image.now self.old.core) ≡ false }
         requires allowed { IsTrue (allows R.riding self.old word kind) }
         requires accepts { C.accepts clerk.old (next_instr self.old.core) }
-        ensures node { self.new ≡ node_accessing image.now R.riding K.carrying (rider_at R.riding self.new word) self.old word kind }
+        ensures node { let rider = rider_at R.riding self.new word in
+            self.new ≡ node_accessing image.now R.riding K.carrying rider self.old word kind }
         ensures retired { result ≡ next_instr self.old.core }
-        ensures told { C.told_touch clerk.old (rider_at R.riding self.old word) (access_of image.now R.riding self.old word kind) (carry_after K.carrying self.old) clerk.new (rider_at R.riding self.new word) }
+        ensures told { C.told_touch clerk.old (rider_at R.riding self.old word)
+            (access_of image.now R.riding self.old word kind) (carry_after K.carrying self.old)
+            clerk.new (rider_at R.riding self.new word) }
         ensures renewed { standing.new ≡ standing_of image.now self.new }
     {
         let block = word / BLOCK_WORDS as u32;
@@ -226,9 +231,12 @@ impl<R: Rider, K: Carry> Node<R, K> {
         requires still { waits self.old.cache ≡ false }
         requires accepts { C.accepts clerk.old (next_instr self.old.core) }
         requires room { length self.old.requests.items < self.old.requests.room }
-        ensures node { self.new ≡ node_trying image.now R.riding K.carrying (rider_at R.riding self.new word) self.old word kind }
+        ensures node { let rider = rider_at R.riding self.new word in
+            self.new ≡ node_trying image.now R.riding K.carrying rider self.old word kind }
         ensures retired { result ≡ instr_of (event_trying image.now R.riding self.old word kind) }
-        ensures told { Tells C.told_local C.told_touch (event_trying image.now R.riding self.old word kind) (carry_after K.carrying self.old) clerk.old (rider_at R.riding self.old word) clerk.new (rider_at R.riding self.new word) }
+        ensures told { Tells C.told_local C.told_touch (event_trying image.now R.riding self.old word kind)
+            (carry_after K.carrying self.old) clerk.old (rider_at R.riding self.old word)
+            clerk.new (rider_at R.riding self.new word) }
         ensures renewed { standing.new ≡ standing_of image.now self.new }
     {
         let block = word / BLOCK_WORDS as u32;
@@ -251,21 +259,15 @@ impl<R: Rider, K: Carry> Node<R, K> {
         clerk: &mut C,
     ) -> Option<Instr>
         requires stands { standing.old ≡ standing_of image.now self.old }
-        requires ready { IsTrue (may_access (need image.now self.old.core) R.riding self.old) }
+        requires ready { IsTrue (may_access (need_access (need image.now self.old.core)) R.riding self.old) }
         requires accepts { C.accepts clerk.old (next_instr self.old.core) }
-        ensures node { self.new ≡ node_working image.now R.riding K.carrying (rider_of_event R.riding (event_working image.now R.riding self.old) self.new) self.old }
+        ensures node { HasWorked image.now R.riding K.carrying self.old self.new }
         ensures retired { result ≡ instr_of (event_working image.now R.riding self.old) }
-        ensures told { Tells C.told_local C.told_touch (event_working image.now R.riding self.old) (carry_after K.carrying self.old) clerk.old (rider_of_event R.riding (event_working image.now R.riding self.old) self.old) clerk.new (rider_of_event R.riding (event_working image.now R.riding self.old) self.new) }
+        ensures told { TellsAt C.told_local C.told_touch R.riding K.carrying (event_working image.now R.riding self.old)
+            self.old self.new clerk.old clerk.new }
         ensures renewed { standing.new ≡ standing_of image.now self.new }
     {
-        match standing.need {
-            Need::Load { word } => {
-                Some(self.retire_access(image, word, Kind::Load, standing, clerk))
-            }
-            Need::Store { word, .. } => {
-                Some(self.retire_access(image, word, Kind::Store, standing, clerk))
-            }
-            _ => None,
-        }
+        let (kind, word) = standing.need.access()?;
+        Some(self.retire_access(image, word, kind, standing, clerk))
     }
 }

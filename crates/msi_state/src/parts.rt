@@ -1,13 +1,14 @@
 //! The parts of a machine, and its moves in code.
-ghost use Rattle.std.specs.Prelude.{◌≡◌, ◌<◌, ◌≤◌, ◌*◌, ◌/◌, ◌%◌, [], IfOk, IsTrue, OnOk, length, true, slice_index_or};
+ghost use Rattle.std.specs.Prelude.{◌≡◌, ◌<◌, ◌≤◌, ◌*◌, ◌/◌, [], IfOk, IsTrue, OnOk, length, true, slice_index_or};
 ghost use Rattle.rtr_types.specs.declared.TheConstants.{BLOCK_WORDS, CORES_MAX};
 ghost use Rattle.msi_state.specs.declared.moves.Move.{Move};
 ghost use Rattle.msi_state.specs.FinalMemory.{at_hand, final_word};
+ghost use Rattle.msi_state.specs.Moves.{IsNumbered};
 ghost use Rattle.msi_state.specs.Nodes.{instr_of};
 ghost use Rattle.msi_state.specs.Ready.{HeadsFit, heads_roomy, Ready, RoomsMade};
 ghost use Rattle.msi_state.specs.Standings.{moves_below};
 ghost use Rattle.msi_state.specs.States.{node_at, state_start, all_done};
-ghost use Rattle.msi_state.specs.Steps.{AcceptsNext, TellsOf, enabled, event, moves, rider_left, step};
+ghost use Rattle.msi_state.specs.Steps.{AcceptsNext, StepsTo, TellsOf, enabled, event, moves};
 
 use crate::actors::Actors;
 use crate::move_list::MoveList;
@@ -175,11 +176,12 @@ impl<R: Rider, K: Carry> Parts<R, K> {
         requires roomy { IsTrue (heads_roomy self.old) }
         requires accepts { AcceptsNext C.accepts clerk.old self.old.state }
         ensures enabled { IsTrue (enabled R.riding K.carrying self.old.state result.taken) }
-        ensures taken { (d : Move) → result.taken ≡ slice_index_or (moves R.riding K.carrying self.old.state) (choice % length (moves R.riding K.carrying self.old.state)) d }
-        ensures state { self.new.state ≡ step R.riding K.carrying (rider_left R.riding K.carrying self.old.state self.new.state result.taken) self.old.state result.taken }
+        ensures taken { IsNumbered (moves R.riding K.carrying self.old.state) choice result.taken }
+        ensures state { StepsTo R.riding K.carrying self.old.state self.new.state result.taken }
         ensures rooms { self.new.rooms ≡ self.old.rooms }
         ensures retired { result.retired ≡ instr_of (event R.riding K.carrying self.old.state result.taken) }
-        ensures told { TellsOf C.told_local C.told_touch R.riding K.carrying self.old.state self.new.state result.taken clerk.old clerk.new }
+        ensures told { TellsOf C.told_local C.told_touch R.riding K.carrying self.old.state self.new.state result.taken
+            clerk.old clerk.new }
     {
         let mut found = MoveList::new();
         self.find_moves(&mut found);
@@ -194,10 +196,11 @@ impl<R: Rider, K: Carry> Parts<R, K> {
         requires ready { Ready R.riding K.carrying self.old.state }
         requires roomy { IsTrue (heads_roomy self.old) }
         requires accepts { AcceptsNext C.accepts clerk.old self.old.state }
-        ensures state { self.new.state ≡ step R.riding K.carrying (rider_left R.riding K.carrying self.old.state self.new.state taken) self.old.state taken }
+        ensures state { StepsTo R.riding K.carrying self.old.state self.new.state taken }
         ensures rooms { self.new.rooms ≡ self.old.rooms }
         ensures retired { result ≡ instr_of (event R.riding K.carrying self.old.state taken) }
-        ensures told { TellsOf C.told_local C.told_touch R.riding K.carrying self.old.state self.new.state taken clerk.old clerk.new }
+        ensures told { TellsOf C.told_local C.told_touch R.riding K.carrying self.old.state self.new.state taken
+            clerk.old clerk.new }
     {
         match taken {
             Move::Core(c) => {

@@ -59,7 +59,8 @@ fn ends_wait<R>(message: FromHome<&R>) -> bool
 /// The cache takes a message from home, and what was kept of its waiting is renewed.
 #[tactic(auto, using(crate::proofs::Standings::waits_kept))]
 pub(crate) fn hear<R: Rider>(cache: &mut Cache<R>, message: FromHome<&R>, waiting: &mut bool)
-    requires row { IsTrue (has_row (line_for R.riding.fresh cache.old (block_of (message_seen message))) (message_seen message)) }
+    requires row { let seen = message_seen message in
+        IsTrue (has_row (line_for R.riding.fresh cache.old (block_of seen)) seen) }
     requires waits { waiting.old ≡ waits cache.old }
     ensures lines { cache.new ≡ lines_after R.riding cache.old (message_seen message.entry) }
     ensures waits { waiting.new ≡ waits cache.new }

@@ -8,11 +8,9 @@ use Rattle.rtr_types.specs.declared.TheConstants.{BLOCK_WORDS, CORES_MAX}
 use Rattle.clock_core.specs.declared.clock.Clock.{Clock}
 use Rattle.image_mem.specs.Contents.{Contents}
 use Rattle.rtr_types.specs.declared.access.Access.{Access}
-use Rattle.rtr_types.specs.declared.access.Kind.TheVariants.{Load as IsLoad, Store as IsStore}
+use Rattle.rtr_types.specs.declared.access.Kind.{Kind}
 use Rattle.rtr_types.specs.declared.instr.Instr.{Instr}
-use Rattle.rv_core.specs.Steps.{need}
-use Rattle.rv_core.specs.declared.core_state.Need.{Need}
-use Rattle.rv_core.specs.declared.core_state.Need.TheVariants.{Local, Load as NeedsLoad, Store as NeedsStore, Done}
+use Rattle.rv_core.specs.Steps.{need, is_done, access_of as need_access}
 use Rattle.rv_core.proofs.LawLemmas.{count_law}
 use Rattle.msi_cache.specs.declared.messages.FromHome.{FromHome}
 use Rattle.msi_cache.specs.declared.messages.Response.{Response}
@@ -75,18 +73,13 @@ module _ {R K : Type 0} where
   abbrev pub CountedAfter : Node R K → Node R K → Event → Type 0
   CountedAfter n m e = IsCounted e n.core.id n.core.count m.core.count
 
-  pub working_counted : (image : Contents) (riding : Riding R) (carrying : Carrying K) (rider : R) (n : Node R K) (needed : Need) → CountedAfter n (node_working_in needed image riding carrying rider n) (event_working_in needed image riding n)
-  working_counted image riding carrying rider n Local = (refl, refl, count_law image n.core 0)
-  working_counted image riding carrying rider n (Done stop) = refl
-  working_counted image riding carrying rider n (NeedsLoad word) = by (allows riding n word IsLoad)
+  pub working_counted : (image : Contents) (riding : Riding R) (carrying : Carrying K) (rider : R) (n : Node R K) (used : Option (Kind × ℕ)) (done : Bool) → CountedAfter n (node_working_in used done image riding carrying rider n) (event_working_in used done image riding n)
+  working_counted image riding carrying rider n None true = refl
+  working_counted image riding carrying rider n None false = (refl, refl, count_law image n.core 0)
+  working_counted image riding carrying rider n (Some (kind, word)) done = by (allows riding n word kind)
     where
-      by : (t : Bool) → CountedAfter n (if t then node_accessing image riding carrying rider n word IsLoad else node_asking riding n (word / BLOCK_WORDS) IsLoad) (if t then Accesses (access_of image riding n word IsLoad) else Nothing)
-      by true = (refl, refl, count_law image n.core (access_of image riding n word IsLoad).before)
-      by false = refl
-  working_counted image riding carrying rider n (NeedsStore word whole) = by (allows riding n word IsStore)
-    where
-      by : (t : Bool) → CountedAfter n (if t then node_accessing image riding carrying rider n word IsStore else node_asking riding n (word / BLOCK_WORDS) IsStore) (if t then Accesses (access_of image riding n word IsStore) else Nothing)
-      by true = (refl, refl, count_law image n.core (access_of image riding n word IsStore).before)
+      by : (t : Bool) → CountedAfter n (if t then node_accessing image riding carrying rider n word kind else node_asking riding n (word / BLOCK_WORDS) kind) (if t then Accesses (access_of image riding n word kind) else Nothing)
+      by true = (refl, refl, count_law image n.core (access_of image riding n word kind).before)
       by false = refl
 
   pub receiving_counted : (image : Contents) (riding : Riding R) (carrying : Carrying K) (rider : R) (n : Node R K) (mail : Mail (FromHome R) K) (rest : List (Mail (FromHome R) K)) → CountedAfter n (node_receiving_mail image riding carrying rider n mail rest) (event_receiving_mail image riding carrying n mail rest)
@@ -100,7 +93,7 @@ module _ {R K : Type 0} where
       answering (Some r) = refl
 
       by : (t : Bool) → CountedAfter n (if t then node_working image riding carrying rider taken else node_answering taken (answer_to riding n mail.item)) (if t then event_working image riding taken else Nothing)
-      by true = working_counted image riding carrying rider taken (need image n.core)
+      by true = working_counted image riding carrying rider taken (need_access (need image n.core)) (is_done (need image n.core))
       by false = answering (answer_to riding n mail.item)
 
   -- ---- the whole state

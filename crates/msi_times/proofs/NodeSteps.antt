@@ -1,5 +1,5 @@
 -- What a move of the machine makes it stand for.
-use Rattle.std.proofs.Common.{◌≡◌, ◌≢◌, ◌∙◌, ap, refl, sym, subst, ℕ, ◌<◌, ◌≤◌, ◌==◌, ◌%◌, ◌/◌, Bool, true, false, List, [], ◌∷◌, length, Option, None, arith}
+use Rattle.std.proofs.Common.{◌≡◌, ◌≢◌, ◌∙◌, ap, refl, sym, subst, ℕ, ◌<◌, ◌≤◌, ◌==◌, ◌%◌, ◌/◌, Bool, true, false, List, [], ◌∷◌, length, Option, Some, None, arith}
 use Rattle.image_mem.specs.Contents.{Contents}
 use Rattle.msi_cache.specs.declared.line.TheConstants.{LINES}
 use Rattle.rtr_types.specs.declared.TheConstants.{BLOCK_WORDS, CORES_MAX}
@@ -8,8 +8,6 @@ use Rattle.std.proofs.lemmas.List.{length-set}
 use Rattle.std.proofs.lemmas.Bool.Decides.{nat_tests}
 use Rattle.access_times.specs.Riding.{Riding, Carrying}
 use Rattle.rtr_types.specs.declared.access.Kind.{Kind}
-use Rattle.rtr_types.specs.declared.access.Kind.TheVariants.{Load as IsLoad, Store as IsStore}
-use Rattle.rv_core.specs.declared.core_state.Need.TheVariants.{Local, Load as NeedsLoad, Store as NeedsStore, Done}
 use Rattle.rtr_types.specs.declared.access.Access.{Access}
 use Rattle.msi_cache.specs.declared.line.Line.{Line}
 use Rattle.msi_cache.specs.declared.messages.FromHome.{FromHome}
@@ -21,9 +19,8 @@ use Rattle.msi_directory.specs.declared.entry.Entry.{Entry}
 use Rattle.msi_directory.specs.Blocks.{entry_at}
 use Rattle.msi_state.specs.declared.node.Mail.{Mail}
 use Rattle.msi_state.specs.declared.node.Node.{Node}
-use Rattle.rv_core.specs.declared.core_state.Need.{Need}
 use Rattle.msi_times.specs.Shown.{Sight}
-use Rattle.rv_core.specs.Steps.{need}
+use Rattle.rv_core.specs.Steps.{need, is_done, access_of as need_access}
 use Rattle.msi_state.specs.States.{State, node_at}
 use Rattle.msi_state.specs.Nodes.{Nothing, Accesses, allows, access_of, rider_at, node_accessing, node_asking, node_local, node_trying, event_trying, node_working_in, event_working_in, node_working, event_working, node_taking, node_answering, answer_to, is_data, node_receiving_mail, event_receiving_mail}
 use Rattle.clock_core.specs.declared.clock.Clock.{Clock}
@@ -51,10 +48,9 @@ module _ {R K : Type 0} where
     pub placed : (line_for parts.riding.fresh n.cache (word / BLOCK_WORDS)).state ≢ I → (line_for parts.riding.fresh n.cache (word / BLOCK_WORDS)).block % LINES ≡ word / BLOCK_WORDS % LINES
     pub still : is_transient (line_for parts.riding.fresh n.cache (word / BLOCK_WORDS)).state ≡ false
 
-  abbrev pub MayWork : TimesParts R → Need → Node R K → Type 0
-  MayWork parts (NeedsLoad word) n = allows parts.riding n word IsLoad ≡ false → MayAsk parts n word
-  MayWork parts (NeedsStore word whole) n = allows parts.riding n word IsStore ≡ false → MayAsk parts n word
-  MayWork parts _ n = Unit {0}
+  abbrev pub MayWork : TimesParts R → Option (Kind × ℕ) → Node R K → Type 0
+  MayWork parts (Some (kind, word)) n = allows parts.riding n word kind ≡ false → MayAsk parts n word
+  MayWork parts None n = Unit {0}
 
   -- what a node's move needs: what holds of its lines, and that the rider left is right
   pub record NodeReady (parts : TimesParts R) (c : ℕ) (h : List NotedAccess) (n : Node R K) : Type 0 where
@@ -76,16 +72,12 @@ module _ {R K : Type 0} where
           (notes_all parts (record { access = a; clock = clock }) (rider_at parts.riding n word) rider (line_for parts.riding.fresh n.cache (word / BLOCK_WORDS)).words (words_left kind (line_for parts.riding.fresh n.cache (word / BLOCK_WORDS)) a) (f a refl))
       by false needed f = follows_asking parts c h n (word / BLOCK_WORDS) kind ready.below ready.all_lines (asks needed).placed (asks needed).still needed
 
-  pub working_follows : (image : Contents) (parts : TimesParts R) (carrying : Carrying K) (c : ℕ) (h : List NotedAccess) (n : Node R K) (needed : Need) (rider : R) (clock : Clock) → NodeReady parts c h n → MayWork parts needed n →
-      ((a : Access) → event_working_in needed image parts.riding n ≡ Accesses a → RiderNotes parts (record { access = a; clock = clock }) (rider_at parts.riding n a.word) rider) →
-      Follows parts c h (noted_after (event_working_in needed image parts.riding n) clock h) n (node_working_in needed image parts.riding carrying rider n)
-  working_follows image parts carrying c h n Local rider clock ready may notes = follows_same parts c h n (node_local image carrying n) (λ (b : ℕ). refl)
-  working_follows image parts carrying c h n (Done stop) rider clock ready may notes = follows_same parts c h n n (λ (b : ℕ). refl)
-  working_follows image parts carrying c h n (NeedsLoad word) rider clock ready may notes = trying_follows image parts carrying c h n word IsLoad rider clock ready may (λ a e. subst (λ (w : ℕ). RiderNotes parts (record { access = a; clock = clock }) (rider_at parts.riding n w) rider) (sym (trying_word parts.riding n word IsLoad a e)) (notes a e))
-    where
-      trying_word : (riding : Riding R) (n : Node R K) (word : ℕ) (kind : Kind) (a : Access) → event_trying image riding n word kind ≡ Accesses a → word ≡ a.word
-      trying_word riding n word kind a e = grind arith
-  working_follows image parts carrying c h n (NeedsStore word whole) rider clock ready may notes = trying_follows image parts carrying c h n word IsStore rider clock ready may (λ a e. subst (λ (w : ℕ). RiderNotes parts (record { access = a; clock = clock }) (rider_at parts.riding n w) rider) (sym (trying_word parts.riding n word IsStore a e)) (notes a e))
+  pub working_follows : (image : Contents) (parts : TimesParts R) (carrying : Carrying K) (c : ℕ) (h : List NotedAccess) (n : Node R K) (used : Option (Kind × ℕ)) (done : Bool) (rider : R) (clock : Clock) → NodeReady parts c h n → MayWork parts used n →
+      ((a : Access) → event_working_in used done image parts.riding n ≡ Accesses a → RiderNotes parts (record { access = a; clock = clock }) (rider_at parts.riding n a.word) rider) →
+      Follows parts c h (noted_after (event_working_in used done image parts.riding n) clock h) n (node_working_in used done image parts.riding carrying rider n)
+  working_follows image parts carrying c h n None false rider clock ready may notes = follows_same parts c h n (node_local image carrying n) (λ (b : ℕ). refl)
+  working_follows image parts carrying c h n None true rider clock ready may notes = follows_same parts c h n n (λ (b : ℕ). refl)
+  working_follows image parts carrying c h n (Some (kind, word)) done rider clock ready may notes = trying_follows image parts carrying c h n word kind rider clock ready may (λ a e. subst (λ (w : ℕ). RiderNotes parts (record { access = a; clock = clock }) (rider_at parts.riding n w) rider) (sym (trying_word parts.riding n word kind a e)) (notes a e))
     where
       trying_word : (riding : Riding R) (n : Node R K) (word : ℕ) (kind : Kind) (a : Access) → event_trying image riding n word kind ≡ Accesses a → word ≡ a.word
       trying_word riding n word kind a e = grind arith
@@ -100,7 +92,7 @@ module _ {R K : Type 0} where
 
   -- a message's receipt, and the access that follows BlockData
   pub receiving_follows : (image : Contents) (parts : TimesParts R) → AbsorbsAll parts → (carrying : Carrying K) (c : ℕ) (h : List NotedAccess) (n : Node R K) (mail : Mail (FromHome R) K) (rest : List (Mail (FromHome R) K)) (rider : R) (clock : Clock) → NodeReady parts c h n → n.messages.items ≡ mail ∷ rest → (line_for parts.riding.fresh n.cache (block_of mail.item)).block ≡ block_of mail.item →
-      (is_data mail.item ≡ true → MayWork parts (need image n.core) (node_taking parts.riding carrying n mail rest)) →
+      (is_data mail.item ≡ true → MayWork parts (need_access (need image n.core)) (node_taking parts.riding carrying n mail rest)) →
       ((a : Access) → event_receiving_mail image parts.riding carrying n mail rest ≡ Accesses a → RiderNotes parts (record { access = a; clock = clock }) (rider_at parts.riding (node_taking parts.riding carrying n mail rest) a.word) rider) →
       Follows parts c h (noted_after (event_receiving_mail image parts.riding carrying n mail rest) clock h) n (node_receiving_mail image parts.riding carrying rider n mail rest)
   receiving_follows image parts well carrying c h n mail rest rider clock ready is at may notes = by (is_data mail.item) refl notes
@@ -118,7 +110,7 @@ module _ {R K : Type 0} where
           let silent : answer_to parts.riding n mail.item ≡ None = data_silent (line_for parts.riding.fresh n.cache (block_of mail.item)) mail.item e in
           let first : Follows parts c h h n taken = subst (λ (o : Option (Response R)). Follows parts c h h n (node_answering taken o)) silent received in
           let ready' : NodeReady parts c h taken = record { below = ready.below; all_lines = length-set n.cache (block_of mail.item % LINES) (line_after parts.riding.absorbed (line_for parts.riding.fresh n.cache (block_of mail.item)) mail.item) ∙ ready.all_lines; id = ready.id; counts = ready.counts } in
-          follows_trans parts c h h (noted_after (event_working image parts.riding taken) clock h) n taken (node_working image parts.riding carrying rider taken) first (working_follows image parts carrying c h taken (need image n.core) rider clock ready' (may e) f)
+          follows_trans parts c h h (noted_after (event_working image parts.riding taken) clock h) n taken (node_working image parts.riding carrying rider taken) first (working_follows image parts carrying c h taken (need_access (need image n.core)) (is_done (need image n.core)) rider clock ready' (may e) f)
 
   -- ---- the whole state
 

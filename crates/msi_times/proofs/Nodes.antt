@@ -1,15 +1,15 @@
 -- What a node's own moves show at each block.
 use Rattle.std.proofs.Common.{◌≡◌, ◌≢◌, ◌∙◌, ap, refl, sym, subst, ℕ, ◌<◌, ◌==◌, ◌%◌, ◌/◌, Bool, true, false, List, [], ◌∷◌, ◌++◌, length, Option, Some, None, arith, inl, inr, ◌⊎◌}
-use Rattle.msi_sound.proofs.Lines.{set_at}
+use Rattle.msi_sound.proofs.Lines.{set_at, length-accessed}
 use Rattle.msi_cache.specs.declared.line.TheConstants.{LINES}
 use Rattle.rtr_types.specs.declared.TheConstants.{BLOCK_WORDS}
 use Rattle.std.specs.Prelude.{if◌then◌else◌, slice_index_or, slice_set, is_some}
-use Rattle.std.proofs.lemmas.List.{get_or-set_same, get_or-set_other, length-set, append-nil}
+use Rattle.std.proofs.lemmas.List.{get_or-set_same, get_or-set_other, append-nil}
 use Rattle.std.proofs.lemmas.Bool.{cases_eq}
 use Rattle.std.proofs.lemmas.Bool.Decides.{nat_tests}
 use Rattle.access_times.specs.Riding.{Riding, Carrying}
+use Rattle.rtr_types.specs.Accesses.{is_write}
 use Rattle.rtr_types.specs.declared.access.Kind.{Kind}
-use Rattle.rtr_types.specs.declared.access.Kind.TheVariants.{Load as IsLoad, Store as IsStore}
 use Rattle.rtr_types.specs.declared.access.Access.{Access}
 use Rattle.msi_cache.specs.declared.line.Line.{Line}
 use Rattle.msi_cache.specs.declared.line.State.TheVariants.{I}
@@ -18,7 +18,7 @@ use Rattle.msi_cache.specs.declared.messages.Response.{Response}
 use Rattle.msi_cache.specs.declared.messages.Request.{Request}
 use Rattle.msi_cache.specs.Table.{Signal, row, is_transient}
 use Rattle.msi_cache.specs.Messages.{signal, block_of, request_block, response_block}
-use Rattle.msi_cache.specs.Lines.{line_for, line_after, answer, lines_asking, line_asking, asks, is_allowed, empty_line, lines_riding}
+use Rattle.msi_cache.specs.Lines.{line_for, line_after, answer, lines_asking, line_asking, asks, is_allowed, empty_line, lines_put, lines_riding}
 use Rattle.msi_state.specs.declared.node.Mail.{Mail}
 use Rattle.msi_state.specs.declared.node.Node.{Node}
 use Rattle.msi_state.specs.Nodes.{node_taking, node_answering, answer_to, node_asking, lines_accessed}
@@ -242,16 +242,17 @@ module _ {R K : Type 0} where
 
 module _ {R : Type 0} where
   abbrev pub words_left : Kind → Line R → Access → List ℕ
-  words_left IsLoad l a = l.words
-  words_left IsStore l a = slice_set l.words (a.word % 4) a.after
+  words_left kind l a = if is_write kind then slice_set l.words (a.word % 4) a.after else l.words
 
   accessed_line : (riding : Riding R) (lines : List (Line R)) (a : Access) (kind : Kind) → length lines ≡ LINES → line_for riding.fresh (lines_accessed riding lines a kind) (a.word / BLOCK_WORDS) ≡ record (line_for riding.fresh lines (a.word / BLOCK_WORDS)) { words = words_left kind (line_for riding.fresh lines (a.word / BLOCK_WORDS)) a }
-  accessed_line riding lines a IsLoad long = refl
-  accessed_line riding lines a IsStore long = set_here riding.fresh lines (record (line_for riding.fresh lines (a.word / BLOCK_WORDS)) { words = slice_set (line_for riding.fresh lines (a.word / BLOCK_WORDS)).words (a.word % 4) a.after }) (a.word / BLOCK_WORDS) long
+  accessed_line riding lines a kind long = by_write (is_write kind)
+    where
+      l : Line R
+      l = line_for riding.fresh lines (a.word / BLOCK_WORDS)
 
-  length-accessed : (riding : Riding R) (lines : List (Line R)) (a : Access) (kind : Kind) → length (lines_accessed riding lines a kind) ≡ length lines
-  length-accessed riding lines a IsLoad = refl
-  length-accessed riding lines a IsStore = length-set lines (a.word / BLOCK_WORDS % LINES) _
+      by_write : (t : Bool) → line_for riding.fresh (if t then lines_put riding.fresh lines (a.word / BLOCK_WORDS) (a.word % BLOCK_WORDS) a.after else lines) (a.word / BLOCK_WORDS) ≡ record l { words = (if t then slice_set l.words (a.word % 4) a.after else l.words) }
+      by_write true = set_here riding.fresh lines (record l { words = slice_set l.words (a.word % 4) a.after }) (a.word / BLOCK_WORDS) long
+      by_write false = refl
 
   -- the cache after an access differs at one line
   pub left_line : (riding : Riding R) (lines : List (Line R)) (a : Access) (kind : Kind) (rider : R) → length lines ≡ LINES → line_for riding.fresh (lines_riding riding.fresh (lines_accessed riding lines a kind) (a.word / BLOCK_WORDS) rider) (a.word / BLOCK_WORDS) ≡ record (line_for riding.fresh lines (a.word / BLOCK_WORDS)) { words = words_left kind (line_for riding.fresh lines (a.word / BLOCK_WORDS)) a; rider = rider }
@@ -265,9 +266,9 @@ module _ {R : Type 0} where
       new : List (Line R)
       new = lines_riding riding.fresh (lines_accessed riding lines a kind) (a.word / BLOCK_WORDS) rider
 
-      away : (k : Kind) → b % LINES ≢ a.word / BLOCK_WORDS % LINES → line_for riding.fresh (lines_accessed riding lines a k) b ≡ line_for riding.fresh lines b
-      away IsLoad n = refl
-      away IsStore n = get_or-set_other lines (a.word / BLOCK_WORDS % LINES) (b % LINES) _ (empty_line riding.fresh) n
+      away : (t : Bool) → b % LINES ≢ a.word / BLOCK_WORDS % LINES → line_for riding.fresh (if t then lines_put riding.fresh lines (a.word / BLOCK_WORDS) (a.word % BLOCK_WORDS) a.after else lines) b ≡ line_for riding.fresh lines b
+      away false n = refl
+      away true n = get_or-set_other lines (a.word / BLOCK_WORDS % LINES) (b % LINES) _ (empty_line riding.fresh) n
 
       by : ((b % LINES) ≡ (a.word / BLOCK_WORDS % LINES)) ⊎ ((b % LINES) ≢ (a.word / BLOCK_WORDS % LINES)) → SameLine (line_here b (line_for riding.fresh lines b)) (line_here b (line_for riding.fresh new b))
       by (inl place) =
@@ -275,4 +276,4 @@ module _ {R : Type 0} where
           let moved : line_for riding.fresh new b ≡ record (line_for riding.fresh lines (a.word / BLOCK_WORDS)) { words = words_left kind (line_for riding.fresh lines (a.word / BLOCK_WORDS)) a; rider = rider } = ap (λ (i : ℕ). slice_index_or new i (empty_line riding.fresh)) place ∙ left_line riding lines a kind rider long in
           off_block b (line_for riding.fresh lines b) (line_for riding.fresh new b) (inl (λ (e : (line_for riding.fresh lines b).block ≡ b). other (ap (λ (x : Line R). x.block) (sym there) ∙ e))) (inl (λ (e : (line_for riding.fresh new b).block ≡ b). other (ap (λ (x : Line R). x.block) (sym moved) ∙ e)))
       by (inr n) =
-          same_line (line_here b (line_for riding.fresh lines b)) (line_here b (line_for riding.fresh new b)) (ap (line_here b) (sym (get_or-set_other (lines_accessed riding lines a kind) (a.word / BLOCK_WORDS % LINES) (b % LINES) _ (empty_line riding.fresh) n ∙ away kind n)))
+          same_line (line_here b (line_for riding.fresh lines b)) (line_here b (line_for riding.fresh new b)) (ap (line_here b) (sym (get_or-set_other (lines_accessed riding lines a kind) (a.word / BLOCK_WORDS % LINES) (b % LINES) _ (empty_line riding.fresh) n ∙ away (is_write kind) n)))

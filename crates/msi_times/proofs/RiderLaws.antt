@@ -1,7 +1,7 @@
 -- The laws of the rider that records times.
 use Rattle.std.proofs.Common.{◌≡◌, ◌∙◌, ap, refl, sym, ℕ, ◌<◌, ◌==◌, ◌%◌, ◌/◌, Bool, true, false, ◌&&◌, List, Option, Some, None, arith}
 use Rattle.msi_sound.proofs.Blocks.{eqb_same}
-use Rattle.access_times.specs.Times.{is_same_write, newer_read, read_in, no_reads, no_times, missing_slot, slot_at, slot_absorbed, reads_absorbed, times_absorbed, fresh_times, write_at, read_at, slot_loaded, times_loaded, times_stored, times_noted_as, times_noted}
+use Rattle.access_times.specs.Times.{is_same_write, newer_read, read_in, no_reads, no_times, missing_slot, slot_at, slot_absorbed, reads_absorbed, times_absorbed, fresh_times, write_at, read_at, slot_loaded, times_loaded, times_stored, times_noted}
 use Rattle.rtr_types.specs.declared.TheConstants.{BLOCK_WORDS, CORES_MAX}
 use Rattle.std.specs.Prelude.{if◌then◌else◌, slice_index_or, map}
 use Rattle.std.specs.List.{range_with_len}
@@ -12,8 +12,6 @@ use Rattle.std.proofs.lemmas.List.FromFn.{get_or-map-range_with_len}
 use Rattle.std.proofs.lemmas.Bool.Decides.{nat_tests}
 use Rattle.rtr_types.specs.declared.instr.Instr.{Instr}
 use Rattle.rtr_types.specs.declared.access.Access.{Access}
-use Rattle.rtr_types.specs.declared.access.Kind.{Kind}
-use Rattle.rtr_types.specs.declared.access.Kind.TheVariants.{Load, Store}
 use Rattle.clock_core.specs.declared.clock.Clock.{Clock}
 use Rattle.access_times.specs.declared.times.SlotTimes.{SlotTimes}
 use Rattle.access_times.specs.declared.times.Times.{Times}
@@ -120,20 +118,20 @@ and_false true x y = refl
 and_false false x y = refl
 
 pub times_notes : (a : Access) (clock : Clock) (t : Times) → RiderNotes times_parts (record { access = a; clock = clock }) t (times_noted a t clock)
-times_notes a clock t = record { write = λ slot ls. write slot ls a.kind; read = λ slot d ls ld. read slot d ls ld a.kind }
+times_notes a clock t = record { write = λ slot ls. write slot ls (is_write a.kind); read = λ slot d ls ld. read slot d ls ld (is_write a.kind) }
   where
-    write : (slot : ℕ) → slot < BLOCK_WORDS → (k : Kind) → write_at (times_noted_as k t (a.word % BLOCK_WORDS) a.at clock) slot ≡ (if (a.word == word_number (a.word / BLOCK_WORDS) slot) && is_write k then Some (a.at, clock) else write_at t slot)
-    write slot ls Load =
+    write : (slot : ℕ) → slot < BLOCK_WORDS → (w : Bool) → write_at ((if w then times_stored else times_loaded) t (a.word % BLOCK_WORDS) a.at clock) slot ≡ (if (a.word == word_number (a.word / BLOCK_WORDS) slot) && w then Some (a.at, clock) else write_at t slot)
+    write slot ls false =
         ap (λ (s : SlotTimes). s.write) (loaded_slot t (a.word % BLOCK_WORDS) a.at clock slot ls) ∙ load_write (slot == a.word % BLOCK_WORDS) (slot_at t slot) a.at clock
         ∙ and_false (a.word == word_number (a.word / BLOCK_WORDS) slot) (Some (a.at, clock)) (write_at t slot)
-    write slot ls Store =
+    write slot ls true =
         ap (λ (s : SlotTimes). s.write) (stored_slot t (a.word % BLOCK_WORDS) a.at clock slot ls) ∙ store_write (slot == a.word % BLOCK_WORDS) (slot_at t slot) a.at clock
         ∙ ap (λ (u : Bool). if u && true then Some (a.at, clock) else write_at t slot) (sym (same_word a.word slot ls))
 
-    read : (slot d : ℕ) → slot < BLOCK_WORDS → d < CORES_MAX → (k : Kind) → read_at (times_noted_as k t (a.word % BLOCK_WORDS) a.at clock) slot d ≡ (if a.word == word_number (a.word / BLOCK_WORDS) slot then (if is_write k then None else if a.at.core == d then Some (a.at.count, clock) else read_at t slot d) else read_at t slot d)
-    read slot d ls ld Load =
+    read : (slot d : ℕ) → slot < BLOCK_WORDS → d < CORES_MAX → (w : Bool) → read_at ((if w then times_stored else times_loaded) t (a.word % BLOCK_WORDS) a.at clock) slot d ≡ (if a.word == word_number (a.word / BLOCK_WORDS) slot then (if w then None else if a.at.core == d then Some (a.at.count, clock) else read_at t slot d) else read_at t slot d)
+    read slot d ls ld false =
         ap (λ (s : SlotTimes). read_in s.reads d) (loaded_slot t (a.word % BLOCK_WORDS) a.at clock slot ls) ∙ load_read (slot == a.word % BLOCK_WORDS) (slot_at t slot) a.at clock d ld
         ∙ ap (λ (u : Bool). if u then (if a.at.core == d then Some (a.at.count, clock) else read_at t slot d) else read_at t slot d) (sym (same_word a.word slot ls))
-    read slot d ls ld Store =
+    read slot d ls ld true =
         ap (λ (s : SlotTimes). read_in s.reads d) (stored_slot t (a.word % BLOCK_WORDS) a.at clock slot ls) ∙ store_read (slot == a.word % BLOCK_WORDS) (slot_at t slot) a.at clock d ld
         ∙ ap (λ (u : Bool). if u then None else read_at t slot d) (sym (same_word a.word slot ls))

@@ -9,9 +9,8 @@ use Rattle.std.proofs.lemmas.List.{length-set}
 use Rattle.std.proofs.lemmas.Bool.Decides.{nat_tests}
 use Rattle.access_times.specs.Riding.{Carrying}
 use Rattle.rtr_types.specs.CoreSets.{has}
-use Rattle.rtr_types.specs.declared.access.Kind.TheVariants.{Load as IsLoad, Store as IsStore}
-use Rattle.rv_core.specs.declared.core_state.Need.TheVariants.{Local, Load as NeedsLoad, Store as NeedsStore, Done}
 use Rattle.rtr_types.specs.declared.access.Access.{Access}
+use Rattle.rtr_types.specs.declared.access.Kind.{Kind}
 use Rattle.msi_cache.specs.declared.messages.FromHome.{FromHome}
 use Rattle.msi_cache.specs.declared.messages.FromHome.TheVariants.{Inv}
 use Rattle.msi_cache.specs.declared.messages.Request.{Request}
@@ -28,9 +27,8 @@ use Rattle.msi_state.specs.declared.node.Mail.{Mail}
 use Rattle.msi_state.specs.declared.node.Node.{Node}
 use Rattle.msi_state.specs.declared.moves.Move.{Move}
 use Rattle.msi_state.specs.declared.moves.Move.TheVariants.{Core as CoreMove, Request as RequestMove, Response as ResponseMove, FromHome as MessageMove}
-use Rattle.rv_core.specs.declared.core_state.Need.{Need}
 use Rattle.msi_times.specs.Shown.{Sight}
-use Rattle.rv_core.specs.Steps.{need}
+use Rattle.rv_core.specs.Steps.{need, is_done, access_of as need_access}
 use Rattle.msi_state.specs.States.{State, node_at}
 use Rattle.msi_state.specs.Nodes.{Nothing, Accesses, allows, access_of, rider_at, event_working_in, node_working, event_working, node_taking, is_data, may_access, node_receiving_mail, event_receiving_mail, node_receiving_in, event_receiving_in, node_taken_in, can_receive_in}
 use Rattle.msi_state.specs.Ready.{can_request_in, can_respond_in}
@@ -93,36 +91,32 @@ module _ {R K : Type 0} where
         counts = λ w. let e = f.counts c lc in let k = rank_retired h w c f.order in omega arith;
       }
 
-  may_work : (parts : TimesParts R) (carrying : Carrying K) (s : State R K) (c : ℕ) (needed : Need) → c < length s.nodes → waits (node_at carrying s.nodes c).cache ≡ false → Sound parts.riding carrying s → MayWork parts needed (node_at carrying s.nodes c)
-  may_work parts carrying s c needed lc none p = by needed
+  may_work : (parts : TimesParts R) (carrying : Carrying K) (s : State R K) (c : ℕ) (used : Option (Kind × ℕ)) → c < length s.nodes → waits (node_at carrying s.nodes c).cache ≡ false → Sound parts.riding carrying s → MayWork parts used (node_at carrying s.nodes c)
+  may_work parts carrying s c used lc none p = by used
     where
       still : NodeStill parts.riding (length s.home) (node_at carrying s.nodes c)
       still = fits_still s.image parts.riding (length s.home) (node_at carrying s.nodes c) none (p.nodes c lc)
 
-      by : (needed : Need) → MayWork parts needed (node_at carrying s.nodes c)
-      by Local = tt
-      by (Done stop) = tt
-      by (NeedsLoad word) = λ _. record { placed = (still.lines (word / BLOCK_WORDS % LINES)).place; still = (still.lines (word / BLOCK_WORDS % LINES)).still }
-      by (NeedsStore word whole) = λ _. record { placed = (still.lines (word / BLOCK_WORDS % LINES)).place; still = (still.lines (word / BLOCK_WORDS % LINES)).still }
+      by : (access : Option (Kind × ℕ)) → MayWork parts access (node_at carrying s.nodes c)
+      by None = tt
+      by (Some (kind, word)) = λ _. record { placed = (still.lines (word / BLOCK_WORDS % LINES)).place; still = (still.lines (word / BLOCK_WORDS % LINES)).still }
 
   -- an access that is allowed needs no asking
-  may_fill : (parts : TimesParts R) (n : Node R K) (needed : Need) → may_access needed parts.riding n ≡ true → MayWork parts needed n
-  may_fill parts n Local e = tt
-  may_fill parts n (Done stop) e = tt
-  may_fill parts n (NeedsLoad word) e = λ needed. absurd (cc (e, needed))
-  may_fill parts n (NeedsStore word whole) e = λ needed. absurd (cc (e, needed))
+  may_fill : (parts : TimesParts R) (n : Node R K) (used : Option (Kind × ℕ)) → may_access used parts.riding n ≡ true → MayWork parts used n
+  may_fill parts n None e = tt
+  may_fill parts n (Some (kind, word)) e = λ needed. absurd (cc (e, needed))
 
   -- the head of the messages is about its line's block, and after data the core's access is allowed
   abbrev ReceivesWell : TimesParts R → Carrying K → State R K → ℕ → Mail (FromHome R) K → List (Mail (FromHome R) K) → Type 0
   ReceivesWell parts carrying s c mail rest =
       ((line_for parts.riding.fresh (node_at carrying s.nodes c).cache (block_of mail.item)).block ≡ block_of mail.item)
-      × (is_data mail.item ≡ true → may_access (need s.image (node_at carrying s.nodes c).core) parts.riding (node_taking parts.riding carrying (node_at carrying s.nodes c) mail rest) ≡ true)
+      × (is_data mail.item ≡ true → may_access (need_access (need s.image (node_at carrying s.nodes c).core)) parts.riding (node_taking parts.riding carrying (node_at carrying s.nodes c) mail rest) ≡ true)
 
   received_well : (parts : TimesParts R) (carrying : Carrying K) (s : State R K) (c : ℕ) (mail : Mail (FromHome R) K) (rest : List (Mail (FromHome R) K)) → IsTrue (can_receive_in (mail ∷ rest) s.image parts.riding carrying (node_at carrying s.nodes c)) → ReceivesWell parts carrying s c mail rest
   received_well parts carrying s c mail rest can =
       let n : Node R K = node_at carrying s.nodes c in
       let l = line_for parts.riding.fresh n.cache (block_of mail.item) in
-      let q = both (l.block == block_of mail.item) (is_some (row (signal mail.item) l.state)) (is_data mail.item) (may_access (need s.image n.core) parts.riding (node_taking parts.riding carrying n mail rest)) can in
+      let q = both (l.block == block_of mail.item) (is_some (row (signal mail.item) l.state)) (is_data mail.item) (may_access (need_access (need s.image n.core)) parts.riding (node_taking parts.riding carrying n mail rest)) can in
       (same (l.block) (block_of mail.item) q.0, q.1)
     where
       same : (x y : ℕ) → (x == y) ≡ true → x ≡ y
@@ -146,7 +140,7 @@ module _ {R K : Type 0} where
   timed_core parts carrying h s c rider clock lc still p notes f =
       let n : Node R K = node_at carrying s.nodes c in
       machine_set parts carrying h s c (node_working s.image parts.riding carrying rider n) (event_working s.image parts.riding n) clock (core_below parts.riding carrying s c p lc) lc (p.numbers c lc)
-      (working_follows s.image parts carrying c (noted_accesses h) n (need s.image n.core) rider clock (ready parts carrying h s c lc p f) (may_work parts carrying s c (need s.image n.core) lc still p) notes) (working_counted s.image parts.riding carrying rider n (need s.image n.core)) f
+      (working_follows s.image parts carrying c (noted_accesses h) n (need_access (need s.image n.core)) (is_done (need s.image n.core)) rider clock (ready parts carrying h s c lc p f) (may_work parts carrying s c (need_access (need s.image n.core)) lc still p) notes) (working_counted s.image parts.riding carrying rider n (need_access (need s.image n.core)) (is_done (need s.image n.core))) f
 
   pub timed_message : (parts : TimesParts R) → AbsorbsAll parts → (carrying : Carrying K) (h : List Retirement) (s : State R K) (c : ℕ) (mail : Mail (FromHome R) K) (rest : List (Mail (FromHome R) K)) (rider : R) (clock : Clock) → c < length s.nodes → (node_at carrying s.nodes c).messages.items ≡ mail ∷ rest → Sound parts.riding carrying s → ReceivesWell parts carrying s c mail rest →
       ((a : Access) → event_receiving_mail s.image parts.riding carrying (node_at carrying s.nodes c) mail rest ≡ Accesses a → RiderNotes parts (record { access = a; clock = clock }) (rider_at parts.riding (node_taking parts.riding carrying (node_at carrying s.nodes c) mail rest) a.word) rider) →
@@ -155,7 +149,7 @@ module _ {R K : Type 0} where
       let n : Node R K = node_at carrying s.nodes c in
       let r = ready parts carrying h s c lc p f in
       machine_set parts carrying h s c (node_receiving_mail s.image parts.riding carrying rider n mail rest) (event_receiving_mail s.image parts.riding carrying n mail rest) clock (core_below parts.riding carrying s c p lc) lc (p.numbers c lc)
-      (receiving_follows s.image parts well carrying c (noted_accesses h) n mail rest rider clock r is fits.0 (λ (e : is_data mail.item ≡ true). may_fill parts (node_taking parts.riding carrying n mail rest) (need s.image n.core) (fits.1 e)) notes) (receiving_counted s.image parts.riding carrying rider n mail rest) f
+      (receiving_follows s.image parts well carrying c (noted_accesses h) n mail rest rider clock r is fits.0 (λ (e : is_data mail.item ≡ true). may_fill parts (node_taking parts.riding carrying n mail rest) (need_access (need s.image n.core)) (fits.1 e)) notes) (receiving_counted s.image parts.riding carrying rider n mail rest) f
 
   pub timed_request : (parts : TimesParts R) → AbsorbsAll parts → (carrying : Carrying K) (h : List Retirement) (s : State R K) (c : ℕ) (mail : Mail (Request R) K) (rest : List (Mail (Request R) K)) → c < length s.nodes → (node_at carrying s.nodes c).requests.items ≡ mail ∷ rest → is_free (entry_at parts.riding.fresh s.home (request_block mail.item)).stage ≡ true → request_block mail.item < length s.home → Sound parts.riding carrying s →
       StandsAfter parts carrying h s → StandsAfter parts carrying h (request_moved_in (mail ∷ rest) parts.riding carrying s c)
@@ -216,18 +210,13 @@ module _ {R K : Type 0} where
 
   -- ---- what an access finds
 
-  working_finds : (image : Contents) (parts : TimesParts R) (h : List NotedAccess) (c : ℕ) (n : Node R K) (needed : Need) (a : Access) → c < CORES_MAX → event_working_in needed image parts.riding n ≡ Accesses a → ((b : ℕ) → (entry : Entry R) × (sights : ℕ → Sight R) × (sights c ≡ node_sight parts.riding b n) × StandsFor parts h b entry sights) → IsExactRider parts h a (rider_at parts.riding n a.word)
-  working_finds image parts h c n Local a lc e f = absurd (grind arith)
-  working_finds image parts h c n (Done stop) a lc e f = absurd (grind arith)
-  working_finds image parts h c n (NeedsLoad word) a lc e f = by (allows parts.riding n word IsLoad) refl e
+  working_finds : (image : Contents) (parts : TimesParts R) (h : List NotedAccess) (c : ℕ) (n : Node R K) (used : Option (Kind × ℕ)) (done : Bool) (a : Access) → c < CORES_MAX → event_working_in used done image parts.riding n ≡ Accesses a → ((b : ℕ) → (entry : Entry R) × (sights : ℕ → Sight R) × (sights c ≡ node_sight parts.riding b n) × StandsFor parts h b entry sights) → IsExactRider parts h a (rider_at parts.riding n a.word)
+  working_finds image parts h c n None true a lc e f = absurd (grind arith)
+  working_finds image parts h c n None false a lc e f = absurd (grind arith)
+  working_finds image parts h c n (Some (kind, word)) done a lc e f = by (allows parts.riding n word kind) refl e
     where
-      by : (t : Bool) → allows parts.riding n word IsLoad ≡ t → (if t then Accesses (access_of image parts.riding n word IsLoad) else Nothing) ≡ Accesses a → IsExactRider parts h a (rider_at parts.riding n a.word)
-      by true allowed g = let q = f (word / BLOCK_WORDS) in let is : access_of image parts.riding n word IsLoad ≡ a = grind arith in subst (λ (x : Access). IsExactRider parts h x (rider_at parts.riding n x.word)) is (node_finds parts h q.0 q.1 c n word IsLoad lc q.2 q.3 allowed)
-      by false allowed g = absurd (grind arith)
-  working_finds image parts h c n (NeedsStore word whole) a lc e f = by (allows parts.riding n word IsStore) refl e
-    where
-      by : (t : Bool) → allows parts.riding n word IsStore ≡ t → (if t then Accesses (access_of image parts.riding n word IsStore) else Nothing) ≡ Accesses a → IsExactRider parts h a (rider_at parts.riding n a.word)
-      by true allowed g = let q = f (word / BLOCK_WORDS) in let is : access_of image parts.riding n word IsStore ≡ a = grind arith in subst (λ (x : Access). IsExactRider parts h x (rider_at parts.riding n x.word)) is (node_finds parts h q.0 q.1 c n word IsStore lc q.2 q.3 allowed)
+      by : (t : Bool) → allows parts.riding n word kind ≡ t → (if t then Accesses (access_of image parts.riding n word kind) else Nothing) ≡ Accesses a → IsExactRider parts h a (rider_at parts.riding n a.word)
+      by true allowed g = let q = f (word / BLOCK_WORDS) in let is : access_of image parts.riding n word kind ≡ a = grind arith in subst (λ (x : Access). IsExactRider parts h x (rider_at parts.riding n x.word)) is (node_finds parts h q.0 q.1 c n word kind lc q.2 q.3 allowed)
       by false allowed g = absurd (grind arith)
 
   pub finds_exact : (parts : TimesParts R) (carrying : Carrying K) → AbsorbsAll parts → FindsTimes parts carrying
@@ -236,7 +225,7 @@ module _ {R K : Type 0} where
   finds_exact parts carrying well h s (CoreMove c) a p e is f =
       let lc = enabled_below parts carrying s (CoreMove c) e in
       let n : Node R K = node_at carrying s.nodes c in
-      working_finds s.image parts (noted_accesses h) c n (need s.image n.core) a (ready parts carrying h s c lc p f).below is (λ (b : ℕ). (entry_at parts.riding.fresh s.home b, λ d. node_sight parts.riding b (node_at carrying s.nodes d), refl, f.all.blocks b))
+      working_finds s.image parts (noted_accesses h) c n (need_access (need s.image n.core)) (is_done (need s.image n.core)) a (ready parts carrying h s c lc p f).below is (λ (b : ℕ). (entry_at parts.riding.fresh s.home b, λ d. node_sight parts.riding b (node_at carrying s.nodes d), refl, f.all.blocks b))
   finds_exact parts carrying well h s (MessageMove c) a p e is f = by (node_at carrying s.nodes c).messages.items refl is
     where
       n : Node R K
@@ -256,4 +245,4 @@ module _ {R K : Type 0} where
               let fits = receives_well parts carrying s c mail rest p e items in
               let taken : Node R K = node_taking parts.riding carrying n mail rest in
               let follows = taken_follows parts well carrying c (noted_accesses h) n mail rest r.below r.all_lines items fits.0 holds in
-              working_finds s.image parts (noted_accesses h) c taken (need s.image n.core) a r.below k (λ (b : ℕ). (entry_at parts.riding.fresh s.home b, sight_at c (node_sight parts.riding b taken) (λ d. node_sight parts.riding b (node_at carrying s.nodes d)), sight_at_same c (node_sight parts.riding b taken) (λ d. node_sight parts.riding b (node_at carrying s.nodes d)), follows.each b (entry_at parts.riding.fresh s.home b) (λ d. node_sight parts.riding b (node_at carrying s.nodes d)) refl (f.all.blocks b)))
+              working_finds s.image parts (noted_accesses h) c taken (need_access (need s.image n.core)) (is_done (need s.image n.core)) a r.below k (λ (b : ℕ). (entry_at parts.riding.fresh s.home b, sight_at c (node_sight parts.riding b taken) (λ d. node_sight parts.riding b (node_at carrying s.nodes d)), sight_at_same c (node_sight parts.riding b taken) (λ d. node_sight parts.riding b (node_at carrying s.nodes d)), follows.each b (entry_at parts.riding.fresh s.home b) (λ d. node_sight parts.riding b (node_at carrying s.nodes d)) refl (f.all.blocks b)))

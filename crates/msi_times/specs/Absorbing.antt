@@ -33,10 +33,12 @@ module _ {R : Type 0} where
   home_row_meets (Some r) old rider = home_effect_meets r.effect old rider
 
   abbrev pub request_meets : Entry R → ℕ → Request R → Option (R × R)
-  request_meets e c request = home_row_meets (request_row e.stage c (ask_of request)) e.rider (request_rider request e.rider)
+  request_meets e c request =
+      home_row_meets (request_row e.stage c (ask_of request)) e.rider (request_rider request e.rider)
 
   abbrev pub response_meets : Entry R → ℕ → Response R → Option (R × R)
-  response_meets e c response = home_row_meets (response_row e.stage c (reply_of response)) e.rider (response_rider response)
+  response_meets e c response =
+      home_row_meets (response_row e.stage c (reply_of response)) e.rider (response_rider response)
 
   -- the message's rider, which goes into the line, absorbs the line's
   abbrev pub effect_meets : Effect → R → R → Option (R × R)
@@ -53,29 +55,36 @@ module _ {R : Type 0} where
 module _ {R K : Type 0} where
   abbrev pub request_meets_in : List (Mail (Request R) K) → Riding R → State R K → ℕ → Option (R × R)
   request_meets_in [] riding s c = None
-  request_meets_in (mail ∷ rest) riding s c = request_meets (entry_at riding.fresh s.home (request_block mail.item)) c mail.item
+  request_meets_in (mail ∷ rest) riding s c =
+      request_meets (entry_at riding.fresh s.home (request_block mail.item)) c mail.item
 
   abbrev pub response_meets_in : List (Mail (Response R) K) → Riding R → State R K → ℕ → Option (R × R)
   response_meets_in [] riding s c = None
-  response_meets_in (mail ∷ rest) riding s c = response_meets (entry_at riding.fresh s.home (response_block mail.item)) c mail.item
+  response_meets_in (mail ∷ rest) riding s c =
+      response_meets (entry_at riding.fresh s.home (response_block mail.item)) c mail.item
 
   abbrev pub message_meets_in : List (Mail (FromHome R) K) → Riding R → Carrying K → State R K → ℕ → Option (R × R)
   message_meets_in [] riding carrying s c = None
-  message_meets_in (mail ∷ rest) riding carrying s c = message_meets (line_for riding.fresh (node_at carrying s.nodes c).cache (block_of mail.item)) mail.item
+  message_meets_in (mail ∷ rest) riding carrying s c =
+      message_meets (line_for riding.fresh (node_at carrying s.nodes c).cache (block_of mail.item)) mail.item
 
   -- the rider that absorbs in the move and the one that it absorbs, where the move has such
   abbrev pub meets : Riding R → Carrying K → State R K → Move → Option (R × R)
   meets riding carrying s (CoreMove c) = None
   meets riding carrying s (RequestMove c) = request_meets_in (node_at carrying s.nodes c).requests.items riding s c
   meets riding carrying s (ResponseMove c) = response_meets_in (node_at carrying s.nodes c).responses.items riding s c
-  meets riding carrying s (MessageMove c) = message_meets_in (node_at carrying s.nodes c).messages.items riding carrying s c
+  meets riding carrying s (MessageMove c) =
+      message_meets_in (node_at carrying s.nodes c).messages.items riding carrying s c
 
   -- riders that meet in the move have the same last write of each word, so that absorbing leaves nothing out
   abbrev pub MeetsAlike : TimesParts R → Carrying K → State R K → Move → Type 0
   MeetsAlike parts carrying s m =
-      (x y : R) → meets parts.riding carrying s m ≡ Some (x, y) → (slot : ℕ) → slot < BLOCK_WORDS → parts.write x slot ≡ parts.write y slot
+      (x y : R) → meets parts.riding carrying s m ≡ Some (x, y) → (slot : ℕ) → slot < BLOCK_WORDS
+      → parts.write x slot ≡ parts.write y slot
 
   -- and they always do
   abbrev pub MeetAlike : TimesParts R → Carrying K → Type 0
   MeetAlike parts carrying =
-      (list : List Retirement) (s : State R K) (m : Move) → Sound parts.riding carrying s → IsTrue (enabled parts.riding carrying s m) → MachineStandsFor parts carrying list s → MeetsAlike parts carrying s m
+      (list : List Retirement) (s : State R K) (m : Move) → Sound parts.riding carrying s
+      → IsTrue (enabled parts.riding carrying s m) → MachineStandsFor parts carrying list s
+      → MeetsAlike parts carrying s m

@@ -40,11 +40,14 @@ read_note core (Some r) = Some (record { core = core; count = r.0 }, r.1)
 -- the times that an access finds in its word's slot are exact: the last write and, where the access writes, all
 pub record FindsExactTimes (list : List Access) (a : Access) (rider : Times) : Type 0 where
   pub write : IsNoteOf list (last_write (reverse list) a.word) (write_at rider (a.word % BLOCK_WORDS))
-  pub times : is_write a.kind ≡ true → AreExactTimes list a.word (write_at rider (a.word % BLOCK_WORDS)) (λ core. read_note core (read_at rider (a.word % BLOCK_WORDS) core))
+  pub times : is_write a.kind ≡ true → AreExactTimes list a.word (write_at rider (a.word % BLOCK_WORDS))
+      (λ core. read_note core (read_at rider (a.word % BLOCK_WORDS) core))
 
 -- Over a list whose clocks are exact, a rider that has the last write and the last reads of the list has exact times.
 abbrev pub ExactTimesLaw : Type 0
-ExactTimesLaw = (list : List Retirement) (a : Access) (rider : Times) → HaveExactClocks (retired_accesses list) list → IsExactRider times_parts (noted_accesses (reverse list)) a rider → FindsExactTimes (retired_accesses list) a rider
+ExactTimesLaw =
+    (list : List Retirement) (a : Access) (rider : Times) → HaveExactClocks (retired_accesses list) list
+    → IsExactRider times_parts (noted_accesses (reverse list)) a rider → FindsExactTimes (retired_accesses list) a rider
 
 -- The retired_accesses of retirements in order have rising counts, and are of cores that there may be.
 pub record AreOrdered (list : List Access) : Type 0 where

@@ -26,7 +26,8 @@ write_after n word old = if (n.access.word == word) && is_write n.access.kind th
 abbrev pub read_after : NotedAccess → ℕ → ℕ → Option (ℕ × Clock) → Option (ℕ × Clock)
 read_after n word d old =
     if n.access.word == word
-    then (if is_write n.access.kind then None else if n.access.at.core == d then Some (n.access.at.count, n.clock) else old)
+    then (if is_write n.access.kind then None
+    else if n.access.at.core == d then Some (n.access.at.count, n.clock) else old)
     else old
 
 abbrev pub last_noted_write : List NotedAccess → ℕ → Option (Instr × Clock)
@@ -51,7 +52,8 @@ pub record WordTimes (X : Type 0) : Type 0 where
 -- one that absorbs another since the same write has each core's newer read
 pub record AbsorbsWell {X : Type 0} (t : WordTimes X) : Type 0 where
   pub write : (x y : X) → t.write x ≡ t.write y → t.write (t.absorbed x y) ≡ t.write x
-  pub read : (x y : X) (d : ℕ) → d < CORES_MAX → t.write x ≡ t.write y → t.read (t.absorbed x y) d ≡ newer_read (t.read x d) (t.read y d)
+  pub read : (x y : X) (d : ℕ) → d < CORES_MAX → t.write x ≡ t.write y
+      → t.read (t.absorbed x y) d ≡ newer_read (t.read x d) (t.read y d)
 
 -- the rider y is x with the access noted, as far as this word goes
 pub record HasNoted {X : Type 0} (t : WordTimes X) (n : NotedAccess) (word : ℕ) (x y : X) : Type 0 where
@@ -78,7 +80,8 @@ pub record Exact {X : Type 0} (t : WordTimes X) (h : List NotedAccess) (word : �
   pub found : (d : ℕ) → d < CORES_MAX → Found (read_rank t d) (rank (last_noted_read h word d)) d b
 
 -- the rider is exact for an access of the word: it has the last write and, for one that writes, each core's last read
-pub record IsExactFor {X : Type 0} (t : WordTimes X) (h : List NotedAccess) (word : ℕ) (kind : Kind) (x : X) : Type 0 where
+pub record IsExactFor {X : Type 0} (t : WordTimes X) (h : List NotedAccess) (word : ℕ) (kind : Kind)
+    (x : X) : Type 0 where
   pub write : t.write x ≡ last_noted_write h word
   pub reads : is_write kind ≡ true → (d : ℕ) → d < CORES_MAX → t.read x d ≡ last_noted_read h word d
 

@@ -42,8 +42,11 @@ module _ {R K : Type 0} where
 
 -- what the home sends is of the block, goes to one that is there, and alone
 pub record Sends {R K : Type 0} (answer : HomeAnswer R) (block : ℕ) (ns : List (Node R K)) : Type 0 where
-  pub each : (to : ℕ) (m : FromHome R) → answer.send ≡ Some (to, m) → (to < length ns) × (answer.invalidate ≡ no_cores) × (block_of m ≡ block)
+  pub each : (to : ℕ) (m : FromHome R) → answer.send ≡ Some (to, m)
+      → (to < length ns) × (answer.invalidate ≡ no_cores) × (block_of m ≡ block)
 
 -- every block of the state stands for the accesses so far, newest first
-pub record AllStandFor {R K : Type 0} (parts : TimesParts R) (carrying : Carrying K) (h : List NotedAccess) (s : State R K) : Type 0 where
-  pub blocks : (b : ℕ) → StandsFor parts h b (entry_at parts.riding.fresh s.home b) (λ d. node_sight parts.riding b (node_at carrying s.nodes d))
+pub record AllStandFor {R K : Type 0} (parts : TimesParts R) (carrying : Carrying K) (h : List NotedAccess)
+    (s : State R K) : Type 0 where
+  pub blocks : (b : ℕ) → StandsFor parts h b (entry_at parts.riding.fresh s.home b)
+      (λ d. node_sight parts.riding b (node_at carrying s.nodes d))

@@ -47,7 +47,8 @@ AreInOrder [] = Unit {0}
 AreInOrder (r ∷ h) = ComesNext h r × AreInOrder h
 
 -- the machine stands for the retirements, newest first
-pub record StandsAfter {R K : Type 0} (parts : TimesParts R) (carrying : Carrying K) (h : List Retirement) (s : State R K) : Type 0 where
+pub record StandsAfter {R K : Type 0} (parts : TimesParts R) (carrying : Carrying K) (h : List Retirement)
+    (s : State R K) : Type 0 where
   pub all : AllStandFor parts carrying (noted_accesses h) s
   pub counts : (c : ℕ) → c < length s.nodes → (node_at carrying s.nodes c).core.count ≡ retired_by h c
   pub order : AreInOrder h
@@ -75,10 +76,13 @@ noted_after (Accesses a) clock h = record { access = a; clock = clock } ∷ h
 
 -- the rider is the old one with the access noted_accesses, in each slot
 pub record RiderNotes {R : Type 0} (parts : TimesParts R) (n : NotedAccess) (old new : R) : Type 0 where
-  pub write : (slot : ℕ) → slot < BLOCK_WORDS → parts.write new slot ≡ write_after n (word_number (n.access.word / BLOCK_WORDS) slot) (parts.write old slot)
-  pub read : (slot d : ℕ) → slot < BLOCK_WORDS → d < CORES_MAX → parts.read new slot d ≡ read_after n (word_number (n.access.word / BLOCK_WORDS) slot) d (parts.read old slot d)
+  pub write : (slot : ℕ) → slot < BLOCK_WORDS
+      → parts.write new slot ≡ write_after n (word_number (n.access.word / BLOCK_WORDS) slot) (parts.write old slot)
+  pub read : (slot d : ℕ) → slot < BLOCK_WORDS → d < CORES_MAX
+      → parts.read new slot d ≡ read_after n (word_number (n.access.word / BLOCK_WORDS) slot) d (parts.read old slot d)
 
 -- the rider is exact for the access after these: in its word's slot it has the last write and, for an access that
 -- writes, each core's last read since, each with its clock, and nothing else
 abbrev pub IsExactRider : {R : Type 0} → TimesParts R → List NotedAccess → Access → R → Type 0
-IsExactRider parts h a rider = IsExactFor (slot_times parts (a.word % BLOCK_WORDS)) h a.word a.kind (record { words = []; rider = rider })
+IsExactRider parts h a rider =
+    IsExactFor (slot_times parts (a.word % BLOCK_WORDS)) h a.word a.kind (record { words = []; rider = rider })

@@ -82,7 +82,14 @@ put_wished ToEvict GaveHolds line put = line
 put_wished w _ line put = put
 
 abbrev pub seat_wished : {X : Type 0} → Wish → Seat X → Seat X
-seat_wished w s = record { phase = wished w s.phase; line = s.line; sent = s.sent; reply = s.reply; put = put_wished w s.phase s.line s.put }
+seat_wished w s =
+    record {
+      phase = wished w s.phase;
+      line = s.line;
+      sent = s.sent;
+      reply = s.reply;
+      put = put_wished w s.phase s.line s.put;
+    }
 
 -- ---- a request is taken
 
@@ -93,10 +100,12 @@ home_requested absorbed stage c a put home = home
 
 -- the seat of c, whose request it is: what the home has now goes to it
 abbrev pub seat_own : {X : Type 0} → Stage → ℕ → X → Seat X → Seat X
-seat_own stage c home s = record { phase = after_own stage c s.phase; line = s.line; sent = home; reply = s.reply; put = s.put }
+seat_own stage c home s =
+    record { phase = after_own stage c s.phase; line = s.line; sent = home; reply = s.reply; put = s.put }
 
 abbrev pub seat_other : {X : Type 0} → Stage → ℕ → Ask → ℕ → Seat X → Seat X
-seat_other stage c a d s = record { phase = after_other stage c a d s.phase; line = s.line; sent = s.sent; reply = s.reply; put = s.put }
+seat_other stage c a d s =
+    record { phase = after_other stage c a d s.phase; line = s.line; sent = s.sent; reply = s.reply; put = s.put }
 
 -- ---- a response is taken
 
@@ -115,7 +124,14 @@ sent_served home (AwaitsData s) sent = home
 sent_served home _ sent = sent
 
 abbrev pub seat_others : {X : Type 0} → Stage → ℕ → X → Seat X → Seat X
-seat_others stage c home s = record { phase = after_others_response stage c s.phase; line = s.line; sent = sent_served home s.phase s.sent; reply = s.reply; put = s.put }
+seat_others stage c home s =
+    record {
+      phase = after_others_response stage c s.phase;
+      line = s.line;
+      sent = sent_served home s.phase s.sent;
+      reply = s.reply;
+      put = s.put;
+    }
 
 -- ---- an access
 

@@ -124,11 +124,13 @@ module _ {R : Type 0} where
 
   -- what core d sees after the home took a request from core c, which leaves c these
   abbrev pub after_request_at : Riding R → Entry R → ℕ → ℕ → Request R → List (Request R) → ℕ → Sight R → Sight R
-  after_request_at riding e b c request rest d v = sight_answered (answer_to_request riding.absorbed e c request) b d (sight_requested (d == c) rest v)
+  after_request_at riding e b c request rest d v =
+      sight_answered (answer_to_request riding.absorbed e c request) b d (sight_requested (d == c) rest v)
 
   -- what core d sees after the home took a response from core c, which leaves c these
   abbrev pub after_response_at : Riding R → Entry R → ℕ → ℕ → Response R → List (Response R) → ℕ → Sight R → Sight R
-  after_response_at riding e b c response rest d v = sight_answered (answer_to_response riding.absorbed e c response) b d (sight_responded (d == c) rest v)
+  after_response_at riding e b c response rest d v =
+      sight_answered (answer_to_response riding.absorbed e c response) b d (sight_responded (d == c) rest v)
 
 -- what a core wishes of the block that its line has, where it needs to read or to write this or another block
 abbrev pub wish_in : State → Bool → Bool → Wish

@@ -21,7 +21,12 @@ word_number b slot = b * BLOCK_WORDS + slot
 module _ {R : Type 0} where
   -- a copy's rider as it is for one slot's word
   abbrev pub slot_times : TimesParts R → ℕ → WordTimes (Payload R)
-  slot_times parts slot = record { absorbed = payload_absorbed parts.riding; write = λ x. parts.write x.rider slot; read = λ x d. parts.read x.rider slot d }
+  slot_times parts slot =
+      record {
+        absorbed = payload_absorbed parts.riding;
+        write = λ x. parts.write x.rider slot;
+        read = λ x d. parts.read x.rider slot d;
+      }
 
   abbrev pub AbsorbsAll : TimesParts R → Type 0
   AbsorbsAll parts = (slot : ℕ) → slot < BLOCK_WORDS → AbsorbsWell (slot_times parts slot)
@@ -32,7 +37,8 @@ module _ {R : Type 0} where
   sight_at c v sights d = if d == c then v else sights d
 
 -- the block's entry and what the cores see stand for the accesses so far
-pub record StandsFor {R : Type 0} (parts : TimesParts R) (h : List NotedAccess) (b : ℕ) (entry : Entry R) (sights : ℕ → Sight R) : Type 0 where
+pub record StandsFor {R : Type 0} (parts : TimesParts R) (h : List NotedAccess) (b : ℕ) (entry : Entry R)
+    (sights : ℕ → Sight R) : Type 0 where
   pub block : FullBlock (Payload R)
   pub entry_is : entry_with block ≡ entry
   pub shows : (d : ℕ) → d < CORES_MAX → shown b (block.seats d) ≡ sights d

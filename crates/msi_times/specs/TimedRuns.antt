@@ -34,11 +34,10 @@ module _ {K : Type 0} where
   -- the state after the move, where it can be made
   abbrev pub timed_taking : Carrying K → TimedState K → TimedMove → TimedState K
   timed_taking carrying t m =
+      let e = event times_riding carrying t.state m.move in
+      let rider = rider_noted e (retiring times_riding carrying t.state m.move) m.clock in
       if enabled times_riding carrying t.state m.move
-      then record {
-        state = step times_riding carrying (rider_noted (event times_riding carrying t.state m.move) (retiring times_riding carrying t.state m.move) m.clock) t.state m.move;
-        list = with_event (event times_riding carrying t.state m.move) m.clock t.list;
-      }
+      then record { state = step times_riding carrying rider t.state m.move; list = with_event e m.clock t.list }
       else t
 
   abbrev pub timed_run : Carrying K → TimedState K → List TimedMove → TimedState K
@@ -46,10 +45,11 @@ module _ {K : Type 0} where
   timed_run carrying t (m ∷ ms) = timed_run carrying (timed_taking carrying t m) ms
 
   abbrev pub timed_start : Carrying K → Contents → (cores limit : ℕ) → TimedState K
-  timed_start carrying image cores limit = record { state = state_start times_riding carrying image cores limit; list = [] }
+  timed_start carrying image cores limit =
+      record { state = state_start times_riding carrying image cores limit; list = [] }
 
--- the state stands for its retirements; each access that can be made finds exact times by them; and riders that meet have
--- the same last writes
+-- the state stands for its retirements; each access that can be made finds exact times by them; and riders
+-- that meet have the same last writes
 pub record IsTimely {K : Type 0} (carrying : Carrying K) (t : TimedState K) : Type 0 where
   pub stands : MachineStandsFor times_parts carrying t.list t.state
   pub finds : (m : Move) → IsTrue (enabled times_riding carrying t.state m) → StepFinds carrying t.state m t.list
@@ -58,4 +58,5 @@ pub record IsTimely {K : Type 0} (carrying : Carrying K) (t : TimedState K) : Ty
 -- Each state of each run is so, whatever clocks are noted.
 abbrev pub TimedRunLaw : {K : Type 0} → Carrying K → Type 0
 TimedRunLaw carrying =
-    (image : Contents) (cores limit : ℕ) (ms : List TimedMove) → cores ≤ CORES_MAX → limit < 2 ^ 32 → IsTimely carrying (timed_run carrying (timed_start carrying image cores limit) ms)
+    (image : Contents) (cores limit : ℕ) (ms : List TimedMove) → cores ≤ CORES_MAX → limit < 2 ^ 32
+    → IsTimely carrying (timed_run carrying (timed_start carrying image cores limit) ms)

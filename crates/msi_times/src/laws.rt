@@ -16,7 +16,8 @@ use access_times::{Carry, TimesClerk};
 /// own; and the rider that an access finds has the last write of its word, and for an access that
 /// writes each core's last read since, each with its clock, and nothing else.
 pub fn timed_steps<K: Carry>()
-    ensures starts { (image : Contents) (cores limit : ℕ) → MachineStandsFor times_parts K.carrying [] (state_start times_riding K.carrying image cores limit) }
+    ensures starts { (image : Contents) (cores limit : ℕ)
+        → MachineStandsFor times_parts K.carrying [] (state_start times_riding K.carrying image cores limit) }
     ensures stands { TimedStep times_parts K.carrying }
     ensures finds { FindsTimes times_parts K.carrying }
 {}

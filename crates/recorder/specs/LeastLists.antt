@@ -15,7 +15,8 @@ is_or_leads list x y = nat_le x.count (clock (reverse list) y x.core)
 
 -- z stands strictly between x and y
 abbrev pub stands_between : List Access → Access → Access → Access → Bool
-stands_between list x y z = (not (is_same z.at x.at) && not (is_same z.at y.at)) && (is_or_leads list x.at z.at && is_or_leads list z.at y.at)
+stands_between list x y z =
+    (not (is_same z.at x.at) && not (is_same z.at y.at)) && (is_or_leads list x.at z.at && is_or_leads list z.at y.at)
 
 -- x and y conflict, x comes before y, and no access stands between
 abbrev pub is_covering : List Access → Access → Access → Bool
@@ -34,7 +35,8 @@ pair_list list from to = flat_map (covering_counts list from) (filter (λ y. nat
 
 -- the covering pairs by pair of cores
 unfoldable pub least_lists : (cores : ℕ) → List Access → List (List (ℕ × ℕ))
-least_lists cores list = map (λ place. pair_list list (source_at cores place) (target_at cores place)) (range_with_len 0 (pair_count cores))
+least_lists cores list =
+    map (λ place. pair_list list (source_at cores place) (target_at cores place)) (range_with_len 0 (pair_count cores))
 
 -- the accesses are of so many cores
 abbrev pub AreOf : ℕ → List Access → Type 0
@@ -43,4 +45,6 @@ AreOf cores list = (a : Access) → StandsIn list a → a.at.core < cores
 -- They hold exactly the covering pairs, which are the least set.
 abbrev pub LeastListsLaw : Type 0
 LeastListsLaw = (cores : ℕ) (list : List Access) → CountsRise list → AreOf cores list → (x y : Instr) →
-    Covering list x y ↔ (IsPair cores x.core y.core × Contains (slice_index_or (least_lists cores list) (pair_place cores x.core y.core) []) (x.count, y.count))
+    Covering list x y
+    ↔ (IsPair cores x.core y.core
+    × Contains (slice_index_or (least_lists cores list) (pair_place cores x.core y.core) []) (x.count, y.count))

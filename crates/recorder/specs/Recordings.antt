@@ -19,11 +19,17 @@ use Rattle.recorder.specs.LeastLists.{least_lists}
 
 -- the data accesses of the whole run, in the order in which their instructions retired
 unfoldable pub run_accesses : Contents → Params → Choices → List Access
-run_accesses image params schedule = accesses image params (choice_at schedule) (end_of image params (choice_at schedule))
+run_accesses image params schedule =
+    accesses image params (choice_at schedule) (end_of image params (choice_at schedule))
 
 -- what a state leaves with these loads: its cores, its memory and the loads
 abbrev pub outcome_left : {R K : Type 0} → State R K → List (List LoadNote) → Outcome
-outcome_left s loads = record { cores = map (λ n. n.core) s.nodes; words = final_memory none_riding none_carrying (plain s); loads = loads }
+outcome_left s loads =
+    record {
+      cores = map (λ n. n.core) s.nodes;
+      words = final_memory none_riding none_carrying (plain s);
+      loads = loads;
+    }
 
 -- the recording of a run that had this outcome, with these edges by pair of cores, and no vectors
 abbrev pub recording_from : Params → Contents → Outcome → List (List (ℕ × ℕ)) → Recording
@@ -38,4 +44,6 @@ recording_from params image outcome reduced =
 
 -- the recording of the run: its edges are the least set of its accesses
 unfoldable pub recording_of : Contents → Params → Choices → Recording
-recording_of image params schedule = recording_from params image (outcome_of image params schedule) (least_lists params.cores (run_accesses image params schedule))
+recording_of image params schedule =
+    recording_from params image (outcome_of image params schedule)
+    (least_lists params.cores (run_accesses image params schedule))

@@ -33,7 +33,8 @@ pub record Reduces (list : List Retirement) (all : List Access) (r : Reduced) (e
 
 -- a machine in this state, a clerk that holds this and the choices that are left stand t choices into the run, which
 -- hasn't ended before
-pub record RecordsAt (image : Contents) (params : Params) (schedule : Choices) (t : ℕ) (s : State Times NoCarry) (clerk : Noted) (rest : Choices) : Type 0 where
+pub record RecordsAt (image : Contents) (params : Params) (schedule : Choices) (t : ℕ) (s : State Times NoCarry)
+    (clerk : Noted) (rest : Choices) : Type 0 where
   pub run : StandsAt image params schedule t (plain s) clerk.loads.lists rest
   pub list : List Retirement
   pub edges : List Edge

@@ -35,7 +35,8 @@ pub(crate) fn finished(
     requires words { params.words ≡ machine.state.image.words }
     ensures outcome { IfOk result (λ run. run.outcome ≡ outcome_left machine.state clerk.loads.lists) }
     ensures recording { IfOk result (λ run.
-        run.recording ≡ recording_from params machine.state.image (outcome_left machine.state clerk.loads.lists) clerk.reduction.state.lists) }
+        run.recording ≡ recording_from params machine.state.image
+        (outcome_left machine.state clerk.loads.lists) clerk.reduction.state.lists) }
 {
     let cores = cores_of(alloc, &machine, params.cores)?;
     let words = words_of(alloc, &machine, params.words)?;

@@ -3,7 +3,7 @@
 //! are empty, so that a recording ends with a byte 00 for each ordered pair of cores.
 
 use crate::run_tables::{
-    EIGHT_WORK, END, ENDLESS, HANDED_OVER, ONE_WORD, OWN_BYTES, OWN_WORDS, READER_EVICTS,
+    EIGHT_WORK, END, ENDLESS, HANDED_OVER, ONE_WORD, OWN_BYTES, OWN_WORDS, READER_EVICTS, SUM,
     WRITER_EVICTS, WRITERS_EVICT,
 };
 
@@ -64,7 +64,7 @@ const THREE_WORDS_LOGS: &str = "cores 2 limit 10000 words 32 image 48\n\
     regulated 0 vectors 0 edges\n";
 
 /// The rows.
-pub static RECORDINGS: [Recorded; 17] = [
+pub static RECORDINGS: [Recorded; 18] = [
     // Two words of one block: no edge, whoever has the block first, and also where core 1 takes it from core 0
     // between the store and the load of core 0.
     recorded!(
@@ -155,6 +155,20 @@ pub static RECORDINGS: [Recorded; 17] = [
             total 1 3\n\
             reduced 1\n\
             edge 1:2 0:2\n\
+            regulated 0 vectors 0 edges\n"
+    ),
+    // Each core adds to one word: two atomic memory operations conflict.
+    recorded!(
+        "record --cores 2 --words 16 --choices 0000000000000000000000000000",
+        SUM,
+        "52545201 02 904e 10 10",
+        "0404 01 03 03",
+        3,
+        "cores 2 limit 10000 words 16 image 16\n\
+            total 0 4\n\
+            total 1 4\n\
+            reduced 1\n\
+            edge 0:3 1:3\n\
             regulated 0 vectors 0 edges\n"
     ),
     // A read by the first writer between two writes: core 1 loads at 2, core 0 stores at 3 and loads at 4, core

@@ -38,6 +38,9 @@ pub const OWN_BYTES: &str = "93025500 23005502 73000000";
 /// addi x5,x10,5; sw x5,32(x0); ecall: each core writes the same word.
 pub const ONE_WORD: &str = "93025500 23205002 73000000";
 
+/// addi x7,x0,32; addi x5,x10,1; amoadd.w x6,x5,(x7); ecall: each core adds to the same word.
+pub const SUM: &str = "93030002 93021500 2fa35300 73000000";
+
 /// addi x5,x10,9; bne x10,x0,+12; sw x5,64(x0); ecall; lw x6,64(x0); lw x7,320(x0); ecall: core 0 writes a word
 /// that core 1 reads, and core 1 then reads one whose block has the same line.
 pub const READER_EVICTS: &str = "93029500 63160500 23205004 73000000 03230004 83230014 73000000";
@@ -249,7 +252,7 @@ const LIMIT_STATE: &str = "core 0 exit retired 3 pc 0000000c\n\
     core 1 x10 00000001\n";
 
 /// The rows.
-pub static RUNS: [Run; 16] = [
+pub static RUNS: [Run; 17] = [
     // Two words of one block. No core stores to the other's word, so no schedule changes anything.
     run!(
         "run --cores 2 --words 16 --seed 5",
@@ -315,6 +318,22 @@ pub static RUNS: [Run; 16] = [
             core 1 x10 00000001\n\
             mem 00000020 00000005\n",
         ""
+    ),
+    // Core 0 adds 1 and core 1 adds 2, in fourteen steps. Each has the word that it found among its loads.
+    run!(
+        "run --loads --cores 2 --words 16 --choices 0000000000000000000000000000",
+        SUM,
+        "core 0 exit retired 4 pc 00000010\n\
+            core 0 x5 00000001\n\
+            core 0 x7 00000020\n\
+            core 1 exit retired 4 pc 00000010\n\
+            core 1 x5 00000002\n\
+            core 1 x6 00000001\n\
+            core 1 x7 00000020\n\
+            core 1 x10 00000001\n\
+            mem 00000020 00000003\n",
+        "load 0 3 00000020 00000000\n\
+            load 1 3 00000020 00000001\n"
     ),
     // A read by the first writer between two writes. Core 1 loads (four choices); core 0 asks to write
     // (three), core 1 gives up its copy, and core 0 stores (four) and loads (one). Core 1's store comes after.

@@ -24,7 +24,7 @@ pub const CUT_PARTS: [u8; 32] = [
     1, 1, 1, 1, 1, 1, 1, 1, 1, 2, 2, 2, 2, 2, 2, 2, 2, 2, 2, 2, 2, 3, 3, 4, 4, 4, 4, 5, 5, 5, 5, 5,
 ];
 
-pub static ROWS: [Row; 45] = [
+pub static ROWS: [Row; 47] = [
     // A run of one core is recorded.
     Row {
         words: "record",
@@ -205,6 +205,29 @@ pub static ROWS: [Row; 45] = [
         echoes: false,
         rest: "",
         text: "core 0 fetch retired 2 pc 00000008\ncore 0 x5 00000001\n",
+        report: "",
+    },
+    // LR.W is no instruction here; AMOADD.W is one, and its address is a multiple of 4.
+    Row {
+        words: "run --words 4",
+        input: "93021000 2fa30210",
+        copies: 1,
+        status: 0,
+        output: "",
+        echoes: false,
+        rest: "",
+        text: "core 0 illegal retired 1 pc 00000004\ncore 0 x5 00000001\n",
+        report: "",
+    },
+    Row {
+        words: "run --words 4",
+        input: "93021000 2fa30200",
+        copies: 1,
+        status: 0,
+        output: "",
+        echoes: false,
+        rest: "",
+        text: "core 0 align retired 1 pc 00000004\ncore 0 x5 00000001\n",
         report: "",
     },
     // Core 0 stores 7, loads it and ends; loads are printed where they are asked for.

@@ -6,7 +6,7 @@ use Rattle.access_times.specs.Riding.{Riding, Carrying, none_riding, none_carryi
 use Rattle.image_mem.specs.Contents.{Contents}
 use Rattle.rtr_types.specs.declared.TheConstants.{CORES_MAX}
 use Rattle.rtr_types.specs.declared.params.Params.{Params}
-use Rattle.rv_core.specs.Steps.{need}
+use Rattle.rv_core.specs.Steps.{need, is_done, access_of as need_access}
 use Rattle.rv_core.proofs.LawLemmas.{start_law}
 use Rattle.msi_cache.specs.declared.messages.FromHome.{FromHome}
 use Rattle.msi_cache.specs.declared.messages.Request.{Request}
@@ -45,7 +45,7 @@ module _ {R K : Type 0} where
       (node_at carrying (step riding carrying rider s m).nodes d).core.limit ≡ (node_at carrying s.nodes d).core.limit
   limit_kept riding carrying s (CoreMove c) rider d e h =
       let p = enabled_there riding carrying s c (CoreMove c) (enabled_at s.image riding s.home (node_at carrying s.nodes c) (CoreMove c)) e in
-      set_limit carrying s.nodes c _ d p.0 (working_limit s.image riding carrying rider (node_at carrying s.nodes c) (need s.image (node_at carrying s.nodes c).core))
+      set_limit carrying s.nodes c _ d p.0 (working_limit s.image riding carrying rider (node_at carrying s.nodes c) (need_access (need s.image (node_at carrying s.nodes c).core)) (is_done (need s.image (node_at carrying s.nodes c).core)))
   limit_kept riding carrying s (MessageMove c) rider d e h =
       let p = enabled_there riding carrying s c (MessageMove c) (enabled_at s.image riding s.home (node_at carrying s.nodes c) (MessageMove c)) e in
       set_limit carrying s.nodes c _ d p.0 (by_items (node_at carrying s.nodes c).messages.items)

@@ -13,7 +13,8 @@ use Rattle.msi_state.specs.Runs.{accesses, loads_of, outcome_at, run}
 
 -- the outcome of the run of an image with these parameters under a schedule
 unfoldable pub outcome_of : Contents → Params → Choices → Outcome
-outcome_of image params schedule = outcome_at image params (choice_at schedule) (end_of image params (choice_at schedule))
+outcome_of image params schedule =
+    outcome_at image params (choice_at schedule) (end_of image params (choice_at schedule))
 
 -- the outcome is one of a run of the image with these parameters: its cores are within the limit, and its
 -- memory is the image's, from which each load is
@@ -25,13 +26,17 @@ pub record RunFits (image : Contents) (params : Params) (outcome : Outcome) : Ty
   pub within : All (λ notes. All (λ note. note.word < image.words) notes) outcome.loads
 
 abbrev pub RunFitsLaw : Type 0
-RunFitsLaw = (image : Contents) (params : Params) (schedule : Choices) → Fits params → image.words ≡ params.words → RunFits image params (outcome_of image params schedule)
+RunFitsLaw =
+    (image : Contents) (params : Params) (schedule : Choices) → Fits params → image.words ≡ params.words
+    → RunFits image params (outcome_of image params schedule)
 
 -- a machine in this state, with these loads told and these choices left, stands t choices into the run,
 -- which hasn't ended before
-pub record StandsAt (image : Contents) (params : Params) (schedule : Choices) (t : ℕ) (s : PlainState) (loads : List (List LoadNote)) (rest : Choices) : Type 0 where
+pub record StandsAt (image : Contents) (params : Params) (schedule : Choices) (t : ℕ) (s : PlainState)
+    (loads : List (List LoadNote)) (rest : Choices) : Type 0 where
   pub state : s ≡ run image params (choice_at schedule) t
   pub cores : length s.nodes ≡ params.cores
-  pub loads_are : loads ≡ map (λ c. loads_of c (accesses image params (choice_at schedule) t)) (range_with_len 0 params.cores)
+  pub loads_are : loads
+      ≡ map (λ c. loads_of c (accesses image params (choice_at schedule) t)) (range_with_len 0 params.cores)
   pub rest_is : (u : ℕ) → choice_at rest u ≡ choice_at schedule (t + u)
   pub going : (u : ℕ) → u < t → all_done (run image params (choice_at schedule) u) ≡ false

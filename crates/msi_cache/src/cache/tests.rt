@@ -15,7 +15,10 @@ struct Trail {
 }
 
 impl Rider for Trail {
-    ghost riding = { record { fresh = record { digits = 0 }; absorbed = λ a b. record { digits = (a.digits * 10 % 2 ^ 32 + b.digits) % 2 ^ 32 } } };
+    ghost riding = { record {
+      fresh = record { digits = 0 };
+      absorbed = λ a b. record { digits = (a.digits * 10 % 2 ^ 32 + b.digits) % 2 ^ 32 };
+    } };
 
     fn fresh() -> Self {
         Trail { digits: 0 }
@@ -32,6 +35,7 @@ impl Rider for Trail {
 enum Step {
     Load(u32),
     Store(u32),
+    Amo(u32),
     Data(u32),
     Ack,
     Inv,
@@ -49,7 +53,7 @@ enum Said {
 /// A message about the block.
 fn message(step: Step, block: u32) -> Option<FromHome<Trail>> {
     match step {
-        Step::Load(_) | Step::Store(_) => None,
+        Step::Load(_) | Step::Store(_) | Step::Amo(_) => None,
         Step::Data(mark) => Some(FromHome::BlockData {
             block,
             words: [mark; 4],
@@ -72,6 +76,7 @@ fn take(rt: &impl Abort, cache: &mut Cache<Trail>, step: Step) -> Said {
     match step {
         Step::Load(block) => ask(rt, cache, block, Kind::Load),
         Step::Store(block) => ask(rt, cache, block, Kind::Store),
+        Step::Amo(block) => ask(rt, cache, block, Kind::Amo),
         _ => {
             let heard = message(step, 4).expect(rt, "a message");
             assert!(rt; cache.expects(&heard));
@@ -142,24 +147,6 @@ fn asks_home_for_what_an_access_needs(rt: HostRuntime) -> Result<(), Fail> {
         get_s,
         (State::IsD, 0, 0),
     )?;
-    let get_m = asked(Request::GetM { block: 4 });
-    row(
-        &rt,
-        rt.alloc(),
-        &[],
-        Step::Store(4),
-        get_m,
-        (State::ImD, 0, 0),
-    )?;
-    let upgrade = asked(Request::GetM { block: 4 });
-    row(
-        &rt,
-        rt.alloc(),
-        &SHARED,
-        Step::Store(4),
-        upgrade,
-        (State::SmD, 1, 1),
-    )?;
     let put_s = asked(Request::PutS {
         block: 4,
         rider: Trail { digits: 1 },
@@ -185,6 +172,19 @@ fn asks_home_for_what_an_access_needs(rt: HostRuntime) -> Result<(), Fail> {
         put_m,
         (State::MiA, 1, 1),
     )
+}
+
+// Of the kinds of access only the load asks for less than the right to write.
+#[test]
+fn asks_to_own_what_it_is_to_write(rt: HostRuntime) -> Result<(), Fail> {
+    let alloc = rt.alloc();
+    for step in [Step::Store(4), Step::Amo(4)] {
+        let get_m = asked(Request::GetM { block: 4 });
+        row(&rt, alloc, &[], step, get_m, (State::ImD, 0, 0))?;
+        let upgrade = asked(Request::GetM { block: 4 });
+        row(&rt, alloc, &SHARED, step, upgrade, (State::SmD, 1, 1))?;
+    }
+    Ok(())
 }
 
 #[test]

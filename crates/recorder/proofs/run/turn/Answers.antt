@@ -17,12 +17,12 @@ returns-clause-stands c =
     let going : all_done (plain s) ≡ false = sym (plain_done s) ∙ ap all_done c.make_room.ensures.state ∙ c.requires.going in
     let turned : Turned s c.step_timed.new.self.state m c.ready.new.self c.step_timed.new.clerk c.args.choices.now c.next.new.self = record {
       steps = record {
-        taken = ap (chosen (plain s)) (sym c.next.ensures.choice) ∙ c.step_timed.ensures.chosen;
-        state = c.step_timed.ensures.plain;
-        told = told_lists _ _ c.ready.new.self c.step_timed.new.clerk _ _ c.step_timed.ensures.told ∙ ap (λ (e : Event). lists_told c.ready.new.self.loads.lists e) c.step_timed.ensures.event;
+        taken = ap (chosen (plain s)) (sym c.next.ensures.choice) ∙ c.step_timed.ensures.taken.plainly;
+        state = c.step_timed.ensures.moved.plainly;
+        told = told_lists _ _ c.ready.new.self c.step_timed.new.clerk _ _ c.step_timed.ensures.told ∙ ap (λ (e : Event). lists_told c.ready.new.self.loads.lists e) c.step_timed.ensures.moved.tells;
         left = c.next.ensures.rest;
       };
-      event_is = c.step_timed.ensures.event;
+      event_is = c.step_timed.ensures.moved.tells;
       carry = _;
       left = _;
       told = c.step_timed.ensures.told;
