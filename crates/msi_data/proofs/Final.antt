@@ -16,7 +16,7 @@ use Rattle.msi_directory.specs.declared.entry.Stage.TheVariants.{Unshared, Share
 use Rattle.msi_directory.specs.Table.{is_free}
 use Rattle.msi_directory.specs.Blocks.{entry_at}
 use Rattle.msi_protocol.specs.Phases.{StageFits, Out, Owner, role}
-use Rattle.msi_protocol.specs.Promises.{is_quiet, is_nil as is_none_of, Agrees, settled}
+use Rattle.msi_protocol.specs.Promises.{is_quiet, Agrees, settled}
 use Rattle.msi_protocol.proofs.Quiet.{quiet_agrees}
 use Rattle.msi_state.specs.declared.node.Mail.{Mail}
 use Rattle.msi_state.specs.declared.node.Node.{Node}
@@ -30,7 +30,7 @@ use Rattle.msi_sound.specs.Views.{node_view, block_in}
 use Rattle.msi_sound.proofs.Blocks.{there, past_view, le_or_lt}
 
 module _ {R K : Type 0} where
-  nothing_shown : (b : ℕ) (requests : List (Mail (Request R) K)) (responses : List (Mail (Response R) K)) (messages : List (Mail (FromHome R) K)) → (is_nil requests && (is_nil responses && is_nil messages)) ≡ true → (is_none_of (asks_of b requests) && is_none_of (replies_of b responses) && is_none_of (signals_of b messages)) ≡ true
+  nothing_shown : (b : ℕ) (requests : List (Mail (Request R) K)) (responses : List (Mail (Response R) K)) (messages : List (Mail (FromHome R) K)) → (is_nil requests && (is_nil responses && is_nil messages)) ≡ true → (is_nil (asks_of b requests) && is_nil (replies_of b responses) && is_nil (signals_of b messages)) ≡ true
   nothing_shown b [] [] [] e = refl
   nothing_shown b [] [] (x ∷ xs) e = absurd (cc)
   nothing_shown b [] (x ∷ xs) messages e = absurd (cc)

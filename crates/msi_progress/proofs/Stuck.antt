@@ -7,7 +7,7 @@ use Rattle.std.proofs.lemmas.List.{get_or_past}
 use Rattle.std.proofs.lemmas.Bool.Decides.{nat_tests}
 use Rattle.access_times.specs.Riding.{Riding, Carrying}
 use Rattle.rv_core.specs.Steps.{need, is_done}
-use Rattle.link_order.specs.Queue.{is_nil as is_link_nil}
+use Rattle.link_order.specs.Queue.{is_nil}
 use Rattle.msi_cache.specs.declared.line.TheConstants.{LINES}
 use Rattle.msi_cache.specs.declared.line.Line.{Line}
 use Rattle.msi_cache.specs.declared.line.State.TheVariants.{I}
@@ -22,7 +22,7 @@ use Rattle.msi_directory.specs.Blocks.{entry_at}
 use Rattle.msi_directory.specs.Table.{is_free}
 use Rattle.msi_protocol.specs.Block.{View}
 use Rattle.msi_protocol.specs.Phases.{Phase, picture, role, role_in}
-use Rattle.msi_protocol.specs.Promises.{is_nil, is_moving}
+use Rattle.msi_protocol.specs.Promises.{is_moving}
 use Rattle.msi_protocol.proofs.Keeps.{busy_moves}
 use Rattle.msi_state.specs.declared.node.Mail.{Mail}
 use Rattle.msi_state.specs.declared.node.Node.{Node}
@@ -64,7 +64,7 @@ phase_waits p w m r q = grind arith
 awaits_busy : (stage : Stage) (d : ℕ) → awaiting (role stage d) ≡ true → is_free stage ≡ false
 awaits_busy stage d e = grind arith
 
-not_nil : {X : Type 0} (xs : List X) → is_nil xs ≡ false → not (is_link_nil xs) ≡ true
+not_nil : {X : Type 0} (xs : List X) → is_nil xs ≡ false → not (is_nil xs) ≡ true
 not_nil [] e = absurd (cc)
 not_nil (x ∷ xs) e = refl
 

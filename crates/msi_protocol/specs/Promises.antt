@@ -1,5 +1,6 @@
 -- What the protocol promises of a block.
 use Rattle.std.specs.Prelude.{◌≡◌, ◌≢◌, ℕ, ◌<◌, ◌≤◌, nat_lt, Bool, true, false, not, ◌&&◌, ◌||◌, is_some, List, [], ◌∷◌, length}
+use Rattle.link_order.specs.Queue.{is_nil}
 use Rattle.rtr_types.specs.declared.TheConstants.{CORES_MAX}
 use Rattle.msi_cache.specs.declared.line.State.{State}
 use Rattle.msi_cache.specs.declared.line.State.TheVariants.{I, S, M}
@@ -18,10 +19,6 @@ pub record HasRows (b : Block) : Type 0 where
   pub request : (c : ℕ) → c < CORES_MAX → is_free b.stage ≡ true → (a : Ask) (rest : List Ask) → (b.views c).requests ≡ a ∷ rest → has_ask_row b.stage c a ≡ true
   pub response : (c : ℕ) → c < CORES_MAX → (a : Reply) (rest : List Reply) → (b.views c).responses ≡ a ∷ rest → has_reply_row b.stage c a ≡ true
   pub message : (c : ℕ) → c < CORES_MAX → (m : Signal) (rest : List Signal) → (b.views c).messages ≡ m ∷ rest → is_some (row m (b.views c).line) ≡ true
-
-abbrev pub is_nil : {X : Type 0} → List X → Bool
-is_nil [] = true
-is_nil (x ∷ xs) = false
 
 -- the core has sent a response that isn't taken, or is sent a message that isn't taken
 abbrev pub is_moving : View → Bool

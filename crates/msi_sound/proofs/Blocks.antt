@@ -43,9 +43,6 @@ le_or_lt n d = by_test (nat_lt d n) refl
     by_test true e = inr (grind (arith, nat_tests))
     by_test false e = inl (grind (arith, nat_tests))
 
-pub idle_out : (p : Phase) → picture p ≡ view I [] [] [] → role_in p ≡ Out
-idle_out p is = grind arith
-
 module _ {R K : Type 0} where
   pub no_node_view : (riding : Riding R) (carrying : Carrying K) (b : ℕ) → node_view {R = R} {K = K} riding b (no_node carrying) ≡ view I [] [] []
   no_node_view riding carrying b = by_test (0 == b)

@@ -30,7 +30,8 @@ use Rattle.msi_times.specs.Absorbing.{request_meets, response_meets, message_mee
 use Rattle.msi_times.specs.History.{NotedAccess}
 use Rattle.msi_times.specs.NodeSights.{of_block, line_if, node_sight}
 use Rattle.msi_times.specs.Retirements.{noted_accesses}
-use Rattle.msi_times.specs.Seats.{Seat, FullBlock, home_counts, put_counts}
+use Rattle.msi_state.specs.Coherent.{home_counts}
+use Rattle.msi_times.specs.Seats.{Seat, FullBlock, put_counts}
 use Rattle.msi_times.specs.Shown.{Payload, Sight, ask_with, reply_with, signal_with, line_with, entry_with}
 use Rattle.msi_times.specs.StandsFor.{TimesParts, StandsFor}
 

@@ -11,7 +11,8 @@ use Rattle.msi_directory.specs.Table.{is_free}
 use Rattle.msi_cache.specs.Table.{Signal, Ask, Reply}
 use Rattle.msi_protocol.specs.Block.{Wish, request_step}
 use Rattle.msi_protocol.specs.Phases.{role, role_in, picture, StageFits}
-use Rattle.msi_times.specs.Seats.{Seat, home_counts, seat_received, seat_wished, home_requested, seat_own, seat_other, home_responded, seat_answered, seat_others, main_of, main_at, own_count, FoundIn, FullBlock, seat_if, main, requested, responded, messaged, wishing, PhasesFit, HoldersHave, Found, is_main}
+use Rattle.msi_state.specs.Coherent.{home_counts}
+use Rattle.msi_times.specs.Seats.{Seat, seat_received, seat_wished, home_requested, seat_own, seat_other, home_responded, seat_answered, seat_others, main_of, main_at, own_count, FoundIn, FullBlock, seat_if, main, requested, responded, messaged, wishing, PhasesFit, HoldersHave, Found, is_main}
 use Rattle.msi_protocol.specs.Counting.{reply_counts}
 use Rattle.msi_times.proofs.Newest.{Grows, message_main, message_own_main, message_own_other, wish_main, wish_own, request_main_home, request_main_owned, request_own_mine, request_own_other, response_main_acks, response_main_awaits, response_stage, response_own_mine, response_own_other}
 

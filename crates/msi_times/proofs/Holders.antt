@@ -8,7 +8,8 @@ use Rattle.msi_cache.specs.Table.{Ask, Reply}
 use Rattle.msi_protocol.specs.Block.{Wish, request_step}
 use Rattle.msi_protocol.specs.Phases.{Phase, role, role_in, picture}
 use Rattle.msi_protocol.specs.NextPhases.{after_own, after_other, answered, after_others_response, received, wished}
-use Rattle.msi_times.specs.Seats.{Seat, SeatHas, put_counts, home_counts, line_received, reply_received, seat_received, put_wished, seat_wished, home_requested, seat_own, seat_other, home_responded, seat_answered, sent_served, seat_others}
+use Rattle.msi_state.specs.Coherent.{home_counts}
+use Rattle.msi_times.specs.Seats.{Seat, SeatHas, put_counts, line_received, reply_received, seat_received, put_wished, seat_wished, home_requested, seat_own, seat_other, home_responded, seat_answered, sent_served, seat_others}
 use Rattle.msi_protocol.specs.Counting.{line_counts, sent_counts, reply_counts}
 
 abbrev pub Closed : {X : Type 0} → (X → Type 0) → (X → X → X) → Type 0

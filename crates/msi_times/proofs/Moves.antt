@@ -8,7 +8,8 @@ use Rattle.msi_cache.specs.Table.{Signal, Ask, Reply}
 use Rattle.msi_protocol.specs.Block.{Wish, request_step, response_step}
 use Rattle.msi_protocol.specs.Phases.{Phase, role, role_in, picture}
 use Rattle.msi_protocol.proofs.Keeps.{own_role, other_role, message_role, wish_role, response_has_row, responder_role, others_response_role, fits_request, fits_response}
-use Rattle.msi_times.specs.Seats.{Seat, SeatHas, put_counts, home_counts, seat_received, seat_wished, home_requested, seat_own, seat_other, home_responded, seat_answered, seat_others, seat_accessed, reads_in, writes_in, FullBlock, requested, responded, messaged, wishing, accessing, PhasesFit, HoldersHave, is_away}
+use Rattle.msi_state.specs.Coherent.{home_counts}
+use Rattle.msi_times.specs.Seats.{Seat, SeatHas, put_counts, seat_received, seat_wished, home_requested, seat_own, seat_other, home_responded, seat_answered, seat_others, seat_accessed, reads_in, writes_in, FullBlock, requested, responded, messaged, wishing, accessing, PhasesFit, HoldersHave, is_away}
 use Rattle.msi_protocol.specs.Counting.{line_counts, sent_counts, reply_counts}
 use Rattle.msi_times.proofs.Holders.{Closed, received_has, wished_has, home_requested_has, own_has, other_has, home_responded_has, answered_has, others_has}
 use Rattle.msi_times.proofs.Found.{at_core}

@@ -10,7 +10,8 @@ use Rattle.msi_cache.specs.Table.{Signal, Ask, Reply}
 use Rattle.msi_protocol.specs.Block.{Wish, request_step}
 use Rattle.msi_protocol.specs.Phases.{Phase, role, role_in, picture}
 use Rattle.msi_protocol.specs.NextPhases.{received, wished}
-use Rattle.msi_times.specs.Seats.{Seat, SeatHas, put_counts, home_counts, line_received, reply_received, home_requested, seat_own, seat_other, seat_answered, seat_others, main_in, main_of, place, count_at, own_count, main, requested, responded, is_main}
+use Rattle.msi_state.specs.Coherent.{home_counts}
+use Rattle.msi_times.specs.Seats.{Seat, SeatHas, put_counts, line_received, reply_received, home_requested, seat_own, seat_other, seat_answered, seat_others, main_in, main_of, place, count_at, own_count, main, requested, responded, is_main}
 use Rattle.msi_protocol.specs.Counting.{line_counts, sent_counts, reply_counts}
 
 -- one that absorbs has what it had, and what the other had

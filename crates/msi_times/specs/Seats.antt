@@ -4,6 +4,7 @@ use Rattle.rtr_types.specs.CoreSets.{has}
 use Rattle.rtr_types.specs.declared.TheConstants.{CORES_MAX}
 use Rattle.msi_cache.specs.Table.{Ask, Reply}
 use Rattle.msi_directory.specs.declared.entry.Stage.{Stage}
+use Rattle.msi_state.specs.Coherent.{home_counts}
 use Rattle.msi_directory.specs.declared.entry.Stage.TheVariants.{Shared, Owned, Acks, Data}
 use Rattle.msi_protocol.specs.Block.{Wish, ToEvict, request_step, response_step}
 use Rattle.msi_protocol.specs.Counting.{line_counts, sent_counts, reply_counts}
@@ -28,11 +29,6 @@ put_counts (PutsTold p) = true
 put_counts (PutsMTold s) = true
 put_counts (GavePuts p) = true
 put_counts _ = false
-
-abbrev pub home_counts : Stage → Bool
-home_counts (Owned o) = false
-home_counts (Data owing r s) = false
-home_counts _ = true
 
 -- each copy that counts has the property, and a put under way is its line's
 pub record SeatHas {X : Type 0} (P : X → Type 0) (s : Seat X) : Type 0 where
