@@ -1,12 +1,12 @@
 -- What each way to end says of the input and the output.
-use Rattle.std.specs.Prelude.{◌≡◌, ℕ, ◌+◌, ◌≤◌, ◌⊎◌, List, length, Option, Ok, Err}
+use Rattle.std.specs.Prelude.{◌≡◌, ℕ, ◌+◌, ◌≤◌, ◌⊎◌, List, length, Option, Ok}
 use Rattle.std.specs.Io.KnownBytes.{Appends, Consumes, IsAtEnd, Keeps}
 use Rattle.rtr_io.specs.Faults.{HasRisen}
 use Rattle.rtr_io.specs.Moved.{GivesPart, TakesJust}
 use Rattle.state_text.specs.declared.exit.Exit.{Exit}
-use Rattle.state_text.specs.declared.exit.Exit.TheVariants.{Done, Usage, TooLarge, Bad, ReadFault, WriteFault, OutOfMemory}
+use Rattle.state_text.specs.declared.exit.Exit.TheVariants as exits
 use Rattle.tool_words.specs.declared.command.Command.{Command}
-use Rattle.rtr_cli.specs.Commands.{Promised, made, most_of}
+use Rattle.rtr_cli.specs.Commands.{Promised, Refuses, made, most_of}
 
 -- the input was read to its end, and these bytes were its rest; there are at most `most` of them
 pub record IsRead (most : ℕ) (old new : Option (List ℕ)) (bytes : List ℕ) : Type 0 where
@@ -14,20 +14,31 @@ pub record IsRead (most : ℕ) (old new : Option (List ℕ)) (bytes : List ℕ) 
   pub end : IsAtEnd new
   pub within : length bytes ≤ most
 
+-- the input was read to its end and is refused so, and nothing was given
+abbrev pub GivesNothing : Command → Exit → (left left' got got' : Option (List ℕ)) → Type 0
+GivesNothing command exit left left' got got' =
+    (input : List ℕ) × IsRead (most_of command) left left' input × Refuses command input exit × Keeps got got'
+
 -- what a command's exit says of the bytes that the input had left and of those that the output got.
 -- At Done the output got exactly what the command makes of the input, which is as promised, and at
 -- WriteFault a part of it.
 abbrev pub Answers : Command → Exit → (left left' got got' : Option (List ℕ)) → Type 0
-Answers command Done left left' got got' =
-    (input : List ℕ) × (out : List ℕ) × IsRead (most_of command) left left' input × (made command input ≡ Ok out) × Promised command input × Appends got got' out
-Answers command WriteFault left left' got got' =
-    (input : List ℕ) × (out : List ℕ) × IsRead (most_of command) left left' input × (made command input ≡ Ok out) × GivesPart out got got'
-Answers command (Bad part) left left' got got' =
-    (input : List ℕ) × IsRead (most_of command) left left' input × (made command input ≡ Err part) × Keeps got got'
-Answers command TooLarge left left' got got' = TakesJust (most_of command + 1) left left' × Keeps got got'
-Answers command ReadFault left left' got got' = Keeps got got'
-Answers command OutOfMemory left left' got got' = Keeps got got'
-Answers command Usage left left' got got' = ⊥
+Answers command exits.Done left left' got got' =
+    (input : List ℕ) × (out : List ℕ) × IsRead (most_of command) left left' input
+    × (made command input ≡ Ok out) × Promised command input × Appends got got' out
+Answers command exits.WriteFault left left' got got' =
+    (input : List ℕ) × (out : List ℕ) × IsRead (most_of command) left left' input
+    × (made command input ≡ Ok out) × GivesPart out got got'
+Answers command (exits.Bad part) left left' got got' = GivesNothing command (exits.Bad part) left left' got got'
+Answers command (exits.Stuck cut) left left' got got' = GivesNothing command (exits.Stuck cut) left left' got got'
+Answers command (exits.Short core count) left left' got got' =
+    GivesNothing command (exits.Short core count) left left' got got'
+Answers command (exits.Undetermined first second) left left' got got' =
+    GivesNothing command (exits.Undetermined first second) left left' got got'
+Answers command exits.TooLarge left left' got got' = TakesJust (most_of command + 1) left left' × Keeps got got'
+Answers command exits.ReadFault left left' got got' = Keeps got got'
+Answers command exits.OutOfMemory left left' got got' = Keeps got got'
+Answers command exits.Usage left left' got got' = ⊥
 
 -- the report got exactly the text, unless its count of faults rose: then a part of it
 abbrev pub Tells : (text : List ℕ) (got got' : Option (List ℕ)) (faults faults' : ℕ) → Type 0

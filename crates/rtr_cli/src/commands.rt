@@ -1,24 +1,29 @@
 //! What each command makes of its input, before a byte is given.
-ghost use Rattle.std.specs.Prelude.{◌≡◌, ◌*◌, ◌≤◌, IfOk, OnOk, vec_len};
+ghost use Rattle.std.specs.Prelude.{◌≡◌, ◌*◌, ◌≤◌, IfErr, IfOk, MatchResult, OnOk, Ok, vec_len};
 ghost use Rattle.conflict_edge.specs.Least.{IsLeast};
-ghost use Rattle.log_codec.specs.Faults.{Gives};
 ghost use Rattle.log_codec.specs.Sources.{log_edges};
-ghost use Rattle.rtr_types.specs.declared.pairs.Which.TheVariants.{Reduced};
 ghost use Rattle.log_codec.specs.Spelling.{spelling};
+ghost use Rattle.log_codec.specs.Validity.{Valid};
 ghost use Rattle.run_outcome.specs.Outcomes.{outcome_of};
 ghost use Rattle.recorder.specs.Recordings.{run_accesses, recording_of};
+ghost use Rattle.replay_audit.specs.Audits.{EveryOrderAgrees, IsAuditOf};
+ghost use Rattle.replay_audit.specs.Determinate.{IsDeterminate, low_outcome};
+ghost use Rattle.replay_core.specs.Plans.{recorded_image as recorded_image};
 ghost use Rattle.rtr_types.specs.Parameters.{Fits};
+ghost use Rattle.rtr_types.specs.declared.pairs.Which.TheVariants.{Reduced};
 ghost use Rattle.state_text.specs.States.{state_lines};
 ghost use Rattle.tool_words.specs.Commands.{HasFittingParams};
-ghost use Rattle.rtr_cli.specs.Commands.{Promised, image_of, made, most_of, outcome_of_input, recording_of_input, logs_of};
+ghost use Rattle.rtr_cli.specs.Commands.{AuditEnds, Promised, Refuses, image_of, made, most_of};
 
 use image_mem::Image;
-use log_codec::{CodecFault, Recording, read, spell};
+use log_codec::{Recording, read, spell};
 use recorder::{Recorded, record_run};
-use rtr_types::Params;
+use replay_audit::laws::replays_fit_their_plan;
+use replay_audit::{AuditFault, Audited, audit};
+use rtr_types::{Params, Which};
 use run_outcome::laws::a_run_fits_its_image;
 use schedule_pick::Schedule;
-use state_text::{logs_text, state_text};
+use state_text::{Exit, logs_text, state_text};
 use std::alloc::{AllocError, Global};
 use tool_words::Command;
 
@@ -31,16 +36,17 @@ pub(crate) fn most_of(command: &Command) -> usize
 {
     match command {
         Command::Record { params, .. } | Command::Run { params, .. } => 4 * params.words as usize,
-        Command::Print => RECORDING_BYTES_MAX,
+        Command::Print | Command::Replay { .. } => RECORDING_BYTES_MAX,
     }
 }
 
-/// The whole output of the command for this input.
-pub(crate) fn make(alloc: Global, command: Command, bytes: Vec<u8>) -> Result<Vec<u8>, CodecFault>
+/// The whole output of the command for this input, or how the command ends without one.
+pub(crate) fn make(alloc: Global, command: Command, bytes: Vec<u8>) -> Result<Vec<u8>, Exit>
     requires fits { HasFittingParams command }
     requires within { vec_len bytes ≤ most_of command }
-    ensures made { Gives (λ out. out.items) result (made command bytes.items) }
+    ensures made { IfOk result (λ out. made command bytes.items ≡ Ok out.items) }
     ensures promised { OnOk result (Promised command bytes.items) }
+    ensures refused { IfErr result (Refuses command bytes.items) }
 {
     match command {
         Command::Record {
@@ -63,6 +69,10 @@ pub(crate) fn make(alloc: Global, command: Command, bytes: Vec<u8>) -> Result<Ve
         Command::Print => {
             let recording = read(alloc, bytes.as_slice())?;
             Ok(logs_text(alloc, &recording)?)
+        }
+        Command::Replay { which, loads } => {
+            let recording = read(alloc, bytes.as_slice())?;
+            replay(alloc, recording, which, loads)
         }
     }
 }
@@ -102,6 +112,43 @@ fn run(
     let Recording { image: bytes, .. } = recording;
     let image = image(bytes.into_vec(), params.words);
     state_text(alloc, &outcome, &image, loads)
+}
+
+/// The text of how the low order of the recording's log ends, where the recording is determinate by it.
+fn replay(alloc: Global, recording: Recording, which: Which, loads: bool) -> Result<Vec<u8>, Exit>
+    requires { Valid recording }
+    ensures made { IfOk result (λ out.
+        out.items ≡ state_lines (low_outcome which recording) (recorded_image recording) loads) }
+    ensures determinate { OnOk result (IsDeterminate which recording × EveryOrderAgrees which recording) }
+    ensures refused { IfErr result (AuditEnds which recording) }
+{
+    replays_fit_their_plan();
+    let audited = audited(alloc, recording, which)?;
+    let (recording, outcome) = audited.into_parts();
+    let Recording {
+        params,
+        image: bytes,
+        ..
+    } = recording;
+    let image = image(bytes.into_vec(), params.words);
+    Ok(state_text(alloc, &outcome, &image, loads)?)
+}
+
+/// The audit of the recording by one of its logs, or how a command ends that needs it.
+fn audited(alloc: Global, recording: Recording, which: Which) -> Result<Audited, Exit>
+    requires { Valid recording }
+    ensures { MatchResult result (IsAuditOf which recording) (AuditEnds which recording) }
+{
+    match audit(alloc, recording, which) {
+        Ok(audited) => Ok(audited),
+        Err(AuditFault::Stuck { cut }) => Err(Exit::Stuck { cut }),
+        Err(AuditFault::Short { core, count }) => Err(Exit::Short { core, count }),
+        Err(AuditFault::Undetermined { first, second }) => Err(Exit::Undetermined {
+            first,
+            second,
+        }),
+        Err(AuditFault::OutOfMemory) => Err(Exit::OutOfMemory),
+    }
 }
 
 /// The image of these bytes, which fit into the memory.

@@ -9,7 +9,6 @@ ghost use Rattle.rtr_cli.specs.Answers.{Answers, Tells};
 ghost use Rattle.tool_words.specs.declared.command.Command.{Command};
 
 use crate::commands::{make, most_of};
-use log_codec::CodecFault;
 use rtr_io::{ReadEnd, Sink, Source, WriteFault, read_all, write_all};
 use state_text::{Exit, fault_text};
 use std::alloc::{AllocError, Global};
@@ -20,11 +19,13 @@ use tool_words::{Command, meaning, what_words_mean_fits};
 ///
 /// `Usage` comes exactly where the words mean nothing, and then neither input nor output is touched.
 /// `TooLarge` comes exactly where the input has more bytes than the command takes, `Bad` exactly where it
-/// was read to its end and has no reading, with the first part that has none. `ReadFault` and
-/// `WriteFault` come only where the count of faults of the input or the output rose in this call, and
-/// `OutOfMemory` for want of memory alone. The whole output is made before a byte is given, so every
-/// refusal but `WriteFault` has given nothing. The report gets the exit's text, which is empty for `Done`;
-/// its faults change no exit.
+/// was read to its end and has no reading, with the first part that has none. `Stuck`, `Short` and
+/// `Undetermined` come in `replay` alone, exactly where the input spells a recording and, by the chosen log,
+/// its low order ends before it is whole, falls short, or has two accesses unordered that conflict.
+/// `ReadFault` and `WriteFault` come only where the count of faults of the input or the output rose in this
+/// call, and `OutOfMemory` for want of memory alone. The whole output is made before a byte is given, so
+/// every refusal but `WriteFault` has given nothing. The report gets the exit's text, which is empty for
+/// `Done`; its faults change no exit.
 pub fn run_tool<I: Source, O: Sink, E: Sink>(
     alloc: Global,
     words: &[String],
@@ -76,8 +77,7 @@ fn perform<I: Source, O: Sink>(
     };
     let out = match make(alloc, command, bytes) {
         Ok(out) => out,
-        Err(CodecFault::Bad { part }) => return Exit::Bad { part },
-        Err(CodecFault::OutOfMemory) => return Exit::OutOfMemory,
+        Err(exit) => return exit,
     };
     match write_all(output, out.as_slice()) {
         Ok(()) => Exit::Done,

@@ -9,6 +9,8 @@ mod faults;
 #[cfg(test)]
 mod record_tables;
 #[cfg(test)]
+mod replay_tables;
+#[cfg(test)]
 mod run_tables;
 #[cfg(test)]
 mod tables;

@@ -42,7 +42,8 @@ const READ_IN_TURN: &str =
 /// addi x5,x10,9; bne x10,x0,+20; sw x5,64(x0); sw x5,68(x0); sw x5,72(x0); ecall; lw x6,64(x0); lw x7,68(x0);
 /// addi x0,x0,0 twice; lw x8,72(x0); ecall: core 0 writes three words of a block, which core 1 reads, the last
 /// one after two instructions more.
-const THREE_WORDS: &str = "93029500 631a0500 23205004 23225004 23245004 73000000 03230004 83234004 \
+pub const THREE_WORDS: &str =
+    "93029500 631a0500 23205004 23225004 23245004 73000000 03230004 83234004 \
     13000000 13000000 03248004 73000000";
 
 /// What is said of a recording of `OWN_WORDS`, whose cores share no word.

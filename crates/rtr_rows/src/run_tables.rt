@@ -436,7 +436,7 @@ pub static RUNS: [Run; 17] = [
 ];
 
 /// Words that mean nothing.
-pub static FAULTY: [&str; 41] = [
+pub static FAULTY: [&str; 46] = [
     "run --cores 9",
     "run --cores 0",
     "run --cores 01",
@@ -476,6 +476,11 @@ pub static FAULTY: [&str; 41] = [
     "print --seed 0",
     "print --loads",
     "record --loads",
+    "record --log reduced",
+    "replay --log",
+    "replay --log=last",
+    "replay --log reduced --log reduced",
+    "replay --loads --loads",
     "record --cores 9",
     "record --choices 0",
 ];

@@ -534,7 +534,7 @@ pub static ROWS: [Row; 47] = [
         report: "rtr: usage\n",
     },
     Row {
-        words: "replay",
+        words: "replay --limit 1",
         input: "73000000",
         copies: 1,
         status: 1,

@@ -1,5 +1,6 @@
 use crate::calls::{ask, bytes, input_of, output_of, recording_of};
 use crate::record_tables::RECORDINGS;
+use crate::replay_tables::REPLAYS;
 use crate::run_tables::{FAULTY, RUNS};
 use crate::tables::{CUT_PARTS, CUT_RECORDING, ROWS};
 use std::test::Fail;
@@ -72,6 +73,47 @@ fn each_run_is_recorded_and_printed(rt: HostRuntime) -> Result<(), Fail> {
             row.words
         );
         assert_eq!(rt; said.report.as_slice(), b"".as_slice(), "{}", row.words);
+    }
+    Ok(())
+}
+
+#[test]
+fn each_recording_replays_its_run(rt: HostRuntime) -> Result<(), Fail> {
+    let alloc = rt.alloc();
+    for row in &RECORDINGS {
+        let options = row.words.strip_prefix("record").unwrap_or("");
+        let words = format!(in alloc; "run{options} --loads")?;
+        let run = ask(alloc, &words, bytes(alloc, row.image)?)?;
+        let replay = ask(alloc, "replay --loads", recording_of(alloc, row)?)?;
+        assert_eq!(rt; replay.status, 0, "{words}");
+        assert_eq!(rt; replay.output.as_slice(), run.output.as_slice(), "{words}");
+        assert_eq!(rt; replay.report.as_slice(), b"".as_slice(), "{words}");
+    }
+    Ok(())
+}
+
+#[test]
+fn each_log_is_replayed_or_refused(rt: HostRuntime) -> Result<(), Fail> {
+    let alloc = rt.alloc();
+    for row in &REPLAYS {
+        let mut recording = bytes(alloc, row.header)?;
+        for piece in [row.image, row.logs] {
+            let piece = bytes(alloc, piece)?;
+            recording.extend_from_slice(piece.as_slice())?;
+        }
+        let (words, logs) = (row.words, row.logs);
+        let answer = ask(alloc, words, recording)?;
+        assert_eq!(rt; answer.status, row.status, "{words}: {logs}");
+        assert_eq!(rt;
+            answer.output.as_slice(),
+            row.text.as_bytes(),
+            "{words}: {logs}"
+        );
+        assert_eq!(rt;
+            answer.report.as_slice(),
+            row.report.as_bytes(),
+            "{words}: {logs}"
+        );
     }
     Ok(())
 }

@@ -1,7 +1,12 @@
 -- The exit status and the fault text of each way to end.
-use Rattle.std.specs.Prelude.{ℕ, List, [], ◌++◌, codes, decimal}
+use Rattle.std.specs.Prelude.{ℕ, List, [], ◌++◌, codes, decimal, take}
+use Rattle.std.specs.List.{flat_map}
+use Rattle.rtr_types.specs.declared.cut.Cut.{Cut}
+use Rattle.rtr_types.specs.declared.instr.Instr.{Instr}
+use Rattle.log_codec.specs.declared.codec_fault.CodecFault.{CodecFault}
+use Rattle.log_codec.specs.declared.codec_fault.CodecFault.TheVariants as faults
 use Rattle.state_text.specs.declared.exit.Exit.{Exit}
-use Rattle.state_text.specs.declared.exit.Exit.TheVariants.{Done, Usage, TooLarge, Bad, ReadFault, WriteFault, OutOfMemory}
+use Rattle.state_text.specs.declared.exit.Exit.TheVariants.{Done, Usage, TooLarge, Bad, Stuck, Short, Undetermined, ReadFault, WriteFault, OutOfMemory}
 use Rattle.state_text.specs.Pieces.{line}
 
 -- the exit status: a number of the tool's whole table, so that it stays where further ways to end come
@@ -10,9 +15,23 @@ status_of Done = 0
 status_of Usage = 1
 status_of TooLarge = 2
 status_of (Bad part) = 3
+status_of (Stuck cut) = 4
+status_of (Short core count) = 5
+status_of (Undetermined first second) = 6
 status_of ReadFault = 8
 status_of WriteFault = 9
 status_of OutOfMemory = 10
+
+-- the counts of a cut, core 0 first, each after a space
+abbrev pub count_text : ℕ → List ℕ
+count_text count = codes " " ++ decimal count
+
+abbrev pub counts_text : Cut → List ℕ
+counts_text cut = flat_map count_text (take cut.cores cut.counts)
+
+-- an instruction: its core and its count
+abbrev pub instr_text : Instr → List ℕ
+instr_text at = decimal at.core ++ codes ":" ++ decimal at.count
 
 -- what the report gets: nothing, or one line
 abbrev pub fault_line : Exit → List ℕ
@@ -20,6 +39,15 @@ fault_line Done = []
 fault_line Usage = line (codes "rtr: usage")
 fault_line TooLarge = line (codes "rtr: input too large")
 fault_line (Bad part) = line (codes "rtr: bad input, part " ++ decimal part)
+fault_line (Stuck cut) = line (codes "rtr: stuck at" ++ counts_text cut)
+fault_line (Short core count) = line (codes "rtr: core " ++ decimal core ++ codes " stops at " ++ decimal count)
+fault_line (Undetermined first second) =
+    line (codes "rtr: no order from " ++ instr_text first ++ codes " to " ++ instr_text second)
 fault_line ReadFault = line (codes "rtr: read fault")
 fault_line WriteFault = line (codes "rtr: write fault")
 fault_line OutOfMemory = line (codes "rtr: out of memory")
+
+-- how a command ends whose input can't be read
+abbrev pub exit_of : CodecFault → Exit
+exit_of (faults.Bad part) = Bad part
+exit_of faults.OutOfMemory = OutOfMemory

@@ -1,6 +1,11 @@
 //! How a command of the tool ends.
 ghost use Rattle.std.specs.Prelude.{◌≡◌};
-ghost use Rattle.state_text.specs.Exits.{status_of};
+ghost use Rattle.state_text.specs.Exits.{exit_of, status_of};
+ghost use Rattle.state_text.specs.declared.exit.Exit.TheVariants.{OutOfMemory};
+
+use log_codec::CodecFault;
+use rtr_types::{Cut, Instr};
+use std::alloc::AllocError;
 
 /// How a command of the tool ended.
 #[derive(Clone, Copy, Debug, PartialEq, Eq)]
@@ -14,6 +19,14 @@ pub enum Exit {
     /// The input was read to its end and spells nothing that the command reads. `part` is the first
     /// part of it that has no reading; parts are counted from 1.
     Bad { part: u8 },
+    /// No core of the replay may retire its next instruction by the log, and not all are at their totals.
+    /// The cut says how far each has come.
+    Stuck { cut: Cut },
+    /// In the replay the core's program is done after `count` instructions, which are fewer than the
+    /// recording says.
+    Short { core: u8, count: u32 },
+    /// The log leaves open in which order these two accesses come, which conflict.
+    Undetermined { first: Instr, second: Instr },
     /// The input could not be read.
     ReadFault,
     /// The output could not be written.
@@ -23,8 +36,7 @@ pub enum Exit {
 }
 
 impl Exit {
-    /// The exit status of the process. The statuses from 4 to 7 are those of the refusals of a replay
-    /// and of a check.
+    /// The exit status of the process. The status 7 is that of the refusals of a check.
     pub fn status(&self) -> u8
         ensures { result ≡ status_of self.now }
     {
@@ -33,9 +45,31 @@ impl Exit {
             Exit::Usage => 1,
             Exit::TooLarge => 2,
             Exit::Bad { .. } => 3,
+            Exit::Stuck { .. } => 4,
+            Exit::Short { .. } => 5,
+            Exit::Undetermined { .. } => 6,
             Exit::ReadFault => 8,
             Exit::WriteFault => 9,
             Exit::OutOfMemory => 10,
+        }
+    }
+}
+
+impl From<AllocError> for Exit {
+    ghost from_gives = { λ _ exit. exit ≡ OutOfMemory };
+
+    fn from(_error: AllocError) -> Self {
+        Exit::OutOfMemory
+    }
+}
+
+impl From<CodecFault> for Exit {
+    ghost from_gives = { λ fault exit. exit ≡ exit_of fault };
+
+    fn from(fault: CodecFault) -> Self {
+        match fault {
+            CodecFault::Bad { part } => Exit::Bad { part },
+            CodecFault::OutOfMemory => Exit::OutOfMemory,
         }
     }
 }

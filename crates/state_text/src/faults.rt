@@ -1,13 +1,17 @@
 //! The text that tells why a command gave up.
-ghost use Rattle.std.specs.Prelude.{◌≡◌, ◌+◌, ◌≤◌, [], ◌++◌, length, decimal};
-ghost use Rattle.state_text.specs.Exits.{fault_line};
+ghost use Rattle.std.specs.Prelude.{◌≡◌, ◌+◌, ◌*◌, ◌≤◌, [], ◌++◌, length, decimal};
+ghost use Rattle.state_text.specs.Exits.{count_text, counts_text, fault_line, instr_text};
 
 use crate::exit::Exit;
 use itoa::Buffer;
+use rtr_types::{CORES_MAX, Cut, Instr};
 use std::marker::Model;
 
 /// The most bytes that a fault text has.
 pub const FAULT_TEXT_MAX: usize = 256;
+
+/// The most digits of a number of 32 bits.
+const DIGITS_MAX: usize = 10;
 
 /// A text of at most 256 bytes that stands inline, so that it can be made where memory ran out.
 #[derive(Drop)]
@@ -55,14 +59,47 @@ impl FaultText {
         self.used = end;
     }
 
-    // Puts a decimal number at the end. It has at most 40 digits.
+    // Puts a decimal number at the end.
     fn put_number(&mut self, number: u32)
-        requires { length self.old + 40 ≤ FAULT_TEXT_MAX }
+        requires { length self.old + DIGITS_MAX ≤ FAULT_TEXT_MAX }
         ensures text { self.new ≡ self.old ++ decimal number }
-        ensures short { length self.new ≤ length self.old + 40 }
+        ensures short { length self.new ≤ length self.old + DIGITS_MAX }
     {
         let mut buffer = Buffer::new();
         self.put(buffer.format(number).as_bytes());
+    }
+
+    // Puts the core and the count of an instruction at the end.
+    fn put_instr(&mut self, at: Instr)
+        requires { length self.old + 2 * DIGITS_MAX + 1 ≤ FAULT_TEXT_MAX }
+        ensures text { self.new ≡ self.old ++ instr_text at }
+        ensures short { length self.new ≤ length self.old + 2 * DIGITS_MAX + 1 }
+    {
+        self.put_number(at.core.into());
+        self.put(b":");
+        self.put_number(at.count);
+    }
+
+    // Puts a space and a count at the end.
+    fn put_count(&mut self, count: u32)
+        requires { length self.old + DIGITS_MAX + 1 ≤ FAULT_TEXT_MAX }
+        ensures text { self.new ≡ self.old ++ count_text count }
+        ensures short { length self.new ≤ length self.old + DIGITS_MAX + 1 }
+    {
+        self.put(b" ");
+        self.put_number(count);
+    }
+
+    // Puts the counts of a cut at the end, each after a space.
+    fn put_counts(&mut self, cut: &Cut)
+        requires { length self.old + (DIGITS_MAX + 1) * CORES_MAX ≤ FAULT_TEXT_MAX }
+        ensures text { self.new ≡ self.old ++ counts_text cut.now }
+        ensures short { length self.new ≤ length self.old + (DIGITS_MAX + 1) * CORES_MAX }
+    {
+        let cores = cut.counts.len().min(cut.cores.into());
+        for count in &cut.counts[..cores] {
+            self.put_count(*count);
+        }
     }
 }
 
@@ -79,6 +116,25 @@ pub fn fault_text(exit: &Exit) -> FaultText
         Exit::Bad { part } => {
             text.put(b"rtr: bad input, part ");
             text.put_number((*part).into());
+            text.put(b"\n");
+        }
+        Exit::Stuck { cut } => {
+            text.put(b"rtr: stuck at");
+            text.put_counts(cut);
+            text.put(b"\n");
+        }
+        Exit::Short { core, count } => {
+            text.put(b"rtr: core ");
+            text.put_number((*core).into());
+            text.put(b" stops at ");
+            text.put_number(*count);
+            text.put(b"\n");
+        }
+        Exit::Undetermined { first, second } => {
+            text.put(b"rtr: no order from ");
+            text.put_instr(*first);
+            text.put(b" to ");
+            text.put_instr(*second);
             text.put(b"\n");
         }
         Exit::ReadFault => text.put(b"rtr: read fault\n"),

@@ -4,7 +4,7 @@ ghost use Rattle.std.specs.Prelude.{◌≡◌, ◌≤◌, ◌∷◌, [], IfOk, l
 use crate::{Exit, fault_text, logs_text, state_text};
 use image_mem::Image;
 use log_codec::Recording;
-use rtr_types::{Items, Params, WORDS_MAX};
+use rtr_types::{CORES_MAX, Cut, Instr, Items, Params, WORDS_MAX};
 use rv_core::{Core, Halt, LoadNote, Outcome};
 use std::alloc::{AllocError, Global};
 use std::test::Fail;
@@ -21,15 +21,40 @@ fn image_of(alloc: Global, words: &[u32], room: u32) -> Result<Image, Fail>
     Ok(Image::flat(bytes, room)?)
 }
 
+/// A place for each core, as the length of an array.
+const PLACES: usize = CORES_MAX as usize;
+
+// Two cores that have each retired one instruction.
+fn one_each() -> Cut {
+    let mut counts = [0; PLACES];
+    counts[0] = 1;
+    counts[1] = 1;
+    Cut { cores: 2, counts }
+}
+
 // Every exit, with its status and its text.
 #[test]
 fn exits(rt: HostRuntime) {
+    let cut = one_each();
+    let first = Instr { core: 0, count: 2 };
+    let second = Instr { core: 1, count: 2 };
     let rows = [
         (Exit::Done, 0, ""),
         (Exit::Usage, 1, "rtr: usage\n"),
         (Exit::TooLarge, 2, "rtr: input too large\n"),
         (Exit::Bad { part: 4 }, 3, "rtr: bad input, part 4\n"),
         (Exit::Bad { part: 255 }, 3, "rtr: bad input, part 255\n"),
+        (Exit::Stuck { cut }, 4, "rtr: stuck at 1 1\n"),
+        (
+            Exit::Short { core: 0, count: 3 },
+            5,
+            "rtr: core 0 stops at 3\n",
+        ),
+        (
+            Exit::Undetermined { first, second },
+            6,
+            "rtr: no order from 0:2 to 1:2\n",
+        ),
         (Exit::ReadFault, 8, "rtr: read fault\n"),
         (Exit::WriteFault, 9, "rtr: write fault\n"),
         (Exit::OutOfMemory, 10, "rtr: out of memory\n"),
@@ -38,6 +63,17 @@ fn exits(rt: HostRuntime) {
         assert_eq!(rt; exit.status(), status);
         assert_eq!(rt; fault_text(&exit).bytes(), text.as_bytes());
     }
+}
+
+// The longest text has a count of ten digits for each core.
+#[test]
+fn longest_exit(rt: HostRuntime) {
+    let cut = Cut {
+        cores: CORES_MAX,
+        counts: [u32::MAX; PLACES],
+    };
+    let text = fault_text(&Exit::Stuck { cut });
+    assert_eq!(rt; text.bytes().len(), 13 + 11 * PLACES + 1);
 }
 
 // The recording of one ECALL.

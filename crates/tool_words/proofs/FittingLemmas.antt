@@ -8,14 +8,14 @@ use Rattle.rtr_types.specs.declared.TheConstants.{CORES_MAX}
 use Rattle.rtr_types.specs.declared.params.TheConstants.{LIMIT_MAX, WORDS_MIN, WORDS_MAX}
 use Rattle.tool_words.specs.declared.command.Command.{Command}
 use Rattle.tool_words.specs.declared.command.Verb.{Verb}
-use Rattle.tool_words.specs.declared.command.Verb.TheVariants.{Record, Run, Print}
+use Rattle.tool_words.specs.declared.command.Verb.TheVariants.{Record, Run, Print, Replay}
 use Rattle.tool_words.specs.declared.options.Name.{Name}
-use Rattle.tool_words.specs.declared.options.Name.TheVariants.{Cores, Limit, Words, Choices, Seed, Loads}
+use Rattle.tool_words.specs.declared.options.Name.TheVariants.{Cores, Limit, Words, Choices, Seed, Log, Loads}
 use Rattle.tool_words.specs.Settings.{Settings}
 use Rattle.tool_words.specs.Numerals.{is_numeral, number_between}
 use Rattle.tool_words.specs.declared.options.TheConstants.{CORES_DEFAULT, LIMIT_DEFAULT, WORDS_DEFAULT}
 use Rattle.tool_words.specs.Choices.{are_choices}
-use Rattle.tool_words.specs.Options.{is_set, no_settings, params_of, put, put_new, whole_blocks}
+use Rattle.tool_words.specs.Options.{is_set, log_named, no_settings, params_of, put, put_new, whole_blocks}
 use Rattle.tool_words.specs.Commands.{HasFittingParams, command_of, verb_named}
 use Rattle.tool_words.specs.Reading.{Set, settings, settled, settled_by, FittingLaw}
 
@@ -109,6 +109,9 @@ put_new-fits s t Choices text h fit =
 put_new-fits s t Seed text h fit =
     let made = map-some (λ n. record s { seed = Some n }) (number_between 0 (2 ^ 64 - 1) text) t h in
     alike s t (ap (λ u. u.cores) (sym made.2)) (ap (λ u. u.limit) (sym made.2)) (ap (λ u. u.words) (sym made.2)) fit
+put_new-fits s t Log text h fit =
+    let made = map-some (λ w. record s { log = Some w }) (log_named text) t h in
+    alike s t (ap (λ u. u.cores) (sym made.2)) (ap (λ u. u.limit) (sym made.2)) (ap (λ u. u.words) (sym made.2)) fit
 put_new-fits s t Loads text h fit =
     let same : record s { loads = true } ≡ t = cc in
     alike s t (ap (λ u. u.cores) (sym same)) (ap (λ u. u.limit) (sym same)) (ap (λ u. u.words) (sym same)) fit
@@ -152,6 +155,7 @@ command-fits : (verb : Verb) (s : Settings) → AreFitting s → HasFittingParam
 command-fits Record s fit = params-fit s fit
 command-fits Run s fit = params-fit s fit
 command-fits Print s fit = tt
+command-fits Replay s fit = tt
 
 pub fitting_law : FittingLaw
 fitting_law [] command h = absurd (cc)

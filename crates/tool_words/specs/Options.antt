@@ -3,12 +3,14 @@ use Rattle.std.specs.Prelude.{ℕ, ◌%◌, ◌-◌, ◌^◌, ◌==◌, Bool, tr
 use Rattle.std.specs.Option.{option_and_then, option_map}
 use Rattle.std.specs.Str.{bytes_eq}
 use Rattle.rtr_types.specs.declared.params.Params.{Params}
+use Rattle.rtr_types.specs.declared.pairs.Which.{Which}
+use Rattle.rtr_types.specs.declared.pairs.Which.TheVariants.{Reduced, Regulated}
 use Rattle.rtr_types.specs.declared.TheConstants.{CORES_MAX}
 use Rattle.rtr_types.specs.declared.params.TheConstants.{LIMIT_MAX, WORDS_MIN, WORDS_MAX}
 use Rattle.tool_words.specs.declared.command.Verb.{Verb}
-use Rattle.tool_words.specs.declared.command.Verb.TheVariants.{Record, Run, Print}
+use Rattle.tool_words.specs.declared.command.Verb.TheVariants.{Record, Run, Print, Replay}
 use Rattle.tool_words.specs.declared.options.Name.{Name}
-use Rattle.tool_words.specs.declared.options.Name.TheVariants.{Cores, Limit, Words, Choices, Seed, Loads}
+use Rattle.tool_words.specs.declared.options.Name.TheVariants.{Cores, Limit, Words, Choices, Seed, Log, Loads}
 use Rattle.tool_words.specs.Settings.{Settings}
 use Rattle.tool_words.specs.declared.options.TheConstants.{CORES_DEFAULT, LIMIT_DEFAULT, WORDS_DEFAULT, BLOCK}
 use Rattle.tool_words.specs.Choices.{are_choices}
@@ -22,6 +24,7 @@ option_named word =
     if bytes_eq word (codes "--words") then Some Words else
     if bytes_eq word (codes "--choices") then Some Choices else
     if bytes_eq word (codes "--seed") then Some Seed else
+    if bytes_eq word (codes "--log") then Some Log else
     if bytes_eq word (codes "--loads") then Some Loads else None
 
 -- the command takes the option
@@ -31,9 +34,23 @@ takes Record Limit = true
 takes Record Words = true
 takes Record Choices = true
 takes Record Seed = true
+takes Record Log = false
 takes Record Loads = false
-takes Run name = true
+takes Run Cores = true
+takes Run Limit = true
+takes Run Words = true
+takes Run Choices = true
+takes Run Seed = true
+takes Run Log = false
+takes Run Loads = true
 takes Print name = false
+takes Replay Cores = false
+takes Replay Limit = false
+takes Replay Words = false
+takes Replay Choices = false
+takes Replay Seed = false
+takes Replay Log = true
+takes Replay Loads = true
 
 -- the option that a word names, where the command takes it
 abbrev pub option_of : Verb → List ℕ → Option Name
@@ -46,15 +63,22 @@ takes_value Limit = true
 takes_value Words = true
 takes_value Choices = true
 takes_value Seed = true
+takes_value Log = true
 takes_value Loads = false
 
 -- no option is set
 abbrev pub no_settings : Settings
-no_settings = record { cores = None; limit = None; words = None; choices = None; seed = None; loads = false }
+no_settings = record { cores = None; limit = None; words = None; choices = None; seed = None; log = None; loads = false }
 
 -- the number of words of a memory: in range, and of whole blocks
 abbrev pub whole_blocks : List ℕ → Option ℕ
 whole_blocks text = option_and_then (λ n. if n % BLOCK == 0 then Some n else None) (number_between WORDS_MIN WORDS_MAX text)
+
+-- the log that a word names, exactly
+abbrev pub log_named : List ℕ → Option Which
+log_named word =
+    if bytes_eq word (codes "reduced") then Some Reduced else
+    if bytes_eq word (codes "regulated") then Some Regulated else None
 
 -- the option is set
 abbrev pub is_set : Settings → Name → Bool
@@ -63,6 +87,7 @@ is_set s Limit = is_some s.limit
 is_set s Words = is_some s.words
 is_set s Choices = is_some s.choices
 is_set s Seed = is_some s.seed
+is_set s Log = is_some s.log
 is_set s Loads = s.loads
 
 -- the settings with this one; none where the text is no value of it
@@ -72,6 +97,7 @@ put_new s Limit text = option_map (λ n. record s { limit = Some n }) (number_be
 put_new s Words text = option_map (λ n. record s { words = Some n }) (whole_blocks text)
 put_new s Choices text = if are_choices text then Some (record s { choices = Some text }) else None
 put_new s Seed text = option_map (λ n. record s { seed = Some n }) (number_between 0 (2 ^ 64 - 1) text)
+put_new s Log text = option_map (λ w. record s { log = Some w }) (log_named text)
 put_new s Loads text = Some (record s { loads = true })
 
 -- the settings with one more; none where that option was set before

@@ -1,6 +1,7 @@
 -- What the options have been set to.
 use Rattle.std.specs.Prelude.{ℕ, Bool, List, Option}
 use Rattle.std.specs.Option.{option_map}
+use Rattle.rtr_types.specs.declared.pairs.Which.{Which}
 use Rattle.tool_words.specs.declared.options.Settings.{Settings as Held}
 
 -- each option's value, where it is set; of the choices the text, and of the flag whether it is set
@@ -10,6 +11,7 @@ pub record Settings : Type 0 where
   pub words : Option ℕ
   pub choices : Option (List ℕ)
   pub seed : Option ℕ
+  pub log : Option Which
   pub loads : Bool
 
 -- the settings as the code holds them, with the choices' text borrowed from the words
@@ -21,5 +23,6 @@ seen s =
       words = s.words;
       choices = option_map (λ text. text.now) s.choices;
       seed = s.seed;
+      log = s.log;
       loads = s.loads;
     }

@@ -5,7 +5,7 @@ ghost use Rattle.tool_words.specs.Commands.{command_of, verb_named};
 
 use crate::choices::bytes_of;
 use crate::options::Settings;
-use rtr_types::{Items, Params};
+use rtr_types::{Items, Params, Which};
 use std::alloc::{AllocError, Global};
 
 /// What the tool is asked to do, with every option filled in.
@@ -27,6 +27,12 @@ pub enum Command {
     },
     /// Print the logs of the recording on the input.
     Print,
+    /// Replay the recording on the input by one of its logs, and print how the replay ended; with `loads`
+    /// also what was loaded.
+    Replay {
+        which: Which,
+        loads: bool,
+    },
 }
 
 /// The first word: a command without its options.
@@ -35,6 +41,7 @@ pub(crate) enum Verb {
     Record,
     Run,
     Print,
+    Replay,
 }
 
 impl Verb {
@@ -48,6 +55,8 @@ impl Verb {
             Some(Verb::Run)
         } else if word == "print" {
             Some(Verb::Print)
+        } else if word == "replay" {
+            Some(Verb::Replay)
         } else {
             None
         }
@@ -71,6 +80,10 @@ impl Verb {
                 loads: settings.loads,
             }),
             Verb::Print => Ok(Command::Print),
+            Verb::Replay => Ok(Command::Replay {
+                which: settings.log.unwrap_or(Which::Reduced),
+                loads: settings.loads,
+            }),
         }
     }
 }

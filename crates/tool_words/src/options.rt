@@ -2,12 +2,12 @@
 ghost use Rattle.std.specs.Prelude.{◌≡◌};
 ghost use Rattle.std.specs.Option.{option_map};
 ghost use Rattle.tool_words.specs.Settings.{seen};
-ghost use Rattle.tool_words.specs.Options.{is_set, no_settings, option_of, params_of, put, put_new, takes_value, whole_blocks};
+ghost use Rattle.tool_words.specs.Options.{is_set, log_named, no_settings, option_of, params_of, put, put_new, takes_value, whole_blocks};
 
 use crate::choices::are_choices;
 use crate::command::Verb;
 use crate::numerals::number_between;
-use rtr_types::{CORES_MAX, LIMIT_MAX, Params, WORDS_MAX, WORDS_MIN};
+use rtr_types::{CORES_MAX, LIMIT_MAX, Params, WORDS_MAX, WORDS_MIN, Which};
 
 /// The number of cores of a run whose words name none.
 pub(crate) const CORES_DEFAULT: u8 = 1;
@@ -29,6 +29,7 @@ pub(crate) enum Name {
     Words,
     Choices,
     Seed,
+    Log,
     Loads,
 }
 
@@ -43,7 +44,8 @@ impl Name {
             Verb::Record | Verb::Run if word == "--words" => Some(Name::Words),
             Verb::Record | Verb::Run if word == "--choices" => Some(Name::Choices),
             Verb::Record | Verb::Run if word == "--seed" => Some(Name::Seed),
-            Verb::Run if word == "--loads" => Some(Name::Loads),
+            Verb::Replay if word == "--log" => Some(Name::Log),
+            Verb::Run | Verb::Replay if word == "--loads" => Some(Name::Loads),
             _ => None,
         }
     }
@@ -65,6 +67,7 @@ pub(crate) struct Settings<'a> {
     pub(crate) words: Option<u32>,
     pub(crate) choices: Option<&'a str>,
     pub(crate) seed: Option<u64>,
+    pub(crate) log: Option<Which>,
     pub(crate) loads: bool,
 }
 
@@ -79,6 +82,7 @@ impl<'a> Settings<'a> {
             words: None,
             choices: None,
             seed: None,
+            log: None,
             loads: false,
         }
     }
@@ -104,6 +108,7 @@ impl<'a> Settings<'a> {
             Name::Words => self.words.is_some(),
             Name::Choices => self.choices.is_some(),
             Name::Seed => self.seed.is_some(),
+            Name::Log => self.log.is_some(),
             Name::Loads => self.loads,
         }
     }
@@ -134,6 +139,10 @@ impl<'a> Settings<'a> {
                 seed: Some(number_between(0, u64::MAX, text)?),
                 ..self
             }),
+            Name::Log => Some(Settings {
+                log: Some(log_named(text)?),
+                ..self
+            }),
             Name::Loads => Some(Settings {
                 loads: true,
                 ..self
@@ -150,6 +159,19 @@ impl<'a> Settings<'a> {
             limit: self.limit.unwrap_or(LIMIT_DEFAULT),
             words: self.words.unwrap_or(WORDS_DEFAULT),
         }
+    }
+}
+
+/// The log that the text names, exactly.
+fn log_named(text: &str) -> Option<Which>
+    ensures { result ≡ log_named text.now }
+{
+    if text == "reduced" {
+        Some(Which::Reduced)
+    } else if text == "regulated" {
+        Some(Which::Regulated)
+    } else {
+        None
     }
 }
 

@@ -1,5 +1,5 @@
 use crate::{Command, meaning};
-use rtr_types::Params;
+use rtr_types::{Params, Which};
 use std::alloc::{AllocError, Global};
 use std::test::Fail;
 
@@ -104,7 +104,50 @@ fn words_that_mean_a_run(rt: HostRuntime) -> Result<(), Fail> {
     Ok(())
 }
 
-static FAULTY: [&str; 30] = [
+/// A line of words and the replay that it means.
+struct ReplayRow {
+    line: &'static str,
+    which: Which,
+    loads: bool,
+}
+
+static REPLAYS: [ReplayRow; 4] = [
+    ReplayRow {
+        line: "replay",
+        which: Which::Reduced,
+        loads: false,
+    },
+    ReplayRow {
+        line: "replay --log regulated",
+        which: Which::Regulated,
+        loads: false,
+    },
+    ReplayRow {
+        line: "replay --loads --log=reduced",
+        which: Which::Reduced,
+        loads: true,
+    },
+    ReplayRow {
+        line: "replay --log=regulated --loads",
+        which: Which::Regulated,
+        loads: true,
+    },
+];
+
+#[test]
+fn words_that_mean_a_replay(rt: HostRuntime) -> Result<(), Fail> {
+    for row in &REPLAYS {
+        let words = words(rt.alloc(), row.line)?;
+        let meant = match meaning(rt.alloc(), words.as_slice())? {
+            Some(Command::Replay { which, loads }) => which == row.which && loads == row.loads,
+            _ => false,
+        };
+        assert!(rt; meant, "{}", row.line);
+    }
+    Ok(())
+}
+
+static FAULTY: [&str; 36] = [
     "",
     "records",
     "--help",
@@ -127,7 +170,13 @@ static FAULTY: [&str; 30] = [
     "run --loads --loads",
     "run --loads=",
     "run --loads 1",
+    "run --log reduced",
     "print --limit 1",
+    "replay --log",
+    "replay --log Reduced",
+    "replay --log=reduced --log=reduced",
+    "replay --loads=",
+    "replay --limit 1",
     "run --cores 0",
     "run --cores 9",
     "run --choices 0",

@@ -8,7 +8,16 @@ use Rattle.tool_words.proofs.reading.read_settings.Given as goal
 abbrev pub invariant-loop-next : goal.invariant-loop-next
 invariant-loop-next l = record {
   within : l.next ≤ length l.words;
-  same : settled_by l.verb no_settings (map string_bytes l.words) ≡ settled_by l.verb (record { cores = l.settings.0; limit = l.settings.1.0; words = l.settings.1.1.0; choices = option_map (λ text. text.now) l.settings.1.1.1.0; seed = l.settings.1.1.1.1.0; loads = l.settings.1.1.1.1.1.0 }) (map string_bytes (drop l.next l.words));
+  same : settled_by l.verb no_settings (map string_bytes l.words)
+      ≡ settled_by l.verb (record {
+        cores = l.settings.0;
+        limit = l.settings.1.0;
+        words = l.settings.1.1.0;
+        choices = option_map (λ text. text.now) l.settings.1.1.1.0;
+        seed = l.settings.1.1.1.1.0;
+        log = l.settings.1.1.1.1.1.0;
+        loads = l.settings.1.1.1.1.1.1.0;
+      }) (map string_bytes (drop l.next l.words));
 }
 
 abbrev pub decreases-loop-next : goal.decreases-loop-next

@@ -1,0 +1,166 @@
+-- Accesses and conflict pairs of lists that were put together.
+use Rattle.std.proofs.Common.{inl, inr, ◌≡◌, ◌⊎◌, List, [], ◌∷◌, ◌++◌, sym, refl, ap, ◌∙◌, subst}
+use Rattle.rtr_types.specs.declared.instr.Instr.{Instr}
+use Rattle.rtr_types.specs.declared.access.Access.{Access}
+use Rattle.clock_core.specs.Order.{Within}
+use Rattle.conflict_edge.specs.Conflicts.{Conflicts, ConflictPair, StandsIn}
+
+pub stands_left : (xs ys : List Access) (a : Access) → StandsIn xs a → StandsIn (xs ++ ys) a
+stands_left [] ys a s = absurd s
+stands_left (x ∷ xs) ys a (inl e) = inl e
+stands_left (x ∷ xs) ys a (inr s) = inr (stands_left xs ys a s)
+
+pub stands_right : (xs ys : List Access) (a : Access) → StandsIn ys a → StandsIn (xs ++ ys) a
+stands_right [] ys a s = s
+stands_right (x ∷ xs) ys a s = inr (stands_right xs ys a s)
+
+pub stands_which : (xs ys : List Access) (a : Access) → StandsIn (xs ++ ys) a → StandsIn xs a ⊎ StandsIn ys a
+stands_which [] ys a s = inr s
+stands_which (x ∷ xs) ys a (inl e) = inl (inl e)
+stands_which (x ∷ xs) ys a (inr s) = on (stands_which xs ys a s)
+  where
+    on : StandsIn xs a ⊎ StandsIn ys a → StandsIn (x ∷ xs) a ⊎ StandsIn ys a
+    on (inl t) = inl (inr t)
+    on (inr t) = inr t
+
+-- each access of the one list stands in the other
+abbrev pub Parts : List Access → List Access → Type 0
+Parts xs ys = (a : Access) → StandsIn xs a → StandsIn ys a
+
+pub parts_after : (front xs ys : List Access) → Parts xs ys → Parts (front ++ xs) (front ++ ys)
+parts_after [] xs ys h a s = h a s
+parts_after (b ∷ front) xs ys h a (inl e) = inl e
+parts_after (b ∷ front) xs ys h a (inr s) = inr (parts_after front xs ys h a s)
+
+pub pairs_after : (front xs ys : List Access) → Parts xs ys → Within (ConflictPair xs) (ConflictPair ys) →
+    Within (ConflictPair (front ++ xs)) (ConflictPair (front ++ ys))
+pairs_after [] xs ys p h x y q = h x y q
+pairs_after (b ∷ front) xs ys p h x y (inl q) = inl (q.0, q.1, parts_after front xs ys p q.1 q.2, q.3, q.4)
+pairs_after (b ∷ front) xs ys p h x y (inr q) = inr (pairs_after front xs ys p h x y q)
+
+pub pairs_right : (front xs : List Access) → Within (ConflictPair xs) (ConflictPair (front ++ xs))
+pairs_right [] xs x y p = p
+pairs_right (a ∷ front) xs x y p = inr (pairs_right front xs x y p)
+
+pub pairs_left : (xs ys : List Access) → Within (ConflictPair xs) (ConflictPair (xs ++ ys))
+pairs_left [] ys x y p = absurd p
+pairs_left (a ∷ xs) ys x y (inl p) = inl (p.0, p.1, stands_left xs ys p.1 p.2, p.3, p.4)
+pairs_left (a ∷ xs) ys x y (inr p) = inr (pairs_left xs ys x y p)
+
+-- one of the first list and one of the second, in conflict
+pub pairs_across : (xs ys : List Access) (a b : Access) → StandsIn xs a → StandsIn ys b → Conflicts a b → ConflictPair (xs ++ ys) a.at b.at
+pairs_across [] ys a b s t k = absurd s
+pairs_across (x ∷ xs) ys a b (inl e) t k = inl (ap (λ (z : Access). z.at) e, b, stands_right xs ys b t, refl, subst (λ (z : Access). Conflicts z b) (sym e) k)
+pairs_across (x ∷ xs) ys a b (inr s) t k = inr (pairs_across xs ys a b s t k)
+
+pub parts_swap : (one two rest : List Access) → Parts (two ++ (one ++ rest)) (one ++ (two ++ rest))
+parts_swap one two rest a s = by (stands_which two (one ++ rest) a s)
+  where
+    by : StandsIn two a ⊎ StandsIn (one ++ rest) a → StandsIn (one ++ (two ++ rest)) a
+    by (inl t) = stands_right one (two ++ rest) a (stands_left two rest a t)
+    by (inr t) = parts_after one rest (two ++ rest) (stands_right two rest) a t
+
+-- a pair is within the one list, within the other, or across
+pub data Apart (xs ys : List Access) (x y : Instr) : Type 0 where
+  both_left : ConflictPair xs x y → Apart xs ys x y
+  both_right : ConflictPair ys x y → Apart xs ys x y
+  across : (a b : Access) → StandsIn xs a → StandsIn ys b → a.at ≡ x → b.at ≡ y → Conflicts a b → Apart xs ys x y
+
+pub pairs_which : (xs ys : List Access) (x y : Instr) → ConflictPair (xs ++ ys) x y → Apart xs ys x y
+pairs_which [] ys x y p = both_right p
+pairs_which (a ∷ xs) ys x y (inl p) = by (stands_which xs ys p.1 p.2)
+  where
+    by : StandsIn xs p.1 ⊎ StandsIn ys p.1 → Apart (a ∷ xs) ys x y
+    by (inl s) = both_left (inl (p.0, p.1, s, p.3, p.4))
+    by (inr s) = across a p.1 (inl refl) s p.0 p.3 p.4
+pairs_which (a ∷ xs) ys x y (inr p) = by (pairs_which xs ys x y p)
+  where
+    by : Apart xs ys x y → Apart (a ∷ xs) ys x y
+    by (both_left q) = both_left (inr q)
+    by (both_right q) = both_right q
+    by (across b c s t e f k) = across b c (inr s) t e f k
+
+pub pairs_across_at : (xs ys : List Access) (a b : Access) (x y : Instr) → StandsIn xs a → StandsIn ys b → a.at ≡ x → b.at ≡ y → Conflicts a b →
+    ConflictPair (xs ++ ys) x y
+pairs_across_at xs ys a b x y s t e f k = subst (λ (z : Instr). ConflictPair (xs ++ ys) z y) e
+    (subst (λ (z : Instr). ConflictPair (xs ++ ys) a.at z) f (pairs_across xs ys a b s t k))
+
+-- lists that don't conflict change places
+pub pairs_swap : (one two rest : List Access) → ((a b : Access) → StandsIn one a → StandsIn two b → Conflicts b a → ⊥) →
+    Within (ConflictPair (two ++ (one ++ rest))) (ConflictPair (one ++ (two ++ rest)))
+pairs_swap one two rest free x y p = first (pairs_which two (one ++ rest) x y p)
+  where
+    second : Apart one rest x y → ConflictPair (one ++ (two ++ rest)) x y
+    second (both_left q) = pairs_left one (two ++ rest) x y q
+    second (both_right q) = pairs_right one (two ++ rest) x y (pairs_right two rest x y q)
+    second (across a b s t e f k) = pairs_across_at one (two ++ rest) a b x y s (stands_right two rest b t) e f k
+
+    crossing : (a b : Access) → StandsIn two a → StandsIn one b ⊎ StandsIn rest b → a.at ≡ x → b.at ≡ y → Conflicts a b →
+        ConflictPair (one ++ (two ++ rest)) x y
+    crossing a b s (inl t) e f k = absurd (free b a t s k)
+    crossing a b s (inr t) e f k = pairs_right one (two ++ rest) x y (pairs_across_at two rest a b x y s t e f k)
+
+    first : Apart two (one ++ rest) x y → ConflictPair (one ++ (two ++ rest)) x y
+    first (both_left q) = pairs_right one (two ++ rest) x y (pairs_left two rest x y q)
+    first (both_right q) = second (pairs_which one rest x y q)
+    first (across a b s t e f k) = crossing a b s (stands_which one rest b t) e f k
+
+-- ---- two in conflict
+
+pub conflicts_back : (a b : Access) → Conflicts a b → Conflicts b a
+conflicts_back a b k = (λ e. k.0 (sym e), sym k.1, kinds k.2)
+  where
+    kinds : {P Q : Type 0} → P ⊎ Q → Q ⊎ P
+    kinds (inl p) = inr p
+    kinds (inr p) = inl p
+
+-- one of them stands first
+pub either : (list : List Access) (a b : Access) → StandsIn list a → StandsIn list b → Conflicts a b → ConflictPair list a.at b.at ⊎ ConflictPair list b.at a.at
+either [] a b s t k = absurd s
+either (h ∷ list) a b (inl e) (inl g) k = absurd (k.0 (ap (λ (z : Access). z.at.core) (sym e ∙ g)))
+either (h ∷ list) a b (inl e) (inr t) k = inl (inl (ap (λ (z : Access). z.at) e, b, t, refl, subst (λ (z : Access). Conflicts z b) (sym e) k))
+either (h ∷ list) a b (inr s) (inl g) k = inr (inl (
+  ap (λ (z : Access). z.at) g,
+  a,
+  s,
+  refl,
+  subst (λ (z : Access). Conflicts z a) (sym g) (conflicts_back a b k),
+))
+either (h ∷ list) a b (inr s) (inr t) k = on (either list a b s t k)
+  where
+    on : ConflictPair list a.at b.at ⊎ ConflictPair list b.at a.at → ConflictPair (h ∷ list) a.at b.at ⊎ ConflictPair (h ∷ list) b.at a.at
+    on (inl p) = inl (inr p)
+    on (inr p) = inr (inr p)
+
+-- the two accesses of a pair
+pub record Ends (list : List Access) (x y : Instr) : Type 0 where
+  pub first : Access
+  pub second : Access
+  pub first_stands : StandsIn list first
+  pub second_stands : StandsIn list second
+  pub first_at : first.at ≡ x
+  pub second_at : second.at ≡ y
+  pub conflict : Conflicts first second
+
+pub ends : (list : List Access) (x y : Instr) → ConflictPair list x y → Ends list x y
+ends [] x y p = absurd p
+ends (a ∷ list) x y (inl p) = record {
+  first = a;
+  second = p.1;
+  first_stands = inl refl;
+  second_stands = inr p.2;
+  first_at = p.0;
+  second_at = p.3;
+  conflict = p.4;
+}
+ends (a ∷ list) x y (inr p) =
+    let e = ends list x y p in
+    record {
+      first = e.first;
+      second = e.second;
+      first_stands = inr e.first_stands;
+      second_stands = inr e.second_stands;
+      first_at = e.first_at;
+      second_at = e.second_at;
+      conflict = e.conflict;
+    }

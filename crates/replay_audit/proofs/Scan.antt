@@ -1,0 +1,38 @@
+-- The scan for the latest open access.
+use Rattle.std.proofs.Common.{inl, inr, ◌≡◌, ◌⊎◌, ℕ, zero, suc, ◌<◌, List, [], ◌∷◌, ◌++◌, length, get_or, refl, ap, ◌∙◌, subst, arith, true, false}
+use Rattle.std.proofs.Common.{append_assoc}
+use Rattle.std.specs.Prelude.{Option, Some, None}
+use Rattle.rtr_types.specs.declared.instr.Instr.{Instr}
+use Rattle.rtr_types.specs.declared.access.Access.{Access}
+use Rattle.conflict_edge.specs.Conflicts.{StandsIn}
+use Rattle.replay_audit.specs.Unordered.{is_open, AreCovered, IsLatest}
+use Rattle.replay_audit.proofs.Pairs.{stands_which}
+
+pub stands_at : (l : List Access) (i : ℕ) (d : Access) → i < length l → StandsIn l (get_or l i d)
+stands_at [] i d lt = absurd (omega arith)
+stands_at (a ∷ l) zero d lt = inl refl
+stands_at (a ∷ l) (suc i) d lt = inr (stands_at l i d (omega arith))
+
+covered_snoc : (l : List Access) (a x : Access) (k : List ℕ) → AreCovered l a k → is_open x a k ≡ false → AreCovered (l ++ x ∷ []) a k
+covered_snoc l a x k h t b s = by (stands_which l (x ∷ []) b s)
+  where
+    by : StandsIn l b ⊎ StandsIn (x ∷ []) b → is_open b a k ≡ false
+    by (inl q) = h b q
+    by (inr (inl e)) = subst (λ (z : Access). is_open z a k ≡ false) e t
+    by (inr (inr q)) = absurd q
+
+pub latest_skip : (l : List Access) (a x : Access) (k : List ℕ) (found : Option Instr) → IsLatest l a k found → is_open x a k ≡ false →
+    IsLatest (l ++ x ∷ []) a k found
+latest_skip l a x k None h t = covered_snoc l a x k h t
+latest_skip l a x k (Some y) h t = record {
+  older = h.older;
+  earlier = h.earlier;
+  newer = h.newer ++ x ∷ [];
+  split = ap (λ (z : List Access). z ++ x ∷ []) h.split ∙ append_assoc h.older (h.earlier ∷ h.newer) (x ∷ []);
+  at = h.at;
+  is_left = h.is_left;
+  latest = covered_snoc h.newer a x k h.latest t;
+}
+
+pub latest_found : (l : List Access) (a x : Access) (k : List ℕ) → is_open x a k ≡ true → IsLatest (l ++ x ∷ []) a k (Some x.at)
+latest_found l a x k t = record { older = l; earlier = x; newer = []; split = refl; at = refl; is_left = t; latest = λ b s. absurd s }

@@ -1,0 +1,317 @@
+-- A judgement along the low order.
+use Rattle.std.proofs.Common.{inl, inr, ◌≡◌, ◌⊎◌, ℕ, ◌+◌, ◌<◌, ◌≤◌, List, [], ◌∷◌, ◌++◌, length, replicate, get_or, refl, sym, ap, ◌∙◌, subst, arith}
+use Rattle.std.proofs.Common.{append-nil}
+use Rattle.std.specs.Prelude.{slice_index, slice_set, Option, Some, None, IfSome}
+use Rattle.std.specs.List.{Contains}
+use Rattle.std.proofs.lemmas.List.{get_or_default}
+use native.Mathlib.Decide.{ℕ_discrete}
+use Rattle.rtr_types.specs.declared.TheConstants.{CORES_MAX}
+use Rattle.rtr_types.specs.declared.instr.Instr.{Instr}
+use Rattle.rtr_types.specs.declared.access.Access.{Access}
+use Rattle.rtr_types.specs.declared.pairs.Which.{Which}
+use Rattle.clock_core.specs.Order.{Before, Among}
+use Rattle.clock_core.proofs.Paths.{instr_eq}
+use Rattle.conflict_edge.specs.Conflicts.{ConflictPair, CountsRise, StandsIn}
+use Rattle.conflict_edge.specs.Least.{Suffices}
+use Rattle.log_codec.specs.declared.recording.Recording.{Recording}
+use Rattle.log_codec.specs.Sources.{log_edges}
+use Rattle.log_codec.specs.Validity.{Valid}
+use Rattle.log_codec.proofs.Looked.{Rising, one_place}
+use Rattle.rv_core.specs.declared.outcome.Outcome.{Outcome}
+use Rattle.replay_core.specs.Plans.{Plan, plan_of}
+use Rattle.replay_core.specs.Play.{instr, core_at, place, touched, accesses_from, start, accesses_of}
+use Rattle.replay_core.specs.Orders.{bump, counts, nought, Ready, Ordered, IsWhole, lowest_ready, low_order}
+use Rattle.replay_core.specs.Answers.{told}
+use Rattle.replay_core.specs.Laws.{PlayKnown}
+use Rattle.replay_core.proofs.Counts.{bump_here, bump_same, bump_else, bump_more, counts_on}
+use Rattle.replay_core.proofs.Places.{start_known, place_known}
+use Rattle.replay_audit.specs.Determinate.{IsDeterminate}
+use Rattle.replay_audit.specs.Judges.{IsAlike, AreAlike}
+use Rattle.replay_audit.specs.declared.touch.Touch.{Touch}
+use Rattle.replay_audit.specs.declared.unordered.Unordered.{Unordered}
+use Rattle.replay_audit.specs.Clocks.{AreSources}
+use Rattle.replay_audit.specs.Marks.{first_mark, mark_at}
+use Rattle.replay_audit.specs.Tallies.{Tallied, count_of}
+use Rattle.replay_audit.specs.Touches.{IsAccessOf, touches_of, as_touch, as_access, AreRising, ArePlayed}
+use Rattle.replay_audit.specs.Trails.{Trailed, Trails, IsFinding, IsTrailOf}
+use Rattle.replay_audit.proofs.Agreed.{low_ordered, touched_at}
+use Rattle.replay_audit.proofs.Judging.{NeverBack, judge_law, suffices_settled, settled_suffices}
+use Rattle.replay_audit.proofs.Logs.{Closed, closed_none, closed_bump, leads_back, acyclic_law}
+use Rattle.replay_audit.proofs.Pairs.{Apart, both_left, both_right, across, pairs_which, stands_left, stands_right, stands_which}
+use Rattle.replay_audit.proofs.Refused.{unordered_pair}
+use Rattle.replay_audit.proofs.Rise.{accesses_within, rises}
+use Rattle.replay_audit.proofs.Following.{Followed, IsFresh, followed_start, followed_on, at_next, ready_next}
+use Rattle.replay_audit.proofs.Tallying.{low_is}
+
+-- ---- touches of one core
+
+pub rising_at : (list : List Touch) (d : Touch) → AreRising list → Rising (λ (t : Touch). t.at.count) list d
+rising_at list d h i j lt below = h.each i j d lt below
+
+pub one_at : (list : List Touch) (k count : ℕ) (d t : Touch) → AreRising list → k < length list → (get_or list k d).at.count ≡ count → Contains list t →
+    t.at.count ≡ count → get_or list k d ≡ t
+one_at list k count d t h lt is (j, below, at) same =
+    let there : get_or list j d ≡ t = get_or_default list j d t below ∙ at in
+    let place = one_place (λ (x : Touch). x.at.count) list d (rising_at list d h) k j lt below (is ∙ sym same ∙ ap (λ (x : Touch). x.at.count) (sym there)) in
+    ap (λ (i : ℕ). get_or list i d) place ∙ there
+
+pub own_list : (touched : List (List Touch)) (item slice : List Touch) (c : ℕ) → c < length touched → item ≡ get_or touched c item → slice ≡ item →
+    slice ≡ touches_of touched c
+own_list touched item slice c lt item_is slice_is = slice_is ∙ item_is ∙ get_or_default touched c item [] lt
+
+-- ---- no access is past the counts
+
+counts_more : (f : ℕ → ℕ) (order : List ℕ) (i : ℕ) → f i ≤ counts f order i
+counts_more f [] i = omega arith
+counts_more f (c ∷ cs) i = let a = bump_more f c i in let b = counts_more (bump f c) cs i in omega arith
+
+pub accesses_below : (p : Plan) (f : ℕ → ℕ) (s : Outcome) (order : List ℕ) (a : Access) → PlayKnown p f s → Ordered p f order →
+    StandsIn (accesses_from p s order) a → a.at.count ≤ counts f order a.at.core
+accesses_below p f s [] a known o q = absurd q
+accesses_below p f s (c ∷ cs) a known o q = by (stands_which (touched p s c) (accesses_from p (place p s c) cs) a q)
+    (accesses_below p (bump f c) (place p s c) cs a (place_known p f s c known o.0) o.1)
+  where
+    by : StandsIn (touched p s c) a ⊎ StandsIn (accesses_from p (place p s c) cs) a →
+        (StandsIn (accesses_from p (place p s c) cs) a → a.at.count ≤ counts (bump f c) cs a.at.core) → a.at.count ≤ counts (bump f c) cs a.at.core
+    by (inr t) go = go t
+    by (inl t) go =
+        let at = touched_at p s c a t in
+        let core : a.at.core ≡ c = ap (λ (x : Instr). x.core) at in
+        let count : a.at.count ≡ (core_at s c).count + 1 = ap (λ (x : Instr). x.count) at in
+        let n : (core_at s c).count ≡ f c = ap (λ (g : ℕ → ℕ). g c) known.counts in
+        let g : f a.at.core ≡ f c = ap f core in
+        let b = bump_same f c a.at.core core in
+        let m = counts_more (bump f c) cs a.at.core in
+        omega arith
+
+-- ---- the accesses_from that were laid along the low order so far
+
+pub record Laid (which : Which) (r : Recording) (touched : List (List Touch)) (order : List ℕ) (list : List Access) : Type 0 where
+  pub below : (a : Access) → StandsIn list a → a.at.count ≤ counts nought order a.at.core
+  pub from : (a : Access) → StandsIn list a → (t : Touch) × Contains (touches_of touched a.at.core) t × (a ≡ as_access t)
+  pub has : (c : ℕ) (t : Touch) → 1 ≤ t.at.count → t.at.count ≤ counts nought order c → Contains (touches_of touched c) t → StandsIn list (as_access t)
+  pub never : NeverBack (log_edges which r) list
+  pub closed : Closed (log_edges which r) (counts nought order)
+
+-- the tally and the trail have come along a front of the low order, at which these accesses_from were laid
+pub record Judged (which : Which) (r : Recording) (touched : List (List Touch)) (order : List ℕ) (t : Tallied) (s : Trailed) : Type 0 where
+  pub list : List Access
+  pub followed : Followed which r order list t s
+  pub laid : Laid which r touched order list
+
+pub judged_start : (which : Which) (r : Recording) (touched : List (List Touch)) (cores : ℕ) (t : Tallied) (s : Trailed) → Valid r →
+    IsFresh r (plan_of which r) cores t s → Judged which r touched [] t s
+judged_start which r touched cores t s valid fresh = record {
+  list = [];
+  followed = followed_start which r cores t s valid fresh;
+  laid = record {
+    below = λ a q. absurd q;
+    from = λ a q. absurd q;
+    has = λ c u pos le h. absurd (omega arith);
+    never = λ x y q b. q;
+    closed = closed_none which r valid;
+  };
+}
+
+rise_more : (list : List Access) (a : Access) → CountsRise list → 1 ≤ a.at.count →
+    ((b : Access) → StandsIn list b → b.at.core ≡ a.at.core → b.at.count < a.at.count) → CountsRise (list ++ a ∷ [])
+rise_more [] a rise pos lt = (pos, (λ b q e. absurd q), tt)
+rise_more (x ∷ list) a rise pos lt = (rise.0, later, rise_more list a rise.2 pos (λ b q e. lt b (inr q) e))
+  where
+    later : (b : Access) → StandsIn (list ++ a ∷ []) b → x.at.core ≡ b.at.core → x.at.count < b.at.count
+    later b q e = by (stands_which list (a ∷ []) b q)
+      where
+        by : StandsIn list b ⊎ StandsIn (a ∷ []) b → x.at.count < b.at.count
+        by (inl s) = rise.1 b s e
+        by (inr (inl s)) = subst (λ (z : Access). x.at.count < z.at.count) s (lt x (inl refl) (e ∙ ap (λ (z : Access). z.at.core) (sym s)))
+        by (inr (inr s)) = absurd s
+
+-- what is found at the next place
+pub record IsFoundAt (touched : List (List Touch)) (c n : ℕ) (access : Option Access) : Type 0 where
+  pub found : IfSome access (IsAccessOf (touches_of touched c) n)
+  pub only : (t : Touch) → Contains (touches_of touched c) t → t.at.count ≡ n → access ≡ Some (as_access t)
+
+module _ (which : Which) (r : Recording) (valid : Valid r) (touched : List (List Touch)) (played : ArePlayed which r touched) (order : List ℕ)
+    (list : List Access) (laid : Laid which r touched order list) (c : ℕ) (ready : Ready (plan_of which r) (counts nought order) c) where
+  at_core : (t : Touch) → Contains (touches_of touched c) t → t.at.core ≡ c
+  at_core t h = let a = played.touches.back c t h in ap (λ (x : Touch). x.at.core) (sym a.2) ∙ a.3
+
+  pub told_at : (access : Option Access) (n : ℕ) → n ≡ counts nought order c + 1 → IsFoundAt touched c n access → (a : Access) → StandsIn (told access) a →
+      a.at ≡ instr c (counts nought order c + 1)
+  told_at None n n_is h a q = absurd q
+  told_at (Some b) n n_is h a (inr q) = absurd q
+  told_at (Some b) n n_is h a (inl e) =
+      let f = h.found in
+      let at : a.at ≡ f.0.at = ap (λ (x : Access). x.at) (sym e ∙ f.3) in
+      at ∙ instr_eq f.0.at (instr c (counts nought order c + 1)) (at_core f.0 f.1) (f.2 ∙ n_is)
+
+  bumped : counts nought (order ++ c ∷ []) ≡ bump (counts nought order) c
+  bumped = counts_on nought order (c ∷ [])
+
+  more : (i : ℕ) → counts nought order i ≤ counts nought (order ++ c ∷ []) i
+  more i = let e = ap (λ (g : ℕ → ℕ). g i) bumped in let b = bump_more (counts nought order) c i in omega arith
+
+  next_count : counts nought (order ++ c ∷ []) c ≡ counts nought order c + 1
+  next_count = ap (λ (g : ℕ → ℕ). g c) bumped ∙ bump_here (counts nought order) c
+
+  closed_on : Closed (log_edges which r) (counts nought (order ++ c ∷ []))
+  closed_on = subst (λ (g : ℕ → ℕ). Closed (log_edges which r) g) (sym bumped) (closed_bump (plan_of which r) (counts nought order) c ready laid.closed)
+
+  -- the touches of core c within the counts were laid before, or are the next
+  next_or : (t : Touch) → t.at.count ≤ counts nought (order ++ c ∷ []) c → (t.at.count ≤ counts nought order c) ⊎ (t.at.count ≡ counts nought order c + 1)
+  next_or t le = by t.at.count (counts nought order c) (let e = next_count in omega arith)
+    where
+      by : (m n : ℕ) → m ≤ n + 1 → (m ≤ n) ⊎ (m ≡ n + 1)
+      by m n h = grind arith
+
+  pub rise_told : (access : Option Access) → CountsRise list → ((a : Access) → StandsIn (told access) a → a.at ≡ instr c (counts nought order c + 1)) →
+      CountsRise (list ++ told access)
+  rise_told None rise at = subst CountsRise (sym (append-nil list)) rise
+  rise_told (Some a) rise at =
+      let here : a.at ≡ instr c (counts nought order c + 1) = at a (inl refl) in
+      let core : a.at.core ≡ c = ap (λ (x : Instr). x.core) here in
+      let count : a.at.count ≡ counts nought order c + 1 = ap (λ (x : Instr). x.count) here in
+      rise_more list a rise (omega arith) (λ b q e. let le = laid.below b q in let g = ap (counts nought order) (e ∙ core) in omega arith)
+
+  pub laid_on : (access : Option Access) (n : ℕ) → n ≡ counts nought order c + 1 → IsFoundAt touched c n access →
+      Laid which r touched (order ++ c ∷ []) (list ++ told access)
+  laid_on access n n_is h = record {
+    below = λ a q. below a (stands_which list (told access) a q);
+    from = λ a q. from a (stands_which list (told access) a q);
+    has = λ d t pos le there. has d t pos le there (ℕ_discrete d c);
+    never = λ x y q b. never x y (pairs_which list (told access) x y q) b;
+    closed = closed_on;
+  }
+    where
+      at : (a : Access) → StandsIn (told access) a → a.at ≡ instr c (counts nought order c + 1)
+      at = told_at access n n_is h
+
+      below : (a : Access) → StandsIn list a ⊎ StandsIn (told access) a → a.at.count ≤ counts nought (order ++ c ∷ []) a.at.core
+      below a (inl q) = let le = laid.below a q in let m = more a.at.core in omega arith
+      below a (inr q) = subst (λ (x : Instr). x.count ≤ counts nought (order ++ c ∷ []) x.core) (sym (at a q)) (let e = next_count in omega arith)
+
+      of_told : (access : Option Access) → IfSome access (IsAccessOf (touches_of touched c) n) → (a : Access) → StandsIn (told access) a → a.at.core ≡ c →
+          (t : Touch) × Contains (touches_of touched a.at.core) t × (a ≡ as_access t)
+      of_told None f a q core = absurd q
+      of_told (Some b) f a (inr q) core = absurd q
+      of_told (Some b) f a (inl e) core = (f.0, subst (λ (x : ℕ). Contains (touches_of touched x) f.0) (sym core) f.1, sym e ∙ f.3)
+
+      from : (a : Access) → StandsIn list a ⊎ StandsIn (told access) a → (t : Touch) × Contains (touches_of touched a.at.core) t × (a ≡ as_access t)
+      from a (inl q) = laid.from a q
+      from a (inr q) = of_told access h.found a q (ap (λ (x : Instr). x.core) (at a q))
+
+      has : (d : ℕ) (t : Touch) → 1 ≤ t.at.count → t.at.count ≤ counts nought (order ++ c ∷ []) d → Contains (touches_of touched d) t → Dec (d ≡ c) →
+          StandsIn (list ++ told access) (as_access t)
+      has d t pos le there (no ne) =
+          let e = ap (λ (g : ℕ → ℕ). g d) bumped in let b = bump_else (counts nought order) c d ne in
+          stands_left list (told access) (as_access t) (laid.has d t pos (omega arith) there)
+      has d t pos le there (yes e) = by (next_or t (subst (λ (x : ℕ). t.at.count ≤ counts nought (order ++ c ∷ []) x) e le))
+        where
+          here : Contains (touches_of touched c) t
+          here = subst (λ (x : ℕ). Contains (touches_of touched x) t) e there
+
+          by : (t.at.count ≤ counts nought order c) ⊎ (t.at.count ≡ counts nought order c + 1) → StandsIn (list ++ told access) (as_access t)
+          by (inl old) = stands_left list (told access) (as_access t) (laid.has c t pos old here)
+          by (inr next) = stands_right list (told access) (as_access t)
+              (subst (λ (o : Option Access). StandsIn (told o) (as_access t)) (sym (h.only t here (next ∙ sym n_is))) (inl refl))
+
+      single : (access : Option Access) (x y : Instr) → ConflictPair (told access) x y → ⊥
+      single None x y q = q
+      single (Some a) x y (inl q) = q.2
+      single (Some a) x y (inr q) = q
+
+      never : (x y : Instr) → Apart list (told access) x y → Before (Among (log_edges which r)) y x → ⊥
+      never x y (both_left q) b = laid.never x y q b
+      never x y (both_right q) b = single access x y q
+      never x y (across a d s u e g k) b =
+          let y_is : y ≡ instr c (counts nought order c + 1) = sym g ∙ at d u in
+          let within : x.count ≤ counts nought order x.core = subst (λ (z : Instr). z.count ≤ counts nought order z.core) e (laid.below a s) in
+          let le : y.count ≤ counts nought order y.core = leads_back (log_edges which r) (counts nought order) y x laid.closed (inr b) within in
+          let bad : counts nought order c + 1 ≤ counts nought order c = subst (λ (z : Instr). z.count ≤ counts nought order z.core) y_is le in
+          omega arith
+
+-- ---- one place more
+
+module _ {which : Which} {r : Recording} (valid : Valid r) {touched : List (List Touch)} (played : ArePlayed which r touched) {order : List ℕ} {t : Tallied}
+    {s : Trailed} (j : Judged which r touched order t s) where
+  module _ {c : ℕ} (some : lowest_ready t.plan (count_of t.counts) ≡ Some c) {at : Instr} (at_is : at ≡ instr c (count_of t.counts c + 1)) where
+    ready : Ready (plan_of which r) (counts nought order) c
+    ready = ready_next valid j.followed some at_is
+
+    next_is : at ≡ instr c (counts nought order c + 1)
+    next_is = at_next valid j.followed some at_is
+
+    core_is : at.core ≡ c
+    core_is = ap (λ (x : Instr). x.core) next_is
+
+    pub touched_there : at.core < length touched
+    touched_there = let e = core_is in let lt = ready.inside in let m = played.touches.all in omega arith
+
+    module _ {access : Option Access} (found : IsFoundAt touched at.core at.count access) where
+      found_next : IsFoundAt touched c at.count access
+      found_next = subst (λ (x : ℕ). IsFoundAt touched x at.count access) core_is found
+
+      count_is : at.count ≡ counts nought order c + 1
+      count_is = ap (λ (x : Instr). x.count) next_is
+
+      told_next : (a : Access) → StandsIn (told access) a → a.at ≡ instr c (counts nought order c + 1)
+      told_next = told_at which r valid touched played order j.list j.laid c ready access at.count count_is found_next
+
+      pub told_there : (a : Access) → StandsIn (told access) a → a.at ≡ at
+      told_there a q = told_next a q ∙ sym next_is
+
+      pub judged_on : (u : Tallied) (sources : List ℕ) (cores : ℕ) (v : Trailed) → u.plan ≡ t.plan →
+          u.counts ≡ slice_set t.counts c (count_of t.counts c + 1) → AreSources t.plan.edges (instr c (count_of t.counts c + 1)) sources →
+          cores ≡ length u.plan.totals → Trails s at sources cores access v → Judged which r touched (order ++ c ∷ []) u v
+      judged_on u sources cores v kept counts_is are cores_is trails = record {
+        list = j.list ++ told access;
+        followed = followed_on valid j.followed some at_is access told_there
+            (rise_told which r valid touched played order j.list j.laid c ready access j.followed.rise told_next)
+            u sources cores v kept counts_is are cores_is trails;
+        laid = laid_on which r valid touched played order j.list j.laid c ready access at.count count_is found_next;
+      }
+
+  -- ---- the verdict
+  module _ (none : lowest_ready t.plan (count_of t.counts) ≡ None) (whole : IsWhole (plan_of which r) (low_order (plan_of which r))) where
+    full : (c : ℕ) → c < length r.totals → counts nought order c ≡ slice_index r.totals c
+    full c lt = ap (λ (l : List ℕ). counts nought l c) (sym (low_is (plan_of which r) order t j.followed.counted none)) ∙ whole.each c lt
+
+    alike : AreAlike (accesses_of (plan_of which r) played.order) j.list
+    alike = record { forth = forth; back = back }
+      where
+        forth : (a : Access) → StandsIn (accesses_of (plan_of which r) played.order) a → (b : Access) × StandsIn j.list b × IsAlike a b
+        forth a q =
+            let inside = accesses_within which r played.order played.play.ordered a q in
+            let known = rises (plan_of which r) nought (start (plan_of which r)) played.order (start_known (plan_of which r)) played.play.ordered in
+            let above = known.above a q in
+            let below = accesses_below (plan_of which r) nought (start (plan_of which r)) played.order a
+            (start_known (plan_of which r)) played.play.ordered q in
+            let most = played.play.whole.each a.at.core inside in
+            let all = full a.at.core inside in (
+              as_access (as_touch a),
+              j.laid.has a.at.core (as_touch a) (omega arith) (omega arith) (played.touches.forth a q),
+              record { at = refl; word = refl; kind = refl },
+            )
+
+        back : (b : Access) → StandsIn j.list b → (a : Access) × StandsIn (accesses_of (plan_of which r) played.order) a × IsAlike a b
+        back b q =
+            let f = j.laid.from b q in
+            let a = played.touches.back b.at.core f.0 f.1 in
+            let same : as_access (as_touch a.0) ≡ b = ap as_access a.2 ∙ sym f.2 in
+            (a.0, a.1, record { at = ap (λ (x : Access). x.at) same; word = ap (λ (x : Access). x.word) same; kind = ap (λ (x : Access). x.kind) same })
+
+    finding : IsFinding (log_edges which r) j.list s.found
+    finding = j.followed.trail.finding (acyclic_law which r (low_order (plan_of which r)) valid (low_ordered (plan_of which r)) whole)
+
+    decides : (IsDeterminate which r → Suffices j.list (Among (log_edges which r))) × (Suffices j.list (Among (log_edges which r)) → IsDeterminate which r)
+    decides =
+        let law = judge_law which r played.order j.list valid played.play alike in
+        (λ det. settled_suffices (log_edges which r) j.list j.laid.never (law.0 det), λ suf. law.1 (suffices_settled (log_edges which r) j.list suf))
+
+    pub verdict : (found : Option Unordered) → found ≡ s.found → (found ≡ None → IsDeterminate which r) × (IsDeterminate which r → found ≡ None)
+    verdict found is = by found (subst (λ (o : Option Unordered). IsFinding (log_edges which r) j.list o) (sym is) finding)
+      where
+        by : (found : Option Unordered) → IsFinding (log_edges which r) j.list found → (found ≡ None → IsDeterminate which r)
+            × (IsDeterminate which r → found ≡ None)
+        by None f = (λ e. decides.1 f, λ det. refl)
+        by (Some pair) f = (λ e. absurd (cc), λ det. absurd (unordered_pair (log_edges which r) j.list pair.first pair.second f (decides.0 det)))

@@ -1,0 +1,10 @@
+-- merged with the clocks of the sources so far
+use Rattle.std.proofs.Common.{◌≡◌, ℕ, slice_index}
+use Rattle.clock_core.specs.Order.{previous}
+use Rattle.clock_core.specs.Reach.{merged_over}
+use Rattle.replay_audit.specs.Clocks.{clock_at, listed}
+use Rattle.replay_audit.proofs.log_clocks.LogClocks.next.Given as goal
+
+abbrev pub invariant-loop-of : goal.invariant-loop-of
+invariant-loop-of l = (i : ℕ) → slice_index l.clock i
+    ≡ merged_over (clock_at l.fn.self (previous l.fn.next.at)) (clock_at l.fn.self) (listed l.fn.next.sources l.of) i

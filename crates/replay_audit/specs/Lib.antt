@@ -1,0 +1,10 @@
+pub mod Audits
+pub mod Clocks
+pub mod Determinate
+pub mod Judges
+pub mod Laws
+pub mod Marks
+pub mod Tallies
+pub mod Touches
+pub mod Trails
+pub mod Unordered

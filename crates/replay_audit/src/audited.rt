@@ -1,0 +1,169 @@
+//! The audit of a recording by one of its logs.
+ghost use Rattle.std.specs.Prelude.{◌≡◌, ℕ, MatchResult, slice_index};
+ghost use Rattle.clock_core.specs.Order.{Among};
+ghost use Rattle.clock_core.specs.Reach.{IsClock};
+ghost use Rattle.log_codec.specs.Sources.{log_edges};
+ghost use Rattle.log_codec.specs.Validity.{Valid};
+ghost use Rattle.replay_audit.specs.Audits.{AuditRefuses, HasPassed, IsAuditOf, IsInstrOf, PassesOf};
+
+use crate::audit_fault::AuditFault;
+use crate::log_clocks::LogClocks;
+use crate::tally::Tally;
+use crate::trail::Trail;
+use clock_core::Clock;
+use log_codec::Recording;
+use replay_core::{Advanced, Replay};
+use rtr_types::{Access, Instr, Items, Which};
+use rv_core::Outcome;
+use std::alloc::Global;
+use std::marker::Model;
+
+/// A recording that is determinate by one of its logs, with the outcome and the accesses of the low order,
+/// and with the clocks of its instructions by the log.
+#[derive(Drop)]
+pub struct Audited {
+    recording: Recording,
+    which: Which,
+    pass: Pass,
+}
+
+impl Model for Audited {
+    ghost use Rattle.replay_audit.specs.Audits.{Findings, HasPassed};
+
+    ghost Value = { Findings };
+
+    ghost view = { λ a. record {
+      recording = a.recording;
+      which = a.which;
+      outcome = a.pass.outcome;
+      accesses = a.pass.accesses;
+    } };
+
+    ghost invariant = { λ a. HasPassed a.which a.recording a.pass.outcome a.pass.accesses a.pass.clocks };
+}
+
+impl Audited {
+    /// The recording.
+    pub fn recording(&self) -> &Recording
+        ensures recording { result.now ≡ self.now.recording }
+        ensures valid { Valid self.now.recording }
+    {
+        &self.recording
+    }
+
+    /// The log.
+    pub fn which(&self) -> Which
+        ensures { result ≡ self.now.which }
+    {
+        self.which
+    }
+
+    /// The accesses of the low order.
+    pub fn accesses(&self) -> &[Access]
+        ensures accesses { result.now ≡ self.now.accesses }
+        ensures passed { PassesOf self.now }
+    {
+        self.pass.accesses.as_slice()
+    }
+
+    /// The outcome of the low order.
+    pub fn outcome(&self) -> &Outcome
+        ensures outcome { result.now ≡ self.now.outcome }
+        ensures passed { PassesOf self.now }
+    {
+        &self.pass.outcome
+    }
+
+    /// The clock of an instruction by the log: for each core the number of its instructions that are this
+    /// one or lead to it.
+    pub fn clock(&self, at: Instr) -> Clock
+        requires { IsInstrOf self.now.recording at }
+        ensures { IsClock (Among (log_edges self.now.which self.now.recording)) at (λ i. slice_index result i) }
+    {
+        self.pass.clocks.of(at)
+    }
+
+    /// The recording, and the outcome of the low order. It takes no memory.
+    pub fn into_parts(self) -> (Recording, Outcome)
+        ensures recording { result.0 ≡ self.recording }
+        ensures outcome { result.1 ≡ self.outcome }
+        ensures valid { Valid self.recording }
+        ensures passed { PassesOf self }
+    {
+        let Audited {
+            recording,
+            pass,
+            ..
+        } = self;
+        let Pass { outcome, .. } = pass;
+        (recording, outcome)
+    }
+}
+
+/// Whether the log's low order is whole and plays, and the log orders each two of its accesses that
+/// conflict. It takes one pass, in which the sources of each instruction are looked up once.
+///
+/// `Stuck` comes exactly where the low order ends before it is whole, `Short` exactly where its play falls
+/// short, and `Undetermined` exactly where it is whole and plays, but two accesses that conflict are
+/// unordered. `OutOfMemory` comes for want of memory alone.
+pub fn audit(alloc: Global, recording: Recording, which: Which) -> Result<Audited, AuditFault>
+    requires { Valid recording }
+    ensures { MatchResult result (IsAuditOf which recording) (AuditRefuses which recording) }
+{
+    let pass = Pass::over(alloc, &recording, which)?;
+    Ok(Audited {
+        recording,
+        which,
+        pass,
+    })
+}
+
+/// What one pass over the low order found.
+#[derive(Drop)]
+struct Pass {
+    outcome: Outcome,
+    accesses: Items<Access>,
+    clocks: LogClocks,
+}
+
+impl Pass {
+    /// The pass over the low order of the recording's log.
+    fn over(alloc: Global, recording: &Recording, which: Which) -> Result<Pass, AuditFault>
+        requires { Valid recording.now }
+        ensures { MatchResult result
+            (λ pass. HasPassed which recording.now pass.outcome pass.accesses pass.clocks)
+            (AuditRefuses which recording.now) }
+    {
+        let mut tally = Tally::new(alloc, recording, which)?;
+        let mut replay = Replay::new(alloc, recording, which)?;
+        let mut trail = Trail::new(alloc, tally.cores(), recording.params.words)?;
+        while let Some(core) = tally.lowest() {
+            replay.make_room()?;
+            match replay.advance(core) {
+                Advanced::Short => {
+                    let count = replay.count(core);
+                    return Err(AuditFault::Short { core, count });
+                }
+                Advanced::Retired { access } => {
+                    let next = tally.advance(core);
+                    trail.note(&next, tally.cores(), access)?;
+                }
+            }
+        }
+        if !replay.whole() {
+            return Err(AuditFault::Stuck { cut: replay.cut() });
+        }
+        if let Some(pair) = trail.unordered() {
+            return Err(AuditFault::Undetermined {
+                first: pair.first,
+                second: pair.second,
+            });
+        }
+        let (accesses, clocks) = trail.into_parts();
+        Ok(Pass {
+            outcome: replay.into_outcome(alloc)?,
+            accesses,
+            clocks,
+        })
+    }
+}

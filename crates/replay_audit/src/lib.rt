@@ -1,0 +1,23 @@
+//! Whether a recording is determinate by one of its logs: whether the log orders each two accesses that
+//! conflict, so that every replay that obeys it gives each load the same value and ends alike.
+#![tactic(auto)]
+
+mod audit_fault;
+mod audited;
+mod judgement;
+pub mod laws;
+mod log_clocks;
+mod marks;
+mod sourced;
+mod tally;
+#[cfg(test)]
+mod tests;
+mod touch;
+mod trail;
+mod unordered;
+
+pub use audit_fault::AuditFault;
+pub use audited::{Audited, audit};
+pub use judgement::judge;
+pub use tally::ordered;
+pub use touch::Touch;

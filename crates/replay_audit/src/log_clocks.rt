@@ -1,0 +1,147 @@
+//! The clocks of instructions by a log. They are kept only where an edge leads to.
+ghost use Rattle.std.specs.Prelude.{◌≡◌, ◌<◌, ◌≤◌, ℕ, IfOk, OnOk, [], length, replicate, slice_index};
+ghost use Rattle.rtr_types.specs.declared.TheConstants.{CORES_MAX};
+ghost use Rattle.replay_audit.specs.Clocks.{clock_at, next_at, number_of, numbered, IsKept, IsNoted};
+
+use crate::sourced::Sourced;
+use clock_core::Clock;
+use rtr_types::{CORES_MAX, Instr, Items};
+use std::alloc::{AllocError, Global};
+use std::marker::Model;
+
+/// For each core the clocks of its instructions to which an edge leads, and for each of its instructions
+/// how many of these clocks there are up to it.
+#[derive(Drop)]
+pub struct LogClocks {
+    numbers: Vec<Items<usize>>,
+    clocks: Vec<Items<Clock>>,
+}
+
+impl Model for LogClocks {
+    ghost use Rattle.replay_audit.specs.Clocks.{Kept};
+
+    ghost Value = { Kept };
+
+    ghost view = { λ a. record { numbers = a.numbers.items; clocks = a.clocks.items } };
+}
+
+impl LogClocks {
+    /// No instruction yet.
+    pub fn new(alloc: Global, cores: u8) -> Result<LogClocks, AllocError>
+        ensures numbers { IfOk result (λ kept. kept.numbers ≡ replicate cores []) }
+        ensures clocks { IfOk result (λ kept. kept.clocks ≡ replicate cores []) }
+    {
+        let mut numbers = Vec::new(alloc);
+        let mut clocks = Vec::new(alloc);
+        for core in 0..cores {
+            numbers.push(Items::new(alloc))?;
+            clocks.push(Items::new(alloc))?;
+        }
+        Ok(LogClocks { numbers, clocks })
+    }
+
+    /// The clock of an instruction that was noted, or of none, before the first: the last clock that is
+    /// kept of its core up to it, with its own count.
+    pub fn of(&self, at: Instr) -> Clock
+        requires { at.core < CORES_MAX }
+        ensures { (i : ℕ) → slice_index result i ≡ clock_at self.now at i }
+    {
+        let mut clock = self.numbered(at.core, self.number(at));
+        clock.set(at.core, at.count);
+        clock
+    }
+
+    /// Notes the next instruction of its core, of so many cores.
+    pub fn note(&mut self, next: &Sourced, cores: u8) -> Result<(), AllocError>
+        requires core { next.now.at.core < CORES_MAX }
+        requires numbers { next.now.at.core < length self.old.numbers }
+        requires kept { next.now.at.core < length self.old.clocks }
+        requires some { 1 ≤ next.now.at.count }
+        requires few { cores ≤ CORES_MAX }
+        ensures { OnOk result (IsNoted self.old next.now.at next.now.sources cores self.new) }
+    {
+        self.keep(next, cores)?;
+        let core = next.at.core as usize;
+        let number = self.clocks[core].as_slice().len();
+        self.numbers[core].push(number)?;
+        Ok(())
+    }
+
+    /// How many clocks are kept of the instruction's core up to it.
+    fn number(&self, at: Instr) -> usize
+        ensures { result ≡ number_of self.now at.core at.count }
+    {
+        if at.count == 0 {
+            return 0;
+        }
+        match self.numbers.get(at.core as usize) {
+            Some(list) => {
+                match list.as_slice().get(at.count as usize - 1) {
+                    Some(number) => *number,
+                    None => 0,
+                }
+            }
+            None => 0,
+        }
+    }
+
+    /// The core's clock with this number, counted from 1; number 0 is the clock that knows of nothing.
+    fn numbered(&self, core: u8, number: usize) -> Clock
+        ensures { result ≡ numbered self.now core number }
+    {
+        if number == 0 {
+            return Clock::zero();
+        }
+        match self.clocks.get(core as usize) {
+            Some(list) => {
+                match list.as_slice().get(number - 1) {
+                    Some(clock) => *clock,
+                    None => Clock::zero(),
+                }
+            }
+            None => Clock::zero(),
+        }
+    }
+
+    /// The clock of the instruction before on the core, merged with those of the sources, with the own
+    /// count.
+    fn next(&self, next: &Sourced, cores: u8) -> Clock
+        requires core { next.now.at.core < CORES_MAX }
+        requires some { 1 ≤ next.now.at.count }
+        requires few { cores ≤ CORES_MAX }
+        ensures { (i : ℕ) → slice_index result i ≡ next_at self.now next.now.at next.now.sources cores i }
+    {
+        let Instr { core, count } = next.at;
+        let mut clock = self.of(Instr {
+            core,
+            count: count - 1,
+        });
+        for of in 0..cores {
+            let source = next.sources.get(of);
+            if source != 0 {
+                clock = clock.merge(self.of(Instr {
+                    core: of,
+                    count: source,
+                }));
+            }
+        }
+        clock.set(core, count);
+        clock
+    }
+
+    /// Keeps the clock of an instruction that has sources.
+    fn keep(&mut self, next: &Sourced, cores: u8) -> Result<(), AllocError>
+        requires core { next.now.at.core < CORES_MAX }
+        requires kept { next.now.at.core < length self.old.clocks }
+        requires some { 1 ≤ next.now.at.count }
+        requires few { cores ≤ CORES_MAX }
+        ensures numbers { OnOk result (self.new.numbers ≡ self.old.numbers) }
+        ensures clocks { OnOk result (IsKept self.old next.now.at next.now.sources cores self.new.clocks) }
+    {
+        if next.has_some(cores) {
+            let clock = self.next(next, cores);
+            self.clocks[next.at.core as usize].push(clock)?;
+        }
+        Ok(())
+    }
+}

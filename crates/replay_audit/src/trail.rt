@@ -1,0 +1,148 @@
+//! What is kept of the accesses along an order: the clocks by the log, the last accesses of each word, and
+//! the first two accesses that the log leaves unordered.
+ghost use Rattle.std.specs.Prelude.{◌≡◌, ◌<◌, ◌≤◌, ℕ, IfOk, OnOk, IfSome, [], length, replicate, None as NoneFound};
+ghost use Rattle.rtr_types.specs.declared.TheConstants.{CORES_MAX};
+ghost use Rattle.rtr_types.specs.declared.access.Access.{Access as SomeAccess};
+ghost use Rattle.conflict_edge.specs.Conflicts.{StandsIn};
+ghost use Rattle.replay_audit.specs.Marks.{mark_at, first_mark};
+ghost use Rattle.replay_audit.specs.Trails.{FoundNext, Watches, Trails};
+
+use crate::log_clocks::LogClocks;
+use crate::marks::Marks;
+use crate::sourced::Sourced;
+use crate::unordered::{Unordered, latest_open};
+use clock_core::Clock;
+use rtr_types::{Access, CORES_MAX, Items};
+use std::alloc::{AllocError, Global};
+use std::marker::Model;
+
+/// What is kept of the instructions and accesses so far.
+#[derive(Drop)]
+pub struct Trail {
+    clocks: LogClocks,
+    marks: Marks,
+    accesses: Items<Access>,
+    found: Option<Unordered>,
+}
+
+impl Model for Trail {
+    ghost use Rattle.replay_audit.specs.Trails.{Trailed};
+
+    ghost Value = { Trailed };
+
+    ghost view = { λ a. record { kept = a.clocks; marks = a.marks; accesses = a.accesses; found = a.found } };
+}
+
+impl Trail {
+    /// No instruction yet.
+    pub fn new(alloc: Global, cores: u8, words: u32) -> Result<Trail, AllocError>
+        ensures numbers { IfOk result (λ trail. trail.kept.numbers ≡ replicate cores []) }
+        ensures clocks { IfOk result (λ trail. trail.kept.clocks ≡ replicate cores []) }
+        ensures marks { IfOk result (λ trail. trail.marks ≡ replicate words first_mark) }
+        ensures accesses { IfOk result (λ trail. trail.accesses ≡ []) }
+        ensures found { IfOk result (λ trail. trail.found ≡ NoneFound) }
+    {
+        Ok(Trail {
+            clocks: LogClocks::new(alloc, cores)?,
+            marks: Marks::new(alloc, words)?,
+            accesses: Items::new(alloc),
+            found: None,
+        })
+    }
+
+    /// Notes the next instruction of its core, of so many cores, with its access.
+    pub fn note(
+        &mut self,
+        next: &Sourced,
+        cores: u8,
+        access: Option<Access>,
+    ) -> Result<(), AllocError>
+        requires core { next.now.at.core < CORES_MAX }
+        requires numbers { next.now.at.core < length self.old.kept.numbers }
+        requires kept { next.now.at.core < length self.old.kept.clocks }
+        requires some { 1 ≤ next.now.at.count }
+        requires few { cores ≤ CORES_MAX }
+        requires access { IfSome access (λ a. a.at.core < CORES_MAX) }
+        requires each { (b : SomeAccess) → StandsIn self.old.accesses b → b.at.core < CORES_MAX }
+        requires write { (w : ℕ) → (mark_at self.old.marks w).write.core < CORES_MAX }
+        ensures { OnOk result (Trails self.old next.now.at next.now.sources cores access self.new) }
+    {
+        self.clocks.note(next, cores)?;
+        match access {
+            Some(access) => self.watch(access),
+            None => Ok(()),
+        }
+    }
+
+    /// The first two accesses that the log leaves unordered, if there are some.
+    pub fn unordered(&self) -> Option<Unordered>
+        ensures { result ≡ self.now.found }
+    {
+        self.found
+    }
+
+    /// The accesses, and the clocks of the instructions.
+    pub fn into_parts(self) -> (Items<Access>, LogClocks)
+        ensures accesses { result.0 ≡ self.accesses }
+        ensures clocks { result.1 ≡ self.kept }
+    {
+        let Trail {
+            accesses,
+            clocks,
+            ..
+        } = self;
+        (accesses, clocks)
+    }
+
+    /// Looks at an access, whose instruction was noted, and keeps it.
+    fn watch(&mut self, access: Access) -> Result<(), AllocError>
+        requires core { access.at.core < CORES_MAX }
+        requires each { (b : SomeAccess) → StandsIn self.old.accesses b → b.at.core < CORES_MAX }
+        requires write { (mark_at self.old.marks access.word).write.core < CORES_MAX }
+        ensures { OnOk result (Watches self.old access self.new) }
+    {
+        let clock = self.clocks.of(access.at);
+        self.found = find(
+            self.found,
+            &self.marks,
+            self.accesses.as_slice(),
+            &access,
+            &clock,
+        );
+        self.marks.note(&access);
+        self.accesses.push(access)?;
+        Ok(())
+    }
+}
+
+/// The first two accesses that are unordered, with one access more: the first that were found stay. All
+/// accesses are gone over only where the marks leave one of them open, and so once along an order.
+fn find(
+    found: Option<Unordered>,
+    marks: &Marks,
+    accesses: &[Access],
+    access: &Access,
+    clock: &Clock,
+) -> Option<Unordered>
+    requires each { (b : SomeAccess) → StandsIn accesses.now b → b.at.core < CORES_MAX }
+    requires write { (mark_at marks.now access.now.word).write.core < CORES_MAX }
+    ensures { FoundNext found marks.now accesses.now access.now clock.now result }
+{
+    match found {
+        Some(pair) => Some(pair),
+        None => {
+            if marks.are_covered(access, clock) {
+                return None;
+            }
+            match latest_open(accesses, access, clock) {
+                Some(first) => {
+                    Some(Unordered {
+                        first,
+                        second: access.at,
+                    })
+                }
+                None => None,
+            }
+        }
+    }
+}

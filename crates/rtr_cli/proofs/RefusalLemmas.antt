@@ -1,0 +1,22 @@
+-- A command that gives nothing for an input that was read answers so.
+use Rattle.std.proofs.Common.{List, ℕ}
+use Rattle.std.specs.Prelude.{Option}
+use Rattle.std.specs.Io.KnownBytes.{Keeps}
+use Rattle.state_text.specs.declared.exit.Exit.{Exit}
+use Rattle.state_text.specs.declared.exit.Exit.TheVariants as exits
+use Rattle.tool_words.specs.declared.command.Command.{Command}
+use Rattle.rtr_cli.specs.Answers.{Answers, IsRead}
+use Rattle.rtr_cli.specs.Commands.{Refuses, most_of}
+
+pub refused_answers : (command : Command) (input : List ℕ) (exit : Exit) (left left' got got' : Option (List ℕ)) → IsRead (most_of command) left left' input →
+    Refuses command input exit → Keeps got got' → Answers command exit left left' got got'
+refused_answers command input (exits.Bad part) left left' got got' was h keeps = (input, was, h, keeps)
+refused_answers command input (exits.Stuck cut) left left' got got' was h keeps = (input, was, h, keeps)
+refused_answers command input (exits.Short core count) left left' got got' was h keeps = (input, was, h, keeps)
+refused_answers command input (exits.Undetermined first second) left left' got got' was h keeps = (input, was, h, keeps)
+refused_answers command input exits.OutOfMemory left left' got got' was h keeps = keeps
+refused_answers command input exits.Done left left' got got' was h keeps = absurd h
+refused_answers command input exits.Usage left left' got got' was h keeps = absurd h
+refused_answers command input exits.TooLarge left left' got got' was h keeps = absurd h
+refused_answers command input exits.ReadFault left left' got got' was h keeps = absurd h
+refused_answers command input exits.WriteFault left left' got got' was h keeps = absurd h
