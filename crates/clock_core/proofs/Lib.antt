@@ -1,3 +1,4 @@
+pub mod Listed
 pub mod Merging
 pub mod Paths
 pub mod Reach

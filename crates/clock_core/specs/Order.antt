@@ -1,5 +1,6 @@
 -- The order of instructions: program order, paths of edges, and what comes before what.
-use Rattle.std.specs.Prelude.{◌≡◌, ℕ, zero, suc, ◌-◌, ◌<◌, ◌⊎◌, List, [], ◌∷◌}
+use Rattle.std.specs.Prelude.{◌≡◌, ℕ, zero, suc, ◌-◌, ◌<◌, ◌⊎◌, ◌↔◌, List, [], ◌∷◌}
+use Rattle.std.specs.List.{Contains}
 use Rattle.rtr_types.specs.declared.instr.Instr.{Instr}
 use Rattle.rtr_types.specs.declared.instr.Edge.{Edge}
 
@@ -36,6 +37,10 @@ IsOrLeads E x y = (x ≡ y) ⊎ Before E x y
 abbrev pub Among : List Edge → Relation
 Among [] x y = ⊥
 Among (e ∷ edges) x y = ((e.from ≡ x) × (e.to ≡ y)) ⊎ Among edges x y
+
+-- An edge is one of these exactly where the list contains it.
+abbrev pub AmongLaw : Type 0
+AmongLaw = (edges : List Edge) (x y : Instr) → Among edges x y ↔ Contains edges (record { from = x; to = y })
 
 -- the instruction before y on its core, or the place before the first
 abbrev pub previous : Instr → Instr

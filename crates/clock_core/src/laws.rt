@@ -3,9 +3,15 @@ ghost use Rattle.std.specs.Prelude.{◌≡◌, ℕ, List, max, slice_index};
 ghost use Rattle.rtr_types.specs.declared.instr.Edge.{Edge};
 ghost use Rattle.rtr_types.specs.declared.instr.Instr.{Instr};
 ghost use Rattle.clock_core.specs.Counts.{merged, no_counts};
-ghost use Rattle.clock_core.specs.Order.{Among, Before, ProgramOrder, Within};
+ghost use Rattle.clock_core.specs.Order.{Among, AmongLaw, Before, ProgramOrder, Within};
 ghost use Rattle.clock_core.specs.Reach.{MergeLaw, OneClockLaw};
 ghost use Rattle.clock_core.specs.declared.clock.Clock.{Clock};
+
+/// That an edge is among those of a list, as pairs of instructions, and that the list contains it say the
+/// same.
+pub fn among_law()
+    ensures { AmongLaw }
+{}
 
 /// What is before by a list of edges has program order and the edges, is transitive, and grows with
 /// the edges.

@@ -8,3 +8,4 @@ pub mod Counted
 pub mod Looked
 pub mod Rises
 pub mod SourceLaws
+pub mod EdgeCounts

@@ -9,6 +9,7 @@ use Rattle.rtr_types.specs.Pairs.{IsPair, pair_count, pair_place, source_at, tar
 use Rattle.stride_vector.specs.declared.StrideVector.{StrideVector}
 use Rattle.stride_vector.specs.Vectors.{IsVector, edges_of, last_of}
 use Rattle.log_codec.specs.declared.recording.Recording.{Recording}
+use Rattle.log_codec.specs.Counts.{edge_count_of}
 use Rattle.log_codec.specs.Validity.{Valid}
 
 -- the edges of the pair at a place, each a count of the source and one of the target
@@ -52,6 +53,10 @@ EdgesWithin = (which : Which) (r : Recording) (from to : Instr) → Valid r → 
 -- at most one edge leads from a core to an instruction
 abbrev pub OneSource : Type 0
 OneSource = (which : Which) (r : Recording) (from other to : Instr) → Valid r → HasEdge which r from to → HasEdge which r other to → from.core ≡ other.core → from ≡ other
+
+-- the count of a log's edges is the length of their list
+abbrev pub EdgesCounted : Type 0
+EdgesCounted = (which : Which) (r : Recording) → Valid r → length (log_edges which r) ≡ edge_count_of which r
 
 -- vectors each of which begins, at the target, above the end of the one before it
 pub record AreApart (vectors : List StrideVector) : Type 0 where

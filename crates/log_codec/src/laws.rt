@@ -1,6 +1,6 @@
 //! What the spellings and the readings have in common, and what validity says.
 ghost use Rattle.log_codec.specs.Laws.{ReadIsSpelled, SpelledIsRead, SpelledIsFront, FrontIsSpelled, PrefixFree, ValidTest, EdgesByPair, VectorsByPair};
-ghost use Rattle.log_codec.specs.Sources.{EdgesArePaired, EdgesWithin, OneSource};
+ghost use Rattle.log_codec.specs.Sources.{EdgesArePaired, EdgesCounted, EdgesWithin, OneSource};
 
 /// What is read is valid and is spelled so, by all bytes or by those before the rest. What is spelled
 /// is read, also before a rest.
@@ -24,9 +24,10 @@ pub fn validity_laws()
 {}
 
 /// The edges of a log are those of its pairs of cores, lie within the totals, and at most one of them
-/// leads from a core to an instruction.
+/// leads from a core to an instruction. There are as many as are counted.
 pub fn source_laws()
     ensures paired { EdgesArePaired }
     ensures within { EdgesWithin }
     ensures one { OneSource }
+    ensures counted { EdgesCounted }
 {}

@@ -24,11 +24,13 @@ pub struct Recording {
 impl Recording {
     ghost use Rattle.log_codec.specs.Validity.{Valid};
     ghost use Rattle.log_codec.specs.Counts.{edge_count_of};
+    ghost use Rattle.log_codec.specs.Sources.{log_edges};
 
     /// The number of edges of the chosen log. Each position of a vector is one.
     pub fn edge_count(&self, which: Which) -> u64
         requires { Valid self.now }
-        ensures { result ≡ edge_count_of which self.now }
+        ensures counted { result ≡ edge_count_of which self.now }
+        ensures listed { result ≡ length (log_edges which self.now) }
     {
         match which {
             Which::Reduced => edges_of_all(self.reduced.as_slice()),

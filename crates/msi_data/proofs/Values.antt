@@ -13,7 +13,8 @@ use Rattle.msi_data.specs.LastValues.{last_value, EachFindsLast}
 use Rattle.msi_data.proofs.Memory.{last_write_found}
 use Rattle.msi_data.proofs.Opening.{home_memory, home_fits, opening_at}
 
-last_value-snoc : (opening word : ℕ) (list : List Access) (a : Access) → last_value opening word (list ++ a ∷ []) ≡ (if a.word == word then a.after else last_value opening word list)
+-- the last value with one access more
+pub last_value-snoc : (opening word : ℕ) (list : List Access) (a : Access) → last_value opening word (list ++ a ∷ []) ≡ (if a.word == word then a.after else last_value opening word list)
 last_value-snoc opening word [] a = refl
 last_value-snoc opening word (b ∷ list) a = last_value-snoc (if b.word == word then b.after else opening) word list a
 

@@ -1,5 +1,5 @@
 -- What is recorded at the end of a run: it is valid, and its reduced log is the least set.
-use Rattle.std.proofs.Common.{◌≡◌, ◌∙◌, sym, ap, subst, ℕ, ◌<◌, ◌≤◌, ◌*◌, inl, inr, List, [], ◌∷◌, length, arith, map, true}
+use Rattle.std.proofs.Common.{◌≡◌, ◌∙◌, sym, ap, subst, ℕ, ◌<◌, ◌≤◌, ◌*◌, List, [], ◌∷◌, length, arith, map, true}
 use Rattle.std.specs.Prelude.{slice_index, slice_index_or}
 use Rattle.std.specs.List.{Contains}
 use Rattle.std.proofs.lemmas.List.{get_or-map, get_or-replicate, length-map, length-replicate}
@@ -18,6 +18,7 @@ use Rattle.rtr_types.specs.declared.params.Params.{Params}
 use Rattle.rv_core.specs.declared.core_state.Core.{Core}
 use Rattle.rv_core.specs.declared.outcome.Outcome.{Outcome}
 use Rattle.schedule_pick.specs.Choices.{Choices, choice_at}
+use Rattle.clock_core.proofs.Listed.{among_listed, listed}
 use Rattle.clock_core.specs.Order.{Among}
 use Rattle.conflict_edge.proofs.TwoForms.{covering_law}
 use Rattle.conflict_edge.specs.Conflicts.{CountsRise}
@@ -42,27 +43,13 @@ use Rattle.online_reduce.specs.Reduced.{Reduced, count_of}
 use Rattle.run_outcome.proofs.Fitting.{run_fits_law}
 use Rattle.run_outcome.proofs.Turns.{outcome_is, stands_end}
 use Rattle.run_outcome.specs.Outcomes.{RunFits, outcome_of}
-use Rattle.recorder.proofs.LeastLists.{contains, in_list, least_lists_law, reduced_lists}
-use Rattle.recorder.proofs.SortedPairs.{In}
+use Rattle.recorder.proofs.LeastLists.{least_lists_law, reduced_lists}
 use Rattle.recorder.specs.Clerks.{Noted}
 use Rattle.recorder.specs.LeastLists.{AreOf, least_lists}
 use Rattle.recorder.specs.Recordings.{run_accesses, outcome_left, recording_from, recording_of}
 use Rattle.recorder.specs.Standing.{RecordsAt, no_carrying}
 
 -- ---- the reduced log
-
-among_in : (edges : List Edge) (x y : Instr) → Among edges x y → In edges (record { from = x; to = y })
-among_in [] x y s = absurd s
-among_in (e ∷ edges) x y (inl s) = inl (is e.from e.to s.0 s.1)
-  where
-    is : (u v : Instr) → u ≡ x → v ≡ y → ◌≡◌ {A = Edge} (record { from = u; to = v }) (record { from = x; to = y })
-    is u v p q = ap (λ (w : Instr). (let made : Edge = record { from = w; to = v } in made)) p ∙ ap (λ (w : Instr). (let made : Edge = record { from = x; to = w } in made)) q
-among_in (e ∷ edges) x y (inr s) = inr (among_in edges x y s)
-
-in_among : (edges : List Edge) (x y : Instr) → In edges (record { from = x; to = y }) → Among edges x y
-in_among [] x y s = absurd s
-in_among (e ∷ edges) x y (inl s) = inl (ap (λ (d : Edge). d.from) s, ap (λ (d : Edge). d.to) s)
-in_among (e ∷ edges) x y (inr s) = inr (in_among edges x y s)
 
 -- a recording whose lists are those of the covering pairs has the least set as its reduced log
 pub least_log : (r : Recording) (list : List Access) → CountsRise list → AreOf r.params.cores list → r.reduced ≡ least_lists r.params.cores list → IsLeast list (log_edges ReducedLog r)
@@ -73,14 +60,14 @@ least_log r list rise of is = (covering_law list edges rise).1 (λ x y. (to x y,
 
     to : (x y : Instr) → Among (log_edges ReducedLog r) x y → Covering list x y
     to x y s =
-        let q = (edges-are-paired ReducedLog r x y).0 (contains (log_edges ReducedLog r) (record { from = x; to = y }) (among_in (log_edges ReducedLog r) x y s)) in
+        let q = (edges-are-paired ReducedLog r x y).0 (listed (log_edges ReducedLog r) x y s) in
         (least_lists_law r.params.cores list rise of x y).1 (q.0, subst (λ (ls : List (List (ℕ × ℕ))). Contains (slice_index_or ls (pair_place r.params.cores x.core y.core) []) (x.count, y.count)) is q.1)
 
     back : (x y : Instr) → Covering list x y → Among (log_edges ReducedLog r) x y
     back x y cover =
         let q = (least_lists_law r.params.cores list rise of x y).0 cover in
-        in_among (log_edges ReducedLog r) x y (in_list (log_edges ReducedLog r) (record { from = x; to = y })
-        ((edges-are-paired ReducedLog r x y).1 (q.0, subst (λ (ls : List (List (ℕ × ℕ))). Contains (slice_index_or ls (pair_place r.params.cores x.core y.core) []) (x.count, y.count)) (sym is) q.1)))
+        among_listed (log_edges ReducedLog r) x y
+        ((edges-are-paired ReducedLog r x y).1 (q.0, subst (λ (ls : List (List (ℕ × ℕ))). Contains (slice_index_or ls (pair_place r.params.cores x.core y.core) []) (x.count, y.count)) (sym is) q.1))
 
 -- ---- validity
 

@@ -1,13 +1,19 @@
 -- What a run is recorded as.
-use Rattle.std.specs.Prelude.{ℕ, List, [], map, replicate}
+use Rattle.std.specs.Prelude.{◌≡◌, ℕ, List, [], map, replicate, Ok}
 use Rattle.access_times.specs.Riding.{none_carrying, none_riding}
 use Rattle.image_mem.specs.Contents.{Contents}
 use Rattle.rtr_types.specs.Pairs.{pair_count}
 use Rattle.rtr_types.specs.declared.access.Access.{Access}
+use Rattle.rtr_types.specs.declared.pairs.Which.TheVariants.{Reduced}
 use Rattle.rtr_types.specs.declared.params.Params.{Params}
 use Rattle.rv_core.specs.declared.outcome.LoadNote.{LoadNote}
 use Rattle.rv_core.specs.declared.outcome.Outcome.{Outcome}
 use Rattle.schedule_pick.specs.Choices.{Choices, choice_at}
+use Rattle.conflict_edge.specs.Least.{IsLeast}
+use Rattle.log_codec.specs.Reading.{whole_at}
+use Rattle.log_codec.specs.Sources.{log_edges}
+use Rattle.log_codec.specs.Spelling.{spelling}
+use Rattle.log_codec.specs.Validity.{Valid}
 use Rattle.log_codec.specs.declared.recording.Recording.{Recording}
 use Rattle.msi_bound.specs.Ends.{end_of}
 use Rattle.msi_state.specs.FinalMemory.{final_memory}
@@ -47,3 +53,10 @@ unfoldable pub recording_of : Contents → Params → Choices → Recording
 recording_of image params schedule =
     recording_from params image (outcome_of image params schedule)
     (least_lists params.cores (run_accesses image params schedule))
+
+-- what is promised of it: it is valid, its spelling is read back as it, and its reduced log is the least set of the
+-- run's accesses
+pub record IsRecorded (image : Contents) (params : Params) (schedule : Choices) : Type 0 where
+  pub valid : Valid (recording_of image params schedule)
+  pub read_back : whole_at (spelling (recording_of image params schedule)) ≡ Ok (recording_of image params schedule)
+  pub least : IsLeast (run_accesses image params schedule) (log_edges Reduced (recording_of image params schedule))

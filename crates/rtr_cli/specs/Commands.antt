@@ -1,15 +1,11 @@
 -- What each command makes of an input.
 use Rattle.std.specs.Prelude.{◌≡◌, ℕ, ◌*◌, Bool, List, Result, Ok, Err}
-use Rattle.recorder.specs.Recordings.{run_accesses, recording_of}
-use Rattle.rtr_types.specs.declared.access.Access.{Access}
+use Rattle.recorder.specs.Recordings.{IsRecorded, recording_of}
 use Rattle.image_mem.specs.Contents.{Contents}
 use Rattle.run_outcome.specs.Outcomes.{outcome_of}
 use Rattle.schedule_pick.specs.Choices.{choices_of}
 use Rattle.log_codec.specs.declared.recording.Recording.{Recording}
-use Rattle.conflict_edge.specs.Least.{IsLeast}
-use Rattle.log_codec.specs.Sources.{log_edges}
 use Rattle.rtr_types.specs.declared.pairs.Which.{Which}
-use Rattle.rtr_types.specs.declared.pairs.Which.TheVariants.{Reduced}
 use Rattle.log_codec.specs.Reading.{whole_at}
 use Rattle.log_codec.specs.Spelling.{spelling}
 use Rattle.rtr_types.specs.declared.params.Params.{Params}
@@ -17,7 +13,7 @@ use Rattle.replay_audit.specs.Audits.{AuditRefuses, EveryOrderAgrees}
 use Rattle.replay_audit.specs.Determinate.{IsDeterminate, low_outcome}
 use Rattle.replay_audit.specs.declared.audit_fault.AuditFault.{AuditFault}
 use Rattle.replay_audit.specs.declared.audit_fault.AuditFault.TheVariants as faults
-use Rattle.replay_core.specs.Plans.{recorded_image as recorded_image}
+use Rattle.replay_core.specs.Plans.{recorded_image}
 use Rattle.rv_core.specs.declared.outcome.Outcome.{Outcome}
 use Rattle.state_text.specs.declared.exit.Exit.{Exit}
 use Rattle.state_text.specs.declared.exit.Exit.TheVariants as exits
@@ -46,10 +42,6 @@ outcome_of_input params choices seed input = outcome_of (image_of params input) 
 abbrev pub recording_of_input : Params → (choices : List ℕ) (seed : ℕ) → (input : List ℕ) → Recording
 recording_of_input params choices seed input = recording_of (image_of params input) params (choices_of choices seed)
 
--- the accesses of that run
-abbrev pub accesses_of_input : Params → (choices : List ℕ) (seed : ℕ) → (input : List ℕ) → List Access
-accesses_of_input params choices seed input = run_accesses (image_of params input) params (choices_of choices seed)
-
 -- the logs of the recording that the input spells, or the first part that has no reading
 abbrev pub logs_of : Result Recording ℕ → Result (List ℕ) ℕ
 logs_of (Ok recording) = Ok (logs_lines recording)
@@ -74,10 +66,10 @@ abbrev pub IsReplayed : Which → Result Recording ℕ → Type 0
 IsReplayed which (Ok r) = IsDeterminate which r × EveryOrderAgrees which r
 IsReplayed which (Err part) = ⊥
 
--- what is said of the output beside: the reduced log of a recording is the least set of the run's
--- accesses, and what was replayed is determinate
+-- what is said of the output beside: the bytes of a recording are read back as it, and its reduced log is the least set
+-- of the run's accesses; and what was replayed is determinate
 abbrev pub Promised : Command → (input : List ℕ) → Type 0
-Promised (Record params choices seed) input = IsLeast (accesses_of_input params choices seed input) (log_edges Reduced (recording_of_input params choices seed input))
+Promised (Record params choices seed) input = IsRecorded (image_of params input) params (choices_of choices seed)
 Promised (Run params choices seed loads) input = Unit {0}
 Promised Print input = Unit {0}
 Promised (Replay which loads) input = IsReplayed which (whole_at input)

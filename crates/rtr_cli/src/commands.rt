@@ -1,14 +1,13 @@
 //! What each command makes of its input, before a byte is given.
 ghost use Rattle.std.specs.Prelude.{◌≡◌, ◌*◌, ◌≤◌, IfErr, IfOk, MatchResult, OnOk, Ok, vec_len};
-ghost use Rattle.conflict_edge.specs.Least.{IsLeast};
-ghost use Rattle.log_codec.specs.Sources.{log_edges};
+ghost use Rattle.log_codec.specs.Faults.{Gives};
 ghost use Rattle.log_codec.specs.Spelling.{spelling};
 ghost use Rattle.log_codec.specs.Validity.{Valid};
 ghost use Rattle.run_outcome.specs.Outcomes.{outcome_of};
-ghost use Rattle.recorder.specs.Recordings.{run_accesses, recording_of};
+ghost use Rattle.recorder.specs.Recordings.{IsRecorded, recording_of};
 ghost use Rattle.replay_audit.specs.Audits.{EveryOrderAgrees, IsAuditOf};
 ghost use Rattle.replay_audit.specs.Determinate.{IsDeterminate, low_outcome};
-ghost use Rattle.replay_core.specs.Plans.{recorded_image as recorded_image};
+ghost use Rattle.replay_core.specs.Plans.{recorded_image};
 ghost use Rattle.rtr_types.specs.Parameters.{Fits};
 ghost use Rattle.rtr_types.specs.declared.pairs.Which.TheVariants.{Reduced};
 ghost use Rattle.state_text.specs.States.{state_lines};
@@ -87,7 +86,7 @@ fn record(
     requires fits { Fits params }
     requires within { vec_len bytes ≤ 4 * params.words }
     ensures made { IfOk result (λ out. out.items ≡ spelling (recording_of (image_of params bytes.items) params schedule)) }
-    ensures least { OnOk result (IsLeast (run_accesses (image_of params bytes.items) params schedule) (log_edges Reduced (recording_of (image_of params bytes.items) params schedule))) }
+    ensures promised { OnOk result (IsRecorded (image_of params bytes.items) params schedule) }
 {
     let image = image(bytes, params.words);
     let recorded = record_run(alloc, image, params, schedule)?;

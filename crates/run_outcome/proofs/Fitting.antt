@@ -37,7 +37,8 @@ image_stepped : (s : PlainState) (taken : Option Move) → (stepped_by s taken).
 image_stepped s None = refl
 image_stepped s (Some m) = image_kept none_riding none_carrying s m tt
 
-run_image : (image : Contents) (params : Params) (choices : ℕ → ℕ) (t : ℕ) → (run image params choices t).image ≡ image
+-- the image stays
+pub run_image : (image : Contents) (params : Params) (choices : ℕ → ℕ) (t : ℕ) → (run image params choices t).image ≡ image
 run_image image params choices zero = refl
 run_image image params choices (suc t) = image_stepped (run image params choices t) (chosen (run image params choices t) (choices t)) ∙ run_image image params choices t
 

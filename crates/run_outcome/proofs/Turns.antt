@@ -33,7 +33,7 @@ use Rattle.run_outcome.specs.Outcomes.{StandsAt, outcome_of}
 use Rattle.run_outcome.proofs.NotedLoads.{lists_of, lists_more}
 
 -- no loads yet
-no_loads : (from n : ℕ) → lists_of [] from n ≡ replicate n []
+pub no_loads : (from n : ℕ) → lists_of [] from n ≡ replicate n []
 no_loads from zero = refl
 no_loads from (suc n) = ap (λ (lists : List (List LoadNote)). [] ∷ lists) (no_loads (from + 1) n)
 

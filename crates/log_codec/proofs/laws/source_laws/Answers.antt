@@ -1,5 +1,6 @@
+use Rattle.log_codec.proofs.EdgeCounts.{edges-counted}
 use Rattle.log_codec.proofs.SourceLaws as sources
 use Rattle.log_codec.proofs.laws.source_laws.Goals as goal
 
 pub returns : goal.returns
-returns c = record { paired = sources.edges-are-paired; within = sources.edges-within; one = sources.one-source }
+returns c = record { paired = sources.edges-are-paired; within = sources.edges-within; one = sources.one-source; counted = edges-counted }

@@ -1,0 +1,5 @@
+use Rattle.clock_core.proofs.Listed as proved
+use Rattle.clock_core.proofs.laws.among_law.Goals as goal
+
+pub returns : goal.returns
+returns c = proved.among_law

@@ -1,0 +1,8 @@
+pub mod NodeCores
+pub mod Working
+pub mod StepCores
+pub mod RunCores
+pub mod Retiring
+pub mod Accessing
+pub mod Later
+pub mod EveryRun

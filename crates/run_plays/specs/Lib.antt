@@ -1,0 +1,4 @@
+pub mod Orders
+pub mod Plays
+pub mod ReplayOrders
+pub mod Loads

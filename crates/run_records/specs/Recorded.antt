@@ -1,0 +1,40 @@
+-- That every run is recorded, and what its recording is.
+use Rattle.std.specs.Prelude.{◌≡◌, ℕ, ◌*◌, ◌≤◌, List, length}
+use Rattle.image_mem.specs.Contents.{Contents}
+use Rattle.rtr_types.specs.Parameters.{Fits}
+use Rattle.rtr_types.specs.declared.access.Access.{Access}
+use Rattle.rtr_types.specs.declared.instr.Edge.{Edge}
+use Rattle.rtr_types.specs.declared.instr.Instr.{Instr}
+use Rattle.rtr_types.specs.declared.pairs.Which.TheVariants.{Reduced}
+use Rattle.rtr_types.specs.declared.params.Params.{Params}
+use Rattle.schedule_pick.specs.Choices.{Choices, choice_at}
+use Rattle.clock_core.specs.Order.{Among, Before}
+use Rattle.conflict_edge.specs.Least.{IsLeast, Others}
+use Rattle.log_codec.specs.Sources.{log_edges}
+use Rattle.msi_bound.specs.Ends.{end_of}
+use Rattle.recorder.specs.Recordings.{IsRecorded, run_accesses, recording_of}
+use Rattle.recorder.specs.Standing.{RecordsAt}
+use Rattle.run_records.specs.Standings.{Standing, standing_at}
+
+-- Until its end a run is recorded: the machine, the clerk and the choices that are left stand t choices into it.
+abbrev pub RecordsLaw : Type 0
+RecordsLaw =
+    (image : Contents) (params : Params) (schedule : Choices) (t : ℕ) → Fits params
+    → t ≤ end_of image params (choice_at schedule)
+    → let w : Standing = standing_at image params schedule t in
+    RecordsAt image params schedule t w.state w.clerk w.rest
+
+abbrev pub RecordedLaw : Type 0
+RecordedLaw =
+    (image : Contents) (params : Params) (schedule : Choices) → Fits params → image.words ≡ params.words
+    → length image.bytes ≤ 4 * params.words → IsRecorded image params schedule
+
+-- the edges are the least set of the accesses, so each is a conflict, and the others leave it unordered
+pub record IsLeastLog (list : List Access) (edges : List Edge) : Type 0 where
+  pub least : IsLeast list edges
+  pub needed : (x y : Instr) → Among edges x y → Before (Others (Among edges) x y) x y → ⊥
+
+abbrev pub LeastLogLaw : Type 0
+LeastLogLaw =
+    (image : Contents) (params : Params) (schedule : Choices) → Fits params
+    → IsLeastLog (run_accesses image params schedule) (log_edges Reduced (recording_of image params schedule))

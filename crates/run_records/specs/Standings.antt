@@ -1,0 +1,88 @@
+-- The machine whose riders record times, with what the recorder's clerk holds, along a run. The reduction chooses the
+-- clocks that are noted.
+use Rattle.std.specs.Prelude.{ℕ, zero, suc, List, [], Option, Some, None, false, replicate}
+use Rattle.access_times.specs.Times.{fresh_times, times_noted, times_riding}
+use Rattle.access_times.specs.declared.carry.NoCarry.{NoCarry}
+use Rattle.access_times.specs.declared.times.Times.{Times}
+use Rattle.image_mem.specs.Contents.{Contents}
+use Rattle.rtr_types.specs.declared.params.Params.{Params}
+use Rattle.rv_core.specs.declared.outcome.LoadNote.{LoadNote}
+use Rattle.schedule_pick.specs.Choices.{Choices, choice_at, choices_after}
+use Rattle.msi_state.specs.Nodes.{Event, Nothing, Retires, Accesses, rider_of_event}
+use Rattle.msi_state.specs.Plain.{plain}
+use Rattle.msi_state.specs.Runs.{chosen}
+use Rattle.msi_state.specs.States.{State, state_start}
+use Rattle.msi_state.specs.Steps.{event, retiring, step}
+use Rattle.msi_state.specs.declared.moves.Move.{Move}
+use Rattle.run_outcome.specs.Loads.{lists_after}
+use Rattle.online_reduce.specs.Reduced.{Reduced, clock_of, counted, retired, unreduced}
+use Rattle.recorder.specs.Clerks.{Noted}
+use Rattle.recorder.specs.Standing.{no_carrying}
+
+-- the machine, what the clerk holds, and the choices that are left
+pub record Standing : Type 0 where
+  pub state : State Times NoCarry
+  pub clerk : Noted
+  pub rest : Choices
+
+-- what the clerk holds with this reduction and these loads; of room it says nothing
+abbrev pub holding : Reduced → List (List LoadNote) → Noted
+holding r lists = record {
+  reduction = record { state = r; ready = false };
+  loads = record { lists = lists; roomy = false };
+}
+
+-- and after an event whose access found these times
+abbrev pub clerk_after : Noted → Event → (found : Times) → Noted
+clerk_after c Nothing found = c
+clerk_after c (Retires at) found = holding (counted c.reduction.state at) c.loads.lists
+clerk_after c (Accesses a) found = holding (retired c.reduction.state a found) (lists_after c.loads.lists a)
+
+-- the times that it leaves: the access is noted with its core's clock
+abbrev pub times_after : Reduced → Event → (found : Times) → Times
+times_after r (Accesses a) found = times_noted a found (clock_of r a.at.core)
+times_after r _ found = found
+
+-- the move that the next choice takes
+abbrev pub next_move : Standing → Option Move
+next_move w = chosen (plain w.state) (choice_at w.rest 0)
+
+-- the times that a move's access finds
+abbrev pub found_by : Standing → Option Move → Times
+found_by w None = fresh_times
+found_by w (Some m) =
+    rider_of_event times_riding (event times_riding no_carrying w.state m) (retiring times_riding no_carrying w.state m)
+
+-- what stands after a move of which the clerk was told
+abbrev pub moved_by : Standing → Option Move → Standing
+moved_by w None = w
+moved_by w (Some m) =
+    let e = event times_riding no_carrying w.state m in
+    let clerk = clerk_after w.clerk e (found_by w (Some m)) in
+    record {
+      state = step times_riding no_carrying (times_after clerk.reduction.state e (found_by w (Some m))) w.state m;
+      clerk = clerk;
+      rest = choices_after w.rest;
+    }
+
+-- before the first choice, and after t choices
+abbrev pub standing_start : Contents → Params → Choices → Standing
+standing_start image params schedule = record {
+  state = state_start times_riding no_carrying image params.cores params.limit;
+  clerk = holding (unreduced params.cores) (replicate params.cores []);
+  rest = schedule;
+}
+
+abbrev pub standing_at : Contents → Params → Choices → (t : ℕ) → Standing
+standing_at image params schedule zero = standing_start image params schedule
+standing_at image params schedule (suc t) =
+    let before = standing_at image params schedule t in moved_by before (next_move before)
+
+-- the times that the access of the choice numbered t finds
+abbrev pub times_found : Contents → Params → Choices → (t : ℕ) → Times
+times_found image params schedule t =
+    let before = standing_at image params schedule t in found_by before (next_move before)
+
+-- the reduction after t choices
+abbrev pub reduction_at : Contents → Params → Choices → (t : ℕ) → Reduced
+reduction_at image params schedule t = (standing_at image params schedule t).clerk.reduction.state
