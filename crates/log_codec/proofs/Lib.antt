@@ -1,7 +1,14 @@
 pub mod Steps
+pub mod Limits
 pub mod InTurn
+pub mod Merges
+pub mod Ordered
+pub mod NextEdges
 pub mod FieldLaws
 pub mod Logs
+pub mod ReducedLaws
+pub mod Written
+pub mod Received
 pub mod Whole
 pub mod Tested
 pub mod Counted

@@ -1,5 +1,5 @@
 -- A recording that is read is the one that is spelled, and what is spelled is read again.
-use Rattle.std.proofs.Common.{◌≡◌, ℕ, ◌+◌, ◌-◌, ◌^◌, ◌<◌, ◌≤◌, inl, inr, cond, eqb, List, [], ◌++◌, length, take, drop, get_or, Result, Ok, Err, refl, sym, ap, subst, ◌∙◌, append_assoc, arith}
+use Rattle.std.proofs.Common.{◌≡◌, ℕ, ◌+◌, ◌-◌, ◌*◌, ◌^◌, ◌<◌, ◌≤◌, inl, inr, cond, eqb, List, [], ◌++◌, length, take, drop, get_or, Result, Ok, Err, refl, sym, ap, subst, ◌∙◌, append_assoc, arith}
 use Rattle.std.specs.Prelude.{All, IfOk}
 use Rattle.std.proofs.lemmas.Bool.{cases_lt, eqb-true}
 use Rattle.std.proofs.lemmas.List.{append-nil, nil_from_length, get_or_past, take_at, drop_at, length-append}
@@ -11,14 +11,20 @@ use Rattle.log_codec.specs.declared.recording.Recording.{Recording}
 use Rattle.log_codec.specs.declared.codec_fault.CodecFault.{CodecFault}
 use Rattle.log_codec.specs.Faults.{◌>>=◌, Fails, Gives}
 use Rattle.log_codec.specs.Turns.{read_in_turn, StandInTurn, stay, follow, count_up}
-use Rattle.log_codec.specs.Validity.{Valid, EdgeRises, EdgeStands, AreEdges, AreVectors, IsListed, bound_at}
-use Rattle.log_codec.specs.Spelling.{header_text, total_text, totals_text, edges_text, reduced_text, vectors_text, regulated_text, spelling}
-use Rattle.log_codec.specs.Reading.{header_at, image_at, total_at, totals_at, edges_at, reduced_at, vectors_at, regulated_at, front_at, whole_at}
-use Rattle.log_codec.specs.Laws.{IsBytes, ReadIsSpelled, SpelledIsRead, SpelledIsFront, FrontIsSpelled, PrefixFree}
+use Rattle.log_codec.specs.declared.version.Version.{Version}
+use Rattle.log_codec.specs.declared.version.Version.TheVariants.{One, Two}
+use Rattle.log_codec.specs.Incoming.{IncomingStands, incoming_edges, remember}
+use Rattle.log_codec.specs.Validity.{Valid, EdgeRises, EdgeStands, AreVectors, IsListed, IsLog, bound_at}
+use Rattle.log_codec.specs.Versions.{FitsIn, FitsNew}
+use Rattle.log_codec.specs.Spelling.{Spells, header_text, total_text, totals_text, reduced_text, vectors_text, regulated_text, spelling_in}
+use Rattle.log_codec.specs.Reading.{header_at, image_at, total_at, totals_at, reduced_at, vectors_at, regulated_at, front_at, whole_at}
+use Rattle.log_codec.specs.Laws.{IsBytes, ReadIsSpelled, SpelledIsRead, SpelledIsFront, FrontIsSpelled, PrefixFree, ReadAndSpelled, IntoTheTarget}
 use Rattle.log_codec.proofs.Steps.{bind_ok, guard_ok, ok_is, Takes, Takes-then}
 use Rattle.log_codec.proofs.InTurn.{turns_take, turns_again, stand-places, places-stand, stand-all, all-stand, stand-map}
-use Rattle.log_codec.proofs.FieldLaws.{HeaderFits, header_takes, header_again, image_takes, image_again, total_takes, total_again}
-use Rattle.log_codec.proofs.Logs.{few_edges, few_vectors, edges_take, edges_again, vectors_take, vectors_again}
+use Rattle.log_codec.proofs.Limits.{limits_nest}
+use Rattle.log_codec.proofs.ReducedLaws.{AllEdges, AllRise, total-small, bound-small, reduced_takes, reduced_again, edges-rise, into-stands, into-pair, few-into}
+use Rattle.log_codec.proofs.FieldLaws.{Headed, header_takes, header_again, image_takes, image_again, total_takes, total_again}
+use Rattle.log_codec.proofs.Logs.{few_edges, few_vectors, vectors_take, vectors_again}
 
 -- ---- part by part
 
@@ -29,34 +35,6 @@ totals_take limit cores bytes totals rest are e =
 
 totals_again : (limit : ℕ) (totals rest : List ℕ) → limit < 2 ^ 32 → All (λ t. t ≤ limit) totals → totals_at limit (length totals) (totals_text totals ++ rest) ≡ Ok (totals, rest)
 totals_again limit totals rest small h = turns_again (λ (s : Unit {0}). total_at limit) stay total_text (λ (s : Unit {0}) t. t ≤ limit) (λ s x r most. total_again limit x r small most) tt totals rest (all-stand (λ (t : ℕ). t ≤ limit) totals h)
-
--- a total that is looked up is at most the limit
-total-small : (limit : ℕ) (totals : List ℕ) (j : ℕ) → All (λ t. t ≤ limit) totals → get_or totals j 0 ≤ limit
-total-small limit totals j h = elim (cases_lt j (length totals)) [
-  | inl lt ↦ h j 0 lt
-  | inr le ↦ rw (get_or_past totals j 0 le) (omega arith)
-]
-
--- the bounds of a pair are numbers that can be spelled
-record BoundSmall (most : ℕ × ℕ) : Type 0 where
-  source : most.0 < 2 ^ 32
-  target : most.1 < 2 ^ 32
-
-bound-small : (limit : ℕ) (totals : List ℕ) (place : ℕ) → limit < 2 ^ 32 → All (λ t. t ≤ limit) totals → BoundSmall (bound_at totals place)
-bound-small limit totals place small h =
-    let a = total-small limit totals (source_at (length totals) place) h in
-    let b = total-small limit totals (target_at (length totals) place) h in
-    record { source = omega arith; target = omega arith }
-
-reduced_takes : (totals bytes : List ℕ) (reduced : List (List (ℕ × ℕ))) (rest : List ℕ) → IsBytes bytes → reduced_at totals bytes ≡ Ok (reduced, rest) →
-    Takes bytes (reduced_text reduced) rest × (length reduced ≡ pair_count (length totals)) × StandInTurn (λ place es. AreEdges (bound_at totals place) es) count_up 0 reduced
-reduced_takes totals bytes reduced rest are e = turns_take (λ place. edges_at (bound_at totals place)) count_up edges_text (λ place es. AreEdges (bound_at totals place) es) (λ s b x r. edges_take s (bound_at totals s) b x r) (pair_count (length totals)) 0 bytes reduced rest are e
-
-reduced_again : (limit : ℕ) (totals : List ℕ) (reduced : List (List (ℕ × ℕ))) (rest : List ℕ) → limit < 2 ^ 32 → All (λ t. t ≤ limit) totals → length reduced ≡ pair_count (length totals) → StandInTurn (λ place es. AreEdges (bound_at totals place) es) count_up 0 reduced →
-    reduced_at totals (reduced_text reduced ++ rest) ≡ Ok (reduced, rest)
-reduced_again limit totals reduced rest small most each h =
-    let again = turns_again (λ place. edges_at (bound_at totals place)) count_up edges_text (λ place es. AreEdges (bound_at totals place) es) (λ s x r stands. let b = bound-small limit totals s small most in edges_again s (bound_at totals s) x r b.source b.target stands) 0 reduced rest h in
-    subst (λ (n : ℕ). read_in_turn (λ place. edges_at (bound_at totals place)) count_up n 0 (reduced_text reduced ++ rest) ≡ Ok (reduced, rest)) each again
 
 regulated_takes : (totals bytes : List ℕ) (regulated : List (List StrideVector)) (rest : List ℕ) → IsBytes bytes → regulated_at totals bytes ≡ Ok (regulated, rest) →
     Takes bytes (regulated_text regulated) rest × (length regulated ≡ pair_count (length totals)) × StandInTurn (λ place vs. AreVectors (bound_at totals place) vs) count_up 0 regulated
@@ -76,29 +54,29 @@ made_of params image totals reduced regulated = record { params = params; image 
 abbrev after_reduced : Params → List ℕ → List ℕ → List (List (ℕ × ℕ)) × List ℕ → Result (Recording × List ℕ) ℕ
 after_reduced params image totals reduced = regulated_at totals reduced.1 >>= λ regulated. Ok (made_of params image totals reduced.0 regulated.0, regulated.1)
 
-abbrev after_totals : Params → List ℕ → List ℕ × List ℕ → Result (Recording × List ℕ) ℕ
-after_totals params image totals = reduced_at totals.0 totals.1 >>= after_reduced params image totals.0
+abbrev after_totals : Version → Params → List ℕ → List ℕ × List ℕ → Result (Recording × List ℕ) ℕ
+after_totals v params image totals = reduced_at v totals.0 totals.1 >>= after_reduced params image totals.0
 
-abbrev after_image : Params → List ℕ × List ℕ → Result (Recording × List ℕ) ℕ
-after_image params image = totals_at params.limit params.cores image.1 >>= after_totals params image.0
+abbrev after_image : Version → Params → List ℕ × List ℕ → Result (Recording × List ℕ) ℕ
+after_image v params image = totals_at params.limit params.cores image.1 >>= after_totals v params image.0
 
-abbrev after_header : Params × ℕ × List ℕ → Result (Recording × List ℕ) ℕ
-after_header header = image_at header.1 header.2 >>= after_image header.0
+abbrev after_header : Headed → Result (Recording × List ℕ) ℕ
+after_header header = image_at header.2 header.3 >>= after_image header.0 header.1
 
--- the lists of the pairs of a recording, by place and in turn
-pub valid-made : (p : Params) (image totals : List ℕ) (reduced : List (List (ℕ × ℕ))) (regulated : List (List StrideVector)) → HeaderFits p (length image) → length totals ≡ p.cores → All (λ t. t ≤ p.limit) totals
-    → length reduced ≡ pair_count (length totals) → StandInTurn (λ place es. AreEdges (bound_at totals place) es) count_up 0 reduced
+-- a recording of valid parts
+pub valid-made : (p : Params) (image totals : List ℕ) (reduced : List (List (ℕ × ℕ))) (regulated : List (List StrideVector)) → FitsNew p → length image ≤ 4 * p.words → length totals ≡ p.cores → All (λ t. t ≤ p.limit) totals
+    → length reduced ≡ pair_count (length totals) → AllEdges totals reduced
     → length regulated ≡ pair_count (length totals) → StandInTurn (λ place vs. AreVectors (bound_at totals place) vs) count_up 0 regulated → Valid (made_of p image totals reduced regulated)
-valid-made p image totals reduced regulated fits each most each_reduced edges each_regulated vectors =
-    let reduced_is : length reduced ≡ pair_count p.cores = each_reduced ∙ ap (λ (n : ℕ). pair_count n) each in
-    let regulated_is : length regulated ≡ pair_count p.cores = each_regulated ∙ ap (λ (n : ℕ). pair_count n) each in
+valid-made p image totals reduced regulated fits room each most each_reduced edges each_regulated vectors =
+    let pairs_are : pair_count (length totals) ≡ pair_count p.cores = ap (λ (n : ℕ). pair_count n) each in
+    let regulated_is : length regulated ≡ pair_count p.cores = each_regulated ∙ pairs_are in
     record {
-      params = fits.params;
-      image = fits.image;
+      params = fits;
+      image = room;
       each_core = each;
       totals = most;
-      each_reduced = reduced_is;
-      reduced = λ place lt. subst (λ (k : ℕ). AreEdges (bound_at totals k) (get_or reduced place [])) (zero-plus place) (stand-places (λ place es. AreEdges (bound_at totals place) es) 0 reduced edges place [] (subst (λ (n : ℕ). place < n) (sym reduced_is) lt));
+      each_reduced = each_reduced ∙ pairs_are;
+      reduced = λ place lt. edges place (subst (λ (n : ℕ). place < n) (sym pairs_are) lt);
       each_regulated = regulated_is;
       regulated = λ place lt. subst (λ (k : ℕ). AreVectors (bound_at totals k) (get_or regulated place [])) (zero-plus place) (stand-places (λ place vs. AreVectors (bound_at totals place) vs) 0 regulated vectors place [] (subst (λ (n : ℕ). place < n) (sym regulated_is) lt));
     }
@@ -106,53 +84,73 @@ valid-made p image totals reduced regulated fits each most each_reduced edges ea
     zero-plus : (k : ℕ) → 0 + k ≡ k
     zero-plus k = omega arith
 
-pub edges-stand : (r : Recording) → Valid r → StandInTurn (λ place es. AreEdges (bound_at r.totals place) es) count_up 0 r.reduced
-edges-stand r v = places-stand (λ place es. AreEdges (bound_at r.totals place) es) 0 r.reduced [] (λ i lt. let same : i ≡ 0 + i = omega arith in subst (λ (k : ℕ). AreEdges (bound_at r.totals k) (get_or r.reduced i [])) same (v.reduced i (subst (λ (n : ℕ). i < n) v.each_reduced lt)))
+pub edges-placed : (r : Recording) → Valid r → AllEdges r.totals r.reduced
+edges-placed r v place lt = v.reduced place (subst (λ (n : ℕ). place < pair_count n) v.each_core lt)
 
 pub vectors-stand : (r : Recording) → Valid r → StandInTurn (λ place vs. AreVectors (bound_at r.totals place) vs) count_up 0 r.regulated
 vectors-stand r v = places-stand (λ place vs. AreVectors (bound_at r.totals place) vs) 0 r.regulated [] (λ i lt. let same : i ≡ 0 + i = omega arith in subst (λ (k : ℕ). AreVectors (bound_at r.totals k) (get_or r.regulated i [])) same (v.regulated i (subst (λ (n : ℕ). i < n) v.each_regulated lt)))
 
-pub front_takes : (bytes : List ℕ) (r : Recording) (rest : List ℕ) → IsBytes bytes → front_at bytes ≡ Ok (r, rest) → Takes bytes (spelling r) rest × Valid r
-unfolding front_at spelling
+-- the limits of either version lie within those of version 2
+within-new : (v : Version) (p : Params) → FitsIn v p → FitsNew p
+within-new One p f = (limits_nest p).0 f
+within-new Two p f = f
+
+-- the front of the bytes, and the version in which it is spelled
+pub record FrontTaken (bytes : List ℕ) (r : Recording) (rest : List ℕ) : Type 0 where
+  pub valid : Valid r
+  pub version : Version
+  pub limits : FitsIn version r.params
+  pub taken : Takes bytes (spelling_in version r) rest
+
+pub front_takes : (bytes : List ℕ) (r : Recording) (rest : List ℕ) → IsBytes bytes → front_at bytes ≡ Ok (r, rest) → FrontTaken bytes r rest
+unfolding front_at spelling_in
 front_takes bytes r rest are e =
     let h = bind_ok (header_at bytes) after_header (r, rest) e in
-    let i = bind_ok (image_at h.0.1 h.0.2) (after_image h.0.0) (r, rest) h.2 in
-    let t = bind_ok (totals_at h.0.0.limit h.0.0.cores i.0.1) (after_totals h.0.0 i.0.0) (r, rest) i.2 in
-    let d = bind_ok (reduced_at t.0.0 t.0.1) (after_reduced h.0.0 i.0.0 t.0.0) (r, rest) t.2 in
-    let g = bind_ok (regulated_at t.0.0 d.0.1) (λ regulated. Ok (made_of h.0.0 i.0.0 t.0.0 d.0.0 regulated.0, regulated.1)) (r, rest) d.2 in
-    let th = header_takes bytes h.0.0 h.0.1 h.0.2 are h.1 in
-    let ti = image_takes h.0.1 h.0.2 i.0.0 i.0.1 th.0.rest_fits i.1 in
-    let tt' = totals_take h.0.0.limit h.0.0.cores i.0.1 t.0.0 t.0.1 ti.0.rest_fits t.1 in
-    let td = reduced_takes t.0.0 t.0.1 d.0.0 d.0.1 tt'.0.rest_fits d.1 in
+    let w = h.0.0 in
+    let p = h.0.1 in
+    let i = bind_ok (image_at h.0.2 h.0.3) (after_image w p) (r, rest) h.2 in
+    let t = bind_ok (totals_at p.limit p.cores i.0.1) (after_totals w p i.0.0) (r, rest) i.2 in
+    let d = bind_ok (reduced_at w t.0.0 t.0.1) (after_reduced p i.0.0 t.0.0) (r, rest) t.2 in
+    let g = bind_ok (regulated_at t.0.0 d.0.1) (λ regulated. Ok (made_of p i.0.0 t.0.0 d.0.0 regulated.0, regulated.1)) (r, rest) d.2 in
+    let th = header_takes bytes w p h.0.2 h.0.3 are h.1 in
+    let ti = image_takes h.0.2 h.0.3 i.0.0 i.0.1 th.0.rest_fits i.1 in
+    let tt' = totals_take p.limit p.cores i.0.1 t.0.0 t.0.1 ti.0.rest_fits t.1 in
+    let td = reduced_takes w t.0.0 t.0.1 d.0.0 d.0.1 tt'.0.rest_fits d.1 in
     let tg = regulated_takes t.0.0 d.0.1 g.0.0 g.0.1 td.0.rest_fits g.1 in
-    let t1 = Takes-then t.0.1 (reduced_text d.0.0) d.0.1 (regulated_text g.0.0) g.0.1 td.0 tg.0 in
-    let t2 = Takes-then i.0.1 (totals_text t.0.0) t.0.1 (reduced_text d.0.0 ++ regulated_text g.0.0) g.0.1 tt'.0 t1 in
-    let t3 = Takes-then h.0.2 i.0.0 i.0.1 (totals_text t.0.0 ++ (reduced_text d.0.0 ++ regulated_text g.0.0)) g.0.1 ti.0 t2 in
-    let t4 = Takes-then bytes (header_text h.0.0 h.0.1) h.0.2 (i.0.0 ++ (totals_text t.0.0 ++ (reduced_text d.0.0 ++ regulated_text g.0.0))) g.0.1 th.0 t3 in
-    let named : Takes bytes (spelling (made_of h.0.0 i.0.0 t.0.0 d.0.0 g.0.0)) g.0.1 = subst (λ (len : ℕ). Takes bytes (header_text h.0.0 len ++ (i.0.0 ++ (totals_text t.0.0 ++ (reduced_text d.0.0 ++ regulated_text g.0.0)))) g.0.1) (sym ti.1) t4 in
-    let fits : HeaderFits h.0.0 (length i.0.0) = subst (λ (len : ℕ). HeaderFits h.0.0 len) (sym ti.1) th.1 in
-    let valid = valid-made h.0.0 i.0.0 t.0.0 d.0.0 g.0.0 fits tt'.1 tt'.2 td.1 td.2 tg.1 tg.2 in
-    subst (λ (y : Recording × List ℕ). Takes bytes (spelling y.0) y.1 × Valid y.0) (ok_is (made_of h.0.0 i.0.0 t.0.0 d.0.0 g.0.0, g.0.1) (r, rest) g.2) (named, valid)
+    let reduced : Takes t.0.1 (reduced_text w p.cores d.0.0) d.0.1 = subst (λ (n : ℕ). Takes t.0.1 (reduced_text w n d.0.0) d.0.1) tt'.1 td.0 in
+    let t1 = Takes-then t.0.1 (reduced_text w p.cores d.0.0) d.0.1 (regulated_text g.0.0) g.0.1 reduced tg.0 in
+    let t2 = Takes-then i.0.1 (totals_text t.0.0) t.0.1 (reduced_text w p.cores d.0.0 ++ regulated_text g.0.0) g.0.1 tt'.0 t1 in
+    let t3 = Takes-then h.0.3 i.0.0 i.0.1 (totals_text t.0.0 ++ (reduced_text w p.cores d.0.0 ++ regulated_text g.0.0)) g.0.1 ti.0 t2 in
+    let t4 = Takes-then bytes (header_text w p h.0.2) h.0.3 (i.0.0 ++ (totals_text t.0.0 ++ (reduced_text w p.cores d.0.0 ++ regulated_text g.0.0))) g.0.1 th.0 t3 in
+    let made = made_of p i.0.0 t.0.0 d.0.0 g.0.0 in
+    let named : Takes bytes (spelling_in w made) g.0.1 = subst (λ (len : ℕ). Takes bytes (header_text w p len ++ (i.0.0 ++ (totals_text t.0.0 ++ (reduced_text w p.cores d.0.0 ++ regulated_text g.0.0)))) g.0.1) (sym ti.1) t4 in
+    let room : length i.0.0 ≤ 4 * p.words = subst (λ (len : ℕ). len ≤ 4 * p.words) (sym ti.1) th.1.image in
+    let valid = valid-made p i.0.0 t.0.0 d.0.0 g.0.0 (within-new w p th.1.params) room tt'.1 tt'.2 td.1 td.2 tg.1 tg.2 in
+    subst (λ (y : Recording × List ℕ). FrontTaken bytes y.0 y.1) (ok_is (made, g.0.1) (r, rest) g.2) (record { valid = valid; version = w; limits = th.1.params; taken = named })
 
 pub front_again : SpelledIsFront
-unfolding front_at spelling
-front_again r rest v =
+unfolding front_at spelling_in
+front_again w r rest v fits =
     let params = v.params in
-    let small : r.params.limit < 2 ^ 32 = omega arith in
-    let regrouped : spelling r ++ rest ≡ header_text r.params (length r.image) ++ (r.image ++ (totals_text r.totals ++ (reduced_text r.reduced ++ (regulated_text r.regulated ++ rest)))) = simp append_assoc in
-    let h = header_again r.params (length r.image) (r.image ++ (totals_text r.totals ++ (reduced_text r.reduced ++ (regulated_text r.regulated ++ rest)))) (record { params = v.params; image = v.image }) in
-    let i = image_again r.image (totals_text r.totals ++ (reduced_text r.reduced ++ (regulated_text r.regulated ++ rest))) in
-    let t = subst (λ (n : ℕ). totals_at r.params.limit n (totals_text r.totals ++ (reduced_text r.reduced ++ (regulated_text r.regulated ++ rest))) ≡ Ok (r.totals, reduced_text r.reduced ++ (regulated_text r.regulated ++ rest))) v.each_core
-    (totals_again r.params.limit r.totals (reduced_text r.reduced ++ (regulated_text r.regulated ++ rest)) small v.totals) in
-    let back : pair_count r.params.cores ≡ pair_count (length r.totals) = ap (λ (n : ℕ). pair_count n) (sym v.each_core) in
-    let d = reduced_again r.params.limit r.totals r.reduced (regulated_text r.regulated ++ rest) small v.totals (v.each_reduced ∙ back) (edges-stand r v) in
-    let g = regulated_again r.params.limit r.totals r.regulated rest small v.totals (v.each_regulated ∙ back) (vectors-stand r v) in
+    let p = r.params in
+    let small : p.limit < 2 ^ 32 = omega arith in
+    let few : length r.totals < 2 ^ 32 = let each = v.each_core in omega arith in
+    let together : length r.totals * p.limit < 2 ^ 32 = let all = params.together in subst (λ (n : ℕ). n * p.limit < 2 ^ 32) (sym v.each_core) (omega arith) in
+    let regrouped : spelling_in w r ++ rest ≡ header_text w p (length r.image) ++ (r.image ++ (totals_text r.totals ++ (reduced_text w p.cores r.reduced ++ (regulated_text r.regulated ++ rest)))) = simp append_assoc in
+    let h = header_again w p (length r.image) (r.image ++ (totals_text r.totals ++ (reduced_text w p.cores r.reduced ++ (regulated_text r.regulated ++ rest)))) (record { params = fits; image = v.image }) in
+    let i = image_again r.image (totals_text r.totals ++ (reduced_text w p.cores r.reduced ++ (regulated_text r.regulated ++ rest))) in
+    let t = subst (λ (n : ℕ). totals_at p.limit n (totals_text r.totals ++ (reduced_text w p.cores r.reduced ++ (regulated_text r.regulated ++ rest))) ≡ Ok (r.totals, reduced_text w p.cores r.reduced ++ (regulated_text r.regulated ++ rest))) v.each_core
+    (totals_again p.limit r.totals (reduced_text w p.cores r.reduced ++ (regulated_text r.regulated ++ rest)) small v.totals) in
+    let back : pair_count p.cores ≡ pair_count (length r.totals) = ap (λ (n : ℕ). pair_count n) (sym v.each_core) in
+    let d = subst (λ (n : ℕ). reduced_at w r.totals (reduced_text w n r.reduced ++ (regulated_text r.regulated ++ rest)) ≡ Ok (r.reduced, regulated_text r.regulated ++ rest)) v.each_core
+    (reduced_again w p.limit r.totals r.reduced (regulated_text r.regulated ++ rest) small together few v.totals (v.each_reduced ∙ back) (edges-placed r v)) in
+    let g = regulated_again p.limit r.totals r.regulated rest small v.totals (v.each_regulated ∙ back) (vectors-stand r v) in
     ap front_at regrouped ∙ rw (h, i, t, d, g) refl
 
 -- ---- the laws
 
 pub front_is_spelled : FrontIsSpelled
-front_is_spelled bytes r rest are e = let t = front_takes bytes r rest are e in (t.1, t.0.parts)
+front_is_spelled bytes r rest are e = let t = front_takes bytes r rest are e in (t.valid, (t.version, t.limits, t.taken.parts))
 
 pub read_is_spelled : ReadIsSpelled
 unfolding whole_at
@@ -161,24 +159,41 @@ read_is_spelled bytes r are e =
     let g = guard_ok (eqb (length f.0.1) 0) END f.0.0 r f.2 in
     let t = front_takes bytes f.0.0 f.0.1 are f.1 in
     let none : f.0.1 ≡ [] = nil_from_length f.0.1 (eqb-true _ _ g.0) in
-    let all : bytes ≡ spelling f.0.0 = t.0.parts ∙ ap (λ (x : List ℕ). spelling f.0.0 ++ x) none ∙ append-nil (spelling f.0.0) in
-    subst (λ (s : Recording). Valid s × (bytes ≡ spelling s)) g.1 (t.1, all)
+    let text = spelling_in t.version f.0.0 in
+    let all : bytes ≡ text = t.taken.parts ∙ ap (λ (x : List ℕ). text ++ x) none ∙ append-nil text in
+    subst (λ (s : Recording). Valid s × Spells bytes s) g.1 (t.valid, (t.version, t.limits, all))
 
 pub spelled_is_read : SpelledIsRead
 unfolding whole_at
-spelled_is_read r v =
-    let f : front_at (spelling r) ≡ Ok (r, []) = ap front_at (sym (append-nil (spelling r))) ∙ front_again r [] v in
+spelled_is_read w r v fits =
+    let f : front_at (spelling_in w r) ≡ Ok (r, []) = ap front_at (sym (append-nil (spelling_in w r))) ∙ front_again w r [] v fits in
     rw f refl
 
+-- the version shows at the front
+version-of : (w : Version) (r : Recording) (rest : List ℕ) → FitsIn w r.params → length r.image ≤ 4 * r.params.words →
+    header_at (spelling_in w r ++ rest) ≡ Ok (w, r.params, length r.image, r.image ++ (totals_text r.totals ++ (reduced_text w r.params.cores r.reduced ++ (regulated_text r.regulated ++ rest))))
+unfolding spelling_in
+version-of w r rest fits room =
+    let p = r.params in
+    let regrouped : spelling_in w r ++ rest ≡ header_text w p (length r.image) ++ (r.image ++ (totals_text r.totals ++ (reduced_text w p.cores r.reduced ++ (regulated_text r.regulated ++ rest)))) = simp append_assoc in
+    ap header_at regrouped ∙ header_again w p (length r.image) (r.image ++ (totals_text r.totals ++ (reduced_text w p.cores r.reduced ++ (regulated_text r.regulated ++ rest)))) (record { params = fits; image = room })
+
 pub prefix_free : PrefixFree
-prefix_free r s x y vr vs e =
-    let both : Ok (r, x) ≡ Ok (s, y) = sym (front_again r x vr) ∙ ap front_at e ∙ front_again s y vs in
+prefix_free v w r s x y vr fr vs fs e =
+    let both : Ok (r, x) ≡ Ok (s, y) = sym (front_again v r x vr fr) ∙ ap front_at e ∙ front_again w s y vs fs in
     let same = ok_is (r, x) (s, y) both in
-    (ap (λ (p : Recording × List ℕ). p.0) same, ap (λ (p : Recording × List ℕ). p.1) same)
+    let heads = sym (version-of v r x fr vr.image) ∙ ap header_at e ∙ version-of w s y fs vs.image in
+    (ap (λ (h : Headed). h.0) (ok_is _ _ heads), ap (λ (p : Recording × List ℕ). p.0) same, ap (λ (p : Recording × List ℕ). p.1) same)
+
+-- what is read and spelled anew is read the same
+pub read_and_spelled : ReadAndSpelled
+read_and_spelled bytes r are e =
+    let found = read_is_spelled bytes r are e in
+    spelled_is_read Two r found.0 found.0.params ∙ sym e
 
 -- ---- what a call that reads returns
 
-pub is_found : (bytes : List ℕ) (r : Result Recording CodecFault) → IsBytes bytes → Gives (λ x. x) r (whole_at bytes) → IfOk r (λ x. Valid x × (bytes ≡ spelling x))
+pub is_found : (bytes : List ℕ) (r : Result Recording CodecFault) → IsBytes bytes → Gives (λ x. x) r (whole_at bytes) → IfOk r (λ x. Valid x × Spells bytes x)
 is_found bytes (Ok x) are given = read_is_spelled bytes x are given
 is_found bytes (Err e) are given = tt
 
@@ -186,25 +201,26 @@ is_found bytes (Err e) are given = tt
 pub record FrontFound (bytes : List ℕ) (r : Recording) (rest : List ℕ) : Type 0 where
   pub valid : Valid r
   pub within : length rest ≤ length bytes
-  pub text : take (length bytes - length rest) bytes ≡ spelling r
+  pub text : Spells (take (length bytes - length rest) bytes) r
   pub rest_is : drop (length bytes - length rest) bytes ≡ rest
 
 pub front_found : (bytes : List ℕ) (r : Recording) (rest : List ℕ) → IsBytes bytes → front_at bytes ≡ Ok (r, rest) → FrontFound bytes r rest
 front_found bytes r rest are e =
     let t = front_takes bytes r rest are e in
-    let parts = t.0.parts in
-    let sizes : length bytes ≡ length (spelling r) + length rest = ap (λ (x : List ℕ). length x) parts ∙ length-append (spelling r) rest in
-    let size : length (spelling r) ≡ length bytes - length rest = omega arith in
+    let parts = t.taken.parts in
+    let text = spelling_in t.version r in
+    let sizes : length bytes ≡ length text + length rest = ap (λ (x : List ℕ). length x) parts ∙ length-append text rest in
+    let size : length text ≡ length bytes - length rest = omega arith in
     record {
-      valid = t.1;
+      valid = t.valid;
       within = omega arith;
-      text = ap (take (length bytes - length rest)) parts ∙ take_at (spelling r) rest (length bytes - length rest) size;
-      rest_is = ap (drop (length bytes - length rest)) parts ∙ drop_at (spelling r) rest (length bytes - length rest) size;
+      text = (t.version, t.limits, ap (take (length bytes - length rest)) parts ∙ take_at text rest (length bytes - length rest) size);
+      rest_is = ap (drop (length bytes - length rest)) parts ∙ drop_at text rest (length bytes - length rest) size;
     }
 
 -- a fault that is answered is the reading's
-pub no_fault : (bytes : List ℕ) (e : CodecFault) (r : Recording) (rest : List ℕ) → Valid r → bytes ≡ spelling r ++ rest → Fails e (front_at bytes) → Fails {Y = Recording × List ℕ} e (Ok (r, rest))
-no_fault bytes e r rest valid is fails = subst (λ (x : Result (Recording × List ℕ) ℕ). Fails e x) (ap front_at is ∙ front_again r rest valid) fails
+pub no_fault : (bytes : List ℕ) (e : CodecFault) (w : Version) (r : Recording) (rest : List ℕ) → Valid r → FitsIn w r.params → bytes ≡ spelling_in w r ++ rest → Fails e (front_at bytes) → Fails {Y = Recording × List ℕ} e (Ok (r, rest))
+no_fault bytes e w r rest valid fits is fails = subst (λ (x : Result (Recording × List ℕ) ℕ). Fails e x) (ap front_at is ∙ front_again w r rest valid fits) fails
 
 -- ---- what the writer needs
 
@@ -218,6 +234,30 @@ edges_listed r v place lt =
     let few = few_edges most edges are in
     let least = small.source in
     record { few = omega arith; rising = stand-map (EdgeStands most) EdgeRises follow (λ s x h. h.rises) (0, 0) edges are }
+
+-- the reduced log can be spelled in either version
+pub is_log : (r : Recording) → Valid r → IsLog r.params.cores r.reduced
+is_log r v =
+    let few = v.params.cores in
+    let together = v.params.together in
+    record {
+      few = few;
+      pairs = v.each_reduced;
+      listed = edges_listed r v;
+      into = λ target inside.
+          let lt : target < length r.totals = subst (λ (n : ℕ). target < n) (sym v.each_core) inside in
+          let count = few-into r.params.limit r.totals r.reduced target lt v.totals (edges-placed r v) in
+          let all : length (incoming_edges r.params.cores r.reduced target) ≤ r.params.cores * r.params.limit = subst (λ (n : ℕ). length (incoming_edges n r.reduced target) ≤ n * r.params.limit) v.each_core count in
+          omega arith;
+    }
+
+pub into_the_target : IntoTheTarget
+into_the_target r target v inside =
+    let lt : target < length r.totals = subst (λ (n : ℕ). target < n) (sym v.each_core) inside in
+    let cores : length r.totals ≡ r.params.cores = v.each_core in (
+      subst (λ (n : ℕ). StandInTurn (IncomingStands r.totals target) remember [] (incoming_edges n r.reduced target)) cores (into-stands r.totals r.reduced target lt (edges-placed r v)),
+      λ source pair. into-pair r.params.cores r.reduced source target pair (subst (λ (n : ℕ). AllRise n r.reduced) cores (edges-rise r.totals r.reduced (edges-placed r v))),
+    )
 
 pub vectors_listed : (r : Recording) → Valid r → (place : ℕ) → place < length r.regulated → length (get_or r.regulated place []) < 2 ^ 32
 vectors_listed r v place lt =

@@ -1,6 +1,8 @@
 pub mod Faults
 pub mod Turns
+pub mod Versions
 pub mod Validity
+pub mod Incoming
 pub mod Spelling
 pub mod Reading
 pub mod Counts

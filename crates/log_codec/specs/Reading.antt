@@ -1,6 +1,6 @@
--- Reading a recording from left to right. A number, a count or a byte that doesn't fit is a fault of
+-- Reading a recording of either version from left to right. A number, a count or a byte that doesn't fit is a fault of
 -- the part in which it stands.
-use Rattle.std.specs.Prelude.{ℕ, ◌+◌, ◌*◌, List, length, take, drop, Result, Ok, Err, nat_lt, nat_le, nat_eq, ◌==◌, ◌&&◌, if◌then◌else◌}
+use Rattle.std.specs.Prelude.{ℕ, ◌+◌, ◌*◌, List, [], length, take, drop, Result, Ok, Err, nat_lt, nat_le, nat_eq, ◌==◌, ◌&&◌, if◌then◌else◌}
 use Rattle.std.specs.List.{starts_with}
 use Rattle.rtr_types.specs.declared.params.Params.{Params}
 use Rattle.rtr_types.specs.Pairs.{pair_count}
@@ -11,8 +11,12 @@ use Rattle.log_codec.specs.declared.codec_fault.TheConstants.{HEADER, IMAGE, TOT
 use Rattle.log_codec.specs.declared.recording.Recording.{Recording}
 use Rattle.log_codec.specs.Faults.{◌>>=◌}
 use Rattle.log_codec.specs.Turns.{read_in_turn, stay, follow, count_up}
-use Rattle.log_codec.specs.Spelling.{magic}
-use Rattle.log_codec.specs.Validity.{fits, bound_at, end_of, vector_stands}
+use Rattle.log_codec.specs.declared.incoming.Incoming.{Incoming}
+use Rattle.log_codec.specs.declared.version.Version.{Version}
+use Rattle.log_codec.specs.declared.version.Version.TheVariants.{One, Two}
+use Rattle.log_codec.specs.Incoming.{pairs_of, target_count, with_into, remember, last_target, last_source, incoming_stands}
+use Rattle.log_codec.specs.Validity.{bound_at, end_of, vector_stands}
+use Rattle.log_codec.specs.Versions.{magic, fits_in}
 
 -- the number that the bytes begin with, and the bytes after it
 abbrev pub after_number : ℕ → List ℕ → Result (ℕ × ℕ) Varint → Result (ℕ × List ℕ) ℕ
@@ -22,24 +26,27 @@ after_number part bytes (Err e) = Err part
 unfoldable pub number_at : ℕ → List ℕ → Result (ℕ × List ℕ) ℕ
 number_at part bytes = after_number part bytes (leb128.reading bytes)
 
-unfoldable pub magic_at : List ℕ → Result (List ℕ) ℕ
-magic_at bytes = if starts_with nat_eq bytes magic then Ok (drop 4 bytes) else Err HEADER
+-- the version that the bytes begin with, and the bytes after it
+unfoldable pub version_at : List ℕ → Result (Version × List ℕ) ℕ
+version_at bytes =
+    if starts_with nat_eq bytes (magic One) then Ok (One, drop 4 bytes) else
+    if starts_with nat_eq bytes (magic Two) then Ok (Two, drop 4 bytes) else Err HEADER
 
--- the parameters, where they and the length of the image lie in their ranges
-unfoldable pub params_of : ℕ → ℕ → ℕ → ℕ → Result Params ℕ
-params_of cores limit words len =
-    if fits (record { cores = cores; limit = limit; words = words }) && nat_le len (4 * words) then Ok (record { cores = cores; limit = limit; words = words }) else Err HEADER
+-- the parameters, where they lie within the version's limits, and the image within the memory
+unfoldable pub params_of : Version → ℕ → ℕ → ℕ → ℕ → Result Params ℕ
+params_of v cores limit words len =
+    if fits_in v (record { cores = cores; limit = limit; words = words }) && nat_le len (4 * words) then Ok (record { cores = cores; limit = limit; words = words }) else Err HEADER
 
--- the parameters, the length of the image, and the bytes after them
-unfoldable pub header_at : List ℕ → Result (Params × ℕ × List ℕ) ℕ
+-- the version, the parameters, the length of the image, and the bytes after them
+unfoldable pub header_at : List ℕ → Result (Version × Params × ℕ × List ℕ) ℕ
 header_at bytes = do
-  rest ← magic_at bytes
-  cores ← number_at HEADER rest
+  version ← version_at bytes
+  cores ← number_at HEADER version.1
   limit ← number_at HEADER cores.1
   words ← number_at HEADER limit.1
   len ← number_at HEADER words.1
-  params ← params_of cores.0 limit.0 words.0 len.0
-  Ok (params, len.0, len.1)
+  params ← params_of version.0 cores.0 limit.0 words.0 len.0
+  Ok (version.0, params, len.0, len.1)
 
 unfoldable pub image_at : ℕ → List ℕ → Result (List ℕ × List ℕ) ℕ
 image_at len bytes = if nat_lt (length bytes) len then Err IMAGE else Ok (take len bytes, drop len bytes)
@@ -67,8 +74,43 @@ edges_at most bytes = do
   read_in_turn (edge_at most) follow count.0 (0, 0) count.1
 
 -- the edges of each pair
-abbrev pub reduced_at : List ℕ → List ℕ → Result (List (List (ℕ × ℕ)) × List ℕ) ℕ
-reduced_at totals bytes = read_in_turn (λ place. edges_at (bound_at totals place)) count_up (pair_count (length totals)) 0 bytes
+abbrev pub pairs_at : List ℕ → List ℕ → Result (List (List (ℕ × ℕ)) × List ℕ) ℕ
+pairs_at totals bytes = read_in_turn (λ place. edges_at (bound_at totals place)) count_up (pair_count (length totals)) 0 bytes
+
+-- the edge into a core, where it stands after the ones before
+abbrev pub standing_into : List ℕ → ℕ → List Incoming → Incoming → List ℕ → Result (Incoming × List ℕ) ℕ
+standing_into totals target before e rest = if incoming_stands totals target before e then Ok (e, rest) else Err REDUCED
+
+-- the next edge into a core: the target's rise, the source core, and the source's rise
+unfoldable pub incoming_at : List ℕ → ℕ → List Incoming → List ℕ → Result (Incoming × List ℕ) ℕ
+incoming_at totals target before bytes = do
+  b ← number_at REDUCED bytes
+  source ← number_at REDUCED b.1
+  a ← number_at REDUCED source.1
+  standing_into totals target before (record { source = source.0; counts = (last_source source.0 before + a.0, last_target before + b.0) }) a.1
+
+-- the edges into a core: how many, and these
+unfoldable pub into_at : List ℕ → ℕ → List ℕ → Result (List Incoming × List ℕ) ℕ
+into_at totals target bytes = do
+  count ← number_at REDUCED bytes
+  read_in_turn (incoming_at totals target) remember count.0 [] count.1
+
+-- the lists of the pairs, with what was read of the edges into a target at their ends
+abbrev pub put_into_lists : (cores : ℕ) → List (List (ℕ × ℕ)) → (target : ℕ) → Result (List Incoming × List ℕ) ℕ → Result (List (List (ℕ × ℕ)) × List ℕ) ℕ
+put_into_lists cores lists target read = do
+  into ← read
+  Ok (with_into cores lists target into.0, into.1)
+
+-- the edges into each core, as those of each pair
+unfoldable pub targets_at : List ℕ → List ℕ → Result (List (List (ℕ × ℕ)) × List ℕ) ℕ
+targets_at totals bytes = do
+  into ← read_in_turn (into_at totals) count_up (target_count (length totals)) 0 bytes
+  Ok (pairs_of (length totals) into.0, into.1)
+
+-- the fourth part, pair by pair or target by target
+abbrev pub reduced_at : Version → List ℕ → List ℕ → Result (List (List (ℕ × ℕ)) × List ℕ) ℕ
+reduced_at One totals bytes = pairs_at totals bytes
+reduced_at Two totals bytes = targets_at totals bytes
 
 -- two strides, the source's first
 abbrev pub two_strides : List ℕ → Result (ℕ × ℕ × List ℕ) ℕ
@@ -108,11 +150,11 @@ regulated_at totals bytes = read_in_turn (λ place. vectors_at (bound_at totals 
 unfoldable pub front_at : List ℕ → Result (Recording × List ℕ) ℕ
 front_at bytes = do
   header ← header_at bytes
-  image ← image_at header.1 header.2
-  totals ← totals_at header.0.limit header.0.cores image.1
-  reduced ← reduced_at totals.0 totals.1
+  image ← image_at header.2 header.3
+  totals ← totals_at header.1.limit header.1.cores image.1
+  reduced ← reduced_at header.0 totals.0 totals.1
   regulated ← regulated_at totals.0 reduced.1
-  Ok (record { params = header.0; image = image.0; totals = totals.0; reduced = reduced.0; regulated = regulated.0 }, regulated.1)
+  Ok (record { params = header.1; image = image.0; totals = totals.0; reduced = reduced.0; regulated = regulated.0 }, regulated.1)
 
 -- all parts
 unfoldable pub whole_at : List ℕ → Result Recording ℕ

@@ -1,23 +1,25 @@
--- The one spelling of each recording, part by part.
-use Rattle.std.specs.Prelude.{ℕ, ◌-◌, List, [], ◌∷◌, ◌++◌, length, nat_lt, if◌then◌else◌}
+-- The one spelling of each recording in each version, part by part. The versions differ in the header and in the fourth part.
+use Rattle.std.specs.Prelude.{◌≡◌, ℕ, ◌-◌, List, [], ◌++◌, length, map, nat_lt, if◌then◌else◌}
+use Rattle.std.specs.List.{range_with_len}
 use Rattle.rtr_types.specs.declared.params.Params.{Params}
 use Rattle.stride_vector.specs.declared.StrideVector.{StrideVector}
 use Rattle.varint_core.specs.Leb128 as leb128
 use Rattle.log_codec.specs.declared.recording.Recording.{Recording}
+use Rattle.log_codec.specs.declared.incoming.Incoming.{Incoming}
+use Rattle.log_codec.specs.declared.version.Version.{Version}
+use Rattle.log_codec.specs.declared.version.Version.TheVariants.{One, Two}
+use Rattle.log_codec.specs.Incoming.{incoming_edges, target_count, remember, last_target, last_source}
 use Rattle.log_codec.specs.Turns.{spelled_in_turn, stay, follow, count_up}
 use Rattle.log_codec.specs.Validity.{end_of}
+use Rattle.log_codec.specs.Versions.{magic, FitsIn}
 
 -- a number as LEB128
 abbrev pub number : ℕ → List ℕ
 number n = leb128.spelling n
 
--- the letters RTR, and the version
-abbrev pub magic : List ℕ
-magic = 0x52 ∷ 0x54 ∷ 0x52 ∷ 1 ∷ []
-
--- the first part: the parameters and the length of the image
-abbrev pub header_text : Params → ℕ → List ℕ
-header_text p len = magic ++ (number p.cores ++ (number p.limit ++ (number p.words ++ number len)))
+-- the first part: the version, the parameters and the length of the image
+abbrev pub header_text : Version → Params → ℕ → List ℕ
+header_text v p len = magic v ++ (number p.cores ++ (number p.limit ++ (number p.words ++ number len)))
 
 abbrev pub total_text : Unit {0} → ℕ → List ℕ
 total_text s total = number total
@@ -34,9 +36,27 @@ edge_text last e = number (e.1 - last.1) ++ number (e.0 - last.0)
 abbrev pub edges_text : ℕ → List (ℕ × ℕ) → List ℕ
 edges_text place edges = number (length edges) ++ spelled_in_turn edge_text follow (0, 0) edges
 
--- the fourth part: the edges of each pair
-abbrev pub reduced_text : List (List (ℕ × ℕ)) → List ℕ
-reduced_text reduced = spelled_in_turn edges_text count_up 0 reduced
+-- the edges of each pair
+abbrev pub pairs_text : List (List (ℕ × ℕ)) → List ℕ
+pairs_text reduced = spelled_in_turn edges_text count_up 0 reduced
+
+-- an edge into a core: how far the target's count rises from the edge before it, the source core, and how
+-- far the source's count rises from that core's edge before
+abbrev pub incoming_text : List Incoming → Incoming → List ℕ
+incoming_text before e = number (e.counts.1 - last_target before) ++ (number e.source ++ number (e.counts.0 - last_source e.source before))
+
+-- the edges into a core: how many, and these
+abbrev pub into_text : ℕ → List Incoming → List ℕ
+into_text target edges = number (length edges) ++ spelled_in_turn incoming_text remember [] edges
+
+-- the edges into each core
+abbrev pub targets_text : ℕ → List (List (ℕ × ℕ)) → List ℕ
+targets_text cores reduced = spelled_in_turn into_text count_up 0 (map (incoming_edges cores reduced) (range_with_len 0 (target_count cores)))
+
+-- the fourth part: the edges of each pair, or those into each core
+abbrev pub reduced_text : Version → ℕ → List (List (ℕ × ℕ)) → List ℕ
+reduced_text One cores reduced = pairs_text reduced
+reduced_text Two cores reduced = targets_text cores reduced
 
 -- the strides, where there is more than one position
 abbrev pub strides_text : StrideVector → List ℕ
@@ -55,5 +75,14 @@ abbrev pub regulated_text : List (List StrideVector) → List ℕ
 regulated_text regulated = spelled_in_turn vectors_text count_up 0 regulated
 
 -- the parts one after the other, of which the second is the image itself
-unfoldable pub spelling : Recording → List ℕ
-spelling r = header_text r.params (length r.image) ++ (r.image ++ (totals_text r.totals ++ (reduced_text r.reduced ++ regulated_text r.regulated)))
+unfoldable pub spelling_in : Version → Recording → List ℕ
+spelling_in v r =
+    header_text v r.params (length r.image) ++ (r.image ++ (totals_text r.totals ++ (reduced_text v r.params.cores r.reduced ++ regulated_text r.regulated)))
+
+-- the spelling that is written
+abbrev pub spelling : Recording → List ℕ
+spelling r = spelling_in Two r
+
+-- the bytes are the recording's spelling in a version whose limits it keeps
+abbrev pub Spells : List ℕ → Recording → Type 0
+Spells bytes r = (v : Version) × FitsIn v r.params × (bytes ≡ spelling_in v r)

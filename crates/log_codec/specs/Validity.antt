@@ -1,18 +1,13 @@
--- Which recordings have a spelling.
-use Rattle.std.specs.Prelude.{◌≡◌, ℕ, ◌*◌, ◌%◌, ◌<◌, ◌≤◌, ◌^◌, List, [], length, slice_index, slice_index_or, All, Bool, ◌&&◌, nat_le, nat_lt, nat_eq, if◌then◌else◌}
+-- Which recordings have a spelling: in version 2 all valid ones, and in version 1 those within its limits.
+use Rattle.std.specs.Prelude.{◌≡◌, ℕ, ◌*◌, ◌<◌, ◌≤◌, ◌^◌, List, [], length, slice_index, slice_index_or, All, Bool, ◌&&◌, nat_le, nat_lt, nat_eq, if◌then◌else◌}
 use Rattle.rtr_types.specs.declared.TheConstants.{CORES_MAX}
-use Rattle.rtr_types.specs.declared.params.Params.{Params}
-use Rattle.rtr_types.specs.declared.params.TheConstants.{LIMIT_MAX, WORDS_MIN, WORDS_MAX}
-use Rattle.rtr_types.specs.Parameters.{Fits}
 use Rattle.rtr_types.specs.Pairs.{pair_count, source_at, target_at}
 use Rattle.stride_vector.specs.declared.StrideVector.{StrideVector}
 use Rattle.stride_vector.specs.Vectors.{last_of}
 use Rattle.log_codec.specs.declared.recording.Recording.{Recording}
+use Rattle.log_codec.specs.Incoming.{incoming_edges}
 use Rattle.log_codec.specs.Turns.{StandInTurn, stand_in_turn, stay, follow, count_up}
-
--- the parameters lie in their ranges
-abbrev pub fits : Params → Bool
-fits p = (nat_le 1 p.cores && nat_le p.cores CORES_MAX) && ((nat_le 1 p.limit && nat_le p.limit LIMIT_MAX) && ((nat_le WORDS_MIN p.words && nat_le p.words WORDS_MAX) && nat_eq (p.words % 4) 0))
+use Rattle.log_codec.specs.Versions.{FitsNew, fits_new}
 
 -- the totals of the source and of the target of the pair at a place
 abbrev pub bound_at : List ℕ → ℕ → ℕ × ℕ
@@ -53,9 +48,9 @@ pub record VectorStands (most last : ℕ × ℕ) (v : StrideVector) : Type 0 whe
 abbrev pub AreVectors : ℕ × ℕ → List StrideVector → Type 0
 AreVectors most vectors = StandInTurn (VectorStands most) end_of (0, 0) vectors
 
--- the recording has a spelling
+-- the recording has a spelling in version 2
 pub record Valid (r : Recording) : Type 0 where
-  pub params : Fits r.params
+  pub params : FitsNew r.params
   pub image : length r.image ≤ 4 * r.params.words
   pub each_core : length r.totals ≡ r.params.cores
   pub totals : All (λ t. t ≤ r.params.limit) r.totals
@@ -87,7 +82,7 @@ total_stands limit s total = nat_le total limit
 
 abbrev pub is_valid : Recording → Bool
 is_valid r =
-    (fits r.params && nat_le (length r.image) (4 * r.params.words))
+    (fits_new r.params && nat_le (length r.image) (4 * r.params.words))
     && ((nat_eq (length r.totals) r.params.cores && stand_in_turn (total_stands r.params.limit) stay tt r.totals)
     && ((nat_eq (length r.reduced) (pair_count r.params.cores) && stand_in_turn (λ place es. are_edges (bound_at r.totals place) es) count_up 0 r.reduced)
     && (nat_eq (length r.regulated) (pair_count r.params.cores) && stand_in_turn (λ place vs. are_vectors (bound_at r.totals place) vs) count_up 0 r.regulated)))
@@ -96,3 +91,10 @@ is_valid r =
 pub record IsListed (edges : List (ℕ × ℕ)) : Type 0 where
   pub few : length edges < 2 ^ 32
   pub rising : StandInTurn EdgeRises follow (0, 0) edges
+
+-- the edges of each pair of so many cores, which can be spelled by pair and by target
+pub record IsLog (cores : ℕ) (reduced : List (List (ℕ × ℕ))) : Type 0 where
+  pub few : cores ≤ CORES_MAX
+  pub pairs : length reduced ≡ pair_count cores
+  pub listed : (place : ℕ) → place < length reduced → IsListed (slice_index_or reduced place [])
+  pub into : (target : ℕ) → target < cores → length (incoming_edges cores reduced target) < 2 ^ 32

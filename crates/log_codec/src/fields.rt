@@ -1,15 +1,13 @@
 //! Reading numbers, the header, the image and the totals.
 ghost use Rattle.std.specs.Prelude.{◌≡◌, ◌≤◌, length, IfOk};
 ghost use Rattle.log_codec.specs.Faults.{Gives};
-ghost use Rattle.log_codec.specs.Reading.{number_at, magic_at, params_of, header_at, image_at, total_at, totals_at};
+ghost use Rattle.log_codec.specs.Reading.{number_at, version_at, params_of, header_at, image_at, total_at, totals_at};
 
 use crate::codec_fault::{CodecFault, HEADER, IMAGE, TOTALS};
+use crate::version::Version;
 use rtr_types::{CORES_MAX, Items, Params};
 use std::alloc::Global;
 use varint_core::take_u32;
-
-/// The letters RTR, and the version.
-pub const MAGIC: [u8; 4] = [0x52, 0x54, 0x52, 1];
 
 /// The number that the bytes begin with, and the bytes after it.
 #[tactic(auto, unfolding(crate::specs::Reading::number_at))]
@@ -22,22 +20,30 @@ pub fn number(part: u8, bytes: &[u8]) -> Result<(u32, &[u8]), CodecFault>
     }
 }
 
-/// The bytes after the ones that name the format.
-#[tactic(auto, unfolding(crate::specs::Reading::magic_at))]
-fn magic(bytes: &[u8]) -> Result<&[u8], CodecFault>
-    ensures { Gives (λ x. x.now) result (magic_at bytes.now) }
+/// The version that the bytes name, and the bytes after its name.
+#[tactic(auto, unfolding(crate::specs::Reading::version_at))]
+fn version(bytes: &[u8]) -> Result<(Version, &[u8]), CodecFault>
+    ensures { Gives (λ x. (x.0, x.1.now)) result (version_at bytes.now) }
 {
-    if bytes.starts_with(&MAGIC) {
-        Ok(&bytes[MAGIC.len()..])
+    if bytes.starts_with(&Version::One.magic()) {
+        Ok((Version::One, &bytes[4..]))
+    } else if bytes.starts_with(&Version::Two.magic()) {
+        Ok((Version::Two, &bytes[4..]))
     } else {
         Err(CodecFault::Bad { part: HEADER })
     }
 }
 
-/// The parameters, where they and the length of the image lie in their ranges.
+/// The parameters, where they lie within the version's limits, and the image within the memory.
 #[tactic(auto, unfolding(crate::specs::Reading::params_of))]
-fn params(cores: u32, limit: u32, words: u32, len: u32) -> Result<Params, CodecFault>
-    ensures read { Gives (λ x. x) result (params_of cores limit words len) }
+fn params(
+    version: Version,
+    cores: u32,
+    limit: u32,
+    words: u32,
+    len: u32,
+) -> Result<Params, CodecFault>
+    ensures read { Gives (λ x. x) result (params_of version cores limit words len) }
     ensures few { IfOk result (λ p. p.cores ≤ CORES_MAX) }
 {
     if cores > CORES_MAX as u32 {
@@ -48,26 +54,26 @@ fn params(cores: u32, limit: u32, words: u32, len: u32) -> Result<Params, CodecF
         limit,
         words,
     };
-    if params.fits() && len as u64 <= 4 * words as u64 {
+    if version.takes(&params) && len as u64 <= 4 * words as u64 {
         Ok(params)
     } else {
         Err(CodecFault::Bad { part: HEADER })
     }
 }
 
-/// The parameters, the length of the image, and the bytes after them.
+/// The version, the parameters, the length of the image, and the bytes after them.
 #[tactic(auto, unfolding(crate::specs::Reading::header_at))]
-pub fn header(bytes: &[u8]) -> Result<(Params, u32, &[u8]), CodecFault>
-    ensures read { Gives (λ x. (x.0, x.1, x.2.now)) result (header_at bytes.now) }
-    ensures few { IfOk result (λ x. x.0.cores ≤ CORES_MAX) }
+pub(crate) fn header(bytes: &[u8]) -> Result<(Version, Params, u32, &[u8]), CodecFault>
+    ensures read { Gives (λ x. (x.0, x.1, x.2, x.3.now)) result (header_at bytes.now) }
+    ensures few { IfOk result (λ x. x.1.cores ≤ CORES_MAX) }
 {
-    let rest = magic(bytes)?;
+    let (version, rest) = version(bytes)?;
     let (cores, rest) = number(HEADER, rest)?;
     let (limit, rest) = number(HEADER, rest)?;
     let (words, rest) = number(HEADER, rest)?;
     let (len, rest) = number(HEADER, rest)?;
-    let params = params(cores, limit, words, len)?;
-    Ok((params, len, rest))
+    let params = params(version, cores, limit, words, len)?;
+    Ok((version, params, len, rest))
 }
 
 /// The image, which has the length that the header says.

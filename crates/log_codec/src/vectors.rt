@@ -7,8 +7,8 @@ ghost use Rattle.log_codec.specs.Validity.{end_of, strides_stand, vector_stands}
 ghost use Rattle.log_codec.specs.Reading.{strides_at, vector_at, vectors_at, regulated_at};
 
 use crate::codec_fault::{CodecFault, REGULATED};
-use crate::edges::bound;
 use crate::fields::number;
+use crate::pairs::bound;
 use rtr_types::{CORES_MAX, Items, pair_count};
 use std::alloc::Global;
 use stride_vector::StrideVector;

@@ -1,22 +1,30 @@
-//! Writing the one spelling.
+//! Writing the one spelling of each version.
 ghost use Rattle.std.specs.Prelude.{◌≡◌, ◌++◌, ◌<◌, ◌≤◌, ◌^◌, ℕ, [], length, slice_index_or, OnOk, IfOk};
 ghost use Rattle.rtr_types.specs.Parameters.{Fits};
 ghost use Rattle.log_codec.specs.Turns.{StandInTurn, follow};
-ghost use Rattle.log_codec.specs.Validity.{Valid, EdgeRises, IsListed};
-ghost use Rattle.log_codec.specs.Spelling.{header_text, totals_text, edges_text, reduced_text, strides_text, vector_text, vectors_text, regulated_text, spelling};
+ghost use Rattle.log_codec.specs.Validity.{Valid, EdgeRises, IsListed, IsLog};
+ghost use Rattle.log_codec.specs.Versions.{FitsOld};
+ghost use Rattle.log_codec.specs.declared.version.Version.TheVariants.{One};
+ghost use Rattle.log_codec.specs.Spelling.{header_text, totals_text, edges_text, pairs_text, reduced_text, strides_text, vector_text, vectors_text, regulated_text, spelling, spelling_in};
 
-use crate::fields::MAGIC;
+use crate::merging::put_targets;
 use crate::recording::Recording;
+use crate::version::Version;
 use rtr_types::{Items, Params};
 use std::alloc::{AllocError, Global};
 use stride_vector::StrideVector;
 use varint_core::put_u32;
 
-/// The header: the format, the parameters, and the length of the image.
-fn put_header(out: &mut Vec<u8>, params: &Params, len: u32) -> Result<(), AllocError>
-    ensures { OnOk result (out.new.items ≡ out.old.items ++ header_text params.now len) }
+/// The header: the format and its version, the parameters, and the length of the image.
+fn put_header(
+    out: &mut Vec<u8>,
+    version: Version,
+    params: &Params,
+    len: u32,
+) -> Result<(), AllocError>
+    ensures { OnOk result (out.new.items ≡ out.old.items ++ header_text version params.now len) }
 {
-    out.extend_from_slice(&MAGIC)?;
+    out.extend_from_slice(&version.magic())?;
     put_u32(out, params.cores as u32)?;
     put_u32(out, params.limit)?;
     put_u32(out, params.words)?;
@@ -50,9 +58,9 @@ fn put_edges(out: &mut Vec<u8>, edges: &[(u32, u32)]) -> Result<(), AllocError>
 }
 
 /// The edges of all pairs.
-fn put_reduced(out: &mut Vec<u8>, reduced: &[Items<(u32, u32)>]) -> Result<(), AllocError>
+fn put_pairs(out: &mut Vec<u8>, reduced: &[Items<(u32, u32)>]) -> Result<(), AllocError>
     requires { (place : ℕ) → place < length reduced.now → IsListed (slice_index_or reduced.now place []) }
-    ensures { OnOk result (out.new.items ≡ out.old.items ++ reduced_text reduced.now) }
+    ensures { OnOk result (out.new.items ≡ out.old.items ++ pairs_text reduced.now) }
 {
     for edges in reduced {
         put_edges(out, edges.as_slice())?;
@@ -97,17 +105,55 @@ fn put_regulated(out: &mut Vec<u8>, regulated: &[Items<StrideVector>]) -> Result
     Ok(())
 }
 
-/// The one spelling of the recording.
-#[tactic(auto, unfolding(crate::specs::Spelling::spelling))]
+/// The fourth part, in which the versions differ.
+fn put_reduced(
+    out: &mut Vec<u8>,
+    version: Version,
+    cores: u8,
+    reduced: &[Items<(u32, u32)>],
+) -> Result<(), AllocError>
+    requires { IsLog cores reduced.now }
+    ensures { OnOk result (out.new.items ≡ out.old.items ++ reduced_text version cores reduced.now) }
+{
+    match version {
+        Version::One => put_pairs(out, reduced),
+        Version::Two => put_targets(out, reduced, cores),
+    }
+}
+
+/// The one spelling of the recording in a version.
+#[tactic(auto, unfolding(crate::specs::Spelling::spelling_in))]
+fn spell_in(alloc: Global, version: Version, value: &Recording) -> Result<Vec<u8>, AllocError>
+    requires { Valid value.now }
+    ensures { IfOk result (λ bytes. bytes.items ≡ spelling_in version value.now) }
+{
+    let mut out = Vec::new(alloc);
+    put_header(&mut out, version, &value.params, value.image.len() as u32)?;
+    out.extend_from_slice(value.image.as_slice())?;
+    put_totals(&mut out, value.totals.as_slice())?;
+    put_reduced(
+        &mut out,
+        version,
+        value.params.cores,
+        value.reduced.as_slice(),
+    )?;
+    put_regulated(&mut out, value.regulated.as_slice())?;
+    Ok(out)
+}
+
+/// The one spelling of the recording in version 2.
 pub fn spell(alloc: Global, value: &Recording) -> Result<Vec<u8>, AllocError>
     requires { Valid value.now }
     ensures { IfOk result (λ bytes. bytes.items ≡ spelling value.now) }
 {
-    let mut out = Vec::new(alloc);
-    put_header(&mut out, &value.params, value.image.len() as u32)?;
-    out.extend_from_slice(value.image.as_slice())?;
-    put_totals(&mut out, value.totals.as_slice())?;
-    put_reduced(&mut out, value.reduced.as_slice())?;
-    put_regulated(&mut out, value.regulated.as_slice())?;
-    Ok(out)
+    spell_in(alloc, Version::Two, value)
+}
+
+/// The one spelling of the recording in version 1, for recordings within its limits.
+pub fn spell_v1(alloc: Global, value: &Recording) -> Result<Vec<u8>, AllocError>
+    requires valid { Valid value.now }
+    requires limits { FitsOld value.now.params }
+    ensures { IfOk result (λ bytes. bytes.items ≡ spelling_in One value.now) }
+{
+    spell_in(alloc, Version::One, value)
 }

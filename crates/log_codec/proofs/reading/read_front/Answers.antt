@@ -13,7 +13,7 @@ returns c =
     record {
       found = (f.valid, f.text);
       within = omega arith;
-      only = λ r rest valid e. sym (ap front_at e ∙ front_again r rest valid) ∙ exact;
+      only = λ v r rest valid fits e. sym (ap front_at e ∙ front_again v r rest valid fits) ∙ exact;
       exact = exact;
     }
 
@@ -24,6 +24,6 @@ overflow_sub-result c =
     f.within
 
 pub returns-in_err-recording-clause-only : goal.returns-in_err-recording-clause-only
-returns-in_err-recording-clause-only c = λ r rest valid is.
+returns-in_err-recording-clause-only c = λ v r rest valid fits is.
     let p = err_from_is_err_and c.from_residual.result c.from_residual.ensures.1 in
-    rw (p.1, p.2) (no_fault c.args.bytes.now c.in_err-recording.field-0.0 r rest valid is c.in_err-recording.ensures)
+    rw (p.1, p.2) (no_fault c.args.bytes.now c.in_err-recording.field-0.0 v r rest valid fits is c.in_err-recording.ensures)

@@ -2,7 +2,7 @@ use Rattle.std.proofs.Common.{◌≡◌, ◌-◌, ◌≤◌}
 use Rattle.log_codec.specs.Turns.{read_in_turn, follow}
 use Rattle.log_codec.specs.Reading.{edge_at}
 use Rattle.log_codec.proofs.InTurn.{with_front}
-use Rattle.log_codec.proofs.edges.edges_from.Given as goal
+use Rattle.log_codec.proofs.pairs.edges_from.Given as goal
 
 abbrev pub invariant-loop : goal.invariant-loop
 invariant-loop l = record {

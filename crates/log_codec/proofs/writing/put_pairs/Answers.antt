@@ -2,9 +2,9 @@ use Rattle.std.proofs.Common.{◌≡◌, ◌<◌, ◌^◌, ◌++◌, ℕ, List, 
 use Rattle.std.proofs.lemmas.List.{get_or_default}
 use Rattle.log_codec.specs.Turns.{StandInTurn, follow, count_up}
 use Rattle.log_codec.specs.Validity.{EdgeRises}
-use Rattle.log_codec.specs.Spelling.{edges_text, reduced_text}
+use Rattle.log_codec.specs.Spelling.{edges_text, pairs_text}
 use Rattle.log_codec.proofs.InTurn.{puts_on, puts_done}
-use Rattle.log_codec.proofs.writing.put_reduced.Goals as goal
+use Rattle.log_codec.proofs.writing.put_pairs.Goals as goal
 
 pub loop-edges-init : goal.loop-edges-init
 loop-edges-init c = refl
@@ -26,7 +26,7 @@ loop-edges-preserved c =
     let i = c.loop-edges.edges-index in
     let item = c.edges-item.result in
     let is : c.put_edges.new.out.items ≡ c.loop-edges.out.items ++ edges_text i (get_or c.args.reduced.now i item) = rw (← c.edges-item.is, ← c.as_slice.ensures) c.in_ok-put_edges.ensures in
-    puts_on edges_text count_up c.loop-edges.out.items c.put_edges.new.out.items (c.args.out.now.items ++ reduced_text c.args.reduced.now) i c.args.reduced.now i item c.loop-edges-test.true is c.loop-edges.invariant
+    puts_on edges_text count_up c.loop-edges.out.items c.put_edges.new.out.items (c.args.out.now.items ++ pairs_text c.args.reduced.now) i c.args.reduced.now i item c.loop-edges-test.true is c.loop-edges.invariant
 
 pub returns : goal.returns
-returns c = puts_done edges_text count_up c.loop-edges.out.items (c.args.out.now.items ++ reduced_text c.args.reduced.now) c.loop-edges.edges-index c.args.reduced.now c.loop-edges.edges-index c.loop-edges-test.false c.loop-edges.invariant
+returns c = puts_done edges_text count_up c.loop-edges.out.items (c.args.out.now.items ++ pairs_text c.args.reduced.now) c.loop-edges.edges-index c.args.reduced.now c.loop-edges.edges-index c.loop-edges-test.false c.loop-edges.invariant

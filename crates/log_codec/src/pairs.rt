@@ -1,10 +1,10 @@
-//! Reading the edges of the reduced log.
+//! Reading the edges of the reduced log pair by pair.
 ghost use Rattle.std.specs.Prelude.{◌≡◌, ◌<◌, ◌≤◌, length, IfOk};
 ghost use Rattle.rtr_types.specs.Pairs.{pair_count};
 ghost use Rattle.log_codec.specs.Faults.{Gives};
 ghost use Rattle.log_codec.specs.Turns.{read_in_turn, follow};
 ghost use Rattle.log_codec.specs.Validity.{bound_at};
-ghost use Rattle.log_codec.specs.Reading.{edge_at, edges_at, reduced_at};
+ghost use Rattle.log_codec.specs.Reading.{edge_at, edges_at, pairs_at};
 
 use crate::codec_fault::{CodecFault, REDUCED};
 use crate::fields::number;
@@ -73,13 +73,13 @@ fn edges(
 }
 
 /// The edges of all pairs.
-pub fn reduced<'a>(
+pub fn by_pairs<'a>(
     alloc: Global,
     totals: &[u32],
     bytes: &'a [u8],
 ) -> Result<(Items<Items<(u32, u32)>>, &'a [u8]), CodecFault>
     requires { length totals.now ≤ CORES_MAX }
-    ensures { Gives (λ x. (x.0, x.1.now)) result (reduced_at totals.now bytes.now) }
+    ensures { Gives (λ x. (x.0, x.1.now)) result (pairs_at totals.now bytes.now) }
 {
     let mut found = Items::new(alloc);
     let mut rest = bytes;

@@ -5,7 +5,7 @@ use Rattle.log_codec.specs.Turns.{read_in_turn, count_up}
 use Rattle.log_codec.specs.Validity.{bound_at}
 use Rattle.log_codec.specs.Reading.{edges_at}
 use Rattle.log_codec.proofs.InTurn.{begins, goes_on, ends, is_done}
-use Rattle.log_codec.proofs.edges.reduced.Goals as goal
+use Rattle.log_codec.proofs.pairs.by_pairs.Goals as goal
 
 pub loop-place-init : goal.loop-place-init
 loop-place-init c = rw c.new-found.ensures (begins (λ place. edges_at (bound_at c.args.totals.now place)) count_up (pair_count (length c.args.totals.now)) 0 c.args.bytes.now)

@@ -3,7 +3,7 @@ use Rattle.std.proofs.lemmas.Result.{err_from_is_err_and}
 use Rattle.log_codec.specs.Turns.{read_in_turn, follow}
 use Rattle.log_codec.specs.Reading.{edge_at}
 use Rattle.log_codec.proofs.InTurn.{begins, goes_on, ends, is_done}
-use Rattle.log_codec.proofs.edges.edges_from.Goals as goal
+use Rattle.log_codec.proofs.pairs.edges_from.Goals as goal
 
 pub loop-init : goal.loop-init
 loop-init c = record {

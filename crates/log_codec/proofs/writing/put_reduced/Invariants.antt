@@ -1,7 +1,0 @@
-use Rattle.std.proofs.Common.{◌≡◌, ◌++◌, drop}
-use Rattle.log_codec.specs.Turns.{spelled_in_turn, count_up}
-use Rattle.log_codec.specs.Spelling.{edges_text, reduced_text}
-use Rattle.log_codec.proofs.writing.put_reduced.Given as goal
-
-abbrev pub invariant-loop-edges : goal.invariant-loop-edges
-invariant-loop-edges l = l.out.items ++ spelled_in_turn edges_text count_up l.edges-index (drop l.edges-index l.reduced) ≡ l.fn.out.items ++ reduced_text l.reduced

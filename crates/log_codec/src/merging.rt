@@ -1,0 +1,132 @@
+//! Writing the edges of the reduced log target by target.
+ghost use Rattle.std.specs.Prelude.{◌≡◌, ℕ, ◌-◌, ◌<◌, ◌≤◌, ◌++◌, None, length, slice_get, slice_index, IfNone, IfSome, OnOk};
+ghost use Rattle.rtr_types.specs.Pairs.{pair_count};
+ghost use Rattle.rtr_types.specs.declared.TheConstants.{CORES_MAX};
+ghost use Rattle.log_codec.specs.Incoming.{IsFirst, edges_out_of, incoming_edges, left, target_of};
+ghost use Rattle.log_codec.specs.Spelling.{into_text, number, targets_text};
+ghost use Rattle.log_codec.specs.Validity.{IsLog};
+
+use crate::incoming::{Incoming, PLACES, earlier_of, target_of};
+use crate::targets::target_count;
+use rtr_types::{CORES_MAX, Items, pair_at};
+use std::alloc::AllocError;
+use varint_core::put_u32;
+
+/// The edge at a place of the list of two cores; none from a core to itself, or past the list's end.
+fn edge_at(
+    reduced: &[Items<(u32, u32)>],
+    cores: u8,
+    target: u8,
+    source: u8,
+    place: usize,
+) -> Option<(u32, u32)>
+    requires pairs { length reduced.now ≡ pair_count cores }
+    requires source { source < cores }
+    requires target { target < cores }
+    ensures { result ≡ slice_get (edges_out_of cores reduced.now target source) place }
+{
+    if source == target {
+        return None;
+    }
+    reduced[pair_at(cores, source, target)]
+        .as_slice()
+        .get(place)
+        .copied()
+}
+
+/// The first in order of the edges that are left, where `next` has the place of each source core's
+/// next edge.
+fn first_left(
+    reduced: &[Items<(u32, u32)>],
+    cores: u8,
+    target: u8,
+    next: &[usize; PLACES],
+) -> Option<Incoming>
+    requires few { cores ≤ CORES_MAX }
+    requires pairs { length reduced.now ≡ pair_count cores }
+    requires target { target < cores }
+    ensures first { IfSome result (λ e. IsFirst cores (left cores reduced.now target next.now) e) }
+    ensures none { IfNone result ((source : ℕ) → source < cores → slice_get (left cores reduced.now target next.now source) 0 ≡ None) }
+{
+    let mut first = None;
+    for source in 0..cores {
+        if let Some(counts) = edge_at(reduced, cores, target, source, next[source as usize]) {
+            first = Some(earlier_of(first, Incoming { source, counts }));
+        }
+    }
+    first
+}
+
+/// How many edges lead into the core.
+fn count_into(reduced: &[Items<(u32, u32)>], cores: u8, target: u8) -> u32
+    requires log { IsLog cores reduced.now }
+    requires target { target < cores }
+    ensures { result ≡ length (incoming_edges cores reduced.now target) }
+{
+    let mut count = 0;
+    for source in 0..cores {
+        if source != target {
+            count += reduced[pair_at(cores, source, target)].len() as u32;
+        }
+    }
+    count
+}
+
+/// An edge into a core: how far the target's count rises, the source core, and how far its count rises.
+fn put_incoming(
+    out: &mut Vec<u8>,
+    last: Option<Incoming>,
+    counts: &[u32; PLACES],
+    edge: Incoming,
+) -> Result<(), AllocError>
+    requires core { edge.source < CORES_MAX }
+    requires target { target_of last ≤ edge.counts.1 }
+    requires source { slice_index counts.now edge.source ≤ edge.counts.0 }
+    ensures { OnOk result (out.new.items ≡ out.old.items ++ (number (edge.counts.1 - target_of last) ++ (number edge.source ++ number (edge.counts.0 - slice_index counts.now edge.source)))) }
+{
+    put_u32(out, edge.counts.1 - target_of(last))?;
+    put_u32(out, edge.source as u32)?;
+    put_u32(out, edge.counts.0 - counts[edge.source as usize])
+}
+
+/// The edges into a core: how many, and these in order.
+fn put_into(
+    out: &mut Vec<u8>,
+    reduced: &[Items<(u32, u32)>],
+    cores: u8,
+    target: u8,
+) -> Result<(), AllocError>
+    requires log { IsLog cores reduced.now }
+    requires target { target < cores }
+    ensures { OnOk result (out.new.items ≡ out.old.items ++ into_text target (incoming_edges cores reduced.now target)) }
+{
+    let count = count_into(reduced, cores, target);
+    put_u32(out, count)?;
+    let mut next = [0; PLACES];
+    let mut counts = [0; PLACES];
+    let mut last = None;
+    for _ in 0..count {
+        if let Some(edge) = first_left(reduced, cores, target, &next) {
+            put_incoming(out, last, &counts, edge)?;
+            next[edge.source as usize] += 1;
+            counts[edge.source as usize] = edge.counts.0;
+            last = Some(edge);
+        }
+    }
+    Ok(())
+}
+
+/// The edges into each core.
+pub(crate) fn put_targets(
+    out: &mut Vec<u8>,
+    reduced: &[Items<(u32, u32)>],
+    cores: u8,
+) -> Result<(), AllocError>
+    requires { IsLog cores reduced.now }
+    ensures { OnOk result (out.new.items ≡ out.old.items ++ targets_text cores reduced.now) }
+{
+    for target in 0..target_count(cores) {
+        put_into(out, reduced, cores, target)?;
+    }
+    Ok(())
+}
