@@ -13,9 +13,8 @@ use Rattle.tool_words.specs.declared.options.Name.{Name}
 use Rattle.tool_words.specs.declared.options.Name.TheVariants.{Cores, Limit, Words, Choices, Seed, Log, Loads}
 use Rattle.tool_words.specs.Settings.{Settings}
 use Rattle.tool_words.specs.Numerals.{is_numeral, number_between}
-use Rattle.tool_words.specs.declared.options.TheConstants.{CORES_DEFAULT, LIMIT_DEFAULT, WORDS_DEFAULT}
 use Rattle.tool_words.specs.Choices.{are_choices}
-use Rattle.tool_words.specs.Options.{is_set, log_named, no_settings, params_of, put, put_new, whole_blocks}
+use Rattle.tool_words.specs.Options.{is_set, log_named, no_settings, params_of, put, put_new, whole_blocks, cores_default, limit_default, words_default}
 use Rattle.tool_words.specs.Commands.{HasFittingParams, command_of, verb_named}
 use Rattle.tool_words.specs.Reading.{Set, settings, settled, settled_by, FittingLaw}
 
@@ -132,15 +131,15 @@ settled_by-fits verb words t h =
     settled-fits parts.0 no_settings t parts.2 (record { cores = tt; limit = tt; words = tt })
 
 -- with a default for what isn't set
-cores-in : (o : Option ℕ) → CoresFit o → (1 ≤ unwrap_or o CORES_DEFAULT) × (unwrap_or o CORES_DEFAULT ≤ CORES_MAX)
+cores-in : (o : Option ℕ) → CoresFit o → (1 ≤ unwrap_or o cores_default) × (unwrap_or o cores_default ≤ CORES_MAX)
 cores-in None fit = (omega arith, omega arith)
 cores-in (Some n) fit = fit
 
-limit-in : (o : Option ℕ) → LimitFits o → (1 ≤ unwrap_or o LIMIT_DEFAULT) × (unwrap_or o LIMIT_DEFAULT ≤ LIMIT_MAX)
+limit-in : (o : Option ℕ) → LimitFits o → (1 ≤ unwrap_or o limit_default) × (unwrap_or o limit_default ≤ LIMIT_MAX)
 limit-in None fit = (omega arith, omega arith)
 limit-in (Some n) fit = fit
 
-words-in : (o : Option ℕ) → WordsFit o → WordsFit (Some (unwrap_or o WORDS_DEFAULT))
+words-in : (o : Option ℕ) → WordsFit o → WordsFit (Some (unwrap_or o words_default))
 words-in None fit = (omega arith, omega arith, refl)
 words-in (Some n) fit = fit
 

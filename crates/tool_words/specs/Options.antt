@@ -5,14 +5,13 @@ use Rattle.std.specs.Str.{bytes_eq}
 use Rattle.rtr_types.specs.declared.params.Params.{Params}
 use Rattle.rtr_types.specs.declared.pairs.Which.{Which}
 use Rattle.rtr_types.specs.declared.pairs.Which.TheVariants.{Reduced, Regulated}
-use Rattle.rtr_types.specs.declared.TheConstants.{CORES_MAX}
+use Rattle.rtr_types.specs.declared.TheConstants.{BLOCK_WORDS, CORES_MAX}
 use Rattle.rtr_types.specs.declared.params.TheConstants.{LIMIT_MAX, WORDS_MIN, WORDS_MAX}
 use Rattle.tool_words.specs.declared.command.Verb.{Verb}
 use Rattle.tool_words.specs.declared.command.Verb.TheVariants.{Record, Run, Print, Replay}
 use Rattle.tool_words.specs.declared.options.Name.{Name}
 use Rattle.tool_words.specs.declared.options.Name.TheVariants.{Cores, Limit, Words, Choices, Seed, Log, Loads}
 use Rattle.tool_words.specs.Settings.{Settings}
-use Rattle.tool_words.specs.declared.options.TheConstants.{CORES_DEFAULT, LIMIT_DEFAULT, WORDS_DEFAULT, BLOCK}
 use Rattle.tool_words.specs.Choices.{are_choices}
 use Rattle.tool_words.specs.Numerals.{number_between}
 
@@ -66,13 +65,23 @@ takes_value Seed = true
 takes_value Log = true
 takes_value Loads = false
 
+-- what holds where an option isn't set
+abbrev pub cores_default : ℕ
+cores_default = 1
+
+abbrev pub limit_default : ℕ
+limit_default = 10000
+
+abbrev pub words_default : ℕ
+words_default = 16384
+
 -- no option is set
 abbrev pub no_settings : Settings
 no_settings = record { cores = None; limit = None; words = None; choices = None; seed = None; log = None; loads = false }
 
 -- the number of words of a memory: in range, and of whole blocks
 abbrev pub whole_blocks : List ℕ → Option ℕ
-whole_blocks text = option_and_then (λ n. if n % BLOCK == 0 then Some n else None) (number_between WORDS_MIN WORDS_MAX text)
+whole_blocks text = option_and_then (λ n. if n % BLOCK_WORDS == 0 then Some n else None) (number_between WORDS_MIN WORDS_MAX text)
 
 -- the log that a word names, exactly
 abbrev pub log_named : List ℕ → Option Which
@@ -106,4 +115,4 @@ put s name text = if is_set s name then None else put_new s name text
 
 -- the parameters of a run with these settings
 abbrev pub params_of : Settings → Params
-params_of s = record { cores = unwrap_or s.cores CORES_DEFAULT; limit = unwrap_or s.limit LIMIT_DEFAULT; words = unwrap_or s.words WORDS_DEFAULT }
+params_of s = record { cores = unwrap_or s.cores cores_default; limit = unwrap_or s.limit limit_default; words = unwrap_or s.words words_default }

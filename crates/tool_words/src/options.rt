@@ -7,7 +7,7 @@ ghost use Rattle.tool_words.specs.Options.{is_set, log_named, no_settings, optio
 use crate::choices::are_choices;
 use crate::command::Verb;
 use crate::numerals::number_between;
-use rtr_types::{CORES_MAX, LIMIT_MAX, Params, WORDS_MAX, WORDS_MIN, Which};
+use rtr_types::{BLOCK_WORDS, CORES_MAX, LIMIT_MAX, Params, WORDS_MAX, WORDS_MIN, Which};
 
 /// The number of cores of a run whose words name none.
 pub(crate) const CORES_DEFAULT: u8 = 1;
@@ -17,9 +17,6 @@ pub(crate) const LIMIT_DEFAULT: u32 = 10_000;
 
 /// The words of a memory whose words name none.
 pub(crate) const WORDS_DEFAULT: u32 = 16_384;
-
-/// The words of a block, of which a memory has whole ones.
-const BLOCK: u64 = 4;
 
 /// An option by its name.
 #[derive(Clone, Copy, Debug, PartialEq, Eq)]
@@ -180,7 +177,7 @@ fn whole_blocks(text: &str) -> Option<u32>
     ensures { result ≡ whole_blocks text.now }
 {
     let words = number_between(WORDS_MIN as u64, WORDS_MAX as u64, text)?;
-    if words % BLOCK == 0 {
+    if words % BLOCK_WORDS as u64 == 0 {
         Some(words as u32)
     } else {
         None
