@@ -1,10 +1,12 @@
 -- What the table does to a line and to the lines of a cache, for every type of riders.
-use Rattle.std.specs.Prelude.{◌≡◌, ◌≢◌, ℕ, ◌%◌, ◌==◌, Bool, ◌&&◌, Option, Some, None, is_some, List, [], ◌∷◌, slice_index_or, slice_set, if◌then◌else◌}
+use Rattle.std.specs.Prelude.{◌≡◌, ◌≢◌, ℕ, ◌%◌, ◌==◌, Bool, ◌&&◌, Option, Some, None, is_some, List, [], ◌∷◌}
+use Rattle.std.specs.Prelude.{slice_index_or, slice_set, if◌then◌else◌}
 use Rattle.std.specs.List.{list_any}
 use Rattle.access_times.specs.Riding.{Riding}
 use Rattle.rtr_types.specs.Accesses.{is_write}
 use Rattle.rtr_types.specs.declared.access.Kind.{Kind}
-use Rattle.msi_cache.specs.Table.{Effect, Keep, Take, TakeAbsorbing, Row, row, Reply, Ask, WantRow, want_row, is_readable, is_writable, is_transient}
+use Rattle.msi_cache.specs.Table.{Effect, Keep, Take, TakeAbsorbing, Row, row, Reply, Ask, WantRow, want_row}
+use Rattle.msi_cache.specs.Table.{is_readable, is_writable, is_transient}
 use Rattle.msi_cache.specs.Messages.{signal, block_of}
 use Rattle.msi_cache.specs.declared.line.TheConstants.{LINES}
 use Rattle.msi_cache.specs.declared.line.State.TheVariants.{I}

@@ -2,7 +2,8 @@
 use Rattle.std.specs.Prelude.{◌≡◌, ℕ, List, Option, Some, None, map}
 use Rattle.access_times.specs.Riding.{Riding, none_riding}
 use Rattle.rtr_types.specs.declared.access.Kind.{Kind}
-use Rattle.msi_cache.specs.Lines.{has_row, answer, asks, is_allowed, waits, lines_after, lines_asking, lines_put, lines_riding, line_for}
+use Rattle.msi_cache.specs.Lines.{has_row, answer, asks, is_allowed, waits, lines_after, lines_asking, lines_put}
+use Rattle.msi_cache.specs.Lines.{lines_riding, line_for}
 use Rattle.msi_cache.specs.Messages.{block_of, message_with, request_with, response_with}
 use Rattle.msi_cache.specs.declared.line.Line.{Line}
 use Rattle.msi_cache.specs.declared.messages.FromHome.{FromHome}

@@ -1,8 +1,10 @@
 //! A core's cache.
-ghost use Rattle.std.specs.Prelude.{◌≡◌, ◌<◌, ℕ, List, IfOk, IsTrue, false, true, length, replicate, slice_index, is_some};
+ghost use Rattle.std.specs.Prelude.{◌≡◌, ◌<◌, ℕ, List, IfOk, IsTrue, false, true, length, replicate, slice_index};
+ghost use Rattle.std.specs.Prelude.{is_some};
 ghost use Rattle.std.specs.Borrow.{sem};
 ghost use Rattle.msi_cache.specs.Lent.{LendsRider};
-ghost use Rattle.msi_cache.specs.Lines.{answer, asks, can_read, can_write, empty_line, has_row, is_allowed, line_for, lines_after, lines_asking, lines_put, wanted, waits, SameElsewhere};
+ghost use Rattle.msi_cache.specs.Lines.{answer, asks, can_read, can_write, empty_line, has_row, is_allowed, line_for};
+ghost use Rattle.msi_cache.specs.Lines.{lines_after, lines_asking, lines_put, wanted, waits, SameElsewhere};
 ghost use Rattle.msi_cache.specs.Messages.{answer_seen, block_of, message_seen, request_seen};
 ghost use Rattle.msi_cache.specs.PlainPart.{PlainOnHome, PlainPut, PlainRider, PlainWant};
 ghost use Rattle.msi_cache.specs.declared.line.Line.{Line};

@@ -1,6 +1,7 @@
 //! One line of a cache: a block's copy and the state that it is in.
 ghost use Rattle.std.specs.Prelude.{◌≡◌, IsTrue, false, true, is_some};
-ghost use Rattle.msi_cache.specs.Lines.{answer, asks, can_read, can_write, empty_line, has_row, is_allowed, line_after, line_asking, wanted};
+ghost use Rattle.msi_cache.specs.Lines.{answer, asks, can_read, can_write, empty_line, has_row, is_allowed, line_after};
+ghost use Rattle.msi_cache.specs.Lines.{line_asking, wanted};
 ghost use Rattle.msi_cache.specs.Messages.{answer_seen, message_seen, request_seen};
 ghost use Rattle.msi_cache.specs.Table.{Signal, is_transient, row};
 ghost use Rattle.msi_cache.specs.declared.line.State.{State};

@@ -1,7 +1,8 @@
 //! The messages between a cache and the home. Those that move a copy of a block have its four words
 //! and what rides on the copy.
 ghost use Rattle.std.specs.Prelude.{◌≡◌};
-ghost use Rattle.msi_cache.specs.Messages.{block_of, message_seen, message_with, request_block, request_seen, response_block, response_seen};
+ghost use Rattle.msi_cache.specs.Messages.{block_of, message_seen, message_with, request_block, request_seen};
+ghost use Rattle.msi_cache.specs.Messages.{response_block, response_seen};
 
 use rtr_types::BLOCK_WORDS;
 

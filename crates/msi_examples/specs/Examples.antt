@@ -12,7 +12,8 @@ use Rattle.msi_state.specs.declared.moves.Move.TheVariants.{Core, Request, Respo
 use Rattle.msi_state.specs.Nodes.{Nothing, Retires, Accesses}
 use Rattle.msi_state.specs.Runs.{opening_state, run}
 use Rattle.msi_examples.specs.Followed.{StepTaken, Seen, followed, then_zeros, ends_at, seen, loads_by}
-use Rattle.msi_examples.specs.Images.{scaled_words, handed_over, bytes_of_a_word, one_word, reader_evicts, writer_evicts, writers_evict, endless, sum}
+use Rattle.msi_examples.specs.Images.{scaled_words, handed_over, bytes_of_a_word, one_word, reader_evicts}
+use Rattle.msi_examples.specs.Images.{writer_evicts, writers_evict, endless, sum}
 
 -- two cores over an image, each of at most so many instructions
 abbrev pub two_cores : (limit : ℕ) → Contents → Params

@@ -2,7 +2,9 @@
 //! computed from the definitions of state, moves and step alone.
 #![tactic(auto)]
 
-ghost use Rattle.msi_examples.specs.Examples.{OneHandsOver, HandedOver, ShareFalsely, StoreBytes, SumInTurn, SecondStoresLast, FirstStoresLast, ReadBetweenWrites, InvMeetsPut, ForwardMeetsPut, ForwardToOwnMeetsPut, LimitReached};
+ghost use Rattle.msi_examples.specs.Examples.{OneHandsOver, HandedOver, ShareFalsely, StoreBytes, SumInTurn};
+ghost use Rattle.msi_examples.specs.Examples.{SecondStoresLast, FirstStoresLast, ReadBetweenWrites, InvMeetsPut};
+ghost use Rattle.msi_examples.specs.Examples.{ForwardMeetsPut, ForwardToOwnMeetsPut, LimitReached};
 
 /// A word goes from core 0 to core 1 and back: what each of sixteen choices does, and what the run
 /// leaves.

@@ -1,7 +1,8 @@
 -- The protocol seen one block at a time: the block's stage at home, and for each core the state of its
 -- line and the kinds of the messages about the block that are under way from and to it. Neither words
 -- nor riders are in it. What a message does is a row of the cache controller's table or of the home's.
-use Rattle.std.specs.Prelude.{ℕ, ◌==◌, nat_lt, Bool, true, false, Option, Some, None, is_some, List, [], ◌∷◌, ◌++◌, if◌then◌else◌}
+use Rattle.std.specs.Prelude.{ℕ, ◌==◌, nat_lt, Bool, true, false, Option, Some, None, is_some, List, [], ◌∷◌, ◌++◌}
+use Rattle.std.specs.Prelude.{if◌then◌else◌}
 use Rattle.rtr_types.specs.declared.TheConstants.{CORES_MAX}
 use Rattle.rtr_types.specs.declared.core_set.CoreSet.{CoreSet}
 use Rattle.rtr_types.specs.CoreSets.{has, no_cores}
@@ -104,7 +105,8 @@ replies (Some reply) = reply ∷ []
 
 abbrev pub message_row_taken : Option Row → List Signal → View → View
 message_row_taken None rest v = v
-message_row_taken (Some r) rest v = record v { line = r.next; messages = rest; responses = v.responses ++ replies r.answer }
+message_row_taken (Some r) rest v =
+    record v { line = r.next; messages = rest; responses = v.responses ++ replies r.answer }
 
 -- the view after the core took a message from home, which leaves it these messages
 abbrev pub after_message : Signal → List Signal → View → View
@@ -151,7 +153,8 @@ request_by (a ∷ rest) c b =
 
 abbrev pub response_by : List Reply → ℕ → Block → Block
 response_by [] c b = b
-response_by (a ∷ rest) c b = record { stage = (response_step b.stage c a).stage; views = λ d. after_response b.stage c a rest d (b.views d) }
+response_by (a ∷ rest) c b =
+    record { stage = (response_step b.stage c a).stage; views = λ d. after_response b.stage c a rest d (b.views d) }
 
 abbrev pub view_if : Bool → View → View → View
 view_if true v w = v

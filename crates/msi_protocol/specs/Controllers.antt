@@ -14,8 +14,10 @@ use Rattle.msi_cache.specs.Messages.{signal, ask_of, reply_of, block_of, request
 use Rattle.msi_cache.specs.Lines.{has_row, line_after, answer}
 use Rattle.msi_directory.specs.declared.entry.Entry.{Entry}
 use Rattle.msi_directory.specs.declared.entry.HomeAnswer.{HomeAnswer}
-use Rattle.msi_directory.specs.Entries.{entry_after_request, answer_to_request, entry_after_response, answer_to_response}
-use Rattle.msi_protocol.specs.Block.{HomeStep, request_step, response_step, view, after_message, Wish, ToLoad, ToStore, ToEvict, wish_row}
+use Rattle.msi_directory.specs.Entries.{entry_after_request, answer_to_request, entry_after_response}
+use Rattle.msi_directory.specs.Entries.{answer_to_response}
+use Rattle.msi_protocol.specs.Block.{HomeStep, request_step, response_step, view, after_message, Wish, ToLoad, ToStore}
+use Rattle.msi_protocol.specs.Block.{ToEvict, wish_row}
 
 module _ {R : Type 0} where
   abbrev pub kind_sent : Option (ℕ × FromHome R) → Option (ℕ × Signal)
@@ -37,12 +39,14 @@ module _ {R : Type 0} where
   -- a request from core c does at home what the step of its kind says
   abbrev pub RequestAsMoved : Riding R → Entry R → ℕ → Request R → Type 0
   RequestAsMoved riding e c request =
-      MakesStep (request_step e.stage c (ask_of request)) (request_block request) (entry_after_request riding.absorbed e c request) (answer_to_request riding.absorbed e c request)
+      MakesStep (request_step e.stage c (ask_of request)) (request_block request)
+      (entry_after_request riding.absorbed e c request) (answer_to_request riding.absorbed e c request)
 
   -- a response from core c does at home what the step of its kind says
   abbrev pub ResponseAsMoved : Riding R → Entry R → ℕ → Response R → Type 0
   ResponseAsMoved riding e c response =
-      MakesStep (response_step e.stage c (reply_of response)) (response_block response) (entry_after_response riding.absorbed e c response) (answer_to_response riding.absorbed e c response)
+      MakesStep (response_step e.stage c (reply_of response)) (response_block response)
+      (entry_after_response riding.absorbed e c response) (answer_to_response riding.absorbed e c response)
 
   abbrev pub kind_replied : Option (Response R) → List Reply
   kind_replied None = []
@@ -52,7 +56,9 @@ module _ {R : Type 0} where
   -- the view
   abbrev pub TakesAsMoved : Riding R → Line R → FromHome R → Type 0
   TakesAsMoved riding line m =
-      (requests : List Ask) (responses : List Reply) (rest : List Signal) → IsTrue (has_row line m) → after_message (signal m) rest (view line.state requests responses (signal m ∷ rest)) ≡ view (line_after riding.absorbed line m).state requests (responses ++ kind_replied (answer line m)) rest
+      (requests : List Ask) (responses : List Reply) (rest : List Signal) → IsTrue (has_row line m)
+      → after_message (signal m) rest (view line.state requests responses (signal m ∷ rest))
+      ≡ view (line_after riding.absorbed line m).state requests (responses ++ kind_replied (answer line m)) rest
 
 -- an access wants to write or to read
 abbrev pub access_wish : Bool → Wish

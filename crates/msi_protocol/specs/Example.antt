@@ -3,7 +3,8 @@ use Rattle.std.specs.Prelude.{◌≡◌, List, [], ◌∷◌}
 use Rattle.rtr_types.specs.CoreSets.{with_core, no_cores}
 use Rattle.msi_cache.specs.declared.line.State.TheVariants.{I, S, M}
 use Rattle.msi_directory.specs.declared.entry.Stage.TheVariants.{Shared, Owned}
-use Rattle.msi_protocol.specs.Block.{view, Block, BlockMove, TakesRequest, TakesResponse, TakesMessage, Wishes, ToLoad, ToStore}
+use Rattle.msi_protocol.specs.Block.{view, Block, BlockMove, TakesRequest, TakesResponse, TakesMessage, Wishes, ToLoad}
+use Rattle.msi_protocol.specs.Block.{ToStore}
 
 -- core 0 asks to write and gets the block; core 1 asks to read, and gets it once core 0 has given it
 abbrev pub store_then_load : List BlockMove

@@ -5,7 +5,13 @@ use Rattle.msi_cache.specs.Table.{Ask}
 use Rattle.msi_directory.specs.declared.entry.Stage.{Stage}
 use Rattle.msi_directory.specs.declared.entry.Stage.TheVariants.{Shared, Owned, Acks}
 use Rattle.msi_protocol.specs.Block.{Wish, ToLoad, ToStore, ToEvict}
-use Rattle.msi_protocol.specs.Phases.{Role, Out, Owner, Acker, Giver, GiveWaiter, OfShared, OfModified, FromModified, FromShared, FromInvalid, Phase, Idle, AsksS, AsksM, PutsLate, PutDone, Holds, Fills, Upgrades, Puts, Owns, FillsM, UpgradeFills, PutsM, HoldsTold, FillsTold, UpgradesTold, PutsTold, Acked, AckedAsksS, AckedAsksM, AckedPuts, AwaitsAcks, UpgradeAwaitsAcks, OwnsTold, FillsMTold, UpgradeFillsTold, PutsMTold, GaveHolds, GaveUpgrades, GavePuts, GaveAll, GaveAllAsksS, GaveAllAsksM, GaveAllPuts, AwaitsData}
+use Rattle.msi_protocol.specs.Phases.{Role, Out, Owner, Acker, Giver, GiveWaiter, OfShared, OfModified, FromModified}
+use Rattle.msi_protocol.specs.Phases.{FromShared, FromInvalid, Phase, Idle, AsksS, AsksM, PutsLate, PutDone, Holds}
+use Rattle.msi_protocol.specs.Phases.{Fills, Upgrades, Puts, Owns, FillsM, UpgradeFills, PutsM, HoldsTold, FillsTold}
+use Rattle.msi_protocol.specs.Phases.{UpgradesTold, PutsTold, Acked, AckedAsksS, AckedAsksM, AckedPuts, AwaitsAcks}
+use Rattle.msi_protocol.specs.Phases.{UpgradeAwaitsAcks, OwnsTold, FillsMTold, UpgradeFillsTold, PutsMTold, GaveHolds}
+use Rattle.msi_protocol.specs.Phases.{GaveUpgrades, GavePuts, GaveAll, GaveAllAsksS, GaveAllAsksM, GaveAllPuts}
+use Rattle.msi_protocol.specs.Phases.{AwaitsData}
 
 -- the phase of core c after its request was taken
 abbrev pub after_own : Stage → ℕ → Phase → Phase

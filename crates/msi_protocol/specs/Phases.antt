@@ -28,7 +28,8 @@ role Unshared d = Out
 role (Shared by) d = if has by d then Sharer else Out
 role (Owned owner) d = if d == owner then Owner else Out
 role (Acks awaited requester) d = if has awaited d then Acker else if d == requester then AckWaiter else Out
-role (Data giver requester share) d = if d == giver then Giver share else if d == requester then GiveWaiter share else Out
+role (Data giver requester share) d =
+    if d == giver then Giver share else if d == requester then GiveWaiter share else Out
 
 -- a put of either kind
 pub data Put : Type 0 where
@@ -188,7 +189,8 @@ abbrev pub StageFits : Stage → Type 0
 StageFits Unshared = Unit {0}
 StageFits (Shared by) = (is_none by ≡ false) × IsTrue (is_below by)
 StageFits (Owned owner) = owner < CORES_MAX
-StageFits (Acks awaited requester) = (has awaited requester ≡ false) × (requester < CORES_MAX) × (is_none awaited ≡ false) × IsTrue (is_below awaited)
+StageFits (Acks awaited requester) =
+    (has awaited requester ≡ false) × (requester < CORES_MAX) × (is_none awaited ≡ false) × IsTrue (is_below awaited)
 StageFits (Data giver requester share) = (giver ≢ requester) × (requester < CORES_MAX) × (giver < CORES_MAX)
 
 -- the invariant of a block

@@ -1,5 +1,6 @@
 -- What the protocol promises of a block.
-use Rattle.std.specs.Prelude.{◌≡◌, ◌≢◌, ℕ, ◌<◌, ◌≤◌, nat_lt, Bool, true, false, not, ◌&&◌, ◌||◌, is_some, List, [], ◌∷◌, length}
+use Rattle.std.specs.Prelude.{◌≡◌, ◌≢◌, ℕ, ◌<◌, ◌≤◌, nat_lt, Bool, true, false, not, ◌&&◌, ◌||◌, is_some, List, [], ◌∷◌}
+use Rattle.std.specs.Prelude.{length}
 use Rattle.link_order.specs.Queue.{is_nil}
 use Rattle.rtr_types.specs.declared.TheConstants.{CORES_MAX}
 use Rattle.msi_cache.specs.declared.line.State.{State}
@@ -12,13 +13,17 @@ use Rattle.msi_protocol.specs.Phases.{Role, Sharer, Owner, role}
 -- at most one core may write, and then no other may read
 abbrev pub OneWriter : Block → Type 0
 OneWriter b =
-    (d e : ℕ) → d < CORES_MAX → e < CORES_MAX → d ≢ e → is_writable (b.views d).line ≡ true → is_readable (b.views e).line ≡ false
+    (d e : ℕ) → d < CORES_MAX → e < CORES_MAX → d ≢ e → is_writable (b.views d).line ≡ true
+    → is_readable (b.views e).line ≡ false
 
 -- the message that each receiver takes next has a row in that receiver's table
 pub record HasRows (b : Block) : Type 0 where
-  pub request : (c : ℕ) → c < CORES_MAX → is_free b.stage ≡ true → (a : Ask) (rest : List Ask) → (b.views c).requests ≡ a ∷ rest → has_ask_row b.stage c a ≡ true
-  pub response : (c : ℕ) → c < CORES_MAX → (a : Reply) (rest : List Reply) → (b.views c).responses ≡ a ∷ rest → has_reply_row b.stage c a ≡ true
-  pub message : (c : ℕ) → c < CORES_MAX → (m : Signal) (rest : List Signal) → (b.views c).messages ≡ m ∷ rest → is_some (row m (b.views c).line) ≡ true
+  pub request : (c : ℕ) → c < CORES_MAX → is_free b.stage ≡ true → (a : Ask) (rest : List Ask)
+      → (b.views c).requests ≡ a ∷ rest → has_ask_row b.stage c a ≡ true
+  pub response : (c : ℕ) → c < CORES_MAX → (a : Reply) (rest : List Reply) → (b.views c).responses ≡ a ∷ rest
+      → has_reply_row b.stage c a ≡ true
+  pub message : (c : ℕ) → c < CORES_MAX → (m : Signal) (rest : List Signal) → (b.views c).messages ≡ m ∷ rest
+      → is_some (row m (b.views c).line) ≡ true
 
 -- the core has sent a response that isn't taken, or is sent a message that isn't taken
 abbrev pub is_moving : View → Bool
@@ -36,7 +41,8 @@ is_served v = not (is_nil v.requests) || not (is_nil v.messages)
 -- under way
 abbrev pub NoneForgotten : Block → Type 0
 NoneForgotten b =
-    is_free b.stage ≡ true → (d : ℕ) → d < CORES_MAX → is_transient (b.views d).line ≡ true → is_served (b.views d) ≡ true
+    is_free b.stage ≡ true → (d : ℕ) → d < CORES_MAX → is_transient (b.views d).line ≡ true
+    → is_served (b.views d) ≡ true
 
 -- of a block and a core, at most one request, one response and two messages are under way
 pub record IsFew (v : View) : Type 0 where

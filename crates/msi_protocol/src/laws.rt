@@ -5,7 +5,8 @@ ghost use Rattle.msi_directory.specs.declared.entry.Stage.{Stage};
 ghost use Rattle.msi_protocol.specs.Block.{Block, BlockMove, block_move, block_run, block_start};
 ghost use Rattle.msi_protocol.specs.Example.{BothShare, FirstOwns, store_again, store_then_load};
 ghost use Rattle.msi_protocol.specs.Phases.{BlockHolds, StageFits};
-ghost use Rattle.msi_protocol.specs.Promises.{BusyMoves, FewUnderWay, HasRows, NoneForgotten, OneWriter, OnlyBelow, QuietAgrees, moves_below};
+ghost use Rattle.msi_protocol.specs.Promises.{BusyMoves, FewUnderWay, HasRows, NoneForgotten, OneWriter, OnlyBelow};
+ghost use Rattle.msi_protocol.specs.Promises.{QuietAgrees, moves_below};
 
 /// The invariant: each core is with the block where the home takes it to be. It holds at the start, each
 /// move keeps it, and the stages that it allows are those that the home's own invariant allows.
@@ -59,7 +60,8 @@ pub fn a_quiet_block_agrees()
 /// A machine with fewer cores is the same protocol: where only cores below some number move, no other
 /// core ever has a copy of the block or a message about it.
 pub fn fewer_cores_stay_alone()
-    ensures { (cores : ℕ) (moves : List BlockMove) → moves_below cores moves ≡ true → OnlyBelow cores (block_run moves block_start) }
+    ensures { (cores : ℕ) (moves : List BlockMove) → moves_below cores moves ≡ true
+        → OnlyBelow cores (block_run moves block_start) }
 {}
 
 /// An example: core 0 writes and core 1 reads, so that they share the block; then core 0 writes again, and

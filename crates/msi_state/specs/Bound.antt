@@ -1,7 +1,8 @@
 -- How many steps a run may take. Each instruction pays for 2 P + 4 steps, P the number of cores. Of
 -- these a core has earned, besides those of its retired instructions, the steps that the access under
 -- way may have cost so far; what a message still brings to another core's access is owed.
-use Rattle.std.specs.Prelude.{ℕ, ◌+◌, ◌*◌, ◌-◌, ◌/◌, ◌==◌, ◌≤◌, Bool, true, false, ◌&&◌, Option, Some, None, List, [], ◌∷◌, length, if◌then◌else◌}
+use Rattle.std.specs.Prelude.{ℕ, ◌+◌, ◌*◌, ◌-◌, ◌/◌, ◌==◌, ◌≤◌, Bool, true, false, ◌&&◌, Option, Some, None, List, []}
+use Rattle.std.specs.Prelude.{◌∷◌, length, if◌then◌else◌}
 use Rattle.std.specs.List.{sum_by, list_all}
 use Rattle.access_times.specs.Riding.{Riding}
 use Rattle.rtr_types.specs.declared.TheConstants.{BLOCK_WORDS}

@@ -1,6 +1,7 @@
 -- What a core with its cache does in a move, for every type of riders and carries. The clerk may leave
 -- another rider on the copy that an access touched: definitions take the rider that it left.
-use Rattle.std.specs.Prelude.{◌≡◌, ℕ, ◌+◌, ◌/◌, ◌%◌, Bool, true, false, not, ◌&&◌, ◌||◌, Option, Some, None, List, [], ◌∷◌, ◌++◌, slice_index, if◌then◌else◌}
+use Rattle.std.specs.Prelude.{◌≡◌, ℕ, ◌+◌, ◌/◌, ◌%◌, Bool, true, false, not, ◌&&◌, ◌||◌, Option, Some, None, List, []}
+use Rattle.std.specs.Prelude.{◌∷◌, ◌++◌, slice_index, if◌then◌else◌}
 use Rattle.access_times.specs.Riding.{Riding, Carrying}
 use Rattle.rtr_types.specs.declared.TheConstants.{BLOCK_WORDS}
 use Rattle.image_mem.specs.Contents.{Contents}
@@ -16,7 +17,8 @@ use Rattle.msi_cache.specs.declared.messages.FromHome.{FromHome}
 use Rattle.msi_cache.specs.declared.messages.FromHome.TheVariants.{BlockData}
 use Rattle.msi_cache.specs.declared.messages.Response.{Response}
 use Rattle.msi_cache.specs.Messages.{block_of}
-use Rattle.msi_cache.specs.Lines.{line_for, lines_put, lines_riding, lines_after, lines_asking, asks, answer, is_allowed, has_row}
+use Rattle.msi_cache.specs.Lines.{line_for, lines_put, lines_riding, lines_after, lines_asking, asks, answer}
+use Rattle.msi_cache.specs.Lines.{is_allowed, has_row}
 use Rattle.msi_state.specs.declared.node.Mail.{Mail}
 use Rattle.msi_state.specs.declared.node.Node.{Node}
 

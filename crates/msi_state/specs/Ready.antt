@@ -1,6 +1,7 @@
 -- What the moves of a state rest on: each message has a row in its table, and each link that a move
 -- pushes to has room.
-use Rattle.std.specs.Prelude.{◌≡◌, ℕ, Bool, true, false, ◌&&◌, Option, Some, None, List, [], ◌∷◌, length, slice_index_or, IsTrue, nat_lt, All, ◌<◌, ◌≤◌, ◌==◌}
+use Rattle.std.specs.Prelude.{◌≡◌, ℕ, Bool, true, false, ◌&&◌, Option, Some, None, List, [], ◌∷◌, length}
+use Rattle.std.specs.Prelude.{slice_index_or, IsTrue, nat_lt, All, ◌<◌, ◌≤◌, ◌==◌}
 use Rattle.std.specs.List.{list_all, list_any}
 use Rattle.access_times.specs.Riding.{Riding, Carrying}
 use Rattle.rtr_types.specs.CoreSets.{has, no_cores}
@@ -18,7 +19,8 @@ use Rattle.msi_directory.specs.Blocks.{entry_at, has_room}
 use Rattle.msi_state.specs.declared.node.Mail.{Mail}
 use Rattle.msi_state.specs.declared.node.Node.{Node}
 use Rattle.msi_state.specs.declared.moves.Move.{Move}
-use Rattle.msi_state.specs.declared.moves.Move.TheVariants.{Core as CoreMove, Request as RequestMove, Response as ResponseMove, FromHome as MessageMove}
+use Rattle.msi_state.specs.declared.moves.Move.TheVariants.{Core as CoreMove, Request as RequestMove}
+use Rattle.msi_state.specs.declared.moves.Move.TheVariants.{Response as ResponseMove, FromHome as MessageMove}
 use Rattle.msi_state.specs.States.{State, Machinery, node_at}
 use Rattle.msi_state.specs.Nodes.{can_receive_in}
 use Rattle.msi_state.specs.Steps.{enabled}

@@ -1,6 +1,7 @@
 -- The runs of the plain machine: its state after so many choices, when a run ends, what retires in it
 -- and what its accesses are.
-use Rattle.std.specs.Prelude.{◌≡◌, ◌<◌, ℕ, ◌%◌, ◌==◌, ◌&&◌, true, false, Option, Some, None, List, [], ◌∷◌, ◌++◌, length, map, slice_index_or, zero, suc, if◌then◌else◌}
+use Rattle.std.specs.Prelude.{◌≡◌, ◌<◌, ℕ, ◌%◌, ◌==◌, ◌&&◌, true, false, Option, Some, None, List, [], ◌∷◌, ◌++◌}
+use Rattle.std.specs.Prelude.{length, map, slice_index_or, zero, suc, if◌then◌else◌}
 use Rattle.std.specs.List.{range_with_len}
 use Rattle.access_times.specs.Riding.{none_riding, none_carrying}
 use Rattle.image_mem.specs.Contents.{Contents}
@@ -86,7 +87,7 @@ abbrev pub accesses : Contents → Params → (choices : ℕ → ℕ) → (t : �
 accesses image params choices zero = []
 accesses image params choices (suc t) = accesses image params choices t ++ accesses_in (event_at image params choices t)
 
--- the loads of a core among accesses, in order, each with the value that it found
+-- the loads of a core among accesses, which are those that read, in order, each with the value that it found
 abbrev pub loads_of : (core : ℕ) → List Access → List LoadNote
 loads_of core [] = []
 loads_of core (a ∷ later) =

@@ -1,5 +1,6 @@
 -- The moves of the machine and what they do, for every type of riders and carries.
-use Rattle.std.specs.Prelude.{◌≡◌, ℕ, ◌*◌, Bool, false, not, ◌&&◌, Option, Some, None, List, [], ◌∷◌, length, slice_set, if◌then◌else◌, nat_lt, zero, suc, All}
+use Rattle.std.specs.Prelude.{◌≡◌, ℕ, ◌*◌, Bool, false, not, ◌&&◌, Option, Some, None, List, [], ◌∷◌, length, slice_set}
+use Rattle.std.specs.Prelude.{if◌then◌else◌, nat_lt, zero, suc, All}
 use Rattle.std.specs.List.{filter}
 use Rattle.access_times.specs.Riding.{Riding, Carrying}
 use Rattle.image_mem.specs.Contents.{Contents}
@@ -23,10 +24,12 @@ use Rattle.msi_directory.specs.Blocks.{entry_at, entries_after_request, entries_
 use Rattle.msi_state.specs.declared.node.Mail.{Mail}
 use Rattle.msi_state.specs.declared.node.Node.{Node}
 use Rattle.msi_state.specs.declared.moves.Move.{Move}
-use Rattle.msi_state.specs.declared.moves.Move.TheVariants.{Core as CoreMove, Request as RequestMove, Response as ResponseMove, FromHome as MessageMove}
+use Rattle.msi_state.specs.declared.moves.Move.TheVariants.{Core as CoreMove, Request as RequestMove}
+use Rattle.msi_state.specs.declared.moves.Move.TheVariants.{Response as ResponseMove, FromHome as MessageMove}
 use Rattle.msi_state.specs.Moves.{candidates, core_of}
 use Rattle.msi_state.specs.States.{State, node_at}
-use Rattle.msi_state.specs.Nodes.{pushed, Event, Nothing, node_working, event_working, node_receiving, event_receiving, node_taken_in, rider_of_event, next_instr, carry_after, Tells}
+use Rattle.msi_state.specs.Nodes.{pushed, Event, Nothing, node_working, event_working, node_receiving, event_receiving}
+use Rattle.msi_state.specs.Nodes.{node_taken_in, rider_of_event, next_instr, carry_after, Tells}
 
 module _ {R K : Type 0} where
   -- the node with a message from home on its way

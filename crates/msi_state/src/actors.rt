@@ -4,14 +4,17 @@ ghost use Rattle.rtr_types.specs.declared.TheConstants.{BLOCK_WORDS, CORES_MAX};
 ghost use Rattle.link_order.specs.Queue.{is_nil};
 ghost use Rattle.msi_cache.specs.Messages.{request_block, response_block};
 ghost use Rattle.msi_directory.specs.Blocks.{entries_after_request, entries_after_response, entry_at, has_room};
-ghost use Rattle.msi_directory.specs.Entries.{answer_riding, answer_to_request, answer_to_response, has_request_row, has_response_row};
+ghost use Rattle.msi_directory.specs.Entries.{answer_riding, answer_to_request, answer_to_response, has_request_row};
+ghost use Rattle.msi_directory.specs.Entries.{has_response_row};
 ghost use Rattle.msi_state.specs.declared.moves.Move.{Move};
 ghost use Rattle.msi_state.specs.FinalMemory.{at_hand, final_word};
 ghost use Rattle.msi_state.specs.Nodes.{instr_of};
-ghost use Rattle.msi_state.specs.Ready.{NamesFit, HeadsFit, heads_roomy, HasRoomFor, Ready, RoomsMade, are_heads_roomy, has_row_for, head_roomy, head_within};
+ghost use Rattle.msi_state.specs.Ready.{NamesFit, HeadsFit, heads_roomy, HasRoomFor, Ready, RoomsMade, are_heads_roomy};
+ghost use Rattle.msi_state.specs.Ready.{has_row_for, head_roomy, head_within};
 ghost use Rattle.msi_state.specs.Standings.{standing_of, standings_of};
 ghost use Rattle.msi_state.specs.States.{node_at, state_start};
-ghost use Rattle.msi_state.specs.Steps.{AcceptsNext, StepsTo, TellsOf, enabled, event, head_free, request_moved, response_moved};
+ghost use Rattle.msi_state.specs.Steps.{AcceptsNext, StepsTo, TellsOf, enabled, event, head_free, request_moved};
+ghost use Rattle.msi_state.specs.Steps.{response_moved};
 
 use crate::node::Node;
 use crate::sending::deliver;
@@ -297,7 +300,7 @@ fn collect<R: Rider>(home: &mut Home<R>, from: u8, response: &ResponseSlot<R>) -
 }
 
 /// Makes room for the block of each request link's head.
-#[tactic(auto, using(crate::proofs::Roomy::making_none, crate::proofs::Roomy::making_one, crate::proofs::Roomy::making_same))]
+#[tactic(auto, using(crate::proofs::Roomy::making_none))]
 fn make_room_for_heads<R: Rider, K: Carry>(
     home: &mut Home<R>,
     nodes: &[Node<R, K>],

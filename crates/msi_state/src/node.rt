@@ -5,7 +5,10 @@ ghost use Rattle.msi_cache.specs.Lines.{waits};
 ghost use Rattle.rv_core.specs.Steps.{need, is_done, access_of as need_access};
 ghost use Rattle.msi_state.specs.States.{node_start};
 ghost use Rattle.msi_state.specs.Standings.{standing_of};
-ghost use Rattle.msi_state.specs.Nodes.{next_instr, instr_of, allows, access_of, rider_at, carry_after, node_accessing, node_local, node_trying, event_trying, event_working, event_receiving, node_taken_in, may_access, can_receive_in, Tells, TellsAt, HasWorked, HasReceived};
+ghost use Rattle.msi_state.specs.Nodes.{next_instr, instr_of, allows, access_of, rider_at, carry_after, node_accessing};
+ghost use Rattle.msi_state.specs.Nodes.{node_local, node_trying, event_trying, event_working, event_receiving};
+ghost use Rattle.msi_state.specs.Nodes.{node_taken_in, may_access, can_receive_in, Tells, TellsAt, HasWorked};
+ghost use Rattle.msi_state.specs.Nodes.{HasReceived};
 
 use crate::standing::{Standing, hear};
 use access_times::{Carry, Clerk, Rider};

@@ -18,7 +18,8 @@ use Rattle.msi_state.specs.States.{State, node_at}
 use Rattle.msi_state.specs.Steps.{enabled}
 use Rattle.msi_state.specs.declared.node.Mail.{Mail}
 use Rattle.msi_state.specs.declared.moves.Move.{Move}
-use Rattle.msi_state.specs.declared.moves.Move.TheVariants.{Core as CoreMove, Request as RequestMove, Response as ResponseMove, FromHome as MessageMove}
+use Rattle.msi_state.specs.declared.moves.Move.TheVariants.{Core as CoreMove, Request as RequestMove}
+use Rattle.msi_state.specs.declared.moves.Move.TheVariants.{Response as ResponseMove, FromHome as MessageMove}
 use Rattle.msi_times.specs.Retirements.{Retirement, MachineStandsFor}
 use Rattle.msi_times.specs.StandsFor.{TimesParts}
 

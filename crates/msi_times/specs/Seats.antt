@@ -9,7 +9,12 @@ use Rattle.msi_directory.specs.declared.entry.Stage.TheVariants.{Shared, Owned, 
 use Rattle.msi_protocol.specs.Block.{Wish, ToEvict, request_step, response_step}
 use Rattle.msi_protocol.specs.Counting.{line_counts, sent_counts, reply_counts}
 use Rattle.msi_protocol.specs.NextPhases.{after_own, after_other, answered, after_others_response, received, wished}
-use Rattle.msi_protocol.specs.Phases.{OfShared, Role, Out, Owner, Giver, GiveWaiter, role, role_in, StageFits, Phase, Holds, Fills, Upgrades, Puts, Owns, FillsM, UpgradeFills, PutsM, HoldsTold, FillsTold, UpgradesTold, PutsTold, Acked, AckedAsksS, AckedAsksM, AckedPuts, AwaitsAcks, UpgradeAwaitsAcks, OwnsTold, FillsMTold, UpgradeFillsTold, PutsMTold, GaveHolds, GaveUpgrades, GavePuts, GaveAll, GaveAllAsksS, GaveAllAsksM, GaveAllPuts, AwaitsData}
+use Rattle.msi_protocol.specs.Phases.{OfShared, Role, Out, Owner, Giver, GiveWaiter, role, role_in, StageFits, Phase}
+use Rattle.msi_protocol.specs.Phases.{Holds, Fills, Upgrades, Puts, Owns, FillsM, UpgradeFills, PutsM, HoldsTold}
+use Rattle.msi_protocol.specs.Phases.{FillsTold, UpgradesTold, PutsTold, Acked, AckedAsksS, AckedAsksM, AckedPuts}
+use Rattle.msi_protocol.specs.Phases.{AwaitsAcks, UpgradeAwaitsAcks, OwnsTold, FillsMTold, UpgradeFillsTold, PutsMTold}
+use Rattle.msi_protocol.specs.Phases.{GaveHolds, GaveUpgrades, GavePuts, GaveAll, GaveAllAsksS, GaveAllAsksM}
+use Rattle.msi_protocol.specs.Phases.{GaveAllPuts, AwaitsData}
 
 -- a core's phase, and what its line, its BlockData, its response and its put under way carry
 pub record Seat (X : Type 0) : Type 0 where

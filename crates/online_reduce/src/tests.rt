@@ -2,7 +2,9 @@
 use crate::Reducer;
 use access_times::{Rider, Times};
 use conflict_edge::least_of;
-use rtr_types::{Access, Instr, Kind};
+use rtr_types::{Access, Edge, Instr, Kind};
+use std::alloc::Global;
+use std::process::Abort;
 use std::test::Fail;
 
 /// An access to a word of the first block. Values play no part.
@@ -30,12 +32,20 @@ static READERS: [Access; 5] = [
     access!(0: 1 Store 0),
 ];
 
-#[test]
-fn readers_ordered_through_another_word(rt: HostRuntime) -> Result<(), Fail> {
-    let mut reducer = Reducer::new(rt.alloc(), 3)?;
+// Cores 0 and 1 add to word 0 before core 2 loads it, and core 0 adds once more.
+static ADDS: [Access; 4] = [
+    access!(0: 1 Amo 0),
+    access!(1: 1 Amo 0),
+    access!(2: 1 Load 0),
+    access!(0: 2 Amo 0),
+];
+
+// The edges that the list gets, in order, and the reducer after it.
+fn reduced(rt: &impl Abort, alloc: Global, list: &[Access]) -> Result<(Vec<Edge>, Reducer), Fail> {
+    let mut reducer = Reducer::new(alloc, 3)?;
     let mut times = Times::fresh();
-    let mut edges = Vec::new(rt.alloc());
-    for access in &READERS {
+    let mut edges = Vec::new(alloc);
+    for access in list {
         let core = access.at.core;
         assert!(rt; core < 3);
         assert!(rt; reducer.clock(core).get(core) as u64 + 1 == access.at.count as u64);
@@ -44,6 +54,21 @@ fn readers_ordered_through_another_word(rt: HostRuntime) -> Result<(), Fail> {
             edges.push(*edge)?;
         }
     }
+    Ok((edges, reducer))
+}
+
+#[test]
+fn an_add_reads_and_writes(rt: HostRuntime) -> Result<(), Fail> {
+    let (edges, _) = reduced(&rt, rt.alloc(), &ADDS)?;
+    let least = least_of(rt.alloc(), &ADDS)?;
+    assert_eq!(rt; edges.len(), 3);
+    assert_eq!(rt; edges.as_slice(), least.as_slice());
+    Ok(())
+}
+
+#[test]
+fn readers_ordered_through_another_word(rt: HostRuntime) -> Result<(), Fail> {
+    let (edges, reducer) = reduced(&rt, rt.alloc(), &READERS)?;
     let least = least_of(rt.alloc(), &READERS)?;
     assert_eq!(rt; edges.as_slice(), least.as_slice());
     let lists = reducer.finish();

@@ -13,8 +13,9 @@ use rv_core::LoadNote;
 use std::alloc::{AllocError, Global};
 use std::marker::Model;
 
-/// Makes the reduced log of the run and keeps each core's loads. It keeps no other access. It accepts
-/// the next instruction of each core while one more retirement needs no memory.
+/// Makes the reduced log of the run and keeps each core's loads, among which are its atomic memory
+/// operations. It keeps no other access. It accepts the next instruction of each core while one more
+/// retirement needs no memory.
 #[derive(Drop)]
 pub(crate) struct RunClerk {
     reducer: Reducer,

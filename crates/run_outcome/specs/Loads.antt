@@ -6,11 +6,11 @@ use Rattle.rv_core.specs.declared.outcome.LoadNote.{LoadNote}
 use Rattle.load_lists.specs.Lists.{with_note}
 use Rattle.msi_state.specs.Nodes.{Event, Accesses}
 
--- what a load got
+-- what an access got
 abbrev pub note_of : Access → LoadNote
 note_of a = record { count = a.at.count; word = a.word; value = a.before }
 
--- the lists after one more access: a load is with_note with its core
+-- the lists after one more access: one that reads is with_note with its core
 abbrev pub lists_after : List (List LoadNote) → Access → List (List LoadNote)
 lists_after lists a = if is_read a.kind then with_note lists a.at.core (note_of a) else lists
 

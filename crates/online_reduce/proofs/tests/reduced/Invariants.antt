@@ -1,5 +1,5 @@
 use Rattle.std.proofs.Common.{◌≡◌}
-use Rattle.online_reduce.proofs.tests.readers_ordered_through_another_word.Given as goal
+use Rattle.online_reduce.proofs.tests.reduced.Given as goal
 
 abbrev pub invariant-loop-access : goal.invariant-loop-access
 invariant-loop-access g l = l.reducer.state.cores ≡ 3
