@@ -1,5 +1,5 @@
 //! Reading the edges of the reduced log target by target.
-ghost use Rattle.std.specs.Prelude.{◌≡◌, ℕ, ◌+◌, ◌<◌, ◌≤◌, List, None, Some, [], length, nat_le, vec_len, if◌then◌else◌, replicate, IfOk, IfSome};
+ghost use Rattle.std.specs.Prelude.{◌≡◌, ℕ, ◌+◌, ◌<◌, ◌≤◌, List, None, Some, [], length, nat_le, if◌then◌else◌, replicate, IfOk, IfSome};
 ghost use Rattle.rtr_types.specs.Pairs.{IsPair, pair_count};
 ghost use Rattle.log_codec.specs.Faults.{Gives};
 ghost use Rattle.log_codec.specs.Incoming.{Keeps, incoming, incoming_stands, last_source, last_target, remember, target_count};
@@ -92,7 +92,7 @@ fn edges_from<'a>(
 ) -> Result<&'a [u8], CodecFault>
     requires few { length totals.now ≤ CORES_MAX }
     requires target { target < length totals.now }
-    requires lists { vec_len lists.old ≡ pair_count (length totals.now) }
+    requires lists { length lists.old.items ≡ pair_count (length totals.now) }
     ensures { Gives (λ rest. (lists.new.items, rest.now)) result
         (put_into_lists (length totals.now) lists.old.items target (read_in_turn (incoming_at totals.now target) remember count [] bytes.now)) }
 {
@@ -120,7 +120,7 @@ fn into<'a>(
 ) -> Result<&'a [u8], CodecFault>
     requires few { length totals.now ≤ CORES_MAX }
     requires target { target < length totals.now }
-    requires lists { vec_len lists.old ≡ pair_count (length totals.now) }
+    requires lists { length lists.old.items ≡ pair_count (length totals.now) }
     ensures { Gives (λ rest. (lists.new.items, rest.now)) result
         (put_into_lists (length totals.now) lists.old.items target (into_at totals.now target bytes.now)) }
 {
