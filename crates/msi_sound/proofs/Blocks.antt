@@ -30,6 +30,7 @@ use Rattle.msi_state.specs.declared.node.Node.{Node}
 use Rattle.msi_state.specs.States.{State, node_at, no_node}
 use Rattle.msi_state.specs.Steps.{delivered, delivered_in, node_requested, request_moved_in}
 use Rattle.msi_state.specs.Sights.{asks_of, cons_if}
+use Rattle.msi_protocol.proofs.Quiet.{idle_out}
 use Rattle.msi_sound.specs.Views.{node_view, block_in}
 use Rattle.msi_sound.proofs.Views.{view-delivered, node_at-set, length-told, length-sent}
 
