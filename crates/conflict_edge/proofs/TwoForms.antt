@@ -1,5 +1,5 @@
 -- The two forms of the least set.
-use Rattle.std.proofs.Common.{◌≢◌, ◌↔◌, List, reverse, refl, inr, ◌<◌, ◌⊎◌, inl, sym, arith, ℕ, ◌≡◌}
+use Rattle.std.proofs.Common.{◌≢◌, ◌↔◌, List, reverse, refl, inr, ◌<◌, ◌⊎◌, inl, sym, ◌≡◌}
 use Rattle.std.proofs.lemmas.Bool.{cases_order}
 use Rattle.clock_core.proofs.Paths.{one, more, instr_eq}
 use Rattle.clock_core.specs.Order.{Within, Before, Among}

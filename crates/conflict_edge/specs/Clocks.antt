@@ -1,7 +1,9 @@
--- The clock of an instruction over a list of accesses, and the rule by which one pass over the list finds its least set.
+-- The clock of an instruction over a list of accesses, and the rule by which one pass over the list finds its least
+-- set.
 --
 -- Lists named `earlier` have the newest access first, as `reverse list` of a list in order.
-use Rattle.std.specs.Prelude.{◌≡◌, ◌≢◌, ℕ, ◌<◌, ◌≤◌, ◌⊎◌, ◌↔◌, List, [], ◌∷◌, ◌++◌, reverse, Bool, nat_eq, nat_le, ◌&&◌, if◌then◌else◌, max, Option, Some, None, IsTrue}
+use Rattle.std.specs.Prelude.{◌≡◌, ◌≢◌, ℕ, ◌<◌, ◌≤◌, ◌⊎◌, ◌↔◌, List, [], ◌∷◌, ◌++◌, reverse, Bool, nat_eq, nat_le, ◌&&◌}
+use Rattle.std.specs.Prelude.{if◌then◌else◌, max, Option, Some, None, IsTrue}
 use Rattle.rtr_types.specs.Accesses.{is_write}
 use Rattle.rtr_types.specs.declared.instr.Instr.{Instr}
 use Rattle.rtr_types.specs.declared.instr.Edge.{Edge}
@@ -32,7 +34,7 @@ unfoldable pub last_write : List Access → ℕ → Option Access
 last_write [] word = None
 last_write (b ∷ earlier) word = if nat_eq b.word word && is_write b.kind then Some b else last_write earlier word
 
--- the core's newest read of the word since that write
+-- the core's newest access to the word since that write, which only reads
 unfoldable pub last_read : List Access → ℕ → ℕ → Option Access
 last_read [] word core = None
 last_read (b ∷ earlier) word core =
@@ -44,7 +46,8 @@ last_read (b ∷ earlier) word core =
 -- since, and of another core than a
 abbrev pub Candidate : List Access → Access → Instr → Type 0
 Candidate earlier a z = (b : Access)
-    × ((last_write earlier a.word ≡ Some b) ⊎ (IsTrue (is_write a.kind) × (last_read earlier a.word b.at.core ≡ Some b)))
+    × ((last_write earlier a.word ≡ Some b)
+    ⊎ (IsTrue (is_write a.kind) × (last_read earlier a.word b.at.core ≡ Some b)))
     × (b.at.core ≢ a.at.core) × (b.at ≡ z)
 
 -- the candidate becomes an edge: neither the clock of the instruction before a nor that of another candidate has it

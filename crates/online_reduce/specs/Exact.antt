@@ -1,5 +1,6 @@
 -- What the online reduction keeps while the times handed in are exact.
-use Rattle.std.specs.Prelude.{◌≡◌, ℕ, ◌+◌, ◌%◌, ◌<◌, ◌≤◌, ◌↔◌, List, [], ◌∷◌, ◌++◌, ⊤, reverse, length, Option, Some, false, IsTrue, slice_index_or}
+use Rattle.std.specs.Prelude.{◌≡◌, ℕ, ◌+◌, ◌%◌, ◌<◌, ◌≤◌, ◌↔◌, List, [], ◌∷◌, ◌++◌, ⊤, reverse, length, Option, Some}
+use Rattle.std.specs.Prelude.{false, IsTrue, slice_index_or}
 use Rattle.std.specs.List.{Contains}
 use Rattle.std.specs.Option.{option_map}
 use Rattle.rtr_types.specs.Accesses.{is_write}
@@ -44,7 +45,8 @@ pub record IsExact (list : List Access) (r : Reduced) : Type 0 where
   pub within : (a : Access) → StandsIn list a → (a.at.core < r.cores) × (a.at.count ≤ count_of r a.at.core)
   pub clocks : (core : ℕ) → core < r.cores → IsExactClock list (last_of r core) (clock_of r core)
 
--- the times hold the access in its word's slot, with the clock: a write as the last write, a read as its core's last read since
+-- the times hold the access in its word's slot, with the clock: one that writes as the last write, any other as its
+-- core's last read since
 pub record IsHeld (a : Access) (t : Times) (clock : Clock) : Type 0 where
   pub write_is : IsTrue (is_write a.kind) → write_at t (a.word % BLOCK_WORDS) ≡ Some (a.at, clock)
   pub read_is : is_write a.kind ≡ false → read_at t (a.word % BLOCK_WORDS) a.at.core ≡ Some (a.at.count, clock)
@@ -62,7 +64,8 @@ pub record AreCoveringInto (list : List Access) (at : Instr) (edges : List Edge)
 -- each pair's edges rise in both counts, up to what its cores have retired
 abbrev pub AreRising : Reduced → List (List (ℕ × ℕ)) → Type 0
 AreRising r lists = (place : ℕ) → place < pair_count r.cores →
-    RiseWithin (count_of r (source_at r.cores place), count_of r (target_at r.cores place)) (0, 0) (slice_index_or lists place [])
+    RiseWithin (count_of r (source_at r.cores place), count_of r (target_at r.cores place)) (0, 0)
+    (slice_index_or lists place [])
 
 -- the edges so far are the covering pairs of the list, and they stand by pair, rising in both counts
 pub record IsReduction (list : List Access) (r : Reduced) (edges : List Edge) : Type 0 where
@@ -74,7 +77,8 @@ pub record IsReduction (list : List Access) (r : Reduced) (edges : List Edge) : 
 -- Times that are exact for a word are exact for each access to it.
 abbrev pub ExactForLaw : Type 0
 ExactForLaw = (list : List Access) (a : Access) (t : Times) →
-    AreExactTimes list a.word (write_at t (a.word % BLOCK_WORDS)) (λ core. read_note core (read_at t (a.word % BLOCK_WORDS) core)) →
+    AreExactTimes list a.word (write_at t (a.word % BLOCK_WORDS))
+    (λ core. read_note core (read_at t (a.word % BLOCK_WORDS) core)) →
     AreExactFor list a t
 
 -- Before the first retirement there are no edges.
@@ -83,13 +87,14 @@ BeginLaw = (cores : ℕ) → cores ≤ CORES_MAX → IsReduction [] (unreduced c
 
 -- A retirement without an access adds nothing.
 abbrev pub CountLaw : Type 0
-CountLaw = (list : List Access) (r : Reduced) (edges : List Edge) (at : Instr) → IsNext r at → IsReduction list r edges →
-    IsReduction list (counted r at) edges
+CountLaw = (list : List Access) (r : Reduced) (edges : List Edge) (at : Instr) → IsNext r at →
+    IsReduction list r edges → IsReduction list (counted r at) edges
 
 -- A retirement with an access adds the covering pairs into it, where the times are exact for it.
 abbrev pub RetireLaw : Type 0
-RetireLaw = (list : List Access) (r : Reduced) (edges : List Edge) (a : Access) (t : Times) → IsNext r a.at → AreExactFor list a t →
-    IsReduction list r edges → IsReduction (list ++ (a ∷ [])) (retired r a t) (edges ++ edges_of r a t)
+RetireLaw = (list : List Access) (r : Reduced) (edges : List Edge) (a : Access) (t : Times) → IsNext r a.at →
+    AreExactFor list a t → IsReduction list r edges →
+    IsReduction (list ++ (a ∷ [])) (retired r a t) (edges ++ edges_of r a t)
 
 -- The edges are the least set of the list.
 abbrev pub LeastLaw : Type 0
@@ -98,4 +103,6 @@ LeastLaw = (list : List Access) (r : Reduced) (edges : List Edge) → IsReductio
 -- They are exactly the counts in their pairs' lists.
 abbrev pub ListedLaw : Type 0
 ListedLaw = (list : List Access) (r : Reduced) (edges : List Edge) → IsReduction list r edges → (x y : Instr) →
-    Among edges x y ↔ (IsPair r.cores x.core y.core × Contains (slice_index_or r.lists (pair_place r.cores x.core y.core) []) (x.count, y.count))
+    Among edges x y
+    ↔ (IsPair r.cores x.core y.core
+    × Contains (slice_index_or r.lists (pair_place r.cores x.core y.core) []) (x.count, y.count))

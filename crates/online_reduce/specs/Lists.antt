@@ -1,5 +1,6 @@
 -- Edges by pair of cores.
-use Rattle.std.specs.Prelude.{ℕ, ◌<◌, ◌≤◌, ◌+◌, List, [], ◌∷◌, ◌++◌, ⊤, Bool, ◌&&◌, nat_eq, nat_le, map, length, slice_index_or, slice_set}
+use Rattle.std.specs.Prelude.{ℕ, ◌<◌, ◌≤◌, ◌+◌, List, [], ◌∷◌, ◌++◌, ⊤, Bool, ◌&&◌, nat_eq, nat_le, map, length}
+use Rattle.std.specs.Prelude.{slice_index_or, slice_set}
 use Rattle.std.specs.List.{filter, list_all, fold, range_with_len}
 use Rattle.rtr_types.specs.Pairs.{pair_count, pair_place, source_at, target_at}
 use Rattle.rtr_types.specs.declared.instr.Edge.{Edge}
@@ -28,7 +29,8 @@ counts e = (e.from.count, e.to.count)
 -- the edge is put at the end of its pair's list
 abbrev pub with_edge : ℕ → List (List (ℕ × ℕ)) → Edge → List (List (ℕ × ℕ))
 with_edge cores lists e =
-    slice_set lists (pair_place cores e.from.core e.to.core) (slice_index_or lists (pair_place cores e.from.core e.to.core) [] ++ counts e ∷ [])
+    let place = pair_place cores e.from.core e.to.core in
+    slice_set lists place (slice_index_or lists place [] ++ counts e ∷ [])
 
 -- the edges are put at the ends of their pairs' lists
 unfoldable pub with_edges : ℕ → List (List (ℕ × ℕ)) → List Edge → List (List (ℕ × ℕ))
@@ -44,9 +46,12 @@ pair_edges from to edges = map counts (filter (is_between from to) edges)
 
 -- the edges of each pair, in the order of the pairs
 unfoldable pub by_pair : ℕ → List Edge → List (List (ℕ × ℕ))
-by_pair cores edges = map (λ place. pair_edges (source_at cores place) (target_at cores place) edges) (range_with_len 0 (pair_count cores))
+by_pair cores edges =
+    map (λ place. pair_edges (source_at cores place) (target_at cores place) edges)
+    (range_with_len 0 (pair_count cores))
 
 -- both counts rise from edge to edge, from above the last ones up to the most
 abbrev pub RiseWithin : ℕ × ℕ → ℕ × ℕ → List (ℕ × ℕ) → Type 0
 RiseWithin most last [] = ⊤
-RiseWithin most last (e ∷ edges) = (last.0 < e.0) × (last.1 < e.1) × (e.0 ≤ most.0) × (e.1 ≤ most.1) × RiseWithin most e edges
+RiseWithin most last (e ∷ edges) =
+    (last.0 < e.0) × (last.1 < e.1) × (e.0 ≤ most.0) × (e.1 ≤ most.1) × RiseWithin most e edges

@@ -25,7 +25,8 @@ pub record Readied : Type 0 where
 
 -- before the first retirement
 abbrev pub unreduced : ℕ → Reduced
-unreduced cores = record { cores = cores; clocks = replicate CORES_MAX no_counts; lists = replicate (pair_count cores) [] }
+unreduced cores =
+    record { cores = cores; clocks = replicate CORES_MAX no_counts; lists = replicate (pair_count cores) [] }
 
 -- the clock noted last for the core
 abbrev pub clock_of : Reduced → ℕ → Clock

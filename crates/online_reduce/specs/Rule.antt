@@ -30,6 +30,7 @@ edges_into at before found = map (edge_to at) (filter (λ s. is_kept before foun
 abbrev pub merged_with : Clock → Source → Clock
 merged_with clock s = merged clock s.clock
 
--- the clock of an instruction: the previous one merged with those of the candidates, with its own count at its own place
+-- the clock of an instruction: the previous one merged with those of the candidates, with its own count at its own
+-- place
 unfoldable pub clock_into : Instr → Clock → List Source → Clock
 clock_into at before found = slice_set (fold merged_with before found) at.core at.count

@@ -35,7 +35,10 @@ impl Model for PairLists {
 
     ghost view = { λ a. seen_as a.lists.items };
 
-    ghost invariant = { λ a. (vec_len a.finished ≡ 0) × (vec_len a.lists ≤ vec_capacity a.finished) × (IsTrue a.known_roomy → IsTrue (list_all is_roomy a.lists.items)) };
+    ghost invariant = { λ a.
+        (vec_len a.finished ≡ 0)
+        × (vec_len a.lists ≤ vec_capacity a.finished)
+        × (IsTrue a.known_roomy → IsTrue (list_all is_roomy a.lists.items)) };
 }
 
 impl PairLists {

@@ -39,9 +39,15 @@ impl Model for Reducer {
 
     ghost Value = { Readied };
 
-    ghost view = { λ a. record { state = record { cores = a.cores; clocks = a.clocks; lists = a.pairs.lists }; ready = a.pairs.roomy } };
+    ghost view = { λ a. record {
+      state = record { cores = a.cores; clocks = a.clocks; lists = a.pairs.lists };
+      ready = a.pairs.roomy;
+    } };
 
-    ghost invariant = { λ a. (a.cores ≤ CORES_MAX) × (length a.clocks ≡ CORES_MAX) × (length a.pairs.lists ≡ pair_count a.cores) };
+    ghost invariant = { λ a.
+        (a.cores ≤ CORES_MAX)
+        × (length a.clocks ≡ CORES_MAX)
+        × (length a.pairs.lists ≡ pair_count a.cores) };
 }
 
 impl Reducer {
@@ -143,7 +149,8 @@ impl Reducer {
             IsExact (list ++ access.now ∷ []) self.new.state }
         ensures reduction { (list : List Access) (edges : List Edge) →
             IsReduction list self.old.state edges → AreExactFor list access.now times.old →
-            IsReduction (list ++ access.now ∷ []) self.new.state (edges ++ edges_of self.old.state access.now times.old) }
+            IsReduction (list ++ access.now ∷ []) self.new.state
+            (edges ++ edges_of self.old.state access.now times.old) }
     {
         if access.kind.is_write() {
             self.touch_store(access, times);
@@ -202,7 +209,7 @@ impl Reducer {
         }
     }
 
-    /// An access whose candidates are listed. It is apart so that a store without candidates makes no
+    /// An access whose candidates are listed. It is apart so that a write without candidates makes no
     /// room on the stack for their list.
     fn touch_listed(&mut self, access: &Access, times: &mut Times)
         requires ready { IsTrue self.old.ready }

@@ -141,8 +141,8 @@ pub fn is_alone(cores: u8, access: &Access, times: &Times) -> bool
 
 /// Whether the noted write is a candidate.
 fn is_written(cores: u8, access: &Access, times: &Times) -> bool
-    ensures { result ≡ false →
-        (core : ℕ) → core < cores → write_from access.now core (write_at times.now (access.now.word % BLOCK_WORDS)) ≡ None }
+    ensures { result ≡ false → (core : ℕ) → core < cores →
+        write_from access.now core (write_at times.now (access.now.word % BLOCK_WORDS)) ≡ None }
 {
     match times.last_write(slot_of(access.word)) {
         Some((at, _)) => is_of_other(cores, access, *at),
@@ -161,8 +161,8 @@ pub fn is_of_other(cores: u8, access: &Access, at: Instr) -> bool
 /// Whether no noted read is a candidate.
 fn is_unread(cores: u8, access: &Access, times: &Times) -> bool
     requires { cores ≤ CORES_MAX }
-    ensures { IsTrue result →
-        (core : ℕ) → core < cores → read_from access.now core (read_at times.now (access.now.word % BLOCK_WORDS) core) ≡ None }
+    ensures { IsTrue result → (core : ℕ) → core < cores →
+        read_from access.now core (read_at times.now (access.now.word % BLOCK_WORDS) core) ≡ None }
 {
     if !access.kind.is_write() {
         return true;
@@ -178,7 +178,8 @@ fn is_unread(cores: u8, access: &Access, times: &Times) -> bool
 /// Whether a read by this core is noted, and it is not the access's own.
 fn is_read_by(core: u8, access: &Access, times: &Times) -> bool
     requires { core < CORES_MAX }
-    ensures { result ≡ false → read_from access.now core (read_at times.now (access.now.word % BLOCK_WORDS) core) ≡ None }
+    ensures { result ≡ false →
+        read_from access.now core (read_at times.now (access.now.word % BLOCK_WORDS) core) ≡ None }
 {
     core != access.at.core && times.last_read(slot_of(access.word), core).is_some()
 }

@@ -8,8 +8,8 @@ use Rattle.rv_core.specs.declared.outcome.Outcome.{Outcome}
 use Rattle.rv_core.specs.States.{starting}
 use Rattle.rv_core.specs.Steps.{need, is_done}
 use Rattle.replay_core.specs.Plans.{Plan}
-use Rattle.replay_core.specs.Play.{core_at, place, touched, start, play, accesses_from, Plays}
-use Rattle.replay_core.specs.Laws.{PlaysAlike, ByImageLaw, SameStartLaw}
+use Rattle.replay_core.specs.Play.{core_at, place, touched, play, accesses_from, Plays}
+use Rattle.replay_core.specs.Laws.{ByImageLaw, SameStartLaw}
 
 -- a plan of an image, without a log
 abbrev of : (image : Contents) → (limit : ℕ) → (totals : List ℕ) → Plan

@@ -1,11 +1,11 @@
 -- The low order takes the lowest ready core at each place, until there is none.
-use Rattle.std.proofs.Common.{inl, inr, ◌≡◌, ◌⊎◌, ℕ, subst, zero, suc, ◌+◌, ◌-◌, ◌<◌, ◌≤◌, List, [], ◌∷◌, length, sym, refl, ap, arith, true, false, Bool}
+use Rattle.std.proofs.Common.{inl, inr, ◌≡◌, ◌⊎◌, ℕ, subst, zero, suc, ◌+◌, ◌-◌, ◌<◌, ◌≤◌, List, [], ◌∷◌, length, sym, refl, ap, arith, true, false}
 use Rattle.std.specs.Prelude.{slice_index, sum, Option, Some, None, cond}
 use Rattle.std.proofs.lemmas.Bool.{cases_Bool}
 use Rattle.std.proofs.lemmas.List.Sums.{sum_by-cons}
 use native.Mathlib.Decide.{ℕ_discrete}
 use Rattle.replay_core.specs.Plans.{Plan}
-use Rattle.replay_core.specs.Orders.{bump, nought, Ready, Ordered, is_ready, lowest, lowest_ready, low_next, low_from, low_order}
+use Rattle.replay_core.specs.Orders.{bump, nought, Ready, is_ready, lowest, lowest_ready, low_next, low_from, low_order}
 use Rattle.replay_core.specs.Laws.{Lowest, LowOrderLaw, LowestOrderedLaw, LowOrderedLaw, LowestStuckLaw}
 use Rattle.replay_core.proofs.Counts.{bump_else, bump_same}
 use Rattle.replay_core.proofs.Ready.{ready_true, ready_is}
