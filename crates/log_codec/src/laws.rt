@@ -1,19 +1,29 @@
 //! What the spellings and the readings have in common, and what validity says.
-ghost use Rattle.log_codec.specs.Laws.{ReadIsSpelled, SpelledIsRead, SpelledIsFront, FrontIsSpelled, PrefixFree, ValidTest, EdgesByPair, VectorsByPair};
+ghost use Rattle.log_codec.specs.Laws.{ReadIsSpelled, SpelledIsRead, SpelledIsFront, FrontIsSpelled, ReadAndSpelled};
+ghost use Rattle.log_codec.specs.Laws.{PrefixFree, ValidTest, EdgesByPair, VectorsByPair, LimitsNest, IntoTheTarget};
 ghost use Rattle.log_codec.specs.Sources.{EdgesArePaired, EdgesCounted, EdgesWithin, OneSource};
 
-/// What is read is valid and is spelled so, by all bytes or by those before the rest. What is spelled
-/// is read, also before a rest.
+/// What is read is valid and is spelled so in a version whose limits it keeps, by all bytes or by those
+/// before the rest. What is spelled in either version is read, also before a rest. What is read and
+/// spelled anew is read the same.
 pub fn spelling_laws()
     ensures read { ReadIsSpelled }
     ensures spelled { SpelledIsRead }
     ensures front_read { FrontIsSpelled }
     ensures front_spelled { SpelledIsFront }
+    ensures again { ReadAndSpelled }
 {}
 
-/// No spelling of a recording begins that of another.
+/// No spelling of a recording begins that of another, nor its own in the other version.
 pub fn prefix_free()
     ensures { PrefixFree }
+{}
+
+/// The limits of version 1 and of a run lie within those of version 2. The edges into a core, by which
+/// version 2 spells the reduced log, are in order and are those of the core's pairs.
+pub fn version_laws()
+    ensures limits { LimitsNest }
+    ensures into { IntoTheTarget }
 {}
 
 /// Validity can be tested by computing, and says what each pair's lists are.
