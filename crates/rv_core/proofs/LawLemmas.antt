@@ -6,7 +6,7 @@ use Rattle.image_mem.specs.Contents.{Contents}
 use Rattle.rv_core.specs.declared.core_state.Core.{Core}
 use Rattle.rv_core.specs.States.{starting, retired, word_after}
 use Rattle.rv_core.specs.Steps.{need, after, wrote, is_done, access_of, instruction_at, after_instruction, word_after_instruction}
-use Rattle.rv_core.specs.Laws.{StartLaw, CountLaw, NumberLaw, LimitLaw, RoomLaw, WithinLaw, LocalLaw, UnreadLaw, WholeLaw, LocalValueLaw, UnwrittenLaw, ValueLaw}
+use Rattle.rv_core.specs.Laws.{StartLaw, CountLaw, NumberLaw, LimitLaw, RoomLaw, WithinLaw, LocalLaw, UnreadLaw, WholeLaw, WholeStoreLaw, LocalValueLaw, UnwrittenLaw, ValueLaw}
 use Rattle.rv_core.proofs.StepLemmas.{GoesOnBy, goes_on}
 use Rattle.rv_core.proofs.OpLemmas.{Accessing, access_goes, accessing, whole_store, covering, staying, word_after-below}
 
@@ -82,6 +82,11 @@ whole_law image core one other h =
     let (op, goes) = goes_on image core (ap is_done stores) in
     let same = covering image.words core op word (sym goes.needs ∙ stores) one other in
     wrote-op image core op one goes.at_pc ∙ same ∙ sym (wrote-op image core op other goes.at_pc)
+
+pub whole_store_law : WholeStoreLaw
+whole_store_law need h =
+    let (word, stores) = whole_store need h in
+    rw stores (refl, refl)
 
 pub local_value_law : LocalValueLaw
 local_value_law image core old h =

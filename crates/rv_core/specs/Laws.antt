@@ -5,8 +5,10 @@ use Rattle.rtr_types.specs.declared.access.Kind.{Kind}
 use Rattle.rtr_types.specs.Accesses.{is_read, is_write}
 use Rattle.image_mem.specs.Contents.{Contents}
 use Rattle.rv_core.specs.declared.core_state.Core.{Core}
+use Rattle.rv_core.specs.declared.core_state.Need.{Need}
 use Rattle.rv_core.specs.declared.core_state.Need.TheVariants.{Local, Done}
 use Rattle.rv_core.specs.declared.core_state.Stop.TheVariants.{Total}
+use Rattle.rv_core.specs.Needs.{is_reading, is_writing}
 use Rattle.rv_core.specs.States.{starting}
 use Rattle.rv_core.specs.Steps.{need, after, wrote, is_done, is_whole, access_of}
 
@@ -48,6 +50,10 @@ UnreadLaw = (image : Contents) (core : Core) (kind : Kind) (word one other : ℕ
 abbrev pub WholeLaw : Type 0
 WholeLaw = (image : Contents) (core : Core) (one other : ℕ) → is_whole (need image core) ≡ true
     → wrote image core one ≡ wrote image core other
+
+-- and it writes and doesn't read
+abbrev pub WholeStoreLaw : Type 0
+WholeStoreLaw = (need : Need) → is_whole need ≡ true → (is_writing need ≡ true) × (is_reading need ≡ false)
 
 -- a local instruction answers 0, and an access that doesn't write leaves its word as it was
 abbrev pub LocalValueLaw : Type 0

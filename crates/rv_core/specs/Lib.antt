@@ -1,5 +1,6 @@
 pub mod Atomics
 pub mod Laws
+pub mod Needs
 pub mod Operations
 pub mod States
 pub mod Steps

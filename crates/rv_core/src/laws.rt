@@ -1,7 +1,7 @@
 //! What holds of a core's steps whatever the instructions are. The layers above know a step by these
 //! laws, and never open the instruction set.
 ghost use Rattle.rv_core.specs.Laws.{StartLaw, CountLaw, NumberLaw, LimitLaw, RoomLaw, WithinLaw, LocalLaw, UnreadLaw};
-ghost use Rattle.rv_core.specs.Laws.{WholeLaw, LocalValueLaw, UnwrittenLaw, ValueLaw, TotalLaw};
+ghost use Rattle.rv_core.specs.Laws.{WholeLaw, WholeStoreLaw, LocalValueLaw, UnwrittenLaw, ValueLaw, TotalLaw};
 
 /// A core starts with its number and limit, and with no retired instruction.
 pub fn a_core_starts_at_0()
@@ -27,11 +27,12 @@ pub fn words_are_within()
 {}
 
 /// What a word held matters to the core after an access that reads alone, and to nothing that a store of
-/// a whole word does.
+/// a whole word does, which writes and doesn't read.
 pub fn what_a_word_held_matters_to()
     ensures local { LocalLaw }
     ensures unread { UnreadLaw }
     ensures whole { WholeLaw }
+    ensures whole_store { WholeStoreLaw }
 {}
 
 /// What a word holds after a step: a local instruction answers 0, an access that doesn't write leaves its
