@@ -10,10 +10,10 @@ abbrev edge : Instr → Instr → Edge
 edge x y = record { from = x; to = y }
 
 -- an edge among these stands in the list
-pub listed : (edges : List Edge) (x y : Instr) → Among edges x y → Contains edges (record { from = x; to = y })
-listed [] x y among = absurd among
-listed (e ∷ edges) x y (inl is) = (0, omega arith, ap (λ (i : Instr). edge i e.to) is.0 ∙ ap (edge x) is.1)
-listed (e ∷ edges) x y (inr among) = let there = listed edges x y among in (suc there.0, omega (arith, there.1), there.2)
+pub among_contains : (edges : List Edge) (x y : Instr) → Among edges x y → Contains edges (record { from = x; to = y })
+among_contains [] x y among = absurd among
+among_contains (e ∷ edges) x y (inl is) = (0, omega arith, ap (λ (i : Instr). edge i e.to) is.0 ∙ ap (edge x) is.1)
+among_contains (e ∷ edges) x y (inr among) = let there = among_contains edges x y among in (suc there.0, omega (arith, there.1), there.2)
 
 among_at : (edges : List Edge) (x y : Instr) (k : ℕ) → k < length edges → slice_index_or edges k (edge x y) ≡ edge x y
     → Among edges x y
@@ -22,8 +22,8 @@ among_at (e ∷ edges) x y zero lt is = inl (ap (λ (d : Edge). d.from) is, ap (
 among_at (e ∷ edges) x y (suc k) lt is = inr (among_at edges x y k (omega (arith, lt)) is)
 
 -- an edge that the list contains is among these
-pub among_listed : (edges : List Edge) (x y : Instr) → Contains edges (record { from = x; to = y }) → Among edges x y
-among_listed edges x y has = among_at edges x y has.0 has.1 has.2
+pub contains_among : (edges : List Edge) (x y : Instr) → Contains edges (record { from = x; to = y }) → Among edges x y
+contains_among edges x y has = among_at edges x y has.0 has.1 has.2
 
 pub among_law : AmongLaw
-among_law edges x y = (listed edges x y, among_listed edges x y)
+among_law edges x y = (among_contains edges x y, contains_among edges x y)

@@ -18,7 +18,7 @@ use Rattle.rtr_types.specs.declared.params.Params.{Params}
 use Rattle.rv_core.specs.declared.core_state.Core.{Core}
 use Rattle.rv_core.specs.declared.outcome.Outcome.{Outcome}
 use Rattle.schedule_pick.specs.Choices.{Choices, choice_at}
-use Rattle.clock_core.proofs.Listed.{among_listed, listed}
+use Rattle.clock_core.proofs.Listed.{contains_among, among_contains}
 use Rattle.clock_core.specs.Order.{Among}
 use Rattle.conflict_edge.proofs.TwoForms.{covering_law}
 use Rattle.conflict_edge.specs.Conflicts.{CountsRise}
@@ -61,13 +61,13 @@ least_log r list rise of is = (covering_law list edges rise).1 (λ x y. (to x y,
 
     to : (x y : Instr) → Among (log_edges ReducedLog r) x y → Covering list x y
     to x y s =
-        let q = (edges-are-paired ReducedLog r x y).0 (listed (log_edges ReducedLog r) x y s) in
+        let q = (edges-are-paired ReducedLog r x y).0 (among_contains (log_edges ReducedLog r) x y s) in
         (least_lists_law r.params.cores list rise of x y).1 (q.0, subst (λ (ls : List (List (ℕ × ℕ))). Contains (slice_index_or ls (pair_place r.params.cores x.core y.core) []) (x.count, y.count)) is q.1)
 
     back : (x y : Instr) → Covering list x y → Among (log_edges ReducedLog r) x y
     back x y cover =
         let q = (least_lists_law r.params.cores list rise of x y).0 cover in
-        among_listed (log_edges ReducedLog r) x y
+        contains_among (log_edges ReducedLog r) x y
         ((edges-are-paired ReducedLog r x y).1 (q.0, subst (λ (ls : List (List (ℕ × ℕ))). Contains (slice_index_or ls (pair_place r.params.cores x.core y.core) []) (x.count, y.count)) (sym is) q.1))
 
 -- ---- validity

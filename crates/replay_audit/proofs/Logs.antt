@@ -5,6 +5,7 @@ use Rattle.rtr_types.specs.declared.instr.Instr.{Instr}
 use Rattle.rtr_types.specs.declared.instr.Edge.{Edge}
 use Rattle.rtr_types.specs.declared.pairs.Which.{Which}
 use Rattle.clock_core.specs.Order.{Relation, Step, Path, Before, IsOrLeads, Among}
+use Rattle.clock_core.proofs.Listed.{among_contains}
 use Rattle.clock_core.proofs.Paths.{joined, one, last_at}
 use Rattle.log_codec.specs.declared.recording.Recording.{Recording}
 use Rattle.log_codec.specs.Sources.{log_edges, EdgeWithin}
@@ -16,14 +17,6 @@ use Rattle.replay_core.proofs.Counts.{bump_same, bump_else, bump_more}
 use Rattle.replay_audit.specs.Laws.{RecordedLogLaw, AcyclicLaw}
 
 -- ---- edges
-
-abbrev edge_of : Instr → Instr → Edge
-edge_of x y = record { from = x; to = y }
-
-pub among_contains : (es : List Edge) (x y : Instr) → Among es x y → Contains es (edge_of x y)
-among_contains [] x y s = absurd s
-among_contains (e ∷ es) x y (inl s) = (zero, omega arith, ap (λ (v : Instr). edge_of v e.to) s.0 ∙ ap (λ (v : Instr). edge_of x v) s.1)
-among_contains (e ∷ es) x y (inr s) = let c = among_contains es x y s in (suc c.0, let lt = c.1 in omega arith, c.2)
 
 pub edge_within : (which : Which) (r : Recording) (x y : Instr) → Valid r → Among (log_edges which r) x y → EdgeWithin r x y
 edge_within which r x y valid a = edges-within which r x y valid (among_contains (log_edges which r) x y a)

@@ -9,27 +9,20 @@ use Rattle.rtr_types.specs.declared.instr.Edge.{Edge}
 use Rattle.rtr_types.specs.declared.pairs.Which.{Which}
 use Rattle.clock_core.specs.Order.{Among}
 use Rattle.clock_core.specs.Reach.{IsOneOf}
+use Rattle.clock_core.proofs.Listed.{among_contains, contains_among}
 use Rattle.clock_core.proofs.Paths.{instr_eq}
 use Rattle.log_codec.specs.declared.recording.Recording.{Recording}
 use Rattle.log_codec.specs.Sources.{log_edges, HasEdge}
 use Rattle.log_codec.specs.Validity.{Valid}
 use Rattle.replay_core.specs.Play.{instr}
 use Rattle.replay_audit.specs.Clocks.{AreSources, listed}
-use Rattle.replay_audit.proofs.Logs.{among_contains, edge_within}
+use Rattle.replay_audit.proofs.Logs.{edge_within}
 
 -- as far as core n
 pub record SourcedTo (edges : List Edge) (y : Instr) (n : ℕ) (sources : List ℕ) : Type 0 where
   pub each : (z : Instr) → Among edges z y → z.core < n → slice_index sources z.core ≡ z.count
   pub only : (c : ℕ) → 1 ≤ slice_index sources c → Among edges (instr c (slice_index sources c)) y
   pub rest : (c : ℕ) → n ≤ c → slice_index sources c ≡ 0
-
-abbrev edge_of : Instr → Instr → Edge
-edge_of x y = record { from = x; to = y }
-
-pub contains_among : (es : List Edge) (x y : Instr) → Contains es (edge_of x y) → Among es x y
-contains_among [] x y (k, below, is) = absurd (omega arith)
-contains_among (e ∷ es) x y (zero, below, is) = inl (ap (λ (d : Edge). d.from) is, ap (λ (d : Edge). d.to) is)
-contains_among (e ∷ es) x y (suc k, below, is) = inr (contains_among es x y (k, omega arith, is))
 
 earlier_or : (m n : ℕ) → m < n + 1 → (m < n) ⊎ (m ≡ n)
 earlier_or m n lt = grind arith

@@ -21,8 +21,7 @@ use Rattle.replay_core.proofs.Low.{IsLowest, lowest_is, left, left_step}
 use Rattle.replay_core.proofs.Sources.{apart, unmet, all_met}
 use Rattle.replay_audit.specs.Clocks.{AreSources}
 use Rattle.replay_audit.specs.Tallies.{Tallied, AreWanted, IsTally, count_of, wanted_at}
-use Rattle.replay_audit.proofs.Logs.{among_contains}
-use Rattle.replay_audit.proofs.Sourcing.{contains_among}
+use Rattle.clock_core.proofs.Listed.{among_contains, contains_among}
 
 zeros : (n i : ℕ) → slice_index (replicate n 0) i ≡ 0
 zeros zero i = refl

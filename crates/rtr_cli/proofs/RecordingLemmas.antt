@@ -1,29 +1,87 @@
 -- What a recording has of its run.
-use Rattle.std.proofs.Common.{◌≡◌, refl, subst}
+use Rattle.std.proofs.Common.{◌≡◌, ◌∙◌, refl, sym, ap, subst, ℕ, ◌*◌, ◌≤◌, Bool, List, length, Result, Ok, Err}
 use Rattle.image_mem.specs.Contents.{Contents}
+use Rattle.rtr_types.specs.Parameters.{Fits}
 use Rattle.rtr_types.specs.declared.pairs.Which.TheVariants.{Reduced}
 use Rattle.rtr_types.specs.declared.params.Params.{Params}
-use Rattle.schedule_pick.specs.Choices.{Choices}
-use Rattle.conflict_edge.specs.Least.{IsLeast}
-use Rattle.log_codec.proofs.Whole.{spelled_is_read}
-use Rattle.log_codec.specs.Sources.{log_edges}
-use Rattle.log_codec.specs.Validity.{Valid}
+use Rattle.rv_core.specs.declared.outcome.Outcome.{Outcome}
+use Rattle.schedule_pick.specs.Choices.{Choices, choices_of}
+use Rattle.log_codec.specs.Reading.{whole_at}
+use Rattle.log_codec.specs.Spelling.{spelling}
 use Rattle.log_codec.specs.declared.recording.Recording.{Recording}
-use Rattle.recorder.specs.Recordings.{IsRecorded, run_accesses, recording_of}
+use Rattle.run_outcome.specs.Outcomes.{outcome_of}
+use Rattle.recorder.specs.Recordings.{recording_of}
+use Rattle.replay_audit.specs.Audits.{AuditRefuses}
+use Rattle.replay_audit.specs.declared.audit_fault.AuditFault.{AuditFault}
+use Rattle.replay_audit.specs.declared.audit_fault.AuditFault.TheVariants as faults
+use Rattle.replay_core.specs.Plans.{recorded_image as replayed_image}
+use Rattle.run_records.proofs.Recordings.{recorded_law}
+use Rattle.run_replays.proofs.Replayed.{reduced_replays}
+use Rattle.state_text.specs.States.{state_lines}
+use Rattle.state_text.specs.declared.exit.Exit.{Exit}
+use Rattle.state_text.specs.declared.exit.Exit.TheVariants as exits
+use Rattle.tool_words.specs.declared.command.Command.{Command}
+use Rattle.tool_words.specs.declared.command.Command.TheVariants.{Record, Replay}
+use Rattle.tool_words.specs.Commands.{HasFittingParams}
+use Rattle.rtr_cli.specs.Commands.{InputFails, KeepsRun, Promised, Refuses, image_of, most_of, replay_of}
 
 pub recorded_image : (image : Contents) (params : Params) (schedule : Choices)
     → (recording_of image params schedule).image ≡ image.bytes
 unfolding recording_of
 recorded_image image params schedule = refl
 
--- what the recorder promises of the recording that it makes, said of the definition
-pub recorded_so : (image : Contents) (params : Params) (schedule : Choices) (r : Recording)
-    → r ≡ recording_of image params schedule → Valid r → IsLeast (run_accesses image params schedule) (log_edges Reduced r)
-    → IsRecorded image params schedule
-recorded_so image params schedule r is valid least =
-    let valid_here : Valid (recording_of image params schedule) = subst Valid is valid in
+-- ---- what every recording keeps of its run
+
+-- what an audit of a recording answers, of which it is known that it lacks nothing but memory
+only_memory : (loads : Bool) (bytes : List ℕ) (r : Recording) (exit : Exit) → whole_at bytes ≡ Ok r
+    → ((fault : AuditFault) → AuditRefuses Reduced r fault → fault ≡ faults.OutOfMemory)
+    → Refuses (Replay Reduced loads) bytes exit → exit ≡ exits.OutOfMemory
+only_memory loads bytes r (exits.Bad part) is knows it =
+    let read : ◌≡◌ {A = Result (List ℕ) ℕ} (replay_of Reduced loads (Ok r)) (Err part) = sym (ap (replay_of Reduced loads) is) ∙ it in
+    absurd cc
+only_memory loads bytes r (exits.Stuck cut) is knows it =
+    let none = knows (faults.Stuck cut) (subst (λ read. InputFails Reduced read (faults.Stuck cut)) is it) in absurd cc
+only_memory loads bytes r (exits.Short core count) is knows it =
+    let none = knows (faults.Short core count) (subst (λ read. InputFails Reduced read (faults.Short core count)) is it) in
+    absurd cc
+only_memory loads bytes r (exits.Undetermined first second) is knows it =
+    let none = knows (faults.Undetermined first second)
+    (subst (λ read. InputFails Reduced read (faults.Undetermined first second)) is it) in
+    absurd cc
+only_memory loads bytes r exits.OutOfMemory is knows it = refl
+only_memory loads bytes r exits.Done is knows it = absurd it
+only_memory loads bytes r exits.Usage is knows it = absurd it
+only_memory loads bytes r exits.TooLarge is knows it = absurd it
+only_memory loads bytes r exits.ReadFault is knows it = absurd it
+only_memory loads bytes r exits.WriteFault is knows it = absurd it
+
+pub keeps_run : (params : Params) (choices : List ℕ) (seed : ℕ) (input : List ℕ) → Fits params
+    → length input ≤ 4 * params.words → KeepsRun params choices seed input
+keeps_run params choices seed input fits room =
+    let image : Contents = image_of params input in
+    let schedule : Choices = choices_of choices seed in
+    let r : Recording = recording_of image params schedule in
+    let recorded = recorded_law image params schedule fits refl room in
+    let replays = reduced_replays image params schedule fits refl room in
     record {
-      valid = valid_here;
-      read_back = spelled_is_read (recording_of image params schedule) valid_here;
-      least = subst (λ (s : Recording). IsLeast (run_accesses image params schedule) (log_edges Reduced s)) is least;
+      recorded = recorded;
+      replays = replays;
+      prints = λ loads.
+          ap (replay_of Reduced loads) recorded.read_back
+          ∙ ap (λ (o : Outcome). printed o (replayed_image r) loads) replays.low
+          ∙ ap (λ (i : Contents). printed (outcome_of image params schedule) i loads) replays.image_is;
+      refuses = λ loads exit it.
+          only_memory loads (spelling r) r exit recorded.read_back replays.answers.not_audited it;
     }
+  where
+    printed : Outcome → Contents → Bool → Result (List ℕ) ℕ
+    printed o i loads = Ok (state_lines o i loads)
+
+-- so the promise of `record` stands whatever its options and its input are
+pub record_promised : (command : Command) (params : Params) (choices : List ℕ) (seed : ℕ) (input : List ℕ)
+    → command ≡ Record params choices seed → HasFittingParams command → length input ≤ most_of command
+    → Promised command input
+record_promised command params choices seed input is fits within =
+    subst (λ (c : Command). Promised c input) (sym is)
+    (keeps_run params choices seed input (subst HasFittingParams is fits)
+    (subst (λ (c : Command). length input ≤ most_of c) is within))

@@ -6,6 +6,7 @@ use Rattle.run_outcome.specs.Outcomes.{outcome_of}
 use Rattle.schedule_pick.specs.Choices.{choices_of}
 use Rattle.log_codec.specs.declared.recording.Recording.{Recording}
 use Rattle.rtr_types.specs.declared.pairs.Which.{Which}
+use Rattle.rtr_types.specs.declared.pairs.Which.TheVariants.{Reduced}
 use Rattle.log_codec.specs.Reading.{whole_at}
 use Rattle.log_codec.specs.Spelling.{spelling}
 use Rattle.rtr_types.specs.declared.params.Params.{Params}
@@ -14,6 +15,7 @@ use Rattle.replay_audit.specs.Determinate.{IsDeterminate, low_outcome}
 use Rattle.replay_audit.specs.declared.audit_fault.AuditFault.{AuditFault}
 use Rattle.replay_audit.specs.declared.audit_fault.AuditFault.TheVariants as faults
 use Rattle.replay_core.specs.Plans.{recorded_image}
+use Rattle.run_replays.specs.Replays.{ReplaysRun}
 use Rattle.rv_core.specs.declared.outcome.Outcome.{Outcome}
 use Rattle.state_text.specs.declared.exit.Exit.{Exit}
 use Rattle.state_text.specs.declared.exit.Exit.TheVariants as exits
@@ -60,20 +62,6 @@ made (Run params choices seed loads) input = Ok (state_lines (outcome_of_input p
 made Print input = logs_of (whole_at input)
 made (Replay which loads) input = replay_of which loads (whole_at input)
 
--- the recording that the input spells is determinate by the log: every order that obeys it plays, gives each load the
--- same value, and can go on until it is whole, where it ends as the low order does
-abbrev pub IsReplayed : Which → Result Recording ℕ → Type 0
-IsReplayed which (Ok r) = IsDeterminate which r × EveryOrderAgrees which r
-IsReplayed which (Err part) = ⊥
-
--- what is said of the output beside: the bytes of a recording are read back as it, and its reduced log is the least set
--- of the run's accesses; and what was replayed is determinate
-abbrev pub Promised : Command → (input : List ℕ) → Type 0
-Promised (Record params choices seed) input = IsRecorded (image_of params input) params (choices_of choices seed)
-Promised (Run params choices seed loads) input = Unit {0}
-Promised Print input = Unit {0}
-Promised (Replay which loads) input = IsReplayed which (whole_at input)
-
 -- ---- why nothing is given
 
 -- what the audit of the recording that the input spells answers
@@ -114,3 +102,31 @@ AuditEnds which r exits.Usage = ⊥
 AuditEnds which r exits.TooLarge = ⊥
 AuditEnds which r exits.ReadFault = ⊥
 AuditEnds which r exits.WriteFault = ⊥
+
+-- ---- what is promised beside
+
+-- of the bytes of a recording. They are read back as it, and its reduced log is the least set of the run's accesses. Every
+-- order that obeys this log replays the run. So `replay` of them prints what `run` prints of the same image and options,
+-- and for no other reason gives nothing than want of memory
+pub record KeepsRun (params : Params) (choices : List ℕ) (seed : ℕ) (input : List ℕ) : Type 0 where
+  pub recorded : IsRecorded (image_of params input) params (choices_of choices seed)
+  pub replays : ReplaysRun (image_of params input) params (choices_of choices seed) Reduced
+      (recording_of_input params choices seed input)
+  pub prints : (loads : Bool) → made (Replay Reduced loads) (spelling (recording_of_input params choices seed input))
+      ≡ made (Run params choices seed loads) input
+  pub refuses : (loads : Bool) (exit : Exit)
+      → Refuses (Replay Reduced loads) (spelling (recording_of_input params choices seed input)) exit
+      → exit ≡ exits.OutOfMemory
+
+-- the recording that the input spells is determinate by the log: every order that obeys it plays, gives each load the
+-- same value, and can go on until it is whole, where it ends as the low order does
+abbrev pub IsReplayed : Which → Result Recording ℕ → Type 0
+IsReplayed which (Ok r) = IsDeterminate which r × EveryOrderAgrees which r
+IsReplayed which (Err part) = ⊥
+
+-- a recording keeps its run, and what was replayed is determinate
+abbrev pub Promised : Command → (input : List ℕ) → Type 0
+Promised (Record params choices seed) input = KeepsRun params choices seed input
+Promised (Run params choices seed loads) input = Unit {0}
+Promised Print input = Unit {0}
+Promised (Replay which loads) input = IsReplayed which (whole_at input)

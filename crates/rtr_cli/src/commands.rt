@@ -4,7 +4,7 @@ ghost use Rattle.log_codec.specs.Faults.{Gives};
 ghost use Rattle.log_codec.specs.Spelling.{spelling};
 ghost use Rattle.log_codec.specs.Validity.{Valid};
 ghost use Rattle.run_outcome.specs.Outcomes.{outcome_of};
-ghost use Rattle.recorder.specs.Recordings.{IsRecorded, recording_of};
+ghost use Rattle.recorder.specs.Recordings.{recording_of};
 ghost use Rattle.replay_audit.specs.Audits.{EveryOrderAgrees, IsAuditOf};
 ghost use Rattle.replay_audit.specs.Determinate.{IsDeterminate, low_outcome};
 ghost use Rattle.replay_core.specs.Plans.{recorded_image};
@@ -85,8 +85,7 @@ fn record(
 ) -> Result<Vec<u8>, AllocError>
     requires fits { Fits params }
     requires within { vec_len bytes ≤ 4 * params.words }
-    ensures made { IfOk result (λ out. out.items ≡ spelling (recording_of (image_of params bytes.items) params schedule)) }
-    ensures promised { OnOk result (IsRecorded (image_of params bytes.items) params schedule) }
+    ensures { IfOk result (λ out. out.items ≡ spelling (recording_of (image_of params bytes.items) params schedule)) }
 {
     let image = image(bytes, params.words);
     let recorded = record_run(alloc, image, params, schedule)?;

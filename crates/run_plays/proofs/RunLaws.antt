@@ -9,7 +9,7 @@ use Rattle.rtr_types.specs.declared.pairs.Which.TheVariants.{Reduced}
 use Rattle.rtr_types.specs.declared.params.Params.{Params}
 use Rattle.rv_core.specs.declared.outcome.Outcome.{Outcome}
 use Rattle.schedule_pick.specs.Choices.{Choices, choice_at}
-use Rattle.clock_core.proofs.Listed.{among_listed}
+use Rattle.clock_core.proofs.Listed.{contains_among}
 use Rattle.log_codec.specs.Sources.{log_edges}
 use Rattle.log_codec.specs.declared.recording.Recording.{Recording}
 use Rattle.msi_bound.specs.Ends.{end_of}
@@ -121,7 +121,7 @@ conflicts_forward_law image params schedule fits x y pair t lt retires =
 pub forward_law : ForwardLaw
 forward_law image params schedule r which fits words h forward =
     subst (λ (p : Plan). IsReplayOrder p (order_of image params schedule)) (sym (plan_is image params schedule r which words h))
-    (ordered_run image params schedule fits (log_edges which r) (λ x y has. forward x y (among_listed (log_edges which r) x y has)))
+    (ordered_run image params schedule fits (log_edges which r) (λ x y has. forward x y (contains_among (log_edges which r) x y has)))
 
 pub reduced_order : ReducedOrderLaw
 reduced_order image params schedule fits words =
