@@ -120,7 +120,7 @@ and_false false x y = refl
 pub times_notes : (a : Access) (clock : Clock) (t : Times) → RiderNotes times_parts (record { access = a; clock = clock }) t (times_noted a t clock)
 times_notes a clock t = record { write = λ slot ls. write slot ls (is_write a.kind); read = λ slot d ls ld. read slot d ls ld (is_write a.kind) }
   where
-    write : (slot : ℕ) → slot < BLOCK_WORDS → (w : Bool) → write_at ((if w then times_stored else times_loaded) t (a.word % BLOCK_WORDS) a.at clock) slot ≡ (if (a.word == word_number (a.word / BLOCK_WORDS) slot) && w then Some (a.at, clock) else write_at t slot)
+    write : (slot : ℕ) → slot < BLOCK_WORDS → (w : Bool) → write_at (if w then times_stored t (a.word % BLOCK_WORDS) a.at clock else times_loaded t (a.word % BLOCK_WORDS) a.at clock) slot ≡ (if (a.word == word_number (a.word / BLOCK_WORDS) slot) && w then Some (a.at, clock) else write_at t slot)
     write slot ls false =
         ap (λ (s : SlotTimes). s.write) (loaded_slot t (a.word % BLOCK_WORDS) a.at clock slot ls) ∙ load_write (slot == a.word % BLOCK_WORDS) (slot_at t slot) a.at clock
         ∙ and_false (a.word == word_number (a.word / BLOCK_WORDS) slot) (Some (a.at, clock)) (write_at t slot)
@@ -128,7 +128,7 @@ times_notes a clock t = record { write = λ slot ls. write slot ls (is_write a.k
         ap (λ (s : SlotTimes). s.write) (stored_slot t (a.word % BLOCK_WORDS) a.at clock slot ls) ∙ store_write (slot == a.word % BLOCK_WORDS) (slot_at t slot) a.at clock
         ∙ ap (λ (u : Bool). if u && true then Some (a.at, clock) else write_at t slot) (sym (same_word a.word slot ls))
 
-    read : (slot d : ℕ) → slot < BLOCK_WORDS → d < CORES_MAX → (w : Bool) → read_at ((if w then times_stored else times_loaded) t (a.word % BLOCK_WORDS) a.at clock) slot d ≡ (if a.word == word_number (a.word / BLOCK_WORDS) slot then (if w then None else if a.at.core == d then Some (a.at.count, clock) else read_at t slot d) else read_at t slot d)
+    read : (slot d : ℕ) → slot < BLOCK_WORDS → d < CORES_MAX → (w : Bool) → read_at (if w then times_stored t (a.word % BLOCK_WORDS) a.at clock else times_loaded t (a.word % BLOCK_WORDS) a.at clock) slot d ≡ (if a.word == word_number (a.word / BLOCK_WORDS) slot then (if w then None else if a.at.core == d then Some (a.at.count, clock) else read_at t slot d) else read_at t slot d)
     read slot d ls ld false =
         ap (λ (s : SlotTimes). read_in s.reads d) (loaded_slot t (a.word % BLOCK_WORDS) a.at clock slot ls) ∙ load_read (slot == a.word % BLOCK_WORDS) (slot_at t slot) a.at clock d ld
         ∙ ap (λ (u : Bool). if u then (if a.at.core == d then Some (a.at.count, clock) else read_at t slot d) else read_at t slot d) (sym (same_word a.word slot ls))
