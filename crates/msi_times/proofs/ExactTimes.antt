@@ -11,7 +11,7 @@ use Rattle.rtr_types.specs.declared.access.Access.{Access}
 use Rattle.rtr_types.specs.declared.instr.Instr.{Instr}
 use Rattle.conflict_edge.proofs.History.{Rising}
 use Rattle.conflict_edge.proofs.Reversed.{stands_forth, reverse-cons}
-use Rattle.conflict_edge.specs.Clocks.{last_noted_write as last_write_in, last_noted_read as last_read_in}
+use Rattle.conflict_edge.specs.Clocks.{last_write as last_write_in, last_read as last_read_in}
 use Rattle.conflict_edge.specs.Conflicts.{CountsRise, StandsIn}
 use Rattle.conflict_edge.specs.Times.{IsExactClock, IsNoteOf}
 use Rattle.msi_times.proofs.Counting.{retired_more}
