@@ -20,7 +20,7 @@ pub use codec_fault::{CodecFault, END, HEADER, IMAGE, REDUCED, REGULATED, TOTALS
 pub use laws::{prefix_free, source_laws, spelling_laws, validity_laws, version_laws};
 pub use reading::{read, read_front};
 pub use recording::Recording;
-pub use version::fits_old;
+pub use version::{Version, fits_old};
 pub use writing::{spell, spell_v1};
 
 #[cfg(test)]

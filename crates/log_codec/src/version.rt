@@ -18,7 +18,7 @@ const NEW_INSTRUCTIONS_MAX: u64 = 4_000_000;
 
 /// The versions of a recording's bytes. They differ in the header and in the fourth part.
 #[derive(Clone, Copy, Debug, PartialEq, Eq)]
-pub(crate) enum Version {
+pub enum Version {
     /// At most eight cores; the reduced log stands pair by pair.
     One,
     /// At most `CORES_MAX` cores; the reduced log stands target by target.

@@ -1,2 +1,3 @@
 pub mod RecordingLemmas
 pub mod RefusalLemmas
+pub mod Migrated

@@ -6,9 +6,11 @@ use Rattle.run_outcome.specs.Outcomes.{outcome_of}
 use Rattle.schedule_pick.specs.Choices.{choices_of}
 use Rattle.log_codec.specs.declared.recording.Recording.{Recording}
 use Rattle.rtr_types.specs.declared.pairs.Which.{Which}
+use Rattle.log_codec.specs.Laws.{IsBytes}
 use Rattle.rtr_types.specs.declared.pairs.Which.TheVariants.{Reduced}
 use Rattle.log_codec.specs.Reading.{whole_at}
 use Rattle.log_codec.specs.Spelling.{spelling}
+use Rattle.log_codec.specs.Validity.{Valid}
 use Rattle.rtr_types.specs.declared.params.Params.{Params}
 use Rattle.replay_audit.specs.Audits.{AuditRefuses, EveryOrderAgrees}
 use Rattle.replay_audit.specs.Determinate.{IsDeterminate, low_outcome}
@@ -22,7 +24,7 @@ use Rattle.state_text.specs.declared.exit.Exit.TheVariants as exits
 use Rattle.state_text.specs.Logs.{logs_lines}
 use Rattle.state_text.specs.States.{state_lines}
 use Rattle.tool_words.specs.declared.command.Command.{Command}
-use Rattle.tool_words.specs.declared.command.Command.TheVariants.{Record, Run, Print, Replay}
+use Rattle.tool_words.specs.declared.command.Command.TheVariants.{Record, Run, Print, Replay, Migrate}
 use Rattle.rtr_cli.specs.declared.commands.TheConstants.{RECORDING_BYTES_MAX}
 
 -- the most bytes of input that the command takes
@@ -31,6 +33,7 @@ most_of (Record params choices seed) = 4 * params.words
 most_of (Run params choices seed loads) = 4 * params.words
 most_of Print = RECORDING_BYTES_MAX
 most_of (Replay which loads) = RECORDING_BYTES_MAX
+most_of Migrate = RECORDING_BYTES_MAX
 
 -- the image that the input is
 abbrev pub image_of : Params → (input : List ℕ) → Contents
@@ -55,12 +58,18 @@ abbrev pub replay_of : Which → (loads : Bool) → Result Recording ℕ → Res
 replay_of which loads (Ok r) = Ok (state_lines (low_outcome which r) (recorded_image r) loads)
 replay_of which loads (Err part) = Err part
 
+-- the spelling in the newest version of the recording that the input spells, or the first part that has no reading
+abbrev pub spelled_anew : Result Recording ℕ → Result (List ℕ) ℕ
+spelled_anew (Ok recording) = Ok (spelling recording)
+spelled_anew (Err part) = Err part
+
 -- the output of the command for an input, or the first part of the input that has no reading
 abbrev pub made : Command → (input : List ℕ) → Result (List ℕ) ℕ
 made (Record params choices seed) input = Ok (spelling (recording_of_input params choices seed input))
 made (Run params choices seed loads) input = Ok (state_lines (outcome_of_input params choices seed input) (image_of params input) loads)
 made Print input = logs_of (whole_at input)
 made (Replay which loads) input = replay_of which loads (whole_at input)
+made Migrate input = spelled_anew (whole_at input)
 
 -- ---- why nothing is given
 
@@ -75,6 +84,7 @@ AuditFails (Record params choices seed) input fault = ⊥
 AuditFails (Run params choices seed loads) input fault = ⊥
 AuditFails Print input fault = ⊥
 AuditFails (Replay which loads) input fault = InputFails which (whole_at input) fault
+AuditFails Migrate input fault = ⊥
 
 -- why the command gives nothing for an input that was read: its first part that has no reading, or what an audit
 -- answers. Want of memory says nothing
@@ -130,3 +140,12 @@ Promised (Record params choices seed) input = KeepsRun params choices seed input
 Promised (Run params choices seed loads) input = Unit {0}
 Promised Print input = Unit {0}
 Promised (Replay which loads) input = IsReplayed which (whole_at input)
+Promised Migrate input = Unit {0}
+
+-- what migrate makes of an input reads as the input does
+abbrev pub MigratedReadsTheSame : Type 0
+MigratedReadsTheSame = (input out : List ℕ) → IsBytes input → made Migrate input ≡ Ok out → whole_at out ≡ whole_at input
+
+-- it leaves the bytes of a recording of the newest version as they are
+abbrev pub NewestStays : Type 0
+NewestStays = (recording : Recording) → Valid recording → made Migrate (spelling recording) ≡ Ok (spelling recording)

@@ -35,7 +35,7 @@ pub(crate) fn most_of(command: &Command) -> usize
 {
     match command {
         Command::Record { params, .. } | Command::Run { params, .. } => 4 * params.words as usize,
-        Command::Print | Command::Replay { .. } => RECORDING_BYTES_MAX,
+        Command::Print | Command::Replay { .. } | Command::Migrate => RECORDING_BYTES_MAX,
     }
 }
 
@@ -72,6 +72,10 @@ pub(crate) fn make(alloc: Global, command: Command, bytes: Vec<u8>) -> Result<Ve
         Command::Replay { which, loads } => {
             let recording = read(alloc, bytes.as_slice())?;
             replay(alloc, recording, which, loads)
+        }
+        Command::Migrate => {
+            let recording = read(alloc, bytes.as_slice())?;
+            Ok(spell(alloc, &recording)?)
         }
     }
 }

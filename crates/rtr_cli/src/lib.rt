@@ -2,6 +2,8 @@
 #![tactic(auto)]
 
 mod commands;
+mod laws;
 mod tool;
 
+pub use laws::migrate_laws;
 pub use tool::run_tool;

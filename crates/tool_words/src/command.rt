@@ -33,6 +33,8 @@ pub enum Command {
         which: Which,
         loads: bool,
     },
+    /// Spell the recording on the input in the newest version.
+    Migrate,
 }
 
 /// The first word: a command without its options.
@@ -42,6 +44,7 @@ pub(crate) enum Verb {
     Run,
     Print,
     Replay,
+    Migrate,
 }
 
 impl Verb {
@@ -57,6 +60,8 @@ impl Verb {
             Some(Verb::Print)
         } else if word == "replay" {
             Some(Verb::Replay)
+        } else if word == "migrate" {
+            Some(Verb::Migrate)
         } else {
             None
         }
@@ -84,6 +89,7 @@ impl Verb {
                 which: settings.log.unwrap_or(Which::Reduced),
                 loads: settings.loads,
             }),
+            Verb::Migrate => Ok(Command::Migrate),
         }
     }
 }

@@ -147,7 +147,7 @@ fn words_that_mean_a_replay(rt: HostRuntime) -> Result<(), Fail> {
     Ok(())
 }
 
-static FAULTY: [&str; 36] = [
+static FAULTY: [&str; 38] = [
     "",
     "records",
     "--help",
@@ -177,6 +177,8 @@ static FAULTY: [&str; 36] = [
     "replay --log=reduced --log=reduced",
     "replay --loads=",
     "replay --limit 1",
+    "migrates",
+    "migrate --words 16",
     "run --cores 0",
     "run --cores 9",
     "run --choices 0",
@@ -192,5 +194,16 @@ fn words_that_mean_nothing(rt: HostRuntime) -> Result<(), Fail> {
         let words = words(rt.alloc(), line)?;
         assert!(rt; meaning(rt.alloc(), words.as_slice())?.is_none(), "{line}");
     }
+    Ok(())
+}
+
+#[test]
+fn words_that_mean_a_recording(rt: HostRuntime) -> Result<(), Fail> {
+    let print = words(rt.alloc(), "print")?;
+    let command = meaning(rt.alloc(), print.as_slice())?;
+    assert!(rt; matches!(command, Some(Command::Print)));
+    let migrate = words(rt.alloc(), "migrate")?;
+    let command = meaning(rt.alloc(), migrate.as_slice())?;
+    assert!(rt; matches!(command, Some(Command::Migrate)));
     Ok(())
 }
