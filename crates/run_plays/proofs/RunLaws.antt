@@ -24,7 +24,7 @@ use Rattle.run_laws.proofs.Later.{small_limit}
 use Rattle.run_records.proofs.Recordings.{least}
 use Rattle.run_plays.specs.Orders.{order_of}
 use Rattle.run_plays.specs.Plays.{IsOfRun, OfRunLaw, PlaysRun, RunIsPlayLaw}
-use Rattle.run_plays.specs.ReplayOrders.{ConflictsForwardLaw, ForwardLaw, ReducedOrderLaw}
+use Rattle.run_plays.specs.ReplayOrders.{ConflictsForwardLaw, ForwardLaw, ReducedForwardLaw, ReducedOrderLaw}
 use Rattle.run_plays.proofs.Ordered.{GoForward, conflicts_forward, order_full, order_ordered, totals_at, totals_long}
 use Rattle.run_plays.proofs.Played.{left_at, played_to, run_plan}
 
@@ -123,8 +123,11 @@ forward_law image params schedule r which fits words h forward =
     subst (λ (p : Plan). IsReplayOrder p (order_of image params schedule)) (sym (plan_is image params schedule r which words h))
     (ordered_run image params schedule fits (log_edges which r) (λ x y has. forward x y (contains_among (log_edges which r) x y has)))
 
+pub reduced_forward : ReducedForwardLaw
+reduced_forward image params schedule fits x y edge =
+    conflicts_forward_law image params schedule fits x y ((least image params schedule fits).conflict x y edge)
+
 pub reduced_order : ReducedOrderLaw
 reduced_order image params schedule fits words =
     forward_law image params schedule (recording_of image params schedule) Reduced fits words (of_run image params schedule)
-    (λ x y edge.
-    conflicts_forward_law image params schedule fits x y ((least image params schedule fits).conflict x y edge))
+    (reduced_forward image params schedule fits)

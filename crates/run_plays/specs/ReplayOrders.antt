@@ -36,6 +36,11 @@ ConflictsForwardLaw =
     → GoForward image params schedule (ConflictPair (run_accesses image params schedule))
 
 -- and so do the edges of the reduced log, which are conflicts.
+abbrev pub ReducedForwardLaw : Type 0
+ReducedForwardLaw =
+    (image : Contents) (params : Params) (schedule : Choices) → Fits params
+    → GoForward image params schedule (Among (log_edges Reduced (recording_of image params schedule)))
+
 abbrev pub ReducedOrderLaw : Type 0
 ReducedOrderLaw =
     (image : Contents) (params : Params) (schedule : Choices) → Fits params → image.words ≡ params.words

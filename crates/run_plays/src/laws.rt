@@ -1,6 +1,6 @@
 //! What the play of a run's order of retirement comes to, and which logs this order obeys.
 ghost use Rattle.run_plays.specs.Plays.{OfRunLaw, RunIsPlayLaw};
-ghost use Rattle.run_plays.specs.ReplayOrders.{ConflictsForwardLaw, ForwardLaw, ReducedOrderLaw};
+ghost use Rattle.run_plays.specs.ReplayOrders.{ConflictsForwardLaw, ForwardLaw, ReducedForwardLaw, ReducedOrderLaw};
 ghost use Rattle.run_plays.specs.Loads.{OutcomeLoadsLaw, PlayLoadsLaw};
 
 /// The order in which the instructions of a run retired is whole, and its play, over one flat memory and
@@ -16,10 +16,11 @@ pub fn the_recording_is_of_the_run()
 {}
 
 /// The order of retirement is a replay order of each log whose edges go forward in it. Conflicts do, and
-/// so do the edges of the reduced log.
+/// so do the edges of the reduced log, of which it is a replay order.
 pub fn retirement_is_a_replay_order()
     ensures forward { ForwardLaw }
     ensures conflicts { ConflictsForwardLaw }
+    ensures edges { ReducedForwardLaw }
     ensures reduced { ReducedOrderLaw }
 {}
 
