@@ -21,7 +21,7 @@ struct Row {
 }
 
 /// The whole output of `record` of one ECALL.
-const OUTPUT: &str = "52545201 01 904e 808001 04 73000000 01";
+const OUTPUT: &str = "52545202 01 904e 808001 04 73000000 01";
 
 macro_rules! fault {
     ($words:expr, $input:expr, $output:expr, $report:expr, $most:expr, $status:expr, $given:expr, $text:expr) => {

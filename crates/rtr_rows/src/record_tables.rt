@@ -71,7 +71,7 @@ pub static RECORDINGS: [Recorded; 18] = [
     recorded!(
         "record --cores 2 --words 16 --seed 5",
         OWN_WORDS,
-        "52545201 02 904e 10 10",
+        "52545202 02 904e 10 10",
         "0404",
         4,
         OWN_WORDS_LOGS
@@ -79,7 +79,7 @@ pub static RECORDINGS: [Recorded; 18] = [
     recorded!(
         "record --cores 2 --words 16 --choices 0000010101010101010100 --seed 9",
         OWN_WORDS,
-        "52545201 02 904e 10 10",
+        "52545202 02 904e 10 10",
         "0404",
         4,
         OWN_WORDS_LOGS
@@ -89,8 +89,8 @@ pub static RECORDINGS: [Recorded; 18] = [
     recorded!(
         "record --cores 2 --words 32 --choices 00000001010101010101010101010101",
         HANDED_OVER,
-        "52545201 02 904e 20 20",
-        "0504 01 02 03 01 04 03",
+        "52545202 02 904e 20 20",
+        "0504 01 040103 01 020003",
         2,
         "cores 2 limit 10000 words 32 image 32\n\
             total 0 5\n\
@@ -104,9 +104,9 @@ pub static RECORDINGS: [Recorded; 18] = [
     recorded!(
         "record --cores 2 --words 16 --choices 000000000000000000000000",
         OWN_BYTES,
-        "52545201 02 904e 10 0c",
-        "0303 01 02 02",
-        3,
+        "52545202 02 904e 10 0c",
+        "0303 00 01 020002",
+        2,
         "cores 2 limit 10000 words 16 image 12\n\
             total 0 3\n\
             total 1 3\n\
@@ -119,9 +119,9 @@ pub static RECORDINGS: [Recorded; 18] = [
     recorded!(
         "record --cores 3 --words 64 --choices 010101020201020201010101010101010101010101",
         READ_IN_TURN,
-        "52545201 03 904e 40 2c",
-        "050506 00 00 00 01 04 04 01 04 05",
-        7,
+        "52545202 03 904e 40 2c",
+        "050506 01 040205 00 01 040104",
+        6,
         "cores 3 limit 10000 words 64 image 44\n\
             total 0 5\n\
             total 1 5\n\
@@ -135,9 +135,9 @@ pub static RECORDINGS: [Recorded; 18] = [
     recorded!(
         "record --cores 2 --words 16 --choices 0000000000",
         ONE_WORD,
-        "52545201 02 904e 10 0c",
-        "0303 01 02 02",
-        3,
+        "52545202 02 904e 10 0c",
+        "0303 00 01 020002",
+        2,
         "cores 2 limit 10000 words 16 image 12\n\
             total 0 3\n\
             total 1 3\n\
@@ -148,9 +148,9 @@ pub static RECORDINGS: [Recorded; 18] = [
     recorded!(
         "record --cores 2 --words 16 --choices 0000000001",
         ONE_WORD,
-        "52545201 02 904e 10 0c",
-        "0303 00 01 02 02",
-        2,
+        "52545202 02 904e 10 0c",
+        "0303 01 020102",
+        3,
         "cores 2 limit 10000 words 16 image 12\n\
             total 0 3\n\
             total 1 3\n\
@@ -162,9 +162,9 @@ pub static RECORDINGS: [Recorded; 18] = [
     recorded!(
         "record --cores 2 --words 16 --choices 0000000000000000000000000000",
         SUM,
-        "52545201 02 904e 10 10",
-        "0404 01 03 03",
-        3,
+        "52545202 02 904e 10 10",
+        "0404 00 01 030003",
+        2,
         "cores 2 limit 10000 words 16 image 16\n\
             total 0 4\n\
             total 1 4\n\
@@ -177,8 +177,8 @@ pub static RECORDINGS: [Recorded; 18] = [
     recorded!(
         "record --cores 2 --words 32 --choices 010101010000000101010100",
         HANDED_OVER,
-        "52545201 02 904e 20 20",
-        "0504 01 03 04 01 03 02",
+        "52545202 02 904e 20 20",
+        "0504 01 030102 01 030004",
         2,
         "cores 2 limit 10000 words 32 image 32\n\
             total 0 5\n\
@@ -192,9 +192,9 @@ pub static RECORDINGS: [Recorded; 18] = [
     recorded!(
         "record --cores 2 --words 96 --choices 01010101010000000000000000",
         READER_EVICTS,
-        "52545201 02 904e 60 1c",
-        "0405 00 01 03 03",
-        2,
+        "52545202 02 904e 60 1c",
+        "0405 01 030103",
+        3,
         "cores 2 limit 10000 words 96 image 28\n\
             total 0 4\n\
             total 1 5\n\
@@ -206,9 +206,9 @@ pub static RECORDINGS: [Recorded; 18] = [
     recorded!(
         "record --cores 2 --words 96 --choices 00000001010101010001000000",
         WRITER_EVICTS,
-        "52545201 02 904e 60 1c",
-        "0504 01 03 03",
-        3,
+        "52545202 02 904e 60 1c",
+        "0504 00 01 030003",
+        2,
         "cores 2 limit 10000 words 96 image 28\n\
             total 0 5\n\
             total 1 4\n\
@@ -219,9 +219,9 @@ pub static RECORDINGS: [Recorded; 18] = [
     recorded!(
         "record --cores 2 --words 96 --choices 00000001010101010001000000",
         WRITERS_EVICT,
-        "52545201 02 904e 60 1c",
-        "0504 01 03 03",
-        3,
+        "52545202 02 904e 60 1c",
+        "0504 00 01 030003",
+        2,
         "cores 2 limit 10000 words 96 image 28\n\
             total 0 5\n\
             total 1 4\n\
@@ -234,24 +234,24 @@ pub static RECORDINGS: [Recorded; 18] = [
     recorded!(
         "record --cores 2 --words 32 --choices 00000001010000",
         THREE_WORDS,
-        "52545201 02 904e 20 30",
-        "0608 03 03 03 01 01 03 01",
-        3,
+        "52545202 02 904e 20 30",
+        "0608 00 03 030003 010001 030001",
+        2,
         THREE_WORDS_LOGS
     ),
     recorded!(
         "record --cores 2 --words 32 --choices 000000010100010101010101010101010001010101",
         THREE_WORDS,
-        "52545201 02 904e 20 30",
-        "0608 03 03 03 01 01 03 01",
-        3,
+        "52545202 02 904e 20 30",
+        "0608 00 03 030003 010001 030001",
+        2,
         THREE_WORDS_LOGS
     ),
     // Core 0 ends at the limit with its ECALL, and core 1 is stopped by it. No core stores anything.
     recorded!(
         "record --cores 2 --limit 3 --words 32 --seed 3",
         ENDLESS,
-        "52545201 02 03 20 10",
+        "52545202 02 03 20 10",
         "0303",
         4,
         "cores 2 limit 3 words 32 image 16\n\
@@ -264,9 +264,9 @@ pub static RECORDINGS: [Recorded; 18] = [
     recorded!(
         "record --cores 8",
         END,
-        "52545201 08 904e 808001 04",
+        "52545202 08 904e 808001 04",
         "01 01 01 01 01 01 01 01",
-        112,
+        64,
         "cores 8 limit 10000 words 16384 image 4\n\
             total 0 1\n\
             total 1 1\n\
@@ -282,9 +282,9 @@ pub static RECORDINGS: [Recorded; 18] = [
     recorded!(
         "record --cores=8 --limit=1 --words=4 --choices=ff0007 --seed=0",
         END,
-        "52545201 08 01 04 04",
+        "52545202 08 01 04 04",
         "01 01 01 01 01 01 01 01",
-        112,
+        64,
         "cores 8 limit 1 words 4 image 4\n\
             total 0 1\n\
             total 1 1\n\
@@ -302,9 +302,9 @@ pub static RECORDINGS: [Recorded; 18] = [
     recorded!(
         "record --cores 8 --words 128 --seed 1",
         EIGHT_WORK,
-        "52545201 08 904e 8001 4c",
+        "52545202 08 904e 8001 4c",
         "11 11 11 11 11 11 11 11",
-        112,
+        64,
         "cores 8 limit 10000 words 128 image 76\n\
             total 0 17\n\
             total 1 17\n\
