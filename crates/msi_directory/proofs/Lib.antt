@@ -1,5 +1,7 @@
-pub mod Rooms
 pub mod Openings
 pub mod Fits
 pub mod Forgets
 pub mod Seen
+pub mod Keeping
+pub mod Sparse
+pub mod Rows

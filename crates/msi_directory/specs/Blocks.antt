@@ -2,7 +2,7 @@
 -- for a block, and which blocks have room. A block that was never asked for reads as unshared, with
 -- its opening words and a fresh rider.
 use Rattle.std.specs.Prelude.{◌≡◌, ◌≢◌, ℕ, ◌+◌, ◌-◌, ◌*◌, ◌/◌, Bool, false, List, [], ◌∷◌, map, slice_index_or, slice_set}
-use Rattle.std.specs.List.{range_with_len}
+use Rattle.std.specs.List.{count_by, range_with_len}
 use Rattle.access_times.specs.Riding.{Riding}
 use Rattle.rtr_types.specs.declared.TheConstants.{BLOCK_WORDS}
 use Rattle.image_mem.specs.Contents.{Contents, opening_word}
@@ -26,6 +26,10 @@ block_count words = (words + (BLOCK_WORDS - 1)) / BLOCK_WORDS
 -- a request for the block needs no memory
 abbrev pub has_room : List Bool → ℕ → Bool
 has_room rooms block = slice_index_or rooms block false
+
+-- how many blocks have room
+abbrev pub touched : List Bool → ℕ
+touched rooms = count_by (λ room. room) rooms
 
 module _ {R : Type 0} where
   -- a block as the image has it, which no cache holds

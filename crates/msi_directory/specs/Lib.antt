@@ -1,5 +1,6 @@
 pub mod Table
 pub mod Entries
 pub mod Blocks
+pub mod Kept
 pub mod PlainPart
 pub mod Fitting

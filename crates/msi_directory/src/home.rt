@@ -1,9 +1,9 @@
 //! The home of all blocks.
-ghost use Rattle.std.specs.Prelude.{◌≡◌, ◌<◌, ◌/◌, ◌%◌, ◌*◌, ◌+◌, ◌^◌, ℕ, List, IfOk, IsTrue, OnErr, OnOk, length, slice_index, slice_set, true};
+ghost use Rattle.std.specs.Prelude.{◌≡◌, ◌<◌, ◌/◌, ◌%◌, ◌*◌, ◌+◌, ◌^◌, ℕ, List, IfOk, IsTrue, if◌then◌else◌, OnErr, OnOk, length, slice_index, slice_set, true};
 ghost use Rattle.msi_cache.specs.Messages.{request_block, request_seen, response_block, response_seen};
 ghost use Rattle.msi_cache.specs.declared.messages.Request.{Request};
 ghost use Rattle.msi_cache.specs.declared.messages.Response.{Response};
-ghost use Rattle.msi_directory.specs.Blocks.{SameElsewhere, block_count, entries_after_request, entries_after_response, entry_at, has_room, opening_entries, opening_entry};
+ghost use Rattle.msi_directory.specs.Blocks.{SameElsewhere, block_count, entries_after_request, entries_after_response, entry_at, has_room, opening_entries, opening_entry, touched};
 ghost use Rattle.msi_directory.specs.Entries.{answer_riding, answer_to_request, answer_to_response, entry_after_request, entry_after_response, has_request_row, has_response_row};
 ghost use Rattle.msi_directory.specs.Fitting.{stage_fits};
 ghost use Rattle.msi_directory.specs.PlainPart.{PlainRequest, PlainResponse};
@@ -11,6 +11,7 @@ ghost use Rattle.msi_directory.specs.Table.{is_free, owner_of};
 ghost use Rattle.msi_directory.specs.declared.entry.Entry.{Entry};
 
 use crate::entry::{Entry, HomeAnswer, Stage};
+use crate::kept_entries::KeptEntries;
 
 #[cfg(test)]
 mod tests;
@@ -22,23 +23,25 @@ use rtr_types::{BLOCK_WORDS, CORES_MAX};
 use std::alloc::{AllocError, Global};
 use std::marker::Model;
 
-/// The home: an entry for each block of the memory. Contracts see the entries of all blocks, and which
-/// blocks have room, so that a request for them needs no memory.
+/// The home: an entry for each block that room was made for. A block without one is held by no cache, and has
+/// its opening words and a fresh rider. Contracts see the entries of all blocks, and which blocks have room, so
+/// that a request for them needs no memory.
 #[derive(Drop)]
 pub struct Home<R> {
-    entries: Vec<Entry<R>>,
+    opening: Image,
+    fresh: R,
+    kept: KeptEntries<R>,
 }
 
 impl<R> Model for Home<R> {
-    ghost use Rattle.std.specs.Prelude.{All, IsTrue, length, replicate, true};
     ghost use Rattle.msi_directory.specs.Blocks.{Blocks};
-    ghost use Rattle.msi_directory.specs.Fitting.{stage_fits};
+    ghost use Rattle.msi_directory.specs.Kept.{HomeFits, blocks_in, home_of};
 
     ghost Value = { Blocks R };
 
-    ghost view = { λ a. record { entries = a.entries.items; rooms = replicate (length a.entries.items) true } };
+    ghost view = { λ a. blocks_in (home_of a.opening a.fresh a.kept) };
 
-    ghost invariant = { λ a. All (λ e. IsTrue (stage_fits e.stage)) a.entries.items };
+    ghost invariant = { λ a. HomeFits (home_of a.opening a.fresh a.kept) };
 }
 
 impl<R: Rider> Home<R> {
@@ -47,20 +50,28 @@ impl<R: Rider> Home<R> {
     pub fn new(alloc: Global, image: &Image) -> Result<Home<R>, AllocError>
         ensures blocks { IfOk result (λ home. length home.entries ≡ block_count image.now.words) }
         ensures opening { IfOk result (λ home. home.entries ≡ opening_entries R.riding.fresh image.now) }
+        ensures untouched { IfOk result (λ home. touched home.rooms ≡ 0) }
     {
-        let blocks = image.words().div_ceil(BLOCK_WORDS as u32);
-        let mut entries = Vec::with_capacity(alloc, blocks as usize)?;
-        for block in 0..blocks {
-            entries.push(opening_entry(image, block))?;
-        }
-        Ok(Home { entries })
+        let bytes = image.bytes().to_vec(alloc)?;
+        Ok(Home {
+            opening: Image::flat(bytes, image.words()).unwrap(),
+            fresh: R::fresh(),
+            kept: KeptEntries::new(alloc),
+        })
     }
 
     /// How many blocks the memory has. Blocks are numbered from 0.
     pub fn blocks(&self) -> usize
         ensures { result ≡ length self.now.entries }
     {
-        self.entries.len()
+        self.opening.words().div_ceil(BLOCK_WORDS as u32) as usize
+    }
+
+    /// How many blocks room was made for: so many entries the home keeps.
+    pub fn touched(&self) -> u32
+        ensures { result ≡ touched self.now.rooms }
+    {
+        self.kept.len() as u32
     }
 
     /// Makes room for the block, one of the memory's: once it answers Ok, a request for the block needs
@@ -70,10 +81,15 @@ impl<R: Rider> Home<R> {
         requires { block < length self.old.entries }
         ensures ok { OnOk result (self.new ≡ record self.old { rooms = slice_set self.old.rooms block true }) }
         ensures room { OnOk result (has_room self.new.rooms block ≡ true) }
+        ensures touched { OnOk result (touched self.new.rooms
+            ≡ touched self.old.rooms + (if has_room self.old.rooms block then 0 else 1)) }
         ensures err { OnErr result (self.new ≡ self.old) }
     {
-        // each block has an entry of its own from the start
-        let _ = &self.entries;
+        if self.kept.place(block).is_some() {
+            return Ok(());
+        }
+        let entry = opening_entry(&self.opening, block, self.fresh);
+        self.kept.add(block, entry)?;
         Ok(())
     }
 
@@ -82,7 +98,7 @@ impl<R: Rider> Home<R> {
         requires { block < length self.now.entries }
         ensures { result ≡ has_room self.now.rooms block }
     {
-        (block as usize) < self.entries.len()
+        self.kept.place(block).is_some()
     }
 
     /// Whether the home can take the request now: exactly where its block isn't busy.
@@ -98,7 +114,7 @@ impl<R: Rider> Home<R> {
         requires { block < length self.now.entries }
         ensures { result ≡ is_free (entry_at R.riding.fresh self.now.entries block).stage }
     {
-        self.entries[block as usize].stage.is_free()
+        self.stage(block).is_free()
     }
 
     /// Whether the table has a row for the request, sent by core `from`.
@@ -106,7 +122,7 @@ impl<R: Rider> Home<R> {
         requires { request_block request.now < length self.now.entries }
         ensures { result ≡ has_request_row (entry_at R.riding.fresh self.now.entries (request_block request.now)).stage from request.now }
     {
-        self.entries[request.block() as usize].expects_request(from, request)
+        self.stage(request.block()).expects_request(from, request)
     }
 
     /// Whether the table has a row for the response, sent by core `from`.
@@ -115,7 +131,8 @@ impl<R: Rider> Home<R> {
         requires within { response_block response.now < length self.now.entries }
         ensures { result ≡ has_response_row (entry_at R.riding.fresh self.now.entries (response_block response.now)).stage from response.now }
     {
-        self.entries[response.block() as usize].expects_response(from, response)
+        self.stage(response.block())
+            .expects_response(from, response)
     }
 
     /// Takes a request from core `from`, for a block that has room and at which the table has a row for
@@ -145,7 +162,8 @@ impl<R: Rider> Home<R> {
         ensures elsewhere { SameElsewhere R.riding.fresh self.old.entries self.new.entries (request_block (request_seen request.entry)) }
         ensures answer { answer_riding (entry_at R.riding.fresh self.new.entries (request_block (request_seen request.entry))).rider result ≡ answer_to_request R.riding.absorbed (entry_at R.riding.fresh self.old.entries (request_block (request_seen request.entry))) from (request_seen request.entry) }
     {
-        self.entries[request.block() as usize].serve(from, request)
+        let place = self.kept.place(request.block()).unwrap();
+        self.kept.serve(place, from, request)
     }
 
     /// Takes a response from core `from`, about a block at which the table has a row for it. Only that
@@ -173,7 +191,8 @@ impl<R: Rider> Home<R> {
         ensures elsewhere { SameElsewhere R.riding.fresh self.old.entries self.new.entries (response_block (response_seen response.entry)) }
         ensures answer { answer_riding (entry_at R.riding.fresh self.new.entries (response_block (response_seen response.entry))).rider result ≡ answer_to_response R.riding.absorbed (entry_at R.riding.fresh self.old.entries (response_block (response_seen response.entry))) from (response_seen response.entry) }
     {
-        self.entries[response.block() as usize].collect(from, response)
+        let place = self.kept.place(response.block()).unwrap();
+        self.kept.collect(place, from, response)
     }
 
     /// The rider on the home's copy of the block, one of the memory's.
@@ -181,7 +200,10 @@ impl<R: Rider> Home<R> {
         requires { block < length self.now.entries }
         ensures { result.now ≡ (entry_at R.riding.fresh self.now.entries block).rider }
     {
-        &self.entries[block as usize].rider
+        match self.kept.place(block) {
+            Some(place) => &self.kept.copy(place).rider,
+            None => &self.fresh,
+        }
     }
 
     /// The home's copy of a memory word, by the word's index. Where a cache owns the block it is an old
@@ -190,8 +212,11 @@ impl<R: Rider> Home<R> {
         requires { word / BLOCK_WORDS < length self.now.entries }
         ensures { result ≡ slice_index (entry_at R.riding.fresh self.now.entries (word / BLOCK_WORDS)).words (word % BLOCK_WORDS) }
     {
-        let word = word as usize;
-        self.entries[word / BLOCK_WORDS].words[word % BLOCK_WORDS]
+        let block = word / BLOCK_WORDS as u32;
+        match self.kept.place(block) {
+            Some(place) => self.kept.copy(place).words[word as usize % BLOCK_WORDS],
+            None => self.opening.word(word),
+        }
     }
 
     /// The core whose cache owns the block: none exactly where no cache does.
@@ -199,14 +224,25 @@ impl<R: Rider> Home<R> {
         requires { block < length self.now.entries }
         ensures { result ≡ owner_of (entry_at R.riding.fresh self.now.entries block).stage }
     {
-        self.entries[block as usize].stage.owner()
+        self.stage(block).owner()
+    }
+
+    /// The block's stage.
+    fn stage(&self, block: u32) -> Stage
+        requires { block < length self.now.entries }
+        ensures { result ≡ (entry_at R.riding.fresh self.now.entries block).stage }
+    {
+        match self.kept.place(block) {
+            Some(place) => self.kept.stage(place),
+            None => Stage::Unshared,
+        }
     }
 }
 
-/// A block as the image has it.
-fn opening_entry<R: Rider>(image: &Image, block: u32) -> Entry<R>
+/// A block as the image has it, with this rider.
+fn opening_entry<R>(image: &Image, block: u32, rider: R) -> Entry<R>
     requires { block * BLOCK_WORDS + 3 < 2 ^ 32 }
-    ensures { result ≡ opening_entry R.riding.fresh image.now block }
+    ensures { result ≡ opening_entry rider image.now block }
 {
     let first = block * BLOCK_WORDS as u32;
     Entry {
@@ -217,7 +253,7 @@ fn opening_entry<R: Rider>(image: &Image, block: u32) -> Entry<R>
             image.word(first + 2),
             image.word(first + 3),
         ],
-        rider: R::fresh(),
+        rider,
     }
 }
 

@@ -6,6 +6,8 @@
 
 mod entry;
 mod home;
+mod home_copies;
+mod kept_entries;
 
 pub use entry::{Entry, HomeAnswer, Stage};
 pub use home::{Home, home_rows_fit, riders_change_no_plain_part};

@@ -107,14 +107,15 @@ fn row(
 ) -> Result<(), Fail> {
     let image = Image::flat(Vec::new(alloc), 16)?;
     let mut home = Home::new(alloc, &image)?;
+    assert!(rt; home.blocks() == 4);
+    home.make_room(2)?;
     for before in path {
         take(rt, &mut home, *before);
     }
     assert_eq!(rt; take(rt, &mut home, step), answer, "{step:?}");
     assert!(rt; home.blocks() == 4);
-    let entry = home.entries[2];
     assert_eq!(rt;
-        (entry.stage, entry.words[0], entry.rider.digits),
+        (home.stage(2), home.word(8), home.rider(2).digits),
         left,
         "{step:?}"
     );
@@ -367,7 +368,9 @@ fn hands_a_shared_block_to_one_owner(rt: HostRuntime) -> Result<(), Fail> {
     let image = Image::flat(Vec::new(rt.alloc()), 16)?;
     let mut home = Home::new(rt.alloc(), &image)?;
     assert!(rt; home.blocks() == 4);
+    assert_eq!(rt; (home.touched(), home.has_room(2)), (0, false));
     home.make_room(2)?;
+    assert_eq!(rt; (home.touched(), home.has_room(2)), (1, true));
     assert_eq!(rt; take(&rt, &mut home, Step::GetS(0)), data(0, 0, 0));
     assert!(rt; home.blocks() == 4);
     home.make_room(2)?;
@@ -384,6 +387,8 @@ fn hands_a_shared_block_to_one_owner(rt: HostRuntime) -> Result<(), Fail> {
     assert_eq!(rt; home.owner(2), Some(1));
     assert_eq!(rt; home.is_free(2), true);
     assert_eq!(rt; *home.rider(2), Trail { digits: 7 });
+    assert_eq!(rt; *home.rider(3), Trail { digits: 0 });
+    assert_eq!(rt; home.touched(), 1);
     Ok(())
 }
 
@@ -391,10 +396,15 @@ fn hands_a_shared_block_to_one_owner(rt: HostRuntime) -> Result<(), Fail> {
 fn reads_the_opening_words(rt: HostRuntime) -> Result<(), Fail> {
     let bytes = vec![in rt.alloc(); 1, 0, 0, 0, 2, 0, 0, 0, 3, 1]?;
     let image = Image::flat(bytes, 5)?;
-    let home = Home::<Trail>::new(rt.alloc(), &image)?;
-    assert!(rt; home.blocks() == 2);
-    let words = [home.word(0), home.word(1), home.word(2), home.word(3)];
-    assert_eq!(rt; words, [1, 2, 259, 0]);
-    assert_eq!(rt; home.word(4), 0);
+    let mut home = Home::<Trail>::new(rt.alloc(), &image)?;
+    // without an entry, and with one
+    for touched in 0..2 {
+        assert!(rt; home.blocks() == 2);
+        assert_eq!(rt; home.touched(), touched);
+        let words = [home.word(0), home.word(1), home.word(2), home.word(3)];
+        assert_eq!(rt; words, [1, 2, 259, 0]);
+        assert_eq!(rt; home.word(4), 0);
+        home.make_room(0)?;
+    }
     Ok(())
 }

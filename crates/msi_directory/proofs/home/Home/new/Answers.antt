@@ -1,17 +1,19 @@
-use Rattle.std.proofs.Common.{◌≡◌, ◌∙◌, arith}
-use Rattle.msi_directory.proofs.Openings.{opening_more, openings_counted, openings_fit, rounded_up}
+use Rattle.std.proofs.Common.{◌≡◌, ◌∙◌, ap, arith}
+use Rattle.std.proofs.lemmas.Grind.{common_steps}
+use Rattle.msi_directory.specs.Blocks.{block_count}
+use Rattle.msi_directory.specs.Kept.{home_of}
+use Rattle.msi_directory.proofs.Sparse.{entries_counted, fits_new, untouched}
 use Rattle.msi_directory.proofs.home.Home.new.Goals as goal
 
-pub loop-block-preserved : goal.loop-block-preserved
-loop-block-preserved g c =
-    let more = opening_more g.R.Rider.riding.fresh c.args.image.now c.loop-block.block in
-    rw (c.in_ok-push.ensures.items, c.loop-block.invariant, c.opening_entry.ensures, more)
-
 pub invariant_of-result : goal.invariant_of-result
-invariant_of-result g c = rw c.loop-block.invariant (openings_fit g.R.Rider.riding.fresh c.args.image.now c.loop-block.block)
+invariant_of-result g c =
+    let words : c.unwrap.result.words ≡ c.words.result = grind (arith, common_steps) in
+    rw c.new.ensures (fits_new c.unwrap.result c.fresh.result (omega arith))
 
 pub returns-clause-blocks : goal.returns-clause-blocks
 returns-clause-blocks g c =
-    let made : c.loop-block.block ≡ c.div_ceil-blocks.result = omega (arith, c.loop-block.auto.block-end, c.loop-block-test.false) in
-    let count = rw (c.words.ensures.value) at c.div_ceil-blocks.ensures in
-    rw (c.loop-block.invariant, openings_counted g.R.Rider.riding.fresh c.args.image.now c.loop-block.block, made) (count ∙ rounded_up c.args.image.now.words)
+    let words : c.unwrap.result.words ≡ c.args.image.now.words = grind (arith, common_steps) in
+    entries_counted (home_of c.unwrap.result c.fresh.result c.new.result) ∙ ap block_count words
+
+pub returns-clause-untouched : goal.returns-clause-untouched
+returns-clause-untouched g c = rw c.new.ensures (untouched c.unwrap.result c.fresh.result)

@@ -1,0 +1,300 @@
+//! The home's own copy of a block, and the table's rows on it and on the block's stage.
+ghost use Rattle.std.specs.Prelude.{◌≡◌, ◌<◌, IsTrue, Some, is_some};
+ghost use Rattle.msi_cache.specs.Messages.{request_seen, response_seen};
+ghost use Rattle.msi_cache.specs.Table.{Ask, Reply};
+ghost use Rattle.msi_cache.specs.declared.messages.FromHome.{FromHome};
+ghost use Rattle.msi_cache.specs.declared.messages.Request.{Request};
+ghost use Rattle.msi_directory.specs.Entries.{answer_by, answer_riding, answer_to_request, answer_to_response, entry_after_request, entry_after_response, entry_by, has_request_row, has_response_row};
+ghost use Rattle.msi_directory.specs.Fitting.{stage_fits};
+ghost use Rattle.msi_directory.specs.Kept.{entry_of};
+ghost use Rattle.msi_directory.specs.Table.{own_from, request_row, response_row};
+ghost use Rattle.rtr_types.specs.CoreSets.{no_cores};
+
+use crate::entry::{HomeAnswer, Stage};
+use access_times::Rider;
+use msi_cache::{FromHome, Request, Response};
+use rtr_types::{BLOCK_WORDS, CORES_MAX, CoreSet};
+
+/// The home's own copy of a block: its words, and what rides on it. While a cache owns the block the copy is
+/// an old one. The block's stage lies apart, so that a look at a stage touches no copy.
+#[derive(Clone, Copy)]
+pub(crate) struct HomeCopy<R> {
+    pub(crate) words: [u32; BLOCK_WORDS],
+    pub(crate) rider: R,
+}
+
+// Each row of the table, on a block's stage and copy. An answer has no rider: data are sent with the copy's own, as
+// it is afterwards.
+impl<R: Rider> HomeCopy<R> {
+    /// Takes a request for this block. The answer has no rider: data are sent with the entry's own, as
+    /// it is afterwards.
+    pub(crate) fn serve(
+        &mut self,
+        stage: &mut Stage,
+        from: u8,
+        request: Request<&R>,
+    ) -> HomeAnswer<()>
+        requires from { from < CORES_MAX }
+        requires row { IsTrue (has_request_row stage.old from (request_seen request)) }
+        ensures entry { entry_of stage.new self.new
+            ≡ entry_after_request R.riding.absorbed (entry_of stage.old self.old) from (request_seen request.entry) }
+        ensures answer { answer_riding self.new.rider result
+            ≡ answer_to_request R.riding.absorbed (entry_of stage.old self.old) from (request_seen request.entry) }
+    {
+        match request {
+            Request::GetS { block } => self.get_shared(stage, from, block),
+            Request::GetM { block } => self.get_owned(stage, from, block),
+            Request::PutS { block, rider } => self.put_shared(stage, from, block, rider),
+            Request::PutM {
+                block,
+                words,
+                rider,
+            } => self.put_owned(stage, from, block, words, rider),
+        }
+    }
+
+    /// Takes a response about this block. The answer has no rider: data are sent with the entry's own,
+    /// as it is afterwards.
+    pub(crate) fn collect(
+        &mut self,
+        stage: &mut Stage,
+        from: u8,
+        response: Response<&R>,
+    ) -> HomeAnswer<()>
+        requires from { from < CORES_MAX }
+        requires fits { IsTrue (stage_fits stage.old) }
+        requires row { IsTrue (has_response_row stage.old from (response_seen response)) }
+        ensures entry { entry_of stage.new self.new
+            ≡ entry_after_response R.riding.absorbed (entry_of stage.old self.old) from
+            (response_seen response.entry) }
+        ensures answer { answer_riding self.new.rider result
+            ≡ answer_to_response R.riding.absorbed (entry_of stage.old self.old) from
+            (response_seen response.entry) }
+    {
+        match response {
+            Response::InvAck {
+                block,
+                rider: reads,
+            } => {
+                self.rider.absorb(reads);
+                self.acknowledge(stage, from, block)
+            }
+            Response::OwnerData {
+                block,
+                words,
+                rider,
+            } => {
+                self.words = words;
+                self.rider = *rider;
+                self.hand_over(stage, from, block)
+            }
+        }
+    }
+
+    /// A core wants to share the block.
+    fn get_shared(&mut self, stage: &mut Stage, from: u8, block: u32) -> HomeAnswer<()>
+        requires from { from < CORES_MAX }
+        requires row { IsTrue (is_some (request_row stage.old from Ask.GetS)) }
+        ensures entry { entry_of stage.new self.new
+            ≡ entry_after_request R.riding.absorbed (entry_of stage.old self.old) from (Request.GetS block) }
+        ensures answer { answer_riding self.new.rider result
+            ≡ answer_to_request R.riding.absorbed (entry_of stage.old self.old) from (Request.GetS block) }
+    {
+        match *stage {
+            Stage::Owned { owner } => {
+                *stage = Stage::Data {
+                    of: owner,
+                    requester: from,
+                    share: true,
+                };
+                HomeAnswer::one(owner, FromHome::FwdGetS { block })
+            }
+            Stage::Shared { by } => {
+                *stage = Stage::Shared { by: by.with(from) };
+                self.give(from, block)
+            }
+            _ => {
+                *stage = Stage::Shared {
+                    by: CoreSet::empty().with(from),
+                };
+                self.give(from, block)
+            }
+        }
+    }
+
+    /// A core wants to own the block.
+    fn get_owned(&mut self, stage: &mut Stage, from: u8, block: u32) -> HomeAnswer<()>
+        requires from { from < CORES_MAX }
+        requires row { IsTrue (is_some (request_row stage.old from Ask.GetM)) }
+        ensures entry { entry_of stage.new self.new
+            ≡ entry_after_request R.riding.absorbed (entry_of stage.old self.old) from (Request.GetM block) }
+        ensures answer { answer_riding self.new.rider result
+            ≡ answer_to_request R.riding.absorbed (entry_of stage.old self.old) from (Request.GetM block) }
+    {
+        match *stage {
+            Stage::Owned { owner } => {
+                *stage = Stage::Data {
+                    of: owner,
+                    requester: from,
+                    share: false,
+                };
+                HomeAnswer::one(owner, FromHome::FwdGetM { block })
+            }
+            Stage::Shared { by } => self.take_from(stage, by.without(from), from, block),
+            _ => {
+                *stage = Stage::Owned { owner: from };
+                self.give(from, block)
+            }
+        }
+    }
+
+    /// A core is to own the block once the others no longer share it.
+    fn take_from(
+        &mut self,
+        stage: &mut Stage,
+        others: CoreSet,
+        requester: u8,
+        block: u32,
+    ) -> HomeAnswer<()>
+        ensures entry { entry_of stage.new self.new
+            ≡ entry_by R.riding.absorbed (own_from others requester)
+            (entry_of stage.old self.old) self.old.words self.old.rider }
+        ensures answer { answer_riding self.new.rider result
+            ≡ answer_by (own_from others requester) block (entry_of stage.new self.new) }
+    {
+        if others.is_empty() {
+            *stage = Stage::Owned { owner: requester };
+            return self.give(requester, block);
+        }
+        *stage = Stage::Acks {
+            of: others,
+            requester,
+        };
+        HomeAnswer {
+            invalidate: others,
+            send: None,
+        }
+    }
+
+    /// A core gives up its shared copy. What it read goes with it, unless it no longer shares.
+    fn put_shared(&mut self, stage: &mut Stage, from: u8, block: u32, rider: &R) -> HomeAnswer<()>
+        requires from { from < CORES_MAX }
+        requires row { IsTrue (has_request_row stage.old from (Request.PutS block rider.now)) }
+        ensures entry { entry_of stage.new self.new
+            ≡ entry_after_request R.riding.absorbed (entry_of stage.old self.old) from
+            (Request.PutS block rider.now) }
+        ensures answer { answer_riding self.new.rider result
+            ≡ answer_to_request R.riding.absorbed (entry_of stage.old self.old) from
+            (Request.PutS block rider.now) }
+    {
+        if let Stage::Shared { by } = *stage
+            && by.has(from)
+        {
+            self.rider.absorb(rider);
+            *stage = Stage::shared_by(by.without(from));
+        }
+        HomeAnswer::one(from, FromHome::PutAck { block })
+    }
+
+    /// A core gives back the copy that it owned. It is taken where the core still owns the block; a
+    /// core that only shares it by now leaves the sharers.
+    fn put_owned(
+        &mut self,
+        stage: &mut Stage,
+        from: u8,
+        block: u32,
+        words: [u32; BLOCK_WORDS],
+        rider: &R,
+    ) -> HomeAnswer<()>
+        requires from { from < CORES_MAX }
+        requires row { IsTrue (has_request_row stage.old from (Request.PutM block words rider.now)) }
+        ensures entry { entry_of stage.new self.new
+            ≡ entry_after_request R.riding.absorbed (entry_of stage.old self.old)
+            from (Request.PutM block words rider.now) }
+        ensures answer { answer_riding self.new.rider result
+            ≡ answer_to_request R.riding.absorbed (entry_of stage.old self.old)
+            from (Request.PutM block words rider.now) }
+    {
+        match *stage {
+            Stage::Shared { by } if by.has(from) => {
+                *stage = Stage::shared_by(by.without(from));
+            }
+            Stage::Owned { owner } if owner == from => {
+                *stage = Stage::Unshared;
+                self.words = words;
+                self.rider = *rider;
+            }
+            _ => {}
+        }
+        HomeAnswer::one(from, FromHome::PutAck { block })
+    }
+
+    /// A core has given up its shared copy. At the last one the requester owns the block.
+    fn acknowledge(&mut self, stage: &mut Stage, from: u8, block: u32) -> HomeAnswer<()>
+        requires from { from < CORES_MAX }
+        requires row { IsTrue (is_some (response_row stage.old from Reply.InvAck)) }
+        ensures entry { entry_of stage.new self.new
+            ≡ entry_by (λ old other. old) (response_row stage.old from Reply.InvAck)
+            (entry_of stage.old self.old) self.old.words self.old.rider }
+        ensures answer { answer_riding self.new.rider result
+            ≡ answer_by (response_row stage.old from Reply.InvAck) block (entry_of stage.new self.new) }
+    {
+        let Stage::Acks { of, requester } = *stage else {
+            return HomeAnswer::nothing();
+        };
+        let left = of.without(from);
+        if left.is_empty() {
+            *stage = Stage::Owned { owner: requester };
+            return self.give(requester, block);
+        }
+        *stage = Stage::Acks {
+            of: left,
+            requester,
+        };
+        HomeAnswer::nothing()
+    }
+
+    /// The owner has given its data, which the entry has by now. The requester gets the block.
+    fn hand_over(&mut self, stage: &mut Stage, from: u8, block: u32) -> HomeAnswer<()>
+        requires from { from < CORES_MAX }
+        requires fits { IsTrue (stage_fits stage.old) }
+        requires row { IsTrue (is_some (response_row stage.old from Reply.OwnerData)) }
+        ensures entry { entry_of stage.new self.new
+            ≡ entry_by (λ old other. old) (response_row stage.old from Reply.OwnerData)
+            (entry_of stage.old self.old) self.old.words self.old.rider }
+        ensures answer { answer_riding self.new.rider result
+            ≡ answer_by (response_row stage.old from Reply.OwnerData) block (entry_of stage.new self.new) }
+    {
+        let Stage::Data {
+            requester,
+            share,
+            ..
+        } = *stage
+        else {
+            return HomeAnswer::nothing();
+        };
+        *stage = if share {
+            Stage::Shared {
+                by: CoreSet::empty().with(from).with(requester),
+            }
+        } else {
+            Stage::Owned { owner: requester }
+        };
+        self.give(requester, block)
+    }
+
+    /// Sends the home's copy, as it is now. Its rider is left to whoever sends the answer.
+    fn give(&self, to: u8, block: u32) -> HomeAnswer<()>
+        ensures { result
+            ≡ record { invalidate = no_cores; send = Some (to, FromHome.BlockData block self.now.words tt) } }
+    {
+        HomeAnswer::one(
+            to,
+            FromHome::BlockData {
+                block,
+                words: self.words,
+                rider: (),
+            },
+        )
+    }
+}

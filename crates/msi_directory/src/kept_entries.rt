@@ -1,0 +1,158 @@
+//! The entries that a home keeps.
+ghost use Rattle.std.specs.Prelude.{◌≡◌, ◌<◌, IfSome, IsTrue, None, OnErr, OnOk, length, slice_index_or};
+ghost use Rattle.msi_cache.specs.Messages.{request_seen, response_seen};
+ghost use Rattle.msi_directory.specs.Entries.{answer_riding, answer_to_request, answer_to_response, entry_after_request, entry_after_response, has_request_row, has_response_row};
+ghost use Rattle.msi_directory.specs.Fitting.{stage_fits};
+ghost use Rattle.msi_directory.specs.Kept.{IsEven, kept_at, kept_more, kept_with, nothing_kept, place_of};
+ghost use Rattle.msi_directory.specs.declared.entry.Entry.{Entry};
+ghost use Rattle.msi_directory.specs.declared.entry.Stage.{Stage};
+ghost use Rattle.msi_directory.specs.declared.entry.Stage.TheVariants.{Unshared};
+ghost use Rattle.msi_directory.specs.declared.home_copies.HomeCopy.{HomeCopy};
+
+use crate::entry::{Entry, HomeAnswer, Stage};
+use crate::home_copies::HomeCopy;
+use access_times::Rider;
+use indexmap::IndexMap;
+use msi_cache::{Request, Response};
+use rtr_types::CORES_MAX;
+use std::alloc::{AllocError, Global};
+use std::marker::Model;
+
+/// How many shortcuts there are.
+const SHORTCUTS: usize = 64;
+
+/// The entries of some blocks, in the order in which they came. The map goes from a block to its stage, and
+/// copies lie apart in the map's order, so that a look for a block or a stage touches no copy.
+///
+/// Most looks are for few blocks again and again. So the place of the newest block of each remainder is at
+/// hand, and the map is searched where another block has that place.
+#[derive(Drop)]
+pub(crate) struct KeptEntries<R> {
+    stages: IndexMap<u32, Stage>,
+    copies: Vec<HomeCopy<R>>,
+    shortcuts: [usize; SHORTCUTS],
+}
+
+impl<R> Model for KeptEntries<R> {
+    ghost use Rattle.std.specs.Prelude.{◌≡◌, length};
+    ghost use Rattle.indexmap.specs.IndexMap.{keys, values};
+    ghost use Rattle.msi_directory.specs.Kept.{Kept};
+
+    ghost Value = { Kept R };
+
+    ghost view = { λ a. record { blocks = keys a.stages; stages = values a.stages; copies = a.copies.items } };
+
+    ghost invariant = { λ a. (length a.copies.items ≡ length a.stages.entries) × (length a.shortcuts ≡ 64) };
+}
+
+impl<R> KeptEntries<R> {
+    /// No entries.
+    pub(crate) fn new(alloc: Global) -> KeptEntries<R>
+        ensures { result ≡ nothing_kept }
+    {
+        KeptEntries {
+            stages: IndexMap::new(alloc),
+            copies: Vec::new(alloc),
+            shortcuts: [0; SHORTCUTS],
+        }
+    }
+
+    /// How many entries there are.
+    pub(crate) fn len(&self) -> usize
+        ensures { result ≡ length self.now.blocks }
+    {
+        self.stages.len()
+    }
+
+    /// The place of a block's entry: none exactly where there is no entry.
+    pub(crate) fn place(&self, block: u32) -> Option<usize>
+        ensures place { result ≡ place_of self.now.blocks block }
+        ensures stage { IfSome result (λ place. place < length self.now.stages) }
+        ensures copy { IfSome result (λ place. place < length self.now.copies) }
+        ensures even { IsEven self.now }
+    {
+        // `len` says that no block has two entries
+        let _count = self.stages.len();
+        let near = self.shortcuts[block as usize % SHORTCUTS];
+        match self.stages.get_index(near) {
+            Some((kept, _)) if *kept == block => Some(near),
+            _ => self.stages.get_index_of(&block),
+        }
+    }
+
+    /// The stage at a place.
+    pub(crate) fn stage(&self, place: usize) -> Stage
+        requires { place < length self.now.stages }
+        ensures { (d : Stage) → result ≡ slice_index_or self.now.stages place d }
+    {
+        self.stages[place]
+    }
+
+    /// The copy at a place.
+    pub(crate) fn copy(&self, place: usize) -> &HomeCopy<R>
+        requires { place < length self.now.copies }
+        ensures { (d : HomeCopy R) → result.now ≡ slice_index_or self.now.copies place d }
+    {
+        &self.copies[place]
+    }
+
+    /// Keeps one more block's entry, behind the others. After want of memory nothing has changed.
+    pub(crate) fn add(&mut self, block: u32, entry: Entry<R>) -> Result<(), AllocError>
+    where
+        R: Copy,
+        requires { place_of self.old.blocks block ≡ None }
+        ensures ok { OnOk result (self.new ≡ kept_more self.old block entry) }
+        ensures err { OnErr result (self.new ≡ self.old) }
+    {
+        let place = self.stages.len();
+        self.copies.reserve(1)?;
+        self.stages.insert(block, entry.stage)?;
+        self.shortcuts[block as usize % SHORTCUTS] = place;
+        self.copies.push_reserved(HomeCopy {
+            words: entry.words,
+            rider: entry.rider,
+        });
+        Ok(())
+    }
+}
+
+// The table's rows, on the entry at a place.
+impl<R: Rider> KeptEntries<R> {
+    /// Takes a request for the block there. Data are sent with the copy's rider, as it is afterwards.
+    pub(crate) fn serve(&mut self, place: usize, from: u8, request: Request<&R>) -> HomeAnswer<()>
+        requires from { from < CORES_MAX }
+        requires stage { place < length self.old.stages }
+        requires copy { place < length self.old.copies }
+        requires row { IsTrue (has_request_row (slice_index_or self.old.stages place Unshared) from
+            (request_seen request)) }
+        ensures kept { (past : Entry R) → self.new ≡ kept_with self.old place
+            (entry_after_request R.riding.absorbed (kept_at self.old place past) from (request_seen request.entry)) }
+        ensures answer { (past : Entry R) → answer_riding (kept_at self.new place past).rider result
+            ≡ answer_to_request R.riding.absorbed (kept_at self.old place past) from (request_seen request.entry) }
+    {
+        let stage = &mut self.stages[place];
+        self.copies[place].serve(stage, from, request)
+    }
+
+    /// Takes a response about the block there. Data are sent with the copy's rider, as it is afterwards.
+    pub(crate) fn collect(
+        &mut self,
+        place: usize,
+        from: u8,
+        response: Response<&R>,
+    ) -> HomeAnswer<()>
+        requires from { from < CORES_MAX }
+        requires stage { place < length self.old.stages }
+        requires copy { place < length self.old.copies }
+        requires fits { IsTrue (stage_fits (slice_index_or self.old.stages place Unshared)) }
+        requires row { IsTrue (has_response_row (slice_index_or self.old.stages place Unshared) from
+            (response_seen response)) }
+        ensures kept { (past : Entry R) → self.new ≡ kept_with self.old place
+            (entry_after_response R.riding.absorbed (kept_at self.old place past) from (response_seen response.entry)) }
+        ensures answer { (past : Entry R) → answer_riding (kept_at self.new place past).rider result
+            ≡ answer_to_response R.riding.absorbed (kept_at self.old place past) from (response_seen response.entry) }
+    {
+        let stage = &mut self.stages[place];
+        self.copies[place].collect(stage, from, response)
+    }
+}
