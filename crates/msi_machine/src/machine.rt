@@ -4,6 +4,7 @@ ghost use Rattle.access_times.specs.Riding.{none_carrying, none_riding};
 ghost use Rattle.rtr_types.specs.Parameters.{Fits};
 ghost use Rattle.rtr_types.specs.declared.TheConstants.{CORES_MAX};
 ghost use Rattle.msi_machine.specs.Steppings.{HasMoved, IsTaken, KeepsPromises};
+ghost use Rattle.msi_directory.specs.Blocks.{touched};
 ghost use Rattle.msi_machine.specs.Writers.{OneWriterEach};
 ghost use Rattle.msi_state.specs.Bound.{links_empty, total_earned, total_owed, total_retired};
 ghost use Rattle.msi_state.specs.Coherent.{Coherent, opening_memory, word_of};
@@ -52,6 +53,7 @@ impl<R: Rider, K: Carry> Machine<R, K> {
         ensures coherent { IfOk result (λ machine. Coherent R.riding K.carrying machine.state (opening_memory image)) }
         ensures idle { IfOk result (λ machine. total_owed machine.state ≡ 0) }
         ensures one_writer { IfOk result (λ machine. OneWriterEach R.riding K.carrying machine.state) }
+        ensures untouched { IfOk result (λ machine. touched machine.rooms ≡ 0) }
     {
         let words = image.words();
         prove!(words == params.words);
@@ -72,6 +74,14 @@ impl<R: Rider, K: Carry> Machine<R, K> {
             → (block : ℕ) → final_words R.riding K.carrying self.now.state block ≡ memory block }
     {
         self.parts.done()
+    }
+
+    /// How many blocks the home made room for: it keeps so many entries, and the others are as the image has
+    /// them.
+    pub fn touched(&self) -> u32
+        ensures { result ≡ touched self.now.rooms }
+    {
+        self.parts.touched()
     }
 
     /// Makes room in the home for the block of each request link's head, so that a step needs no memory.

@@ -3,7 +3,7 @@ ghost use Rattle.std.specs.Prelude.{◌≡◌, ◌<◌, ◌≤◌, ◌/◌, All,
 ghost use Rattle.rtr_types.specs.declared.TheConstants.{BLOCK_WORDS, CORES_MAX};
 ghost use Rattle.link_order.specs.Queue.{is_nil};
 ghost use Rattle.msi_cache.specs.Messages.{request_block, response_block};
-ghost use Rattle.msi_directory.specs.Blocks.{entries_after_request, entries_after_response, entry_at, has_room};
+ghost use Rattle.msi_directory.specs.Blocks.{entries_after_request, entries_after_response, entry_at, has_room, touched};
 ghost use Rattle.msi_directory.specs.Entries.{answer_riding, answer_to_request, answer_to_response, has_request_row};
 ghost use Rattle.msi_directory.specs.Entries.{has_response_row};
 ghost use Rattle.msi_state.specs.declared.moves.Move.{Move};
@@ -61,7 +61,8 @@ impl<R: Rider, K: Carry> Actors<R, K> {
         cores: u8,
         limit: u32,
     ) -> Result<Actors<R, K>, AllocError>
-        ensures { IfOk result (λ actors. actors.state ≡ state_start R.riding K.carrying image cores limit) }
+        ensures state { IfOk result (λ actors. actors.state ≡ state_start R.riding K.carrying image cores limit) }
+        ensures untouched { IfOk result (λ actors. touched actors.rooms ≡ 0) }
     {
         let home = Home::new(alloc, &image)?;
         let mut nodes = Vec::with_capacity(alloc, cores as usize)?;
@@ -153,6 +154,13 @@ impl<R: Rider, K: Carry> Actors<R, K> {
             Some(owner) => self.nodes[owner as usize].cache.word(block, slot),
             None => self.home.word(word),
         }
+    }
+
+    /// How many blocks the home made room for.
+    pub(crate) fn touched(&self) -> u32
+        ensures { result ≡ touched self.now.rooms }
+    {
+        self.home.touched()
     }
 
     /// Makes room in the home for the block of each request link's head, so that no move needs memory.

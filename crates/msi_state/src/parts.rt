@@ -1,6 +1,7 @@
 //! The parts of a machine, and its moves in code.
 ghost use Rattle.std.specs.Prelude.{◌≡◌, ◌<◌, ◌≤◌, ◌*◌, ◌/◌, [], IfOk, IsTrue, OnOk, length, true, slice_index_or};
 ghost use Rattle.rtr_types.specs.declared.TheConstants.{BLOCK_WORDS, CORES_MAX};
+ghost use Rattle.msi_directory.specs.Blocks.{touched};
 ghost use Rattle.msi_state.specs.declared.moves.Move.{Move};
 ghost use Rattle.msi_state.specs.FinalMemory.{at_hand, final_word};
 ghost use Rattle.msi_state.specs.Moves.{IsNumbered};
@@ -61,7 +62,8 @@ impl<R: Rider, K: Carry> Parts<R, K> {
         cores: u8,
         limit: u32,
     ) -> Result<Parts<R, K>, AllocError>
-        ensures { IfOk result (λ parts. parts.state ≡ state_start R.riding K.carrying image cores limit) }
+        ensures state { IfOk result (λ parts. parts.state ≡ state_start R.riding K.carrying image cores limit) }
+        ensures untouched { IfOk result (λ parts. touched parts.rooms ≡ 0) }
     {
         let actors = Actors::new(alloc, image, cores, limit)?;
         let standings = actors.standings(alloc)?;
@@ -148,6 +150,13 @@ impl<R: Rider, K: Carry> Parts<R, K> {
         ensures { result ≡ final_word R.riding K.carrying self.now.state word }
     {
         self.actors.final_word(word)
+    }
+
+    /// How many blocks the home made room for.
+    pub fn touched(&self) -> u32
+        ensures { result ≡ touched self.now.rooms }
+    {
+        self.actors.touched()
     }
 
     /// Makes room in the home for the block of each request link's head, so that no move needs memory.

@@ -13,26 +13,26 @@ use Rattle.msi_machine.proofs.machine.Machine.new.Goals as goal
 
 pub invariant_of-result : goal.invariant_of-result
 invariant_of-result g c =
-    subst (λ (s : State g.row.R.Denot g.row.K.Denot). Sound g.R.Rider.riding g.K.Carry.carrying s) (sym c.in_ok-parts.ensures)
+    subst (λ (s : State g.row.R.Denot g.row.K.Denot). Sound g.R.Rider.riding g.K.Carry.carrying s) (sym c.in_ok-parts.ensures.state)
     (sound_start g.R.Rider.riding g.K.Carry.carrying c.args.image c.args.params.cores c.args.params.limit c.requires.fits.cores (omega arith))
 
 pub returns-clause-plain : goal.returns-clause-plain
 returns-clause-plain g c =
-    ap (plain {R = g.row.R.Denot} {K = g.row.K.Denot}) c.in_ok-parts.ensures
+    ap (plain {R = g.row.R.Denot} {K = g.row.K.Denot}) c.in_ok-parts.ensures.state
     ∙ plain_start g.R.Rider.riding g.K.Carry.carrying c.args.image c.args.params.cores c.args.params.limit
 
 pub returns-clause-coherent : goal.returns-clause-coherent
 returns-clause-coherent g c =
-    subst (λ (s : State g.row.R.Denot g.row.K.Denot). Coherent g.R.Rider.riding g.K.Carry.carrying s (opening_memory c.args.image)) (sym c.in_ok-parts.ensures)
+    subst (λ (s : State g.row.R.Denot g.row.K.Denot). Coherent g.R.Rider.riding g.K.Carry.carrying s (opening_memory c.args.image)) (sym c.in_ok-parts.ensures.state)
     (start_coherent g.R.Rider.riding g.K.Carry.carrying c.args.image c.args.params.cores c.args.params.limit (omega arith))
 
 pub returns-clause-idle : goal.returns-clause-idle
 returns-clause-idle g c =
-    subst (λ (s : State g.row.R.Denot g.row.K.Denot). total_owed s ≡ 0) (sym c.in_ok-parts.ensures)
+    subst (λ (s : State g.row.R.Denot g.row.K.Denot). total_owed s ≡ 0) (sym c.in_ok-parts.ensures.state)
     (start_owes g.R.Rider.riding g.K.Carry.carrying c.args.image c.args.params.cores c.args.params.limit)
 
 pub returns-clause-one_writer : goal.returns-clause-one_writer
 returns-clause-one_writer g c =
     one_writer g.R.Rider.riding g.K.Carry.carrying c.in_ok-parts.parts.state
-    (subst (λ (s : State g.row.R.Denot g.row.K.Denot). Sound g.R.Rider.riding g.K.Carry.carrying s) (sym c.in_ok-parts.ensures)
+    (subst (λ (s : State g.row.R.Denot g.row.K.Denot). Sound g.R.Rider.riding g.K.Carry.carrying s) (sym c.in_ok-parts.ensures.state)
     (sound_start g.R.Rider.riding g.K.Carry.carrying c.args.image c.args.params.cores c.args.params.limit c.requires.fits.cores (omega arith)))
