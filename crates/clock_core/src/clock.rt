@@ -1,5 +1,5 @@
 //! Vector clocks.
-ghost use Rattle.std.specs.Prelude.{◌≡◌, ◌≢◌, ℕ, ◌<◌, ◌≤◌, ◌↔◌, IsTrue, max, slice_index, slice_set};
+ghost use Rattle.std.specs.Prelude.{◌≡◌, ◌≢◌, ℕ, ◌<◌, ◌≤◌, ◌↔◌, IsTrue, length, max, slice_index, slice_set};
 ghost use Rattle.clock_core.specs.Counts.{merged, no_counts};
 ghost use Rattle.rtr_types.specs.declared.TheConstants.{CORES_MAX};
 
@@ -52,6 +52,14 @@ impl Clock {
         self.counts[core as usize]
     }
 
+    /// The count at each core's place, core 0 first.
+    pub fn as_slice(&self) -> &[u32]
+        ensures value { result.now ≡ self.now }
+        ensures places { length self.now ≡ CORES_MAX }
+    {
+        &self.counts
+    }
+
     /// Puts the count at the core's place and keeps all others.
     pub fn set(&mut self, core: u8, count: u32)
         requires { core < CORES_MAX }
@@ -102,5 +110,6 @@ mod tests {
         assert!(rt; both.covers(Instr { core: 1, count: 5 }));
         assert!(rt; !both.covers(Instr { core: 0, count: 4 }));
         assert_ne!(rt; both, first);
+        assert_eq!(rt; both.as_slice().get(1).copied(), Some(5));
     }
 }

@@ -1,0 +1,11 @@
+//! The regulated log, made while the run goes on: each reduced edge is put into a strided vector.
+#![tactic(auto)]
+
+pub mod laws;
+mod open_vector;
+mod regulator;
+
+pub use regulator::Regulator;
+
+#[cfg(test)]
+mod tests;

@@ -1,0 +1,6 @@
+pub mod Knowledge
+pub mod Happenings
+pub mod Knowing
+pub mod Laws
+pub mod Notes
+pub mod Changes
