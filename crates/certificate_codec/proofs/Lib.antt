@@ -1,0 +1,6 @@
+pub mod Fronts
+pub mod Parts
+pub mod Whole
+pub mod Edges
+pub mod Marks
+pub mod Ends

@@ -1,0 +1,5 @@
+pub mod Ends
+pub mod Validity
+pub mod Spelling
+pub mod Reading
+pub mod Laws

@@ -1,0 +1,47 @@
+-- Reading a certificate from left to right. A number that doesn't fit is a fault of the part in which it stands.
+use Rattle.std.specs.Prelude.{ℕ, List, length, slice_index, Result, Ok, Err, nat_le, nat_eq, ◌==◌, if◌then◌else◌}
+use Rattle.log_codec.specs.declared.recording.Recording.{Recording}
+use Rattle.log_codec.specs.Faults.{◌>>=◌}
+use Rattle.log_codec.specs.Reading.{number_at, front_at}
+use Rattle.log_codec.specs.Turns.{read_in_turn, stay, count_up}
+use Rattle.certificate_codec.specs.declared.certificate.Certificate.{Certificate}
+use Rattle.certificate_codec.specs.declared.certificate.TheConstants.{CLOCKS, END}
+use Rattle.certificate_codec.specs.Ends.{end_count}
+
+-- a count of a core, at most its total
+unfoldable pub count_at : List ℕ → ℕ → List ℕ → Result (ℕ × List ℕ) ℕ
+count_at totals core bytes = do
+  n ← number_at CLOCKS bytes
+  if nat_le n.0 (slice_index totals core) then Ok n else Err CLOCKS
+
+-- an entry: a count of each core
+abbrev pub entry_at : List ℕ → Unit {0} → List ℕ → Result (List ℕ × List ℕ) ℕ
+entry_at totals s bytes = read_in_turn (count_at totals) count_up (length totals) 0 bytes
+
+-- the number is the true one
+abbrev pub true_number : Recording → ℕ → ℕ → List ℕ → Result (ℕ × List ℕ) ℕ
+true_number r core n rest = if nat_eq n (end_count r core) then Ok (n, rest) else Err CLOCKS
+
+-- the entries of a core: how many, and these
+unfoldable pub entries_at : Recording → ℕ → List ℕ → Result (List (List ℕ) × List ℕ) ℕ
+entries_at r core bytes = do
+  n ← number_at CLOCKS bytes
+  count ← true_number r core n.0 n.1
+  read_in_turn (entry_at r.totals) stay count.0 tt count.1
+
+-- the entries of each core
+abbrev pub clocks_at : Recording → List ℕ → Result (List (List (List ℕ)) × List ℕ) ℕ
+clocks_at r bytes = read_in_turn (entries_at r) count_up r.params.cores 0 bytes
+
+-- the parts but for the end, and the bytes after them: the first five are a recording's, then the clocks
+unfoldable pub parts_at : List ℕ → Result (Certificate × List ℕ) ℕ
+parts_at bytes = do
+  front ← front_at bytes
+  clocks ← clocks_at front.0 front.1
+  Ok (record { recording = front.0; clocks = clocks.0 }, clocks.1)
+
+-- all parts
+unfoldable pub certificate_at : List ℕ → Result Certificate ℕ
+certificate_at bytes = do
+  parts ← parts_at bytes
+  if length parts.1 == 0 then Ok parts.0 else Err END

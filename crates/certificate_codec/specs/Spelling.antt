@@ -1,0 +1,36 @@
+-- The spellings of certificates: the first five parts of a recording, then the clocks.
+use Rattle.std.specs.Prelude.{◌≡◌, ℕ, List, ◌++◌, length}
+use Rattle.log_codec.specs.declared.recording.Recording.{Recording}
+use Rattle.log_codec.specs.Spelling as recordings
+use Rattle.log_codec.specs.Spelling.{number}
+use Rattle.log_codec.specs.Turns.{spelled_in_turn, stay, count_up}
+use Rattle.certificate_codec.specs.declared.certificate.Certificate.{Certificate}
+
+abbrev pub count_text : ℕ → ℕ → List ℕ
+count_text core n = number n
+
+-- an entry: a number for each core
+abbrev pub entry_text : Unit {0} → List ℕ → List ℕ
+entry_text s entry = spelled_in_turn count_text count_up 0 entry
+
+-- the entries of a core: how many, and these
+abbrev pub entries_text : ℕ → List (List ℕ) → List ℕ
+entries_text core entries = number (length entries) ++ spelled_in_turn entry_text stay tt entries
+
+-- the sixth part: the entries of each core
+abbrev pub clocks_text : List (List (List ℕ)) → List ℕ
+clocks_text clocks = spelled_in_turn entries_text count_up 0 clocks
+
+-- the bytes are a recording's first five parts
+abbrev pub SpellsFront : Recording → List ℕ → Type 0
+SpellsFront r front = front ≡ recordings.spelling r
+
+-- the bytes spell the certificate
+pub record Spells (c : Certificate) (bytes : List ℕ) : Type 0 where
+  pub front : List ℕ
+  pub front_is : SpellsFront c.recording front
+  pub parts : bytes ≡ front ++ clocks_text c.clocks
+
+-- the spelling that is written
+unfoldable pub spelling : Certificate → List ℕ
+spelling c = recordings.spelling c.recording ++ clocks_text c.clocks

@@ -1,0 +1,139 @@
+//! The instructions at which reduced edges begin or end.
+ghost use Rattle.std.specs.Prelude.{◌≡◌, ◌+◌, ◌<◌, ◌||◌, ℕ, IfOk, false, length, slice_index, slice_index_or};
+ghost use Rattle.log_codec.specs.Validity.{Valid};
+ghost use Rattle.clock_entries.specs.Ends.{instr, is_same, is_end, ends_to};
+ghost use Rattle.certificate_codec.specs.Ends.{reduced_edges, ends_in, IsWithin};
+
+use crate::edge_lists::edges_of;
+use log_codec::Recording;
+use rtr_types::{Edge, Instr, Items};
+use std::alloc::{AllocError, Global};
+use std::marker::Model;
+
+/// A recording with its reduced edges and their ends. Contracts see it as the recording.
+#[derive(Drop)]
+pub struct EdgeEnds<'a> {
+    recording: &'a Recording,
+    edges: Items<Edge>,
+    ends: Items<Items<u32>>,
+}
+
+impl<'a> Model for EdgeEnds<'a> {
+    ghost use Rattle.log_codec.specs.declared.recording.Recording.{Recording};
+    ghost use Rattle.certificate_codec.specs.Ends.{HasEnds};
+
+    ghost Value = { Recording };
+
+    ghost view = { λ a. a.recording.now };
+
+    ghost invariant = { λ a. HasEnds a.recording.now a.edges a.ends };
+}
+
+impl<'a> EdgeEnds<'a> {
+    /// The recording with its edge ends. They are found in one pass over the edges and one over the
+    /// counts for each core.
+    pub fn new(alloc: Global, recording: &'a Recording) -> Result<EdgeEnds<'a>, AllocError>
+        requires { Valid recording.now }
+        ensures { IfOk result (λ ends. ends ≡ recording.now) }
+    {
+        let edges = edges_of(alloc, recording)?;
+        let ends = ends_of(alloc, recording, edges.as_slice())?;
+        Ok(EdgeEnds {
+            recording,
+            edges,
+            ends,
+        })
+    }
+
+    /// The recording.
+    pub fn recording(&self) -> &'a Recording
+        ensures recording { result.now ≡ self.now }
+        ensures valid { Valid self.now }
+    {
+        self.recording
+    }
+
+    /// The edges of the reduced log, by pair and then by target.
+    pub fn edges(&self) -> &[Edge]
+        ensures { result.now ≡ reduced_edges self.now }
+    {
+        self.edges.as_slice()
+    }
+
+    /// The edge ends of a core, by rising count.
+    pub fn of_core(&self, core: u8) -> &[u32]
+        requires { core < self.now.params.cores }
+        ensures { result.now ≡ ends_to (reduced_edges self.now) core (slice_index self.now.totals core) }
+    {
+        self.ends.as_slice()[core as usize].as_slice()
+    }
+
+    /// How many edge ends the instruction's core has up to it.
+    pub fn number(&self, at: Instr) -> usize
+        requires { IsWithin self.now at }
+        ensures { result ≡ length (ends_to (reduced_edges self.now) at.core at.count) }
+    {
+        self.of_core(at.core)
+            .partition_point(|&end| end <= at.count)
+    }
+}
+
+/// Marks the instruction, where it is one of the core's.
+fn mark(marks: &mut [bool], core: u8, at: Instr)
+    ensures { (n : ℕ) → n < length marks.old →
+        slice_index_or marks.new n false ≡ is_same at (instr core (n + 1)) || slice_index_or marks.old n false }
+{
+    if at.core == core && 1 <= at.count && at.count as usize <= marks.len() {
+        marks[at.count as usize - 1] = true;
+    }
+}
+
+/// Marks the core's counts at which an edge begins or ends. None was marked before.
+fn mark_edges(marks: &mut [bool], core: u8, edges: &[Edge])
+    requires { (n : ℕ) → n < length marks.old → slice_index_or marks.old n false ≡ false }
+    ensures { (n : ℕ) → n < length marks.old →
+        slice_index_or marks.new n false ≡ is_end edges.now (instr core (n + 1)) }
+{
+    for edge in edges {
+        mark(marks, core, edge.from);
+        mark(marks, core, edge.to);
+    }
+}
+
+/// The edge ends of a core, by rising count.
+fn ends_of_core(
+    alloc: Global,
+    edges: &[Edge],
+    core: u8,
+    total: u32,
+) -> Result<Items<u32>, AllocError>
+    ensures { IfOk result (λ ends. ends ≡ ends_to edges.now core total) }
+{
+    let mut marks = vec![in alloc; false; total as usize]?;
+    mark_edges(marks.as_mut_slice(), core, edges);
+    let mut ends = Items::new(alloc);
+    for before in 0..total {
+        if marks[before as usize] {
+            ends.push(before + 1)?;
+        }
+    }
+    Ok(ends)
+}
+
+/// The edge ends of each core.
+fn ends_of(
+    alloc: Global,
+    recording: &Recording,
+    edges: &[Edge],
+) -> Result<Items<Items<u32>>, AllocError>
+    requires valid { Valid recording.now }
+    requires edges { edges.now ≡ reduced_edges recording.now }
+    ensures { IfOk result (λ ends. ends ≡ ends_in recording.now) }
+{
+    let totals = recording.totals.as_slice();
+    let mut ends = Items::new(alloc);
+    for core in 0..recording.params.cores {
+        ends.push(ends_of_core(alloc, edges, core, totals[core as usize])?)?;
+    }
+    Ok(ends)
+}

@@ -1,0 +1,11 @@
+//! Readings and spellings of certificates are the same.
+ghost use Rattle.certificate_codec.specs.Laws.{ReadIsSpelled, SpelledIsRead, WrittenSpells, PrefixFree};
+
+/// What is read is valid and spelled so, what is spelled is read, and so what is written is read again.
+/// No spelling of a certificate begins that of another.
+pub fn certificate_spellings()
+    ensures read { ReadIsSpelled }
+    ensures spelled { SpelledIsRead }
+    ensures written { WrittenSpells }
+    ensures prefix { PrefixFree }
+{}

@@ -1,0 +1,151 @@
+//! Reading certificates, with the first part that has no reading where there is one.
+ghost use Rattle.std.specs.Prelude.{◌≡◌, ◌<◌, length, IfOk, Ok};
+ghost use Rattle.log_codec.specs.Faults.{Gives};
+ghost use Rattle.log_codec.specs.Reading.{number_at};
+ghost use Rattle.log_codec.specs.Turns.{read_in_turn, stay};
+ghost use Rattle.log_codec.specs.Validity.{Valid};
+ghost use Rattle.certificate_codec.specs.Reading.{count_at, entry_at, entries_at, clocks_at, parts_at, certificate_at};
+ghost use Rattle.certificate_codec.specs.Spelling.{Spells};
+ghost use Rattle.certificate_codec.specs.Validity.{IsCertificate};
+ghost use Rattle.certificate_codec.specs.declared.certificate.Certificate.{Certificate as SomeCertificate};
+
+use crate::certificate::{CLOCKS, Certificate, END};
+use crate::edge_ends::EdgeEnds;
+use log_codec::{CodecFault, Recording, read_front};
+use rtr_types::Items;
+use std::alloc::Global;
+use varint_core::take_u32;
+
+/// The number that the bytes begin with, and the bytes after it.
+#[tactic(auto, unfolding(log_codec::specs::Reading::number_at))]
+fn number(bytes: &[u8]) -> Result<(u32, &[u8]), CodecFault>
+    ensures { Gives (λ x. (x.0, x.1.now)) result (number_at CLOCKS bytes.now) }
+{
+    match take_u32(bytes) {
+        Ok((n, len)) => Ok((n, &bytes[len..])),
+        Err(_) => Err(CodecFault::Bad { part: CLOCKS }),
+    }
+}
+
+/// A count of a core, at most its total.
+#[tactic(auto, unfolding(crate::specs::Reading::count_at))]
+fn count<'a>(totals: &[u32], core: usize, bytes: &'a [u8]) -> Result<(u32, &'a [u8]), CodecFault>
+    requires { core < length totals.now }
+    ensures { Gives (λ x. (x.0, x.1.now)) result (count_at totals.now core bytes.now) }
+{
+    let (n, rest) = number(bytes)?;
+    if n > totals[core] {
+        return Err(CodecFault::Bad { part: CLOCKS });
+    }
+    Ok((n, rest))
+}
+
+/// An entry: a count of each core.
+fn entry<'a>(
+    alloc: Global,
+    totals: &[u32],
+    bytes: &'a [u8],
+) -> Result<(Items<u32>, &'a [u8]), CodecFault>
+    ensures { Gives (λ x. (x.0, x.1.now)) result (entry_at totals.now tt bytes.now) }
+{
+    let mut found = Items::new(alloc);
+    let mut rest = bytes;
+    for core in 0..totals.len() {
+        let (next, after) = count(totals, core, rest)?;
+        found.push(next)?;
+        rest = after;
+    }
+    Ok((found, rest))
+}
+
+/// As many entries as the number says.
+fn entries_from<'a>(
+    alloc: Global,
+    totals: &[u32],
+    number: u32,
+    bytes: &'a [u8],
+) -> Result<(Items<Items<u32>>, &'a [u8]), CodecFault>
+    ensures { Gives (λ x. (x.0, x.1.now)) result (read_in_turn (entry_at totals.now) stay number tt bytes.now) }
+{
+    let mut found = Items::new(alloc);
+    let mut rest = bytes;
+    for _ in 0..number {
+        let (next, after) = entry(alloc, totals, rest)?;
+        found.push(next)?;
+        rest = after;
+    }
+    Ok((found, rest))
+}
+
+/// The entries of a core: as many as it has edge ends.
+#[tactic(auto, unfolding(crate::specs::Reading::entries_at))]
+fn entries<'a>(
+    alloc: Global,
+    ends: &EdgeEnds,
+    core: u8,
+    bytes: &'a [u8],
+) -> Result<(Items<Items<u32>>, &'a [u8]), CodecFault>
+    requires { core < ends.now.params.cores }
+    ensures { Gives (λ x. (x.0, x.1.now)) result (entries_at ends.now core bytes.now) }
+{
+    let (n, rest) = number(bytes)?;
+    if n as usize != ends.of_core(core).len() {
+        return Err(CodecFault::Bad { part: CLOCKS });
+    }
+    entries_from(alloc, ends.recording().totals.as_slice(), n, rest)
+}
+
+/// The sixth part: the entries of each core.
+fn clocks<'a>(
+    alloc: Global,
+    recording: &Recording,
+    bytes: &'a [u8],
+) -> Result<(Items<Items<Items<u32>>>, &'a [u8]), CodecFault>
+    requires { Valid recording.now }
+    ensures { Gives (λ x. (x.0, x.1.now)) result (clocks_at recording.now bytes.now) }
+{
+    let ends = EdgeEnds::new(alloc, recording)?;
+    let mut found = Items::new(alloc);
+    let mut rest = bytes;
+    for core in 0..recording.params.cores {
+        let (next, after) = entries(alloc, &ends, core, rest)?;
+        found.push(next)?;
+        rest = after;
+    }
+    Ok((found, rest))
+}
+
+/// The parts but for the end, and the bytes after them.
+#[tactic(auto, unfolding(crate::specs::Reading::parts_at))]
+fn parts(alloc: Global, bytes: &[u8]) -> Result<(Certificate, &[u8]), CodecFault>
+    ensures { Gives (λ x. (x.0, x.1.now)) result (parts_at bytes.now) }
+{
+    let (recording, len) = read_front(alloc, bytes)?;
+    let (clocks, rest) = clocks(alloc, &recording, &bytes[len..])?;
+    Ok((Certificate { recording, clocks }, rest))
+}
+
+/// All parts.
+#[tactic(auto, unfolding(crate::specs::Reading::certificate_at))]
+fn whole(alloc: Global, bytes: &[u8]) -> Result<Certificate, CodecFault>
+    ensures { Gives (λ x. x) result (certificate_at bytes.now) }
+{
+    let (certificate, rest) = parts(alloc, bytes)?;
+    if !rest.is_empty() {
+        return Err(CodecFault::Bad { part: END });
+    }
+    Ok(certificate)
+}
+
+/// The certificate that the bytes spell, all of the bytes. Each certificate that is read is valid by its
+/// form; whether it shows what it says is for a check. A fault names the first part that has no reading.
+pub fn read_certificate(alloc: Global, bytes: &[u8]) -> Result<Certificate, CodecFault>
+    // What is read is spelled so.
+    ensures found { IfOk result (λ c. IsCertificate c × Spells c bytes.now) }
+    // What is spelled so is read, unless memory runs out.
+    ensures only { (c : SomeCertificate) → IsCertificate c → Spells c bytes.now → Gives (λ x. x) result (Ok c) }
+    // Which part it is that has no reading.
+    ensures exact { Gives (λ x. x) result (certificate_at bytes.now) }
+{
+    whole(alloc, bytes)
+}

@@ -1,0 +1,53 @@
+//! Writing certificates.
+ghost use Rattle.std.specs.Prelude.{◌≡◌, ◌++◌, ◌<◌, ◌^◌, ℕ, [], length, slice_index_or, OnOk, IfOk};
+ghost use Rattle.certificate_codec.specs.Spelling.{entry_text, entries_text, clocks_text, spelling};
+ghost use Rattle.certificate_codec.specs.Validity.{IsCertificate};
+
+use crate::certificate::Certificate;
+use log_codec::spell;
+use rtr_types::Items;
+use std::alloc::{AllocError, Global};
+use varint_core::put_u32;
+
+/// An entry: a number for each core.
+fn put_entry(out: &mut Vec<u8>, entry: &[u32]) -> Result<(), AllocError>
+    ensures { OnOk result (out.new.items ≡ out.old.items ++ entry_text tt entry.now) }
+{
+    for count in entry {
+        put_u32(out, *count)?;
+    }
+    Ok(())
+}
+
+/// The entries of a core: how many, and these.
+fn put_entries(out: &mut Vec<u8>, entries: &[Items<u32>]) -> Result<(), AllocError>
+    requires { length entries.now < 2 ^ 32 }
+    ensures { OnOk result (out.new.items ≡ out.old.items ++ entries_text 0 entries.now) }
+{
+    put_u32(out, entries.len() as u32)?;
+    for entry in entries {
+        put_entry(out, entry.as_slice())?;
+    }
+    Ok(())
+}
+
+/// The sixth part: the entries of each core.
+fn put_clocks(out: &mut Vec<u8>, clocks: &[Items<Items<u32>>]) -> Result<(), AllocError>
+    requires { (core : ℕ) → core < length clocks.now → length (slice_index_or clocks.now core []) < 2 ^ 32 }
+    ensures { OnOk result (out.new.items ≡ out.old.items ++ clocks_text clocks.now) }
+{
+    for entries in clocks {
+        put_entries(out, entries.as_slice())?;
+    }
+    Ok(())
+}
+
+/// The spelling of a certificate: that of its recording in the newest version, and then the clocks.
+pub fn spell_certificate(alloc: Global, value: &Certificate) -> Result<Vec<u8>, AllocError>
+    requires { IsCertificate value.now }
+    ensures { IfOk result (λ bytes. bytes.items ≡ spelling value.now) }
+{
+    let mut out = spell(alloc, &value.recording)?;
+    put_clocks(&mut out, value.clocks.as_slice())?;
+    Ok(out)
+}

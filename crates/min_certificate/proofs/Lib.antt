@@ -1,0 +1,7 @@
+pub mod Lows
+pub mod Shown
+pub mod ByCore
+pub mod Looked
+pub mod First
+pub mod Exactly
+pub mod Judged

@@ -1,0 +1,55 @@
+-- What a certificate's clocks have for the instructions of its recording.
+use Rattle.std.specs.Prelude.{◌≡◌, ◌≢◌, ℕ, ◌<◌, ◌≤◌, List, slice_index}
+use Rattle.rtr_types.specs.declared.instr.Instr.{Instr}
+use Rattle.clock_core.specs.Order.{Among}
+use Rattle.clock_entries.specs.Ends.{entry_of}
+use Rattle.clock_entries.specs.Entries.{IsGoodAt, IsNeeded, IsKnownOtherwise, AreGood, AreExact}
+use Rattle.certificate_codec.specs.declared.certificate.Certificate.{Certificate}
+use Rattle.certificate_codec.specs.Ends.{reduced_edges}
+
+-- the last entry of the instruction's core at or before it, at each place
+abbrev pub entry_in : Certificate → Instr → ℕ → ℕ
+entry_in c = entry_of (reduced_edges c.recording) c.clocks
+
+abbrev pub IsGoodIn : Certificate → Instr → Type 0
+IsGoodIn c x = IsGoodAt (reduced_edges c.recording) (entry_in c) x
+
+abbrev pub AreGoodIn : Certificate → Type 0
+AreGoodIn c = AreGood (reduced_edges c.recording) (entry_in c)
+
+abbrev pub AreExactIn : Certificate → Type 0
+AreExactIn c = AreExact (reduced_edges c.recording) (entry_in c)
+
+abbrev pub IsNeededIn : Certificate → Instr → Instr → Type 0
+IsNeededIn c x y = IsNeeded (reduced_edges c.recording) (entry_in c) x y
+
+abbrev pub IsKnownOtherwiseIn : Certificate → Instr → Instr → Type 0
+IsKnownOtherwiseIn c x y = IsKnownOtherwise (reduced_edges c.recording) (entry_in c) x y
+
+-- ---- core by core
+
+-- no place has more there than here
+abbrev pub IsBelow : List ℕ → List ℕ → Type 0
+IsBelow there here = (i : ℕ) → slice_index there i ≤ slice_index here i
+
+-- but for one place
+abbrev pub IsBelowBut : ℕ → List ℕ → List ℕ → Type 0
+IsBelowBut core there here = (i : ℕ) → i ≢ core → slice_index there i ≤ slice_index here i
+
+-- the entry of a logged source of y on this core is nowhere above this one
+abbrev pub IsSourceBelow : Certificate → Instr → (core : ℕ) → List ℕ → Type 0
+IsSourceBelow c y core here =
+    (z : Instr) → Among (reduced_edges c.recording) z y → z.core ≡ core → (i : ℕ) → entry_in c z i ≤ slice_index here i
+
+abbrev pub AreSourcesBelow : Certificate → Instr → List ℕ → Type 0
+AreSourcesBelow c y here =
+    (z : Instr) → Among (reduced_edges c.recording) z y → (i : ℕ) → entry_in c z i ≤ slice_index here i
+
+-- the entry of another logged source of y on this core doesn't know x
+abbrev pub IsUnknownThere : Certificate → Instr → Instr → (core : ℕ) → Type 0
+IsUnknownThere c x y core =
+    (z : Instr) → Among (reduced_edges c.recording) z y → z.core ≡ core → z ≢ x → entry_in c z x.core < x.count
+
+abbrev pub IsUnknownByOthers : Certificate → Instr → Instr → Type 0
+IsUnknownByOthers c x y =
+    (z : Instr) → Among (reduced_edges c.recording) z y → z ≢ x → entry_in c z x.core < x.count

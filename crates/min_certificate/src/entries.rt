@@ -1,0 +1,235 @@
+//! The clocks of a certificate, looked up at the edge ends of its recording, and tested there.
+ghost use Rattle.std.specs.Prelude.{◌≡◌, ◌≤◌, ◌<◌, ◌↔◌, IfSome, IsTrue, Some, slice_index};
+ghost use Rattle.rtr_types.specs.Pairs.{IsPair};
+ghost use Rattle.rtr_types.specs.declared.instr.Instr.{Instr as SomeInstr};
+ghost use Rattle.log_codec.specs.Validity.{Valid};
+ghost use Rattle.clock_core.specs.Order.{Among};
+ghost use Rattle.clock_entries.specs.Ends.{ends_to, last_entry};
+ghost use Rattle.certificate_codec.specs.Ends.{reduced_edges, IsWithin};
+ghost use Rattle.min_certificate.specs.Places.{IsSourceBelow, AreSourcesBelow, IsUnknownThere, IsUnknownByOthers};
+ghost use Rattle.min_certificate.specs.Places.{IsGoodIn, IsNeededIn};
+ghost use Rattle.min_certificate.specs.Firsts.{FirstWithout, FirstBadOf, FirstBad};
+ghost use Rattle.min_certificate.specs.Sound.{IsSound};
+
+use crate::core_accesses::CoreAccesses;
+use crate::places::{entry_at, is_below, is_below_but, place};
+use certificate_codec::EdgeEnds;
+use rtr_types::{Edge, Instr, Items, Which};
+use std::marker::Model;
+
+/// The edge ends of a recording, with clocks for them. Contracts see it as the certificate.
+#[derive(Drop)]
+pub struct Entries<'a> {
+    ends: EdgeEnds<'a>,
+    clocks: &'a [Items<Items<u32>>],
+}
+
+impl<'a> Model for Entries<'a> {
+    ghost use Rattle.certificate_codec.specs.declared.certificate.Certificate.{Certificate};
+
+    ghost Value = { Certificate };
+
+    ghost view = { λ a. record { recording = a.ends; clocks = a.clocks.now } };
+}
+
+impl<'a> Entries<'a> {
+    /// Clocks for these edge ends.
+    pub fn new(ends: EdgeEnds<'a>, clocks: &'a [Items<Items<u32>>]) -> Entries<'a>
+        ensures { result ≡ record { recording = ends.entry; clocks = clocks.now } }
+    {
+        Entries { ends, clocks }
+    }
+
+    /// How many cores there are.
+    fn cores(&self) -> u8
+        ensures cores { result ≡ self.now.recording.params.cores }
+        ensures valid { Valid self.now.recording }
+    {
+        self.ends.recording().params.cores
+    }
+
+    /// The edges of the reduced log, by pair and then by target.
+    pub fn edges(&self) -> &[Edge]
+        ensures edges { result.now ≡ reduced_edges self.now.recording }
+        ensures valid { Valid self.now.recording }
+    {
+        let _ = self.ends.recording();
+        self.ends.edges()
+    }
+
+    /// The edge ends of a core, by rising count.
+    fn ends_of(&self, core: u8) -> &[u32]
+        requires { core < self.now.recording.params.cores }
+        ensures ends { result.now ≡ ends_to (reduced_edges self.now.recording) core (slice_index self.now.recording.totals core) }
+        ensures valid { Valid self.now.recording }
+    {
+        let _ = self.ends.recording();
+        self.ends.of_core(core)
+    }
+
+    /// The instruction's logged source on another core, if there is one.
+    fn source(&self, of: u8, at: Instr) -> Option<Instr>
+        requires { IsPair self.now.recording.params.cores of at.core }
+        ensures some { IfSome result (λ z. Among (reduced_edges self.now.recording) z at × (z.core ≡ of) × IsWithin self.now.recording z) }
+        ensures only { (z : SomeInstr) → Among (reduced_edges self.now.recording) z at → z.core ≡ of → result ≡ Some z }
+    {
+        match self.ends.recording().source(Which::Reduced, of, at) {
+            Some(count) => Some(Instr { core: of, count }),
+            None => None,
+        }
+    }
+
+    /// The last entry of the instruction's core at or before it; empty where there is none.
+    fn entry(&self, at: Instr) -> &'a [u32]
+        requires { IsWithin self.now.recording at }
+        ensures { result.now ≡ last_entry (reduced_edges self.now.recording) self.now.clocks at }
+    {
+        entry_at(self.clocks, at.core, self.ends.number(at))
+    }
+}
+
+// Which entries are good.
+impl<'a> Entries<'a> {
+    /// Whether the entry of the instruction's logged source on another core, if there is one, is nowhere
+    /// above this entry.
+    fn is_source_below(&self, at: Instr, of: u8, here: &[u32]) -> bool
+        requires { IsPair self.now.recording.params.cores of at.core }
+        ensures { IsTrue result ↔ IsSourceBelow self.now at of here.now }
+    {
+        match self.source(of, at) {
+            Some(source) => is_below(self.entry(source), here),
+            None => true,
+        }
+    }
+
+    /// The same for all its logged sources.
+    fn are_sources_below(&self, at: Instr, here: &[u32]) -> bool
+        requires { IsWithin self.now.recording at }
+        ensures { IsTrue result ↔ AreSourcesBelow self.now at here.now }
+    {
+        for of in 0..self.cores() {
+            if of != at.core && !self.is_source_below(at, of, here) {
+                return false;
+            }
+        }
+        true
+    }
+
+    /// Whether the entry of an edge end is good: it has its own count at its own place, at each other
+    /// place at least what its core's previous entry has, and at each place at least what each logged
+    /// source's has.
+    fn is_good_at(&self, at: Instr) -> bool
+        requires within { IsWithin self.now.recording at }
+        requires some { 1 ≤ at.count }
+        ensures { IsTrue result ↔ IsGoodIn self.now at }
+    {
+        let here = self.entry(at);
+        let before = Instr {
+            core: at.core,
+            count: at.count - 1,
+        };
+        place(here, at.core as usize) == at.count
+            && is_below_but(at.core, self.entry(before), here)
+            && self.are_sources_below(at, here)
+    }
+
+    /// The number, from 1, of the core's first entry that isn't good.
+    fn first_bad_of(&self, core: u8) -> Option<u32>
+        requires { core < self.now.recording.params.cores }
+        ensures { FirstBadOf self.now core result }
+    {
+        let ends = self.ends_of(core);
+        for before in 0..ends.len() {
+            let at = Instr {
+                core,
+                count: ends[before],
+            };
+            if !self.is_good_at(at) {
+                return Some(before as u32 + 1);
+            }
+        }
+        None
+    }
+
+    /// The first entry that isn't good: its core, and its number in the core, from 1.
+    pub fn first_bad(&self) -> Option<(u8, u32)>
+        ensures { FirstBad self.now result }
+    {
+        for core in 0..self.cores() {
+            if let Some(number) = self.first_bad_of(core) {
+                return Some((core, number));
+            }
+        }
+        None
+    }
+}
+
+// Which edges are needed.
+impl<'a> Entries<'a> {
+    /// Whether the entry of another logged source of the edge's target than the edge's own, if there is one
+    /// on this core, doesn't know the edge's source.
+    fn is_unknown_there(&self, edge: Edge, of: u8) -> bool
+        requires { IsPair self.now.recording.params.cores of edge.to.core }
+        ensures { IsTrue result ↔ IsUnknownThere self.now edge.from edge.to of }
+    {
+        match self.source(of, edge.to) {
+            Some(source) => {
+                source == edge.from
+                    || place(self.entry(source), edge.from.core as usize) < edge.from.count
+            }
+            None => true,
+        }
+    }
+
+    /// The same for all other logged sources.
+    fn is_unknown_by_others(&self, edge: Edge) -> bool
+        requires { IsWithin self.now.recording edge.to }
+        ensures { IsTrue result ↔ IsUnknownByOthers self.now edge.from edge.to }
+    {
+        for of in 0..self.cores() {
+            if of != edge.to.core && !self.is_unknown_there(edge, of) {
+                return false;
+            }
+        }
+        true
+    }
+
+    /// Whether an edge is needed: neither the entry before its target on the target's core nor that of
+    /// another logged source of the target knows its source.
+    fn is_needed(&self, edge: Edge) -> bool
+        requires within { IsWithin self.now.recording edge.to }
+        requires some { 1 ≤ edge.to.count }
+        ensures { IsTrue result ↔ IsNeededIn self.now edge.from edge.to }
+    {
+        let before = Instr {
+            core: edge.to.core,
+            count: edge.to.count - 1,
+        };
+        place(self.entry(before), edge.from.core as usize) < edge.from.count
+            && self.is_unknown_by_others(edge)
+    }
+
+    /// The first reduced edge that isn't needed.
+    pub fn first_not_needed(&self) -> Option<Edge>
+        ensures { FirstWithout (IsNeededIn self.now) (reduced_edges self.now.recording) result }
+    {
+        for &edge in self.edges() {
+            if !self.is_needed(edge) {
+                return Some(edge);
+            }
+        }
+        None
+    }
+
+    /// The first reduced edge that is no conflict of the accesses, or isn't needed.
+    pub fn first_amiss(&self, accesses: &CoreAccesses) -> Option<Edge>
+        ensures { FirstWithout (IsSound self.now accesses.now) (reduced_edges self.now.recording) result }
+    {
+        for &edge in self.edges() {
+            if !accesses.is_conflict(edge) || !self.is_needed(edge) {
+                return Some(edge);
+            }
+        }
+        None
+    }
+}
