@@ -8,15 +8,14 @@ use Rattle.image_mem.specs.Contents.{Contents}
 use Rattle.rtr_types.specs.Accesses.{is_write}
 use Rattle.rtr_types.specs.declared.access.Access.{Access}
 use Rattle.rtr_types.specs.declared.access.Kind.{Kind}
-use Rattle.rtr_types.specs.declared.access.Kind.TheVariants.{Load as IsLoad, Store as IsStore}
 use Rattle.rtr_types.specs.declared.instr.Instr.{Instr}
 use Rattle.rv_core.specs.declared.core_state.Core.{Core}
-use Rattle.rv_core.specs.declared.core_state.Need.{Need}
-use Rattle.rv_core.specs.declared.core_state.Need.TheVariants.{Local, Load, Store, Done}
 use Rattle.rv_core.specs.Steps.{need, after, wrote, is_done, access_of as used_by}
-use Rattle.rv_core.proofs.LawLemmas.{load_value_law}
+use Rattle.rv_core.proofs.LawLemmas.{unwritten_law}
+use Rattle.rv_core.proofs.OpLemmas.{access_goes}
 use Rattle.msi_state.specs.declared.node.Node.{Node}
-use Rattle.msi_state.specs.Nodes.{Event, Nothing, Retires, Accesses, access_of, allows, event_trying, event_working, event_working_in, next_instr, node_accessing, node_asking, node_trying, node_working, node_working_in}
+use Rattle.msi_state.specs.Nodes.{Event, Nothing, Retires, Accesses, access_of, allows, event_trying, event_working, event_working_in, next_instr}
+use Rattle.msi_state.specs.Nodes.{node_accessing, node_asking, node_trying, node_working, node_working_in}
 use Rattle.msi_state.specs.States.{node_at}
 use Rattle.run_laws.proofs.NodeCores.{core_at_nodes, core_in, kept_cores, node_cores}
 
@@ -40,17 +39,6 @@ abbrev pub CoresAfter : Contents → List Core → Event → List Core → Type 
 CoresAfter image old Nothing new = new ≡ old
 CoresAfter image old (Retires at) new = Retiring image old at None 0 new
 CoresAfter image old (Accesses a) new = Accessing image old a new
-
--- an access that doesn't write leaves what it found
-unwritten : (image : Contents) (core : Core) (needed : Need) (kind : Kind) (word old : ℕ) → need image core ≡ needed
-    → used_by needed ≡ Some (kind, word) → is_write kind ≡ false → wrote image core old ≡ old
-unwritten image core (Load w) kind word old is uses reads = load_value_law image core w old is
-unwritten image core (Store w whole) kind word old is uses reads = absurd (writes uses reads)
-  where
-    writes : ◌≡◌ {A = Option (Kind × ℕ)} (Some (IsStore, w)) (Some (kind, word)) → is_write kind ≡ false → ⊥
-    writes same no_write = let kinds : IsStore ≡ kind = grind arith in let is_false = ap is_write kinds ∙ no_write in absurd cc
-unwritten image core Local kind word old is uses reads = absurd cc
-unwritten image core (Done stop) kind word old is uses reads = absurd cc
 
 -- ---- a core's work
 
@@ -91,20 +79,22 @@ module _ {R K : Type 0} (image : Contents) (carrying : Carrying K) (ns : List (N
       by_test true = record {
         retires = retire (node_accessing image riding carrying rider n word kind) (Some (kind, word)) a.before going uses refl;
         after_is = ap (λ (k : Core). wrote image k a.before) (sym here);
-        reads = λ reads. unwritten image n.core (need image n.core) kind word a.before refl uses reads;
+        reads = λ reads. unwritten_law image n.core kind word a.before uses reads;
       }
       by_test false = kept_cores carrying ns c (node_asking riding n (word / BLOCK_WORDS) kind) same
 
-  working_in : (riding : Riding R) (rider : R) (needed : Need) → need image n.core ≡ needed
-      → CoresAfter image (node_cores ns) (event_working_in needed image riding n)
-      (node_cores (slice_set ns c (node_working_in needed image riding carrying rider n)))
-  working_in riding rider Local is =
-      retire (node_working_in Local image riding carrying rider n) None 0 (ap is_done is) (ap used_by is) refl
-  working_in riding rider (Load word) is = trying_cores riding rider IsLoad word (ap is_done is) (ap used_by is)
-  working_in riding rider (Store word whole) is = trying_cores riding rider IsStore word (ap is_done is) (ap used_by is)
-  working_in riding rider (Done stop) is = kept_cores carrying ns c n same
+  working_in : (riding : Riding R) (rider : R) (used : Option (Kind × ℕ)) (done : Bool) → used_by (need image n.core) ≡ used
+      → is_done (need image n.core) ≡ done
+      → CoresAfter image (node_cores ns) (event_working_in used done image riding n)
+      (node_cores (slice_set ns c (node_working_in used done image riding carrying rider n)))
+  working_in riding rider (Some (kind, word)) done uses is =
+      trying_cores riding rider kind word (access_goes (need image n.core) kind word uses) uses
+  working_in riding rider None true uses is = kept_cores carrying ns c n same
+  working_in riding rider None false uses is =
+      retire (node_working_in None false image riding carrying rider n) None 0 is uses refl
 
   pub working_cores : (riding : Riding R) (rider : R)
       → CoresAfter image (node_cores ns) (event_working image riding n)
       (node_cores (slice_set ns c (node_working image riding carrying rider n)))
-  working_cores riding rider = working_in riding rider (need image n.core) refl
+  working_cores riding rider =
+      working_in riding rider (used_by (need image n.core)) (is_done (need image n.core)) refl refl

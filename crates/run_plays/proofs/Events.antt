@@ -16,7 +16,8 @@ use Rattle.msi_state.specs.Runs.{accesses_in, retired_in}
 use Rattle.msi_data.specs.LastValues.{last_value, memory_left}
 use Rattle.run_outcome.specs.Loads.{note_of}
 use Rattle.replay_core.specs.Plans.{Plan}
-use Rattle.replay_core.specs.Play.{Use, use_of, old_for, words_after, loads_after, accesses_by, core_at, loads_at, instr, need_at, place, touched, play, accesses_from, Plays}
+use Rattle.replay_core.specs.Play.{Use, use_of, old_for, words_after, loads_after, accesses_by, core_at, loads_at, instr, need_at, place, touched, play}
+use Rattle.replay_core.specs.Play.{accesses_from, Plays}
 use Rattle.replay_core.proofs.Steps.{used_within}
 use Rattle.run_laws.proofs.NodeCores.{core_in}
 use Rattle.run_laws.proofs.Working.{Retiring, Accessing, CoresAfter}

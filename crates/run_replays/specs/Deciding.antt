@@ -17,9 +17,11 @@ use Rattle.run_plays.specs.Plays.{IsOfRun}
 use Rattle.run_plays.specs.ReplayOrders.{GoForward}
 
 -- the log's edges go forward in the run, and each edge of the least set is before by them
-pub record CoversRun (image : Contents) (params : Params) (schedule : Choices) (which : Which) (r : Recording) : Type 0 where
+pub record CoversRun (image : Contents) (params : Params) (schedule : Choices) (which : Which) (r : Recording)
+    : Type 0 where
   pub forward : GoForward image params schedule (Among (log_edges which r))
-  pub implied : Within (Among (log_edges Reduced (recording_of image params schedule))) (Before (Among (log_edges which r)))
+  pub implied : Within (Among (log_edges Reduced (recording_of image params schedule)))
+      (Before (Among (log_edges which r)))
 
 -- The order of retirement decides by each such log,
 abbrev pub RunDecidesLaw : Type 0

@@ -31,9 +31,11 @@ use Rattle.run_plays.specs.Plays.{IsOfRun}
 
 -- the order plays by accesses of the run, and each core's loads are the first ones that it has in the run; the order is
 -- whole, and ends where the run does, or it can go on
-pub record FollowsRun (image : Contents) (params : Params) (schedule : Choices) (p : Plan) (order : List ℕ) : Type 0 where
+pub record FollowsRun (image : Contents) (params : Params) (schedule : Choices) (p : Plan) (order : List ℕ)
+    : Type 0 where
   pub plays : Plays p (start p) order
-  pub accesses : (a : Access) → StandsIn (replays.accesses_of p order) a → StandsIn (run_accesses image params schedule) a
+  pub accesses : (a : Access)
+      → StandsIn (replays.accesses_of p order) a → StandsIn (run_accesses image params schedule) a
   pub loads : (c : ℕ)
       → (later : List LoadNote) × (loads_at (outcome_of image params schedule) c ≡ loads_at (played p order) c ++ later)
   pub further : IsWhole p order ⊎ GoesOn p order
