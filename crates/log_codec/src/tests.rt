@@ -1,5 +1,5 @@
 use super::*;
-use rtr_types::{Instr, Which};
+use rtr_types::{CORES_MAX, Instr, Which};
 use std::alloc::{AllocError, Global};
 use std::test::Fail;
 
@@ -9,36 +9,96 @@ const TWO_CORES: [u8; 21] = [
     0, 0,
 ];
 
-// Whole recordings: of one core, of none of its instructions, with one edge, with edges both ways,
-// with strides, and of three cores.
-const WORKED: [(&[u8], &[u8]); 6] = [
-    (
-        &[0x52, 0x54, 0x52, 1, 1, 0x90, 0x4e, 0x80, 0x80, 1, 4],
-        &[0x73, 0, 0, 0, 1],
-    ),
-    (
-        &[0x52, 0x54, 0x52, 1, 1, 0x90, 0x4e, 0x80, 0x80, 1, 0],
-        &[0],
-    ),
-    (&TWO_CORES, &[3, 3, 1, 2, 2, 0, 1, 1, 2, 2, 0]),
-    (
-        &TWO_CORES,
-        &[5, 4, 1, 2, 3, 1, 4, 3, 1, 1, 3, 2, 1, 1, 3, 4],
-    ),
-    (
-        &TWO_CORES,
-        &[6, 8, 3, 3, 3, 1, 1, 3, 1, 0, 2, 2, 3, 3, 1, 1, 1, 5, 7, 0],
-    ),
-    (
-        &[0x52, 0x54, 0x52, 1, 3, 0x90, 0x4e, 0x40, 0, 5, 5, 6],
-        &[
-            0, 0, 0, 1, 4, 4, 1, 4, 5, 0, 0, 0, 0, 1, 1, 4, 4, 1, 1, 5, 4, 0,
+// A recording in both versions: the header after the version and the parts up to the totals, the fourth
+// part pair by pair and target by target, and the fifth part.
+struct Worked {
+    front: &'static [u8],
+    by_pair: &'static [u8],
+    by_target: &'static [u8],
+    rest: &'static [u8],
+}
+
+// Recordings of one core, of none of its instructions, of the shortest and the longest numbers; of two
+// cores with one edge, with edges both ways, with strides; of three cores with an edge into two of them,
+// with two edges to one instruction, and with edges from two cores in turn.
+static WORKED: [Worked; 10] = [
+    Worked {
+        front: &[1, 0x90, 0x4e, 0x80, 0x80, 1, 4, 0x73, 0, 0, 0, 1],
+        by_pair: &[],
+        by_target: &[],
+        rest: &[],
+    },
+    Worked {
+        front: &[1, 0x90, 0x4e, 0x80, 0x80, 1, 0, 0],
+        by_pair: &[],
+        by_target: &[],
+        rest: &[],
+    },
+    Worked {
+        front: &[1, 1, 4, 0, 0],
+        by_pair: &[],
+        by_target: &[],
+        rest: &[],
+    },
+    Worked {
+        front: &[
+            8, 0xa0, 0x8d, 6, 0x80, 0x80, 0x10, 0, 0xa0, 0x8d, 6, 0, 0, 0, 0, 0, 0, 0,
         ],
-    ),
+        by_pair: &[0; 56],
+        by_target: &[0; 8],
+        rest: &[0; 56],
+    },
+    Worked {
+        front: &[2, 0x90, 0x4e, 0x10, 0, 3, 3],
+        by_pair: &[1, 2, 2, 0],
+        by_target: &[0, 1, 2, 0, 2],
+        rest: &[1, 1, 2, 2, 0],
+    },
+    Worked {
+        front: &[2, 0x90, 0x4e, 0x10, 0, 5, 4],
+        by_pair: &[1, 2, 3, 1, 4, 3],
+        by_target: &[1, 4, 1, 3, 1, 2, 0, 3],
+        rest: &[1, 1, 3, 2, 1, 1, 3, 4],
+    },
+    Worked {
+        front: &[2, 0x90, 0x4e, 0x10, 0, 6, 8],
+        by_pair: &[3, 3, 3, 1, 1, 3, 1, 0],
+        by_target: &[0, 3, 3, 0, 3, 1, 0, 1, 3, 0, 1],
+        rest: &[2, 2, 3, 3, 1, 1, 1, 5, 7, 0],
+    },
+    Worked {
+        front: &[3, 0x90, 0x4e, 0x40, 0, 5, 5, 6],
+        by_pair: &[0, 0, 0, 1, 4, 4, 1, 4, 5, 0],
+        by_target: &[1, 4, 2, 5, 0, 1, 4, 1, 4],
+        rest: &[0, 0, 0, 1, 1, 4, 4, 1, 1, 5, 4, 0],
+    },
+    Worked {
+        front: &[3, 0x90, 0x4e, 0x40, 0, 5, 5, 6],
+        by_pair: &[0, 0, 1, 4, 3, 1, 4, 4, 1, 4, 5, 0],
+        by_target: &[2, 4, 1, 3, 0, 2, 5, 0, 1, 4, 1, 4],
+        rest: &[0; 6],
+    },
+    Worked {
+        front: &[3, 0x90, 0x4e, 0x40, 0, 5, 5, 6],
+        by_pair: &[0, 2, 1, 1, 1, 2, 0, 2, 1, 1, 3, 1, 0, 0],
+        by_target: &[0, 0, 4, 1, 0, 1, 0, 1, 1, 1, 0, 2, 2, 1, 1],
+        rest: &[0; 6],
+    },
 ];
 
-// Damaged recordings of one core, and the part that is named.
-const ONE_CORE_DAMAGED: [(&[u8], u8); 11] = [
+// Recordings of version 2 that are beyond the limits of version 1: of one core, and of four.
+const ONLY_NEW: [&[u8]; 2] = [
+    &[
+        0x52, 0x54, 0x52, 2, 1, 0xc0, 0x84, 0x3d, 4, 0, 0xc0, 0x84, 0x3d,
+    ],
+    &[
+        0x52, 0x54, 0x52, 2, 4, 0xc0, 0x84, 0x3d, 4, 0, 0, 0, 0, 0, 0, 0, 0, 0, 0, 0, 0, 0, 0, 0,
+        0, 0, 0, 0, 0, 0,
+    ],
+];
+
+// Damaged recordings of one core, or damaged in the header, and the part that is named.
+const ONE_CORE_DAMAGED: [(&[u8], u8); 17] = [
     (&[], HEADER),
     (
         &[
@@ -58,6 +118,34 @@ const ONE_CORE_DAMAGED: [(&[u8], u8); 11] = [
         TOTALS,
     ),
     (&[0x52, 0x54, 0x52, 1, 1, 0x90, 0x4e, 4, 0, 1, 0], END),
+    // Each version has its own limits.
+    (&[0x52, 0x54, 0x52, 1, 1, 0xa1, 0x8d, 6, 4, 0, 0], HEADER),
+    (&[0x52, 0x54, 0x52, 2, 1, 0xc1, 0x84, 0x3d, 4, 0, 0], HEADER),
+    (&[0x52, 0x54, 0x52, 2, 5, 0xc0, 0x84, 0x3d, 4, 0, 0], HEADER),
+    (&[0x52, 0x54, 0x52, 2, 0, 1, 4, 0], HEADER),
+    (&[0x52, 0x54, 0x52, 2, 0x11, 1, 4, 0], HEADER),
+    (&[0x52, 0x54, 0x52, 2, 1, 1, 4, 0, 1, 0], END),
+];
+
+// Damaged fourth parts of version 2, of three cores with totals 5, 5 and 6.
+const BY_TARGET_DAMAGED: [&[u8]; 12] = [
+    // Two edges to one instruction whose source cores fall, or are the same.
+    &[2, 4, 2, 5, 0, 1, 3, 0, 1, 4, 1, 4],
+    &[2, 4, 1, 3, 0, 1, 1, 0, 0],
+    // The first edge leads to no instruction.
+    &[1, 0, 1, 3, 0, 0],
+    // The core itself, and a core that there isn't.
+    &[1, 4, 0, 3, 0, 0],
+    &[1, 4, 3, 3, 0, 0],
+    // No rise of the source, and counts above the totals.
+    &[1, 4, 1, 0, 0, 0],
+    &[1, 4, 1, 6, 0, 0],
+    &[1, 6, 1, 5, 0, 0],
+    &[2, 4, 1, 3, 1, 1, 3, 0, 0],
+    &[1, 4, 1, 0xff, 0xff, 0xff, 0xff, 0x0f, 0, 0],
+    // A count that no file can hold, and a number that isn't the shortest.
+    &[0xff, 0xff, 0xff, 0xff, 0x0f, 4, 1, 3],
+    &[1, 4, 0x81, 0, 3, 0, 0],
 ];
 
 // Damaged totals and logs of two cores, and the part that is named.
@@ -87,15 +175,79 @@ fn joined(alloc: Global, front: &[u8], rest: &[u8]) -> Result<Vec<u8>, AllocErro
     Ok(out)
 }
 
-// What is read is spelled by the bytes that it was read from.
+// The bytes of a worked recording in a version.
+fn spelled(alloc: Global, version: u8, row: &Worked) -> Result<Vec<u8>, AllocError> {
+    let mut out = joined(alloc, &[0x52, 0x54, 0x52, version], row.front)?;
+    out.extend_from_slice(if version == 1 {
+        row.by_pair
+    } else {
+        row.by_target
+    })?;
+    out.extend_from_slice(row.rest)?;
+    Ok(out)
+}
+
+// What is read is spelled by the bytes that it was read from, in its version, and by those of the other.
 #[test]
-fn worked(rt: HostRuntime) -> Result<(), Fail> {
-    for (front, rest) in WORKED {
-        let bytes = joined(rt.alloc(), front, rest)?;
-        let recording = read(rt.alloc(), &bytes)?;
-        let again = spell(rt.alloc(), &recording)?;
-        assert_eq!(rt; again.as_slice(), bytes.as_slice());
+fn worked_rows(rt: HostRuntime) -> Result<(), Fail> {
+    for row in &WORKED {
+        let old = spelled(rt.alloc(), 1, row)?;
+        let new = spelled(rt.alloc(), 2, row)?;
+        for bytes in [&old, &new] {
+            let recording = read(rt.alloc(), bytes)?;
+            let again = spell(rt.alloc(), &recording)?;
+            assert_eq!(rt; again.as_slice(), new.as_slice());
+            assert!(rt; fits_old(&recording.params));
+            let before = spell_v1(rt.alloc(), &recording)?;
+            assert_eq!(rt; before.as_slice(), old.as_slice());
+        }
     }
+    Ok(())
+}
+
+// Version 2 goes beyond the limits of version 1.
+#[test]
+fn beyond_the_old_limits(rt: HostRuntime) -> Result<(), Fail> {
+    for bytes in ONLY_NEW {
+        let recording = read(rt.alloc(), bytes)?;
+        assert!(rt; !fits_old(&recording.params));
+        let again = spell(rt.alloc(), &recording)?;
+        assert_eq!(rt; again.as_slice(), bytes);
+    }
+    Ok(())
+}
+
+// Edges between all pairs of as many cores as there can be: each core's instructions 1 and 2 come after
+// those of every other core with the same counts.
+#[test]
+fn edges_between_all_pairs(rt: HostRuntime) -> Result<(), Fail> {
+    let mut bytes = joined(rt.alloc(), &[0x52, 0x54, 0x52, 2], &[CORES_MAX, 2, 4, 0])?;
+    for _ in 0..CORES_MAX {
+        bytes.push(2)?;
+    }
+    for target in 0..CORES_MAX {
+        bytes.push(2 * (CORES_MAX - 1))?;
+        for _ in 0..2 {
+            let mut rise = 1;
+            for source in 0..CORES_MAX {
+                if source != target {
+                    bytes.extend_from_slice(&[rise, source, 1])?;
+                    rise = 0;
+                }
+            }
+        }
+    }
+    for _ in 0..CORES_MAX {
+        for _ in 1..CORES_MAX {
+            bytes.push(0)?;
+        }
+    }
+    let recording = read(rt.alloc(), &bytes)?;
+    for edges in recording.reduced.as_slice() {
+        assert_eq!(rt; edges.as_slice(), [(1, 1), (2, 2)].as_slice());
+    }
+    let again = spell(rt.alloc(), &recording)?;
+    assert_eq!(rt; again.as_slice(), bytes.as_slice());
     Ok(())
 }
 
@@ -152,6 +304,16 @@ fn damaged(rt: HostRuntime) -> Result<(), Fail> {
         let bytes = joined(rt.alloc(), &TWO_CORES, rest)?;
         let fault = read(rt.alloc(), &bytes).err();
         assert_eq!(rt; fault, Some(CodecFault::Bad { part }), "in {rest:?}");
+    }
+    for rest in BY_TARGET_DAMAGED {
+        let front = [0x52, 0x54, 0x52, 2, 3, 0x90, 0x4e, 0x40, 0, 5, 5, 6];
+        let bytes = joined(rt.alloc(), &front, rest)?;
+        let fault = read(rt.alloc(), &bytes).err();
+        assert_eq!(rt;
+            fault,
+            Some(CodecFault::Bad { part: REDUCED }),
+            "in {rest:?}"
+        );
     }
     Ok(())
 }

@@ -24,7 +24,7 @@ pub const CUT_PARTS: [u8; 32] = [
     1, 1, 1, 1, 1, 1, 1, 1, 1, 2, 2, 2, 2, 2, 2, 2, 2, 2, 2, 2, 2, 3, 3, 4, 4, 4, 4, 5, 5, 5, 5, 5,
 ];
 
-pub static ROWS: [Row; 47] = [
+pub static ROWS: [Row; 54] = [
     // A run of one core is recorded.
     Row {
         words: "record",
@@ -298,6 +298,85 @@ pub static ROWS: [Row; 47] = [
         rest: "",
         text: "cores 2 limit 10000 words 32 image 32\ntotal 0 5\ntotal 1 4\nreduced 2\nedge 0:3 1:2\nedge 1:3 0:4\nregulated 2 vectors 2 edges\nvector 0 1 1 3 2\nvector 1 0 1 3 4\n",
         report: "",
+    },
+    // The same recording in version 2 says the same, and is what either one migrates to.
+    Row {
+        words: "print",
+        input: "52545202 02 904e 20 20 631a0500 93027000 23205004 03230004 73000000 83230004 2320a004 73000000 0504 01040103 01020003 01010302 01010304",
+        copies: 1,
+        status: 0,
+        output: "",
+        echoes: false,
+        rest: "",
+        text: "cores 2 limit 10000 words 32 image 32\ntotal 0 5\ntotal 1 4\nreduced 2\nedge 0:3 1:2\nedge 1:3 0:4\nregulated 2 vectors 2 edges\nvector 0 1 1 3 2\nvector 1 0 1 3 4\n",
+        report: "",
+    },
+    Row {
+        words: "migrate",
+        input: "52545201 02 904e 20 20 631a0500 93027000 23205004 03230004 73000000 83230004 2320a004 73000000 0504 01 02 03 01 04 03 01 01 03 02 01 01 03 04",
+        copies: 1,
+        status: 0,
+        output: "52545202 02 904e 20 20 631a0500 93027000 23205004 03230004 73000000 83230004 2320a004 73000000 0504 01040103 01020003 01010302 01010304",
+        echoes: false,
+        rest: "",
+        text: "",
+        report: "",
+    },
+    Row {
+        words: "migrate",
+        input: "52545202 02 904e 20 20 631a0500 93027000 23205004 03230004 73000000 83230004 2320a004 73000000 0504 01040103 01020003 01010302 01010304",
+        copies: 1,
+        status: 0,
+        output: "52545202 02 904e 20 20 631a0500 93027000 23205004 03230004 73000000 83230004 2320a004 73000000 0504 01040103 01020003 01010302 01010304",
+        echoes: false,
+        rest: "",
+        text: "",
+        report: "",
+    },
+    // Two edges lead to one instruction. They stand by their source cores, which can't fall.
+    Row {
+        words: "migrate",
+        input: "52545201 03 904e 40 2c 93021000 63085500 631c0500 23205004 73000000 03230004 23205008 73000000 83230008 03230004 73000000 050506 00 00 010403 010404 010405 00 000000000000",
+        copies: 1,
+        status: 0,
+        output: "52545202 03 904e 40 2c 93021000 63085500 631c0500 23205004 73000000 03230004 23205008 73000000 83230008 03230004 73000000 050506 02 040103 000205 00 01 040104 000000000000",
+        echoes: false,
+        rest: "",
+        text: "",
+        report: "",
+    },
+    Row {
+        words: "print",
+        input: "52545202 03 904e 40 2c 93021000 63085500 631c0500 23205004 73000000 03230004 23205008 73000000 83230008 03230004 73000000 050506 02 040205 000103 00 01 040104 000000000000",
+        copies: 1,
+        status: 3,
+        output: "",
+        echoes: false,
+        rest: "",
+        text: "",
+        report: "rtr: bad input, part 4\n",
+    },
+    Row {
+        words: "migrate",
+        input: "52545202 02 904e 10 0c",
+        copies: 1,
+        status: 3,
+        output: "",
+        echoes: false,
+        rest: "",
+        text: "",
+        report: "rtr: bad input, part 2\n",
+    },
+    Row {
+        words: "migrate",
+        input: "52545203 02 904e 20 20 631a0500 93027000 23205004 03230004 73000000 83230004 2320a004 73000000 0504 01 02 03 01 04 03 01 01 03 02 01 01 03 04",
+        copies: 1,
+        status: 3,
+        output: "",
+        echoes: false,
+        rest: "",
+        text: "",
+        report: "rtr: bad input, part 1\n",
     },
     // Damaged recordings: the first part without a reading is named.
     Row {
