@@ -436,7 +436,7 @@ pub static RUNS: [Run; 17] = [
 ];
 
 /// Words that mean nothing.
-pub static FAULTY: [&str; 46] = [
+pub static FAULTY: [&str; 51] = [
     "run --cores 9",
     "run --cores 0",
     "run --cores 01",
@@ -483,4 +483,9 @@ pub static FAULTY: [&str; 46] = [
     "replay --loads --loads",
     "record --cores 9",
     "record --choices 0",
+    "",
+    "record --words 6",
+    "record --cores 01",
+    "record --limit 2 --limit 2",
+    "replay --limit 1",
 ];
