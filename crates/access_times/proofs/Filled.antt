@@ -10,13 +10,16 @@ use Rattle.clock_core.specs.declared.clock.Clock.{Clock}
 use Rattle.rtr_types.specs.declared.TheConstants.{BLOCK_WORDS, CORES_MAX}
 use Rattle.access_times.specs.declared.times.SlotTimes.{SlotTimes}
 use Rattle.access_times.specs.declared.times.Times.{Times}
-use Rattle.access_times.specs.Times.{newer_read, read_in, read_noted, no_reads, slot_loaded, slot_stored, slot_set, times_loaded, times_stored, reads_absorbed, slot_absorbed, is_same_write, slot_at, missing_slot, times_absorbed}
+use Rattle.access_times.specs.Times.{newer_read, read_in, read_noted, no_reads, slot_loaded, slot_stored, slot_set, times_loaded, times_stored, reads_absorbed}
+use Rattle.access_times.specs.Times.{slot_absorbed, is_same_write, slot_at, missing_slot, times_absorbed}
 
-pub reads_filled : (a b reads : List (Option (ℕ × Clock))) (core : ℕ) → length reads ≡ CORES_MAX → CORES_MAX ≤ core → ((k : ℕ) → k < core → read_in reads k ≡ newer_read (read_in a k) (read_in b k)) → reads ≡ reads_absorbed a b
+pub reads_filled : (a b reads : List (Option (ℕ × Clock))) (core : ℕ) → length reads ≡ CORES_MAX → CORES_MAX ≤ core →
+    ((k : ℕ) → k < core → read_in reads k ≡ newer_read (read_in a k) (read_in b k)) → reads ≡ reads_absorbed a b
 unfolding reads_absorbed
 reads_filled a b reads core long end done = fill_by_all (λ k. newer_read (read_in a k) (read_in b k)) reads CORES_MAX None long (λ k lt. done k (omega arith))
 
-pub slot_filled : (a b x : SlotTimes) → is_same_write a.write b.write ≡ true → x.write ≡ a.write → x.reads ≡ reads_absorbed a.reads b.reads → x ≡ slot_absorbed a b
+pub slot_filled : (a b x : SlotTimes) → is_same_write a.write b.write ≡ true → x.write ≡ a.write → x.reads ≡ reads_absorbed a.reads b.reads →
+    x ≡ slot_absorbed a b
 slot_filled a b x same w e = by (is_same_write a.write b.write) same
   where
     by : (t : Bool) → t ≡ true → x ≡ (if t then record a { reads = reads_absorbed a.reads b.reads } else a)
@@ -28,27 +31,34 @@ slot_filled a b x same w e = by (is_same_write a.write b.write) same
 pub stored_filled : (at : Instr) (clock : Clock) (x : SlotTimes) (core : ℕ) → x.write ≡ Some (at, clock) → length x.reads ≡ CORES_MAX → CORES_MAX ≤ core
     → ((k : ℕ) → k < core → read_in x.reads k ≡ None) → x ≡ slot_stored at clock
 stored_filled at clock x core w long end done =
-    ap (λ (r : List (Option (ℕ × Clock))). (let s : SlotTimes = record { write = x.write; reads = r } in s)) (fill_by_all (λ k. None) x.reads CORES_MAX None long (λ k lt. done k (omega arith)))
+    ap (λ (r : List (Option (ℕ × Clock))). (let s : SlotTimes = record { write = x.write; reads = r } in s))
+    (fill_by_all (λ k. None) x.reads CORES_MAX None long (λ k lt. done k (omega arith)))
     ∙ ap (λ (v : Option (Instr × Clock)). (let s : SlotTimes = record { write = v; reads = no_reads } in s)) w
 
-pub slots_filled : (a b x : Times) (slot : ℕ) → length x.slots ≡ BLOCK_WORDS → BLOCK_WORDS ≤ slot → ((k : ℕ) → k < slot → slot_at x k ≡ slot_absorbed (slot_at a k) (slot_at b k)) → x ≡ times_absorbed a b
+pub slots_filled : (a b x : Times) (slot : ℕ) → length x.slots ≡ BLOCK_WORDS → BLOCK_WORDS ≤ slot →
+    ((k : ℕ) → k < slot → slot_at x k ≡ slot_absorbed (slot_at a k) (slot_at b k)) → x ≡ times_absorbed a b
 unfolding times_absorbed
-slots_filled a b x slot long end done = ap (λ (y : List SlotTimes). (let t : Times = record { slots = y } in t)) (fill_by_all (λ k. slot_absorbed (slot_at a k) (slot_at b k)) x.slots BLOCK_WORDS missing_slot long (λ k lt. done k (omega arith)))
+slots_filled a b x slot long end done =
+    ap (λ (y : List SlotTimes). (let t : Times = record { slots = y } in t))
+    (fill_by_all (λ k. slot_absorbed (slot_at a k) (slot_at b k)) x.slots BLOCK_WORDS missing_slot long (λ k lt. done k (omega arith)))
 
 -- a list with one place set is the list of what is at each place
-set_filled : {X : Type 0} (xs : List X) (n j : ℕ) (x d : X) (f : ℕ → X) → length xs ≡ n → j < n → f j ≡ x → ((k : ℕ) → (k ≡ j → ⊥) → f k ≡ slice_index_or xs k d) → slice_set xs j x ≡ map f (range_with_len 0 n)
+set_filled : {X : Type 0} (xs : List X) (n j : ℕ) (x d : X) (f : ℕ → X) → length xs ≡ n → j < n → f j ≡ x →
+    ((k : ℕ) → (k ≡ j → ⊥) → f k ≡ slice_index_or xs k d) → slice_set xs j x ≡ map f (range_with_len 0 n)
 set_filled xs n j x d f long lt here there =
     fill_by_all f (slice_set xs j x) n d (length-set xs j x ∙ long)
     (λ k lk. grind (arith, get_or-set_same xs j x d (let e = long in omega arith), get_or-set_other xs j k x d, there, here))
 
-pub read_set : (a : SlotTimes) (at : Instr) (clock : Clock) → length a.reads ≡ CORES_MAX → at.core < CORES_MAX → ◌≡◌ {A = SlotTimes} (record { write = a.write; reads = slice_set a.reads at.core (Some (at.count, clock)) }) (slot_loaded a at clock)
+pub read_set : (a : SlotTimes) (at : Instr) (clock : Clock) → length a.reads ≡ CORES_MAX → at.core < CORES_MAX →
+    ◌≡◌ {A = SlotTimes} (record { write = a.write; reads = slice_set a.reads at.core (Some (at.count, clock)) }) (slot_loaded a at clock)
 unfolding slot_loaded
 read_set a at clock long lt =
     ap (λ (r : List (Option (ℕ × Clock))). (let s : SlotTimes = record { write = a.write; reads = r } in s))
     (set_filled a.reads CORES_MAX at.core (Some (at.count, clock)) None (λ core. read_noted a at clock core) long lt (grind (arith, nat_tests))
     (λ k other. grind (arith, nat_tests)))
 
-pub load_set : (t : Times) (slot : ℕ) (at : Instr) (clock : Clock) (x : SlotTimes) → length t.slots ≡ BLOCK_WORDS → slot < BLOCK_WORDS → x ≡ slot_loaded (slot_at t slot) at clock → ◌≡◌ {A = Times} (record { slots = slice_set t.slots slot x }) (times_loaded t slot at clock)
+pub load_set : (t : Times) (slot : ℕ) (at : Instr) (clock : Clock) (x : SlotTimes) → length t.slots ≡ BLOCK_WORDS → slot < BLOCK_WORDS →
+    x ≡ slot_loaded (slot_at t slot) at clock → ◌≡◌ {A = Times} (record { slots = slice_set t.slots slot x }) (times_loaded t slot at clock)
 unfolding times_loaded
 load_set t slot at clock x long lt e =
     ap (λ (y : List SlotTimes). (let u : Times = record { slots = y } in u))

@@ -14,27 +14,36 @@ use Rattle.log_codec.specs.Validity.{Valid}
 use Rattle.certificate_codec.specs.Ends.{reduced_edges}
 
 range_more : (n : ℕ) → range_with_len 0 (n + 1) ≡ range_with_len 0 n ++ n ∷ []
-range_more n = sym (map_id (range_with_len 0 (n + 1))) ∙ map-range_with_len_more (λ (i : ℕ). i) 0 n n (omega arith) ∙ ap (λ (l : List ℕ). l ++ n ∷ []) (map_id (range_with_len 0 n))
+range_more n = sym (map_id (range_with_len 0 (n + 1))) ∙ map-range_with_len_more (λ (i : ℕ). i) 0 n n (omega arith)
+    ∙ ap (λ (l : List ℕ). l ++ n ∷ []) (map_id (range_with_len 0 n))
   where
     map_id : (l : List ℕ) → map (λ (i : ℕ). i) l ≡ l
     map_id [] = refl
     map_id (x ∷ l) = ap (λ (m : List ℕ). x ∷ m) (map_id l)
 
 -- the edges of one pair more
-pub edges_more : (r : Recording) (place : ℕ) (old new : List Edge) → old ≡ flat_map (edges_at Reduced r) (range_with_len 0 place) → new ≡ old ++ edges_at Reduced r place → new ≡ flat_map (edges_at Reduced r) (range_with_len 0 (place + 1))
+pub edges_more : (r : Recording) (place : ℕ) (old new : List Edge) → old ≡ flat_map (edges_at Reduced r) (range_with_len 0 place) →
+    new ≡ old ++ edges_at Reduced r place → new ≡ flat_map (edges_at Reduced r) (range_with_len 0 (place + 1))
 edges_more r place old new old_is new_is =
-    new_is ∙ ap (λ (l : List Edge). l ++ edges_at Reduced r place) old_is ∙ ap (λ (l : List Edge). flat_map (edges_at Reduced r) (range_with_len 0 place) ++ l) (sym (append-nil (edges_at Reduced r place)))
-    ∙ sym (flat_map-append (edges_at Reduced r) (range_with_len 0 place) (place ∷ [])) ∙ ap (λ (l : List ℕ). flat_map (edges_at Reduced r) l) (sym (range_more place))
+    new_is ∙ ap (λ (l : List Edge). l ++ edges_at Reduced r place) old_is
+    ∙ ap (λ (l : List Edge). flat_map (edges_at Reduced r) (range_with_len 0 place) ++ l) (sym (append-nil (edges_at Reduced r place)))
+    ∙ sym (flat_map-append (edges_at Reduced r) (range_with_len 0 place) (place ∷ []))
+    ∙ ap (λ (l : List ℕ). flat_map (edges_at Reduced r) l) (sym (range_more place))
 
-pub edges_done : (r : Recording) (place : ℕ) (list : List Edge) → place ≡ pair_count r.params.cores → list ≡ flat_map (edges_at Reduced r) (range_with_len 0 place) → list ≡ reduced_edges r
+pub edges_done : (r : Recording) (place : ℕ) (list : List Edge) → place ≡ pair_count r.params.cores →
+    list ≡ flat_map (edges_at Reduced r) (range_with_len 0 place) → list ≡ reduced_edges r
 unfolding log_edges
 edges_done r place list e is = is ∙ ap (λ (n : ℕ). flat_map (edges_at Reduced r) (range_with_len 0 n)) e
 
 -- what is put at the end for the pair at a place
-pub pair_edges_are : (r : Recording) (place : ℕ) (pair : ℕ × ℕ) (lists : List (List (ℕ × ℕ))) (item counts : List (ℕ × ℕ)) (old new : List Edge) → Valid r → place < pair_count r.params.cores →
-    pair ≡ (source_at r.params.cores place, target_at r.params.cores place) → lists ≡ r.reduced → item ≡ get_or lists place item → counts ≡ item → new ≡ old ++ map (edge_between pair.0 pair.1) counts → new ≡ old ++ edges_at Reduced r place
+pub pair_edges_are : (r : Recording) (place : ℕ) (pair : ℕ × ℕ) (lists : List (List (ℕ × ℕ))) (item counts : List (ℕ × ℕ)) (old new : List Edge) → Valid r →
+    place < pair_count r.params.cores →
+    pair ≡ (source_at r.params.cores place, target_at r.params.cores place) → lists ≡ r.reduced → item ≡ get_or lists place item → counts ≡ item →
+    new ≡ old ++ map (edge_between pair.0 pair.1) counts → new ≡ old ++ edges_at Reduced r place
 pair_edges_are r place pair lists item counts old new valid lt p l i k is =
-    is ∙ ap (λ (m : List (ℕ × ℕ)). old ++ map (edge_between pair.0 pair.1) m) list ∙ ap (λ (a : ℕ × ℕ). old ++ map (edge_between a.0 a.1) (get_or r.reduced place [])) p
+    is ∙ ap (λ (m : List (ℕ × ℕ)). old ++ map (edge_between pair.0 pair.1) m) list
+    ∙ ap (λ (a : ℕ × ℕ). old ++ map (edge_between a.0 a.1) (get_or r.reduced place [])) p
   where
     list : counts ≡ get_or r.reduced place []
-    list = k ∙ i ∙ ap (λ (m : List (List (ℕ × ℕ))). get_or m place item) l ∙ get_or_default r.reduced place item [] (subst (λ (n : ℕ). place < n) (sym valid.each_reduced) lt)
+    list = k ∙ i ∙ ap (λ (m : List (List (ℕ × ℕ))). get_or m place item) l
+        ∙ get_or_default r.reduced place item [] (subst (λ (n : ℕ). place < n) (sym valid.each_reduced) lt)

@@ -33,10 +33,12 @@ or_two false true c = refl
 or_two false false c = refl
 
 -- both ends of one edge more are marked
-pub marked_more : (edges : List Edge) (i : ℕ) (d : Edge) (x : Instr) (old first second : Bool) → i < length edges → old ≡ is_end (take i edges) x → first ≡ is_same (get_or edges i d).from x || old →
+pub marked_more : (edges : List Edge) (i : ℕ) (d : Edge) (x : Instr) (old first second : Bool) → i < length edges → old ≡ is_end (take i edges) x →
+    first ≡ is_same (get_or edges i d).from x || old →
     second ≡ is_same (get_or edges i d).to x || first → second ≡ is_end (take (i + 1) edges) x
 marked_more edges i d x old first second lt was one two =
-    two ∙ ap (λ (b : Bool). is_same e.to x || b) (one ∙ ap (λ (b : Bool). is_same e.from x || b) was) ∙ or_two (is_same e.from x) (is_same e.to x) (is_end (take i edges) x)
+    two ∙ ap (λ (b : Bool). is_same e.to x || b) (one ∙ ap (λ (b : Bool). is_same e.from x || b) was)
+    ∙ or_two (is_same e.from x) (is_same e.to x) (is_end (take i edges) x)
     ∙ sym (is_end-push (take i edges) e x) ∙ ap (λ (l : List Edge). is_end l x) (sym (one_more edges i d lt))
   where
     e : Edge

@@ -77,6 +77,7 @@ prefix_free c d first second x y vc vd sc sd e =
     (ap (λ (p : Certificate × List ℕ). p.0) same, ap (λ (p : Certificate × List ℕ). p.1) same)
 
 -- what a reader answered
-pub is_found : (bytes : List ℕ) (result : Result Certificate CodecFault) → IsBytes bytes → Gives (λ x. x) result (certificate_at bytes) → IfOk result (λ c. IsCertificate c × Spells c bytes)
+pub is_found : (bytes : List ℕ) (result : Result Certificate CodecFault) → IsBytes bytes → Gives (λ x. x) result (certificate_at bytes) →
+    IfOk result (λ c. IsCertificate c × Spells c bytes)
 is_found bytes (Ok c) are e = read_is_spelled bytes c are e
 is_found bytes (Err f) are e = tt

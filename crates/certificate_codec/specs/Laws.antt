@@ -8,7 +8,8 @@ use Rattle.certificate_codec.specs.Reading.{certificate_at}
 
 -- what is read is spelled so
 abbrev pub ReadIsSpelled : Type 0
-ReadIsSpelled = (bytes : List ℕ) (c : Certificate) → IsBytes bytes → certificate_at bytes ≡ Ok c → IsCertificate c × Spells c bytes
+ReadIsSpelled = (bytes : List ℕ) (c : Certificate) → IsBytes bytes → certificate_at bytes ≡ Ok c → IsCertificate c
+    × Spells c bytes
 
 -- what is spelled is read
 abbrev pub SpelledIsRead : Type 0
@@ -20,4 +21,5 @@ WrittenSpells = (c : Certificate) → Spells c (spelling c)
 
 -- no spelling begins another
 abbrev pub PrefixFree : Type 0
-PrefixFree = (c d : Certificate) (first second x y : List ℕ) → IsCertificate c → IsCertificate d → Spells c first → Spells d second → first ++ x ≡ second ++ y → (c ≡ d) × (x ≡ y)
+PrefixFree = (c d : Certificate) (first second x y : List ℕ) → IsCertificate c → IsCertificate d → Spells c first →
+    Spells d second → first ++ x ≡ second ++ y → (c ≡ d) × (x ≡ y)

@@ -15,14 +15,16 @@ merged_over-at p clock [] z i s = absurd s
 merged_over-at p clock (w ∷ zs) z i (inl e) = let same : clock w i ≡ clock z i = ap (λ (v : Instr). clock v i) e in omega arith
 merged_over-at p clock (w ∷ zs) z i (inr s) = omega (arith, merged_over-at p clock zs z i s)
 
-merged_over-from : (p : ℕ → ℕ) (clock : Instr → ℕ → ℕ) (zs : List Instr) (n i : ℕ) → n ≤ merged_over p clock zs i → (n ≤ p i) ⊎ ((z : Instr) × IsOneOf zs z × (n ≤ clock z i))
+merged_over-from : (p : ℕ → ℕ) (clock : Instr → ℕ → ℕ) (zs : List Instr) (n i : ℕ) → n ≤ merged_over p clock zs i →
+    (n ≤ p i) ⊎ ((z : Instr) × IsOneOf zs z × (n ≤ clock z i))
 merged_over-from p clock [] n i le = inl le
 merged_over-from p clock (z ∷ zs) n i le = by (split n (clock z i) (merged_over p clock zs i) le) (merged_over-from p clock zs n i)
   where
     split : (n x y : ℕ) → n ≤ max x y → (n ≤ x) ⊎ (n ≤ y)
     split n x y h = grind arith
 
-    by : (n ≤ clock z i) ⊎ (n ≤ merged_over p clock zs i) → (n ≤ merged_over p clock zs i → (n ≤ p i) ⊎ ((v : Instr) × IsOneOf zs v × (n ≤ clock v i))) → (n ≤ p i) ⊎ ((v : Instr) × IsOneOf (z ∷ zs) v × (n ≤ clock v i))
+    by : (n ≤ clock z i) ⊎ (n ≤ merged_over p clock zs i) → (n ≤ merged_over p clock zs i → (n ≤ p i) ⊎ ((v : Instr) × IsOneOf zs v × (n ≤ clock v i))) →
+        (n ≤ p i) ⊎ ((v : Instr) × IsOneOf (z ∷ zs) v × (n ≤ clock v i))
     by (inl a) f = inr (z, inl refl, a)
     by (inr a) f = on (f a)
       where
@@ -73,7 +75,8 @@ merge_any E y sources p clock pos acyclic source p_is clock_is x x_pos = (to (na
     not_later e q (inl le) = le
     not_later e q (inr lt) = absurd (acyclic (joined E y x y (one E y x (inl (sym e, lt))) q))
 
-    onto_previous : (w : Instr) → IsOrLeads E x w → x.core ≢ y.core → ProgramOrder w y → (w.count ≡ y.count - 1) ⊎ (w.count < y.count - 1) → IsOrLeads E x (previous y)
+    onto_previous : (w : Instr) → IsOrLeads E x w → x.core ≢ y.core → ProgramOrder w y → (w.count ≡ y.count - 1) ⊎ (w.count < y.count - 1) →
+        IsOrLeads E x (previous y)
     onto_previous w u d s (inl f) = subst (λ (v : Instr). IsOrLeads E x v) (instr_eq w (previous y) s.0 f) u
     onto_previous w (inl e) d s (inr lt) = absurd (d (ap (λ (v : Instr). v.core) e ∙ s.0))
     onto_previous w (inr q) d s (inr lt) = inr (joined E x w (previous y) q (one E w (previous y) (inl (s.0, lt))))

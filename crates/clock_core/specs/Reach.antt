@@ -4,7 +4,8 @@ use Rattle.rtr_types.specs.declared.instr.Instr.{Instr}
 use Rattle.rtr_types.specs.declared.instr.Edge.{Edge}
 use Rattle.clock_core.specs.Order.{Relation, Before, IsOrLeads, Among, previous}
 
--- at place i the clock has the number of instructions of core i that are y or lead to y, which are the first ones of that core
+-- at place i the clock has the number of instructions of core i that are y or lead to y, which are the first ones of
+-- that core
 abbrev pub IsClock : Relation → Instr → (ℕ → ℕ) → Type 0
 IsClock E y clock = (x : Instr) → 1 ≤ x.count → (x.count ≤ clock x.core) ↔ IsOrLeads E x y
 
@@ -35,5 +36,6 @@ MergeLaw = (edges : List Edge) (y : Instr) (sources : List Instr) (own : ℕ →
 
 -- Two clocks of one instruction have the same count at each place.
 abbrev pub OneClockLaw : Type 0
-OneClockLaw = (edges : List Edge) (y : Instr) (first second : ℕ → ℕ) → IsClock (Among edges) y first → IsClock (Among edges) y second →
+OneClockLaw = (edges : List Edge) (y : Instr) (first second : ℕ → ℕ) → IsClock (Among edges) y first →
+    IsClock (Among edges) y second →
     (i : ℕ) → first i ≡ second i

@@ -14,7 +14,8 @@ use Rattle.conflict_edge.proofs.Reversed.{pair_back, pair_forth, reverse-next}
 use Rattle.conflict_edge.proofs.Reach.{rising_next}
 
 pub candidates_law : CandidatesLaw
-candidates_law list a edges rise suffices before x y p = by (subst (λ (g : List Access). Pair g x y) (reverse-next list a) (pair_forth (list ++ (a ∷ [])) x y p))
+candidates_law list a edges rise suffices before x y p =
+    by (subst (λ (g : List Access). Pair g x y) (reverse-next list a) (pair_forth (list ++ (a ∷ [])) x y p))
   where
     rising : Rising (a ∷ reverse list)
     rising = rising_next list a rise
@@ -46,7 +47,8 @@ noted list (Some d) None b is e = absurd is
 noted list (Some d) (Some n) b is e = ap (λ (v : Instr). Some v) (is.0 ∙ ap (λ (v : Access). v.at) (some_is d b e))
 
 -- what is noted is of an access
-noted_from : (list : List Access) (here : Option Access) (note : Option (Instr × Clock)) (z : Instr) → IsNoteOf list here note → IsNoted note z → (b : Access) × (here ≡ Some b) × (b.at ≡ z)
+noted_from : (list : List Access) (here : Option Access) (note : Option (Instr × Clock)) (z : Instr) → IsNoteOf list here note → IsNoted note z → (b : Access)
+    × (here ≡ Some b) × (b.at ≡ z)
 noted_from list None None z is e = absurd (no_instr z e)
   where
     no_instr : (v : Instr) → None ≡ Some v → ⊥
@@ -61,14 +63,16 @@ noted_from list (Some d) (Some n) z is e = (d, refl, sym is.0 ∙ same n.0 z e)
 pub times_law : TimesLaw
 times_law list a write read exact z fits = (λ c. to c.0 c.1 c.2 c.3, λ q. back q.0 q.1)
   where
-    to : (b : Access) → (last_write (reverse list) a.word ≡ Some b) ⊎ ((is_write a.kind ≡ true) × (last_read (reverse list) a.word b.at.core ≡ Some b)) → b.at.core ≢ a.at.core → b.at ≡ z →
+    to : (b : Access) → (last_write (reverse list) a.word ≡ Some b) ⊎ ((is_write a.kind ≡ true) × (last_read (reverse list) a.word b.at.core ≡ Some b)) →
+        b.at.core ≢ a.at.core → b.at ≡ z →
         (z.core ≢ a.at.core) × (IsNoted write z ⊎ ((is_write a.kind ≡ true) × IsNoted (read z.core) z))
     to b here other e = (subst (λ (v : Instr). v.core ≢ a.at.core) e other, by here)
       where
         core : b.at.core ≡ z.core
         core = ap (λ (v : Instr). v.core) e
 
-        by : (last_write (reverse list) a.word ≡ Some b) ⊎ ((is_write a.kind ≡ true) × (last_read (reverse list) a.word b.at.core ≡ Some b)) → IsNoted write z ⊎ ((is_write a.kind ≡ true) × IsNoted (read z.core) z)
+        by : (last_write (reverse list) a.word ≡ Some b) ⊎ ((is_write a.kind ≡ true) × (last_read (reverse list) a.word b.at.core ≡ Some b)) → IsNoted write z
+            ⊎ ((is_write a.kind ≡ true) × IsNoted (read z.core) z)
         by (inl w) = inl (subst (IsNoted write) e (noted list (last_write (reverse list) a.word) write b exact.write_is w))
         by (inr r) =
             let last = subst (λ (k : ℕ). last_read (reverse list) a.word k ≡ Some b) core r.1 in
@@ -80,5 +84,9 @@ times_law list a write read exact z fits = (λ c. to c.0 c.1 c.2 c.3, λ q. back
         (q.0, inl q.1, subst (λ (v : Instr). v.core ≢ a.at.core) (sym q.2) other, q.2)
     back other (inr r) =
         let q = noted_from list (last_read (reverse list) a.word z.core) (read z.core) z (exact.read_is z.core fits) r.1 in
-        let core : z.core ≡ q.0.at.core = ap (λ (v : Instr). v.core) (sym q.2) in
-        (q.0, inr (r.0, subst (λ (k : ℕ). last_read (reverse list) a.word k ≡ Some q.0) core q.1), subst (λ (v : Instr). v.core ≢ a.at.core) (sym q.2) other, q.2)
+        let core : z.core ≡ q.0.at.core = ap (λ (v : Instr). v.core) (sym q.2) in (
+          q.0,
+          inr (r.0, subst (λ (k : ℕ). last_read (reverse list) a.word k ≡ Some q.0) core q.1),
+          subst (λ (v : Instr). v.core ≢ a.at.core) (sym q.2) other,
+          q.2,
+        )

@@ -13,7 +13,8 @@ use Rattle.rtr_types.specs.declared.access.Access.{Access}
 use Rattle.rtr_types.specs.declared.instr.Instr.{Instr}
 
 -- the equations of the clock
-pub clock-newest : (a : Access) (h : List Access) (y : Instr) (i : ℕ) → reaches a y ≡ true → clock (a ∷ h) y i ≡ max (clock h y i) (greatest (λ b. clock h b.at i) a h)
+pub clock-newest : (a : Access) (h : List Access) (y : Instr) (i : ℕ) → reaches a y ≡ true →
+    clock (a ∷ h) y i ≡ max (clock h y i) (greatest (λ b. clock h b.at i) a h)
 unfolding clock
 clock-newest a h y i e = rw e refl
 
@@ -133,10 +134,12 @@ widen_up a h x y (inr p) = inr (widen a h x y p)
 -- x leads to a through b
 through : (a : Access) (h : List Access) (x : Instr) (b : Access) → StandsIn h b → Conflicts b a → UpTo h x b.at → Before (Pair (a ∷ h)) x a.at
 through a h x b stands c (inl e) = one (Pair (a ∷ h)) x a.at (inr (inl (refl, (b, stands, sym e, c))))
-through a h x b stands c (inr p) = joined (Pair (a ∷ h)) x b.at a.at (widen a h x b.at p) (one (Pair (a ∷ h)) b.at a.at (inr (inl (refl, (b, stands, refl, c)))))
+through a h x b stands c (inr p) =
+    joined (Pair (a ∷ h)) x b.at a.at (widen a h x b.at p) (one (Pair (a ∷ h)) b.at a.at (inr (inl (refl, (b, stands, refl, c)))))
 
 -- along a core from a to y
-onwards : (a : Access) (h : List Access) (x y : Instr) → (a.at.core ≡ y.core) × (a.at.count ≤ y.count) → Before (Pair (a ∷ h)) x a.at → Before (Pair (a ∷ h)) x y
+onwards : (a : Access) (h : List Access) (x y : Instr) → (a.at.core ≡ y.core) × (a.at.count ≤ y.count) → Before (Pair (a ∷ h)) x a.at →
+    Before (Pair (a ∷ h)) x y
 onwards a h x y r p = elim (eq-or-lt_of_le r.1) [
   | inl e ↦ subst (λ (z : Instr). Before (Pair (a ∷ h)) x z) (instr_eq a.at y r.0 e) p
   | inr lt ↦ joined (Pair (a ∷ h)) x a.at y p (one (Pair (a ∷ h)) a.at y (inl (r.0, lt)))

@@ -47,10 +47,19 @@ pub record Ends (h : List Access) (x y : Instr) : Type 0 where
 
 pub ends : (h : List Access) (x y : Instr) → Pair h x y → Ends h x y
 ends [] x y p = absurd p
-ends (a ∷ h) x y (inl p) = record { first = p.1.0; second = a; first_stands = inr p.1.1; second_stands = inl refl; first_at = p.1.2; second_at = p.0; conflict = p.1.3 }
+ends (a ∷ h) x y (inl p) =
+    record { first = p.1.0; second = a; first_stands = inr p.1.1; second_stands = inl refl; first_at = p.1.2; second_at = p.0; conflict = p.1.3 }
 ends (a ∷ h) x y (inr p) =
     let e = ends h x y p in
-    record { first = e.first; second = e.second; first_stands = inr e.first_stands; second_stands = inr e.second_stands; first_at = e.first_at; second_at = e.second_at; conflict = e.conflict }
+    record {
+      first = e.first;
+      second = e.second;
+      first_stands = inr e.first_stands;
+      second_stands = inr e.second_stands;
+      first_at = e.first_at;
+      second_at = e.second_at;
+      conflict = e.conflict;
+    }
 
 -- the newest access isn't at or before an instruction of an older one
 pub older : (a : Access) (h : List Access) (b : Access) (y : Instr) → Rising (a ∷ h) → StandsIn h b → b.at ≡ y → reaches a y ≡ false

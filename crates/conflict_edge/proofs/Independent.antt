@@ -19,7 +19,8 @@ cases_instr x y = elim (nat x.core y.core) [
     nat m n = grind arith
 
 -- a path that ends before y has no edge into y
-no_edge_into : (C E : Relation) → Within E C → ((x : Instr) → Before C x x → ⊥) → (x y : Instr) → (n : ℕ) (u v : Instr) → Path E n u v → Before C v y → Path (Others E x y) n u v
+no_edge_into : (C E : Relation) → Within E C → ((x : Instr) → Before C x x → ⊥) → (x y : Instr) → (n : ℕ) (u v : Instr) → Path E n u v → Before C v y →
+    Path (Others E x y) n u v
 no_edge_into C E within acyclic x y zero u v (inl s) after = inl s
 no_edge_into C E within acyclic x y zero u v (inr s) after = inr (s, λ _ e. acyclic y (subst (λ (w : Instr). Before C w y) e after))
 no_edge_into C E within acyclic x y (suc n) u v p after =
@@ -32,7 +33,8 @@ no_edge_into C E within acyclic x y (suc n) u v p after =
     no_step (inr s) on = inr (s, λ _ e. acyclic y (subst (λ (w : Instr). Before C w y) e on))
 
 -- a path that begins after x has no edge out of x
-no_edge_from : (C E : Relation) → Within E C → ((x : Instr) → Before C x x → ⊥) → (x y : Instr) → (n : ℕ) (u v : Instr) → Path E n u v → Before C x u → Path (Others E x y) n u v
+no_edge_from : (C E : Relation) → Within E C → ((x : Instr) → Before C x x → ⊥) → (x y : Instr) → (n : ℕ) (u v : Instr) → Path E n u v → Before C x u →
+    Path (Others E x y) n u v
 no_edge_from C E within acyclic x y zero u v (inl s) before = inl s
 no_edge_from C E within acyclic x y zero u v (inr s) before = inr (s, λ e _. acyclic x (subst (λ (w : Instr). Before C x w) e before))
 no_edge_from C E within acyclic x y (suc n) u v p before =
@@ -44,14 +46,16 @@ no_edge_from C E within acyclic x y (suc n) u v p before =
     no_step (inr s) = inr (s, λ e _. acyclic x (subst (λ (w : Instr). Before C x w) e before))
 
 -- where E suffices, a pair with something strictly between is implied by the others
-pub implied : (C E : Relation) → Within E C → Within C (Before E) → ((x : Instr) → Before C x x → ⊥) → (x y z : Instr) → Before C x z → Before C z y → Before (Others E x y) x y
+pub implied : (C E : Relation) → Within E C → Within C (Before E) → ((x : Instr) → Before C x x → ⊥) → (x y z : Instr) → Before C x z → Before C z y →
+    Before (Others E x y) x y
 implied C E within suffices acyclic x y z p q =
     let p' = mapped C E suffices x z p in
     let q' = mapped C E suffices z y q in
     joined (Others E x y) x z y (p'.0, no_edge_into C E within acyclic x y p'.0 x z p'.1 q) (q'.0, no_edge_from C E within acyclic x y q'.0 z y q'.1 p)
 
 -- a pair with nothing between is in each sufficient set
-pub in_each : (C E : Relation) → Within E C → Within C (Before E) → ((x y : Instr) → C x y → x.core ≢ y.core) → (x y : Instr) → C x y → ((z : Instr) → Before C x z → Before C z y → ⊥) → E x y
+pub in_each : (C E : Relation) → Within E C → Within C (Before E) → ((x y : Instr) → C x y → x.core ≢ y.core) → (x y : Instr) → C x y →
+    ((z : Instr) → Before C x z → Before C z y → ⊥) → E x y
 in_each C E within suffices cores x y c nothing = from (suffices x y c).0 (suffices x y c).1
   where
     to_c : (a b : Instr) → Before E a b → Before C a b
@@ -82,7 +86,8 @@ pub without : (es : List Edge) (x y : Instr) → (fs : List Edge) × Within (Amo
 without [] x y = ([], λ a b s. absurd s, λ a b s. absurd s.0)
 without (e ∷ es) x y = pick (without es x y) (cases_instr e.from x) (cases_instr e.to y)
   where
-    keep : (fs : List Edge) × Within (Among fs) (Others (Among es) x y) × Within (Others (Among es) x y) (Among fs) → (e.from ≡ x → e.to ≡ y → ⊥) → (fs : List Edge) × Within (Among fs) (Others (Among (e ∷ es)) x y) × Within (Others (Among (e ∷ es)) x y) (Among fs)
+    keep : (fs : List Edge) × Within (Among fs) (Others (Among es) x y) × Within (Others (Among es) x y) (Among fs) → (e.from ≡ x → e.to ≡ y → ⊥) →
+        (fs : List Edge) × Within (Among fs) (Others (Among (e ∷ es)) x y) × Within (Others (Among (e ∷ es)) x y) (Among fs)
     keep r other = (e ∷ r.0, into, out)
       where
         into : Within (Among (e ∷ r.0)) (Others (Among (e ∷ es)) x y)
@@ -96,7 +101,8 @@ without (e ∷ es) x y = pick (without es x y) (cases_instr e.from x) (cases_ins
         out : Within (Others (Among (e ∷ es)) x y) (Among (e ∷ r.0))
         out a b s = out_by a b s.0 s.1
 
-    skip : (fs : List Edge) × Within (Among fs) (Others (Among es) x y) × Within (Others (Among es) x y) (Among fs) → e.from ≡ x → e.to ≡ y → (fs : List Edge) × Within (Among fs) (Others (Among (e ∷ es)) x y) × Within (Others (Among (e ∷ es)) x y) (Among fs)
+    skip : (fs : List Edge) × Within (Among fs) (Others (Among es) x y) × Within (Others (Among es) x y) (Among fs) → e.from ≡ x → e.to ≡ y → (fs : List Edge)
+        × Within (Among fs) (Others (Among (e ∷ es)) x y) × Within (Others (Among (e ∷ es)) x y) (Among fs)
     skip r p q = (r.0, into, out)
       where
         into : Within (Among r.0) (Others (Among (e ∷ es)) x y)
@@ -109,7 +115,8 @@ without (e ∷ es) x y = pick (without es x y) (cases_instr e.from x) (cases_ins
         out : Within (Others (Among (e ∷ es)) x y) (Among r.0)
         out a b s = out_by a b s.0 s.1
 
-    pick : (fs : List Edge) × Within (Among fs) (Others (Among es) x y) × Within (Others (Among es) x y) (Among fs) → (e.from ≡ x) ⊎ (e.from ≢ x) → (e.to ≡ y) ⊎ (e.to ≢ y) → (fs : List Edge) × Within (Among fs) (Others (Among (e ∷ es)) x y) × Within (Others (Among (e ∷ es)) x y) (Among fs)
+    pick : (fs : List Edge) × Within (Among fs) (Others (Among es) x y) × Within (Others (Among es) x y) (Among fs) → (e.from ≡ x) ⊎ (e.from ≢ x) →
+        (e.to ≡ y) ⊎ (e.to ≢ y) → (fs : List Edge) × Within (Among fs) (Others (Among (e ∷ es)) x y) × Within (Others (Among (e ∷ es)) x y) (Among fs)
     pick r (inl p) (inl q) = skip r p q
     pick r (inl p) (inr q) = keep r (λ _ g. q g)
     pick r (inr p) _ = keep r (λ g _. p g)

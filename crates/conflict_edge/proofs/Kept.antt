@@ -27,11 +27,13 @@ Blocked h x y = (x.count ≤ clock h (previous y) x.core) ⊎ ((z : Instr) × Pa
 
 -- ---- a decision over the sources of y
 
-decide_source : (P : Instr → Type 0) → ((z : Instr) → P z ⊎ (P z → ⊥)) → (h : List Access) (a : Access) → ((z : Instr) × Source h a z × P z) ⊎ ((z : Instr) → Source h a z → P z → ⊥)
+decide_source : (P : Instr → Type 0) → ((z : Instr) → P z ⊎ (P z → ⊥)) → (h : List Access) (a : Access) → ((z : Instr) × Source h a z × P z)
+    ⊎ ((z : Instr) → Source h a z → P z → ⊥)
 decide_source P test [] a = inr (λ z s _. s.1)
 decide_source P test (b ∷ h) a = pick (cases_Bool (do_conflict b a)) (test b.at) (decide_source P test h a)
   where
-    pick : (do_conflict b a ≡ true) ⊎ (do_conflict b a ≡ false) → P b.at ⊎ (P b.at → ⊥) → ((z : Instr) × Source h a z × P z) ⊎ ((z : Instr) → Source h a z → P z → ⊥) → ((z : Instr) × Source (b ∷ h) a z × P z) ⊎ ((z : Instr) → Source (b ∷ h) a z → P z → ⊥)
+    pick : (do_conflict b a ≡ true) ⊎ (do_conflict b a ≡ false) → P b.at ⊎ (P b.at → ⊥) → ((z : Instr) × Source h a z × P z)
+        ⊎ ((z : Instr) → Source h a z → P z → ⊥) → ((z : Instr) × Source (b ∷ h) a z × P z) ⊎ ((z : Instr) → Source (b ∷ h) a z → P z → ⊥)
     pick _ _ (inl r) = inl (r.0, (r.1.0, inr r.1.1, r.1.2, r.1.3), r.2)
     pick (inl e) (inl p) (inr f) = inl (b.at, (b, inl refl, refl, do_conflict-true b a e), p)
     pick (inl e) (inr p) (inr f) = inr (λ z s. by z s.0 s.1 s.2 s.3)
@@ -45,11 +47,13 @@ decide_source P test (b ∷ h) a = pick (cases_Bool (do_conflict b a)) (test b.a
         by z d (inl g) at c q = let t : true ≡ false = sym (do_conflict-yes b a (subst (λ (w : Access). Conflicts w a) (sym g) c)) ∙ e in absurd cc
         by z d (inr g) at c q = f z (d, g, at, c) q
 
-decide_pair : (P : Instr → Type 0) → ((z : Instr) → P z ⊎ (P z → ⊥)) → (h : List Access) (y : Instr) → ((z : Instr) × Pair h z y × P z) ⊎ ((z : Instr) → Pair h z y → P z → ⊥)
+decide_pair : (P : Instr → Type 0) → ((z : Instr) → P z ⊎ (P z → ⊥)) → (h : List Access) (y : Instr) → ((z : Instr) × Pair h z y × P z)
+    ⊎ ((z : Instr) → Pair h z y → P z → ⊥)
 decide_pair P test [] y = inr (λ z s _. s)
 decide_pair P test (a ∷ h) y = pick (cases_instr a.at y) (decide_source P test h a) (decide_pair P test h y)
   where
-    pick : (a.at ≡ y) ⊎ (a.at ≢ y) → ((z : Instr) × Source h a z × P z) ⊎ ((z : Instr) → Source h a z → P z → ⊥) → ((z : Instr) × Pair h z y × P z) ⊎ ((z : Instr) → Pair h z y → P z → ⊥) → ((z : Instr) × Pair (a ∷ h) z y × P z) ⊎ ((z : Instr) → Pair (a ∷ h) z y → P z → ⊥)
+    pick : (a.at ≡ y) ⊎ (a.at ≢ y) → ((z : Instr) × Source h a z × P z) ⊎ ((z : Instr) → Source h a z → P z → ⊥) → ((z : Instr) × Pair h z y × P z)
+        ⊎ ((z : Instr) → Pair h z y → P z → ⊥) → ((z : Instr) × Pair (a ∷ h) z y × P z) ⊎ ((z : Instr) → Pair (a ∷ h) z y → P z → ⊥)
     pick _ _ (inl r) = inl (r.0, inr r.1, r.2)
     pick (inl e) (inl s) (inr f) = inl (s.0, inl (e, s.1), s.2)
     pick (inl e) (inr g) (inr f) = inr by
@@ -83,10 +87,12 @@ kept_or_blocked h x y p = pick (cases_lt (clock h (previous y) x.core) x.count) 
     lt_of z (inr le) f = absurd (f le)
     lt_of z (inl lt) f = lt
 
-    pick : (clock h (previous y) x.core < x.count) ⊎ (x.count ≤ clock h (previous y) x.core) → ((z : Instr) × Pair h z y × Blocks h x z) ⊎ ((z : Instr) → Pair h z y → Blocks h x z → ⊥) → Kept h x y ⊎ Blocked h x y
+    pick : (clock h (previous y) x.core < x.count) ⊎ (x.count ≤ clock h (previous y) x.core) → ((z : Instr) × Pair h z y × Blocks h x z)
+        ⊎ ((z : Instr) → Pair h z y → Blocks h x z → ⊥) → Kept h x y ⊎ Blocked h x y
     pick (inr le) _ = inr (inl le)
     pick (inl lt) (inl r) = inr (inr (r.0, r.1, r.2.other, r.2.reached))
-    pick (inl lt) (inr f) = inl (record { pair = p; own = lt; others = λ z s d. lt_of z (cases_lt (clock h z x.core) x.count) (λ le. f z s (record { other = d; reached = le })) })
+    pick (inl lt) (inr f) =
+        inl (record { pair = p; own = lt; others = λ z s d. lt_of z (cases_lt (clock h z x.core) x.count) (λ le. f z s (record { other = d; reached = le })) })
 
 -- ---- kept is covering
 
@@ -111,7 +117,8 @@ kept_covers h x y rising k = (k.pair, λ z p q. let l = last_at (Pair h) q.0 z y
 -- ---- covering pairs suffice
 
 -- a path whose rank goes up by at most n
-short_at : (h : List Access) → Rising h → (n : ℕ) → ((x y : Instr) → Pair h x y → rank h y ≤ rank h x + n → Before (Cover h) x y) → (m : ℕ) (u v : Instr) → Path (Pair h) m u v → rank h v ≤ rank h u + n → Before (Cover h) u v
+short_at : (h : List Access) → Rising h → (n : ℕ) → ((x y : Instr) → Pair h x y → rank h y ≤ rank h x + n → Before (Cover h) x y) → (m : ℕ) (u v : Instr) →
+    Path (Pair h) m u v → rank h v ≤ rank h u + n → Before (Cover h) u v
 short_at h rising n each zero u v (inl s) le = one (Cover h) u v (inl s)
 short_at h rising n each zero u v (inr s) le = each u v s le
 short_at h rising n each (suc m) u v p le =
@@ -131,7 +138,8 @@ stands_pos (b ∷ h) a rising (inr s) = stands_pos h a rising.2 s
 at_pos : (h : List Access) (a : Access) (x : Instr) → Rising h → StandsIn h a → a.at ≡ x → 1 ≤ x.count
 at_pos h a x rising stands e = subst (λ (z : Instr). 1 ≤ z.count) e (stands_pos h a rising stands)
 
-suffices_more : (h : List Access) → Rising h → (n : ℕ) → ((x y : Instr) → Pair h x y → rank h y ≤ rank h x + n → Before (Cover h) x y) → (x y : Instr) → Pair h x y → rank h y ≤ rank h x + suc n → Before (Cover h) x y
+suffices_more : (h : List Access) → Rising h → (n : ℕ) → ((x y : Instr) → Pair h x y → rank h y ≤ rank h x + n → Before (Cover h) x y) → (x y : Instr) →
+    Pair h x y → rank h y ≤ rank h x + suc n → Before (Cover h) x y
 suffices_more h rising n each x y p le = by (kept_or_blocked h x y p)
   where
     cores : x.core ≢ y.core

@@ -1,5 +1,6 @@
 -- The covering pairs of a list and one access more.
-use Rattle.std.proofs.Common.{◌≡◌, ◌≢◌, ℕ, ◌+◌, ◌<◌, ◌≤◌, ◌⊎◌, List, [], ◌∷◌, reverse, ◌++◌, length, refl, sym, ◌∙◌, ap, subst, inl, inr, arith, true, get_or, take, drop, not, ◌&&◌, ◌||◌, nat_eq, nat_lt, nat_le}
+use Rattle.std.proofs.Common.{◌≡◌, ◌≢◌, ℕ, ◌+◌, ◌<◌, ◌≤◌, ◌⊎◌, List, [], ◌∷◌, reverse, ◌++◌, length, refl, sym, ◌∙◌, ap, subst, inl, inr, arith, true, get_or}
+use Rattle.std.proofs.Common.{take, drop, not, ◌&&◌, ◌||◌, nat_eq, nat_lt, nat_le}
 use Rattle.std.proofs.lemmas.Bool.{and_parts, or_cases, cases_lt}
 use Rattle.std.proofs.lemmas.List.{take_more, take-append-drop, get_or_append_left, get_or_push, length_push}
 use Rattle.std.proofs.lemmas.Bool.Decides.{nat_tests}
@@ -61,7 +62,8 @@ cover_widens a h x y r c =
     kept_covers (a ∷ h) x y r (record {
       pair = inr k.pair;
       own = let e = old_previous a h x y x.core r k.pair in let lt = k.own in omega arith;
-      others = λ z p d. let q = old_pair a h z y (not_newest a h x y r k.pair) p in let e = old_source a h z y x.core r q in let lt = k.others z q d in omega arith;
+      others = λ z p d. let q = old_pair a h z y (not_newest a h x y r k.pair) p in let e = old_source a h z y x.core r q in let lt = k.others z q d in
+          omega arith;
     })
 
 -- an old pair that covers now did so before
@@ -83,14 +85,22 @@ cover_cases a h x y r c = by c.0
 
 -- covering, over the list and with the newest first
 to_cover : (l : List Access) (x y : Instr) → Covering l x y → Cover (reverse l) x y
-to_cover l x y c = (pair_forth l x y c.0, λ z p q. c.1 z (more (Pair (reverse l)) (ConflictPair l) (pair_back l) x z p) (more (Pair (reverse l)) (ConflictPair l) (pair_back l) z y q))
+to_cover l x y c = (
+  pair_forth l x y c.0,
+  λ z p q. c.1 z (more (Pair (reverse l)) (ConflictPair l) (pair_back l) x z p) (more (Pair (reverse l)) (ConflictPair l) (pair_back l) z y q),
+)
 
 from_cover : (l : List Access) (x y : Instr) → Cover (reverse l) x y → Covering l x y
-from_cover l x y c = (pair_back l x y c.0, λ z p q. c.1 z (more (ConflictPair l) (Pair (reverse l)) (pair_forth l) x z p) (more (ConflictPair l) (Pair (reverse l)) (pair_forth l) z y q))
+from_cover l x y c = (
+  pair_back l x y c.0,
+  λ z p q. c.1 z (more (ConflictPair l) (Pair (reverse l)) (pair_forth l) x z p) (more (ConflictPair l) (Pair (reverse l)) (pair_forth l) z y q),
+)
 
 -- the covering pairs of the longer list
-pub covering_next : (l : List Access) (a : Access) (old new : List Edge) → CountsRise (l ++ (a ∷ [])) → AreCovering l old → AddsCoveringInto (l ++ (a ∷ [])) a old new → AreCovering (l ++ (a ∷ [])) new
-covering_next l a old new rise was adds x y = (λ s. to ((adds x y).0 s), λ c. (adds x y).1 (back (cover_cases a (reverse l) x y r (in_next x y (to_cover (l ++ (a ∷ [])) x y c)))))
+pub covering_next : (l : List Access) (a : Access) (old new : List Edge) → CountsRise (l ++ (a ∷ [])) → AreCovering l old →
+    AddsCoveringInto (l ++ (a ∷ [])) a old new → AreCovering (l ++ (a ∷ [])) new
+covering_next l a old new rise was adds x y =
+    (λ s. to ((adds x y).0 s), λ c. (adds x y).1 (back (cover_cases a (reverse l) x y r (in_next x y (to_cover (l ++ (a ∷ [])) x y c)))))
   where
     r : Rising (a ∷ reverse l)
     r = rising l a rise
@@ -110,7 +120,8 @@ covering_next l a old new rise was adds x y = (λ s. to ((adds x y).0 s), λ c. 
     back (inr q) = inr (q.0, from_next x a.at q.1)
 
 -- the exact clocks of the longer list
-pub exact_next : (l : List Access) (a : Access) (clocks next : List Clock) (m : Clock) → CountsRise (l ++ (a ∷ [])) → length clocks ≡ length l → AreExactClocks l clocks → IsExactClock (l ++ (a ∷ [])) a.at m → next ≡ clocks ++ (m ∷ []) → AreExactClocks (l ++ (a ∷ [])) next
+pub exact_next : (l : List Access) (a : Access) (clocks next : List Clock) (m : Clock) → CountsRise (l ++ (a ∷ [])) → length clocks ≡ length l →
+    AreExactClocks l clocks → IsExactClock (l ++ (a ∷ [])) a.at m → next ≡ clocks ++ (m ∷ []) → AreExactClocks (l ++ (a ∷ [])) next
 exact_next l a clocks next m rise len was now is s d e lt = by (cases_lt s (length l))
   where
     by : (s < length l) ⊎ (length l ≤ s) → IsExactClock (l ++ (a ∷ [])) (get_or (l ++ (a ∷ [])) s d).at (get_or next s e)
@@ -135,7 +146,8 @@ pub prefix_rise : (l : List Access) (t : ℕ) (d : Access) → t < length l → 
 prefix_rise l t d lt r = rise-left (take t l ++ (get_or l t d ∷ [])) (drop (t + 1) l) (subst CountsRise (sym (next_is l t d lt)) r)
 
 pub prefix_cores : (l : List Access) (t : ℕ) (d : Access) → t < length l → AreCores l → AreCores (take t l ++ (get_or l t d ∷ []))
-prefix_cores l t d lt r a s = r a (subst (λ (g : List Access). StandsIn g a) (next_is l t d lt) (stands-left (take t l ++ (get_or l t d ∷ [])) (drop (t + 1) l) a s))
+prefix_cores l t d lt r a s =
+    r a (subst (λ (g : List Access). StandsIn g a) (next_is l t d lt) (stands-left (take t l ++ (get_or l t d ∷ [])) (drop (t + 1) l) a s))
 
 -- ---- the test of a list
 
@@ -151,7 +163,8 @@ after_each a (c ∷ later) e b (inl f) same =
     by : (not (nat_eq a.at.core c.at.core) ≡ true) ⊎ (nat_lt a.at.count c.at.count ≡ true) → a.at.count < c.at.count
     by (inl p) = let q = core in absurd (grind (arith, nat_tests))
     by (inr p) = grind (arith, nat_tests)
-after_each a (c ∷ later) e b (inr s) same = after_each a later (and_parts (not (nat_eq a.at.core c.at.core) || nat_lt a.at.count c.at.count) (are_after a later) e).1 b s same
+after_each a (c ∷ later) e b (inr s) same =
+    after_each a later (and_parts (not (nat_eq a.at.core c.at.core) || nat_lt a.at.count c.at.count) (are_after a later) e).1 b s same
 
 -- the parts of the test at its first access
 record Tested (a : Access) (later : List Access) : Type 0 where

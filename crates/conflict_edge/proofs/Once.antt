@@ -1,5 +1,6 @@
 -- No edge stands twice.
-use Rattle.std.proofs.Common.{◌≡◌, ℕ, ◌+◌, ◌-◌, ◌<◌, ◌≤◌, ◌⊎◌, List, [], ◌∷◌, reverse, ◌++◌, refl, sym, ◌∙◌, ap, subst, inl, inr, arith, true, false, nat_eq, ◌&&◌, cond, drop}
+use Rattle.std.proofs.Common.{◌≡◌, ℕ, ◌+◌, ◌-◌, ◌<◌, ◌≤◌, ◌⊎◌, List, [], ◌∷◌, reverse, ◌++◌, refl, sym, ◌∙◌, ap, subst, inl, inr, arith, true, false, nat_eq}
+use Rattle.std.proofs.Common.{◌&&◌, cond, drop}
 use Rattle.std.proofs.lemmas.Bool.{and_parts, cases_Bool}
 use Rattle.std.specs.List.{count_by, sum_by}
 use Rattle.std.specs.List.Sorted.{IsPermutation}
@@ -27,8 +28,10 @@ is_edge-true : (e : Edge) (x y : Instr) → is_edge x y e ≡ true → (e.from �
 is_edge-true e x y h =
     let p = and_parts (nat_eq e.from.core x.core && nat_eq e.from.count x.count) (nat_eq e.to.core y.core && nat_eq e.to.count y.count) h in
     let q = and_parts (nat_eq e.from.core x.core) (nat_eq e.from.count x.count) p.0 in
-    let r = and_parts (nat_eq e.to.core y.core) (nat_eq e.to.count y.count) p.1 in
-    (instr_eq e.from x (eq_true e.from.core x.core q.0) (eq_true e.from.count x.count q.1), instr_eq e.to y (eq_true e.to.core y.core r.0) (eq_true e.to.count y.count r.1))
+    let r = and_parts (nat_eq e.to.core y.core) (nat_eq e.to.count y.count) p.1 in (
+      instr_eq e.from x (eq_true e.from.core x.core q.0) (eq_true e.from.count x.count q.1),
+      instr_eq e.to y (eq_true e.to.core y.core r.0) (eq_true e.to.count y.count r.1),
+    )
 
 count-none : (es : List Edge) (x y : Instr) → (Among es x y → ⊥) → count_by (is_edge x y) es ≡ 0
 count-none [] x y f = refl
@@ -63,7 +66,8 @@ pub once_shuffled : (es fs : List Edge) → IsPermutation es fs → AreOnce es �
 once_shuffled es fs p once x y = omega (arith, sum_by-IsPermutation (λ d. cond (is_edge x y d) 1 0) es fs p, once x y)
 
 -- the edge from b is not among those found from newer accesses
-pub not_yet : (e : List Access) (s : ℕ) (a b : Access) (old new : List Edge) → At e s b → Rising (a ∷ reverse e) → ((x : Instr) → Among old x a.at → ⊥) → FoundFrom (reverse e) (reverse (drop s e)) a old new → Among new b.at a.at → ⊥
+pub not_yet : (e : List Access) (s : ℕ) (a b : Access) (old new : List Edge) → At e s b → Rising (a ∷ reverse e) → ((x : Instr) → Among old x a.at → ⊥) →
+    FoundFrom (reverse e) (reverse (drop s e)) a old new → Among new b.at a.at → ⊥
 not_yet e s a b old new around rising apart found among = by ((found b.at a.at).0 among)
   where
     newer : List Access
@@ -74,7 +78,8 @@ not_yet e s a b old new around rising apart found among = by ((found b.at a.at).
 
     same : (r : Access) → StandsIn newer r → r.at ≡ b.at → ⊥
     same r t f =
-        let g : rank (newer ++ (b ∷ around.older)) r.at ≡ rank (newer ++ (b ∷ around.older)) b.at = ap (λ (v : Instr). rank (newer ++ (b ∷ around.older)) v) f in
+        let g : rank (newer ++ (b ∷ around.older)) r.at ≡ rank (newer ++ (b ∷ around.older)) b.at =
+        ap (λ (v : Instr). rank (newer ++ (b ∷ around.older)) v) f in
         absurd (omega (arith, rank-newer newer b around.older r r' t, rank-mid newer b around.older r', g))
 
     by : Among old b.at a.at ⊎ ((a.at ≡ a.at) × (r : Access) × StandsIn newer r × (r.at ≡ b.at) × Cover (a ∷ reverse e) b.at a.at) → ⊥

@@ -1,5 +1,6 @@
 -- The online rule keeps exactly the covering pairs.
-use Rattle.std.proofs.Common.{◌≡◌, ◌≢◌, ℕ, ◌-◌, ◌<◌, ◌≤◌, ◌⊎◌, ◌↔◌, List, [], ◌∷◌, refl, sym, ◌∙◌, ap, subst, inl, inr, arith, true, false, Some, None, nat_eq, Bool}
+use Rattle.std.proofs.Common.{◌≡◌, ◌≢◌, ℕ, ◌-◌, ◌<◌, ◌≤◌, ◌⊎◌, ◌↔◌, List, [], ◌∷◌, refl, sym, ◌∙◌, ap, subst, inl, inr, arith, true, false, Some, None, nat_eq}
+use Rattle.std.proofs.Common.{Bool}
 use Rattle.std.proofs.Math.Nat.{eq-or-lt_of_le}
 use Rattle.std.proofs.lemmas.Bool.{cases_eq, cases_lt}
 use Rattle.std.proofs.lemmas.Bool.Decides.{nat_tests}
@@ -48,13 +49,17 @@ pub last_read-store : (b : Access) (h : List Access) (word core : ℕ) → b.wor
 unfolding last_read
 last_read-store b h word core p q = let e : nat_eq b.word word ≡ true = grind (arith, nat_tests) in rw (e, q) refl
 
-pub last_read-at : (b : Access) (h : List Access) (word core : ℕ) → b.word ≡ word → is_write b.kind ≡ false → b.at.core ≡ core → last_read (b ∷ h) word core ≡ Some b
+pub last_read-at : (b : Access) (h : List Access) (word core : ℕ) → b.word ≡ word → is_write b.kind ≡ false → b.at.core ≡ core → last_read (b ∷ h) word core
+    ≡ Some b
 unfolding last_read
-last_read-at b h word core p q r = let e : nat_eq b.word word ≡ true = grind (arith, nat_tests) in let d : nat_eq b.at.core core ≡ true = grind (arith, nat_tests) in rw (e, q, d) refl
+last_read-at b h word core p q r = let e : nat_eq b.word word ≡ true = grind (arith, nat_tests) in
+    let d : nat_eq b.at.core core ≡ true = grind (arith, nat_tests) in rw (e, q, d) refl
 
-pub last_read-core : (b : Access) (h : List Access) (word core : ℕ) → b.word ≡ word → is_write b.kind ≡ false → b.at.core ≢ core → last_read (b ∷ h) word core ≡ last_read h word core
+pub last_read-core : (b : Access) (h : List Access) (word core : ℕ) → b.word ≡ word → is_write b.kind ≡ false → b.at.core ≢ core → last_read (b ∷ h) word core
+    ≡ last_read h word core
 unfolding last_read
-last_read-core b h word core p q r = let e : nat_eq b.word word ≡ true = grind (arith, nat_tests) in let d : nat_eq b.at.core core ≡ false = grind (arith, nat_tests) in rw (e, q, d) refl
+last_read-core b h word core p q r = let e : nat_eq b.word word ≡ true = grind (arith, nat_tests) in
+    let d : nat_eq b.at.core core ≡ false = grind (arith, nat_tests) in rw (e, q, d) refl
 
 pub some_is : (b c : Access) → Some b ≡ Some c → b ≡ c
 some_is b c e = cc
@@ -76,7 +81,8 @@ last_write-is (c ∷ h) word b e = by (last_write-is h word b) (cases_eq c.word 
     over : IsWrite h word b → IsWrite (c ∷ h) word b
     over w = record { stands = inr w.stands; word_is = w.word_is; kind_is = w.kind_is }
 
-    by : (last_write h word ≡ Some b → IsWrite h word b) → (c.word ≡ word) ⊎ (c.word ≢ word) → (is_write c.kind ≡ false) ⊎ (is_write c.kind ≡ true) → IsWrite (c ∷ h) word b
+    by : (last_write h word ≡ Some b → IsWrite h word b) → (c.word ≡ word) ⊎ (c.word ≢ word) → (is_write c.kind ≡ false) ⊎ (is_write c.kind ≡ true) →
+        IsWrite (c ∷ h) word b
     by rest (inr p) _ = over (rest (sym (last_write-word c h word p) ∙ e))
     by rest (inl p) (inl q) = over (rest (sym (last_write-load c h word p q) ∙ e))
     by rest (inl p) (inr q) =
@@ -96,7 +102,8 @@ last_read-is (c ∷ h) word core b e = by (last_read-is h word core b) (cases_eq
     over : IsRead h word core b → IsRead (c ∷ h) word core b
     over w = record { stands = inr w.stands; word_is = w.word_is; core_is = w.core_is }
 
-    by : (last_read h word core ≡ Some b → IsRead h word core b) → (c.word ≡ word) ⊎ (c.word ≢ word) → (is_write c.kind ≡ false) ⊎ (is_write c.kind ≡ true) → (c.at.core ≡ core) ⊎ (c.at.core ≢ core) → IsRead (c ∷ h) word core b
+    by : (last_read h word core ≡ Some b → IsRead h word core b) → (c.word ≡ word) ⊎ (c.word ≢ word) → (is_write c.kind ≡ false) ⊎ (is_write c.kind ≡ true) →
+        (c.at.core ≡ core) ⊎ (c.at.core ≢ core) → IsRead (c ∷ h) word core b
     by rest (inr p) _ _ = over (rest (sym (last_read-word c h word core p) ∙ e))
     by rest (inl p) (inr q) _ = absurd (none_some b (sym (last_read-store c h word core p q) ∙ e))
     by rest (inl p) (inl q) (inr r) = over (rest (sym (last_read-core c h word core p q r) ∙ e))
@@ -106,7 +113,8 @@ last_read-is (c ∷ h) word core b e = by (last_read-is h word core b) (cases_eq
 
 -- an access of a word is the last write, the last read of its core, or before one of these
 abbrev pub Found : List Access → Access → Type 0
-Found h b = ((c : Access) × (last_write h b.word ≡ Some c) × UpTo h b.at c.at) ⊎ ((c : Access) × (last_read h b.word b.at.core ≡ Some c) × (is_write b.kind ≡ false) × UpTo h b.at c.at)
+Found h b = ((c : Access) × (last_write h b.word ≡ Some c) × UpTo h b.at c.at)
+    ⊎ ((c : Access) × (last_read h b.word b.at.core ≡ Some c) × (is_write b.kind ≡ false) × UpTo h b.at c.at)
 
 pub found : (h : List Access) (b : Access) → Rising h → StandsIn h b → Found h b
 found [] b rising s = absurd s
@@ -120,11 +128,13 @@ found (c ∷ h) b rising (inr s) = by (found h b rising.2 s) (cases_eq c.word b.
     on_core : c.at.core ≡ b.at.core → Before (Pair (c ∷ h)) b.at c.at
     on_core e = one (Pair (c ∷ h)) b.at c.at (inl (sym e, rising.1 b s (sym e)))
 
-    by : Found h b → (c.word ≡ b.word) ⊎ (c.word ≢ b.word) → (is_write c.kind ≡ false) ⊎ (is_write c.kind ≡ true) → (c.at.core ≡ b.at.core) ⊎ (c.at.core ≢ b.at.core) → Found (c ∷ h) b
+    by : Found h b → (c.word ≡ b.word) ⊎ (c.word ≢ b.word) → (is_write c.kind ≡ false) ⊎ (is_write c.kind ≡ true) → (c.at.core ≡ b.at.core)
+        ⊎ (c.at.core ≢ b.at.core) → Found (c ∷ h) b
     by (inl f) (inr p) _ _ = inl (f.0, last_write-word c h b.word p ∙ f.1, widen_up c h b.at f.0.at f.2)
     by (inr f) (inr p) _ _ = inr (f.0, last_read-word c h b.word b.at.core p ∙ f.1, f.2, widen_up c h b.at f.0.at f.3)
     by _ (inl p) (inr k) (inl e) = inl (c, last_write-at c h b.word p k, inr (on_core e))
-    by _ (inl p) (inr k) (inr e) = inl (c, last_write-at c h b.word p k, inr (one (Pair (c ∷ h)) b.at c.at (inr (inl (refl, (b, s, refl, (λ g. e (sym g), sym p, inr k)))))))
+    by _ (inl p) (inr k) (inr e) =
+        inl (c, last_write-at c h b.word p k, inr (one (Pair (c ∷ h)) b.at c.at (inr (inl (refl, (b, s, refl, (λ g. e (sym g), sym p, inr k)))))))
     by (inl f) (inl p) (inl k) _ = inl (f.0, last_write-load c h b.word p k ∙ f.1, widen_up c h b.at f.0.at f.2)
     by (inr f) (inl p) (inl k) (inl e) = inr (c, last_read-at c h b.word b.at.core p k e, f.2, inr (on_core e))
     by (inr f) (inl p) (inl k) (inr e) = inr (f.0, last_read-core c h b.word b.at.core p k e ∙ f.1, f.2, widen_up c h b.at f.0.at f.3)
@@ -134,7 +144,8 @@ found (c ∷ h) b rising (inr s) = by (found h b rising.2 s) (cases_eq c.word b.
 pub candidate_source : (h : List Access) (a : Access) (z : Instr) → Candidate h a z → Source h a z
 candidate_source h a z c = by c.0 c.1 c.2 c.3
   where
-    by : (b : Access) → (last_write h a.word ≡ Some b) ⊎ ((is_write a.kind ≡ true) × (last_read h a.word b.at.core ≡ Some b)) → b.at.core ≢ a.at.core → b.at ≡ z → Source h a z
+    by : (b : Access) → (last_write h a.word ≡ Some b) ⊎ ((is_write a.kind ≡ true) × (last_read h a.word b.at.core ≡ Some b)) → b.at.core ≢ a.at.core →
+        b.at ≡ z → Source h a z
     by b (inl w) d e = let i = last_write-is h a.word b w in (b, i.stands, e, (d, i.word_is, inl i.kind_is))
     by b (inr w) d e = let i = last_read-is h a.word b.at.core b w.1 in (b, i.stands, e, (d, i.word_is, inr w.0))
 
@@ -145,7 +156,8 @@ pub data Leads (h : List Access) (a : Access) (z : Instr) : Type 0 where
   by_own : UpTo h z (previous a.at) → Leads h a z
 
 -- an access of a's core is at or before the instruction before a
-up_previous : (a : Access) (h : List Access) (c : Access) (z : Instr) → Rising (a ∷ h) → StandsIn h c → c.at.core ≡ a.at.core → UpTo h z c.at → UpTo h z (previous a.at)
+up_previous : (a : Access) (h : List Access) (c : Access) (z : Instr) → Rising (a ∷ h) → StandsIn h c → c.at.core ≡ a.at.core → UpTo h z c.at →
+    UpTo h z (previous a.at)
 up_previous a h c z rising s e up = by (eq-or-lt_of_le {n = c.at.count} {m = a.at.count - 1} (let lt = rising.1 c s e in omega arith)) up
   where
     by : (c.at.count ≡ a.at.count - 1) ⊎ (c.at.count < a.at.count - 1) → UpTo h z c.at → UpTo h z (previous a.at)
@@ -199,7 +211,14 @@ pair_source a h z rising (inr p) =
     absurd (omega arith)
 
 pub kept_online : (h : List Access) (a : Access) (x : Instr) → Rising (a ∷ h) → IsKept h a x → Kept (a ∷ h) x a.at
-kept_online h a x rising k = record { pair = inl (refl, src); own = let e = before_a a h x.core rising in let lt = k.own in omega arith; others = λ z p d. let s = pair_source a h z rising p in let e = source_clock a h z x.core rising s in let lt = below z d (source_leads h a z rising s) in omega arith }
+kept_online h a x rising k =
+    record {
+      pair = inl (refl, src);
+      own = let e = before_a a h x.core rising in let lt = k.own in
+          omega arith;
+      others = λ z p d. let s = pair_source a h z rising p in let e = source_clock a h z x.core rising s in
+          let lt = below z d (source_leads h a z rising s) in omega arith;
+    }
   where
     src : Source h a x
     src = candidate_source h a x k.candidate
@@ -233,7 +252,12 @@ kept_online h a x rising k = record { pair = inl (refl, src); own = let e = befo
     below z d l = below_by z d l (cases_lt (clock h z x.core) x.count)
 
 pub online_kept : (h : List Access) (a : Access) (x : Instr) → Rising (a ∷ h) → Kept (a ∷ h) x a.at → IsKept h a x
-online_kept h a x rising k = record { candidate = cand (source_leads h a x rising src); own = own_below; others = λ z c d. let s = candidate_source h a z c in let e = source_clock a h z x.core rising s in let lt = k.others z (inl (refl, s)) d in omega arith }
+online_kept h a x rising k = record {
+  candidate = cand (source_leads h a x rising src);
+  own = own_below;
+  others = λ z c d. let s = candidate_source h a z c in
+      let e = source_clock a h z x.core rising s in let lt = k.others z (inl (refl, s)) d in omega arith;
+}
   where
     src : Source h a x
     src = pair_source a h x rising k.pair
@@ -257,4 +281,5 @@ online_kept h a x rising k = record { candidate = cand (source_leads h a x risin
 
 -- the rule keeps exactly the covering pairs into the newest access
 pub online_rule : (h : List Access) (a : Access) (x : Instr) → Rising (a ∷ h) → IsKept h a x ↔ Cover (a ∷ h) x a.at
-online_rule h a x rising = (λ k. kept_covers (a ∷ h) x a.at rising (kept_online h a x rising k), λ c. online_kept h a x rising (covers_kept (a ∷ h) x a.at rising c))
+online_rule h a x rising =
+    (λ k. kept_covers (a ∷ h) x a.at rising (kept_online h a x rising k), λ c. online_kept h a x rising (covers_kept (a ∷ h) x a.at rising c))

@@ -19,7 +19,8 @@ up_back list x y (inr p) = inr (more (Pair (reverse list)) (ConflictPair list) (
 
 clock_up : (list : List Access) (x y : Instr) → CountsRise list → IsOrLeads (ConflictPair list) x y → x.count ≤ clock (reverse list) y x.core
 clock_up list x y rise (inl e) = subst (λ (v : Instr). x.count ≤ clock (reverse list) v x.core) e (clock-own (reverse list) x)
-clock_up list x y rise (inr p) = clock-before (reverse list) x y (rising_back list rise) (more (ConflictPair list) (Pair (reverse list)) (pair_forth list) x y p)
+clock_up list x y rise (inr p) =
+    clock-before (reverse list) x y (rising_back list rise) (more (ConflictPair list) (Pair (reverse list)) (pair_forth list) x y p)
 
 pub clock_law : ClockLaw
 clock_law list y rise x pos = (λ le. up_back list x y (clock-up_to (reverse list) x y pos le), clock_up list x y rise)
@@ -43,10 +44,17 @@ online_law list a x rise = (to, back)
     rule = online_rule (reverse list) a x (rising_next list a rise)
 
     to : IsKept (reverse list) a x → Covering now x a.at
-    to k = let c = rule.0 k in (into x a.at c.0, λ z p q. c.1 z (more (ConflictPair now) (Pair (a ∷ reverse list)) out x z p) (more (ConflictPair now) (Pair (a ∷ reverse list)) out z a.at q))
+    to k = let c = rule.0 k in (
+      into x a.at c.0,
+      λ z p q.
+          c.1 z (more (ConflictPair now) (Pair (a ∷ reverse list)) out x z p) (more (ConflictPair now) (Pair (a ∷ reverse list)) out z a.at q),
+    )
 
     back : Covering now x a.at → IsKept (reverse list) a x
-    back c = rule.1 (out x a.at c.0, λ z p q. c.1 z (more (Pair (a ∷ reverse list)) (ConflictPair now) into x z p) (more (Pair (a ∷ reverse list)) (ConflictPair now) into z a.at q))
+    back c = rule.1 (
+      out x a.at c.0,
+      λ z p q. c.1 z (more (Pair (a ∷ reverse list)) (ConflictPair now) into x z p) (more (Pair (a ∷ reverse list)) (ConflictPair now) into z a.at q),
+    )
 
 -- the clock of the newest access, by those of its candidates
 pub newest_clock : (h : List Access) (a : Access) (i n : ℕ) → Rising (a ∷ h) → i ≢ a.at.core → 1 ≤ n →
@@ -109,7 +117,8 @@ pub online_clock_law : OnlineClockLaw
 online_clock_law list a rise = record {
   own = ap (λ (g : List Access). clock g a.at a.at.core) (reverse-next list a) ∙ own_clock (a ∷ reverse list) a.at (rising_next list a rise);
   others = λ i n d pos.
-      subst (λ (g : List Access). (n ≤ clock g a.at i) ↔ ((n ≤ clock (reverse list) (previous a.at) i) ⊎ ((z : Instr) × Candidate (reverse list) a z × (n ≤ clock (reverse list) z i))))
+      subst (λ (g : List Access). (n ≤ clock g a.at i)
+      ↔ ((n ≤ clock (reverse list) (previous a.at) i) ⊎ ((z : Instr) × Candidate (reverse list) a z × (n ≤ clock (reverse list) z i))))
       (sym (reverse-next list a)) (newest_clock (reverse list) a i n (rising_next list a rise) d pos);
 }
 

@@ -41,8 +41,11 @@ stands_back (a ∷ list) b s = on (stands_back list b) (stands_cases (reverse li
 
 pub stands_forth : (list : List Access) (b : Access) → StandsIn list b → StandsIn (reverse list) b
 stands_forth [] b s = s
-stands_forth (a ∷ list) b (inl e) = subst (λ (g : List Access). StandsIn g b) (sym (reverse-cons a list)) (subst (λ (c : Access). StandsIn (reverse list ++ (a ∷ [])) c) e (stands_last (reverse list) a))
-stands_forth (a ∷ list) b (inr s) = subst (λ (g : List Access). StandsIn g b) (sym (reverse-cons a list)) (stands_front (reverse list) a b (stands_forth list b s))
+stands_forth (a ∷ list) b (inl e) =
+    subst (λ (g : List Access). StandsIn g b) (sym (reverse-cons a list))
+    (subst (λ (c : Access). StandsIn (reverse list ++ (a ∷ [])) c) e (stands_last (reverse list) a))
+stands_forth (a ∷ list) b (inr s) =
+    subst (λ (g : List Access). StandsIn g b) (sym (reverse-cons a list)) (stands_front (reverse list) a b (stands_forth list b s))
 
 -- a pair that the oldest access adds
 abbrev FromOldest : List Access → Access → Instr → Instr → Type 0
@@ -57,7 +60,8 @@ pair_oldest : (g : List Access) (a : Access) (x y : Instr) → FromOldest g a x 
 pair_oldest [] a x y p = absurd p.2
 pair_oldest (c ∷ g) a x y p = by (pair_oldest g a x y) p.0 p.1 p.2 p.3 p.4
   where
-    by : (FromOldest g a x y → Pair (g ++ (a ∷ [])) x y) → a.at ≡ x → (b : Access) → StandsIn (c ∷ g) b → b.at ≡ y → Conflicts a b → Pair (c ∷ g ++ (a ∷ [])) x y
+    by : (FromOldest g a x y → Pair (g ++ (a ∷ [])) x y) → a.at ≡ x → (b : Access) → StandsIn (c ∷ g) b → b.at ≡ y → Conflicts a b →
+        Pair (c ∷ g ++ (a ∷ [])) x y
     by rest q b (inl e) r k = inl (ap (λ (d : Access). d.at) e ∙ r, (a, stands_last g a, q, subst (λ (d : Access). Conflicts a d) (sym e) k))
     by rest q b (inr s) r k = inr (rest (q, b, s, r, k))
 
@@ -86,11 +90,14 @@ pair_back (a ∷ list) x y p = on (pair_back list x y) (pair_cases (reverse list
 
 pub pair_forth : (list : List Access) → Within (ConflictPair list) (Pair (reverse list))
 pair_forth [] x y p = p
-pair_forth (a ∷ list) x y (inl p) = subst (λ (g : List Access). Pair g x y) (sym (reverse-cons a list)) (pair_oldest (reverse list) a x y (p.0, p.1, stands_forth list p.1 p.2, p.3, p.4))
-pair_forth (a ∷ list) x y (inr p) = subst (λ (g : List Access). Pair g x y) (sym (reverse-cons a list)) (pair_front (reverse list) a x y (pair_forth list x y p))
+pair_forth (a ∷ list) x y (inl p) =
+    subst (λ (g : List Access). Pair g x y) (sym (reverse-cons a list)) (pair_oldest (reverse list) a x y (p.0, p.1, stands_forth list p.1 p.2, p.3, p.4))
+pair_forth (a ∷ list) x y (inr p) =
+    subst (λ (g : List Access). Pair g x y) (sym (reverse-cons a list)) (pair_front (reverse list) a x y (pair_forth list x y p))
 
 -- counts that rise in the list fall from the newest on
-rising_oldest : (g : List Access) (a : Access) → 1 ≤ a.at.count → ((b : Access) → StandsIn g b → a.at.core ≡ b.at.core → a.at.count < b.at.count) → Rising g → Rising (g ++ (a ∷ []))
+rising_oldest : (g : List Access) (a : Access) → 1 ≤ a.at.count → ((b : Access) → StandsIn g b → a.at.core ≡ b.at.core → a.at.count < b.at.count) → Rising g →
+    Rising (g ++ (a ∷ []))
 rising_oldest [] a pos before r = (pos, (λ b s e. absurd s), tt)
 rising_oldest (c ∷ g) a pos before r = (r.0, newest, rising_oldest g a pos (λ b s e. before b (inr s) e) r.2)
   where
@@ -103,7 +110,8 @@ rising_oldest (c ∷ g) a pos before r = (r.0, newest, rising_oldest g a pos (λ
 
 pub rising_back : (list : List Access) → CountsRise list → Rising (reverse list)
 rising_back [] r = r
-rising_back (a ∷ list) r = subst Rising (sym (reverse-cons a list)) (rising_oldest (reverse list) a r.0 (λ b s e. r.1 b (stands_back list b s) e) (rising_back list r.2))
+rising_back (a ∷ list) r =
+    subst Rising (sym (reverse-cons a list)) (rising_oldest (reverse list) a r.0 (λ b s e. r.1 b (stands_back list b s) e) (rising_back list r.2))
 
 pub reverse-next : (list : List Access) (a : Access) → reverse (list ++ (a ∷ [])) ≡ a ∷ reverse list
 reverse-next list a = reverse-append list (a ∷ [])

@@ -1,5 +1,6 @@
 -- One scan from the newest to the oldest finds the covering pairs into an access, and its clock.
-use Rattle.std.proofs.Common.{◌≡◌, ◌≢◌, ℕ, zero, suc, ◌<◌, ◌≤◌, ◌⊎◌, ◌↔◌, List, [], ◌∷◌, ◌++◌, length, refl, sym, ◌∙◌, ap, subst, inl, inr, arith, true, false, max}
+use Rattle.std.proofs.Common.{◌≡◌, ◌≢◌, ℕ, zero, suc, ◌<◌, ◌≤◌, ◌⊎◌, ◌↔◌, List, [], ◌∷◌, ◌++◌, length, refl, sym, ◌∙◌, ap, subst, inl, inr, arith, true, false}
+use Rattle.std.proofs.Common.{max}
 use Rattle.std.proofs.lemmas.Bool.{cases_eq, cases_lt}
 use Rattle.std.proofs.lemmas.List.{length-append}
 use Rattle.clock_core.proofs.Paths.{joined, one, last_at}
@@ -38,7 +39,8 @@ stands-split (c ∷ g) k b (inr s) = on (stands-split g k b s)
     on (inl t) = inl (inr t)
     on (inr t) = inr t
 
-pub rank-newer : (newer : List Access) (b : Access) (g : List Access) (r : Access) → Rising (newer ++ (b ∷ g)) → StandsIn newer r → suc (length g) < rank (newer ++ (b ∷ g)) r.at
+pub rank-newer : (newer : List Access) (b : Access) (g : List Access) (r : Access) → Rising (newer ++ (b ∷ g)) → StandsIn newer r →
+    suc (length g) < rank (newer ++ (b ∷ g)) r.at
 rank-newer [] b g r rising s = absurd s
 rank-newer (c ∷ newer) b g r rising (inl e) =
     let yes : reaches c r.at ≡ true = subst (λ (d : Access). reaches c d.at ≡ true) e (reaches-yes c c.at refl (omega arith)) in
@@ -53,7 +55,8 @@ rank-mid (c ∷ newer) b g rising =
     let no : reaches c b.at ≡ false = older c (newer ++ (b ∷ g)) b b.at rising (stands-right newer (b ∷ g) b (inl refl)) refl in
     rank-older c (newer ++ (b ∷ g)) b.at no ∙ rank-mid newer b g rising.2
 
-rank-below : (newer : List Access) (b : Access) (g : List Access) (r : Access) → Rising (newer ++ (b ∷ g)) → StandsIn g r → rank (newer ++ (b ∷ g)) r.at ≤ length g
+rank-below : (newer : List Access) (b : Access) (g : List Access) (r : Access) → Rising (newer ++ (b ∷ g)) → StandsIn g r →
+    rank (newer ++ (b ∷ g)) r.at ≤ length g
 rank-below [] b g r rising s =
     let no : reaches b r.at ≡ false = older b g r r.at rising s refl in
     omega (arith, rank-older b g r.at no, rank-le g r.at)
@@ -72,7 +75,15 @@ pub record Arrives (h : List Access) (x y : Instr) : Type 0 where
 arrived : (h : List Access) (x z y : Instr) → Pair h x z → z.core ≡ y.core → z.count ≤ y.count → Arrives h x y
 arrived h x z y p same le =
     let e = ends h x z p in
-    record { there = e.second; stands = e.second_stands; core_is = ap (λ (v : Instr). v.core) e.second_at ∙ same; count_le = let f : e.second.at.count ≡ z.count = ap (λ (v : Instr). v.count) e.second_at in omega arith; before = subst (λ (v : Instr). Before (Pair h) x v) (sym e.second_at) (one (Pair h) x z (inr p)) }
+    record {
+      there = e.second;
+      stands = e.second_stands;
+      core_is = ap (λ (v : Instr). v.core) e.second_at ∙ same;
+      count_le = let f : e.second.at.count
+          ≡ z.count = ap (λ (v : Instr). v.count) e.second_at in
+          omega arith;
+      before = subst (λ (v : Instr). Before (Pair h) x v) (sym e.second_at) (one (Pair h) x z (inr p));
+    }
 
 arrives_at : (h : List Access) → Rising h → (n : ℕ) (x y : Instr) → Path (Pair h) n x y → x.core ≢ y.core → Arrives h x y
 arrives_at h rising zero x y (inl s) d = absurd (d s.0)
@@ -82,10 +93,17 @@ arrives_at h rising (suc n) x y p d = by (cases_eq p.0.core y.core) (arrives_at 
     later : p.0.core ≡ y.core → y.count < p.0.count → ⊥
     later e lt = no_cycle h rising y (joined (Pair h) y p.0 y (one (Pair h) y p.0 (inl (sym e, lt))) (n, p.2))
 
-    by : (p.0.core ≡ y.core) ⊎ (p.0.core ≢ y.core) → (p.0.core ≢ y.core → Arrives h p.0 y) → Step (Pair h) x p.0 → (y.count < p.0.count) ⊎ (p.0.count ≤ y.count) → Arrives h x y
+    by : (p.0.core ≡ y.core) ⊎ (p.0.core ≢ y.core) → (p.0.core ≢ y.core → Arrives h p.0 y) → Step (Pair h) x p.0 → (y.count < p.0.count)
+        ⊎ (p.0.count ≤ y.count) → Arrives h x y
     by (inr e) ih s _ =
         let r = ih e in
-        record { there = r.there; stands = r.stands; core_is = r.core_is; count_le = r.count_le; before = joined (Pair h) x p.0 r.there.at (one (Pair h) x p.0 s) r.before }
+        record {
+          there = r.there;
+          stands = r.stands;
+          core_is = r.core_is;
+          count_le = r.count_le;
+          before = joined (Pair h) x p.0 r.there.at (one (Pair h) x p.0 s) r.before;
+        }
     by (inl e) ih (inl s) _ = absurd (d (s.0 ∙ e))
     by (inl e) ih (inr s) (inr le) = arrived h x p.0 y s e le
     by (inl e) ih (inr s) (inl lt) = absurd (later e lt)
@@ -99,11 +117,13 @@ arrives h rising x y p d = arrives_at h rising p.0 x y p.1 d
 abbrev pub IsFree : List Access → List Access → Access → Access → Type 0
 IsFree h newer a b = (r : Access) → StandsIn newer r → Direct r a → clock h r.at b.at.core < b.at.count
 
-pub free_kept : (newer : List Access) (b : Access) (g : List Access) (a : Access) → Rising (a ∷ newer ++ (b ∷ g)) → Conflicts b a → IsFree (newer ++ (b ∷ g)) newer a b → Kept (a ∷ newer ++ (b ∷ g)) b.at a.at
+pub free_kept : (newer : List Access) (b : Access) (g : List Access) (a : Access) → Rising (a ∷ newer ++ (b ∷ g)) → Conflicts b a →
+    IsFree (newer ++ (b ∷ g)) newer a b → Kept (a ∷ newer ++ (b ∷ g)) b.at a.at
 free_kept newer b g a rising conflict free = record {
   pair = inl (refl, (b, stands_b, refl, conflict));
   own = let e = before_a a h b.at.core rising in let lt = own_below (cases_lt (clock h (previous a.at) b.at.core) b.at.count) in omega arith;
-  others = λ z p d. let s = pair_source a h z rising p in let e = source_clock a h z b.at.core rising s in let lt = other_below s.0 s.1 s.2 s.3 z d in omega arith;
+  others = λ z p d. let s = pair_source a h z rising p in let e = source_clock a h z b.at.core rising s in let lt = other_below s.0 s.1 s.2 s.3 z d in
+      omega arith;
 }
   where
     h : List Access
@@ -141,7 +161,8 @@ free_kept newer b g a rising conflict free = record {
         let le = clock-before h b.at r.there.at rising.2 r.before in
         omega arith
 
-    own_below : (clock h (previous a.at) b.at.core < b.at.count) ⊎ (b.at.count ≤ clock h (previous a.at) b.at.core) → clock h (previous a.at) b.at.core < b.at.count
+    own_below : (clock h (previous a.at) b.at.core < b.at.count) ⊎ (b.at.count ≤ clock h (previous a.at) b.at.core) →
+        clock h (previous a.at) b.at.core < b.at.count
     own_below (inr le) = absurd (through_own (clock-up_to h b.at (previous a.at) pos le))
     own_below (inl lt) = lt
 
@@ -149,14 +170,17 @@ free_kept newer b g a rising conflict free = record {
     other_up r s direct d (inl e) = absurd (d (sym e))
     other_up r s direct d (inr p) = lt_of r s direct p
 
-    other_cases : (r : Access) → StandsIn h r → Direct r a → r.at ≢ b.at → (clock h r.at b.at.core < b.at.count) ⊎ (b.at.count ≤ clock h r.at b.at.core) → clock h r.at b.at.core < b.at.count
+    other_cases : (r : Access) → StandsIn h r → Direct r a → r.at ≢ b.at → (clock h r.at b.at.core < b.at.count) ⊎ (b.at.count ≤ clock h r.at b.at.core) →
+        clock h r.at b.at.core < b.at.count
     other_cases r s direct d (inr le) = other_up r s direct d (clock-up_to h b.at r.at pos le)
     other_cases r s direct d (inl lt) = lt
 
     other_below : (r : Access) → StandsIn h r → {z : Instr} → r.at ≡ z → Conflicts r a → (w : Instr) → z ≢ b.at → clock h z b.at.core < b.at.count
-    other_below r s {z} e k w d = subst (λ (v : Instr). clock h v b.at.core < b.at.count) e (other_cases r s (inr k) (λ f. d (sym e ∙ f)) (cases_lt (clock h r.at b.at.core) b.at.count))
+    other_below r s {z} e k w d =
+        subst (λ (v : Instr). clock h v b.at.core < b.at.count) e (other_cases r s (inr k) (λ f. d (sym e ∙ f)) (cases_lt (clock h r.at b.at.core) b.at.count))
 
-pub kept_free : (newer : List Access) (b : Access) (g : List Access) (a : Access) → Rising (a ∷ newer ++ (b ∷ g)) → Kept (a ∷ newer ++ (b ∷ g)) b.at a.at → IsFree (newer ++ (b ∷ g)) newer a b
+pub kept_free : (newer : List Access) (b : Access) (g : List Access) (a : Access) → Rising (a ∷ newer ++ (b ∷ g)) → Kept (a ∷ newer ++ (b ∷ g)) b.at a.at →
+    IsFree (newer ++ (b ∷ g)) newer a b
 kept_free newer b g a rising k r s direct = by direct
   where
     h : List Access
@@ -166,7 +190,8 @@ kept_free newer b g a rising k r s direct = by direct
     stands_r = stands-left newer (b ∷ g) r s
 
     apart : r.at ≢ b.at
-    apart e = let f : rank h r.at ≡ rank h b.at = ap (λ (v : Instr). rank h v) e in absurd (omega (arith, rank-newer newer b g r rising.2 s, rank-mid newer b g rising.2))
+    apart e = let f : rank h r.at ≡ rank h b.at = ap (λ (v : Instr). rank h v) e in
+        absurd (omega (arith, rank-newer newer b g r rising.2 s, rank-mid newer b g rising.2))
 
     by : Direct r a → clock h r.at b.at.core < b.at.count
     by (inl e) =
@@ -235,18 +260,25 @@ Reached h newer a m = (i n : ℕ) → i < CORES_MAX → 1 ≤ n → (n ≤ m i) 
 
 -- the edges found from the newer accesses
 abbrev pub FoundFrom : List Access → List Access → Access → List Edge → List Edge → Type 0
-FoundFrom h newer a old new = (x y : Instr) → Among new x y ↔ (Among old x y ⊎ ((y ≡ a.at) × (r : Access) × StandsIn newer r × (r.at ≡ x) × Cover (a ∷ h) x a.at))
+FoundFrom h newer a old new =
+    (x y : Instr) → Among new x y ↔ (Among old x y ⊎ ((y ≡ a.at) × (r : Access) × StandsIn newer r × (r.at ≡ x) × Cover (a ∷ h) x a.at))
 
 pub reached_skip : (h newer : List Access) (a b : Access) (m : ℕ → ℕ) → (Direct b a → ⊥) → Reached h newer a m → Reached h (newer ++ (b ∷ [])) a m
-reached_skip h newer a b m not_direct reached i n lt pos = (λ le. let q = (reached i n lt pos).0 le in (q.0, stands-left newer (b ∷ []) q.0 q.1, q.2, q.3), λ q. (reached i n lt pos).1 (by q.0 (stands-split newer (b ∷ []) q.0 q.1) q.2 q.3))
+reached_skip h newer a b m not_direct reached i n lt pos = (
+  λ le. let q = (reached i n lt pos).0 le in (q.0, stands-left newer (b ∷ []) q.0 q.1, q.2, q.3),
+  λ q. (reached i n lt pos).1 (by q.0 (stands-split newer (b ∷ []) q.0 q.1) q.2 q.3),
+)
   where
-    by : (r : Access) → StandsIn newer r ⊎ StandsIn (b ∷ []) r → Direct r a → n ≤ clock h r.at i → (r : Access) × StandsIn newer r × Direct r a × (n ≤ clock h r.at i)
+    by : (r : Access) → StandsIn newer r ⊎ StandsIn (b ∷ []) r → Direct r a → n ≤ clock h r.at i → (r : Access) × StandsIn newer r × Direct r a
+        × (n ≤ clock h r.at i)
     by r (inl s) direct le = (r, s, direct, le)
     by r (inr (inl e)) direct le = absurd (not_direct (subst (λ (d : Access). Direct d a) (sym e) direct))
     by r (inr (inr s)) direct le = absurd s
 
-pub reached_merge : (h newer : List Access) (a b : Access) (m c w : ℕ → ℕ) → Direct b a → Reached h newer a m → ((i : ℕ) → i < CORES_MAX → c i ≡ clock h b.at i) → ((i : ℕ) → w i ≡ max (m i) (c i)) → Reached h (newer ++ (b ∷ [])) a w
-reached_merge h newer a b m c w direct reached exact merged i n lt pos = (λ le. to (split n (m i) (c i) (let e = merged i in omega arith)), λ q. back q.0 (stands-split newer (b ∷ []) q.0 q.1) q.2 q.3)
+pub reached_merge : (h newer : List Access) (a b : Access) (m c w : ℕ → ℕ) → Direct b a → Reached h newer a m →
+    ((i : ℕ) → i < CORES_MAX → c i ≡ clock h b.at i) → ((i : ℕ) → w i ≡ max (m i) (c i)) → Reached h (newer ++ (b ∷ [])) a w
+reached_merge h newer a b m c w direct reached exact merged i n lt pos =
+    (λ le. to (split n (m i) (c i) (let e = merged i in omega arith)), λ q. back q.0 (stands-split newer (b ∷ []) q.0 q.1) q.2 q.3)
   where
     split : (n x y : ℕ) → n ≤ max x y → (n ≤ x) ⊎ (n ≤ y)
     split n x y h = grind arith
@@ -260,22 +292,26 @@ reached_merge h newer a b m c w direct reached exact merged i n lt pos = (λ le.
     back r (inr (inl f)) d le = let e = merged i in let g : clock h b.at i ≡ clock h r.at i = ap (λ (v : Access). clock h v.at i) f in omega (arith, exact i lt)
     back r (inr (inr s)) d le = absurd s
 
-pub found_skip : (h newer : List Access) (a b : Access) (old new : List Edge) → (Cover (a ∷ h) b.at a.at → ⊥) → FoundFrom h newer a old new → FoundFrom h (newer ++ (b ∷ [])) a old new
+pub found_skip : (h newer : List Access) (a b : Access) (old new : List Edge) → (Cover (a ∷ h) b.at a.at → ⊥) → FoundFrom h newer a old new →
+    FoundFrom h (newer ++ (b ∷ [])) a old new
 found_skip h newer a b old new not_cover found x y = (λ s. to ((found x y).0 s), λ q. (found x y).1 (back q))
   where
     Left : Type 0
     Left = Among old x y ⊎ ((y ≡ a.at) × (r : Access) × StandsIn newer r × (r.at ≡ x) × Cover (a ∷ h) x a.at)
 
-    to : Among old x y ⊎ ((y ≡ a.at) × (r : Access) × StandsIn newer r × (r.at ≡ x) × Cover (a ∷ h) x a.at) → Among old x y ⊎ ((y ≡ a.at) × (r : Access) × StandsIn (newer ++ (b ∷ [])) r × (r.at ≡ x) × Cover (a ∷ h) x a.at)
+    to : Among old x y ⊎ ((y ≡ a.at) × (r : Access) × StandsIn newer r × (r.at ≡ x) × Cover (a ∷ h) x a.at) → Among old x y
+        ⊎ ((y ≡ a.at) × (r : Access) × StandsIn (newer ++ (b ∷ [])) r × (r.at ≡ x) × Cover (a ∷ h) x a.at)
     to (inl s) = inl s
     to (inr q) = inr (q.0, q.1, stands-left newer (b ∷ []) q.1 q.2, q.3, q.4)
 
-    back_by : y ≡ a.at → (r : Access) → StandsIn newer r ⊎ StandsIn (b ∷ []) r → r.at ≡ x → Cover (a ∷ h) x a.at → Among old x y ⊎ ((y ≡ a.at) × (r : Access) × StandsIn newer r × (r.at ≡ x) × Cover (a ∷ h) x a.at)
+    back_by : y ≡ a.at → (r : Access) → StandsIn newer r ⊎ StandsIn (b ∷ []) r → r.at ≡ x → Cover (a ∷ h) x a.at → Among old x y
+        ⊎ ((y ≡ a.at) × (r : Access) × StandsIn newer r × (r.at ≡ x) × Cover (a ∷ h) x a.at)
     back_by e r (inl s) f c = inr (e, r, s, f, c)
     back_by e r (inr (inl g)) f c = absurd (not_cover (subst (λ (v : Instr). Cover (a ∷ h) v a.at) (sym (ap (λ (d : Access). d.at) g ∙ f)) c))
     back_by e r (inr (inr s)) f c = absurd s
 
-    back : Among old x y ⊎ ((y ≡ a.at) × (r : Access) × StandsIn (newer ++ (b ∷ [])) r × (r.at ≡ x) × Cover (a ∷ h) x a.at) → Among old x y ⊎ ((y ≡ a.at) × (r : Access) × StandsIn newer r × (r.at ≡ x) × Cover (a ∷ h) x a.at)
+    back : Among old x y ⊎ ((y ≡ a.at) × (r : Access) × StandsIn (newer ++ (b ∷ [])) r × (r.at ≡ x) × Cover (a ∷ h) x a.at) → Among old x y
+        ⊎ ((y ≡ a.at) × (r : Access) × StandsIn newer r × (r.at ≡ x) × Cover (a ∷ h) x a.at)
     back (inl s) = inl s
     back (inr q) = back_by q.0 q.1 (stands-split newer (b ∷ []) q.1 q.2) q.3 q.4
 
@@ -299,28 +335,43 @@ among-push es e x y = (to es, from es)
     from (f ∷ es) (inl (inr s)) = inr (from es (inl s))
     from (f ∷ es) (inr s) = inr (from es (inr s))
 
-pub found_push : (h newer : List Access) (a b : Access) (old new next : List Edge) (e : Edge) → e.from ≡ b.at → e.to ≡ a.at → next ≡ new ++ (e ∷ []) → Cover (a ∷ h) b.at a.at → FoundFrom h newer a old new → FoundFrom h (newer ++ (b ∷ [])) a old next
-found_push h newer a b old new next e from_is to_is is cover found x y = (λ s. to ((among-push new e x y).0 (subst (λ (es : List Edge). Among es x y) is s)), λ q. subst (λ (es : List Edge). Among es x y) (sym is) ((among-push new e x y).1 (back q)))
+pub found_push : (h newer : List Access) (a b : Access) (old new next : List Edge) (e : Edge) → e.from ≡ b.at → e.to ≡ a.at → next ≡ new ++ (e ∷ []) →
+    Cover (a ∷ h) b.at a.at → FoundFrom h newer a old new → FoundFrom h (newer ++ (b ∷ [])) a old next
+found_push h newer a b old new next e from_is to_is is cover found x y = (
+  λ s. to ((among-push new e x y).0 (subst (λ (es : List Edge). Among es x y) is s)),
+  λ q. subst (λ (es : List Edge). Among es x y) (sym is) ((among-push new e x y).1 (back q)),
+)
   where
-    old_to : Among old x y ⊎ ((y ≡ a.at) × (r : Access) × StandsIn newer r × (r.at ≡ x) × Cover (a ∷ h) x a.at) → Among old x y ⊎ ((y ≡ a.at) × (r : Access) × StandsIn (newer ++ (b ∷ [])) r × (r.at ≡ x) × Cover (a ∷ h) x a.at)
+    old_to : Among old x y ⊎ ((y ≡ a.at) × (r : Access) × StandsIn newer r × (r.at ≡ x) × Cover (a ∷ h) x a.at) → Among old x y
+        ⊎ ((y ≡ a.at) × (r : Access) × StandsIn (newer ++ (b ∷ [])) r × (r.at ≡ x) × Cover (a ∷ h) x a.at)
     old_to (inl s) = inl s
     old_to (inr q) = inr (q.0, q.1, stands-left newer (b ∷ []) q.1 q.2, q.3, q.4)
 
-    to : Among new x y ⊎ ((e.from ≡ x) × (e.to ≡ y)) → Among old x y ⊎ ((y ≡ a.at) × (r : Access) × StandsIn (newer ++ (b ∷ [])) r × (r.at ≡ x) × Cover (a ∷ h) x a.at)
+    to : Among new x y ⊎ ((e.from ≡ x) × (e.to ≡ y)) → Among old x y
+        ⊎ ((y ≡ a.at) × (r : Access) × StandsIn (newer ++ (b ∷ [])) r × (r.at ≡ x) × Cover (a ∷ h) x a.at)
     to (inl s) = old_to ((found x y).0 s)
-    to (inr s) = inr (sym s.1 ∙ to_is, b, stands-right newer (b ∷ []) b (inl refl), sym from_is ∙ s.0, subst (λ (v : Instr). Cover (a ∷ h) v a.at) (sym from_is ∙ s.0) cover)
+    to (inr s) = inr (
+      sym s.1 ∙ to_is,
+      b,
+      stands-right newer (b ∷ []) b (inl refl),
+      sym from_is
+          ∙ s.0,
+      subst (λ (v : Instr). Cover (a ∷ h) v a.at) (sym from_is ∙ s.0) cover,
+    )
 
     back_by : y ≡ a.at → (r : Access) → StandsIn newer r ⊎ StandsIn (b ∷ []) r → r.at ≡ x → Cover (a ∷ h) x a.at → Among new x y ⊎ ((e.from ≡ x) × (e.to ≡ y))
     back_by g r (inl s) f c = inl ((found x y).1 (inr (g, r, s, f, c)))
     back_by g r (inr (inl k)) f c = inr (from_is ∙ ap (λ (d : Access). d.at) k ∙ f, to_is ∙ sym g)
     back_by g r (inr (inr s)) f c = absurd s
 
-    back : Among old x y ⊎ ((y ≡ a.at) × (r : Access) × StandsIn (newer ++ (b ∷ [])) r × (r.at ≡ x) × Cover (a ∷ h) x a.at) → Among new x y ⊎ ((e.from ≡ x) × (e.to ≡ y))
+    back : Among old x y ⊎ ((y ≡ a.at) × (r : Access) × StandsIn (newer ++ (b ∷ [])) r × (r.at ≡ x) × Cover (a ∷ h) x a.at) → Among new x y
+        ⊎ ((e.from ≡ x) × (e.to ≡ y))
     back (inl s) = inl ((found x y).1 (inl s))
     back (inr q) = back_by q.0 q.1 (stands-split newer (b ∷ []) q.1 q.2) q.3 q.4
 
 -- m covers b: some newer one has it in its clock
-pub covered_not : (newer : List Access) (b : Access) (g : List Access) (a : Access) (m : ℕ → ℕ) → Rising (a ∷ newer ++ (b ∷ g)) → b.at.core < CORES_MAX → Reached (newer ++ (b ∷ g)) newer a m → b.at.count ≤ m b.at.core → Cover (a ∷ newer ++ (b ∷ g)) b.at a.at → ⊥
+pub covered_not : (newer : List Access) (b : Access) (g : List Access) (a : Access) (m : ℕ → ℕ) → Rising (a ∷ newer ++ (b ∷ g)) → b.at.core < CORES_MAX →
+    Reached (newer ++ (b ∷ g)) newer a m → b.at.count ≤ m b.at.core → Cover (a ∷ newer ++ (b ∷ g)) b.at a.at → ⊥
 covered_not newer b g a m rising fits reached le cover =
     let h : List Access = newer ++ (b ∷ g) in
     let pos = stands_pos h b rising.2 (stands-right newer (b ∷ g) b (inl refl)) in
@@ -329,13 +380,15 @@ covered_not newer b g a m rising fits reached le cover =
     let le' = q.3 in
     omega arith
 
-pub not_covered : (newer : List Access) (b : Access) (g : List Access) (a : Access) (m : ℕ → ℕ) → Rising (a ∷ newer ++ (b ∷ g)) → b.at.core < CORES_MAX → Conflicts b a → Reached (newer ++ (b ∷ g)) newer a m → m b.at.core < b.at.count → Cover (a ∷ newer ++ (b ∷ g)) b.at a.at
+pub not_covered : (newer : List Access) (b : Access) (g : List Access) (a : Access) (m : ℕ → ℕ) → Rising (a ∷ newer ++ (b ∷ g)) → b.at.core < CORES_MAX →
+    Conflicts b a → Reached (newer ++ (b ∷ g)) newer a m → m b.at.core < b.at.count → Cover (a ∷ newer ++ (b ∷ g)) b.at a.at
 not_covered newer b g a m rising fits conflict reached lt = kept_covers (a ∷ newer ++ (b ∷ g)) b.at a.at rising (free_kept newer b g a rising conflict free)
   where
     pos : 1 ≤ b.at.count
     pos = stands_pos (newer ++ (b ∷ g)) b rising.2 (stands-right newer (b ∷ g) b (inl refl))
 
-    by : (r : Access) → StandsIn newer r → Direct r a → (clock (newer ++ (b ∷ g)) r.at b.at.core < b.at.count) ⊎ (b.at.count ≤ clock (newer ++ (b ∷ g)) r.at b.at.core) → clock (newer ++ (b ∷ g)) r.at b.at.core < b.at.count
+    by : (r : Access) → StandsIn newer r → Direct r a → (clock (newer ++ (b ∷ g)) r.at b.at.core < b.at.count)
+        ⊎ (b.at.count ≤ clock (newer ++ (b ∷ g)) r.at b.at.core) → clock (newer ++ (b ∷ g)) r.at b.at.core < b.at.count
     by r s d (inr le) = let up = (reached b.at.core b.at.count fits pos).1 (r, s, d, le) in absurd (omega arith)
     by r s d (inl lt) = lt
 

@@ -1,5 +1,6 @@
 -- The steps of the scan, at an index.
-use Rattle.std.proofs.Common.{◌≡◌, ◌≢◌, ℕ, zero, suc, ◌+◌, ◌-◌, ◌<◌, ◌≤◌, ◌⊎◌, ◌↔◌, List, [], ◌∷◌, reverse, ◌++◌, length, refl, sym, ◌∙◌, ap, subst, inl, inr, arith, true, false, Bool, max, slice_index, get_or, take, drop, append_assoc}
+use Rattle.std.proofs.Common.{◌≡◌, ◌≢◌, ℕ, zero, suc, ◌+◌, ◌-◌, ◌<◌, ◌≤◌, ◌⊎◌, ◌↔◌, List, [], ◌∷◌, reverse, ◌++◌, length, refl, sym, ◌∙◌, ap, subst, inl, inr}
+use Rattle.std.proofs.Common.{arith, true, false, Bool, max, slice_index, get_or, take, drop, append_assoc}
 use Rattle.std.proofs.lemmas.Bool.{cases_eq, cases_lt}
 use Rattle.std.proofs.lemmas.List.{drop_more, reverse-append, take-append-drop}
 use Rattle.clock_core.proofs.Paths.{more}
@@ -34,7 +35,9 @@ at e s d pos le =
     let next : reverse (drop (s - 1) e) ≡ reverse (drop s e) ++ (get_or e (s - 1) d ∷ []) = ap reverse after ∙ reverse-cons (get_or e (s - 1) d) (drop s e) in
     record {
       older = reverse (take (s - 1) e);
-      split = ap reverse (sym (take-append-drop (s - 1) e)) ∙ reverse-append (take (s - 1) e) (drop (s - 1) e) ∙ ap (λ (g : List Access). g ++ reverse (take (s - 1) e)) next ∙ append_assoc (reverse (drop s e)) (get_or e (s - 1) d ∷ []) (reverse (take (s - 1) e));
+      split = ap reverse (sym (take-append-drop (s - 1) e)) ∙ reverse-append (take (s - 1) e) (drop (s - 1) e)
+          ∙ ap (λ (g : List Access). g ++ reverse (take (s - 1) e)) next
+          ∙ append_assoc (reverse (drop s e)) (get_or e (s - 1) d ∷ []) (reverse (take (s - 1) e));
       next = next;
     }
 
@@ -49,17 +52,28 @@ pub rising : (e : List Access) (a : Access) → CountsRise (e ++ (a ∷ [])) →
 rising e a rise = subst Rising (reverse-next e a) (rising_back (e ++ (a ∷ [])) rise)
 
 -- the steps of the scan, at a place of the list in order
-pub skip_reached : (e : List Access) (s : ℕ) (a b : Access) (m : ℕ → ℕ) → At e s b → (Direct b a → ⊥) → Reached (reverse e) (reverse (drop s e)) a m → Reached (reverse e) (reverse (drop (s - 1) e)) a m
-skip_reached e s a b m around f r = subst (λ (g : List Access). Reached (reverse e) g a m) (sym around.next) (reached_skip (reverse e) (reverse (drop s e)) a b m f r)
+pub skip_reached : (e : List Access) (s : ℕ) (a b : Access) (m : ℕ → ℕ) → At e s b → (Direct b a → ⊥) → Reached (reverse e) (reverse (drop s e)) a m →
+    Reached (reverse e) (reverse (drop (s - 1) e)) a m
+skip_reached e s a b m around f r =
+    subst (λ (g : List Access). Reached (reverse e) g a m) (sym around.next) (reached_skip (reverse e) (reverse (drop s e)) a b m f r)
 
-pub merge_reached : (e : List Access) (s : ℕ) (a b : Access) (m c w : ℕ → ℕ) → At e s b → Direct b a → ((i : ℕ) → i < CORES_MAX → c i ≡ clock (reverse e) b.at i) → ((i : ℕ) → w i ≡ max (m i) (c i)) → Reached (reverse e) (reverse (drop s e)) a m → Reached (reverse e) (reverse (drop (s - 1) e)) a w
-merge_reached e s a b m c w around direct exact merged r = subst (λ (g : List Access). Reached (reverse e) g a w) (sym around.next) (reached_merge (reverse e) (reverse (drop s e)) a b m c w direct r exact merged)
+pub merge_reached : (e : List Access) (s : ℕ) (a b : Access) (m c w : ℕ → ℕ) → At e s b → Direct b a →
+    ((i : ℕ) → i < CORES_MAX → c i ≡ clock (reverse e) b.at i) → ((i : ℕ) → w i ≡ max (m i) (c i)) → Reached (reverse e) (reverse (drop s e)) a m →
+    Reached (reverse e) (reverse (drop (s - 1) e)) a w
+merge_reached e s a b m c w around direct exact merged r =
+    subst (λ (g : List Access). Reached (reverse e) g a w) (sym around.next) (reached_merge (reverse e) (reverse (drop s e)) a b m c w direct r exact merged)
 
-pub skip_found : (e : List Access) (s : ℕ) (a b : Access) (old new : List Edge) → At e s b → (Cover (a ∷ reverse e) b.at a.at → ⊥) → FoundFrom (reverse e) (reverse (drop s e)) a old new → FoundFrom (reverse e) (reverse (drop (s - 1) e)) a old new
-skip_found e s a b old new around f r = subst (λ (g : List Access). FoundFrom (reverse e) g a old new) (sym around.next) (found_skip (reverse e) (reverse (drop s e)) a b old new f r)
+pub skip_found : (e : List Access) (s : ℕ) (a b : Access) (old new : List Edge) → At e s b → (Cover (a ∷ reverse e) b.at a.at → ⊥) →
+    FoundFrom (reverse e) (reverse (drop s e)) a old new → FoundFrom (reverse e) (reverse (drop (s - 1) e)) a old new
+skip_found e s a b old new around f r =
+    subst (λ (g : List Access). FoundFrom (reverse e) g a old new) (sym around.next) (found_skip (reverse e) (reverse (drop s e)) a b old new f r)
 
-pub push_found : (e : List Access) (s : ℕ) (a b : Access) (old new next : List Edge) (edge : Edge) → At e s b → edge.from ≡ b.at → edge.to ≡ a.at → next ≡ new ++ (edge ∷ []) → Cover (a ∷ reverse e) b.at a.at → FoundFrom (reverse e) (reverse (drop s e)) a old new → FoundFrom (reverse e) (reverse (drop (s - 1) e)) a old next
-push_found e s a b old new next edge around from_is to_is is c r = subst (λ (g : List Access). FoundFrom (reverse e) g a old next) (sym around.next) (found_push (reverse e) (reverse (drop s e)) a b old new next edge from_is to_is is c r)
+pub push_found : (e : List Access) (s : ℕ) (a b : Access) (old new next : List Edge) (edge : Edge) → At e s b → edge.from ≡ b.at → edge.to ≡ a.at →
+    next ≡ new ++ (edge ∷ []) → Cover (a ∷ reverse e) b.at a.at → FoundFrom (reverse e) (reverse (drop s e)) a old new →
+    FoundFrom (reverse e) (reverse (drop (s - 1) e)) a old next
+push_found e s a b old new next edge around from_is to_is is c r =
+    subst (λ (g : List Access). FoundFrom (reverse e) g a old next) (sym around.next)
+    (found_push (reverse e) (reverse (drop s e)) a b old new next edge from_is to_is is c r)
 
 -- where they don't conflict there is no pair
 pub no_conflict : (e : List Access) (a b : Access) → Rising (a ∷ reverse e) → StandsIn (reverse e) b → (Conflicts b a → ⊥) → Cover (a ∷ reverse e) b.at a.at → ⊥
@@ -85,15 +99,19 @@ no_conflict e a b rising stands f c = by (pair_source a (reverse e) b.at rising 
             once (x ∷ h) r (inr t) (inr u) = once h r.2 t u
 
 -- a conflicting access that the clock lacks is a covering source
-pub uncovered : (e : List Access) (s : ℕ) (a b : Access) (m : ℕ → ℕ) → At e s b → Rising (a ∷ reverse e) → b.at.core < CORES_MAX → Conflicts b a → Reached (reverse e) (reverse (drop s e)) a m → m b.at.core < b.at.count → Cover (a ∷ reverse e) b.at a.at
+pub uncovered : (e : List Access) (s : ℕ) (a b : Access) (m : ℕ → ℕ) → At e s b → Rising (a ∷ reverse e) → b.at.core < CORES_MAX → Conflicts b a →
+    Reached (reverse e) (reverse (drop s e)) a m → m b.at.core < b.at.count → Cover (a ∷ reverse e) b.at a.at
 uncovered e s a b m around rising fits conflict r lt =
     subst (λ (h : List Access). Cover (a ∷ h) b.at a.at) (sym around.split)
-    (not_covered (reverse (drop s e)) b around.older a m (subst (λ (h : List Access). Rising (a ∷ h)) around.split rising) fits conflict (subst (λ (h : List Access). Reached h (reverse (drop s e)) a m) around.split r) lt)
+    (not_covered (reverse (drop s e)) b around.older a m (subst (λ (h : List Access). Rising (a ∷ h)) around.split rising) fits conflict
+    (subst (λ (h : List Access). Reached h (reverse (drop s e)) a m) around.split r) lt)
 
 -- one that the clock has is none
-pub covered : (e : List Access) (s : ℕ) (a b : Access) (m : ℕ → ℕ) → At e s b → Rising (a ∷ reverse e) → b.at.core < CORES_MAX → Reached (reverse e) (reverse (drop s e)) a m → b.at.count ≤ m b.at.core → Cover (a ∷ reverse e) b.at a.at → ⊥
+pub covered : (e : List Access) (s : ℕ) (a b : Access) (m : ℕ → ℕ) → At e s b → Rising (a ∷ reverse e) → b.at.core < CORES_MAX →
+    Reached (reverse e) (reverse (drop s e)) a m → b.at.count ≤ m b.at.core → Cover (a ∷ reverse e) b.at a.at → ⊥
 covered e s a b m around rising fits r le c =
-    covered_not (reverse (drop s e)) b around.older a m (subst (λ (h : List Access). Rising (a ∷ h)) around.split rising) fits (subst (λ (h : List Access). Reached h (reverse (drop s e)) a m) around.split r) le
+    covered_not (reverse (drop s e)) b around.older a m (subst (λ (h : List Access). Rising (a ∷ h)) around.split rising) fits
+    (subst (λ (h : List Access). Reached h (reverse (drop s e)) a m) around.split r) le
     (subst (λ (h : List Access). Cover (a ∷ h) b.at a.at) around.split c)
 
 -- ---- tests
@@ -118,7 +136,9 @@ not_direct b a f g (inr k) = g k
 -- ---- the ends
 
 -- after the oldest access the clock with the own count is exact
-pub end_clock : (e : List Access) (a : Access) (m w : List ℕ) → Rising (a ∷ reverse e) → Reached (reverse e) (reverse e) a (λ i. slice_index m i) → slice_index w a.at.core ≡ a.at.count → ((i : ℕ) → i ≢ a.at.core → slice_index w i ≡ slice_index m i) → (i : ℕ) → i < CORES_MAX → slice_index w i ≡ clock (reverse (e ++ (a ∷ []))) a.at i
+pub end_clock : (e : List Access) (a : Access) (m w : List ℕ) → Rising (a ∷ reverse e) → Reached (reverse e) (reverse e) a (λ i. slice_index m i) →
+    slice_index w a.at.core ≡ a.at.count → ((i : ℕ) → i ≢ a.at.core → slice_index w i ≡ slice_index m i) → (i : ℕ) → i < CORES_MAX →
+    slice_index w i ≡ clock (reverse (e ++ (a ∷ []))) a.at i
 end_clock e a m w rising reached own others i lt = by (cases_eq i a.at.core) ∙ ap (λ (h : List Access). clock h a.at i) (sym (reverse-next e a))
   where
     by : (i ≡ a.at.core) ⊎ (i ≢ a.at.core) → slice_index w i ≡ clock (a ∷ reverse e) a.at i
@@ -126,10 +146,14 @@ end_clock e a m w rising reached own others i lt = by (cases_eq i a.at.core) ∙
     by (inr d) = others i d ∙ same_below (slice_index m i) (clock (a ∷ reverse e) a.at i) same
       where
         same : (k : ℕ) → 1 ≤ k → (k ≤ slice_index m i) ↔ (k ≤ clock (a ∷ reverse e) a.at i)
-        same k pos = (λ le. (direct_clock (reverse e) a i k rising d pos).1 ((reached i k lt pos).0 le), λ le. (reached i k lt pos).1 ((direct_clock (reverse e) a i k rising d pos).0 le))
+        same k pos = (
+          λ le. (direct_clock (reverse e) a i k rising d pos).1 ((reached i k lt pos).0 le),
+          λ le. (reached i k lt pos).1 ((direct_clock (reverse e) a i k rising d pos).0 le),
+        )
 
 -- after the oldest access the covering pairs are found
-pub end_found : (e : List Access) (a : Access) (old new : List Edge) → CountsRise (e ++ (a ∷ [])) → FoundFrom (reverse e) (reverse e) a old new → AddsCoveringInto (e ++ (a ∷ [])) a old new
+pub end_found : (e : List Access) (a : Access) (old new : List Edge) → CountsRise (e ++ (a ∷ [])) → FoundFrom (reverse e) (reverse e) a old new →
+    AddsCoveringInto (e ++ (a ∷ [])) a old new
 end_found e a old new rise found x y = (λ s. to ((found x y).0 s), λ q. (found x y).1 (back q))
   where
     now : List Access
@@ -141,13 +165,26 @@ end_found e a old new rise found x y = (λ s. to ((found x y).0 s), λ q. (found
     out : Within (ConflictPair now) (Pair (a ∷ reverse e))
     out u v p = subst (λ (g : List Access). Pair g u v) (reverse-next e a) (pair_forth now u v p)
 
-    to : Among old x y ⊎ ((y ≡ a.at) × (r : Access) × StandsIn (reverse e) r × (r.at ≡ x) × Cover (a ∷ reverse e) x a.at) → Among old x y ⊎ ((y ≡ a.at) × Covering now x a.at)
+    to : Among old x y ⊎ ((y ≡ a.at) × (r : Access) × StandsIn (reverse e) r × (r.at ≡ x) × Cover (a ∷ reverse e) x a.at) → Among old x y
+        ⊎ ((y ≡ a.at) × Covering now x a.at)
     to (inl s) = inl s
-    to (inr q) = inr (q.0, (into x a.at q.4.0, λ z p r. q.4.1 z (more (ConflictPair now) (Pair (a ∷ reverse e)) out x z p) (more (ConflictPair now) (Pair (a ∷ reverse e)) out z a.at r)))
+    to (inr q) = inr (
+      q.0,
+      (
+        into x a.at q.4.0,
+        λ z p r.
+            q.4.1 z (more (ConflictPair now) (Pair (a ∷ reverse e)) out x z p) (more (ConflictPair now) (Pair (a ∷ reverse e)) out z a.at r),
+      ),
+    )
 
-    back : Among old x y ⊎ ((y ≡ a.at) × Covering now x a.at) → Among old x y ⊎ ((y ≡ a.at) × (r : Access) × StandsIn (reverse e) r × (r.at ≡ x) × Cover (a ∷ reverse e) x a.at)
+    back : Among old x y ⊎ ((y ≡ a.at) × Covering now x a.at) → Among old x y
+        ⊎ ((y ≡ a.at) × (r : Access) × StandsIn (reverse e) r × (r.at ≡ x) × Cover (a ∷ reverse e) x a.at)
     back (inl s) = inl s
     back (inr q) =
-        let c : Cover (a ∷ reverse e) x a.at = (out x a.at q.1.0, λ z p r. q.1.1 z (more (Pair (a ∷ reverse e)) (ConflictPair now) into x z p) (more (Pair (a ∷ reverse e)) (ConflictPair now) into z a.at r)) in
+        let c : Cover (a ∷ reverse e) x a.at = (
+          out x a.at q.1.0,
+          λ z p r.
+              q.1.1 z (more (Pair (a ∷ reverse e)) (ConflictPair now) into x z p) (more (Pair (a ∷ reverse e)) (ConflictPair now) into z a.at r),
+        ) in
         let s = pair_source a (reverse e) x (rising e a rise) c.0 in
         inr (q.0, s.0, s.1, s.2, c)

@@ -21,13 +21,19 @@ pub cores_differ : (list : List Access) (x y : Instr) → ConflictPair list x y 
 cores_differ list x y p = pair_cores (reverse list) x y (pair_forth list x y p)
 
 pub covering_suffice : (list : List Access) → CountsRise list → Suffices list (Covering list)
-covering_suffice list rise x y p = more (Cover (reverse list)) (Covering list) over x y (covering_suffices (reverse list) (rising_back list rise) x y (pair_forth list x y p))
+covering_suffice list rise x y p =
+    more (Cover (reverse list)) (Covering list) over x y (covering_suffices (reverse list) (rising_back list rise) x y (pair_forth list x y p))
   where
     over : Within (Cover (reverse list)) (Covering list)
-    over a b c = (pair_back list a b c.0, λ z p q. c.1 z (more (ConflictPair list) (Pair (reverse list)) (pair_forth list) a z p) (more (ConflictPair list) (Pair (reverse list)) (pair_forth list) z b q))
+    over a b c = (
+      pair_back list a b c.0,
+      λ z p q. c.1 z (more (ConflictPair list) (Pair (reverse list)) (pair_forth list) a z p)
+          (more (ConflictPair list) (Pair (reverse list)) (pair_forth list) z b q),
+    )
 
 -- no pair of a least set is implied by the others
-pub least_independent : (list : List Access) (edges : List Edge) → IsLeast list edges → (x y : Instr) → Among edges x y → Before (Others (Among edges) x y) x y → ⊥
+pub least_independent : (list : List Access) (edges : List Edge) → IsLeast list edges → (x y : Instr) → Among edges x y →
+    Before (Others (Among edges) x y) x y → ⊥
 least_independent list edges least x y s p = (w.1 x y (least.least w.0 within enough x y s)).1 refl refl
   where
     w : (fs : List Edge) × Within (Among fs) (Others (Among edges) x y) × Within (Others (Among edges) x y) (Among fs)
@@ -40,10 +46,13 @@ least_independent list edges least x y s p = (w.1 x y (least.least w.0 within en
     enough a b c = more (Others (Among edges) x y) (Among w.0) w.2 a b (others_suffice (ConflictPair list) (Among edges) least.suffices x y p a b c)
 
 -- a pair that the others don't imply covers
-pub independent_covers : (list : List Access) (edges : List Edge) → CountsRise list → Within (Among edges) (ConflictPair list) → Suffices list (Among edges) → (x y : Instr) → Among edges x y → (Before (Others (Among edges) x y) x y → ⊥) → Covering list x y
-independent_covers list edges rise within suffices x y s free = (within x y s, λ z p q. free (implied (ConflictPair list) (Among edges) within suffices (acyclic list rise) x y z p q))
+pub independent_covers : (list : List Access) (edges : List Edge) → CountsRise list → Within (Among edges) (ConflictPair list) → Suffices list (Among edges) →
+    (x y : Instr) → Among edges x y → (Before (Others (Among edges) x y) x y → ⊥) → Covering list x y
+independent_covers list edges rise within suffices x y s free =
+    (within x y s, λ z p q. free (implied (ConflictPair list) (Among edges) within suffices (acyclic list rise) x y z p q))
 
-pub covering_in : (list : List Access) (edges : List Edge) → Within (Among edges) (ConflictPair list) → Suffices list (Among edges) → Within (Covering list) (Among edges)
+pub covering_in : (list : List Access) (edges : List Edge) → Within (Among edges) (ConflictPair list) → Suffices list (Among edges) →
+    Within (Covering list) (Among edges)
 covering_in list edges within suffices x y c = in_each (ConflictPair list) (Among edges) within suffices (cores_differ list) x y c.0 c.1
 
 pub independent_law : IndependentLaw
@@ -60,7 +69,10 @@ pub covering_law : CoveringLaw
 covering_law list edges rise = (forth, back)
   where
     forth : IsLeast list edges → (x y : Instr) → Among edges x y ↔ Covering list x y
-    forth least x y = (λ s. independent_covers list edges rise least.conflict least.suffices x y s (least_independent list edges least x y s), covering_in list edges least.conflict least.suffices x y)
+    forth least x y = (
+      λ s. independent_covers list edges rise least.conflict least.suffices x y s (least_independent list edges least x y s),
+      covering_in list edges least.conflict least.suffices x y,
+    )
 
     back : ((x y : Instr) → Among edges x y ↔ Covering list x y) → IsLeast list edges
     back same = record {

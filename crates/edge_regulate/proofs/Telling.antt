@@ -25,13 +25,15 @@ unfolding with_edges
 goes notes start edges = record { cores = refl; left = λ k d _ _. record { vectors = refl; ready = refl }; regulation = λ before kept. kept }
 
 -- the next edge can be told
-pub next_ready : (notes : Notes) (start s : Regulation) (edges : List Edge) (i : ℕ) (d : Edge) → i < length edges → AreReady start → All (λ e. IsNextEdge notes start e) edges → Going notes start s edges i → slice_index_or s.ready (place_in s.cores (get_or edges i d)) false ≡ true
+pub next_ready : (notes : Notes) (start s : Regulation) (edges : List Edge) (i : ℕ) (d : Edge) → i < length edges → AreReady start →
+    All (λ e. IsNextEdge notes start e) edges → Going notes start s edges i → slice_index_or s.ready (place_in s.cores (get_or edges i d)) false ≡ true
 next_ready notes start s edges i d lt ready next going =
     let e = get_or edges i d in
     let placed = pairs-placed start.cores e.from.core e.to.core (next i d lt).pair in
     ap (λ (n : ℕ). slice_index_or s.ready (place_in n e) false) going.cores ∙ (going.left i d (omega arith) lt).ready ∙ ready (place_in start.cores e) placed.0
 
-pub next_still : (notes : Notes) (start s : Regulation) (edges : List Edge) (i : ℕ) (d : Edge) → i < length edges → All (λ e. IsNextEdge notes start e) edges → Going notes start s edges i → IsNextEdge notes s (get_or edges i d)
+pub next_still : (notes : Notes) (start s : Regulation) (edges : List Edge) (i : ℕ) (d : Edge) → i < length edges → All (λ e. IsNextEdge notes start e) edges →
+    Going notes start s edges i → IsNextEdge notes s (get_or edges i d)
 next_still notes start s edges i d lt next going =
     let e = get_or edges i d in
     let was = next i d lt in
@@ -44,7 +46,8 @@ next_still notes start s edges i d lt next going =
     }
 
 -- and then one more was told
-pub going_on : (notes : Notes) (start s t : Regulation) (edges : List Edge) (i : ℕ) (d : Edge) → i < length edges → ArePairsApart start.cores edges → Going notes start s edges i → t.cores ≡ s.cores →
+pub going_on : (notes : Notes) (start s t : Regulation) (edges : List Edge) (i : ℕ) (d : Edge) → i < length edges → ArePairsApart start.cores edges →
+    Going notes start s edges i → t.cores ≡ s.cores →
     ((before : List (List (ℕ × ℕ))) → IsRegulation notes before s → IsRegulation notes (with_edge s.cores before (get_or edges i d)) t) →
     ((place : ℕ) → place ≢ place_in s.cores (get_or edges i d) → IsSameAt place s t) → Going notes start t edges (i + 1)
 unfolding with_edges
@@ -53,17 +56,20 @@ going_on notes start s t edges i d lt apart going cores regulation others = reco
   left = λ k f le within.
       let here = going.left k f (omega arith) within in
       let differ : place_in start.cores (get_or edges k f) ≢ place_in s.cores (get_or edges i d) =
-      λ same. apart i k f (omega arith) within (ap (λ (e : Edge). place_in start.cores e) (get_or_default edges i f d lt) ∙ ap (λ (n : ℕ). place_in n (get_or edges i d)) (sym going.cores) ∙ sym same) in
+      λ same. apart i k f (omega arith) within (ap (λ (e : Edge). place_in start.cores e) (get_or_default edges i f d lt)
+      ∙ ap (λ (n : ℕ). place_in n (get_or edges i d)) (sym going.cores) ∙ sym same) in
       let after = others (place_in start.cores (get_or edges k f)) differ in
       record { vectors = after.vectors ∙ here.vectors; ready = after.ready ∙ here.ready };
   regulation = λ before kept.
       let told = regulation (with_edges start.cores before (take i edges)) (going.regulation before kept) in
       subst (λ (es : List (List (ℕ × ℕ))). IsRegulation notes es t)
-      (ap (λ (n : ℕ). with_edge n (with_edges start.cores before (take i edges)) (get_or edges i d)) going.cores ∙ sym (fold_more (with_edge start.cores) before edges i d lt)) told;
+      (ap (λ (n : ℕ). with_edge n (with_edges start.cores before (take i edges)) (get_or edges i d)) going.cores
+      ∙ sym (fold_more (with_edge start.cores) before edges i d lt)) told;
 }
 
 -- all were told
-pub all_told : (notes : Notes) (start s : Regulation) (edges : List Edge) (i : ℕ) → length edges ≤ i → Going notes start s edges i → (before : List (List (ℕ × ℕ))) → IsRegulation notes before start → IsRegulation notes (with_edges start.cores before edges) s
+pub all_told : (notes : Notes) (start s : Regulation) (edges : List Edge) (i : ℕ) → length edges ≤ i → Going notes start s edges i →
+    (before : List (List (ℕ × ℕ))) → IsRegulation notes before start → IsRegulation notes (with_edges start.cores before edges) s
 all_told notes start s edges i past going before kept =
     subst (λ (es : List Edge). IsRegulation notes (with_edges start.cores before es) s) (take_all i edges past) (going.regulation before kept)
 

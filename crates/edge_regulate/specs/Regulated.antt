@@ -1,5 +1,6 @@
 -- The regulated log: each pair's greedy vectors, by what each core knew when it retired.
-use Rattle.std.specs.Prelude.{◌≡◌, ◌≢◌, ℕ, ◌-◌, ◌<◌, ◌≤◌, List, [], ◌∷◌, ◌++◌, Bool, true, false, nat_le, map, length, slice_index_or, slice_set}
+use Rattle.std.specs.Prelude.{◌≡◌, ◌≢◌, ℕ, ◌-◌, ◌<◌, ◌≤◌, List, [], ◌∷◌, ◌++◌, Bool, true, false, nat_le, map, length}
+use Rattle.std.specs.Prelude.{slice_index_or, slice_set}
 use Rattle.std.specs.List.{fold, range_with_len}
 use Rattle.rtr_types.specs.Pairs.{IsPair, pair_count, pair_place, source_at, target_at}
 use Rattle.rtr_types.specs.declared.instr.Edge.{Edge}
@@ -18,7 +19,8 @@ knows_by known from to a b = nat_le a (known to b from)
 
 -- the vectors of the edges of the pair at a place
 abbrev pub vectors_at : ℕ → Knowledge → List (List (ℕ × ℕ)) → ℕ → List StrideVector
-vectors_at cores known edges place = greedy (knows_by known (source_at cores place) (target_at cores place)) (slice_index_or edges place [])
+vectors_at cores known edges place =
+    greedy (knows_by known (source_at cores place) (target_at cores place)) (slice_index_or edges place [])
 
 -- the vectors of each pair's edges
 unfoldable pub regulated : (cores : ℕ) → Knowledge → List (List (ℕ × ℕ)) → List (List StrideVector)
@@ -32,7 +34,8 @@ counts e = (e.from.count, e.to.count)
 -- the edge is put at the end of its pair's list
 abbrev pub with_edge : ℕ → List (List (ℕ × ℕ)) → Edge → List (List (ℕ × ℕ))
 with_edge cores edges e =
-    slice_set edges (pair_place cores e.from.core e.to.core) (slice_index_or edges (pair_place cores e.from.core e.to.core) [] ++ counts e ∷ [])
+    slice_set edges (pair_place cores e.from.core e.to.core)
+    (slice_index_or edges (pair_place cores e.from.core e.to.core) [] ++ counts e ∷ [])
 
 -- the edges are put at the ends of their pairs' lists
 unfoldable pub with_edges : ℕ → List (List (ℕ × ℕ)) → List Edge → List (List (ℕ × ℕ))
@@ -41,7 +44,8 @@ with_edges cores edges new = fold (with_edge cores) edges new
 -- the edges are of different pairs
 abbrev pub ArePairsApart : ℕ → List Edge → Type 0
 ArePairsApart cores edges = (i j : ℕ) (d : Edge) → i < j → j < length edges →
-    pair_place cores (slice_index_or edges i d).from.core (slice_index_or edges i d).to.core ≢ pair_place cores (slice_index_or edges j d).from.core (slice_index_or edges j d).to.core
+    pair_place cores (slice_index_or edges i d).from.core (slice_index_or edges i d).to.core ≢ pair_place cores
+    (slice_index_or edges j d).from.core (slice_index_or edges j d).to.core
 
 -- the number of cores, each pair's vectors so far, and whether the pair has room for one more
 pub record Regulation : Type 0 where
@@ -60,7 +64,8 @@ pub record IsSameAt (place : ℕ) (s t : Regulation) : Type 0 where
 
 -- what was noted of other cores is known so, whatever is noted later
 abbrev pub Extends : Notes → Knowledge → Type 0
-Extends notes known = (core count of : ℕ) → of ≢ core → count ≤ noted_count notes core → known core count of ≡ known_at notes core count of
+Extends notes known = (core count of : ℕ) → of ≢ core → count ≤ noted_count notes core → known core count of
+    ≡ known_at notes core count of
 
 -- the vectors so far are the greedy ones of the edges told, whatever is noted later
 pub record IsRegulation (notes : Notes) (edges : List (List (ℕ × ℕ))) (s : Regulation) : Type 0 where

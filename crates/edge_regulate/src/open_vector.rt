@@ -1,5 +1,6 @@
 //! The newest vector of a pair of cores, which may go on.
-ghost use Rattle.std.specs.Prelude.{◌≡◌, ◌≢◌, ◌<◌, ◌≤◌, ◌-◌, ◌++◌, [], ◌∷◌, All, IfNone, IfSome, Some, None, if◌then◌else◌, length, slice_set};
+ghost use Rattle.std.specs.Prelude.{◌≡◌, ◌≢◌, ◌<◌, ◌≤◌, ◌-◌, ◌++◌, [], ◌∷◌, All, IfNone, IfSome, Some, None};
+ghost use Rattle.std.specs.Prelude.{if◌then◌else◌, length, slice_set};
 ghost use Rattle.rtr_types.specs.declared.TheConstants.{CORES_MAX};
 ghost use Rattle.stride_vector.specs.Vectors.{last_of};
 ghost use Rattle.know_history.specs.Notes.{core_count, known_at, noted_count};

@@ -1,5 +1,6 @@
 //! The regulator.
-ghost use Rattle.std.specs.Prelude.{◌≡◌, ◌≢◌, ℕ, ◌<◌, ◌≤◌, List, [], All, IfOk, IsTrue, OnErr, OnOk, false, length, replicate, slice_index_or};
+ghost use Rattle.std.specs.Prelude.{◌≡◌, ◌≢◌, ℕ, ◌<◌, ◌≤◌, List, [], All, IfOk, IsTrue, OnErr, OnOk, false, length};
+ghost use Rattle.std.specs.Prelude.{replicate, slice_index_or};
 ghost use Rattle.rtr_types.specs.declared.TheConstants.{CORES_MAX};
 ghost use Rattle.rtr_types.specs.Pairs.{pair_count, pair_place};
 
@@ -31,18 +32,21 @@ impl Model for Regulator {
 
     ghost view = { λ a. record { cores = a.cores; vectors = items_in a.pairs; ready = map (λ l. l.ready) a.pairs } };
 
-    ghost invariant = { λ a. (a.cores ≤ CORES_MAX) × (length a.pairs ≡ pair_count a.cores) × All (λ vectors. All IsGrowing vectors) (items_in a.pairs) };
+    ghost invariant = { λ a. (a.cores ≤ CORES_MAX) × (length a.pairs ≡ pair_count a.cores)
+        × All (λ vectors. All IsGrowing vectors) (items_in a.pairs) };
 }
 
 impl Regulator {
     ghost use Rattle.know_history.specs.Notes.{Notes, known_at};
-    ghost use Rattle.edge_regulate.specs.Regulated.{AreReady, ArePairsApart, IsNextEdge, IsRegulation, IsSameAt, regulated, with_edge, with_edges};
+    ghost use Rattle.edge_regulate.specs.Regulated.{AreReady, ArePairsApart, IsNextEdge, IsRegulation, IsSameAt};
+    ghost use Rattle.edge_regulate.specs.Regulated.{regulated, with_edge, with_edges};
 
     /// No vectors yet, for so many cores.
     pub fn new(alloc: Global, cores: u8) -> Result<Regulator, AllocError>
         requires { cores ≤ CORES_MAX }
         ensures cores { IfOk result (λ regulator. regulator.cores ≡ cores) }
-        ensures regulation { IfOk result (λ regulator. (notes : Notes) → IsRegulation notes (replicate (pair_count cores) []) regulator) }
+        ensures regulation { IfOk result (λ regulator. (notes : Notes) →
+            IsRegulation notes (replicate (pair_count cores) []) regulator) }
     {
         let pairs = RoomyLists::new(alloc, pair_count(cores))?;
         Ok(Regulator { cores, pairs })
@@ -52,7 +56,8 @@ impl Regulator {
     pub fn ready(&mut self) -> Result<(), AllocError>
         ensures cores { self.new.cores ≡ self.old.cores }
         ensures vectors { self.new.vectors ≡ self.old.vectors }
-        ensures regulation { (notes : Notes) (edges : List (List (ℕ × ℕ))) → IsRegulation notes edges self.old → IsRegulation notes edges self.new }
+        ensures regulation { (notes : Notes) (edges : List (List (ℕ × ℕ))) → IsRegulation notes edges self.old →
+            IsRegulation notes edges self.new }
         ensures ready { OnOk result (AreReady self.new) }
     {
         self.pairs.make_room()
@@ -68,11 +73,14 @@ impl Regulator {
 
     /// Takes the next edge of its pair, whose target was just noted.
     pub fn edge(&mut self, edge: Edge, history: &History)
-        requires ready { IsTrue (slice_index_or self.old.ready (pair_place self.old.cores edge.from.core edge.to.core) false) }
+        requires ready { IsTrue (slice_index_or self.old.ready
+            (pair_place self.old.cores edge.from.core edge.to.core) false) }
         requires next { IsNextEdge history.now.notes self.old edge }
         ensures cores { self.new.cores ≡ self.old.cores }
-        ensures regulation { (edges : List (List (ℕ × ℕ))) → IsRegulation history.now.notes edges self.old → IsRegulation history.now.notes (with_edge self.old.cores edges edge) self.new }
-        ensures others { (place : ℕ) → place ≢ pair_place self.old.cores edge.from.core edge.to.core → IsSameAt place self.old self.new }
+        ensures regulation { (edges : List (List (ℕ × ℕ))) → IsRegulation history.now.notes edges self.old →
+            IsRegulation history.now.notes (with_edge self.old.cores edges edge) self.new }
+        ensures others { (place : ℕ) → place ≢ pair_place self.old.cores edge.from.core edge.to.core →
+            IsSameAt place self.old self.new }
     {
         let place = pair_at(self.cores, edge.from.core, edge.to.core);
         match newest_with(self.pairs.list(place), edge, history) {
@@ -87,7 +95,8 @@ impl Regulator {
         requires next { All (λ e. IsNextEdge history.now.notes self.old e) edges.now }
         requires apart { ArePairsApart self.old.cores edges.now }
         ensures cores { self.new.cores ≡ self.old.cores }
-        ensures regulation { (told : List (List (ℕ × ℕ))) → IsRegulation history.now.notes told self.old → IsRegulation history.now.notes (with_edges self.old.cores told edges.now) self.new }
+        ensures regulation { (told : List (List (ℕ × ℕ))) → IsRegulation history.now.notes told self.old →
+            IsRegulation history.now.notes (with_edges self.old.cores told edges.now) self.new }
     {
         for edge in edges {
             self.edge(*edge, history);
@@ -97,7 +106,8 @@ impl Regulator {
     /// The vectors by pair of cores. It takes no memory.
     pub fn finish(self) -> Items<Items<StrideVector>>
         ensures vectors { result ≡ self.vectors }
-        ensures regulated { (notes : Notes) (edges : List (List (ℕ × ℕ))) → IsRegulation notes edges self → result ≡ regulated self.cores (known_at notes) edges }
+        ensures regulated { (notes : Notes) (edges : List (List (ℕ × ℕ))) → IsRegulation notes edges self →
+            result ≡ regulated self.cores (known_at notes) edges }
     {
         let Regulator { pairs, .. } = self;
         pairs.into_items()

@@ -1,5 +1,6 @@
 -- Words read from a part of a list of bytes, and words that begin past its end.
-use Rattle.std.proofs.Common.{◌≡◌, ◌≢◌, ◌⊎◌, ℕ, zero, suc, ◌+◌, ◌-◌, ◌*◌, ◌%◌, ◌<◌, ◌≤◌, List, length, take, drop, refl, ap, ◌∙◌, arith, add-zero, add-suc, length-drop, Some, None}
+use Rattle.std.proofs.Common.{◌≡◌, ◌≢◌, ◌⊎◌, ℕ, zero, suc, ◌+◌, ◌-◌, ◌*◌, ◌%◌, ◌<◌, ◌≤◌, List, length, take, drop, refl, ap, ◌∙◌, arith, add-zero, add-suc}
+use Rattle.std.proofs.Common.{length-drop, Some, None}
 use Rattle.std.proofs.lemmas.List.{get_or-drop, get_or_past, take_all}
 use Rattle.std.proofs.lemmas.Bool.Decides.{nat_tests}
 use Rattle.byteorder.specs.Endian.{little_from}

@@ -1,5 +1,6 @@
 //! Images: the bytes that a machine starts with.
-ghost use Rattle.std.specs.Prelude.{◌≡◌, ◌+◌, ◌*◌, ◌%◌, ◌<◌, ◌≤◌, ◌≢◌, ◌↔◌, ◌⊎◌, IsErr, IsNone, IfOk, length, slice_index};
+ghost use Rattle.std.specs.Prelude.{◌≡◌, ◌+◌, ◌*◌, ◌%◌, ◌<◌, ◌≤◌, ◌≢◌, ◌↔◌, ◌⊎◌, IsErr, IsNone, IfOk, length};
+ghost use Rattle.std.specs.Prelude.{slice_index};
 ghost use Rattle.image_mem.specs.Contents.{Contents, fetched, opening_word};
 
 use byteorder::{ByteOrder, LittleEndian};

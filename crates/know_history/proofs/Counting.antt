@@ -1,5 +1,6 @@
 -- Carries that count what retired in a set of events.
-use Rattle.std.proofs.Common.{◌≡◌, ◌≢◌, ◌∙◌, ap, refl, sym, ℕ, zero, suc, ◌+◌, ◌<◌, ◌≤◌, ◌==◌, ◌⊎◌, inl, inr, Bool, true, false, Option, Some, None, get_or, max, arith}
+use Rattle.std.proofs.Common.{◌≡◌, ◌≢◌, ◌∙◌, ap, refl, sym, ℕ, zero, suc, ◌+◌, ◌<◌, ◌≤◌, ◌==◌, ◌⊎◌, inl, inr, Bool, true, false, Option, Some, None, get_or}
+use Rattle.std.proofs.Common.{max, arith}
 use Rattle.std.specs.Prelude.{if◌then◌else◌, replicate}
 use Rattle.std.proofs.lemmas.Bool.{cases_eq}
 use Rattle.std.proofs.lemmas.Bool.Decides.{nat_tests}
@@ -42,7 +43,8 @@ at_most n m x y e (inl h) = grind arith
 at_most n m x y e (inr h) = grind arith
 
 -- two carries joined count what either counts
-pub counts_joined : (event : ℕ → Happening) (P Q : ℕ → Type 0) (p q : Known) → Counts event P p → Counts event Q q → Counts event (λ t. P t ⊎ Q t) (known_joined p q)
+pub counts_joined : (event : ℕ → Happening) (P Q : ℕ → Type 0) (p q : Known) → Counts event P p → Counts event Q q →
+    Counts event (λ t. P t ⊎ Q t) (known_joined p q)
 counts_joined event P Q p q hp hq =
     record {
       places = length-merged p.counts q.counts (hp.places ∙ sym hq.places) ∙ hp.places;
@@ -96,7 +98,8 @@ pub retired_below : (event : ℕ → Happening) (u n : ℕ) (x : Instr) → (eve
 retired_below event u n x is next lt = let e = is_counted event u x is next in let rises = retired_rises event (suc u) n x.core (omega arith) in omega arith
 
 -- an instruction retires once
-pub retires_once : (event : ℕ → Happening) (u t : ℕ) (x : Instr) → (event u).retires ≡ Some x → (event t).retires ≡ Some x → IsNext event u x → IsNext event t x → u ≡ t
+pub retires_once : (event : ℕ → Happening) (u t : ℕ) (x : Instr) → (event u).retires ≡ Some x → (event t).retires ≡ Some x → IsNext event u x →
+    IsNext event t x → u ≡ t
 retires_once event u t x one other next_one next_other = by (order u t)
   where
     order : (m n : ℕ) → (m ≡ n) ⊎ ((m < n) ⊎ (n < m))
@@ -108,14 +111,17 @@ retires_once event u t x one other next_one next_other = by (order u t)
     by (inr (inr lt)) = absurd (let below = retired_below event t u x other next_other lt in let e = next_one.count in omega arith)
 
 -- each of the first instructions of a core has retired
-pub retired_there : (event : ℕ → Happening) (n : ℕ) → ((u : ℕ) → u < n → IsOrderly event u) → (x : Instr) → 1 ≤ x.count → x.count ≤ retired_in event n x.core → (t : ℕ) × (t < n) × ((event t).retires ≡ Some x)
+pub retired_there : (event : ℕ → Happening) (n : ℕ) → ((u : ℕ) → u < n → IsOrderly event u) → (x : Instr) → 1 ≤ x.count → x.count ≤ retired_in event n x.core →
+    (t : ℕ) × (t < n) × ((event t).retires ≡ Some x)
 retired_there event zero orderly x pos le = absurd (omega arith)
 retired_there event (suc n) orderly x pos le = by (event n).retires refl (λ h. retired_there event n (λ u lt. orderly u (omega arith)) x pos h)
   where
     later : (t : ℕ) × (t < n) × ((event t).retires ≡ Some x) → (t : ℕ) × (t < suc n) × ((event t).retires ≡ Some x)
     later r = (r.0, let lt = r.1 in omega arith, r.2)
 
-    newest : (y : Instr) → (event n).retires ≡ Some y → (b : Bool) → (y.core == x.core) ≡ b → x.count ≤ (if b then retired_in event n x.core + 1 else retired_in event n x.core) → (x.count ≤ retired_in event n x.core → (t : ℕ) × (t < n) × ((event t).retires ≡ Some x)) → (t : ℕ) × (t < suc n) × ((event t).retires ≡ Some x)
+    newest : (y : Instr) → (event n).retires ≡ Some y → (b : Bool) → (y.core == x.core) ≡ b →
+        x.count ≤ (if b then retired_in event n x.core + 1 else retired_in event n x.core) →
+        (x.count ≤ retired_in event n x.core → (t : ℕ) × (t < n) × ((event t).retires ≡ Some x)) → (t : ℕ) × (t < suc n) × ((event t).retires ≡ Some x)
     newest y is false test h before = later (before h)
     newest y is true test h before = here (cases_eq x.count (retired_in event n x.core + 1))
       where
@@ -129,6 +135,8 @@ retired_there event (suc n) orderly x pos le = by (event n).retires refl (λ h. 
         here (inl e) = (n, omega arith, is ∙ ap (λ (z : Instr). Some z) (instr_eq y x core (counted ∙ sym e)))
         here (inr other) = later (before (grind arith))
 
-    by : (o : Option Instr) → (event n).retires ≡ o → (x.count ≤ retired_in event n x.core → (t : ℕ) × (t < n) × ((event t).retires ≡ Some x)) → (t : ℕ) × (t < suc n) × ((event t).retires ≡ Some x)
+    by : (o : Option Instr) → (event n).retires ≡ o → (x.count ≤ retired_in event n x.core → (t : ℕ) × (t < n) × ((event t).retires ≡ Some x)) →
+        (t : ℕ) × (t < suc n) × ((event t).retires ≡ Some x)
     by None is before = later (before (let same : is_of x.core (event n).retires ≡ false = ap (is_of x.core) is in rw same at le))
-    by (Some y) is before = newest y is (y.core == x.core) refl (let same : is_of x.core (event n).retires ≡ (y.core == x.core) = ap (is_of x.core) is in rw same at le) before
+    by (Some y) is before =
+        newest y is (y.core == x.core) refl (let same : is_of x.core (event n).retires ≡ (y.core == x.core) = ap (is_of x.core) is in rw same at le) before

@@ -19,7 +19,10 @@ none_noted (suc cores) zero = omega arith
 none_noted (suc cores) (suc core) = none_noted cores core
 
 pub history_start_law : HistoryStartLaw
-history_start_law event h cores is x y some noted place other pos = absurd (let e : noted_count h y.core ≡ length (slice_index_or {A = List Clock} (replicate cores []) y.core []) = ap (λ (lists : Notes). length (slice_index_or lists y.core [])) is in let none = none_noted cores y.core in omega arith)
+history_start_law event h cores is x y some noted place other pos =
+    absurd (let e : noted_count h y.core
+    ≡ length (slice_index_or {A = List Clock} (replicate cores []) y.core []) = ap (λ (lists : Notes). length (slice_index_or lists y.core [])) is in
+    let none = none_noted cores y.core in omega arith)
 
 none_before : (h : Notes) (core of : ℕ) → known_at h core 0 «of» ≤ 0
 none_before h core «of» = zero_at CORES_MAX «of»
@@ -41,11 +44,17 @@ history_law event t y known old new orderly retires next counts noted h x z some
     stays apart le = from (cases_eq (y.count - 1) 0)
       where
         from : (y.count - 1 ≡ 0) ⊎ (y.count - 1 ≢ 0) → IsKnownAt event x y
-        from (inl e) = absurd (let f : known_at old y.core (y.count - 1) x.core ≡ known_at old y.core 0 x.core = ap (λ (n : ℕ). known_at old y.core n x.core) e in let none = none_before old y.core x.core in omega arith)
+        from (inl e) = absurd (let f : known_at old y.core (y.count - 1) x.core
+            ≡ known_at old y.core 0 x.core = ap (λ (n : ℕ). known_at old y.core n x.core) e in let none = none_before old y.core x.core in omega arith)
         from (inr f) = known_stays_law event x before y t orderly ((h x before (grind arith) (omega arith) place apart pos).0 le) refl (grind arith) retires
 
     here : x.core ≢ y.core → (x.count ≤ known_at new y.core y.count x.core) ↔ IsKnownAt event x y
-    here apart = (λ le. to (either x.count (known_at old y.core (y.count - 1) x.core) (count_in known x.core) (let e = noted.greater x.core apart in omega arith)), λ k. greater x.count (known_at new y.core y.count x.core) (known_at old y.core (y.count - 1) x.core) (count_in known x.core) (noted.greater x.core apart) ((counts.others x place apart pos).1 k))
+    here apart = (
+      λ le. to (either x.count (known_at old y.core (y.count - 1) x.core) (count_in known x.core) (let e = noted.greater x.core apart in
+          omega arith)),
+      λ k. greater x.count (known_at new y.core y.count x.core) (known_at old y.core (y.count - 1) x.core) (count_in known x.core)
+          (noted.greater x.core apart) ((counts.others x place apart pos).1 k),
+    )
       where
         to : (x.count ≤ known_at old y.core (y.count - 1) x.core) ⊎ (x.count ≤ count_in known x.core) → IsKnownAt event x y
         to (inl le) = stays apart le
@@ -55,11 +64,14 @@ history_law event t y known old new orderly retires next counts noted h x z some
     kept le = subst (λ (n : ℕ). (x.count ≤ n) ↔ IsKnownAt event x z) (sym (noted.kept z.core z.count x.core other le)) (h x z some le place other pos)
 
     same : z ≡ y → (x.count ≤ known_at new z.core z.count x.core) ↔ IsKnownAt event x z
-    same e = subst (λ (i : Instr). (x.count ≤ known_at new i.core i.count x.core) ↔ IsKnownAt event x i) (sym e) (here (λ f. other (f ∙ ap (λ (i : Instr). i.core) (sym e))))
+    same e = subst (λ (i : Instr). (x.count ≤ known_at new i.core i.count x.core) ↔ IsKnownAt event x i) (sym e)
+        (here (λ f. other (f ∙ ap (λ (i : Instr). i.core) (sym e))))
 
     of_core : z.core ≡ y.core → (z.count ≡ y.count) ⊎ (z.count ≢ y.count) → (x.count ≤ known_at new z.core z.count x.core) ↔ IsKnownAt event x z
     of_core e (inl f) = same (instr_eq z y e f)
-    of_core e (inr apart) = kept (let g : noted_count new z.core ≡ noted_count new y.core = ap (noted_count new) e in let g2 : noted_count old z.core ≡ noted_count old y.core = ap (noted_count old) e in let c = noted.count in grind arith)
+    of_core e (inr apart) =
+        kept (let g : noted_count new z.core ≡ noted_count new y.core = ap (noted_count new) e in
+        let g2 : noted_count old z.core ≡ noted_count old y.core = ap (noted_count old) e in let c = noted.count in grind arith)
 
     by : (z.core ≡ y.core) ⊎ (z.core ≢ y.core) → (x.count ≤ known_at new z.core z.count x.core) ↔ IsKnownAt event x z
     by (inl e) = of_core e (cases_eq z.count y.count)

@@ -15,7 +15,8 @@ pub carries_know_law : CarriesKnowLaw
 carries_know_law event t actor c d orderly own follows h = all_know_more event t actor c d own (λ u lt. orderly u) follows h
 
 -- a carry that counts what is event t or leads to it counts what is known at the instruction that retires there
-known_count : (event : ℕ → Happening) (t : ℕ) (k : Known) (y : Instr) → AreOrderly event → (event t).retires ≡ Some y → CountsTo event t k → IsKnownCount event k y
+known_count : (event : ℕ → Happening) (t : ℕ) (k : Known) (y : Instr) → AreOrderly event → (event t).retires ≡ Some y → CountsTo event t k →
+    IsKnownCount event k y
 known_count event t k y orderly is h =
     record {
       others = λ x core apart pos. (λ le. (let r = (h.at x core pos).0 le in known x apart r.0 r.1 r.2), λ f. (h.at x core pos).1 (counted x f));
@@ -33,7 +34,11 @@ known_count event t k y orderly is h =
     known x apart u at (inr p) = record { there = u; here = t; retired = at; retires = is; leads = p }
 
     counted : (x : Instr) → IsKnownAt event x y → RetiresIn event (λ u. IsOrLeads event u t) x
-    counted x f = (f.there, f.retired, inr (subst (λ (u : ℕ). Leads event f.there u) (retires_once event f.here t y f.retires is (orderly f.here y f.retires) next) f.leads))
+    counted x f = (
+      f.there,
+      f.retired,
+      inr (subst (λ (u : ℕ). Leads event f.there u) (retires_once event f.here t y f.retires is (orderly f.here y f.retires) next) f.leads),
+    )
 
     of_core : ℕ → Instr
     of_core n = record { core = y.core; count = n }
@@ -42,7 +47,8 @@ known_count event t k y orderly is h =
     below n pos le = let r = (h.at (of_core n) next.core pos).0 le in by r.0 r.1 r.2
       where
         by : (u : ℕ) → (event u).retires ≡ Some (of_core n) → IsOrLeads event u t → n ≤ y.count
-        by u at (inl e) = let same_one : of_core n ≡ y = some_same (of_core n) y (sym at ∙ (ap (λ (v : ℕ). (event v).retires) e ∙ is)) in let f : n ≡ y.count = ap (λ (z : Instr). z.count) same_one in omega arith
+        by u at (inl e) = let same_one : of_core n ≡ y = some_same (of_core n) y (sym at ∙ (ap (λ (v : ℕ). (event v).retires) e ∙ is)) in
+            let f : n ≡ y.count = ap (λ (z : Instr). z.count) same_one in omega arith
         by u at (inr p) =
             let lt = leads_before event u t p in
             let le2 : n ≤ retired_in event t y.core = retired_below event u t (of_core n) at (orderly u (of_core n) at) lt in
@@ -56,7 +62,8 @@ known_count event t k y orderly is h =
     same m n f pos = let up : m ≤ n = (f m pos).1 refl in let down : n ≤ m = (f n (omega arith)).0 (omega arith) in omega arith
 
 pub known_count_law : KnownCountLaw
-known_count_law event t actor c y orderly own is h = known_count event t (carry_left known_carrying (event t) c actor) y orderly is (counts_left event t actor c own (λ u lt. orderly u) h)
+known_count_law event t actor c y orderly own is h =
+    known_count event t (carry_left known_carrying (event t) c actor) y orderly is (counts_left event t actor c own (λ u lt. orderly u) h)
 
 pub known_earlier_law : KnownEarlierLaw
 known_earlier_law event x y k = leads_before event k.there k.here k.leads
@@ -68,7 +75,15 @@ known_stays_law event x y z t orderly k core later is =
       here = t;
       retired = k.retired;
       retires = is;
-      leads = leads_joined event k.there k.here t k.leads (0, inl (record { actor = AtCore y.core; of_it = first.own; and_of_it = second.own ∙ ap (λ (c : ℕ). Some (AtCore c)) core; before = before (order k.here t) }));
+      leads = leads_joined event k.there k.here t k.leads (
+        0,
+        inl (record {
+          actor = AtCore y.core;
+          of_it = first.own;
+          and_of_it = second.own ∙ ap (λ (c : ℕ). Some (AtCore c)) core;
+          before = before (order k.here t);
+        }),
+      );
     }
   where
     first : IsNext event k.here y
@@ -82,5 +97,9 @@ known_stays_law event x y z t orderly k core later is =
 
     before : (k.here < t) ⊎ ((k.here ≡ t) ⊎ (t < k.here)) → k.here < t
     before (inl lt) = lt
-    before (inr (inl e)) = absurd (let same_one : y ≡ z = some_same y z (sym k.retires ∙ (ap (λ (u : ℕ). (event u).retires) e ∙ is)) in let f : y.count ≡ z.count = ap (λ (i : Instr). i.count) same_one in omega arith)
-    before (inr (inr lt)) = absurd (let below = retired_below event t k.here z is second lt in let f : y.count ≡ retired_in event k.here z.core + 1 = first.count ∙ ap (λ (c : ℕ). retired_in event k.here c + 1) (sym core) in omega arith)
+    before (inr (inl e)) =
+        absurd (let same_one : y ≡ z = some_same y z (sym k.retires ∙ (ap (λ (u : ℕ). (event u).retires) e ∙ is)) in
+        let f : y.count ≡ z.count = ap (λ (i : Instr). i.count) same_one in omega arith)
+    before (inr (inr lt)) =
+        absurd (let below = retired_below event t k.here z is second lt in let f : y.count ≡ retired_in event k.here z.core + 1 = first.count
+        ∙ ap (λ (c : ℕ). retired_in event k.here c + 1) (sym core) in omega arith)

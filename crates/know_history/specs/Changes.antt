@@ -1,5 +1,6 @@
 -- What a history keeps: when more was known of a core.
-use Rattle.std.specs.Prelude.{◌≡◌, ◌≢◌, ℕ, ◌+◌, ◌*◌, ◌<◌, ◌≤◌, ◌&&◌, not, Bool, IsTrue, List, [], ◌∷◌, ◌++◌, length, map, nat_eq, nat_le, nat_lt, slice_index, slice_index_or, if◌then◌else◌}
+use Rattle.std.specs.Prelude.{◌≡◌, ◌≢◌, ℕ, ◌+◌, ◌*◌, ◌<◌, ◌≤◌, ◌&&◌, not, Bool, IsTrue, List, [], ◌∷◌, ◌++◌, length}
+use Rattle.std.specs.Prelude.{map, nat_eq, nat_le, nat_lt, slice_index, slice_index_or, if◌then◌else◌}
 use Rattle.std.specs.List.{range_with_len}
 use Rattle.rtr_types.specs.declared.TheConstants.{CORES_MAX}
 use Rattle.rtr_types.specs.declared.instr.Instr.{Instr}
@@ -9,11 +10,13 @@ use Rattle.know_history.specs.declared.changes.Change.{Change}
 use Rattle.know_history.specs.declared.history.Newest.{Newest}
 use Rattle.know_history.specs.Notes.{Notes, rises}
 
--- how many were known at the retirement with this count: as many as at the last change up to it, and before the first as
+-- how many were known at the retirement with this count: as many as at the last change up to it, and before the first
+-- as
 -- many as are given
 abbrev pub known_by : (before : ℕ) → List Change → (count : ℕ) → ℕ
 known_by before [] count = before
-known_by before (change ∷ changes) count = if nat_le change.count count then known_by change.known changes count else before
+known_by before (change ∷ changes) count =
+    if nat_le change.count count then known_by change.known changes count else before
 
 -- the counts rise from above the least up to the most
 abbrev pub do_rise : (least most : ℕ) → List Change → Bool
@@ -57,7 +60,9 @@ pub record AreChanges (noted known : ℕ) (changes : List Change) : Type 0 where
 -- each core's lists hold the changes of what is known
 pub record HoldNotes (newest : List Newest) (lists : List (List Change)) : Type 0 where
   pub places : length lists ≡ length newest * CORES_MAX
-  pub changes : (core of : ℕ) → core < length newest → «of» < CORES_MAX → AreChanges (newest_at newest core).count (slice_index (newest_at newest core).known «of») (changes_at lists core «of»)
+  pub changes : (core of : ℕ) → core < length newest → «of» < CORES_MAX →
+      AreChanges (newest_at newest core).count (slice_index (newest_at newest core).known «of»)
+      (changes_at lists core «of»)
 
 -- ---- one retirement is noted
 
@@ -67,14 +72,18 @@ is_news at «of» known newest = not (nat_eq «of» at.core) && nat_lt newest kn
 
 -- what the list and the newest count become
 abbrev pub changed_list : Instr → (of : ℕ) → (known newest : ℕ) → List Change → List Change
-changed_list at «of» known newest changes = if is_news at «of» known newest then changes ++ record { count = at.count; known = known } ∷ [] else changes
+changed_list at «of» known newest changes =
+    if is_news at «of» known newest then changes ++ record { count = at.count; known = known } ∷ [] else changes
 
 abbrev pub changed_count : Instr → (of : ℕ) → (known newest : ℕ) → ℕ
 changed_count at «of» known newest = if is_news at «of» known newest then known else newest
 
 -- the lists and the core's newest counts before and after a retirement at which so much is known
-pub record AreChanged (at : Instr) (counts : Clock) (old : List (List Change)) (newest : Clock) (new : List (List Change)) (newer : Clock) : Type 0 where
+pub record AreChanged (at : Instr) (counts : Clock) (old : List (List Change)) (newest : Clock)
+    (new : List (List Change)) (newer : Clock) : Type 0 where
   pub long : length new ≡ length old
-  pub lists : (of : ℕ) → «of» < CORES_MAX → changes_at new at.core «of» ≡ changed_list at «of» (slice_index counts «of») (slice_index newest «of») (changes_at old at.core «of»)
-  pub known : (of : ℕ) → «of» < CORES_MAX → slice_index newer «of» ≡ changed_count at «of» (slice_index counts «of») (slice_index newest «of»)
+  pub lists : (of : ℕ) → «of» < CORES_MAX → changes_at new at.core «of»
+      ≡ changed_list at «of» (slice_index counts «of») (slice_index newest «of») (changes_at old at.core «of»)
+  pub known : (of : ℕ) → «of» < CORES_MAX → slice_index newer «of»
+      ≡ changed_count at «of» (slice_index counts «of») (slice_index newest «of»)
   pub others : (core of : ℕ) → core ≢ at.core → «of» < CORES_MAX → changes_at new core «of» ≡ changes_at old core «of»

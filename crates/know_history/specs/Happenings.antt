@@ -1,6 +1,7 @@
 -- What happens one after the other among actors that send each other messages, and what of it leads to
 -- what: Lamport's relation.
-use Rattle.std.specs.Prelude.{◌≡◌, ℕ, zero, suc, ◌<◌, ◌==◌, ◌⊎◌, Bool, false, Option, Some, List, [], ◌∷◌, ◌++◌, drop, if◌then◌else◌}
+use Rattle.std.specs.Prelude.{◌≡◌, ℕ, zero, suc, ◌<◌, ◌==◌, ◌⊎◌, Bool, false, Option, Some, List, [], ◌∷◌, ◌++◌, drop}
+use Rattle.std.specs.Prelude.{if◌then◌else◌}
 use Rattle.rtr_types.specs.declared.instr.Instr.{Instr}
 
 -- who acts: a core with its cache, or the home

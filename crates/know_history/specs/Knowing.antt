@@ -1,5 +1,6 @@
 -- What carries hold while things happen, and when they count exactly what is known.
-use Rattle.std.specs.Prelude.{◌≡◌, ℕ, zero, suc, ◌+◌, ◌<◌, ◌≤◌, ◌==◌, ◌⊎◌, ◌↔◌, Bool, false, Option, Some, None, List, [], ◌∷◌, length, if◌then◌else◌}
+use Rattle.std.specs.Prelude.{◌≡◌, ℕ, zero, suc, ◌+◌, ◌<◌, ◌≤◌, ◌==◌, ◌⊎◌, ◌↔◌, Bool, false, Option, Some, None, List}
+use Rattle.std.specs.Prelude.{[], ◌∷◌, length, if◌then◌else◌}
 use Rattle.rtr_types.specs.declared.TheConstants.{CORES_MAX}
 use Rattle.rtr_types.specs.declared.instr.Instr.{Instr}
 use Rattle.access_times.specs.Riding.{Carrying}
@@ -16,7 +17,8 @@ is_of core (Some x) = x.core == core
 -- how many of the core's instructions retired in the first t events
 abbrev pub retired_in : (event : ℕ → Happening) → (t core : ℕ) → ℕ
 retired_in event zero core = 0
-retired_in event (suc t) core = if is_of core (event t).retires then retired_in event t core + 1 else retired_in event t core
+retired_in event (suc t) core =
+    if is_of core (event t).retires then retired_in event t core + 1 else retired_in event t core
 
 -- event t is one of the instruction's core, of which the instruction is the next
 pub record IsNext (event : ℕ → Happening) (t : ℕ) (x : Instr) : Type 0 where
@@ -52,10 +54,12 @@ module _ {K : Type 0} where
 
 -- the carries before and after an actor's event: each message that it sends has a copy of the actor's carry,
 -- taken after all else
-pub record CarriesFollow {K : Type 0} (carrying : Carrying K) (e : Happening) (actor : Actor) (c d : Carries K) : Type 0 where
+pub record CarriesFollow {K : Type 0} (carrying : Carrying K) (e : Happening) (actor : Actor)
+    (c d : Carries K) : Type 0 where
   pub acting : d.own actor ≡ carry_left carrying e c actor
   pub resting : (other : Actor) → (other ≡ actor → ⊥) → d.own other ≡ c.own other
-  pub sent : (link : Channel) → d.sent link ≡ with_sent (e.sends link) (d.own actor) (left_on e.takes link (c.sent link))
+  pub sent : (link : Channel) →
+      d.sent link ≡ with_sent (e.sends link) (d.own actor) (left_on e.takes link (c.sent link))
 
 -- t is u or leads to it
 abbrev pub IsOrLeads : (event : ℕ → Happening) → (t u : ℕ) → Type 0

@@ -1,5 +1,6 @@
 -- What a history of what is known holds.
-use Rattle.std.specs.Prelude.{◌≡◌, ◌≢◌, ℕ, zero, suc, ◌+◌, ◌-◌, ◌≤◌, Bool, List, [], ◌∷◌, length, max, nat_lt, replicate, slice_index, slice_index_or, if◌then◌else◌}
+use Rattle.std.specs.Prelude.{◌≡◌, ◌≢◌, ℕ, zero, suc, ◌+◌, ◌-◌, ◌≤◌, Bool, List, [], ◌∷◌, length, max, nat_lt}
+use Rattle.std.specs.Prelude.{replicate, slice_index, slice_index_or, if◌then◌else◌}
 use Rattle.rtr_types.specs.declared.instr.Instr.{Instr}
 use Rattle.clock_core.specs.Counts.{no_counts}
 use Rattle.clock_core.specs.declared.clock.Clock.{Clock}
@@ -47,5 +48,7 @@ pub record IsNoted (old : Notes) (at : Instr) (known : Known) (new : Notes) : Ty
   pub cores : core_count new ≡ core_count old
   pub count : noted_count new at.core ≡ at.count
   pub others : (core : ℕ) → core ≢ at.core → noted_count new core ≡ noted_count old core
-  pub greater : (of : ℕ) → «of» ≢ at.core → known_at new at.core at.count «of» ≡ max (known_at old at.core (at.count - 1) «of») (count_in known «of»)
-  pub kept : (core count of : ℕ) → «of» ≢ core → count ≤ noted_count old core → known_at new core count «of» ≡ known_at old core count «of»
+  pub greater : (of : ℕ) → «of» ≢ at.core → known_at new at.core at.count «of»
+      ≡ max (known_at old at.core (at.count - 1) «of») (count_in known «of»)
+  pub kept : (core count of : ℕ) → «of» ≢ core → count ≤ noted_count old core → known_at new core count «of»
+      ≡ known_at old core count «of»

@@ -1,5 +1,6 @@
 -- What a ring of places holds, as items are written behind the newest and dropped at the oldest.
-use Rattle.std.proofs.Common.{rules, arith, ◌≡◌, ◌≢◌, ◌∙◌, refl, sym, ap, ℕ, zero, suc, nat_eq, ◌+◌, ◌-◌, ◌<◌, ◌≤◌, ◌⊎◌, inl, inr, List, [], ◌∷◌, ◌++◌, length, get_or, set, take, drop, length-append, length-drop}
+use Rattle.std.proofs.Common.{rules, arith, ◌≡◌, ◌≢◌, ◌∙◌, refl, sym, ap, ℕ, zero, suc, nat_eq, ◌+◌, ◌-◌, ◌<◌, ◌≤◌, ◌⊎◌, inl, inr, List, [], ◌∷◌, ◌++◌, length}
+use Rattle.std.proofs.Common.{get_or, set, take, drop, length-append, length-drop}
 use Rattle.std.proofs.lemmas.List.{length-take-le, length-take, length-set, get_or-take, get_or-drop, get_or_default, same_lists}
 use Rattle.std.proofs.Math.ListN.{get_or-append}
 use Rattle.std.proofs.lemmas.List.{get_or-append_right, get_or-set_same, get_or-set_other}
@@ -49,7 +50,8 @@ module _ {X : Type 0} where
   pub length_around : (list : List X) (first count : ℕ) → count ≤ length list → length (around list first count) ≡ count
   unfolding around
   length_around list first count fits =
-      let whole : length (drop first list ++ take first list) ≡ length list = rw (length-append (drop first list) (take first list), length-drop first list, length-take first list) (omega arith) in
+      let whole : length (drop first list ++ take first list) ≡ length list =
+      rw (length-append (drop first list) (take first list), length-drop first list, length-take first list) (omega arith) in
       let enough : count ≤ length (drop first list ++ take first list) = omega (arith, whole) in
       length-take-le count (drop first list ++ take first list) enough
 
@@ -59,23 +61,36 @@ module _ {X : Type 0} where
   around_none list first = refl
 
   -- what lies `i` places behind the oldest item, where that is no further than the last place
-  at_once : (list : List X) (first count i place : ℕ) (d : X) → i < count → first < length list → place < length list → place ≡ first + i → get_or (around list first count) i d ≡ get_or list place d
+  at_once : (list : List X) (first count i place : ℕ) (d : X) → i < count → first < length list → place < length list → place ≡ first + i →
+      get_or (around list first count) i d ≡ get_or list place d
   unfolding around
   at_once list first count i place d h starts lies e =
       let near : i < length (drop first list) = rw (length-drop first list) (omega arith) in
-      rw (get_or-take count (drop first list ++ take first list) i d h, get_or-append (drop first list) (take first list) d i near, get_or-drop first list i d, e) refl
+      rw (
+        get_or-take count (drop first list ++ take first list) i d h,
+        get_or-append (drop first list) (take first list) d i near,
+        get_or-drop first list i d,
+        e,
+      ) refl
 
   -- what lies there where it is further
-  come_round : (list : List X) (first count i place : ℕ) (d : X) → i < count → count ≤ length list → first < length list → place + length list ≡ first + i → get_or (around list first count) i d ≡ get_or list place d
+  come_round : (list : List X) (first count i place : ℕ) (d : X) → i < count → count ≤ length list → first < length list → place + length list ≡ first + i →
+      get_or (around list first count) i d ≡ get_or list place d
   unfolding around
   come_round list first count i place d h fits starts e =
       let far : length list - first ≤ i = omega arith in
       let near : i - (length list - first) < first = omega arith in
       let same : i - (length list - first) ≡ place = omega arith in
-      rw (get_or-take count (drop first list ++ take first list) i d h, get_or-append_right (drop first list) (take first list) (length list - first) i d (length-drop first list) far, get_or-take first list (i - (length list - first)) d near, same) refl
+      rw (
+        get_or-take count (drop first list ++ take first list) i d h,
+        get_or-append_right (drop first list) (take first list) (length list - first) i d (length-drop first list) far,
+        get_or-take first list (i - (length list - first)) d near,
+        same,
+      ) refl
 
   -- what lies `i` places behind the oldest item, wherever that is
-  get_or_around : (list : List X) (room first count i place : ℕ) (d : X) → length list ≡ room → i < count → count ≤ room → first < room → IsPlace first i room place → get_or (around list first count) i d ≡ get_or list place d
+  get_or_around : (list : List X) (room first count i place : ℕ) (d : X) → length list ≡ room → i < count → count ≤ room → first < room →
+      IsPlace first i room place → get_or (around list first count) i d ≡ get_or list place d
   get_or_around list room first count i place d whole h fits starts is =
       let within : place < room = is.within in
       elim is.round [
@@ -84,7 +99,8 @@ module _ {X : Type 0} where
       ]
 
   -- each item of a ring that was written to is where the list with the new item behind it has it
-  written_at : (list : List X) (first count place k : ℕ) (x d : X) → count < length list → first < length list → IsPlace first count (length list) place → k < count + 1 →
+  written_at : (list : List X) (first count place k : ℕ) (x d : X) → count < length list → first < length list → IsPlace first count (length list) place →
+      k < count + 1 →
       get_or (around (set list place x) first (count + 1)) k d ≡ get_or (around list first count ++ x ∷ []) k d
   written_at list first count place k x d fits starts is h =
       let whole : length (set list place x) ≡ length list = length-set list place x in
@@ -113,12 +129,14 @@ module _ {X : Type 0} where
   around_write list first count place x fits starts within round =
       let whole : length (set list place x) ≡ length list = length-set list place x in
       let here : length (around list first count) ≡ count = length_around list first count (omega arith) in
-      let there : length (around (set list place x) first (count + 1)) ≡ count + 1 = length_around (set list place x) first (count + 1) (omega (arith, whole)) in
+      let there : length (around (set list place x) first (count + 1)) ≡ count + 1 =
+      length_around (set list place x) first (count + 1) (omega (arith, whole)) in
       same_lists _ _ (rw (there, length-append (around list first count) (x ∷ []), here) refl)
       (λ k d h. written_at list first count place k x d fits starts (record { within = within; round = round }) (rw there at h))
 
   -- each item lies in the first place, or one place nearer behind the next one
-  next_at : (list : List X) (first count next k : ℕ) (x d : X) → count < length list → first < length list → IsPlace first 1 (length list) next → k < count + 1 →
+  next_at : (list : List X) (first count next k : ℕ) (x d : X) → count < length list → first < length list → IsPlace first 1 (length list) next →
+      k < count + 1 →
       get_or (around list first (count + 1)) k d ≡ get_or (get_or list first x ∷ around list next count) k d
   next_at list first count next zero x d fits starts is h =
       let here : IsPlace first 0 (length list) first = record { within = starts; round = inl (omega arith) } in
@@ -126,7 +144,8 @@ module _ {X : Type 0} where
   next_at list first count next (suc k) x d fits starts is h =
       let p : (p : ℕ) × IsPlace next k (length list) p = a_place next k (length list) is.within (omega arith) in
       let further : IsPlace first (suc k) (length list) p.0 = one_further first next k (length list) p.0 starts (omega arith) is p.1 in
-      get_or_around list (length list) first (count + 1) (suc k) p.0 d refl h (omega arith) starts further ∙ sym (get_or_around list (length list) next count k p.0 d refl (omega arith) (omega arith) is.within p.1)
+      get_or_around list (length list) first (count + 1) (suc k) p.0 d refl h (omega arith) starts further
+      ∙ sym (get_or_around list (length list) next count k p.0 d refl (omega arith) (omega arith) is.within p.1)
 
   -- the first place has the oldest item, and the others are those from the next place on
   around_more : (list : List X) (first count next : ℕ) (x : X) → count < length list → first < length list → IsPlace first 1 (length list) next →
@@ -169,7 +188,8 @@ module _ {X : Type 0} where
   pub around_dropped : (list : List X) (first count next : ℕ) → 0 < count → count ≤ length list → first < length list → next < length list →
       (next ≡ first + 1) ⊎ (next + length list ≡ first + 1) → around list next (count - 1) ≡ drop 1 (around list first count)
   around_dropped [] first count next some fits starts within round = absurd (omega (arith, starts))
-  around_dropped (x ∷ xs) first count next some fits starts within round = ap (drop 1) (sym (around_next (x ∷ xs) first count next x some fits starts within round))
+  around_dropped (x ∷ xs) first count next some fits starts within round =
+      ap (drop 1) (sym (around_next (x ∷ xs) first count next x some fits starts within round))
 
   -- where there is no item nothing is dropped
   pub none_dropped : (list : List X) (first count : ℕ) → count ≤ 0 → around list first count ≡ drop 1 (around list first count)
@@ -183,7 +203,8 @@ module _ {X : Type 0} where
   oldest queue list room first count x view whole fits starts some read =
       let begins : first < length list = omega (arith, whole) in
       let p : (p : ℕ) × IsPlace first 1 (length list) p = a_place first 1 (length list) begins (omega arith) in
-      let next : around list first count ≡ get_or list first x ∷ around list p.0 (count - 1) = around_next list first count p.0 x (omega arith) (omega (arith, whole)) begins p.1.within p.1.round in
+      let next : around list first count ≡ get_or list first x ∷ around list p.0 (count - 1) =
+      around_next list first count p.0 x (omega arith) (omega (arith, whole)) begins p.1.within p.1.round in
       (around list p.0 (count - 1), ap (λ (q : Queue X). q.items) (sym view) ∙ next ∙ ap (λ y. y ∷ around list p.0 (count - 1)) (sym read))
 
   -- and what lies behind it is all but the first

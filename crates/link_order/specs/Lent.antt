@@ -6,4 +6,5 @@ use Rattle.link_order.specs.contracts.Link.{the_row}
 
 -- the link ends with the last value behind the loan as its newest item, and with nothing else changed
 abbrev pub LendsPlace : (T : RattleType) → MutBor (Queue T.Denot) → MutBor T.Denot → Fml
-LendsPlace T link place = Lends (the_row T) T link place (λ item. record { room = link.now.room; items = link.now.items ++ item ∷ [] })
+LendsPlace T link place =
+    Lends (the_row T) T link place (λ item. record { room = link.now.room; items = link.now.items ++ item ∷ [] })

@@ -1,7 +1,8 @@
 //! Ordered links of bounded length, between the actors of the machine.
 #![tactic(auto)]
 
-ghost use Rattle.std.specs.Prelude.{◌≡◌, ◌≤◌, ◌↔◌, ◌++◌, ◌∷◌, ◌+◌, ◌<◌, ◌⊎◌, drop, [], List, length, IfOk, IfErr, IfSome, OnOk, IsErr, MatchOption};
+ghost use Rattle.std.specs.Prelude.{◌≡◌, ◌≤◌, ◌↔◌, ◌++◌, ◌∷◌, ◌+◌, ◌<◌, ◌⊎◌, drop, [], List, length, IfOk, IfErr};
+ghost use Rattle.std.specs.Prelude.{IfSome, OnOk, IsErr, MatchOption};
 ghost use Rattle.std.specs.Borrow.{sem};
 ghost use Rattle.link_order.specs.Queue.{is_nil};
 ghost use Rattle.link_order.specs.Lent.{LendsPlace};
@@ -38,7 +39,8 @@ impl<T> Model for Link<T> {
 
     ghost view = { λ a. record { room = a.capacity; items = around a.slots.items a.first a.count } };
 
-    ghost invariant = { λ a. (length a.slots.items ≡ a.capacity) × (a.count ≤ a.capacity) × (a.first ≤ a.capacity - 1) };
+    ghost invariant = { λ a. (length a.slots.items ≡ a.capacity) × (a.count ≤ a.capacity)
+        × (a.first ≤ a.capacity - 1) };
 }
 
 /// The place that lies `ahead` places behind place `first` in a ring of `capacity` places.
@@ -97,7 +99,8 @@ impl<T: Drop + Default> Link<T> {
     #[tactic(auto, using(crate::proofs::Rings::around_none, crate::proofs::Rings::around_taken))]
     pub fn pop(&mut self) -> Option<T>
         ensures room { self.new.room ≡ self.old.room }
-        ensures item { MatchOption result ((self.old.items ≡ []) × (self.new.items ≡ [])) (λ item. self.old.items ≡ item ∷ self.new.items) }
+        ensures item { MatchOption result ((self.old.items ≡ []) × (self.new.items ≡ [])) (λ item. self.old.items
+            ≡ item ∷ self.new.items) }
     {
         if self.count == 0 {
             return None;
@@ -138,7 +141,8 @@ impl<T> Link<T> {
     /// The oldest item: none where the link is empty.
     #[tactic(auto, using(crate::proofs::Rings::around_none))]
     pub fn head(&self) -> Option<&T>
-        ensures item { MatchOption result (self.now.items ≡ []) (λ item. (rest : List T) × (self.now.items ≡ item.now ∷ rest)) }
+        ensures item { MatchOption result (self.now.items ≡ []) (λ item. (rest : List T)
+            × (self.now.items ≡ item.now ∷ rest)) }
         ensures rest { IfSome result (λ item. self.now.items ≡ item.now ∷ drop 1 self.now.items) }
     {
         if self.count == 0 {

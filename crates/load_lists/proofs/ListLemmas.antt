@@ -1,5 +1,6 @@
 -- One list of loads is changed, or gets room.
-use Rattle.std.proofs.Common.{◌≡◌, ℕ, ◌+◌, ◌<◌, Bool, true, ◌&&◌, List, [], ◌∷◌, ◌++◌, length, take, get_or, refl, sym, ap, subst, ◌∙◌, ◌≤◌, arith, zero, suc, IsTrue}
+use Rattle.std.proofs.Common.{◌≡◌, ℕ, ◌+◌, ◌<◌, Bool, true, ◌&&◌, List, [], ◌∷◌, ◌++◌, length, take, get_or, refl, sym, ap, subst, ◌∙◌, ◌≤◌, arith, zero, suc}
+use Rattle.std.proofs.Common.{IsTrue}
 use Rattle.std.specs.Prelude.{map, slice_index_or, slice_set}
 use Rattle.std.specs.List.{list_all}
 use Rattle.std.proofs.lemmas.List.{map-set, take_all, take_more_set, length-map}
@@ -10,13 +11,15 @@ use Rattle.rv_core.specs.declared.outcome.LoadNote.{LoadNote}
 use Rattle.load_lists.specs.Lists.{LoadRoom, is_roomy, with_note}
 
 -- what a list is at its place, seen as loads alone
-map-get : (rooms : List LoadRoom) (i : ℕ) (d : LoadRoom) → i < length rooms → slice_index_or (map (λ (l : LoadRoom). l.notes) rooms) i [] ≡ (get_or rooms i d).notes
+map-get : (rooms : List LoadRoom) (i : ℕ) (d : LoadRoom) → i < length rooms → slice_index_or (map (λ (l : LoadRoom). l.notes) rooms) i []
+    ≡ (get_or rooms i d).notes
 map-get [] i d within = absurd (omega arith)
 map-get (r ∷ rooms) zero d within = refl
 map-get (r ∷ rooms) (suc i) d within = map-get rooms i d (omega arith)
 
 -- a load is put at the end of one list
-pub noted_at : (rooms : List LoadRoom) (i : ℕ) (note : LoadNote) (old new : LoadRoom) → i < length rooms → old ≡ get_or rooms i old → new.notes ≡ old.notes ++ note ∷ [] →
+pub noted_at : (rooms : List LoadRoom) (i : ℕ) (note : LoadNote) (old new : LoadRoom) → i < length rooms → old ≡ get_or rooms i old →
+    new.notes ≡ old.notes ++ note ∷ [] →
     map (λ (l : LoadRoom). l.notes) (slice_set rooms i new) ≡ with_note (map (λ (l : LoadRoom). l.notes) rooms) i note
 noted_at rooms i note old new within is more =
     map-set (λ (l : LoadRoom). l.notes) rooms i new
@@ -31,11 +34,13 @@ pub record Made (before : List LoadRoom) (rooms : List LoadRoom) (i : ℕ) : Typ
 roomy-one : (l : LoadRoom) → length l.notes < l.room → list_all is_roomy (l ∷ []) ≡ true
 roomy-one l has = grind (arith, nat_tests)
 
-pub made_more : (before rooms : List LoadRoom) (i : ℕ) (old new : LoadRoom) → i < length rooms → old ≡ get_or rooms i old → new.notes ≡ old.notes → length new.notes < new.room →
+pub made_more : (before rooms : List LoadRoom) (i : ℕ) (old new : LoadRoom) → i < length rooms → old ≡ get_or rooms i old → new.notes ≡ old.notes →
+    length new.notes < new.room →
     Made before rooms i → Made before (slice_set rooms i new) (i + 1)
 made_more before rooms i old new within is kept has made = record {
   same = map-set_same (λ (l : LoadRoom). l.notes) rooms i new old (kept ∙ ap (λ (l : LoadRoom). l.notes) is) ∙ made.same;
-  roomy = ap (list_all is_roomy) (take_more_set rooms i new within) ∙ list_all-append is_roomy (take i rooms) (new ∷ []) ∙ both (list_all is_roomy (take i rooms)) (list_all is_roomy (new ∷ [])) made.roomy (roomy-one new has);
+  roomy = ap (list_all is_roomy) (take_more_set rooms i new within) ∙ list_all-append is_roomy (take i rooms) (new ∷ [])
+      ∙ both (list_all is_roomy (take i rooms)) (list_all is_roomy (new ∷ [])) made.roomy (roomy-one new has);
 }
   where
     both : (a b : Bool) → a ≡ true → b ≡ true → (a && b) ≡ true
@@ -54,7 +59,8 @@ second_true : (a b : Bool) → IsTrue (a && b) → IsTrue b
 second_true a b p = grind arith
 
 -- each list still has room where the one that changed has
-pub still_roomy : (rooms : List LoadRoom) (i : ℕ) (new : LoadRoom) → IsTrue (list_all is_roomy rooms) → IsTrue (is_roomy new) → IsTrue (list_all is_roomy (slice_set rooms i new))
+pub still_roomy : (rooms : List LoadRoom) (i : ℕ) (new : LoadRoom) → IsTrue (list_all is_roomy rooms) → IsTrue (is_roomy new) →
+    IsTrue (list_all is_roomy (slice_set rooms i new))
 still_roomy [] i new all has = all
 still_roomy (r ∷ rooms) zero new all has = both_true (is_roomy new) (list_all is_roomy rooms) has (second_true (is_roomy r) (list_all is_roomy rooms) all)
 still_roomy (r ∷ rooms) (suc i) new all has =
@@ -62,7 +68,8 @@ still_roomy (r ∷ rooms) (suc i) new all has =
     (still_roomy rooms i new (second_true (is_roomy r) (list_all is_roomy rooms) all) has)
 
 -- what is known of the lists after a load was put at the end of one
-pub known_after : (rooms : List LoadRoom) (i : ℕ) (new : LoadRoom) (known roomy : Bool) → (IsTrue known → IsTrue (list_all is_roomy rooms)) → roomy ≡ is_roomy new → IsTrue (known && roomy) → IsTrue (list_all is_roomy (slice_set rooms i new))
+pub known_after : (rooms : List LoadRoom) (i : ℕ) (new : LoadRoom) (known roomy : Bool) → (IsTrue known → IsTrue (list_all is_roomy rooms)) →
+    roomy ≡ is_roomy new → IsTrue (known && roomy) → IsTrue (list_all is_roomy (slice_set rooms i new))
 known_after rooms i new known roomy before is both =
     still_roomy rooms i new (before (first_true known roomy both)) (subst IsTrue is (second_true known roomy both))
 

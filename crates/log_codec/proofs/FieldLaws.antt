@@ -1,6 +1,7 @@
 -- A field that is read is the one that is spelled, and what is spelled is read again: the header, the
 -- image and the totals.
-use Rattle.std.proofs.Common.{◌≡◌, ℕ, ◌*◌, ◌^◌, ◌<◌, ◌≤◌, Bool, true, false, cond, ◌&&◌, nat_lt, nat_le, nat_eq, List, ◌++◌, length, take, drop, Result, Ok, Err, refl, sym, ap, subst, ◌∙◌, append_assoc, arith}
+use Rattle.std.proofs.Common.{◌≡◌, ℕ, ◌*◌, ◌^◌, ◌<◌, ◌≤◌, Bool, true, false, cond, ◌&&◌, nat_lt, nat_le, nat_eq, List, ◌++◌, length, take, drop, Result, Ok}
+use Rattle.std.proofs.Common.{Err, refl, sym, ap, subst, ◌∙◌, append_assoc, arith}
 use Rattle.std.specs.List.{starts_with}
 use Rattle.std.specs.Cmp.Lexicographic.{same_text}
 use Rattle.std.proofs.lemmas.Bool.Decides.{nat_tests}
@@ -26,7 +27,8 @@ pub number_again : (part n : ℕ) (rest : List ℕ) → n < 2 ^ 32 → number_at
 unfolding number_at
 number_again part n rest below = rw (varint.round_trip n rest below) (ap (λ (t : List ℕ). Ok (n, t)) (drop_at (number n) rest (length (number n)) refl))
 
-pub number_takes : (part : ℕ) (bytes : List ℕ) (n : ℕ) (rest : List ℕ) → IsBytes bytes → number_at part bytes ≡ Ok (n, rest) → Takes bytes (number n) rest × (n < 2 ^ 32)
+pub number_takes : (part : ℕ) (bytes : List ℕ) (n : ℕ) (rest : List ℕ) → IsBytes bytes → number_at part bytes ≡ Ok (n, rest) → Takes bytes (number n) rest
+    × (n < 2 ^ 32)
 unfolding number_at
 number_takes part bytes n rest are e = by (reading bytes) refl e
   where
@@ -37,7 +39,8 @@ number_takes part bytes n rest are e = by (reading bytes) refl e
         let n_is : r.0 ≡ n = ap (λ (q : ℕ × List ℕ). q.0) p in
         let rest_is : drop r.1 bytes ≡ rest = ap (λ (q : ℕ × List ℕ). q.1) p in
         let o = varint.one_spelling bytes r.0 r.1 are is in
-        let parts : bytes ≡ number n ++ rest = sym (take-append-drop r.1 bytes) ∙ ap (λ (t : List ℕ). t ++ drop r.1 bytes) o.2 ∙ ap (λ (m : ℕ). number m ++ drop r.1 bytes) n_is ∙ ap (λ (t : List ℕ). number n ++ t) rest_is in
+        let parts : bytes ≡ number n ++ rest = sym (take-append-drop r.1 bytes) ∙ ap (λ (t : List ℕ). t ++ drop r.1 bytes) o.2
+        ∙ ap (λ (m : ℕ). number m ++ drop r.1 bytes) n_is ∙ ap (λ (t : List ℕ). number n ++ t) rest_is in
         (record { parts = parts; rest_fits = subst IsBytes rest_is (bytes-drop r.1 bytes are) }, subst (λ (m : ℕ). m < 2 ^ 32) n_is o.0)
 
 -- ---- the header
@@ -46,18 +49,22 @@ version_takes : (bytes : List ℕ) (v : Version) (rest : List ℕ) → IsBytes b
 unfolding version_at
 version_takes bytes v rest are e = first (starts_with nat_eq bytes (magic One)) refl e
   where
-    taken : (w : Version) → length (magic w) ≡ 4 → starts_with nat_eq bytes (magic w) ≡ true → ◌≡◌ {A = Result (Version × List ℕ) ℕ} (Ok (w, drop 4 bytes)) (Ok (v, rest)) → Takes bytes (magic v) rest
+    taken : (w : Version) → length (magic w) ≡ 4 → starts_with nat_eq bytes (magic w) ≡ true →
+        ◌≡◌ {A = Result (Version × List ℕ) ℕ} (Ok (w, drop 4 bytes)) (Ok (v, rest)) → Takes bytes (magic v) rest
     taken w long is f =
         let p = ok_is (w, drop 4 bytes) (v, rest) f in
         let front : magic w ≡ take 4 bytes = subst (λ (n : ℕ). magic w ≡ take n bytes) long (same_text (magic w) (take (length (magic w)) bytes) (sym is)) in
         let parts : bytes ≡ magic w ++ drop 4 bytes = sym (take-append-drop 4 bytes) ∙ ap (λ (t : List ℕ). t ++ drop 4 bytes) (sym front) in
         subst (λ (y : Version × List ℕ). Takes bytes (magic y.0) y.1) p (record { parts = parts; rest_fits = bytes-drop 4 bytes are })
 
-    second : (b : Bool) → starts_with nat_eq bytes (magic Two) ≡ b → cond {A = Result (Version × List ℕ) ℕ} b (Ok (Two, drop 4 bytes)) (Err HEADER) ≡ Ok (v, rest) → Takes bytes (magic v) rest
+    second : (b : Bool) → starts_with nat_eq bytes (magic Two) ≡ b → cond {A = Result (Version × List ℕ) ℕ} b (Ok (Two, drop 4 bytes)) (Err HEADER)
+        ≡ Ok (v, rest) → Takes bytes (magic v) rest
     second true is f = taken Two refl is f
     second false is f = absurd cc
 
-    first : (b : Bool) → starts_with nat_eq bytes (magic One) ≡ b → cond {A = Result (Version × List ℕ) ℕ} b (Ok (One, drop 4 bytes)) (cond (starts_with nat_eq bytes (magic Two)) (Ok (Two, drop 4 bytes)) (Err HEADER)) ≡ Ok (v, rest) → Takes bytes (magic v) rest
+    first : (b : Bool) → starts_with nat_eq bytes (magic One) ≡ b →
+        cond {A = Result (Version × List ℕ) ℕ} b (Ok (One, drop 4 bytes)) (cond (starts_with nat_eq bytes (magic Two)) (Ok (Two, drop 4 bytes)) (Err HEADER))
+        ≡ Ok (v, rest) → Takes bytes (magic v) rest
     first true is f = taken One refl is f
     first false is f = second (starts_with nat_eq bytes (magic Two)) refl f
 
@@ -71,7 +78,8 @@ pub record HeaderFits (v : Version) (p : Params) (len : ℕ) : Type 0 where
   pub params : FitsIn v p
   pub image : len ≤ 4 * p.words
 
-params_fit : (v : Version) (cores limit words len : ℕ) (p : Params) → params_of v cores limit words len ≡ Ok p → HeaderFits v p len × (cores ≡ p.cores) × (limit ≡ p.limit) × (words ≡ p.words)
+params_fit : (v : Version) (cores limit words len : ℕ) (p : Params) → params_of v cores limit words len ≡ Ok p → HeaderFits v p len × (cores ≡ p.cores)
+    × (limit ≡ p.limit) × (words ≡ p.words)
 unfolding params_of
 params_fit v cores limit words len p e =
     let made : Params = record { cores = cores; limit = limit; words = words } in
@@ -107,7 +115,8 @@ after_cores v cores = number_at HEADER cores.1 >>= λ limit. after_limit v cores
 abbrev after_version : Version × List ℕ → Result Headed ℕ
 after_version version = number_at HEADER version.1 >>= λ cores. after_cores version.0 cores
 
-pub header_takes : (bytes : List ℕ) (v : Version) (p : Params) (len : ℕ) (rest : List ℕ) → IsBytes bytes → header_at bytes ≡ Ok (v, p, len, rest) → Takes bytes (header_text v p len) rest × HeaderFits v p len
+pub header_takes : (bytes : List ℕ) (v : Version) (p : Params) (len : ℕ) (rest : List ℕ) → IsBytes bytes → header_at bytes ≡ Ok (v, p, len, rest) →
+    Takes bytes (header_text v p len) rest × HeaderFits v p len
 unfolding header_at
 header_takes bytes v p len rest are e =
     let m = bind_ok (version_at bytes) after_version (v, p, len, rest) e in
@@ -144,7 +153,8 @@ header-small Two p len h = let f = h.params in record { cores = omega arith; lim
 pub header_again : (v : Version) (p : Params) (len : ℕ) (rest : List ℕ) → HeaderFits v p len → header_at (header_text v p len ++ rest) ≡ Ok (v, p, len, rest)
 unfolding header_at
 header_again v p len rest h =
-    let regrouped : header_text v p len ++ rest ≡ magic v ++ (number p.cores ++ (number p.limit ++ (number p.words ++ (number len ++ rest)))) = simp append_assoc in
+    let regrouped : header_text v p len ++ rest ≡ magic v ++ (number p.cores ++ (number p.limit ++ (number p.words ++ (number len ++ rest)))) =
+    simp append_assoc in
     let small = header-small v p len h in
     let m = version_again v (number p.cores ++ (number p.limit ++ (number p.words ++ (number len ++ rest)))) in
     let c = number_again HEADER p.cores (number p.limit ++ (number p.words ++ (number len ++ rest))) small.cores in
@@ -173,7 +183,8 @@ image_again image rest =
 
 -- ---- the totals
 
-pub total_takes : (limit : ℕ) (bytes : List ℕ) (t : ℕ) (rest : List ℕ) → IsBytes bytes → total_at limit bytes ≡ Ok (t, rest) → Takes bytes (number t) rest × (t ≤ limit)
+pub total_takes : (limit : ℕ) (bytes : List ℕ) (t : ℕ) (rest : List ℕ) → IsBytes bytes → total_at limit bytes ≡ Ok (t, rest) → Takes bytes (number t) rest
+    × (t ≤ limit)
 unfolding total_at
 total_takes limit bytes t rest are e =
     let n = bind_ok (number_at TOTALS bytes) (λ total. cond (nat_le total.0 limit) (Ok total) (Err TOTALS)) (t, rest) e in

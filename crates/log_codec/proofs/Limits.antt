@@ -60,7 +60,8 @@ true-old p f =
 
 pub new-true : (p : Params) → fits_new p ≡ true → FitsNew p
 new-true p e =
-    let a = and_true (nat_le 1 p.cores && nat_le p.cores CORES_MAX) (((nat_le 1 p.limit && nat_le p.limit 1000000) && nat_le (p.cores * p.limit) 4000000) && has_blocks p) e in
+    let a = and_true (nat_le 1 p.cores && nat_le p.cores CORES_MAX) (((nat_le 1 p.limit && nat_le p.limit 1000000) && nat_le (p.cores * p.limit) 4000000)
+    && has_blocks p) e in
     let b = and_true (nat_le 1 p.cores) (nat_le p.cores CORES_MAX) a.0 in
     let c = and_true ((nat_le 1 p.limit && nat_le p.limit 1000000) && nat_le (p.cores * p.limit) 4000000) (has_blocks p) a.1 in
     let d = and_true (nat_le 1 p.limit && nat_le p.limit 1000000) (nat_le (p.cores * p.limit) 4000000) c.0 in

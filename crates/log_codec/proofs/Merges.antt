@@ -1,5 +1,6 @@
 -- There is one way to put the edges of several cores in order, and it leaves each core's edges as they were.
-use Rattle.std.proofs.Common.{◌≡◌, ◌≢◌, ℕ, zero, suc, ◌+◌, ◌<◌, ◌≤◌, inl, inr, ◌⊎◌, Bool, true, false, cond, ◌||◌, ◌&&◌, nat_lt, ◌==◌, List, [], ◌∷◌, ◌++◌, length, map, refl, sym, ap, subst, ◌∙◌, arith}
+use Rattle.std.proofs.Common.{◌≡◌, ◌≢◌, ℕ, zero, suc, ◌+◌, ◌<◌, ◌≤◌, inl, inr, ◌⊎◌, Bool, true, false, cond, ◌||◌, ◌&&◌, nat_lt, ◌==◌, List, [], ◌∷◌, ◌++◌}
+use Rattle.std.proofs.Common.{length, map, refl, sym, ap, subst, ◌∙◌, arith}
 use Rattle.std.specs.List.{AllByRecursion, filter, flat_map, range_with_len}
 use Rattle.std.proofs.lemmas.Bool.{cases_eq, cases_lt}
 use Rattle.std.proofs.lemmas.Bool.Decides.{nat_tests}
@@ -18,7 +19,8 @@ from_other i e edges not = let t : (e.source == i) ≡ false = grind (arith, nat
 pub from-append : (i : ℕ) (xs ys : List Incoming) → from_source i (xs ++ ys) ≡ from_source i xs ++ from_source i ys
 from-append i [] ys = refl
 from-append i (x ∷ xs) ys = elim (cases_eq x.source i) [
-  | inl is ↦ from_same i x (xs ++ ys) is ∙ ap (λ (l : List (ℕ × ℕ)). x.counts ∷ l) (from-append i xs ys) ∙ ap (λ (l : List (ℕ × ℕ)). l ++ from_source i ys) (sym (from_same i x xs is))
+  | inl is ↦ from_same i x (xs ++ ys) is ∙ ap (λ (l : List (ℕ × ℕ)). x.counts ∷ l) (from-append i xs ys)
+      ∙ ap (λ (l : List (ℕ × ℕ)). l ++ from_source i ys) (sym (from_same i x xs is))
   | inr not ↦ from_other i x (xs ++ ys) not ∙ from-append i xs ys ∙ ap (λ (l : List (ℕ × ℕ)). l ++ from_source i ys) (sym (from_other i x xs not))
 ]
 
@@ -46,9 +48,11 @@ joined-inside lists i s zero low high = absurd (omega arith)
 joined-inside lists i s (suc n) low high = elim (cases_eq s i) [
   | inl is ↦
       let out : (i < s + 1) ⊎ (s + 1 + n ≤ i) = inl (omega arith) in
-      let own : from_source i (map (incoming s) (lists s)) ≡ lists i = subst (λ (k : ℕ). from_source i (map (incoming k) (lists k)) ≡ lists i) (sym is) (from-own i (lists i)) in
+      let own : from_source i (map (incoming s) (lists s)) ≡ lists i =
+      subst (λ (k : ℕ). from_source i (map (incoming k) (lists k)) ≡ lists i) (sym is) (from-own i (lists i)) in
       from-append i (map (incoming s) (lists s)) (joined lists (s + 1) n) ∙ rw (own, joined-outside lists i (s + 1) n out) (append-nil (lists i))
-  | inr not ↦ from-append i (map (incoming s) (lists s)) (joined lists (s + 1) n) ∙ rw (from-foreign i s (lists s) not) (joined-inside lists i (s + 1) n (omega arith) (omega arith))
+  | inr not ↦ from-append i (map (incoming s) (lists s)) (joined lists (s + 1) n)
+      ∙ rw (from-foreign i s (lists s) not) (joined-inside lists i (s + 1) n (omega arith) (omega arith))
 ]
 
 -- ---- order
@@ -118,7 +122,8 @@ put-other : (i : ℕ) (e : Incoming) (edges : List Incoming) → e.source ≢ i 
 put-other i e [] not = from_other i e [] not
 put-other i e (d ∷ edges) not = by (is_earlier d e) (put-other i e edges not)
   where
-    by : (t : Bool) → from_source i (put_in_order e edges) ≡ from_source i edges → from_source i (cond t (d ∷ put_in_order e edges) (e ∷ d ∷ edges)) ≡ from_source i (d ∷ edges)
+    by : (t : Bool) → from_source i (put_in_order e edges) ≡ from_source i edges → from_source i (cond t (d ∷ put_in_order e edges) (e ∷ d ∷ edges))
+        ≡ from_source i (d ∷ edges)
     by true rest = elim (cases_eq d.source i) [
       | inl is ↦ from_same i d (put_in_order e edges) is ∙ ap (λ (l : List (ℕ × ℕ)). d.counts ∷ l) rest ∙ sym (from_same i d edges is)
       | inr other ↦ from_other i d (put_in_order e edges) other ∙ rest ∙ sym (from_other i d edges other)
@@ -126,14 +131,17 @@ put-other i e (d ∷ edges) not = by (is_earlier d e) (put-other i e edges not)
     by false rest = from_other i e (d ∷ edges) not
 
 -- an edge that is before all of its core
-put-same : (i : ℕ) (e : Incoming) (edges : List Incoming) → e.source ≡ i → AllByRecursion (λ c. e.counts.1 < c.1) (from_source i edges) → from_source i (put_in_order e edges) ≡ e.counts ∷ from_source i edges
+put-same : (i : ℕ) (e : Incoming) (edges : List Incoming) → e.source ≡ i → AllByRecursion (λ c. e.counts.1 < c.1) (from_source i edges) →
+    from_source i (put_in_order e edges) ≡ e.counts ∷ from_source i edges
 put-same i e [] is h = from_same i e [] is
 put-same i e (d ∷ edges) is h = by (is_earlier d e) refl (λ all. put-same i e edges is all)
   where
-    by : (t : Bool) → is_earlier d e ≡ t → (AllByRecursion (λ c. e.counts.1 < c.1) (from_source i edges) → from_source i (put_in_order e edges) ≡ e.counts ∷ from_source i edges)
+    by : (t : Bool) → is_earlier d e ≡ t →
+        (AllByRecursion (λ c. e.counts.1 < c.1) (from_source i edges) → from_source i (put_in_order e edges) ≡ e.counts ∷ from_source i edges)
         → from_source i (cond t (d ∷ put_in_order e edges) (e ∷ d ∷ edges)) ≡ e.counts ∷ from_source i (d ∷ edges)
     by true before rest = elim (cases_eq d.source i) [
-      | inl own ↦ let all = subst (AllByRecursion (λ c. e.counts.1 < c.1)) (from_same i d edges own) h in let up = all.0 in let r = (earlier-reaches d e before).count in absurd (omega arith)
+      | inl own ↦ let all = subst (AllByRecursion (λ c. e.counts.1 < c.1)) (from_same i d edges own) h in let up = all.0 in
+          let r = (earlier-reaches d e before).count in absurd (omega arith)
       | inr other ↦
           from_other i d (put_in_order e edges) other ∙ rest (subst (AllByRecursion (λ c. e.counts.1 < c.1)) (from_other i d edges other) h)
           ∙ ap (λ (l : List (ℕ × ℕ)). e.counts ∷ l) (sym (from_other i d edges other))
@@ -152,7 +160,8 @@ order-from i (e ∷ edges) h = elim (cases_eq e.source i) [
   | inl is ↦
       let rises = subst Rises (from_same i e edges is) h in
       let rest = order-from i edges rises.1 in
-      put-same i e (in_order edges) is (subst (AllByRecursion (λ c. e.counts.1 < c.1)) (sym rest) rises.0) ∙ ap (λ (l : List (ℕ × ℕ)). e.counts ∷ l) rest ∙ sym (from_same i e edges is)
+      put-same i e (in_order edges) is (subst (AllByRecursion (λ c. e.counts.1 < c.1)) (sym rest) rises.0) ∙ ap (λ (l : List (ℕ × ℕ)). e.counts ∷ l) rest
+      ∙ sym (from_same i e edges is)
   | inr not ↦ put-other i e (in_order edges) not ∙ order-from i edges (subst Rises (from_other i e edges not) h) ∙ sym (from_other i e edges not)
 ]
 
@@ -164,7 +173,8 @@ pub record Merges (cores : ℕ) (lists : ℕ → List (ℕ × ℕ)) (edges : Lis
   pub own : (i : ℕ) → i < cores → from_source i edges ≡ lists i
   pub none : (i : ℕ) → cores ≤ i → from_source i edges ≡ []
 
-merged-own : (cores : ℕ) (lists : ℕ → List (ℕ × ℕ)) → ((i : ℕ) → i < cores → Rises (lists i)) → (i : ℕ) → i < cores → from_source i (merged_edges cores lists) ≡ lists i
+merged-own : (cores : ℕ) (lists : ℕ → List (ℕ × ℕ)) → ((i : ℕ) → i < cores → Rises (lists i)) → (i : ℕ) → i < cores → from_source i (merged_edges cores lists)
+    ≡ lists i
 unfolding merged_edges
 merged-own cores lists rise i lt =
     let there = joined-inside lists i 0 cores (omega arith) (omega arith) in
@@ -180,14 +190,16 @@ pub merged-merges : (cores : ℕ) (lists : ℕ → List (ℕ × ℕ)) → ((i : 
 unfolding merged_edges
 merged-merges cores lists rise = record { sorted = order-sorted (joined lists 0 cores); own = merged-own cores lists rise; none = merged-none cores lists }
 
-pub length-merged : (cores : ℕ) (lists : ℕ → List (ℕ × ℕ)) → length (merged_edges cores lists) ≡ length (flat_map (λ source. map (incoming source) (lists source)) (range_with_len 0 cores))
+pub length-merged : (cores : ℕ) (lists : ℕ → List (ℕ × ℕ)) → length (merged_edges cores lists)
+    ≡ length (flat_map (λ source. map (incoming source) (lists source)) (range_with_len 0 cores))
 unfolding merged_edges
 length-merged cores lists = length-order (joined lists 0 cores)
 
 -- ---- one way
 
 -- an edge that isn't after any of these isn't after the first from a core
-first-reached : (d : Incoming) (edges : List Incoming) (i : ℕ) (c : ℕ × ℕ) (rest : List (ℕ × ℕ)) → AllByRecursion (Reaches d) edges → from_source i edges ≡ c ∷ rest → Reaches d (incoming i c)
+first-reached : (d : Incoming) (edges : List Incoming) (i : ℕ) (c : ℕ × ℕ) (rest : List (ℕ × ℕ)) → AllByRecursion (Reaches d) edges →
+    from_source i edges ≡ c ∷ rest → Reaches d (incoming i c)
 first-reached d [] i c rest h is = absurd cc
 first-reached d (e ∷ edges) i c rest h is = elim (cases_eq e.source i) [
   | inl own ↦
@@ -204,14 +216,17 @@ one-way [] (y ∷ ys) sx sy same = let is : [] ≡ y.counts ∷ from_source y.so
 one-way (x ∷ xs) [] sx sy same = let is : x.counts ∷ from_source x.source xs ≡ [] = sym (from_same x.source x xs refl) ∙ same x.source in absurd cc
 one-way (x ∷ xs) (y ∷ ys) sx sy same = elim (cases_eq x.source y.source) [
   | inl is ↦
-      let heads : x.counts ∷ from_source x.source xs ≡ y.counts ∷ from_source x.source ys = sym (from_same x.source x xs refl) ∙ same x.source ∙ from_same x.source y ys (sym is) in
+      let heads : x.counts ∷ from_source x.source xs ≡ y.counts ∷ from_source x.source ys = sym (from_same x.source x xs refl) ∙ same x.source
+      ∙ from_same x.source y ys (sym is) in
       let counts : x.counts ≡ y.counts = cc in
       let first : x ≡ y = ap (λ (p : ℕ × (ℕ × ℕ)). incoming p.0 p.1) (pair_is is counts) in
       let rest : xs ≡ ys = one-way xs ys sx.1 sy.1 (λ i. tails i is) in
       ap (λ (p : Incoming × List Incoming). p.0 ∷ p.1) (both_are first rest)
   | inr not ↦
-      let there : from_source x.source ys ≡ x.counts ∷ from_source x.source xs = sym (from_other x.source y ys (λ e. not (sym e))) ∙ sym (same x.source) ∙ from_same x.source x xs refl in
-      let here : from_source y.source xs ≡ y.counts ∷ from_source y.source ys = sym (from_other y.source x xs not) ∙ same y.source ∙ from_same y.source y ys refl in
+      let there : from_source x.source ys ≡ x.counts ∷ from_source x.source xs = sym (from_other x.source y ys (λ e. not (sym e))) ∙ sym (same x.source)
+      ∙ from_same x.source x xs refl in
+      let here : from_source y.source xs ≡ y.counts ∷ from_source y.source ys = sym (from_other y.source x xs not) ∙ same y.source
+      ∙ from_same y.source y ys refl in
       let a = first-reached y ys x.source x.counts (from_source x.source xs) sy.0 there in
       let b = first-reached x xs y.source y.counts (from_source y.source ys) sx.0 here in
       let ac = a.count in
@@ -229,12 +244,14 @@ one-way (x ∷ xs) (y ∷ ys) sx sy same = elim (cases_eq x.source y.source) [
 
     tails : (i : ℕ) → x.source ≡ y.source → from_source i xs ≡ from_source i ys
     tails i is = elim (cases_eq x.source i) [
-      | inl own ↦ let two : x.counts ∷ from_source i xs ≡ y.counts ∷ from_source i ys = sym (from_same i x xs own) ∙ same i ∙ from_same i y ys (sym is ∙ own) in cc
+      | inl own ↦ let two : x.counts ∷ from_source i xs ≡ y.counts ∷ from_source i ys =
+          sym (from_same i x xs own) ∙ same i ∙ from_same i y ys (sym is ∙ own) in cc
       | inr other ↦ sym (from_other i x xs other) ∙ same i ∙ from_other i y ys (λ e. other (is ∙ e))
     ]
 
 -- what merges the lists is their merge
-pub merge-is : (cores : ℕ) (lists : ℕ → List (ℕ × ℕ)) (edges : List Incoming) → ((i : ℕ) → i < cores → Rises (lists i)) → Merges cores lists edges → edges ≡ merged_edges cores lists
+pub merge-is : (cores : ℕ) (lists : ℕ → List (ℕ × ℕ)) (edges : List Incoming) → ((i : ℕ) → i < cores → Rises (lists i)) → Merges cores lists edges →
+    edges ≡ merged_edges cores lists
 merge-is cores lists edges rise m =
     let n = merged-merges cores lists rise in
     one-way edges (merged_edges cores lists) m.sorted n.sorted (λ i. by i (cases_lt i cores))
@@ -244,7 +261,8 @@ merge-is cores lists edges rise m =
     by i (inr le) = m.none i le ∙ sym ((merged-merges cores lists rise).none i le)
 
 -- lists that agree at each core have one merge
-pub merged-agree : (cores : ℕ) (lists rest : ℕ → List (ℕ × ℕ)) → ((i : ℕ) → i < cores → Rises (rest i)) → ((i : ℕ) → i < cores → lists i ≡ rest i) → merged_edges cores lists ≡ merged_edges cores rest
+pub merged-agree : (cores : ℕ) (lists rest : ℕ → List (ℕ × ℕ)) → ((i : ℕ) → i < cores → Rises (rest i)) → ((i : ℕ) → i < cores → lists i ≡ rest i) →
+    merged_edges cores lists ≡ merged_edges cores rest
 merged-agree cores lists rest rise same =
     let m = merged-merges cores lists (λ i lt. subst Rises (sym (same i lt)) (rise i lt)) in
     merge-is cores rest (merged_edges cores lists) rise (record { sorted = m.sorted; own = λ i lt. m.own i lt ∙ same i lt; none = m.none })

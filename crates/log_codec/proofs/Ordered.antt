@@ -1,5 +1,6 @@
 -- Edges into a core rise in turn exactly where they are in order and those of each core rise.
-use Rattle.std.proofs.Common.{◌≡◌, ◌≢◌, ℕ, zero, suc, ◌+◌, ◌*◌, ◌<◌, ◌≤◌, inl, inr, ◌⊎◌, true, false, cond, ◌==◌, List, [], ◌∷◌, length, map, refl, sym, ap, subst, ◌∙◌, arith}
+use Rattle.std.proofs.Common.{◌≡◌, ◌≢◌, ℕ, zero, suc, ◌+◌, ◌*◌, ◌<◌, ◌≤◌, inl, inr, ◌⊎◌, true, false, cond, ◌==◌, List, [], ◌∷◌, length, map, refl, sym, ap}
+use Rattle.std.proofs.Common.{subst, ◌∙◌, arith}
 use Rattle.std.specs.List.{AllByRecursion, flat_map, range_with_len}
 use Rattle.std.proofs.lemmas.Bool.{cases_eq, cases_lt}
 use Rattle.std.proofs.lemmas.Bool.Decides.{nat_tests}
@@ -39,7 +40,8 @@ unfoldable pub ReachesAll : List Incoming → List Incoming → Type 0
 ReachesAll [] edges = Unit {0}
 ReachesAll (d ∷ before) edges = AllByRecursion (Reaches d) edges
 
-follows-by : (before : List Incoming) (e : Incoming) (edges : List Incoming) → ReachesAll before (e ∷ edges) → (last_counts e.source before).1 < e.counts.1 → Follows before e
+follows-by : (before : List Incoming) (e : Incoming) (edges : List Incoming) → ReachesAll before (e ∷ edges) → (last_counts e.source before).1 < e.counts.1 →
+    Follows before e
 unfolding ReachesAll last_counts
 follows-by [] e edges reach up = omega arith
 follows-by (d ∷ before) e edges reach up = elim (cases_lt d.counts.1 e.counts.1) [
@@ -55,7 +57,8 @@ follows-by (d ∷ before) e edges reach up = elim (cases_lt d.counts.1 e.counts.
   ]
 ]
 
-pub rises-turn : (before edges : List Incoming) → ReachesAll before edges → Sorted edges → ((i : ℕ) → StandInTurn EdgeRises follow (last_counts i before) (from_source i edges)) → StandInTurn IncomingRises remember before edges
+pub rises-turn : (before edges : List Incoming) → ReachesAll before edges → Sorted edges →
+    ((i : ℕ) → StandInTurn EdgeRises follow (last_counts i before) (from_source i edges)) → StandInTurn IncomingRises remember before edges
 unfolding ReachesAll Sorted
 rises-turn before [] reach sorted rise = tt
 rises-turn before (e ∷ edges) reach sorted rise = (
@@ -128,7 +131,8 @@ pub record InOrder (before edges : List Incoming) : Type 0 where
   pub sorted : Sorted edges
   pub rises : (i : ℕ) → StandInTurn EdgeRises follow (last_counts i before) (from_source i edges)
 
-reaches-all : (before : List Incoming) (e : Incoming) (edges : List Incoming) → Follows before e → AllByRecursion (Reaches e) edges → ReachesAll before (e ∷ edges)
+reaches-all : (before : List Incoming) (e : Incoming) (edges : List Incoming) → Follows before e → AllByRecursion (Reaches e) edges →
+    ReachesAll before (e ∷ edges)
 unfolding ReachesAll
 reaches-all [] e edges f all = tt
 reaches-all (d ∷ before) e edges f all = (follows-reaches d before e f, further edges all)
@@ -148,7 +152,8 @@ turn-rises before (e ∷ edges) t h =
     rises : (i : ℕ) → InOrder (e ∷ before) edges → StandInTurn EdgeRises follow (last_counts i before) (from_source i (e ∷ edges))
     rises i rest = elim (cases_eq e.source i) [
       | inl is ↦
-          let first : EdgeRises (last_counts e.source before) e.counts = record { source = subst (λ (n : ℕ). n < e.counts.0) (source-is e.source before) h.0.source; target = above before e t h.0.follows } in
+          let first : EdgeRises (last_counts e.source before) e.counts =
+          record { source = subst (λ (n : ℕ). n < e.counts.0) (source-is e.source before) h.0.source; target = above before e t h.0.follows } in
           let here : EdgeRises (last_counts i before) e.counts = subst (λ (k : ℕ). EdgeRises (last_counts k before) e.counts) is first in
           let there = subst (λ (c : ℕ × ℕ). StandInTurn EdgeRises follow c (from_source i edges)) (last-same i e before is) (rest.rises i) in
           subst (StandInTurn EdgeRises follow (last_counts i before)) (sym (from_same i e edges is)) (here, there)
@@ -163,18 +168,21 @@ turn-order edges h = turn-rises [] edges tt h
 
 -- ---- facts of each edge
 
-pub each : {S X : Type 0} (P : S → X → Type 0) (Q : X → Type 0) (next : S → X → S) → ((s : S) (x : X) → P s x → Q x) → (s : S) (xs : List X) → StandInTurn P next s xs → AllByRecursion Q xs
+pub each : {S X : Type 0} (P : S → X → Type 0) (Q : X → Type 0) (next : S → X → S) → ((s : S) (x : X) → P s x → Q x) → (s : S) (xs : List X) →
+    StandInTurn P next s xs → AllByRecursion Q xs
 each P Q next one s [] h = tt
 each P Q next one s (x ∷ xs) h = (one s x h.0, each P Q next one (next s x) xs h.1)
 
-pub from-all : (P : Incoming → Type 0) (Q : ℕ × ℕ → Type 0) (i : ℕ) → ((e : Incoming) → e.source ≡ i → P e → Q e.counts) → (edges : List Incoming) → AllByRecursion P edges → AllByRecursion Q (from_source i edges)
+pub from-all : (P : Incoming → Type 0) (Q : ℕ × ℕ → Type 0) (i : ℕ) → ((e : Incoming) → e.source ≡ i → P e → Q e.counts) → (edges : List Incoming) →
+    AllByRecursion P edges → AllByRecursion Q (from_source i edges)
 from-all P Q i one [] h = tt
 from-all P Q i one (e ∷ edges) h = elim (cases_eq e.source i) [
   | inl is ↦ subst (AllByRecursion Q) (sym (from_same i e edges is)) (one e is h.0, from-all P Q i one edges h.1)
   | inr not ↦ subst (AllByRecursion Q) (sym (from_other i e edges not)) (from-all P Q i one edges h.1)
 ]
 
-pub all-from : (P : Incoming → Type 0) (edges : List Incoming) → ((i : ℕ) → AllByRecursion (λ c. P (incoming i c)) (from_source i edges)) → AllByRecursion P edges
+pub all-from : (P : Incoming → Type 0) (edges : List Incoming) → ((i : ℕ) → AllByRecursion (λ c. P (incoming i c)) (from_source i edges)) →
+    AllByRecursion P edges
 all-from P [] h = tt
 all-from P (e ∷ edges) h =
     let own = subst (AllByRecursion (λ c. P (incoming e.source c))) (from_same e.source e edges refl) (h e.source) in (
@@ -190,13 +198,15 @@ from-none i [] h = refl
 from-none i (e ∷ edges) h = from_other i e edges h.0 ∙ from-none i edges h.1
 
 -- counts that rise, and are at most these
-pub bounded : (most last : ℕ × ℕ) (edges : List (ℕ × ℕ)) → StandInTurn EdgeRises follow last edges → AllByRecursion (λ (c : ℕ × ℕ). (c.0 ≤ most.0) × (c.1 ≤ most.1)) edges → StandInTurn (EdgeStands most) follow last edges
+pub bounded : (most last : ℕ × ℕ) (edges : List (ℕ × ℕ)) → StandInTurn EdgeRises follow last edges →
+    AllByRecursion (λ (c : ℕ × ℕ). (c.0 ≤ most.0) × (c.1 ≤ most.1)) edges → StandInTurn (EdgeStands most) follow last edges
 bounded most last [] rise all = tt
 bounded most last (e ∷ edges) rise all = (record { rises = rise.0; source_most = all.0.0; target_most = all.0.1 }, bounded most e edges rise.1 all.1)
 
 -- ---- rising lists
 
-rise-above : (last : ℕ × ℕ) (edges : List (ℕ × ℕ)) → StandInTurn EdgeRises follow last edges → (n : ℕ) → n ≤ last.1 → AllByRecursion (λ (d : ℕ × ℕ). n < d.1) edges
+rise-above : (last : ℕ × ℕ) (edges : List (ℕ × ℕ)) → StandInTurn EdgeRises follow last edges → (n : ℕ) → n ≤ last.1 →
+    AllByRecursion (λ (d : ℕ × ℕ). n < d.1) edges
 rise-above last [] h n le = tt
 rise-above last (e ∷ edges) h n le = let up = h.0.target in (omega arith, rise-above e edges h.1 n (omega arith))
 
@@ -207,7 +217,8 @@ rises-of last (e ∷ edges) h = (rise-above e edges h.1 e.1 (omega arith), rises
 
 -- ---- how many
 
-pub length-joined : (lists : ℕ → List (ℕ × ℕ)) (most s n : ℕ) → ((i : ℕ) → i < s + n → length (lists i) ≤ most) → length (flat_map (λ k. map (incoming k) (lists k)) (range_with_len s n)) ≤ n * most
+pub length-joined : (lists : ℕ → List (ℕ × ℕ)) (most s n : ℕ) → ((i : ℕ) → i < s + n → length (lists i) ≤ most) →
+    length (flat_map (λ k. map (incoming k) (lists k)) (range_with_len s n)) ≤ n * most
 length-joined lists most s zero h = omega arith
 length-joined lists most s (suc n) h =
     let one = length-append (map (incoming s) (lists s)) (flat_map (λ k. map (incoming k) (lists k)) (range_with_len (s + 1) n)) in

@@ -20,7 +20,8 @@ no_vector = record { n = 0; a0 = 0; b0 = 0; sa = 0; sb = 0 }
 
 -- ---- edges
 
-edges-above : (last : ℕ × ℕ) (edges : List (ℕ × ℕ)) → StandInTurn EdgeRises follow last edges → (k : ℕ) → k < length edges → (last.0 < (get_or edges k no_edge).0) × (last.1 < (get_or edges k no_edge).1)
+edges-above : (last : ℕ × ℕ) (edges : List (ℕ × ℕ)) → StandInTurn EdgeRises follow last edges → (k : ℕ) → k < length edges →
+    (last.0 < (get_or edges k no_edge).0) × (last.1 < (get_or edges k no_edge).1)
 edges-above last [] h k below = absurd (omega arith)
 edges-above last (e ∷ edges) h zero below = (h.0.source, h.0.target)
 edges-above last (e ∷ edges) h (suc k) below =
@@ -40,7 +41,8 @@ targets-rise last (e ∷ edges) h i zero before below = absurd (omega arith)
 targets-rise last (e ∷ edges) h zero (suc j) before below = (edges-above e edges h.1 j (omega arith)).1
 targets-rise last (e ∷ edges) h (suc i) (suc j) before below = targets-rise e edges h.1 i j (omega arith) (omega arith)
 
-pub edge_stands_at : (most last : ℕ × ℕ) (edges : List (ℕ × ℕ)) → StandInTurn (EdgeStands most) follow last edges → (k : ℕ) → k < length edges → (before : ℕ × ℕ) × EdgeStands most before (get_or edges k no_edge)
+pub edge_stands_at : (most last : ℕ × ℕ) (edges : List (ℕ × ℕ)) → StandInTurn (EdgeStands most) follow last edges → (k : ℕ) → k < length edges →
+    (before : ℕ × ℕ) × EdgeStands most before (get_or edges k no_edge)
 edge_stands_at most last [] h k below = absurd (omega arith)
 edge_stands_at most last (e ∷ edges) h zero below = (last, h.0)
 edge_stands_at most last (e ∷ edges) h (suc k) below = edge_stands_at most e edges h.1 k (omega arith)
@@ -53,7 +55,8 @@ is_vector most last v source target h =
     let b = h.target_most in
     record { some = h.some; source_rises = h.source_stride; target_rises = h.target_stride; source_fits = omega arith; target_fits = omega arith }
 
-pub vector_stands_at : (most last : ℕ × ℕ) (vectors : List StrideVector) → StandInTurn (VectorStands most) end_of last vectors → (k : ℕ) (d : StrideVector) → k < length vectors → (before : ℕ × ℕ) × VectorStands most before (get_or vectors k d)
+pub vector_stands_at : (most last : ℕ × ℕ) (vectors : List StrideVector) → StandInTurn (VectorStands most) end_of last vectors → (k : ℕ) (d : StrideVector) →
+    k < length vectors → (before : ℕ × ℕ) × VectorStands most before (get_or vectors k d)
 vector_stands_at most last [] h k d below = absurd (omega arith)
 vector_stands_at most last (v ∷ vectors) h zero d below = (last, h.0)
 vector_stands_at most last (v ∷ vectors) h (suc k) d below = vector_stands_at most (last_of v) vectors h.1 k d (omega arith)
@@ -62,7 +65,8 @@ vector_stands_at most last (v ∷ vectors) h (suc k) d below = vector_stands_at 
 pub reaches : (v : StrideVector) → (v.a0 ≤ (last_of v).0) × (v.b0 ≤ (last_of v).1)
 reaches v = (omega arith, omega arith)
 
-vectors-above : (most last : ℕ × ℕ) (vectors : List StrideVector) → StandInTurn (VectorStands most) end_of last vectors → (k : ℕ) (d : StrideVector) → k < length vectors → (last.0 < (get_or vectors k d).a0) × (last.1 < (get_or vectors k d).b0)
+vectors-above : (most last : ℕ × ℕ) (vectors : List StrideVector) → StandInTurn (VectorStands most) end_of last vectors → (k : ℕ) (d : StrideVector) →
+    k < length vectors → (last.0 < (get_or vectors k d).a0) × (last.1 < (get_or vectors k d).b0)
 vectors-above most last [] h k d below = absurd (omega arith)
 vectors-above most last (v ∷ vectors) h zero d below = (h.0.source_rises, h.0.target_rises)
 vectors-above most last (v ∷ vectors) h (suc k) d below =
@@ -72,7 +76,8 @@ vectors-above most last (v ∷ vectors) h (suc k) d below =
     let up = reaches v in
     (omega arith, omega arith)
 
-pub vectors-apart : (most last : ℕ × ℕ) (vectors : List StrideVector) → StandInTurn (VectorStands most) end_of last vectors → (i j : ℕ) (d : StrideVector) → i < j → j < length vectors →
+pub vectors-apart : (most last : ℕ × ℕ) (vectors : List StrideVector) → StandInTurn (VectorStands most) end_of last vectors → (i j : ℕ) (d : StrideVector) →
+    i < j → j < length vectors →
     ((last_of (get_or vectors i d)).0 < (get_or vectors j d).a0) × ((last_of (get_or vectors i d)).1 < (get_or vectors j d).b0)
 vectors-apart most last [] h i j d before below = absurd (omega arith)
 vectors-apart most last (v ∷ vectors) h i zero d before below = absurd (omega arith)
@@ -86,7 +91,8 @@ are-apart most vectors source target h = record {
 }
 
 -- each position of a vector lies between its first and its last
-pub position_between : (v : StrideVector) (m : ℕ) → m < v.n → (v.a0 ≤ (position_of v m).0) × ((position_of v m).0 ≤ (last_of v).0) × (v.b0 ≤ (position_of v m).1) × ((position_of v m).1 ≤ (last_of v).1)
+pub position_between : (v : StrideVector) (m : ℕ) → m < v.n → (v.a0 ≤ (position_of v m).0) × ((position_of v m).0 ≤ (last_of v).0)
+    × (v.b0 ≤ (position_of v m).1) × ((position_of v m).1 ≤ (last_of v).1)
 position_between v m below =
     let le : m ≤ v.n - 1 = omega arith in
     let a = mul-le-mul_left v.sa le in

@@ -8,7 +8,8 @@ use Rattle.stride_vector.specs.declared.StrideVector.{StrideVector}
 use Rattle.log_codec.specs.declared.recording.Recording.{Recording}
 use Rattle.log_codec.specs.Turns.{stand_in_turn, stay, follow, count_up}
 use Rattle.log_codec.specs.Versions.{fits_new}
-use Rattle.log_codec.specs.Validity.{Valid, is_valid, total_stands, bound_at, EdgeStands, AreEdges, edge_stands, are_edges, VectorStands, AreVectors, vector_stands, are_vectors, end_of}
+use Rattle.log_codec.specs.Validity.{Valid, is_valid, total_stands, bound_at, EdgeStands, AreEdges, edge_stands, are_edges, VectorStands, AreVectors}
+use Rattle.log_codec.specs.Validity.{vector_stands, are_vectors, end_of}
 use Rattle.log_codec.specs.Laws.{ValidTest, EdgesByPair, VectorsByPair}
 use Rattle.log_codec.proofs.Steps.{and_true}
 use Rattle.log_codec.proofs.InTurn.{stand-true, true-stand, stand-all, all-stand}
@@ -23,19 +24,25 @@ pub edges_by_pair : EdgesByPair
 edges_by_pair r from to v pair =
     let p = pairs-placed r.params.cores from to pair in
     let are = v.reduced (pair_place r.params.cores from to) p.0 in
-    let source : source_at (length r.totals) (pair_place r.params.cores from to) ≡ from = ap (λ (n : ℕ). source_at n (pair_place r.params.cores from to)) v.each_core ∙ p.1 in
-    let target : target_at (length r.totals) (pair_place r.params.cores from to) ≡ to = ap (λ (n : ℕ). target_at n (pair_place r.params.cores from to)) v.each_core ∙ p.2 in
+    let source : source_at (length r.totals) (pair_place r.params.cores from to) ≡ from =
+    ap (λ (n : ℕ). source_at n (pair_place r.params.cores from to)) v.each_core ∙ p.1 in
+    let target : target_at (length r.totals) (pair_place r.params.cores from to) ≡ to =
+    ap (λ (n : ℕ). target_at n (pair_place r.params.cores from to)) v.each_core ∙ p.2 in
     subst (λ (k : ℕ). AreEdges (slice_index r.totals from, slice_index r.totals k) (get_or r.reduced (pair_place r.params.cores from to) [])) target
-    (subst (λ (k : ℕ). AreEdges (slice_index r.totals k, slice_index r.totals (target_at (length r.totals) (pair_place r.params.cores from to))) (get_or r.reduced (pair_place r.params.cores from to) [])) source are)
+    (subst (λ (k : ℕ). AreEdges (slice_index r.totals k, slice_index r.totals (target_at (length r.totals) (pair_place r.params.cores from to)))
+    (get_or r.reduced (pair_place r.params.cores from to) [])) source are)
 
 pub vectors_by_pair : VectorsByPair
 vectors_by_pair r from to v pair =
     let p = pairs-placed r.params.cores from to pair in
     let are = v.regulated (pair_place r.params.cores from to) p.0 in
-    let source : source_at (length r.totals) (pair_place r.params.cores from to) ≡ from = ap (λ (n : ℕ). source_at n (pair_place r.params.cores from to)) v.each_core ∙ p.1 in
-    let target : target_at (length r.totals) (pair_place r.params.cores from to) ≡ to = ap (λ (n : ℕ). target_at n (pair_place r.params.cores from to)) v.each_core ∙ p.2 in
+    let source : source_at (length r.totals) (pair_place r.params.cores from to) ≡ from =
+    ap (λ (n : ℕ). source_at n (pair_place r.params.cores from to)) v.each_core ∙ p.1 in
+    let target : target_at (length r.totals) (pair_place r.params.cores from to) ≡ to =
+    ap (λ (n : ℕ). target_at n (pair_place r.params.cores from to)) v.each_core ∙ p.2 in
     subst (λ (k : ℕ). AreVectors (slice_index r.totals from, slice_index r.totals k) (get_or r.regulated (pair_place r.params.cores from to) [])) target
-    (subst (λ (k : ℕ). AreVectors (slice_index r.totals k, slice_index r.totals (target_at (length r.totals) (pair_place r.params.cores from to))) (get_or r.regulated (pair_place r.params.cores from to) [])) source are)
+    (subst (λ (k : ℕ). AreVectors (slice_index r.totals k, slice_index r.totals (target_at (length r.totals) (pair_place r.params.cores from to)))
+    (get_or r.regulated (pair_place r.params.cores from to) [])) source are)
 
 -- ---- as a test
 
@@ -98,10 +105,12 @@ abbrev totals_test : Recording → Bool
 totals_test r = nat_eq (length r.totals) r.params.cores && stand_in_turn (total_stands r.params.limit) stay tt r.totals
 
 abbrev reduced_test : Recording → Bool
-reduced_test r = nat_eq (length r.reduced) (pair_count r.params.cores) && stand_in_turn (λ place es. are_edges (bound_at r.totals place) es) count_up 0 r.reduced
+reduced_test r = nat_eq (length r.reduced) (pair_count r.params.cores)
+    && stand_in_turn (λ place es. are_edges (bound_at r.totals place) es) count_up 0 r.reduced
 
 abbrev regulated_test : Recording → Bool
-regulated_test r = nat_eq (length r.regulated) (pair_count r.params.cores) && stand_in_turn (λ place vs. are_vectors (bound_at r.totals place) vs) count_up 0 r.regulated
+regulated_test r = nat_eq (length r.regulated) (pair_count r.params.cores)
+    && stand_in_turn (λ place vs. are_vectors (bound_at r.totals place) vs) count_up 0 r.regulated
 
 tested : (r : Recording) → is_valid r ≡ true → Valid r
 tested r h =
@@ -110,32 +119,45 @@ tested r h =
     let c = and_true (reduced_test r) (regulated_test r) b.1 in
     let first = and_true (fits_new r.params) (nat_le (length r.image) (4 * r.params.words)) a.0 in
     let totals = and_true (nat_eq (length r.totals) r.params.cores) (stand_in_turn (total_stands r.params.limit) stay tt r.totals) b.0 in
-    let reduced = and_true (nat_eq (length r.reduced) (pair_count r.params.cores)) (stand_in_turn (λ place es. are_edges (bound_at r.totals place) es) count_up 0 r.reduced) c.0 in
-    let regulated = and_true (nat_eq (length r.regulated) (pair_count r.params.cores)) (stand_in_turn (λ place vs. are_vectors (bound_at r.totals place) vs) count_up 0 r.regulated) c.1 in
+    let reduced = and_true (nat_eq (length r.reduced) (pair_count r.params.cores))
+    (stand_in_turn (λ place es. are_edges (bound_at r.totals place) es) count_up 0 r.reduced) c.0 in
+    let regulated = and_true (nat_eq (length r.regulated) (pair_count r.params.cores))
+    (stand_in_turn (λ place vs. are_vectors (bound_at r.totals place) vs) count_up 0 r.regulated) c.1 in
     let each = eq-true (length r.totals) r.params.cores totals.0 in
     let back : pair_count r.params.cores ≡ pair_count (length r.totals) = ap (λ (n : ℕ). pair_count n) (sym each) in
     let long : length r.reduced ≡ pair_count (length r.totals) = eq-true (length r.reduced) (pair_count r.params.cores) reduced.0 ∙ back in
     valid-made r.params r.image r.totals r.reduced r.regulated (new-true r.params first.0) (le-true (length r.image) (4 * r.params.words) first.1) each
-    (stand-all (λ (t : ℕ). t ≤ r.params.limit) r.totals (stand-true (λ (s : Unit {0}) t. t ≤ r.params.limit) (total_stands r.params.limit) stay (total-true r.params.limit) tt r.totals totals.1))
+    (stand-all (λ (t : ℕ). t ≤ r.params.limit) r.totals
+    (stand-true (λ (s : Unit {0}) t. t ≤ r.params.limit) (total_stands r.params.limit) stay (total-true r.params.limit) tt r.totals totals.1))
     long
-    (all-placed r.totals r.reduced long (stand-true (λ place es. AreEdges (bound_at r.totals place) es) (λ place es. are_edges (bound_at r.totals place) es) count_up (λ place es e. edges-true (bound_at r.totals place) es e) 0 r.reduced reduced.1))
+    (all-placed r.totals r.reduced long
+    (stand-true (λ place es. AreEdges (bound_at r.totals place) es) (λ place es. are_edges (bound_at r.totals place) es) count_up
+    (λ place es e. edges-true (bound_at r.totals place) es e) 0 r.reduced reduced.1))
     (eq-true (length r.regulated) (pair_count r.params.cores) regulated.0 ∙ back)
-    (stand-true (λ place vs. AreVectors (bound_at r.totals place) vs) (λ place vs. are_vectors (bound_at r.totals place) vs) count_up (λ place vs e. vectors-true (bound_at r.totals place) vs e) 0 r.regulated regulated.1)
+    (stand-true (λ place vs. AreVectors (bound_at r.totals place) vs) (λ place vs. are_vectors (bound_at r.totals place) vs) count_up
+    (λ place vs e. vectors-true (bound_at r.totals place) vs e) 0 r.regulated regulated.1)
 
 passes : (r : Recording) → Valid r → is_valid r ≡ true
 passes r v =
     let a = true-new r.params v.params in
     let b = true-le (length r.image) (4 * r.params.words) v.image in
     let c = true-eq (length r.totals) r.params.cores v.each_core in
-    let d = true-stand (λ (s : Unit {0}) t. t ≤ r.params.limit) (total_stands r.params.limit) stay (true-total r.params.limit) tt r.totals (all-stand (λ (t : ℕ). t ≤ r.params.limit) r.totals v.totals) in
+    let d = true-stand (λ (s : Unit {0}) t. t ≤ r.params.limit) (total_stands r.params.limit) stay (true-total r.params.limit) tt r.totals
+    (all-stand (λ (t : ℕ). t ≤ r.params.limit) r.totals v.totals) in
     let e = true-eq (length r.reduced) (pair_count r.params.cores) v.each_reduced in
-    let f = true-stand (λ place es. AreEdges (bound_at r.totals place) es) (λ place es. are_edges (bound_at r.totals place) es) count_up (λ place es h. true-edges (bound_at r.totals place) es h) 0 r.reduced (placed-all r.totals r.reduced (v.each_reduced ∙ ap (λ (n : ℕ). pair_count n) (sym v.each_core)) (edges-placed r v)) in
+    let f = true-stand (λ place es. AreEdges (bound_at r.totals place) es) (λ place es. are_edges (bound_at r.totals place) es) count_up
+    (λ place es h. true-edges (bound_at r.totals place) es h) 0 r.reduced
+    (placed-all r.totals r.reduced (v.each_reduced ∙ ap (λ (n : ℕ). pair_count n) (sym v.each_core)) (edges-placed r v)) in
     let g = true-eq (length r.regulated) (pair_count r.params.cores) v.each_regulated in
-    let h = true-stand (λ place vs. AreVectors (bound_at r.totals place) vs) (λ place vs. are_vectors (bound_at r.totals place) vs) count_up (λ place vs i. true-vectors (bound_at r.totals place) vs i) 0 r.regulated (vectors-stand r v) in
-    all_true (fits_new r.params) (nat_le (length r.image) (4 * r.params.words)) (nat_eq (length r.totals) r.params.cores) (stand_in_turn (total_stands r.params.limit) stay tt r.totals) (nat_eq (length r.reduced) (pair_count r.params.cores))
-    (stand_in_turn (λ place es. are_edges (bound_at r.totals place) es) count_up 0 r.reduced) (nat_eq (length r.regulated) (pair_count r.params.cores)) (stand_in_turn (λ place vs. are_vectors (bound_at r.totals place) vs) count_up 0 r.regulated) a b c d e f g h
+    let h = true-stand (λ place vs. AreVectors (bound_at r.totals place) vs) (λ place vs. are_vectors (bound_at r.totals place) vs) count_up
+    (λ place vs i. true-vectors (bound_at r.totals place) vs i) 0 r.regulated (vectors-stand r v) in
+    all_true (fits_new r.params) (nat_le (length r.image) (4 * r.params.words)) (nat_eq (length r.totals) r.params.cores)
+    (stand_in_turn (total_stands r.params.limit) stay tt r.totals) (nat_eq (length r.reduced) (pair_count r.params.cores))
+    (stand_in_turn (λ place es. are_edges (bound_at r.totals place) es) count_up 0 r.reduced) (nat_eq (length r.regulated) (pair_count r.params.cores))
+    (stand_in_turn (λ place vs. are_vectors (bound_at r.totals place) vs) count_up 0 r.regulated) a b c d e f g h
   where
-    all_true : (a b c d e f g h : Bool) → a ≡ true → b ≡ true → c ≡ true → d ≡ true → e ≡ true → f ≡ true → g ≡ true → h ≡ true → (a && b) && ((c && d) && ((e && f) && (g && h))) ≡ true
+    all_true : (a b c d e f g h : Bool) → a ≡ true → b ≡ true → c ≡ true → d ≡ true → e ≡ true → f ≡ true → g ≡ true → h ≡ true →
+        (a && b) && ((c && d) && ((e && f) && (g && h))) ≡ true
     all_true a b c d e f g h pa pb pc pd pe pf pg ph = rw (pa, pb, pc, pd, pe, pf, pg, ph) refl
 
 pub valid_test : ValidTest

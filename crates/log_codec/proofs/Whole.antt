@@ -1,5 +1,6 @@
 -- A recording that is read is the one that is spelled, and what is spelled is read again.
-use Rattle.std.proofs.Common.{◌≡◌, ℕ, ◌+◌, ◌-◌, ◌*◌, ◌^◌, ◌<◌, ◌≤◌, inl, inr, cond, eqb, List, [], ◌++◌, length, take, drop, get_or, Result, Ok, Err, refl, sym, ap, subst, ◌∙◌, append_assoc, arith}
+use Rattle.std.proofs.Common.{◌≡◌, ℕ, ◌+◌, ◌-◌, ◌*◌, ◌^◌, ◌<◌, ◌≤◌, inl, inr, cond, eqb, List, [], ◌++◌, length, take, drop, get_or, Result, Ok, Err, refl, sym}
+use Rattle.std.proofs.Common.{ap, subst, ◌∙◌, append_assoc, arith}
 use Rattle.std.specs.Prelude.{All, IfOk}
 use Rattle.std.proofs.lemmas.Bool.{cases_lt, eqb-true}
 use Rattle.std.proofs.lemmas.List.{append-nil, nil_from_length, get_or_past, take_at, drop_at, length-append}
@@ -22,29 +23,43 @@ use Rattle.log_codec.specs.Laws.{IsBytes, ReadIsSpelled, SpelledIsRead, SpelledI
 use Rattle.log_codec.proofs.Steps.{bind_ok, guard_ok, ok_is, Takes, Takes-then}
 use Rattle.log_codec.proofs.InTurn.{turns_take, turns_again, stand-places, places-stand, stand-all, all-stand, stand-map}
 use Rattle.log_codec.proofs.Limits.{limits_nest}
-use Rattle.log_codec.proofs.ReducedLaws.{AllEdges, AllRise, total-small, bound-small, reduced_takes, reduced_again, edges-rise, into-stands, into-pair, few-into}
+use Rattle.log_codec.proofs.ReducedLaws.{AllEdges, AllRise, total-small, bound-small, reduced_takes, reduced_again, edges-rise, into-stands, into-pair}
+use Rattle.log_codec.proofs.ReducedLaws.{few-into}
 use Rattle.log_codec.proofs.FieldLaws.{Headed, header_takes, header_again, image_takes, image_again, total_takes, total_again}
 use Rattle.log_codec.proofs.Logs.{few_edges, few_vectors, vectors_take, vectors_again}
 
 -- ---- part by part
 
-totals_take : (limit cores : ℕ) (bytes totals rest : List ℕ) → IsBytes bytes → totals_at limit cores bytes ≡ Ok (totals, rest) → Takes bytes (totals_text totals) rest × (length totals ≡ cores) × All (λ t. t ≤ limit) totals
+totals_take : (limit cores : ℕ) (bytes totals rest : List ℕ) → IsBytes bytes → totals_at limit cores bytes ≡ Ok (totals, rest) →
+    Takes bytes (totals_text totals) rest × (length totals ≡ cores) × All (λ t. t ≤ limit) totals
 totals_take limit cores bytes totals rest are e =
-    let t = turns_take (λ (s : Unit {0}). total_at limit) stay total_text (λ (s : Unit {0}) t. t ≤ limit) (λ s b x r. total_takes limit b x r) cores tt bytes totals rest are e in
+    let t = turns_take (λ (s : Unit {0}). total_at limit) stay total_text (λ (s : Unit {0}) t. t ≤ limit)
+    (λ s b x r. total_takes limit b x r) cores tt bytes totals rest are e in
     (t.0, t.1, stand-all (λ (t : ℕ). t ≤ limit) totals t.2)
 
-totals_again : (limit : ℕ) (totals rest : List ℕ) → limit < 2 ^ 32 → All (λ t. t ≤ limit) totals → totals_at limit (length totals) (totals_text totals ++ rest) ≡ Ok (totals, rest)
-totals_again limit totals rest small h = turns_again (λ (s : Unit {0}). total_at limit) stay total_text (λ (s : Unit {0}) t. t ≤ limit) (λ s x r most. total_again limit x r small most) tt totals rest (all-stand (λ (t : ℕ). t ≤ limit) totals h)
+totals_again : (limit : ℕ) (totals rest : List ℕ) → limit < 2 ^ 32 → All (λ t. t ≤ limit) totals → totals_at limit (length totals) (totals_text totals ++ rest)
+    ≡ Ok (totals, rest)
+totals_again limit totals rest small h =
+    turns_again (λ (s : Unit {0}). total_at limit) stay total_text (λ (s : Unit {0}) t. t ≤ limit)
+    (λ s x r most. total_again limit x r small most) tt totals rest (all-stand (λ (t : ℕ). t ≤ limit) totals h)
 
-regulated_takes : (totals bytes : List ℕ) (regulated : List (List StrideVector)) (rest : List ℕ) → IsBytes bytes → regulated_at totals bytes ≡ Ok (regulated, rest) →
-    Takes bytes (regulated_text regulated) rest × (length regulated ≡ pair_count (length totals)) × StandInTurn (λ place vs. AreVectors (bound_at totals place) vs) count_up 0 regulated
-regulated_takes totals bytes regulated rest are e = turns_take (λ place. vectors_at (bound_at totals place)) count_up vectors_text (λ place vs. AreVectors (bound_at totals place) vs) (λ s b x r. vectors_take s (bound_at totals s) b x r) (pair_count (length totals)) 0 bytes regulated rest are e
+regulated_takes : (totals bytes : List ℕ) (regulated : List (List StrideVector)) (rest : List ℕ) → IsBytes bytes → regulated_at totals bytes
+    ≡ Ok (regulated, rest) →
+    Takes bytes (regulated_text regulated) rest × (length regulated ≡ pair_count (length totals))
+    × StandInTurn (λ place vs. AreVectors (bound_at totals place) vs) count_up 0 regulated
+regulated_takes totals bytes regulated rest are e =
+    turns_take (λ place. vectors_at (bound_at totals place)) count_up vectors_text (λ place vs. AreVectors (bound_at totals place) vs)
+    (λ s b x r. vectors_take s (bound_at totals s) b x r) (pair_count (length totals)) 0 bytes regulated rest are e
 
-regulated_again : (limit : ℕ) (totals : List ℕ) (regulated : List (List StrideVector)) (rest : List ℕ) → limit < 2 ^ 32 → All (λ t. t ≤ limit) totals → length regulated ≡ pair_count (length totals) → StandInTurn (λ place vs. AreVectors (bound_at totals place) vs) count_up 0 regulated →
+regulated_again : (limit : ℕ) (totals : List ℕ) (regulated : List (List StrideVector)) (rest : List ℕ) → limit < 2 ^ 32 → All (λ t. t ≤ limit) totals →
+    length regulated ≡ pair_count (length totals) → StandInTurn (λ place vs. AreVectors (bound_at totals place) vs) count_up 0 regulated →
     regulated_at totals (regulated_text regulated ++ rest) ≡ Ok (regulated, rest)
 regulated_again limit totals regulated rest small most each h =
-    let again = turns_again (λ place. vectors_at (bound_at totals place)) count_up vectors_text (λ place vs. AreVectors (bound_at totals place) vs) (λ s x r stands. let b = bound-small limit totals s small most in vectors_again s (bound_at totals s) x r b.source b.target stands) 0 regulated rest h in
-    subst (λ (n : ℕ). read_in_turn (λ place. vectors_at (bound_at totals place)) count_up n 0 (regulated_text regulated ++ rest) ≡ Ok (regulated, rest)) each again
+    let again = turns_again (λ place. vectors_at (bound_at totals place)) count_up vectors_text (λ place vs. AreVectors (bound_at totals place) vs)
+    (λ s x r stands. let b = bound-small limit totals s small most in
+    vectors_again s (bound_at totals s) x r b.source b.target stands) 0 regulated rest h in
+    subst (λ (n : ℕ). read_in_turn (λ place. vectors_at (bound_at totals place)) count_up n 0 (regulated_text regulated ++ rest)
+    ≡ Ok (regulated, rest)) each again
 
 -- ---- the parts together
 
@@ -64,9 +79,11 @@ abbrev after_header : Headed → Result (Recording × List ℕ) ℕ
 after_header header = image_at header.2 header.3 >>= after_image header.0 header.1
 
 -- a recording of valid parts
-pub valid-made : (p : Params) (image totals : List ℕ) (reduced : List (List (ℕ × ℕ))) (regulated : List (List StrideVector)) → FitsNew p → length image ≤ 4 * p.words → length totals ≡ p.cores → All (λ t. t ≤ p.limit) totals
+pub valid-made : (p : Params) (image totals : List ℕ) (reduced : List (List (ℕ × ℕ))) (regulated : List (List StrideVector)) → FitsNew p →
+    length image ≤ 4 * p.words → length totals ≡ p.cores → All (λ t. t ≤ p.limit) totals
     → length reduced ≡ pair_count (length totals) → AllEdges totals reduced
-    → length regulated ≡ pair_count (length totals) → StandInTurn (λ place vs. AreVectors (bound_at totals place) vs) count_up 0 regulated → Valid (made_of p image totals reduced regulated)
+    → length regulated ≡ pair_count (length totals) → StandInTurn (λ place vs. AreVectors (bound_at totals place) vs) count_up 0 regulated →
+    Valid (made_of p image totals reduced regulated)
 valid-made p image totals reduced regulated fits room each most each_reduced edges each_regulated vectors =
     let pairs_are : pair_count (length totals) ≡ pair_count p.cores = ap (λ (n : ℕ). pair_count n) each in
     let regulated_is : length regulated ≡ pair_count p.cores = each_regulated ∙ pairs_are in
@@ -78,7 +95,8 @@ valid-made p image totals reduced regulated fits room each most each_reduced edg
       each_reduced = each_reduced ∙ pairs_are;
       reduced = λ place lt. edges place (subst (λ (n : ℕ). place < n) (sym pairs_are) lt);
       each_regulated = regulated_is;
-      regulated = λ place lt. subst (λ (k : ℕ). AreVectors (bound_at totals k) (get_or regulated place [])) (zero-plus place) (stand-places (λ place vs. AreVectors (bound_at totals place) vs) 0 regulated vectors place [] (subst (λ (n : ℕ). place < n) (sym regulated_is) lt));
+      regulated = λ place lt. subst (λ (k : ℕ). AreVectors (bound_at totals k) (get_or regulated place [])) (zero-plus place)
+          (stand-places (λ place vs. AreVectors (bound_at totals place) vs) 0 regulated vectors place [] (subst (λ (n : ℕ). place < n) (sym regulated_is) lt));
     }
   where
     zero-plus : (k : ℕ) → 0 + k ≡ k
@@ -88,7 +106,8 @@ pub edges-placed : (r : Recording) → Valid r → AllEdges r.totals r.reduced
 edges-placed r v place lt = v.reduced place (subst (λ (n : ℕ). place < pair_count n) v.each_core lt)
 
 pub vectors-stand : (r : Recording) → Valid r → StandInTurn (λ place vs. AreVectors (bound_at r.totals place) vs) count_up 0 r.regulated
-vectors-stand r v = places-stand (λ place vs. AreVectors (bound_at r.totals place) vs) 0 r.regulated [] (λ i lt. let same : i ≡ 0 + i = omega arith in subst (λ (k : ℕ). AreVectors (bound_at r.totals k) (get_or r.regulated i [])) same (v.regulated i (subst (λ (n : ℕ). i < n) v.each_regulated lt)))
+vectors-stand r v = places-stand (λ place vs. AreVectors (bound_at r.totals place) vs) 0 r.regulated [] (λ i lt. let same : i ≡ 0 + i = omega arith in
+    subst (λ (k : ℕ). AreVectors (bound_at r.totals k) (get_or r.regulated i [])) same (v.regulated i (subst (λ (n : ℕ). i < n) v.each_regulated lt)))
 
 -- the limits of either version lie within those of version 2
 within-new : (v : Version) (p : Params) → FitsIn v p → FitsNew p
@@ -121,12 +140,16 @@ front_takes bytes r rest are e =
     let t1 = Takes-then t.0.1 (reduced_text w p.cores d.0.0) d.0.1 (regulated_text g.0.0) g.0.1 reduced tg.0 in
     let t2 = Takes-then i.0.1 (totals_text t.0.0) t.0.1 (reduced_text w p.cores d.0.0 ++ regulated_text g.0.0) g.0.1 tt'.0 t1 in
     let t3 = Takes-then h.0.3 i.0.0 i.0.1 (totals_text t.0.0 ++ (reduced_text w p.cores d.0.0 ++ regulated_text g.0.0)) g.0.1 ti.0 t2 in
-    let t4 = Takes-then bytes (header_text w p h.0.2) h.0.3 (i.0.0 ++ (totals_text t.0.0 ++ (reduced_text w p.cores d.0.0 ++ regulated_text g.0.0))) g.0.1 th.0 t3 in
+    let t4 = Takes-then bytes (header_text w p h.0.2) h.0.3
+    (i.0.0 ++ (totals_text t.0.0 ++ (reduced_text w p.cores d.0.0 ++ regulated_text g.0.0))) g.0.1 th.0 t3 in
     let made = made_of p i.0.0 t.0.0 d.0.0 g.0.0 in
-    let named : Takes bytes (spelling_in w made) g.0.1 = subst (λ (len : ℕ). Takes bytes (header_text w p len ++ (i.0.0 ++ (totals_text t.0.0 ++ (reduced_text w p.cores d.0.0 ++ regulated_text g.0.0)))) g.0.1) (sym ti.1) t4 in
+    let named : Takes bytes (spelling_in w made) g.0.1 =
+    subst (λ (len : ℕ). Takes bytes
+    (header_text w p len ++ (i.0.0 ++ (totals_text t.0.0 ++ (reduced_text w p.cores d.0.0 ++ regulated_text g.0.0)))) g.0.1) (sym ti.1) t4 in
     let room : length i.0.0 ≤ 4 * p.words = subst (λ (len : ℕ). len ≤ 4 * p.words) (sym ti.1) th.1.image in
     let valid = valid-made p i.0.0 t.0.0 d.0.0 g.0.0 (within-new w p th.1.params) room tt'.1 tt'.2 td.1 td.2 tg.1 tg.2 in
-    subst (λ (y : Recording × List ℕ). FrontTaken bytes y.0 y.1) (ok_is (made, g.0.1) (r, rest) g.2) (record { valid = valid; version = w; limits = th.1.params; taken = named })
+    subst (λ (y : Recording × List ℕ). FrontTaken bytes y.0 y.1) (ok_is (made, g.0.1) (r, rest) g.2)
+    (record { valid = valid; version = w; limits = th.1.params; taken = named })
 
 pub front_again : SpelledIsFront
 unfolding front_at spelling_in
@@ -136,13 +159,17 @@ front_again w r rest v fits =
     let small : p.limit < 2 ^ 32 = omega arith in
     let few : length r.totals < 2 ^ 32 = let each = v.each_core in omega arith in
     let together : length r.totals * p.limit < 2 ^ 32 = let all = params.together in subst (λ (n : ℕ). n * p.limit < 2 ^ 32) (sym v.each_core) (omega arith) in
-    let regrouped : spelling_in w r ++ rest ≡ header_text w p (length r.image) ++ (r.image ++ (totals_text r.totals ++ (reduced_text w p.cores r.reduced ++ (regulated_text r.regulated ++ rest)))) = simp append_assoc in
-    let h = header_again w p (length r.image) (r.image ++ (totals_text r.totals ++ (reduced_text w p.cores r.reduced ++ (regulated_text r.regulated ++ rest)))) (record { params = fits; image = v.image }) in
+    let regrouped : spelling_in w r ++ rest ≡ header_text w p (length r.image)
+    ++ (r.image ++ (totals_text r.totals ++ (reduced_text w p.cores r.reduced ++ (regulated_text r.regulated ++ rest)))) = simp append_assoc in
+    let h = header_again w p (length r.image) (r.image ++ (totals_text r.totals ++ (reduced_text w p.cores r.reduced ++ (regulated_text r.regulated ++ rest))))
+    (record { params = fits; image = v.image }) in
     let i = image_again r.image (totals_text r.totals ++ (reduced_text w p.cores r.reduced ++ (regulated_text r.regulated ++ rest))) in
-    let t = subst (λ (n : ℕ). totals_at p.limit n (totals_text r.totals ++ (reduced_text w p.cores r.reduced ++ (regulated_text r.regulated ++ rest))) ≡ Ok (r.totals, reduced_text w p.cores r.reduced ++ (regulated_text r.regulated ++ rest))) v.each_core
+    let t = subst (λ (n : ℕ). totals_at p.limit n (totals_text r.totals ++ (reduced_text w p.cores r.reduced ++ (regulated_text r.regulated ++ rest)))
+    ≡ Ok (r.totals, reduced_text w p.cores r.reduced ++ (regulated_text r.regulated ++ rest))) v.each_core
     (totals_again p.limit r.totals (reduced_text w p.cores r.reduced ++ (regulated_text r.regulated ++ rest)) small v.totals) in
     let back : pair_count p.cores ≡ pair_count (length r.totals) = ap (λ (n : ℕ). pair_count n) (sym v.each_core) in
-    let d = subst (λ (n : ℕ). reduced_at w r.totals (reduced_text w n r.reduced ++ (regulated_text r.regulated ++ rest)) ≡ Ok (r.reduced, regulated_text r.regulated ++ rest)) v.each_core
+    let d = subst (λ (n : ℕ). reduced_at w r.totals (reduced_text w n r.reduced ++ (regulated_text r.regulated ++ rest))
+    ≡ Ok (r.reduced, regulated_text r.regulated ++ rest)) v.each_core
     (reduced_again w p.limit r.totals r.reduced (regulated_text r.regulated ++ rest) small together few v.totals (v.each_reduced ∙ back) (edges-placed r v)) in
     let g = regulated_again p.limit r.totals r.regulated rest small v.totals (v.each_regulated ∙ back) (vectors-stand r v) in
     ap front_at regrouped ∙ rw (h, i, t, d, g) refl
@@ -171,12 +198,21 @@ spelled_is_read w r v fits =
 
 -- the version shows at the front
 version-of : (w : Version) (r : Recording) (rest : List ℕ) → FitsIn w r.params → length r.image ≤ 4 * r.params.words →
-    header_at (spelling_in w r ++ rest) ≡ Ok (w, r.params, length r.image, r.image ++ (totals_text r.totals ++ (reduced_text w r.params.cores r.reduced ++ (regulated_text r.regulated ++ rest))))
+    header_at (spelling_in w r ++ rest)
+    ≡ Ok (
+      w,
+      r.params,
+      length r.image,
+      r.image ++ (totals_text r.totals ++ (reduced_text w r.params.cores r.reduced ++ (regulated_text r.regulated ++ rest))),
+    )
 unfolding spelling_in
 version-of w r rest fits room =
     let p = r.params in
-    let regrouped : spelling_in w r ++ rest ≡ header_text w p (length r.image) ++ (r.image ++ (totals_text r.totals ++ (reduced_text w p.cores r.reduced ++ (regulated_text r.regulated ++ rest)))) = simp append_assoc in
-    ap header_at regrouped ∙ header_again w p (length r.image) (r.image ++ (totals_text r.totals ++ (reduced_text w p.cores r.reduced ++ (regulated_text r.regulated ++ rest)))) (record { params = fits; image = room })
+    let regrouped : spelling_in w r ++ rest ≡ header_text w p (length r.image)
+    ++ (r.image ++ (totals_text r.totals ++ (reduced_text w p.cores r.reduced ++ (regulated_text r.regulated ++ rest)))) = simp append_assoc in
+    ap header_at regrouped
+    ∙ header_again w p (length r.image) (r.image ++ (totals_text r.totals ++ (reduced_text w p.cores r.reduced ++ (regulated_text r.regulated ++ rest))))
+    (record { params = fits; image = room })
 
 pub prefix_free : PrefixFree
 prefix_free v w r s x y vr fr vs fs e =
@@ -219,8 +255,10 @@ front_found bytes r rest are e =
     }
 
 -- a fault that is answered is the reading's
-pub no_fault : (bytes : List ℕ) (e : CodecFault) (w : Version) (r : Recording) (rest : List ℕ) → Valid r → FitsIn w r.params → bytes ≡ spelling_in w r ++ rest → Fails e (front_at bytes) → Fails {Y = Recording × List ℕ} e (Ok (r, rest))
-no_fault bytes e w r rest valid fits is fails = subst (λ (x : Result (Recording × List ℕ) ℕ). Fails e x) (ap front_at is ∙ front_again w r rest valid fits) fails
+pub no_fault : (bytes : List ℕ) (e : CodecFault) (w : Version) (r : Recording) (rest : List ℕ) → Valid r → FitsIn w r.params →
+    bytes ≡ spelling_in w r ++ rest → Fails e (front_at bytes) → Fails {Y = Recording × List ℕ} e (Ok (r, rest))
+no_fault bytes e w r rest valid fits is fails =
+    subst (λ (x : Result (Recording × List ℕ) ℕ). Fails e x) (ap front_at is ∙ front_again w r rest valid fits) fails
 
 -- ---- what the writer needs
 
@@ -247,7 +285,8 @@ is_log r v =
       into = λ target inside.
           let lt : target < length r.totals = subst (λ (n : ℕ). target < n) (sym v.each_core) inside in
           let count = few-into r.params.limit r.totals r.reduced target lt v.totals (edges-placed r v) in
-          let all : length (incoming_edges r.params.cores r.reduced target) ≤ r.params.cores * r.params.limit = subst (λ (n : ℕ). length (incoming_edges n r.reduced target) ≤ n * r.params.limit) v.each_core count in
+          let all : length (incoming_edges r.params.cores r.reduced target) ≤ r.params.cores * r.params.limit =
+          subst (λ (n : ℕ). length (incoming_edges n r.reduced target) ≤ n * r.params.limit) v.each_core count in
           omega arith;
     }
 
@@ -255,8 +294,10 @@ pub into_the_target : IntoTheTarget
 into_the_target r target v inside =
     let lt : target < length r.totals = subst (λ (n : ℕ). target < n) (sym v.each_core) inside in
     let cores : length r.totals ≡ r.params.cores = v.each_core in (
-      subst (λ (n : ℕ). StandInTurn (IncomingStands r.totals target) remember [] (incoming_edges n r.reduced target)) cores (into-stands r.totals r.reduced target lt (edges-placed r v)),
-      λ source pair. into-pair r.params.cores r.reduced source target pair (subst (λ (n : ℕ). AllRise n r.reduced) cores (edges-rise r.totals r.reduced (edges-placed r v))),
+      subst (λ (n : ℕ). StandInTurn (IncomingStands r.totals target) remember [] (incoming_edges n r.reduced target)) cores
+          (into-stands r.totals r.reduced target lt (edges-placed r v)),
+      λ source pair. into-pair r.params.cores r.reduced source target pair
+          (subst (λ (n : ℕ). AllRise n r.reduced) cores (edges-rise r.totals r.reduced (edges-placed r v))),
     )
 
 pub vectors_listed : (r : Recording) → Valid r → (place : ℕ) → place < length r.regulated → length (get_or r.regulated place []) < 2 ^ 32

@@ -1,5 +1,7 @@
 -- The edges into one core as version 2 has them: by the target's count, and at one count by the source core.
-use Rattle.std.specs.Prelude.{◌≡◌, ℕ, ◌<◌, ◌≤◌, ◌⊎◌, List, [], ◌∷◌, ◌++◌, map, Option, None, Some, slice_index, slice_index_or, slice_get, drop, length, false, Bool, ◌&&◌, ◌||◌, not, ◌==◌, nat_lt, nat_le, if◌then◌else◌}
+use Rattle.std.specs.Prelude.{◌≡◌, ℕ, ◌<◌, ◌≤◌, ◌⊎◌, List, [], ◌∷◌, ◌++◌, map, Option, None, Some, slice_index}
+use Rattle.std.specs.Prelude.{slice_index_or, slice_get, drop, length, false, Bool, ◌&&◌, ◌||◌, not, ◌==◌, nat_lt}
+use Rattle.std.specs.Prelude.{nat_le, if◌then◌else◌}
 use Rattle.std.specs.List.{filter, flat_map, range_with_len}
 use Rattle.rtr_types.specs.declared.TheConstants.{CORES_MAX}
 use Rattle.rtr_types.specs.Pairs.{IsPair, pair_count, pair_place, source_at, target_at}
@@ -13,7 +15,8 @@ incoming source counts = record { source = source; counts = counts }
 
 -- the edges from a core into the target, of which none is the target's own
 abbrev pub edges_out_of : (cores : ℕ) (reduced : List (List (ℕ × ℕ))) (target source : ℕ) → List (ℕ × ℕ)
-edges_out_of cores reduced target source = if source == target then [] else slice_index_or reduced (pair_place cores source target) []
+edges_out_of cores reduced target source =
+    if source == target then [] else slice_index_or reduced (pair_place cores source target) []
 
 -- the target's count is lower, or the same and the source core is lower
 abbrev pub is_earlier : Incoming → Incoming → Bool
@@ -48,7 +51,9 @@ from_source source edges = map (λ e. e.counts) (filter (λ e. e.source == sourc
 
 -- the edges of each pair, from those into each target
 abbrev pub pairs_of : (cores : ℕ) → List (List Incoming) → List (List (ℕ × ℕ))
-pairs_of cores into = map (λ place. from_source (source_at cores place) (slice_index_or into (target_at cores place) [])) (range_with_len 0 (pair_count cores))
+pairs_of cores into =
+    map (λ place. from_source (source_at cores place) (slice_index_or into (target_at cores place) []))
+    (range_with_len 0 (pair_count cores))
 
 -- ---- in turn, after the edges before it, newest first
 
@@ -123,7 +128,9 @@ comes_after (Some d) e = is_earlier d e
 -- the lists of the pairs, with these edges into a target at their ends
 abbrev pub with_into : (cores : ℕ) → List (List (ℕ × ℕ)) → (target : ℕ) → List Incoming → List (List (ℕ × ℕ))
 with_into cores lists target edges =
-    map (λ place. slice_index_or lists place [] ++ (if target_at cores place == target then from_source (source_at cores place) edges else [])) (range_with_len 0 (pair_count cores))
+    map (λ place. slice_index_or lists place []
+    ++ (if target_at cores place == target then from_source (source_at cores place) edges else []))
+    (range_with_len 0 (pair_count cores))
 
 -- the earlier of two edges, of which the first may be none
 abbrev pub earlier_of : Option Incoming → Incoming → Incoming
@@ -138,4 +145,5 @@ left cores reduced target next source = drop (slice_index next source) (edges_ou
 pub record IsFirst (cores : ℕ) (lists : ℕ → List (ℕ × ℕ)) (e : Incoming) : Type 0 where
   pub inside : e.source < cores
   pub own : slice_get (lists e.source) 0 ≡ Some e.counts
-  pub first : (source : ℕ) (counts : ℕ × ℕ) → source < cores → slice_get (lists source) 0 ≡ Some counts → is_earlier (incoming source counts) e ≡ false
+  pub first : (source : ℕ) (counts : ℕ × ℕ) → source < cores → slice_get (lists source) 0 ≡ Some counts →
+      is_earlier (incoming source counts) e ≡ false

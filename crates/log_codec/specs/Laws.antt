@@ -26,7 +26,8 @@ SpelledIsRead = (v : Version) (r : Recording) → Valid r → FitsIn v r.params 
 
 -- it is read whatever follows, so that certificates may begin with it
 abbrev pub SpelledIsFront : Type 0
-SpelledIsFront = (v : Version) (r : Recording) (rest : List ℕ) → Valid r → FitsIn v r.params → front_at (spelling_in v r ++ rest) ≡ Ok (r, rest)
+SpelledIsFront = (v : Version) (r : Recording) (rest : List ℕ) → Valid r → FitsIn v r.params →
+    front_at (spelling_in v r ++ rest) ≡ Ok (r, rest)
 
 -- what is read from the front of the bytes is spelled so
 abbrev pub FrontIsSpelled : Type 0
@@ -35,12 +36,14 @@ FrontIsSpelled = (bytes : List ℕ) (r : Recording) (rest : List ℕ) → IsByte
 
 -- no spelling begins another, of the same version or the other
 abbrev pub PrefixFree : Type 0
-PrefixFree = (v w : Version) (r s : Recording) (x y : List ℕ) → Valid r → FitsIn v r.params → Valid s → FitsIn w s.params →
+PrefixFree = (v w : Version) (r s : Recording) (x y : List ℕ) → Valid r → FitsIn v r.params → Valid s →
+    FitsIn w s.params →
     spelling_in v r ++ x ≡ spelling_in w s ++ y → (v ≡ w) × (r ≡ s) × (x ≡ y)
 
 -- a recording that is read and spelled anew is the same, and one of version 2 has the same bytes
 abbrev pub ReadAndSpelled : Type 0
-ReadAndSpelled = (bytes : List ℕ) (r : Recording) → IsBytes bytes → whole_at bytes ≡ Ok r → whole_at (spelling r) ≡ whole_at bytes
+ReadAndSpelled = (bytes : List ℕ) (r : Recording) → IsBytes bytes → whole_at bytes ≡ Ok r → whole_at (spelling r)
+    ≡ whole_at bytes
 
 -- version 1 has the narrower limits, and what a run may have is within those of version 2
 abbrev pub LimitsNest : Type 0
@@ -50,7 +53,9 @@ LimitsNest = (p : Params) → (FitsOld p → FitsNew p) × (Fits p → FitsNew p
 abbrev pub IntoTheTarget : Type 0
 IntoTheTarget = (r : Recording) (target : ℕ) → Valid r → target < r.params.cores →
     StandInTurn (IncomingStands r.totals target) remember [] (incoming_edges r.params.cores r.reduced target)
-    × ((source : ℕ) → IsPair r.params.cores source target → from_source source (incoming_edges r.params.cores r.reduced target) ≡ slice_index_or r.reduced (pair_place r.params.cores source target) [])
+    × ((source : ℕ) → IsPair r.params.cores source target →
+    from_source source (incoming_edges r.params.cores r.reduced target)
+    ≡ slice_index_or r.reduced (pair_place r.params.cores source target) [])
 
 -- a recording is valid just where the test says so
 abbrev pub ValidTest : Type 0
@@ -58,8 +63,12 @@ ValidTest = (r : Recording) → IsTrue (is_valid r) ↔ Valid r
 
 -- the edges of each pair rise, and are at most the totals of its two cores
 abbrev pub EdgesByPair : Type 0
-EdgesByPair = (r : Recording) (from to : ℕ) → Valid r → IsPair r.params.cores from to → AreEdges (slice_index r.totals from, slice_index r.totals to) (slice_index_or r.reduced (pair_place r.params.cores from to) [])
+EdgesByPair = (r : Recording) (from to : ℕ) → Valid r → IsPair r.params.cores from to →
+    AreEdges (slice_index r.totals from, slice_index r.totals to)
+    (slice_index_or r.reduced (pair_place r.params.cores from to) [])
 
 -- the vectors of each pair rise, and end at most at the totals of its two cores
 abbrev pub VectorsByPair : Type 0
-VectorsByPair = (r : Recording) (from to : ℕ) → Valid r → IsPair r.params.cores from to → AreVectors (slice_index r.totals from, slice_index r.totals to) (slice_index_or r.regulated (pair_place r.params.cores from to) [])
+VectorsByPair = (r : Recording) (from to : ℕ) → Valid r → IsPair r.params.cores from to →
+    AreVectors (slice_index r.totals from, slice_index r.totals to)
+    (slice_index_or r.regulated (pair_place r.params.cores from to) [])

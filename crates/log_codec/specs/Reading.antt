@@ -1,6 +1,7 @@
 -- Reading a recording of either version from left to right. A number, a count or a byte that doesn't fit is a fault of
 -- the part in which it stands.
-use Rattle.std.specs.Prelude.{ℕ, ◌+◌, ◌*◌, List, [], length, take, drop, Result, Ok, Err, nat_lt, nat_le, nat_eq, ◌==◌, ◌&&◌, if◌then◌else◌}
+use Rattle.std.specs.Prelude.{ℕ, ◌+◌, ◌*◌, List, [], length, take, drop, Result, Ok, Err, nat_lt, nat_le, nat_eq, ◌==◌}
+use Rattle.std.specs.Prelude.{◌&&◌, if◌then◌else◌}
 use Rattle.std.specs.List.{starts_with}
 use Rattle.rtr_types.specs.declared.params.Params.{Params}
 use Rattle.rtr_types.specs.Pairs.{pair_count}
@@ -14,7 +15,8 @@ use Rattle.log_codec.specs.Turns.{read_in_turn, stay, follow, count_up}
 use Rattle.log_codec.specs.declared.incoming.Incoming.{Incoming}
 use Rattle.log_codec.specs.declared.version.Version.{Version}
 use Rattle.log_codec.specs.declared.version.Version.TheVariants.{One, Two}
-use Rattle.log_codec.specs.Incoming.{pairs_of, target_count, with_into, remember, last_target, last_source, incoming_stands}
+use Rattle.log_codec.specs.Incoming.{pairs_of, target_count, with_into, remember, last_target, last_source}
+use Rattle.log_codec.specs.Incoming.{incoming_stands}
 use Rattle.log_codec.specs.Validity.{bound_at, end_of, vector_stands}
 use Rattle.log_codec.specs.Versions.{magic, fits_in}
 
@@ -35,7 +37,8 @@ version_at bytes =
 -- the parameters, where they lie within the version's limits, and the image within the memory
 unfoldable pub params_of : Version → ℕ → ℕ → ℕ → ℕ → Result Params ℕ
 params_of v cores limit words len =
-    if fits_in v (record { cores = cores; limit = limit; words = words }) && nat_le len (4 * words) then Ok (record { cores = cores; limit = limit; words = words }) else Err HEADER
+    if fits_in v (record { cores = cores; limit = limit; words = words })
+    && nat_le len (4 * words) then Ok (record { cores = cores; limit = limit; words = words }) else Err HEADER
 
 -- the version, the parameters, the length of the image, and the bytes after them
 unfoldable pub header_at : List ℕ → Result (Version × Params × ℕ × List ℕ) ℕ
@@ -65,7 +68,8 @@ unfoldable pub edge_at : ℕ × ℕ → ℕ × ℕ → List ℕ → Result ((ℕ
 edge_at most last bytes = do
   b ← number_at REDUCED bytes
   a ← number_at REDUCED b.1
-  if (nat_lt 0 a.0 && nat_lt 0 b.0) && (nat_le (last.0 + a.0) most.0 && nat_le (last.1 + b.0) most.1) then Ok ((last.0 + a.0, last.1 + b.0), a.1) else Err REDUCED
+  if (nat_lt 0 a.0 && nat_lt 0 b.0) && (nat_le (last.0 + a.0) most.0 && nat_le (last.1 + b.0) most.1) then Ok
+      ((last.0 + a.0, last.1 + b.0), a.1) else Err REDUCED
 
 -- the edges of a pair: how many, and these
 unfoldable pub edges_at : ℕ × ℕ → List ℕ → Result (List (ℕ × ℕ) × List ℕ) ℕ
@@ -75,7 +79,8 @@ edges_at most bytes = do
 
 -- the edges of each pair
 abbrev pub pairs_at : List ℕ → List ℕ → Result (List (List (ℕ × ℕ)) × List ℕ) ℕ
-pairs_at totals bytes = read_in_turn (λ place. edges_at (bound_at totals place)) count_up (pair_count (length totals)) 0 bytes
+pairs_at totals bytes =
+    read_in_turn (λ place. edges_at (bound_at totals place)) count_up (pair_count (length totals)) 0 bytes
 
 -- the edge into a core, where it stands after the ones before
 abbrev pub standing_into : List ℕ → ℕ → List Incoming → Incoming → List ℕ → Result (Incoming × List ℕ) ℕ
@@ -87,7 +92,8 @@ incoming_at totals target before bytes = do
   b ← number_at REDUCED bytes
   source ← number_at REDUCED b.1
   a ← number_at REDUCED source.1
-  standing_into totals target before (record { source = source.0; counts = (last_source source.0 before + a.0, last_target before + b.0) }) a.1
+  standing_into totals target before
+      (record { source = source.0; counts = (last_source source.0 before + a.0, last_target before + b.0) }) a.1
 
 -- the edges into a core: how many, and these
 unfoldable pub into_at : List ℕ → ℕ → List ℕ → Result (List Incoming × List ℕ) ℕ
@@ -96,7 +102,8 @@ into_at totals target bytes = do
   read_in_turn (incoming_at totals target) remember count.0 [] count.1
 
 -- the lists of the pairs, with what was read of the edges into a target at their ends
-abbrev pub put_into_lists : (cores : ℕ) → List (List (ℕ × ℕ)) → (target : ℕ) → Result (List Incoming × List ℕ) ℕ → Result (List (List (ℕ × ℕ)) × List ℕ) ℕ
+abbrev pub put_into_lists : (cores : ℕ) → List (List (ℕ × ℕ)) → (target : ℕ) → Result (List Incoming × List ℕ) ℕ →
+    Result (List (List (ℕ × ℕ)) × List ℕ) ℕ
 put_into_lists cores lists target read = do
   into ← read
   Ok (with_into cores lists target into.0, into.1)
@@ -144,7 +151,8 @@ vectors_at most bytes = do
 
 -- the vectors of each pair
 abbrev pub regulated_at : List ℕ → List ℕ → Result (List (List StrideVector) × List ℕ) ℕ
-regulated_at totals bytes = read_in_turn (λ place. vectors_at (bound_at totals place)) count_up (pair_count (length totals)) 0 bytes
+regulated_at totals bytes =
+    read_in_turn (λ place. vectors_at (bound_at totals place)) count_up (pair_count (length totals)) 0 bytes
 
 -- the parts but for the end, and the bytes after them
 unfoldable pub front_at : List ℕ → Result (Recording × List ℕ) ℕ
@@ -154,7 +162,10 @@ front_at bytes = do
   totals ← totals_at header.1.limit header.1.cores image.1
   reduced ← reduced_at header.0 totals.0 totals.1
   regulated ← regulated_at totals.0 reduced.1
-  Ok (record { params = header.1; image = image.0; totals = totals.0; reduced = reduced.0; regulated = regulated.0 }, regulated.1)
+  Ok (
+    record { params = header.1; image = image.0; totals = totals.0; reduced = reduced.0; regulated = regulated.0 },
+    regulated.1,
+  )
 
 -- all parts
 unfoldable pub whole_at : List ℕ → Result Recording ℕ

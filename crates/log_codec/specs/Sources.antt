@@ -19,11 +19,13 @@ edges_of_pair Regulated r place = flat_map edges_of (slice_index_or r.regulated 
 
 -- the edge between two cores at these counts
 abbrev pub edge_between : ℕ → ℕ → ℕ × ℕ → Edge
-edge_between from to counts = record { from = record { core = from; count = counts.0 }; to = record { core = to; count = counts.1 } }
+edge_between from to counts =
+    record { from = record { core = from; count = counts.0 }; to = record { core = to; count = counts.1 } }
 
 -- the same with the cores of the edges
 abbrev pub edges_at : Which → Recording → ℕ → List Edge
-edges_at which r place = map (edge_between (source_at r.params.cores place) (target_at r.params.cores place)) (edges_of_pair which r place)
+edges_at which r place =
+    map (edge_between (source_at r.params.cores place) (target_at r.params.cores place)) (edges_of_pair which r place)
 
 -- all edges of a log, pair by pair
 unfoldable pub log_edges : Which → Recording → List Edge
@@ -44,15 +46,19 @@ pub record EdgeWithin (r : Recording) (from to : Instr) : Type 0 where
 -- a log's edges are those of its pairs
 abbrev pub EdgesArePaired : Type 0
 EdgesArePaired = (which : Which) (r : Recording) (from to : Instr) →
-    HasEdge which r from to ↔ (IsPair r.params.cores from.core to.core × Contains (edges_of_pair which r (pair_place r.params.cores from.core to.core)) (from.count, to.count))
+    HasEdge which r from to
+    ↔ (IsPair r.params.cores from.core to.core
+    × Contains (edges_of_pair which r (pair_place r.params.cores from.core to.core)) (from.count, to.count))
 
 -- they lie within the totals
 abbrev pub EdgesWithin : Type 0
-EdgesWithin = (which : Which) (r : Recording) (from to : Instr) → Valid r → HasEdge which r from to → EdgeWithin r from to
+EdgesWithin = (which : Which) (r : Recording) (from to : Instr) → Valid r → HasEdge which r from to →
+    EdgeWithin r from to
 
 -- at most one edge leads from a core to an instruction
 abbrev pub OneSource : Type 0
-OneSource = (which : Which) (r : Recording) (from other to : Instr) → Valid r → HasEdge which r from to → HasEdge which r other to → from.core ≡ other.core → from ≡ other
+OneSource = (which : Which) (r : Recording) (from other to : Instr) → Valid r → HasEdge which r from to →
+    HasEdge which r other to → from.core ≡ other.core → from ≡ other
 
 -- the count of a log's edges is the length of their list
 abbrev pub EdgesCounted : Type 0
@@ -61,4 +67,5 @@ EdgesCounted = (which : Which) (r : Recording) → Valid r → length (log_edges
 -- vectors each of which begins, at the target, above the end of the one before it
 pub record AreApart (vectors : List StrideVector) : Type 0 where
   pub each : (k : ℕ) (d : StrideVector) → k < length vectors → IsVector (slice_index_or vectors k d)
-  pub apart : (i j : ℕ) (d : StrideVector) → i < j → j < length vectors → (last_of (slice_index_or vectors i d)).1 < (slice_index_or vectors j d).b0
+  pub apart : (i j : ℕ) (d : StrideVector) → i < j → j < length vectors →
+      (last_of (slice_index_or vectors i d)).1 < (slice_index_or vectors j d).b0

@@ -1,4 +1,5 @@
--- The one spelling of each recording in each version, part by part. The versions differ in the header and in the fourth part.
+-- The one spelling of each recording in each version, part by part. The versions differ in the header and in the
+-- fourth part.
 use Rattle.std.specs.Prelude.{◌≡◌, ℕ, ◌-◌, List, [], ◌++◌, length, map, nat_lt, if◌then◌else◌}
 use Rattle.std.specs.List.{range_with_len}
 use Rattle.rtr_types.specs.declared.params.Params.{Params}
@@ -43,7 +44,8 @@ pairs_text reduced = spelled_in_turn edges_text count_up 0 reduced
 -- an edge into a core: how far the target's count rises from the edge before it, the source core, and how
 -- far the source's count rises from that core's edge before
 abbrev pub incoming_text : List Incoming → Incoming → List ℕ
-incoming_text before e = number (e.counts.1 - last_target before) ++ (number e.source ++ number (e.counts.0 - last_source e.source before))
+incoming_text before e =
+    number (e.counts.1 - last_target before) ++ (number e.source ++ number (e.counts.0 - last_source e.source before))
 
 -- the edges into a core: how many, and these
 abbrev pub into_text : ℕ → List Incoming → List ℕ
@@ -51,7 +53,8 @@ into_text target edges = number (length edges) ++ spelled_in_turn incoming_text 
 
 -- the edges into each core
 abbrev pub targets_text : ℕ → List (List (ℕ × ℕ)) → List ℕ
-targets_text cores reduced = spelled_in_turn into_text count_up 0 (map (incoming_edges cores reduced) (range_with_len 0 (target_count cores)))
+targets_text cores reduced =
+    spelled_in_turn into_text count_up 0 (map (incoming_edges cores reduced) (range_with_len 0 (target_count cores)))
 
 -- the fourth part: the edges of each pair, or those into each core
 abbrev pub reduced_text : Version → ℕ → List (List (ℕ × ℕ)) → List ℕ
@@ -77,7 +80,9 @@ regulated_text regulated = spelled_in_turn vectors_text count_up 0 regulated
 -- the parts one after the other, of which the second is the image itself
 unfoldable pub spelling_in : Version → Recording → List ℕ
 spelling_in v r =
-    header_text v r.params (length r.image) ++ (r.image ++ (totals_text r.totals ++ (reduced_text v r.params.cores r.reduced ++ regulated_text r.regulated)))
+    header_text v r.params (length r.image)
+    ++ (r.image ++ (totals_text r.totals
+    ++ (reduced_text v r.params.cores r.reduced ++ regulated_text r.regulated)))
 
 -- the spelling that is written
 abbrev pub spelling : Recording → List ℕ

@@ -4,7 +4,8 @@ use Rattle.std.specs.Prelude.{ℕ, zero, suc, ◌+◌, List, [], ◌∷◌, ◌+
 use Rattle.log_codec.specs.Faults.{◌>>=◌}
 
 -- n items are read
-unfoldable pub read_in_turn : {S X : Type 0} → (S → List ℕ → Result (X × List ℕ) ℕ) → (S → X → S) → ℕ → S → List ℕ → Result (List X × List ℕ) ℕ
+unfoldable pub read_in_turn : {S X : Type 0} → (S → List ℕ → Result (X × List ℕ) ℕ) → (S → X → S) → ℕ → S → List ℕ →
+    Result (List X × List ℕ) ℕ
 read_in_turn item next zero s bytes = Ok ([], bytes)
 read_in_turn item next (suc n) s bytes = do
   first ← item s bytes

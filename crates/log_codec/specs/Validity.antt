@@ -1,5 +1,6 @@
 -- Which recordings have a spelling: in version 2 all valid ones, and in version 1 those within its limits.
-use Rattle.std.specs.Prelude.{◌≡◌, ℕ, ◌*◌, ◌<◌, ◌≤◌, ◌^◌, List, [], length, slice_index, slice_index_or, All, Bool, ◌&&◌, nat_le, nat_lt, nat_eq, if◌then◌else◌}
+use Rattle.std.specs.Prelude.{◌≡◌, ℕ, ◌*◌, ◌<◌, ◌≤◌, ◌^◌, List, [], length, slice_index, slice_index_or, All, Bool}
+use Rattle.std.specs.Prelude.{◌&&◌, nat_le, nat_lt, nat_eq, if◌then◌else◌}
 use Rattle.rtr_types.specs.declared.TheConstants.{CORES_MAX}
 use Rattle.rtr_types.specs.Pairs.{pair_count, source_at, target_at}
 use Rattle.stride_vector.specs.declared.StrideVector.{StrideVector}
@@ -11,7 +12,8 @@ use Rattle.log_codec.specs.Versions.{FitsNew, fits_new}
 
 -- the totals of the source and of the target of the pair at a place
 abbrev pub bound_at : List ℕ → ℕ → ℕ × ℕ
-bound_at totals place = (slice_index totals (source_at (length totals) place), slice_index totals (target_at (length totals) place))
+bound_at totals place =
+    (slice_index totals (source_at (length totals) place), slice_index totals (target_at (length totals) place))
 
 -- both counts of an edge are above the last edge's
 pub record EdgeRises (last e : ℕ × ℕ) : Type 0 where
@@ -55,9 +57,11 @@ pub record Valid (r : Recording) : Type 0 where
   pub each_core : length r.totals ≡ r.params.cores
   pub totals : All (λ t. t ≤ r.params.limit) r.totals
   pub each_reduced : length r.reduced ≡ pair_count r.params.cores
-  pub reduced : (place : ℕ) → place < pair_count r.params.cores → AreEdges (bound_at r.totals place) (slice_index_or r.reduced place [])
+  pub reduced : (place : ℕ) → place < pair_count r.params.cores →
+      AreEdges (bound_at r.totals place) (slice_index_or r.reduced place [])
   pub each_regulated : length r.regulated ≡ pair_count r.params.cores
-  pub regulated : (place : ℕ) → place < pair_count r.params.cores → AreVectors (bound_at r.totals place) (slice_index_or r.regulated place [])
+  pub regulated : (place : ℕ) → place < pair_count r.params.cores →
+      AreVectors (bound_at r.totals place) (slice_index_or r.regulated place [])
 
 -- ---- the same as tests
 
@@ -72,7 +76,9 @@ abbrev pub strides_stand : StrideVector → Bool
 strides_stand v = if nat_lt 1 v.n then nat_le 1 v.sa && nat_le 1 v.sb else nat_eq v.sa 0 && nat_eq v.sb 0
 
 abbrev pub vector_stands : ℕ × ℕ → ℕ × ℕ → StrideVector → Bool
-vector_stands most last v = (nat_le 1 v.n && strides_stand v) && ((nat_lt last.0 v.a0 && nat_lt last.1 v.b0) && (nat_le (last_of v).0 most.0 && nat_le (last_of v).1 most.1))
+vector_stands most last v =
+    (nat_le 1 v.n && strides_stand v)
+    && ((nat_lt last.0 v.a0 && nat_lt last.1 v.b0) && (nat_le (last_of v).0 most.0 && nat_le (last_of v).1 most.1))
 
 abbrev pub are_vectors : ℕ × ℕ → List StrideVector → Bool
 are_vectors most vectors = stand_in_turn (vector_stands most) end_of (0, 0) vectors
@@ -84,8 +90,10 @@ abbrev pub is_valid : Recording → Bool
 is_valid r =
     (fits_new r.params && nat_le (length r.image) (4 * r.params.words))
     && ((nat_eq (length r.totals) r.params.cores && stand_in_turn (total_stands r.params.limit) stay tt r.totals)
-    && ((nat_eq (length r.reduced) (pair_count r.params.cores) && stand_in_turn (λ place es. are_edges (bound_at r.totals place) es) count_up 0 r.reduced)
-    && (nat_eq (length r.regulated) (pair_count r.params.cores) && stand_in_turn (λ place vs. are_vectors (bound_at r.totals place) vs) count_up 0 r.regulated)))
+    && ((nat_eq (length r.reduced) (pair_count r.params.cores)
+    && stand_in_turn (λ place es. are_edges (bound_at r.totals place) es) count_up 0 r.reduced)
+    && (nat_eq (length r.regulated) (pair_count r.params.cores)
+    && stand_in_turn (λ place vs. are_vectors (bound_at r.totals place) vs) count_up 0 r.regulated)))
 
 -- edges that can be spelled by their rises
 pub record IsListed (edges : List (ℕ × ℕ)) : Type 0 where

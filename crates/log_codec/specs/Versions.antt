@@ -47,7 +47,8 @@ fits_old p = (nat_le 1 p.cores && nat_le p.cores 8) && ((nat_le 1 p.limit && nat
 
 abbrev pub fits_new : Params → Bool
 fits_new p =
-    (nat_le 1 p.cores && nat_le p.cores CORES_MAX) && (((nat_le 1 p.limit && nat_le p.limit 1000000) && nat_le (p.cores * p.limit) 4000000) && has_blocks p)
+    (nat_le 1 p.cores && nat_le p.cores CORES_MAX)
+    && (((nat_le 1 p.limit && nat_le p.limit 1000000) && nat_le (p.cores * p.limit) 4000000) && has_blocks p)
 
 abbrev pub fits_in : Version → Params → Bool
 fits_in One p = fits_old p

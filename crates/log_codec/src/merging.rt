@@ -1,5 +1,6 @@
 //! Writing the edges of the reduced log target by target.
-ghost use Rattle.std.specs.Prelude.{◌≡◌, ℕ, ◌-◌, ◌<◌, ◌≤◌, ◌++◌, None, length, slice_get, slice_index, IfNone, IfSome, OnOk};
+ghost use Rattle.std.specs.Prelude.{◌≡◌, ℕ, ◌-◌, ◌<◌, ◌≤◌, ◌++◌, None, length, slice_get, slice_index, IfNone, IfSome};
+ghost use Rattle.std.specs.Prelude.{OnOk};
 ghost use Rattle.rtr_types.specs.Pairs.{pair_count};
 ghost use Rattle.rtr_types.specs.declared.TheConstants.{CORES_MAX};
 ghost use Rattle.log_codec.specs.Incoming.{IsFirst, edges_out_of, incoming_edges, left, target_of};
@@ -46,7 +47,9 @@ fn first_left(
     requires pairs { length reduced.now ≡ pair_count cores }
     requires target { target < cores }
     ensures first { IfSome result (λ e. IsFirst cores (left cores reduced.now target next.now) e) }
-    ensures none { IfNone result ((source : ℕ) → source < cores → slice_get (left cores reduced.now target next.now source) 0 ≡ None) }
+    ensures none { IfNone result ((source : ℕ) → source < cores →
+        slice_get (left cores reduced.now target next.now source) 0
+        ≡ None) }
 {
     let mut first = None;
     for source in 0..cores {
@@ -82,7 +85,9 @@ fn put_incoming(
     requires core { edge.source < CORES_MAX }
     requires target { target_of last ≤ edge.counts.1 }
     requires source { slice_index counts.now edge.source ≤ edge.counts.0 }
-    ensures { OnOk result (out.new.items ≡ out.old.items ++ (number (edge.counts.1 - target_of last) ++ (number edge.source ++ number (edge.counts.0 - slice_index counts.now edge.source)))) }
+    ensures { OnOk result (out.new.items ≡ out.old.items
+        ++ (number (edge.counts.1 - target_of last)
+        ++ (number edge.source ++ number (edge.counts.0 - slice_index counts.now edge.source)))) }
 {
     put_u32(out, edge.counts.1 - target_of(last))?;
     put_u32(out, edge.source as u32)?;
@@ -98,7 +103,8 @@ fn put_into(
 ) -> Result<(), AllocError>
     requires log { IsLog cores reduced.now }
     requires target { target < cores }
-    ensures { OnOk result (out.new.items ≡ out.old.items ++ into_text target (incoming_edges cores reduced.now target)) }
+    ensures { OnOk result (out.new.items ≡ out.old.items
+        ++ into_text target (incoming_edges cores reduced.now target)) }
 {
     let count = count_into(reduced, cores, target);
     put_u32(out, count)?;

@@ -86,7 +86,8 @@ pub fn read_front(alloc: Global, bytes: &[u8]) -> Result<(Recording, usize), Cod
     ensures found { IfOk result (λ x. Valid x.0 × Spells (take x.1 bytes.now) x.0) }
     ensures within { IfOk result (λ x. x.1 ≤ length bytes.now) }
     // What begins with a spelling is read, unless memory runs out.
-    ensures only { (v : Version) (r : Recording) (rest : List ℕ) → Valid r → FitsIn v r.params → bytes.now ≡ spelling_in v r ++ rest →
+    ensures only { (v : Version) (r : Recording) (rest : List ℕ) → Valid r → FitsIn v r.params →
+        bytes.now ≡ spelling_in v r ++ rest →
         Gives {Y = Recording × List ℕ} (λ x. (x.0, drop x.1 bytes.now)) result (Ok (r, rest)) }
     // Which part it is that has no reading.
     ensures exact { Gives (λ x. (x.0, drop x.1 bytes.now)) result (front_at bytes.now) }

@@ -1,8 +1,10 @@
 //! Reading the edges of the reduced log target by target.
-ghost use Rattle.std.specs.Prelude.{◌≡◌, ℕ, ◌+◌, ◌<◌, ◌≤◌, List, None, Some, [], length, nat_le, if◌then◌else◌, replicate, IfOk, IfSome};
+ghost use Rattle.std.specs.Prelude.{◌≡◌, ℕ, ◌+◌, ◌<◌, ◌≤◌, List, None, Some, [], length, nat_le, if◌then◌else◌};
+ghost use Rattle.std.specs.Prelude.{replicate, IfOk, IfSome};
 ghost use Rattle.rtr_types.specs.Pairs.{IsPair, pair_count};
 ghost use Rattle.log_codec.specs.Faults.{Gives};
-ghost use Rattle.log_codec.specs.Incoming.{Keeps, incoming, incoming_stands, last_source, last_target, remember, target_count};
+ghost use Rattle.log_codec.specs.Incoming.{Keeps, incoming, incoming_stands, last_source, last_target, remember};
+ghost use Rattle.log_codec.specs.Incoming.{target_count};
 ghost use Rattle.log_codec.specs.Reading.{incoming_at, into_at, put_into_lists, targets_at};
 ghost use Rattle.log_codec.specs.Turns.{read_in_turn};
 ghost use Rattle.log_codec.specs.declared.incoming.Incoming.{Incoming};
@@ -94,7 +96,8 @@ fn edges_from<'a>(
     requires target { target < length totals.now }
     requires lists { length lists.old.items ≡ pair_count (length totals.now) }
     ensures { Gives (λ rest. (lists.new.items, rest.now)) result
-        (put_into_lists (length totals.now) lists.old.items target (read_in_turn (incoming_at totals.now target) remember count [] bytes.now)) }
+        (put_into_lists (length totals.now) lists.old.items target
+        (read_in_turn (incoming_at totals.now target) remember count [] bytes.now)) }
 {
     let cores = totals.len() as u8;
     let mut last = None;

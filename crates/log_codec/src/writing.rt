@@ -5,7 +5,9 @@ ghost use Rattle.log_codec.specs.Turns.{StandInTurn, follow};
 ghost use Rattle.log_codec.specs.Validity.{Valid, EdgeRises, IsListed, IsLog};
 ghost use Rattle.log_codec.specs.Versions.{FitsOld};
 ghost use Rattle.log_codec.specs.declared.version.Version.TheVariants.{One};
-ghost use Rattle.log_codec.specs.Spelling.{header_text, totals_text, edges_text, pairs_text, reduced_text, strides_text, vector_text, vectors_text, regulated_text, spelling, spelling_in};
+ghost use Rattle.log_codec.specs.Spelling.{header_text, totals_text, edges_text, pairs_text, reduced_text};
+ghost use Rattle.log_codec.specs.Spelling.{strides_text, vector_text, vectors_text, regulated_text, spelling};
+ghost use Rattle.log_codec.specs.Spelling.{spelling_in};
 
 use crate::merging::put_targets;
 use crate::recording::Recording;

@@ -27,7 +27,9 @@ in_list i n = grind arith
 -- ---- the counts of a clock
 
 -- the first counts of a clock are the clock of an instruction of the recording, since nothing leads to it from other cores
-pub front_exact : (r : Recording) (y : Instr) (clock counts : List ℕ) → Valid r → IsWithin r y → IsClock (Among (reduced_edges r)) y (λ i. slice_index clock i) → length counts ≡ r.params.cores → ((i : ℕ) → i < r.params.cores → slice_index counts i ≡ slice_index clock i) →
+pub front_exact : (r : Recording) (y : Instr) (clock counts : List ℕ) → Valid r → IsWithin r y →
+    IsClock (Among (reduced_edges r)) y (λ i. slice_index clock i) → length counts ≡ r.params.cores →
+    ((i : ℕ) → i < r.params.cores → slice_index counts i ≡ slice_index clock i) →
     IsClock (Among (reduced_edges r)) y (λ i. slice_index counts i)
 front_exact r y clock counts valid within exact all each x pos = by (in_list x.core r.params.cores)
   where
@@ -44,9 +46,12 @@ front_exact r y clock counts valid within exact all each x pos = by (in_list x.c
 -- ---- the entries of a certificate
 
 -- the entry at an end of a core is one of the core's list
-entry_there : (c : Certificate) (core count : ℕ) → Valid c.recording → HasClocks c.recording c.clocks → IsWithin c.recording (instr core count) → Placed (reduced_edges c.recording) core (slice_index c.recording.totals core) count →
+entry_there : (c : Certificate) (core count : ℕ) → Valid c.recording → HasClocks c.recording c.clocks → IsWithin c.recording (instr core count) →
+    Placed (reduced_edges c.recording) core (slice_index c.recording.totals core) count →
     IsEntryOf c.recording core count (entry_at c.clocks core (length (ends_to (reduced_edges c.recording) core count)))
-entry_there c core count valid h w p = subst (λ (n : ℕ). IsEntryOf c.recording core count (entry_at c.clocks core n)) (sym number) (subst (λ (n : ℕ). IsEntryOf c.recording core n entry) p.at (each.each p.place lt))
+entry_there c core count valid h w p =
+    subst (λ (n : ℕ). IsEntryOf c.recording core count (entry_at c.clocks core n)) (sym number)
+    (subst (λ (n : ℕ). IsEntryOf c.recording core n entry) p.at (each.each p.place lt))
   where
     each : AreClocksOf c.recording core (get_or c.clocks core [])
     each = h.each core w.core
@@ -62,7 +67,9 @@ entry_there c core count valid h w p = subst (λ (n : ℕ). IsEntryOf c.recordin
 
 pub exact_in : (c : Certificate) → Valid c.recording → HasClocks c.recording c.clocks → AreExactIn c
 exact_in c valid h x end =
-    (entry_there c x.core x.count valid h w (place_of (reduced_edges c.recording) x.core (slice_index c.recording.totals x.core) x.count w.count (end_counts (reduced_edges c.recording) x (recorded_log Reduced c.recording valid) end) end)).exact
+    (entry_there c x.core x.count valid h w
+    (place_of (reduced_edges c.recording) x.core (slice_index c.recording.totals x.core) x.count w.count
+    (end_counts (reduced_edges c.recording) x (recorded_log Reduced c.recording valid) end) end)).exact
   where
     w : IsWithin c.recording x
     w = end_within c.recording x valid end
@@ -73,57 +80,71 @@ some_or_none : (n : ℕ) → (n ≡ 0) ⊎ (1 ≤ n)
 some_or_none n = grind arith
 
 -- an exact count is at most its core's total
-count_fits : (r : Recording) (y : Instr) (entry : List ℕ) (i : ℕ) → Valid r → IsWithin r y → IsClock (Among (reduced_edges r)) y (λ k. slice_index entry k) → slice_index entry i ≤ slice_index r.totals i
+count_fits : (r : Recording) (y : Instr) (entry : List ℕ) (i : ℕ) → Valid r → IsWithin r y → IsClock (Among (reduced_edges r)) y (λ k. slice_index entry k) →
+    slice_index entry i ≤ slice_index r.totals i
 count_fits r y entry i valid w exact = by (some_or_none (slice_index entry i))
   where
     by : (slice_index entry i ≡ 0) ⊎ (1 ≤ slice_index entry i) → slice_index entry i ≤ slice_index r.totals i
     by (inl e) = omega arith
-    by (inr pos) = leads_back (reduced_edges r) (λ k. slice_index r.totals k) (instr i (slice_index entry i)) y (totals_closed r valid) ((exact (instr i (slice_index entry i)) pos).0 (omega arith)) w.count
+    by (inr pos) = leads_back (reduced_edges r) (λ k. slice_index r.totals k) (instr i (slice_index entry i)) y (totals_closed r valid)
+        ((exact (instr i (slice_index entry i)) pos).0 (omega arith)) w.count
 
 is_entry : (r : Recording) (core count : ℕ) (entry : List ℕ) → Valid r → IsWithin r (instr core count) → IsEntryOf r core count entry → IsEntry r.totals entry
 is_entry r core count entry valid w h = record {
   each_core = h.each_core ∙ sym valid.each_core;
-  most = places-stand (CountStands r.totals) 0 entry 0 (λ i lt. let same : i ≡ 0 + i = omega arith in subst (λ (k : ℕ). get_or entry i 0 ≤ slice_index r.totals k) same (count_fits r (instr core count) entry i valid w h.exact));
+  most = places-stand (CountStands r.totals) 0 entry 0 (λ i lt. let same : i ≡ 0 + i = omega arith in
+      subst (λ (k : ℕ). get_or entry i 0 ≤ slice_index r.totals k) same (count_fits r (instr core count) entry i valid w h.exact));
 }
 
 are_entries : (r : Recording) (core : ℕ) (entries : List (List ℕ)) → Valid r → core < r.params.cores → AreClocksOf r core entries → AreEntries r core entries
 are_entries r core entries valid core_lt h = record {
   number = h.all;
-  each = all-stand (IsEntry r.totals) entries (λ k d lt. subst (λ (e : List ℕ). IsEntry r.totals e) (get_or_default entries k [] d lt) (is_entry r core (end_of r core k) (get_or entries k []) valid (within k lt) (h.each k lt)));
+  each = all-stand (IsEntry r.totals) entries
+      (λ k d lt. subst (λ (e : List ℕ). IsEntry r.totals e) (get_or_default entries k [] d lt)
+      (is_entry r core (end_of r core k) (get_or entries k []) valid (within k lt) (h.each k lt)));
 }
   where
     within : (k : ℕ) → k < length entries → IsWithin r (instr core (end_of r core k))
-    within k lt = (end_in_list r core k (ends_to (reduced_edges r) core (slice_index r.totals core)) (record { valid = valid; core = core_lt; is = refl; lt = let e = h.all in omega arith })).0
+    within k lt = (end_in_list r core k (ends_to (reduced_edges r) core (slice_index r.totals core))
+        (record { valid = valid; core = core_lt; is = refl; lt = let e = h.all in omega arith })).0
 
 pub is_certificate : (c : Certificate) → Valid c.recording → HasClocks c.recording c.clocks → IsCertificate c
 is_certificate c valid h = record {
   recording = valid;
   each_core = h.all;
-  entries = places-stand (AreEntries c.recording) 0 c.clocks [] (λ i lt. let same : i ≡ 0 + i = omega arith in let e = h.all in subst (λ (k : ℕ). AreEntries c.recording k (get_or c.clocks i [])) same (are_entries c.recording i (get_or c.clocks i []) valid (omega arith) (h.each i (omega arith))));
+  entries = places-stand (AreEntries c.recording) 0 c.clocks [] (λ i lt. let same : i ≡ 0 + i = omega arith in let e = h.all in
+      subst (λ (k : ℕ). AreEntries c.recording k (get_or c.clocks i [])) same
+      (are_entries c.recording i (get_or c.clocks i []) valid (omega arith) (h.each i (omega arith))));
 }
 
 -- ---- as code makes them
 
-pub entry_of_clock : (r : Recording) (core k : ℕ) (ends clock counts : List ℕ) → IsListed r core k ends → IsClock (Among (reduced_edges r)) (instr core (get_or ends k 0)) (λ i. slice_index clock i) → length counts ≡ r.params.cores → ((i : ℕ) → i < r.params.cores → slice_index counts i ≡ slice_index clock i) →
+pub entry_of_clock : (r : Recording) (core k : ℕ) (ends clock counts : List ℕ) → IsListed r core k ends →
+    IsClock (Among (reduced_edges r)) (instr core (get_or ends k 0)) (λ i. slice_index clock i) → length counts ≡ r.params.cores →
+    ((i : ℕ) → i < r.params.cores → slice_index counts i ≡ slice_index clock i) →
     IsEntryOf r core (end_of r core k) counts
 entry_of_clock r core k ends clock counts h exact all each =
     subst (λ (n : ℕ). IsEntryOf r core n counts) (ap (λ (l : List ℕ). get_or l k 0) h.is)
     (record { each_core = all; exact = front_exact r (instr core (get_or ends k 0)) clock counts h.valid (end_in_list r core k ends h).0 exact all each })
 
 -- one more entry of a core
-pub clocks_more : (r : Recording) (core k : ℕ) (old new : List (List ℕ)) (entry : List ℕ) → length old ≡ k → ((j : ℕ) → j < k → IsEntryOf r core (end_of r core j) (get_or old j [])) → new ≡ old ++ entry ∷ [] → IsEntryOf r core (end_of r core k) entry →
+pub clocks_more : (r : Recording) (core k : ℕ) (old new : List (List ℕ)) (entry : List ℕ) → length old ≡ k →
+    ((j : ℕ) → j < k → IsEntryOf r core (end_of r core j) (get_or old j [])) → new ≡ old ++ entry ∷ [] → IsEntryOf r core (end_of r core k) entry →
     (j : ℕ) → j < k + 1 → IsEntryOf r core (end_of r core j) (get_or new j [])
-clocks_more r core k old new entry len before is here j lt = subst (λ (l : List (List ℕ)). IsEntryOf r core (end_of r core j) (get_or l j [])) (sym is) (by (last_or_before j k lt))
+clocks_more r core k old new entry len before is here j lt =
+    subst (λ (l : List (List ℕ)). IsEntryOf r core (end_of r core j) (get_or l j [])) (sym is) (by (last_or_before j k lt))
   where
     last_or_before : (j k : ℕ) → j < k + 1 → (j ≡ k) ⊎ (j < k)
     last_or_before j k lt = grind arith
 
     by : (j ≡ k) ⊎ (j < k) → IsEntryOf r core (end_of r core j) (get_or (old ++ entry ∷ []) j [])
-    by (inl e) = subst (λ (l : List ℕ). IsEntryOf r core (end_of r core j) l) (sym (get_or_push old entry [] j (len ∙ sym e))) (subst (λ (i : ℕ). IsEntryOf r core (end_of r core i) entry) (sym e) here)
+    by (inl e) = subst (λ (l : List ℕ). IsEntryOf r core (end_of r core j) l) (sym (get_or_push old entry [] j (len ∙ sym e)))
+        (subst (λ (i : ℕ). IsEntryOf r core (end_of r core i) entry) (sym e) here)
     by (inr less) = subst (λ (l : List ℕ). IsEntryOf r core (end_of r core j) l) (sym (get_or_append_left old (entry ∷ []) [] j (omega arith))) (before j less)
 
 -- the clocks of one core more
-pub cores_more : (r : Recording) (k : ℕ) (old new : Clocks) (entries : List (List ℕ)) → length old ≡ k → ((j : ℕ) → j < k → AreClocksOf r j (get_or old j [])) → new ≡ old ++ entries ∷ [] → AreClocksOf r k entries →
+pub cores_more : (r : Recording) (k : ℕ) (old new : Clocks) (entries : List (List ℕ)) → length old ≡ k →
+    ((j : ℕ) → j < k → AreClocksOf r j (get_or old j [])) → new ≡ old ++ entries ∷ [] → AreClocksOf r k entries →
     (j : ℕ) → j < k + 1 → AreClocksOf r j (get_or new j [])
 cores_more r k old new entries len before is here j lt = subst (λ (l : Clocks). AreClocksOf r j (get_or l j [])) (sym is) (by (last_or_before j k lt))
   where
@@ -131,5 +152,6 @@ cores_more r k old new entries len before is here j lt = subst (λ (l : Clocks).
     last_or_before j k lt = grind arith
 
     by : (j ≡ k) ⊎ (j < k) → AreClocksOf r j (get_or (old ++ entries ∷ []) j [])
-    by (inl e) = subst (λ (l : List (List ℕ)). AreClocksOf r j l) (sym (get_or_push old entries [] j (len ∙ sym e))) (subst (λ (i : ℕ). AreClocksOf r i entries) (sym e) here)
+    by (inl e) = subst (λ (l : List (List ℕ)). AreClocksOf r j l) (sym (get_or_push old entries [] j (len ∙ sym e)))
+        (subst (λ (i : ℕ). AreClocksOf r i entries) (sym e) here)
     by (inr less) = subst (λ (l : List (List ℕ)). AreClocksOf r j l) (sym (get_or_append_left old (entries ∷ []) [] j (omega arith))) (before j less)

@@ -1,5 +1,6 @@
 -- The first that fails.
-use Rattle.std.proofs.Common.{inl, inr, ◌≡◌, ◌⊎◌, ℕ, zero, suc, ◌+◌, ◌<◌, ◌≤◌, ◌^◌, List, [], ◌∷◌, ◌++◌, length, get_or, refl, sym, ap, ◌∙◌, subst, arith, take, drop, true}
+use Rattle.std.proofs.Common.{inl, inr, ◌≡◌, ◌⊎◌, ℕ, zero, suc, ◌+◌, ◌<◌, ◌≤◌, ◌^◌, List, [], ◌∷◌, ◌++◌, length, get_or, refl, sym, ap, ◌∙◌, subst, arith, take}
+use Rattle.std.proofs.Common.{drop, true}
 use Rattle.std.specs.Prelude.{slice_index}
 use Rattle.std.proofs.Math.Seq.{take-suc, split_at}
 use Rattle.std.proofs.lemmas.List.{take_all, get_or_push}
@@ -34,9 +35,11 @@ pub record IsTarget (r : Recording) (y : Instr) : Type 0 where
   pub within : IsWithin r y
   pub some : 1 ≤ y.count
 
-pub target_within : (r : Recording) (edges : List Edge) (i : ℕ) (d : Edge) → Valid r → edges ≡ reduced_edges r → i < length edges → IsTarget r (get_or edges i d).to
+pub target_within : (r : Recording) (edges : List Edge) (i : ℕ) (d : Edge) → Valid r → edges ≡ reduced_edges r → i < length edges →
+    IsTarget r (get_or edges i d).to
 target_within r edges i d valid is lt =
-    let a : Among (reduced_edges r) (get_or edges i d).from (get_or edges i d).to = subst (λ (l : List Edge). Among l (get_or edges i d).from (get_or edges i d).to) is (among_at edges i d lt) in
+    let a : Among (reduced_edges r) (get_or edges i d).from (get_or edges i d).to =
+    subst (λ (l : List Edge). Among l (get_or edges i d).from (get_or edges i d).to) is (among_at edges i d lt) in
     let w = edge_within Reduced r (get_or edges i d).from (get_or edges i d).to valid a in
     record { within = record { core = w.pair.target; count = w.target_most }; some = w.some_target }
 
@@ -53,19 +56,24 @@ among_end (f ∷ front) e x y (inr a) = on (among_end front e x y a)
     on (inl b) = inl (inr b)
     on (inr p) = inr p
 
-pub holds_more : (P : Instr → Instr → Type 0) (edges : List Edge) (i : ℕ) (d : Edge) → i < length edges → ((x y : Instr) → Among (take i edges) x y → P x y) → P (get_or edges i d).from (get_or edges i d).to →
+pub holds_more : (P : Instr → Instr → Type 0) (edges : List Edge) (i : ℕ) (d : Edge) → i < length edges → ((x y : Instr) → Among (take i edges) x y → P x y) →
+    P (get_or edges i d).from (get_or edges i d).to →
     (x y : Instr) → Among (take (i + 1) edges) x y → P x y
-holds_more P edges i d lt before here x y a = by (among_end (take i edges) (get_or edges i d) x y (subst (λ (l : List Edge). Among l x y) (one_more edges i d lt) a))
+holds_more P edges i d lt before here x y a =
+    by (among_end (take i edges) (get_or edges i d) x y (subst (λ (l : List Edge). Among l x y) (one_more edges i d lt) a))
   where
     by : Among (take i edges) x y ⊎ (((get_or edges i d).from ≡ x) × ((get_or edges i d).to ≡ y)) → P x y
     by (inl b) = before x y b
     by (inr p) = subst (λ (z : Instr). P z y) p.0 (subst (λ (z : Instr). P (get_or edges i d).from z) p.1 here)
 
-pub fails_first : (P : Instr → Instr → Type 0) (edges : List Edge) (i : ℕ) (d : Edge) → i < length edges → ((x y : Instr) → Among (take i edges) x y → P x y) → (P (get_or edges i d).from (get_or edges i d).to → ⊥) →
+pub fails_first : (P : Instr → Instr → Type 0) (edges : List Edge) (i : ℕ) (d : Edge) → i < length edges → ((x y : Instr) → Among (take i edges) x y → P x y) →
+    (P (get_or edges i d).from (get_or edges i d).to → ⊥) →
     FailsFirst P edges (get_or edges i d)
-fails_first P edges i d lt before fails = record { front = take i edges; rest = drop (suc i) edges; split = split_at edges i d lt; before = before; here = fails }
+fails_first P edges i d lt before fails =
+    record { front = take i edges; rest = drop (suc i) edges; split = split_at edges i d lt; before = before; here = fails }
 
-pub holds_all : (P : Instr → Instr → Type 0) (edges : List Edge) (i : ℕ) → length edges ≤ i → ((x y : Instr) → Among (take i edges) x y → P x y) → (x y : Instr) → Among edges x y → P x y
+pub holds_all : (P : Instr → Instr → Type 0) (edges : List Edge) (i : ℕ) → length edges ≤ i → ((x y : Instr) → Among (take i edges) x y → P x y) →
+    (x y : Instr) → Among edges x y → P x y
 holds_all P edges i past before x y a = before x y (subst (λ (l : List Edge). Among l x y) (sym (take_all i edges past)) a)
 
 -- ---- entries
@@ -85,7 +93,8 @@ place_next : (edges : List Edge) (c n m : ℕ) → suc m ≤ n → is_end edges 
 place_next edges c n m le end = record {
   place = length (ends_to edges c m);
   within = let l = longer edges c (suc m) n le in let k = number in omega arith;
-  at = fronted edges c (suc m) n (length (ends_to edges c m)) le (let k = number in omega arith) ∙ ap (λ (l : List ℕ). get_or l (length (ends_to edges c m)) 0) list ∙ get_or_push (ends_to edges c m) (suc m) 0 (length (ends_to edges c m)) refl;
+  at = fronted edges c (suc m) n (length (ends_to edges c m)) le (let k = number in omega arith)
+      ∙ ap (λ (l : List ℕ). get_or l (length (ends_to edges c m)) 0) list ∙ get_or_push (ends_to edges c m) (suc m) 0 (length (ends_to edges c m)) refl;
   number = number;
 }
   where
@@ -126,7 +135,8 @@ few edges c (suc n) = by (grows edges c n) (few edges c n)
     by (inl g) le = let e = g.len in omega arith
     by (inr e) le = let f = ap (λ (l : List ℕ). length l) e in omega arith
 
-pub place_low : (r : Recording) (c k : ℕ) (list : List ℕ) → list ≡ ends_to (reduced_edges r) c (slice_index r.totals c) → k < length list → k + 1 ≤ get_or list k 0
+pub place_low : (r : Recording) (c k : ℕ) (list : List ℕ) → list ≡ ends_to (reduced_edges r) c (slice_index r.totals c) → k < length list →
+    k + 1 ≤ get_or list k 0
 place_low r c k list is lt =
     let p = placed (reduced_edges r) c (slice_index r.totals c) k (subst (λ (l : List ℕ). k < length l) is lt) in
     let m = few (reduced_edges r) c (get_or (ends_to (reduced_edges r) c (slice_index r.totals c)) k 0) in
@@ -157,11 +167,13 @@ number_fits r c k list h =
     omega arith
 
 -- what holds of the ends at all places before, of all ends before
-before_place : (c : Certificate) (core k : ℕ) (list : List ℕ) → Valid c.recording → list ≡ ends_to (reduced_edges c.recording) core (slice_index c.recording.totals core) → ((j : ℕ) → j < k → IsGoodIn c (instr core (get_or list j 0))) →
+before_place : (c : Certificate) (core k : ℕ) (list : List ℕ) → Valid c.recording →
+    list ≡ ends_to (reduced_edges c.recording) core (slice_index c.recording.totals core) → ((j : ℕ) → j < k → IsGoodIn c (instr core (get_or list j 0))) →
     (n : ℕ) → IsEnd (reduced_edges c.recording) (instr core n) → ((j : ℕ) → j < length list → get_or list j 0 ≡ n → j < k) → IsGoodIn c (instr core n)
 before_place c core k list valid is good n end early =
     let w = end_within c.recording (instr core n) valid end in
-    let p = place_of (reduced_edges c.recording) core (slice_index c.recording.totals core) n w.count (end_counts (reduced_edges c.recording) (instr core n) (recorded_log Reduced c.recording valid) end) end in
+    let p = place_of (reduced_edges c.recording) core (slice_index c.recording.totals core) n w.count
+    (end_counts (reduced_edges c.recording) (instr core n) (recorded_log Reduced c.recording valid) end) end in
     let at : get_or list p.place 0 ≡ n = ap (λ (l : List ℕ). get_or l p.place 0) is ∙ p.at in
     let lt : p.place < length list = subst (λ (l : List ℕ). p.place < length l) (sym is) p.within in
     subst (λ (j : ℕ). IsGoodIn c (instr core j)) at (good p.place (early p.place lt at))
@@ -170,8 +182,10 @@ pub bad_at : (c : Certificate) (core k number : ℕ) (list : List ℕ) → IsLis
     ((j : ℕ) → j < k → IsGoodIn c (instr core (get_or list j 0))) → (IsGoodIn c (instr core (get_or list k 0)) → ⊥) → IsFirstBadOf c core number
 bad_at c core k number list h num good bad = record {
   count = get_or list k 0;
-  is_end = subst (λ (l : List ℕ). IsEnd (reduced_edges c.recording) (instr core (get_or l k 0))) (sym h.is) (at_low (reduced_edges c.recording) core (slice_index c.recording.totals core) k there).2;
-  number_is = ap (λ (l : List ℕ). length (ends_to (reduced_edges c.recording) core (get_or l k 0))) h.is ∙ placed (reduced_edges c.recording) core (slice_index c.recording.totals core) k there ∙ sym num;
+  is_end = subst (λ (l : List ℕ). IsEnd (reduced_edges c.recording) (instr core (get_or l k 0))) (sym h.is)
+      (at_low (reduced_edges c.recording) core (slice_index c.recording.totals core) k there).2;
+  number_is = ap (λ (l : List ℕ). length (ends_to (reduced_edges c.recording) core (get_or l k 0))) h.is
+      ∙ placed (reduced_edges c.recording) core (slice_index c.recording.totals core) k there ∙ sym num;
   bad = bad;
   before = λ n less end. before_place c core k list h.valid h.is good n end (λ j below at. earlier n j less below at);
 }
@@ -183,7 +197,8 @@ bad_at c core k number list h num good bad = record {
     which i j = grind arith
 
     rise : (i j : ℕ) → i < j → j < length list → get_or list i 0 < get_or list j 0
-    rise = subst (λ (l : List ℕ). (i j : ℕ) → i < j → j < length l → get_or l i 0 < get_or l j 0) (sym h.is) (ends_rise (reduced_edges c.recording) core (slice_index c.recording.totals core))
+    rise = subst (λ (l : List ℕ). (i j : ℕ) → i < j → j < length l → get_or l i 0 < get_or l j 0) (sym h.is)
+        (ends_rise (reduced_edges c.recording) core (slice_index c.recording.totals core))
 
     earlier : (n j : ℕ) → n < get_or list k 0 → j < length list → get_or list j 0 ≡ n → j < k
     earlier n j less below at = by (which j k)
@@ -193,9 +208,11 @@ bad_at c core k number list h num good bad = record {
         by (inr (inl a)) = let g = rise k j a below in absurd (omega arith)
         by (inr (inr s)) = let g = ap (λ (i : ℕ). get_or list i 0) s in absurd (omega arith)
 
-pub all_good : (c : Certificate) (core k : ℕ) (list : List ℕ) → Valid c.recording → list ≡ ends_to (reduced_edges c.recording) core (slice_index c.recording.totals core) → length list ≤ k →
+pub all_good : (c : Certificate) (core k : ℕ) (list : List ℕ) → Valid c.recording →
+    list ≡ ends_to (reduced_edges c.recording) core (slice_index c.recording.totals core) → length list ≤ k →
     ((j : ℕ) → j < k → IsGoodIn c (instr core (get_or list j 0))) → AreGoodOf c core
 all_good c core k list valid is past good n end = before_place c core k list valid is good n end (λ j below at. omega arith)
 
-pub good_of_all : (c : Certificate) (cores : ℕ) → Valid c.recording → c.recording.params.cores ≤ cores → ((k : ℕ) → k < cores → AreGoodOf c k) → (x : Instr) → IsEnd (reduced_edges c.recording) x → IsGoodIn c x
+pub good_of_all : (c : Certificate) (cores : ℕ) → Valid c.recording → c.recording.params.cores ≤ cores → ((k : ℕ) → k < cores → AreGoodOf c k) → (x : Instr) →
+    IsEnd (reduced_edges c.recording) x → IsGoodIn c x
 good_of_all c cores valid most each x end = each x.core (let w = end_within c.recording x valid end in let lt = w.core in omega arith) x.count end

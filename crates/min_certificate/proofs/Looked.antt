@@ -1,5 +1,6 @@
 -- Entries and logged sources, looked up.
-use Rattle.std.proofs.Common.{inl, inr, ◌≡◌, ◌≢◌, ◌⊎◌, ◌↔◌, ℕ, zero, suc, ◌-◌, ◌<◌, ◌≤◌, List, [], length, get_or, refl, sym, ap, ◌∙◌, subst, arith, Some, None, true, false, Bool, IsTrue}
+use Rattle.std.proofs.Common.{inl, inr, ◌≡◌, ◌≢◌, ◌⊎◌, ◌↔◌, ℕ, zero, suc, ◌-◌, ◌<◌, ◌≤◌, List, [], length, get_or, refl, sym, ap, ◌∙◌, subst, arith, Some, None}
+use Rattle.std.proofs.Common.{true, false, Bool, IsTrue}
 use Rattle.std.specs.Prelude.{slice_index, Option, nat_eq, nat_lt, ◌&&◌}
 use Rattle.std.proofs.lemmas.Bool.Decides.{nat_tests}
 use Rattle.rtr_types.specs.declared.instr.Instr.{Instr}
@@ -33,7 +34,8 @@ pub has_among : (r : Recording) (x y : Instr) → HasEdge Reduced r x y → Amon
 has_among r x y has = contains_among (reduced_edges r) x y has
 
 -- the one edge from a core, or none
-pub only_source : (r : Recording) (of : ℕ) (at : Instr) (found : Option ℕ) → ((a : ℕ) → HasEdge Reduced r (instr of a) at → found ≡ Some a) → (z : Instr) → Among (reduced_edges r) z at → z.core ≡ of → found ≡ Some z.count
+pub only_source : (r : Recording) (of : ℕ) (at : Instr) (found : Option ℕ) → ((a : ℕ) → HasEdge Reduced r (instr of a) at → found ≡ Some a) → (z : Instr) →
+    Among (reduced_edges r) z at → z.core ≡ of → found ≡ Some z.count
 only_source r of at found only z a c = only z.count (subst (λ (i : ℕ). HasEdge Reduced r (instr i z.count) at) c (among_contains (reduced_edges r) z at a))
 
 pub some_source : (of n : ℕ) (z : Instr) → ◌≡◌ {A = Option ℕ} (Some n) (Some z.count) → z.core ≡ of → ◌≡◌ {A = Option Instr} (Some (instr of n)) (Some z)
@@ -47,10 +49,14 @@ all_sources r n y P valid most each z a =
     each z.core (let lt = w.pair.source in omega arith) w.pair.differ z a refl
 
 -- what holds of the one source on a core holds of all there
-pub of_one : (r : Recording) (of : ℕ) (y x : Instr) (P : Instr → Type 0) → ((z : Instr) → Among (reduced_edges r) z y → z.core ≡ of → ◌≡◌ {A = Option Instr} (Some x) (Some z)) → P x → (z : Instr) → Among (reduced_edges r) z y → z.core ≡ of → P z
+pub of_one : (r : Recording) (of : ℕ) (y x : Instr) (P : Instr → Type 0) →
+    ((z : Instr) → Among (reduced_edges r) z y → z.core ≡ of → ◌≡◌ {A = Option Instr} (Some x) (Some z)) → P x → (z : Instr) → Among (reduced_edges r) z y →
+    z.core ≡ of → P z
 of_one r of y x P only p z a c = let same : x ≡ z = let s = only z a c in cc in subst P same p
 
-pub of_none : (r : Recording) (of : ℕ) (y : Instr) (P : Instr → Type 0) → ((z : Instr) → Among (reduced_edges r) z y → z.core ≡ of → ◌≡◌ {A = Option Instr} None (Some z)) → (z : Instr) → Among (reduced_edges r) z y → z.core ≡ of → P z
+pub of_none : (r : Recording) (of : ℕ) (y : Instr) (P : Instr → Type 0) →
+    ((z : Instr) → Among (reduced_edges r) z y → z.core ≡ of → ◌≡◌ {A = Option Instr} None (Some z)) → (z : Instr) → Among (reduced_edges r) z y →
+    z.core ≡ of → P z
 of_none r of y P only z a c = let s = only z a c in absurd (cc)
 
 -- ---- entries of sources
@@ -61,11 +67,13 @@ pub record IsSourceOf (r : Recording) (of : ℕ) (y x : Instr) : Type 0 where
   pub core : x.core ≡ of
   pub only : (z : Instr) → Among (reduced_edges r) z y → z.core ≡ of → ◌≡◌ {A = Option Instr} (Some x) (Some z)
 
-pub some_below : (c : Certificate) (of : ℕ) (y x : Instr) (entry here : List ℕ) (b : Bool) → IsSourceOf c.recording of y x → entry ≡ last_entry (reduced_edges c.recording) c.clocks x → (IsTrue b ↔ IsBelow entry here) → IsTrue b ↔ IsSourceBelow c y of here
+pub some_below : (c : Certificate) (of : ℕ) (y x : Instr) (entry here : List ℕ) (b : Bool) → IsSourceOf c.recording of y x →
+    entry ≡ last_entry (reduced_edges c.recording) c.clocks x → (IsTrue b ↔ IsBelow entry here) → IsTrue b ↔ IsSourceBelow c y of here
 some_below c of y x entry here b h is test = (to, back)
   where
     to : IsTrue b → IsSourceBelow c y of here
-    to t = of_one c.recording of y x (λ z. (i : ℕ) → entry_in c z i ≤ slice_index here i) h.only (λ i. subst (λ (l : List ℕ). slice_index l i ≤ slice_index here i) is (test.0 t i))
+    to t = of_one c.recording of y x (λ z. (i : ℕ) → entry_in c z i ≤ slice_index here i) h.only
+        (λ i. subst (λ (l : List ℕ). slice_index l i ≤ slice_index here i) is (test.0 t i))
 
     back : IsSourceBelow c y of here → IsTrue b
     back f = test.1 (λ i. subst (λ (l : List ℕ). slice_index l i ≤ slice_index here i) (sym is) (f x h.edge h.core i))
@@ -86,11 +94,13 @@ not_named x y b e f same =
     absurd (cc)
 
 -- the source is the edge's own
-pub own_unknown : (c : Certificate) (of : ℕ) (x y own : Instr) (b : Bool) → IsSourceOf c.recording of y own → own ≡ x → b ≡ true → IsTrue b ↔ IsUnknownThere c x y of
+pub own_unknown : (c : Certificate) (of : ℕ) (x y own : Instr) (b : Bool) → IsSourceOf c.recording of y own → own ≡ x → b ≡ true → IsTrue b
+    ↔ IsUnknownThere c x y of
 own_unknown c of x y own b h same t = ((λ _. of_one c.recording of y own (λ z. z ≢ x → entry_in c z x.core < x.count) h.only (λ ne. absurd (ne same))), λ _. t)
 
 -- it is another
-pub other_unknown : (c : Certificate) (of : ℕ) (x y other : Instr) (entry : List ℕ) (count : ℕ) → IsSourceOf c.recording of y other → other ≢ x → entry ≡ last_entry (reduced_edges c.recording) c.clocks other → count ≡ slice_index entry x.core →
+pub other_unknown : (c : Certificate) (of : ℕ) (x y other : Instr) (entry : List ℕ) (count : ℕ) → IsSourceOf c.recording of y other → other ≢ x →
+    entry ≡ last_entry (reduced_edges c.recording) c.clocks other → count ≡ slice_index entry x.core →
     IsTrue (nat_lt count x.count) ↔ IsUnknownThere c x y of
 other_unknown c of x y other entry count h ne is count_is = (to, back)
   where
@@ -98,7 +108,8 @@ other_unknown c of x y other entry count h ne is count_is = (to, back)
     same = count_is ∙ ap (λ (l : List ℕ). slice_index l x.core) is
 
     to : IsTrue (nat_lt count x.count) → IsUnknownThere c x y of
-    to t = of_one c.recording of y other (λ z. z ≢ x → entry_in c z x.core < x.count) h.only (λ _. let lt : count < x.count = grind (arith, nat_tests) in let s = same in omega arith)
+    to t = of_one c.recording of y other (λ z. z ≢ x → entry_in c z x.core < x.count) h.only (λ _. let lt : count < x.count = grind (arith, nat_tests) in
+        let s = same in omega arith)
 
     back : IsUnknownThere c x y of → IsTrue (nat_lt count x.count)
     back f = let lt = f other h.edge h.core ne in let s = same in let less : count < x.count = omega arith in grind (arith, nat_tests)

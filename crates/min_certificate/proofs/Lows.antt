@@ -28,10 +28,12 @@ pub low_acyclic : (r : Recording) → Valid r → IsDeterminate Reduced r → Is
 low_acyclic r valid d = acyclic_law Reduced r (low_order_of Reduced r) valid d.ordered d.whole
 
 pub low_cores : (r : Recording) → Valid r → AreCoresBelow r.params.cores (low_accesses Reduced r)
-low_cores r valid a s = let w = accesses_within Reduced r (low_order_of Reduced r) (low_ordered (plan_of Reduced r)) a s in let e = valid.each_core in omega arith
+low_cores r valid a s = let w = accesses_within Reduced r (low_order_of Reduced r) (low_ordered (plan_of Reduced r)) a s in let e = valid.each_core in
+    omega arith
 
 -- a log that is least for one list is least for another with the same conflict pairs
-carried : (list other : List Access) (edges : List Edge) → Within (ConflictPair list) (ConflictPair other) → Within (ConflictPair other) (ConflictPair list) → Suffices other (Among edges) → IsLeast list edges → IsLeast other edges
+carried : (list other : List Access) (edges : List Edge) → Within (ConflictPair list) (ConflictPair other) → Within (ConflictPair other) (ConflictPair list) →
+    Suffices other (Among edges) → IsLeast list edges → IsLeast other edges
 carried list other edges forth back suffices l = record {
   conflict = λ x y a. forth x y (l.conflict x y a);
   suffices = suffices;
@@ -42,10 +44,12 @@ pub every_order_is_least : EveryOrderIsLeastLaw
 every_order_is_least r valid d l order ordered whole =
     let other : Decides (plan_of Reduced r) order = (any_whole_law Reduced r order valid ordered whole).0 d in
     carried (low_accesses Reduced r) (accesses_of (plan_of Reduced r) order) (reduced_edges r)
-    (every_order_law Reduced r order (low_order_of Reduced r) valid other d.ordered).pairs (every_order_law Reduced r (low_order_of Reduced r) order valid d ordered).pairs other.suffices l
+    (every_order_law Reduced r order (low_order_of Reduced r) valid other d.ordered).pairs
+    (every_order_law Reduced r (low_order_of Reduced r) order valid d ordered).pairs other.suffices l
 
 pub any_order_is_least : AnyOrderIsLeastLaw
 any_order_is_least r order valid d ordered whole l =
     let other : Decides (plan_of Reduced r) order = (any_whole_law Reduced r order valid ordered whole).0 d in
     carried (accesses_of (plan_of Reduced r) order) (low_accesses Reduced r) (reduced_edges r)
-    (every_order_law Reduced r (low_order_of Reduced r) order valid d ordered).pairs (every_order_law Reduced r order (low_order_of Reduced r) valid other d.ordered).pairs d.suffices l
+    (every_order_law Reduced r (low_order_of Reduced r) order valid d ordered).pairs
+    (every_order_law Reduced r order (low_order_of Reduced r) valid other d.ordered).pairs d.suffices l

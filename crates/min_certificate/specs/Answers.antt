@@ -43,7 +43,8 @@ CertRefuses r certs.OutOfMemory = Unit {0}
 
 -- ---- checking
 
--- the recording is determinate by its reduced log, and that log is least, by each whole replay order: by this certificate
+-- the recording is determinate by its reduced log, and that log is least, by each whole replay order: by this
+-- certificate
 pub record Checks (c : Certificate) : Type 0 where
   pub determinate : IsDeterminate Reduced c.recording
   pub least : IsLeastIn c.recording

@@ -55,7 +55,8 @@ NotLeastLaw = (r : Recording) → Valid r → IsDeterminate Reduced r →
 
 -- ---- of a certificate
 
--- what a check tests once the recording is determinate: each edge is a conflict, the entries are good, each edge is needed
+-- what a check tests once the recording is determinate: each edge is a conflict, the entries are good, each edge is
+-- needed
 pub record Passes (c : Certificate) : Type 0 where
   pub conflicts : AllConflict c.recording
   pub good : AreGoodIn c

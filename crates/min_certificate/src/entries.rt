@@ -60,7 +60,8 @@ impl<'a> Entries<'a> {
     /// The edge ends of a core, by rising count.
     fn ends_of(&self, core: u8) -> &[u32]
         requires { core < self.now.recording.params.cores }
-        ensures ends { result.now ≡ ends_to (reduced_edges self.now.recording) core (slice_index self.now.recording.totals core) }
+        ensures ends { result.now ≡ ends_to (reduced_edges self.now.recording) core
+            (slice_index self.now.recording.totals core) }
         ensures valid { Valid self.now.recording }
     {
         let _ = self.ends.recording();
@@ -70,7 +71,8 @@ impl<'a> Entries<'a> {
     /// The instruction's logged source on another core, if there is one.
     fn source(&self, of: u8, at: Instr) -> Option<Instr>
         requires { IsPair self.now.recording.params.cores of at.core }
-        ensures some { IfSome result (λ z. Among (reduced_edges self.now.recording) z at × (z.core ≡ of) × IsWithin self.now.recording z) }
+        ensures some { IfSome result (λ z. Among (reduced_edges self.now.recording) z at × (z.core ≡ of)
+            × IsWithin self.now.recording z) }
         ensures only { (z : SomeInstr) → Among (reduced_edges self.now.recording) z at → z.core ≡ of → result ≡ Some z }
     {
         match self.ends.recording().source(Which::Reduced, of, at) {

@@ -34,7 +34,8 @@ fn clocks_of_core(
 ) -> Result<Items<Items<u32>>, AllocError>
     requires which { audited.now.which ≡ Reduced }
     requires core { core < audited.now.recording.params.cores }
-    requires ends { ends.now ≡ ends_to (reduced_edges audited.now.recording) core (slice_index audited.now.recording.totals core) }
+    requires ends { ends.now ≡ ends_to (reduced_edges audited.now.recording) core
+        (slice_index audited.now.recording.totals core) }
     ensures { IfOk result (AreClocksOf audited.now.recording core) }
 {
     let cores = audited.recording().params.cores;

@@ -24,7 +24,8 @@ module _ {R K : Type 0} where
   pub owed-sent : (n : Node R K) (m : FromHome R) (k : K) → owed (node_sent n m k) ≡ owed n + debt m
   owed-sent n m k = rw (debts-snoc n.messages.items (record { item = m; carry = k })) (omega arith)
 
-  pub owed-nodes_sent : (carrying : Carrying K) (ns : List (Node R K)) (to : ℕ) (m : FromHome R) (k : K) → to < length ns → sum_by owed (nodes_sent carrying ns to m k) ≡ sum_by owed ns + debt m
+  pub owed-nodes_sent : (carrying : Carrying K) (ns : List (Node R K)) (to : ℕ) (m : FromHome R) (k : K) → to < length ns →
+      sum_by owed (nodes_sent carrying ns to m k) ≡ sum_by owed ns + debt m
   owed-nodes_sent carrying ns to m k within =
       let e = sum_by-set owed ns to (node_sent (node_at carrying ns to) m k) (no_node carrying) within in
       let f = owed-sent (node_at carrying ns to) m k in
@@ -36,16 +37,19 @@ members set zero = 0
 members set (suc n) = members set n + cond (has set n) 1 0
 
 module _ {R K : Type 0} where
-  more : (carrying : Carrying K) (t : Bool) (before : List (Node R K)) (n : ℕ) (m : FromHome R) (k : K) (total : ℕ) → n < length before → sum_by owed before ≡ total → sum_by owed (if t then nodes_sent carrying before n m k else before) ≡ total + cond t 1 0 * debt m
+  more : (carrying : Carrying K) (t : Bool) (before : List (Node R K)) (n : ℕ) (m : FromHome R) (k : K) (total : ℕ) → n < length before →
+      sum_by owed before ≡ total → sum_by owed (if t then nodes_sent carrying before n m k else before) ≡ total + cond t 1 0 * debt m
   more carrying true before n m k total within e = let f = owed-nodes_sent carrying before n m k within in omega arith
   more carrying false before n m k total within e = omega arith
 
-  pub owed-nodes_told : (carrying : Carrying K) (set : CoreSet) (m : FromHome R) (k : K) (n : ℕ) (ns : List (Node R K)) → n ≤ length ns → sum_by owed (nodes_told carrying set m k n ns) ≡ sum_by owed ns + members set n * debt m
+  pub owed-nodes_told : (carrying : Carrying K) (set : CoreSet) (m : FromHome R) (k : K) (n : ℕ) (ns : List (Node R K)) → n ≤ length ns →
+      sum_by owed (nodes_told carrying set m k n ns) ≡ sum_by owed ns + members set n * debt m
   owed-nodes_told carrying set m k zero ns within = omega arith
   owed-nodes_told carrying set m k (suc n) ns within =
       let long : n < length (nodes_told carrying set m k n ns) = rw (length-told carrying set m k n ns) (omega arith) in
       let ih = owed-nodes_told carrying set m k n ns (omega arith) in
-      more carrying (has set n) (nodes_told carrying set m k n ns) n m k (sum_by owed ns + members set n * debt m) long ih ∙ spread (members set n) (cond (has set n) 1 0) (debt m) (sum_by owed ns)
+      more carrying (has set n) (nodes_told carrying set m k n ns) n m k (sum_by owed ns + members set n * debt m) long ih
+      ∙ spread (members set n) (cond (has set n) 1 0) (debt m) (sum_by owed ns)
     where
       spread : (a b c t : ℕ) → t + a * c + b * c ≡ t + (a + b) * c
       spread a b c t = grind arith

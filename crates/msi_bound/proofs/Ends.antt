@@ -1,5 +1,6 @@
 -- A run ends, and the instructions that retired in it have paid for its steps.
-use Rattle.std.proofs.Common.{◌≡◌, ◌∙◌, ap, refl, sym, ℕ, ◌+◌, ◌*◌, ◌<◌, ◌≤◌, ◌^◌, Bool, true, false, ◌&&◌, List, [], ◌∷◌, length, Option, Some, None, zero, suc, arith, inl, inr}
+use Rattle.std.proofs.Common.{◌≡◌, ◌∙◌, ap, refl, sym, ℕ, ◌+◌, ◌*◌, ◌<◌, ◌≤◌, ◌^◌, Bool, true, false, ◌&&◌, List, [], ◌∷◌, length, Option, Some, None, zero}
+use Rattle.std.proofs.Common.{suc, arith, inl, inr}
 use Rattle.std.specs.Prelude.{if◌then◌else◌, map}
 use Rattle.std.specs.List.{sum_by, list_all, range_with_len}
 use Rattle.std.proofs.Math.Nat.{mul-add}
@@ -41,7 +42,8 @@ first_is : (n : ℕ) (test : ℕ → Bool) (t : ℕ) → IsFirst n test t (first
 first_is zero test t = record { from = omega arith; within = omega arith; before = λ v past lt. absurd (omega arith); found = λ lt. absurd (omega arith) }
 first_is (suc n) test t = by_test (test t) refl (first_is n test (t + 1))
   where
-    by_test : (b : Bool) → test t ≡ b → IsFirst n test (t + 1) (first_among n test (t + 1)) → IsFirst (suc n) test t (if b then t else first_among n test (t + 1))
+    by_test : (b : Bool) → test t ≡ b → IsFirst n test (t + 1) (first_among n test (t + 1)) →
+        IsFirst (suc n) test t (if b then t else first_among n test (t + 1))
     by_test true e rest = record { from = omega arith; within = omega arith; before = λ v past lt. absurd (omega arith); found = λ lt. e }
     by_test false e rest =
         record {
@@ -61,25 +63,29 @@ module _ {R K : Type 0} where
       let rest = owed_start riding carrying limit ids in
       sum_by-cons owed (node_start riding carrying limit id) (map (node_start riding carrying limit) ids) ∙ (rw rest refl)
 
-  capacity_start : (riding : Riding R) (carrying : Carrying K) (limit cores : ℕ) (ids : List ℕ) → sum_by (capacity cores) (map (node_start riding carrying limit) ids) ≡ (2 * cores + 4) * (length ids * limit)
+  capacity_start : (riding : Riding R) (carrying : Carrying K) (limit cores : ℕ) (ids : List ℕ) →
+      sum_by (capacity cores) (map (node_start riding carrying limit) ids) ≡ (2 * cores + 4) * (length ids * limit)
   capacity_start riding carrying limit cores [] = omega arith
   capacity_start riding carrying limit cores (id ∷ ids) =
       let first : capacity cores (node_start riding carrying limit id) ≡ (2 * cores + 4) * limit = ap (λ (x : ℕ). (2 * cores + 4) * x) (start_law id limit).1 in
       let rest = capacity_start riding carrying limit cores ids in
-      sum_by-cons (capacity cores) (node_start riding carrying limit id) (map (node_start riding carrying limit) ids) ∙ (rw (first, rest) (one_more (2 * cores + 4) limit (length ids)))
+      sum_by-cons (capacity cores) (node_start riding carrying limit id) (map (node_start riding carrying limit) ids)
+      ∙ (rw (first, rest) (one_more (2 * cores + 4) limit (length ids)))
     where
       one_more : (x y n : ℕ) → x * y + x * (n * y) ≡ x * (suc n * y)
       one_more x y n = grind arith
 
   -- a core whose program is done has paid with the instructions that retired
-  pub done_earned : (image : Contents) (riding : Riding R) (cores : ℕ) (ns : List (Node R K)) → list_all (λ (n : Node R K). is_done (need image n.core)) ns ≡ true → sum_by (earned image riding cores) ns ≡ (2 * cores + 4) * sum_by (λ (n : Node R K). n.core.count) ns
+  pub done_earned : (image : Contents) (riding : Riding R) (cores : ℕ) (ns : List (Node R K)) → list_all (λ (n : Node R K). is_done (need image n.core)) ns
+      ≡ true → sum_by (earned image riding cores) ns ≡ (2 * cores + 4) * sum_by (λ (n : Node R K). n.core.count) ns
   done_earned image riding cores [] is = omega arith
   done_earned image riding cores (n ∷ ns) is =
       let here = both (is_done (need image n.core)) (list_all (λ (n : Node R K). is_done (need image n.core)) ns) is in
       let base = done_base (need image n.core) riding cores n here.0 in
       let first : earned image riding cores n ≡ (2 * cores + 4) * n.core.count = omega arith in
       let rest = done_earned image riding cores ns here.1 in
-      rw (sum_by-cons (earned image riding cores) n ns, sum_by-cons (λ (n : Node R K). n.core.count) n ns, first, rest) (sym (mul-add (2 * cores + 4) n.core.count (sum_by (λ (n : Node R K). n.core.count) ns)))
+      rw (sum_by-cons (earned image riding cores) n ns, sum_by-cons (λ (n : Node R K). n.core.count) n ns, first, rest)
+      (sym (mul-add (2 * cores + 4) n.core.count (sum_by (λ (n : Node R K). n.core.count) ns)))
     where
       both : (a b : Bool) → (a && b) ≡ true → (a ≡ true) × (b ≡ true)
       both true b e = (refl, e)
@@ -105,11 +111,13 @@ pub run_sound : (image : Contents) (params : Params) (choices : ℕ → ℕ) (t 
 run_sound image params choices t fits = sound_run image params choices t fits.cores fits.limit
 
 -- the steps so far are paid for
-steps_paid : (image : Contents) (params : Params) (choices : ℕ → ℕ) (t : ℕ) → InRange params → NotBefore image params choices t → t + total_owed (run image params choices t) ≤ total_earned none_riding (run image params choices t)
+steps_paid : (image : Contents) (params : Params) (choices : ℕ → ℕ) (t : ℕ) → InRange params → NotBefore image params choices t →
+    t + total_owed (run image params choices t) ≤ total_earned none_riding (run image params choices t)
 steps_paid image params choices zero fits more =
     let none : total_owed (opening_state image params) ≡ 0 = owed_start none_riding none_carrying params.limit (range_with_len 0 params.cores) in
     omega arith
-steps_paid image params choices (suc t) fits more = stepped (chosen s (choices t)) refl (more t (omega arith)) (steps_paid image params choices t fits (λ u lt. more u (omega arith)))
+steps_paid image params choices (suc t) fits more =
+    stepped (chosen s (choices t)) refl (more t (omega arith)) (steps_paid image params choices t fits (λ u lt. more u (omega arith)))
   where
     s : PlainState
     s = run image params choices t
@@ -117,7 +125,8 @@ steps_paid image params choices (suc t) fits more = stepped (chosen s (choices t
     h : Sound none_riding none_carrying s
     h = run_sound image params choices t fits
 
-    stepped : (o : Option Move) → chosen s (choices t) ≡ o → all_done s ≡ false → t + total_owed s ≤ total_earned none_riding s → suc t + total_owed (stepped_by s o) ≤ total_earned none_riding (stepped_by s o)
+    stepped : (o : Option Move) → chosen s (choices t) ≡ o → all_done s ≡ false → t + total_owed s ≤ total_earned none_riding s →
+        suc t + total_owed (stepped_by s o) ≤ total_earned none_riding (stepped_by s o)
     stepped None e more paid = chosen_none (plain_moves s) (choices t) (some_move none_riding none_carrying s h more) e
     stepped (Some m) e more paid = let pays = earns none_riding none_carrying s m tt (chosen_enabled s (choices t) m e) h in omega arith
 
@@ -126,31 +135,40 @@ run_cores : (image : Contents) (params : Params) (choices : ℕ → ℕ) (t : �
 run_cores image params choices zero = length-map-range_with_len (node_start none_riding none_carrying params.limit) 0 params.cores
 run_cores image params choices (suc t) = stepped (chosen (run image params choices t) (choices t)) (run_cores image params choices t)
   where
-    stepped : (o : Option Move) → length (run image params choices t).nodes ≡ params.cores → length (stepped_by (run image params choices t) o).nodes ≡ params.cores
+    stepped : (o : Option Move) → length (run image params choices t).nodes ≡ params.cores → length (stepped_by (run image params choices t) o).nodes
+        ≡ params.cores
     stepped None e = e
     stepped (Some m) e = cores_kept none_riding none_carrying (run image params choices t) m tt ∙ e
 
-run_capacity : (image : Contents) (params : Params) (choices : ℕ → ℕ) (t : ℕ) → InRange params → sum_by (capacity params.cores) (run image params choices t).nodes ≡ most_steps params
+run_capacity : (image : Contents) (params : Params) (choices : ℕ → ℕ) (t : ℕ) → InRange params →
+    sum_by (capacity params.cores) (run image params choices t).nodes ≡ most_steps params
 run_capacity image params choices zero fits =
     let many : length (range_with_len 0 params.cores) ≡ params.cores = length-range_with_len 0 params.cores in
-    capacity_start none_riding none_carrying params.limit params.cores (range_with_len 0 params.cores) ∙ ap (λ (n : ℕ). (2 * params.cores + 4) * (n * params.limit)) many
+    capacity_start none_riding none_carrying params.limit params.cores (range_with_len 0 params.cores)
+    ∙ ap (λ (n : ℕ). (2 * params.cores + 4) * (n * params.limit)) many
 run_capacity image params choices (suc t) fits = stepped (chosen (run image params choices t) (choices t)) refl (run_capacity image params choices t fits)
   where
-    stepped : (o : Option Move) → chosen (run image params choices t) (choices t) ≡ o → sum_by (capacity params.cores) (run image params choices t).nodes ≡ most_steps params → sum_by (capacity params.cores) (stepped_by (run image params choices t) o).nodes ≡ most_steps params
+    stepped : (o : Option Move) → chosen (run image params choices t) (choices t) ≡ o → sum_by (capacity params.cores) (run image params choices t).nodes
+        ≡ most_steps params → sum_by (capacity params.cores) (stepped_by (run image params choices t) o).nodes ≡ most_steps params
     stepped None is e = e
-    stepped (Some m) is e = capacity_kept none_riding none_carrying (run image params choices t) m tt params.cores (chosen_enabled (run image params choices t) (choices t) m is) (run_sound image params choices t fits) ∙ e
+    stepped (Some m) is e =
+        capacity_kept none_riding none_carrying (run image params choices t) m tt params.cores (chosen_enabled (run image params choices t) (choices t) m is)
+        (run_sound image params choices t fits) ∙ e
 
 -- what all instructions can pay for, of the state's own number of cores
-capacity_is : (image : Contents) (params : Params) (choices : ℕ → ℕ) (t : ℕ) → InRange params → sum_by (capacity (length (run image params choices t).nodes)) (run image params choices t).nodes ≡ most_steps params
+capacity_is : (image : Contents) (params : Params) (choices : ℕ → ℕ) (t : ℕ) → InRange params →
+    sum_by (capacity (length (run image params choices t).nodes)) (run image params choices t).nodes ≡ most_steps params
 capacity_is image params choices t fits =
     ap (λ (cores : ℕ). sum_by (capacity cores) (run image params choices t).nodes) (run_cores image params choices t) ∙ run_capacity image params choices t fits
 
 -- the steps so far and those that are left are at most what all instructions can pay for
-left_within : (image : Contents) (params : Params) (choices : ℕ → ℕ) (t : ℕ) → InRange params → NotBefore image params choices t → t + left none_riding (run image params choices t) ≤ most_steps params
+left_within : (image : Contents) (params : Params) (choices : ℕ → ℕ) (t : ℕ) → InRange params → NotBefore image params choices t →
+    t + left none_riding (run image params choices t) ≤ most_steps params
 left_within image params choices t fits more =
     let s : PlainState = run image params choices t in
     let paid : t + total_owed s ≤ total_earned none_riding s = steps_paid image params choices t fits more in
-    let earned_at_most : total_earned none_riding s ≤ sum_by (capacity (length s.nodes)) s.nodes = total_earned_le none_riding none_carrying s (run_sound image params choices t fits) in
+    let earned_at_most : total_earned none_riding s ≤ sum_by (capacity (length s.nodes)) s.nodes =
+    total_earned_le none_riding none_carrying s (run_sound image params choices t fits) in
     let all : sum_by (capacity (length s.nodes)) s.nodes ≡ most_steps params = capacity_is image params choices t fits in
     omega arith
 
@@ -160,7 +178,8 @@ all_earned s done = done_earned s.image none_riding (length s.nodes) s.nodes don
 
 -- ---- the end
 
-found : (image : Contents) (params : Params) (choices : ℕ → ℕ) → IsFirst (most_steps params) (λ t. all_done (run image params choices t)) 0 (end_of image params choices)
+found : (image : Contents) (params : Params) (choices : ℕ → ℕ) →
+    IsFirst (most_steps params) (λ t. all_done (run image params choices t)) 0 (end_of image params choices)
 unfolding end_of
 found image params choices = first_is (most_steps params) (λ t. all_done (run image params choices t)) 0
 
@@ -182,7 +201,8 @@ end_done image params choices fits = by_test (all_done (run image params choices
     by_test : (b : Bool) → all_done (run image params choices e) ≡ b → all_done (run image params choices e) ≡ true
     by_test true is = is
     by_test false is =
-        let le : suc e + left none_riding (run image params choices (suc e)) ≤ most_steps params = left_within image params choices (suc e) fits (still_more is) in
+        let le : suc e + left none_riding (run image params choices (suc e)) ≤ most_steps params =
+        left_within image params choices (suc e) fits (still_more is) in
         (found image params choices).found (omega arith)
 
 pub run_ends : (image : Contents) (params : Params) (choices : ℕ → ℕ) → InRange params → IsRunEnd image params choices (end_of image params choices)
@@ -192,26 +212,32 @@ run_ends image params choices fits = record { done = end_done image params choic
 ends_alike : (image : Contents) (params : Params) (choices : ℕ → ℕ) (t u : ℕ) → IsRunEnd image params choices t → IsRunEnd image params choices u → t ≤ u
 ends_alike image params choices t u one other = elim (le_or_lt t u) [ inl le ↦ le | inr lt ↦ absurd (let more = one.first u lt in let done = other.done in cc) ]
 
-pub one_end : (image : Contents) (params : Params) (choices : ℕ → ℕ) (t : ℕ) → InRange params → IsRunEnd image params choices t → t ≡ end_of image params choices
+pub one_end : (image : Contents) (params : Params) (choices : ℕ → ℕ) (t : ℕ) → InRange params → IsRunEnd image params choices t →
+    t ≡ end_of image params choices
 one_end image params choices t fits end =
     let it = run_ends image params choices fits in
     let le = ends_alike image params choices t (end_of image params choices) end it in
     let ge = ends_alike image params choices (end_of image params choices) t it end in
     omega arith
 
-pub end_in_time : (image : Contents) (params : Params) (choices : ℕ → ℕ) → InRange params → end_of image params choices ≤ (2 * params.cores + 4) * total_retired (run image params choices (end_of image params choices))
+pub end_in_time : (image : Contents) (params : Params) (choices : ℕ → ℕ) → InRange params →
+    end_of image params choices ≤ (2 * params.cores + 4) * total_retired (run image params choices (end_of image params choices))
 end_in_time image params choices fits =
     let e : ℕ = end_of image params choices in
     let s : PlainState = run image params choices e in
     let paid : e + total_owed s ≤ total_earned none_riding s = steps_paid image params choices e fits (end_first image params choices) in
-    let all : total_earned none_riding s ≡ (2 * params.cores + 4) * total_retired s = all_earned s (end_done image params choices fits) ∙ ap (λ (cores : ℕ). (2 * cores + 4) * total_retired s) (run_cores image params choices e) in
+    let all : total_earned none_riding s ≡ (2 * params.cores + 4) * total_retired s = all_earned s (end_done image params choices fits)
+    ∙ ap (λ (cores : ℕ). (2 * cores + 4) * total_retired s) (run_cores image params choices e) in
     omega arith
 
-pub left_until_end : (image : Contents) (params : Params) (choices : ℕ → ℕ) (t : ℕ) → InRange params → t ≤ end_of image params choices → t + left none_riding (run image params choices t) ≤ most_steps params
+pub left_until_end : (image : Contents) (params : Params) (choices : ℕ → ℕ) (t : ℕ) → InRange params → t ≤ end_of image params choices →
+    t + left none_riding (run image params choices t) ≤ most_steps params
 left_until_end image params choices t fits le = left_within image params choices t fits (λ u lt. end_first image params choices u (omega arith))
 
 pub most_steps_few : (params : Params) → Fits params → most_steps params < 2 ^ 32
 most_steps_few params fits =
     let instructions : params.cores * params.limit ≤ CORES_MAX * LIMIT_MAX = mul-le params.cores params.limit CORES_MAX LIMIT_MAX fits.cores fits.limit in
-    let steps : most_steps params ≤ (2 * CORES_MAX + 4) * (CORES_MAX * LIMIT_MAX) = mul-le (2 * params.cores + 4) (params.cores * params.limit) (2 * CORES_MAX + 4) (CORES_MAX * LIMIT_MAX) (let few = fits.cores in omega arith) instructions in
+    let steps : most_steps params ≤ (2 * CORES_MAX + 4) * (CORES_MAX * LIMIT_MAX) =
+    mul-le (2 * params.cores + 4) (params.cores * params.limit) (2 * CORES_MAX + 4) (CORES_MAX * LIMIT_MAX) (let few = fits.cores in
+    omega arith) instructions in
     omega arith

@@ -16,13 +16,15 @@ module _ {R : Type 0} where
   pub plain_line_for : (fresh : R) (lines : List (Line R)) (block : ℕ) → line_for tt (plain_lines lines) block ≡ plain_line (line_for fresh lines block)
   plain_line_for fresh lines block = get_or-map plain_line lines (block % LINES) (empty_line fresh)
 
-  pub plain_lines_with : (lines : List (Line R)) (block : ℕ) (line : Line R) → plain_lines (lines_with lines block line) ≡ lines_with (plain_lines lines) block (plain_line line)
+  pub plain_lines_with : (lines : List (Line R)) (block : ℕ) (line : Line R) → plain_lines (lines_with lines block line)
+      ≡ lines_with (plain_lines lines) block (plain_line line)
   plain_lines_with lines block line = map-set plain_line lines (block % LINES) line
 
   pub plain_block : (m : FromHome R) → block_of (plain_message m) ≡ block_of m
   plain_block m = search rules
 
-  pub plain_line_after : (riding : Riding R) (line : Line R) (m : FromHome R) → plain_line (line_after riding.absorbed line m) ≡ line_after none_riding.absorbed (plain_line line) (plain_message m)
+  pub plain_line_after : (riding : Riding R) (line : Line R) (m : FromHome R) → plain_line (line_after riding.absorbed line m)
+      ≡ line_after none_riding.absorbed (plain_line line) (plain_message m)
   plain_line_after riding line m = search rules
 
   pub plain_row : (line : Line R) (m : FromHome R) → has_row line m ≡ has_row (plain_line line) (plain_message m)
@@ -45,7 +47,12 @@ module _ {R : Type 0} where
   plain_on_home riding lines m = record {
     same_line = rw (plain_line_for riding.fresh lines (block_of m));
     same_row = rw (plain_line_for riding.fresh lines (block_of m)) (plain_row (line_for riding.fresh lines (block_of m)) m);
-    same_lines = rw (plain_lines_with lines (block_of m) (line_after riding.absorbed (line_for riding.fresh lines (block_of m)) m), plain_block m, plain_line_for riding.fresh lines (block_of m), plain_line_after riding (line_for riding.fresh lines (block_of m)) m);
+    same_lines = rw (
+      plain_lines_with lines (block_of m) (line_after riding.absorbed (line_for riding.fresh lines (block_of m)) m),
+      plain_block m,
+      plain_line_for riding.fresh lines (block_of m),
+      plain_line_after riding (line_for riding.fresh lines (block_of m)) m,
+    );
     same_answer = rw (plain_line_for riding.fresh lines (block_of m)) (plain_answers (line_for riding.fresh lines (block_of m)) m);
   }
 
@@ -53,7 +60,11 @@ module _ {R : Type 0} where
   plain_want riding lines block kind = record {
     same_waits = plain_waits lines;
     same_allowed = rw (plain_line_for riding.fresh lines block);
-    same_lines = rw (plain_lines_with lines block (line_asking (line_for riding.fresh lines block) block kind), plain_line_for riding.fresh lines block, plain_line_asking (line_for riding.fresh lines block) block kind);
+    same_lines = rw (
+      plain_lines_with lines block (line_asking (line_for riding.fresh lines block) block kind),
+      plain_line_for riding.fresh lines block,
+      plain_line_asking (line_for riding.fresh lines block) block kind,
+    );
     same_asks = rw (plain_line_for riding.fresh lines block) (plain_asks (line_for riding.fresh lines block) block kind);
   }
 

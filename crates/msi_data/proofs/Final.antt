@@ -30,14 +30,17 @@ use Rattle.msi_sound.specs.Views.{node_view, block_in}
 use Rattle.msi_sound.proofs.Blocks.{there, past_view, le_or_lt}
 
 module _ {R K : Type 0} where
-  nothing_shown : (b : ℕ) (requests : List (Mail (Request R) K)) (responses : List (Mail (Response R) K)) (messages : List (Mail (FromHome R) K)) → (is_nil requests && (is_nil responses && is_nil messages)) ≡ true → (is_nil (asks_of b requests) && is_nil (replies_of b responses) && is_nil (signals_of b messages)) ≡ true
+  nothing_shown : (b : ℕ) (requests : List (Mail (Request R) K)) (responses : List (Mail (Response R) K)) (messages : List (Mail (FromHome R) K)) →
+      (is_nil requests && (is_nil responses && is_nil messages)) ≡ true →
+      (is_nil (asks_of b requests) && is_nil (replies_of b responses) && is_nil (signals_of b messages)) ≡ true
   nothing_shown b [] [] [] e = refl
   nothing_shown b [] [] (x ∷ xs) e = absurd (cc)
   nothing_shown b [] (x ∷ xs) messages e = absurd (cc)
   nothing_shown b (x ∷ xs) responses messages e = absurd (cc)
 
   -- where no link holds anything, nothing of a block is under way
-  pub all_quiet : (riding : Riding R) (carrying : Carrying K) (s : State R K) (b d : ℕ) → links_empty s ≡ true → is_quiet (node_view riding b (node_at carrying s.nodes d)) ≡ true
+  pub all_quiet : (riding : Riding R) (carrying : Carrying K) (s : State R K) (b d : ℕ) → links_empty s ≡ true →
+      is_quiet (node_view riding b (node_at carrying s.nodes d)) ≡ true
   all_quiet riding carrying s b d empty = by_place (le_or_lt (length s.nodes) d)
     where
       by_place : (length s.nodes ≤ d) ⊎ (d < length s.nodes) → is_quiet (node_view riding b (node_at carrying s.nodes d)) ≡ true
@@ -46,7 +49,8 @@ module _ {R K : Type 0} where
           let n : Node R K = node_at carrying s.nodes d in
           nothing_shown b n.requests.items n.responses.items n.messages.items (AllPass-from_list_all are_links_empty s.nodes empty d (no_node carrying) within)
 
-  pub final_current : (riding : Riding R) (carrying : Carrying K) (s : State R K) (memory : ℕ → List ℕ) → Sound riding carrying s → links_empty s ≡ true → Coherent riding carrying s memory → (b : ℕ) → final_words riding carrying s b ≡ memory b
+  pub final_current : (riding : Riding R) (carrying : Carrying K) (s : State R K) (memory : ℕ → List ℕ) → Sound riding carrying s → links_empty s ≡ true →
+      Coherent riding carrying s memory → (b : ℕ) → final_words riding carrying s b ≡ memory b
   final_current riding carrying s memory h empty k b = by_stage (entry_at riding.fresh s.home b).stage refl
     where
       agrees : Agrees (block_in riding carrying s b)
@@ -55,11 +59,16 @@ module _ {R K : Type 0} where
       by_stage : (stage : Stage) → (entry_at riding.fresh s.home b).stage ≡ stage → final_in stage riding carrying s b ≡ memory b
       by_stage Unshared e = (k b).home (ap home_counts e)
       by_stage (Shared by) e = (k b).home (ap home_counts e)
-      by_stage (Acks awaited requester) e = absurd (let busy : is_free (entry_at riding.fresh s.home b).stage ≡ false = ap is_free e in let free = agrees.free in cc)
-      by_stage (Data giver requester share) e = absurd (let busy : is_free (entry_at riding.fresh s.home b).stage ≡ false = ap is_free e in let free = agrees.free in cc)
+      by_stage (Acks awaited requester) e =
+          absurd (let busy : is_free (entry_at riding.fresh s.home b).stage ≡ false = ap is_free e in let free = agrees.free in cc)
+      by_stage (Data giver requester share) e =
+          absurd (let busy : is_free (entry_at riding.fresh s.home b).stage ≡ false = ap is_free e in let free = agrees.free in cc)
       by_stage (Owned owner) e =
           let within : owner < CORES_MAX = subst StageFits e (h.blocks b).fits in
-          let owns : role (entry_at riding.fresh s.home b).stage owner ≡ Owner = ap (λ (x : Stage). role x owner) e ∙ ap (λ (t : Bool). if t then Owner else Out) (eq-eqb owner owner refl) in
-          let lc : owner < length s.nodes = there riding carrying s.nodes (entry_at riding.fresh s.home b).stage b owner ((h.blocks b).stands owner within) (λ (z : role (entry_at riding.fresh s.home b).stage owner ≡ Out). cc) in
+          let owns : role (entry_at riding.fresh s.home b).stage owner ≡ Owner =
+          ap (λ (x : Stage). role x owner) e ∙ ap (λ (t : Bool). if t then Owner else Out) (eq-eqb owner owner refl) in
+          let lc : owner < length s.nodes =
+          there riding carrying s.nodes (entry_at riding.fresh s.home b).stage b owner ((h.blocks b).stands owner within)
+          (λ (z : role (entry_at riding.fresh s.home b).stage owner ≡ Out). cc) in
           let line : line_state b (line_for riding.fresh (node_at carrying s.nodes owner).cache b) ≡ M = agrees.lines owner within ∙ ap settled owns in
           ((k b).nodes owner lc).line (ap (λ (x : LineState). line_current x (signals_of b (node_at carrying s.nodes owner).messages.items)) line)

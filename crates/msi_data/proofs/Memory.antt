@@ -23,21 +23,31 @@ written_fits a kind memory h b = by_test (is_write kind && (b == a.word / BLOCK_
     by_test true = length-set (memory b) (a.word % BLOCK_WORDS) a.after ∙ h b
     by_test false = h b
 
-written_word : (a : Access) (kind : Kind) (memory : ℕ → List ℕ) → WordsFit memory → (word : ℕ) → word_of (accessed kind a memory) word ≡ (if is_write kind && (a.word == word) then a.after else word_of memory word)
+written_word : (a : Access) (kind : Kind) (memory : ℕ → List ℕ) → WordsFit memory → (word : ℕ) → word_of (accessed kind a memory) word
+    ≡ (if is_write kind && (a.word == word) then a.after else word_of memory word)
 written_word a kind memory h word = by_write (is_write kind)
   where
-    by_test : (t : Bool) → (word / BLOCK_WORDS == a.word / BLOCK_WORDS) ≡ t → slice_index (if t then slice_set (memory (word / BLOCK_WORDS)) (a.word % BLOCK_WORDS) a.after else memory (word / BLOCK_WORDS)) (word % BLOCK_WORDS) ≡ (if a.word == word then a.after else word_of memory word)
+    by_test : (t : Bool) → (word / BLOCK_WORDS == a.word / BLOCK_WORDS) ≡ t →
+        slice_index (if t then slice_set (memory (word / BLOCK_WORDS)) (a.word % BLOCK_WORDS) a.after else memory (word / BLOCK_WORDS)) (word % BLOCK_WORDS)
+        ≡ (if a.word == word then a.after else word_of memory word)
     by_test true e =
         let block : word / BLOCK_WORDS ≡ a.word / BLOCK_WORDS = grind (arith, nat_tests) in
-        let same : (word % BLOCK_WORDS ≡ a.word % BLOCK_WORDS) → word ≡ a.word = λ (r : word % BLOCK_WORDS ≡ a.word % BLOCK_WORDS). same_place word a.word block r in
-        set_word (memory (word / BLOCK_WORDS)) (a.word % BLOCK_WORDS) (word % BLOCK_WORDS) a.after (h (word / BLOCK_WORDS)) (omega arith) ∙ by_slot (word % BLOCK_WORDS == a.word % BLOCK_WORDS) refl same
+        let same : (word % BLOCK_WORDS ≡ a.word % BLOCK_WORDS) → word ≡ a.word =
+        λ (r : word % BLOCK_WORDS ≡ a.word % BLOCK_WORDS). same_place word a.word block r in
+        set_word (memory (word / BLOCK_WORDS)) (a.word % BLOCK_WORDS) (word % BLOCK_WORDS) a.after (h (word / BLOCK_WORDS)) (omega arith)
+        ∙ by_slot (word % BLOCK_WORDS == a.word % BLOCK_WORDS) refl same
       where
-        by_slot : (u : Bool) → (word % BLOCK_WORDS == a.word % BLOCK_WORDS) ≡ u → (word % BLOCK_WORDS ≡ a.word % BLOCK_WORDS → word ≡ a.word) → (if u then a.after else word_of memory word) ≡ (if a.word == word then a.after else word_of memory word)
-        by_slot true f same = let at : (a.word == word) ≡ true = let w : word ≡ a.word = same (grind (arith, nat_tests)) in grind (arith, nat_tests) in rw at refl
+        by_slot : (u : Bool) → (word % BLOCK_WORDS == a.word % BLOCK_WORDS) ≡ u → (word % BLOCK_WORDS ≡ a.word % BLOCK_WORDS → word ≡ a.word) →
+            (if u then a.after else word_of memory word) ≡ (if a.word == word then a.after else word_of memory word)
+        by_slot true f same = let at : (a.word == word) ≡ true = let w : word ≡ a.word = same (grind (arith, nat_tests)) in grind (arith, nat_tests) in
+            rw at refl
         by_slot false f same = let at : (a.word == word) ≡ false = grind (arith, nat_tests) in rw at refl
     by_test false e = let at : (a.word == word) ≡ false = grind (arith, nat_tests) in rw at refl
 
-    by_write : (t : Bool) → slice_index (if t && (word / BLOCK_WORDS == a.word / BLOCK_WORDS) then slice_set (memory (word / BLOCK_WORDS)) (a.word % BLOCK_WORDS) a.after else memory (word / BLOCK_WORDS)) (word % BLOCK_WORDS) ≡ (if t && (a.word == word) then a.after else word_of memory word)
+    by_write : (t : Bool) →
+        slice_index (if t && (word / BLOCK_WORDS == a.word / BLOCK_WORDS) then slice_set (memory (word / BLOCK_WORDS))
+        (a.word % BLOCK_WORDS) a.after else memory (word / BLOCK_WORDS)) (word % BLOCK_WORDS)
+        ≡ (if t && (a.word == word) then a.after else word_of memory word)
     by_write true = by_test (word / BLOCK_WORDS == a.word / BLOCK_WORDS) refl
     by_write false = refl
 

@@ -1,5 +1,6 @@
 -- At the start the copies that count have what the image has.
-use Rattle.std.proofs.Common.{◌≡◌, ◌∙◌, ap, refl, sym, subst, ℕ, ◌+◌, ◌*◌, ◌<◌, ◌≤◌, ◌==◌, ◌%◌, ◌/◌, Bool, true, false, List, [], ◌∷◌, length, get_or, replicate, inl, inr, ◌⊎◌, arith, zero-add, zero, suc}
+use Rattle.std.proofs.Common.{◌≡◌, ◌∙◌, ap, refl, sym, subst, ℕ, ◌+◌, ◌*◌, ◌<◌, ◌≤◌, ◌==◌, ◌%◌, ◌/◌, Bool, true, false, List, [], ◌∷◌, length, get_or}
+use Rattle.std.proofs.Common.{replicate, inl, inr, ◌⊎◌, arith, zero-add, zero, suc}
 use Rattle.std.specs.Prelude.{if◌then◌else◌, slice_index}
 use Rattle.std.proofs.lemmas.List.{get_or-replicate, get_or_past}
 use Rattle.std.proofs.lemmas.List.FromFn.{length-map-range_with_len, get_or-map-range_with_len}
@@ -28,10 +29,14 @@ home_memory fresh image b = (entry_at fresh (opening_entries fresh image) b).wor
 module _ {R : Type 0} where
   -- a block of the home's is as the image has it
   home_within : (fresh : R) (image : Contents) (b : ℕ) → b < block_count image.words → home_memory fresh image b ≡ opening_memory image b
-  home_within fresh image b within = ap (λ (e : Entry R). e.words) (get_or-map-range_with_len (opening_entry fresh image) 0 (block_count image.words) b b (no_entry fresh) within (zero-add b))
+  home_within fresh image b within =
+      ap (λ (e : Entry R). e.words) (get_or-map-range_with_len (opening_entry fresh image) 0 (block_count image.words) b b (no_entry fresh) within (zero-add b))
 
   home_past : (fresh : R) (image : Contents) (b : ℕ) → block_count image.words ≤ b → home_memory fresh image b ≡ 0 ∷ 0 ∷ 0 ∷ 0 ∷ []
-  home_past fresh image b past = ap (λ (e : Entry R). e.words) (get_or_past (opening_entries fresh image) b (no_entry fresh) (subst (λ (n : ℕ). n ≤ b) (sym (openings_counted fresh image (block_count image.words))) past))
+  home_past fresh image b past =
+      ap (λ (e : Entry R). e.words)
+      (get_or_past (opening_entries fresh image) b (no_entry fresh)
+      (subst (λ (n : ℕ). n ≤ b) (sym (openings_counted fresh image (block_count image.words))) past))
 
   pub home_fits : (fresh : R) (image : Contents) → WordsFit (home_memory fresh image)
   home_fits fresh image b = by_place (le_or_lt (block_count image.words) b)
@@ -41,7 +46,8 @@ module _ {R : Type 0} where
       by_place (inr within) = ap (λ (words : List ℕ). length words) (home_within fresh image b within)
 
 -- the word at a slot of a block
-opening_slot : (image : Contents) (b slot word : ℕ) → slot < BLOCK_WORDS → word ≡ b * BLOCK_WORDS + slot → slice_index (opening_memory image b) slot ≡ opening_word image word
+opening_slot : (image : Contents) (b slot word : ℕ) → slot < BLOCK_WORDS → word ≡ b * BLOCK_WORDS + slot → slice_index (opening_memory image b) slot
+    ≡ opening_word image word
 opening_slot image b zero word lt is = ap (opening_word image) (omega arith)
 opening_slot image b (suc zero) word lt is = ap (opening_word image) (sym is)
 opening_slot image b (suc (suc zero)) word lt is = ap (opening_word image) (sym is)
@@ -57,7 +63,12 @@ opening_at fresh image word within =
 -- past the image's bytes the memory opens with 0
 opening_past : (image : Contents) (b : ℕ) → length image.bytes ≤ 4 * image.words → block_count image.words ≤ b → opening_memory image b ≡ 0 ∷ 0 ∷ 0 ∷ 0 ∷ []
 opening_past image b fits past =
-    rw (opening_word-past image (b * BLOCK_WORDS) (omega arith), opening_word-past image (b * BLOCK_WORDS + 1) (omega arith), opening_word-past image (b * BLOCK_WORDS + 2) (omega arith), opening_word-past image (b * BLOCK_WORDS + 3) (omega arith)) refl
+    rw (
+      opening_word-past image (b * BLOCK_WORDS) (omega arith),
+      opening_word-past image (b * BLOCK_WORDS + 1) (omega arith),
+      opening_word-past image (b * BLOCK_WORDS + 2) (omega arith),
+      opening_word-past image (b * BLOCK_WORDS + 3) (omega arith),
+    ) refl
 
 home_opens : {R : Type 0} (fresh : R) (image : Contents) (b : ℕ) → length image.bytes ≤ 4 * image.words → home_memory fresh image b ≡ opening_memory image b
 home_opens fresh image b fits = by_place (le_or_lt (block_count image.words) b)
@@ -70,7 +81,8 @@ module _ {R K : Type 0} where
   node_current : (riding : Riding R) (carrying : Carrying K) (limit c b : ℕ) (cur : List ℕ) → NodeCurrent riding b cur (node_start riding carrying limit c)
   node_current riding carrying limit c b cur =
       record {
-        line = λ e. absurd (let f : line_current (line_state b empty) [] ≡ true = ap (λ (l : Line R). line_current (line_state b l) []) (sym here) ∙ e in by_test (0 == b) f);
+        line = λ e. absurd (let f : line_current (line_state b empty) [] ≡ true = ap (λ (l : Line R). line_current (line_state b l) []) (sym here) ∙ e in
+            by_test (0 == b) f);
         sent = tt;
         replied = tt;
         put = λ e. tt;
@@ -87,14 +99,20 @@ module _ {R K : Type 0} where
       by_test false f = cc
 
   -- the home has the only copies
-  pub home_coherent : (riding : Riding R) (carrying : Carrying K) (image : Contents) (cores limit : ℕ) → Coherent riding carrying (state_start riding carrying image cores limit) (home_memory riding.fresh image)
+  pub home_coherent : (riding : Riding R) (carrying : Carrying K) (image : Contents) (cores limit : ℕ) →
+      Coherent riding carrying (state_start riding carrying image cores limit) (home_memory riding.fresh image)
   home_coherent riding carrying image cores limit b =
       record {
         home = λ e. refl;
-        nodes = λ d ld. subst (λ (n : Node R K). NodeCurrent riding b (home_memory riding.fresh image b) n) (sym (node_start_at riding carrying limit cores d (subst (λ (n : ℕ). d < n) (length-map-range_with_len (node_start riding carrying limit) 0 cores) ld))) (node_current riding carrying limit d b (home_memory riding.fresh image b));
+        nodes = λ d ld. subst (λ (n : Node R K). NodeCurrent riding b (home_memory riding.fresh image b) n)
+            (sym (node_start_at riding carrying limit cores d
+            (subst (λ (n : ℕ). d < n) (length-map-range_with_len (node_start riding carrying limit) 0 cores) ld)))
+            (node_current riding carrying limit d b (home_memory riding.fresh image b));
       }
 
   -- where the image's bytes lie within the memory, it is as the image has it
-  pub start_coherent : (riding : Riding R) (carrying : Carrying K) (image : Contents) (cores limit : ℕ) → length image.bytes ≤ 4 * image.words → Coherent riding carrying (state_start riding carrying image cores limit) (opening_memory image)
+  pub start_coherent : (riding : Riding R) (carrying : Carrying K) (image : Contents) (cores limit : ℕ) → length image.bytes ≤ 4 * image.words →
+      Coherent riding carrying (state_start riding carrying image cores limit) (opening_memory image)
   start_coherent riding carrying image cores limit fits b =
-      subst (λ (words : List ℕ). Current riding carrying (state_start riding carrying image cores limit) b words) (home_opens riding.fresh image b fits) (home_coherent riding carrying image cores limit b)
+      subst (λ (words : List ℕ). Current riding carrying (state_start riding carrying image cores limit) b words) (home_opens riding.fresh image b fits)
+      (home_coherent riding carrying image cores limit b)

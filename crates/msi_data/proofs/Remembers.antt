@@ -1,5 +1,6 @@
 -- A run's states are coherent with the memory of its accesses.
-use Rattle.std.proofs.Common.{◌≡◌, ◌∙◌, ap, refl, sym, subst, ℕ, ◌+◌, ◌<◌, ◌≤◌, ◌/◌, ◌%◌, ◌^◌, Bool, true, false, List, [], ◌∷◌, ◌++◌, Option, Some, None, zero, suc, arith}
+use Rattle.std.proofs.Common.{◌≡◌, ◌∙◌, ap, refl, sym, subst, ℕ, ◌+◌, ◌<◌, ◌≤◌, ◌/◌, ◌%◌, ◌^◌, Bool, true, false, List, [], ◌∷◌, ◌++◌, Option, Some, None, zero}
+use Rattle.std.proofs.Common.{suc, arith}
 use Rattle.std.specs.Prelude.{All, map, slice_index, if◌then◌else◌}
 use Rattle.std.specs.List.{range_with_len}
 use Rattle.access_times.specs.Riding.{Riding, Carrying, none_riding, none_carrying}
@@ -35,7 +36,8 @@ use Rattle.msi_data.proofs.Steps.{step_works}
 use Rattle.msi_data.proofs.Values.{Found, Honest, found_none, found_more}
 
 module _ {R K : Type 0} where
-  trying_honest : (image : Contents) (riding : Riding R) (n : Node R K) (word : ℕ) (kind : Kind) → word < image.words → (is_write kind ≡ false → (old : ℕ) → wrote image n.core old ≡ old) → Honest image.words (event_trying image riding n word kind)
+  trying_honest : (image : Contents) (riding : Riding R) (n : Node R K) (word : ℕ) (kind : Kind) → word < image.words →
+      (is_write kind ≡ false → (old : ℕ) → wrote image n.core old ≡ old) → Honest image.words (event_trying image riding n word kind)
   trying_honest image riding n word kind within reads = by_test (allows riding n word kind)
     where
       a : Access
@@ -45,13 +47,17 @@ module _ {R K : Type 0} where
       by_test true = (within, λ e. reads e a.before)
       by_test false = tt
 
-  working_honest : (image : Contents) (riding : Riding R) (n : Node R K) (used : Option (Kind × ℕ)) (done : Bool) → need_access (need image n.core) ≡ used → Honest image.words (event_working_in used done image riding n)
-  working_honest image riding n (Some (kind, word)) done is = trying_honest image riding n word kind (within_law image n.core kind word is) (λ reads old. unwritten_law image n.core kind word old is reads)
+  working_honest : (image : Contents) (riding : Riding R) (n : Node R K) (used : Option (Kind × ℕ)) (done : Bool) → need_access (need image n.core) ≡ used →
+      Honest image.words (event_working_in used done image riding n)
+  working_honest image riding n (Some (kind, word)) done is =
+      trying_honest image riding n word kind (within_law image n.core kind word is) (λ reads old. unwritten_law image n.core kind word old is reads)
   working_honest image riding n None true is = tt
   working_honest image riding n None false is = tt
 
   event_honest : (riding : Riding R) (carrying : Carrying K) (s : State R K) (m : Move) → Honest s.image.words (event riding carrying s m)
-  event_honest riding carrying s (CoreMove c) = working_honest s.image riding (node_at carrying s.nodes c) (need_access (need s.image (node_at carrying s.nodes c).core)) (is_done (need s.image (node_at carrying s.nodes c).core)) refl
+  event_honest riding carrying s (CoreMove c) =
+      working_honest s.image riding (node_at carrying s.nodes c) (need_access (need s.image (node_at carrying s.nodes c).core))
+      (is_done (need s.image (node_at carrying s.nodes c).core)) refl
   event_honest riding carrying s (RequestMove c) = tt
   event_honest riding carrying s (ResponseMove c) = tt
   event_honest riding carrying s (MessageMove c) = by_items (node_at carrying s.nodes c).messages.items
@@ -91,11 +97,15 @@ record Remembers (image : Contents) (s : PlainState) (memory : ℕ → List ℕ)
   coherent : Coherent none_riding none_carrying s memory
   found : Found image memory list
 
-remembers_stepped : (image : Contents) (s : PlainState) (memory : ℕ → List ℕ) (list : List Access) (taken : Option Move) → ((m : Move) → taken ≡ Some m → enabled none_riding none_carrying s m ≡ true) → Sound none_riding none_carrying s → Remembers image s memory list → Remembers image (stepped_by s taken) (memory_after (event_by s taken) memory) (list ++ accesses_in (event_by s taken))
-remembers_stepped image s memory list None is_enabled sound h = record { image_is = h.image_is; coherent = h.coherent; found = found_more image memory list Nothing h.found tt tt }
+remembers_stepped : (image : Contents) (s : PlainState) (memory : ℕ → List ℕ) (list : List Access) (taken : Option Move) →
+    ((m : Move) → taken ≡ Some m → enabled none_riding none_carrying s m ≡ true) → Sound none_riding none_carrying s → Remembers image s memory list →
+    Remembers image (stepped_by s taken) (memory_after (event_by s taken) memory) (list ++ accesses_in (event_by s taken))
+remembers_stepped image s memory list None is_enabled sound h =
+    record { image_is = h.image_is; coherent = h.coherent; found = found_more image memory list Nothing h.found tt tt }
 remembers_stepped image s memory list (Some m) is_enabled sound h =
     let works = step_works none_riding none_carrying s m tt memory (is_enabled m refl) sound h.coherent in
-    let honest : Honest image.words (event none_riding none_carrying s m) = subst (λ (x : Contents). Honest x.words (event none_riding none_carrying s m)) h.image_is (event_honest none_riding none_carrying s m) in
+    let honest : Honest image.words (event none_riding none_carrying s m) =
+    subst (λ (x : Contents). Honest x.words (event none_riding none_carrying s m)) h.image_is (event_honest none_riding none_carrying s m) in
     record {
       image_is = image_kept none_riding none_carrying s m tt ∙ h.image_is;
       coherent = works.coherent;
@@ -107,26 +117,35 @@ abbrev memory_at : Contents → Params → (ℕ → ℕ) → ℕ → ℕ → Lis
 memory_at image params choices zero = home_memory none_riding.fresh image
 memory_at image params choices (suc t) = memory_after (event_at image params choices t) (memory_at image params choices t)
 
-remembers : (image : Contents) (params : Params) (choices : ℕ → ℕ) (t : ℕ) → params.cores ≤ CORES_MAX → params.limit < 2 ^ 32 → Remembers image (run image params choices t) (memory_at image params choices t) (accesses image params choices t)
-remembers image params choices zero few small = record { image_is = refl; coherent = home_coherent none_riding none_carrying image params.cores params.limit; found = found_none none_riding.fresh image }
+remembers : (image : Contents) (params : Params) (choices : ℕ → ℕ) (t : ℕ) → params.cores ≤ CORES_MAX → params.limit < 2 ^ 32 →
+    Remembers image (run image params choices t) (memory_at image params choices t) (accesses image params choices t)
+remembers image params choices zero few small =
+    record { image_is = refl; coherent = home_coherent none_riding none_carrying image params.cores params.limit; found = found_none none_riding.fresh image }
 remembers image params choices (suc t) few small =
     let s : PlainState = run image params choices t in
-    remembers_stepped image s (memory_at image params choices t) (accesses image params choices t) (chosen s (choices t)) (λ m is. chosen_enabled s (choices t) m is) (sound_run image params choices t few small) (remembers image params choices t few small)
+    remembers_stepped image s (memory_at image params choices t) (accesses image params choices t) (chosen s (choices t))
+    (λ m is. chosen_enabled s (choices t) m is) (sound_run image params choices t few small) (remembers image params choices t few small)
 
 -- ---- of runs
 
-pub each_finds_last : (image : Contents) (params : Params) (choices : ℕ → ℕ) (t : ℕ) → params.cores ≤ CORES_MAX → params.limit < 2 ^ 32 → EachFindsLast image (accesses image params choices t)
+pub each_finds_last : (image : Contents) (params : Params) (choices : ℕ → ℕ) (t : ℕ) → params.cores ≤ CORES_MAX → params.limit < 2 ^ 32 →
+    EachFindsLast image (accesses image params choices t)
 each_finds_last image params choices t few small = (remembers image params choices t few small).found.found
 
-pub each_within : (image : Contents) (params : Params) (choices : ℕ → ℕ) (t : ℕ) → params.cores ≤ CORES_MAX → params.limit < 2 ^ 32 → All (λ a. a.word < image.words) (accesses image params choices t)
+pub each_within : (image : Contents) (params : Params) (choices : ℕ → ℕ) (t : ℕ) → params.cores ≤ CORES_MAX → params.limit < 2 ^ 32 →
+    All (λ a. a.word < image.words) (accesses image params choices t)
 each_within image params choices t few small = (remembers image params choices t few small).found.within
 
-pub final_value : (image : Contents) (params : Params) (choices : ℕ → ℕ) (t : ℕ) → params.cores ≤ CORES_MAX → params.limit < 2 ^ 32 → all_done (run image params choices t) ≡ true → (word : ℕ) → word < image.words → final_word none_riding none_carrying (run image params choices t) word ≡ last_value (opening_word image word) word (accesses image params choices t)
+pub final_value : (image : Contents) (params : Params) (choices : ℕ → ℕ) (t : ℕ) → params.cores ≤ CORES_MAX → params.limit < 2 ^ 32 →
+    all_done (run image params choices t) ≡ true → (word : ℕ) → word < image.words → final_word none_riding none_carrying (run image params choices t) word
+    ≡ last_value (opening_word image word) word (accesses image params choices t)
 final_value image params choices t few small done word within =
     let s : PlainState = run image params choices t in
     let sound = sound_run image params choices t few small in
     let h = remembers image params choices t few small in
-    ap (λ (words : List ℕ). slice_index words (word % BLOCK_WORDS)) (final_current none_riding none_carrying s (memory_at image params choices t) sound (links_left none_riding none_carrying s sound done) h.coherent (word / BLOCK_WORDS))
+    ap (λ (words : List ℕ). slice_index words (word % BLOCK_WORDS))
+    (final_current none_riding none_carrying s (memory_at image params choices t) sound (links_left none_riding none_carrying s sound done) h.coherent
+    (word / BLOCK_WORDS))
     ∙ h.found.values word within
 
 same_maps : (f g : ℕ → ℕ) (n : ℕ) → ((i : ℕ) → i < n → f i ≡ g i) → map f (range_with_len 0 n) ≡ map g (range_with_len 0 n)
@@ -135,10 +154,14 @@ same_maps f g (suc n) same =
     let shorter : map f (range_with_len 0 n) ≡ map g (range_with_len 0 n) = same_maps f g n (λ i lt. same i (omega arith)) in
     let last : f n ≡ g n = same n (omega arith) in
     let one_more : n + 1 ≡ suc n = omega arith in
-    subst (λ (k : ℕ). map f (range_with_len 0 k) ≡ map g (range_with_len 0 k)) one_more (map_range_more f n ∙ (rw (shorter, last) refl ∙ sym (map_range_more g n)))
+    subst (λ (k : ℕ). map f (range_with_len 0 k) ≡ map g (range_with_len 0 k)) one_more (map_range_more f n
+    ∙ (rw (shorter, last) refl ∙ sym (map_range_more g n)))
 
-pub final_values : (image : Contents) (params : Params) (choices : ℕ → ℕ) (t : ℕ) → params.cores ≤ CORES_MAX → params.limit < 2 ^ 32 → all_done (run image params choices t) ≡ true → final_memory none_riding none_carrying (run image params choices t) ≡ memory_left image (accesses image params choices t)
+pub final_values : (image : Contents) (params : Params) (choices : ℕ → ℕ) (t : ℕ) → params.cores ≤ CORES_MAX → params.limit < 2 ^ 32 →
+    all_done (run image params choices t) ≡ true → final_memory none_riding none_carrying (run image params choices t)
+    ≡ memory_left image (accesses image params choices t)
 final_values image params choices t few small done =
     let s : PlainState = run image params choices t in
     ap (λ (x : Contents). map (final_word none_riding none_carrying s) (range_with_len 0 x.words)) (remembers image params choices t few small).image_is
-    ∙ same_maps (final_word none_riding none_carrying s) (λ word. last_value (opening_word image word) word (accesses image params choices t)) image.words (final_value image params choices t few small done)
+    ∙ same_maps (final_word none_riding none_carrying s) (λ word. last_value (opening_word image word) word (accesses image params choices t)) image.words
+    (final_value image params choices t few small done)

@@ -14,7 +14,8 @@ use Rattle.msi_data.proofs.Memory.{last_write_found}
 use Rattle.msi_data.proofs.Opening.{home_memory, home_fits, opening_at}
 
 -- the last value with one access more
-pub last_value-snoc : (opening word : ℕ) (list : List Access) (a : Access) → last_value opening word (list ++ a ∷ []) ≡ (if a.word == word then a.after else last_value opening word list)
+pub last_value-snoc : (opening word : ℕ) (list : List Access) (a : Access) → last_value opening word (list ++ a ∷ [])
+    ≡ (if a.word == word then a.after else last_value opening word list)
 last_value-snoc opening word [] a = refl
 last_value-snoc opening word (b ∷ list) a = last_value-snoc (if b.word == word then b.after else opening) word list a
 
@@ -30,7 +31,8 @@ first_same x y xs ys is = grind arith
 rest_same : {X : Type 0} (x y : X) (xs ys : List X) → x ∷ xs ≡ y ∷ ys → xs ≡ ys
 rest_same x y xs ys is = grind arith
 
-split-snoc : {X : Type 0} (list earlier later : List X) (a x : X) → list ++ a ∷ [] ≡ earlier ++ x ∷ later → ((earlier ≡ list) × (x ≡ a)) ⊎ ((rest : List X) × (list ≡ earlier ++ x ∷ rest))
+split-snoc : {X : Type 0} (list earlier later : List X) (a x : X) → list ++ a ∷ [] ≡ earlier ++ x ∷ later → ((earlier ≡ list) × (x ≡ a))
+    ⊎ ((rest : List X) × (list ≡ earlier ++ x ∷ rest))
 split-snoc [] [] later a x is = inl (refl, sym (first_same a x [] later is))
 split-snoc [] (y ∷ earlier) later a x is = absurd (none_there earlier later x (rest_same a y [] (earlier ++ x ∷ later) is))
 split-snoc (z ∷ list) [] later a x is = inr (list, ap (λ w. w ∷ list) (first_same z x (list ++ a ∷ []) later is))
@@ -63,25 +65,30 @@ found_none fresh image =
       within = All-nil (λ a. a.word < image.words);
     }
 
-found_access : (image : Contents) (memory : ℕ → List ℕ) (list : List Access) (a : Access) → Found image memory list → a.before ≡ word_of memory a.word → a.word < image.words → (is_write a.kind ≡ false → a.after ≡ a.before) → Found image (memory_after (Accesses a) memory) (list ++ a ∷ [])
+found_access : (image : Contents) (memory : ℕ → List ℕ) (list : List Access) (a : Access) → Found image memory list → a.before ≡ word_of memory a.word →
+    a.word < image.words → (is_write a.kind ≡ false → a.after ≡ a.before) → Found image (memory_after (Accesses a) memory) (list ++ a ∷ [])
 found_access image memory list a h finds within reads =
     record {
       fits = (last_write_found (Accesses a) memory h.fits).0;
-      values = λ word lt. (last_write_found (Accesses a) memory h.fits).1 word ∙ (left word lt (is_write a.kind) (a.word == word) refl refl ∙ sym (last_value-snoc (opening_word image word) word list a));
+      values = λ word lt. (last_write_found (Accesses a) memory h.fits).1 word
+          ∙ (left word lt (is_write a.kind) (a.word == word) refl refl ∙ sym (last_value-snoc (opening_word image word) word list a));
       found = λ earlier later x is. elim (split-snoc list earlier later a x is) [
-        | inl p ↦ subst (λ (e : List Access). x.before ≡ last_value (opening_word image x.word) x.word e) (sym p.0) (subst (λ (y : Access). y.before ≡ last_value (opening_word image y.word) y.word list) (sym p.1) (finds ∙ h.values a.word within))
+        | inl p ↦ subst (λ (e : List Access). x.before ≡ last_value (opening_word image x.word) x.word e) (sym p.0)
+            (subst (λ (y : Access). y.before ≡ last_value (opening_word image y.word) y.word list) (sym p.1) (finds ∙ h.values a.word within))
         | inr p ↦ h.found earlier p.0 x p.1
       ];
       within = All-push (λ (x : Access). x.word < image.words) list a h.within within;
     }
   where
-    left : (word : ℕ) → word < image.words → (writes here : Bool) → is_write a.kind ≡ writes → (a.word == word) ≡ here → (if writes && here then a.after else word_of memory word) ≡ (if here then a.after else last_value (opening_word image word) word list)
+    left : (word : ℕ) → word < image.words → (writes here : Bool) → is_write a.kind ≡ writes → (a.word == word) ≡ here →
+        (if writes && here then a.after else word_of memory word) ≡ (if here then a.after else last_value (opening_word image word) word list)
     left word lt true true w e = refl
     left word lt true false w e = h.values word lt
     left word lt false true w e = ap (λ (x : ℕ). word_of memory x) (sym (eqb-true a.word word e)) ∙ (sym finds ∙ sym (reads w))
     left word lt false false w e = h.values word lt
 
-pub found_more : (image : Contents) (memory : ℕ → List ℕ) (list : List Access) (e : Event) → Found image memory list → Finds e memory → Honest image.words e → Found image (memory_after e memory) (list ++ accesses_in e)
+pub found_more : (image : Contents) (memory : ℕ → List ℕ) (list : List Access) (e : Event) → Found image memory list → Finds e memory → Honest image.words e →
+    Found image (memory_after e memory) (list ++ accesses_in e)
 found_more image memory list Nothing h finds honest = subst (λ (l : List Access). Found image memory l) (sym (append-nil list)) h
 found_more image memory list (Retires at) h finds honest = subst (λ (l : List Access). Found image memory l) (sym (append-nil list)) h
 found_more image memory list (Accesses a) h finds honest = found_access image memory list a h finds honest.0 honest.1

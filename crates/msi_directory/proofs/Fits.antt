@@ -53,7 +53,8 @@ chosen P false x y f g = g refl
 shared_fits : (s : CoreSet) → IsTrue (is_below s) → IsTrue (stage_fits (shared_by s))
 shared_fits s low = chosen (λ t. IsTrue (stage_fits t)) (is_none s) Unshared (Shared s) (λ e. refl) (λ e. fits_some s low e)
 
-left_fits : (left : CoreSet) (requester : ℕ) → IsTrue (is_below left) → IsTrue (core_fits requester) → is_none left ≡ false → IsTrue (stage_fits (Acks left requester))
+left_fits : (left : CoreSet) (requester : ℕ) → IsTrue (is_below left) → IsTrue (core_fits requester) → is_none left ≡ false →
+    IsTrue (stage_fits (Acks left requester))
 left_fits left requester low h e = both (set_fits left) (core_fits requester) (fits_some left low e) h
 
 own_fits : (others : CoreSet) (c : ℕ) → IsTrue (is_below others) → c < CORES_MAX → IsTrue (row_fits (own_from others c))
@@ -73,8 +74,10 @@ request_fits Unshared c Ask.PutS h fits = refl
 request_fits Unshared c Ask.PutM h fits = refl
 request_fits (Shared by) c Ask.GetS h fits = fits_with by c h (in_range by fits)
 request_fits (Shared by) c Ask.GetM h fits = own_fits (without_core by c) c (without_below by c (in_range by fits)) h
-request_fits (Shared by) c Ask.PutS h fits = chosen (λ r. IsTrue (row_fits r)) (has by c) _ _ (λ e. shared_fits (without_core by c) (without_below by c (in_range by fits))) (λ e. fits)
-request_fits (Shared by) c Ask.PutM h fits = chosen (λ r. IsTrue (row_fits r)) (has by c) _ _ (λ e. shared_fits (without_core by c) (without_below by c (in_range by fits))) (λ e. fits)
+request_fits (Shared by) c Ask.PutS h fits =
+    chosen (λ r. IsTrue (row_fits r)) (has by c) _ _ (λ e. shared_fits (without_core by c) (without_below by c (in_range by fits))) (λ e. fits)
+request_fits (Shared by) c Ask.PutM h fits =
+    chosen (λ r. IsTrue (row_fits r)) (has by c) _ _ (λ e. shared_fits (without_core by c) (without_below by c (in_range by fits))) (λ e. fits)
 request_fits (Owned owner) c Ask.GetS h fits = both (core_fits owner) (core_fits c) fits (core_below c h)
 request_fits (Owned owner) c Ask.GetM h fits = both (core_fits owner) (core_fits c) fits (core_below c h)
 request_fits (Owned owner) c Ask.PutS h fits = chosen (λ r. IsTrue (row_fits r)) (c == owner) _ _ (λ e. refl) (λ e. fits)
@@ -99,27 +102,41 @@ response_fits (Acks «of» requester) c Reply.OwnerData h fits = refl
 response_fits (Data «of» requester share) c Reply.InvAck h fits = refl
 
 module _ {R : Type 0} where
-  entry_by_fits : (absorbed : R → R → R) (row : Option HomeRow) (e : Entry R) (words : List ℕ) (rider : R) → IsTrue (row_fits row) → IsTrue (stage_fits e.stage) → IsTrue (stage_fits (entry_by absorbed row e words rider).stage)
+  entry_by_fits : (absorbed : R → R → R) (row : Option HomeRow) (e : Entry R) (words : List ℕ) (rider : R) → IsTrue (row_fits row) →
+      IsTrue (stage_fits e.stage) → IsTrue (stage_fits (entry_by absorbed row e words rider).stage)
   entry_by_fits absorbed None e words rider fits old = old
   entry_by_fits absorbed (Some r) e words rider fits old = fits
 
-  pub request_keeps_fit : (absorbed : R → R → R) (e : Entry R) (c : ℕ) (request : Request R) → c < CORES_MAX → IsTrue (stage_fits e.stage) → IsTrue (stage_fits (entry_after_request absorbed e c request).stage)
-  request_keeps_fit absorbed e c request h fits = entry_by_fits absorbed (request_row e.stage c (ask_of request)) e (request_words request e.words) (request_rider request e.rider) (request_fits e.stage c (ask_of request) h fits) fits
+  pub request_keeps_fit : (absorbed : R → R → R) (e : Entry R) (c : ℕ) (request : Request R) → c < CORES_MAX → IsTrue (stage_fits e.stage) →
+      IsTrue (stage_fits (entry_after_request absorbed e c request).stage)
+  request_keeps_fit absorbed e c request h fits =
+      entry_by_fits absorbed (request_row e.stage c (ask_of request)) e (request_words request e.words) (request_rider request e.rider)
+      (request_fits e.stage c (ask_of request) h fits) fits
 
-  pub response_keeps_fit : (absorbed : R → R → R) (e : Entry R) (c : ℕ) (response : Response R) → c < CORES_MAX → IsTrue (stage_fits e.stage) → IsTrue (stage_fits (entry_after_response absorbed e c response).stage)
-  response_keeps_fit absorbed e c response h fits = entry_by_fits absorbed (response_row e.stage c (reply_of response)) e (response_words response e.words) (response_rider response) (response_fits e.stage c (reply_of response) h fits) fits
+  pub response_keeps_fit : (absorbed : R → R → R) (e : Entry R) (c : ℕ) (response : Response R) → c < CORES_MAX → IsTrue (stage_fits e.stage) →
+      IsTrue (stage_fits (entry_after_response absorbed e c response).stage)
+  response_keeps_fit absorbed e c response h fits =
+      entry_by_fits absorbed (response_row e.stage c (reply_of response)) e (response_words response e.words) (response_rider response)
+      (response_fits e.stage c (reply_of response) h fits) fits
 
   -- each block's stage fits
   abbrev pub AllFit : List (Entry R) → Type 0
   AllFit entries = All (λ e. IsTrue (stage_fits e.stage)) entries
 
-  one_fits : (entries : List (Entry R)) (block : ℕ) (e : Entry R) → AllFit entries → block < length entries → e ≡ slice_index_or entries block e → IsTrue (stage_fits e.stage)
+  one_fits : (entries : List (Entry R)) (block : ℕ) (e : Entry R) → AllFit entries → block < length entries → e ≡ slice_index_or entries block e →
+      IsTrue (stage_fits e.stage)
   one_fits entries block e fits within is = rw is (fits block e within)
 
-  pub request_keeps_all : (absorbed : R → R → R) (entries : List (Entry R)) (block : ℕ) (old new : Entry R) (c : ℕ) (request : Request R) → AllFit entries → block < length entries → old ≡ slice_index_or entries block old → c < CORES_MAX → new ≡ entry_after_request absorbed old c request → AllFit (slice_set entries block new)
+  pub request_keeps_all : (absorbed : R → R → R) (entries : List (Entry R)) (block : ℕ) (old new : Entry R) (c : ℕ) (request : Request R) → AllFit entries →
+      block < length entries → old ≡ slice_index_or entries block old → c < CORES_MAX → new ≡ entry_after_request absorbed old c request →
+      AllFit (slice_set entries block new)
   request_keeps_all absorbed entries block old new c request fits within is h row =
-      All-set (λ (e : Entry R). IsTrue (stage_fits e.stage)) entries block new (rw row (request_keeps_fit absorbed old c request h (one_fits entries block old fits within is))) fits
+      All-set (λ (e : Entry R). IsTrue (stage_fits e.stage)) entries block new
+      (rw row (request_keeps_fit absorbed old c request h (one_fits entries block old fits within is))) fits
 
-  pub response_keeps_all : (absorbed : R → R → R) (entries : List (Entry R)) (block : ℕ) (old new : Entry R) (c : ℕ) (response : Response R) → AllFit entries → block < length entries → old ≡ slice_index_or entries block old → c < CORES_MAX → new ≡ entry_after_response absorbed old c response → AllFit (slice_set entries block new)
+  pub response_keeps_all : (absorbed : R → R → R) (entries : List (Entry R)) (block : ℕ) (old new : Entry R) (c : ℕ) (response : Response R) → AllFit entries →
+      block < length entries → old ≡ slice_index_or entries block old → c < CORES_MAX → new ≡ entry_after_response absorbed old c response →
+      AllFit (slice_set entries block new)
   response_keeps_all absorbed entries block old new c response fits within is h row =
-      All-set (λ (e : Entry R). IsTrue (stage_fits e.stage)) entries block new (rw row (response_keeps_fit absorbed old c response h (one_fits entries block old fits within is))) fits
+      All-set (λ (e : Entry R). IsTrue (stage_fits e.stage)) entries block new
+      (rw row (response_keeps_fit absorbed old c response h (one_fits entries block old fits within is))) fits

@@ -19,7 +19,8 @@ module _ {R : Type 0} where
   opening_fits fresh image (b ∷ blocks) = let rest = opening_fits fresh image blocks in search rules
 
   pub openings_fit : (fresh : R) (image : Contents) (n : ℕ) → All (λ e. IsTrue (stage_fits e.stage)) (map (opening_entry fresh image) (range_with_len 0 n))
-  openings_fit fresh image n = All-map (λ e. IsTrue (stage_fits e.stage)) (opening_entry fresh image) (range_with_len 0 n) (opening_fits fresh image (range_with_len 0 n))
+  openings_fit fresh image n =
+      All-map (λ e. IsTrue (stage_fits e.stage)) (opening_entry fresh image) (range_with_len 0 n) (opening_fits fresh image (range_with_len 0 n))
 
   -- how many there are
   pub openings_counted : (fresh : R) (image : Contents) (n : ℕ) → length (map (opening_entry fresh image) (range_with_len 0 n)) ≡ n

@@ -1,7 +1,8 @@
 -- What a home is to contracts: the entries of all blocks, whether or not the home keeps one of its own
 -- for a block, and which blocks have room. A block that was never asked for reads as unshared, with
 -- its opening words and a fresh rider.
-use Rattle.std.specs.Prelude.{◌≡◌, ◌≢◌, ℕ, ◌+◌, ◌-◌, ◌*◌, ◌/◌, Bool, false, List, [], ◌∷◌, map, slice_index_or, slice_set}
+use Rattle.std.specs.Prelude.{◌≡◌, ◌≢◌, ℕ, ◌+◌, ◌-◌, ◌*◌, ◌/◌, Bool, false, List, [], ◌∷◌, map, slice_index_or}
+use Rattle.std.specs.Prelude.{slice_set}
 use Rattle.std.specs.List.{count_by, range_with_len}
 use Rattle.access_times.specs.Riding.{Riding}
 use Rattle.rtr_types.specs.declared.TheConstants.{BLOCK_WORDS}
@@ -61,12 +62,14 @@ module _ {R : Type 0} where
   -- the entries after a request from core c: that of its block alone is another
   abbrev pub entries_after_request : Riding R → List (Entry R) → ℕ → Request R → List (Entry R)
   entries_after_request riding entries c request =
-      slice_set entries (request_block request) (entry_after_request riding.absorbed (entry_at riding.fresh entries (request_block request)) c request)
+      slice_set entries (request_block request)
+      (entry_after_request riding.absorbed (entry_at riding.fresh entries (request_block request)) c request)
 
   -- the entries after a response from core c: that of its block alone is another
   abbrev pub entries_after_response : Riding R → List (Entry R) → ℕ → Response R → List (Entry R)
   entries_after_response riding entries c response =
-      slice_set entries (response_block response) (entry_after_response riding.absorbed (entry_at riding.fresh entries (response_block response)) c response)
+      slice_set entries (response_block response)
+      (entry_after_response riding.absorbed (entry_at riding.fresh entries (response_block response)) c response)
 
   -- the two homes differ at most at the block's entry
   abbrev pub SameElsewhere : R → List (Entry R) → List (Entry R) → ℕ → Type 0

@@ -7,7 +7,8 @@ use Rattle.msi_cache.specs.declared.messages.Response.{Response}
 use Rattle.msi_cache.specs.declared.messages.Response.TheVariants.{InvAck, OwnerData}
 use Rattle.msi_cache.specs.declared.messages.Request.{Request}
 use Rattle.msi_cache.specs.declared.messages.Request.TheVariants.{PutS, PutM}
-use Rattle.msi_directory.specs.Table.{Send, NoMessage, HomeEffect, Keep, Absorb, Take, HomeRow, request_row, response_row}
+use Rattle.msi_directory.specs.Table.{Send, NoMessage, HomeEffect, Keep, Absorb, Take, HomeRow, request_row}
+use Rattle.msi_directory.specs.Table.{response_row}
 use Rattle.msi_directory.specs.declared.entry.Stage.{Stage}
 use Rattle.msi_directory.specs.declared.entry.Entry.{Entry}
 use Rattle.msi_directory.specs.declared.entry.HomeAnswer.{HomeAnswer}
@@ -89,19 +90,23 @@ module _ {R : Type 0} where
   -- a block's entry after a request from core c
   abbrev pub entry_after_request : (R → R → R) → Entry R → ℕ → Request R → Entry R
   entry_after_request absorbed e c request =
-      entry_by absorbed (request_row e.stage c (ask_of request)) e (request_words request e.words) (request_rider request e.rider)
+      entry_by absorbed (request_row e.stage c (ask_of request)) e (request_words request e.words)
+      (request_rider request e.rider)
 
   -- what the home answers to a request from core c
   abbrev pub answer_to_request : (R → R → R) → Entry R → ℕ → Request R → HomeAnswer R
   answer_to_request absorbed e c request =
-      answer_by (request_row e.stage c (ask_of request)) (request_block request) (entry_after_request absorbed e c request)
+      answer_by (request_row e.stage c (ask_of request)) (request_block request)
+      (entry_after_request absorbed e c request)
 
   -- a block's entry after a response from core c
   abbrev pub entry_after_response : (R → R → R) → Entry R → ℕ → Response R → Entry R
   entry_after_response absorbed e c response =
-      entry_by absorbed (response_row e.stage c (reply_of response)) e (response_words response e.words) (response_rider response)
+      entry_by absorbed (response_row e.stage c (reply_of response)) e (response_words response e.words)
+      (response_rider response)
 
   -- what the home answers to a response from core c
   abbrev pub answer_to_response : (R → R → R) → Entry R → ℕ → Response R → HomeAnswer R
   answer_to_response absorbed e c response =
-      answer_by (response_row e.stage c (reply_of response)) (response_block response) (entry_after_response absorbed e c response)
+      answer_by (response_row e.stage c (reply_of response)) (response_block response)
+      (entry_after_response absorbed e c response)

@@ -27,14 +27,27 @@ module _ {R : Type 0} where
 
   -- a request does to the plain part what it does where nothing rides, and is answered as there
   pub record PlainRequest (riding : Riding R) (entries : List (Entry R)) (c : ℕ) (request : Request R) : Type 0 where
-    pub same_entry : plain_entry (entry_at riding.fresh entries (request_block request)) ≡ entry_at tt (plain_entries entries) (request_block request)
-    pub same_row : has_request_row (entry_at riding.fresh entries (request_block request)).stage c request ≡ has_request_row (entry_at tt (plain_entries entries) (request_block request)).stage c (plain_request request)
-    pub same_entries : plain_entries (entries_after_request riding entries c request) ≡ entries_after_request none_riding (plain_entries entries) c (plain_request request)
-    pub same_answer : plain_home_answer (answer_to_request riding.absorbed (entry_at riding.fresh entries (request_block request)) c request) ≡ answer_to_request none_riding.absorbed (entry_at tt (plain_entries entries) (request_block request)) c (plain_request request)
+    pub same_entry : plain_entry (entry_at riding.fresh entries (request_block request))
+        ≡ entry_at tt (plain_entries entries) (request_block request)
+    pub same_row : has_request_row (entry_at riding.fresh entries (request_block request)).stage c request
+        ≡ has_request_row (entry_at tt (plain_entries entries) (request_block request)).stage c (plain_request request)
+    pub same_entries : plain_entries (entries_after_request riding entries c request)
+        ≡ entries_after_request none_riding (plain_entries entries) c (plain_request request)
+    pub same_answer : plain_home_answer
+        (answer_to_request riding.absorbed (entry_at riding.fresh entries (request_block request)) c request)
+        ≡ answer_to_request none_riding.absorbed (entry_at tt (plain_entries entries) (request_block request)) c
+        (plain_request request)
 
   -- a response does to the plain part what it does where nothing rides, and is answered as there
   pub record PlainResponse (riding : Riding R) (entries : List (Entry R)) (c : ℕ) (response : Response R) : Type 0 where
-    pub same_entry : plain_entry (entry_at riding.fresh entries (response_block response)) ≡ entry_at tt (plain_entries entries) (response_block response)
-    pub same_row : has_response_row (entry_at riding.fresh entries (response_block response)).stage c response ≡ has_response_row (entry_at tt (plain_entries entries) (response_block response)).stage c (plain_response response)
-    pub same_entries : plain_entries (entries_after_response riding entries c response) ≡ entries_after_response none_riding (plain_entries entries) c (plain_response response)
-    pub same_answer : plain_home_answer (answer_to_response riding.absorbed (entry_at riding.fresh entries (response_block response)) c response) ≡ answer_to_response none_riding.absorbed (entry_at tt (plain_entries entries) (response_block response)) c (plain_response response)
+    pub same_entry : plain_entry (entry_at riding.fresh entries (response_block response))
+        ≡ entry_at tt (plain_entries entries) (response_block response)
+    pub same_row : has_response_row (entry_at riding.fresh entries (response_block response)).stage c response
+        ≡ has_response_row (entry_at tt (plain_entries entries) (response_block response)).stage c
+        (plain_response response)
+    pub same_entries : plain_entries (entries_after_response riding entries c response)
+        ≡ entries_after_response none_riding (plain_entries entries) c (plain_response response)
+    pub same_answer : plain_home_answer
+        (answer_to_response riding.absorbed (entry_at riding.fresh entries (response_block response)) c response)
+        ≡ answer_to_response none_riding.absorbed (entry_at tt (plain_entries entries) (response_block response)) c
+        (plain_response response)

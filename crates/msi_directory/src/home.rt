@@ -1,10 +1,14 @@
 //! The home of all blocks.
-ghost use Rattle.std.specs.Prelude.{◌≡◌, ◌<◌, ◌/◌, ◌%◌, ◌*◌, ◌+◌, ◌^◌, ℕ, List, IfOk, IsTrue, if◌then◌else◌, OnErr, OnOk, length, slice_index, slice_set, true};
+ghost use Rattle.std.specs.Prelude.{◌≡◌, ◌<◌, ◌/◌, ◌%◌, ◌*◌, ◌+◌, ◌^◌, ℕ, List, IfOk, IsTrue, if◌then◌else◌, OnErr};
+ghost use Rattle.std.specs.Prelude.{OnOk, length, slice_index, slice_set, true};
 ghost use Rattle.msi_cache.specs.Messages.{request_block, request_seen, response_block, response_seen};
 ghost use Rattle.msi_cache.specs.declared.messages.Request.{Request};
 ghost use Rattle.msi_cache.specs.declared.messages.Response.{Response};
-ghost use Rattle.msi_directory.specs.Blocks.{SameElsewhere, block_count, entries_after_request, entries_after_response, entry_at, has_room, opening_entries, opening_entry, touched};
-ghost use Rattle.msi_directory.specs.Entries.{answer_riding, answer_to_request, answer_to_response, entry_after_request, entry_after_response, has_request_row, has_response_row};
+ghost use Rattle.msi_directory.specs.Blocks.{SameElsewhere, block_count, entries_after_request, entries_after_response};
+ghost use Rattle.msi_directory.specs.Blocks.{entry_at, has_room, opening_entries, opening_entry, touched};
+ghost use Rattle.msi_directory.specs.Entries.{answer_riding, answer_to_request, answer_to_response};
+ghost use Rattle.msi_directory.specs.Entries.{entry_after_request, entry_after_response, has_request_row};
+ghost use Rattle.msi_directory.specs.Entries.{has_response_row};
 ghost use Rattle.msi_directory.specs.Fitting.{stage_fits};
 ghost use Rattle.msi_directory.specs.PlainPart.{PlainRequest, PlainResponse};
 ghost use Rattle.msi_directory.specs.Table.{is_free, owner_of};
@@ -120,7 +124,8 @@ impl<R: Rider> Home<R> {
     /// Whether the table has a row for the request, sent by core `from`.
     pub fn expects_request(&self, from: u8, request: &Request<R>) -> bool
         requires { request_block request.now < length self.now.entries }
-        ensures { result ≡ has_request_row (entry_at R.riding.fresh self.now.entries (request_block request.now)).stage from request.now }
+        ensures { result ≡ has_request_row
+            (entry_at R.riding.fresh self.now.entries (request_block request.now)).stage from request.now }
     {
         self.stage(request.block()).expects_request(from, request)
     }
@@ -129,7 +134,8 @@ impl<R: Rider> Home<R> {
     pub fn expects_response(&self, from: u8, response: &Response<R>) -> bool
         requires from { from < CORES_MAX }
         requires within { response_block response.now < length self.now.entries }
-        ensures { result ≡ has_response_row (entry_at R.riding.fresh self.now.entries (response_block response.now)).stage from response.now }
+        ensures { result ≡ has_response_row
+            (entry_at R.riding.fresh self.now.entries (response_block response.now)).stage from response.now }
     {
         self.stage(response.block())
             .expects_response(from, response)
@@ -141,10 +147,15 @@ impl<R: Rider> Home<R> {
         requires from { from < CORES_MAX }
         requires within { request_block request < length self.old.entries }
         requires room { IsTrue (has_room self.old.rooms (request_block request)) }
-        requires row { IsTrue (has_request_row (entry_at R.riding.fresh self.old.entries (request_block request)).stage from request) }
-        ensures blocks { self.new ≡ record self.old { entries = entries_after_request R.riding self.old.entries from request } }
+        requires row { IsTrue (has_request_row
+            (entry_at R.riding.fresh self.old.entries (request_block request)).stage from request) }
+        ensures blocks { self.new ≡ record self.old {
+          entries =
+              entries_after_request R.riding self.old.entries from request;
+        } }
         ensures elsewhere { SameElsewhere R.riding.fresh self.old.entries self.new.entries (request_block request) }
-        ensures answer { result ≡ answer_to_request R.riding.absorbed (entry_at R.riding.fresh self.old.entries (request_block request)) from request }
+        ensures answer { result ≡ answer_to_request R.riding.absorbed
+            (entry_at R.riding.fresh self.old.entries (request_block request)) from request }
     {
         let block = request.block();
         let answer = self.serve(from, request.lent());
@@ -157,10 +168,19 @@ impl<R: Rider> Home<R> {
         requires from { from < CORES_MAX }
         requires within { request_block (request_seen request) < length self.old.entries }
         requires room { IsTrue (has_room self.old.rooms (request_block (request_seen request))) }
-        requires row { IsTrue (has_request_row (entry_at R.riding.fresh self.old.entries (request_block (request_seen request))).stage from (request_seen request)) }
-        ensures blocks { self.new ≡ record self.old { entries = entries_after_request R.riding self.old.entries from (request_seen request.entry) } }
-        ensures elsewhere { SameElsewhere R.riding.fresh self.old.entries self.new.entries (request_block (request_seen request.entry)) }
-        ensures answer { answer_riding (entry_at R.riding.fresh self.new.entries (request_block (request_seen request.entry))).rider result ≡ answer_to_request R.riding.absorbed (entry_at R.riding.fresh self.old.entries (request_block (request_seen request.entry))) from (request_seen request.entry) }
+        requires row { IsTrue (has_request_row
+            (entry_at R.riding.fresh self.old.entries (request_block (request_seen request))).stage from
+            (request_seen request)) }
+        ensures blocks { self.new ≡ record self.old {
+          entries =
+              entries_after_request R.riding self.old.entries from (request_seen request.entry);
+        } }
+        ensures elsewhere { SameElsewhere R.riding.fresh self.old.entries self.new.entries
+            (request_block (request_seen request.entry)) }
+        ensures answer { answer_riding
+            (entry_at R.riding.fresh self.new.entries (request_block (request_seen request.entry))).rider result ≡ answer_to_request R.riding.absorbed
+            (entry_at R.riding.fresh self.old.entries (request_block (request_seen request.entry))) from
+            (request_seen request.entry) }
     {
         let place = self.kept.place(request.block()).unwrap();
         self.kept.serve(place, from, request)
@@ -171,10 +191,15 @@ impl<R: Rider> Home<R> {
     pub fn on_response(&mut self, from: u8, response: Response<R>) -> HomeAnswer<R>
         requires from { from < CORES_MAX }
         requires within { response_block response < length self.old.entries }
-        requires row { IsTrue (has_response_row (entry_at R.riding.fresh self.old.entries (response_block response)).stage from response) }
-        ensures blocks { self.new ≡ record self.old { entries = entries_after_response R.riding self.old.entries from response } }
+        requires row { IsTrue (has_response_row
+            (entry_at R.riding.fresh self.old.entries (response_block response)).stage from response) }
+        ensures blocks { self.new ≡ record self.old {
+          entries =
+              entries_after_response R.riding self.old.entries from response;
+        } }
         ensures elsewhere { SameElsewhere R.riding.fresh self.old.entries self.new.entries (response_block response) }
-        ensures answer { result ≡ answer_to_response R.riding.absorbed (entry_at R.riding.fresh self.old.entries (response_block response)) from response }
+        ensures answer { result ≡ answer_to_response R.riding.absorbed
+            (entry_at R.riding.fresh self.old.entries (response_block response)) from response }
     {
         let block = response.block();
         let answer = self.collect(from, response.lent());
@@ -186,10 +211,20 @@ impl<R: Rider> Home<R> {
     pub fn collect(&mut self, from: u8, response: Response<&R>) -> HomeAnswer<()>
         requires from { from < CORES_MAX }
         requires within { response_block (response_seen response) < length self.old.entries }
-        requires row { IsTrue (has_response_row (entry_at R.riding.fresh self.old.entries (response_block (response_seen response))).stage from (response_seen response)) }
-        ensures blocks { self.new ≡ record self.old { entries = entries_after_response R.riding self.old.entries from (response_seen response.entry) } }
-        ensures elsewhere { SameElsewhere R.riding.fresh self.old.entries self.new.entries (response_block (response_seen response.entry)) }
-        ensures answer { answer_riding (entry_at R.riding.fresh self.new.entries (response_block (response_seen response.entry))).rider result ≡ answer_to_response R.riding.absorbed (entry_at R.riding.fresh self.old.entries (response_block (response_seen response.entry))) from (response_seen response.entry) }
+        requires row { IsTrue (has_response_row
+            (entry_at R.riding.fresh self.old.entries (response_block (response_seen response))).stage from
+            (response_seen response)) }
+        ensures blocks { self.new ≡ record self.old {
+          entries =
+              entries_after_response R.riding self.old.entries from (response_seen response.entry);
+        } }
+        ensures elsewhere { SameElsewhere R.riding.fresh self.old.entries self.new.entries
+            (response_block (response_seen response.entry)) }
+        ensures answer { answer_riding (entry_at R.riding.fresh self.new.entries
+            (response_block (response_seen response.entry))).rider result
+            ≡ answer_to_response R.riding.absorbed
+            (entry_at R.riding.fresh self.old.entries (response_block (response_seen response.entry))) from
+            (response_seen response.entry) }
     {
         let place = self.kept.place(response.block()).unwrap();
         self.kept.collect(place, from, response)
@@ -210,7 +245,8 @@ impl<R: Rider> Home<R> {
     /// one.
     pub fn word(&self, word: u32) -> u32
         requires { word / BLOCK_WORDS < length self.now.entries }
-        ensures { result ≡ slice_index (entry_at R.riding.fresh self.now.entries (word / BLOCK_WORDS)).words (word % BLOCK_WORDS) }
+        ensures { result ≡ slice_index (entry_at R.riding.fresh self.now.entries (word / BLOCK_WORDS)).words
+            (word % BLOCK_WORDS) }
     {
         let block = word / BLOCK_WORDS as u32;
         match self.kept.place(block) {
@@ -260,13 +296,17 @@ fn opening_entry<R>(image: &Image, block: u32, rider: R) -> Entry<R>
 /// Each row of the table leaves a stage that fits: the cores that it names exist, and a set of cores
 /// that it keeps has some core.
 pub fn home_rows_fit<R: Rider>()
-    ensures request { (e : Entry R) (c : ℕ) (request : Request R) → c < CORES_MAX → IsTrue (stage_fits e.stage) → IsTrue (stage_fits (entry_after_request R.riding.absorbed e c request).stage) }
-    ensures response { (e : Entry R) (c : ℕ) (response : Response R) → c < CORES_MAX → IsTrue (stage_fits e.stage) → IsTrue (stage_fits (entry_after_response R.riding.absorbed e c response).stage) }
+    ensures request { (e : Entry R) (c : ℕ) (request : Request R) → c < CORES_MAX → IsTrue (stage_fits e.stage) →
+        IsTrue (stage_fits (entry_after_request R.riding.absorbed e c request).stage) }
+    ensures response { (e : Entry R) (c : ℕ) (response : Response R) → c < CORES_MAX → IsTrue (stage_fits e.stage) →
+        IsTrue (stage_fits (entry_after_response R.riding.absorbed e c response).stage) }
 {}
 
 /// What rides changes nothing else: with the riders forgotten, each call does to a home what it does
 /// to the same home where nothing rides, needs the same of it, and answers the same.
 pub fn riders_change_no_plain_part<R: Rider>()
-    ensures on_request { (entries : List (Entry R)) (c : ℕ) (request : Request R) → PlainRequest R.riding entries c request }
-    ensures on_response { (entries : List (Entry R)) (c : ℕ) (response : Response R) → PlainResponse R.riding entries c response }
+    ensures on_request { (entries : List (Entry R)) (c : ℕ) (request : Request R) →
+        PlainRequest R.riding entries c request }
+    ensures on_response { (entries : List (Entry R)) (c : ℕ) (response : Response R) →
+        PlainResponse R.riding entries c response }
 {}

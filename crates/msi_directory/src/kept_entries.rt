@@ -1,7 +1,9 @@
 //! The entries that a home keeps.
 ghost use Rattle.std.specs.Prelude.{◌≡◌, ◌<◌, IfSome, IsTrue, None, OnErr, OnOk, length, slice_index_or};
 ghost use Rattle.msi_cache.specs.Messages.{request_seen, response_seen};
-ghost use Rattle.msi_directory.specs.Entries.{answer_riding, answer_to_request, answer_to_response, entry_after_request, entry_after_response, has_request_row, has_response_row};
+ghost use Rattle.msi_directory.specs.Entries.{answer_riding, answer_to_request, answer_to_response};
+ghost use Rattle.msi_directory.specs.Entries.{entry_after_request, entry_after_response, has_request_row};
+ghost use Rattle.msi_directory.specs.Entries.{has_response_row};
 ghost use Rattle.msi_directory.specs.Fitting.{stage_fits};
 ghost use Rattle.msi_directory.specs.Kept.{IsEven, kept_at, kept_more, kept_with, nothing_kept, place_of};
 ghost use Rattle.msi_directory.specs.declared.entry.Entry.{Entry};

@@ -32,18 +32,24 @@ record NotedAfter (event_at : ℕ → Happening) (t cores : ℕ) (h : Notes) : T
   noted : (core : ℕ) → core < cores → noted_count h core ≡ retired_in event_at t core
   history : HistoryKnows event_at h
 
-unretired : (event_at : ℕ → Happening) (t core : ℕ) (o : Option Instr) → (event_at t).retires ≡ o → is_of core o ≡ false → retired_in event_at t core ≡ retired_in event_at (suc t) core
+unretired : (event_at : ℕ → Happening) (t core : ℕ) (o : Option Instr) → (event_at t).retires ≡ o → is_of core o ≡ false → retired_in event_at t core
+    ≡ retired_in event_at (suc t) core
 unretired event_at t core o is test = let same : is_of core (event_at t).retires ≡ false = ap (is_of core) is ∙ test in rw same refl
 
-noted_none : (event_at : ℕ → Happening) (t cores : ℕ) (old new : Notes) → (event_at t).retires ≡ None → new ≡ old → NotedAfter event_at t cores old → NotedAfter event_at (suc t) cores new
-noted_none event_at t cores old new is same h = rw same (record { many = h.many; noted = λ core lt. h.noted core lt ∙ unretired event_at t core None is refl; history = h.history })
+noted_none : (event_at : ℕ → Happening) (t cores : ℕ) (old new : Notes) → (event_at t).retires ≡ None → new ≡ old → NotedAfter event_at t cores old →
+    NotedAfter event_at (suc t) cores new
+noted_none event_at t cores old new is same h =
+    rw same (record { many = h.many; noted = λ core lt. h.noted core lt ∙ unretired event_at t core None is refl; history = h.history })
 
-noted_one : (event_at : ℕ → Happening) (t cores : ℕ) (y : Instr) (known : Known) (old new : Notes) → AreOrderly event_at → y.core < cores → (event_at t).retires ≡ Some y → IsKnownCount event_at known y → IsNoted old y known new → NotedAfter event_at t cores old → NotedAfter event_at (suc t) cores new
+noted_one : (event_at : ℕ → Happening) (t cores : ℕ) (y : Instr) (known : Known) (old new : Notes) → AreOrderly event_at → y.core < cores →
+    (event_at t).retires ≡ Some y → IsKnownCount event_at known y → IsNoted old y known new → NotedAfter event_at t cores old →
+    NotedAfter event_at (suc t) cores new
 noted_one event_at t cores y known old new orderly within is counts note h =
     record {
       many = note.cores ∙ h.many;
       noted = λ core lt. by core lt (cases_eq core y.core);
-      history = history_law event_at t y known old new orderly is ((orderly t y is).count ∙ ap (λ (n : ℕ). n + 1) (sym (h.noted y.core within))) counts note h.history;
+      history = history_law event_at t y known old new orderly is ((orderly t y is).count
+          ∙ ap (λ (n : ℕ). n + 1) (sym (h.noted y.core within))) counts note h.history;
     }
   where
     other_core : (i j : ℕ) → j ≢ i → (i == j) ≡ false
@@ -53,10 +59,15 @@ noted_one event_at t cores y known old new orderly within is counts note h =
     by core lt (inl e) = ap (noted_count new) e ∙ (note.count ∙ (sym (is_counted event_at t y is (orderly t y is)) ∙ ap (retired_in event_at (suc t)) (sym e)))
     by core lt (inr apart) = note.others core apart ∙ (h.noted core lt ∙ unretired event_at t core (Some y) is (other_core y.core core apart))
 
-told : (event_at : ℕ → Happening) (t cores : ℕ) (e : Event) (known : Known) (old new : Notes) → AreOrderly event_at → ((y : Instr) → instr_of e ≡ Some y → y.core < cores) → (event_at t).retires ≡ instr_of e → ((y : Instr) → instr_of e ≡ Some y → IsKnownCount event_at known y) → HistoryTold e known old new → NotedAfter event_at t cores old → NotedAfter event_at (suc t) cores new
+told : (event_at : ℕ → Happening) (t cores : ℕ) (e : Event) (known : Known) (old new : Notes) → AreOrderly event_at →
+    ((y : Instr) → instr_of e ≡ Some y → y.core < cores) → (event_at t).retires ≡ instr_of e →
+    ((y : Instr) → instr_of e ≡ Some y → IsKnownCount event_at known y) → HistoryTold e known old new → NotedAfter event_at t cores old →
+    NotedAfter event_at (suc t) cores new
 told event_at t cores Nothing known old new orderly within is counts note h = noted_none event_at t cores old new is note h
-told event_at t cores (Retires at) known old new orderly within is counts note h = noted_one event_at t cores at known old new orderly (within at refl) is (counts at refl) note h
-told event_at t cores (Accesses a) known old new orderly within is counts note h = noted_one event_at t cores a.at known old new orderly (within a.at refl) is (counts a.at refl) note h
+told event_at t cores (Retires at) known old new orderly within is counts note h =
+    noted_one event_at t cores at known old new orderly (within at refl) is (counts at refl) note h
+told event_at t cores (Accesses a) known old new orderly within is counts note h =
+    noted_one event_at t cores a.at known old new orderly (within a.at refl) is (counts a.at refl) note h
 
 module _ {R : Type 0} where
   pub knows_start : (riding : Riding R) → KnowsStartLaw riding
@@ -65,7 +76,9 @@ module _ {R : Type 0} where
         carries = known_start riding event_at image cores limit;
         retired = counts_start riding event_at image cores limit few;
         cores = ap length is ∙ (length-replicate {A = List Clock} cores [] ∙ sym (length-map-range_with_len (node_start riding known_carrying limit) 0 cores));
-        noted = λ core lt. (let e : noted_count h core ≡ length (slice_index_or {A = List Clock} (replicate cores []) core []) = ap (λ (lists : List (List Clock)). length (slice_index_or lists core [])) is in let none = none_noted cores core in omega arith);
+        noted = λ core lt. (let e : noted_count h core
+            ≡ length (slice_index_or {A = List Clock} (replicate cores []) core []) = ap
+            (λ (lists : List (List Clock)). length (slice_index_or lists core [])) is in let none = none_noted cores core in omega arith);
         history = history_start_law event_at h cores is;
       }
 
@@ -89,10 +102,15 @@ module _ {R : Type 0} where
       retires = ap (λ (p : Happening). p.retires) is ∙ sym (ap instr_of (forgetting.plain_event riding known_carrying s m))
 
       after : NotedAfter event_at (suc t) (length s.nodes) new
-      after = told event_at t (length s.nodes) (event riding known_carrying s m) (carry_after known_carrying (retiring riding known_carrying s m)) old new orderly within retires next.known note (record { many = h.cores; noted = h.noted; history = h.history })
+      after = told event_at t (length s.nodes) (event riding known_carrying s m)
+          (carry_after known_carrying (retiring riding known_carrying s m)) old new orderly within retires next.known note
+          (record { many = h.cores; noted = h.noted; history = h.history })
         where
           within : (y : Instr) → instr_of (event riding known_carrying s m) ≡ Some y → y.core < length s.nodes
           within y f = let lt = at_core riding known_carrying s m e in let same : y.core ≡ core_of m = core y f in omega arith
             where
               core : (y : Instr) → instr_of (event riding known_carrying s m) ≡ Some y → y.core ≡ core_of m
-              core y f = ap (λ (i : Instr). i.core) (sym (retired_next known_carrying (core_of m) (instr_of (event riding known_carrying s m)) (node_at known_carrying s.nodes (core_of m)) _ y (state_counts riding known_carrying s m rider (at_core riding known_carrying s m e)).here f)) ∙ h.retired.numbers (core_of m) (at_core riding known_carrying s m e)
+              core y f = ap (λ (i : Instr). i.core)
+                  (sym (retired_next known_carrying (core_of m) (instr_of (event riding known_carrying s m)) (node_at known_carrying s.nodes (core_of m)) _ y
+                  (state_counts riding known_carrying s m rider (at_core riding known_carrying s m e)).here f))
+                  ∙ h.retired.numbers (core_of m) (at_core riding known_carrying s m e)

@@ -1,5 +1,6 @@
 -- Runs of a machine whose carries count what is known.
-use Rattle.std.proofs.Common.{◌∷◌, ◌≡◌, ◌∙◌, ap, refl, sym, subst, ℕ, zero, suc, ◌+◌, ◌*◌, ◌<◌, ◌≤◌, true, IsTrue, Option, Some, None, List, [], length, arith, ◌⊎◌, inl, inr}
+use Rattle.std.proofs.Common.{◌∷◌, ◌≡◌, ◌∙◌, ap, refl, sym, subst, ℕ, zero, suc, ◌+◌, ◌*◌, ◌<◌, ◌≤◌, true, IsTrue, Option, Some, None, List, [], length, arith}
+use Rattle.std.proofs.Common.{◌⊎◌, inl, inr}
 use Rattle.std.specs.Prelude.{map, if◌then◌else◌}
 use Rattle.std.specs.List.{range_with_len}
 use Rattle.std.proofs.lemmas.List.{get_or_past}
@@ -33,7 +34,8 @@ use Rattle.msi_plain.proofs.SameMoves.{plain_moves as same_moves}
 use Rattle.msi_plain.proofs.Shows.{plain_start}
 use Rattle.msi_sound.proofs.Begins.{chosen_at}
 use Rattle.msi_known.specs.Events.{actor_of, carries_at, carries_of, core_at, happening_at, happening_by, nothing_happens, own_carry, under_way}
-use Rattle.msi_known.specs.Known.{CountsRetired, KnownRunLaw, KnownStartLaw, KnownStepLaw, RunEarlierLaw, RunLinksLaw, RunOrderlyLaw, RunRetiresLaw, known_run, known_stepped}
+use Rattle.msi_known.specs.Known.{CountsRetired, KnownRunLaw, KnownStartLaw, KnownStepLaw, RunEarlierLaw, RunLinksLaw, RunOrderlyLaw, RunRetiresLaw, known_run}
+use Rattle.msi_known.specs.Known.{known_stepped}
 use Rattle.msi_known.proofs.Following.{carries_follow, counted, le_or_lt}
 use Rattle.msi_known.proofs.Retiring.{carry_told, counts_step, orderly_step}
 
@@ -42,23 +44,30 @@ module _ {R : Type 0} where
   stepped_plain riding rider s None = refl
   stepped_plain riding rider s (Some m) = forgetting.plain_step riding known_carrying rider s m
 
-  pub run_plain : (riding : Riding R) (image : Contents) (params : Params) (choices : ℕ → ℕ) (riders : ℕ → R) (t : ℕ) → plain (known_run riding image params choices riders t) ≡ run image params choices t
+  pub run_plain : (riding : Riding R) (image : Contents) (params : Params) (choices : ℕ → ℕ) (riders : ℕ → R) (t : ℕ) →
+      plain (known_run riding image params choices riders t) ≡ run image params choices t
   run_plain riding image params choices riders zero = plain_start riding known_carrying image params.cores params.limit
   run_plain riding image params choices riders (suc t) =
-      stepped_plain riding (riders t) (known_run riding image params choices riders t) (chosen (plain (known_run riding image params choices riders t)) (choices t))
+      stepped_plain riding (riders t) (known_run riding image params choices riders t)
+      (chosen (plain (known_run riding image params choices riders t)) (choices t))
       ∙ ap (λ (p : PlainState). stepped_by p (chosen p (choices t))) (run_plain riding image params choices riders t)
 
-  pub taken_enabled : (riding : Riding R) (s : State R Known) (choice : ℕ) (m : Move) → chosen (plain s) choice ≡ Some m → IsTrue (enabled riding known_carrying s m)
+  pub taken_enabled : (riding : Riding R) (s : State R Known) (choice : ℕ) (m : Move) → chosen (plain s) choice ≡ Some m →
+      IsTrue (enabled riding known_carrying s m)
   taken_enabled riding s choice m is =
-      chosen_at (moves riding known_carrying s) (λ (x : Move). enabled riding known_carrying s x ≡ true) choice m (filter_passes (enabled riding known_carrying s) (candidates (length s.nodes) (4 * length s.nodes)))
+      chosen_at (moves riding known_carrying s) (λ (x : Move). enabled riding known_carrying s x ≡ true) choice m
+      (filter_passes (enabled riding known_carrying s) (candidates (length s.nodes) (4 * length s.nodes)))
       (ap (λ (ms : List Move). chosen_of ms choice) (same_moves riding known_carrying s) ∙ is)
 
-  happens : (riding : Riding R) (image : Contents) (params : Params) (choices : ℕ → ℕ) (riders : ℕ → R) (t : ℕ) → happening_at image params choices t ≡ happening_by (plain (known_run riding image params choices riders t)) (chosen (plain (known_run riding image params choices riders t)) (choices t))
-  happens riding image params choices riders t = ap (λ (p : PlainState). happening_by p (chosen p (choices t))) (sym (run_plain riding image params choices riders t))
+  happens : (riding : Riding R) (image : Contents) (params : Params) (choices : ℕ → ℕ) (riders : ℕ → R) (t : ℕ) → happening_at image params choices t
+      ≡ happening_by (plain (known_run riding image params choices riders t)) (chosen (plain (known_run riding image params choices riders t)) (choices t))
+  happens riding image params choices riders t =
+      ap (λ (p : PlainState). happening_by p (chosen p (choices t))) (sym (run_plain riding image params choices riders t))
 
   -- each core's instructions retire one after the other
 
-  pub counts_start : (riding : Riding R) (event_at : ℕ → Happening) (image : Contents) (cores limit : ℕ) → cores ≤ CORES_MAX → CountsRetired known_carrying event_at 0 (state_start riding known_carrying image cores limit)
+  pub counts_start : (riding : Riding R) (event_at : ℕ → Happening) (image : Contents) (cores limit : ℕ) → cores ≤ CORES_MAX →
+      CountsRetired known_carrying event_at 0 (state_start riding known_carrying image cores limit)
   counts_start riding event_at image cores limit few =
       record {
         few = rw long few;
@@ -69,30 +78,38 @@ module _ {R : Type 0} where
       long : length (state_start riding known_carrying image cores limit).nodes ≡ cores
       long = length-map-range_with_len (node_start riding known_carrying limit) 0 cores
 
-  counts_idle : (event_at : ℕ → Happening) (t : ℕ) (s : State R Known) → event_at t ≡ nothing_happens → CountsRetired known_carrying event_at t s → CountsRetired known_carrying event_at (suc t) s
+  counts_idle : (event_at : ℕ → Happening) (t : ℕ) (s : State R Known) → event_at t ≡ nothing_happens → CountsRetired known_carrying event_at t s →
+      CountsRetired known_carrying event_at (suc t) s
   counts_idle event_at t s is h = record { few = h.few; numbers = h.numbers; counts = λ c lc. h.counts c lc ∙ same c }
     where
       same : (c : ℕ) → retired_in event_at t c ≡ retired_in event_at (suc t) c
       same c = sym (ap (λ (p : Happening). if is_of c p.retires then retired_in event_at t c + 1 else retired_in event_at t c) is)
 
-  counts_by : (riding : Riding R) (event_at : ℕ → Happening) (t : ℕ) (s : State R Known) (o : Option Move) (rider : R) → event_at t ≡ happening_by (plain s) o → ((m : Move) → o ≡ Some m → IsTrue (enabled riding known_carrying s m)) → CountsRetired known_carrying event_at t s → CountsRetired known_carrying event_at (suc t) (known_stepped riding rider s o)
+  counts_by : (riding : Riding R) (event_at : ℕ → Happening) (t : ℕ) (s : State R Known) (o : Option Move) (rider : R) →
+      event_at t ≡ happening_by (plain s) o → ((m : Move) → o ≡ Some m → IsTrue (enabled riding known_carrying s m)) →
+      CountsRetired known_carrying event_at t s → CountsRetired known_carrying event_at (suc t) (known_stepped riding rider s o)
   counts_by riding event_at t s None rider is able h = counts_idle event_at t s is h
   counts_by riding event_at t s (Some m) rider is able h = counts_step riding known_carrying event_at t s m rider (able m refl) is h
 
-  orderly_by : (riding : Riding R) (event_at : ℕ → Happening) (t : ℕ) (s : State R Known) (o : Option Move) (rider : R) → event_at t ≡ happening_by (plain s) o → ((m : Move) → o ≡ Some m → IsTrue (enabled riding known_carrying s m)) → CountsRetired known_carrying event_at t s → IsOrderly event_at t
+  orderly_by : (riding : Riding R) (event_at : ℕ → Happening) (t : ℕ) (s : State R Known) (o : Option Move) (rider : R) →
+      event_at t ≡ happening_by (plain s) o → ((m : Move) → o ≡ Some m → IsTrue (enabled riding known_carrying s m)) →
+      CountsRetired known_carrying event_at t s → IsOrderly event_at t
   orderly_by riding event_at t s None rider is able h = λ x retires. none_some (event_at t).retires x (ap (λ (p : Happening). p.retires) is) retires
   orderly_by riding event_at t s (Some m) rider is able h = orderly_step riding known_carrying event_at t s m rider (able m refl) is h
 
-  run_counts : (riding : Riding R) (image : Contents) (params : Params) (choices : ℕ → ℕ) (riders : ℕ → R) (t : ℕ) → params.cores ≤ CORES_MAX → CountsRetired known_carrying (happening_at image params choices) t (known_run riding image params choices riders t)
+  run_counts : (riding : Riding R) (image : Contents) (params : Params) (choices : ℕ → ℕ) (riders : ℕ → R) (t : ℕ) → params.cores ≤ CORES_MAX →
+      CountsRetired known_carrying (happening_at image params choices) t (known_run riding image params choices riders t)
   run_counts riding image params choices riders zero few = counts_start riding (happening_at image params choices) image params.cores params.limit few
   run_counts riding image params choices riders (suc t) few =
       let s : State R Known = known_run riding image params choices riders t in
-      counts_by riding (happening_at image params choices) t s (chosen (plain s) (choices t)) (riders t) (happens riding image params choices riders t) (λ m is. taken_enabled riding s (choices t) m is) (run_counts riding image params choices riders t few)
+      counts_by riding (happening_at image params choices) t s (chosen (plain s) (choices t)) (riders t) (happens riding image params choices riders t)
+      (λ m is. taken_enabled riding s (choices t) m is) (run_counts riding image params choices riders t few)
 
 pub run_orderly_law : RunOrderlyLaw
 run_orderly_law image params choices few t =
     let s : State (Unit {0}) Known = known_run none_riding image params choices (λ u. tt) t in
-    orderly_by none_riding (happening_at image params choices) t s (chosen (plain s) (choices t)) tt (happens none_riding image params choices (λ u. tt) t) (λ m is. taken_enabled none_riding s (choices t) m is) (run_counts none_riding image params choices (λ u. tt) t few)
+    orderly_by none_riding (happening_at image params choices) t s (chosen (plain s) (choices t)) tt (happens none_riding image params choices (λ u. tt) t)
+    (λ m is. taken_enabled none_riding s (choices t) m is) (run_counts none_riding image params choices (λ u. tt) t few)
 
 retires_by : (s : PlainState) (o : Option Move) → (happening_by s o).retires ≡ instr_of (event_by s o)
 retires_by s None = refl
@@ -112,9 +129,13 @@ run_earlier_law image params choices x y k =
     }
 
 module _ {R : Type 0} where
-  start_node : (riding : Riding R) (cores limit c : ℕ) → (cores ≤ c) ⊎ (c < cores) → ((node_at known_carrying (map (node_start riding known_carrying limit) (range_with_len 0 cores)) c).carry ≡ known_carrying.none) × ((link : Channel) → carries_at link (node_at known_carrying (map (node_start riding known_carrying limit) (range_with_len 0 cores)) c) ≡ [])
+  start_node : (riding : Riding R) (cores limit c : ℕ) → (cores ≤ c) ⊎ (c < cores) →
+      ((node_at known_carrying (map (node_start riding known_carrying limit) (range_with_len 0 cores)) c).carry ≡ known_carrying.none)
+      × ((link : Channel) → carries_at link (node_at known_carrying (map (node_start riding known_carrying limit) (range_with_len 0 cores)) c) ≡ [])
   start_node riding cores limit c (inl past) =
-      let e : node_at known_carrying (map (node_start riding known_carrying limit) (range_with_len 0 cores)) c ≡ no_node known_carrying = get_or_past (map (node_start riding known_carrying limit) (range_with_len 0 cores)) c (no_node known_carrying) (rw (length-map-range_with_len (node_start riding known_carrying limit) 0 cores) past) in
+      let e : node_at known_carrying (map (node_start riding known_carrying limit) (range_with_len 0 cores)) c ≡ no_node known_carrying =
+      get_or_past (map (node_start riding known_carrying limit) (range_with_len 0 cores)) c (no_node known_carrying)
+      (rw (length-map-range_with_len (node_start riding known_carrying limit) 0 cores) past) in
       (ap (λ (n : Node R Known). n.carry) e, λ link. ap (carries_at link) e ∙ by link)
     where
       by : (link : Channel) → carries_at link (no_node {R = R} known_carrying) ≡ []
@@ -122,7 +143,8 @@ module _ {R : Type 0} where
       by (Responses d) = refl
       by (Messages d) = refl
   start_node riding cores limit c (inr lt) =
-      let e : node_at known_carrying (map (node_start riding known_carrying limit) (range_with_len 0 cores)) c ≡ node_start riding known_carrying limit c = node_start_at riding known_carrying limit cores c lt in
+      let e : node_at known_carrying (map (node_start riding known_carrying limit) (range_with_len 0 cores)) c ≡ node_start riding known_carrying limit c =
+      node_start_at riding known_carrying limit cores c lt in
       (ap (λ (n : Node R Known). n.carry) e, λ link. ap (carries_at link) e ∙ by link)
     where
       by : (link : Channel) → carries_at link (node_start riding known_carrying limit c) ≡ []
@@ -149,29 +171,43 @@ module _ {R : Type 0} where
   pub known_step : (riding : Riding R) → KnownStepLaw riding
   known_step riding event_at t s m rider orderly e is h =
       record {
-        goes_on = carries_know_law event_at t (actor_of m) (carries_of known_carrying s) (carries_of known_carrying (step riding known_carrying rider s m)) orderly own (subst (λ (p : Happening). CarriesFollow known_carrying p (actor_of m) (carries_of known_carrying s) (carries_of known_carrying (step riding known_carrying rider s m))) (sym is) (carries_follow riding known_carrying s m rider e)) h;
+        goes_on = carries_know_law event_at t (actor_of m) (carries_of known_carrying s)
+            (carries_of known_carrying (step riding known_carrying rider s m)) orderly own
+            (subst (λ (p : Happening).
+            CarriesFollow known_carrying p (actor_of m) (carries_of known_carrying s)
+            (carries_of known_carrying (step riding known_carrying rider s m))) (sym is) (carries_follow riding known_carrying s m rider e)) h;
         known = λ y retires.
-            subst (λ (k : Known). IsKnownCount event_at k y) (ap (λ (p : Happening). carry_left known_carrying p (carries_of known_carrying s) (actor_of m)) is ∙ sym (carry_told riding known_carrying s m y e retires))
-            (known_count_law event_at t (actor_of m) (carries_of known_carrying s) y orderly own (ap (λ (p : Happening). p.retires) is ∙ (sym (ap instr_of (forgetting.plain_event riding known_carrying s m)) ∙ retires)) h);
+            subst (λ (k : Known). IsKnownCount event_at k y) (ap (λ (p : Happening). carry_left known_carrying p (carries_of known_carrying s) (actor_of m)) is
+            ∙ sym (carry_told riding known_carrying s m y e retires))
+            (known_count_law event_at t (actor_of m) (carries_of known_carrying s) y orderly own (ap (λ (p : Happening). p.retires) is
+            ∙ (sym (ap instr_of (forgetting.plain_event riding known_carrying s m)) ∙ retires)) h);
       }
     where
       own : (event_at t).actor ≡ Some (actor_of m)
       own = ap (λ (p : Happening). p.actor) is
 
-  stepped_knows : (riding : Riding R) (event_at : ℕ → Happening) (t : ℕ) (s : State R Known) (o : Option Move) (rider : R) → AreOrderly event_at → ((m : Move) → o ≡ Some m → IsTrue (enabled riding known_carrying s m)) → event_at t ≡ happening_by (plain s) o → AllKnow event_at t (carries_of known_carrying s) → AllKnow event_at (suc t) (carries_of known_carrying (known_stepped riding rider s o))
-  stepped_knows riding event_at t s None rider orderly able is h = all_know_idle event_at t (carries_of known_carrying s) (ap (λ (p : Happening). p.actor) is) (ap (λ (p : Happening). p.takes) is) (λ link. ap (λ (p : Happening). p.sends link) is) h
+  stepped_knows : (riding : Riding R) (event_at : ℕ → Happening) (t : ℕ) (s : State R Known) (o : Option Move) (rider : R) → AreOrderly event_at →
+      ((m : Move) → o ≡ Some m → IsTrue (enabled riding known_carrying s m)) → event_at t ≡ happening_by (plain s) o →
+      AllKnow event_at t (carries_of known_carrying s) → AllKnow event_at (suc t) (carries_of known_carrying (known_stepped riding rider s o))
+  stepped_knows riding event_at t s None rider orderly able is h =
+      all_know_idle event_at t (carries_of known_carrying s) (ap (λ (p : Happening). p.actor) is) (ap (λ (p : Happening). p.takes) is)
+      (λ link. ap (λ (p : Happening). p.sends link) is) h
   stepped_knows riding event_at t s (Some m) rider orderly able is h = (known_step riding event_at t s m rider orderly (able m refl) is h).goes_on
 
-  pub run_knows : (riding : Riding R) (image : Contents) (params : Params) (choices : ℕ → ℕ) (riders : ℕ → R) (t : ℕ) → params.cores ≤ CORES_MAX → AllKnow (happening_at image params choices) t (carries_of known_carrying (known_run riding image params choices riders t))
+  pub run_knows : (riding : Riding R) (image : Contents) (params : Params) (choices : ℕ → ℕ) (riders : ℕ → R) (t : ℕ) → params.cores ≤ CORES_MAX →
+      AllKnow (happening_at image params choices) t (carries_of known_carrying (known_run riding image params choices riders t))
   run_knows riding image params choices riders zero few = known_start riding (happening_at image params choices) image params.cores params.limit
   run_knows riding image params choices riders (suc t) few =
       let s : State R Known = known_run riding image params choices riders t in
-      stepped_knows riding (happening_at image params choices) t s (chosen (plain s) (choices t)) (riders t) (run_orderly_law image params choices few) (λ m is. taken_enabled riding s (choices t) m is) (happens riding image params choices riders t) (run_knows riding image params choices riders t few)
+      stepped_knows riding (happening_at image params choices) t s (chosen (plain s) (choices t)) (riders t) (run_orderly_law image params choices few)
+      (λ m is. taken_enabled riding s (choices t) m is) (happens riding image params choices riders t) (run_knows riding image params choices riders t few)
 
   pub known_run_law : (riding : Riding R) → KnownRunLaw riding
   known_run_law riding image params choices riders t m y few is retires =
       let s : State R Known = known_run riding image params choices riders t in
-      (known_step riding (happening_at image params choices) t s m (riders t) (run_orderly_law image params choices few) (taken_enabled riding s (choices t) m is) (happens riding image params choices riders t ∙ ap (happening_by (plain s)) is) (run_knows riding image params choices riders t few)).known y retires
+      (known_step riding (happening_at image params choices) t s m (riders t) (run_orderly_law image params choices few)
+      (taken_enabled riding s (choices t) m is) (happens riding image params choices riders t ∙ ap (happening_by (plain s)) is)
+      (run_knows riding image params choices riders t few)).known y retires
 
 same_lengths : (event_at : ℕ → Happening) (us : List ℕ) (ks : List Known) → AllCount event_at us ks → length us ≡ length ks
 same_lengths event_at [] [] h = refl
@@ -182,5 +218,6 @@ same_lengths event_at (u ∷ us) (k ∷ ks) h = ap suc (same_lengths event_at us
 pub run_links_law : RunLinksLaw
 run_links_law image params choices t link few =
     let s : State (Unit {0}) Known = known_run none_riding image params choices (λ u. tt) t in
-    same_lengths (happening_at image params choices) (on_link (happening_at image params choices) t link) ((carries_of known_carrying s).sent link) ((run_knows none_riding image params choices (λ u. tt) t few).sent link)
+    same_lengths (happening_at image params choices) (on_link (happening_at image params choices) t link) ((carries_of known_carrying s).sent link)
+    ((run_knows none_riding image params choices (λ u. tt) t few).sent link)
     ∙ (sym (counted known_carrying s link) ∙ ap (λ (p : PlainState). under_way p link) (run_plain none_riding image params choices (λ u. tt) t))

@@ -7,7 +7,8 @@ use Rattle.know_history.specs.Happenings.{Actor, AtCore, AtHome, Channel, Happen
 use Rattle.know_history.specs.Knowing.{Carries}
 use Rattle.msi_state.specs.declared.node.Node.{Node}
 use Rattle.msi_state.specs.declared.moves.Move.{Move}
-use Rattle.msi_state.specs.declared.moves.Move.TheVariants.{Core as CoreMove, Request as RequestMove, Response as ResponseMove, FromHome as MessageMove}
+use Rattle.msi_state.specs.declared.moves.Move.TheVariants.{Core as CoreMove, Request as RequestMove}
+use Rattle.msi_state.specs.declared.moves.Move.TheVariants.{Response as ResponseMove, FromHome as MessageMove}
 use Rattle.msi_state.specs.Nodes.{instr_of}
 use Rattle.msi_state.specs.Runs.{chosen, plain_event, plain_step, run}
 use Rattle.msi_state.specs.States.{PlainState, State, node_at}
@@ -51,7 +52,8 @@ module _ {R K : Type 0} where
 
   -- what the actors of a state and its messages carry
   abbrev pub carries_of : Carrying K → State R K → Carries K
-  carries_of carrying s = record { own = own_carry carrying s; sent = λ link. carries_at link (node_at carrying s.nodes (core_at link)) }
+  carries_of carrying s =
+      record { own = own_carry carrying s; sent = λ link. carries_at link (node_at carrying s.nodes (core_at link)) }
 
 -- how many messages are under way on a link
 abbrev pub under_way : PlainState → Channel → ℕ

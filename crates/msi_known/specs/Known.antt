@@ -19,7 +19,8 @@ use Rattle.msi_state.specs.Steps.{enabled, event, retiring, step}
 use Rattle.msi_known.specs.Events.{actor_of, carries_of, happening_at, happening_of, under_way}
 
 -- the counts of a state's cores are the numbers of their instructions that retired in the first t events
-pub record CountsRetired {R K : Type 0} (carrying : Carrying K) (event : ℕ → Happening) (t : ℕ) (s : State R K) : Type 0 where
+pub record CountsRetired {R K : Type 0} (carrying : Carrying K) (event : ℕ → Happening) (t : ℕ)
+    (s : State R K) : Type 0 where
   pub few : length s.nodes ≤ CORES_MAX
   pub numbers : (c : ℕ) → c < length s.nodes → (node_at carrying s.nodes c).core.id ≡ c
   pub counts : (c : ℕ) → c < length s.nodes → (node_at carrying s.nodes c).core.count ≡ retired_in event t c
@@ -28,22 +29,30 @@ module _ {R K : Type 0} where
   -- Each move changes the carries as its event says, and what retires in it is told with the carry that its
   -- core then has.
   abbrev pub CarriesFollowLaw : Riding R → Carrying K → Type 0
-  CarriesFollowLaw riding carrying = (s : State R K) (m : Move) (rider : R) → IsTrue (enabled riding carrying s m) → CarriesFollow carrying (happening_of (plain s) m) (actor_of m) (carries_of carrying s) (carries_of carrying (step riding carrying rider s m))
+  CarriesFollowLaw riding carrying = (s : State R K) (m : Move) (rider : R) → IsTrue (enabled riding carrying s m) →
+      CarriesFollow carrying (happening_of (plain s) m) (actor_of m) (carries_of carrying s)
+      (carries_of carrying (step riding carrying rider s m))
 
   abbrev pub CarryToldLaw : Riding R → Carrying K → Type 0
-  CarryToldLaw riding carrying = (s : State R K) (m : Move) (y : Instr) → IsTrue (enabled riding carrying s m) → instr_of (event riding carrying s m) ≡ Some y → carry_after carrying (retiring riding carrying s m) ≡ carry_left carrying (happening_of (plain s) m) (carries_of carrying s) (actor_of m)
+  CarryToldLaw riding carrying = (s : State R K) (m : Move) (y : Instr) → IsTrue (enabled riding carrying s m) →
+      instr_of (event riding carrying s m) ≡ Some y → carry_after carrying (retiring riding carrying s m)
+      ≡ carry_left carrying (happening_of (plain s) m) (carries_of carrying s) (actor_of m)
 
 -- In each run each core's instructions retire one after the other, in its own events.
 abbrev pub RunOrderlyLaw : Type 0
-RunOrderlyLaw = (image : Contents) (params : Params) (choices : ℕ → ℕ) → params.cores ≤ CORES_MAX → AreOrderly (happening_at image params choices)
+RunOrderlyLaw = (image : Contents) (params : Params) (choices : ℕ → ℕ) → params.cores ≤ CORES_MAX →
+    AreOrderly (happening_at image params choices)
 
 -- In each state of a run each link holds as many messages as its events have sent to it and not yet taken.
 abbrev pub RunLinksLaw : Type 0
-RunLinksLaw = (image : Contents) (params : Params) (choices : ℕ → ℕ) (t : ℕ) (link : Channel) → params.cores ≤ CORES_MAX → length (on_link (happening_at image params choices) t link) ≡ under_way (run image params choices t) link
+RunLinksLaw = (image : Contents) (params : Params) (choices : ℕ → ℕ) (t : ℕ) (link : Channel) →
+    params.cores ≤ CORES_MAX → length (on_link (happening_at image params choices) t link)
+    ≡ under_way (run image params choices t) link
 
 -- In a run there retires in an event what the clerk is told of.
 abbrev pub RunRetiresLaw : Type 0
-RunRetiresLaw = (image : Contents) (params : Params) (choices : ℕ → ℕ) (t : ℕ) → (happening_at image params choices t).retires ≡ instr_of (event_at image params choices t)
+RunRetiresLaw = (image : Contents) (params : Params) (choices : ℕ → ℕ) (t : ℕ) →
+    (happening_at image params choices t).retires ≡ instr_of (event_at image params choices t)
 
 -- x retires in an earlier step of the run than y
 pub record RetiresEarlier (image : Contents) (params : Params) (choices : ℕ → ℕ) (x y : Instr) : Type 0 where
@@ -55,20 +64,26 @@ pub record RetiresEarlier (image : Contents) (params : Params) (choices : ℕ �
 
 -- What is known retired earlier in the run.
 abbrev pub RunEarlierLaw : Type 0
-RunEarlierLaw = (image : Contents) (params : Params) (choices : ℕ → ℕ) (x y : Instr) → IsKnownAt (happening_at image params choices) x y → RetiresEarlier image params choices x y
+RunEarlierLaw = (image : Contents) (params : Params) (choices : ℕ → ℕ) (x y : Instr) →
+    IsKnownAt (happening_at image params choices) x y → RetiresEarlier image params choices x y
 
 -- A machine at its start carries nothing.
 abbrev pub KnownStartLaw : {R : Type 0} → Riding R → Type 0
-KnownStartLaw riding = (event : ℕ → Happening) (image : Contents) (cores limit : ℕ) → AllKnow event 0 (carries_of known_carrying (state_start riding known_carrying image cores limit))
+KnownStartLaw riding = (event : ℕ → Happening) (image : Contents) (cores limit : ℕ) →
+    AllKnow event 0 (carries_of known_carrying (state_start riding known_carrying image cores limit))
 
 -- Where a machine's carries count what reached them, they do after a move, and what retires in it is told with a
 -- carry that counts what is known at it.
-pub record StepKnows {R : Type 0} (riding : Riding R) (happening : ℕ → Happening) (t : ℕ) (s : State R Known) (m : Move) (rider : R) : Type 0 where
+pub record StepKnows {R : Type 0} (riding : Riding R) (happening : ℕ → Happening) (t : ℕ) (s : State R Known)
+    (m : Move) (rider : R) : Type 0 where
   pub goes_on : AllKnow happening (suc t) (carries_of known_carrying (step riding known_carrying rider s m))
-  pub known : (y : Instr) → instr_of (event riding known_carrying s m) ≡ Some y → IsKnownCount happening (carry_after known_carrying (retiring riding known_carrying s m)) y
+  pub known : (y : Instr) → instr_of (event riding known_carrying s m) ≡ Some y →
+      IsKnownCount happening (carry_after known_carrying (retiring riding known_carrying s m)) y
 
 abbrev pub KnownStepLaw : {R : Type 0} → Riding R → Type 0
-KnownStepLaw {R} riding = (happening : ℕ → Happening) (t : ℕ) (s : State R Known) (m : Move) (rider : R) → AreOrderly happening → IsTrue (enabled riding known_carrying s m) → happening t ≡ happening_of (plain s) m → AllKnow happening t (carries_of known_carrying s) → StepKnows riding happening t s m rider
+KnownStepLaw {R} riding = (happening : ℕ → Happening) (t : ℕ) (s : State R Known) (m : Move) (rider : R) →
+    AreOrderly happening → IsTrue (enabled riding known_carrying s m) → happening t ≡ happening_of (plain s) m →
+    AllKnow happening t (carries_of known_carrying s) → StepKnows riding happening t s m rider
 
 -- Runs of a machine whose carries count what is known: `riders t` is the rider that the clerk leaves in step t.
 module _ {R : Type 0} where
@@ -87,12 +102,16 @@ module _ {R : Type 0} where
   RunKnowsLaw riding =
       (image : Contents) (params : Params) (choices : ℕ → ℕ) (riders : ℕ → R) (t : ℕ) → params.cores ≤ CORES_MAX →
       (plain (known_run riding image params choices riders t) ≡ run image params choices t)
-      × AllKnow (happening_at image params choices) t (carries_of known_carrying (known_run riding image params choices riders t))
+      × AllKnow (happening_at image params choices) t
+      (carries_of known_carrying (known_run riding image params choices riders t))
 
   -- In each step of each run, what retires is told with a carry that counts exactly what is known at it.
   abbrev pub KnownRunLaw : Riding R → Type 0
   KnownRunLaw riding =
-      (image : Contents) (params : Params) (choices : ℕ → ℕ) (riders : ℕ → R) (t : ℕ) (m : Move) (y : Instr) → params.cores ≤ CORES_MAX →
+      (image : Contents) (params : Params) (choices : ℕ → ℕ) (riders : ℕ → R) (t : ℕ) (m : Move) (y : Instr) →
+      params.cores ≤ CORES_MAX →
       chosen (plain (known_run riding image params choices riders t)) (choices t) ≡ Some m →
       instr_of (event riding known_carrying (known_run riding image params choices riders t) m) ≡ Some y →
-      IsKnownCount (happening_at image params choices) (carry_after known_carrying (retiring riding known_carrying (known_run riding image params choices riders t) m)) y
+      IsKnownCount (happening_at image params choices)
+      (carry_after known_carrying
+      (retiring riding known_carrying (known_run riding image params choices riders t) m)) y

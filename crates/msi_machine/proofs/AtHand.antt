@@ -47,9 +47,11 @@ module _ {R K : Type 0} where
   pub one_writer : (riding : Riding R) (carrying : Carrying K) (s : State R K) → Sound riding carrying s → OneWriterEach riding carrying s
   one_writer riding carrying s h b c d lc ld apart writes =
       readable_seen b (line_for riding.fresh (node_at carrying s.nodes d).cache b)
-      ∙ one_writer_holds (block_in riding carrying s b) (h.blocks b) c d (below c (length s.nodes) CORES_MAX lc h.cores) (below d (length s.nodes) CORES_MAX ld h.cores) apart (sym (writable_seen b (line_for riding.fresh (node_at carrying s.nodes c).cache b)) ∙ writes)
+      ∙ one_writer_holds (block_in riding carrying s b) (h.blocks b) c d (below c (length s.nodes) CORES_MAX lc h.cores)
+      (below d (length s.nodes) CORES_MAX ld h.cores) apart (sym (writable_seen b (line_for riding.fresh (node_at carrying s.nodes c).cache b)) ∙ writes)
 
-  pub ends_at_hand : (riding : Riding R) (carrying : Carrying K) (s : State R K) → Sound riding carrying s → all_done s ≡ true → (b : ℕ) → at_hand riding carrying s b ≡ true
+  pub ends_at_hand : (riding : Riding R) (carrying : Carrying K) (s : State R K) → Sound riding carrying s → all_done s ≡ true → (b : ℕ) →
+      at_hand riding carrying s b ≡ true
   ends_at_hand riding carrying s h done b = by_stage (entry_at riding.fresh s.home b).stage refl
     where
       both : (x y : Bool) → x ≡ true → y ≡ true → (x && y) ≡ true
@@ -69,6 +71,11 @@ module _ {R K : Type 0} where
       by_stage (Owned o) is =
           let known : o < CORES_MAX = subst StageFits is (h.blocks b).fits in
           let named : role (entry_at riding.fresh s.home b).stage o ≡ Owner = ap (λ (x : Stage). role x o) is ∙ owner_role o in
-          let lo : o < length s.nodes = there riding carrying s.nodes (entry_at riding.fresh s.home b).stage b o ((h.blocks b).stands o known) (λ (out : role (entry_at riding.fresh s.home b).stage o ≡ Out). cc) in
-          let line : line_state b (line_for riding.fresh (node_at carrying s.nodes o).cache b) ≡ M = (quiet_agrees (block_in riding carrying s b) (h.blocks b) (λ d ld. all_quiet riding carrying s b d (links_left riding carrying s h done))).lines o known ∙ ap settled named in
-          both (nat_lt o (length s.nodes)) (can_read (line_for riding.fresh (node_at carrying s.nodes o).cache b) b) (below_test o (length s.nodes) lo) (readable_seen b (line_for riding.fresh (node_at carrying s.nodes o).cache b) ∙ ap is_readable line)
+          let lo : o < length s.nodes =
+          there riding carrying s.nodes (entry_at riding.fresh s.home b).stage b o ((h.blocks b).stands o known)
+          (λ (out : role (entry_at riding.fresh s.home b).stage o ≡ Out). cc) in
+          let line : line_state b (line_for riding.fresh (node_at carrying s.nodes o).cache b) ≡ M =
+          (quiet_agrees (block_in riding carrying s b) (h.blocks b) (λ d ld. all_quiet riding carrying s b d (links_left riding carrying s h done))).lines
+          o known ∙ ap settled named in
+          both (nat_lt o (length s.nodes)) (can_read (line_for riding.fresh (node_at carrying s.nodes o).cache b) b) (below_test o (length s.nodes) lo)
+          (readable_seen b (line_for riding.fresh (node_at carrying s.nodes o).cache b) ∙ ap is_readable line)

@@ -8,7 +8,8 @@ use Rattle.msi_state.specs.Bound.{total_owed, total_earned, total_retired}
 use Rattle.msi_state.specs.States.{State, state_start, all_done}
 
 module _ {R K : Type 0} where
-  pub start_owes : (riding : Riding R) (carrying : Carrying K) (image : Contents) (cores limit : ℕ) → total_owed (state_start riding carrying image cores limit) ≡ 0
+  pub start_owes : (riding : Riding R) (carrying : Carrying K) (image : Contents) (cores limit : ℕ) →
+      total_owed (state_start riding carrying image cores limit) ≡ 0
   start_owes riding carrying image cores limit = owed_start riding carrying limit (range_with_len 0 cores)
 
   pub ends_paid : (riding : Riding R) (s : State R K) → all_done s ≡ true → total_earned riding s ≡ (2 * length s.nodes + 4) * total_retired s

@@ -35,19 +35,22 @@ is_nil_map f [] = refl
 is_nil_map f (x ∷ xs) = refl
 
 module _ {R K : Type 0} where
-  plain_head_free : (riding : Riding R) (home : List (Entry R)) (q : List (Mail (Request R) K)) → head_free q riding home ≡ head_free (map (plain_mail plain_request) q) none_riding (plain_entries home)
+  plain_head_free : (riding : Riding R) (home : List (Entry R)) (q : List (Mail (Request R) K)) →
+      head_free q riding home ≡ head_free (map (plain_mail plain_request) q) none_riding (plain_entries home)
   plain_head_free riding home [] = refl
   plain_head_free riding home (mail ∷ rest) =
       ap (λ (e : Entry (Unit {0})). is_free e.stage) (plain_on_request riding home 0 mail.item).same_entry
       ∙ ap (λ (b : ℕ). is_free (entry_at tt (plain_entries home) b).stage) (plain_request_block mail.item)
 
-  plain_enabled_at : (image : Contents) (riding : Riding R) (home : List (Entry R)) (n : Node R K) (m : Move) → enabled_at image riding home n m ≡ enabled_at image none_riding (plain_entries home) (plain_node n) m
+  plain_enabled_at : (image : Contents) (riding : Riding R) (home : List (Entry R)) (n : Node R K) (m : Move) → enabled_at image riding home n m
+      ≡ enabled_at image none_riding (plain_entries home) (plain_node n) m
   plain_enabled_at image riding home n (CoreMove c) = ap (λ (w : Bool). not (is_done (need image n.core)) && not w) (plain_waits n.cache)
   plain_enabled_at image riding home n (RequestMove c) = plain_head_free riding home n.requests.items
   plain_enabled_at image riding home n (ResponseMove c) = ap not (sym (is_nil_map (plain_mail plain_response) n.responses.items))
   plain_enabled_at image riding home n (MessageMove c) = ap not (sym (is_nil_map (plain_mail plain_message) n.messages.items))
 
-  plain_enabled : (riding : Riding R) (carrying : Carrying K) (s : State R K) (m : Move) → enabled riding carrying s m ≡ enabled none_riding none_carrying (plain s) m
+  plain_enabled : (riding : Riding R) (carrying : Carrying K) (s : State R K) (m : Move) → enabled riding carrying s m
+      ≡ enabled none_riding none_carrying (plain s) m
   plain_enabled riding carrying s m =
       ap (λ (n : ℕ). nat_lt (core_of m) n && enabled_at s.image riding s.home (node_at carrying s.nodes (core_of m)) m) (sym (length-map s.nodes plain_node))
       ∙ ap (λ (t : Bool). nat_lt (core_of m) (length (map plain_node s.nodes)) && t)
@@ -56,5 +59,6 @@ module _ {R K : Type 0} where
 
   pub plain_moves : (riding : Riding R) (carrying : Carrying K) (s : State R K) → PlainMoves riding carrying s
   plain_moves riding carrying s =
-      filter_same (enabled riding carrying s) (enabled none_riding none_carrying (plain s)) (plain_enabled riding carrying s) (candidates (length s.nodes) (4 * length s.nodes))
+      filter_same (enabled riding carrying s) (enabled none_riding none_carrying (plain s)) (plain_enabled riding carrying s)
+      (candidates (length s.nodes) (4 * length s.nodes))
       ∙ ap (λ (n : ℕ). filter (enabled none_riding none_carrying (plain s)) (candidates n (4 * n))) (sym (length-map s.nodes plain_node))

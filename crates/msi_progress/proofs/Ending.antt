@@ -31,7 +31,8 @@ use Rattle.msi_progress.proofs.Waiting.{is_own, items_of, answers_of, Wants, own
 use Rattle.msi_progress.proofs.Spaces.{request_waits}
 
 -- a line of a core that is done doesn't wait
-done_still : (needed : Need) (state : LineState) (l i : ℕ) → is_done needed ≡ true → fits_need (need_access needed) state l i ≡ true → is_transient state ≡ false
+done_still : (needed : Need) (state : LineState) (l i : ℕ) → is_done needed ≡ true → fits_need (need_access needed) state l i ≡ true →
+    is_transient state ≡ false
 done_still needed state l i done fits = grind arith
 
 filter_none : {X : Type 0} (test : X → Bool) (xs : List X) → ((x : X) → test x ≡ false) → filter test xs ≡ []
@@ -47,20 +48,23 @@ module _ {R K : Type 0} where
   none_wants riding carrying s h done c b w =
       let n : Node R K = node_at carrying s.nodes c in
       let l : Line R = line_for riding.fresh n.cache b in
-      let its : is_done (need s.image n.core) ≡ true = AllPass-from_list_all (λ (x : Node R K). is_done (need s.image x.core)) s.nodes done c (no_node carrying) w.core in
+      let its : is_done (need s.image n.core) ≡ true =
+      AllPass-from_list_all (λ (x : Node R K). is_done (need s.image x.core)) s.nodes done c (no_node carrying) w.core in
       let fits = ((h.nodes c w.core).lines (b % LINES)).needed_here in
       let still : is_transient l.state ≡ false = done_still (need s.image n.core) l.state l.block (b % LINES) its fits in
       let waits = (view_waits b l w.waits).1 in
       cc
 
-  no_requests_left : (riding : Riding R) (carrying : Carrying K) (s : State R K) (c : ℕ) → Sound riding carrying s → c < length s.nodes → NoWants riding carrying s → (node_at carrying s.nodes c).requests.items ≡ []
+  no_requests_left : (riding : Riding R) (carrying : Carrying K) (s : State R K) (c : ℕ) → Sound riding carrying s → c < length s.nodes →
+      NoWants riding carrying s → (node_at carrying s.nodes c).requests.items ≡ []
   no_requests_left riding carrying s c h lc none = by_items (node_at carrying s.nodes c).requests.items refl
     where
       by_items : (q : List (Mail (Request R) K)) → (node_at carrying s.nodes c).requests.items ≡ q → q ≡ []
       by_items [] is = refl
       by_items (mail ∷ rest) is = absurd (none c _ (request_waits riding carrying s c mail rest h lc is).0)
 
-  no_responses_left : (riding : Riding R) (carrying : Carrying K) (s : State R K) (c : ℕ) → Sound riding carrying s → c < length s.nodes → NoWants riding carrying s → (node_at carrying s.nodes c).responses.items ≡ []
+  no_responses_left : (riding : Riding R) (carrying : Carrying K) (s : State R K) (c : ℕ) → Sound riding carrying s → c < length s.nodes →
+      NoWants riding carrying s → (node_at carrying s.nodes c).responses.items ≡ []
   no_responses_left riding carrying s c h lc none = by_items (node_at carrying s.nodes c).responses.items refl
     where
       by_items : (q : List (Mail (Response R) K)) → (node_at carrying s.nodes c).responses.items ≡ q → q ≡ []
@@ -71,7 +75,8 @@ module _ {R K : Type 0} where
           let some : 1 ≤ others b (answers_of (node_at carrying s.nodes c).responses.items) = rw is (omega arith) in
           absurd (none _ b (owed_to riding carrying s c b h (answer_owes riding carrying s c b lc h some)).0)
 
-  no_messages_left : (riding : Riding R) (carrying : Carrying K) (s : State R K) (c : ℕ) → Sound riding carrying s → c < length s.nodes → NoWants riding carrying s → (node_at carrying s.nodes c).messages.items ≡ []
+  no_messages_left : (riding : Riding R) (carrying : Carrying K) (s : State R K) (c : ℕ) → Sound riding carrying s → c < length s.nodes →
+      NoWants riding carrying s → (node_at carrying s.nodes c).messages.items ≡ []
   no_messages_left riding carrying s c h lc none = by_items (node_at carrying s.nodes c).messages.items refl
     where
       by_items : (q : List (Mail (FromHome R) K)) → (node_at carrying s.nodes c).messages.items ≡ q → q ≡ []
@@ -91,21 +96,27 @@ module _ {R K : Type 0} where
               let some : 1 ≤ others item.block (items_of (node_at carrying s.nodes c).messages.items) = rw is (omega arith) in
               absurd (none _ item.block (owed_to riding carrying s c item.block h (other_owes riding carrying s c item.block lc h some)).0)
 
-  node_empty : (riding : Riding R) (carrying : Carrying K) (s : State R K) (c : ℕ) → Sound riding carrying s → c < length s.nodes → NoWants riding carrying s → are_links_empty (node_at carrying s.nodes c) ≡ true
+  node_empty : (riding : Riding R) (carrying : Carrying K) (s : State R K) (c : ℕ) → Sound riding carrying s → c < length s.nodes → NoWants riding carrying s →
+      are_links_empty (node_at carrying s.nodes c) ≡ true
   node_empty riding carrying s c h lc none =
       rw (no_requests_left riding carrying s c h lc none, no_responses_left riding carrying s c h lc none, no_messages_left riding carrying s c h lc none) refl
 
   pub links_left : (riding : Riding R) (carrying : Carrying K) (s : State R K) → Sound riding carrying s → all_done s ≡ true → links_empty s ≡ true
   links_left riding carrying s h done =
-      list_all-from_AllPass are_links_empty s.nodes (λ c d lc. subst (λ (n : Node R K). are_links_empty n ≡ true) (get_or_default s.nodes c (no_node carrying) d lc) (node_empty riding carrying s c h lc (none_wants riding carrying s h done)))
+      list_all-from_AllPass are_links_empty s.nodes
+      (λ c d lc. subst (λ (n : Node R K). are_links_empty n ≡ true) (get_or_default s.nodes c (no_node carrying) d lc)
+      (node_empty riding carrying s c h lc (none_wants riding carrying s h done)))
 
-  not_enabled : (riding : Riding R) (carrying : Carrying K) (s : State R K) (c : ℕ) (t : Bool) → (c < length s.nodes → t ≡ false) → (nat_lt c (length s.nodes) && t) ≡ false
+  not_enabled : (riding : Riding R) (carrying : Carrying K) (s : State R K) (c : ℕ) (t : Bool) → (c < length s.nodes → t ≡ false) →
+      (nat_lt c (length s.nodes) && t) ≡ false
   not_enabled riding carrying s c false none = grind (arith, nat_tests)
   not_enabled riding carrying s c true none = grind (arith, nat_tests)
 
-  none_enabled : (riding : Riding R) (carrying : Carrying K) (s : State R K) → Sound riding carrying s → all_done s ≡ true → (m : Move) → enabled riding carrying s m ≡ false
+  none_enabled : (riding : Riding R) (carrying : Carrying K) (s : State R K) → Sound riding carrying s → all_done s ≡ true → (m : Move) →
+      enabled riding carrying s m ≡ false
   none_enabled riding carrying s h done (CoreMove c) =
-      not_enabled riding carrying s c _ (λ lc. rw (AllPass-from_list_all (λ (x : Node R K). is_done (need s.image x.core)) s.nodes done c (no_node carrying) lc) refl)
+      not_enabled riding carrying s c _
+      (λ lc. rw (AllPass-from_list_all (λ (x : Node R K). is_done (need s.image x.core)) s.nodes done c (no_node carrying) lc) refl)
   none_enabled riding carrying s h done (RequestMove c) =
       not_enabled riding carrying s c _ (λ lc. rw (no_requests_left riding carrying s c h lc (none_wants riding carrying s h done)) refl)
   none_enabled riding carrying s h done (ResponseMove c) =

@@ -1,6 +1,7 @@
 -- Whom a message under way is for: each is for one core's want, which waits until it is served. So no
 -- link has more messages than there are cores.
-use Rattle.std.proofs.Common.{◌≡◌, ◌≢◌, ◌∙◌, ap, refl, sym, subst, ℕ, ◌+◌, ◌<◌, ◌≤◌, ◌==◌, ◌%◌, Bool, true, false, not, cond, ◌&&◌, List, [], ◌∷◌, length, suc, arith}
+use Rattle.std.proofs.Common.{◌≡◌, ◌≢◌, ◌∙◌, ap, refl, sym, subst, ℕ, ◌+◌, ◌<◌, ◌≤◌, ◌==◌, ◌%◌, Bool, true, false, not, cond, ◌&&◌, List, [], ◌∷◌, length, suc}
+use Rattle.std.proofs.Common.{arith}
 use Rattle.std.specs.Prelude.{slice_index_or}
 use Rattle.std.proofs.lemmas.Bool.Decides.{nat_tests}
 use Rattle.access_times.specs.Riding.{Riding, Carrying}
@@ -75,14 +76,17 @@ phase_other p e = grind arith
 pub phase_reply : (p : Phase) → 1 ≤ length (picture p).responses → owes (role_in p) ≡ true
 phase_reply p e = grind arith
 
-pub phase_asks : (p : Phase) → 1 ≤ length (picture p).requests → (is_transient (picture p).line ≡ true) × (own_count (picture p).messages ≡ 0) × (awaiting (role_in p) ≡ false)
+pub phase_asks : (p : Phase) → 1 ≤ length (picture p).requests → (is_transient (picture p).line ≡ true) × (own_count (picture p).messages ≡ 0)
+    × (awaiting (role_in p) ≡ false)
 phase_asks p e = (grind arith, grind arith, grind arith)
 
-pub phase_awaits : (p : Phase) → awaiting (role_in p) ≡ true → (is_transient (picture p).line ≡ true) × ((picture p).messages ≡ []) × ((picture p).responses ≡ [])
+pub phase_awaits : (p : Phase) → awaiting (role_in p) ≡ true → (is_transient (picture p).line ≡ true) × ((picture p).messages ≡ [])
+    × ((picture p).responses ≡ [])
 phase_awaits p e = (grind arith, grind arith, grind arith)
 
 -- where one owes, another waits
-pub owing_for : (stage : Stage) (d : ℕ) → StageFits stage → owes (role stage d) ≡ true → (requester_of stage ≢ d) × (awaiting (role stage (requester_of stage)) ≡ true) × (requester_of stage < CORES_MAX)
+pub owing_for : (stage : Stage) (d : ℕ) → StageFits stage → owes (role stage d) ≡ true → (requester_of stage ≢ d)
+    × (awaiting (role stage (requester_of stage)) ≡ true) × (requester_of stage < CORES_MAX)
 owing_for stage d fits e = (λ (same : requester_of stage ≡ d). grind (arith, nat_tests), grind (arith, nat_tests), grind (arith, nat_tests))
 
 pub awaiting_named : (r : Role) → awaiting r ≡ true → r ≢ Out
@@ -111,7 +115,8 @@ module _ {R K : Type 0} where
   owns_items b [] = refl
   owns_items b (x ∷ xs) = one (is_own (signal x.item)) (block_of x.item == b) (owns_items b xs) refl
     where
-      one : (t u : Bool) → owns b (items_of xs) ≡ own_count (signals_of b xs) → is_own (signal x.item) ≡ t → cond (t && u) 1 0 + owns b (items_of xs) ≡ own_count (cons_if u (signal x.item) (signals_of b xs))
+      one : (t u : Bool) → owns b (items_of xs) ≡ own_count (signals_of b xs) → is_own (signal x.item) ≡ t → cond (t && u) 1 0 + owns b (items_of xs)
+          ≡ own_count (cons_if u (signal x.item) (signals_of b xs))
       one true true ih e = rw e (omega arith)
       one false true ih e = rw e (omega arith)
       one true false ih e = omega arith
@@ -121,7 +126,8 @@ module _ {R K : Type 0} where
   others_items b [] = refl
   others_items b (x ∷ xs) = one (is_own (signal x.item)) (block_of x.item == b) (others_items b xs) refl
     where
-      one : (t u : Bool) → others b (items_of xs) ≡ other_count (signals_of b xs) → is_own (signal x.item) ≡ t → cond (not t && u) 1 0 + others b (items_of xs) ≡ other_count (cons_if u (signal x.item) (signals_of b xs))
+      one : (t u : Bool) → others b (items_of xs) ≡ other_count (signals_of b xs) → is_own (signal x.item) ≡ t → cond (not t && u) 1 0 + others b (items_of xs)
+          ≡ other_count (cons_if u (signal x.item) (signals_of b xs))
       one true true ih e = rw e (omega arith)
       one false true ih e = rw e (omega arith)
       one true false ih e = omega arith
@@ -135,7 +141,8 @@ module _ {R K : Type 0} where
   others_answers b [] = refl
   others_answers b (x ∷ xs) = one (response_block x.item == b) (others_answers b xs)
     where
-      one : (u : Bool) → others b (answers_of xs) ≡ length (replies_of b xs) → cond u 1 0 + others b (answers_of xs) ≡ length (cons_if u (reply_of x.item) (replies_of b xs))
+      one : (u : Bool) → others b (answers_of xs) ≡ length (replies_of b xs) → cond u 1 0 + others b (answers_of xs)
+          ≡ length (cons_if u (reply_of x.item) (replies_of b xs))
       one true ih = omega arith
       one false ih = omega arith
 
@@ -147,71 +154,97 @@ module _ {R K : Type 0} where
     pub waits : is_transient (node_view riding b (node_at carrying s.nodes c)).line ≡ true
 
   -- a core waits for one block
-  pub wants_one : (riding : Riding R) (carrying : Carrying K) (s : State R K) → Sound riding carrying s → (c b e : ℕ) → Wants riding carrying s c b → Wants riding carrying s c e → b ≡ e
+  pub wants_one : (riding : Riding R) (carrying : Carrying K) (s : State R K) → Sound riding carrying s → (c b e : ℕ) → Wants riding carrying s c b →
+      Wants riding carrying s c e → b ≡ e
   wants_one riding carrying s h c b e p q =
       let n : Node R K = node_at carrying s.nodes c in
       let fits = h.nodes c p.core in
       let l = view_waits b (line_for riding.fresh n.cache b) p.waits in
       let m = view_waits e (line_for riding.fresh n.cache e) q.waits in
-      let i : b % LINES ≡ needed_block (need_access (need s.image n.core)) % LINES = transient_place (length s.home) (need_access (need s.image n.core)) (b % LINES) (line_for riding.fresh n.cache b) (fits.lines (b % LINES)) l.1 in
-      let j : e % LINES ≡ needed_block (need_access (need s.image n.core)) % LINES = transient_place (length s.home) (need_access (need s.image n.core)) (e % LINES) (line_for riding.fresh n.cache e) (fits.lines (e % LINES)) m.1 in
+      let i : b % LINES ≡ needed_block (need_access (need s.image n.core)) % LINES =
+      transient_place (length s.home) (need_access (need s.image n.core)) (b % LINES) (line_for riding.fresh n.cache b) (fits.lines (b % LINES)) l.1 in
+      let j : e % LINES ≡ needed_block (need_access (need s.image n.core)) % LINES =
+      transient_place (length s.home) (need_access (need s.image n.core)) (e % LINES) (line_for riding.fresh n.cache e) (fits.lines (e % LINES)) m.1 in
       sym l.0 ∙ (ap (λ (k : ℕ). (slice_index_or n.cache k (empty_line riding.fresh)).block) (i ∙ sym j) ∙ m.0)
 
   abbrev pub requester : Riding R → State R K → ℕ → ℕ
   requester riding s b = requester_of (entry_at riding.fresh s.home b).stage
 
-  phase_line : (riding : Riding R) (b : ℕ) (n : Node R K) (stage : Stage) (d : ℕ) (s : Stands stage d (node_view riding b n)) → is_transient (picture s.phase).line ≡ true → is_transient (node_view riding b n).line ≡ true
+  phase_line : (riding : Riding R) (b : ℕ) (n : Node R K) (stage : Stage) (d : ℕ) (s : Stands stage d (node_view riding b n)) →
+      is_transient (picture s.phase).line ≡ true → is_transient (node_view riding b n).line ≡ true
   phase_line riding b n stage d s e = ap (λ (v : View). is_transient v.line) (sym s.view_is) ∙ e
 
   -- a core that owes an answer owes it to one that waits
-  pub owed_to : (riding : Riding R) (carrying : Carrying K) (s : State R K) (d b : ℕ) → Sound riding carrying s → owes (role (entry_at riding.fresh s.home b).stage d) ≡ true → Wants riding carrying s (requester riding s b) b × (requester riding s b ≢ d) × (awaiting (role (entry_at riding.fresh s.home b).stage (requester riding s b)) ≡ true)
+  pub owed_to : (riding : Riding R) (carrying : Carrying K) (s : State R K) (d b : ℕ) → Sound riding carrying s →
+      owes (role (entry_at riding.fresh s.home b).stage d) ≡ true → Wants riding carrying s (requester riding s b) b × (requester riding s b ≢ d)
+      × (awaiting (role (entry_at riding.fresh s.home b).stage (requester riding s b)) ≡ true)
   owed_to riding carrying s d b h e =
       let block = h.blocks b in
       let stage : Stage = (entry_at riding.fresh s.home b).stage in
       let for_it = owing_for stage d block.fits e in
       let st = block.stands (requester riding s b) for_it.2 in
-      let lt : requester riding s b < length s.nodes = there riding carrying s.nodes stage b (requester riding s b) st (awaiting_named (role stage (requester riding s b)) for_it.1) in
-      (record { core = lt; waits = phase_line riding b (node_at carrying s.nodes (requester riding s b)) stage (requester riding s b) st (phase_awaits st.phase (ap awaiting st.role_is ∙ for_it.1)).0 }, for_it.0, for_it.1)
+      let lt : requester riding s b < length s.nodes =
+      there riding carrying s.nodes stage b (requester riding s b) st (awaiting_named (role stage (requester riding s b)) for_it.1) in (
+        record {
+          core = lt;
+          waits = phase_line riding b (node_at carrying s.nodes (requester riding s b)) stage (requester riding s b) st
+              (phase_awaits st.phase (ap awaiting st.role_is ∙ for_it.1)).0;
+        },
+        for_it.0,
+        for_it.1,
+      )
 
   -- where a core of the machine is with the block
-  stands_at : (riding : Riding R) (carrying : Carrying K) (s : State R K) (d b : ℕ) → d < length s.nodes → Sound riding carrying s → Stands (entry_at riding.fresh s.home b).stage d (node_view riding b (node_at carrying s.nodes d))
+  stands_at : (riding : Riding R) (carrying : Carrying K) (s : State R K) (d b : ℕ) → d < length s.nodes → Sound riding carrying s →
+      Stands (entry_at riding.fresh s.home b).stage d (node_view riding b (node_at carrying s.nodes d))
   stands_at riding carrying s d b ld h = let few : length s.nodes ≤ CORES_MAX = h.cores in (h.blocks b).stands d (omega arith)
 
   -- what the messages to a core, and its responses, are for
-  pub own_wants : (riding : Riding R) (carrying : Carrying K) (s : State R K) (d b : ℕ) → d < length s.nodes → Sound riding carrying s → 1 ≤ owns b (items_of (node_at carrying s.nodes d).messages.items) → Wants riding carrying s d b
+  pub own_wants : (riding : Riding R) (carrying : Carrying K) (s : State R K) (d b : ℕ) → d < length s.nodes → Sound riding carrying s →
+      1 ≤ owns b (items_of (node_at carrying s.nodes d).messages.items) → Wants riding carrying s d b
   own_wants riding carrying s d b ld h e =
       let n : Node R K = node_at carrying s.nodes d in
       let st = stands_at riding carrying s d b ld h in
-      let same : owns b (items_of n.messages.items) ≡ own_count (picture st.phase).messages = owns_items b n.messages.items ∙ ap (λ (v : View). own_count v.messages) (sym st.view_is) in
+      let same : owns b (items_of n.messages.items) ≡ own_count (picture st.phase).messages =
+      owns_items b n.messages.items ∙ ap (λ (v : View). own_count v.messages) (sym st.view_is) in
       record { core = ld; waits = phase_line riding b n (entry_at riding.fresh s.home b).stage d st (phase_own st.phase (omega arith)) }
 
-  pub other_owes : (riding : Riding R) (carrying : Carrying K) (s : State R K) (d b : ℕ) → d < length s.nodes → Sound riding carrying s → 1 ≤ others b (items_of (node_at carrying s.nodes d).messages.items) → owes (role (entry_at riding.fresh s.home b).stage d) ≡ true
+  pub other_owes : (riding : Riding R) (carrying : Carrying K) (s : State R K) (d b : ℕ) → d < length s.nodes → Sound riding carrying s →
+      1 ≤ others b (items_of (node_at carrying s.nodes d).messages.items) → owes (role (entry_at riding.fresh s.home b).stage d) ≡ true
   other_owes riding carrying s d b ld h e =
       let n : Node R K = node_at carrying s.nodes d in
       let st = stands_at riding carrying s d b ld h in
-      let same : others b (items_of n.messages.items) ≡ other_count (picture st.phase).messages = others_items b n.messages.items ∙ ap (λ (v : View). other_count v.messages) (sym st.view_is) in
+      let same : others b (items_of n.messages.items) ≡ other_count (picture st.phase).messages =
+      others_items b n.messages.items ∙ ap (λ (v : View). other_count v.messages) (sym st.view_is) in
       sym (ap owes st.role_is) ∙ phase_other st.phase (omega arith)
 
-  pub answer_owes : (riding : Riding R) (carrying : Carrying K) (s : State R K) (d b : ℕ) → d < length s.nodes → Sound riding carrying s → 1 ≤ others b (answers_of (node_at carrying s.nodes d).responses.items) → owes (role (entry_at riding.fresh s.home b).stage d) ≡ true
+  pub answer_owes : (riding : Riding R) (carrying : Carrying K) (s : State R K) (d b : ℕ) → d < length s.nodes → Sound riding carrying s →
+      1 ≤ others b (answers_of (node_at carrying s.nodes d).responses.items) → owes (role (entry_at riding.fresh s.home b).stage d) ≡ true
   answer_owes riding carrying s d b ld h e =
       let n : Node R K = node_at carrying s.nodes d in
       let st = stands_at riding carrying s d b ld h in
-      let same : others b (answers_of n.responses.items) ≡ length (picture st.phase).responses = others_answers b n.responses.items ∙ ap (λ (v : View). length v.responses) (sym st.view_is) in
+      let same : others b (answers_of n.responses.items) ≡ length (picture st.phase).responses =
+      others_answers b n.responses.items ∙ ap (λ (v : View). length v.responses) (sym st.view_is) in
       sym (ap owes st.role_is) ∙ phase_reply st.phase (omega arith)
 
   -- ---- how many there are
 
-  messages_apart : (riding : Riding R) (carrying : Carrying K) (s : State R K) (d : ℕ) → d < length s.nodes → Sound riding carrying s → Apart (requester riding s) d (Wants riding carrying s) (items_of (node_at carrying s.nodes d).messages.items)
+  messages_apart : (riding : Riding R) (carrying : Carrying K) (s : State R K) (d : ℕ) → d < length s.nodes → Sound riding carrying s →
+      Apart (requester riding s) d (Wants riding carrying s) (items_of (node_at carrying s.nodes d).messages.items)
   messages_apart riding carrying s d ld h =
       record {
-        once_own = λ b. let st = stands_at riding carrying s d b ld h in rw (owns_items b (node_at carrying s.nodes d).messages.items) (subst (λ (v : View). own_count v.messages ≤ 1) st.view_is (phase_own_once st.phase));
-        once_other = λ b. let st = stands_at riding carrying s d b ld h in rw (others_items b (node_at carrying s.nodes d).messages.items) (subst (λ (v : View). other_count v.messages ≤ 1) st.view_is (phase_other_once st.phase));
+        once_own = λ b. let st = stands_at riding carrying s d b ld h in
+            rw (owns_items b (node_at carrying s.nodes d).messages.items) (subst (λ (v : View). own_count v.messages ≤ 1) st.view_is (phase_own_once st.phase));
+        once_other = λ b. let st = stands_at riding carrying s d b ld h in
+            rw (others_items b (node_at carrying s.nodes d).messages.items)
+            (subst (λ (v : View). other_count v.messages ≤ 1) st.view_is (phase_other_once st.phase));
         own = λ b e. own_wants riding carrying s d b ld h e;
         other = λ b e. (owed_to riding carrying s d b h (other_owes riding carrying s d b ld h e)).0;
         not_own = λ b e. (owed_to riding carrying s d b h (other_owes riding carrying s d b ld h e)).1;
       }
 
-  messages_below : (riding : Riding R) (carrying : Carrying K) (s : State R K) (d : ℕ) → d < length s.nodes → Sound riding carrying s → Below (requester riding s) d (length s.nodes) (items_of (node_at carrying s.nodes d).messages.items)
+  messages_below : (riding : Riding R) (carrying : Carrying K) (s : State R K) (d : ℕ) → d < length s.nodes → Sound riding carrying s →
+      Below (requester riding s) d (length s.nodes) (items_of (node_at carrying s.nodes d).messages.items)
   messages_below riding carrying s d ld h =
       record {
         own = λ b e. ld;
@@ -219,28 +252,35 @@ module _ {R K : Type 0} where
       }
 
   -- the messages to a core are at most as many as the cores
-  pub messages_few : (riding : Riding R) (carrying : Carrying K) (s : State R K) (d : ℕ) → d < length s.nodes → Sound riding carrying s → length (node_at carrying s.nodes d).messages.items ≤ length s.nodes
+  pub messages_few : (riding : Riding R) (carrying : Carrying K) (s : State R K) (d : ℕ) → d < length s.nodes → Sound riding carrying s →
+      length (node_at carrying s.nodes d).messages.items ≤ length s.nodes
   messages_few riding carrying s d ld h =
-      let few = at_most_cores (requester riding s) d (length s.nodes) (Wants riding carrying s) (wants_one riding carrying s h) (items_of (node_at carrying s.nodes d).messages.items) (messages_apart riding carrying s d ld h) (messages_below riding carrying s d ld h) in
+      let few = at_most_cores (requester riding s) d (length s.nodes) (Wants riding carrying s) (wants_one riding carrying s h)
+      (items_of (node_at carrying s.nodes d).messages.items) (messages_apart riding carrying s d ld h) (messages_below riding carrying s d ld h) in
       let long = length-items (node_at carrying s.nodes d).messages.items in
       omega arith
 
   -- and fewer where there is a core for whose want none of them is
-  pub messages_fewer : (riding : Riding R) (carrying : Carrying K) (s : State R K) (d who : ℕ) → d < length s.nodes → who < length s.nodes → Sound riding carrying s → Free (requester riding s) d who (items_of (node_at carrying s.nodes d).messages.items) → length (node_at carrying s.nodes d).messages.items < length s.nodes
+  pub messages_fewer : (riding : Riding R) (carrying : Carrying K) (s : State R K) (d who : ℕ) → d < length s.nodes → who < length s.nodes →
+      Sound riding carrying s → Free (requester riding s) d who (items_of (node_at carrying s.nodes d).messages.items) →
+      length (node_at carrying s.nodes d).messages.items < length s.nodes
   messages_fewer riding carrying s d who ld lw h free =
-      let lt = fewer_than_cores (requester riding s) d who (length s.nodes) (Wants riding carrying s) (wants_one riding carrying s h) (items_of (node_at carrying s.nodes d).messages.items) lw (messages_apart riding carrying s d ld h) free (messages_below riding carrying s d ld h) in
+      let lt = fewer_than_cores (requester riding s) d who (length s.nodes) (Wants riding carrying s) (wants_one riding carrying s h)
+      (items_of (node_at carrying s.nodes d).messages.items) lw (messages_apart riding carrying s d ld h) free (messages_below riding carrying s d ld h) in
       let long = length-items (node_at carrying s.nodes d).messages.items in
       omega arith
 
   -- the responses of a core are fewer than the cores, since none is for its own want
-  pub answers_fewer : (riding : Riding R) (carrying : Carrying K) (s : State R K) (d : ℕ) → d < length s.nodes → Sound riding carrying s → length (node_at carrying s.nodes d).responses.items < length s.nodes
+  pub answers_fewer : (riding : Riding R) (carrying : Carrying K) (s : State R K) (d : ℕ) → d < length s.nodes → Sound riding carrying s →
+      length (node_at carrying s.nodes d).responses.items < length s.nodes
   answers_fewer riding carrying s d ld h =
       let n : Node R K = node_at carrying s.nodes d in
       let xs : List Item = answers_of n.responses.items in
       let apart : Apart (requester riding s) d (Wants riding carrying s) xs =
       record {
         once_own = λ b. let z = owns_answers b n.responses.items in omega arith;
-        once_other = λ b. let st = stands_at riding carrying s d b ld h in rw (others_answers b n.responses.items) (subst (λ (v : View). length v.responses ≤ 1) st.view_is (phase_reply_once st.phase));
+        once_other = λ b. let st = stands_at riding carrying s d b ld h in
+            rw (others_answers b n.responses.items) (subst (λ (v : View). length v.responses ≤ 1) st.view_is (phase_reply_once st.phase));
         own = λ b e. absurd (let z = owns_answers b n.responses.items in omega arith);
         other = λ b e. (owed_to riding carrying s d b h (answer_owes riding carrying s d b ld h e)).0;
         not_own = λ b e. (owed_to riding carrying s d b h (answer_owes riding carrying s d b ld h e)).1;
@@ -250,6 +290,7 @@ module _ {R K : Type 0} where
         own = λ b e. absurd (let z = owns_answers b n.responses.items in omega arith);
         other = λ b e. (owed_to riding carrying s d b h (answer_owes riding carrying s d b ld h e)).1;
       } in
-      let lt = fewer_than_cores (requester riding s) d d (length s.nodes) (Wants riding carrying s) (wants_one riding carrying s h) xs ld apart free (record { own = λ b e. ld; other = λ b e. (owed_to riding carrying s d b h (answer_owes riding carrying s d b ld h e)).0.core }) in
+      let lt = fewer_than_cores (requester riding s) d d (length s.nodes) (Wants riding carrying s) (wants_one riding carrying s h) xs ld apart free
+      (record { own = λ b e. ld; other = λ b e. (owed_to riding carrying s d b h (answer_owes riding carrying s d b ld h e)).0.core }) in
       let long = length-answers n.responses.items in
       omega arith

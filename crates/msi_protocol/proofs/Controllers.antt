@@ -39,10 +39,12 @@ module _ {R : Type 0} where
   sent_kind (Send.PutAck core) block e = refl
   sent_kind (Send.BlockData core) block e = refl
 
-  pub sent_block : (send : Send) (block : ℕ) (e : Entry R) (to : ℕ) (m : FromHome R) → sent send block e ≡ Some (to, m) → (send ≢ Send.NoMessage) × (block_of m ≡ block)
+  pub sent_block : (send : Send) (block : ℕ) (e : Entry R) (to : ℕ) (m : FromHome R) → sent send block e ≡ Some (to, m) → (send ≢ Send.NoMessage)
+      × (block_of m ≡ block)
   sent_block send block e to m is = grind arith
 
-  makes_step : (absorbed : R → R → R) (row : Option HomeRow) (e : Entry R) (block : ℕ) (words : List ℕ) (rider : R) → InvAlone row → MakesStep (home_step e.stage row) block (entry_by absorbed row e words rider) (home_answer_by row block (entry_by absorbed row e words rider))
+  makes_step : (absorbed : R → R → R) (row : Option HomeRow) (e : Entry R) (block : ℕ) (words : List ℕ) (rider : R) → InvAlone row →
+      MakesStep (home_step e.stage row) block (entry_by absorbed row e words rider) (home_answer_by row block (entry_by absorbed row e words rider))
   makes_step absorbed None e block words rider alone = record { stage = refl; invalidate = refl; send = refl; alone = λ to m is. grind arith }
   makes_step absorbed (Some r) e block words rider alone =
       record {
@@ -54,13 +56,17 @@ module _ {R : Type 0} where
 
   pub request_makes_step : (riding : Riding R) (e : Entry R) (c : ℕ) (request : Request R) → RequestAsMoved riding e c request
   request_makes_step riding e c request =
-      makes_step riding.absorbed (request_row e.stage c (ask_of request)) e (request_block request) (request_words request e.words) (request_rider request e.rider) (request_alone e.stage c (ask_of request))
+      makes_step riding.absorbed (request_row e.stage c (ask_of request)) e (request_block request) (request_words request e.words)
+      (request_rider request e.rider) (request_alone e.stage c (ask_of request))
 
   pub response_makes_step : (riding : Riding R) (e : Entry R) (c : ℕ) (response : Response R) → ResponseAsMoved riding e c response
   response_makes_step riding e c response =
-      makes_step riding.absorbed (response_row e.stage c (reply_of response)) e (response_block response) (response_words response e.words) (response_rider response) (response_alone e.stage c (reply_of response))
+      makes_step riding.absorbed (response_row e.stage c (reply_of response)) e (response_block response) (response_words response e.words)
+      (response_rider response) (response_alone e.stage c (reply_of response))
 
-  row_moves : (absorbed : R → R → R) (r : Option Row) (line : Line R) (m : FromHome R) (requests : List Ask) (responses : List Reply) (rest : List Signal) → is_some r ≡ true → message_row_taken r rest (view line.state requests responses (signal m ∷ rest)) ≡ view (line_by absorbed r m line).state requests (responses ++ kind_replied (answer_by r line)) rest
+  row_moves : (absorbed : R → R → R) (r : Option Row) (line : Line R) (m : FromHome R) (requests : List Ask) (responses : List Reply) (rest : List Signal) →
+      is_some r ≡ true → message_row_taken r rest (view line.state requests responses (signal m ∷ rest))
+      ≡ view (line_by absorbed r m line).state requests (responses ++ kind_replied (answer_by r line)) rest
   row_moves absorbed r line m requests responses rest some = grind arith
 
   row_there : (line : Line R) (m : FromHome R) → IsTrue (has_row line m) → is_some (row (signal m) line.state) ≡ true
@@ -70,7 +76,8 @@ module _ {R : Type 0} where
       both x y e = grind arith
 
   pub takes_as_moved : (riding : Riding R) (line : Line R) (m : FromHome R) → TakesAsMoved riding line m
-  takes_as_moved riding line m requests responses rest has = row_moves riding.absorbed (row (signal m) line.state) line m requests responses rest (row_there line m has)
+  takes_as_moved riding line m requests responses rest has =
+      row_moves riding.absorbed (row (signal m) line.state) line m requests responses rest (row_there line m has)
 
 own_wish : (s : State) (writes : Bool) → want_row s true writes ≡ wish_row s (access_wish writes)
 own_wish s writes = grind arith

@@ -7,7 +7,8 @@ use Rattle.msi_cache.specs.declared.line.State.TheVariants.{I}
 use Rattle.msi_cache.specs.Table.{Signal, Ask, Reply, is_transient}
 use Rattle.msi_directory.specs.declared.entry.Stage.{Stage}
 use Rattle.msi_directory.specs.Table.{is_free}
-use Rattle.msi_protocol.specs.Block.{View, view, Block, BlockMove, TakesRequest, TakesResponse, TakesMessage, Wishes, Wish, after_request, after_response, core_of, moved, block_move, block_run, block_start, request_by, response_by, message_by, wish_by}
+use Rattle.msi_protocol.specs.Block.{View, view, Block, BlockMove, TakesRequest, TakesResponse, TakesMessage, Wishes, Wish, after_request, after_response}
+use Rattle.msi_protocol.specs.Block.{core_of, moved, block_move, block_run, block_start, request_by, response_by, message_by, wish_by}
 use Rattle.msi_protocol.specs.Phases.{Phase, Idle, Out, role, role_in, picture, BlockHolds}
 use Rattle.msi_protocol.specs.NextPhases.{after_other, after_others_response}
 use Rattle.msi_protocol.specs.Promises.{NoneForgotten, is_served, FewUnderWay, IsFew, is_quiet, is_moving, settled, QuietAgrees, moves_below, OnlyBelow}
@@ -15,7 +16,8 @@ use Rattle.msi_protocol.proofs.Keeps.{busy_moves, keeps_move, start_holds, holds
 
 -- ---- a core that waits
 
-served_phase : (p : Phase) (stage : Stage) (d : ℕ) → is_free stage ≡ true → role_in p ≡ role stage d → is_transient (picture p).line ≡ true → is_served (picture p) ≡ true
+served_phase : (p : Phase) (stage : Stage) (d : ℕ) → is_free stage ≡ true → role_in p ≡ role stage d → is_transient (picture p).line ≡ true →
+    is_served (picture p) ≡ true
 served_phase p stage d free is waits = grind (arith, nat_tests)
 
 pub none_forgotten : (b : Block) → BlockHolds b → NoneForgotten b
@@ -47,7 +49,8 @@ few_under_way_in_runs ms = few_under_way (block_run ms block_start) (holds_in_ru
 
 -- ---- nothing under way
 
-settled_phase : (p : Phase) (stage : Stage) (d : ℕ) → is_free stage ≡ true → role_in p ≡ role stage d → is_quiet (picture p) ≡ true → (picture p).line ≡ settled (role_in p)
+settled_phase : (p : Phase) (stage : Stage) (d : ℕ) → is_free stage ≡ true → role_in p ≡ role stage d → is_quiet (picture p) ≡ true →
+    (picture p).line ≡ settled (role_in p)
 settled_phase p stage d free is quiet = grind (arith, nat_tests)
 
 quiet_is_still : (v : View) → is_quiet v ≡ true → is_moving v ≡ false
@@ -68,7 +71,8 @@ quiet_agrees b h quiet =
       free = free;
       lines = λ d ld.
           let s = h.stands d ld in
-          ap (λ (v : View). v.line) (sym s.view_is) ∙ settled_phase s.phase b.stage d free s.role_is (ap is_quiet s.view_is ∙ quiet d ld) ∙ ap settled s.role_is;
+          ap (λ (v : View). v.line) (sym s.view_is) ∙ settled_phase s.phase b.stage d free s.role_is (ap is_quiet s.view_is ∙ quiet d ld)
+          ∙ ap settled s.role_is;
     }
 
 pub quiet_agrees_in_runs : (ms : List BlockMove) → QuietAgrees (block_run ms block_start)
@@ -89,17 +93,20 @@ idle_stays_too stage c = grind arith
 stands_out : (b : Block) (d : ℕ) → BlockHolds b → d < CORES_MAX → b.views d ≡ view I [] [] [] → role_in Idle ≡ role b.stage d
 stands_out b d h ld is = let s = h.stands d ld in sym (idle_out s.phase (s.view_is ∙ is)) ∙ s.role_is
 
-out_request : (b : Block) (q : List Ask) (c d : ℕ) → BlockHolds b → c < CORES_MAX → d < CORES_MAX → d ≢ c → b.views d ≡ view I [] [] [] → (request_by q c b).views d ≡ view I [] [] []
+out_request : (b : Block) (q : List Ask) (c d : ℕ) → BlockHolds b → c < CORES_MAX → d < CORES_MAX → d ≢ c → b.views d ≡ view I [] [] [] →
+    (request_by q c b).views d ≡ view I [] [] []
 out_request b [] c d h lc ld other is = is
 out_request b (a ∷ rest) c d h lc ld other is = by_stage (is_free b.stage) refl
   where
     by_stage : (free : Bool) → is_free b.stage ≡ free → (request_by (a ∷ rest) c b).views d ≡ view I [] [] []
     by_stage false e = rw e is
     by_stage true e =
-        let to : after_request b.stage c a rest d (picture Idle) ≡ view I [] [] [] = sym (other_view b.stage c a rest d Idle lc ld other e (stands_out b d h ld is)) ∙ ap picture (idle_stays b.stage c a d) in
+        let to : after_request b.stage c a rest d (picture Idle) ≡ view I [] [] [] =
+        sym (other_view b.stage c a rest d Idle lc ld other e (stands_out b d h ld is)) ∙ ap picture (idle_stays b.stage c a d) in
         rw e (ap (λ (v : View). after_request b.stage c a rest d v) is ∙ to)
 
-out_response : (b : Block) (q : List Reply) (c d : ℕ) → (b.views c).responses ≡ q → BlockHolds b → c < CORES_MAX → d < CORES_MAX → d ≢ c → b.views d ≡ view I [] [] [] → (response_by q c b).views d ≡ view I [] [] []
+out_response : (b : Block) (q : List Reply) (c d : ℕ) → (b.views c).responses ≡ q → BlockHolds b → c < CORES_MAX → d < CORES_MAX → d ≢ c →
+    b.views d ≡ view I [] [] [] → (response_by q c b).views d ≡ view I [] [] []
 out_response b [] c d its h lc ld other is = is
 out_response b (a ∷ rest) c d its h lc ld other is =
     let s = h.stands c lc in
@@ -118,7 +125,8 @@ out_message b (m ∷ rest) c d other = rw (other_test c d other)
 out_wish : (b : Block) (w : Wish) (c d : ℕ) → d ≢ c → (wish_by w c b).views d ≡ b.views d
 out_wish b w c d other = rw (other_test c d other)
 
-out_moved : (m : BlockMove) (b : Block) (d : ℕ) → BlockHolds b → core_of m < CORES_MAX → d < CORES_MAX → d ≢ core_of m → b.views d ≡ view I [] [] [] → (moved m b).views d ≡ view I [] [] []
+out_moved : (m : BlockMove) (b : Block) (d : ℕ) → BlockHolds b → core_of m < CORES_MAX → d < CORES_MAX → d ≢ core_of m → b.views d ≡ view I [] [] [] →
+    (moved m b).views d ≡ view I [] [] []
 out_moved (TakesRequest c) b d h lc ld other is = out_request b (b.views c).requests c d h lc ld other is
 out_moved (TakesResponse c) b d h lc ld other is = out_response b (b.views c).responses c d refl h lc ld other is
 out_moved (TakesMessage c) b d h lc ld other is = out_message b (b.views c).messages c d other ∙ is
@@ -127,7 +135,8 @@ out_moved (Wishes c w) b d h lc ld other is = out_wish b w c d other ∙ is
 below_max : (c : ℕ) → nat_lt c CORES_MAX ≡ true → c < CORES_MAX
 below_max c e = grind (arith, nat_tests)
 
-out_move : (m : BlockMove) (b : Block) (d : ℕ) → BlockHolds b → d < CORES_MAX → d ≢ core_of m → b.views d ≡ view I [] [] [] → (block_move m b).views d ≡ view I [] [] []
+out_move : (m : BlockMove) (b : Block) (d : ℕ) → BlockHolds b → d < CORES_MAX → d ≢ core_of m → b.views d ≡ view I [] [] [] → (block_move m b).views d
+    ≡ view I [] [] []
 out_move m b d h ld other is = by_core (nat_lt (core_of m) CORES_MAX) refl
   where
     by_core : (here : Bool) → nat_lt (core_of m) CORES_MAX ≡ here → (if here then moved m b else b).views d ≡ view I [] [] []
@@ -143,11 +152,13 @@ first_below x y e = grind arith
 rest_below : (x y : Bool) → (x && y) ≡ true → y ≡ true
 rest_below x y e = grind arith
 
-only_below_run : (cores : ℕ) (ms : List BlockMove) (b : Block) → BlockHolds b → moves_below cores ms ≡ true → OnlyBelow cores b → OnlyBelow cores (block_run ms b)
+only_below_run : (cores : ℕ) (ms : List BlockMove) (b : Block) → BlockHolds b → moves_below cores ms ≡ true → OnlyBelow cores b →
+    OnlyBelow cores (block_run ms b)
 only_below_run cores [] b h below only = only
 only_below_run cores (m ∷ ms) b h below only =
     let mine : nat_lt (core_of m) cores ≡ true = first_below (nat_lt (core_of m) cores) (moves_below cores ms) below in
-    only_below_run cores ms (block_move m b) (keeps_move m b h) (rest_below (nat_lt (core_of m) cores) (moves_below cores ms) below) (λ d above ld. out_move m b d h ld (apart cores (core_of m) d mine above) (only d above ld))
+    only_below_run cores ms (block_move m b) (keeps_move m b h) (rest_below (nat_lt (core_of m) cores) (moves_below cores ms) below)
+    (λ d above ld. out_move m b d h ld (apart cores (core_of m) d mine above) (only d above ld))
 
 pub only_below_in_runs : (cores : ℕ) (ms : List BlockMove) → moves_below cores ms ≡ true → OnlyBelow cores (block_run ms block_start)
 only_below_in_runs cores ms below = only_below_run cores ms block_start start_holds below (λ d above ld. refl)

@@ -1,7 +1,10 @@
 -- Which copies of a block count: where a core's line has one, where BlockData under way to it brings one,
 -- and where its response under way has one with it. Other copies are old, and nobody looks at them.
 use Rattle.std.specs.Prelude.{Bool, true, false}
-use Rattle.msi_protocol.specs.Phases.{Phase, Holds, Fills, Upgrades, Puts, Owns, FillsM, UpgradeFills, PutsM, HoldsTold, FillsTold, UpgradesTold, PutsTold, Acked, AckedAsksS, AckedAsksM, AckedPuts, UpgradeAwaitsAcks, OwnsTold, FillsMTold, UpgradeFillsTold, PutsMTold, GaveHolds, GaveUpgrades, GavePuts, GaveAll, GaveAllAsksS, GaveAllAsksM, GaveAllPuts}
+use Rattle.msi_protocol.specs.Phases.{Phase, Holds, Fills, Upgrades, Puts, Owns, FillsM, UpgradeFills, PutsM, HoldsTold}
+use Rattle.msi_protocol.specs.Phases.{FillsTold, UpgradesTold, PutsTold, Acked, AckedAsksS, AckedAsksM, AckedPuts}
+use Rattle.msi_protocol.specs.Phases.{UpgradeAwaitsAcks, OwnsTold, FillsMTold, UpgradeFillsTold, PutsMTold, GaveHolds}
+use Rattle.msi_protocol.specs.Phases.{GaveUpgrades, GavePuts, GaveAll, GaveAllAsksS, GaveAllAsksM, GaveAllPuts}
 
 -- the line's copy counts
 abbrev pub line_counts : Phase → Bool

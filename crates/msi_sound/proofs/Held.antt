@@ -42,19 +42,27 @@ transient_there s e is = absurd (grind arith)
 
 module _ {R K : Type 0} where
   -- the line of a core's request is for that block, and holds or awaits something
-  pub asks_line : (riding : Riding R) (stage : Stage) (c : ℕ) (n : Node R K) (mail : Mail (Request R) K) (rest : List (Mail (Request R) K)) → n.requests.items ≡ mail ∷ rest → Stands stage c (node_view riding (request_block mail.item) n) →
-      ((line_for riding.fresh n.cache (request_block mail.item)).block ≡ request_block mail.item) × ((line_for riding.fresh n.cache (request_block mail.item)).state ≢ I)
+  pub asks_line : (riding : Riding R) (stage : Stage) (c : ℕ) (n : Node R K) (mail : Mail (Request R) K) (rest : List (Mail (Request R) K)) →
+      n.requests.items ≡ mail ∷ rest → Stands stage c (node_view riding (request_block mail.item) n) →
+      ((line_for riding.fresh n.cache (request_block mail.item)).block ≡ request_block mail.item)
+      × ((line_for riding.fresh n.cache (request_block mail.item)).state ≢ I)
   asks_line riding stage c n mail rest is s =
       let b : ℕ = request_block mail.item in
-      let asked : (node_view riding b n).requests ≡ ask_of mail.item ∷ asks_of b rest = ap (asks_of b) is ∙ ap (λ (t : Bool). cons_if t (ask_of mail.item) (asks_of b rest)) (eqb_same b) in
-      let waits : is_transient (node_view riding b n).line ≡ true = ap (λ (w : View). is_transient w.line) (sym s.view_is) ∙ asks_wait s.phase (ask_of mail.item) (asks_of b rest) (ap (λ (w : View). w.requests) s.view_is ∙ asked) in
+      let asked : (node_view riding b n).requests ≡ ask_of mail.item ∷ asks_of b rest =
+      ap (asks_of b) is ∙ ap (λ (t : Bool). cons_if t (ask_of mail.item) (asks_of b rest)) (eqb_same b) in
+      let waits : is_transient (node_view riding b n).line ≡ true = ap (λ (w : View). is_transient w.line) (sym s.view_is)
+      ∙ asks_wait s.phase (ask_of mail.item) (asks_of b rest) (ap (λ (w : View). w.requests) s.view_is ∙ asked) in
       let at = view_waits b (line_for riding.fresh n.cache b) waits in
       (at.0, transient_there (line_for riding.fresh n.cache b).state at.1)
 
   -- a response is about a block that the home has
-  pub response_within : (riding : Riding R) (carrying : Carrying K) (s : State R K) (c : ℕ) (mail : Mail (Response R) K) (rest : List (Mail (Response R) K)) → length s.nodes ≤ CORES_MAX → c < length s.nodes → (node_at carrying s.nodes c).responses.items ≡ mail ∷ rest → BlockHolds (block_in riding carrying s (response_block mail.item)) → response_block mail.item < length s.home
+  pub response_within : (riding : Riding R) (carrying : Carrying K) (s : State R K) (c : ℕ) (mail : Mail (Response R) K) (rest : List (Mail (Response R) K)) →
+      length s.nodes ≤ CORES_MAX → c < length s.nodes → (node_at carrying s.nodes c).responses.items ≡ mail ∷ rest →
+      BlockHolds (block_in riding carrying s (response_block mail.item)) → response_block mail.item < length s.home
   response_within riding carrying s c mail rest few lc is h =
       elim (le_or_lt (length s.home) (response_block mail.item)) [
-        | inl past ↦ absurd (let row : has_reply_row (entry_at riding.fresh s.home (response_block mail.item)).stage c (reply_of mail.item) ≡ true = response_asked riding carrying s c mail rest few lc is h in let none : entry_at riding.fresh s.home (response_block mail.item) ≡ no_entry riding.fresh = get_or_past s.home (response_block mail.item) (no_entry riding.fresh) past in cc (rw none at row))
+        | inl past ↦ absurd (let row : has_reply_row (entry_at riding.fresh s.home (response_block mail.item)).stage c (reply_of mail.item) ≡ true =
+            response_asked riding carrying s c mail rest few lc is h in let none : entry_at riding.fresh s.home (response_block mail.item)
+            ≡ no_entry riding.fresh = get_or_past s.home (response_block mail.item) (no_entry riding.fresh) past in cc (rw none at row))
         | inr within ↦ within
       ]

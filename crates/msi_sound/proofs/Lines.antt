@@ -1,5 +1,6 @@
 -- The lines of a cache: which of them wait, and what each move does to them.
-use Rattle.std.proofs.Common.{◌≡◌, ◌≢◌, ◌∙◌, refl, sym, subst, ℕ, ◌<◌, ◌≤◌, ◌==◌, ◌%◌, ◌/◌, ◌^◌, Bool, true, false, ◌||◌, List, [], ◌∷◌, length, get_or, Option, Some, zero, suc, arith}
+use Rattle.std.proofs.Common.{◌≡◌, ◌≢◌, ◌∙◌, refl, sym, subst, ℕ, ◌<◌, ◌≤◌, ◌==◌, ◌%◌, ◌/◌, ◌^◌, Bool, true, false, ◌||◌, List, [], ◌∷◌, length, get_or, Option}
+use Rattle.std.proofs.Common.{Some, zero, suc, arith}
 use Rattle.std.specs.Prelude.{if◌then◌else◌, slice_index_or, slice_set}
 use Rattle.std.proofs.lemmas.List.{get_or-set_same, get_or-set_other, length-set}
 use Rattle.std.proofs.lemmas.Bool.Decides.{nat_tests}
@@ -51,13 +52,15 @@ pub still_fits_need : (needed : Option (Kind × ℕ)) (s : LineState) (l i : ℕ
 still_fits_need needed s l i e = grind (arith, nat_tests)
 
 -- a line that waits is at the place of the block that is needed
-pub transient_place : {R : Type 0} (blocks : ℕ) (needed : Option (Kind × ℕ)) (i : ℕ) (l : Line R) → LineFits blocks needed i l → is_transient l.state ≡ true → i ≡ needed_block needed % LINES
+pub transient_place : {R : Type 0} (blocks : ℕ) (needed : Option (Kind × ℕ)) (i : ℕ) (l : Line R) → LineFits blocks needed i l → is_transient l.state ≡ true →
+    i ≡ needed_block needed % LINES
 transient_place blocks needed i l h e = by_need needed h.needed_here
   where
     by_need : (n : Option (Kind × ℕ)) → fits_need n l.state l.block i ≡ true → i ≡ needed_block n % LINES
     by_need n f = grind (arith, nat_tests, h.place)
 
-set_same : {R : Type 0} (lines : List (Line R)) (j : ℕ) (l e : Line R) → j < length lines → Same l (get_or lines j e) → (i : ℕ) → Same (get_or (slice_set lines j l) i e) (get_or lines i e)
+set_same : {R : Type 0} (lines : List (Line R)) (j : ℕ) (l e : Line R) → j < length lines → Same l (get_or lines j e) → (i : ℕ) →
+    Same (get_or (slice_set lines j l) i e) (get_or lines i e)
 set_same lines j l e within same i = subst (λ (x : Line _). Same x (get_or lines i e)) (sym (set_at lines j i l e within)) (by_test (i == j) refl)
   where
     by_test : (t : Bool) → (i == j) ≡ t → Same (if t then l else get_or lines i e) (get_or lines i e)
@@ -72,10 +75,13 @@ module _ {R : Type 0} where
       by_write true = length-set lines (a.word / BLOCK_WORDS % LINES) _
       by_write false = refl
 
-  accessed_same : (riding : Riding R) (lines : List (Line R)) (a : Access) (kind : Kind) → length lines ≡ LINES → (i : ℕ) → Same (get_or (lines_accessed riding lines a kind) i (empty_line riding.fresh)) (get_or lines i (empty_line riding.fresh))
+  accessed_same : (riding : Riding R) (lines : List (Line R)) (a : Access) (kind : Kind) → length lines ≡ LINES → (i : ℕ) →
+      Same (get_or (lines_accessed riding lines a kind) i (empty_line riding.fresh)) (get_or lines i (empty_line riding.fresh))
   accessed_same riding lines a kind long i = by_write (is_write kind)
     where
-      by_write : (t : Bool) → Same (get_or (if t then lines_put riding.fresh lines (a.word / BLOCK_WORDS) (a.word % BLOCK_WORDS) a.after else lines) i (empty_line riding.fresh)) (get_or lines i (empty_line riding.fresh))
+      by_write : (t : Bool) →
+          Same (get_or (if t then lines_put riding.fresh lines (a.word / BLOCK_WORDS) (a.word % BLOCK_WORDS) a.after else lines) i (empty_line riding.fresh))
+          (get_or lines i (empty_line riding.fresh))
       by_write true = set_same lines (a.word / BLOCK_WORDS % LINES) _ (empty_line riding.fresh) (omega arith) (record { state = refl; block = refl }) i
       by_write false = record { state = refl; block = refl }
 
@@ -83,22 +89,32 @@ module _ {R : Type 0} where
   same_trans p q = record { state = p.state ∙ q.state; block = p.block ∙ q.block }
 
   -- an access changes words and riders only
-  pub riding_same : (riding : Riding R) (lines : List (Line R)) (a : Access) (kind : Kind) (block : ℕ) (r : R) → length lines ≡ LINES → (i : ℕ) → Same (get_or (lines_riding riding.fresh (lines_accessed riding lines a kind) block r) i (empty_line riding.fresh)) (get_or lines i (empty_line riding.fresh))
+  pub riding_same : (riding : Riding R) (lines : List (Line R)) (a : Access) (kind : Kind) (block : ℕ) (r : R) → length lines ≡ LINES → (i : ℕ) →
+      Same (get_or (lines_riding riding.fresh (lines_accessed riding lines a kind) block r) i (empty_line riding.fresh))
+      (get_or lines i (empty_line riding.fresh))
   riding_same riding lines a kind block r long i =
       let longer : length (lines_accessed riding lines a kind) ≡ LINES = length-accessed riding lines a kind ∙ long in
-      same_trans (set_same (lines_accessed riding lines a kind) (block % LINES) _ (empty_line riding.fresh) (omega arith) (record { state = refl; block = refl }) i) (accessed_same riding lines a kind long i)
+      same_trans (set_same (lines_accessed riding lines a kind) (block % LINES) _ (empty_line riding.fresh) (omega arith)
+      (record { state = refl; block = refl }) i) (accessed_same riding lines a kind long i)
 
-  pub length-riding : (riding : Riding R) (lines : List (Line R)) (a : Access) (kind : Kind) (block : ℕ) (r : R) → length (lines_riding riding.fresh (lines_accessed riding lines a kind) block r) ≡ length lines
+  pub length-riding : (riding : Riding R) (lines : List (Line R)) (a : Access) (kind : Kind) (block : ℕ) (r : R) →
+      length (lines_riding riding.fresh (lines_accessed riding lines a kind) block r) ≡ length lines
   length-riding riding lines a kind block r = length-set (lines_accessed riding lines a kind) (block % LINES) _ ∙ length-accessed riding lines a kind
 
   still_same : (blocks i : ℕ) (l m : Line R) → Same l m → LineStill blocks i m → LineStill blocks i l
-  still_same blocks i l m same h = record { place = λ some. rw same.block (h.place (λ (e : m.state ≡ I). some (same.state ∙ e))); within = λ some. rw same.block (h.within (λ (e : m.state ≡ I). some (same.state ∙ e))); still = rw same.state h.still }
+  still_same blocks i l m same h =
+      record {
+        place = λ some. rw same.block (h.place (λ (e : m.state ≡ I). some (same.state ∙ e)));
+        within = λ some. rw same.block (h.within (λ (e : m.state ≡ I). some (same.state ∙ e)));
+        still = rw same.state h.still;
+      }
 
 block_of_word : (words word : ℕ) → word < words → word / BLOCK_WORDS < block_count words
 block_of_word words word lt = omega arith
 
 -- the block of the word that a core accesses is one of the memory's
-pub needed_within : (image : Contents) (core : Core) (kind : Kind) (word : ℕ) → need_access (need image core) ≡ Some (kind, word) → word / BLOCK_WORDS < block_count image.words
+pub needed_within : (image : Contents) (core : Core) (kind : Kind) (word : ℕ) → need_access (need image core) ≡ Some (kind, word) →
+    word / BLOCK_WORDS < block_count image.words
 needed_within image core kind word is = block_of_word image.words word (within_law image core kind word is)
 
 -- a core at its limit is done
@@ -116,13 +132,19 @@ module _ {R K : Type 0} where
         count_fits = h.count_fits;
         limit_fits = h.limit_fits;
         all_lines = h.all_lines;
-        lines = λ i. record { place = (h.lines i).place; within = (h.lines i).within; needed_here = still_fits_need (need_access (need image n.core)) (slice_index_or n.cache i (empty_line riding.fresh)).state (slice_index_or n.cache i (empty_line riding.fresh)).block i (h.lines i).still };
+        lines = λ i. record {
+          place = (h.lines i).place;
+          within = (h.lines i).within;
+          needed_here = still_fits_need (need_access (need image n.core)) (slice_index_or n.cache i (empty_line riding.fresh)).state
+              (slice_index_or n.cache i (empty_line riding.fresh)).block i (h.lines i).still;
+        };
         requests_room = h.requests_room;
         responses_room = h.responses_room;
         messages_room = h.messages_room;
       }
 
-  pub still_accessing : (image : Contents) (riding : Riding R) (carrying : Carrying K) (r : R) (blocks : ℕ) (n : Node R K) (word : ℕ) (kind : Kind) → is_done (need image n.core) ≡ false → NodeStill riding blocks n → NodeStill riding blocks (node_accessing image riding carrying r n word kind)
+  pub still_accessing : (image : Contents) (riding : Riding R) (carrying : Carrying K) (r : R) (blocks : ℕ) (n : Node R K) (word : ℕ) (kind : Kind) →
+      is_done (need image n.core) ≡ false → NodeStill riding blocks n → NodeStill riding blocks (node_accessing image riding carrying r n word kind)
   still_accessing image riding carrying r blocks n word kind more h =
       let a : Access = access_of image riding n word kind in
       let lt = room_law image n.core more in
@@ -136,7 +158,8 @@ module _ {R K : Type 0} where
         messages_room = h.messages_room;
       }
 
-  pub still_local : (image : Contents) (riding : Riding R) (carrying : Carrying K) (blocks : ℕ) (n : Node R K) → is_done (need image n.core) ≡ false → NodeStill riding blocks n → NodeStill riding blocks (node_local image carrying n)
+  pub still_local : (image : Contents) (riding : Riding R) (carrying : Carrying K) (blocks : ℕ) (n : Node R K) → is_done (need image n.core) ≡ false →
+      NodeStill riding blocks n → NodeStill riding blocks (node_local image carrying n)
   still_local image riding carrying blocks n more h =
       let lt = room_law image n.core more in
       record {
@@ -150,17 +173,21 @@ module _ {R K : Type 0} where
       }
 
 -- no line waits
-pub waits_none : {R : Type 0} (lines : List (Line R)) (fresh : R) → waits lines ≡ false → (i : ℕ) → is_transient (get_or lines i (empty_line fresh)).state ≡ false
+pub waits_none : {R : Type 0} (lines : List (Line R)) (fresh : R) → waits lines ≡ false → (i : ℕ) → is_transient (get_or lines i (empty_line fresh)).state
+    ≡ false
 waits_none [] fresh e i = refl
 waits_none (l ∷ ls) fresh e zero = grind arith
 waits_none (l ∷ ls) fresh e (suc i) = waits_none ls fresh (grind arith) i
 
 -- one that does
-pub waits_some : {R : Type 0} (lines : List (Line R)) (fresh : R) → waits lines ≡ true → (i : ℕ) × (is_transient (get_or lines i (empty_line fresh)).state ≡ true)
+pub waits_some : {R : Type 0} (lines : List (Line R)) (fresh : R) → waits lines ≡ true →
+    (i : ℕ) × (is_transient (get_or lines i (empty_line fresh)).state ≡ true)
 waits_some [] fresh e = absurd (cc)
 waits_some (l ∷ ls) fresh e = by_test (is_transient l.state) refl e (λ (f : waits ls ≡ true). waits_some ls fresh f)
   where
-    by_test : (t : Bool) → is_transient l.state ≡ t → (t || waits ls) ≡ true → (waits ls ≡ true → (i : ℕ) × (is_transient (get_or ls i (empty_line fresh)).state ≡ true)) → (i : ℕ) × (is_transient (get_or (l ∷ ls) i (empty_line fresh)).state ≡ true)
+    by_test : (t : Bool) → is_transient l.state ≡ t → (t || waits ls) ≡ true →
+        (waits ls ≡ true → (i : ℕ) × (is_transient (get_or ls i (empty_line fresh)).state ≡ true)) →
+        (i : ℕ) × (is_transient (get_or (l ∷ ls) i (empty_line fresh)).state ≡ true)
     by_test true is f rest = (0, is)
     by_test false is f rest = let w = rest f in (suc w.0, w.1)
 
@@ -170,7 +197,8 @@ waits_at (l ∷ ls) fresh zero e = grind arith
 waits_at (l ∷ ls) fresh (suc i) e = let ih = waits_at ls fresh i e in grind arith
 
 module _ {R K : Type 0} where
-  pub fits_still : (image : Contents) (riding : Riding R) (blocks : ℕ) (n : Node R K) → waits n.cache ≡ false → NodeFits image riding blocks n → NodeStill riding blocks n
+  pub fits_still : (image : Contents) (riding : Riding R) (blocks : ℕ) (n : Node R K) → waits n.cache ≡ false → NodeFits image riding blocks n →
+      NodeStill riding blocks n
   fits_still image riding blocks n none h =
       record {
         count_fits = h.count_fits;

@@ -29,13 +29,17 @@ abbrev pub line_wished : Option WantRow → State → State
 line_wished None line = line
 line_wished (Some r) line = r.next
 
-pub asked_line : {R : Type 0} (l : Line R) (b block : ℕ) (kind : Kind) → (l.state ≢ I → l.block % LINES ≡ block % LINES) → is_transient l.state ≡ false → is_allowed l block kind ≡ false → b % LINES ≡ block % LINES →
-    line_state b (line_asking l block kind) ≡ (if request_block (asks l block kind) == b then line_wished (wish_row (line_state b l) (wish_of l block kind)) (line_state b l) else line_state b l)
+pub asked_line : {R : Type 0} (l : Line R) (b block : ℕ) (kind : Kind) → (l.state ≢ I → l.block % LINES ≡ block % LINES) → is_transient l.state ≡ false →
+    is_allowed l block kind ≡ false → b % LINES ≡ block % LINES →
+    line_state b (line_asking l block kind)
+    ≡ (if request_block (asks l block kind) == b then line_wished (wish_row (line_state b l) (wish_of l block kind)) (line_state b l) else line_state b l)
 asked_line l b block kind placed still needed here = grind (arith, nat_tests)
 
-pub asked_ask : {R : Type 0} (l : Line R) (b block : ℕ) (kind : Kind) → is_transient l.state ≡ false → is_allowed l block kind ≡ false → request_block (asks l block kind) ≡ b →
+pub asked_ask : {R : Type 0} (l : Line R) (b block : ℕ) (kind : Kind) → is_transient l.state ≡ false → is_allowed l block kind ≡ false →
+    request_block (asks l block kind) ≡ b →
     wish_row (line_state b l) (wish_of l block kind) ≡ Some (record { ask = ask_of (asks l block kind); next = (line_asking l block kind).state })
 asked_ask l b block kind still needed here = grind (arith, nat_tests)
 
-pub asked_block : {R : Type 0} (l : Line R) (block : ℕ) (kind : Kind) → (l.state ≢ I → l.block % LINES ≡ block % LINES) → is_transient l.state ≡ false → request_block (asks l block kind) % LINES ≡ block % LINES
+pub asked_block : {R : Type 0} (l : Line R) (block : ℕ) (kind : Kind) → (l.state ≢ I → l.block % LINES ≡ block % LINES) → is_transient l.state ≡ false →
+    request_block (asks l block kind) % LINES ≡ block % LINES
 asked_block l block kind placed still = grind (arith, nat_tests)

@@ -1,5 +1,6 @@
 -- What the home answers goes to cores that are there, and is what the step delivers.
-use Rattle.std.proofs.Common.{arith, ◌≡◌, ◌∙◌, refl, sym, ap, subst, ℕ, ◌<◌, ◌==◌, ◌&&◌, Bool, true, false, IsTrue, Option, Some, None, List, ◌∷◌, ◌++◌, length, drop, take}
+use Rattle.std.proofs.Common.{arith, ◌≡◌, ◌∙◌, refl, sym, ap, subst, ℕ, ◌<◌, ◌==◌, ◌&&◌, Bool, true, false, IsTrue, Option, Some, None, List, ◌∷◌, ◌++◌, length}
+use Rattle.std.proofs.Common.{drop, take}
 use Rattle.std.specs.Prelude.{if◌then◌else◌, nat_lt, slice_set, All}
 use Rattle.std.specs.Option.{IfSome}
 use Rattle.std.proofs.lemmas.Bool.Decides.{nat_tests}
@@ -13,7 +14,8 @@ use Rattle.msi_cache.specs.Messages.{ask_of, reply_of, request_block, response_b
 use Rattle.msi_cache.specs.declared.messages.Request.{Request}
 use Rattle.msi_cache.specs.declared.messages.Response.{Response}
 use Rattle.msi_directory.specs.Blocks.{no_entry, entry_at, entries_after_request, entries_after_response}
-use Rattle.msi_directory.specs.Entries.{answer_by, answer_riding, answer_to_request, answer_to_response, entry_after_request, entry_after_response, has_request_row, has_response_row, sent}
+use Rattle.msi_directory.specs.Entries.{answer_by, answer_riding, answer_to_request, answer_to_response, entry_after_request, entry_after_response}
+use Rattle.msi_directory.specs.Entries.{has_request_row, has_response_row, sent}
 use Rattle.msi_directory.specs.Table.{Send, NoMessage, HomeRow, request_row, response_row}
 use Rattle.msi_directory.specs.declared.entry.Stage.TheVariants.{Unshared, Shared, Owned, Acks, Data}
 use Rattle.msi_directory.specs.declared.entry.Stage.{Stage}
@@ -97,22 +99,29 @@ module _ {R : Type 0} where
   answer_below None block e n is = tt
   answer_below (Some r) block e n is = sent_below r.send block e n is
 
-  names_at : (fresh : R) (home : List (Entry R)) (n block : ℕ) → All (λ x. IsTrue (names_below x.stage n)) home → block < length home → IsTrue (names_below (entry_at fresh home block).stage n)
+  names_at : (fresh : R) (home : List (Entry R)) (n block : ℕ) → All (λ x. IsTrue (names_below x.stage n)) home → block < length home →
+      IsTrue (names_below (entry_at fresh home block).stage n)
   names_at fresh home n block names within = All-get_or (λ (x : Entry R). IsTrue (names_below x.stage n)) home block (no_entry fresh) within names
 
   -- the rider that the home has on the block's copy by now makes the answer whole
-  pub ridden : (fresh : R) (entries : List (Entry R)) (block same : ℕ) (rider : R) (bare : HomeAnswer (Unit {0})) (whole : HomeAnswer R) → rider ≡ (entry_at fresh entries block).rider → block ≡ same → answer_riding (entry_at fresh entries same).rider bare ≡ whole → answer_riding rider bare ≡ whole
+  pub ridden : (fresh : R) (entries : List (Entry R)) (block same : ℕ) (rider : R) (bare : HomeAnswer (Unit {0})) (whole : HomeAnswer R) →
+      rider ≡ (entry_at fresh entries block).rider → block ≡ same → answer_riding (entry_at fresh entries same).rider bare ≡ whole → answer_riding rider bare
+      ≡ whole
   ridden fresh entries block same rider bare whole is there answered =
       ap (λ (r : R). answer_riding r bare) (is ∙ ap (λ (b : ℕ). (entry_at fresh entries b).rider) there) ∙ answered
 
-  pub request_named : (riding : Riding R) (home : List (Entry R)) (n c : ℕ) (request : Request R) (answer : HomeAnswer R) → All (λ x. IsTrue (names_below x.stage n)) home → request_block request < length home → c < n → answer ≡ answer_to_request riding.absorbed (entry_at riding.fresh home (request_block request)) c request → IfSome answer.send (λ s. s.0 < n)
+  pub request_named : (riding : Riding R) (home : List (Entry R)) (n c : ℕ) (request : Request R) (answer : HomeAnswer R) →
+      All (λ x. IsTrue (names_below x.stage n)) home → request_block request < length home → c < n →
+      answer ≡ answer_to_request riding.absorbed (entry_at riding.fresh home (request_block request)) c request → IfSome answer.send (λ s. s.0 < n)
   request_named riding home n c request answer names within h is =
       let e : Entry R = entry_at riding.fresh home (request_block request) in
       subst (λ (a : HomeAnswer R). IfSome a.send (λ s. s.0 < n)) (sym is)
       (answer_below (request_row e.stage c (ask_of request)) (request_block request) (entry_after_request riding.absorbed e c request) n
       (request_below e.stage c (ask_of request) n h (names_at riding.fresh home n (request_block request) names within)))
 
-  pub response_named : (riding : Riding R) (home : List (Entry R)) (n c : ℕ) (response : Response R) (answer : HomeAnswer R) → All (λ x. IsTrue (names_below x.stage n)) home → response_block response < length home → answer ≡ answer_to_response riding.absorbed (entry_at riding.fresh home (response_block response)) c response → IfSome answer.send (λ s. s.0 < n)
+  pub response_named : (riding : Riding R) (home : List (Entry R)) (n c : ℕ) (response : Response R) (answer : HomeAnswer R) →
+      All (λ x. IsTrue (names_below x.stage n)) home → response_block response < length home →
+      answer ≡ answer_to_response riding.absorbed (entry_at riding.fresh home (response_block response)) c response → IfSome answer.send (λ s. s.0 < n)
   response_named riding home n c response answer names within is =
       let e : Entry R = entry_at riding.fresh home (response_block response) in
       subst (λ (a : HomeAnswer R). IfSome a.send (λ s. s.0 < n)) (sym is)
@@ -121,7 +130,8 @@ module _ {R : Type 0} where
 
 module _ {R K : Type 0} where
   -- what the home does with the head of core c's requests, and the delivery of its answer, are the step
-  pub request_delivered : (riding : Riding R) (carrying : Carrying K) (s : State R K) (c block : ℕ) (mail : Mail (Request R) K) (rest : List (Mail (Request R) K)) (answer : HomeAnswer R) (carry : K) (nodes : List (Node R K)) (home : List (Entry R)) →
+  pub request_delivered : (riding : Riding R) (carrying : Carrying K) (s : State R K) (c block : ℕ) (mail : Mail (Request R) K)
+      (rest : List (Mail (Request R) K)) (answer : HomeAnswer R) (carry : K) (nodes : List (Node R K)) (home : List (Entry R)) →
       (node_at carrying s.nodes c).requests.items ≡ mail ∷ rest → block ≡ request_block mail.item → carry ≡ carrying.joined s.carry mail.carry →
       answer ≡ answer_to_request riding.absorbed (entry_at riding.fresh s.home (request_block mail.item)) c mail.item →
       nodes ≡ slice_set s.nodes c (node_requested (node_at carrying s.nodes c) rest) → home ≡ entries_after_request riding s.home c mail.item →
@@ -129,7 +139,8 @@ module _ {R K : Type 0} where
   request_delivered riding carrying s c block mail rest answer carry nodes home head at joined answered taken kept =
       rw (answered, at, joined, taken, kept) (ap (λ (items : List (Mail (Request R) K)). request_moved_in items riding carrying s c) (sym head))
 
-  pub response_delivered : (riding : Riding R) (carrying : Carrying K) (s : State R K) (c block : ℕ) (mail : Mail (Response R) K) (rest : List (Mail (Response R) K)) (answer : HomeAnswer R) (carry : K) (nodes : List (Node R K)) (home : List (Entry R)) →
+  pub response_delivered : (riding : Riding R) (carrying : Carrying K) (s : State R K) (c block : ℕ) (mail : Mail (Response R) K)
+      (rest : List (Mail (Response R) K)) (answer : HomeAnswer R) (carry : K) (nodes : List (Node R K)) (home : List (Entry R)) →
       (node_at carrying s.nodes c).responses.items ≡ mail ∷ rest → block ≡ response_block mail.item → carry ≡ carrying.joined s.carry mail.carry →
       answer ≡ answer_to_response riding.absorbed (entry_at riding.fresh s.home (response_block mail.item)) c mail.item →
       nodes ≡ slice_set s.nodes c (node_responded (node_at carrying s.nodes c) rest) → home ≡ entries_after_response riding s.home c mail.item →
@@ -138,23 +149,27 @@ module _ {R K : Type 0} where
       rw (answered, at, joined, taken, kept) (ap (λ (items : List (Mail (Response R) K)). response_moved_in items riding carrying s c) (sym head))
 
   -- the node whose link lost its oldest request
-  pub request_taken : (node : Node R K) (link : Queue (Mail (Request R) K)) → link.room ≡ node.requests.room → link.items ≡ drop 1 node.requests.items → record node { requests = link } ≡ node_requested node (drop 1 node.requests.items)
+  pub request_taken : (node : Node R K) (link : Queue (Mail (Request R) K)) → link.room ≡ node.requests.room → link.items ≡ drop 1 node.requests.items →
+      record node { requests = link } ≡ node_requested node (drop 1 node.requests.items)
   request_taken node link room items =
       ap (λ (n : ℕ). record node { requests = record { room = n; items = link.items } }) room
       ∙ ap (λ (xs : List (Mail (Request R) K)). record node { requests = record { room = node.requests.room; items = xs } }) items
 
-  pub response_taken : (node : Node R K) (link : Queue (Mail (Response R) K)) → link.room ≡ node.responses.room → link.items ≡ drop 1 node.responses.items → record node { responses = link } ≡ node_responded node (drop 1 node.responses.items)
+  pub response_taken : (node : Node R K) (link : Queue (Mail (Response R) K)) → link.room ≡ node.responses.room → link.items ≡ drop 1 node.responses.items →
+      record node { responses = link } ≡ node_responded node (drop 1 node.responses.items)
   response_taken node link room items =
       ap (λ (n : ℕ). record node { responses = record { room = n; items = link.items } }) room
       ∙ ap (λ (xs : List (Mail (Response R) K)). record node { responses = record { room = node.responses.room; items = xs } }) items
 
   -- the block of a request that the home has a row for is one of the memory's
-  pub request_within : (riding : Riding R) (s : State R K) (c : ℕ) (items : List (Mail (Request R) K)) (mail : Mail (Request R) K) (rest : List (Mail (Request R) K)) → items ≡ mail ∷ rest → IsTrue (can_request_in items riding s c) → request_block mail.item < length s.home
+  pub request_within : (riding : Riding R) (s : State R K) (c : ℕ) (items : List (Mail (Request R) K)) (mail : Mail (Request R) K)
+      (rest : List (Mail (Request R) K)) → items ≡ mail ∷ rest → IsTrue (can_request_in items riding s c) → request_block mail.item < length s.home
   request_within riding s c items mail rest head row =
       below (request_block mail.item) (length s.home) (has_request_row (entry_at riding.fresh s.home (request_block mail.item)).stage c mail.item)
       (subst (λ (xs : List (Mail (Request R) K)). IsTrue (can_request_in xs riding s c)) head row)
 
-  pub response_within : (riding : Riding R) (s : State R K) (c : ℕ) (items : List (Mail (Response R) K)) (mail : Mail (Response R) K) (rest : List (Mail (Response R) K)) → items ≡ mail ∷ rest → IsTrue (can_respond_in items riding s c) → response_block mail.item < length s.home
+  pub response_within : (riding : Riding R) (s : State R K) (c : ℕ) (items : List (Mail (Response R) K)) (mail : Mail (Response R) K)
+      (rest : List (Mail (Response R) K)) → items ≡ mail ∷ rest → IsTrue (can_respond_in items riding s c) → response_block mail.item < length s.home
   response_within riding s c items mail rest head row =
       below (response_block mail.item) (length s.home) (has_response_row (entry_at riding.fresh s.home (response_block mail.item)).stage c mail.item)
       (subst (λ (xs : List (Mail (Response R) K)). IsTrue (can_respond_in xs riding s c)) head row)

@@ -32,42 +32,66 @@ and_left true b e = refl
 and_left false b e = e
 
 module _ {R K : Type 0} where
-  pub node_start_at : (riding : Riding R) (carrying : Carrying K) (limit cores c : ℕ) → c < cores → node_at carrying (map (node_start riding carrying limit) (range_with_len 0 cores)) c ≡ node_start riding carrying limit c
-  node_start_at riding carrying limit cores c within = get_or-map-range_with_len (node_start riding carrying limit) 0 cores c c (no_node carrying) within (zero-add c)
+  pub node_start_at : (riding : Riding R) (carrying : Carrying K) (limit cores c : ℕ) → c < cores →
+      node_at carrying (map (node_start riding carrying limit) (range_with_len 0 cores)) c ≡ node_start riding carrying limit c
+  node_start_at riding carrying limit cores c within =
+      get_or-map-range_with_len (node_start riding carrying limit) 0 cores c c (no_node carrying) within (zero-add c)
 
-  here : (riding : Riding R) (carrying : Carrying K) (image : Contents) (cores limit : ℕ) (m : Move) → enabled riding carrying (state_start riding carrying image cores limit) m ≡ true → node_at carrying (state_start riding carrying image cores limit).nodes (core_of m) ≡ node_start riding carrying limit (core_of m)
-  here riding carrying image cores limit m is = node_start_at riding carrying limit cores (core_of m) (within (length (state_start riding carrying image cores limit).nodes) cores (core_of m) (length-map-range_with_len (node_start riding carrying limit) 0 cores) (and_left (nat_lt (core_of m) (length (state_start riding carrying image cores limit).nodes)) (enabled_at image riding (state_start riding carrying image cores limit).home (node_at carrying (state_start riding carrying image cores limit).nodes (core_of m)) m) is))
+  here : (riding : Riding R) (carrying : Carrying K) (image : Contents) (cores limit : ℕ) (m : Move) →
+      enabled riding carrying (state_start riding carrying image cores limit) m ≡ true →
+      node_at carrying (state_start riding carrying image cores limit).nodes (core_of m) ≡ node_start riding carrying limit (core_of m)
+  here riding carrying image cores limit m is =
+      node_start_at riding carrying limit cores (core_of m)
+      (within (length (state_start riding carrying image cores limit).nodes) cores (core_of m)
+      (length-map-range_with_len (node_start riding carrying limit) 0 cores)
+      (and_left (nat_lt (core_of m) (length (state_start riding carrying image cores limit).nodes))
+      (enabled_at image riding (state_start riding carrying image cores limit).home
+      (node_at carrying (state_start riding carrying image cores limit).nodes (core_of m)) m) is))
     where
       within : (n k c : ℕ) → n ≡ k → nat_lt c n ≡ true → c < k
       within n k c same is = grind (arith, nat_tests)
 
   -- what is enabled at the start is a core's own move
-  at_node : (riding : Riding R) (carrying : Carrying K) (image : Contents) (cores limit : ℕ) (m : Move) → enabled riding carrying (state_start riding carrying image cores limit) m ≡ true → enabled_at image riding (state_start riding carrying image cores limit).home (node_start riding carrying limit (core_of m)) m ≡ true
+  at_node : (riding : Riding R) (carrying : Carrying K) (image : Contents) (cores limit : ℕ) (m : Move) →
+      enabled riding carrying (state_start riding carrying image cores limit) m ≡ true →
+      enabled_at image riding (state_start riding carrying image cores limit).home (node_start riding carrying limit (core_of m)) m ≡ true
   at_node riding carrying image cores limit m is =
-      subst (λ (n : Node R K). enabled_at image riding (state_start riding carrying image cores limit).home n m ≡ true) (here riding carrying image cores limit m is)
-      (and_right (nat_lt (core_of m) (length (state_start riding carrying image cores limit).nodes)) (enabled_at image riding (state_start riding carrying image cores limit).home (node_at carrying (state_start riding carrying image cores limit).nodes (core_of m)) m) is)
+      subst (λ (n : Node R K). enabled_at image riding (state_start riding carrying image cores limit).home n m ≡ true)
+      (here riding carrying image cores limit m is)
+      (and_right (nat_lt (core_of m) (length (state_start riding carrying image cores limit).nodes))
+      (enabled_at image riding (state_start riding carrying image cores limit).home
+      (node_at carrying (state_start riding carrying image cores limit).nodes (core_of m)) m) is)
 
-  rows_start : (riding : Riding R) (carrying : Carrying K) (image : Contents) (cores limit : ℕ) (m : Move) → IsTrue (enabled riding carrying (state_start riding carrying image cores limit) m) → IsTrue (has_row_for riding carrying (state_start riding carrying image cores limit) m)
+  rows_start : (riding : Riding R) (carrying : Carrying K) (image : Contents) (cores limit : ℕ) (m : Move) →
+      IsTrue (enabled riding carrying (state_start riding carrying image cores limit) m) →
+      IsTrue (has_row_for riding carrying (state_start riding carrying image cores limit) m)
   rows_start riding carrying image cores limit (Core c) is = refl
   rows_start riding carrying image cores limit (RequestMove c) is = false_true (at_node riding carrying image cores limit (RequestMove c) is)
   rows_start riding carrying image cores limit (ResponseMove c) is = false_true (at_node riding carrying image cores limit (ResponseMove c) is)
   rows_start riding carrying image cores limit (MessageMove c) is = false_true (at_node riding carrying image cores limit (MessageMove c) is)
 
-  rooms_start : (riding : Riding R) (carrying : Carrying K) (image : Contents) (cores limit : ℕ) (m : Move) → IsTrue (enabled riding carrying (state_start riding carrying image cores limit) m) → HasRoomFor riding carrying (state_start riding carrying image cores limit) m
-  rooms_start riding carrying image cores limit (Core c) is = subst (λ (n : Node R K). length n.requests.items < n.requests.room) (sym (here riding carrying image cores limit (Core c) is)) (omega arith)
+  rooms_start : (riding : Riding R) (carrying : Carrying K) (image : Contents) (cores limit : ℕ) (m : Move) →
+      IsTrue (enabled riding carrying (state_start riding carrying image cores limit) m) →
+      HasRoomFor riding carrying (state_start riding carrying image cores limit) m
+  rooms_start riding carrying image cores limit (Core c) is =
+      subst (λ (n : Node R K). length n.requests.items < n.requests.room) (sym (here riding carrying image cores limit (Core c) is)) (omega arith)
   rooms_start riding carrying image cores limit (RequestMove c) is = false_true (at_node riding carrying image cores limit (RequestMove c) is)
   rooms_start riding carrying image cores limit (ResponseMove c) is = false_true (at_node riding carrying image cores limit (ResponseMove c) is)
   rooms_start riding carrying image cores limit (MessageMove c) is = false_true (at_node riding carrying image cores limit (MessageMove c) is)
 
   pub heads_start : (riding : Riding R) (carrying : Carrying K) (image : Contents) (cores limit : ℕ) → HeadsFit (state_start riding carrying image cores limit)
   heads_start riding carrying image cores limit =
-      all_map (node_start riding carrying limit) (λ (n : Node R K). IsTrue (head_within n.requests.items (length (state_start riding carrying image cores limit).home))) (λ id. refl) (range_with_len 0 cores)
+      all_map (node_start riding carrying limit)
+      (λ (n : Node R K). IsTrue (head_within n.requests.items (length (state_start riding carrying image cores limit).home))) (λ id. refl)
+      (range_with_len 0 cores)
 
-  pub ready_start : (riding : Riding R) (carrying : Carrying K) (image : Contents) (cores limit : ℕ) → cores ≤ CORES_MAX → Ready riding carrying (state_start riding carrying image cores limit)
+  pub ready_start : (riding : Riding R) (carrying : Carrying K) (image : Contents) (cores limit : ℕ) → cores ≤ CORES_MAX →
+      Ready riding carrying (state_start riding carrying image cores limit)
   ready_start riding carrying image cores limit few =
       record {
         cores = subst (λ (n : ℕ). n ≤ CORES_MAX) (sym (length-map-range_with_len (node_start riding carrying limit) 0 cores)) few;
-        names = all_map (opening_entry riding.fresh image) (λ e. IsTrue (names_below e.stage (length (state_start riding carrying image cores limit).nodes))) (λ b. refl) (range_with_len 0 (block_count image.words));
+        names = all_map (opening_entry riding.fresh image) (λ e. IsTrue (names_below e.stage (length (state_start riding carrying image cores limit).nodes)))
+            (λ b. refl) (range_with_len 0 (block_count image.words));
         heads = heads_start riding carrying image cores limit;
         rows = rows_start riding carrying image cores limit;
         rooms = rooms_start riding carrying image cores limit;

@@ -3,7 +3,8 @@ ghost use Rattle.std.specs.Prelude.{◌≡◌, ◌<◌, ◌≤◌, ◌/◌, All,
 ghost use Rattle.rtr_types.specs.declared.TheConstants.{BLOCK_WORDS, CORES_MAX};
 ghost use Rattle.link_order.specs.Queue.{is_nil};
 ghost use Rattle.msi_cache.specs.Messages.{request_block, response_block};
-ghost use Rattle.msi_directory.specs.Blocks.{entries_after_request, entries_after_response, entry_at, has_room, touched};
+ghost use Rattle.msi_directory.specs.Blocks.{entries_after_request, entries_after_response, entry_at, has_room};
+ghost use Rattle.msi_directory.specs.Blocks.{touched};
 ghost use Rattle.msi_directory.specs.Entries.{answer_riding, answer_to_request, answer_to_response, has_request_row};
 ghost use Rattle.msi_directory.specs.Entries.{has_response_row};
 ghost use Rattle.msi_state.specs.declared.moves.Move.{Move};

@@ -38,19 +38,26 @@ use Rattle.msi_times.specs.StandsFor.{TimesParts, StandsFor}
 module _ {R : Type 0} where
   -- ---- of one block
 
-  request_counts : (b : ℕ) (bl : FullBlock (Payload R)) (c : ℕ) (a : Ask) (rest : List Ask) (x y : R) → (picture (bl.seats c).phase).requests ≡ a ∷ rest → role_in (bl.seats c).phase ≡ role bl.stage c → request_meets (entry_with bl) c (ask_with b (bl.seats c).put a) ≡ Some (x, y)
-      → (home_counts bl.stage ≡ true) × (line_counts (bl.seats c).phase ≡ true) × (put_counts (bl.seats c).phase ≡ true) × (x ≡ bl.home.rider) × (y ≡ (bl.seats c).put.rider)
-  request_counts b bl c a rest x y asks is met = (grind (arith, nat_tests), grind (arith, nat_tests), grind (arith, nat_tests), grind (arith, nat_tests), grind (arith, nat_tests))
+  request_counts : (b : ℕ) (bl : FullBlock (Payload R)) (c : ℕ) (a : Ask) (rest : List Ask) (x y : R) → (picture (bl.seats c).phase).requests ≡ a ∷ rest →
+      role_in (bl.seats c).phase ≡ role bl.stage c → request_meets (entry_with bl) c (ask_with b (bl.seats c).put a) ≡ Some (x, y)
+      → (home_counts bl.stage ≡ true) × (line_counts (bl.seats c).phase ≡ true) × (put_counts (bl.seats c).phase ≡ true) × (x ≡ bl.home.rider)
+      × (y ≡ (bl.seats c).put.rider)
+  request_counts b bl c a rest x y asks is met =
+      (grind (arith, nat_tests), grind (arith, nat_tests), grind (arith, nat_tests), grind (arith, nat_tests), grind (arith, nat_tests))
 
-  response_counts : (b : ℕ) (bl : FullBlock (Payload R)) (c : ℕ) (a : Reply) (rest : List Reply) (x y : R) → (picture (bl.seats c).phase).responses ≡ a ∷ rest → role_in (bl.seats c).phase ≡ role bl.stage c → response_meets (entry_with bl) c (reply_with b (bl.seats c).reply a) ≡ Some (x, y)
+  response_counts : (b : ℕ) (bl : FullBlock (Payload R)) (c : ℕ) (a : Reply) (rest : List Reply) (x y : R) → (picture (bl.seats c).phase).responses
+      ≡ a ∷ rest → role_in (bl.seats c).phase ≡ role bl.stage c → response_meets (entry_with bl) c (reply_with b (bl.seats c).reply a) ≡ Some (x, y)
       → (home_counts bl.stage ≡ true) × (reply_counts (bl.seats c).phase ≡ true) × (x ≡ bl.home.rider) × (y ≡ (bl.seats c).reply.rider)
   response_counts b bl c a rest x y asks is met = (grind (arith, nat_tests), grind (arith, nat_tests), grind (arith, nat_tests), grind (arith, nat_tests))
 
-  message_counts : (b : ℕ) (s : Seat (Payload R)) (g : Signal) (rest : List Signal) (x y : R) → (picture s.phase).messages ≡ g ∷ rest → message_meets (line_with b s) (signal_with b s.sent g) ≡ Some (x, y)
+  message_counts : (b : ℕ) (s : Seat (Payload R)) (g : Signal) (rest : List Signal) (x y : R) → (picture s.phase).messages ≡ g ∷ rest →
+      message_meets (line_with b s) (signal_with b s.sent g) ≡ Some (x, y)
       → (sent_counts s.phase ≡ true) × (line_counts s.phase ≡ true) × (x ≡ s.sent.rider) × (y ≡ s.line.rider)
   message_counts b s g rest x y asks met = (grind arith, grind arith, grind arith, grind arith)
 
-  pub request_alike : (parts : TimesParts R) (h : List NotedAccess) (b : ℕ) (entry : Entry R) (sights : ℕ → Sight R) (c : ℕ) (request : Request R) (rest : List (Request R)) (x y : R) → c < CORES_MAX → (sights c).requests ≡ request ∷ rest → StandsFor parts h b entry sights → request_meets entry c request ≡ Some (x, y)
+  pub request_alike : (parts : TimesParts R) (h : List NotedAccess) (b : ℕ) (entry : Entry R) (sights : ℕ → Sight R) (c : ℕ) (request : Request R)
+      (rest : List (Request R)) (x y : R) → c < CORES_MAX → (sights c).requests ≡ request ∷ rest → StandsFor parts h b entry sights →
+      request_meets entry c request ≡ Some (x, y)
       → (slot : ℕ) → slot < BLOCK_WORDS → parts.write x slot ≡ parts.write y slot
   request_alike parts h b entry sights c request rest x y lc asks f met slot ls =
       let bl : FullBlock (Payload R) = f.block in
@@ -58,7 +65,8 @@ module _ {R : Type 0} where
       let e = f.exact slot ls in
       let seat = e.holders.seats c lc in
       let q = shown_asked b s request rest (ap (λ (v : Sight R). v.requests) (f.shows c lc) ∙ asks) in
-      let here : request_meets (entry_with bl) c (ask_with b s.put q.0) ≡ Some (x, y) = ap (λ (e : Entry R). request_meets e c (ask_with b s.put q.0)) f.entry_is ∙ (ap (λ (r : Request R). request_meets entry c r) (sym q.3) ∙ met) in
+      let here : request_meets (entry_with bl) c (ask_with b s.put q.0) ≡ Some (x, y) =
+      ap (λ (e : Entry R). request_meets e c (ask_with b s.put q.0)) f.entry_is ∙ (ap (λ (r : Request R). request_meets entry c r) (sym q.3) ∙ met) in
       let counts = request_counts b bl c q.0 q.1 x y q.2 (e.stands.roles c lc) here in
       ap (λ (r : R). parts.write r slot) counts.3
       ∙ ((e.holders.home counts.0).write
@@ -66,7 +74,9 @@ module _ {R : Type 0} where
       ∙ (ap (λ (p : Payload R). parts.write p.rider slot) (sym (seat.put counts.2))
       ∙ ap (λ (r : R). parts.write r slot) (sym counts.4))))
 
-  pub response_alike : (parts : TimesParts R) (h : List NotedAccess) (b : ℕ) (entry : Entry R) (sights : ℕ → Sight R) (c : ℕ) (response : Response R) (rest : List (Response R)) (x y : R) → c < CORES_MAX → (sights c).responses ≡ response ∷ rest → StandsFor parts h b entry sights → response_meets entry c response ≡ Some (x, y)
+  pub response_alike : (parts : TimesParts R) (h : List NotedAccess) (b : ℕ) (entry : Entry R) (sights : ℕ → Sight R) (c : ℕ) (response : Response R)
+      (rest : List (Response R)) (x y : R) → c < CORES_MAX → (sights c).responses ≡ response ∷ rest → StandsFor parts h b entry sights →
+      response_meets entry c response ≡ Some (x, y)
       → (slot : ℕ) → slot < BLOCK_WORDS → parts.write x slot ≡ parts.write y slot
   response_alike parts h b entry sights c response rest x y lc asks f met slot ls =
       let bl : FullBlock (Payload R) = f.block in
@@ -74,14 +84,18 @@ module _ {R : Type 0} where
       let e = f.exact slot ls in
       let seat = e.holders.seats c lc in
       let q = shown_replied b s response rest (ap (λ (v : Sight R). v.responses) (f.shows c lc) ∙ asks) in
-      let here : response_meets (entry_with bl) c (reply_with b s.reply q.0) ≡ Some (x, y) = ap (λ (e : Entry R). response_meets e c (reply_with b s.reply q.0)) f.entry_is ∙ (ap (λ (r : Response R). response_meets entry c r) (sym q.3) ∙ met) in
+      let here : response_meets (entry_with bl) c (reply_with b s.reply q.0) ≡ Some (x, y) =
+      ap (λ (e : Entry R). response_meets e c (reply_with b s.reply q.0)) f.entry_is
+      ∙ (ap (λ (r : Response R). response_meets entry c r) (sym q.3) ∙ met) in
       let counts = response_counts b bl c q.0 q.1 x y q.2 (e.stands.roles c lc) here in
       ap (λ (r : R). parts.write r slot) counts.2
       ∙ ((e.holders.home counts.0).write
       ∙ (sym (seat.reply counts.1).write
       ∙ ap (λ (r : R). parts.write r slot) (sym counts.3)))
 
-  pub message_alike : (parts : TimesParts R) (h : List NotedAccess) (b : ℕ) (entry : Entry R) (sights : ℕ → Sight R) (c : ℕ) (m : FromHome R) (rest : List (FromHome R)) (x y : R) → c < CORES_MAX → (sights c).messages ≡ m ∷ rest → StandsFor parts h b entry sights → message_meets (sights c).line m ≡ Some (x, y)
+  pub message_alike : (parts : TimesParts R) (h : List NotedAccess) (b : ℕ) (entry : Entry R) (sights : ℕ → Sight R) (c : ℕ) (m : FromHome R)
+      (rest : List (FromHome R)) (x y : R) → c < CORES_MAX → (sights c).messages ≡ m ∷ rest → StandsFor parts h b entry sights →
+      message_meets (sights c).line m ≡ Some (x, y)
       → (slot : ℕ) → slot < BLOCK_WORDS → parts.write x slot ≡ parts.write y slot
   message_alike parts h b entry sights c m rest x y lc asks f met slot ls =
       let s : Seat (Payload R) = f.block.seats c in
@@ -89,7 +103,9 @@ module _ {R : Type 0} where
       let head : map (signal_with b s.sent) (picture s.phase).messages ≡ m ∷ rest = ap (λ (v : Sight R). v.messages) (f.shows c lc) ∙ asks in
       let q = messages_cons b s.sent m rest (picture s.phase).messages head in
       let first : signal_with b s.sent q.0 ≡ m = head_is (map (signal_with b s.sent) q.1) (ap (map (signal_with b s.sent)) (sym q.2) ∙ head) in
-      let here : message_meets (line_with b s) (signal_with b s.sent q.0) ≡ Some (x, y) = ap (λ (v : Sight R). message_meets v.line (signal_with b s.sent q.0)) (f.shows c lc) ∙ (ap (λ (n : FromHome R). message_meets (sights c).line n) first ∙ met) in
+      let here : message_meets (line_with b s) (signal_with b s.sent q.0) ≡ Some (x, y) =
+      ap (λ (v : Sight R). message_meets v.line (signal_with b s.sent q.0)) (f.shows c lc)
+      ∙ (ap (λ (n : FromHome R). message_meets (sights c).line n) first ∙ met) in
       let counts = message_counts b s q.0 q.1 x y q.2 here in
       ap (λ (r : R). parts.write r slot) counts.2
       ∙ ((seat.sent counts.0).write
@@ -107,40 +123,50 @@ module _ {R K : Type 0} where
   meet_alike parts carrying list s (RequestMove c) p e f x y met slot ls = by (node_at carrying s.nodes c).requests.items refl met
     where
       lc : c < CORES_MAX
-      lc = core_below parts.riding carrying s c p (enabled_there parts.riding carrying s c (RequestMove c) (enabled_at s.image parts.riding s.home (node_at carrying s.nodes c) (RequestMove c)) e).0
+      lc = core_below parts.riding carrying s c p
+          (enabled_there parts.riding carrying s c (RequestMove c) (enabled_at s.image parts.riding s.home (node_at carrying s.nodes c) (RequestMove c)) e).0
 
-      by : (q : List (Mail (Request R) K)) → (node_at carrying s.nodes c).requests.items ≡ q → request_meets_in q parts.riding s c ≡ Some (x, y) → parts.write x slot ≡ parts.write y slot
+      by : (q : List (Mail (Request R) K)) → (node_at carrying s.nodes c).requests.items ≡ q → request_meets_in q parts.riding s c ≡ Some (x, y) →
+          parts.write x slot ≡ parts.write y slot
       by [] is met = absurd cc
       by (mail ∷ rest) is met =
           let b : ℕ = request_block mail.item in
-          request_alike parts (noted_accesses (reverse list)) b (entry_at parts.riding.fresh s.home b) (λ d. node_sight parts.riding b (node_at carrying s.nodes d)) c mail.item (of_block request_block b rest) x y lc
+          request_alike parts (noted_accesses (reverse list)) b (entry_at parts.riding.fresh s.home b)
+          (λ d. node_sight parts.riding b (node_at carrying s.nodes d)) c mail.item (of_block request_block b rest) x y lc
           (ap (of_block request_block b) is ∙ ap (λ (t : Bool). cons_if t mail.item (of_block request_block b rest)) (eqb_same b)) (f.all.blocks b) met slot ls
   meet_alike parts carrying list s (ResponseMove c) p e f x y met slot ls = by (node_at carrying s.nodes c).responses.items refl met
     where
       lc : c < CORES_MAX
-      lc = core_below parts.riding carrying s c p (enabled_there parts.riding carrying s c (ResponseMove c) (enabled_at s.image parts.riding s.home (node_at carrying s.nodes c) (ResponseMove c)) e).0
+      lc = core_below parts.riding carrying s c p
+          (enabled_there parts.riding carrying s c (ResponseMove c) (enabled_at s.image parts.riding s.home (node_at carrying s.nodes c) (ResponseMove c)) e).0
 
-      by : (q : List (Mail (Response R) K)) → (node_at carrying s.nodes c).responses.items ≡ q → response_meets_in q parts.riding s c ≡ Some (x, y) → parts.write x slot ≡ parts.write y slot
+      by : (q : List (Mail (Response R) K)) → (node_at carrying s.nodes c).responses.items ≡ q → response_meets_in q parts.riding s c ≡ Some (x, y) →
+          parts.write x slot ≡ parts.write y slot
       by [] is met = absurd cc
       by (mail ∷ rest) is met =
           let b : ℕ = response_block mail.item in
-          response_alike parts (noted_accesses (reverse list)) b (entry_at parts.riding.fresh s.home b) (λ d. node_sight parts.riding b (node_at carrying s.nodes d)) c mail.item (of_block response_block b rest) x y lc
-          (ap (of_block response_block b) is ∙ ap (λ (t : Bool). cons_if t mail.item (of_block response_block b rest)) (eqb_same b)) (f.all.blocks b) met slot ls
+          response_alike parts (noted_accesses (reverse list)) b (entry_at parts.riding.fresh s.home b)
+          (λ d. node_sight parts.riding b (node_at carrying s.nodes d)) c mail.item (of_block response_block b rest) x y lc
+          (ap (of_block response_block b) is ∙ ap (λ (t : Bool). cons_if t mail.item (of_block response_block b rest)) (eqb_same b))
+          (f.all.blocks b) met slot ls
   meet_alike parts carrying list s (MessageMove c) p e f x y met slot ls = by (node_at carrying s.nodes c).messages.items refl met
     where
       n : Node R K
       n = node_at carrying s.nodes c
 
       lc : c < CORES_MAX
-      lc = core_below parts.riding carrying s c p (enabled_there parts.riding carrying s c (MessageMove c) (enabled_at s.image parts.riding s.home (node_at carrying s.nodes c) (MessageMove c)) e).0
+      lc = core_below parts.riding carrying s c p
+          (enabled_there parts.riding carrying s c (MessageMove c) (enabled_at s.image parts.riding s.home (node_at carrying s.nodes c) (MessageMove c)) e).0
 
-      by : (q : List (Mail (FromHome R) K)) → n.messages.items ≡ q → message_meets_in q parts.riding carrying s c ≡ Some (x, y) → parts.write x slot ≡ parts.write y slot
+      by : (q : List (Mail (FromHome R) K)) → n.messages.items ≡ q → message_meets_in q parts.riding carrying s c ≡ Some (x, y) →
+          parts.write x slot ≡ parts.write y slot
       by [] is met = absurd cc
       by (mail ∷ rest) is met =
           let b : ℕ = block_of mail.item in
           let l : Line R = line_for parts.riding.fresh n.cache b in
           let fits = receives_well parts carrying s c mail rest p e is in
           let holds : (l.block == b) ≡ true = rw fits.0 (eqb_same b) in
-          message_alike parts (noted_accesses (reverse list)) b (entry_at parts.riding.fresh s.home b) (λ d. node_sight parts.riding b (node_at carrying s.nodes d)) c mail.item (of_block block_of b rest) x y lc
+          message_alike parts (noted_accesses (reverse list)) b (entry_at parts.riding.fresh s.home b)
+          (λ d. node_sight parts.riding b (node_at carrying s.nodes d)) c mail.item (of_block block_of b rest) x y lc
           (ap (of_block block_of b) is ∙ ap (λ (t : Bool). cons_if t mail.item (of_block block_of b rest)) (eqb_same b)) (f.all.blocks b)
           (ap (λ (t : Bool). message_meets (line_if t b l) mail.item) holds ∙ met) slot ls

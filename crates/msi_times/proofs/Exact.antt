@@ -8,39 +8,49 @@ use Rattle.rtr_types.specs.declared.access.Kind.{Kind}
 use Rattle.msi_cache.specs.Table.{Signal, Ask, Reply}
 use Rattle.msi_protocol.specs.Block.{Wish}
 use Rattle.msi_protocol.specs.Phases.{Phase, role, role_in, picture}
-use Rattle.msi_times.specs.Seats.{Seat, seat_accessed, reads_in, writes_in, FullBlock, seat_if, main, main_of, main_in, main_at, place, count_at, own_count, requested, responded, messaged, wishing, accessing, PhasesFit, HoldersHave, Found, is_main, is_away}
+use Rattle.msi_times.specs.Seats.{Seat, seat_accessed, reads_in, writes_in, FullBlock, seat_if, main, main_of, main_in, main_at, place, count_at, own_count}
+use Rattle.msi_times.specs.Seats.{requested, responded, messaged, wishing, accessing, PhasesFit, HoldersHave, Found, is_main, is_away}
 use Rattle.msi_protocol.specs.Counting.{line_counts}
-use Rattle.msi_times.specs.History.{NotedAccess, core_of, read_after, last_noted_read, rank, WordTimes, AbsorbsWell, HasNoted, IsPast, read_rank, Exact, IsExactFor, allows, MayAccess}
+use Rattle.msi_times.specs.History.{NotedAccess, core_of, read_after, last_noted_read, rank, WordTimes, AbsorbsWell, HasNoted, IsPast, read_rank, Exact}
+use Rattle.msi_times.specs.History.{IsExactFor, allows, MayAccess}
 use Rattle.rtr_types.specs.Accesses.{is_write}
 use Rattle.msi_times.proofs.Found.{main_core, at_core, found_in, found_request, found_response, found_message, found_wish}
 use Rattle.msi_times.proofs.Past.{absorbed_past, absorbed_grows, noted_past, others_past, read_cases}
-use Rattle.msi_times.proofs.Moves.{stands_request, stands_response, stands_message, stands_wish, stands_access, has_request, has_response, has_message, has_wish, has_load, has_store, writer_away}
+use Rattle.msi_times.proofs.Moves.{stands_request, stands_response, stands_message, stands_wish, stands_access, has_request, has_response, has_message}
+use Rattle.msi_times.proofs.Moves.{has_wish, has_load, has_store, writer_away}
 
-pub exact_request : {X : Type 0} (t : WordTimes X) → AbsorbsWell t → (h : List NotedAccess) (word c : ℕ) (a : Ask) (rest : List Ask) (b : FullBlock X) → c < CORES_MAX → is_free b.stage ≡ true → (picture (b.seats c).phase).requests ≡ a ∷ rest → Exact t h word b → Exact t h word (requested t.absorbed c a b)
+pub exact_request : {X : Type 0} (t : WordTimes X) → AbsorbsWell t → (h : List NotedAccess) (word c : ℕ) (a : Ask) (rest : List Ask) (b : FullBlock X) →
+    c < CORES_MAX → is_free b.stage ≡ true → (picture (b.seats c).phase).requests ≡ a ∷ rest → Exact t h word b → Exact t h word (requested t.absorbed c a b)
 exact_request t well h word c a rest b lc free asks e =
     record {
       stands = stands_request t.absorbed c a rest b lc free asks e.stands;
       holders = has_request (IsPast t h word) t.absorbed (absorbed_past t well h word) c a rest b lc free asks e.stands e.holders;
-      found = λ d ld. found_request (IsPast t h word) t.absorbed (read_rank t d) (absorbed_grows t well h word d ld) (rank (last_noted_read h word d)) d c a rest b lc ld free asks e.stands e.holders (e.found d ld);
+      found = λ d ld. found_request (IsPast t h word) t.absorbed (read_rank t d) (absorbed_grows t well h word d ld)
+          (rank (last_noted_read h word d)) d c a rest b lc ld free asks e.stands e.holders (e.found d ld);
     }
 
-pub exact_response : {X : Type 0} (t : WordTimes X) → AbsorbsWell t → (h : List NotedAccess) (word c : ℕ) (a : Reply) (rest : List Reply) (b : FullBlock X) → c < CORES_MAX → (picture (b.seats c).phase).responses ≡ a ∷ rest → Exact t h word b → Exact t h word (responded t.absorbed c a b)
+pub exact_response : {X : Type 0} (t : WordTimes X) → AbsorbsWell t → (h : List NotedAccess) (word c : ℕ) (a : Reply) (rest : List Reply) (b : FullBlock X) →
+    c < CORES_MAX → (picture (b.seats c).phase).responses ≡ a ∷ rest → Exact t h word b → Exact t h word (responded t.absorbed c a b)
 exact_response t well h word c a rest b lc asks e =
     record {
       stands = stands_response t.absorbed c a rest b lc asks e.stands;
       holders = has_response (IsPast t h word) t.absorbed (absorbed_past t well h word) c a rest b lc asks e.stands e.holders;
-      found = λ d ld. found_response (IsPast t h word) t.absorbed (read_rank t d) (absorbed_grows t well h word d ld) (rank (last_noted_read h word d)) d c a rest b lc ld asks e.stands e.holders (e.found d ld);
+      found = λ d ld. found_response (IsPast t h word) t.absorbed (read_rank t d) (absorbed_grows t well h word d ld)
+          (rank (last_noted_read h word d)) d c a rest b lc ld asks e.stands e.holders (e.found d ld);
     }
 
-pub exact_message : {X : Type 0} (t : WordTimes X) → AbsorbsWell t → (h : List NotedAccess) (word c : ℕ) (m : Signal) (rest : List Signal) (b : FullBlock X) → c < CORES_MAX → (picture (b.seats c).phase).messages ≡ m ∷ rest → Exact t h word b → Exact t h word (messaged t.absorbed c b)
+pub exact_message : {X : Type 0} (t : WordTimes X) → AbsorbsWell t → (h : List NotedAccess) (word c : ℕ) (m : Signal) (rest : List Signal) (b : FullBlock X) →
+    c < CORES_MAX → (picture (b.seats c).phase).messages ≡ m ∷ rest → Exact t h word b → Exact t h word (messaged t.absorbed c b)
 exact_message t well h word c m rest b lc asks e =
     record {
       stands = stands_message t.absorbed c m rest b asks e.stands;
       holders = has_message (IsPast t h word) t.absorbed (absorbed_past t well h word) c b e.holders;
-      found = λ d ld. found_message (IsPast t h word) t.absorbed (read_rank t d) (absorbed_grows t well h word d ld) (rank (last_noted_read h word d)) d c m rest b lc ld asks e.stands e.holders (e.found d ld);
+      found = λ d ld. found_message (IsPast t h word) t.absorbed (read_rank t d) (absorbed_grows t well h word d ld)
+          (rank (last_noted_read h word d)) d c m rest b lc ld asks e.stands e.holders (e.found d ld);
     }
 
-pub exact_wish : {X : Type 0} (t : WordTimes X) (h : List NotedAccess) (word c : ℕ) (w : Wish) (b : FullBlock X) → Exact t h word b → Exact t h word (wishing c w b)
+pub exact_wish : {X : Type 0} (t : WordTimes X) (h : List NotedAccess) (word c : ℕ) (w : Wish) (b : FullBlock X) → Exact t h word b →
+    Exact t h word (wishing c w b)
 exact_wish t h word c w b e =
     record {
       stands = stands_wish c w b e.stands;
@@ -51,13 +61,16 @@ exact_wish t h word c w b e =
 -- ---- an access
 
 -- the line has a read of the count
-read_main : {X : Type 0} (r : X → ℕ) (p : Phase) (line sent reply : X) → reads_in p ≡ true → is_main (role_in p) ≡ false → count_at r (place p) line reply ≡ r line
+read_main : {X : Type 0} (r : X → ℕ) (p : Phase) (line sent reply : X) → reads_in p ≡ true → is_main (role_in p) ≡ false → count_at r (place p) line reply
+    ≡ r line
 read_main r p line sent reply may e = grind arith
 
-read_place : {X : Type 0} (r : X → ℕ) (p : Phase) (line sent reply : X) → reads_in p ≡ true → (main_in p line sent reply ≡ line) ⊎ (count_at r (place p) line reply ≡ r line)
+read_place : {X : Type 0} (r : X → ℕ) (p : Phase) (line sent reply : X) → reads_in p ≡ true → (main_in p line sent reply ≡ line)
+    ⊎ (count_at r (place p) line reply ≡ r line)
 read_place r p line sent reply may = grind arith
 
-found_mine : {X : Type 0} (r : X → ℕ) (c : ℕ) (line : X) (b : FullBlock X) → c < CORES_MAX → reads_in (b.seats c).phase ≡ true → PhasesFit b → Found r (r line) c (accessing c line b)
+found_mine : {X : Type 0} (r : X → ℕ) (c : ℕ) (line : X) (b : FullBlock X) → c < CORES_MAX → reads_in (b.seats c).phase ≡ true → PhasesFit b →
+    Found r (r line) c (accessing c line b)
 found_mine {X} r c line b lc may st lt = by (is_main (role_in p)) refl (read_place r p line s.sent s.reply may) lt
   where
     s : Seat X
@@ -69,17 +82,21 @@ found_mine {X} r c line b lc may st lt = by (is_main (role_in p)) refl (read_pla
     same : (accessing c line b).seats c ≡ seat_accessed line s
     same = let e : (c == c) ≡ true = grind (arith, nat_tests) in ap (λ (k : Bool). seat_if k (seat_accessed line s) s) e
 
-    by : (is : Bool) → is_main (role_in p) ≡ is → (main_in p line s.sent s.reply ≡ line) ⊎ (count_at r (place p) line s.reply ≡ r line) → r (main (accessing c line b)) < r line → r line ≤ own_count r ((accessing c line b).seats c)
+    by : (is : Bool) → is_main (role_in p) ≡ is → (main_in p line s.sent s.reply ≡ line) ⊎ (count_at r (place p) line s.reply ≡ r line) →
+        r (main (accessing c line b)) < r line → r line ≤ own_count r ((accessing c line b).seats c)
     by is e (inr own) lt = let k = ap (own_count r) same in omega arith
     by true e (inl in_main) lt =
-        let k : main (accessing c line b) ≡ main_of ((accessing c line b).seats c) = main_core b.stage c b.home (accessing c line b).seats (ap is_main (sym (st.roles c lc)) ∙ e) in
+        let k : main (accessing c line b) ≡ main_of ((accessing c line b).seats c) =
+        main_core b.stage c b.home (accessing c line b).seats (ap is_main (sym (st.roles c lc)) ∙ e) in
         let m : main (accessing c line b) ≡ line = k ∙ ap main_of same ∙ in_main in
         let n = ap r m in
         absurd (omega arith)
     by false e (inl in_main) lt = let k = ap (own_count r) same in let o = read_main r p line s.sent s.reply may e in omega arith
 
 -- the rider of the line has the read that it had
-main_still : {X : Type 0} (r : X → ℕ) (stage : Stage) (c : ℕ) (line home : X) (seats : ℕ → Seat X) → ((o : ℕ) → r (main_of (seat_if (o == c) (seat_accessed line (seats o)) (seats o))) ≡ r (main_of (seats o))) → r (main_at stage home (λ d. seat_if (d == c) (seat_accessed line (seats d)) (seats d))) ≡ r (main_at stage home seats)
+main_still : {X : Type 0} (r : X → ℕ) (stage : Stage) (c : ℕ) (line home : X) (seats : ℕ → Seat X) →
+    ((o : ℕ) → r (main_of (seat_if (o == c) (seat_accessed line (seats o)) (seats o))) ≡ r (main_of (seats o))) →
+    r (main_at stage home (λ d. seat_if (d == c) (seat_accessed line (seats d)) (seats d))) ≡ r (main_at stage home seats)
 main_still r stage c line home seats each = grind arith
 
 accessed_main : {X : Type 0} (r : X → ℕ) (p : Phase) (line new sent reply : X) → r new ≡ r line → r (main_in p new sent reply) ≡ r (main_in p line sent reply)
@@ -91,8 +108,11 @@ accessed_own r p line new reply e = grind arith
 found_still : {X : Type 0} (r : X → ℕ) (n d c : ℕ) (line : X) (b : FullBlock X) → r line ≡ r (b.seats c).line → Found r n d b → Found r n d (accessing c line b)
 found_still {X} r n d c line b e f =
     let at : (o : ℕ) → o ≡ c → r line ≡ r (b.seats o).line = λ (o : ℕ) (k : o ≡ c). subst (λ (x : ℕ). r line ≡ r (b.seats x).line) (sym k) e in
-    let main_same = main_still r b.stage c line b.home b.seats (λ (o : ℕ). at_core (λ (t : Seat X). r (main_of t) ≡ r (main_of (b.seats o))) c o (seat_accessed line (b.seats o)) (b.seats o) (λ (k : o ≡ c). let s = b.seats o in accessed_main r s.phase s.line line s.sent s.reply (at o k)) (λ (k : o ≢ c). refl)) in
-    let own_same = at_core (λ (t : Seat X). own_count r t ≡ own_count r (b.seats d)) c d (seat_accessed line (b.seats d)) (b.seats d) (λ (k : d ≡ c). let s = b.seats d in accessed_own r s.phase s.line line s.reply (at d k)) (λ (k : d ≢ c). refl) in
+    let main_same = main_still r b.stage c line b.home b.seats
+    (λ (o : ℕ). at_core (λ (t : Seat X). r (main_of t) ≡ r (main_of (b.seats o))) c o (seat_accessed line (b.seats o)) (b.seats o) (λ (k : o ≡ c). let s =
+    b.seats o in accessed_main r s.phase s.line line s.sent s.reply (at o k)) (λ (k : o ≢ c). refl)) in
+    let own_same = at_core (λ (t : Seat X). own_count r t ≡ own_count r (b.seats d)) c d (seat_accessed line (b.seats d)) (b.seats d)
+    (λ (k : d ≡ c). let s = b.seats d in accessed_own r s.phase s.line line s.reply (at d k)) (λ (k : d ≢ c). refl) in
     found_in r n (main b) (main (accessing c line b)) (b.seats d) ((accessing c line b).seats d) (omega arith) (inl (omega arith)) f
 
 allows_read : (k : Kind) (p : Phase) → allows k p ≡ true → reads_in p ≡ true
@@ -107,7 +127,8 @@ reads_line p e = grind arith
 pub writes_read : (p : Phase) → writes_in p ≡ true → reads_in p ≡ true
 writes_read p e = grind arith
 
-pub exact_access : {X : Type 0} (t : WordTimes X) (h : List NotedAccess) (word : ℕ) (n : NotedAccess) (line : X) (b : FullBlock X) → MayAccess h word b n → HasNoted t n word (b.seats (core_of n)).line line → Exact t h word b → Exact t (n ∷ h) word (accessing (core_of n) line b)
+pub exact_access : {X : Type 0} (t : WordTimes X) (h : List NotedAccess) (word : ℕ) (n : NotedAccess) (line : X) (b : FullBlock X) → MayAccess h word b n →
+    HasNoted t n word (b.seats (core_of n)).line line → Exact t h word b → Exact t (n ∷ h) word (accessing (core_of n) line b)
 exact_access {X} t h word n line b may noted e =
     record {
       stands = stands_access c line b e.stands;
@@ -132,21 +153,29 @@ exact_access {X} t h word n line b may noted e =
 
     by : (w : Bool) → is_write n.access.kind ≡ w → HoldersHave (IsPast t (n ∷ h) word) (accessing c line b)
     by true w = has_store (IsPast t (n ∷ h) word) c line b may.core (allows_write n.access.kind s.phase may.allowed w) new e.stands
-    by false w = has_load (IsPast t h word) (IsPast t (n ∷ h) word) c line b reads (λ (x : X) (p : IsPast t h word x). others_past t n h word x w may.later p) new e.holders
+    by false w = has_load (IsPast t h word) (IsPast t (n ∷ h) word) c line b reads
+        (λ (x : X) (p : IsPast t h word x). others_past t n h word x w may.later p) new e.holders
 
-    found : (d : ℕ) → d < CORES_MAX → (rank (last_noted_read (n ∷ h) word d) ≡ 0) ⊎ (((rank (last_noted_read (n ∷ h) word d) ≡ rank (last_noted_read h word d)) × (rank (read_after n word d (t.read s.line d)) ≡ rank (t.read s.line d))) ⊎ ((d ≡ c) × (rank (read_after n word d (t.read s.line d)) ≡ rank (last_noted_read (n ∷ h) word d)))) → Found (read_rank t d) (rank (last_noted_read (n ∷ h) word d)) d (accessing c line b)
+    found : (d : ℕ) → d < CORES_MAX → (rank (last_noted_read (n ∷ h) word d) ≡ 0)
+        ⊎ (((rank (last_noted_read (n ∷ h) word d) ≡ rank (last_noted_read h word d))
+        × (rank (read_after n word d (t.read s.line d)) ≡ rank (t.read s.line d)))
+        ⊎ ((d ≡ c) × (rank (read_after n word d (t.read s.line d)) ≡ rank (last_noted_read (n ∷ h) word d)))) →
+        Found (read_rank t d) (rank (last_noted_read (n ∷ h) word d)) d (accessing c line b)
     found d ld (inl none) lt = absurd (omega arith)
     found d ld (inr (inl same)) lt =
         let k = ap rank (noted.read d ld) ∙ same.1 in
-        subst (λ (m : ℕ). Found (read_rank t d) m d (accessing c line b)) (sym same.0) (found_still (read_rank t d) (rank (last_noted_read h word d)) d c line b k (e.found d ld)) lt
+        subst (λ (m : ℕ). Found (read_rank t d) m d (accessing c line b)) (sym same.0)
+        (found_still (read_rank t d) (rank (last_noted_read h word d)) d c line b k (e.found d ld)) lt
     found d ld (inr (inr mine)) lt =
         let k : read_rank t d line ≡ rank (last_noted_read (n ∷ h) word d) = ap rank (noted.read d ld) ∙ mine.1 in
         let at_c : Found (read_rank t d) (read_rank t d line) c (accessing c line b) = found_mine (read_rank t d) c line b may.core reads e.stands in
-        subst (λ (m : ℕ). Found (read_rank t d) m d (accessing c line b)) k (subst (λ (x : ℕ). Found (read_rank t d) (read_rank t d line) x (accessing c line b)) (sym mine.0) at_c) lt
+        subst (λ (m : ℕ). Found (read_rank t d) m d (accessing c line b)) k
+        (subst (λ (x : ℕ). Found (read_rank t d) (read_rank t d line) x (accessing c line b)) (sym mine.0) at_c) lt
 
 -- ---- what an access finds
 
-writer_main : {X : Type 0} (stage : Stage) (c : ℕ) (home : X) (seats : ℕ → Seat X) → writes_in (seats c).phase ≡ true → role_in (seats c).phase ≡ role stage c → main_at stage home seats ≡ (seats c).line
+writer_main : {X : Type 0} (stage : Stage) (c : ℕ) (home : X) (seats : ℕ → Seat X) → writes_in (seats c).phase ≡ true →
+    role_in (seats c).phase ≡ role stage c → main_at stage home seats ≡ (seats c).line
 writer_main stage c home seats may is = grind (arith, nat_tests)
 
 writer_place : {X : Type 0} (r : X → ℕ) (p : Phase) (line reply : X) → writes_in p ≡ true → count_at r (place p) line reply ≡ 0
@@ -158,7 +187,8 @@ away_place r p line reply away = grind arith
 not_behind : (a n own : ℕ) → (a < n → n ≤ own) → own ≡ 0 → n ≤ a
 not_behind a n own f e = grind arith
 
-pub exact_for : {X : Type 0} (t : WordTimes X) (h : List NotedAccess) (word c : ℕ) (k : Kind) (b : FullBlock X) → c < CORES_MAX → allows k (b.seats c).phase ≡ true → Exact t h word b → IsExactFor t h word k (b.seats c).line
+pub exact_for : {X : Type 0} (t : WordTimes X) (h : List NotedAccess) (word c : ℕ) (k : Kind) (b : FullBlock X) → c < CORES_MAX → allows k (b.seats c).phase
+    ≡ true → Exact t h word b → IsExactFor t h word k (b.seats c).line
 exact_for {X} t h word c k b lc may e = record { write = past.write; reads = reads }
   where
     s : Seat X
@@ -170,11 +200,14 @@ exact_for {X} t h word c k b lc may e = record { write = past.write; reads = rea
     own : writes_in s.phase ≡ true → (d : ℕ) → d < CORES_MAX → own_count (read_rank t d) (b.seats d) ≡ 0
     own writes d ld = at_core (λ (u : Seat X). own_count (read_rank t d) (b.seats d) ≡ 0) c d s s
         (λ (q : d ≡ c). let u = b.seats d in writer_place (read_rank t d) u.phase u.line u.reply (ap (λ (x : ℕ). writes_in (b.seats x).phase) q ∙ writes))
-        (λ (q : d ≢ c). let u = b.seats d in away_place (read_rank t d) u.phase u.line u.reply (ap is_away (e.stands.roles d ld) ∙ writer_away b.stage c d s.phase q writes (e.stands.roles c lc)))
+        (λ (q : d ≢ c). let u = b.seats d in
+        away_place (read_rank t d) u.phase u.line u.reply (ap is_away (e.stands.roles d ld)
+        ∙ writer_away b.stage c d s.phase q writes (e.stands.roles c lc)))
 
     reads : is_write k ≡ true → (d : ℕ) → d < CORES_MAX → t.read s.line d ≡ last_noted_read h word d
     reads w d ld =
         let writes = allows_write k s.phase may w in
         let m = ap (read_rank t d) (writer_main b.stage c b.home b.seats writes (e.stands.roles c lc)) in
-        let le = not_behind (read_rank t d (main b)) (rank (last_noted_read h word d)) (own_count (read_rank t d) (b.seats d)) (e.found d ld) (own writes d ld) in
+        let le = not_behind (read_rank t d (main b)) (rank (last_noted_read h word d)) (own_count (read_rank t d) (b.seats d)) (e.found d ld)
+        (own writes d ld) in
         (past.reads d ld).same (subst (λ (x : ℕ). rank (last_noted_read h word d) ≤ x) m le)

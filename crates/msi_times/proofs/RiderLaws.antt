@@ -1,7 +1,8 @@
 -- The laws of the rider that records times.
 use Rattle.std.proofs.Common.{◌≡◌, ◌∙◌, ap, refl, sym, ℕ, ◌<◌, ◌==◌, ◌%◌, ◌/◌, Bool, true, false, ◌&&◌, List, Option, Some, None, arith}
 use Rattle.msi_sound.proofs.Blocks.{eqb_same}
-use Rattle.access_times.specs.Times.{is_same_write, newer_read, read_in, no_reads, no_times, missing_slot, slot_at, slot_absorbed, reads_absorbed, times_absorbed, fresh_times, write_at, read_at, slot_loaded, times_loaded, times_stored, times_noted}
+use Rattle.access_times.specs.Times.{is_same_write, newer_read, read_in, no_reads, no_times, missing_slot, slot_at, slot_absorbed, reads_absorbed}
+use Rattle.access_times.specs.Times.{times_absorbed, fresh_times, write_at, read_at, slot_loaded, times_loaded, times_stored, times_noted}
 use Rattle.rtr_types.specs.declared.TheConstants.{BLOCK_WORDS, CORES_MAX}
 use Rattle.std.specs.Prelude.{if◌then◌else◌, slice_index_or, map}
 use Rattle.std.specs.List.{range_with_len}
@@ -37,7 +38,8 @@ absorbed_reads a b d lt = read_of (λ k. newer_read (read_in a k) (read_in b k))
 
 same_self : (w : Option (Instr × Clock)) → is_same_write w w ≡ true
 same_self None = refl
-same_self (Some w) = both3 (w.0.core == w.0.core) (w.0.count == w.0.count) (bytes_eq w.1 w.1) (eqb_same w.0.core) (eqb_same w.0.count) ((bytes_eq-Decides w.1 w.1).1 refl)
+same_self (Some w) =
+    both3 (w.0.core == w.0.core) (w.0.count == w.0.count) (bytes_eq w.1 w.1) (eqb_same w.0.core) (eqb_same w.0.count) ((bytes_eq-Decides w.1 w.1).1 refl)
   where
     both3 : (p q r : Bool) → p ≡ true → q ≡ true → r ≡ true → (p && (q && r)) ≡ true
     both3 p q r e f g = rw (e, f, g) refl
@@ -50,13 +52,16 @@ slot_write a b = by (is_same_write a.write b.write)
     by false = refl
 
 slot_reads : (a b : SlotTimes) → a.write ≡ b.write → slot_absorbed a b ≡ record a { reads = reads_absorbed a.reads b.reads }
-slot_reads a b e = ap (λ (t : Bool). if t then record a { reads = reads_absorbed a.reads b.reads } else a) (ap (is_same_write a.write) (sym e) ∙ same_self a.write)
+slot_reads a b e = ap (λ (t : Bool). if t then record a { reads = reads_absorbed a.reads b.reads } else a) (ap (is_same_write a.write) (sym e)
+    ∙ same_self a.write)
 
 pub times_absorb : AbsorbsAll times_parts
 times_absorb slot ls =
     record {
       write = λ x y e. ap (λ (k : SlotTimes). k.write) (absorbed_slot x.rider y.rider slot ls) ∙ slot_write (slot_at x.rider slot) (slot_at y.rider slot);
-      read = λ x y d ld e. ap (λ (k : SlotTimes). read_in k.reads d) (absorbed_slot x.rider y.rider slot ls ∙ slot_reads (slot_at x.rider slot) (slot_at y.rider slot) e) ∙ absorbed_reads (slot_at x.rider slot).reads (slot_at y.rider slot).reads d ld;
+      read = λ x y d ld e.
+          ap (λ (k : SlotTimes). read_in k.reads d) (absorbed_slot x.rider y.rider slot ls ∙ slot_reads (slot_at x.rider slot) (slot_at y.rider slot) e)
+          ∙ absorbed_reads (slot_at x.rider slot).reads (slot_at y.rider slot).reads d ld;
     }
 
 -- ---- the start
@@ -74,11 +79,13 @@ times_fresh =
 
 -- ---- an access noted
 
-loaded_slot : (t : Times) (s : ℕ) (at : Instr) (clock : Clock) (k : ℕ) → k < BLOCK_WORDS → slot_at (times_loaded t s at clock) k ≡ (if k == s then slot_loaded (slot_at t k) at clock else slot_at t k)
+loaded_slot : (t : Times) (s : ℕ) (at : Instr) (clock : Clock) (k : ℕ) → k < BLOCK_WORDS → slot_at (times_loaded t s at clock) k
+    ≡ (if k == s then slot_loaded (slot_at t k) at clock else slot_at t k)
 unfolding times_loaded
 loaded_slot t s at clock k lt = slot_of (λ k. if k == s then slot_loaded (slot_at t k) at clock else slot_at t k) k lt
 
-stored_slot : (t : Times) (s : ℕ) (at : Instr) (clock : Clock) (k : ℕ) → k < BLOCK_WORDS → slot_at (times_stored t s at clock) k ≡ (if k == s then record { write = Some (at, clock); reads = no_reads } else slot_at t k)
+stored_slot : (t : Times) (s : ℕ) (at : Instr) (clock : Clock) (k : ℕ) → k < BLOCK_WORDS → slot_at (times_stored t s at clock) k
+    ≡ (if k == s then record { write = Some (at, clock); reads = no_reads } else slot_at t k)
 unfolding times_stored
 stored_slot t s at clock k lt = slot_of (λ k. if k == s then record { write = Some (at, clock); reads = no_reads } else slot_at t k) k lt
 
@@ -86,7 +93,8 @@ loaded_write : (a : SlotTimes) (at : Instr) (clock : Clock) → (slot_loaded a a
 unfolding slot_loaded
 loaded_write a at clock = refl
 
-loaded_read : (a : SlotTimes) (at : Instr) (clock : Clock) (d : ℕ) → d < CORES_MAX → read_in (slot_loaded a at clock).reads d ≡ (if d == at.core then Some (at.count, clock) else read_in a.reads d)
+loaded_read : (a : SlotTimes) (at : Instr) (clock : Clock) (d : ℕ) → d < CORES_MAX → read_in (slot_loaded a at clock).reads d
+    ≡ (if d == at.core then Some (at.count, clock) else read_in a.reads d)
 unfolding slot_loaded
 loaded_read a at clock d lt = read_of (λ d. if d == at.core then Some (at.count, clock) else read_in a.reads d) d lt
 
@@ -101,15 +109,18 @@ load_write : (t : Bool) (a : SlotTimes) (at : Instr) (clock : Clock) → (if t t
 load_write true a at clock = loaded_write a at clock
 load_write false a at clock = refl
 
-load_read : (t : Bool) (a : SlotTimes) (at : Instr) (clock : Clock) (d : ℕ) → d < CORES_MAX → read_in (if t then slot_loaded a at clock else a).reads d ≡ (if t then (if at.core == d then Some (at.count, clock) else read_in a.reads d) else read_in a.reads d)
+load_read : (t : Bool) (a : SlotTimes) (at : Instr) (clock : Clock) (d : ℕ) → d < CORES_MAX → read_in (if t then slot_loaded a at clock else a).reads d
+    ≡ (if t then (if at.core == d then Some (at.count, clock) else read_in a.reads d) else read_in a.reads d)
 load_read true a at clock d lt = loaded_read a at clock d lt ∙ ap (λ (u : Bool). if u then Some (at.count, clock) else read_in a.reads d) (flip d at.core)
 load_read false a at clock d lt = refl
 
-store_write : (t : Bool) (a : SlotTimes) (at : Instr) (clock : Clock) → (if t then record { write = Some (at, clock); reads = no_reads } else a).write ≡ (if t && true then Some (at, clock) else a.write)
+store_write : (t : Bool) (a : SlotTimes) (at : Instr) (clock : Clock) → (if t then record { write = Some (at, clock); reads = no_reads } else a).write
+    ≡ (if t && true then Some (at, clock) else a.write)
 store_write true a at clock = refl
 store_write false a at clock = refl
 
-store_read : (t : Bool) (a : SlotTimes) (at : Instr) (clock : Clock) (d : ℕ) → d < CORES_MAX → read_in (if t then record { write = Some (at, clock); reads = no_reads } else a).reads d ≡ (if t then None else read_in a.reads d)
+store_read : (t : Bool) (a : SlotTimes) (at : Instr) (clock : Clock) (d : ℕ) → d < CORES_MAX →
+    read_in (if t then record { write = Some (at, clock); reads = no_reads } else a).reads d ≡ (if t then None else read_in a.reads d)
 store_read true a at clock d lt = get_or-replicate CORES_MAX d None None lt
 store_read false a at clock d lt = refl
 
@@ -120,18 +131,28 @@ and_false false x y = refl
 pub times_notes : (a : Access) (clock : Clock) (t : Times) → RiderNotes times_parts (record { access = a; clock = clock }) t (times_noted a t clock)
 times_notes a clock t = record { write = λ slot ls. write slot ls (is_write a.kind); read = λ slot d ls ld. read slot d ls ld (is_write a.kind) }
   where
-    write : (slot : ℕ) → slot < BLOCK_WORDS → (w : Bool) → write_at (if w then times_stored t (a.word % BLOCK_WORDS) a.at clock else times_loaded t (a.word % BLOCK_WORDS) a.at clock) slot ≡ (if (a.word == word_number (a.word / BLOCK_WORDS) slot) && w then Some (a.at, clock) else write_at t slot)
+    write : (slot : ℕ) → slot < BLOCK_WORDS → (w : Bool) →
+        write_at (if w then times_stored t (a.word % BLOCK_WORDS) a.at clock else times_loaded t (a.word % BLOCK_WORDS) a.at clock) slot
+        ≡ (if (a.word == word_number (a.word / BLOCK_WORDS) slot) && w then Some (a.at, clock) else write_at t slot)
     write slot ls false =
-        ap (λ (s : SlotTimes). s.write) (loaded_slot t (a.word % BLOCK_WORDS) a.at clock slot ls) ∙ load_write (slot == a.word % BLOCK_WORDS) (slot_at t slot) a.at clock
+        ap (λ (s : SlotTimes). s.write) (loaded_slot t (a.word % BLOCK_WORDS) a.at clock slot ls)
+        ∙ load_write (slot == a.word % BLOCK_WORDS) (slot_at t slot) a.at clock
         ∙ and_false (a.word == word_number (a.word / BLOCK_WORDS) slot) (Some (a.at, clock)) (write_at t slot)
     write slot ls true =
-        ap (λ (s : SlotTimes). s.write) (stored_slot t (a.word % BLOCK_WORDS) a.at clock slot ls) ∙ store_write (slot == a.word % BLOCK_WORDS) (slot_at t slot) a.at clock
+        ap (λ (s : SlotTimes). s.write) (stored_slot t (a.word % BLOCK_WORDS) a.at clock slot ls)
+        ∙ store_write (slot == a.word % BLOCK_WORDS) (slot_at t slot) a.at clock
         ∙ ap (λ (u : Bool). if u && true then Some (a.at, clock) else write_at t slot) (sym (same_word a.word slot ls))
 
-    read : (slot d : ℕ) → slot < BLOCK_WORDS → d < CORES_MAX → (w : Bool) → read_at (if w then times_stored t (a.word % BLOCK_WORDS) a.at clock else times_loaded t (a.word % BLOCK_WORDS) a.at clock) slot d ≡ (if a.word == word_number (a.word / BLOCK_WORDS) slot then (if w then None else if a.at.core == d then Some (a.at.count, clock) else read_at t slot d) else read_at t slot d)
+    read : (slot d : ℕ) → slot < BLOCK_WORDS → d < CORES_MAX → (w : Bool) →
+        read_at (if w then times_stored t (a.word % BLOCK_WORDS) a.at clock else times_loaded t (a.word % BLOCK_WORDS) a.at clock) slot d
+        ≡ (if a.word == word_number (a.word / BLOCK_WORDS) slot then
+        (if w then None else if a.at.core == d then Some (a.at.count, clock) else read_at t slot d) else read_at t slot d)
     read slot d ls ld false =
-        ap (λ (s : SlotTimes). read_in s.reads d) (loaded_slot t (a.word % BLOCK_WORDS) a.at clock slot ls) ∙ load_read (slot == a.word % BLOCK_WORDS) (slot_at t slot) a.at clock d ld
-        ∙ ap (λ (u : Bool). if u then (if a.at.core == d then Some (a.at.count, clock) else read_at t slot d) else read_at t slot d) (sym (same_word a.word slot ls))
+        ap (λ (s : SlotTimes). read_in s.reads d) (loaded_slot t (a.word % BLOCK_WORDS) a.at clock slot ls)
+        ∙ load_read (slot == a.word % BLOCK_WORDS) (slot_at t slot) a.at clock d ld
+        ∙ ap (λ (u : Bool). if u then (if a.at.core == d then Some (a.at.count, clock) else read_at t slot d) else read_at t slot d)
+        (sym (same_word a.word slot ls))
     read slot d ls ld true =
-        ap (λ (s : SlotTimes). read_in s.reads d) (stored_slot t (a.word % BLOCK_WORDS) a.at clock slot ls) ∙ store_read (slot == a.word % BLOCK_WORDS) (slot_at t slot) a.at clock d ld
+        ap (λ (s : SlotTimes). read_in s.reads d) (stored_slot t (a.word % BLOCK_WORDS) a.at clock slot ls)
+        ∙ store_read (slot == a.word % BLOCK_WORDS) (slot_at t slot) a.at clock d ld
         ∙ ap (λ (u : Bool). if u then None else read_at t slot d) (sym (same_word a.word slot ls))

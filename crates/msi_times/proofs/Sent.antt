@@ -19,16 +19,19 @@ use Rattle.msi_times.specs.Shown.{Sight, sight_told_if, sight_sent, sight_answer
 use Rattle.msi_state.specs.Sights.{cons_if}
 use Rattle.msi_times.specs.NodeSights.{of_block, node_sight, Sends}
 
-pub of_block-snoc : {T K : Type 0} (block : T → ℕ) (b : ℕ) (xs : List (Mail T K)) (mail : Mail T K) → of_block block b (xs ++ mail ∷ []) ≡ of_block block b xs ++ cons_if (block mail.item == b) mail.item []
+pub of_block-snoc : {T K : Type 0} (block : T → ℕ) (b : ℕ) (xs : List (Mail T K)) (mail : Mail T K) → of_block block b (xs ++ mail ∷ []) ≡ of_block block b xs
+    ++ cons_if (block mail.item == b) mail.item []
 of_block-snoc block b [] mail = refl
-of_block-snoc {T} {K} block b (x ∷ xs) mail = rw (of_block-snoc block b xs mail) (by_test (block x.item == b) x.item (of_block block b xs) (cons_if (block mail.item == b) mail.item []))
+of_block-snoc {T} {K} block b (x ∷ xs) mail =
+    rw (of_block-snoc block b xs mail) (by_test (block x.item == b) x.item (of_block block b xs) (cons_if (block mail.item == b) mail.item []))
   where
     by_test : (t : Bool) (s : T) (ys zs : List T) → cons_if t s (ys ++ zs) ≡ cons_if t s ys ++ zs
     by_test true s ys zs = refl
     by_test false s ys zs = refl
 
 module _ {R K : Type 0} where
-  pub sight-sent : (riding : Riding R) (b : ℕ) (n : Node R K) (m : FromHome R) (k : K) → node_sight riding b (node_sent n m k) ≡ sight_told_if (block_of m == b) m (node_sight riding b n)
+  pub sight-sent : (riding : Riding R) (b : ℕ) (n : Node R K) (m : FromHome R) (k : K) → node_sight riding b (node_sent n m k)
+      ≡ sight_told_if (block_of m == b) m (node_sight riding b n)
   sight-sent riding b n m k = rw (of_block-snoc block_of b n.messages.items (record { item = m; carry = k })) (by_test (block_of m == b))
     where
       base : Sight R
@@ -38,14 +41,17 @@ module _ {R K : Type 0} where
       by_test true = refl
       by_test false = rw (append-nil (of_block block_of b n.messages.items))
 
-  sight_told_node : (riding : Riding R) (b : ℕ) (t : Bool) (n : Node R K) (m : FromHome R) (k : K) → node_sight riding b (if t then node_sent n m k else n) ≡ sight_told_if (t && (block_of m == b)) m (node_sight riding b n)
+  sight_told_node : (riding : Riding R) (b : ℕ) (t : Bool) (n : Node R K) (m : FromHome R) (k : K) → node_sight riding b (if t then node_sent n m k else n)
+      ≡ sight_told_if (t && (block_of m == b)) m (node_sight riding b n)
   sight_told_node riding b true n m k = sight-sent riding b n m k
   sight_told_node riding b false n m k = refl
 
 module _ {R K : Type 0} where
   -- a core's sight after the home's answer is on its way
-  pub sight-delivered : (riding : Riding R) (carrying : Carrying K) (answer : HomeAnswer R) (block : ℕ) (k : K) (ns : List (Node R K)) (b d : ℕ) → d < length ns → Sends answer block ns →
-      node_sight riding b (node_at carrying (delivered carrying answer block k ns) d) ≡ (if block == b then sight_answered answer block d (node_sight riding b (node_at carrying ns d)) else node_sight riding b (node_at carrying ns d))
+  pub sight-delivered : (riding : Riding R) (carrying : Carrying K) (answer : HomeAnswer R) (block : ℕ) (k : K) (ns : List (Node R K)) (b d : ℕ) →
+      d < length ns → Sends answer block ns →
+      node_sight riding b (node_at carrying (delivered carrying answer block k ns) d)
+      ≡ (if block == b then sight_answered answer block d (node_sight riding b (node_at carrying ns d)) else node_sight riding b (node_at carrying ns d))
   sight-delivered riding carrying answer block k ns b d within sends = by_send answer.send refl
     where
       told_where : (t u : Bool) (v : Sight R) (m : FromHome R) → sight_told_if (t && u) m v ≡ (if u then sight_told_if t m v else v)
@@ -57,7 +63,11 @@ module _ {R K : Type 0} where
       in_range : (nat_lt d (length ns) && has answer.invalidate d) ≡ has answer.invalidate d
       in_range = grind (arith, nat_tests)
 
-      by_send : (send : Option (ℕ × FromHome R)) → answer.send ≡ send → node_sight riding b (node_at carrying (delivered_in send carrying answer.invalidate block k ns) d) ≡ (if block == b then sight_sent send d (sight_told_if (has answer.invalidate d) (Inv block) (node_sight riding b (node_at carrying ns d))) else node_sight riding b (node_at carrying ns d))
+      by_send : (send : Option (ℕ × FromHome R)) → answer.send ≡ send →
+          node_sight riding b (node_at carrying (delivered_in send carrying answer.invalidate block k ns) d)
+          ≡ (if block == b then sight_sent send d
+          (sight_told_if (has answer.invalidate d) (Inv block) (node_sight riding b (node_at carrying ns d))) else node_sight riding b
+          (node_at carrying ns d))
       by_send None e =
           ap (node_sight riding b) (node_at-told carrying answer.invalidate (Inv block) k (length ns) ns d (omega arith))
           ∙ (sight_told_node riding b (nat_lt d (length ns) && has answer.invalidate d) (node_at carrying ns d) (Inv block) k

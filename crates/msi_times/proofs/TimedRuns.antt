@@ -25,7 +25,9 @@ module _ {K : Type 0} where
   noted_fits : (e : Event) (n : Node Times K) (clock : Clock) → RiderFits times_parts clock (rider_noted e n clock) e n
   noted_fits Nothing n clock a is = absurd cc
   noted_fits (Retires at) n clock a is = absurd cc
-  noted_fits (Accesses b) n clock a is = subst (λ (x : Access). RiderNotes times_parts (record { access = x; clock = clock }) (rider_at times_riding n x.word) (rider_noted (Accesses b) n clock)) same (times_notes b clock (rider_at times_riding n b.word))
+  noted_fits (Accesses b) n clock a is =
+      subst (λ (x : Access). RiderNotes times_parts (record { access = x; clock = clock }) (rider_at times_riding n x.word) (rider_noted (Accesses b) n clock))
+      same (times_notes b clock (rider_at times_riding n b.word))
     where
       same : b ≡ a
       same = cc
@@ -51,7 +53,8 @@ module _ {K : Type 0} where
           record {
             sound = sound_kept times_riding carrying t.state m.move rider is h.sound;
             stands = subst (λ (l : List Retirement). StandsAfter times_parts carrying l next.state) (event_reversed e m.clock t.list)
-                (timed_step times_parts carrying times_absorb (reverse t.list) t.state m.move rider m.clock h.sound is (noted_fits e (retiring times_riding carrying t.state m.move) m.clock) h.stands);
+                (timed_step times_parts carrying times_absorb (reverse t.list) t.state m.move rider m.clock h.sound is
+                (noted_fits e (retiring times_riding carrying t.state m.move) m.clock) h.stands);
           }
 
       by : (test : Bool) → (test ≡ true → Stands carrying next) → Stands carrying (if test then next else t)
@@ -66,7 +69,11 @@ module _ {K : Type 0} where
   timed_run_law carrying image cores limit ms few small =
       let start : TimedState K = timed_start carrying image cores limit in
       let t : TimedState K = timed_run carrying start ms in
-      let h = run_stands carrying start ms (record { sound = sound_start times_riding carrying image cores limit few small; stands = machine_start times_parts carrying times_fresh image cores limit }) in
+      let h = run_stands carrying start ms
+      (record {
+        sound = sound_start times_riding carrying image cores limit few small;
+        stands = machine_start times_parts carrying times_fresh image cores limit;
+      }) in
       record {
         stands = h.stands;
         finds = λ m e a is. finds_exact times_parts carrying times_absorb (reverse t.list) t.state m a h.sound e is h.stands;

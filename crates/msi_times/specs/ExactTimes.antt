@@ -1,4 +1,5 @@
--- What the times that an access finds are by the words on exact clocks, once the clocks that were noted_accesses are exact.
+-- What the times that an access finds are by the words on exact clocks, once the clocks that were noted_accesses are
+-- exact.
 use Rattle.std.specs.Prelude.{◌≡◌, ℕ, ◌%◌, true, Option, Some, None, List, [], ◌∷◌, reverse}
 use Rattle.access_times.specs.Times.{write_at, read_at}
 use Rattle.rtr_types.specs.declared.TheConstants.{BLOCK_WORDS}

@@ -13,7 +13,8 @@ use Rattle.msi_state.specs.States.{State}
 use Rattle.msi_state.specs.Steps.{step, event, retiring, enabled}
 use Rattle.msi_state.specs.declared.node.Node.{Node}
 use Rattle.msi_state.specs.declared.moves.Move.{Move}
-use Rattle.msi_times.specs.Retirements.{Retirement, noted_accesses, MachineStandsFor, StandsAfter, after_event, with_event}
+use Rattle.msi_times.specs.Retirements.{Retirement, noted_accesses, MachineStandsFor, StandsAfter, after_event}
+use Rattle.msi_times.specs.Retirements.{with_event}
 use Rattle.msi_times.specs.Retirements.{RiderNotes, IsExactRider}
 use Rattle.msi_times.specs.StandsFor.{TimesParts}
 

@@ -1,5 +1,6 @@
 -- Which candidates are kept, and the edges that they give.
-use Rattle.std.proofs.Common.{◌≡◌, ◌≢◌, ◌<◌, ◌⊎◌, List, [], ◌∷◌, slice_index, refl, sym, ◌∙◌, ap, subst, inl, inr, arith, true, false, Bool, cond, ◌&&◌, ◌||◌, nat_eq}
+use Rattle.std.proofs.Common.{◌≡◌, ◌≢◌, ◌<◌, ◌⊎◌, List, [], ◌∷◌, slice_index, refl, sym, ◌∙◌, ap, subst, inl, inr, arith, true, false, Bool, cond, ◌&&◌, ◌||◌}
+use Rattle.std.proofs.Common.{nat_eq}
 use Rattle.std.proofs.lemmas.Bool.{and_parts, or_cases}
 use Rattle.std.specs.Prelude.{map}
 use Rattle.std.specs.List.{filter, list_all}
@@ -30,16 +31,20 @@ pub record Passes (before : Clock) (found : List Source) (at : Instr) : Type 0 w
   pub own : slice_index before at.core < at.count
   pub others : (s : Source) → IsOneOf found s → s.at ≢ at → slice_index s.clock at.core < at.count
 
-all_others : (found : List Source) (at : Instr) → list_all (lets_pass at) found ≡ true → (s : Source) → IsOneOf found s → s.at ≢ at → slice_index s.clock at.core < at.count
+all_others : (found : List Source) (at : Instr) → list_all (lets_pass at) found ≡ true → (s : Source) → IsOneOf found s → s.at ≢ at →
+    slice_index s.clock at.core < at.count
 all_others [] at e s one d = absurd one
-all_others (r ∷ found) at e s (inl f) d = subst (λ (v : Source). v.at ≢ at → slice_index v.clock at.core < at.count) f (λ other. by other (or_cases (is_same r.at at) (is_above r.clock at) (and_parts (lets_pass at r) (list_all (lets_pass at) found) e).0)) d
+all_others (r ∷ found) at e s (inl f) d =
+    subst (λ (v : Source). v.at ≢ at → slice_index v.clock at.core < at.count) f
+    (λ other. by other (or_cases (is_same r.at at) (is_above r.clock at) (and_parts (lets_pass at r) (list_all (lets_pass at) found) e).0)) d
   where
     by : r.at ≢ at → (is_same r.at at ≡ true) ⊎ (is_above r.clock at ≡ true) → slice_index r.clock at.core < at.count
     by other (inl same) = absurd (other (same_instr r.at at same))
     by other (inr above) = grind (arith, nat_tests)
 all_others (r ∷ found) at e s (inr one) d = all_others found at (and_parts (lets_pass at r) (list_all (lets_pass at) found) e).1 s one d
 
-others_all : (found : List Source) (at : Instr) → ((s : Source) → IsOneOf found s → s.at ≢ at → slice_index s.clock at.core < at.count) → list_all (lets_pass at) found ≡ true
+others_all : (found : List Source) (at : Instr) → ((s : Source) → IsOneOf found s → s.at ≢ at → slice_index s.clock at.core < at.count) →
+    list_all (lets_pass at) found ≡ true
 others_all [] at f = refl
 others_all (r ∷ found) at f = by (is_same r.at at) refl (others_all found at (λ s one d. f s (inr one) d))
   where
@@ -74,28 +79,36 @@ passes_kept before found at p =
 abbrev pub ComesFrom : Instr → Clock → List Source → List Source → Instr → Instr → Type 0
 ComesFrom at before found some x y = (y ≡ at) × (s : Source) × IsOneOf some s × (s.at ≡ x) × (is_kept before found s.at ≡ true)
 
-pub chosen_from : (at : Instr) (before : Clock) (found some : List Source) (x y : Instr) → Among (chosen at before found some) x y → ComesFrom at before found some x y
+pub chosen_from : (at : Instr) (before : Clock) (found some : List Source) (x y : Instr) → Among (chosen at before found some) x y →
+    ComesFrom at before found some x y
 chosen_from at before found [] x y e = absurd e
 chosen_from at before found (s ∷ some) x y e = by (is_kept before found s.at) refl e (λ f. chosen_from at before found some x y f)
   where
     more : ComesFrom at before found some x y → ComesFrom at before found (s ∷ some) x y
     more q = (q.0, q.1, inr q.2, q.3, q.4)
 
-    by : (b : Bool) → is_kept before found s.at ≡ b → Among (map (edge_to at) (cond b (s ∷ filter (λ (r : Source). is_kept before found r.at) some) (filter (λ (r : Source). is_kept before found r.at) some))) x y →
+    by : (b : Bool) → is_kept before found s.at ≡ b →
+        Among (map (edge_to at)
+        (cond b (s ∷ filter (λ (r : Source). is_kept before found r.at) some) (filter (λ (r : Source). is_kept before found r.at) some))) x y →
         (Among (chosen at before found some) x y → ComesFrom at before found some x y) → ComesFrom at before found (s ∷ some) x y
     by true t (inl f) later = (sym f.1, s, inl refl, f.0, t)
     by true t (inr f) later = more (later f)
     by false t f later = more (later f)
 
-pub from_chosen : (at : Instr) (before : Clock) (found some : List Source) (s : Source) → IsOneOf some s → is_kept before found s.at ≡ true → Among (chosen at before found some) s.at at
+pub from_chosen : (at : Instr) (before : Clock) (found some : List Source) (s : Source) → IsOneOf some s → is_kept before found s.at ≡ true →
+    Among (chosen at before found some) s.at at
 from_chosen at before found [] s one kept = absurd one
 from_chosen at before found (r ∷ some) s (inl e) kept = by (is_kept before found r.at) (ap (λ (v : Source). is_kept before found v.at) e ∙ kept)
   where
-    by : (b : Bool) → b ≡ true → Among (map (edge_to at) (cond b (r ∷ filter (λ (v : Source). is_kept before found v.at) some) (filter (λ (v : Source). is_kept before found v.at) some))) s.at at
+    by : (b : Bool) → b ≡ true →
+        Among (map (edge_to at)
+        (cond b (r ∷ filter (λ (v : Source). is_kept before found v.at) some) (filter (λ (v : Source). is_kept before found v.at) some))) s.at at
     by true t = inl (ap (λ (v : Source). v.at) e, refl)
     by false t = absurd cc
 from_chosen at before found (r ∷ some) s (inr one) kept = by (is_kept before found r.at) (from_chosen at before found some s one kept)
   where
-    by : (b : Bool) → Among (chosen at before found some) s.at at → Among (map (edge_to at) (cond b (r ∷ filter (λ (v : Source). is_kept before found v.at) some) (filter (λ (v : Source). is_kept before found v.at) some))) s.at at
+    by : (b : Bool) → Among (chosen at before found some) s.at at →
+        Among (map (edge_to at)
+        (cond b (r ∷ filter (λ (v : Source). is_kept before found v.at) some) (filter (λ (v : Source). is_kept before found v.at) some))) s.at at
     by true f = inr f
     by false f = f

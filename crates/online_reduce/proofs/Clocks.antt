@@ -1,5 +1,6 @@
 -- Clocks that are merged, and clocks along a core.
-use Rattle.std.proofs.Common.{◌≡◌, ◌≢◌, ℕ, ◌<◌, ◌≤◌, ◌⊎◌, List, [], ◌∷◌, ◌++◌, length, max, refl, sym, ◌∙◌, ap, subst, inl, inr, arith, true, false, Bool, nat_eq, slice_index}
+use Rattle.std.proofs.Common.{◌≡◌, ◌≢◌, ℕ, ◌<◌, ◌≤◌, ◌⊎◌, List, [], ◌∷◌, ◌++◌, length, max, refl, sym, ◌∙◌, ap, subst, inl, inr, arith, true, false, Bool}
+use Rattle.std.proofs.Common.{nat_eq, slice_index}
 use Rattle.std.specs.List.{fold}
 use Rattle.std.proofs.lemmas.Bool.Decides.{nat_tests}
 use Rattle.rtr_types.specs.declared.instr.Instr.{Instr}
@@ -76,7 +77,8 @@ same_clock (a ∷ h) x y i other core le ends = by (reaches a x) refl (same_cloc
         let r = reaches-true a x t in
         let core_is : a.at.core ≡ y.core = r.0 ∙ sym core in
         let count = r.1 in
-        clock-newest a h y i (reaches-yes a y core_is (omega arith)) ∙ ap (λ (n : ℕ). max n (greatest (λ (b : Access). clock h b.at i) a h)) rest ∙ sym (clock-newest a h x i t)
+        clock-newest a h y i (reaches-yes a y core_is (omega arith)) ∙ ap (λ (n : ℕ). max n (greatest (λ (b : Access). clock h b.at i) a h)) rest
+        ∙ sym (clock-newest a h x i t)
     by false t rest =
         let not_y : reaches a y ≡ false = reaches-no a y (λ (e : a.at.core ≡ y.core). absurd (later e)) in
         clock-older a h y i not_y ∙ rest ∙ sym (clock-older a h x i t)
@@ -90,7 +92,8 @@ same_clock (a ∷ h) x y i other core le ends = by (reaches a x) refl (same_cloc
 
 -- ---- counts rise by one access more
 
-pub rise_next : (list : List Access) (a : Access) → CountsRise list → 1 ≤ a.at.count → ((b : Access) → StandsIn list b → b.at.core ≡ a.at.core → b.at.count < a.at.count) → CountsRise (list ++ (a ∷ []))
+pub rise_next : (list : List Access) (a : Access) → CountsRise list → 1 ≤ a.at.count →
+    ((b : Access) → StandsIn list b → b.at.core ≡ a.at.core → b.at.count < a.at.count) → CountsRise (list ++ (a ∷ []))
 rise_next [] a r pos before = (pos, (λ b s e. absurd s), tt)
 rise_next (b ∷ list) a r pos before = (r.0, (λ c s e. by c (stands-split list (a ∷ []) c s) e), rise_next list a r.2 pos (λ c s e. before c (inr s) e))
   where

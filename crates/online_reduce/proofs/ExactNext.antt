@@ -45,8 +45,14 @@ merged_clock list r a t next i n lt = (to, from)
     to (inl le) = inl (let e = next.before i lt in omega arith)
     to (inr q) = inr (q.0.at, next.found.candidate q.0 q.1, let e = next.found.exact q.0 q.1 i lt in let le = q.2 in omega arith)
 
-    by : (z : Instr) → n ≤ clock (reverse list) z i → (s : Source) × IsOneOf (candidates r.cores a t) s × (s.at ≡ z) → (s : Source) × IsOneOf (candidates r.cores a t) s × (n ≤ slice_index s.clock i)
-    by z le s = (s.0, s.1, let e = next.found.exact s.0 s.1 i lt in let f : clock (reverse list) s.0.at i ≡ clock (reverse list) z i = ap (λ (v : Instr). clock (reverse list) v i) s.2 in omega arith)
+    by : (z : Instr) → n ≤ clock (reverse list) z i → (s : Source) × IsOneOf (candidates r.cores a t) s × (s.at ≡ z) → (s : Source)
+        × IsOneOf (candidates r.cores a t) s × (n ≤ slice_index s.clock i)
+    by z le s = (
+      s.0,
+      s.1,
+      let e = next.found.exact s.0 s.1 i lt in
+          let f : clock (reverse list) s.0.at i ≡ clock (reverse list) z i = ap (λ (v : Instr). clock (reverse list) v i) s.2 in omega arith,
+    )
 
     from : IsBelowMerged (reverse list) a i n → IsBelow (clock_of r a.at.core) (candidates r.cores a t) i n
     from (inl le) = inl (let e = next.before i lt in omega arith)
@@ -60,12 +66,15 @@ next_exact list r a t next i lt = by (cases_eq i a.at.core)
     m = fold merged_with (clock_of r a.at.core) (candidates r.cores a t)
 
     room : a.at.core < length m
-    room = let core = next.next.core in let few = next.exact.few in omega (arith, next.exact.wide a.at.core next.next.core, longer-fold (clock_of r a.at.core) (candidates r.cores a t))
+    room = let core = next.next.core in let few = next.exact.few in
+        omega (arith, next.exact.wide a.at.core next.next.core, longer-fold (clock_of r a.at.core) (candidates r.cores a t))
 
     same : i ≢ a.at.core → (k : ℕ) → 1 ≤ k → (k ≤ slice_index m i) ↔ (k ≤ clock (reverse (list ++ (a ∷ []))) a.at i)
     same d k pos = (
-      λ le. ((online_clock_law list a next.rise).others i k d pos).1 ((merged_clock list r a t next i k lt).0 (below_merged (clock_of r a.at.core) (candidates r.cores a t) i k le)),
-      λ le. merged_above (clock_of r a.at.core) (candidates r.cores a t) i k ((merged_clock list r a t next i k lt).1 (((online_clock_law list a next.rise).others i k d pos).0 le)),
+      λ le. ((online_clock_law list a next.rise).others i k d pos).1
+          ((merged_clock list r a t next i k lt).0 (below_merged (clock_of r a.at.core) (candidates r.cores a t) i k le)),
+      λ le. merged_above (clock_of r a.at.core) (candidates r.cores a t) i k
+          ((merged_clock list r a t next i k lt).1 (((online_clock_law list a next.rise).others i k d pos).0 le)),
     )
 
     by : (i ≡ a.at.core) ⊎ (i ≢ a.at.core) → slice_index (slice_set m a.at.core a.at.count) i ≡ clock (reverse (list ++ (a ∷ []))) a.at i
@@ -81,12 +90,18 @@ next_own : (list : List Access) (r : Reduced) (a : Access) (t : Times) → Next 
 unfolding clock_into
 next_own list r a t next =
     get_or-set_same (fold merged_with (clock_of r a.at.core) (candidates r.cores a t)) a.at.core a.at.count 0
-    (let core = next.next.core in let few = next.exact.few in omega (arith, next.exact.wide a.at.core next.next.core, longer-fold (clock_of r a.at.core) (candidates r.cores a t)))
+    (let core = next.next.core in let few = next.exact.few in
+    omega (arith, next.exact.wide a.at.core next.next.core, longer-fold (clock_of r a.at.core) (candidates r.cores a t)))
 
 next_wide : (list : List Access) (r : Reduced) (a : Access) (t : Times) → Next list r a t → CORES_MAX ≤ length (next_clock r a t)
 unfolding clock_into
 next_wide list r a t next =
-    omega (arith, length-set (fold merged_with (clock_of r a.at.core) (candidates r.cores a t)) a.at.core a.at.count, next.exact.wide a.at.core next.next.core, longer-fold (clock_of r a.at.core) (candidates r.cores a t))
+    omega (
+      arith,
+      length-set (fold merged_with (clock_of r a.at.core) (candidates r.cores a t)) a.at.core a.at.count,
+      next.exact.wide a.at.core next.next.core,
+      longer-fold (clock_of r a.at.core) (candidates r.cores a t),
+    )
 
 -- ---- one core's clock changes
 
@@ -117,7 +132,8 @@ changed list r lists at new lt fresh wide others = record {
   clocks = λ core below. exact core below (cases_eq core at.core);
 }
   where
-    wider : (core : ℕ) → core < r.cores → (core ≡ at.core) ⊎ (core ≢ at.core) → CORES_MAX ≤ length (slice_index_or (slice_set r.clocks at.core new) core no_counts)
+    wider : (core : ℕ) → core < r.cores → (core ≡ at.core) ⊎ (core ≢ at.core) →
+        CORES_MAX ≤ length (slice_index_or (slice_set r.clocks at.core new) core no_counts)
     wider core below (inl e) =
         subst (λ (k : ℕ). CORES_MAX ≤ length (slice_index_or (slice_set r.clocks at.core new) k no_counts)) (sym e)
         (subst (λ (m : Clock). CORES_MAX ≤ length m) (sym (put_at r at.core new lt)) fresh.wide)
@@ -130,12 +146,15 @@ changed list r lists at new lt fresh wide others = record {
     own = subst (λ (n : ℕ). IsExactClock list (record { core = at.core; count = n }) new) (sym fresh.own) fresh.exact
 
     exact : (core : ℕ) → core < r.cores → (core ≡ at.core) ⊎ (core ≢ at.core) →
-        IsExactClock list (record { core = core; count = slice_index (slice_index_or (slice_set r.clocks at.core new) core no_counts) core }) (slice_index_or (slice_set r.clocks at.core new) core no_counts)
+        IsExactClock list (record { core = core; count = slice_index (slice_index_or (slice_set r.clocks at.core new) core no_counts) core })
+        (slice_index_or (slice_set r.clocks at.core new) core no_counts)
     exact core below (inl e) =
-        subst (λ (k : ℕ). IsExactClock list (record { core = k; count = slice_index (slice_index_or (slice_set r.clocks at.core new) k no_counts) k }) (slice_index_or (slice_set r.clocks at.core new) k no_counts)) (sym e)
+        subst (λ (k : ℕ). IsExactClock list (record { core = k; count = slice_index (slice_index_or (slice_set r.clocks at.core new) k no_counts) k })
+        (slice_index_or (slice_set r.clocks at.core new) k no_counts)) (sym e)
         (subst (λ (m : Clock). IsExactClock list (record { core = at.core; count = slice_index m at.core }) m) (sym (put_at r at.core new lt)) own)
     exact core below (inr d) =
-        subst (λ (m : Clock). IsExactClock list (record { core = core; count = slice_index m core }) m) (sym (put_other r at.core core new d)) (others core below d)
+        subst (λ (m : Clock). IsExactClock list (record { core = core; count = slice_index m core }) m) (sym (put_other r at.core core new d))
+        (others core below d)
 
 grows : {list : List Access} (r : Reduced) (at : Instr) (s : Reduced) → Changed list r at s → IsNext r at → (core : ℕ) → count_of r core ≤ count_of s core
 grows r at s parts next core = by (cases_eq core at.core)
@@ -171,7 +190,8 @@ retired_exact list r a t next = record {
     parts : Changed (list ++ (a ∷ [])) r a.at (retired r a t)
     parts = retired_parts list r a t next
 
-    count : (b : Access) → b.at.count ≤ count_of r b.at.core → (b.at.core ≡ a.at.core) ⊎ (b.at.core ≢ a.at.core) → b.at.count ≤ count_of (retired r a t) b.at.core
+    count : (b : Access) → b.at.count ≤ count_of r b.at.core → (b.at.core ≡ a.at.core) ⊎ (b.at.core ≢ a.at.core) →
+        b.at.count ≤ count_of (retired r a t) b.at.core
     count b le (inl e) =
         let now : count_of (retired r a t) b.at.core ≡ a.at.count = ap (count_of (retired r a t)) e ∙ parts.own_count in
         let was : count_of r b.at.core ≡ count_of r a.at.core = ap (count_of r) e in
@@ -181,7 +201,12 @@ retired_exact list r a t next = record {
 
     within : (b : Access) → StandsIn list b ⊎ StandsIn (a ∷ []) b → (b.at.core < r.cores) × (b.at.count ≤ count_of (retired r a t) b.at.core)
     within b (inl s) = let w = next.exact.within b s in (w.0, count b w.1 (cases_eq b.at.core a.at.core))
-    within b (inr (inl e)) = subst (λ (v : Access). (v.at.core < r.cores) × (v.at.count ≤ count_of (retired r a t) v.at.core)) e (next.next.core, let same = parts.own_count in omega arith)
+    within b (inr (inl e)) =
+        subst (λ (v : Access). (v.at.core < r.cores) × (v.at.count ≤ count_of (retired r a t) v.at.core)) e (
+          next.next.core,
+          let same = parts.own_count in
+              omega arith,
+        )
     within b (inr (inr s)) = absurd s
 
 pub retired_grows : (list : List Access) (r : Reduced) (a : Access) (t : Times) → Next list r a t → (core : ℕ) → count_of r core ≤ count_of (retired r a t) core
@@ -208,7 +233,8 @@ counted_parts list r at next exact =
     at_own : slice_index (slice_set (clock_of r at.core) at.core at.count) at.core ≡ at.count
     at_own = get_or-set_same (clock_of r at.core) at.core at.count 0 room
 
-    fresh_at : (i : ℕ) → i < CORES_MAX → (i ≡ at.core) ⊎ (i ≢ at.core) → slice_index (slice_set (clock_of r at.core) at.core at.count) i ≡ clock (reverse list) at i
+    fresh_at : (i : ℕ) → i < CORES_MAX → (i ≡ at.core) ⊎ (i ≢ at.core) → slice_index (slice_set (clock_of r at.core) at.core at.count) i
+        ≡ clock (reverse list) at i
     fresh_at i lt (inl e) =
         ap (λ (k : ℕ). slice_index (slice_set (clock_of r at.core) at.core at.count) k) e
         ∙ at_own ∙ sym (own_clock (reverse list) at (rising_back list exact.rise))
@@ -246,11 +272,13 @@ pub counted_grows : (list : List Access) (r : Reduced) (at : Instr) → IsNext r
 counted_grows list r at next exact core = grows r at (counted r at) (counted_parts list r at next exact) next core
 
 -- the clock noted for the access is exact for it
-pub noted_exact : (list : List Access) (r : Reduced) (a : Access) (t : Times) → Next list r a t → IsExactClock (list ++ (a ∷ [])) a.at (clock_of (retired r a t) a.at.core)
+pub noted_exact : (list : List Access) (r : Reduced) (a : Access) (t : Times) → Next list r a t →
+    IsExactClock (list ++ (a ∷ [])) a.at (clock_of (retired r a t) a.at.core)
 noted_exact list r a t next =
     subst (λ (m : Clock). IsExactClock (list ++ (a ∷ [])) a.at m)
     (sym (put_at r a.at.core (next_clock r a t) (let core = next.next.core in let few = next.exact.few in let places = next.exact.places in omega arith)))
     (next_exact list r a t next)
 
 pub other_clocks_law : OtherClocksLaw
-other_clocks_law r core = ((λ at d. put_other r at.core core (slice_set (clock_of r at.core) at.core at.count) d), (λ a t d. put_other r a.at.core core (next_clock r a t) d))
+other_clocks_law r core =
+    ((λ at d. put_other r at.core core (slice_set (clock_of r at.core) at.core at.count) d), (λ a t d. put_other r a.at.core core (next_clock r a t) d))

@@ -1,5 +1,6 @@
 -- The candidates of an access: what they are, and how many.
-use Rattle.std.proofs.Common.{◌≡◌, ◌≢◌, ℕ, zero, suc, ◌+◌, ◌%◌, ◌<◌, ◌≤◌, ◌⊎◌, List, [], ◌∷◌, ◌++◌, length, refl, sym, ◌∙◌, ap, subst, inl, inr, arith, true, false, Bool, not, ◌&&◌, nat_eq, nat_lt, Option, Some, None}
+use Rattle.std.proofs.Common.{◌≡◌, ◌≢◌, ℕ, zero, suc, ◌+◌, ◌%◌, ◌<◌, ◌≤◌, ◌⊎◌, List, [], ◌∷◌, ◌++◌, length, refl, sym, ◌∙◌, ap, subst, inl, inr, arith, true}
+use Rattle.std.proofs.Common.{false, Bool, not, ◌&&◌, nat_eq, nat_lt, Option, Some, None}
 use Rattle.std.proofs.lemmas.Bool.{and_parts}
 use Rattle.std.specs.Prelude.{All, if◌then◌else◌}
 use Rattle.std.specs.Option.{option_to_list}
@@ -72,7 +73,8 @@ pub wrote : (a : Access) (core : ℕ) (w : Option (Instr × Clock)) (s : Source)
 wrote a core None s e = absurd cc
 wrote a core (Some w) s e = by (nat_eq w.0.core core && not (nat_eq core a.at.core)) refl e
   where
-    by : (b : Bool) → nat_eq w.0.core core && not (nat_eq core a.at.core) ≡ b → (if b then Some (record { at = w.0; clock = w.1 }) else None) ≡ Some s → Wrote a core (Some w) s
+    by : (b : Bool) → nat_eq w.0.core core && not (nat_eq core a.at.core) ≡ b → (if b then Some (record { at = w.0; clock = w.1 }) else None) ≡ Some s →
+        Wrote a core (Some w) s
     by true t f =
         let is : ◌≡◌ {A = Source} (record { at = w.0; clock = w.1 }) s = cc in
         let both = and_parts (nat_eq w.0.core core) (not (nat_eq core a.at.core)) t in
@@ -96,7 +98,8 @@ pub did_read : (a : Access) (core : ℕ) (r : Option (ℕ × Clock)) (s : Source
 did_read a core None s e = absurd cc
 did_read a core (Some r) s e = by (is_write a.kind && not (nat_eq core a.at.core)) refl e
   where
-    by : (b : Bool) → is_write a.kind && not (nat_eq core a.at.core) ≡ b → (if b then Some (record { at = record { core = core; count = r.0 }; clock = r.1 }) else None) ≡ Some s → Read a core (Some r) s
+    by : (b : Bool) → is_write a.kind && not (nat_eq core a.at.core) ≡ b →
+        (if b then Some (record { at = record { core = core; count = r.0 }; clock = r.1 }) else None) ≡ Some s → Read a core (Some r) s
     by true t f =
         let is : ◌≡◌ {A = Source} (record { at = record { core = core; count = r.0 }; clock = r.1 }) s = cc in
         let both = and_parts (is_write a.kind) (not (nat_eq core a.at.core)) t in
@@ -110,7 +113,8 @@ did_read a core (Some r) s e = by (is_write a.kind && not (nat_eq core a.at.core
     by false t f = absurd cc
 
 read_back : (a : Access) (s : Source) → is_write a.kind ≡ true → s.at.core ≢ a.at.core → read_from a s.at.core (Some (s.at.count, s.clock)) ≡ Some s
-read_back a s w d = by (is_write a.kind && not (nat_eq s.at.core a.at.core)) (let t : not (nat_eq s.at.core a.at.core) ≡ true = grind (arith, nat_tests) in rw (w, t) refl)
+read_back a s w d = by (is_write a.kind && not (nat_eq s.at.core a.at.core)) (let t : not (nat_eq s.at.core a.at.core) ≡ true = grind (arith, nat_tests) in
+    rw (w, t) refl)
   where
     by : (b : Bool) → b ≡ true → (if b then Some (record { at = record { core = s.at.core; count = s.at.count }; clock = s.clock }) else None) ≡ Some s
     by true t = refl
@@ -121,12 +125,16 @@ read_back a s w d = by (is_write a.kind && not (nat_eq s.at.core a.at.core)) (le
 -- s is noted in the times as a write or, where a writes, as a read, and is of another core than a
 pub record IsNotedIn (a : Access) (t : Times) (s : Source) : Type 0 where
   pub other : s.at.core ≢ a.at.core
-  pub noted : (write_at t (a.word % BLOCK_WORDS) ≡ Some (s.at, s.clock)) ⊎ ((is_write a.kind ≡ true) × (read_at t (a.word % BLOCK_WORDS) s.at.core ≡ Some (s.at.count, s.clock)))
+  pub noted : (write_at t (a.word % BLOCK_WORDS) ≡ Some (s.at, s.clock))
+      ⊎ ((is_write a.kind ≡ true) × (read_at t (a.word % BLOCK_WORDS) s.at.core ≡ Some (s.at.count, s.clock)))
 
 from_is : (a : Access) (t : Times) (core : ℕ) (s : Source) → IsOneOf (candidates_from a t core) s → (s.at.core ≡ core) × IsNotedIn a t s
-from_is a t core s o = by (one_cases (option_to_list (write_from a core (write_at t (a.word % BLOCK_WORDS)))) (option_to_list (read_from a core (read_at t (a.word % BLOCK_WORDS) core))) s o)
+from_is a t core s o =
+    by (one_cases (option_to_list (write_from a core (write_at t (a.word % BLOCK_WORDS))))
+    (option_to_list (read_from a core (read_at t (a.word % BLOCK_WORDS) core))) s o)
   where
-    by : IsOneOf (option_to_list (write_from a core (write_at t (a.word % BLOCK_WORDS)))) s ⊎ IsOneOf (option_to_list (read_from a core (read_at t (a.word % BLOCK_WORDS) core))) s → (s.at.core ≡ core) × IsNotedIn a t s
+    by : IsOneOf (option_to_list (write_from a core (write_at t (a.word % BLOCK_WORDS)))) s
+        ⊎ IsOneOf (option_to_list (read_from a core (read_at t (a.word % BLOCK_WORDS) core))) s → (s.at.core ≡ core) × IsNotedIn a t s
     by (inl p) =
         let w = wrote a core (write_at t (a.word % BLOCK_WORDS)) s (one_option (write_from a core (write_at t (a.word % BLOCK_WORDS))) s p) in
         (w.core_is, record { other = λ e. w.other (sym w.core_is ∙ e); noted = inl w.noted })
@@ -142,12 +150,15 @@ from_is a t core s o = by (one_cases (option_to_list (write_from a core (write_a
 is_from : (a : Access) (t : Times) (s : Source) → IsNotedIn a t s → IsOneOf (candidates_from a t s.at.core) s
 is_from a t s n = by n.noted
   where
-    by : (write_at t (a.word % BLOCK_WORDS) ≡ Some (s.at, s.clock)) ⊎ ((is_write a.kind ≡ true) × (read_at t (a.word % BLOCK_WORDS) s.at.core ≡ Some (s.at.count, s.clock))) → IsOneOf (candidates_from a t s.at.core) s
+    by : (write_at t (a.word % BLOCK_WORDS) ≡ Some (s.at, s.clock))
+        ⊎ ((is_write a.kind ≡ true) × (read_at t (a.word % BLOCK_WORDS) s.at.core ≡ Some (s.at.count, s.clock))) → IsOneOf (candidates_from a t s.at.core) s
     by (inl e) =
-        one_left (option_to_list (write_from a s.at.core (write_at t (a.word % BLOCK_WORDS)))) (option_to_list (read_from a s.at.core (read_at t (a.word % BLOCK_WORDS) s.at.core))) s
+        one_left (option_to_list (write_from a s.at.core (write_at t (a.word % BLOCK_WORDS))))
+        (option_to_list (read_from a s.at.core (read_at t (a.word % BLOCK_WORDS) s.at.core))) s
         (option_one (write_from a s.at.core (write_at t (a.word % BLOCK_WORDS))) s (ap (write_from a s.at.core) e ∙ wrote_back a s.at.core s refl n.other))
     by (inr q) =
-        one_right (option_to_list (write_from a s.at.core (write_at t (a.word % BLOCK_WORDS)))) (option_to_list (read_from a s.at.core (read_at t (a.word % BLOCK_WORDS) s.at.core))) s
+        one_right (option_to_list (write_from a s.at.core (write_at t (a.word % BLOCK_WORDS))))
+        (option_to_list (read_from a s.at.core (read_at t (a.word % BLOCK_WORDS) s.at.core))) s
         (option_one (read_from a s.at.core (read_at t (a.word % BLOCK_WORDS) s.at.core)) s (ap (read_from a s.at.core) q.1 ∙ read_back a s q.0 n.other))
 
 pub one_noted : (n : ℕ) (a : Access) (t : Times) (s : Source) → IsOneOf (candidates n a t) s → (s.at.core < n) × IsNotedIn a t s
@@ -155,7 +166,8 @@ unfolding candidates
 one_noted zero a t s o = absurd o
 one_noted (suc n) a t s o = by (λ p. one_noted n a t s p) (one_cases (candidates n a t) (candidates_from a t n) s o)
   where
-    by : (IsOneOf (candidates n a t) s → (s.at.core < n) × IsNotedIn a t s) → IsOneOf (candidates n a t) s ⊎ IsOneOf (candidates_from a t n) s → (s.at.core < suc n) × IsNotedIn a t s
+    by : (IsOneOf (candidates n a t) s → (s.at.core < n) × IsNotedIn a t s) → IsOneOf (candidates n a t) s ⊎ IsOneOf (candidates_from a t n) s →
+        (s.at.core < suc n) × IsNotedIn a t s
     by before (inl p) = let q = before p in let lt = q.0 in (omega arith, q.1)
     by before (inr p) = let q = from_is a t n s p in let e = q.0 in (omega arith, q.1)
 
@@ -169,7 +181,8 @@ noted_one (suc n) a t s lt noted = by (λ below. noted_one n a t s below noted) 
 
     by : (s.at.core < n → IsOneOf (candidates n a t) s) → (s.at.core < n) ⊎ (n ≤ s.at.core) → IsOneOf (candidates n a t ++ candidates_from a t n) s
     by before (inl below) = one_left (candidates n a t) (candidates_from a t n) s (before below)
-    by before (inr past) = let e : s.at.core ≡ n = omega arith in one_right (candidates n a t) (candidates_from a t n) s (subst (λ (k : ℕ). IsOneOf (candidates_from a t k) s) e (is_from a t s noted))
+    by before (inr past) = let e : s.at.core ≡ n = omega arith in
+        one_right (candidates n a t) (candidates_from a t n) s (subst (λ (k : ℕ). IsOneOf (candidates_from a t k) s) e (is_from a t s noted))
 
 -- ---- how many
 
@@ -193,7 +206,8 @@ write_once n a None = omega arith
 write_once n a (Some w) = by (nat_eq w.0.core n && not (nat_eq n a.at.core)) refl
   where
     by : (b : Bool) → nat_eq w.0.core n && not (nat_eq n a.at.core) ≡ b →
-        length (option_to_list (if b then Some (let s : Source = record { at = w.0; clock = w.1 } in s) else None)) + (if nat_lt w.0.core n then 1 else 0) ≤ (if nat_lt w.0.core (suc n) then 1 else 0)
+        length (option_to_list (if b then Some (let s : Source = record { at = w.0; clock = w.1 } in s) else None)) + (if nat_lt w.0.core n then 1 else 0) ≤
+        (if nat_lt w.0.core (suc n) then 1 else 0)
     by true t =
         let one : nat_eq w.0.core n ≡ true = (and_parts (nat_eq w.0.core n) (not (nat_eq n a.at.core)) t).0 in
         grind (arith, nat_tests)
@@ -224,12 +238,14 @@ unfolding candidates
 found_more n a t = ap (λ (k : ℕ). candidates k a t) (let e : n + 1 ≡ suc n = omega arith in e)
 
 pub room_more : (n : ℕ) (a : Access) (t : Times) → n < CORES_MAX → length (candidates n a t) + length (candidates_from a t n) ≤ EDGES_MAX
-room_more n a t lt = omega (arith, sym (length-append (candidates n a t) (candidates_from a t n)), ap length (found_more n a t), found_few (n + 1) a t (omega arith))
+room_more n a t lt =
+    omega (arith, sym (length-append (candidates n a t) (candidates_from a t n)), ap length (found_more n a t), found_few (n + 1) a t (omega arith))
 
 -- ---- none, or the one of a load
 
 -- neither writes nor reads give one
-pub none_found : (n : ℕ) (a : Access) (t : Times) → ((k : ℕ) → k < n → write_from a k (write_at t (a.word % BLOCK_WORDS)) ≡ None) → ((k : ℕ) → k < n → read_from a k (read_at t (a.word % BLOCK_WORDS) k) ≡ None) → candidates n a t ≡ []
+pub none_found : (n : ℕ) (a : Access) (t : Times) → ((k : ℕ) → k < n → write_from a k (write_at t (a.word % BLOCK_WORDS)) ≡ None) →
+    ((k : ℕ) → k < n → read_from a k (read_at t (a.word % BLOCK_WORDS) k) ≡ None) → candidates n a t ≡ []
 unfolding candidates
 none_found zero a t unwritten unread = refl
 none_found (suc n) a t unwritten unread =
@@ -256,7 +272,8 @@ not_by a core w e = by (nat_eq w.0.core core && not (nat_eq core a.at.core)) e
     by true f = absurd cc
 
 -- a load has no candidate where the word's last write is of no other core
-pub load_none : (n : ℕ) (a : Access) (t : Times) (w : Option (Instr × Clock)) → is_write a.kind ≡ false → write_at t (a.word % BLOCK_WORDS) ≡ w → ((k : ℕ) → k < n → write_from a k w ≡ None) → candidates n a t ≡ []
+pub load_none : (n : ℕ) (a : Access) (t : Times) (w : Option (Instr × Clock)) → is_write a.kind ≡ false → write_at t (a.word % BLOCK_WORDS) ≡ w →
+    ((k : ℕ) → k < n → write_from a k w ≡ None) → candidates n a t ≡ []
 unfolding candidates
 load_none zero a t w loads noted none = refl
 load_none (suc n) a t w loads noted none =
@@ -281,11 +298,13 @@ own_gives_none n a w own k lt = not_by a k w (by (nat_eq w.0.core k && not (nat_
         let differ : k ≢ a.at.core = grind (arith, nat_tests) in
         absurd (own (omega arith, λ (f : w.0.core ≡ a.at.core). differ (sym is ∙ f)))
 
-pub load_own : (n : ℕ) (a : Access) (t : Times) (w : Instr × Clock) → is_write a.kind ≡ false → write_at t (a.word % BLOCK_WORDS) ≡ Some w → ((w.0.core < n) × (w.0.core ≢ a.at.core) → ⊥) → candidates n a t ≡ []
+pub load_own : (n : ℕ) (a : Access) (t : Times) (w : Instr × Clock) → is_write a.kind ≡ false → write_at t (a.word % BLOCK_WORDS) ≡ Some w →
+    ((w.0.core < n) × (w.0.core ≢ a.at.core) → ⊥) → candidates n a t ≡ []
 load_own n a t w loads noted own = load_none n a t (Some w) loads noted (own_gives_none n a w own)
 
 -- and else it is the one
-pub load_one : (n : ℕ) (a : Access) (t : Times) (s : Source) → is_write a.kind ≡ false → write_at t (a.word % BLOCK_WORDS) ≡ Some (s.at, s.clock) → s.at.core < n → s.at.core ≢ a.at.core → candidates n a t ≡ s ∷ []
+pub load_one : (n : ℕ) (a : Access) (t : Times) (s : Source) → is_write a.kind ≡ false → write_at t (a.word % BLOCK_WORDS) ≡ Some (s.at, s.clock) →
+    s.at.core < n → s.at.core ≢ a.at.core → candidates n a t ≡ s ∷ []
 unfolding candidates
 load_one zero a t s loads noted lt other = absurd (omega arith)
 load_one (suc n) a t s loads noted lt other = by (λ below. load_one n a t s loads noted below other) (split s.at.core n)
@@ -301,7 +320,9 @@ load_one (suc n) a t s loads noted lt other = by (λ below. load_one n a t s loa
         ∙ ap (λ (xs : List Source). s ∷ xs) (load_from a t n (Some (s.at, s.clock)) loads noted ∙ ap (λ (v : Option Source). option_to_list v ++ []) none)
     by before (inr past) =
         let e : s.at.core ≡ n = omega arith in
-        let none : candidates n a t ≡ [] = load_none n a t (Some (s.at, s.clock)) loads noted (λ k lt. not_by a k (s.at, s.clock) (let differ : s.at.core ≢ k = omega arith in grind (arith, nat_tests))) in
+        let none : candidates n a t ≡ [] =
+        load_none n a t (Some (s.at, s.clock)) loads noted
+        (λ k lt. not_by a k (s.at, s.clock) (let differ : s.at.core ≢ k = omega arith in grind (arith, nat_tests))) in
         ap (λ (xs : List Source). xs ++ candidates_from a t n) none
         ∙ load_from a t n (Some (s.at, s.clock)) loads noted
         ∙ ap (λ (v : Option Source). option_to_list v ++ []) (wrote_back a n s e (λ f. other (e ∙ f)))

@@ -19,31 +19,42 @@ chosen_more : (at : Instr) (before : Clock) (found : List Source) (i : ℕ) (s :
     chosen at before found (take (i + 1) found) ≡ chosen at before found (take i found) ++ map (edge_to at) (cond (is_kept before found s.at) (s ∷ []) [])
 chosen_more at before found i s lt is =
     ap (map (edge_to at)) (filter_more (λ (r : Source). is_kept before found r.at) found i s lt)
-    ∙ map-append (edge_to at) (filter (λ (r : Source). is_kept before found r.at) (take i found)) (cond (is_kept before found (get_or found i s).at) (get_or found i s ∷ []) [])
+    ∙ map-append (edge_to at) (filter (λ (r : Source). is_kept before found r.at) (take i found))
+    (cond (is_kept before found (get_or found i s).at) (get_or found i s ∷ []) [])
     ∙ ap (λ (r : Source). chosen at before found (take i found) ++ map (edge_to at) (cond (is_kept before found r.at) (r ∷ []) [])) (sym is)
 
-pub chosen_push : (at : Instr) (before : Clock) (found : List Source) (i : ℕ) (s : Source) (edges next : List Edge) (kept : Bool) → i < length found → s ≡ get_or found i s →
-    kept ≡ is_kept before found s.at → kept ≡ true → next ≡ edges ++ edge_to at s ∷ [] → edges ≡ chosen at before found (take i found) → next ≡ chosen at before found (take (i + 1) found)
+pub chosen_push : (at : Instr) (before : Clock) (found : List Source) (i : ℕ) (s : Source) (edges next : List Edge) (kept : Bool) → i < length found →
+    s ≡ get_or found i s →
+    kept ≡ is_kept before found s.at → kept ≡ true → next ≡ edges ++ edge_to at s ∷ [] → edges ≡ chosen at before found (take i found) →
+    next ≡ chosen at before found (take (i + 1) found)
 chosen_push at before found i s edges next kept lt is test passes more was =
     more ∙ ap (λ (es : List Edge). es ++ edge_to at s ∷ []) was
-    ∙ sym (chosen_more at before found i s lt is ∙ ap (λ (b : Bool). chosen at before found (take i found) ++ map (edge_to at) (cond b (s ∷ []) [])) (sym test ∙ passes))
+    ∙ sym (chosen_more at before found i s lt is
+    ∙ ap (λ (b : Bool). chosen at before found (take i found) ++ map (edge_to at) (cond b (s ∷ []) [])) (sym test ∙ passes))
 
-pub chosen_skip : (at : Instr) (before : Clock) (found : List Source) (i : ℕ) (s : Source) (edges : List Edge) (kept : Bool) → i < length found → s ≡ get_or found i s →
+pub chosen_skip : (at : Instr) (before : Clock) (found : List Source) (i : ℕ) (s : Source) (edges : List Edge) (kept : Bool) → i < length found →
+    s ≡ get_or found i s →
     kept ≡ is_kept before found s.at → kept ≡ false → edges ≡ chosen at before found (take i found) → edges ≡ chosen at before found (take (i + 1) found)
 chosen_skip at before found i s edges kept lt is test fails was =
-    was ∙ sym (chosen_more at before found i s lt is ∙ ap (λ (b : Bool). chosen at before found (take i found) ++ map (edge_to at) (cond b (s ∷ []) [])) (sym test ∙ fails) ∙ append_nothing (chosen at before found (take i found)))
+    was ∙ sym (chosen_more at before found i s lt is
+    ∙ ap (λ (b : Bool). chosen at before found (take i found) ++ map (edge_to at) (cond b (s ∷ []) [])) (sym test ∙ fails)
+    ∙ append_nothing (chosen at before found (take i found)))
   where
     append_nothing : (es : List Edge) → es ++ [] ≡ es
     append_nothing es = append-nil es
 
-pub chosen_all : (at : Instr) (before : Clock) (found : List Source) (i : ℕ) (edges : List Edge) → length found ≡ i → edges ≡ chosen at before found (take i found) → edges ≡ edges_into at before found
+pub chosen_all : (at : Instr) (before : Clock) (found : List Source) (i : ℕ) (edges : List Edge) → length found ≡ i →
+    edges ≡ chosen at before found (take i found) → edges ≡ edges_into at before found
 unfolding edges_into
 chosen_all at before found i edges e was = was ∙ ap (chosen at before found) (take_all i found (omega arith))
 
-pub merged_more : (before clock next : Clock) (found : List Source) (i : ℕ) (s : Source) → i < length found → s ≡ get_or found i s → next ≡ merged_with clock s →
+pub merged_more : (before clock next : Clock) (found : List Source) (i : ℕ) (s : Source) → i < length found → s ≡ get_or found i s →
+    next ≡ merged_with clock s →
     clock ≡ fold merged_with before (take i found) → next ≡ fold merged_with before (take (i + 1) found)
 merged_more before clock next found i s lt is more was =
-    more ∙ ap (λ (c : Clock). merged_with c s) was ∙ ap (merged_with (fold merged_with before (take i found))) is ∙ sym (fold_more merged_with before found i s lt)
+    more ∙ ap (λ (c : Clock). merged_with c s) was ∙ ap (merged_with (fold merged_with before (take i found))) is
+    ∙ sym (fold_more merged_with before found i s lt)
 
-pub merged_all : (before clock : Clock) (found : List Source) (i : ℕ) → length found ≡ i → clock ≡ fold merged_with before (take i found) → clock ≡ fold merged_with before found
+pub merged_all : (before clock : Clock) (found : List Source) (i : ℕ) → length found ≡ i → clock ≡ fold merged_with before (take i found) →
+    clock ≡ fold merged_with before found
 merged_all before clock found i e was = was ∙ ap (fold merged_with before) (take_all i found (omega arith))

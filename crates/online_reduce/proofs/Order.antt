@@ -1,5 +1,6 @@
 -- With exact times the edges stand by rising source core.
-use Rattle.std.proofs.Common.{◌≡◌, ℕ, zero, suc, ◌+◌, ◌<◌, ◌≤◌, ◌⊎◌, List, [], ◌∷◌, ◌++◌, refl, sym, ◌∙◌, ap, subst, inl, inr, arith, true, false, Bool, cond, Option, Some, None}
+use Rattle.std.proofs.Common.{◌≡◌, ℕ, zero, suc, ◌+◌, ◌<◌, ◌≤◌, ◌⊎◌, List, [], ◌∷◌, ◌++◌, refl, sym, ◌∙◌, ap, subst, inl, inr, arith, true, false, Bool, cond}
+use Rattle.std.proofs.Common.{Option, Some, None}
 use Rattle.std.specs.Prelude.{map, ⊤}
 use Rattle.std.specs.List.{filter}
 use Rattle.std.specs.Option.{option_to_list}
@@ -72,11 +73,13 @@ one_of_two n at before found (Some x) None wn rn apart = single n at x (is_kept 
 one_of_two n at before found None (Some y) wn rn apart = single n at y (is_kept before found y.at) (rn y refl)
 one_of_two n at before found (Some x) (Some y) wn rn apart = by (is_kept before found x.at) (apart x y refl refl)
   where
-    by : (b : Bool) → b ≡ false → AtMostOne n (map (edge_to at) (cond b (x ∷ cond (is_kept before found y.at) (y ∷ []) []) (cond (is_kept before found y.at) (y ∷ []) [])))
+    by : (b : Bool) → b ≡ false →
+        AtMostOne n (map (edge_to at) (cond b (x ∷ cond (is_kept before found y.at) (y ∷ []) []) (cond (is_kept before found y.at) (y ∷ []) [])))
     by true e = absurd cc
     by false e = single n at y (is_kept before found y.at) (rn y refl)
 
-chosen-append : (at : Instr) (before : Clock) (found xs ys : List Source) → chosen at before found (xs ++ ys) ≡ chosen at before found xs ++ chosen at before found ys
+chosen-append : (at : Instr) (before : Clock) (found xs ys : List Source) → chosen at before found (xs ++ ys) ≡ chosen at before found xs
+    ++ chosen at before found ys
 chosen-append at before found xs ys =
     ap (map (edge_to at)) (filter-append (λ (s : Source). is_kept before found s.at) xs ys)
     ∙ map-append (edge_to at) (filter (λ (s : Source). is_kept before found s.at) xs) (filter (λ (s : Source). is_kept before found s.at) ys)
@@ -88,4 +91,5 @@ unfolding candidates
 chosen_rise zero a t at before found one = record { rise = tt; below = tt }
 chosen_rise (suc n) a t at before found one =
     subst (λ (es : List Edge). RiseTo (suc n) es) (sym (chosen-append at before found (candidates n a t) (candidates_from a t n)))
-    (rise_more n (chosen at before found (candidates n a t)) (chosen at before found (candidates_from a t n)) (chosen_rise n a t at before found (λ core lt. one core (omega arith))) (one n (omega arith)))
+    (rise_more n (chosen at before found (candidates n a t)) (chosen at before found (candidates_from a t n))
+    (chosen_rise n a t at before found (λ core lt. one core (omega arith))) (one n (omega arith)))

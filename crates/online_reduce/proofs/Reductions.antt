@@ -1,5 +1,6 @@
 -- The reduction is kept: the edges are the covering pairs, and they stand by pair, rising.
-use Rattle.std.proofs.Common.{◌≡◌, ◌≢◌, ℕ, ◌<◌, ◌≤◌, ◌⊎◌, ◌↔◌, List, [], ◌∷◌, ◌++◌, length, replicate, refl, sym, ◌∙◌, ap, subst, inl, inr, arith, nat_eq, Bool, false, true, cond, slice_index, if◌then◌else◌}
+use Rattle.std.proofs.Common.{◌≡◌, ◌≢◌, ℕ, ◌<◌, ◌≤◌, ◌⊎◌, ◌↔◌, List, [], ◌∷◌, ◌++◌, length, replicate, refl, sym, ◌∙◌, ap, subst, inl, inr, arith, nat_eq, Bool}
+use Rattle.std.proofs.Common.{false, true, cond, slice_index, if◌then◌else◌}
 use Rattle.std.proofs.lemmas.Bool.{cases_lt}
 use Rattle.std.specs.Prelude.{map, slice_index_or}
 use Rattle.std.specs.List.{AllByRecursion, Contains, filter}
@@ -29,7 +30,8 @@ use Rattle.online_reduce.specs.Reduced.{Reduced, unreduced, count_of, counted, r
 use Rattle.online_reduce.specs.Exact.{IsExact, BeginLaw, CountLaw, RetireLaw, LeastLaw, ListedLaw}
 use Rattle.online_reduce.proofs.ByPair.{pair_append, each_pair, OneEdge, pair_one, by_pair_at, by_pair_none, by_pair_add}
 use Rattle.online_reduce.proofs.ExactNext.{retired_exact, retired_grows, retired_own, counted_exact, counted_grows}
-use Rattle.online_reduce.proofs.Rises.{rise_wider, rise_push, among_left, among_right, among_cases, all_among, pair_source, pair_target, cores_differ, at_pos, source_above}
+use Rattle.online_reduce.proofs.Rises.{rise_wider, rise_push, among_left, among_right, among_cases, all_among, pair_source, pair_target, cores_differ, at_pos}
+use Rattle.online_reduce.proofs.Rises.{source_above}
 use Rattle.online_reduce.proofs.Step.{Next, next_of, covering_into}
 
 -- ---- the start
@@ -76,7 +78,9 @@ begin_law cores few = record {
   exact = unreduced_exact cores few;
   covering = λ x y. (λ s. absurd s, λ c. c.0);
   by_pairs = by_pair_none cores;
-  rising = λ place lt. subst (λ (es : List (ℕ × ℕ)). RiseWithin (count_of (unreduced cores) (source_at cores place), count_of (unreduced cores) (target_at cores place)) (0, 0) es)
+  rising = λ place lt.
+      subst (λ (es : List (ℕ × ℕ)). RiseWithin (count_of (unreduced cores) (source_at cores place), count_of (unreduced cores) (target_at cores place))
+      (0, 0) es)
       (sym (get_or-replicate (pair_count cores) place [] [] lt)) tt;
 }
 
@@ -88,13 +92,18 @@ count_law list r edges at next kept = record {
   covering = kept.covering;
   by_pairs = kept.by_pairs;
   rising = λ place lt.
-      rise_wider (count_of r (source_at r.cores place), count_of r (target_at r.cores place)) (count_of (counted r at) (source_at r.cores place), count_of (counted r at) (target_at r.cores place)) (0, 0)
-      (slice_index_or r.lists place []) (counted_grows list r at next kept.exact (source_at r.cores place)) (counted_grows list r at next kept.exact (target_at r.cores place)) (kept.rising place lt);
+      rise_wider (count_of r (source_at r.cores place), count_of r (target_at r.cores place)) (
+        count_of (counted r at) (source_at r.cores place),
+        count_of (counted r at) (target_at r.cores place),
+      ) (0, 0)
+      (slice_index_or r.lists place []) (counted_grows list r at next kept.exact (source_at r.cores place))
+      (counted_grows list r at next kept.exact (target_at r.cores place)) (kept.rising place lt);
 }
 
 -- ---- a retirement with an access
 
-covering_more : (list : List Access) (a : Access) (edges new : List Edge) → ((x y : Instr) → Among new x y ↔ ((y ≡ a.at) × Covering (list ++ (a ∷ [])) x a.at)) → AddsCoveringInto (list ++ (a ∷ [])) a edges (edges ++ new)
+covering_more : (list : List Access) (a : Access) (edges new : List Edge) →
+    ((x y : Instr) → Among new x y ↔ ((y ≡ a.at) × Covering (list ++ (a ∷ [])) x a.at)) → AddsCoveringInto (list ++ (a ∷ [])) a edges (edges ++ new)
 covering_more list a edges new covers x y = (λ s. to (among_cases edges new x y s), from)
   where
     to : Among edges x y ⊎ Among new x y → Among edges x y ⊎ ((y ≡ a.at) × Covering (list ++ (a ∷ [])) x a.at)
@@ -128,7 +137,8 @@ into list r a t next x y s =
       within = subst (λ (v : Instr). v.count ≤ count_of (retired r a t) v.core) source.at_is stands.1;
     }
 
-pairs_of : (list : List Access) (r : Reduced) (a : Access) (t : Times) → Next list r a t → AllByRecursion (λ (e : Edge). IsPair r.cores e.from.core e.to.core) (edges_of r a t)
+pairs_of : (list : List Access) (r : Reduced) (a : Access) (t : Times) → Next list r a t →
+    AllByRecursion (λ (e : Edge). IsPair r.cores e.from.core e.to.core) (edges_of r a t)
 pairs_of list r a t next = all_among (λ x y. IsPair r.cores x.core y.core) (edges_of r a t) (λ x y s.
     let i = into list r a t next x y s in
     subst (λ (v : Instr). IsPair r.cores x.core v.core) (sym i.target) (record { source = i.core; target = next.next.core; differ = i.differ }))
@@ -136,7 +146,8 @@ pairs_of list r a t next = all_among (λ x y. IsPair r.cores x.core y.core) (edg
 pub retire_law : RetireLaw
 retire_law list r edges a t is_next times kept = record {
   exact = retired_exact list r a t next;
-  covering = covering_next list a edges (edges ++ edges_of r a t) next.rise kept.covering (covering_more list a edges (edges_of r a t) (covering_into list r a t next).covering);
+  covering = covering_next list a edges (edges ++ edges_of r a t) next.rise kept.covering
+      (covering_more list a edges (edges_of r a t) (covering_into list r a t next).covering);
   by_pairs = by_pairs;
   rising = λ place lt. rising place lt (pair_one 0 (source_at r.cores place) (target_at r.cores place) (edges_of r a t) (covering_into list r a t next).order);
 }
@@ -145,9 +156,11 @@ retire_law list r edges a t is_next times kept = record {
     next = next_of list r a t kept.exact is_next times
 
     by_pairs : with_edges r.cores r.lists (edges_of r a t) ≡ by_pair r.cores (edges ++ edges_of r a t)
-    by_pairs = ap (λ (ls : List (List (ℕ × ℕ))). with_edges r.cores ls (edges_of r a t)) kept.by_pairs ∙ by_pair_add r.cores edges (edges_of r a t) (pairs_of list r a t (next_of list r a t kept.exact is_next times))
+    by_pairs = ap (λ (ls : List (List (ℕ × ℕ))). with_edges r.cores ls (edges_of r a t)) kept.by_pairs
+        ∙ by_pair_add r.cores edges (edges_of r a t) (pairs_of list r a t (next_of list r a t kept.exact is_next times))
 
-    at_place : (place : ℕ) → place < pair_count r.cores → slice_index_or (retired r a t).lists place [] ≡ slice_index_or r.lists place [] ++ pair_edges (source_at r.cores place) (target_at r.cores place) (edges_of r a t)
+    at_place : (place : ℕ) → place < pair_count r.cores → slice_index_or (retired r a t).lists place [] ≡ slice_index_or r.lists place []
+        ++ pair_edges (source_at r.cores place) (target_at r.cores place) (edges_of r a t)
     at_place place lt =
         ap (λ (ls : List (List (ℕ × ℕ))). slice_index_or ls place []) by_pairs
         ∙ by_pair_at r.cores (edges ++ edges_of r a t) place [] lt
@@ -159,7 +172,8 @@ retire_law list r edges a t is_next times kept = record {
     most s place = (count_of s (source_at r.cores place), count_of s (target_at r.cores place))
 
     -- each earlier edge of the pair comes from below
-    below : (place : ℕ) (o : OneEdge (source_at r.cores place) (target_at r.cores place) (edges_of r a t)) → place < pair_count r.cores → AllByRecursion (λ (e : ℕ × ℕ). e.0 < o.edge.from.count) (slice_index_or r.lists place [])
+    below : (place : ℕ) (o : OneEdge (source_at r.cores place) (target_at r.cores place) (edges_of r a t)) → place < pair_count r.cores →
+        AllByRecursion (λ (e : ℕ × ℕ). e.0 < o.edge.from.count) (slice_index_or r.lists place [])
     below place o lt =
         subst (λ (es : List (ℕ × ℕ)). AllByRecursion (λ (e : ℕ × ℕ). e.0 < o.edge.from.count) es)
         (sym (ap (λ (ls : List (List (ℕ × ℕ))). slice_index_or ls place []) kept.by_pairs ∙ by_pair_at r.cores edges place [] lt))
@@ -173,12 +187,14 @@ retire_law list r edges a t is_next times kept = record {
         let more = is_next.count in
         source_above list a o.edge.from u v pair core (omega arith) (from_is ∙ sym o.from_is) i.cover))
 
-    rising : (place : ℕ) → place < pair_count r.cores → (pair_edges (source_at r.cores place) (target_at r.cores place) (edges_of r a t) ≡ []) ⊎ OneEdge (source_at r.cores place) (target_at r.cores place) (edges_of r a t) →
+    rising : (place : ℕ) → place < pair_count r.cores → (pair_edges (source_at r.cores place) (target_at r.cores place) (edges_of r a t) ≡ [])
+        ⊎ OneEdge (source_at r.cores place) (target_at r.cores place) (edges_of r a t) →
         RiseWithin (most (retired r a t) place) (0, 0) (slice_index_or (retired r a t).lists place [])
     rising place lt (inl none) =
         subst (λ (es : List (ℕ × ℕ)). RiseWithin (most (retired r a t) place) (0, 0) es)
         (sym (at_place place lt ∙ ap (λ (es : List (ℕ × ℕ)). slice_index_or r.lists place [] ++ es) none ∙ append-nil (slice_index_or r.lists place [])))
-        (rise_wider (most r place) (most (retired r a t) place) (0, 0) (slice_index_or r.lists place []) (retired_grows list r a t next (source_at r.cores place)) (retired_grows list r a t next (target_at r.cores place)) (kept.rising place lt))
+        (rise_wider (most r place) (most (retired r a t) place) (0, 0) (slice_index_or r.lists place [])
+        (retired_grows list r a t next (source_at r.cores place)) (retired_grows list r a t next (target_at r.cores place)) (kept.rising place lt))
     rising place lt (inr o) =
         let i = into list r a t next o.edge.from o.edge.to o.among in
         let target_core : target_at r.cores place ≡ a.at.core = sym o.to_is ∙ ap (λ (w : Instr). w.core) i.target in
@@ -186,7 +202,8 @@ retire_law list r edges a t is_next times kept = record {
         let was : count_of r (target_at r.cores place) ≡ count_of r a.at.core = ap (count_of r) target_core in
         let now : count_of (retired r a t) (target_at r.cores place) ≡ a.at.count = ap (count_of (retired r a t)) target_core ∙ retired_own list r a t next in
         let more = is_next.count in
-        let source : o.edge.from.count ≤ count_of (retired r a t) (source_at r.cores place) = subst (λ (k : ℕ). o.edge.from.count ≤ count_of (retired r a t) k) o.from_is i.within in
+        let source : o.edge.from.count ≤ count_of (retired r a t) (source_at r.cores place) =
+        subst (λ (k : ℕ). o.edge.from.count ≤ count_of (retired r a t) k) o.from_is i.within in
         let pos = i.pos in
         subst (λ (es : List (ℕ × ℕ)). RiseWithin (most (retired r a t) place) (0, 0) es)
         (sym (at_place place lt ∙ ap (λ (es : List (ℕ × ℕ)). slice_index_or r.lists place [] ++ es) o.only))
@@ -200,7 +217,8 @@ least_law list r edges kept = (covering_law list edges kept.exact.rise).1 kept.c
 -- ---- the edges and the pairs' lists
 
 -- what stands among some edges is in its pair's list
-listed : (from to : ℕ) (edges : List Edge) (x y : Instr) → x.core ≡ from → y.core ≡ to → Among edges x y → Contains (pair_edges from to edges) (x.count, y.count)
+listed : (from to : ℕ) (edges : List Edge) (x y : Instr) → x.core ≡ from → y.core ≡ to → Among edges x y →
+    Contains (pair_edges from to edges) (x.count, y.count)
 unfolding pair_edges
 listed from to [] x y p q s = absurd s
 listed from to (e ∷ edges) x y p q (inl s) = by (is_between from to e) (grind (arith, nat_tests, core_from, core_to))
@@ -219,12 +237,14 @@ listed from to (e ∷ edges) x y p q (inl s) = by (is_between from to e) (grind 
     by false t = absurd cc
 listed from to (e ∷ edges) x y p q (inr s) = by (is_between from to e) (listed from to edges x y p q s)
   where
-    by : (b : Bool) → Contains (pair_edges from to edges) (x.count, y.count) → Contains (map counts (cond b (e ∷ filter (is_between from to) edges) (filter (is_between from to) edges))) (x.count, y.count)
+    by : (b : Bool) → Contains (pair_edges from to edges) (x.count, y.count) →
+        Contains (map counts (cond b (e ∷ filter (is_between from to) edges) (filter (is_between from to) edges))) (x.count, y.count)
     by true c = Contains-append_right (counts e ∷ []) (pair_edges from to edges) (x.count, y.count) c
     by false c = c
 
 -- what is in a pair's list stands among the edges
-unlisted : (from to : ℕ) (edges : List Edge) (x y : Instr) → x.core ≡ from → y.core ≡ to → Contains (pair_edges from to edges) (x.count, y.count) → Among edges x y
+unlisted : (from to : ℕ) (edges : List Edge) (x y : Instr) → x.core ≡ from → y.core ≡ to → Contains (pair_edges from to edges) (x.count, y.count) →
+    Among edges x y
 unlisted from to edges x y p q c =
     subst (λ (v : Instr). Among edges x v) (instr_eq (at to y.count) y (sym q) refl)
     (subst (λ (u : Instr). Among edges u (at to y.count)) (instr_eq (at from x.count) x (sym p) refl)

@@ -16,13 +16,16 @@ use Rattle.online_reduce.specs.Lists.{RiseWithin}
 
 -- ---- lists of counts
 
-pub rise_wider : (most wider last : ℕ × ℕ) (edges : List (ℕ × ℕ)) → most.0 ≤ wider.0 → most.1 ≤ wider.1 → RiseWithin most last edges → RiseWithin wider last edges
+pub rise_wider : (most wider last : ℕ × ℕ) (edges : List (ℕ × ℕ)) → most.0 ≤ wider.0 → most.1 ≤ wider.1 → RiseWithin most last edges →
+    RiseWithin wider last edges
 rise_wider most wider last [] p q rise = tt
-rise_wider most wider last (e ∷ edges) p q rise = (rise.0, rise.1, let le = rise.2 in omega arith, let le = rise.3 in omega arith, rise_wider most wider e edges p q rise.4)
+rise_wider most wider last (e ∷ edges) p q rise =
+    (rise.0, rise.1, let le = rise.2 in omega arith, let le = rise.3 in omega arith, rise_wider most wider e edges p q rise.4)
 
 -- an edge whose source count is above all others, and whose target count is above what was the most
 pub rise_push : (most wider last new : ℕ × ℕ) (edges : List (ℕ × ℕ)) → most.0 ≤ wider.0 → most.1 ≤ wider.1 → RiseWithin most last edges →
-    last.0 < new.0 → last.1 < new.1 → AllByRecursion (λ (e : ℕ × ℕ). e.0 < new.0) edges → most.1 < new.1 → new.0 ≤ wider.0 → new.1 ≤ wider.1 → RiseWithin wider last (edges ++ new ∷ [])
+    last.0 < new.0 → last.1 < new.1 → AllByRecursion (λ (e : ℕ × ℕ). e.0 < new.0) edges → most.1 < new.1 → new.0 ≤ wider.0 → new.1 ≤ wider.1 →
+    RiseWithin wider last (edges ++ new ∷ [])
 rise_push most wider last new [] p q rise above_source above_target below past source_le target_le = (above_source, above_target, source_le, target_le, tt)
 rise_push most wider last new (e ∷ edges) p q rise above_source above_target below past source_le target_le = (
   rise.0,
@@ -52,7 +55,8 @@ among_cases (e ∷ xs) ys x y (inr s) = on (among_cases xs ys x y s)
     on (inl t) = inl (inr t)
     on (inr t) = inr t
 
-pub all_among : (P : Instr → Instr → Type 0) (edges : List Edge) → ((x y : Instr) → Among edges x y → P x y) → AllByRecursion (λ (e : Edge). P e.from e.to) edges
+pub all_among : (P : Instr → Instr → Type 0) (edges : List Edge) → ((x y : Instr) → Among edges x y → P x y) →
+    AllByRecursion (λ (e : Edge). P e.from e.to) edges
 all_among P [] f = tt
 all_among P (e ∷ edges) f = (f e.from e.to (inl (refl, refl)), all_among P edges (λ x y s. f x y (inr s)))
 
@@ -70,10 +74,12 @@ pub record AtAccess (list : List Access) (x : Instr) : Type 0 where
   pub at_is : access.at ≡ x
 
 pub pair_source : (list : List Access) (x y : Instr) → ConflictPair list x y → AtAccess list x
-pair_source list x y p = let e = ends (reverse list) x y (pair_forth list x y p) in record { access = e.first; stands = stands_back list e.first e.first_stands; at_is = e.first_at }
+pair_source list x y p = let e = ends (reverse list) x y (pair_forth list x y p) in
+    record { access = e.first; stands = stands_back list e.first e.first_stands; at_is = e.first_at }
 
 pub pair_target : (list : List Access) (x y : Instr) → ConflictPair list x y → AtAccess list y
-pair_target list x y p = let e = ends (reverse list) x y (pair_forth list x y p) in record { access = e.second; stands = stands_back list e.second e.second_stands; at_is = e.second_at }
+pair_target list x y p = let e = ends (reverse list) x y (pair_forth list x y p) in
+    record { access = e.second; stands = stands_back list e.second e.second_stands; at_is = e.second_at }
 
 pub cores_differ : (list : List Access) (x y : Instr) → ConflictPair list x y → x.core ≢ y.core
 cores_differ list x y p same =
@@ -103,5 +109,6 @@ source_above list a x u v pair core later same cover = by (cases_order x.count u
 
     by : (x.count ≡ u.count) ⊎ ((x.count < u.count) ⊎ (u.count < x.count)) → u.count < x.count
     by (inl e) = absurd (cover.1 v (subst (λ (w : Instr). Before (ConflictPair (list ++ (a ∷ []))) w v) (instr_eq u x same (sym e)) step) last)
-    by (inr (inl lt)) = absurd (cover.1 v (joined (ConflictPair (list ++ (a ∷ []))) x u v (one (ConflictPair (list ++ (a ∷ []))) x u (inl (sym same, lt))) step) last)
+    by (inr (inl lt)) = absurd
+        (cover.1 v (joined (ConflictPair (list ++ (a ∷ []))) x u v (one (ConflictPair (list ++ (a ∷ []))) x u (inl (sym same, lt))) step) last)
     by (inr (inr lt)) = lt

@@ -1,5 +1,6 @@
 -- The pairs' lists: they get room, and edges.
-use Rattle.std.proofs.Common.{◌≡◌, ◌≢◌, ℕ, zero, suc, ◌+◌, ◌<◌, ◌≤◌, ◌⊎◌, Bool, true, false, ◌&&◌, List, [], ◌∷◌, ◌++◌, length, take, get_or, refl, sym, ap, ◌∙◌, inl, inr, arith}
+use Rattle.std.proofs.Common.{◌≡◌, ◌≢◌, ℕ, zero, suc, ◌+◌, ◌<◌, ◌≤◌, ◌⊎◌, Bool, true, false, ◌&&◌, List, [], ◌∷◌, ◌++◌, length, take, get_or, refl, sym, ap}
+use Rattle.std.proofs.Common.{◌∙◌, inl, inr, arith}
 use Rattle.std.proofs.lemmas.Bool.{and_parts, cases_eq}
 use Rattle.std.specs.Prelude.{map, slice_index_or, slice_set}
 use Rattle.std.specs.List.{list_all}
@@ -30,11 +31,13 @@ pub record Made (before : List PairRoom) (rooms : List PairRoom) (i : ℕ) : Typ
   pub roomy : list_all is_roomy (take i rooms) ≡ true
   pub rest : (k : ℕ) (d : PairRoom) → i ≤ k → get_or rooms k d ≡ get_or before k d
 
-pub made_more : (before rooms : List PairRoom) (i : ℕ) (old new : PairRoom) → i < length rooms → old ≡ get_or rooms i old → new.edges ≡ old.edges → is_roomy new ≡ true →
+pub made_more : (before rooms : List PairRoom) (i : ℕ) (old new : PairRoom) → i < length rooms → old ≡ get_or rooms i old → new.edges ≡ old.edges →
+    is_roomy new ≡ true →
     Made before rooms i → Made before (slice_set rooms i new) (i + 1)
 made_more before rooms i old new within is kept has made = record {
   same = map-set_same edges_in rooms i new old (kept ∙ ap edges_in is) ∙ made.same;
-  roomy = ap (list_all is_roomy) (take_more_set rooms i new within) ∙ list_all-append is_roomy (take i rooms) (new ∷ []) ∙ both (list_all is_roomy (take i rooms)) (is_roomy new) made.roomy has;
+  roomy = ap (list_all is_roomy) (take_more_set rooms i new within) ∙ list_all-append is_roomy (take i rooms) (new ∷ [])
+      ∙ both (list_all is_roomy (take i rooms)) (is_roomy new) made.roomy has;
   rest = λ k d le. get_or-set_other rooms i k new d (λ (e : k ≡ i). omega arith) ∙ made.rest k d (omega arith);
 }
   where
@@ -46,13 +49,16 @@ pub all_made : (before rooms : List PairRoom) (i : ℕ) → length rooms ≤ i �
 all_made before rooms i past made = ap (list_all is_roomy) (sym (take_all i rooms past)) ∙ made.roomy
 
 -- a list without room: not all have it, before and after
-pub none_made : (before rooms : List PairRoom) (i : ℕ) (old new : PairRoom) → i < length rooms → length rooms ≡ length before → old ≡ get_or rooms i old → new ≡ old → is_roomy old ≡ false → Made before rooms i →
+pub none_made : (before rooms : List PairRoom) (i : ℕ) (old new : PairRoom) → i < length rooms → length rooms ≡ length before → old ≡ get_or rooms i old →
+    new ≡ old → is_roomy old ≡ false → Made before rooms i →
     list_all is_roomy (slice_set rooms i new) ≡ list_all is_roomy before
 none_made before rooms i old new within len is kept fails made =
-    list_all_at is_roomy (slice_set rooms i new) i new (omega (arith, length-set rooms i new)) (ap is_roomy (get_or-set_same rooms i new new within ∙ kept) ∙ fails)
+    list_all_at is_roomy (slice_set rooms i new) i new (omega (arith, length-set rooms i new)) (ap is_roomy (get_or-set_same rooms i new new within ∙ kept)
+    ∙ fails)
     ∙ sym (list_all_at is_roomy before i old (omega arith) (ap is_roomy (sym (made.rest i old (omega arith)) ∙ sym is) ∙ fails))
 
-pub same_edges : (before rooms : List PairRoom) (i : ℕ) (old new : PairRoom) → old ≡ get_or rooms i old → new ≡ old → Made before rooms i → map edges_in (slice_set rooms i new) ≡ map edges_in before
+pub same_edges : (before rooms : List PairRoom) (i : ℕ) (old new : PairRoom) → old ≡ get_or rooms i old → new ≡ old → Made before rooms i →
+    map edges_in (slice_set rooms i new) ≡ map edges_in before
 same_edges before rooms i old new is kept made = map-set_same edges_in rooms i new old (ap edges_in kept ∙ ap edges_in is) ∙ made.same
 
 -- ---- edges are added
@@ -66,7 +72,8 @@ have_room [] e k d lt = absurd (omega arith)
 have_room (r ∷ rooms) e zero d lt = let t : is_roomy r ≡ true = (and_parts (is_roomy r) (list_all is_roomy rooms) e).0 in grind (arith, nat_tests)
 have_room (r ∷ rooms) e (suc k) d lt = have_room rooms (and_parts (is_roomy r) (list_all is_roomy rooms) e).1 k d (omega arith)
 
-pub room_left : (rooms : List PairRoom) (i n : ℕ) (old new : PairRoom) (e : ℕ × ℕ) → i < length rooms → old ≡ get_or rooms i old → new.edges ≡ old.edges ++ e ∷ [] → new.room ≡ old.room →
+pub room_left : (rooms : List PairRoom) (i n : ℕ) (old new : PairRoom) (e : ℕ × ℕ) → i < length rooms → old ≡ get_or rooms i old →
+    new.edges ≡ old.edges ++ e ∷ [] → new.room ≡ old.room →
     HaveRoom rooms (suc n) → HaveRoom (slice_set rooms i new) n
 room_left rooms i n old new e within is more kept had k d lt = by (cases_eq k i)
   where
@@ -82,7 +89,17 @@ room_left rooms i n old new e within is more kept had k d lt = by (cases_eq k i)
         let was = had i old within in
         let long = ap (λ (r : PairRoom). length r.edges) here in
         let wide = ap (λ (r : PairRoom). r.room) here in
-        omega (arith, long, wide, ap length more, length_push old.edges e, kept, ap (λ (r : PairRoom). length r.edges) old_is, ap (λ (r : PairRoom). r.room) old_is, was)
+        omega (
+          arith,
+          long,
+          wide,
+          ap length more,
+          length_push old.edges e,
+          kept,
+          ap (λ (r : PairRoom). length r.edges) old_is,
+          ap (λ (r : PairRoom). r.room) old_is,
+          was,
+        )
     by (inr f) =
         let there = get_or-set_other rooms i k new d f in
         let was = had k d (omega (arith, lt, length-set rooms i new)) in
@@ -93,7 +110,8 @@ pub room_same : (rooms : List PairRoom) (n m : ℕ) → m ≤ n → HaveRoom roo
 room_same rooms n m le had k d lt = let was = had k d lt in omega arith
 
 -- all still have room, where the changed one has
-pub still_roomy : (rooms : List PairRoom) (i : ℕ) (new : PairRoom) → list_all is_roomy rooms ≡ true → is_roomy new ≡ true → list_all is_roomy (slice_set rooms i new) ≡ true
+pub still_roomy : (rooms : List PairRoom) (i : ℕ) (new : PairRoom) → list_all is_roomy rooms ≡ true → is_roomy new ≡ true →
+    list_all is_roomy (slice_set rooms i new) ≡ true
 still_roomy [] i new all has = all
 still_roomy (r ∷ rooms) zero new all has = rw (has, (and_parts (is_roomy r) (list_all is_roomy rooms) all).1) refl
 still_roomy (r ∷ rooms) (suc i) new all has =
@@ -117,7 +135,8 @@ added cores lists edges place e rooms old new at within is more was =
 pub length-added : (cores : ℕ) (lists : List (List (ℕ × ℕ))) (edges : List Edge) → length (with_edges cores lists edges) ≡ length lists
 unfolding with_edges
 length-added cores lists [] = refl
-length-added cores lists (e ∷ edges) = length-added cores (with_edge cores lists e) edges ∙ length-set lists (pair_place cores e.from.core e.to.core) (slice_index_or lists (pair_place cores e.from.core e.to.core) [] ++ counts e ∷ [])
+length-added cores lists (e ∷ edges) = length-added cores (with_edge cores lists e) edges
+    ∙ length-set lists (pair_place cores e.from.core e.to.core) (slice_index_or lists (pair_place cores e.from.core e.to.core) [] ++ counts e ∷ [])
 
 pub length-seen : (rooms : List PairRoom) (lists : List (List (ℕ × ℕ))) → map edges_in rooms ≡ lists → length rooms ≡ length lists
 length-seen rooms lists is = sym (length-map rooms edges_in) ∙ ap length is

@@ -1,5 +1,6 @@
 -- One retirement with exact times: its edges are the covering pairs into it, and its clock is exact.
-use Rattle.std.proofs.Common.{◌≡◌, ◌≢◌, ℕ, ◌%◌, ◌<◌, ◌≤◌, ◌⊎◌, List, [], ◌∷◌, ◌++◌, reverse, sym, ◌∙◌, ap, subst, inl, inr, arith, true, false, Some, slice_index}
+use Rattle.std.proofs.Common.{◌≡◌, ◌≢◌, ℕ, ◌%◌, ◌<◌, ◌≤◌, ◌⊎◌, List, [], ◌∷◌, ◌++◌, reverse, sym, ◌∙◌, ap, subst, inl, inr, arith, true, false, Some}
+use Rattle.std.proofs.Common.{slice_index}
 use Rattle.std.proofs.lemmas.Bool.{cases_Bool}
 use Rattle.rtr_types.specs.declared.instr.Instr.{Instr}
 use Rattle.rtr_types.specs.declared.access.Access.{Access}
@@ -66,7 +67,8 @@ kept_rule list r a t n s one kept =
       others = λ z c apart. by p z apart (n.found.all z c);
     }
   where
-    by : Passes (clock_of r a.at.core) (candidates r.cores a t) s.at → (z : Instr) → z ≢ s.at → (q : Source) × IsOneOf (candidates r.cores a t) q × (q.at ≡ z) → clock (reverse list) z s.at.core < s.at.count
+    by : Passes (clock_of r a.at.core) (candidates r.cores a t) s.at → (z : Instr) → z ≢ s.at → (q : Source) × IsOneOf (candidates r.cores a t) q
+        × (q.at ≡ z) → clock (reverse list) z s.at.core < s.at.count
     by p z apart q =
         let e = n.found.exact q.0 q.1 s.at.core (n.found.fits s one) in
         let lt = p.others q.0 q.1 (λ f. apart (sym q.2 ∙ f)) in
@@ -76,7 +78,8 @@ rule_kept : (list : List Access) (r : Reduced) (a : Access) (t : Times) → Next
     IsKept (reverse list) a s.at → is_kept (clock_of r a.at.core) (candidates r.cores a t) s.at ≡ true
 rule_kept list r a t n s one kept = passes_kept (clock_of r a.at.core) (candidates r.cores a t) s.at (record {
   own = let e = n.before s.at.core (n.found.fits s one) in let lt = kept.own in omega arith;
-  others = λ q other apart. let e = n.found.exact q other s.at.core (n.found.fits s one) in let lt = kept.others q.at (n.found.candidate q other) apart in omega arith;
+  others = λ q other apart. let e = n.found.exact q other s.at.core (n.found.fits s one) in let lt = kept.others q.at (n.found.candidate q other) apart in
+      omega arith;
 })
 
 -- of a core's write and its read since, the write is not kept
@@ -98,13 +101,16 @@ write_dropped list r a t n core lt x y w e = by (cases_Bool (is_kept (clock_of r
     here = subst (λ (k : ℕ). read_at t (a.word % BLOCK_WORDS) k ≡ Some (y.at.count, y.clock)) (sym read.core_is) read.noted
 
     one : IsOneOf (candidates r.cores a t) y
-    one = let same = read.core_is in noted_one r.cores a t y (omega arith) (record { other = λ f. read.other (sym read.core_is ∙ f); noted = inr (read.writes, here) })
+    one = let same = read.core_is in
+        noted_one r.cores a t y (omega arith) (record { other = λ f. read.other (sym read.core_is ∙ f); noted = inr (read.writes, here) })
 
     first : NoteOf list (last_write (reverse list) a.word) x.at x.clock
     first = note_of list (last_write (reverse list) a.word) (write_at t (a.word % BLOCK_WORDS)) x.at x.clock n.times.write_is written.noted
 
     second : NoteOf list (last_read (reverse list) a.word y.at.core) y.at y.clock
-    second = let same = read.core_is in note_of list (last_read (reverse list) a.word y.at.core) (read_note y.at.core (read_at t (a.word % BLOCK_WORDS) y.at.core)) y.at y.clock (n.times.read_is read.writes y.at.core (omega (arith, fits))) (ap (read_note y.at.core) here)
+    second = let same = read.core_is in
+        note_of list (last_read (reverse list) a.word y.at.core) (read_note y.at.core (read_at t (a.word % BLOCK_WORDS) y.at.core)) y.at y.clock
+        (n.times.read_is read.writes y.at.core (omega (arith, fits))) (ap (read_note y.at.core) here)
 
     rising : Rising (reverse list)
     rising = rising_back list n.exact.rise
@@ -114,7 +120,8 @@ write_dropped list r a t n core lt x y w e = by (cases_Bool (is_kept (clock_of r
 
     later : x.at.count < y.at.count
     later =
-        let counts = read_later (reverse list) a.word y.at.core first.access second.access rising first.here_is second.here_is (ap (λ (v : Instr). v.core) (sym first.at_is) ∙ same_core) in
+        let counts = read_later (reverse list) a.word y.at.core first.access second.access rising first.here_is second.here_is
+        (ap (λ (v : Instr). v.core) (sym first.at_is) ∙ same_core) in
         let p = ap (λ (v : Instr). v.count) first.at_is in
         let q = ap (λ (v : Instr). v.count) second.at_is in
         omega arith
@@ -126,9 +133,11 @@ write_dropped list r a t n core lt x y w e = by (cases_Bool (is_kept (clock_of r
         let core_is : clock (reverse list) y.at x.at.core ≡ clock (reverse list) y.at y.at.core = ap (λ (k : ℕ). clock (reverse list) y.at k) same_core in
         omega arith
 
-    by : (is_kept (clock_of r a.at.core) (candidates r.cores a t) x.at ≡ true) ⊎ (is_kept (clock_of r a.at.core) (candidates r.cores a t) x.at ≡ false) → is_kept (clock_of r a.at.core) (candidates r.cores a t) x.at ≡ false
+    by : (is_kept (clock_of r a.at.core) (candidates r.cores a t) x.at ≡ true) ⊎ (is_kept (clock_of r a.at.core) (candidates r.cores a t) x.at ≡ false) →
+        is_kept (clock_of r a.at.core) (candidates r.cores a t) x.at ≡ false
     by (inl kept) =
-        let above = (kept_passes (clock_of r a.at.core) (candidates r.cores a t) x.at kept).others y one (λ f. let g : y.at.count ≡ x.at.count = ap (λ (v : Instr). v.count) f in let lt = later in omega arith) in
+        let above = (kept_passes (clock_of r a.at.core) (candidates r.cores a t) x.at kept).others y one (λ f. let g : y.at.count
+        ≡ x.at.count = ap (λ (v : Instr). v.count) f in let lt = later in omega arith) in
         absurd (omega (arith, above, known, later))
     by (inr f) = f
 
@@ -141,10 +150,12 @@ covering_into list r a t n = record {
   order = (chosen_rise r.cores a t a.at (clock_of r a.at.core) (candidates r.cores a t) one).rise;
 }
   where
-    to : (x y : Instr) → ComesFrom a.at (clock_of r a.at.core) (candidates r.cores a t) (candidates r.cores a t) x y → (y ≡ a.at) × Covering (list ++ (a ∷ [])) x a.at
+    to : (x y : Instr) → ComesFrom a.at (clock_of r a.at.core) (candidates r.cores a t) (candidates r.cores a t) x y →
+        (y ≡ a.at) × Covering (list ++ (a ∷ [])) x a.at
     to x y q = (q.0, subst (λ (v : Instr). Covering (list ++ (a ∷ [])) v a.at) q.3 ((online_law list a q.1.at n.rise).0 (kept_rule list r a t n q.1 q.2 q.4)))
 
-    back : (x y : Instr) → y ≡ a.at → Covering (list ++ (a ∷ [])) x a.at → Among (chosen a.at (clock_of r a.at.core) (candidates r.cores a t) (candidates r.cores a t)) x y
+    back : (x y : Instr) → y ≡ a.at → Covering (list ++ (a ∷ [])) x a.at →
+        Among (chosen a.at (clock_of r a.at.core) (candidates r.cores a t) (candidates r.cores a t)) x y
     back x y e c =
         let kept = (online_law list a x n.rise).1 c in
         let s = n.found.all x kept.candidate in
@@ -155,7 +166,8 @@ covering_into list r a t n = record {
 
     one : (core : ℕ) → core < r.cores → AtMostOne core (chosen a.at (clock_of r a.at.core) (candidates r.cores a t) (candidates_from a t core))
     one core lt =
-        one_of_two core a.at (clock_of r a.at.core) (candidates r.cores a t) (write_from a core (write_at t (a.word % BLOCK_WORDS))) (read_from a core (read_at t (a.word % BLOCK_WORDS) core))
+        one_of_two core a.at (clock_of r a.at.core) (candidates r.cores a t) (write_from a core (write_at t (a.word % BLOCK_WORDS)))
+        (read_from a core (read_at t (a.word % BLOCK_WORDS) core))
         (λ x w. (wrote a core (write_at t (a.word % BLOCK_WORDS)) x w).core_is)
         (λ y e. (did_read a core (read_at t (a.word % BLOCK_WORDS) core) y e).core_is)
         (write_dropped list r a t n core lt)

@@ -1,5 +1,6 @@
 -- The test of covering pairs is right.
-use Rattle.std.proofs.Common.{◌≡◌, ◌≢◌, ◌∙◌, refl, sym, ap, subst, ℕ, ◌≤◌, ◌&&◌, ◌||◌, ◌⊎◌, inl, inr, Bool, true, false, not, nat_eq, nat_le, List, [], ◌∷◌, reverse, arith}
+use Rattle.std.proofs.Common.{◌≡◌, ◌≢◌, ◌∙◌, refl, sym, ap, subst, ℕ, ◌≤◌, ◌&&◌, ◌||◌, ◌⊎◌, inl, inr, Bool, true, false, not, nat_eq, nat_le, List, [], ◌∷◌}
+use Rattle.std.proofs.Common.{reverse, arith}
 use Rattle.std.proofs.lemmas.Bool.{and_parts}
 use Rattle.std.specs.List.{list_any}
 use Rattle.std.proofs.lemmas.Bool.Decides.{nat_tests}
@@ -57,7 +58,8 @@ one_first : (list : List Access) (a b : Access) → StandsIn list a → StandsIn
 one_first [] a b s t c = absurd s
 one_first (d ∷ later) a b (inl e) (inl f) c = absurd (c.0 (ap (λ (x : Access). x.at.core) (sym e ∙ f)))
 one_first (d ∷ later) a b (inl e) (inr t) c = inl (inl (ap (λ (x : Access). x.at) e, b, t, refl, subst (λ (x : Access). Conflicts x b) (sym e) c))
-one_first (d ∷ later) a b (inr s) (inl f) c = inr (inl (ap (λ (x : Access). x.at) f, a, s, refl, subst (λ (x : Access). Conflicts x a) (sym f) (turned_conflict a b c)))
+one_first (d ∷ later) a b (inr s) (inl f) c =
+    inr (inl (ap (λ (x : Access). x.at) f, a, s, refl, subst (λ (x : Access). Conflicts x a) (sym f) (turned_conflict a b c)))
 one_first (d ∷ later) a b (inr s) (inr t) c = by (one_first later a b s t c)
   where
     by : ConflictPair later a.at b.at ⊎ ConflictPair later b.at a.at → ConflictPair (d ∷ later) a.at b.at ⊎ ConflictPair (d ∷ later) b.at a.at
@@ -73,7 +75,8 @@ same_is x y e = let p = and_parts (nat_eq x.core y.core) (nat_eq x.count y.count
     eq m n t = grind (arith, nat_tests)
 
 is_same_itself : (x y : Instr) → x ≡ y → not (is_same x y) ≡ true → ⊥
-is_same_itself x y e t = let core : x.core ≡ y.core = ap (λ (i : Instr). i.core) e in let count : x.count ≡ y.count = ap (λ (i : Instr). i.count) e in grind (arith, nat_tests)
+is_same_itself x y e t = let core : x.core ≡ y.core = ap (λ (i : Instr). i.core) e in let count : x.count ≡ y.count = ap (λ (i : Instr). i.count) e in
+    grind (arith, nat_tests)
 
 other_differs : (x y : Instr) → x ≢ y → not (is_same x y) ≡ true
 other_differs x y d = by (is_same x y) (same_is x y)
@@ -104,7 +107,8 @@ record Between (list : List Access) (x y : Instr) : Type 0 where
   before : Before (ConflictPair list) access.at y
 
 -- where an instruction stands between two cores' instructions, so does an access
-between : (list : List Access) (x z y : Instr) → CountsRise list → x.core ≢ y.core → Before (ConflictPair list) x z → Before (ConflictPair list) z y → Between list x y
+between : (list : List Access) (x z y : Instr) → CountsRise list → x.core ≢ y.core → Before (ConflictPair list) x z → Before (ConflictPair list) z y →
+    Between list x y
 between list x z y rise differ p q = let l = last_at E q.0 z y q.1 in by l.0 (up l.0 l.1) l.2
   where
     E : Instr → Instr → Type 0
@@ -116,7 +120,8 @@ between list x z y rise differ p q = let l = last_at E q.0 z y q.1 in by l.0 (up
 
     by : (w : Instr) → Before (ConflictPair list) x w → Step (ConflictPair list) w y → Between list x y
     by w r (inl s) =
-        let a = arrives (reverse list) (rising_back list rise) x w (more (ConflictPair list) (Pair (reverse list)) (pair_forth list) x w r) (λ (same : x.core ≡ w.core). differ (same ∙ s.0)) in
+        let a = arrives (reverse list) (rising_back list rise) x w (more (ConflictPair list) (Pair (reverse list)) (pair_forth list) x w r)
+        (λ (same : x.core ≡ w.core). differ (same ∙ s.0)) in
         let le = a.count_le in
         let lt = s.1 in
         record {
@@ -154,7 +159,8 @@ passed p (b ∷ later) none = by (p b) (none b (inl refl)) (passed p later (λ a
 
 -- ---- the test of a pair
 
-pub covering_is : (list : List Access) (x y : Access) → CountsRise list → StandsIn list x → StandsIn list y → is_covering list x y ≡ true → Covering list x.at y.at
+pub covering_is : (list : List Access) (x y : Access) → CountsRise list → StandsIn list x → StandsIn list y → is_covering list x y ≡ true →
+    Covering list x.at y.at
 covering_is list x y rise sx sy e = (pair, free)
   where
     E : Instr → Instr → Type 0
@@ -200,12 +206,15 @@ covering_is list x y rise sx sy e = (pair, free)
         (both (not (is_same w.at x.at) && not (is_same w.at y.at)) (is_or_leads list x.at w.at && is_or_leads list w.at y.at)
         (both (not (is_same w.at x.at)) (not (is_same w.at y.at)) (apart_back x.at w.at b.after) (apart w.at y.at b.before))
         (both (is_or_leads list x.at w.at) (is_or_leads list w.at y.at)
-        (leads_test list x.at w.at rise (positive list x rise sx) (inr b.after)) (leads_test list w.at y.at rise (positive list w rise b.stands) (inr b.before)))))
+        (leads_test list x.at w.at rise (positive list x rise sx) (inr b.after))
+        (leads_test list w.at y.at rise (positive list w rise b.stands) (inr b.before)))))
 
-pub covering_passes : (list : List Access) (x y : Access) → CountsRise list → StandsIn list x → StandsIn list y → Covering list x.at y.at → is_covering list x y ≡ true
+pub covering_passes : (list : List Access) (x y : Access) → CountsRise list → StandsIn list x → StandsIn list y → Covering list x.at y.at →
+    is_covering list x y ≡ true
 covering_passes list x y rise sx sy cover =
     both (do_conflict x y && is_or_leads list x.at y.at) (not (list_any (stands_between list x y) list))
-    (both (do_conflict x y) (is_or_leads list x.at y.at) (do_conflict-yes x y conflict) (leads_test list x.at y.at rise (positive list x rise sx) (inr (one (ConflictPair list) x.at y.at (inr cover.0)))))
+    (both (do_conflict x y) (is_or_leads list x.at y.at) (do_conflict-yes x y conflict)
+    (leads_test list x.at y.at rise (positive list x rise sx) (inr (one (ConflictPair list) x.at y.at (inr cover.0)))))
     (ap not (passed (stands_between list x y) list none))
   where
     conflict : Conflicts x y

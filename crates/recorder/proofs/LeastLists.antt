@@ -37,16 +37,19 @@ module _ {X : Type 0} where
 
 -- ---- the lists by place
 
-least_at : (cores : ℕ) (list : List Access) (place : ℕ) (d : List (ℕ × ℕ)) → place < pair_count cores → slice_index_or (least_lists cores list) place d ≡ pair_list list (source_at cores place) (target_at cores place)
+least_at : (cores : ℕ) (list : List Access) (place : ℕ) (d : List (ℕ × ℕ)) → place < pair_count cores → slice_index_or (least_lists cores list) place d
+    ≡ pair_list list (source_at cores place) (target_at cores place)
 unfolding least_lists
-least_at cores list place d lt = get_or-map-range_with_len (λ (p : ℕ). pair_list list (source_at cores p) (target_at cores p)) 0 (pair_count cores) place place d lt (omega arith)
+least_at cores list place d lt =
+    get_or-map-range_with_len (λ (p : ℕ). pair_list list (source_at cores p) (target_at cores p)) 0 (pair_count cores) place place d lt (omega arith)
 
 pub length-least : (cores : ℕ) (list : List Access) → length (least_lists cores list) ≡ pair_count cores
 unfolding least_lists
 length-least cores list = length-map-range_with_len (λ (p : ℕ). pair_list list (source_at cores p) (target_at cores p)) 0 (pair_count cores)
 
 -- the list of a pair
-least_of_pair : (cores : ℕ) (list : List Access) (from to : ℕ) → IsPair cores from to → slice_index_or (least_lists cores list) (pair_place cores from to) [] ≡ pair_list list from to
+least_of_pair : (cores : ℕ) (list : List Access) (from to : ℕ) → IsPair cores from to → slice_index_or (least_lists cores list) (pair_place cores from to) []
+    ≡ pair_list list from to
 least_of_pair cores list from to pair =
     let placed = pairs-placed cores from to pair in
     least_at cores list (pair_place cores from to) [] placed.0
@@ -66,17 +69,20 @@ least_lists_law cores list rise of x y = (to, λ q. from q.0 q.1)
           differ = cores_differ list x y cover.0;
         }
 
-    to : Covering list x y → IsPair cores x.core y.core × Contains (slice_index_or (least_lists cores list) (pair_place cores x.core y.core) []) (x.count, y.count)
+    to : Covering list x y → IsPair cores x.core y.core
+        × Contains (slice_index_or (least_lists cores list) (pair_place cores x.core y.core) []) (x.count, y.count)
     to cover = (
       pair cover,
       subst (λ (es : List (ℕ × ℕ)). Contains es (x.count, y.count)) (sym (least_of_pair cores list x.core y.core (pair cover)))
           (contains (pair_list list x.core y.core) (x.count, y.count) (covers_pair list x y rise cover)),
     )
 
-    from : IsPair cores x.core y.core → Contains (slice_index_or (least_lists cores list) (pair_place cores x.core y.core) []) (x.count, y.count) → Covering list x y
+    from : IsPair cores x.core y.core → Contains (slice_index_or (least_lists cores list) (pair_place cores x.core y.core) []) (x.count, y.count) →
+        Covering list x y
     from p has =
         pair_covers list x.core y.core (x.count, y.count) rise
-        (in_list (pair_list list x.core y.core) (x.count, y.count) (subst (λ (es : List (ℕ × ℕ)). Contains es (x.count, y.count)) (least_of_pair cores list x.core y.core p) has))
+        (in_list (pair_list list x.core y.core) (x.count, y.count)
+        (subst (λ (es : List (ℕ × ℕ)). Contains es (x.count, y.count)) (least_of_pair cores list x.core y.core p) has))
 
 -- ---- the lists of a reduction
 
@@ -107,15 +113,20 @@ reduced_pair list r edges place lt h =
     here : slice_index_or r.lists place [] ≡ pair_edges (source_at r.cores place) (target_at r.cores place) edges
     here = ap (λ (ls : List (List (ℕ × ℕ))). slice_index_or ls place []) h.by_pairs ∙ by_pair_at r.cores edges place [] lt
 
-    at_place : slice_index_or r.lists (pair_place r.cores (source_at r.cores place) (target_at r.cores place)) [] ≡ pair_edges (source_at r.cores place) (target_at r.cores place) edges
-    at_place = ap (λ (p : ℕ). slice_index_or r.lists p []) (places-paired r.cores place lt).1 ∙ ap (λ (ls : List (List (ℕ × ℕ))). slice_index_or ls place []) h.by_pairs ∙ by_pair_at r.cores edges place [] lt
+    at_place : slice_index_or r.lists (pair_place r.cores (source_at r.cores place) (target_at r.cores place)) []
+        ≡ pair_edges (source_at r.cores place) (target_at r.cores place) edges
+    at_place = ap (λ (p : ℕ). slice_index_or r.lists p []) (places-paired r.cores place lt).1
+        ∙ ap (λ (ls : List (List (ℕ × ℕ))). slice_index_or ls place []) h.by_pairs ∙ by_pair_at r.cores edges place [] lt
 
     sorted : Sorted (pair_edges (source_at r.cores place) (target_at r.cores place) edges)
     sorted =
-        rise_sorted (count_of r (source_at r.cores place), count_of r (target_at r.cores place)) (0, 0) (pair_edges (source_at r.cores place) (target_at r.cores place) edges)
-        (subst (λ (es : List (ℕ × ℕ)). RiseWithin (count_of r (source_at r.cores place), count_of r (target_at r.cores place)) (0, 0) es) here (h.rising place lt))
+        rise_sorted (count_of r (source_at r.cores place), count_of r (target_at r.cores place)) (0, 0)
+        (pair_edges (source_at r.cores place) (target_at r.cores place) edges)
+        (subst (λ (es : List (ℕ × ℕ)). RiseWithin (count_of r (source_at r.cores place), count_of r (target_at r.cores place)) (0, 0) es) here
+        (h.rising place lt))
 
-    into : (e : ℕ × ℕ) → In (pair_edges (source_at r.cores place) (target_at r.cores place) edges) e → In (pair_list list (source_at r.cores place) (target_at r.cores place)) e
+    into : (e : ℕ × ℕ) → In (pair_edges (source_at r.cores place) (target_at r.cores place) edges) e →
+        In (pair_list list (source_at r.cores place) (target_at r.cores place)) e
     into e s =
         let x : Instr = record { core = source_at r.cores place; count = e.0 } in
         let y : Instr = record { core = target_at r.cores place; count = e.1 } in
@@ -123,7 +134,8 @@ reduced_pair list r edges place lt h =
         subst (λ (es : List (ℕ × ℕ)). Contains es e) (sym at_place) (contains (pair_edges (source_at r.cores place) (target_at r.cores place) edges) e s) in
         covers_pair list x y h.exact.rise ((h.covering x y).0 ((listed_law list r edges h x y).1 (pair, has)))
 
-    back : (e : ℕ × ℕ) → In (pair_list list (source_at r.cores place) (target_at r.cores place)) e → In (pair_edges (source_at r.cores place) (target_at r.cores place) edges) e
+    back : (e : ℕ × ℕ) → In (pair_list list (source_at r.cores place) (target_at r.cores place)) e →
+        In (pair_edges (source_at r.cores place) (target_at r.cores place) edges) e
     back e s =
         let x : Instr = record { core = source_at r.cores place; count = e.0 } in
         let y : Instr = record { core = target_at r.cores place; count = e.1 } in
@@ -135,7 +147,8 @@ reduced_pair list r edges place lt h =
 pub reduced_lists : (list : List Access) (r : Reduced) (edges : List Edge) → IsReduction list r edges → r.lists ≡ least_lists r.cores list
 reduced_lists list r edges h =
     same_lists r.lists (least_lists r.cores list) (long ∙ sym (length-least r.cores list)) (λ k d lt.
-    ap (λ (ls : List (List (ℕ × ℕ))). slice_index_or ls k d) h.by_pairs ∙ by_pair_at r.cores edges k d (below k lt) ∙ reduced_pair list r edges k (below k lt) h ∙ sym (least_at r.cores list k d (below k lt)))
+    ap (λ (ls : List (List (ℕ × ℕ))). slice_index_or ls k d) h.by_pairs ∙ by_pair_at r.cores edges k d (below k lt)
+    ∙ reduced_pair list r edges k (below k lt) h ∙ sym (least_at r.cores list k d (below k lt)))
   where
     long : length r.lists ≡ pair_count r.cores
     long = ap length h.by_pairs ∙ length-by_pair r.cores edges

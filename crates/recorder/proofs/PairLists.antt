@@ -41,27 +41,32 @@ record Source (list some : List Access) (from : ℕ) (y : Access) (e : ℕ × �
   passes : is_source list from y access ≡ true
   is : counts y access ≡ e
 
-source_in : (list some : List Access) (from : ℕ) (y : Access) (e : ℕ × ℕ) → In (map (counts y) (filter (is_source list from y) some)) e → Source list some from y e
+source_in : (list some : List Access) (from : ℕ) (y : Access) (e : ℕ × ℕ) → In (map (counts y) (filter (is_source list from y) some)) e →
+    Source list some from y e
 source_in list [] from y e s = absurd s
 source_in list (x ∷ some) from y e s = by (cases_Bool (is_source list from y x)) s (λ t. wider (source_in list some from y e t))
   where
     wider : Source list some from y e → Source list (x ∷ some) from y e
     wider r = record { access = r.access; stands = inr r.stands; passes = r.passes; is = r.is }
 
-    head : is_source list from y x ≡ true → (counts y x ≡ e) ⊎ In (map (counts y) (filter (is_source list from y) some)) e → (In (map (counts y) (filter (is_source list from y) some)) e → Source list (x ∷ some) from y e) → Source list (x ∷ some) from y e
+    head : is_source list from y x ≡ true → (counts y x ≡ e) ⊎ In (map (counts y) (filter (is_source list from y) some)) e →
+        (In (map (counts y) (filter (is_source list from y) some)) e → Source list (x ∷ some) from y e) → Source list (x ∷ some) from y e
     head test (inl same) rest = record { access = x; stands = inl refl; passes = test; is = same }
     head test (inr t) rest = rest t
 
-    by : (is_source list from y x ≡ true) ⊎ (is_source list from y x ≡ false) → In (map (counts y) (filter (is_source list from y) (x ∷ some))) e → (In (map (counts y) (filter (is_source list from y) some)) e → Source list (x ∷ some) from y e) → Source list (x ∷ some) from y e
+    by : (is_source list from y x ≡ true) ⊎ (is_source list from y x ≡ false) → In (map (counts y) (filter (is_source list from y) (x ∷ some))) e →
+        (In (map (counts y) (filter (is_source list from y) some)) e → Source list (x ∷ some) from y e) → Source list (x ∷ some) from y e
     by (inl test) t rest = head test (rw test at t) rest
     by (inr test) t rest = rest (rw test at t)
 
-in_source : (list some : List Access) (from : ℕ) (y x : Access) → StandsIn some x → is_source list from y x ≡ true → In (map (counts y) (filter (is_source list from y) some)) (counts y x)
+in_source : (list some : List Access) (from : ℕ) (y x : Access) → StandsIn some x → is_source list from y x ≡ true →
+    In (map (counts y) (filter (is_source list from y) some)) (counts y x)
 in_source list [] from y x s test = absurd s
 in_source list (z ∷ some) from y x (inl e) test = rw (ap (is_source list from y) e ∙ test) (inl (ap (counts y) e))
 in_source list (z ∷ some) from y x (inr s) test = by (is_source list from y z) (in_source list some from y x s test)
   where
-    by : (b : Bool) → In (map (counts y) (filter (is_source list from y) some)) (counts y x) → In (map (counts y) (cond b (z ∷ filter (is_source list from y) some) (filter (is_source list from y) some))) (counts y x)
+    by : (b : Bool) → In (map (counts y) (filter (is_source list from y) some)) (counts y x) →
+        In (map (counts y) (cond b (z ∷ filter (is_source list from y) some) (filter (is_source list from y) some))) (counts y x)
     by true t = inr t
     by false t = t
 
@@ -78,7 +83,8 @@ sources_sorted list (x ∷ some) from y rise = by (cases_Bool (is_source list fr
         let lt = rise.1 r.access r.stands (mine ∙ sym its) in
         subst (λ (g : ℕ × ℕ). Below (counts y x) g) r.is (inr (refl, lt))
 
-    by : (is_source list from y x ≡ true) ⊎ (is_source list from y x ≡ false) → Sorted (map (counts y) (filter (is_source list from y) some)) → Sorted (map (counts y) (filter (is_source list from y) (x ∷ some)))
+    by : (is_source list from y x ≡ true) ⊎ (is_source list from y x ≡ false) → Sorted (map (counts y) (filter (is_source list from y) some)) →
+        Sorted (map (counts y) (filter (is_source list from y) (x ∷ some)))
     by (inl test) rest = rw test (below test, rest)
     by (inr test) rest = rw test rest
 
@@ -90,38 +96,47 @@ record Target (list some : List Access) (from to : ℕ) (e : ℕ × ℕ) : Type 
   core : access.at.core ≡ to
   source : Source list list from access e
 
-target_in : (list some : List Access) (from to : ℕ) (e : ℕ × ℕ) → In (flat_map (covering_counts list from) (filter (is_of to) some)) e → Target list some from to e
+target_in : (list some : List Access) (from to : ℕ) (e : ℕ × ℕ) → In (flat_map (covering_counts list from) (filter (is_of to) some)) e →
+    Target list some from to e
 target_in list [] from to e s = absurd s
 target_in list (y ∷ some) from to e s = by (cases_Bool (is_of to y)) s (λ t. wider (target_in list some from to e t))
   where
     wider : Target list some from to e → Target list (y ∷ some) from to e
     wider r = record { access = r.access; stands = inr r.stands; core = r.core; source = r.source }
 
-    head : is_of to y ≡ true → In (covering_counts list from y) e ⊎ In (flat_map (covering_counts list from) (filter (is_of to) some)) e → (In (flat_map (covering_counts list from) (filter (is_of to) some)) e → Target list (y ∷ some) from to e) → Target list (y ∷ some) from to e
+    head : is_of to y ≡ true → In (covering_counts list from y) e ⊎ In (flat_map (covering_counts list from) (filter (is_of to) some)) e →
+        (In (flat_map (covering_counts list from) (filter (is_of to) some)) e → Target list (y ∷ some) from to e) → Target list (y ∷ some) from to e
     head test (inl t) rest = record { access = y; stands = inl refl; core = eq_of y.at.core to test; source = source_in list list from y e t }
     head test (inr t) rest = rest t
 
-    by : (is_of to y ≡ true) ⊎ (is_of to y ≡ false) → In (flat_map (covering_counts list from) (filter (is_of to) (y ∷ some))) e → (In (flat_map (covering_counts list from) (filter (is_of to) some)) e → Target list (y ∷ some) from to e) → Target list (y ∷ some) from to e
-    by (inl test) t rest = head test (in_cases (covering_counts list from y) (flat_map (covering_counts list from) (filter (is_of to) some)) e (rw test at t)) rest
+    by : (is_of to y ≡ true) ⊎ (is_of to y ≡ false) → In (flat_map (covering_counts list from) (filter (is_of to) (y ∷ some))) e →
+        (In (flat_map (covering_counts list from) (filter (is_of to) some)) e → Target list (y ∷ some) from to e) → Target list (y ∷ some) from to e
+    by (inl test) t rest =
+        head test (in_cases (covering_counts list from y) (flat_map (covering_counts list from) (filter (is_of to) some)) e (rw test at t)) rest
     by (inr test) t rest = rest (rw test at t)
 
-in_target : (list some : List Access) (from to : ℕ) (y : Access) (e : ℕ × ℕ) → StandsIn some y → y.at.core ≡ to → In (covering_counts list from y) e → In (flat_map (covering_counts list from) (filter (is_of to) some)) e
+in_target : (list some : List Access) (from to : ℕ) (y : Access) (e : ℕ × ℕ) → StandsIn some y → y.at.core ≡ to → In (covering_counts list from y) e →
+    In (flat_map (covering_counts list from) (filter (is_of to) some)) e
 in_target list [] from to y e s core t = absurd s
 in_target list (z ∷ some) from to y e (inl same) core t =
     let test : is_of to z ≡ true = of_eq z.at.core to (ap (λ (a : Access). a.at.core) same ∙ core) in
-    rw test (in_left (covering_counts list from z) (flat_map (covering_counts list from) (filter (is_of to) some)) e (subst (λ (a : Access). In (covering_counts list from a) e) (sym same) t))
+    rw test (in_left (covering_counts list from z) (flat_map (covering_counts list from) (filter (is_of to) some)) e
+    (subst (λ (a : Access). In (covering_counts list from a) e) (sym same) t))
 in_target list (z ∷ some) from to y e (inr s) core t = by (is_of to z) (in_target list some from to y e s core t)
   where
-    by : (b : Bool) → In (flat_map (covering_counts list from) (filter (is_of to) some)) e → In (flat_map (covering_counts list from) (cond b (z ∷ filter (is_of to) some) (filter (is_of to) some))) e
+    by : (b : Bool) → In (flat_map (covering_counts list from) (filter (is_of to) some)) e →
+        In (flat_map (covering_counts list from) (cond b (z ∷ filter (is_of to) some) (filter (is_of to) some))) e
     by true r = in_right (covering_counts list from z) (flat_map (covering_counts list from) (filter (is_of to) some)) e r
     by false r = r
 
 -- they rise by their targets
-targets_sorted : (list some : List Access) (from to : ℕ) → CountsRise list → CountsRise some → Sorted (flat_map (covering_counts list from) (filter (is_of to) some))
+targets_sorted : (list some : List Access) (from to : ℕ) → CountsRise list → CountsRise some →
+    Sorted (flat_map (covering_counts list from) (filter (is_of to) some))
 targets_sorted list [] from to rise rises = tt
 targets_sorted list (y ∷ some) from to rise rises = by (cases_Bool (is_of to y)) (targets_sorted list some from to rise rises.2)
   where
-    below : is_of to y ≡ true → (e f : ℕ × ℕ) → In (covering_counts list from y) e → In (flat_map (covering_counts list from) (filter (is_of to) some)) f → Below e f
+    below : is_of to y ≡ true → (e f : ℕ × ℕ) → In (covering_counts list from y) e → In (flat_map (covering_counts list from) (filter (is_of to) some)) f →
+        Below e f
     below test e f s t =
         let q = source_in list list from y e s in
         let r = target_in list some from to f t in
@@ -130,8 +145,11 @@ targets_sorted list (y ∷ some) from to rise rises = by (cases_Bool (is_of to y
         let its : r.access.at.count ≡ f.1 = ap (λ (g : ℕ × ℕ). g.1) r.source.is in
         inl (omega arith)
 
-    by : (is_of to y ≡ true) ⊎ (is_of to y ≡ false) → Sorted (flat_map (covering_counts list from) (filter (is_of to) some)) → Sorted (flat_map (covering_counts list from) (filter (is_of to) (y ∷ some)))
-    by (inl test) rest = rw test (sorted_append (covering_counts list from y) (flat_map (covering_counts list from) (filter (is_of to) some)) (sources_sorted list list from y rise) rest (below test))
+    by : (is_of to y ≡ true) ⊎ (is_of to y ≡ false) → Sorted (flat_map (covering_counts list from) (filter (is_of to) some)) →
+        Sorted (flat_map (covering_counts list from) (filter (is_of to) (y ∷ some)))
+    by (inl test) rest =
+        rw test (sorted_append (covering_counts list from y) (flat_map (covering_counts list from) (filter (is_of to) some))
+        (sources_sorted list list from y rise) rest (below test))
     by (inr test) rest = rw test rest
 
 -- ---- the pair's list
@@ -157,7 +175,8 @@ unfolding pair_list
 covers_pair list x y rise cover =
     let a : AtAccess list x = pair_source list x y cover.0 in
     let b : AtAccess list y = pair_target list x y cover.0 in
-    let is : Covering list a.access.at b.access.at = subst (λ (u : Instr). Covering list u b.access.at) (sym a.at_is) (subst (λ (v : Instr). Covering list x v) (sym b.at_is) cover) in
+    let is : Covering list a.access.at b.access.at =
+    subst (λ (u : Instr). Covering list u b.access.at) (sym a.at_is) (subst (λ (v : Instr). Covering list x v) (sym b.at_is) cover) in
     let test : is_covering list a.access b.access ≡ true = covering_passes list a.access b.access rise a.stands b.stands is in
     let core : nat_eq a.access.at.core x.core ≡ true = of_eq a.access.at.core x.core (ap (λ (i : Instr). i.core) a.at_is) in
     subst (λ (g : ℕ × ℕ). In (flat_map (covering_counts list x.core) (filter (is_of y.core) list)) g) (same a.access.at b.access.at a.at_is b.at_is)

@@ -53,7 +53,8 @@ use Rattle.recorder.specs.Standing.{RecordsAt, no_carrying}
 -- ---- the reduced log
 
 -- a recording whose lists are those of the covering pairs has the least set as its reduced log
-pub least_log : (r : Recording) (list : List Access) → CountsRise list → AreOf r.params.cores list → r.reduced ≡ least_lists r.params.cores list → IsLeast list (log_edges ReducedLog r)
+pub least_log : (r : Recording) (list : List Access) → CountsRise list → AreOf r.params.cores list → r.reduced ≡ least_lists r.params.cores list →
+    IsLeast list (log_edges ReducedLog r)
 least_log r list rise of is = (covering_law list edges rise).1 (λ x y. (to x y, back x y))
   where
     edges : List Edge
@@ -62,23 +63,31 @@ least_log r list rise of is = (covering_law list edges rise).1 (λ x y. (to x y,
     to : (x y : Instr) → Among (log_edges ReducedLog r) x y → Covering list x y
     to x y s =
         let q = (edges-are-paired ReducedLog r x y).0 (among_contains (log_edges ReducedLog r) x y s) in
-        (least_lists_law r.params.cores list rise of x y).1 (q.0, subst (λ (ls : List (List (ℕ × ℕ))). Contains (slice_index_or ls (pair_place r.params.cores x.core y.core) []) (x.count, y.count)) is q.1)
+        (least_lists_law r.params.cores list rise of x y).1
+        (q.0, subst (λ (ls : List (List (ℕ × ℕ))). Contains (slice_index_or ls (pair_place r.params.cores x.core y.core) []) (x.count, y.count)) is q.1)
 
     back : (x y : Instr) → Covering list x y → Among (log_edges ReducedLog r) x y
     back x y cover =
         let q = (least_lists_law r.params.cores list rise of x y).0 cover in
         contains_among (log_edges ReducedLog r) x y
-        ((edges-are-paired ReducedLog r x y).1 (q.0, subst (λ (ls : List (List (ℕ × ℕ))). Contains (slice_index_or ls (pair_place r.params.cores x.core y.core) []) (x.count, y.count)) (sym is) q.1))
+        ((edges-are-paired ReducedLog r x y).1 (
+          q.0,
+          subst (λ (ls : List (List (ℕ × ℕ))). Contains (slice_index_or ls (pair_place r.params.cores x.core y.core) []) (x.count, y.count))
+              (sym is) q.1,
+        ))
 
 -- ---- validity
 
 rise_stands : (most last : ℕ × ℕ) (edges : List (ℕ × ℕ)) → RiseWithin most last edges → StandInTurn (EdgeStands most) follow last edges
 rise_stands most last [] rise = tt
-rise_stands most last (e ∷ edges) rise = (record { rises = record { source = rise.0; target = rise.1 }; source_most = rise.2; target_most = rise.3 }, rise_stands most e edges rise.4)
+rise_stands most last (e ∷ edges) rise =
+    (record { rises = record { source = rise.0; target = rise.1 }; source_most = rise.2; target_most = rise.3 }, rise_stands most e edges rise.4)
 
 -- what is recorded of an outcome and a reduction that fit each other is valid
-pub valid_from : (params : Params) (image : Contents) (outcome : Outcome) (list : List Access) (r : Reduced) (edges : List Edge) → Fits params → length image.bytes ≤ 4 * params.words → RunFits image params outcome → r.cores ≡ params.cores →
-    ((core : ℕ) → core < params.cores → slice_index (map (λ (k : Core). k.count) outcome.cores) core ≡ count_of r core) → IsReduction list r edges → Valid (recording_from params image outcome r.lists)
+pub valid_from : (params : Params) (image : Contents) (outcome : Outcome) (list : List Access) (r : Reduced) (edges : List Edge) → Fits params →
+    length image.bytes ≤ 4 * params.words → RunFits image params outcome → r.cores ≡ params.cores →
+    ((core : ℕ) → core < params.cores → slice_index (map (λ (k : Core). k.count) outcome.cores) core ≡ count_of r core) → IsReduction list r edges →
+    Valid (recording_from params image outcome r.lists)
 valid_from params image outcome list r edges fits room run cores counts h = record {
   params = (limits_nest params).1 fits;
   image = room;
@@ -89,9 +98,12 @@ valid_from params image outcome list r edges fits room run cores counts h = reco
       let below : place < pair_count r.cores = rw cores lt in
       let pair = (places-paired r.cores place below).0 in
       subst (λ (most : ℕ × ℕ). AreEdges most (slice_index_or r.lists place [])) (bound place pair.source pair.target)
-      (rise_stands (count_of r (source_at r.cores place), count_of r (target_at r.cores place)) (0, 0) (slice_index_or r.lists place []) (h.rising place below));
+      (rise_stands (count_of r (source_at r.cores place), count_of r (target_at r.cores place)) (0, 0) (slice_index_or r.lists place [])
+      (h.rising place below));
   each_regulated = length-replicate {A = List StrideVector} (pair_count params.cores) [];
-  regulated = λ place lt. subst (λ (vs : List StrideVector). AreVectors (bound_at totals place) vs) (sym (get_or-replicate {A = List StrideVector} (pair_count params.cores) place [] [] lt)) tt;
+  regulated = λ place lt.
+      subst (λ (vs : List StrideVector). AreVectors (bound_at totals place) vs)
+      (sym (get_or-replicate {A = List StrideVector} (pair_count params.cores) place [] [] lt)) tt;
 }
   where
     totals : List ℕ
@@ -101,11 +113,14 @@ valid_from params image outcome list r edges fits room run cores counts h = reco
     each = length-map outcome.cores (λ (k : Core). k.count) ∙ run.cores
 
     bound : (place : ℕ) → source_at r.cores place < r.cores → target_at r.cores place < r.cores →
-        ◌≡◌ {A = ℕ × ℕ} (count_of r (source_at r.cores place), count_of r (target_at r.cores place)) (bound_at (map (λ (k : Core). k.count) outcome.cores) place)
+        ◌≡◌ {A = ℕ × ℕ} (count_of r (source_at r.cores place), count_of r (target_at r.cores place))
+        (bound_at (map (λ (k : Core). k.count) outcome.cores) place)
     bound place source target =
         let long : length (map (λ (k : Core). k.count) outcome.cores) ≡ r.cores = length-map outcome.cores (λ (k : Core). k.count) ∙ run.cores ∙ sym cores in
-        let first : slice_index (map (λ (k : Core). k.count) outcome.cores) (source_at r.cores place) ≡ count_of r (source_at r.cores place) = counts (source_at r.cores place) (omega (arith, source, cores)) in
-        let second : slice_index (map (λ (k : Core). k.count) outcome.cores) (target_at r.cores place) ≡ count_of r (target_at r.cores place) = counts (target_at r.cores place) (omega (arith, target, cores)) in
+        let first : slice_index (map (λ (k : Core). k.count) outcome.cores) (source_at r.cores place) ≡ count_of r (source_at r.cores place) =
+        counts (source_at r.cores place) (omega (arith, source, cores)) in
+        let second : slice_index (map (λ (k : Core). k.count) outcome.cores) (target_at r.cores place) ≡ count_of r (target_at r.cores place) =
+        counts (target_at r.cores place) (omega (arith, target, cores)) in
         rw long (pair_is (sym first) (sym second))
       where
         pair_is : {a b c d : ℕ} → a ≡ c → b ≡ d → ◌≡◌ {A = ℕ × ℕ} (a, b) (c, d)
@@ -114,13 +129,15 @@ valid_from params image outcome list r edges fits room run cores counts h = reco
 -- ---- the end of a run
 
 -- the counts of the cores are the reduction's
-counts_are : (image : Contents) (params : Params) (schedule : Choices) (t : ℕ) (s : State Times NoCarry) (c : Noted) (rest : Choices) → RecordsAt image params schedule t s c rest → (core : ℕ) → core < params.cores →
+counts_are : (image : Contents) (params : Params) (schedule : Choices) (t : ℕ) (s : State Times NoCarry) (c : Noted) (rest : Choices) →
+    RecordsAt image params schedule t s c rest → (core : ℕ) → core < params.cores →
     slice_index (map (λ (k : Core). k.count) (map (λ (n : Node Times NoCarry). n.core) s.nodes)) core ≡ count_of c.reduction.state core
 counts_are image params schedule t s c rest h core lt =
     let few : length s.nodes ≡ params.cores = sym (length-map s.nodes plain_node) ∙ h.run.cores in
     let none : Node Times NoCarry = no_node no_carrying in
     let within : core < length s.nodes = omega (arith, lt, few) in
-    get_or-map (λ (k : Core). k.count) (map (λ (n : Node Times NoCarry). n.core) s.nodes) core none.core 0 (omega (arith, within, length-map s.nodes (λ (n : Node Times NoCarry). n.core)))
+    get_or-map (λ (k : Core). k.count) (map (λ (n : Node Times NoCarry). n.core) s.nodes) core none.core 0
+    (omega (arith, within, length-map s.nodes (λ (n : Node Times NoCarry). n.core)))
     ∙ ap (λ (k : Core). k.count) (get_or-map (λ (n : Node Times NoCarry). n.core) s.nodes core none none.core within)
     ∙ h.machine.counts core within
     ∙ sym (h.reduces.counts core (omega (arith, lt, h.cores)))
@@ -131,13 +148,16 @@ pub record Ended (image : Contents) (params : Params) (schedule : Choices) (s : 
   pub edges : List Edge
   pub reduction : IsReduction (run_accesses image params schedule) c.reduction.state edges
   pub cores : c.reduction.state.cores ≡ params.cores
-  pub counts : (core : ℕ) → core < params.cores → slice_index (map (λ (k : Core). k.count) (outcome_left s c.loads.lists).cores) core ≡ count_of c.reduction.state core
+  pub counts : (core : ℕ) → core < params.cores → slice_index (map (λ (k : Core). k.count) (outcome_left s c.loads.lists).cores) core
+      ≡ count_of c.reduction.state core
 
-pub ended : (image : Contents) (params : Params) (schedule : Choices) (t : ℕ) (s : State Times NoCarry) (c : Noted) (rest : Choices) → Fits params → all_done s ≡ true → RecordsAt image params schedule t s c rest → Ended image params schedule s c
+pub ended : (image : Contents) (params : Params) (schedule : Choices) (t : ℕ) (s : State Times NoCarry) (c : Noted) (rest : Choices) → Fits params →
+    all_done s ≡ true → RecordsAt image params schedule t s c rest → Ended image params schedule s c
 unfolding run_accesses
 ended image params schedule t s c rest fits done h =
     let last : t ≡ end_of image params (choice_at schedule) =
-    one_end image params (choice_at schedule) t (record { cores = fits.cores; limit = omega (arith, fits.limit) }) (stands_end image params schedule t (plain s) c.loads.lists rest (sym (plain_done s) ∙ done) h.run) in
+    one_end image params (choice_at schedule) t (record { cores = fits.cores; limit = omega (arith, fits.limit) })
+    (stands_end image params schedule t (plain s) c.loads.lists rest (sym (plain_done s) ∙ done) h.run) in
     record {
       outcome = outcome_is image params schedule t s c.loads.lists rest fits done h.run;
       edges = h.edges;
@@ -154,9 +174,11 @@ of_cores cores list r edges is h a stands = subst (λ (n : ℕ). a.at.core < n) 
 abbrev pub recording_left : Params → State Times NoCarry → Noted → Recording
 recording_left params s c = recording_from params s.image (outcome_left s c.loads.lists) c.reduction.state.lists
 
-module _ (image : Contents) (params : Params) (schedule : Choices) (s : State Times NoCarry) (c : Noted) (same : s.image ≡ image) (h : Ended image params schedule s c) where
+module _ (image : Contents) (params : Params) (schedule : Choices) (s : State Times NoCarry) (c : Noted) (same : s.image ≡ image)
+    (h : Ended image params schedule s c) where
   lists_are : c.reduction.state.lists ≡ least_lists params.cores (run_accesses image params schedule)
-  lists_are = reduced_lists (run_accesses image params schedule) c.reduction.state h.edges h.reduction ∙ ap (λ (n : ℕ). least_lists n (run_accesses image params schedule)) h.cores
+  lists_are = reduced_lists (run_accesses image params schedule) c.reduction.state h.edges h.reduction
+      ∙ ap (λ (n : ℕ). least_lists n (run_accesses image params schedule)) h.cores
 
   -- the recording is the one that the definition names
   pub recording_is : recording_left params s c ≡ recording_of image params schedule

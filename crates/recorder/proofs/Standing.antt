@@ -46,13 +46,16 @@ none_before : (cores core : ℕ) → count_of (unreduced cores) core ≡ 0
 none_before cores core = ap (λ (c : Clock). slice_index c core) (no_count core) ∙ none_counted core
 
 -- before the first choice
-pub records_start : (image : Contents) (params : Params) (schedule : Choices) (s : State Times NoCarry) (clerk : Noted) → Fits params → s ≡ state_start times_riding no_carrying image params.cores params.limit →
-    plain s ≡ opening_state image params → clerk.reduction.state ≡ unreduced params.cores → clerk.loads.lists ≡ replicate params.cores [] → RecordsAt image params schedule 0 s clerk schedule
+pub records_start : (image : Contents) (params : Params) (schedule : Choices) (s : State Times NoCarry) (clerk : Noted) → Fits params →
+    s ≡ state_start times_riding no_carrying image params.cores params.limit →
+    plain s ≡ opening_state image params → clerk.reduction.state ≡ unreduced params.cores → clerk.loads.lists ≡ replicate params.cores [] →
+    RecordsAt image params schedule 0 s clerk schedule
 records_start image params schedule s clerk fits is opening unmade none = record {
   run = stands_start image params schedule (plain s) clerk.loads.lists opening none;
   list = [];
   edges = [];
-  machine = subst (λ (u : State Times NoCarry). MachineStandsFor times_parts no_carrying [] u) (sym is) (machine_start times_parts no_carrying times_fresh image params.cores params.limit);
+  machine = subst (λ (u : State Times NoCarry). MachineStandsFor times_parts no_carrying [] u) (sym is)
+      (machine_start times_parts no_carrying times_fresh image params.cores params.limit);
   cores = ap (λ (r : Reduced). r.cores) unmade;
   reduces = subst (λ (r : Reduced). Reduces [] [] r []) (sym unmade) (record {
     accesses_are = refl;
@@ -65,14 +68,18 @@ records_start image params schedule s clerk fits is opening unmade none = record
 -- ---- what the clerk was told of
 
 abbrev Told : Event → NoCarry → Noted → Times → Noted → Times → Type 0
-Told e carry before r after q = Tells (λ (c : Noted) (i : Instr) (k : NoCarry) (d : Noted). ToldLocal c i d) (λ (c : Noted) (r : Times) (a : Access) (k : NoCarry) (d : Noted) (q : Times). ToldTouch c r a d q) e carry before r after q
+Told e carry before r after q =
+    Tells (λ (c : Noted) (i : Instr) (k : NoCarry) (d : Noted). ToldLocal c i d) (λ (c : Noted) (r : Times) (a : Access) (k : NoCarry) (d : Noted) (q : Times).
+    ToldTouch c r a d q) e carry before r after q
 
-pub told_lists : (e : Event) (carry : NoCarry) (before after : Noted) (r q : Times) → Told e carry before r after q → after.loads.lists ≡ lists_told before.loads.lists e
+pub told_lists : (e : Event) (carry : NoCarry) (before after : Noted) (r q : Times) → Told e carry before r after q →
+    after.loads.lists ≡ lists_told before.loads.lists e
 told_lists Nothing carry before after r q is = ap (λ (c : Noted). c.loads.lists) is
 told_lists (Retires at) carry before after r q is = is.loads
 told_lists (Accesses a) carry before after r q is = is.loads
 
-told_cores : (e : Event) (carry : NoCarry) (before after : Noted) (r q : Times) → Told e carry before r after q → after.reduction.state.cores ≡ before.reduction.state.cores
+told_cores : (e : Event) (carry : NoCarry) (before after : Noted) (r q : Times) → Told e carry before r after q → after.reduction.state.cores
+    ≡ before.reduction.state.cores
 told_cores Nothing carry before after r q is = ap (λ (c : Noted). c.reduction.state.cores) is
 told_cores (Retires at) carry before after r q is = ap (λ (s : Reduced). s.cores) is.reduction
 told_cores (Accesses a) carry before after r q is = ap (λ (s : Reduced). s.cores) is.reduction
@@ -82,26 +89,32 @@ record ReducedAfter (list : List Retirement) (all : List Access) (c : Noted) : T
   edges : List Edge
   reduces : Reduces list all c.reduction.state edges
 
-told_reduces : (e : Event) (n : Node Times NoCarry) (carry : NoCarry) (list : List Retirement) (all : List Access) (edges : List Edge) (before after : Noted) (q : Times) →
-    ((a : Access) → e ≡ Accesses a → AreExactFor all a (rider_of_event times_riding e n)) → Told e carry before (rider_of_event times_riding e n) after q → Reduces list all before.reduction.state edges →
+told_reduces : (e : Event) (n : Node Times NoCarry) (carry : NoCarry) (list : List Retirement) (all : List Access) (edges : List Edge) (before after : Noted)
+    (q : Times) →
+    ((a : Access) → e ≡ Accesses a → AreExactFor all a (rider_of_event times_riding e n)) → Told e carry before (rider_of_event times_riding e n) after q →
+    Reduces list all before.reduction.state edges →
     ReducedAfter (with_event e (clock_of after.reduction.state (core_of_event e)) list) (all ++ accesses_in e) after
 told_reduces Nothing n carry list all edges before after q finds is h = record {
   edges = edges;
-  reduces = subst (λ (c : Noted). Reduces list (all ++ []) c.reduction.state edges) (sym is) (subst (λ (l : List Access). Reduces list l before.reduction.state edges) (sym (append-nil all)) h);
+  reduces = subst (λ (c : Noted). Reduces list (all ++ []) c.reduction.state edges) (sym is)
+      (subst (λ (l : List Access). Reduces list l before.reduction.state edges) (sym (append-nil all)) h);
 }
 told_reduces (Retires at) n carry list all edges before after q finds is h =
     let clock : Clock = clock_of after.reduction.state at.core in
     let longer : List Retirement = list ++ (record { at = at; access = None; clock = clock }) ∷ [] in
     record {
       edges = edges;
-      reduces = subst (λ (r : Reduced). Reduces longer (all ++ []) r edges) (sym is.reduction) (subst (λ (l : List Access). Reduces longer l (counted before.reduction.state at) edges) (sym (append-nil all)) (reduces_local list all before.reduction.state edges at clock is.next h));
+      reduces = subst (λ (r : Reduced). Reduces longer (all ++ []) r edges) (sym is.reduction)
+          (subst (λ (l : List Access). Reduces longer l (counted before.reduction.state at) edges) (sym (append-nil all))
+          (reduces_local list all before.reduction.state edges at clock is.next h));
     }
 told_reduces (Accesses a) n carry list all edges before after q finds is h =
     let rider : Times = rider_of_event times_riding (Accesses a) n in
     let more : List Edge = edges ++ edges_of before.reduction.state a rider in
     record {
       edges = more;
-      reduces = subst (λ (r : Reduced). Reduces (list ++ (record { at = a.at; access = Some a; clock = clock_of r a.at.core }) ∷ []) (all ++ a ∷ []) r more) (sym is.reduction)
+      reduces = subst (λ (r : Reduced). Reduces (list ++ (record { at = a.at; access = Some a; clock = clock_of r a.at.core }) ∷ []) (all ++ a ∷ []) r more)
+          (sym is.reduction)
           (reduces_access list all before.reduction.state edges a rider is.next (finds a refl) h);
     }
 
@@ -113,22 +126,28 @@ pub record Turned (s s' : State Times NoCarry) (m : Move) (c d : Noted) (rest re
   pub event_is : event times_riding no_carrying s m ≡ plain_event (plain s) m
   pub carry : NoCarry
   pub left : Times
-  pub told : Told (event times_riding no_carrying s m) carry c (rider_of_event times_riding (event times_riding no_carrying s m) (retiring times_riding no_carrying s m)) d left
-  pub stands : (list : List Retirement) → MachineStandsFor times_parts no_carrying list s → MachineStandsFor times_parts no_carrying (with_step no_carrying s m (clock_of d.reduction.state) list) s'
+  pub told : Told (event times_riding no_carrying s m) carry c
+      (rider_of_event times_riding (event times_riding no_carrying s m) (retiring times_riding no_carrying s m)) d left
+  pub stands : (list : List Retirement) → MachineStandsFor times_parts no_carrying list s →
+      MachineStandsFor times_parts no_carrying (with_step no_carrying s m (clock_of d.reduction.state) list) s'
   pub finds : (list : List Retirement) → MachineStandsFor times_parts no_carrying list s → StepFinds no_carrying s m list
 
 -- the times that an access finds are exact, since the noted_accesses clocks are
 pub step_exact : (e : Event) (n : Node Times NoCarry) (list : List Retirement) (all : List Access) → times.accesses list ≡ all → HaveExactClocks all list →
-    ((a : Access) → e ≡ Accesses a → IsExactRider times_parts (noted_accesses (reverse list)) a (rider_at times_riding n a.word)) → (a : Access) → e ≡ Accesses a → AreExactFor all a (rider_of_event times_riding e n)
+    ((a : Access) → e ≡ Accesses a → IsExactRider times_parts (noted_accesses (reverse list)) a (rider_at times_riding n a.word)) → (a : Access) →
+    e ≡ Accesses a → AreExactFor all a (rider_of_event times_riding e n)
 step_exact Nothing n list all are exact finds a is = absurd cc
 step_exact (Retires at) n list all are exact finds a is = absurd cc
-step_exact (Accesses b) n list all are exact finds a is = subst (λ (x : Access). AreExactFor all x (rider_at times_riding n b.word)) same (found_exact all b (rider_at times_riding n b.word)
-    (subst (λ (l : List Access). FindsExactTimes l b (rider_at times_riding n b.word)) are (exact_times_law list b (rider_at times_riding n b.word) (subst (λ (l : List Access). HaveExactClocks l list) (sym are) exact) (finds b refl))))
+step_exact (Accesses b) n list all are exact finds a is =
+    subst (λ (x : Access). AreExactFor all x (rider_at times_riding n b.word)) same (found_exact all b (rider_at times_riding n b.word)
+    (subst (λ (l : List Access). FindsExactTimes l b (rider_at times_riding n b.word)) are
+    (exact_times_law list b (rider_at times_riding n b.word) (subst (λ (l : List Access). HaveExactClocks l list) (sym are) exact) (finds b refl))))
   where
     same : b ≡ a
     same = cc
 
-pub records_next : (image : Contents) (params : Params) (schedule : Choices) (t : ℕ) (s s' : State Times NoCarry) (m : Move) (c d : Noted) (rest rest' : Choices) → all_done (plain s) ≡ false → Turned s s' m c d rest rest' →
+pub records_next : (image : Contents) (params : Params) (schedule : Choices) (t : ℕ) (s s' : State Times NoCarry) (m : Move) (c d : Noted)
+    (rest rest' : Choices) → all_done (plain s) ≡ false → Turned s s' m c d rest rest' →
     RecordsAt image params schedule t s c rest → RecordsAt image params schedule (suc t) s' d rest'
 records_next image params schedule t s s' m c d rest rest' going turned h =
     let choices : ℕ → ℕ = choice_at schedule in
@@ -136,25 +155,31 @@ records_next image params schedule t s s' m c d rest rest' going turned h =
     let n : Node Times NoCarry = retiring times_riding no_carrying s m in
     let all : List Access = accesses image params choices t in
     let after : ReducedAfter (with_event e (clock_of d.reduction.state (core_of_event e)) h.list) (all ++ accesses_in e) d =
-    told_reduces e n turned.carry h.list all h.edges c d turned.left (step_exact e n h.list all h.reduces.accesses_are h.reduces.exact (turned.finds h.list h.machine)) turned.told h.reduces in
+    told_reduces e n turned.carry h.list all h.edges c d turned.left
+    (step_exact e n h.list all h.reduces.accesses_are h.reduces.exact (turned.finds h.list h.machine)) turned.told h.reduces in
     let here : run image params choices t ≡ plain s = sym h.run.state in
     let number : choice_at rest 0 ≡ choices t = h.run.rest_is 0 ∙ ap choices (omega arith) in
-    let taken : chosen (run image params choices t) (choices t) ≡ Some m = ap (λ (u : PlainState). chosen u (choices t)) here ∙ ap (chosen (plain s)) (sym number) ∙ turned.steps.taken in
-    let same : e ≡ event_by (run image params choices t) (chosen (run image params choices t) (choices t)) = turned.event_is ∙ ap (λ (u : PlainState). plain_event u m) (sym here) ∙ sym (ap (event_by (run image params choices t)) taken) in
+    let taken : chosen (run image params choices t) (choices t) ≡ Some m = ap (λ (u : PlainState). chosen u (choices t)) here
+    ∙ ap (chosen (plain s)) (sym number) ∙ turned.steps.taken in
+    let same : e ≡ event_by (run image params choices t) (chosen (run image params choices t) (choices t)) =
+    turned.event_is ∙ ap (λ (u : PlainState). plain_event u m) (sym here) ∙ sym (ap (event_by (run image params choices t)) taken) in
     record {
       run = stands_next image params schedule t (plain s) (plain s') c.loads.lists d.loads.lists rest rest' m going turned.steps h.run;
       list = with_step no_carrying s m (clock_of d.reduction.state) h.list;
       edges = after.edges;
       machine = turned.stands h.list h.machine;
       cores = told_cores e turned.carry c d (rider_of_event times_riding e n) turned.left turned.told ∙ h.cores;
-      reduces = subst (λ (x : Event). Reduces (with_step no_carrying s m (clock_of d.reduction.state) h.list) (all ++ accesses_in x) d.reduction.state after.edges) same after.reduces;
+      reduces = subst (λ (x : Event).
+          Reduces (with_step no_carrying s m (clock_of d.reduction.state) h.list) (all ++ accesses_in x) d.reduction.state after.edges) same after.reduces;
     }
 
 -- the same state and notes, whatever room there is
-pub records_same : (image : Contents) (params : Params) (schedule : Choices) (t : ℕ) (s u : State Times NoCarry) (c d : Noted) (rest : Choices) → u ≡ s → d.reduction.state ≡ c.reduction.state → d.loads.lists ≡ c.loads.lists →
+pub records_same : (image : Contents) (params : Params) (schedule : Choices) (t : ℕ) (s u : State Times NoCarry) (c d : Noted) (rest : Choices) → u ≡ s →
+    d.reduction.state ≡ c.reduction.state → d.loads.lists ≡ c.loads.lists →
     RecordsAt image params schedule t s c rest → RecordsAt image params schedule t u d rest
 records_same image params schedule t s u c d rest state reduction loads h = record {
-  run = subst (λ (v : State Times NoCarry). StandsAt image params schedule t (plain v) d.loads.lists rest) (sym state) (subst (λ (ls : List (List LoadNote)). StandsAt image params schedule t (plain s) ls rest) (sym loads) h.run);
+  run = subst (λ (v : State Times NoCarry). StandsAt image params schedule t (plain v) d.loads.lists rest) (sym state)
+      (subst (λ (ls : List (List LoadNote)). StandsAt image params schedule t (plain s) ls rest) (sym loads) h.run);
   list = h.list;
   edges = h.edges;
   machine = subst (λ (v : State Times NoCarry). MachineStandsFor times_parts no_carrying h.list v) (sym state) h.machine;
@@ -165,7 +190,8 @@ records_same image params schedule t s u c d rest state reduction loads h = reco
 -- ---- what the clerk awaits
 
 -- the clerk awaits the next instruction of each core
-pub all_awaited : (image : Contents) (params : Params) (schedule : Choices) (t : ℕ) (s : State Times NoCarry) (c : Noted) (rest : Choices) → Fits params → RecordsAt image params schedule t s c rest →
+pub all_awaited : (image : Contents) (params : Params) (schedule : Choices) (t : ℕ) (s : State Times NoCarry) (c : Noted) (rest : Choices) → Fits params →
+    RecordsAt image params schedule t s c rest →
     All (λ (n : Node Times NoCarry). IsAwaited c (next_instr n.core)) s.nodes
 all_awaited image params schedule t s c rest fits h =
     All-from_get_or (λ (n : Node Times NoCarry). IsAwaited c (next_instr n.core)) s.nodes (no_node no_carrying) (λ k lt.

@@ -43,7 +43,8 @@ pub fn record_run(
     ensures outcome { IfOk result (λ run. run.outcome ≡ outcome_of image params schedule) }
     ensures recording { IfOk result (λ run. run.recording ≡ recording_of image params schedule) }
     ensures valid { IfOk result (λ run. Valid run.recording) }
-    ensures least { IfOk result (λ run. IsLeast (run_accesses image params schedule) (log_edges Reduced run.recording)) }
+    ensures least { IfOk result (λ run. IsLeast (run_accesses image params schedule)
+        (log_edges Reduced run.recording)) }
 {
     let words = image.words();
     prove!(words == params.words);

@@ -56,7 +56,8 @@ among_contains (e ∷ edges) x y (inr there) = let has = among_contains edges x 
 abbrev pub between : Knowledge → Recording → (from to : ℕ) → List StrideVector
 between known r from to = greedy (knows_by known from to) (slice_index_or r.reduced (pair_place r.params.cores from to) [])
 
-pub between_is : (known : Knowledge) (r : Recording) (from to : ℕ) → IsPair r.params.cores from to → slice_index_or (regulated r.params.cores known r.reduced) (pair_place r.params.cores from to) [] ≡ between known r from to
+pub between_is : (known : Knowledge) (r : Recording) (from to : ℕ) → IsPair r.params.cores from to →
+    slice_index_or (regulated r.params.cores known r.reduced) (pair_place r.params.cores from to) [] ≡ between known r from to
 between_is known r from to pair =
     let place = pair_place r.params.cores from to in
     let placed = pairs-placed r.params.cores from to pair in
@@ -65,14 +66,17 @@ between_is known r from to pair =
     ∙ ap (λ (j : ℕ). greedy (knows_by known from j) (slice_index_or r.reduced place [])) placed.2
 
 -- an edge of the log is a position of the pair's vectors
-pub edge_between_is : (known : Knowledge) (r : Recording) (x y : Instr) → HasEdge Regulated (with_regulated known r) x y → IsPair r.params.cores x.core y.core × Contains (flat_map edges_of (between known r x.core y.core)) (x.count, y.count)
+pub edge_between_is : (known : Knowledge) (r : Recording) (x y : Instr) → HasEdge Regulated (with_regulated known r) x y → IsPair r.params.cores x.core y.core
+    × Contains (flat_map edges_of (between known r x.core y.core)) (x.count, y.count)
 edge_between_is known r x y has =
     let p = (edges-are-paired Regulated (with_regulated known r) x y).0 has in
     (p.0, subst (λ (vs : List StrideVector). Contains (flat_map edges_of vs) (x.count, y.count)) (between_is known r x.core y.core p.0) p.1)
 
-pub is_edge_between : (known : Knowledge) (r : Recording) (x y : Instr) → IsPair r.params.cores x.core y.core → Contains (flat_map edges_of (between known r x.core y.core)) (x.count, y.count) → HasEdge Regulated (with_regulated known r) x y
+pub is_edge_between : (known : Knowledge) (r : Recording) (x y : Instr) → IsPair r.params.cores x.core y.core →
+    Contains (flat_map edges_of (between known r x.core y.core)) (x.count, y.count) → HasEdge Regulated (with_regulated known r) x y
 is_edge_between known r x y pair has =
-    (edges-are-paired Regulated (with_regulated known r) x y).1 (pair, subst (λ (vs : List StrideVector). Contains (flat_map edges_of vs) (x.count, y.count)) (sym (between_is known r x.core y.core pair)) has)
+    (edges-are-paired Regulated (with_regulated known r) x y).1
+    (pair, subst (λ (vs : List StrideVector). Contains (flat_map edges_of vs) (x.count, y.count)) (sym (between_is known r x.core y.core pair)) has)
 
 -- ---- each reduced edge is before by the regulated ones
 
@@ -87,31 +91,40 @@ pub by_edge : (edges : List Edge) (x y : Instr) (a b : ℕ) → x.count ≤ a �
 by_edge edges x y a b source target among = ends (le_cases b y.count target) (begins (le_cases x.count a source))
   where
     begins : (x.count ≡ a) ⊎ (x.count < a) → Before (Among edges) x (instr y.core b)
-    begins (inl same) = one (Among edges) x (instr y.core b) (inr (subst (λ (v : Instr). Among edges v (instr y.core b)) (sym (instr_eq x (instr x.core a) refl same)) among))
-    begins (inr lt) = joined (Among edges) x (instr x.core a) (instr y.core b) (one (Among edges) x (instr x.core a) (inl (refl, lt))) (one (Among edges) (instr x.core a) (instr y.core b) (inr among))
+    begins (inl same) = one (Among edges) x (instr y.core b)
+        (inr (subst (λ (v : Instr). Among edges v (instr y.core b)) (sym (instr_eq x (instr x.core a) refl same)) among))
+    begins (inr lt) = joined (Among edges) x (instr x.core a) (instr y.core b) (one (Among edges) x (instr x.core a) (inl (refl, lt)))
+        (one (Among edges) (instr x.core a) (instr y.core b) (inr among))
 
     ends : (b ≡ y.count) ⊎ (b < y.count) → Before (Among edges) x (instr y.core b) → Before (Among edges) x y
     ends (inl same) p = subst (λ (v : Instr). Before (Among edges) x v) (instr_eq (instr y.core b) y refl same) p
     ends (inr lt) p = joined (Among edges) x (instr y.core b) y p (one (Among edges) (instr y.core b) y (inl (refl, lt)))
 
-implied_each : (known : Knowledge) (r : Recording) (x y : Instr) → Valid r → HasEdge Reduced r x y → Before (Among (log_edges Regulated (with_regulated known r))) x y
+implied_each : (known : Knowledge) (r : Recording) (x y : Instr) → Valid r → HasEdge Reduced r x y →
+    Before (Among (log_edges Regulated (with_regulated known r))) x y
 implied_each known r x y valid has =
     let p = (edges-are-paired Reduced r x y).0 has in
     let place = pair_place r.params.cores x.core y.core in
     let stand = valid.reduced place (pairs-placed r.params.cores x.core y.core p.0).0 in
     let edges = slice_index_or r.reduced place [] in
-    let by = all_contains (IsImplied (between known r x.core y.core)) edges (x.count, y.count) (greedy_implied (bound_at r.totals place) (knows_by known x.core y.core) edges stand) p.1 in
-    let among = contains_among (log_edges Regulated (with_regulated known r)) (instr x.core by.by.0) (instr y.core by.by.1) (is_edge_between known r (instr x.core by.by.0) (instr y.core by.by.1) p.0 by.has) in
+    let by = all_contains (IsImplied (between known r x.core y.core)) edges (x.count, y.count)
+    (greedy_implied (bound_at r.totals place) (knows_by known x.core y.core) edges stand) p.1 in
+    let among = contains_among (log_edges Regulated (with_regulated known r)) (instr x.core by.by.0) (instr y.core by.by.1)
+    (is_edge_between known r (instr x.core by.by.0) (instr y.core by.by.1) p.0 by.has) in
     by_edge (log_edges Regulated (with_regulated known r)) x y by.by.0 by.by.1 by.source by.target among
 
-few_each : (known : Knowledge) (r : Recording) (place : ℕ) → length (slice_index_or (regulated r.params.cores known r.reduced) place []) ≤ length (slice_index_or r.reduced place [])
+few_each : (known : Knowledge) (r : Recording) (place : ℕ) →
+    length (slice_index_or (regulated r.params.cores known r.reduced) place []) ≤ length (slice_index_or r.reduced place [])
 few_each known r place = by (cases_lt place (pair_count r.params.cores))
   where
-    by : (place < pair_count r.params.cores) ⊎ (pair_count r.params.cores ≤ place) → length (slice_index_or (regulated r.params.cores known r.reduced) place []) ≤ length (slice_index_or r.reduced place [])
-    by (inl below) = subst (λ (vs : List StrideVector). length vs ≤ length (slice_index_or r.reduced place [])) (sym (regulated_at r.params.cores known r.reduced place [] below))
+    by : (place < pair_count r.params.cores) ⊎ (pair_count r.params.cores ≤ place) →
+        length (slice_index_or (regulated r.params.cores known r.reduced) place []) ≤ length (slice_index_or r.reduced place [])
+    by (inl below) = subst (λ (vs : List StrideVector). length vs ≤ length (slice_index_or r.reduced place []))
+        (sym (regulated_at r.params.cores known r.reduced place [] below))
         (greedy_few (knows_by known (source_at r.params.cores place) (target_at r.params.cores place)) (slice_index_or r.reduced place []))
     by (inr past) =
-        let none = ap (λ (vs : List StrideVector). length vs) (get_or_past (regulated r.params.cores known r.reduced) place [] (omega (arith, length-regulated r.params.cores known r.reduced))) in
+        let none = ap (λ (vs : List StrideVector). length vs)
+        (get_or_past (regulated r.params.cores known r.reduced) place [] (omega (arith, length-regulated r.params.cores known r.reduced))) in
         omega arith
 
 pub implies_law : ImpliesLaw
@@ -119,12 +132,14 @@ implies_law known r valid = record {
   each = λ x y has. implied_each known r x y valid has;
   few = few_each known r;
   suffices = λ list suffices x y pair.
-      mapped (Among (log_edges Reduced r)) (Among (log_edges Regulated (with_regulated known r))) (λ u v among. implied_each known r u v valid (among_contains (log_edges Reduced r) u v among)) x y (suffices x y pair);
+      mapped (Among (log_edges Reduced r)) (Among (log_edges Regulated (with_regulated known r)))
+      (λ u v among. implied_each known r u v valid (among_contains (log_edges Reduced r) u v among)) x y (suffices x y pair);
 }
 
 -- ---- they can be spelled
 
-knows_within : (known : Knowledge) (r : Recording) (place : ℕ) → Valid r → place < pair_count r.params.cores → IsWithin r.totals known → KnowsWithin (bound_at r.totals place) (knows_by known (source_at r.params.cores place) (target_at r.params.cores place))
+knows_within : (known : Knowledge) (r : Recording) (place : ℕ) → Valid r → place < pair_count r.params.cores → IsWithin r.totals known →
+    KnowsWithin (bound_at r.totals place) (knows_by known (source_at r.params.cores place) (target_at r.params.cores place))
 knows_within known r place valid below within a b some most knows =
     let each = valid.each_core in
     let pair = (places-paired r.params.cores place below).0 in
@@ -134,7 +149,8 @@ knows_within known r place valid below within a b some most knows =
     let same_target : target_at (length r.totals) place ≡ target_at r.params.cores place = ap (λ (n : ℕ). target_at n place) each in
     let upto : b ≤ slice_index r.totals (target_at r.params.cores place) = subst (λ (j : ℕ). b ≤ slice_index r.totals j) same_target most in
     let has = within.each (target_at r.params.cores place) b (source_at r.params.cores place) (omega arith) (omega arith) pair.differ some upto in
-    let le : a ≤ known (target_at r.params.cores place) b (source_at r.params.cores place) = le_from a (known (target_at r.params.cores place) b (source_at r.params.cores place)) knows in
+    let le : a ≤ known (target_at r.params.cores place) b (source_at r.params.cores place) =
+    le_from a (known (target_at r.params.cores place) b (source_at r.params.cores place)) knows in
     let all : a ≤ slice_index r.totals (source_at r.params.cores place) = omega arith in
     subst (λ (i : ℕ). a ≤ slice_index r.totals i) (sym same) all
   where
@@ -152,5 +168,6 @@ valid_law known r valid within = record {
   each_regulated = length-regulated r.params.cores known r.reduced;
   regulated = λ place below.
       subst (λ (vs : List StrideVector). AreVectors (bound_at r.totals place) vs) (sym (regulated_at r.params.cores known r.reduced place [] below))
-      (greedy_stand (bound_at r.totals place) (knows_by known (source_at r.params.cores place) (target_at r.params.cores place)) (slice_index_or r.reduced place []) (knows_within known r place valid below within) (valid.reduced place below));
+      (greedy_stand (bound_at r.totals place) (knows_by known (source_at r.params.cores place) (target_at r.params.cores place))
+      (slice_index_or r.reduced place []) (knows_within known r place valid below within) (valid.reduced place below));
 }

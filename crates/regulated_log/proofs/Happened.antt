@@ -1,5 +1,6 @@
 -- What a history holds as known has retired before.
-use Rattle.std.proofs.Common.{◌≡◌, ◌≢◌, ℕ, zero, suc, ◌+◌, ◌<◌, ◌≤◌, ◌⊎◌, ◌==◌, Bool, true, false, List, [], ◌∷◌, ◌++◌, Option, Some, None, refl, sym, ap, subst, ◌∙◌, inl, inr, arith}
+use Rattle.std.proofs.Common.{◌≡◌, ◌≢◌, ℕ, zero, suc, ◌+◌, ◌<◌, ◌≤◌, ◌⊎◌, ◌==◌, Bool, true, false, List, [], ◌∷◌, ◌++◌, Option, Some, None, refl, sym, ap}
+use Rattle.std.proofs.Common.{subst, ◌∙◌, inl, inr, arith}
 use Rattle.std.specs.Prelude.{if◌then◌else◌}
 use Rattle.std.proofs.lemmas.List.{append-nil, append_assoc, same_from_push}
 use Rattle.std.proofs.lemmas.Bool.Decides.{nat_tests}
@@ -30,7 +31,8 @@ retired_same event t x is = by (event t).retires is
 -- the order has as many places of a core as its instructions retired
 counts_are : (event : ℕ → Happening) (t core : ℕ) → counts nought (retirements event t) core ≡ retired_in event t core
 counts_are event zero core = refl
-counts_are event (suc t) core = ap (λ (f : ℕ → ℕ). f core) (counts_on nought (retirements event t) (core_of (event t).retires)) ∙ by (event t).retires (counts_are event t core)
+counts_are event (suc t) core = ap (λ (f : ℕ → ℕ). f core) (counts_on nought (retirements event t) (core_of (event t).retires))
+    ∙ by (event t).retires (counts_are event t core)
   where
     split : (i j : ℕ) → (i ≡ j) ⊎ (i ≢ j)
     split i j = grind arith
@@ -44,7 +46,8 @@ counts_are event (suc t) core = ap (λ (f : ℕ → ℕ). f core) (counts_on nou
         let test : (y.core == core) ≡ false = grind (arith, nat_tests) in
         rw test (bump_else (counts nought (retirements event t)) y.core core other ∙ was)
 
-    by : (o : Option Instr) → counts nought (retirements event t) core ≡ retired_in event t core → counts (counts nought (retirements event t)) (core_of o) core ≡ (if is_of core o then retired_in event t core + 1 else retired_in event t core)
+    by : (o : Option Instr) → counts nought (retirements event t) core ≡ retired_in event t core →
+        counts (counts nought (retirements event t)) (core_of o) core ≡ (if is_of core o then retired_in event t core + 1 else retired_in event t core)
     by None was = was
     by (Some y) was = more y (split core y.core) was
 
@@ -64,7 +67,8 @@ retired_more event t (suc u) core le = by (split t (suc u) le) (retired_more eve
     split : (m n : ℕ) → m ≤ n → (m ≡ n) ⊎ (m < n)
     split m n h = grind arith
 
-    by : (t ≡ suc u) ⊎ (t < suc u) → (t ≤ u → retired_in event t core ≤ retired_in event u core) → retired_in event u core ≤ retired_in event (suc u) core → retired_in event t core ≤ retired_in event (suc u) core
+    by : (t ≡ suc u) ⊎ (t < suc u) → (t ≤ u → retired_in event t core ≤ retired_in event u core) → retired_in event u core ≤ retired_in event (suc u) core →
+        retired_in event t core ≤ retired_in event (suc u) core
     by (inl same) on step = let all = ap (λ (n : ℕ). retired_in event n core) same in omega arith
     by (inr lt) on step = let was = on (omega arith) in omega arith
 
@@ -105,11 +109,13 @@ event_of event (suc t) front core rest split = by (event t).retires refl rest sp
         record { u = t; y = y; within = omega arith; retires = is; core_is = both.1; before = sym both.0 }
     by (Some y) is (r ∷ rest) split on =
         let l = last_of r rest in
-        let regrouped : front ++ core ∷ (r ∷ rest) ≡ (front ++ core ∷ l.init) ++ l.last ∷ [] = ap (λ (xs : List ℕ). front ++ core ∷ xs) l.is ∙ sym (append_assoc front (core ∷ l.init) (l.last ∷ [])) in
+        let regrouped : front ++ core ∷ (r ∷ rest) ≡ (front ++ core ∷ l.init) ++ l.last ∷ [] =
+        ap (λ (xs : List ℕ). front ++ core ∷ xs) l.is ∙ sym (append_assoc front (core ∷ l.init) (l.last ∷ [])) in
         on l.init (same_from_push (retirements event t) (front ++ core ∷ l.init) y.core l.last (split ∙ regrouped)).0
 
 -- what is known at the instruction that retires in event u retired before
-known_before : (event : ℕ → Happening) (u : ℕ) (x y : Instr) → AreOrderly event → (event u).retires ≡ Some y → IsKnownAt event x y → x.count ≤ retired_in event u x.core
+known_before : (event : ℕ → Happening) (u : ℕ) (x y : Instr) → AreOrderly event → (event u).retires ≡ Some y → IsKnownAt event x y →
+    x.count ≤ retired_in event u x.core
 known_before event u x y orderly retires k =
     let earlier = known_earlier_law event x y k in
     let there = (orderly k.there x k.retired).count in
@@ -122,18 +128,24 @@ known_before event u x y orderly retires k =
     split : (m n : ℕ) → (m < n) ⊎ (n ≤ m)
     split m n = grind arith
 
-    by : (u < k.here) ⊎ (k.here ≤ u) → y.count ≡ retired_in event k.here y.core + 1 → y.count ≡ retired_in event u y.core + 1 → retired_in event (suc u) y.core ≡ retired_in event u y.core + 1 → x.count ≤ retired_in event k.here x.core →
+    by : (u < k.here) ⊎ (k.here ≤ u) → y.count ≡ retired_in event k.here y.core + 1 → y.count ≡ retired_in event u y.core + 1 → retired_in event (suc u) y.core
+        ≡ retired_in event u y.core + 1 → x.count ≤ retired_in event k.here x.core →
         x.count ≤ retired_in event u x.core
     by (inl lt) here now one most = let up = retired_more event (suc u) k.here y.core (omega arith) in absurd (omega arith)
     by (inr le) here now one most = let up = retired_more event k.here u x.core le in omega arith
 
 pub history_past_law : HistoryPastLaw
-history_past_law event t cores h few orderly noted knows = record { each = λ front core rest of split pair. at front core of pair (event_of event t front core rest split) (cases (known_at h core (counts nought front core + 1) of) 0) }
+history_past_law event t cores h few orderly noted knows =
+    record {
+      each = λ front core rest of split pair.
+          at front core of pair (event_of event t front core rest split) (cases (known_at h core (counts nought front core + 1) of) 0);
+    }
   where
     cases : (m n : ℕ) → (m ≡ n) ⊎ (m ≢ n)
     cases m n = grind arith
 
-    at : (front : List ℕ) (core of : ℕ) → IsPair cores of core → EventOf event t front core → (known_at h core (counts nought front core + 1) of ≡ 0) ⊎ (known_at h core (counts nought front core + 1) of ≢ 0) →
+    at : (front : List ℕ) (core of : ℕ) → IsPair cores of core → EventOf event t front core → (known_at h core (counts nought front core + 1) of ≡ 0)
+        ⊎ (known_at h core (counts nought front core + 1) of ≢ 0) →
         known_at h core (counts nought front core + 1) of ≤ counts nought front of
     at front core of pair e (inl none) = omega arith
     at front core of pair e (inr some) =

@@ -45,7 +45,8 @@ place_of (c ∷ order) f core count above most = by (λ lt. place_of order (bump
     later : PlaceOf order (bump f c) core count → PlaceOf (c ∷ order) f core count
     later p = record { front = c ∷ p.front; rest = p.rest; split = ap (λ (l : List ℕ). c ∷ l) p.split; before = p.before }
 
-    by : (bump f c core < count → PlaceOf order (bump f c) core count) → (core ≡ c) ⊎ (core ≢ c) → (f core + 1 ≡ count) ⊎ (f core + 1 ≢ count) → PlaceOf (c ∷ order) f core count
+    by : (bump f c core < count → PlaceOf order (bump f c) core count) → (core ≡ c) ⊎ (core ≢ c) → (f core + 1 ≡ count) ⊎ (f core + 1 ≢ count) →
+        PlaceOf (c ∷ order) f core count
     by on (inl same) (inl here) = record { front = []; rest = order; split = ap (λ (i : ℕ). i ∷ order) (sym same); before = here }
     by on (inl same) (inr there) = let more = bump_same f c core same in later (on (omega arith))
     by on (inr other) _ = let as_was = bump_else f c core other in later (on (omega arith))
@@ -61,7 +62,8 @@ le_from : (m n : ℕ) → nat_le m n ≡ true → m ≤ n
 le_from m n t = grind (arith, nat_tests)
 
 -- what holds of each position of a vector holds of each edge
-positions_all : (P : ℕ × ℕ → Type 0) (vectors : List StrideVector) (a b : ℕ) → AllByRecursion (EachPosition P) vectors → Contains (flat_map edges_of vectors) (a, b) → P (a, b)
+positions_all : (P : ℕ × ℕ → Type 0) (vectors : List StrideVector) (a b : ℕ) → AllByRecursion (EachPosition P) vectors →
+    Contains (flat_map edges_of vectors) (a, b) → P (a, b)
 positions_all P vectors a b each has =
     let p = position_at vectors a b has in
     let v = slice_index_or vectors p.k no_vector in
@@ -69,8 +71,11 @@ positions_all P vectors a b each has =
     subst P p.is (at p.m p.below)
 
 -- at a place of the order, each regulated source of the core's next instruction has retired
-source_retired : (known : Knowledge) (order : List ℕ) (r : Recording) (front : List ℕ) (core : ℕ) (rest : List ℕ) (from : Instr) → Valid r → IsPast r.params.cores order known → order ≡ front ++ core ∷ rest →
-    Sourced (log_edges Reduced r) (counts nought front) core (counts nought front core + 1) → HasEdge Regulated (with_regulated known r) from (record { core = core; count = counts nought front core + 1 }) → from.count ≤ counts nought front from.core
+source_retired : (known : Knowledge) (order : List ℕ) (r : Recording) (front : List ℕ) (core : ℕ) (rest : List ℕ) (from : Instr) → Valid r →
+    IsPast r.params.cores order known → order ≡ front ++ core ∷ rest →
+    Sourced (log_edges Reduced r) (counts nought front) core (counts nought front core + 1) →
+    HasEdge Regulated (with_regulated known r) from (record { core = core; count = counts nought front core + 1 }) →
+    from.count ≤ counts nought front from.core
 source_retired known order r front core rest from valid past split sourced has =
     let n = counts nought front core + 1 in
     let p = edge_between_is known r from (record { core = core; count = n }) has in
@@ -83,9 +88,12 @@ source_retired known order r front core rest from valid past split sourced has =
     let same = ap (λ (m : ℕ). known core m from.core) is in
     let retired = past.each front core rest from.core split p.0 in
     let all : a ≤ counts nought front from.core = omega arith in all) in
-    let by_edge = contains_all before edges (λ e here is. source_within (log_edges Reduced r) (counts nought front) core n sourced (record { core = from.core; count = e.0 })
-    ((edges-are-paired Reduced r (record { core = from.core; count = e.0 }) (record { core = core; count = n })).1 (p.0, subst (λ (b : ℕ). Contains edges (e.0, b)) is here))) in
-    positions_all before (between known r from.core core) from.count n (greedy_positions before (bound_at r.totals place) (knows_by known from.core core) edges by_known stand by_edge) p.1 refl
+    let by_edge = contains_all before edges
+    (λ e here is. source_within (log_edges Reduced r) (counts nought front) core n sourced (record { core = from.core; count = e.0 })
+    ((edges-are-paired Reduced r (record { core = from.core; count = e.0 }) (record { core = core; count = n })).1
+    (p.0, subst (λ (b : ℕ). Contains edges (e.0, b)) is here))) in
+    positions_all before (between known r from.core core) from.count n
+    (greedy_positions before (bound_at r.totals place) (knows_by known from.core core) edges by_known stand by_edge) p.1 refl
 
 pub order_law : OrderLaw
 order_law known order r valid past ordered = (places_law (plan_of Regulated (with_regulated known r)) order).1 (λ front core rest split.
@@ -93,7 +101,8 @@ order_law known order r valid past ordered = (places_law (plan_of Regulated (wit
     record {
       inside = ready.inside;
       below = ready.below;
-      sourced = within_sourced (log_edges Regulated (with_regulated known r)) (counts nought front) core (counts nought front core + 1) (λ from has. source_retired known order r front core rest from valid past split ready.sourced has);
+      sourced = within_sourced (log_edges Regulated (with_regulated known r)) (counts nought front) core (counts nought front core + 1)
+          (λ from has. source_retired known order r front core rest from valid past split ready.sourced has);
     })
 
 -- ---- whole orders
@@ -108,7 +117,8 @@ within_law known order r valid past whole = record {
       let retired = past.each p.front core p.rest of p.split pair in
       let same = ap (λ (n : ℕ). known core n of) p.before in
       let more = counts_more (counts nought p.front) (core ∷ p.rest) of in
-      let on : counts nought order of ≡ counts (counts nought p.front) (core ∷ p.rest) of = ap (λ (l : List ℕ). counts nought l of) p.split ∙ ap (λ (f : ℕ → ℕ). f of) (counts_on nought p.front (core ∷ p.rest)) in
+      let on : counts nought order of ≡ counts (counts nought p.front) (core ∷ p.rest) of =
+      ap (λ (l : List ℕ). counts nought l of) p.split ∙ ap (λ (f : ℕ → ℕ). f of) (counts_on nought p.front (core ∷ p.rest)) in
       let total = whole.each of of_in in
       let le : known core count of ≤ slice_index r.totals of = omega arith in
       le;
@@ -126,7 +136,13 @@ forward_law known order r x y valid past ordered whole has =
     let p = place_of order nought y.core y.count (omega arith) (omega arith) in
     let ready = (places_law (plan_of Reduced r) order).0 ordered p.front y.core p.rest p.split in
     let there = subst (λ (n : ℕ). HasEdge Regulated (with_regulated known r) x (record { core = y.core; count = n })) (sym p.before) has in
-    record { front = p.front; rest = p.rest; place = p.split; target = p.before; source = source_retired known order r p.front y.core p.rest x valid past p.split ready.sourced there }
+    record {
+      front = p.front;
+      rest = p.rest;
+      place = p.split;
+      target = p.before;
+      source = source_retired known order r p.front y.core p.rest x valid past p.split ready.sourced there;
+    }
 
 pub regulated_law : RegulatedLaw
 regulated_law known order r valid past ordered whole = record {
@@ -140,7 +156,8 @@ regulated_law known order r valid past ordered whole = record {
 -- ---- what is past
 
 -- a core's place with a count is one
-one_place : (order : List ℕ) (f : ℕ → ℕ) (core : ℕ) (front rest other more : List ℕ) → order ≡ front ++ core ∷ rest → order ≡ other ++ core ∷ more → counts f front core ≡ counts f other core → front ≡ other
+one_place : (order : List ℕ) (f : ℕ → ℕ) (core : ℕ) (front rest other more : List ℕ) → order ≡ front ++ core ∷ rest → order ≡ other ++ core ∷ more →
+    counts f front core ≡ counts f other core → front ≡ other
 one_place order f core [] rest [] more p q same = refl
 one_place order f core [] rest (c ∷ other) more p q same =
     let heads : core ∷ rest ≡ c ∷ (other ++ core ∷ more) = sym p ∙ q in
@@ -165,16 +182,22 @@ pub past_law : PastLaw
 past_law pairs order known = (forth, back)
   where
     forth : KnownRetired pairs order known → IsPast pairs order known
-    forth retired = record { each = λ front core rest of split other. at front core rest of split other (cases (known core (counts nought front core + 1) of) 0) }
+    forth retired = record {
+      each = λ front core rest of split other.
+          at front core rest of split other (cases (known core (counts nought front core + 1) of) 0);
+    }
       where
         at : (front : List ℕ) (core : ℕ) (rest : List ℕ) (of : ℕ) → order ≡ front ++ core ∷ rest → IsPair pairs of core →
-            (known core (counts nought front core + 1) of ≡ 0) ⊎ (known core (counts nought front core + 1) of ≢ 0) → known core (counts nought front core + 1) of ≤ counts nought front of
+            (known core (counts nought front core + 1) of ≡ 0) ⊎ (known core (counts nought front core + 1) of ≢ 0) →
+            known core (counts nought front core + 1) of ≤ counts nought front of
         at front core rest of split other (inl none) = omega arith
         at front core rest of split other (inr some) =
-            let on : counts nought order core ≡ counts (counts nought front) (core ∷ rest) core = ap (λ (l : List ℕ). counts nought l core) split ∙ ap (λ (f : ℕ → ℕ). f core) (counts_on nought front (core ∷ rest)) in
+            let on : counts nought order core ≡ counts (counts nought front) (core ∷ rest) core = ap (λ (l : List ℕ). counts nought l core) split
+            ∙ ap (λ (f : ℕ → ℕ). f core) (counts_on nought front (core ∷ rest)) in
             let one = bump_same (counts nought front) core core refl in
             let up = counts_more (bump (counts nought front) core) rest core in
-            let b = retired core (counts nought front core + 1) of (known core (counts nought front core + 1) of) other (omega arith) (omega arith) (omega arith) (omega arith) in
+            let b = retired core (counts nought front core + 1) of (known core (counts nought front core + 1) of) other (omega arith) (omega arith)
+            (omega arith) (omega arith) in
             let target = b.target in
             let same = one_place order nought core b.front b.rest front rest b.place split (omega arith) in
             subst (λ (l : List ℕ). known core (counts nought front core + 1) of ≤ counts nought l of) same b.source

@@ -34,15 +34,18 @@ accesses_of_image : (p : Plan) (s : Outcome) (order : List ℕ) → accesses_fro
 accesses_of_image p s [] = refl
 accesses_of_image p s (c ∷ cs) =
     ap (λ (l : List Access). l ++ accesses_from p (place p s c) cs) (touched_of_image p s c)
-    ∙ ap (λ (l : List Access). touched (of p.image) s c ++ l) (accesses_of_image p (place p s c) cs ∙ ap (λ (t : Outcome). accesses_from (of p.image) t cs) (place_of_image p s c))
+    ∙ ap (λ (l : List Access). touched (of p.image) s c ++ l) (accesses_of_image p (place p s c) cs
+    ∙ ap (λ (t : Outcome). accesses_from (of p.image) t cs) (place_of_image p s c))
 
 plays_by_image : (p : Plan) (s : Outcome) (order : List ℕ) → Plays p s order → Plays (of p.image) s order
 plays_by_image p s [] plays = tt
-plays_by_image p s (c ∷ cs) plays = (plays.0, subst (λ (t : Outcome). Plays (of p.image) t cs) (place_of_image p s c) (plays_by_image p (place p s c) cs plays.1))
+plays_by_image p s (c ∷ cs) plays =
+    (plays.0, subst (λ (t : Outcome). Plays (of p.image) t cs) (place_of_image p s c) (plays_by_image p (place p s c) cs plays.1))
 
 image_plays_by : (p : Plan) (s : Outcome) (order : List ℕ) → Plays (of p.image) s order → Plays p s order
 image_plays_by p s [] plays = tt
-image_plays_by p s (c ∷ cs) plays = (plays.0, image_plays_by p (place p s c) cs (subst (λ (t : Outcome). Plays (of p.image) t cs) (sym (place_of_image p s c)) plays.1))
+image_plays_by p s (c ∷ cs) plays =
+    (plays.0, image_plays_by p (place p s c) cs (subst (λ (t : Outcome). Plays (of p.image) t cs) (sym (place_of_image p s c)) plays.1))
 
 pub decides_law : DecidesLaw
 decides_law known r order valid past decides = record {
@@ -50,7 +53,8 @@ decides_law known r order valid past decides = record {
     ordered = order_law known order r valid past decides.ordered;
     whole = record { each = decides.whole.each };
     plays = image_plays_by after (start after) order (plays_by_image before (start before) order decides.plays);
-    suffices = subst (λ (l : List Access). Suffices l (Among (log_edges Regulated (with_regulated known r)))) (sym same) ((implies_law known r valid).suffices (accesses_of before order) decides.suffices);
+    suffices = subst (λ (l : List Access). Suffices l (Among (log_edges Regulated (with_regulated known r)))) (sym same)
+        ((implies_law known r valid).suffices (accesses_of before order) decides.suffices);
   };
   played = play_of_image after (start after) order ∙ sym (play_of_image before (start before) order);
   accesses_from = same;
@@ -63,4 +67,5 @@ decides_law known r order valid past decides = record {
     after = plan_of Regulated (with_regulated known r)
 
     same : accesses_of (plan_of Regulated (with_regulated known r)) order ≡ accesses_of (plan_of Reduced r) order
-    same = accesses_of_image (plan_of Regulated (with_regulated known r)) (start (plan_of Regulated (with_regulated known r))) order ∙ sym (accesses_of_image (plan_of Reduced r) (start (plan_of Reduced r)) order)
+    same = accesses_of_image (plan_of Regulated (with_regulated known r)) (start (plan_of Regulated (with_regulated known r))) order
+        ∙ sym (accesses_of_image (plan_of Reduced r) (start (plan_of Reduced r)) order)

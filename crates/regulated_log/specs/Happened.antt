@@ -1,4 +1,5 @@
--- The order in which instructions retire while things happen, and that what a history holds as known has retired before.
+-- The order in which instructions retire while things happen, and that what a history holds as known has retired
+-- before.
 use Rattle.std.specs.Prelude.{◌≡◌, ℕ, zero, suc, ◌<◌, ◌≤◌, List, [], ◌∷◌, ◌++◌, Option, Some, None}
 use Rattle.rtr_types.specs.declared.TheConstants.{CORES_MAX}
 use Rattle.rtr_types.specs.declared.instr.Instr.{Instr}
@@ -19,5 +20,6 @@ retirements event (suc t) = retirements event t ++ core_of (event t).retires
 
 -- What a history holds as known, of all retirements in the first t events, has retired before.
 abbrev pub HistoryPastLaw : Type 0
-HistoryPastLaw = (event : ℕ → Happening) (t cores : ℕ) (h : Notes) → cores ≤ CORES_MAX → AreOrderly event → ((core : ℕ) → core < cores → noted_count h core ≡ retired_in event t core) → HistoryKnows event h →
+HistoryPastLaw = (event : ℕ → Happening) (t cores : ℕ) (h : Notes) → cores ≤ CORES_MAX → AreOrderly event →
+    ((core : ℕ) → core < cores → noted_count h core ≡ retired_in event t core) → HistoryKnows event h →
     IsPast cores (retirements event t) (known_at h)

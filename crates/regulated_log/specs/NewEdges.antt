@@ -15,5 +15,7 @@ pub record CanBeTold (notes : Notes) (r : Reduced) (a : Access) (t : Times) (s :
   pub lists : (retired r a t).lists ≡ with_edges s.cores r.lists (edges_of r a t)
 
 abbrev pub NewEdgesLaw : Type 0
-NewEdgesLaw = (notes : Notes) (list : List Access) (r : Reduced) (edges : List Edge) (a : Access) (t : Times) (s : Regulation) →
-    IsNext r a.at → AreExactFor list a t → IsReduction list r edges → s.cores ≡ r.cores → IsRegulation notes r.lists s → a.at.count ≤ noted_count notes a.at.core → CanBeTold notes r a t s
+NewEdgesLaw = (notes : Notes) (list : List Access) (r : Reduced) (edges : List Edge) (a : Access) (t : Times)
+    (s : Regulation) →
+    IsNext r a.at → AreExactFor list a t → IsReduction list r edges → s.cores ≡ r.cores →
+    IsRegulation notes r.lists s → a.at.count ≤ noted_count notes a.at.core → CanBeTold notes r a t s

@@ -169,7 +169,8 @@ Absent c (d ∷ ds) = (c ≢ d) × Absent c ds
 
 -- a core that is ready goes to the front
 pub to_front : (p : Plan) (xs : List ℕ) (s : Outcome) (f : ℕ → ℕ) (c : ℕ) (ys : List ℕ) → Tame p s f → Ready p f c → Absent c xs →
-    Ordered p f (xs ++ c ∷ ys) → Plays p s (xs ++ c ∷ ys) → Suffices (accesses_from p s (xs ++ c ∷ ys)) (Among p.edges) → Same p s f (xs ++ c ∷ ys) (c ∷ (xs ++ ys))
+    Ordered p f (xs ++ c ∷ ys) → Plays p s (xs ++ c ∷ ys) → Suffices (accesses_from p s (xs ++ c ∷ ys)) (Among p.edges) →
+    Same p s f (xs ++ c ∷ ys) (c ∷ (xs ++ ys))
 to_front p [] s f c ys t rc ab o h suf = same_itself p s f (c ∷ ys) o h
 to_front p (d ∷ xs) s f c ys t rc ab o h suf =
     let inner : Suffices (accesses_from p (place p s d) (xs ++ c ∷ ys)) (Among p.edges) = λ x y q. suf x y

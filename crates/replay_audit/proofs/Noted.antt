@@ -93,7 +93,8 @@ pub notes_tell : (p : Plan) (s : Outcome) (order : List ℕ) (i : ℕ) (n : Load
 notes_tell p s [] i n h = inl h
 notes_tell p s (c ∷ cs) i n h = by (notes_tell p (place p s c) cs i n h)
   where
-    first : Contains (loads_at s i) n ⊎ TellsOf (touched p s c) i n → Contains (loads_at s i) n ⊎ TellsOf (touched p s c ++ accesses_from p (place p s c) cs) i n
+    first : Contains (loads_at s i) n ⊎ TellsOf (touched p s c) i n → Contains (loads_at s i) n
+        ⊎ TellsOf (touched p s c ++ accesses_from p (place p s c) cs) i n
     first (inl q) = inl q
     first (inr t) = inr (record {
       access = t.access;

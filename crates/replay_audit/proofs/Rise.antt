@@ -50,7 +50,8 @@ pub touched_is : (p : Plan) (s : Outcome) (c : ℕ) → touched p s c ≡ access
 unfolding touched
 touched_is p s c = refl
 
-pub rises : (p : Plan) (f : ℕ → ℕ) (s : Outcome) (order : List ℕ) → PlayKnown p f s → Ordered p f order → RiseAbove (length p.totals) f (accesses_from p s order)
+pub rises : (p : Plan) (f : ℕ → ℕ) (s : Outcome) (order : List ℕ) → PlayKnown p f s → Ordered p f order →
+    RiseAbove (length p.totals) f (accesses_from p s order)
 rises p f s [] known ordered = record { inside = λ b s. absurd s; rise = tt; above = λ b s. absurd s }
 rises p f s (c ∷ cs) known ordered =
     let rest = rises p (bump f c) (place p s c) cs (place_known p f s c known ordered.0) ordered.1 in

@@ -32,7 +32,8 @@ no_way_back p [] s f x y t o q b = q
 no_way_back p (c ∷ cs) s f x y t o q b = by (pairs_which (touched p s c) (accesses_from p (place p s c) cs) x y q)
     (no_way_back p cs (place p s c) (bump f c) x y (tame_place p s f c t o.0) o.1)
   where
-    by : Apart (touched p s c) (accesses_from p (place p s c) cs) x y → (ConflictPair (accesses_from p (place p s c) cs) x y → Before (Among p.edges) y x → ⊥) → ⊥
+    by : Apart (touched p s c) (accesses_from p (place p s c) cs) x y →
+        (ConflictPair (accesses_from p (place p s c) cs) x y → Before (Among p.edges) y x → ⊥) → ⊥
     by (both_left h) go = no-pair (use_at p s c) (instr c ((core_at s c).count + 1)) x y (old_at p s c) (new_at p s c)
         (subst (λ (l : List Access). ConflictPair l x y) (touched_is p s c) h)
     by (both_right h) go = go h b

@@ -18,7 +18,8 @@ pub front_ordered : (p : Plan) (f : ℕ → ℕ) (xs : List ℕ) → LowFront p 
 front_ordered p f [] h = tt
 front_ordered p f (c ∷ cs) h = (h.0, front_ordered p (bump f c) cs h.2)
 
-pub front_more : (p : Plan) (f : ℕ → ℕ) (xs : List ℕ) (c : ℕ) → LowFront p f xs → Ready p (counts f xs) c → ((d : ℕ) → d < c → Ready p (counts f xs) d → ⊥) → LowFront p f (xs ++ c ∷ [])
+pub front_more : (p : Plan) (f : ℕ → ℕ) (xs : List ℕ) (c : ℕ) → LowFront p f xs → Ready p (counts f xs) c → ((d : ℕ) → d < c → Ready p (counts f xs) d → ⊥) →
+    LowFront p f (xs ++ c ∷ [])
 front_more p f [] c h ready no_lower = (ready, no_lower, tt)
 front_more p f (x ∷ xs) c h ready no_lower = (h.0, h.1, front_more p (bump f x) xs c h.2 ready no_lower)
 
@@ -83,9 +84,11 @@ pub none_chosen : (p : Plan) (order : List ℕ) (s : Outcome) → Going p order 
 none_chosen p order s going is =
     let known = subst (λ (o : Option ℕ). IsLowest p (counts_in s) 0 (length p.totals) o) is (lowest_is p (counts_in s) 0 (length p.totals)) in
     let same = tally p order s going in
-    low_end p order going.low (λ c ready. known c (omega arith) (let inside = ready.inside in omega arith) (subst (λ (f : ℕ → ℕ). Ready p f c) (sym same) ready))
+    low_end p order going.low
+    (λ c ready. known c (omega arith) (let inside = ready.inside in omega arith) (subst (λ (f : ℕ → ℕ). Ready p f c) (sym same) ready))
 
-pub going_on : (p : Plan) (order : List ℕ) (s t : Outcome) (c : ℕ) → Going p order s → Chosen p order s c → is_done (need_at p s c) ≡ false → t ≡ place p s c → Going p (order ++ c ∷ []) t
+pub going_on : (p : Plan) (order : List ℕ) (s t : Outcome) (c : ℕ) → Going p order s → Chosen p order s c → is_done (need_at p s c) ≡ false → t ≡ place p s c →
+    Going p (order ++ c ∷ []) t
 going_on p order s t c going choice goes is =
     let here : is_done (need_at p (played p order) c) ≡ false = subst (λ (o : Outcome). is_done (need_at p o c) ≡ false) going.state goes in
     record {
@@ -95,7 +98,8 @@ going_on p order s t c going choice goes is =
     }
 
 -- the run ends: each place leaves fewer
-pub less_left : (p : Plan) (order : List ℕ) (s t : Outcome) (c : ℕ) → Going p order s → Chosen p order s c → t ≡ place p s c → left p.totals (counts_in t) 0 < left p.totals (counts_in s) 0
+pub less_left : (p : Plan) (order : List ℕ) (s t : Outcome) (c : ℕ) → Going p order s → Chosen p order s c → t ≡ place p s c →
+    left p.totals (counts_in t) 0 < left p.totals (counts_in s) 0
 less_left p order s t c going choice is =
     let known = play_law p order (front_ordered p nought order going.low) in
     let after = (place_known p (counts nought order) (played p order) c known choice.next).counts in
@@ -107,13 +111,15 @@ less_left p order s t c going choice is =
 
 -- ---- what the run answers
 
-pub falls_short : (p : Plan) (order : List ℕ) (s : Outcome) (c : ℕ) → Going p order s → Chosen p order s c → is_done (need_at p s c) ≡ true → first_short p (start p) (low_order p) ≡ Some (c, counts_in s c)
+pub falls_short : (p : Plan) (order : List ℕ) (s : Outcome) (c : ℕ) → Going p order s → Chosen p order s c → is_done (need_at p s c) ≡ true →
+    first_short p (start p) (low_order p) ≡ Some (c, counts_in s c)
 falls_short p order s c going choice done =
     let front = low_front p (order ++ c ∷ []) (front_more p nought order c going.low choice.next choice.no_lower) in
     let split : low_order p ≡ order ++ c ∷ front.0 = front.1 ∙ append_assoc order (c ∷ []) front.0 in
     let here : is_done (need_at p (played p order) c) ≡ true = subst (λ (o : Outcome). is_done (need_at p o c) ≡ true) going.state done in
     let first : first_short p (played p order) (c ∷ front.0) ≡ Some (c, counts_in (played p order) c) = rw here refl in
-    ap (λ (l : List ℕ). first_short p (start p) l) split ∙ short_on p (start p) order (c ∷ front.0) going.plays ∙ first ∙ ap (λ (o : Outcome). Some (c, counts_in o c)) (sym going.state)
+    ap (λ (l : List ℕ). first_short p (start p) l) split ∙ short_on p (start p) order (c ∷ front.0) going.plays ∙ first
+    ∙ ap (λ (o : Outcome). Some (c, counts_in o c)) (sym going.state)
 
 plays-low : (p : Plan) (order : List ℕ) (s : Outcome) → Going p order s → low_order p ≡ order → first_short p (start p) (low_order p) ≡ None
 plays-low p order s going is = (short_law p (start p) (low_order p)).0 (subst (λ (l : List ℕ). Plays p (start p) l) (sym is) going.plays)
@@ -125,7 +131,8 @@ replays p order s outcome going is full same = record {
   outcome_is = same ∙ going.state ∙ ap (λ (l : List ℕ). played p l) (sym is);
 }
 
-pub ends_at : (p : Plan) (order : List ℕ) (s : Outcome) (cut : Cut) → Going p order s → low_order p ≡ order → (Full p (counts_in s) → ⊥) → cut ≡ cut_of p (counts_in s) → EndsAt p cut
+pub ends_at : (p : Plan) (order : List ℕ) (s : Outcome) (cut : Cut) → Going p order s → low_order p ≡ order → (Full p (counts_in s) → ⊥) →
+    cut ≡ cut_of p (counts_in s) → EndsAt p cut
 ends_at p order s cut going is not_full same = record {
   plays = plays-low p order s going is;
   not_whole = λ whole. not_full (subst (Full p) (sym (tally p order s going)) (subst (λ (l : List ℕ). Full p (counts nought l)) is whole));

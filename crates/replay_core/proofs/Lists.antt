@@ -74,9 +74,11 @@ one_more p order c h = (λ more. (ordered-front p nought order (c ∷ []) more).
 each-ready : (p : Plan) (f : ℕ → ℕ) (order front : List ℕ) (c : ℕ) (rest : List ℕ) → Ordered p f order → order ≡ front ++ c ∷ rest → Ready p (counts f front) c
 each-ready p f order front c rest h split = (ordered-front p f front (c ∷ rest) (subst (λ (l : List ℕ). Ordered p f l) split h)).1.0
 
-ready-each : (p : Plan) (f : ℕ → ℕ) (order : List ℕ) → ((front : List ℕ) (c : ℕ) (rest : List ℕ) → order ≡ front ++ c ∷ rest → Ready p (counts f front) c) → Ordered p f order
+ready-each : (p : Plan) (f : ℕ → ℕ) (order : List ℕ) → ((front : List ℕ) (c : ℕ) (rest : List ℕ) → order ≡ front ++ c ∷ rest → Ready p (counts f front) c) →
+    Ordered p f order
 ready-each p f [] each = tt
-ready-each p f (c ∷ cs) each = (each [] c cs refl, ready-each p (bump f c) cs (λ front d rest split. each (c ∷ front) d rest (ap (λ (l : List ℕ). c ∷ l) split)))
+ready-each p f (c ∷ cs) each =
+    (each [] c cs refl, ready-each p (bump f c) cs (λ front d rest split. each (c ∷ front) d rest (ap (λ (l : List ℕ). c ∷ l) split)))
 
 pub places_law : PlacesLaw
 places_law p order = (λ h front c rest split. each-ready p nought order front c rest h split, ready-each p nought order)

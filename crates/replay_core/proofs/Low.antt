@@ -23,10 +23,15 @@ lowest_is p f c zero = λ d from to h. absurd (omega arith)
 lowest_is p f c (suc n) = by (cases_Bool (is_ready p f c)) (lowest_is p f (c + 1) n)
   where
     over : (o : Option ℕ) → is_ready p f c ≡ false → IsLowest p f (c + 1) n o → IsLowest p f c (suc n) o
-    over None t h = λ d from to s. elim (ℕ_discrete c d) [ yes e ↦ not_ready p f c t (subst (λ (x : ℕ). Ready p f x) (sym e) s) | no ne ↦ h d (omega arith) (omega arith) s ]
-    over (Some e) t h = (h.0, λ d from to s. elim (ℕ_discrete c d) [ yes z ↦ not_ready p f c t (subst (λ (x : ℕ). Ready p f x) (sym z) s) | no ne ↦ h.1 d (omega arith) to s ])
+    over None t h = λ d from to s.
+        elim (ℕ_discrete c d) [ yes e ↦ not_ready p f c t (subst (λ (x : ℕ). Ready p f x) (sym e) s) | no ne ↦ h d (omega arith) (omega arith) s ]
+    over (Some e) t h = (
+      h.0,
+      λ d from to s. elim (ℕ_discrete c d) [ yes z ↦ not_ready p f c t (subst (λ (x : ℕ). Ready p f x) (sym z) s) | no ne ↦ h.1 d (omega arith) to s ],
+    )
 
-    by : (is_ready p f c ≡ true) ⊎ (is_ready p f c ≡ false) → IsLowest p f (c + 1) n (lowest p f (c + 1) n) → IsLowest p f c (suc n) (cond (is_ready p f c) (Some c) (lowest p f (c + 1) n))
+    by : (is_ready p f c ≡ true) ⊎ (is_ready p f c ≡ false) → IsLowest p f (c + 1) n (lowest p f (c + 1) n) →
+        IsLowest p f c (suc n) (cond (is_ready p f c) (Some c) (lowest p f (c + 1) n))
     by (inl t) h = rw t (ready_true p f c t, λ d from to s. absurd (omega arith))
     by (inr t) h = rw t (over (lowest p f (c + 1) n) t h)
 

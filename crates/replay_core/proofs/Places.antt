@@ -1,5 +1,6 @@
 -- What is known after a place, and after the places of a replay order.
-use Rattle.std.proofs.Common.{inl, inr, ◌≡◌, ℕ, subst, ◌+◌, ◌<◌, ◌≤◌, Bool, true, false, cond, List, [], ◌∷◌, length, sym, refl, ap, ◌∙◌, arith, length-set, get_or-set_same, get_or-set_other}
+use Rattle.std.proofs.Common.{inl, inr, ◌≡◌, ℕ, subst, ◌+◌, ◌<◌, ◌≤◌, Bool, true, false, cond, List, [], ◌∷◌, length, sym, refl, ap, ◌∙◌, arith, length-set}
+use Rattle.std.proofs.Common.{get_or-set_same, get_or-set_other}
 use Rattle.std.specs.Prelude.{slice_index, slice_index_or, slice_set, replicate, Some, None}
 use Rattle.std.proofs.Math.Path.{fun_ext}
 use Rattle.std.proofs.lemmas.Bool.{cases_lt}
@@ -84,7 +85,8 @@ start_known p = record {
 -- ---- a place more
 
 -- what a step keeps of a core holds of all cores after a place
-kept-core : (p : Plan) (s : Outcome) (c i : ℕ) (of : Core → ℕ) → ((k : Core) (old : ℕ) → of (after p.image k old) ≡ of k) → c < length s.cores → of (core_at (place p s c) i) ≡ of (core_at s i)
+kept-core : (p : Plan) (s : Outcome) (c i : ℕ) (of : Core → ℕ) → ((k : Core) (old : ℕ) → of (after p.image k old) ≡ of k) → c < length s.cores →
+    of (core_at (place p s c) i) ≡ of (core_at s i)
 kept-core p s c i of keeps below = elim (ℕ_discrete i c) [
   | yes e ↦
       let here : of (core_at (place p s c) c) ≡ of (core_at s c) = ap of ((place_law p s c).core below) ∙ keeps (core_at s c) (old_at p s c) in
@@ -95,7 +97,8 @@ kept-core p s c i of keeps below = elim (ℕ_discrete i c) [
 bumped : (p : Plan) (f : ℕ → ℕ) (s : Outcome) (c : ℕ) → counts_in s ≡ f → c < length s.cores → (i : ℕ) → counts_in (place p s c) i ≡ bump f c i
 bumped p f s c is below i = elim (ℕ_discrete i c) [
   | yes e ↦
-      let here : counts_in (place p s c) c ≡ counts_in s c + 1 = ap (λ (k : Core). k.count) ((place_law p s c).core below) ∙ count_law p.image (core_at s c) (old_at p s c) in
+      let here : counts_in (place p s c) c ≡ counts_in s c + 1 = ap (λ (k : Core). k.count) ((place_law p s c).core below)
+      ∙ count_law p.image (core_at s c) (old_at p s c) in
       let there = subst (λ (x : ℕ). counts_in (place p s c) x ≡ counts_in s x + 1) (sym e) here in
       let more = bump_same f c i e in
       let same = ap (λ (g : ℕ → ℕ). g i) is in

@@ -17,7 +17,8 @@ or_left true true u e f g = e
 or_left true false u e f g = absurd (cc)
 or_left false q u e f g = absurd (cc)
 
-met_true : (e : Edge) (f : ℕ → ℕ) (c n : ℕ) → (not (nat_eq e.to.core c && nat_eq e.to.count n) || nat_le e.from.count (f e.from.core)) ≡ true → e.to.core ≡ c → e.to.count ≡ n → e.from.count ≤ f e.from.core
+met_true : (e : Edge) (f : ℕ → ℕ) (c n : ℕ) → (not (nat_eq e.to.core c && nat_eq e.to.count n) || nat_le e.from.count (f e.from.core)) ≡ true → e.to.core ≡ c →
+    e.to.count ≡ n → e.from.count ≤ f e.from.core
 met_true e f c n t p q =
     let a : nat_eq e.to.core c ≡ true = grind (arith, nat_tests) in
     let b : nat_eq e.to.count n ≡ true = grind (arith, nat_tests) in
@@ -40,7 +41,8 @@ sourced_is [] f c n s = refl
 sourced_is (e ∷ es) f c n s =
     both_true
     (met_is (nat_eq e.to.core c) (nat_eq e.to.count n) (nat_le e.from.count (f e.from.core))
-    (λ p q. let a : e.to.core ≡ c = grind (arith, nat_tests) in let b : e.to.count ≡ n = grind (arith, nat_tests) in let d = s.0 a b in grind (arith, nat_tests)))
+    (λ p q. let a : e.to.core ≡ c = grind (arith, nat_tests) in let b : e.to.count ≡ n = grind (arith, nat_tests) in let d = s.0 a b in
+    grind (arith, nat_tests)))
     (sourced_is es f c n s.1)
 
 pub ready_true : (p : Plan) (f : ℕ → ℕ) (c : ℕ) → is_ready p f c ≡ true → Ready p f c
@@ -71,17 +73,21 @@ head x xs = (0, omega arith, refl)
 behind : {X : Type 0} (x : X) (xs : List X) (y : X) → Contains xs y → Contains (x ∷ xs) y
 behind x xs y (k, below, is) = (suc k, omega arith, is)
 
-pub source_within : (edges : List Edge) (f : ℕ → ℕ) (c n : ℕ) → Sourced edges f c n → (from : Instr) → Contains edges (record { from = from; to = instr c n }) → from.count ≤ f from.core
+pub source_within : (edges : List Edge) (f : ℕ → ℕ) (c n : ℕ) → Sourced edges f c n → (from : Instr) →
+    Contains edges (record { from = from; to = instr c n }) → from.count ≤ f from.core
 source_within [] f c n s from (k, below, is) = absurd (omega arith)
 source_within (e ∷ edges) f c n s from (zero, below, is) =
     let le = s.0 (ap (λ (x : Edge). x.to.core) is) (ap (λ (x : Edge). x.to.count) is) in
     subst (λ (x : Instr). x.count ≤ f x.core) (ap (λ (x : Edge). x.from) is) le
 source_within (e ∷ edges) f c n s from (suc k, below, is) = source_within edges f c n s.1 from (k, omega arith, is)
 
-pub within_sourced : (edges : List Edge) (f : ℕ → ℕ) (c n : ℕ) → ((from : Instr) → Contains edges (record { from = from; to = instr c n }) → from.count ≤ f from.core) → Sourced edges f c n
+pub within_sourced : (edges : List Edge) (f : ℕ → ℕ) (c n : ℕ) →
+    ((from : Instr) → Contains edges (record { from = from; to = instr c n }) → from.count ≤ f from.core) → Sourced edges f c n
 within_sourced [] f c n each = tt
-within_sourced (e ∷ edges) f c n each =
-    (λ core count. each e.from (subst (λ (x : Edge). Contains (e ∷ edges) x) (same core count) (head e edges)), within_sourced edges f c n (λ from has. each from (behind e edges (record { from = from; to = instr c n }) has)))
+within_sourced (e ∷ edges) f c n each = (
+  λ core count. each e.from (subst (λ (x : Edge). Contains (e ∷ edges) x) (same core count) (head e edges)),
+  within_sourced edges f c n (λ from has. each from (behind e edges (record { from = from; to = instr c n }) has)),
+)
   where
     same : e.to.core ≡ c → e.to.count ≡ n → e ≡ record { from = e.from; to = instr c n }
     same core count = ap (λ (i : ℕ). edge i e.to.count) core ∙ ap (λ (i : ℕ). edge c i) count

@@ -23,9 +23,11 @@ module _ (p : Plan) (u : UnderWay) (plan_is : u.plan ≡ p) (order : List ℕ) (
   pub whole_at : (outcome : Outcome) → lowest_ready u.plan (counts_in u.state) ≡ None → Full u.plan (counts_in u.state) → outcome ≡ u.state → Replays p outcome
   whole_at outcome none full is = replays p order u.state outcome going (ended none) (subst (λ (q : Plan). Full q (counts_in u.state)) plan_is full) is
 
-  pub stuck_at : (cut : Cut) → lowest_ready u.plan (counts_in u.state) ≡ None → (Full u.plan (counts_in u.state) → ⊥) → cut ≡ cut_of u.plan (counts_in u.state) → EndsAt p cut
+  pub stuck_at : (cut : Cut) → lowest_ready u.plan (counts_in u.state) ≡ None → (Full u.plan (counts_in u.state) → ⊥) →
+      cut ≡ cut_of u.plan (counts_in u.state) → EndsAt p cut
   stuck_at cut none not_full is =
-      ends_at p order u.state cut going (ended none) (λ full. not_full (subst (λ (q : Plan). Full q (counts_in u.state)) (sym plan_is) full)) (is ∙ ap (λ (q : Plan). cut_of q (counts_in u.state)) plan_is)
+      ends_at p order u.state cut going (ended none) (λ full. not_full (subst (λ (q : Plan). Full q (counts_in u.state)) (sym plan_is) full))
+      (is ∙ ap (λ (q : Plan). cut_of q (counts_in u.state)) plan_is)
 
   -- a core is
   module _ (c : ℕ) (some : lowest_ready u.plan (counts_in u.state) ≡ Some c) where
@@ -35,14 +37,16 @@ module _ (p : Plan) (u : UnderWay) (plan_is : u.plan ≡ p) (order : List ℕ) (
     -- room was made
     module _ (v : UnderWay) (same_plan : v.plan ≡ u.plan) (same_state : v.state ≡ u.state) where
       pub ready_with_room : is_ready v.plan (counts_in v.state) c ≡ true
-      ready_with_room = ap (λ (q : Plan). is_ready q (counts_in v.state) c) (same_plan ∙ plan_is) ∙ ap (λ (s : Outcome). is_ready p (counts_in s) c) same_state ∙ ready_is p (counts_in u.state) c choice.ready
+      ready_with_room = ap (λ (q : Plan). is_ready q (counts_in v.state) c) (same_plan ∙ plan_is) ∙ ap (λ (s : Outcome). is_ready p (counts_in s) c) same_state
+          ∙ ready_is p (counts_in u.state) c choice.ready
 
       pub inside_with_room : (w : UnderWay) → w.plan ≡ v.plan → c < length w.plan.totals
       inside_with_room w kept = subst (λ (q : Plan). c < length q.totals) (sym (kept ∙ same_plan ∙ plan_is)) choice.ready.inside
 
       -- the call's answer, at what stood before the room
       advances : (answer : Advanced) (t : Outcome) → Advances v.plan v.state c answer t → Advances p u.state c answer t
-      advances answer t h = subst (λ (s : Outcome). Advances p s c answer t) same_state (subst (λ (q : Plan). Advances q v.state c answer t) (same_plan ∙ plan_is) h)
+      advances answer t h =
+          subst (λ (s : Outcome). Advances p s c answer t) same_state (subst (λ (q : Plan). Advances q v.state c answer t) (same_plan ∙ plan_is) h)
 
       pub short_at : (count : ℕ) (t : Outcome) → Stays v.plan v.state c t → count ≡ counts_in t c → first_short p (start p) (low_order p) ≡ Some (c, count)
       short_at count t stays is =
@@ -50,7 +54,8 @@ module _ (p : Plan) (u : UnderWay) (plan_is : u.plan ≡ p) (order : List ℕ) (
           falls_short p order u.state c going choice here.done ∙ ap (λ (n : ℕ). Some (c, n)) (sym (is ∙ ap (λ (s : Outcome). counts_in s c) here.state))
 
       -- the core retired its instruction
-      module _ (w : UnderWay) (kept : w.plan ≡ v.plan) (answer : Advanced) (advance : Advances v.plan v.state c answer w.state) (not_short : answer ≡ advanced.Short → ⊥) where
+      module _ (w : UnderWay) (kept : w.plan ≡ v.plan) (answer : Advanced) (advance : Advances v.plan v.state c answer w.state)
+          (not_short : answer ≡ advanced.Short → ⊥) where
         gone : (is_done (need_at p u.state c) ≡ false) × (w.state ≡ place p u.state c)
         gone = goes p u.state c answer w.state (advances answer w.state advance) not_short
 

@@ -1,5 +1,6 @@
 -- What the look-ups of sources tell of a core that may be ready.
-use Rattle.std.proofs.Common.{inl, inr, ◌≡◌, ◌≢◌, ◌⊎◌, ℕ, suc, ◌+◌, ◌<◌, ◌≤◌, Bool, true, false, leb, List, [], ◌∷◌, ◌++◌, length, refl, sym, ap, subst, ◌∙◌, arith}
+use Rattle.std.proofs.Common.{inl, inr, ◌≡◌, ◌≢◌, ◌⊎◌, ℕ, suc, ◌+◌, ◌<◌, ◌≤◌, Bool, true, false, leb, List, [], ◌∷◌, ◌++◌, length, refl, sym, ap, subst, ◌∙◌}
+use Rattle.std.proofs.Common.{arith}
 use Rattle.std.specs.Prelude.{slice_index, nat_lt, Option, Some, None, IsTrue}
 use Rattle.std.specs.List.{Contains}
 use Rattle.std.proofs.lemmas.Bool.{cases_Bool, leb-true}
@@ -21,8 +22,10 @@ use Rattle.replay_core.proofs.Ready.{sourced_true, sourced_is, ready_true, ready
 use Rattle.replay_core.proofs.Places.{play_law}
 
 -- an edge's source is another core of the recording
-pub apart : (which : Which) (r : Recording) (p : Plan) → Valid r → plan_of which r ≡ p → (from to : Instr) → Contains p.edges (record { from = from; to = to }) → (from.core < length p.totals) × (from.core ≢ to.core)
-apart which r p valid is from to = subst (λ (q : Plan). Contains q.edges (record { from = from; to = to }) → (from.core < length q.totals) × (from.core ≢ to.core)) is here
+pub apart : (which : Which) (r : Recording) (p : Plan) → Valid r → plan_of which r ≡ p → (from to : Instr) →
+    Contains p.edges (record { from = from; to = to }) → (from.core < length p.totals) × (from.core ≢ to.core)
+apart which r p valid is from to =
+    subst (λ (q : Plan). Contains q.edges (record { from = from; to = to }) → (from.core < length q.totals) × (from.core ≢ to.core)) is here
   where
     here : HasEdge which r from to → (from.core < length r.totals) × (from.core ≢ to.core)
     here has =
@@ -33,7 +36,8 @@ apart which r p valid is from to = subst (λ (q : Plan). Contains q.edges (recor
 
 -- ---- one core's edge
 
-pub met_some : (edges : List Edge) (f : ℕ → ℕ) (of n count : ℕ) (at : Instr) → count ≡ f of → Contains edges (record { from = instr of n; to = at }) → ((a : ℕ) → Contains edges (record { from = instr of a; to = at }) → Some n ≡ Some a) →
+pub met_some : (edges : List Edge) (f : ℕ → ℕ) (of n count : ℕ) (at : Instr) → count ≡ f of → Contains edges (record { from = instr of n; to = at }) →
+    ((a : ℕ) → Contains edges (record { from = instr of a; to = at }) → Some n ≡ Some a) →
     (IsTrue (leb n count) → IsMet edges f of at) × (IsMet edges f of at → IsTrue (leb n count))
 met_some edges f of n count at is has only = (forth, back)
   where
@@ -46,7 +50,8 @@ met_some edges f of n count at is has only = (forth, back)
     back : IsMet edges f of at → IsTrue (leb n count)
     back met = let le = met n has in grind (arith, nat_tests)
 
-pub met_none : (edges : List Edge) (f : ℕ → ℕ) (of : ℕ) (at : Instr) → ((a : ℕ) → Contains edges (record { from = instr of a; to = at }) → ◌≡◌ {A = Option ℕ} None (Some a)) →
+pub met_none : (edges : List Edge) (f : ℕ → ℕ) (of : ℕ) (at : Instr) →
+    ((a : ℕ) → Contains edges (record { from = instr of a; to = at }) → ◌≡◌ {A = Option ℕ} None (Some a)) →
     (IsTrue true → IsMet edges f of at) × (IsMet edges f of at → IsTrue true)
 met_none edges f of at only = (λ t a other. absurd (cc (only a other)), λ met. refl)
 
@@ -59,11 +64,14 @@ unmet edges f of c n not_met = by (cases_Bool (is_sourced edges f c n))
     by (inl t) = absurd (not_met (λ a has. source_within edges f c n (sourced_true edges f c n t) (instr of a) has))
     by (inr t) = sym t
 
-pub all_met : (edges : List Edge) (f : ℕ → ℕ) (c n cores : ℕ) → ((from : Instr) → Contains edges (record { from = from; to = instr c n }) → (from.core < cores) × (from.core ≢ c)) →
+pub all_met : (edges : List Edge) (f : ℕ → ℕ) (c n cores : ℕ) →
+    ((from : Instr) → Contains edges (record { from = from; to = instr c n }) → (from.core < cores) × (from.core ≢ c)) →
     ((i : ℕ) → i < cores → i ≢ c → IsMet edges f i (instr c n)) → true ≡ is_sourced edges f c n
-all_met edges f c n cores within met = sym (sourced_is edges f c n (within_sourced edges f c n (λ from has. let w = within from has in met from.core w.0 w.1 from.count has)))
+all_met edges f c n cores within met =
+    sym (sourced_is edges f c n (within_sourced edges f c n (λ from has. let w = within from has in met from.core w.0 w.1 from.count has)))
 
-pub met_more : (edges : List Edge) (f : ℕ → ℕ) (c of : ℕ) (at : Instr) → ((i : ℕ) → i < of → i ≢ c → IsMet edges f i at) → (of ≢ c → IsMet edges f of at) → (i : ℕ) → i < of + 1 → i ≢ c → IsMet edges f i at
+pub met_more : (edges : List Edge) (f : ℕ → ℕ) (c of : ℕ) (at : Instr) → ((i : ℕ) → i < of → i ≢ c → IsMet edges f i at) → (of ≢ c → IsMet edges f of at) →
+    (i : ℕ) → i < of + 1 → i ≢ c → IsMet edges f i at
 met_more edges f c of at before here i below differ = by (below_or i of below)
   where
     below_or : (i of : ℕ) → i < of + 1 → (i < of) ⊎ (i ≡ of)
@@ -75,13 +83,15 @@ met_more edges f c of at before here i below differ = by (below_or i of below)
 
 -- ---- readiness
 
-pub ready_by : (p : Plan) (f : ℕ → ℕ) (c count total : ℕ) (b : Bool) → c < length p.totals → count ≡ f c → total ≡ slice_index p.totals c → count < total → b ≡ is_sourced p.edges f c (count + 1) → b ≡ is_ready p f c
+pub ready_by : (p : Plan) (f : ℕ → ℕ) (c count total : ℕ) (b : Bool) → c < length p.totals → count ≡ f c → total ≡ slice_index p.totals c → count < total →
+    b ≡ is_sourced p.edges f c (count + 1) → b ≡ is_ready p f c
 ready_by p f c count total b inside count_is total_is below is =
     let one : nat_lt c (length p.totals) ≡ true = grind (arith, nat_tests) in
     let two : nat_lt (f c) (slice_index p.totals c) ≡ true = grind (arith, nat_tests) in
     rw (one, two) (is ∙ ap (λ (n : ℕ). is_sourced p.edges f c (n + 1)) count_is)
 
-pub ready_not : (p : Plan) (f : ℕ → ℕ) (c count total : ℕ) → c < length p.totals → count ≡ f c → total ≡ slice_index p.totals c → total ≤ count → nat_lt count total ≡ is_ready p f c
+pub ready_not : (p : Plan) (f : ℕ → ℕ) (c count total : ℕ) → c < length p.totals → count ≡ f c → total ≡ slice_index p.totals c → total ≤ count →
+    nat_lt count total ≡ is_ready p f c
 ready_not p f c count total inside count_is total_is above =
     let zero_is : nat_lt count total ≡ false = grind (arith, nat_tests) in
     let one : nat_lt c (length p.totals) ≡ true = grind (arith, nat_tests) in

@@ -16,7 +16,8 @@ use Rattle.rv_core.proofs.LawLemmas.{count_law, within_law}
 use Rattle.replay_core.specs.declared.answers.Advanced.{Advanced}
 use Rattle.replay_core.specs.declared.answers.Advanced.TheVariants as advanced
 use Rattle.replay_core.specs.Plans.{Plan}
-use Rattle.replay_core.specs.Play.{Use, use_of, old_for, words_after, loads_after, accesses_by, core_at, loads_at, instr, need_at, old_at, new_at, place, touched}
+use Rattle.replay_core.specs.Play.{Use, use_of, old_for, words_after, loads_after, accesses_by, core_at, loads_at, instr, need_at, old_at, new_at, place}
+use Rattle.replay_core.specs.Play.{touched}
 use Rattle.replay_core.specs.Answers.{told, Retires, Advances, UsesWithin, AreNoted, cut_of}
 
 -- the word that a need uses is one of the memory's
@@ -25,7 +26,8 @@ used_within image core None words is all = tt
 used_within image core (Some used) words is all = let within = within_law image core used.0 used.1 (sym is) in omega arith
 
 -- the calls of one place, by what each answers
-pub record Called (p : Plan) (s : Outcome) (c : ℕ) (new_core : Core) (used : Use) (old value count : ℕ) (words : List ℕ) (loads : List (List LoadNote)) (access : Option Access) : Type 0 where
+pub record Called (p : Plan) (s : Outcome) (c : ℕ) (new_core : Core) (used : Use) (old value count : ℕ) (words : List ℕ) (loads : List (List LoadNote))
+    (access : Option Access) : Type 0 where
   pub going : is_done (need_at p s c) ≡ false
   pub used_is : used ≡ use_of (need_at p s c)
   pub old_is : old ≡ old_for used s.words
@@ -40,10 +42,13 @@ abbrev made : List Core → List ℕ → List (List LoadNote) → Outcome
 made cores words loads = record { cores = cores; words = words; loads = loads }
 
 made-same : (a b : List Core) (u v : List ℕ) (x y : List (List LoadNote)) → a ≡ b → u ≡ v → x ≡ y → made a u x ≡ made b v y
-made-same a b u v x y cores words loads = ap (λ (z : List Core). made z u x) cores ∙ ap (λ (z : List ℕ). made b z x) words ∙ ap (λ (z : List (List LoadNote)). made b v z) loads
+made-same a b u v x y cores words loads = ap (λ (z : List Core). made z u x) cores ∙ ap (λ (z : List ℕ). made b z x) words
+    ∙ ap (λ (z : List (List LoadNote)). made b v z) loads
 
-pub called_retires : (p : Plan) (s : Outcome) (c : ℕ) (new_core : Core) (used : Use) (old value count : ℕ) (words : List ℕ) (loads : List (List LoadNote)) (access : Option Access) →
-    Called p s c new_core used old value count words loads access → Retires p s c access (record { cores = slice_set s.cores c new_core; words = words; loads = loads })
+pub called_retires : (p : Plan) (s : Outcome) (c : ℕ) (new_core : Core) (used : Use) (old value count : ℕ) (words : List ℕ) (loads : List (List LoadNote))
+    (access : Option Access) →
+    Called p s c new_core used old value count words loads access →
+    Retires p s c access (record { cores = slice_set s.cores c new_core; words = words; loads = loads })
 unfolding place touched
 called_retires p s c new_core used old value count words loads access h =
     let u = use_of (need_at p s c) in
@@ -51,15 +56,18 @@ called_retires p s c new_core used old value count words loads access h =
     let core : new_core ≡ after p.image (core_at s c) (old_at p s c) = h.new_core_is ∙ ap (λ (o : ℕ). after p.image (core_at s c) o) found in
     let left : value ≡ new_at p s c = h.value_is ∙ ap (λ (o : ℕ). wrote p.image (core_at s c) o) found in
     let counted : count ≡ (core_at s c).count + 1 = h.count_is ∙ ap (λ (x : Core). x.count) core ∙ count_law p.image (core_at s c) (old_at p s c) in
-    let memory : words ≡ words_after u s.words (new_at p s c) = h.words_is ∙ ap (λ (x : Use). words_after x s.words value) h.used_is ∙ ap (λ (v : ℕ). words_after u s.words v) left in
+    let memory : words ≡ words_after u s.words (new_at p s c) = h.words_is ∙ ap (λ (x : Use). words_after x s.words value) h.used_is
+    ∙ ap (λ (v : ℕ). words_after u s.words v) left in
     let notes : loads ≡ slice_set s.loads c (loads_after u (loads_at s c) ((core_at s c).count + 1) (old_at p s c)) =
     h.loads_is ∙ ap (λ (x : Use). slice_set s.loads c (loads_after x (loads_at s c) count old)) h.used_is
     ∙ ap (λ (n : ℕ). slice_set s.loads c (loads_after u (loads_at s c) n old)) counted
     ∙ ap (λ (o : ℕ). slice_set s.loads c (loads_after u (loads_at s c) ((core_at s c).count + 1) o)) found in
     record {
       going = h.going;
-      state = made-same (slice_set s.cores c new_core) (slice_set s.cores c (after p.image (core_at s c) (old_at p s c))) words (words_after u s.words (new_at p s c)) loads
-          (slice_set s.loads c (loads_after u (loads_at s c) ((core_at s c).count + 1) (old_at p s c))) (ap (λ (x : Core). slice_set s.cores c x) core) memory notes;
+      state = made-same (slice_set s.cores c new_core) (slice_set s.cores c (after p.image (core_at s c) (old_at p s c))) words
+          (words_after u s.words (new_at p s c)) loads
+          (slice_set s.loads c (loads_after u (loads_at s c) ((core_at s c).count + 1) (old_at p s c)))
+          (ap (λ (x : Core). slice_set s.cores c x) core) memory notes;
       access_is = h.access_is ∙ ap (λ (x : Use). accesses_by x (instr c count) old value) h.used_is
           ∙ ap (λ (n : ℕ). accesses_by u (instr c n) old value) counted
           ∙ ap (λ (o : ℕ). accesses_by u (instr c ((core_at s c).count + 1)) o value) found
@@ -67,11 +75,15 @@ called_retires p s c new_core used old value count words loads access h =
     }
 
 -- the same where the image and the core are known by other names
-pub retires_by : (image : Contents) (p : Plan) (s : Outcome) (c : ℕ) (k l new_core : Core) (used : Use) (old value count : ℕ) (words : List ℕ) (loads : List (List LoadNote)) (access : Option Access) →
-    image ≡ p.image → k ≡ core_at s c → l ≡ core_at s c → is_done (need image k) ≡ false → used ≡ access_of (need image k) → old ≡ old_for used s.words → new_core ≡ after image l old → value ≡ wrote image l old →
-    count ≡ new_core.count → words ≡ words_after used s.words value → AreNoted s.loads c used count old loads → told access ≡ accesses_by used (instr c count) old value →
+pub retires_by : (image : Contents) (p : Plan) (s : Outcome) (c : ℕ) (k l new_core : Core) (used : Use) (old value count : ℕ) (words : List ℕ)
+    (loads : List (List LoadNote)) (access : Option Access) →
+    image ≡ p.image → k ≡ core_at s c → l ≡ core_at s c → is_done (need image k) ≡ false → used ≡ access_of (need image k) → old ≡ old_for used s.words →
+    new_core ≡ after image l old → value ≡ wrote image l old →
+    count ≡ new_core.count → words ≡ words_after used s.words value → AreNoted s.loads c used count old loads →
+    told access ≡ accesses_by used (instr c count) old value →
     Retires p s c access (record { cores = slice_set s.cores c new_core; words = words; loads = loads })
-retires_by image p s c k l new_core used old value count words loads access image_is k_is l_is going used_is old_is core_is value_is count_is words_is loads_is access_is =
+retires_by image p s c k l new_core used old value count words loads access image_is k_is l_is going used_is old_is core_is value_is count_is words_is loads_is
+    access_is =
     let need_is : need image k ≡ need_at p s c = ap (λ (i : Contents). need i k) image_is ∙ ap (λ (x : Core). need p.image x) k_is in
     called_retires p s c new_core used old value count words loads access (record {
       going = ap is_done (sym need_is) ∙ going;
@@ -86,16 +98,20 @@ retires_by image p s c k l new_core used old value count words loads access imag
     })
 
 -- what `advance` answers, case by case
-pub goes : (p : Plan) (s : Outcome) (c : ℕ) (answer : Advanced) (t : Outcome) → Advances p s c answer t → (answer ≡ advanced.Short → ⊥) → (is_done (need_at p s c) ≡ false) × (t ≡ place p s c)
+pub goes : (p : Plan) (s : Outcome) (c : ℕ) (answer : Advanced) (t : Outcome) → Advances p s c answer t → (answer ≡ advanced.Short → ⊥) →
+    (is_done (need_at p s c) ≡ false) × (t ≡ place p s c)
 goes p s c (advanced.Retired access) t h not_short = (h.going, h.state)
 goes p s c advanced.Short t h not_short = absurd (not_short refl)
 
 -- ---- the cut
 
 -- a list of the counts of the cores, and of 0 at the other places
-pub cut_made : (p : Plan) (f : ℕ → ℕ) (cores last : ℕ) (counts : List ℕ) → cores ≡ length p.totals → cores ≤ last → length counts ≡ CORES_MAX → ((c : ℕ) → c < last → get_or counts c 0 ≡ f c) → ((c : ℕ) → last ≤ c → get_or counts c 0 ≡ 0) →
+pub cut_made : (p : Plan) (f : ℕ → ℕ) (cores last : ℕ) (counts : List ℕ) → cores ≡ length p.totals → cores ≤ last → length counts ≡ CORES_MAX →
+    ((c : ℕ) → c < last → get_or counts c 0 ≡ f c) → ((c : ℕ) → last ≤ c → get_or counts c 0 ≡ 0) →
     last ≤ cores → ◌≡◌ {A = Cut} (record { cores = cores; counts = counts }) (cut_of p f)
-cut_made p f cores last counts is past wide done rest most = ap (λ (n : ℕ). cut n counts) is ∙ ap (λ (l : List ℕ). cut (length p.totals) l) (fill_by_all (λ c. cond (nat_lt c (length p.totals)) (f c) 0) counts CORES_MAX 0 wide each)
+cut_made p f cores last counts is past wide done rest most =
+    ap (λ (n : ℕ). cut n counts) is
+    ∙ ap (λ (l : List ℕ). cut (length p.totals) l) (fill_by_all (λ c. cond (nat_lt c (length p.totals)) (f c) 0) counts CORES_MAX 0 wide each)
   where
     cut : ℕ → List ℕ → Cut
     cut n l = record { cores = n; counts = l }

@@ -18,4 +18,9 @@ abbrev pub recorded_image : Recording → Contents
 recorded_image r = record { bytes = r.image; words = r.params.words }
 
 abbrev pub plan_of : Which → Recording → Plan
-plan_of which r = record { image = recorded_image r; limit = r.params.limit; totals = r.totals; edges = log_edges which r }
+plan_of which r = record {
+  image = recorded_image r;
+  limit = r.params.limit;
+  totals = r.totals;
+  edges = log_edges which r;
+}

@@ -29,4 +29,5 @@ module _ {T : Type 0} where
 
   -- the list at this place has this item as its newest
   abbrev pub with_newest : List (List T) → (place : ℕ) → T → List (List T)
-  with_newest lists place item = let list = slice_index_or lists place [] in slice_set lists place (slice_set list (length list - 1) item)
+  with_newest lists place item = let list = slice_index_or lists place [] in
+      slice_set lists place (slice_set list (length list - 1) item)

@@ -66,7 +66,8 @@ spelled_anew (Err part) = Err part
 -- the output of the command for an input, or the first part of the input that has no reading
 abbrev pub made : Command → (input : List ℕ) → Result (List ℕ) ℕ
 made (Record params choices seed) input = Ok (spelling (recording_of_input params choices seed input))
-made (Run params choices seed loads) input = Ok (state_lines (outcome_of_input params choices seed input) (image_of params input) loads)
+made (Run params choices seed loads) input =
+    Ok (state_lines (outcome_of_input params choices seed input) (image_of params input) loads)
 made Print input = logs_of (whole_at input)
 made (Replay which loads) input = replay_of which loads (whole_at input)
 made Migrate input = spelled_anew (whole_at input)
@@ -115,8 +116,10 @@ AuditEnds which r exits.WriteFault = ⊥
 
 -- ---- what is promised beside
 
--- of the bytes of a recording. They are read back as it, and its reduced log is the least set of the run's accesses. Every
--- order that obeys this log replays the run. So `replay` of them prints what `run` prints of the same image and options,
+-- of the bytes of a recording. They are read back as it, and its reduced log is the least set of the run's accesses.
+-- Every
+-- order that obeys this log replays the run. So `replay` of them prints what `run` prints of the same image and
+-- options,
 -- and for no other reason gives nothing than want of memory
 pub record KeepsRun (params : Params) (choices : List ℕ) (seed : ℕ) (input : List ℕ) : Type 0 where
   pub recorded : IsRecorded (image_of params input) params (choices_of choices seed)
@@ -144,7 +147,8 @@ Promised Migrate input = Unit {0}
 
 -- what migrate makes of an input reads as the input does
 abbrev pub MigratedReadsTheSame : Type 0
-MigratedReadsTheSame = (input out : List ℕ) → IsBytes input → made Migrate input ≡ Ok out → whole_at out ≡ whole_at input
+MigratedReadsTheSame = (input out : List ℕ) → IsBytes input → made Migrate input ≡ Ok out →
+    whole_at out ≡ whole_at input
 
 -- it leaves the bytes of a recording of the newest version as they are
 abbrev pub NewestStays : Type 0

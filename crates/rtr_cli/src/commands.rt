@@ -106,7 +106,8 @@ fn run(
 ) -> Result<Vec<u8>, AllocError>
     requires fits { Fits params }
     requires within { vec_len bytes ≤ 4 * params.words }
-    ensures { IfOk result (λ out. out.items ≡ state_lines (outcome_of (image_of params bytes.items) params schedule) (image_of params bytes.items) loads) }
+    ensures { IfOk result (λ out. out.items ≡ state_lines (outcome_of (image_of params bytes.items) params schedule)
+        (image_of params bytes.items) loads) }
 {
     a_run_fits_its_image();
     let opening = image(bytes, params.words);

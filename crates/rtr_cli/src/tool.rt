@@ -34,8 +34,10 @@ pub fn run_tool<I: Source, O: Sink, E: Sink>(
     report: &mut E,
 ) -> Exit
     ensures usage { (result ≡ Exit.Usage) ↔ (meaning (map string_bytes words.now) ≡ None) }
-    ensures untouched { result ≡ Exit.Usage → Keeps (I.left input.old) (I.left input.new) × Keeps (O.got output.old) (O.got output.new) }
-    ensures answered { (command : Command) → meaning (map string_bytes words.now) ≡ Some command → Answers command result (I.left input.old) (I.left input.new) (O.got output.old) (O.got output.new) }
+    ensures untouched { result ≡ Exit.Usage → Keeps (I.left input.old) (I.left input.new)
+        × Keeps (O.got output.old) (O.got output.new) }
+    ensures answered { (command : Command) → meaning (map string_bytes words.now) ≡ Some command →
+        Answers command result (I.left input.old) (I.left input.new) (O.got output.old) (O.got output.new) }
 
     // Faults of the input and the output are told apart by their counts.
     ensures read_fault { result ≡ Exit.ReadFault → HasRisen (I.faults input.old) (I.faults input.new) }
@@ -43,7 +45,8 @@ pub fn run_tool<I: Source, O: Sink, E: Sink>(
     ensures write_fault { result ≡ Exit.WriteFault → HasRisen (O.faults output.old) (O.faults output.new) }
     ensures no_write_fault { (result ≡ Exit.WriteFault) ⊎ (O.faults output.new ≡ O.faults output.old) }
 
-    ensures told { Tells (fault_line result) (E.got report.old) (E.got report.new) (E.faults report.old) (E.faults report.new) }
+    ensures told { Tells (fault_line result) (E.got report.old) (E.got report.new) (E.faults report.old)
+        (E.faults report.new) }
 {
     what_words_mean_fits();
     let exit = match meaning(alloc, words) {
@@ -63,7 +66,8 @@ fn perform<I: Source, O: Sink>(
     output: &mut O,
 ) -> Exit
     requires { HasFittingParams command }
-    ensures answered { Answers command result (I.left input.old) (I.left input.new) (O.got output.old) (O.got output.new) }
+    ensures answered { Answers command result (I.left input.old) (I.left input.new) (O.got output.old)
+        (O.got output.new) }
     ensures read_fault { result ≡ Exit.ReadFault → HasRisen (I.faults input.old) (I.faults input.new) }
     ensures no_read_fault { (result ≡ Exit.ReadFault) ⊎ (I.faults input.new ≡ I.faults input.old) }
     ensures write_fault { result ≡ Exit.WriteFault → HasRisen (O.faults output.old) (O.faults output.new) }
@@ -87,7 +91,8 @@ fn perform<I: Source, O: Sink>(
 
 /// Tells the report how the call ended.
 fn tell<E: Sink>(report: &mut E, exit: &Exit)
-    ensures { Tells (fault_line exit.now) (E.got report.old) (E.got report.new) (E.faults report.old) (E.faults report.new) }
+    ensures { Tells (fault_line exit.now) (E.got report.old) (E.got report.new) (E.faults report.old)
+        (E.faults report.new) }
 {
     match write_all(report, fault_text(exit).bytes()) {
         Ok(()) | Err(WriteFault) => {}

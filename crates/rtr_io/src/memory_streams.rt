@@ -1,5 +1,6 @@
 //! A source and a sink over memory, whose faults are scripted.
-ghost use Rattle.std.specs.Prelude.{◌≡◌, ◌≢◌, ◌+◌, ◌-◌, ◌≤◌, ◌<◌, ◌⊎◌, ◌↔◌, [], ◌++◌, Contains, IfOk, IsErr, IsTrue, OnErr, OnOk, Some, drop, length, min, vec_capacity, vec_len};
+ghost use Rattle.std.specs.Prelude.{◌≡◌, ◌≢◌, ◌+◌, ◌-◌, ◌≤◌, ◌<◌, ◌⊎◌, ◌↔◌, [], ◌++◌, Contains, IfOk, IsErr, IsTrue};
+ghost use Rattle.std.specs.Prelude.{OnErr, OnOk, Some, drop, length, min, vec_capacity, vec_len};
 ghost use Rattle.rtr_io.specs.Faults.{HasRisen};
 ghost use Rattle.std.specs.Io.KnownBytes.{ReadConsumes, WriteAppends};
 ghost use Rattle.rtr_io.specs.Streams.{called, failed, fresh, risen};
@@ -199,8 +200,10 @@ impl Sink for MemSink {
         ensures never_falls { self.old.script.faults ≤ self.new.script.faults }
 
         // Beyond what every sink promises: which calls fail, how much the others take, and what is kept.
-        ensures scripted { IsErr result ↔ (Contains self.old.script.failing (risen self.old.script.calls) ⊎ (self.old.room ≡ length self.old.got)) }
-        ensures moved { IfOk result (λ n. n ≡ min (min (length piece.now) self.old.script.most) (self.old.room - length self.old.got)) }
+        ensures scripted { IsErr result ↔ (Contains self.old.script.failing (risen self.old.script.calls)
+            ⊎ (self.old.room ≡ length self.old.got)) }
+        ensures moved { IfOk result (λ n. n ≡ min (min (length piece.now) self.old.script.most)
+            (self.old.room - length self.old.got)) }
         ensures room { self.new.room ≡ self.old.room }
         ensures after_ok { OnOk result (self.new.script ≡ called self.old.script) }
         ensures after_fault { OnErr result (self.new.script ≡ failed self.old.script) }

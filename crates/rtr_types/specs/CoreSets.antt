@@ -1,4 +1,5 @@
--- Words on sets of cores. Above this crate they are opaque, and known by the laws of `core_set_laws` alone; the width of a
+-- Words on sets of cores. Above this crate they are opaque, and known by the laws of `core_set_laws` alone; the width
+-- of a
 -- set stands here and in the type's one field.
 use Rattle.std.specs.Prelude.{ℕ, Bool, ◌==◌, ◌*◌, ◌%◌, ◌^◌, bit_and, bit_or, nat_lt}
 use Rattle.std.specs.Int.{Width, bit_at, bit_not, w8}

@@ -1,4 +1,5 @@
--- The sizes that users and formats see, as numbers. `sizes_law` ties the code's constants, which all definitions cite, to
+-- The sizes that users and formats see, as numbers. `sizes_law` ties the code's constants, which all definitions cite,
+-- to
 -- these.
 use Rattle.std.specs.Prelude.{ℕ}
 

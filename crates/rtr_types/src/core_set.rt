@@ -61,11 +61,13 @@ pub fn core_set_laws()
     ensures with_same { (s : CoreSet) (c : ℕ) → c < CORES_MAX → has (with_core s c) c ≡ true }
     ensures with_other { (s : CoreSet) (c d : ℕ) → c < CORES_MAX → d ≢ c → has (with_core s c) d ≡ has s d }
     ensures without_same { (s : CoreSet) (c : ℕ) → c < CORES_MAX → has (without_core s c) c ≡ false }
-    ensures without_other { (s : CoreSet) (c d : ℕ) → c < CORES_MAX → d < CORES_MAX → d ≢ c → has (without_core s c) d ≡ has s d }
+    ensures without_other { (s : CoreSet) (c d : ℕ) → c < CORES_MAX → d < CORES_MAX → d ≢ c → has (without_core s c) d
+        ≡ has s d }
     ensures none { (d : ℕ) → has no_cores d ≡ false }
     ensures empty { (s : CoreSet) (d : ℕ) → is_none s ≡ true → has s d ≡ false }
     ensures nonempty { (s : CoreSet) (c : ℕ) → c < CORES_MAX → is_none (with_core s c) ≡ false }
-    ensures some { (s : CoreSet) → IsTrue (is_below s) → is_none s ≡ false → (d : ℕ) × (d < CORES_MAX) × (has s d ≡ true) }
+    ensures some { (s : CoreSet) → IsTrue (is_below s) → is_none s ≡ false → (d : ℕ) × (d < CORES_MAX)
+        × (has s d ≡ true) }
     ensures below { IsTrue (is_below no_cores) }
     ensures with_below { (s : CoreSet) (c : ℕ) → IsTrue (is_below s) → IsTrue (is_below (with_core s c)) }
     ensures without_below { (s : CoreSet) (c : ℕ) → IsTrue (is_below s) → IsTrue (is_below (without_core s c)) }

@@ -1,5 +1,6 @@
 -- What a run comes to fits its image and its parameters.
-use Rattle.std.proofs.Common.{◌≡◌, refl, ap, ◌∙◌, ℕ, zero, suc, ◌+◌, ◌<◌, ◌≤◌, ◌^◌, ◌==◌, ◌&&◌, Bool, true, false, cond, List, [], ◌∷◌, length, Option, Some, None, arith}
+use Rattle.std.proofs.Common.{◌≡◌, refl, ap, ◌∙◌, ℕ, zero, suc, ◌+◌, ◌<◌, ◌≤◌, ◌^◌, ◌==◌, ◌&&◌, Bool, true, false, cond, List, [], ◌∷◌, length, Option, Some}
+use Rattle.std.proofs.Common.{None, arith}
 use Rattle.std.specs.Prelude.{All, map}
 use Rattle.std.specs.List.{range_with_len}
 use Rattle.std.proofs.lemmas.List.{length-map}
@@ -31,7 +32,8 @@ cores_stepped s (Some m) = cores_kept none_riding none_carrying s m tt
 
 pub run_cores : (image : Contents) (params : Params) (choices : ℕ → ℕ) (t : ℕ) → length (run image params choices t).nodes ≡ params.cores
 run_cores image params choices zero = length-map-range_with_len (node_start none_riding none_carrying params.limit) 0 params.cores
-run_cores image params choices (suc t) = cores_stepped (run image params choices t) (chosen (run image params choices t) (choices t)) ∙ run_cores image params choices t
+run_cores image params choices (suc t) = cores_stepped (run image params choices t) (chosen (run image params choices t) (choices t))
+    ∙ run_cores image params choices t
 
 image_stepped : (s : PlainState) (taken : Option Move) → (stepped_by s taken).image ≡ s.image
 image_stepped s None = refl
@@ -40,7 +42,8 @@ image_stepped s (Some m) = image_kept none_riding none_carrying s m tt
 -- the image stays
 pub run_image : (image : Contents) (params : Params) (choices : ℕ → ℕ) (t : ℕ) → (run image params choices t).image ≡ image
 run_image image params choices zero = refl
-run_image image params choices (suc t) = image_stepped (run image params choices t) (chosen (run image params choices t) (choices t)) ∙ run_image image params choices t
+run_image image params choices (suc t) = image_stepped (run image params choices t) (chosen (run image params choices t) (choices t))
+    ∙ run_image image params choices t
 
 -- a core's loads are of words of the memory where the accesses are
 loads_within : (words core : ℕ) (list : List Access) → All (λ a. a.word < words) list → All (λ note. note.word < words) (loads_of core list)
@@ -48,7 +51,8 @@ loads_within words core [] all = All-nil (λ note. note.word < words)
 loads_within words core (a ∷ later) all =
     by_test ((a.at.core == core) && is_read a.kind) (loads_within words core later (All-tail (λ b. b.word < words) a later all))
   where
-    by_test : (b : Bool) → All (λ note. note.word < words) (loads_of core later) → All (λ note. note.word < words) (cond b (note_of a ∷ loads_of core later) (loads_of core later))
+    by_test : (b : Bool) → All (λ note. note.word < words) (loads_of core later) →
+        All (λ note. note.word < words) (cond b (note_of a ∷ loads_of core later) (loads_of core later))
     by_test true rest = All-cons (λ note. note.word < words) (note_of a) (loads_of core later) (All-head (λ b. b.word < words) a later all) rest
     by_test false rest = rest
 
@@ -71,11 +75,17 @@ run_fits_law image params schedule fits same =
     let nodes : List (Node (Unit {0}) (Unit {0})) = (run image params choices t).nodes in
     let sound = sound_run image params choices t fits.cores small in
     let count : (c : ℕ) → c < length nodes → (node_at none_carrying nodes c).core.count ≤ params.limit =
-    λ c within. omega (arith, (sound.nodes c within).count_fits, run_limits image params choices t c fits.cores small (omega (arith, within, run_cores image params choices t))) in
+    λ c within. omega (
+      arith,
+      (sound.nodes c within).count_fits,
+      run_limits image params choices t c fits.cores small (omega (arith, within, run_cores image params choices t)),
+    ) in
     record {
       cores = length-map nodes (λ n. n.core) ∙ run_cores image params choices t;
-      counts = cores_all (λ (k : Core). k.count ≤ params.limit) (λ n. n.core) nodes (All-from_get_or (λ n. n.core.count ≤ params.limit) nodes (no_node none_carrying) count);
-      words = length-map-range_with_len (final_word none_riding none_carrying (run image params choices t)) 0 (run image params choices t).image.words ∙ ap (λ i. i.words) (run_image image params choices t);
+      counts = cores_all (λ (k : Core). k.count ≤ params.limit) (λ n. n.core) nodes
+          (All-from_get_or (λ n. n.core.count ≤ params.limit) nodes (no_node none_carrying) count);
+      words = length-map-range_with_len (final_word none_riding none_carrying (run image params choices t)) 0 (run image params choices t).image.words
+          ∙ ap (λ i. i.words) (run_image image params choices t);
       lists = length-map-range_with_len (λ c. loads_of c (accesses image params choices t)) 0 params.cores;
       within = map_all (λ notes. All (λ note. note.word < image.words) notes) (λ c. loads_of c (accesses image params choices t)) 0 params.cores
           (λ c. loads_within image.words c (accesses image params choices t) (each_within image params choices t fits.cores small));

@@ -24,7 +24,8 @@ loads-append core (a ∷ xs) bs = by_test ((a.at.core == core) && is_read a.kind
     by_test false same = same
 
 -- a load of the core, and any other access
-own_load : (core : ℕ) (xs : List Access) (a : Access) → a.at.core ≡ core → is_read a.kind ≡ true → loads_of core (xs ++ a ∷ []) ≡ loads_of core xs ++ note_of a ∷ []
+own_load : (core : ℕ) (xs : List Access) (a : Access) → a.at.core ≡ core → is_read a.kind ≡ true → loads_of core (xs ++ a ∷ []) ≡ loads_of core xs
+    ++ note_of a ∷ []
 own_load core xs a own read = loads-append core xs (a ∷ []) ∙ ap (λ (notes : List LoadNote). loads_of core xs ++ notes) one
   where
     one : loads_of core (a ∷ []) ≡ note_of a ∷ []
@@ -48,7 +49,8 @@ later_lists xs a from (suc n) before =
     rw (head, tail) refl
 
 -- a load is with_note in its core's list
-noted_from : (xs : List Access) (a : Access) (from n i : ℕ) → a.at.core ≡ from + i → is_read a.kind ≡ true → with_note (lists_of xs from n) i (note_of a) ≡ lists_of (xs ++ a ∷ []) from n
+noted_from : (xs : List Access) (a : Access) (from n i : ℕ) → a.at.core ≡ from + i → is_read a.kind ≡ true → with_note (lists_of xs from n) i (note_of a)
+    ≡ lists_of (xs ++ a ∷ []) from n
 noted_from xs a from zero i at read = refl
 noted_from xs a from (suc n) zero at read =
     let head : loads_of from (xs ++ a ∷ []) ≡ loads_of from xs ++ note_of a ∷ [] = own_load from xs a (omega arith) read in
@@ -74,6 +76,7 @@ not_noted xs a from (suc n) writes =
 pub lists_more : (xs : List Access) (a : Access) (n : ℕ) → lists_after (lists_of xs 0 n) a ≡ lists_of (xs ++ a ∷ []) 0 n
 lists_more xs a n = by_kind (is_read a.kind) refl
   where
-    by_kind : (read : Bool) → is_read a.kind ≡ read → cond read (with_note (lists_of xs 0 n) a.at.core (note_of a)) (lists_of xs 0 n) ≡ lists_of (xs ++ a ∷ []) 0 n
+    by_kind : (read : Bool) → is_read a.kind ≡ read → cond read (with_note (lists_of xs 0 n) a.at.core (note_of a)) (lists_of xs 0 n)
+        ≡ lists_of (xs ++ a ∷ []) 0 n
     by_kind true is = noted_from xs a 0 n a.at.core (omega arith) is
     by_kind false is = not_noted xs a 0 n is

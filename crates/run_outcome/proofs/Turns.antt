@@ -37,7 +37,8 @@ pub no_loads : (from n : ℕ) → lists_of [] from n ≡ replicate n []
 no_loads from zero = refl
 no_loads from (suc n) = ap (λ (lists : List (List LoadNote)). [] ∷ lists) (no_loads (from + 1) n)
 
-pub stands_start : (image : Contents) (params : Params) (schedule : Choices) (s : PlainState) (loads : List (List LoadNote)) → s ≡ opening_state image params → loads ≡ replicate params.cores [] →
+pub stands_start : (image : Contents) (params : Params) (schedule : Choices) (s : PlainState) (loads : List (List LoadNote)) → s ≡ opening_state image params →
+    loads ≡ replicate params.cores [] →
     StandsAt image params schedule 0 s loads schedule
 stands_start image params schedule s loads is none = record {
   state = is;
@@ -60,13 +61,16 @@ pub record Steps (s s' : PlainState) (loads loads' : List (List LoadNote)) (rest
   pub told : loads' ≡ lists_told loads (plain_event s m)
   pub left : rest' ≡ choices_after rest
 
-pub stands_next : (image : Contents) (params : Params) (schedule : Choices) (t : ℕ) (s s' : PlainState) (loads loads' : List (List LoadNote)) (rest rest' : Choices) (m : Move) →
-    all_done s ≡ false → Steps s s' loads loads' rest rest' m → StandsAt image params schedule t s loads rest → StandsAt image params schedule (suc t) s' loads' rest'
+pub stands_next : (image : Contents) (params : Params) (schedule : Choices) (t : ℕ) (s s' : PlainState) (loads loads' : List (List LoadNote))
+    (rest rest' : Choices) (m : Move) →
+    all_done s ≡ false → Steps s s' loads loads' rest rest' m → StandsAt image params schedule t s loads rest →
+    StandsAt image params schedule (suc t) s' loads' rest'
 stands_next image params schedule t s s' loads loads' rest rest' m going steps stands =
     let choices : ℕ → ℕ = choice_at schedule in
     let here : run image params choices t ≡ s = sym stands.state in
     let number : choice_at rest 0 ≡ choices t = stands.rest_is 0 ∙ ap choices (omega arith) in
-    let taken : chosen (run image params choices t) (choices t) ≡ Some m = ap (λ (u : PlainState). chosen u (choices t)) here ∙ ap (chosen s) (sym number) ∙ steps.taken in
+    let taken : chosen (run image params choices t) (choices t) ≡ Some m = ap (λ (u : PlainState). chosen u (choices t)) here ∙ ap (chosen s) (sym number)
+    ∙ steps.taken in
     record {
       state = steps.state ∙ ap (λ (u : PlainState). plain_step u m) (sym here) ∙ sym (ap (stepped_by (run image params choices t)) taken);
       cores = ap (λ (u : PlainState). length u.nodes) steps.state ∙ cores_kept none_riding none_carrying s m tt ∙ stands.cores;
@@ -76,7 +80,11 @@ stands_next image params schedule t s s' loads loads' rest rest' m going steps s
           ∙ ap (λ (e : Event). lists_of (accesses image params choices t ++ accesses_in e) 0 params.cores)
           (ap (λ (u : PlainState). plain_event u m) (sym here) ∙ sym (ap (event_by (run image params choices t)) taken));
       rest_is = λ u. ap (λ (c : Choices). choice_at c u) steps.left ∙ following_law rest u ∙ stands.rest_is (u + 1) ∙ ap choices (omega arith);
-      going = λ u before. elim (cases_eq u t) [ inl same ↦ ap (λ v. all_done (run image params choices v)) same ∙ ap all_done here ∙ going | inr other ↦ stands.going u (omega (arith, before, other)) ];
+      going = λ u before. elim (cases_eq u t) [
+        | inl same ↦ ap (λ v. all_done (run image params choices v)) same ∙ ap all_done here
+            ∙ going
+        | inr other ↦ stands.going u (omega (arith, before, other))
+      ];
     }
 
 -- where a run that is done stands is its end
@@ -88,13 +96,16 @@ stands_end image params schedule t s loads rest done stands = record {
 }
 
 -- each core's number is its place
-pub numbered : {R K : Type 0} (carrying : Carrying K) (image : Contents) (params : Params) (schedule : Choices) (t : ℕ) (s : State R K) (loads : List (List LoadNote)) (rest : Choices) →
+pub numbered : {R K : Type 0} (carrying : Carrying K) (image : Contents) (params : Params) (schedule : Choices) (t : ℕ) (s : State R K)
+    (loads : List (List LoadNote)) (rest : Choices) →
     Fits params → StandsAt image params schedule t (plain s) loads rest → (c : ℕ) → c < length s.nodes → (node_at carrying s.nodes c).core.id ≡ c
 numbered {R} {K} carrying image params schedule t s loads rest fits stands c within =
-    let sound : Sound none_riding none_carrying (run image params (choice_at schedule) t) = sound_run image params (choice_at schedule) t fits.cores (omega (arith, fits.limit)) in
+    let sound : Sound none_riding none_carrying (run image params (choice_at schedule) t) =
+    sound_run image params (choice_at schedule) t fits.cores (omega (arith, fits.limit)) in
     let same : length (plain s).nodes ≡ length s.nodes = length-map s.nodes plain_node in
     let at : (node_at none_carrying (plain s).nodes c).core.id ≡ c =
-    ap (λ (u : PlainState). (node_at none_carrying u.nodes c).core.id) stands.state ∙ sound.numbers c (omega (arith, within, same, ap (λ (u : PlainState). length u.nodes) stands.state)) in
+    ap (λ (u : PlainState). (node_at none_carrying u.nodes c).core.id) stands.state
+    ∙ sound.numbers c (omega (arith, within, same, ap (λ (u : PlainState). length u.nodes) stands.state)) in
     sym (ap (λ n. n.core.id) (plain_node_at carrying s.nodes c)) ∙ at
 
 -- the plain nodes have the same cores
@@ -103,7 +114,8 @@ same_cores [] = refl
 same_cores (n ∷ nodes) = ap (λ (cores : List Core). n.core ∷ cores) (same_cores nodes)
 
 -- the outcome of a run, read off where it ended
-pub outcome_is : {R K : Type 0} (image : Contents) (params : Params) (schedule : Choices) (t : ℕ) (s : State R K) (loads : List (List LoadNote)) (rest : Choices) →
+pub outcome_is : {R K : Type 0} (image : Contents) (params : Params) (schedule : Choices) (t : ℕ) (s : State R K) (loads : List (List LoadNote))
+    (rest : Choices) →
     Fits params → all_done s ≡ true → StandsAt image params schedule t (plain s) loads rest →
     record { cores = map (λ n. n.core) s.nodes; words = final_memory none_riding none_carrying (plain s); loads = loads } ≡ outcome_of image params schedule
 unfolding outcome_of
@@ -111,10 +123,13 @@ outcome_is {R} {K} image params schedule t s loads rest fits done stands =
     let choices : ℕ → ℕ = choice_at schedule in
     let ends : IsRunEnd image params choices t = stands_end image params schedule t (plain s) loads rest (sym (plain_done s) ∙ done) stands in
     let last : t ≡ end_of image params choices = one_end image params choices t (record { cores = fits.cores; limit = omega (arith, fits.limit) }) ends in
-    let cores : map (λ (n : Node R K). n.core) s.nodes ≡ map (λ n. n.core) (run image params choices t).nodes = sym (same_cores s.nodes) ∙ ap (λ (u : PlainState). map (λ n. n.core) u.nodes) stands.state in
-    let words : final_memory none_riding none_carrying (plain s) ≡ final_memory none_riding none_carrying (run image params choices t) = ap (λ (u : PlainState). final_memory none_riding none_carrying u) stands.state in
+    let cores : map (λ (n : Node R K). n.core) s.nodes ≡ map (λ n. n.core) (run image params choices t).nodes =
+    sym (same_cores s.nodes) ∙ ap (λ (u : PlainState). map (λ n. n.core) u.nodes) stands.state in
+    let words : final_memory none_riding none_carrying (plain s) ≡ final_memory none_riding none_carrying (run image params choices t) =
+    ap (λ (u : PlainState). final_memory none_riding none_carrying u) stands.state in
     let made : List Core → List ℕ → List (List LoadNote) → Outcome = λ cs ws ls. record { cores = cs; words = ws; loads = ls } in
     ap (λ cs. made cs (final_memory none_riding none_carrying (plain s)) loads) cores
     ∙ ap (λ ws. made (map (λ n. n.core) (run image params choices t).nodes) ws loads) words
-    ∙ ap (λ ls. made (map (λ n. n.core) (run image params choices t).nodes) (final_memory none_riding none_carrying (run image params choices t)) ls) stands.loads_are
+    ∙ ap (λ ls. made (map (λ n. n.core) (run image params choices t).nodes) (final_memory none_riding none_carrying (run image params choices t)) ls)
+    stands.loads_are
     ∙ ap (λ u. outcome_at image params choices u) last

@@ -6,7 +6,8 @@ use Rattle.image_mem.specs.Contents.{Contents}
 use Rattle.rv_core.specs.declared.core_state.Core.{Core}
 use Rattle.rv_core.specs.States.{starting, retired, word_after}
 use Rattle.rv_core.specs.Steps.{need, after, wrote, is_done, access_of, instruction_at, after_instruction, word_after_instruction}
-use Rattle.rv_core.specs.Laws.{StartLaw, CountLaw, NumberLaw, LimitLaw, RoomLaw, WithinLaw, LocalLaw, UnreadLaw, WholeLaw, WholeStoreLaw, LocalValueLaw, UnwrittenLaw, ValueLaw}
+use Rattle.rv_core.specs.Laws.{StartLaw, CountLaw, NumberLaw, LimitLaw, RoomLaw, WithinLaw, LocalLaw, UnreadLaw, WholeLaw, WholeStoreLaw, LocalValueLaw}
+use Rattle.rv_core.specs.Laws.{UnwrittenLaw, ValueLaw}
 use Rattle.rv_core.proofs.StepLemmas.{GoesOnBy, goes_on}
 use Rattle.rv_core.proofs.OpLemmas.{Accessing, access_goes, accessing, whole_store, covering, staying, word_after-below}
 

@@ -11,7 +11,8 @@ use Rattle.rv_core.specs.declared.core_state.Halt.TheVariants.{Running, Exited, 
 use Rattle.rv_core.specs.declared.core_state.Need.{Need}
 use Rattle.rv_core.specs.declared.core_state.Need.TheVariants.{Local, Done}
 use Rattle.rv_core.specs.declared.core_state.Stop.TheVariants.{Align, Address, Fetch, Illegal, Jump}
-use Rattle.rv_core.specs.Steps.{need, is_done, access_of, instruction_at, need_of, need_of_word, need_of_fetch, need_at_pc, need_by, need_to_jump, need_to_access}
+use Rattle.rv_core.specs.Steps.{need, is_done, access_of, instruction_at, need_of, need_of_word, need_of_fetch, need_at_pc, need_by, need_to_jump}
+use Rattle.rv_core.specs.Steps.{need_to_access}
 
 -- what a core goes on by: the instruction at pc, which is all that it needs and does, below the limit
 pub record GoesOnBy (image : Contents) (core : Core) (op : Op) : Type 0 where
@@ -44,7 +45,8 @@ stop_at None = Done Fetch
 stop_at (Some word) = Done Illegal
 
 -- what is needed at pc, where the instruction there is known
-op_needs : (words : ℕ) (core : Core) (word : Option ℕ) (op : Op) → option_and_then decoded word ≡ Some op → need_of_fetch words core word ≡ need_of words core op
+op_needs : (words : ℕ) (core : Core) (word : Option ℕ) (op : Op) → option_and_then decoded word ≡ Some op → need_of_fetch words core word
+    ≡ need_of words core op
 op_needs words core None op found = cc
 op_needs words core (Some word) op found = ap (need_of_word words core) found
 

@@ -7,7 +7,8 @@ use Rattle.rv_decode.specs.declared.op.Op.{Op}
 use Rattle.rv_decode.specs.Atomics.{amo_of}
 use Rattle.rv_decode.specs.Fields.{signed, opcode, funct3, funct5, funct7, rs2, immediate_i, immediate_s, immediate_b, immediate_j}
 use Rattle.rv_decode.specs.Ranges.{Fits, IsImmediate, IsShiftAmount, IsBranchOffset, IsJumpOffset, IsStored, IsAluImmediate}
-use Rattle.rv_decode.specs.Table.{decoded, condition_of, loaded_width, stored_width, shift_of, immediate_alu, register_alu, jump_and_link_register, branch, load, store, constant_shift, alu_immediate, alu_register, atomic, fence, system}
+use Rattle.rv_decode.specs.Table.{decoded, condition_of, loaded_width, stored_width, shift_of, immediate_alu, register_alu, jump_and_link_register, branch}
+use Rattle.rv_decode.specs.Table.{load, store, constant_shift, alu_immediate, alu_register, atomic, fence, system}
 use Rattle.rv_decode.proofs.BuiltFields.{field_below}
 
 -- ---- immediates

@@ -37,7 +37,8 @@ pub join_s : (o l f a b h : ℕ) → o < 2 ^ 7 → l < 2 ^ 5 → f < 2 ^ 3 → a
 join_s o l f a b h ho hl hf ha hb hh = join_r o l f a b h ho hl hf ha hb hh
 
 pub join_b : (o e l f a b h t : ℕ) → o < 2 ^ 7 → e < 2 ^ 1 → l < 2 ^ 4 → f < 2 ^ 3 → a < 32 → b < 32 → h < 2 ^ 6 → t < 2 ^ 1
-    → bit_or (bit_or (bit_or (bit_or (bit_or (bit_or (bit_or o (e * 2 ^ 7 % 2 ^ 32)) (l * 2 ^ 8 % 2 ^ 32)) (f * 2 ^ 12 % 2 ^ 32)) (a * 2 ^ 15 % 2 ^ 32)) (b * 2 ^ 20 % 2 ^ 32)) (h * 2 ^ 25 % 2 ^ 32)) (t * 2 ^ 31 % 2 ^ 32)
+    → bit_or (bit_or (bit_or (bit_or (bit_or (bit_or (bit_or o (e * 2 ^ 7 % 2 ^ 32)) (l * 2 ^ 8 % 2 ^ 32)) (f * 2 ^ 12 % 2 ^ 32)) (a * 2 ^ 15 % 2 ^ 32))
+    (b * 2 ^ 20 % 2 ^ 32)) (h * 2 ^ 25 % 2 ^ 32)) (t * 2 ^ 31 % 2 ^ 32)
     ≡ o + e * 2 ^ 7 + l * 2 ^ 8 + f * 2 ^ 12 + a * 2 ^ 15 + b * 2 ^ 20 + h * 2 ^ 25 + t * 2 ^ 31
 join_b o e l f a b h t ho he hl hf ha hb hh ht =
     rw (join o e 7 (omega arith) (omega arith))

@@ -13,9 +13,11 @@ use Rattle.rv_decode.specs.declared.op.Op.TheVariants.{Lui, Auipc, Jal, Jalr, Br
 use Rattle.rv_decode.specs.Atomics.{amo_of, amo_code}
 use Rattle.rv_decode.specs.Fields.{field, funct5, funct7}
 use Rattle.rv_decode.specs.Ranges.{Fits, IsRegister, IsStored, IsAluImmediate}
-use Rattle.rv_decode.specs.Table.{decoded, condition_of, loaded_width, stored_width, register_alu, jump_and_link_register, branch, load, store, constant_shift, alu_immediate, alu_register, atomic, fence, system}
+use Rattle.rv_decode.specs.Table.{decoded, condition_of, loaded_width, stored_width, register_alu, jump_and_link_register, branch, load, store, constant_shift}
+use Rattle.rv_decode.specs.Table.{alu_immediate, alu_register, atomic, fence, system}
 use Rattle.rv_decode.specs.Words.{bits_of, encoding, condition_code, width_code, alu_code, alu_variant, alu_immediate_word}
-use Rattle.rv_decode.proofs.BuiltFields.{field_below, amount_whole, FieldsR, FieldsI, FieldsS, FieldsB, FieldsU, FieldsJ, fields_r, fields_i, fields_s, fields_b, fields_u, fields_j}
+use Rattle.rv_decode.proofs.BuiltFields.{field_below, amount_whole, FieldsR, FieldsI, FieldsS, FieldsB, FieldsU, FieldsJ, fields_r, fields_i, fields_s}
+use Rattle.rv_decode.proofs.BuiltFields.{fields_b, fields_u, fields_j}
 
 reads_lui : (word d u : ℕ) → FieldsU word 0x37 d u → decoded word ≡ Some (Lui d u)
 unfolding decoded

@@ -65,7 +65,8 @@ pub first-word : (bytes : List ℕ) (words : Lcg) → bytes ≡ [] → choice_at
 unfolding drawn_word
 first-word bytes words none = ap (λ l. choice_at (record { bytes = l; words = words }) 0) none ∙ words-alone words 0
 
-pub after-word : (bytes : List ℕ) (words : Lcg) → bytes ≡ [] → record { bytes = bytes; words = (pcg32 words).1 } ≡ choices_after (record { bytes = bytes; words = words })
+pub after-word : (bytes : List ℕ) (words : Lcg) → bytes ≡ [] → record { bytes = bytes; words = (pcg32 words).1 }
+    ≡ choices_after (record { bytes = bytes; words = words })
 unfolding choices_after
 after-word bytes words none =
     let C : List ℕ → Lcg → Choices = λ l w. record { bytes = l; words = w } in

@@ -6,7 +6,8 @@ use Rattle.rtr_types.specs.declared.instr.Instr.{Instr}
 use Rattle.log_codec.specs.declared.codec_fault.CodecFault.{CodecFault}
 use Rattle.log_codec.specs.declared.codec_fault.CodecFault.TheVariants as faults
 use Rattle.state_text.specs.declared.exit.Exit.{Exit}
-use Rattle.state_text.specs.declared.exit.Exit.TheVariants.{Done, Usage, TooLarge, Bad, Stuck, Short, Undetermined, ReadFault, WriteFault, OutOfMemory}
+use Rattle.state_text.specs.declared.exit.Exit.TheVariants.{Done, Usage, TooLarge, Bad, Stuck, Short, Undetermined}
+use Rattle.state_text.specs.declared.exit.Exit.TheVariants.{ReadFault, WriteFault, OutOfMemory}
 use Rattle.state_text.specs.Pieces.{line}
 
 -- the exit status: a number of the tool's whole table, so that it stays where further ways to end come

@@ -22,7 +22,8 @@ total_line p = line (codes "total " ++ decimal p.0 ++ codes " " ++ decimal p.1)
 -- an edge, from a count of one core to a count of another
 abbrev pub edge_line : (from to : ℕ) → ℕ × ℕ → List ℕ
 edge_line from to edge =
-    line (codes "edge " ++ decimal from ++ codes ":" ++ decimal edge.0 ++ codes " " ++ decimal to ++ codes ":" ++ decimal edge.1)
+    line (codes "edge " ++ decimal from ++ codes ":" ++ decimal edge.0 ++ codes " " ++ decimal to ++ codes ":"
+    ++ decimal edge.1)
 
 -- the edges of the pair at a place
 abbrev pub edge_lines : (cores : ℕ) → ℕ × List (ℕ × ℕ) → List ℕ
@@ -61,7 +62,8 @@ vector_edges regulated = sum_by position_count regulated
 -- the regulated log: the numbers of its vectors and of their edges, and the vectors by pair
 abbrev pub regulated_lines : (cores : ℕ) → List (List StrideVector) → List ℕ
 regulated_lines cores regulated =
-    line (codes "regulated " ++ decimal (item_count regulated) ++ codes " vectors " ++ decimal (vector_edges regulated) ++ codes " edges")
+    line (codes "regulated " ++ decimal (item_count regulated) ++ codes " vectors " ++ decimal (vector_edges regulated)
+    ++ codes " edges")
     ++ flat_map (vector_lines cores) (enumerate_from 0 regulated)
 
 -- the parameters, the totals by core, and the two logs

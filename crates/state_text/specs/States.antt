@@ -1,12 +1,14 @@
 -- The text of the state that a run or a replay left. A core, a word and a core's loads stand beside
 -- their places, which number cores and words from 0 on.
-use Rattle.std.specs.Prelude.{◌≡◌, ℕ, ◌*◌, ◌<◌, ◌≤◌, ◌==◌, if◌then◌else◌, Bool, List, [], ◌++◌, length, codes, decimal, All}
+use Rattle.std.specs.Prelude.{◌≡◌, ℕ, ◌*◌, ◌<◌, ◌≤◌, ◌==◌, if◌then◌else◌, Bool, List, [], ◌++◌, length, codes, decimal}
+use Rattle.std.specs.Prelude.{All}
 use Rattle.std.specs.List.{flat_map, enumerate_from, range_with_len}
 use Rattle.rtr_types.specs.declared.params.TheConstants.{WORDS_MAX}
 use Rattle.image_mem.specs.Contents.{Contents, opening_word}
 use Rattle.rv_core.specs.declared.core_state.Core.{Core}
 use Rattle.rv_core.specs.declared.core_state.Stop.{Stop}
-use Rattle.rv_core.specs.declared.core_state.Stop.TheVariants.{Exit, Break, Limit, Fetch, Illegal, Jump, Align, Address, Total}
+use Rattle.rv_core.specs.declared.core_state.Stop.TheVariants.{Exit, Break, Limit, Fetch, Illegal, Jump, Align, Address}
+use Rattle.rv_core.specs.declared.core_state.Stop.TheVariants.{Total}
 use Rattle.rv_core.specs.declared.outcome.LoadNote.{LoadNote}
 use Rattle.rv_core.specs.declared.outcome.Outcome.{Outcome}
 use Rattle.rv_core.specs.States.{register}

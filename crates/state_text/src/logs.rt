@@ -3,7 +3,9 @@ ghost use Rattle.std.specs.Prelude.{◌≡◌, ◌<◌, ◌≤◌, ◌^◌, ◌+
 ghost use Rattle.std.specs.List.{flat_map, enumerate_from};
 ghost use Rattle.rtr_types.specs.Pairs.{pair_count};
 ghost use Rattle.log_codec.specs.Counts.{position_count};
-ghost use Rattle.state_text.specs.Logs.{params_line, total_line, edge_line, edge_lines, reduced_lines, strides_text, vector_start, vector_line, vector_lines, regulated_lines, logs_lines, item_count, vector_edges, IsByPair};
+ghost use Rattle.state_text.specs.Logs.{params_line, total_line, edge_line, edge_lines, reduced_lines, strides_text};
+ghost use Rattle.state_text.specs.Logs.{vector_start, vector_line, vector_lines, regulated_lines, logs_lines};
+ghost use Rattle.state_text.specs.Logs.{item_count, vector_edges, IsByPair};
 
 use log_codec::Recording;
 use rtr_types::{Items, Params, pair_of};
@@ -44,7 +46,8 @@ fn put_params(text: &mut String, params: &Params, image: usize) -> Result<(), Al
 
 // Puts the line of each core's total.
 fn put_totals(text: &mut String, totals: &[u32]) -> Result<(), AllocError>
-    ensures { OnOk result (string_bytes text.new ≡ string_bytes text.old ++ flat_map total_line (enumerate_from 0 totals.now)) }
+    ensures { OnOk result (string_bytes text.new ≡ string_bytes text.old
+        ++ flat_map total_line (enumerate_from 0 totals.now)) }
 {
     for (core, total) in totals.iter().enumerate() {
         put_total(text, core, *total)?;
@@ -76,7 +79,8 @@ fn put_reduced(
 // Puts the edges of each pair.
 fn put_edges(text: &mut String, cores: u8, reduced: &[Items<(u32, u32)>]) -> Result<(), AllocError>
     requires { length reduced.now ≤ pair_count cores }
-    ensures { OnOk result (string_bytes text.new ≡ string_bytes text.old ++ flat_map (edge_lines cores) (enumerate_from 0 reduced.now)) }
+    ensures { OnOk result (string_bytes text.new ≡ string_bytes text.old
+        ++ flat_map (edge_lines cores) (enumerate_from 0 reduced.now)) }
 {
     for (place, edges) in reduced.iter().enumerate() {
         put_edges_at(text, cores, place, edges.as_slice())?;
@@ -131,7 +135,8 @@ fn put_vectors(
     regulated: &[Items<StrideVector>],
 ) -> Result<(), AllocError>
     requires { length regulated.now ≤ pair_count cores }
-    ensures { OnOk result (string_bytes text.new ≡ string_bytes text.old ++ flat_map (vector_lines cores) (enumerate_from 0 regulated.now)) }
+    ensures { OnOk result (string_bytes text.new ≡ string_bytes text.old
+        ++ flat_map (vector_lines cores) (enumerate_from 0 regulated.now)) }
 {
     for (place, vectors) in regulated.iter().enumerate() {
         put_vectors_at(text, cores, place, vectors.as_slice())?;

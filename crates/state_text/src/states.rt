@@ -1,7 +1,8 @@
 //! The text of the state that a run or a replay left.
 ghost use Rattle.std.specs.Prelude.{◌≡◌, ◌<◌, ◌≤◌, ◌++◌, OnOk, IfOk, All, length, string_bytes};
 ghost use Rattle.std.specs.List.{flat_map, enumerate_from};
-ghost use Rattle.state_text.specs.States.{stop_name, stop_line, register_line, register_lines, core_lines, memory_line, load_line, load_lines, state_lines, IsOutcomeOf, LoadsWithin};
+ghost use Rattle.state_text.specs.States.{stop_name, stop_line, register_line, register_lines, core_lines, memory_line};
+ghost use Rattle.state_text.specs.States.{load_line, load_lines, state_lines, IsOutcomeOf, LoadsWithin};
 
 use crate::hex_word::HexWord;
 use image_mem::Image;
@@ -34,7 +35,8 @@ pub fn state_text(
 
 // Puts the lines of each core.
 fn put_cores(text: &mut String, cores: &[Core], image: &Image) -> Result<(), AllocError>
-    ensures { OnOk result (string_bytes text.new ≡ string_bytes text.old ++ flat_map (core_lines image.now) (enumerate_from 0 cores.now)) }
+    ensures { OnOk result (string_bytes text.new ≡ string_bytes text.old
+        ++ flat_map (core_lines image.now) (enumerate_from 0 cores.now)) }
 {
     for (number, core) in cores.iter().enumerate() {
         put_core(text, number, core, image)?;
@@ -101,7 +103,8 @@ fn put_register(text: &mut String, number: usize, k: u8, value: u32) -> Result<(
 // Puts the words that don't have their opening values.
 fn put_memory(text: &mut String, words: &[u32], image: &Image) -> Result<(), AllocError>
     requires { length words.now ≤ WORDS_MAX }
-    ensures { OnOk result (string_bytes text.new ≡ string_bytes text.old ++ flat_map (memory_line image.now) (enumerate_from 0 words.now)) }
+    ensures { OnOk result (string_bytes text.new ≡ string_bytes text.old
+        ++ flat_map (memory_line image.now) (enumerate_from 0 words.now)) }
 {
     for (word, value) in words.iter().enumerate() {
         put_word(text, word as u32, *value, image)?;
@@ -125,7 +128,8 @@ fn put_word(text: &mut String, word: u32, value: u32, image: &Image) -> Result<(
 // Puts the loads of each core.
 fn put_loads(text: &mut String, loads: &[Items<LoadNote>]) -> Result<(), AllocError>
     requires { All (LoadsWithin WORDS_MAX) loads.now }
-    ensures { OnOk result (string_bytes text.new ≡ string_bytes text.old ++ flat_map load_lines (enumerate_from 0 loads.now)) }
+    ensures { OnOk result (string_bytes text.new ≡ string_bytes text.old
+        ++ flat_map load_lines (enumerate_from 0 loads.now)) }
 {
     for (number, notes) in loads.iter().enumerate() {
         put_loads_of(text, number, notes.as_slice())?;

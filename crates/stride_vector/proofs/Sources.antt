@@ -38,4 +38,7 @@ positions-rise v k m vector before below =
     (omega arith, omega arith)
 
 pub edges-placed : EdgesPlaced
-edges-placed v = (length-map (range_with_len 0 v.n) (position_of v) ∙ length-range_with_len 0 v.n, λ k d below. get_or-map-range_with_len (position_of v) 0 v.n k k d below (omega arith))
+edges-placed v = (
+  length-map (range_with_len 0 v.n) (position_of v) ∙ length-range_with_len 0 v.n,
+  λ k d below. get_or-map-range_with_len (position_of v) 0 v.n k k d below (omega arith),
+)

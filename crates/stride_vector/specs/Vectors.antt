@@ -24,8 +24,10 @@ pub record IsVector (v : StrideVector) : Type 0 where
 
 -- the list of the edges has each position at its place
 abbrev pub EdgesPlaced : Type 0
-EdgesPlaced = (v : StrideVector) → (length (edges_of v) ≡ v.n) × ((k : ℕ) (d : ℕ × ℕ) → k < v.n → slice_index_or (edges_of v) k d ≡ position_of v k)
+EdgesPlaced = (v : StrideVector) → (length (edges_of v) ≡ v.n)
+    × ((k : ℕ) (d : ℕ × ℕ) → k < v.n → slice_index_or (edges_of v) k d ≡ position_of v k)
 
 -- both counts rise from each position to the next
 abbrev pub PositionsRise : Type 0
-PositionsRise = (v : StrideVector) (k m : ℕ) → IsVector v → k < m → m < v.n → ((position_of v k).0 < (position_of v m).0) × ((position_of v k).1 < (position_of v m).1)
+PositionsRise = (v : StrideVector) (k m : ℕ) → IsVector v → k < m → m < v.n →
+    ((position_of v k).0 < (position_of v m).0) × ((position_of v k).1 < (position_of v m).1)

@@ -37,7 +37,8 @@ impl StrideVector {
     /// The position after the last, where there are strides to it and both counts are below 2^32.
     pub fn next(&self) -> Option<(u32, u32)>
         requires { IsVector self.now }
-        ensures { let p = position_of self.now self.now.n in SomeIff result ((1 < self.now.n) × (p.0 < 2 ^ 32) × (p.1 < 2 ^ 32)) p }
+        ensures { let p = position_of self.now self.now.n in
+            SomeIff result ((1 < self.now.n) × (p.0 < 2 ^ 32) × (p.1 < 2 ^ 32)) p }
     {
         if self.n == 1 {
             return None;
@@ -50,7 +51,8 @@ impl StrideVector {
     pub fn source_of(&self, b: u32) -> Option<u32>
         requires { IsVector self.now }
         ensures found { IfSome result (λ a. (k : ℕ) × (k < self.now.n) × (position_of self.now k ≡ (a, b))) }
-        ensures only { (k : ℕ) → k < self.now.n → (position_of self.now k).1 ≡ b → result ≡ Some (position_of self.now k).0 }
+        ensures only { (k : ℕ) → k < self.now.n → (position_of self.now k).1 ≡ b →
+            result ≡ Some (position_of self.now k).0 }
     {
         let rise = b.checked_sub(self.b0)?;
         if rise == 0 {

@@ -1,5 +1,6 @@
 -- Every setting that is put in is in its range, so the parameters fit.
-use Rattle.std.proofs.Common.{◌≡◌, ℕ, ◌≤◌, ◌%◌, Bool, true, false, List, [], ◌∷◌, Option, Some, None, refl, sym, ap, arith, rules, ◌==◌, nat_le, ◌&&◌, ◌-◌, ◌^◌, unwrap_or, cond, subst}
+use Rattle.std.proofs.Common.{◌≡◌, ℕ, ◌≤◌, ◌%◌, Bool, true, false, List, [], ◌∷◌, Option, Some, None, refl, sym, ap, arith, rules, ◌==◌, nat_le, ◌&&◌, ◌-◌, ◌^◌}
+use Rattle.std.proofs.Common.{unwrap_or, cond, subst}
 use Rattle.std.specs.Option.{option_and_then, option_map}
 use Rattle.std.specs.Str.Parse.{digits_value}
 use Rattle.std.proofs.lemmas.Bool.Decides.{nat_tests}
@@ -40,7 +41,8 @@ number_between-range : (least most n : ℕ) (text : List ℕ) → number_between
 unfolding number_between
 number_between-range least most n text h = by-cases (is_numeral text && nat_le least (digits_value 10 text) && nat_le (digits_value 10 text) most) refl h
   where
-    by-cases : (b : Bool) → (is_numeral text && nat_le least (digits_value 10 text) && nat_le (digits_value 10 text) most) ≡ b → cond b (Some (digits_value 10 text)) None ≡ Some n → (least ≤ n) × (n ≤ most)
+    by-cases : (b : Bool) → (is_numeral text && nat_le least (digits_value 10 text) && nat_le (digits_value 10 text) most) ≡ b →
+        cond b (Some (digits_value 10 text)) None ≡ Some n → (least ≤ n) × (n ≤ most)
     by-cases true is e = let same : digits_value 10 text ≡ n = cc in grind (arith, nat_tests)
     by-cases false is e = absurd (cc)
 

@@ -35,7 +35,8 @@ unfolding number_between
 number_between-none least most text h = grind (arith, nat_tests)
 
 -- a number in range, as std read it
-pub in-range : {E : Type 0} (least most n : ℕ) (text : List ℕ) (r : Result ℕ E) → is_numeral text ≡ true → ParsesUnsigned 64 10 text r → r ≡ Ok n → least ≤ n → n ≤ most →
+pub in-range : {E : Type 0} (least most n : ℕ) (text : List ℕ) (r : Result ℕ E) → is_numeral text ≡ true → ParsesUnsigned 64 10 text r → r ≡ Ok n → least ≤ n →
+    n ≤ most →
     number_between least most text ≡ Some n
 in-range {E = E} least most n text (Ok m) h p is low high =
     let read : m ≡ digits_value 10 text = (read-numeral {E = E} text (Ok m) h p).1 in
@@ -44,7 +45,8 @@ in-range {E = E} least most n text (Ok m) h p is low high =
 in-range least most n text (Err e) h p is low high = absurd (cc)
 
 -- a number out of range
-pub out-of-range : {E : Type 0} (least most n : ℕ) (text : List ℕ) (r : Result ℕ E) → is_numeral text ≡ true → ParsesUnsigned 64 10 text r → r ≡ Ok n → (least ≤ n → n ≤ most → ⊥) →
+pub out-of-range : {E : Type 0} (least most n : ℕ) (text : List ℕ) (r : Result ℕ E) → is_numeral text ≡ true → ParsesUnsigned 64 10 text r → r ≡ Ok n →
+    (least ≤ n → n ≤ most → ⊥) →
     number_between least most text ≡ None
 out-of-range {E = E} least most n text (Ok m) h p is out =
     let read : m ≡ digits_value 10 text = (read-numeral {E = E} text (Ok m) h p).1 in
@@ -53,7 +55,8 @@ out-of-range {E = E} least most n text (Ok m) h p is out =
 out-of-range least most n text (Err e) h p is out = absurd (cc)
 
 -- a number that std can't hold
-pub too-large : {E : Type 0} (least most : ℕ) (e : E) (text : List ℕ) (r : Result ℕ E) → most < 2 ^ 64 → is_numeral text ≡ true → ParsesUnsigned 64 10 text r → r ≡ Err e →
+pub too-large : {E : Type 0} (least most : ℕ) (e : E) (text : List ℕ) (r : Result ℕ E) → most < 2 ^ 64 → is_numeral text ≡ true → ParsesUnsigned 64 10 text r →
+    r ≡ Err e →
     number_between least most text ≡ None
 too-large least most e text (Ok m) fits h p is = absurd (cc)
 too-large {E = E} least most e text (Err f) fits h p is =

@@ -32,7 +32,8 @@ unfolding settled_by
 settled_by-alone verb s word rest set h = rw (settings-alone verb word rest set h) (prepended s set (settings verb rest))
 
 -- a name and the word after it
-pub settled_by-pair : (verb : Verb) (s : Settings) (word next : List ℕ) (rest : List (List ℕ)) (set : Set) → alone verb word ≡ None → valued verb word next ≡ Some set →
+pub settled_by-pair : (verb : Verb) (s : Settings) (word next : List ℕ) (rest : List (List ℕ)) (set : Set) → alone verb word ≡ None →
+    valued verb word next ≡ Some set →
     settled_by verb s (word ∷ next ∷ rest) ≡ put_then verb s set rest
 unfolding settled_by settings
 settled_by-pair verb s word next rest set h k = rw (h, k) (prepended s set (settings verb rest))
@@ -54,13 +55,15 @@ pub by-alone : (verb : Verb) (s : Settings) (words : List (List ℕ)) (text word
 by-alone verb s words text word rest set after is same made put =
     rw (is, ← same, put) (settled_by-alone verb s word rest set (sym made))
 
-pub by-pair : (verb : Verb) (s : Settings) (words : List (List ℕ)) (text word value next : List ℕ) (rest : List (List ℕ)) (set : Set) (after : Option Settings) →
+pub by-pair : (verb : Verb) (s : Settings) (words : List (List ℕ)) (text word value next : List ℕ) (rest : List (List ℕ)) (set : Set)
+    (after : Option Settings) →
     words ≡ text ∷ value ∷ rest → word ≡ text → next ≡ value → None ≡ alone verb word → Some set ≡ valued verb word next → after ≡ put s set.name set.text →
     settled_by verb s words ≡ option_and_then (λ t. settled_by verb t rest) after
 by-pair verb s words text word value next rest set after is same also none made put =
     rw (is, ← same, ← also, put) (settled_by-pair verb s word next rest set (sym none) (sym made))
 
-pub by-last : (verb : Verb) (s : Settings) (words : List (List ℕ)) (text word : List ℕ) → words ≡ text ∷ [] → word ≡ text → None ≡ alone verb word → settled_by verb s words ≡ None
+pub by-last : (verb : Verb) (s : Settings) (words : List (List ℕ)) (text word : List ℕ) → words ≡ text ∷ [] → word ≡ text → None ≡ alone verb word →
+    settled_by verb s words ≡ None
 by-last verb s words text word is same none = rw (is, ← same) (settled_by-last verb s word (sym none))
 
 pub by-unknown : (verb : Verb) (s : Settings) (words : List (List ℕ)) (text word value next : List ℕ) (rest : List (List ℕ)) →
@@ -78,7 +81,8 @@ pub map-first : {S T : Type 0} (f : S → T) (xs : List S) (x : S) → 0 < lengt
 map-first f [] x some is = absurd (omega arith)
 map-first f (y ∷ ys) x some is = ap (λ v. f v ∷ map f ys) (sym is)
 
-pub map-two : {S T : Type 0} (f : S → T) (xs : List S) (x y : S) → 1 < length xs → x ≡ get_or xs 0 x → y ≡ get_or xs 1 y → map f xs ≡ f x ∷ f y ∷ map f (drop 2 xs)
+pub map-two : {S T : Type 0} (f : S → T) (xs : List S) (x y : S) → 1 < length xs → x ≡ get_or xs 0 x → y ≡ get_or xs 1 y →
+    map f xs ≡ f x ∷ f y ∷ map f (drop 2 xs)
 map-two f [] x y two is also = absurd (omega arith)
 map-two f (z ∷ []) x y two is also = absurd (omega arith)
 map-two f (z ∷ w ∷ ws) x y two is also = ap (λ v. f v ∷ f w ∷ map f ws) (sym is) ∙ ap (λ v. f x ∷ f v ∷ map f ws) (sym also)

@@ -4,7 +4,8 @@ use Rattle.std.specs.Str.{bytes_eq}
 use Rattle.rtr_types.specs.Parameters.{Fits}
 use Rattle.rtr_types.specs.declared.pairs.Which.TheVariants.{Reduced}
 use Rattle.tool_words.specs.declared.command.Command.{Command}
-use Rattle.tool_words.specs.declared.command.Command.TheVariants.{Record as RecordRun, Run as RunImage, Print as PrintLogs}
+use Rattle.tool_words.specs.declared.command.Command.TheVariants.{Record as RecordRun, Run as RunImage}
+use Rattle.tool_words.specs.declared.command.Command.TheVariants.{Print as PrintLogs}
 use Rattle.tool_words.specs.declared.command.Command.TheVariants.{Replay as ReplayRun, Migrate as MigrateRecording}
 use Rattle.tool_words.specs.declared.command.Verb.{Verb}
 use Rattle.tool_words.specs.declared.command.Verb.TheVariants.{Record, Run, Print, Replay, Migrate}

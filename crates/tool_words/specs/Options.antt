@@ -1,5 +1,6 @@
 -- The options, and what their settings come to.
-use Rattle.std.specs.Prelude.{ℕ, ◌%◌, ◌-◌, ◌^◌, ◌==◌, Bool, true, false, List, Option, Some, None, is_some, codes, unwrap_or, if◌then◌else◌}
+use Rattle.std.specs.Prelude.{ℕ, ◌%◌, ◌-◌, ◌^◌, ◌==◌, Bool, true, false, List, Option, Some, None, is_some, codes}
+use Rattle.std.specs.Prelude.{unwrap_or, if◌then◌else◌}
 use Rattle.std.specs.Option.{option_and_then, option_map}
 use Rattle.std.specs.Str.{bytes_eq}
 use Rattle.rtr_types.specs.declared.params.Params.{Params}
@@ -78,11 +79,20 @@ words_default = 16384
 
 -- no option is set
 abbrev pub no_settings : Settings
-no_settings = record { cores = None; limit = None; words = None; choices = None; seed = None; log = None; loads = false }
+no_settings = record {
+  cores = None;
+  limit = None;
+  words = None;
+  choices = None;
+  seed = None;
+  log = None;
+  loads = false;
+}
 
 -- the number of words of a memory: in range, and of whole blocks
 abbrev pub whole_blocks : List ℕ → Option ℕ
-whole_blocks text = option_and_then (λ n. if n % BLOCK_WORDS == 0 then Some n else None) (number_between WORDS_MIN WORDS_MAX text)
+whole_blocks text = option_and_then (λ n. if n % BLOCK_WORDS == 0 then Some n else None)
+    (number_between WORDS_MIN WORDS_MAX text)
 
 -- the log that a word names, exactly
 abbrev pub log_named : List ℕ → Option Which
@@ -116,4 +126,8 @@ put s name text = if is_set s name then None else put_new s name text
 
 -- the parameters of a run with these settings
 abbrev pub params_of : Settings → Params
-params_of s = record { cores = unwrap_or s.cores cores_default; limit = unwrap_or s.limit limit_default; words = unwrap_or s.words words_default }
+params_of s = record {
+  cores = unwrap_or s.cores cores_default;
+  limit = unwrap_or s.limit limit_default;
+  words = unwrap_or s.words words_default;
+}

@@ -1,5 +1,6 @@
 -- What words mean: they are cut into settings, which are put in one after the other.
-use Rattle.std.specs.Prelude.{◌≡◌, ℕ, nat_lt, List, [], ◌∷◌, length, Option, Some, None, is_some, ◌==◌, Bool, if◌then◌else◌}
+use Rattle.std.specs.Prelude.{◌≡◌, ℕ, nat_lt, List, [], ◌∷◌, length, Option, Some, None, is_some, ◌==◌, Bool}
+use Rattle.std.specs.Prelude.{if◌then◌else◌}
 use Rattle.std.specs.Option.{option_and_then, option_map}
 use Rattle.std.specs.List.{before_first, after_first, position_or_len}
 use Rattle.tool_words.specs.declared.command.Command.{Command}
@@ -20,16 +21,20 @@ is_equals b = b == 61
 
 -- the setting of an option that takes a value
 abbrev pub valued : Verb → (name text : List ℕ) → Option Set
-valued verb word text = option_and_then (λ name. if takes_value name then Some (record { name = name; text = text }) else None) (option_of verb word)
+valued verb word text =
+    option_and_then (λ name. if takes_value name then Some (record { name = name; text = text }) else None)
+    (option_of verb word)
 
 -- the setting of a flag
 abbrev pub flag : Verb → List ℕ → Option Set
-flag verb word = option_and_then (λ name. if takes_value name then None else Some (record { name = name; text = [] })) (option_of verb word)
+flag verb word = option_and_then (λ name. if takes_value name then None else Some (record { name = name; text = [] }))
+    (option_of verb word)
 
 -- the setting that a word makes by itself: a name and its value joined by the first `=`, or a flag
 abbrev pub alone : Verb → List ℕ → Option Set
 alone verb word =
-    if nat_lt (position_or_len is_equals word) (length word) then valued verb (before_first is_equals word) (after_first is_equals word) else flag verb word
+    if nat_lt (position_or_len is_equals word) (length word) then valued verb (before_first is_equals word)
+    (after_first is_equals word) else flag verb word
 
 -- a setting, and then others
 abbrev pub prepend : Option Set → Option (List Set) → Option (List Set)
@@ -40,7 +45,8 @@ unfoldable pub settings : Verb → List (List ℕ) → Option (List Set)
 settings verb [] = Some []
 settings verb (word ∷ []) = prepend (alone verb word) (Some [])
 settings verb (word ∷ next ∷ rest) =
-    if is_some (alone verb word) then prepend (alone verb word) (settings verb (next ∷ rest)) else prepend (valued verb word next) (settings verb rest)
+    if is_some (alone verb word) then prepend (alone verb word) (settings verb (next ∷ rest)) else prepend
+    (valued verb word next) (settings verb rest)
 
 -- the settings put in one after the other
 abbrev pub settled : Settings → List Set → Option Settings
@@ -54,7 +60,8 @@ settled_by verb s words = option_and_then (settled s) (settings verb words)
 -- the command that the words mean
 abbrev pub meaning : List (List ℕ) → Option Command
 meaning [] = None
-meaning (first ∷ rest) = option_and_then (λ verb. option_map (command_of verb) (settled_by verb no_settings rest)) (verb_named first)
+meaning (first ∷ rest) =
+    option_and_then (λ verb. option_map (command_of verb) (settled_by verb no_settings rest)) (verb_named first)
 
 -- what words mean has parameters in their ranges
 abbrev pub FittingLaw : Type 0

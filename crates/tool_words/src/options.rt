@@ -2,7 +2,8 @@
 ghost use Rattle.std.specs.Prelude.{◌≡◌};
 ghost use Rattle.std.specs.Option.{option_map};
 ghost use Rattle.tool_words.specs.Settings.{seen};
-ghost use Rattle.tool_words.specs.Options.{is_set, log_named, no_settings, option_of, params_of, put, put_new, takes_value, whole_blocks};
+ghost use Rattle.tool_words.specs.Options.{is_set, log_named, no_settings, option_of, params_of, put, put_new};
+ghost use Rattle.tool_words.specs.Options.{takes_value, whole_blocks};
 
 use crate::choices::are_choices;
 use crate::command::Verb;

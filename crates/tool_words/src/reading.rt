@@ -1,5 +1,6 @@
 //! From words to settings, one after the other.
-ghost use Rattle.std.specs.Prelude.{◌≡◌, ◌≢◌, ◌<◌, ◌≤◌, IfNone, IfOk, IfSome, None, OnErr, Some, drop, length, map, string_bytes};
+ghost use Rattle.std.specs.Prelude.{◌≡◌, ◌≢◌, ◌<◌, ◌≤◌, IfNone, IfOk, IfSome, None, OnErr, Some, drop, length, map};
+ghost use Rattle.std.specs.Prelude.{string_bytes};
 ghost use Rattle.tool_words.specs.Commands.{command_of};
 ghost use Rattle.tool_words.specs.Reading.{FittingLaw, alone, meaning, settled_by, valued};
 ghost use Rattle.tool_words.specs.Options.{no_settings};
@@ -62,7 +63,8 @@ fn put_next<'a>(
     words: &'a [String],
 ) -> Option<(Settings<'a>, usize)>
     requires { 0 < length words.now }
-    ensures some { IfSome result (λ r. settled_by verb (seen settings.entry) (map string_bytes words.now) ≡ settled_by verb (seen r.0) (map string_bytes (drop r.1 words.now))) }
+    ensures some { IfSome result (λ r. settled_by verb (seen settings.entry) (map string_bytes words.now)
+        ≡ settled_by verb (seen r.0) (map string_bytes (drop r.1 words.now))) }
     ensures used { IfSome result (λ r. (1 ≤ r.1) × (r.1 ≤ length words.now)) }
     ensures none { IfNone result (settled_by verb (seen settings.entry) (map string_bytes words.now) ≡ None) }
 {

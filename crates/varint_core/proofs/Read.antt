@@ -1,5 +1,6 @@
 -- Reading byte by byte gives the reading by groups.
-use Rattle.std.proofs.Common.{◌≡◌, ◌≢◌, ℕ, zero, suc, ◌+◌, ◌*◌, ◌%◌, ◌<◌, ◌≤◌, List, [], ◌∷◌, ◌++◌, length, drop, get_or, refl, sym, ◌∙◌, ap, inl, inr, arith, true, false, nat_lt, nat_eq, ◌&&◌, cond, Option, Some, None, Result, Err, append_assoc}
+use Rattle.std.proofs.Common.{◌≡◌, ◌≢◌, ℕ, zero, suc, ◌+◌, ◌*◌, ◌%◌, ◌<◌, ◌≤◌, List, [], ◌∷◌, ◌++◌, length, drop, get_or, refl, sym, ◌∙◌, ap, inl, inr, arith}
+use Rattle.std.proofs.Common.{true, false, nat_lt, nat_eq, ◌&&◌, cond, Option, Some, None, Result, Err, append_assoc}
 use Rattle.std.specs.Prelude.{if◌then◌else◌}
 use Rattle.std.specs.Option.{option_map}
 use Rattle.std.proofs.lemmas.Bool.{cases_lt}
@@ -13,7 +14,8 @@ use Rattle.varint_core.proofs.Spelled.{lt-yes, lt-no}
 -- the number by a walk: i bytes before, the scale of the next, the value so far
 abbrev pub read_on : ℕ → ℕ → ℕ → List ℕ → Result (ℕ × ℕ) Varint
 read_on i s v [] = if nat_lt i 5 then Err Short else Err Over
-read_on i s v (b ∷ bytes) = if nat_eq i 5 then Err Over else if nat_lt b 128 then end (v + (b % 128) * s) i b else read_on (i + 1) (s * 128) (v + (b % 128) * s) bytes
+read_on i s v (b ∷ bytes) =
+    if nat_eq i 5 then Err Over else if nat_lt b 128 then end (v + (b % 128) * s) i b else read_on (i + 1) (s * 128) (v + (b % 128) * s) bytes
 
 pub scale : List ℕ → ℕ
 scale [] = 1
@@ -47,11 +49,13 @@ padded-push (c ∷ p) b i l =
     let two : nat_lt 0 i ≡ true = lt-yes _ _ (omega arith) in
     rw (one, two, last-push c p b) refl
 
-fused : (p bytes : List ℕ) (b : ℕ) (o : Option (List ℕ)) → judged ((p ++ (b ∷ [])) ++ bytes) (option_map (λ g. (p ++ (b ∷ [])) ++ g) o) ≡ judged (p ++ (b ∷ bytes)) (option_map (λ g. p ++ g) (option_map (λ g. b ∷ g) o))
+fused : (p bytes : List ℕ) (b : ℕ) (o : Option (List ℕ)) → judged ((p ++ (b ∷ [])) ++ bytes) (option_map (λ g. (p ++ (b ∷ [])) ++ g) o)
+    ≡ judged (p ++ (b ∷ bytes)) (option_map (λ g. p ++ g) (option_map (λ g. b ∷ g) o))
 fused p bytes b None = rw append_assoc refl
 fused p bytes b (Some g) = ap (λ (f : List ℕ). judged (p ++ (b ∷ bytes)) (Some f)) (append_assoc p (b ∷ []) g)
 
-pub read-group : (k i s v : ℕ) (p bytes : List ℕ) → i + k ≡ 5 → length p ≡ i → s ≡ scale p → v ≡ value p → read_on i s v bytes ≡ judged (p ++ bytes) (option_map (λ g. p ++ g) (group k bytes))
+pub read-group : (k i s v : ℕ) (p bytes : List ℕ) → i + k ≡ 5 → length p ≡ i → s ≡ scale p → v ≡ value p →
+    read_on i s v bytes ≡ judged (p ++ bytes) (option_map (λ g. p ++ g) (group k bytes))
 unfolding group
 read-group zero i s v p [] five l sc va = rw append-nil (rw l refl)
 read-group (suc k) i s v p [] five l sc va = rw append-nil (rw l refl)
@@ -91,7 +95,8 @@ at_five bytes i s v r five lt e =
     let f : read_on i s v (get_or bytes i 0 ∷ drop (i + 1) bytes) ≡ r = rw d at e in
     let g : Err Over ≡ r = rw one at f in g
 
-pub at_small : (bytes : List ℕ) (i s v : ℕ) (r : Result (ℕ × ℕ) Varint) → i ≢ 5 → i < length bytes → get_or bytes i 0 < 128 → read_on i s v (drop i bytes) ≡ r → end (v + (get_or bytes i 0 % 128) * s) i (get_or bytes i 0) ≡ r
+pub at_small : (bytes : List ℕ) (i s v : ℕ) (r : Result (ℕ × ℕ) Varint) → i ≢ 5 → i < length bytes → get_or bytes i 0 < 128 → read_on i s v (drop i bytes)
+    ≡ r → end (v + (get_or bytes i 0 % 128) * s) i (get_or bytes i 0) ≡ r
 at_small bytes i s v r other lt small e =
     let d = drop_more bytes i 0 lt in
     let one : nat_eq i 5 ≡ false = grind (arith, nat_tests) in
@@ -99,5 +104,6 @@ at_small bytes i s v r other lt small e =
     let f : read_on i s v (get_or bytes i 0 ∷ drop (i + 1) bytes) ≡ r = rw d at e in
     rw (one, two) at f
 
-pub at_end : (bytes : List ℕ) (i s v : ℕ) (r : Result (ℕ × ℕ) Varint) → length bytes ≤ i → read_on i s v (drop i bytes) ≡ r → cond (nat_lt i 5) (Err Short) (Err Over) ≡ r
+pub at_end : (bytes : List ℕ) (i s v : ℕ) (r : Result (ℕ × ℕ) Varint) → length bytes ≤ i → read_on i s v (drop i bytes) ≡ r →
+    cond (nat_lt i 5) (Err Short) (Err Over) ≡ r
 at_end bytes i s v r le e = rw (drop_all i bytes le) at e

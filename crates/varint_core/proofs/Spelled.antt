@@ -1,5 +1,6 @@
 -- The shortest spelling, and the groups that are one.
-use Rattle.std.proofs.Common.{◌≡◌, ℕ, zero, suc, ◌+◌, ◌*◌, ◌/◌, ◌%◌, ◌^◌, ◌<◌, ◌≤◌, ◌⊎◌, List, [], ◌∷◌, ◌++◌, length, take, refl, sym, ◌∙◌, ap, subst, inl, inr, arith, true, false, Bool, nat_lt, nat_le, cond, Option, Some, None, Result, Ok, Err, append_assoc}
+use Rattle.std.proofs.Common.{◌≡◌, ℕ, zero, suc, ◌+◌, ◌*◌, ◌/◌, ◌%◌, ◌^◌, ◌<◌, ◌≤◌, ◌⊎◌, List, [], ◌∷◌, ◌++◌, length, take, refl, sym, ◌∙◌, ap, subst, inl, inr}
+use Rattle.std.proofs.Common.{arith, true, false, Bool, nat_lt, nat_le, cond, Option, Some, None, Result, Ok, Err, append_assoc}
 use Rattle.std.specs.Prelude.{OnOk, is_ok}
 use Rattle.std.specs.Option.{option_map}
 use Rattle.std.specs.List.{AllByRecursion}
@@ -53,7 +54,8 @@ group-spelling (suc k) n rest h =
       | inl small ↦ rw (spelling-small (suc k) n small) (group-small (suc k) n rest small)
       | inr big ↦
           let ih = group-spelling k (n / 128) rest (omega arith) in
-          rw (spelling-more (suc k) n big) (group-more (suc k) (n % 128 + 128) (spelling_within (suc k) (n / 128) ++ rest) (omega arith) ∙ ap (λ (o : Option (List ℕ)). option_map (λ g. (n % 128 + 128) ∷ g) o) ih)
+          rw (spelling-more (suc k) n big) (group-more (suc k) (n % 128 + 128) (spelling_within (suc k) (n / 128) ++ rest) (omega arith)
+          ∙ ap (λ (o : Option (List ℕ)). option_map (λ g. (n % 128 + 128) ∷ g) o) ih)
     ]
 
 pub value-spelling : (k n : ℕ) → n < 128 * 128 ^ k → value (spelling_within (suc k) n) ≡ n
@@ -101,7 +103,8 @@ round_trip n rest h =
     let fits : n < 128 * 128 ^ 4 = omega arith in
     let g = group-spelling 4 n rest fits in
     let v = value-spelling 4 n fits in
-    rw g (judged-some (spelling_within 5 n ++ rest) (spelling_within 5 n) (omega (arith, v)) (padded-spelling 4 n fits) ∙ ap (λ (m : ℕ). Ok (m, length (spelling_within 5 n))) v)
+    rw g (judged-some (spelling_within 5 n ++ rest) (spelling_within 5 n) (omega (arith, v)) (padded-spelling 4 n fits)
+    ∙ ap (λ (m : ℕ). Ok (m, length (spelling_within 5 n))) v)
 
 ok_is : (p q : ℕ × ℕ) → ◌≡◌ {A = Result (ℕ × ℕ) Varint} (Ok p) (Ok q) → p ≡ q
 ok_is p q e = cc
@@ -117,7 +120,8 @@ prefix_free m n x y fits_m fits_n e =
 -- ---- what is read is spelled so
 
 -- what a group is
-pub group-is : (k : ℕ) (bytes g : List ℕ) → AllByRecursion (λ b. b < 256) bytes → group k bytes ≡ Some g → IsGroup g × ((rest : List ℕ) × (bytes ≡ g ++ rest)) × (length g ≤ k)
+pub group-is : (k : ℕ) (bytes g : List ℕ) → AllByRecursion (λ b. b < 256) bytes → group k bytes ≡ Some g → IsGroup g × ((rest : List ℕ) × (bytes ≡ g ++ rest))
+    × (length g ≤ k)
 unfolding group
 group-is zero bytes g fits e = absurd cc
 group-is (suc k) [] g fits e = absurd cc
@@ -126,11 +130,16 @@ group-is (suc k) (b ∷ bytes) g fits e = by (cases_lt b 128) (group k bytes) re
     Answer : Type 0
     Answer = IsGroup g × ((rest : List ℕ) × (b ∷ bytes ≡ g ++ rest)) × (length g ≤ suc k)
 
-    longer : (f : List ℕ) → 128 ≤ b → b ∷ f ≡ g → IsGroup f → (rest : List ℕ) → bytes ≡ f ++ rest → length f ≤ k → IsGroup g × ((rest : List ℕ) × (b ∷ bytes ≡ g ++ rest)) × (length g ≤ suc k)
+    longer : (f : List ℕ) → 128 ≤ b → b ∷ f ≡ g → IsGroup f → (rest : List ℕ) → bytes ≡ f ++ rest → length f ≤ k →
+        IsGroup g × ((rest : List ℕ) × (b ∷ bytes ≡ g ++ rest)) × (length g ≤ suc k)
     longer [] big same is rest parts len = absurd is
-    longer (c ∷ f) big same is rest parts len = subst (λ (h : List ℕ). IsGroup h × ((rest : List ℕ) × (b ∷ bytes ≡ h ++ rest)) × (length h ≤ suc k)) same ((big, fits.0, is), (rest, ap (λ (t : List ℕ). b ∷ t) parts), omega arith)
+    longer (c ∷ f) big same is rest parts len =
+        subst (λ (h : List ℕ). IsGroup h × ((rest : List ℕ) × (b ∷ bytes ≡ h ++ rest)) × (length h ≤ suc k)) same
+        ((big, fits.0, is), (rest, ap (λ (t : List ℕ). b ∷ t) parts), omega arith)
 
-    by : (b < 128) ⊎ (128 ≤ b) → (o : Option (List ℕ)) → group k bytes ≡ o → ((f : List ℕ) → AllByRecursion (λ b. b < 256) bytes → group k bytes ≡ Some f → IsGroup f × ((rest : List ℕ) × (bytes ≡ f ++ rest)) × (length f ≤ k)) → IsGroup g × ((rest : List ℕ) × (b ∷ bytes ≡ g ++ rest)) × (length g ≤ suc k)
+    by : (b < 128) ⊎ (128 ≤ b) → (o : Option (List ℕ)) → group k bytes ≡ o →
+        ((f : List ℕ) → AllByRecursion (λ b. b < 256) bytes → group k bytes ≡ Some f → IsGroup f × ((rest : List ℕ) × (bytes ≡ f ++ rest)) × (length f ≤ k)) →
+        IsGroup g × ((rest : List ℕ) × (b ∷ bytes ≡ g ++ rest)) × (length g ≤ suc k)
     by (inl small) o is ih =
         let f : Some (b ∷ []) ≡ Some g = sym (group-small k b bytes small) ∙ e in
         let same : b ∷ [] ≡ g = cc in
@@ -165,23 +174,29 @@ spelled (suc k) b (c ∷ g) is len plain =
     let low : value (b ∷ c ∷ g) % 128 + 128 ≡ b = omega (arith, is.0, is.1) in
     let high : value (b ∷ c ∷ g) / 128 ≡ value (c ∷ g) = omega arith in
     let s = spelling-more (suc k) (value (b ∷ c ∷ g)) big in
-    ap (λ (t : List ℕ). b ∷ t) ih ∙ sym (s ∙ ap (λ (n : ℕ). n ∷ spelling_within (suc k) (value (b ∷ c ∷ g) / 128)) low ∙ ap (λ (n : ℕ). b ∷ spelling_within (suc k) n) high)
+    ap (λ (t : List ℕ). b ∷ t) ih
+    ∙ sym (s ∙ ap (λ (n : ℕ). n ∷ spelling_within (suc k) (value (b ∷ c ∷ g) / 128)) low ∙ ap (λ (n : ℕ). b ∷ spelling_within (suc k) n) high)
 
 unpadded : (b : ℕ) (g : List ℕ) → is_padded (b ∷ g) ≡ false → 0 < length g → 0 < last b g
 unpadded b g e pos = grind (arith, nat_tests)
 
-judged-ok : (bytes : List ℕ) (o : Option (List ℕ)) (n k : ℕ) → judged bytes o ≡ Ok (n, k) → (g : List ℕ) × (o ≡ Some g) × (value g < 2 ^ 32) × (is_padded g ≡ false) × (value g ≡ n) × (length g ≡ k)
+judged-ok : (bytes : List ℕ) (o : Option (List ℕ)) (n k : ℕ) → judged bytes o ≡ Ok (n, k) → (g : List ℕ) × (o ≡ Some g) × (value g < 2 ^ 32)
+    × (is_padded g ≡ false) × (value g ≡ n) × (length g ≡ k)
 judged-ok bytes None n k e = none (nat_lt (length bytes) 5) e
   where
-    none : (t : Bool) → ◌≡◌ {A = Result (ℕ × ℕ) Varint} (cond t (Err Short) (Err Over)) (Ok (n, k)) → (g : List ℕ) × (None ≡ Some g) × (value g < 2 ^ 32) × (is_padded g ≡ false) × (value g ≡ n) × (length g ≡ k)
+    none : (t : Bool) → ◌≡◌ {A = Result (ℕ × ℕ) Varint} (cond t (Err Short) (Err Over)) (Ok (n, k)) → (g : List ℕ) × (None ≡ Some g) × (value g < 2 ^ 32)
+        × (is_padded g ≡ false) × (value g ≡ n) × (length g ≡ k)
     none true f = absurd cc
     none false f = absurd cc
 judged-ok bytes (Some g) n k e = some (nat_le (2 ^ 32) (value g)) refl (is_padded g) refl e
   where
-    some : (s : Bool) → nat_le (2 ^ 32) (value g) ≡ s → (t : Bool) → is_padded g ≡ t → ◌≡◌ {A = Result (ℕ × ℕ) Varint} (cond s (Err Over) (cond t (Err NotShortest) (Ok (value g, length g)))) (Ok (n, k)) → (h : List ℕ) × (Some g ≡ Some h) × (value h < 2 ^ 32) × (is_padded h ≡ false) × (value h ≡ n) × (length h ≡ k)
+    some : (s : Bool) → nat_le (2 ^ 32) (value g) ≡ s → (t : Bool) → is_padded g ≡ t →
+        ◌≡◌ {A = Result (ℕ × ℕ) Varint} (cond s (Err Over) (cond t (Err NotShortest) (Ok (value g, length g)))) (Ok (n, k)) → (h : List ℕ) × (Some g ≡ Some h)
+        × (value h < 2 ^ 32) × (is_padded h ≡ false) × (value h ≡ n) × (length h ≡ k)
     some true is t it f = absurd cc
     some false is true it f = absurd cc
-    some false is false it f = (let p = ok_is (value g, length g) (n, k) f in (g, refl, grind (arith, nat_tests), it, ap (λ (q : ℕ × ℕ). q.0) p, ap (λ (q : ℕ × ℕ). q.1) p))
+    some false is false it f =
+        (let p = ok_is (value g, length g) (n, k) f in (g, refl, grind (arith, nat_tests), it, ap (λ (q : ℕ × ℕ). q.0) p, ap (λ (q : ℕ × ℕ). q.1) p))
 
 pub one_spelling : OneSpelling
 unfolding reading spelling
@@ -190,7 +205,8 @@ one_spelling bytes n k fits e =
     let g = group-is 5 bytes j.0 fits j.1 in
     by j.0 g.0 g.1.0 g.1.1 g.2 j.2 j.3 j.4 j.5
   where
-    by : (g : List ℕ) → IsGroup g → (rest : List ℕ) → bytes ≡ g ++ rest → length g ≤ 5 → value g < 2 ^ 32 → is_padded g ≡ false → value g ≡ n → length g ≡ k → (n < 2 ^ 32) × (k ≤ length bytes) × (take k bytes ≡ spelling_within 5 n)
+    by : (g : List ℕ) → IsGroup g → (rest : List ℕ) → bytes ≡ g ++ rest → length g ≤ 5 → value g < 2 ^ 32 → is_padded g ≡ false → value g ≡ n → length g ≡ k →
+        (n < 2 ^ 32) × (k ≤ length bytes) × (take k bytes ≡ spelling_within 5 n)
     by [] is rest parts len small plain v l = absurd is
     by (b ∷ g) is rest parts len small plain v l = (
       omega arith,
@@ -200,19 +216,29 @@ one_spelling bytes n k fits e =
 
 -- ---- the steps of the writer
 
-pub push_more : (k rest : ℕ) (items next whole : List ℕ) → rest < 128 * 128 ^ k → items ++ spelling_within (suc k) rest ≡ whole → 128 ≤ rest → next ≡ items ++ ((rest % 128 + 128) ∷ []) →
+pub push_more : (k rest : ℕ) (items next whole : List ℕ) → rest < 128 * 128 ^ k → items ++ spelling_within (suc k) rest ≡ whole → 128 ≤ rest →
+    next ≡ items ++ ((rest % 128 + 128) ∷ []) →
     (j : ℕ) × (k ≡ suc j) × (rest / 128 < 128 * 128 ^ j) × (next ++ spelling_within (suc j) (rest / 128) ≡ whole)
 push_more k rest items next whole fits e big is = by (left k rest big fits)
   where
-    by : (j : ℕ) × (k ≡ suc j) × (rest / 128 < 128 * 128 ^ j) → (j : ℕ) × (k ≡ suc j) × (rest / 128 < 128 * 128 ^ j) × (next ++ spelling_within (suc j) (rest / 128) ≡ whole)
+    by : (j : ℕ) × (k ≡ suc j) × (rest / 128 < 128 * 128 ^ j) → (j : ℕ) × (k ≡ suc j) × (rest / 128 < 128 * 128 ^ j)
+        × (next ++ spelling_within (suc j) (rest / 128) ≡ whole)
     by l =
-        let s : spelling_within (suc k) rest ≡ (rest % 128 + 128) ∷ spelling_within (suc l.0) (rest / 128) = spelling-more k rest big ∙ ap (λ (m : ℕ). (rest % 128 + 128) ∷ spelling_within m (rest / 128)) l.1 in
-        (l.0, l.1, l.2, ap (λ (t : List ℕ). t ++ spelling_within (suc l.0) (rest / 128)) is ∙ append_assoc items ((rest % 128 + 128) ∷ []) (spelling_within (suc l.0) (rest / 128)) ∙ ap (λ (t : List ℕ). items ++ t) (sym s) ∙ e)
+        let s : spelling_within (suc k) rest ≡ (rest % 128 + 128) ∷ spelling_within (suc l.0) (rest / 128) =
+        spelling-more k rest big ∙ ap (λ (m : ℕ). (rest % 128 + 128) ∷ spelling_within m (rest / 128)) l.1 in (
+          l.0,
+          l.1,
+          l.2,
+          ap (λ (t : List ℕ). t ++ spelling_within (suc l.0) (rest / 128)) is
+              ∙ append_assoc items ((rest % 128 + 128) ∷ []) (spelling_within (suc l.0) (rest / 128)) ∙ ap (λ (t : List ℕ). items ++ t) (sym s) ∙ e,
+        )
 
-pub push_last : (k rest : ℕ) (items next whole : List ℕ) → items ++ spelling_within (suc k) rest ≡ whole → rest < 128 → next ≡ items ++ (rest ∷ []) → next ≡ whole
+pub push_last : (k rest : ℕ) (items next whole : List ℕ) → items ++ spelling_within (suc k) rest ≡ whole → rest < 128 → next ≡ items ++ (rest ∷ []) →
+    next ≡ whole
 push_last k rest items next whole e small is = is ∙ ap (λ (t : List ℕ). items ++ t) (sym (spelling-small k rest small)) ∙ e
 
 -- what was appended, where something was
-pub on_ok : {E : Type 0} (r : Result (Unit {0}) E) (old new more whole : List ℕ) → new ≡ cond (is_ok r) (old ++ more) old → more ≡ whole → OnOk r (new ≡ old ++ whole)
+pub on_ok : {E : Type 0} (r : Result (Unit {0}) E) (old new more whole : List ℕ) → new ≡ cond (is_ok r) (old ++ more) old → more ≡ whole →
+    OnOk r (new ≡ old ++ whole)
 on_ok (Ok u) old new more whole is same = is ∙ ap (λ (t : List ℕ). old ++ t) same
 on_ok (Err e) old new more whole is same = tt

@@ -1,5 +1,7 @@
 -- Unsigned LEB128 in its shortest form, of numbers below 2 ^ 32.
-use Rattle.std.specs.Prelude.{◌≡◌, ℕ, zero, suc, ◌+◌, ◌*◌, ◌/◌, ◌%◌, ◌^◌, ◌<◌, ◌≤◌, List, [], ◌∷◌, ◌++◌, length, take, Option, Some, None, Result, Ok, Err, nat_lt, nat_le, nat_eq, if◌then◌else◌, ◌&&◌, Bool, false}
+use Rattle.std.specs.Prelude.{◌≡◌, ℕ, zero, suc, ◌+◌, ◌*◌, ◌/◌, ◌%◌, ◌^◌, ◌<◌, ◌≤◌, List, [], ◌∷◌, ◌++◌, length, take}
+use Rattle.std.specs.Prelude.{Option, Some, None, Result, Ok, Err, nat_lt, nat_le, nat_eq, if◌then◌else◌, ◌&&◌, Bool}
+use Rattle.std.specs.Prelude.{false}
 use Rattle.std.specs.Option.{option_map}
 use Rattle.std.specs.List.{AllByRecursion}
 use Rattle.varint_core.specs.declared.Varint.{Varint}
@@ -36,7 +38,8 @@ is_padded (b ∷ bytes) = nat_lt 0 (length bytes) && nat_eq (last b bytes) 0
 
 abbrev pub judged : List ℕ → Option (List ℕ) → Result (ℕ × ℕ) Varint
 judged bytes None = if nat_lt (length bytes) 5 then Err Short else Err Over
-judged bytes (Some g) = if nat_le (2 ^ 32) (value g) then Err Over else if is_padded g then Err NotShortest else Ok (value g, length g)
+judged bytes (Some g) =
+    if nat_le (2 ^ 32) (value g) then Err Over else if is_padded g then Err NotShortest else Ok (value g, length g)
 
 -- the number and the length of the spelling that the bytes begin with, or why there is none
 unfoldable pub reading : List ℕ → Result (ℕ × ℕ) Varint
@@ -50,7 +53,8 @@ abbrev pub RoundTrip : Type 0
 RoundTrip = (n : ℕ) (rest : List ℕ) → n < 2 ^ 32 → reading (spelling n ++ rest) ≡ Ok (n, length (spelling n))
 
 abbrev pub OneSpelling : Type 0
-OneSpelling = (bytes : List ℕ) (n k : ℕ) → AllByRecursion (λ b. b < 256) bytes → reading bytes ≡ Ok (n, k) → (n < 2 ^ 32) × (k ≤ length bytes) × (take k bytes ≡ spelling n)
+OneSpelling = (bytes : List ℕ) (n k : ℕ) → AllByRecursion (λ b. b < 256) bytes → reading bytes ≡ Ok (n, k) →
+    (n < 2 ^ 32) × (k ≤ length bytes) × (take k bytes ≡ spelling n)
 
 abbrev pub PrefixFree : Type 0
 PrefixFree = (m n : ℕ) (x y : List ℕ) → m < 2 ^ 32 → n < 2 ^ 32 → spelling m ++ x ≡ spelling n ++ y → (m ≡ n) × (x ≡ y)

@@ -15,7 +15,10 @@ struct Trail {
 }
 
 impl Rider for Trail {
-    ghost riding = { record { fresh = record { digits = 0 }; absorbed = λ a b. record { digits = (a.digits * 10 % 2 ^ 32 + b.digits) % 2 ^ 32 } } };
+    ghost riding = { record {
+      fresh = record { digits = 0 };
+      absorbed = λ a b. record { digits = (a.digits * 10 % 2 ^ 32 + b.digits) % 2 ^ 32 };
+    } };
 
     fn fresh() -> Self {
         Trail { digits: 0 }

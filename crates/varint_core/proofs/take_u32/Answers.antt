@@ -6,10 +6,15 @@ use Rattle.varint_core.proofs.Read.{at_five, at_small, at_end, reading_is, read_
 use Rattle.varint_core.proofs.take_u32.Goals as goal
 
 pub returns-then-i-eq-BYTES_MAX-clause-value : goal.returns-then-i-eq-BYTES_MAX-clause-value
-returns-then-i-eq-BYTES_MAX-clause-value c = at_five c.args.bytes.now c.loop-i.i c.loop-i.scale c.loop-i.value _ c.if-i-eq-BYTES_MAX.true c.loop-i-test.true c.loop-i.invariant.rest ∙ reading_is c.args.bytes.now
+returns-then-i-eq-BYTES_MAX-clause-value c =
+    at_five c.args.bytes.now c.loop-i.i c.loop-i.scale c.loop-i.value _ c.if-i-eq-BYTES_MAX.true c.loop-i-test.true c.loop-i.invariant.rest
+    ∙ reading_is c.args.bytes.now
 
 pub returns-then-b-lt128-clause-value : goal.returns-then-b-lt128-clause-value
-returns-then-b-lt128-clause-value c = c.ended.ensures.value ∙ at_small c.args.bytes.now c.loop-i.i c.loop-i.scale c.loop-i.value _ c.if-i-eq-BYTES_MAX.false c.loop-i-test.true c.if-b-lt128.true c.loop-i.invariant.rest ∙ reading_is c.args.bytes.now
+returns-then-b-lt128-clause-value c =
+    c.ended.ensures.value
+    ∙ at_small c.args.bytes.now c.loop-i.i c.loop-i.scale c.loop-i.value _ c.if-i-eq-BYTES_MAX.false c.loop-i-test.true c.if-b-lt128.true
+    c.loop-i.invariant.rest ∙ reading_is c.args.bytes.now
 
 pub returns-then-bytes-lt-BYTES_MAX-clause-value : goal.returns-then-bytes-lt-BYTES_MAX-clause-value
 returns-then-bytes-lt-BYTES_MAX-clause-value c =

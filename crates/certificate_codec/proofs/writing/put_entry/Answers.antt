@@ -8,7 +8,12 @@ pub loop-count-init : goal.loop-count-init
 loop-count-init c = refl
 
 pub loop-count-preserved : goal.loop-count-preserved
-loop-count-preserved c = puts_on count_text count_up c.loop-count.out.items c.put_u32.new.out.items (c.args.out.now.items ++ entry_text tt c.args.entry.now) c.loop-count.count-index c.args.entry.now c.loop-count.count-index 0 c.loop-count-test.true c.in_ok-put_u32.ensures.ok c.loop-count.invariant
+loop-count-preserved c =
+    puts_on count_text count_up c.loop-count.out.items c.put_u32.new.out.items
+    (c.args.out.now.items ++ entry_text tt c.args.entry.now) c.loop-count.count-index c.args.entry.now c.loop-count.count-index 0 c.loop-count-test.true
+    c.in_ok-put_u32.ensures.ok c.loop-count.invariant
 
 pub returns : goal.returns
-returns c = puts_done count_text count_up c.loop-count.out.items (c.args.out.now.items ++ entry_text tt c.args.entry.now) c.loop-count.count-index c.args.entry.now c.loop-count.count-index c.loop-count-test.false c.loop-count.invariant
+returns c = puts_done count_text count_up c.loop-count.out.items
+    (c.args.out.now.items ++ entry_text tt c.args.entry.now) c.loop-count.count-index c.args.entry.now c.loop-count.count-index c.loop-count-test.false
+    c.loop-count.invariant

@@ -5,7 +5,9 @@ use Rattle.certificate_codec.proofs.Parts.{entries_few}
 use Rattle.certificate_codec.proofs.writing.spell_certificate.Goals as goal
 
 pub put_clocks-requires : goal.put_clocks-requires
-put_clocks-requires c = subst (λ (l : List (List (List ℕ))). (core : ℕ) → core < length l → length (get_or l core []) < 2 ^ 32) (sym c.as_slice.ensures) (entries_few c.args.value.now c.requires)
+put_clocks-requires c =
+    subst (λ (l : List (List (List ℕ))). (core : ℕ) → core < length l → length (get_or l core []) < 2 ^ 32) (sym c.as_slice.ensures)
+    (entries_few c.args.value.now c.requires)
 
 pub returns : goal.returns
 unfolding spelling

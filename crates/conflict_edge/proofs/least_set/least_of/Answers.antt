@@ -7,7 +7,10 @@ use Rattle.conflict_edge.proofs.Shuffled.{least_shuffled}
 use Rattle.conflict_edge.proofs.least_set.least_of.Goals as goal
 
 pub returns-clause-least : goal.returns-clause-least
-returns-clause-least c = least_shuffled c.args.list.now c.in_ok-edges.edges.items c.sort_by_key.new.self.items (history_rises c.args.list.now c.requires) c.in_ok-edges.ensures.covering c.sort_by_key.ensures.permutation (IsPermutation-sym _ _ c.sort_by_key.ensures.permutation)
+returns-clause-least c =
+    least_shuffled c.args.list.now c.in_ok-edges.edges.items c.sort_by_key.new.self.items
+    (history_rises c.args.list.now c.requires) c.in_ok-edges.ensures.covering c.sort_by_key.ensures.permutation
+    (IsPermutation-sym _ _ c.sort_by_key.ensures.permutation)
 
 pub returns-clause-order : goal.returns-clause-order
 returns-clause-order c = c.in_ok-sort_by_key.ensures.sorted pair_and_target (answers_always _ _ _ (λ f a r g h. search rules))

@@ -1,4 +1,5 @@
-use Rattle.std.proofs.Common.{arith, ◌≡◌, ℕ, ◌<◌, ◌≤◌, ◌-◌, drop, reverse, zero, suc, length, slice_index, slice_index_or, List, [], ◌∷◌, inl, inr, sym, ◌∙◌, refl, ap, subst, Vec, Global}
+use Rattle.std.proofs.Common.{arith, ◌≡◌, ℕ, ◌<◌, ◌≤◌, ◌-◌, drop, reverse, zero, suc, length, slice_index, slice_index_or, List, [], ◌∷◌, inl, inr, sym, ◌∙◌}
+use Rattle.std.proofs.Common.{refl, ap, subst, Vec, Global}
 use Rattle.rtr_types.specs.declared.access.Access.{Access}
 use Rattle.rtr_types.specs.declared.access.Kind.TheVariants.{Load}
 use Rattle.rtr_types.specs.declared.instr.Edge.{Edge}
@@ -8,20 +9,25 @@ use Rattle.conflict_edge.specs.Times.{IsExactClock}
 use Rattle.conflict_edge.proofs.Once.{Noted, noted_push, noted_skip}
 use Rattle.conflict_edge.proofs.Reversed.{stands_forth}
 use Rattle.conflict_edge.proofs.Scan.{Direct, Reached, FoundFrom, stands-left, stands-right}
-use Rattle.conflict_edge.proofs.Steps.{At, at, test_no, fact_no, not_direct, stands_at, rising, skip_reached, merge_reached, no_conflict, covered, end_clock, end_found}
+use Rattle.conflict_edge.proofs.Steps.{At, at, test_no, fact_no, not_direct, stands_at, rising, skip_reached, merge_reached, no_conflict, covered, end_clock}
+use Rattle.conflict_edge.proofs.Steps.{end_found}
 use Rattle.conflict_edge.proofs.least_set.push_covering.Goals as goal
-use Rattle.conflict_edge.proofs.least_set.push_covering.Goals.{then-conflict+then-not-covers+in_ok-push, else-conflict, else-conflict-via-then-conflict+else-not-covers, else-conflict-via-else-conflict, then-conflict-2-via-then-conflict-2, then-conflict-2-via-else-conflict-2+then-source-access}
+use Rattle.conflict_edge.proofs.least_set.push_covering.Goals.{then-conflict+then-not-covers+in_ok-push, else-conflict}
+use Rattle.conflict_edge.proofs.least_set.push_covering.Goals.{else-conflict-via-then-conflict+else-not-covers, else-conflict-via-else-conflict}
+use Rattle.conflict_edge.proofs.least_set.push_covering.Goals.{then-conflict-2-via-then-conflict-2, then-conflict-2-via-else-conflict-2+then-source-access}
 
 -- what stands at an index past the end
 abbrev nothing : Access
 nothing = record { at = record { core = 0; count = 0 }; word = 0; kind = Load; before = 0; after = 0 }
 
 -- a clock that is read from the list is exact where the one at its place is
-exact_clock : (list : List Access) (b : Access) (clocks : List Clock) (place : ℕ) (clock : Clock) → clock ≡ slice_index_or clocks place clock → IsExactClock list b.at (slice_index_or clocks place clock) → IsExactClock list b.at clock
+exact_clock : (list : List Access) (b : Access) (clocks : List Clock) (place : ℕ) (clock : Clock) → clock ≡ slice_index_or clocks place clock →
+    IsExactClock list b.at (slice_index_or clocks place clock) → IsExactClock list b.at clock
 exact_clock list b clocks place clock is exact = subst (λ (read : Clock). IsExactClock list b.at read) (sym is) exact
 
 pub covers-requires : goal.covers-requires
-covers-requires c = c.requires.cores _ (stands-left c.args.earlier.now (c.args.access.now ∷ []) _ (stands_at c.args.earlier.now (c.loop-place.place - 1) _ (omega arith)))
+covers-requires c = c.requires.cores _
+    (stands-left c.args.earlier.now (c.args.access.now ∷ []) _ (stands_at c.args.earlier.now (c.loop-place.place - 1) _ (omega arith)))
 
 pub loop-place-preserved-in-loop-place : goal.loop-place-preserved-in-loop-place
 loop-place-preserved-in-loop-place c =
@@ -35,15 +41,20 @@ loop-place-preserved-in-loop-place c =
     let noted : Noted c.args.earlier.now c.loop-place.place c.args.access.now c.args.edges.now.items c.if-conflict.edges.items =
     elim c.if-conflict.branch [
       | then-conflict+then-not-covers+in_ok-push w ↦
-          noted_push c.args.earlier.now c.loop-place.place c.args.access.now b _ _ _ _ around rise fits (c.conflicts-conflict.ensures.fact.0 w.if-conflict.true) c.requires.apart
-          kept.reached (test_no w.covers.result _ _ w.covers.ensures w.if-not-covers.true) kept.found kept.once (ap (λ (v : Vec Edge Global). v.items) w.edges-is ∙ w.in_ok-push.ensures.items)
+          noted_push c.args.earlier.now c.loop-place.place c.args.access.now b _ _ _ _ around rise fits
+          (c.conflicts-conflict.ensures.fact.0 w.if-conflict.true) c.requires.apart
+          kept.reached (test_no w.covers.result _ _ w.covers.ensures w.if-not-covers.true) kept.found kept.once
+          (ap (λ (v : Vec Edge Global). v.items) w.edges-is ∙ w.in_ok-push.ensures.items)
       | else-conflict w ↦
           let left = noted_skip c.args.earlier.now c.loop-place.place c.args.access.now b _ _ _ around in
           elim w.else-conflict.branch [
             | else-conflict-via-then-conflict+else-not-covers v ↦
-                left (covered c.args.earlier.now c.loop-place.place c.args.access.now b _ around rise fits kept.reached (v.covers.ensures.0 v.if-not-covers.false)) kept.found kept.once (ap (λ (e : Vec Edge Global). e.items) w.edges-is)
+                left (covered c.args.earlier.now c.loop-place.place c.args.access.now b _ around rise fits kept.reached
+                (v.covers.ensures.0 v.if-not-covers.false)) kept.found kept.once (ap (λ (e : Vec Edge Global). e.items) w.edges-is)
             | else-conflict-via-else-conflict v ↦
-                left (no_conflict c.args.earlier.now c.args.access.now b rise (stands_forth c.args.earlier.now b at_b) (fact_no _ c.conflicts-conflict.result c.conflicts-conflict.ensures.fact.1 v.if-conflict.false)) kept.found kept.once (ap (λ (e : Vec Edge Global). e.items) w.edges-is)
+                left (no_conflict c.args.earlier.now c.args.access.now b rise (stands_forth c.args.earlier.now b at_b)
+                (fact_no _ c.conflicts-conflict.result c.conflicts-conflict.ensures.fact.1 v.if-conflict.false)) kept.found kept.once
+                (ap (λ (e : Vec Edge Global). e.items) w.edges-is)
           ]
     ] in
     let direct : Direct b c.args.access.now =
@@ -51,7 +62,8 @@ loop-place-preserved-in-loop-place c =
       | then-conflict-2-via-then-conflict-2 w ↦ inr (c.conflicts-conflict.ensures.fact.0 w.if-conflict-2.true)
       | then-conflict-2-via-else-conflict-2+then-source-access w ↦ inl w.if-source-access.true
     ] in
-    let exact = exact_clock c.args.earlier.now b c.args.clocks.now (c.loop-place.place - 1) c.index-clocks-place.result c.index-clocks-place.is (c.requires.exact (c.loop-place.place - 1) nothing c.index-clocks-place.result lt) in
+    let exact = exact_clock c.args.earlier.now b c.args.clocks.now (c.loop-place.place - 1) c.index-clocks-place.result c.index-clocks-place.is
+    (c.requires.exact (c.loop-place.place - 1) nothing c.index-clocks-place.result lt) in
     record {
       reached = merge_reached c.args.earlier.now c.loop-place.place c.args.access.now b _ _ _ around direct exact c.merge-known.ensures.places kept.reached;
       found = noted.found;
@@ -70,20 +82,26 @@ loop-place-preserved c =
     let noted : Noted c.args.earlier.now c.loop-place.place c.args.access.now c.args.edges.now.items c.if-conflict.edges.items =
     elim c.if-conflict.branch [
       | then-conflict+then-not-covers+in_ok-push w ↦
-          noted_push c.args.earlier.now c.loop-place.place c.args.access.now b _ _ _ _ around rise fits (c.conflicts-conflict.ensures.fact.0 w.if-conflict.true) c.requires.apart
-          kept.reached (test_no w.covers.result _ _ w.covers.ensures w.if-not-covers.true) kept.found kept.once (ap (λ (v : Vec Edge Global). v.items) w.edges-is ∙ w.in_ok-push.ensures.items)
+          noted_push c.args.earlier.now c.loop-place.place c.args.access.now b _ _ _ _ around rise fits
+          (c.conflicts-conflict.ensures.fact.0 w.if-conflict.true) c.requires.apart
+          kept.reached (test_no w.covers.result _ _ w.covers.ensures w.if-not-covers.true) kept.found kept.once
+          (ap (λ (v : Vec Edge Global). v.items) w.edges-is ∙ w.in_ok-push.ensures.items)
       | else-conflict w ↦
           let left = noted_skip c.args.earlier.now c.loop-place.place c.args.access.now b _ _ _ around in
           elim w.else-conflict.branch [
             | else-conflict-via-then-conflict+else-not-covers v ↦
-                left (covered c.args.earlier.now c.loop-place.place c.args.access.now b _ around rise fits kept.reached (v.covers.ensures.0 v.if-not-covers.false)) kept.found kept.once (ap (λ (e : Vec Edge Global). e.items) w.edges-is)
+                left (covered c.args.earlier.now c.loop-place.place c.args.access.now b _ around rise fits kept.reached
+                (v.covers.ensures.0 v.if-not-covers.false)) kept.found kept.once (ap (λ (e : Vec Edge Global). e.items) w.edges-is)
             | else-conflict-via-else-conflict v ↦
-                left (no_conflict c.args.earlier.now c.args.access.now b rise (stands_forth c.args.earlier.now b at_b) (fact_no _ c.conflicts-conflict.result c.conflicts-conflict.ensures.fact.1 v.if-conflict.false)) kept.found kept.once (ap (λ (e : Vec Edge Global). e.items) w.edges-is)
+                left (no_conflict c.args.earlier.now c.args.access.now b rise (stands_forth c.args.earlier.now b at_b)
+                (fact_no _ c.conflicts-conflict.result c.conflicts-conflict.ensures.fact.1 v.if-conflict.false)) kept.found kept.once
+                (ap (λ (e : Vec Edge Global). e.items) w.edges-is)
           ]
     ] in
     let other = fact_no _ c.conflicts-conflict.result c.conflicts-conflict.ensures.fact.1 c.if-conflict-2.false in
     record {
-      reached = skip_reached c.args.earlier.now c.loop-place.place c.args.access.now b _ around (not_direct b c.args.access.now c.if-source-access.false other) kept.reached;
+      reached = skip_reached c.args.earlier.now c.loop-place.place c.args.access.now b _ around
+          (not_direct b c.args.access.now c.if-source-access.false other) kept.reached;
       found = noted.found;
       once = noted.once;
     }
@@ -100,10 +118,12 @@ pub returns-clause-clock : goal.returns-clause-clock
 returns-clause-clock c =
     let rise = rising c.args.earlier.now c.args.access.now c.requires.rise in
     end_clock c.args.earlier.now c.args.access.now c.loop-place.known c.set.new.self rise
-    (at_zero (λ g. Reached (reverse c.args.earlier.now) g c.args.access.now (λ i. slice_index c.loop-place.known i)) c.args.earlier.now c.loop-place.place (omega arith) c.loop-place.invariant.reached)
+    (at_zero (λ g. Reached (reverse c.args.earlier.now) g c.args.access.now (λ i. slice_index c.loop-place.known i)) c.args.earlier.now c.loop-place.place
+    (omega arith) c.loop-place.invariant.reached)
     c.set.ensures.at c.set.ensures.others
 
 pub returns-clause-edges : goal.returns-clause-edges
 returns-clause-edges c =
     end_found c.args.earlier.now c.args.access.now _ _ c.requires.rise
-    (at_zero (λ g. FoundFrom (reverse c.args.earlier.now) g c.args.access.now c.args.edges.now.items c.loop-place.edges.items) c.args.earlier.now c.loop-place.place (omega arith) c.loop-place.invariant.found)
+    (at_zero (λ g. FoundFrom (reverse c.args.earlier.now) g c.args.access.now c.args.edges.now.items c.loop-place.edges.items) c.args.earlier.now
+    c.loop-place.place (omega arith) c.loop-place.invariant.found)

@@ -17,12 +17,16 @@ loop-of-preserved c =
     let all = c.loop-of.changes in
     let newer = c.loop-of.newest in
     let i = c.loop-of.of in
-    let is : is_news at i (slice_index counts i) (slice_index newer i) ≡ c.is_news.result = sym (c.is_news.ensures ∙ ap (λ (n : ℕ). is_news at i (slice_index counts i) n) c.get.ensures) in
+    let is : is_news at i (slice_index counts i) (slice_index newer i) ≡ c.is_news.result =
+    sym (c.is_news.ensures ∙ ap (λ (n : ℕ). is_news at i (slice_index counts i) n) c.get.ensures) in
     elim c.if-is_news.branch [
       | then-is_news w ↦
           rw (w.changes-is, w.newest-is)
-          (put_one at counts old c.args.newest.now all w.push.new.self newer w.set.new.self i c.loop-of-test.true (is ∙ w.if-is_news.true) (omega (arith, c.requires.lists, length-items c.args.changes.now))
-          (subst (λ (p : ℕ). items_in w.push.new.self ≡ with_item (items_in all) p (record { count = at.count; known = slice_index counts i })) w.list_place.ensures w.push.ensures.items)
-          (subst (λ (p : ℕ). (other : ℕ) → other ≢ p → is_ready_at w.push.new.self other ≡ is_ready_at all other) w.list_place.ensures w.push.ensures.others) w.set.ensures.at w.set.ensures.others c.loop-of.invariant)
+          (put_one at counts old c.args.newest.now all w.push.new.self newer w.set.new.self i c.loop-of-test.true (is ∙ w.if-is_news.true)
+          (omega (arith, c.requires.lists, length-items c.args.changes.now))
+          (subst (λ (p : ℕ). items_in w.push.new.self
+          ≡ with_item (items_in all) p (record { count = at.count; known = slice_index counts i })) w.list_place.ensures w.push.ensures.items)
+          (subst (λ (p : ℕ). (other : ℕ) → other ≢ p → is_ready_at w.push.new.self other ≡ is_ready_at all other) w.list_place.ensures w.push.ensures.others)
+          w.set.ensures.at w.set.ensures.others c.loop-of.invariant)
       | else-is_news w ↦ rw (w.changes-is, w.newest-is) (put_none at counts old c.args.newest.now all newer i (is ∙ w.if-is_news.false) c.loop-of.invariant)
     ]

@@ -7,5 +7,6 @@ use Rattle.log_codec.proofs.fields.totals.Given as goal
 abbrev pub invariant-loop : goal.invariant-loop
 invariant-loop l = record {
   each : length l.found ≡ l.counter;
-  read : with_front l.found (read_in_turn (λ (s : Unit {0}). total_at l.limit) stay (l.cores - l.counter) tt l.rest) ≡ read_in_turn (λ (s : Unit {0}). total_at l.limit) stay l.cores tt l.bytes;
+  read : with_front l.found (read_in_turn (λ (s : Unit {0}). total_at l.limit) stay (l.cores - l.counter) tt l.rest)
+      ≡ read_in_turn (λ (s : Unit {0}). total_at l.limit) stay l.cores tt l.bytes;
 }

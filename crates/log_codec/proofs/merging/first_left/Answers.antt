@@ -15,12 +15,18 @@ loop-source-preserved c =
     let lists = left c.args.cores c.args.reduced.now c.args.target c.args.next.now in
     let next = next-at (edges_out_of c.args.cores c.args.reduced.now c.args.target source) (slice_index c.args.next.now source) ∙ sym c.edge_at.ensures in
     elim c.match-edge_at.branch [
-      | in-Some w ↦ subst (FirstAmong (source + 1) lists) (sym (w.first-is ∙ ap (λ (e : Incoming). Some e) w.earlier_of.ensures)) (among-with source lists c.loop-source.first w.in-Some.counts c.loop-source.invariant (next ∙ w.in-Some.is))
-      | in_default w ↦ subst (FirstAmong (source + 1) lists) (sym w.first-is) (among-without source lists c.loop-source.first c.loop-source.invariant (next ∙ w.in_default.is))
+      | in-Some w ↦ subst (FirstAmong (source + 1) lists) (sym (w.first-is ∙ ap (λ (e : Incoming). Some e) w.earlier_of.ensures))
+          (among-with source lists c.loop-source.first w.in-Some.counts c.loop-source.invariant (next ∙ w.in-Some.is))
+      | in_default w ↦ subst (FirstAmong (source + 1) lists) (sym w.first-is)
+          (among-without source lists c.loop-source.first c.loop-source.invariant (next ∙ w.in_default.is))
     ]
 
 pub returns-clause-first : goal.returns-clause-first
-returns-clause-first c = found-first c.loop-source.source c.args.cores (left c.args.cores c.args.reduced.now c.args.target c.args.next.now) c.loop-source.first (omega (arith, c.loop-source-test.false, c.loop-source.auto.source-end)) c.loop-source.invariant
+returns-clause-first c =
+    found-first c.loop-source.source c.args.cores (left c.args.cores c.args.reduced.now c.args.target c.args.next.now) c.loop-source.first
+    (omega (arith, c.loop-source-test.false, c.loop-source.auto.source-end)) c.loop-source.invariant
 
 pub returns-clause-none : goal.returns-clause-none
-returns-clause-none c = found-none c.loop-source.source c.args.cores (left c.args.cores c.args.reduced.now c.args.target c.args.next.now) c.loop-source.first (omega (arith, c.loop-source-test.false, c.loop-source.auto.source-end)) c.loop-source.invariant
+returns-clause-none c =
+    found-none c.loop-source.source c.args.cores (left c.args.cores c.args.reduced.now c.args.target c.args.next.now) c.loop-source.first
+    (omega (arith, c.loop-source-test.false, c.loop-source.auto.source-end)) c.loop-source.invariant

@@ -15,17 +15,24 @@ loop-init c =
     let edges = incoming_edges cores reduced target in
     let text = spelled_in_turn incoming_text remember [] edges in
     let wrote : c.put_u32.new.out.items ++ text ≡ c.args.out.now.items ++ into_text target edges =
-    ap (λ (l : List ℕ). l ++ text) (c.in_ok-put_u32.ensures.ok ∙ ap (λ (n : ℕ). c.args.out.now.items ++ number n) c.count_into-count.ensures) ∙ append_assoc c.args.out.now.items (number (length edges)) text in
-    writes-start cores target (c.count_into-count.result - 0) reduced c.put_u32.new.out.items (c.args.out.now.items ++ into_text target edges) c.requires.target (log-rises cores reduced c.requires.log) (omega (arith, c.count_into-count.ensures)) wrote
+    ap (λ (l : List ℕ). l ++ text) (c.in_ok-put_u32.ensures.ok ∙ ap (λ (n : ℕ). c.args.out.now.items ++ number n) c.count_into-count.ensures)
+    ∙ append_assoc c.args.out.now.items (number (length edges)) text in
+    writes-start cores target (c.count_into-count.result - 0) reduced c.put_u32.new.out.items
+    (c.args.out.now.items ++ into_text target edges) c.requires.target (log-rises cores reduced c.requires.log)
+    (omega (arith, c.count_into-count.ensures)) wrote
 
 pub put_incoming-requires-clause-target : goal.put_incoming-requires-clause-target
 put_incoming-requires-clause-target c =
-    (writes-rises c.args.cores c.args.target (c.count_into-count.result - c.loop.counter) c.args.reduced.now c.loop.next c.loop.last c.loop.counts c.loop.out.items (c.args.out.now.items ++ into_text c.args.target (incoming_edges c.args.cores c.args.reduced.now c.args.target)) c.in-Some.edge
+    (writes-rises c.args.cores c.args.target
+    (c.count_into-count.result - c.loop.counter) c.args.reduced.now c.loop.next c.loop.last c.loop.counts c.loop.out.items
+    (c.args.out.now.items ++ into_text c.args.target (incoming_edges c.args.cores c.args.reduced.now c.args.target)) c.in-Some.edge
     c.requires.log.few c.requires.target (log-rises c.args.cores c.args.reduced.now c.requires.log) c.loop.invariant c.in-Some.ensures.first).0
 
 pub put_incoming-requires-clause-source : goal.put_incoming-requires-clause-source
 put_incoming-requires-clause-source c =
-    (writes-rises c.args.cores c.args.target (c.count_into-count.result - c.loop.counter) c.args.reduced.now c.loop.next c.loop.last c.loop.counts c.loop.out.items (c.args.out.now.items ++ into_text c.args.target (incoming_edges c.args.cores c.args.reduced.now c.args.target)) c.in-Some.edge
+    (writes-rises c.args.cores c.args.target
+    (c.count_into-count.result - c.loop.counter) c.args.reduced.now c.loop.next c.loop.last c.loop.counts c.loop.out.items
+    (c.args.out.now.items ++ into_text c.args.target (incoming_edges c.args.cores c.args.reduced.now c.args.target)) c.in-Some.edge
     c.requires.log.few c.requires.target (log-rises c.args.cores c.args.reduced.now c.requires.log) c.loop.invariant c.in-Some.ensures.first).1
 
 pub loop-preserved : goal.loop-preserved
@@ -38,13 +45,19 @@ loop-preserved c =
     let one : many - 1 ≡ c.count_into-count.result - (c.loop.counter + 1) = omega arith in
     elim c.match-first_left.branch [
       | in-Some+in_ok-put_incoming w ↦
-          let next = writes-more cores target many reduced c.loop.next c.loop.last c.loop.counts c.loop.out.items whole w.in-Some.edge w.put_incoming.new.out.items c.requires.log.few c.requires.target (log-rises cores reduced c.requires.log) c.loop.invariant w.in-Some.ensures.first w.in_ok-put_incoming.ensures in
+          let next = writes-more cores target many reduced c.loop.next c.loop.last c.loop.counts c.loop.out.items whole w.in-Some.edge
+          w.put_incoming.new.out.items c.requires.log.few c.requires.target
+          (log-rises cores reduced c.requires.log) c.loop.invariant w.in-Some.ensures.first w.in_ok-put_incoming.ensures in
           rw (w.next-is, w.last-is, w.counts-is, w.out-is, ← one) next
       | in_default w ↦
-          let none = writes-none cores target many reduced c.loop.next c.loop.last c.loop.counts c.loop.out.items whole c.loop.invariant w.in_default.ensures.none in
+          let none = writes-none cores target many reduced c.loop.next c.loop.last c.loop.counts c.loop.out.items whole c.loop.invariant
+          w.in_default.ensures.none in
           absurd (omega (arith, none, c.loop-test.true))
     ]
 
 pub returns : goal.returns
 returns c =
-    writes-done c.args.cores c.args.target (c.count_into-count.result - c.loop.counter) c.args.reduced.now c.loop.next c.loop.last c.loop.counts c.loop.out.items (c.args.out.now.items ++ into_text c.args.target (incoming_edges c.args.cores c.args.reduced.now c.args.target)) c.loop.invariant (omega (arith, c.loop-test.false))
+    writes-done c.args.cores c.args.target
+    (c.count_into-count.result - c.loop.counter) c.args.reduced.now c.loop.next c.loop.last c.loop.counts c.loop.out.items
+    (c.args.out.now.items ++ into_text c.args.target (incoming_edges c.args.cores c.args.reduced.now c.args.target)) c.loop.invariant
+    (omega (arith, c.loop-test.false))

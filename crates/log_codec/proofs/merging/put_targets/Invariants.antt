@@ -6,4 +6,6 @@ use Rattle.log_codec.specs.Turns.{count_up, spelled_in_turn}
 use Rattle.log_codec.proofs.merging.put_targets.Given as goal
 
 abbrev pub invariant-loop-target : goal.invariant-loop-target
-invariant-loop-target l = l.out.items ++ spelled_in_turn into_text count_up l.target (drop l.target (map (incoming_edges l.cores l.reduced) (range_with_len 0 (target_count l.cores)))) ≡ l.fn.out.items ++ targets_text l.cores l.reduced
+invariant-loop-target l =
+    l.out.items ++ spelled_in_turn into_text count_up l.target
+    (drop l.target (map (incoming_edges l.cores l.reduced) (range_with_len 0 (target_count l.cores)))) ≡ l.fn.out.items ++ targets_text l.cores l.reduced

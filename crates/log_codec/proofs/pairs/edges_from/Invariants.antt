@@ -8,5 +8,6 @@ abbrev pub invariant-loop : goal.invariant-loop
 invariant-loop l = record {
   source : l.last.0 ≤ l.most.0;
   target : l.last.1 ≤ l.most.1;
-  read : with_front l.found (read_in_turn (edge_at l.most) follow (l.count - l.counter) l.last l.rest) ≡ read_in_turn (edge_at l.most) follow l.count (0, 0) l.bytes;
+  read : with_front l.found (read_in_turn (edge_at l.most) follow (l.count - l.counter) l.last l.rest)
+      ≡ read_in_turn (edge_at l.most) follow l.count (0, 0) l.bytes;
 }

@@ -9,7 +9,9 @@ pub returns : goal.returns
 returns c =
     let are = bytes-from_index c.args.bytes.now (λ i. omega (arith, c.type_inv.bytes i)) in
     let f = front_found c.args.bytes.now c.in_ok-recording.recording c.in_ok-recording.rest.now are c.in_ok-recording.ensures in
-    let exact : front_at c.args.bytes.now ≡ Ok (c.in_ok-recording.recording, drop (length c.args.bytes.now - length c.in_ok-recording.rest.now) c.args.bytes.now) = rw f.rest_is c.in_ok-recording.ensures in
+    let exact : front_at c.args.bytes.now
+    ≡ Ok (c.in_ok-recording.recording, drop (length c.args.bytes.now - length c.in_ok-recording.rest.now) c.args.bytes.now) =
+    rw f.rest_is c.in_ok-recording.ensures in
     record {
       found = (f.valid, f.text);
       within = omega arith;

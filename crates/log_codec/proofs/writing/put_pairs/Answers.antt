@@ -25,8 +25,12 @@ pub loop-edges-preserved : goal.loop-edges-preserved
 loop-edges-preserved c =
     let i = c.loop-edges.edges-index in
     let item = c.edges-item.result in
-    let is : c.put_edges.new.out.items ≡ c.loop-edges.out.items ++ edges_text i (get_or c.args.reduced.now i item) = rw (← c.edges-item.is, ← c.as_slice.ensures) c.in_ok-put_edges.ensures in
-    puts_on edges_text count_up c.loop-edges.out.items c.put_edges.new.out.items (c.args.out.now.items ++ pairs_text c.args.reduced.now) i c.args.reduced.now i item c.loop-edges-test.true is c.loop-edges.invariant
+    let is : c.put_edges.new.out.items ≡ c.loop-edges.out.items ++ edges_text i (get_or c.args.reduced.now i item) =
+    rw (← c.edges-item.is, ← c.as_slice.ensures) c.in_ok-put_edges.ensures in
+    puts_on edges_text count_up c.loop-edges.out.items c.put_edges.new.out.items
+    (c.args.out.now.items ++ pairs_text c.args.reduced.now) i c.args.reduced.now i item c.loop-edges-test.true is c.loop-edges.invariant
 
 pub returns : goal.returns
-returns c = puts_done edges_text count_up c.loop-edges.out.items (c.args.out.now.items ++ pairs_text c.args.reduced.now) c.loop-edges.edges-index c.args.reduced.now c.loop-edges.edges-index c.loop-edges-test.false c.loop-edges.invariant
+returns c = puts_done edges_text count_up c.loop-edges.out.items
+    (c.args.out.now.items ++ pairs_text c.args.reduced.now) c.loop-edges.edges-index c.args.reduced.now c.loop-edges.edges-index c.loop-edges-test.false
+    c.loop-edges.invariant

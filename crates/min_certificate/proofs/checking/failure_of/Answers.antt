@@ -14,7 +14,8 @@ returns-in-Some c =
     let h : Judges d list = record { valid = c.requires.valid; determinate = c.requires.determinate; list_is = c.requires.accesses } in
     record {
       determinate = c.requires.determinate;
-      first = first_no_conflict d list c.in-Some.edge h (subst (λ (l : List Edge). FailsFirst (BothConflict list) l c.in-Some.edge) c.edges.ensures.edges c.in-Some.ensures);
+      first = first_no_conflict d list c.in-Some.edge h
+          (subst (λ (l : List Edge). FailsFirst (BothConflict list) l c.in-Some.edge) c.edges.ensures.edges c.in-Some.ensures);
     }
 
 pub returns-in-Some-first_bad : goal.returns-in-Some-first_bad

@@ -14,19 +14,22 @@ pub returns-in-Ok-clause-found : goal.returns-in-Ok-clause-found
 returns-in-Ok-clause-found c =
     let list = c.args.list.now in
     let by_key = c.in-Ok.ensures.position (λ a. a.at.count) (answers_always _ _ _ (λ f a r g called. search rules)) in
-    let at = (searched (λ (a : Access). a.at.count) list no_access c.args.count (rising_at list no_access c.requires) (Ok c.in-Ok.k) c.in-Ok.ensures.bound by_key).found in
+    let at = (searched (λ (a : Access). a.at.count) list no_access c.args.count (rising_at list no_access c.requires)
+    (Ok c.in-Ok.k) c.in-Ok.ensures.bound by_key).found in
     ((c.in-Ok.k, at.0, get_or_default list c.in-Ok.k (get_or list c.in-Ok.k no_access) no_access at.0), at.1)
 
 pub returns-in-Ok-clause-only : goal.returns-in-Ok-clause-only
 returns-in-Ok-clause-only c a has e =
     let list = c.args.list.now in
     let by_key = c.in-Ok.ensures.position (λ a. a.at.count) (answers_always _ _ _ (λ f a r g called. search rules)) in
-    let at = (searched (λ (a : Access). a.at.count) list no_access c.args.count (rising_at list no_access c.requires) (Ok c.in-Ok.k) c.in-Ok.ensures.bound by_key).found in
+    let at = (searched (λ (a : Access). a.at.count) list no_access c.args.count (rising_at list no_access c.requires)
+    (Ok c.in-Ok.k) c.in-Ok.ensures.bound by_key).found in
     ap (λ (x : Access). Some x) (one_at list c.in-Ok.k c.args.count no_access a c.requires at.0 at.1 has e)
 
 pub returns-in-Err-clause-only : goal.returns-in-Err-clause-only
 returns-in-Err-clause-only c a has e =
     let list = c.args.list.now in
     let by_key = c.in-Err.ensures.position (λ a. a.at.count) (answers_always _ _ _ (λ f a r g called. search rules)) in
-    let none = (searched (λ (a : Access). a.at.count) list no_access c.args.count (rising_at list no_access c.requires) (Err c.in-Err.field-0) c.in-Err.ensures.bound by_key).absent in
+    let none = (searched (λ (a : Access). a.at.count) list no_access c.args.count (rising_at list no_access c.requires)
+    (Err c.in-Err.field-0) c.in-Err.ensures.bound by_key).absent in
     absurd (none has.0 has.1 (ap (λ (x : Access). x.at.count) (get_or_default list has.0 no_access a has.1 ∙ has.2) ∙ e))

@@ -9,4 +9,6 @@ pub record Told {X : Type 0} (room : ℕ → X → Type 0) (nodes so_far : List 
   pub room_above : (k : ℕ) (d : X) → n ≤ k → k < length nodes → room k (slice_index_or nodes k d)
 
 abbrev pub invariant-loop-n : goal.invariant-loop-n
-invariant-loop-n g l = Told (λ k n. has l.set k ≡ true → length n.messages.items < n.messages.room) l.nodes (nodes_told g.K.Carry.carrying l.set (message_seen l.message) l.carry l.n l.fn.nodes) l.n
+invariant-loop-n g l =
+    Told (λ k n. has l.set k ≡ true → length n.messages.items < n.messages.room) l.nodes
+    (nodes_told g.K.Carry.carrying l.set (message_seen l.message) l.carry l.n l.fn.nodes) l.n

@@ -15,4 +15,5 @@ unfolding clock_into
 returns c =
     c.set.ensures.value
     ∙ ap (λ (clock : Clock). slice_set clock c.args.at.core c.args.at.count)
-    (merged_all c.args.before c.loop-source.clock c.args.found.now c.loop-source.source-index (omega (arith, c.loop-source-test.false, c.loop-source.auto.source-index-end)) c.loop-source.invariant)
+    (merged_all c.args.before c.loop-source.clock c.args.found.now c.loop-source.source-index
+    (omega (arith, c.loop-source-test.false, c.loop-source.auto.source-index-end)) c.loop-source.invariant)

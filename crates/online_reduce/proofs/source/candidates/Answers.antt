@@ -9,7 +9,12 @@ unfolding candidates
 loop-core-init c = c.new-found.ensures
 
 pub push_candidates-requires-clause-room : goal.push_candidates-requires-clause-room
-push_candidates-requires-clause-room c = omega (arith, room_more c.loop-core.core c.args.access.now c.args.times.now (omega (arith, c.loop-core-test.true, c.requires)), ap length c.loop-core.invariant)
+push_candidates-requires-clause-room c =
+    omega (
+      arith,
+      room_more c.loop-core.core c.args.access.now c.args.times.now (omega (arith, c.loop-core-test.true, c.requires)),
+      ap length c.loop-core.invariant,
+    )
 
 pub loop-core-preserved : goal.loop-core-preserved
 loop-core-preserved c =
@@ -18,4 +23,9 @@ loop-core-preserved c =
     ∙ sym (found_more c.loop-core.core c.args.access.now c.args.times.now)
 
 pub returns-clause-few : goal.returns-clause-few
-returns-clause-few c = omega (arith, ap length c.loop-core.invariant, found_few c.loop-core.core c.args.access.now c.args.times.now (omega (arith, c.loop-core.auto.core-end, c.requires)))
+returns-clause-few c =
+    omega (
+      arith,
+      ap length c.loop-core.invariant,
+      found_few c.loop-core.core c.args.access.now c.args.times.now (omega (arith, c.loop-core.auto.core-end, c.requires)),
+    )

@@ -9,5 +9,7 @@ use Rattle.recorder.proofs.recorded.words_of.Goals as goal
 pub loop-word-preserved : goal.loop-word-preserved
 loop-word-preserved c =
     c.in_ok-push.ensures.ok ∙ ap (λ (list : List ℕ). list ++ c.final_word.result ∷ []) c.loop-word.invariant
-    ∙ ap (λ (w : ℕ). map (final_word none_riding none_carrying (plain c.args.machine.now.state)) (range_with_len 0 c.loop-word.word) ++ w ∷ []) c.final_word.ensures.plain
-    ∙ sym (map-range_with_len_more (final_word none_riding none_carrying (plain c.args.machine.now.state)) 0 c.loop-word.word c.loop-word.word (zero-add c.loop-word.word))
+    ∙ ap (λ (w : ℕ). map (final_word none_riding none_carrying (plain c.args.machine.now.state)) (range_with_len 0 c.loop-word.word)
+    ++ w ∷ []) c.final_word.ensures.plain
+    ∙ sym (map-range_with_len_more (final_word none_riding none_carrying (plain c.args.machine.now.state)) 0 c.loop-word.word c.loop-word.word
+    (zero-add c.loop-word.word))

@@ -12,14 +12,19 @@ use Rattle.recorder.proofs.run.record_run.Goals as goal
 
 pub loop-machine-init : goal.loop-machine-init
 loop-machine-init c = record {
-  stands = (0, records_start c.args.image c.args.params c.args.schedule c.in_ok-machine.machine.state c.in_ok-clerk.clerk c.requires.fits c.in_ok-machine.ensures.start c.in_ok-machine.ensures.plain c.in_ok-clerk.ensures.reduction c.in_ok-clerk.ensures.loads);
+  stands = (
+    0,
+    records_start c.args.image c.args.params c.args.schedule c.in_ok-machine.machine.state c.in_ok-clerk.clerk c.requires.fits
+        c.in_ok-machine.ensures.start c.in_ok-machine.ensures.plain c.in_ok-clerk.ensures.reduction c.in_ok-clerk.ensures.loads,
+  );
   image = ap (λ s. s.image) c.in_ok-machine.ensures.start;
 }
 
 pub turn-requires-clause-awaited : goal.turn-requires-clause-awaited
 turn-requires-clause-awaited c =
     let stands = c.loop-machine.invariant.stands in
-    all_awaited c.args.image c.args.params c.args.schedule stands.0 c.loop-machine.machine.state c.loop-machine.clerk c.loop-machine.choices c.requires.fits stands.1
+    all_awaited c.args.image c.args.params c.args.schedule stands.0 c.loop-machine.machine.state c.loop-machine.clerk c.loop-machine.choices c.requires.fits
+    stands.1
 
 pub loop-machine-preserved : goal.loop-machine-preserved
 loop-machine-preserved c =
@@ -32,13 +37,15 @@ loop-machine-preserved c =
 pub returns-clause-outcome : goal.returns-clause-outcome
 returns-clause-outcome c =
     let stands = c.loop-machine.invariant.stands in
-    let at = ended c.args.image c.args.params c.args.schedule stands.0 c.loop-machine.machine.state c.loop-machine.clerk c.loop-machine.choices c.requires.fits (sym c.loop-machine-test.ensures.done) stands.1 in
+    let at = ended c.args.image c.args.params c.args.schedule stands.0 c.loop-machine.machine.state c.loop-machine.clerk c.loop-machine.choices c.requires.fits
+    (sym c.loop-machine-test.ensures.done) stands.1 in
     IfOk-weaker c.finished.result _ _ (λ run is. is ∙ at.outcome) c.finished.ensures.outcome
 
 pub returns-clause-recording : goal.returns-clause-recording
 returns-clause-recording c =
     let stands = c.loop-machine.invariant.stands in
-    let at = ended c.args.image c.args.params c.args.schedule stands.0 c.loop-machine.machine.state c.loop-machine.clerk c.loop-machine.choices c.requires.fits (sym c.loop-machine-test.ensures.done) stands.1 in
+    let at = ended c.args.image c.args.params c.args.schedule stands.0 c.loop-machine.machine.state c.loop-machine.clerk c.loop-machine.choices c.requires.fits
+    (sym c.loop-machine-test.ensures.done) stands.1 in
     IfOk-weaker c.finished.result _ _
     (λ run is. is ∙ recording_is c.args.image c.args.params c.args.schedule c.loop-machine.machine.state c.loop-machine.clerk c.loop-machine.invariant.image at)
     c.finished.ensures.recording
@@ -46,17 +53,20 @@ returns-clause-recording c =
 pub returns-clause-valid : goal.returns-clause-valid
 returns-clause-valid c =
     let stands = c.loop-machine.invariant.stands in
-    let at = ended c.args.image c.args.params c.args.schedule stands.0 c.loop-machine.machine.state c.loop-machine.clerk c.loop-machine.choices c.requires.fits (sym c.loop-machine-test.ensures.done) stands.1 in
+    let at = ended c.args.image c.args.params c.args.schedule stands.0 c.loop-machine.machine.state c.loop-machine.clerk c.loop-machine.choices c.requires.fits
+    (sym c.loop-machine-test.ensures.done) stands.1 in
     IfOk-weaker c.finished.result _ _
     (λ run is. subst Valid (sym is)
-    (recording_valid c.args.image c.args.params c.args.schedule c.loop-machine.machine.state c.loop-machine.clerk c.loop-machine.invariant.image at c.requires.fits c.requires.words
+    (recording_valid c.args.image c.args.params c.args.schedule c.loop-machine.machine.state c.loop-machine.clerk c.loop-machine.invariant.image at
+    c.requires.fits c.requires.words
     (omega (arith, c.words-words.ensures.value, c.words-words.ensures.room, c.requires.words))))
     c.finished.ensures.recording
 
 pub returns-clause-least : goal.returns-clause-least
 returns-clause-least c =
     let stands = c.loop-machine.invariant.stands in
-    let at = ended c.args.image c.args.params c.args.schedule stands.0 c.loop-machine.machine.state c.loop-machine.clerk c.loop-machine.choices c.requires.fits (sym c.loop-machine-test.ensures.done) stands.1 in
+    let at = ended c.args.image c.args.params c.args.schedule stands.0 c.loop-machine.machine.state c.loop-machine.clerk c.loop-machine.choices c.requires.fits
+    (sym c.loop-machine-test.ensures.done) stands.1 in
     IfOk-weaker c.finished.result _ _
     (λ run is. subst (λ (r : Recording). IsLeast (run_accesses c.args.image c.args.params c.args.schedule) (log_edges Reduced r)) (sym is)
     (recording_least c.args.image c.args.params c.args.schedule c.loop-machine.machine.state c.loop-machine.clerk c.loop-machine.invariant.image at))

@@ -19,7 +19,8 @@ returns-clause-stands c =
       steps = record {
         taken = ap (chosen (plain s)) (sym c.next.ensures.choice) ∙ c.step_timed.ensures.taken.plainly;
         state = c.step_timed.ensures.moved.plainly;
-        told = told_lists _ _ c.ready.new.self c.step_timed.new.clerk _ _ c.step_timed.ensures.told ∙ ap (λ (e : Event). lists_told c.ready.new.self.loads.lists e) c.step_timed.ensures.moved.tells;
+        told = told_lists _ _ c.ready.new.self c.step_timed.new.clerk _ _ c.step_timed.ensures.told
+            ∙ ap (λ (e : Event). lists_told c.ready.new.self.loads.lists e) c.step_timed.ensures.moved.tells;
         left = c.next.ensures.rest;
       };
       event_is = c.step_timed.ensures.moved.tells;
@@ -31,4 +32,5 @@ returns-clause-stands c =
     } in
     λ image params schedule t stands.
     records_next image params schedule t s c.step_timed.new.self.state m c.ready.new.self c.step_timed.new.clerk c.args.choices.now c.next.new.self going turned
-    (records_same image params schedule t c.args.machine.now.state s c.args.clerk.now c.ready.new.self c.args.choices.now c.make_room.ensures.state c.ready.ensures.reduction c.ready.ensures.loads stands)
+    (records_same image params schedule t c.args.machine.now.state s c.args.clerk.now c.ready.new.self c.args.choices.now c.make_room.ensures.state
+    c.ready.ensures.reduction c.ready.ensures.loads stands)

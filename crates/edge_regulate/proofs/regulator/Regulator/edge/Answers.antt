@@ -38,19 +38,24 @@ pub returns-in-Some-clause-regulation : goal.returns-in-Some-clause-regulation
 returns-in-Some-clause-regulation c edges kept =
     let cores = ap (λ s. s.cores) c.self.view_is in
     let place = c.pair_at-place.result in
-    let placed : place ≡ pair_place c.args.self.now.cores c.args.edge.from.core c.args.edge.to.core = c.pair_at-place.ensures.place ∙ ap (λ (n : ℕ). pair_place n c.args.edge.from.core c.args.edge.to.core) cores in
+    let placed : place ≡ pair_place c.args.self.now.cores c.args.edge.from.core c.args.edge.to.core =
+    c.pair_at-place.ensures.place ∙ ap (λ (n : ℕ). pair_place n c.args.edge.from.core c.args.edge.to.core) cores in
     let list = c.list.result.now in
     tell c.args.history.now.notes edges c.args.self.now _ c.args.edge kept c.requires.next.pair c.requires.next.noted cores
-    (edge_told c.args.history.now.notes c.args.self.now c.args.edge c.self.inside.pairs c.set_last.new.self place list (slice_set list (length list - 1) c.in-Some.vector) (ap (λ s. s.vectors) c.self.view_is) placed c.list.ensures c.in-Some.ensures.goes_on
+    (edge_told c.args.history.now.notes c.args.self.now c.args.edge c.self.inside.pairs c.set_last.new.self place list
+    (slice_set list (length list - 1) c.in-Some.vector) (ap (λ s. s.vectors) c.self.view_is) placed c.list.ensures c.in-Some.ensures.goes_on
     (c.set_last.ensures.items ∙ ap (λ vs. slice_set (items_in c.self.inside.pairs) place (slice_set vs (length vs - 1) c.in-Some.vector)) (sym c.list.ensures)))
 
 pub returns-in-None-clause-regulation : goal.returns-in-None-clause-regulation
 returns-in-None-clause-regulation c edges kept =
     let cores = ap (λ s. s.cores) c.self.view_is in
     let place = c.pair_at-place.result in
-    let placed : place ≡ pair_place c.args.self.now.cores c.args.edge.from.core c.args.edge.to.core = c.pair_at-place.ensures.place ∙ ap (λ (n : ℕ). pair_place n c.args.edge.from.core c.args.edge.to.core) cores in
+    let placed : place ≡ pair_place c.args.self.now.cores c.args.edge.from.core c.args.edge.to.core =
+    c.pair_at-place.ensures.place ∙ ap (λ (n : ℕ). pair_place n c.args.edge.from.core c.args.edge.to.core) cores in
     let list = c.list.result.now in
     tell c.args.history.now.notes edges c.args.self.now _ c.args.edge kept c.requires.next.pair c.requires.next.noted cores
-    (edge_told c.args.history.now.notes c.args.self.now c.args.edge c.self.inside.pairs c.push.new.self place list (list ++ opened (counts c.args.edge) ∷ []) (ap (λ s. s.vectors) c.self.view_is) placed c.list.ensures c.in-None.ensures.opens
-    (c.push.ensures.items ∙ ap (λ (v : StrideVector). slice_set (items_in c.self.inside.pairs) place (items_at c.self.inside.pairs place ++ v ∷ [])) c.opened.ensures.value
+    (edge_told c.args.history.now.notes c.args.self.now c.args.edge c.self.inside.pairs c.push.new.self place list (list ++ opened (counts c.args.edge) ∷ [])
+    (ap (λ s. s.vectors) c.self.view_is) placed c.list.ensures c.in-None.ensures.opens
+    (c.push.ensures.items
+    ∙ ap (λ (v : StrideVector). slice_set (items_in c.self.inside.pairs) place (items_at c.self.inside.pairs place ++ v ∷ [])) c.opened.ensures.value
     ∙ ap (λ vs. slice_set (items_in c.self.inside.pairs) place (vs ++ opened (counts c.args.edge) ∷ [])) (sym c.list.ensures)))

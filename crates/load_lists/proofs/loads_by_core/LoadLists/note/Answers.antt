@@ -13,4 +13,6 @@ returns c =
     ∙ ap (λ (lists : List (List LoadNote)). with_note lists c.args.core c.args.note) is
 
 pub invariant_of-self : goal.invariant_of-self
-invariant_of-self c = λ e. known_after c.self.inside.lists.items c.args.core c.note-roomy.new.self c.self.inside.known_roomy c.note-roomy.result c.self.invariant c.note-roomy.ensures.room e
+invariant_of-self c =
+    λ e. known_after c.self.inside.lists.items c.args.core c.note-roomy.new.self c.self.inside.known_roomy c.note-roomy.result c.self.invariant
+    c.note-roomy.ensures.room e

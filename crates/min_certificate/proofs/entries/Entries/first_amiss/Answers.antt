@@ -5,23 +5,32 @@ use Rattle.min_certificate.specs.Sound.{IsSound}
 use Rattle.std.proofs.Common.{None}
 use Rattle.min_certificate.proofs.First.{no_edge, target_within, fails_first, holds_more, holds_all}
 use Rattle.min_certificate.proofs.entries.Entries.first_amiss.Goals as goal
-use Rattle.min_certificate.proofs.entries.Entries.first_amiss.Goals.{then-not-is_conflict-via-then-not-is_conflict, then-not-is_conflict-via-else-not-is_conflict+then-not-is_needed}
+use Rattle.min_certificate.proofs.entries.Entries.first_amiss.Goals.{then-not-is_conflict-via-then-not-is_conflict}
+use Rattle.min_certificate.proofs.entries.Entries.first_amiss.Goals.{then-not-is_conflict-via-else-not-is_conflict+then-not-is_needed}
 
 pub is_needed-requires-clause-within : goal.is_needed-requires-clause-within
-is_needed-requires-clause-within c = (target_within c.args.self.now.recording c.edges-edge-items.result.now c.loop-edge.edge-index _ c.edges-edge-items.ensures.valid c.edges-edge-items.ensures.edges c.loop-edge-test.true).within
+is_needed-requires-clause-within c =
+    (target_within c.args.self.now.recording c.edges-edge-items.result.now c.loop-edge.edge-index _ c.edges-edge-items.ensures.valid
+    c.edges-edge-items.ensures.edges c.loop-edge-test.true).within
 
 pub is_needed-requires-clause-some : goal.is_needed-requires-clause-some
-is_needed-requires-clause-some c = (target_within c.args.self.now.recording c.edges-edge-items.result.now c.loop-edge.edge-index _ c.edges-edge-items.ensures.valid c.edges-edge-items.ensures.edges c.loop-edge-test.true).some
+is_needed-requires-clause-some c =
+    (target_within c.args.self.now.recording c.edges-edge-items.result.now c.loop-edge.edge-index _ c.edges-edge-items.ensures.valid
+    c.edges-edge-items.ensures.edges c.loop-edge-test.true).some
 
 pub returns-then-not-is_conflict : goal.returns-then-not-is_conflict
-returns-then-not-is_conflict c = subst (λ (l : List Edge). FailsFirst (IsSound c.args.self.now c.args.accesses.now) l (get_or c.edges-edge-items.result.now c.loop-edge.edge-index no_edge)) c.edges-edge-items.ensures.edges (elim c.then-not-is_conflict.branch [
-  | then-not-is_conflict-via-then-not-is_conflict w ↦
-      fails_first (IsSound c.args.self.now c.args.accesses.now) c.edges-edge-items.result.now c.loop-edge.edge-index no_edge c.loop-edge-test.true c.loop-edge.invariant
-      (λ s. let t = c.is_conflict.ensures.1 s.conflict in let f = w.if-not-is_conflict.true in absurd (cc))
-  | then-not-is_conflict-via-else-not-is_conflict+then-not-is_needed w ↦
-      fails_first (IsSound c.args.self.now c.args.accesses.now) c.edges-edge-items.result.now c.loop-edge.edge-index no_edge c.loop-edge-test.true c.loop-edge.invariant
-      (λ s. let t = w.is_needed.ensures.1 s.needed in let f = w.if-not-is_needed.true in absurd (cc))
-])
+returns-then-not-is_conflict c =
+    subst (λ (l : List Edge). FailsFirst (IsSound c.args.self.now c.args.accesses.now) l (get_or c.edges-edge-items.result.now c.loop-edge.edge-index no_edge))
+    c.edges-edge-items.ensures.edges (elim c.then-not-is_conflict.branch [
+      | then-not-is_conflict-via-then-not-is_conflict w ↦
+          fails_first (IsSound c.args.self.now c.args.accesses.now) c.edges-edge-items.result.now c.loop-edge.edge-index no_edge c.loop-edge-test.true
+          c.loop-edge.invariant
+          (λ s. let t = c.is_conflict.ensures.1 s.conflict in let f = w.if-not-is_conflict.true in absurd (cc))
+      | then-not-is_conflict-via-else-not-is_conflict+then-not-is_needed w ↦
+          fails_first (IsSound c.args.self.now c.args.accesses.now) c.edges-edge-items.result.now c.loop-edge.edge-index no_edge c.loop-edge-test.true
+          c.loop-edge.invariant
+          (λ s. let t = w.is_needed.ensures.1 s.needed in let f = w.if-not-is_needed.true in absurd (cc))
+    ])
 
 pub loop-edge-preserved : goal.loop-edge-preserved
 loop-edge-preserved c =

@@ -17,7 +17,8 @@ returns-in-Some-clause-some c =
     let valid : Valid c.recording.result.now = subst Valid (sym c.recording.ensures.recording) c.recording.ensures.valid in (
       subst (λ (p : Recording). Among (reduced_edges p) (instr c.args.of c.in-Some.count) c.args.at) e (has_among q x c.args.at c.in-Some.ensures.found),
       refl,
-      subst (λ (p : Recording). IsWithin p (instr c.args.of c.in-Some.count)) e (source_within q c.args.of c.in-Some.count c.args.at valid c.in-Some.ensures.found),
+      subst (λ (p : Recording). IsWithin p (instr c.args.of c.in-Some.count)) e
+          (source_within q c.args.of c.in-Some.count c.args.at valid c.in-Some.ensures.found),
     )
 
 pub returns-in-Some-clause-only : goal.returns-in-Some-clause-only

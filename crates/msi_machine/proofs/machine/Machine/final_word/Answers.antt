@@ -17,12 +17,17 @@ final_word-requires-clause-at_hand g c =
 pub returns-clause-plain : goal.returns-clause-plain
 returns-clause-plain g c =
     rw (← c.self.view_is)
-    (c.final_word.ensures ∙ ap (λ (words : List ℕ). slice_index words (c.args.word % BLOCK_WORDS)) (plain_words g.R.Rider.riding g.K.Carry.carrying c.self.inside.parts.state (c.args.word / BLOCK_WORDS)))
+    (c.final_word.ensures
+    ∙ ap (λ (words : List ℕ). slice_index words (c.args.word % BLOCK_WORDS))
+    (plain_words g.R.Rider.riding g.K.Carry.carrying c.self.inside.parts.state (c.args.word / BLOCK_WORDS)))
 
 pub returns-clause-last : goal.returns-clause-last
 returns-clause-last g c = λ memory k.
     let same : c.self.inside.parts.state ≡ c.args.self.now.state = ap (λ (m : Machinery g.row.R.Denot g.row.K.Denot). m.state) c.self.view_is in
-    let old : Coherent g.R.Rider.riding g.K.Carry.carrying c.self.inside.parts.state memory = subst (λ (s : State g.row.R.Denot g.row.K.Denot). Coherent g.R.Rider.riding g.K.Carry.carrying s memory) (sym same) k in
+    let old : Coherent g.R.Rider.riding g.K.Carry.carrying c.self.inside.parts.state memory =
+    subst (λ (s : State g.row.R.Denot g.row.K.Denot). Coherent g.R.Rider.riding g.K.Carry.carrying s memory) (sym same) k in
     c.final_word.ensures
     ∙ ap (λ (words : List ℕ). slice_index words (c.args.word % BLOCK_WORDS))
-    (final_current g.R.Rider.riding g.K.Carry.carrying c.self.inside.parts.state memory c.self.invariant (links_left g.R.Rider.riding g.K.Carry.carrying c.self.inside.parts.state c.self.invariant (ap all_done same ∙ c.requires.done)) old (c.args.word / BLOCK_WORDS))
+    (final_current g.R.Rider.riding g.K.Carry.carrying c.self.inside.parts.state memory c.self.invariant
+    (links_left g.R.Rider.riding g.K.Carry.carrying c.self.inside.parts.state c.self.invariant (ap all_done same ∙ c.requires.done)) old
+    (c.args.word / BLOCK_WORDS))

@@ -23,7 +23,8 @@ returns-clause-plain g c =
 
 pub returns-clause-coherent : goal.returns-clause-coherent
 returns-clause-coherent g c =
-    subst (λ (s : State g.row.R.Denot g.row.K.Denot). Coherent g.R.Rider.riding g.K.Carry.carrying s (opening_memory c.args.image)) (sym c.in_ok-parts.ensures.state)
+    subst (λ (s : State g.row.R.Denot g.row.K.Denot). Coherent g.R.Rider.riding g.K.Carry.carrying s (opening_memory c.args.image))
+    (sym c.in_ok-parts.ensures.state)
     (start_coherent g.R.Rider.riding g.K.Carry.carrying c.args.image c.args.params.cores c.args.params.limit (omega arith))
 
 pub returns-clause-idle : goal.returns-clause-idle

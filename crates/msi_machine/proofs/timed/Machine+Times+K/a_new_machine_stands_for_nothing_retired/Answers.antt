@@ -9,4 +9,5 @@ use Rattle.msi_machine.proofs.timed.Machine+Times+K.a_new_machine_stands_for_not
 
 pub returns : goal.returns
 returns g c = λ image cores limit start.
-    subst (λ (s : State Times g.row.K.Denot). MachineStandsFor times_parts g.K.Carry.carrying [] s) (sym start) (machine_start times_parts g.K.Carry.carrying times_fresh image cores limit)
+    subst (λ (s : State Times g.row.K.Denot). MachineStandsFor times_parts g.K.Carry.carrying [] s) (sym start)
+    (machine_start times_parts g.K.Carry.carrying times_fresh image cores limit)

@@ -5,4 +5,5 @@ use Rattle.msi_state.specs.Ready.{head_roomy}
 use Rattle.msi_state.proofs.actors.Actors.has_room.Given as goal
 
 abbrev pub invariant-loop-node : goal.invariant-loop-node
-invariant-loop-node g l = (l.node-items ≡ l.self.state.nodes) × (list_all (λ n. head_roomy n.requests.items l.self.rooms) (take l.node-index l.node-items) ≡ true)
+invariant-loop-node g l =
+    (l.node-items ≡ l.self.state.nodes) × (list_all (λ n. head_roomy n.requests.items l.self.rooms) (take l.node-index l.node-items) ≡ true)

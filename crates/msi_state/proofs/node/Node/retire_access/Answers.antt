@@ -27,4 +27,5 @@ returns-clause-renewed g c =
     let waiting : c.args.standing.now.waits ≡ waits c.args.self.now.cache = ap (λ (x : Standing). x.waits) c.requires.stands in
     c.look_ahead.ensures
     ∙ ap (λ (x : Core). standing_with c.args.image.now x c.args.standing.now.waits) core
-    ∙ ap (λ (x : Bool). standing_with c.args.image.now c.if-is_write.self.core x) (waiting ∙ sym (waits_riding g.R.Rider.riding.fresh c.if-is_write.self.cache (c.args.word / 4) c.touched.new.rider ∙ kept))
+    ∙ ap (λ (x : Bool). standing_with c.args.image.now c.if-is_write.self.core x) (waiting
+    ∙ sym (waits_riding g.R.Rider.riding.fresh c.if-is_write.self.cache (c.args.word / 4) c.touched.new.rider ∙ kept))

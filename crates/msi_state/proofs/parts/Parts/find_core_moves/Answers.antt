@@ -9,13 +9,23 @@ use Rattle.msi_state.proofs.parts.Parts.find_core_moves.Goals as goal
 pub push-requires : goal.push-requires
 push-requires g c =
     let s : State g.row.R.Denot g.row.K.Denot = c.args.self.now.state in
-    omega (arith, ap (λ (ms : List Move). length ms) c.loop-c.invariant, found_at_most g.R.Rider.riding g.K.Carry.carrying s c.loop-c.c, c.requires.cores, c.cores-c-end.ensures, c.loop-c-test.true)
+    omega (
+      arith,
+      ap (λ (ms : List Move). length ms) c.loop-c.invariant,
+      found_at_most g.R.Rider.riding g.K.Carry.carrying s c.loop-c.c,
+      c.requires.cores,
+      c.cores-c-end.ensures,
+      c.loop-c-test.true,
+    )
 
 pub loop-c-preserved : goal.loop-c-preserved
 loop-c-preserved g c =
     let s : State g.row.R.Denot g.row.K.Denot = c.args.self.now.state in
     let within : c.loop-c.c < length s.nodes = omega (arith, c.cores-c-end.ensures, c.loop-c-test.true) in
     elim c.if-may_move.branch [
-      | then-may_move w ↦ found_one g.R.Rider.riding g.K.Carry.carrying s c.loop-c.c (c.loop-c.c + 1) (Core c.loop-c.c) (core_at (length s.nodes) c.loop-c.c within) (omega arith) c.loop-c.invariant (sym c.may_move.ensures ∙ w.if-may_move.true) (w.found-is ∙ w.push.ensures)
-      | else-may_move w ↦ found_none g.R.Rider.riding g.K.Carry.carrying s c.loop-c.c (c.loop-c.c + 1) (Core c.loop-c.c) (core_at (length s.nodes) c.loop-c.c within) (omega arith) c.loop-c.invariant (sym c.may_move.ensures ∙ w.if-may_move.false) w.found-is
+      | then-may_move w ↦ found_one g.R.Rider.riding g.K.Carry.carrying s c.loop-c.c (c.loop-c.c + 1) (Core c.loop-c.c)
+          (core_at (length s.nodes) c.loop-c.c within) (omega arith) c.loop-c.invariant (sym c.may_move.ensures ∙ w.if-may_move.true) (w.found-is
+          ∙ w.push.ensures)
+      | else-may_move w ↦ found_none g.R.Rider.riding g.K.Carry.carrying s c.loop-c.c (c.loop-c.c + 1) (Core c.loop-c.c)
+          (core_at (length s.nodes) c.loop-c.c within) (omega arith) c.loop-c.invariant (sym c.may_move.ensures ∙ w.if-may_move.false) w.found-is
     ]

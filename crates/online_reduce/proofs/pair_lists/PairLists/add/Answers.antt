@@ -71,23 +71,38 @@ loop-source-preserved c =
     elim c.if-is_kept.branch [
       | then-is_kept w ↦
           let new = w.push-roomy.new.self in
-          let within : w.pair_at-place.result < length rooms = omega (arith, w.pair_at-place.ensures.within, c.requires.lists, length-seen rooms _ l.invariant.lists, length-added c.args.cores c.args.self.now.lists edges) in
+          let within : w.pair_at-place.result < length rooms =
+          omega (
+            arith,
+            w.pair_at-place.ensures.within,
+            c.requires.lists,
+            length-seen rooms _ l.invariant.lists,
+            length-added c.args.cores c.args.self.now.lists edges,
+          ) in
           rw w.self-inside-is (
           record {
-            lists = added c.args.cores c.args.self.now.lists edges w.pair_at-place.result (edge_to at s) rooms w.index_mut.result.now new w.pair_at-place.ensures.place within w.index_mut.ensures.value w.push-roomy.ensures.edges l.invariant.lists
-                ∙ ap (with_edges c.args.cores c.args.self.now.lists) (chosen_push at before found i s edges (edges ++ edge_to at s ∷ []) c.is_kept.result c.loop-source-test.true c.source-item.is c.is_kept.ensures w.if-is_kept.true refl refl);
-            room = room_left rooms w.pair_at-place.result (EDGES_MAX - (i + 1)) w.index_mut.result.now new (counts (edge_to at s)) within w.index_mut.ensures.value w.push-roomy.ensures.edges w.push-roomy.ensures.room
+            lists = added c.args.cores c.args.self.now.lists edges w.pair_at-place.result
+                (edge_to at s) rooms w.index_mut.result.now new w.pair_at-place.ensures.place within w.index_mut.ensures.value w.push-roomy.ensures.edges
+                l.invariant.lists
+                ∙ ap (with_edges c.args.cores c.args.self.now.lists)
+                (chosen_push at before found i s edges
+                (edges ++ edge_to at s ∷ []) c.is_kept.result c.loop-source-test.true c.source-item.is c.is_kept.ensures w.if-is_kept.true refl refl);
+            room = room_left rooms w.pair_at-place.result (EDGES_MAX - (i + 1)) w.index_mut.result.now new
+                (counts (edge_to at s)) within w.index_mut.ensures.value w.push-roomy.ensures.edges w.push-roomy.ensures.room
                 (subst (λ (n : ℕ). HaveRoom rooms n) left l.invariant.room);
             whole = l.invariant.whole ∙ sym (length-set rooms w.pair_at-place.result new);
             len = l.invariant.len;
             finished = l.invariant.finished;
-            known = λ e. (let both = and_parts l.self-inside.known_roomy w.push-roomy.result e in still_roomy rooms w.pair_at-place.result new (l.invariant.known both.0) (sym w.push-roomy.ensures.roomy ∙ both.1));
+            known = λ e. (let both = and_parts l.self-inside.known_roomy w.push-roomy.result e in
+                still_roomy rooms w.pair_at-place.result new (l.invariant.known both.0) (sym w.push-roomy.ensures.roomy ∙ both.1));
           }
           )
       | else-is_kept w ↦
           rw w.self-inside-is (
           record {
-            lists = l.invariant.lists ∙ ap (with_edges c.args.cores c.args.self.now.lists) (chosen_skip at before found i s edges c.is_kept.result c.loop-source-test.true c.source-item.is c.is_kept.ensures w.if-is_kept.false refl);
+            lists = l.invariant.lists
+                ∙ ap (with_edges c.args.cores c.args.self.now.lists)
+                (chosen_skip at before found i s edges c.is_kept.result c.loop-source-test.true c.source-item.is c.is_kept.ensures w.if-is_kept.false refl);
             room = room_same rooms (EDGES_MAX - i) (EDGES_MAX - (i + 1)) (omega arith) l.invariant.room;
             whole = l.invariant.whole;
             len = l.invariant.len;
@@ -101,4 +116,5 @@ pub returns : goal.returns
 returns c =
     let l = c.loop-source in
     l.invariant.lists
-    ∙ ap (with_edges c.args.cores c.args.self.now.lists) (chosen_all c.args.at c.args.before.now c.args.found.now l.source-index _ (omega (arith, c.loop-source-test.false, l.auto.source-index-end)) refl)
+    ∙ ap (with_edges c.args.cores c.args.self.now.lists)
+    (chosen_all c.args.at c.args.before.now c.args.found.now l.source-index _ (omega (arith, c.loop-source-test.false, l.auto.source-index-end)) refl)

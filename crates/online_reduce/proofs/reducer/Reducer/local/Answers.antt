@@ -21,10 +21,13 @@ is_after : (c : goal.After-index-self-at-2) → after c ≡ counted c.args.self.
 is_after c =
     let within = ap (λ (r : Reduced). r.cores) (is_before c) in
     let lt = c.requires.core in
-    counted_is (before c) c.args.self.now.state c.args.at c.index-self-at.result c.set.new.self (is_before c) (omega (arith, c.self.invariant.0, c.self.invariant.1)) c.set.ensures.value
+    counted_is (before c) c.args.self.now.state c.args.at c.index-self-at.result c.set.new.self (is_before c)
+    (omega (arith, c.self.invariant.0, c.self.invariant.1)) c.set.ensures.value
 
 pub returns-clause-exact : goal.returns-clause-exact
-returns-clause-exact c list exact = subst (λ (r : Reduced). IsExact list r) (sym (is_after c)) (counted_exact list c.args.self.now.state c.args.at c.requires exact)
+returns-clause-exact c list exact =
+    subst (λ (r : Reduced). IsExact list r) (sym (is_after c)) (counted_exact list c.args.self.now.state c.args.at c.requires exact)
 
 pub returns-clause-reduction : goal.returns-clause-reduction
-returns-clause-reduction c list edges kept = subst (λ (r : Reduced). IsReduction list r edges) (sym (is_after c)) (count_law list c.args.self.now.state edges c.args.at c.requires kept)
+returns-clause-reduction c list edges kept =
+    subst (λ (r : Reduced). IsReduction list r edges) (sym (is_after c)) (count_law list c.args.self.now.state edges c.args.at c.requires kept)

@@ -5,8 +5,10 @@ use Rattle.online_reduce.proofs.Touched.{covering_after}
 use Rattle.online_reduce.proofs.reducer.Reducer.retire.Goals as goal
 
 pub returns-clause-covering : goal.returns-clause-covering
-returns-clause-covering c = covering_after c.args.self.now.state c.args.access.now c.args.times.now c.edges-edges.result.items c.edges-edges.ensures c.requires.next
+returns-clause-covering c =
+    covering_after c.args.self.now.state c.args.access.now c.args.times.now c.edges-edges.result.items c.edges-edges.ensures c.requires.next
 
 pub returns-clause-reduction : goal.returns-clause-reduction
 returns-clause-reduction c list edges kept times =
-    subst (λ (es : List Edge). IsReduction (list ++ c.args.access.now ∷ []) c.touch.new.self.state (edges ++ es)) (sym c.edges-edges.ensures) (c.touch.ensures.reduction list edges kept times)
+    subst (λ (es : List Edge). IsReduction (list ++ c.args.access.now ∷ []) c.touch.new.self.state (edges ++ es)) (sym c.edges-edges.ensures)
+    (c.touch.ensures.reduction list edges kept times)

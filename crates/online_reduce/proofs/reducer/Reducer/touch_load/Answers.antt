@@ -12,7 +12,8 @@ settle-requires-clause-found c =
     ap (λ (slot : ℕ). write_at c.args.times.now slot) (sym c.slot_of.ensures.slot) ∙ sym c.last_write.ensures ∙ c.in-Some.is in
     let other = c.is_of_other.ensures.0 c.if-is_of_other.true in
     let within = other.0 in
-    sym (load_one c.args.self.now.state.cores c.args.access.now c.args.times.now (record { at = c.in-Some.at; clock = c.in-Some.clock }) c.requires.load noted (omega arith) other.1)
+    sym (load_one c.args.self.now.state.cores c.args.access.now c.args.times.now (record { at = c.in-Some.at; clock = c.in-Some.clock }) c.requires.load noted
+    (omega arith) other.1)
 
 pub settle-requires-2-clause-found : goal.settle-requires-2-clause-found
 settle-requires-2-clause-found c =

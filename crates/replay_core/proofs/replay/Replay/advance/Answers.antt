@@ -14,10 +14,13 @@ use Rattle.replay_core.proofs.Steps.{used_within, retires_by}
 use Rattle.replay_core.proofs.replay.Replay.advance.Goals as goal
 
 pub old_value-old-requires : goal.old_value-old-requires
-old_value-old-requires c = used_within c.self.inside.image c.index.result.now c.access-used.result _ (c.access-used.ensures ∙ ap access_of c.need-need.ensures) (c.self.invariant.all_words ∙ sym (ap (λ (i : Contents). i.words) c.self.invariant.image_is))
+old_value-old-requires c =
+    used_within c.self.inside.image c.index.result.now c.access-used.result _ (c.access-used.ensures ∙ ap access_of c.need-need.ensures)
+    (c.self.invariant.all_words ∙ sym (ap (λ (i : Contents). i.words) c.self.invariant.image_is))
 
 pub leave-requires : goal.leave-requires
-leave-requires c = used_within c.self.inside.image c.index.result.now c.access-used.result _ (c.access-used.ensures ∙ ap access_of c.need-need.ensures) (c.self.invariant.all_words ∙ sym (ap (λ (i : Contents). i.words) c.self.invariant.image_is))
+leave-requires c = used_within c.self.inside.image c.index.result.now c.access-used.result _ (c.access-used.ensures ∙ ap access_of c.need-need.ensures)
+    (c.self.invariant.all_words ∙ sym (ap (λ (i : Contents). i.words) c.self.invariant.image_is))
 
 pub returns-clause-place : goal.returns-clause-place
 returns-clause-place c =
@@ -28,10 +31,21 @@ returns-clause-place c =
     let inside : c.args.core < length r.totals = subst (λ (p : Plan). c.args.core < length p.totals) (sym plan_is) ready.inside in
     let below : c.args.core < length c.self.inside.cores.items = omega (arith, all.all_cores, all.valid.each_core) in
     let s : Outcome = record { cores = c.self.inside.cores.items; words = c.self.inside.memory; loads = c.self.inside.loads.lists } in
-    let left : Outcome = record { cores = slice_set c.self.inside.cores.items c.args.core c.finish-value.new.self; words = c.leave.new.memory; loads = c.note.new.loads.lists } in
-    let by = retires_by c.self.inside.image (plan_of c.self.inside.which r) s c.args.core c.index.result.now c.index_mut.result.now c.finish-value.new.self c.access-used.result c.old_value-old.result c.finish-value.result c.count-count.result
+    let left : Outcome =
+    record {
+      cores = slice_set c.self.inside.cores.items c.args.core c.finish-value.new.self;
+      words = c.leave.new.memory;
+      loads = c.note.new.loads.lists;
+    } in
+    let by = retires_by c.self.inside.image
+    (plan_of c.self.inside.which r) s c.args.core c.index.result.now c.index_mut.result.now c.finish-value.new.self c.access-used.result
+    c.old_value-old.result c.finish-value.result c.count-count.result
     c.leave.new.memory c.note.new.loads.lists c.access.result all.image_is
-    (c.index.ensures ∙ get_or_default s.cores c.args.core c.index.result.now (starting 0 0) below) (c.index_mut.ensures.value ∙ get_or_default s.cores c.args.core c.index_mut.result.now (starting 0 0) below)
-    (sym (ap is_done c.need-need.ensures) ∙ sym c.is_done.ensures ∙ c.if-is_done.false) (c.access-used.ensures ∙ ap access_of c.need-need.ensures) c.old_value-old.ensures c.finish-value.ensures.core c.finish-value.ensures.value
-    (c.count-count.ensures ∙ ap (λ (k : Core). k.count) (c.index-2.ensures ∙ get_or-set_same s.cores c.args.core c.finish-value.new.self c.index-2.result.now below)) c.leave.ensures c.note.ensures c.access.ensures in
+    (c.index.ensures ∙ get_or_default s.cores c.args.core c.index.result.now (starting 0 0) below) (c.index_mut.ensures.value
+    ∙ get_or_default s.cores c.args.core c.index_mut.result.now (starting 0 0) below)
+    (sym (ap is_done c.need-need.ensures) ∙ sym c.is_done.ensures ∙ c.if-is_done.false) (c.access-used.ensures
+    ∙ ap access_of c.need-need.ensures) c.old_value-old.ensures c.finish-value.ensures.core c.finish-value.ensures.value
+    (c.count-count.ensures
+    ∙ ap (λ (k : Core). k.count) (c.index-2.ensures ∙ get_or-set_same s.cores c.args.core c.finish-value.new.self c.index-2.result.now below))
+    c.leave.ensures c.note.ensures c.access.ensures in
     subst (λ (u : UnderWay). Retires u.plan u.state c.args.core c.access.result left) c.self.view_is by

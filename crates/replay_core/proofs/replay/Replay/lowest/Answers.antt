@@ -9,4 +9,5 @@ loop-core-preserved c =
     let n = length u.plan.totals in
     let below = c.loop-core-test.true in
     let one_more : n - c.loop-core.core ≡ suc (n - (c.loop-core.core + 1)) = omega (arith, c.cores-core-end.ensures.all) in
-    lowest_on u.plan (counts_in u.state) c.loop-core.core (n - c.loop-core.core) (n - (c.loop-core.core + 1)) (c.loop-core.core + 1) one_more refl (sym c.ready.ensures.test ∙ c.if-ready.false) ∙ c.loop-core.invariant
+    lowest_on u.plan (counts_in u.state) c.loop-core.core (n - c.loop-core.core) (n - (c.loop-core.core + 1)) (c.loop-core.core + 1) one_more refl
+    (sym c.ready.ensures.test ∙ c.if-ready.false) ∙ c.loop-core.invariant

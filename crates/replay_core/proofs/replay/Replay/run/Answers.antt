@@ -13,24 +13,28 @@ loop-core-init c = record {
 pub advance-requires-clause-ready : goal.advance-requires-clause-ready
 advance-requires-clause-ready c =
     let i = c.loop-core.invariant in
-    ready_with_room (plan_of c.args.which c.args.recording.now) c.loop-core.replay i.plan_is i.along.0 i.along.1 c.in-Some.core (sym c.lowest.ensures ∙ c.in-Some.is) c.make_room.new.self c.make_room.ensures.plan c.make_room.ensures.state
+    ready_with_room (plan_of c.args.which c.args.recording.now) c.loop-core.replay i.plan_is i.along.0 i.along.1 c.in-Some.core (sym c.lowest.ensures
+    ∙ c.in-Some.is) c.make_room.new.self c.make_room.ensures.plan c.make_room.ensures.state
 
 pub count-count-requires : goal.count-count-requires
 count-count-requires c =
     let i = c.loop-core.invariant in
-    inside_with_room (plan_of c.args.which c.args.recording.now) c.loop-core.replay i.plan_is i.along.0 i.along.1 c.in-Some.core (sym c.lowest.ensures ∙ c.in-Some.is) c.make_room.new.self c.make_room.ensures.plan c.make_room.ensures.state
+    inside_with_room (plan_of c.args.which c.args.recording.now) c.loop-core.replay i.plan_is i.along.0 i.along.1 c.in-Some.core (sym c.lowest.ensures
+    ∙ c.in-Some.is) c.make_room.new.self c.make_room.ensures.plan c.make_room.ensures.state
     c.advance.new.self c.advance.ensures.plan
 
 pub returns-in-Short : goal.returns-in-Short
 returns-in-Short c =
     let i = c.loop-core.invariant in
-    short_at (plan_of c.args.which c.args.recording.now) c.loop-core.replay i.plan_is i.along.0 i.along.1 c.in-Some.core (sym c.lowest.ensures ∙ c.in-Some.is) c.make_room.new.self c.make_room.ensures.plan c.make_room.ensures.state
+    short_at (plan_of c.args.which c.args.recording.now) c.loop-core.replay i.plan_is i.along.0 i.along.1 c.in-Some.core (sym c.lowest.ensures
+    ∙ c.in-Some.is) c.make_room.new.self c.make_room.ensures.plan c.make_room.ensures.state
     c.count-count.result c.advance.new.self.state c.in-Short.ensures.place c.count-count.ensures
 
 pub loop-core-smaller : goal.loop-core-smaller
 loop-core-smaller c =
     let i = c.loop-core.invariant in
-    fewer (plan_of c.args.which c.args.recording.now) c.loop-core.replay i.plan_is i.along.0 i.along.1 c.in-Some.core (sym c.lowest.ensures ∙ c.in-Some.is) c.make_room.new.self c.make_room.ensures.plan c.make_room.ensures.state
+    fewer (plan_of c.args.which c.args.recording.now) c.loop-core.replay i.plan_is i.along.0 i.along.1 c.in-Some.core (sym c.lowest.ensures
+    ∙ c.in-Some.is) c.make_room.new.self c.make_room.ensures.plan c.make_room.ensures.state
     c.advance.new.self c.advance.ensures.plan c.advance.result c.advance.ensures.place c.in_default-advance.not-Short
 
 pub loop-core-preserved : goal.loop-core-preserved
@@ -40,7 +44,8 @@ loop-core-preserved c =
       plan_is = c.advance.ensures.plan ∙ c.make_room.ensures.plan ∙ i.plan_is;
       along = (
         i.along.0 ++ c.in-Some.core ∷ [],
-        still_going (plan_of c.args.which c.args.recording.now) c.loop-core.replay i.plan_is i.along.0 i.along.1 c.in-Some.core (sym c.lowest.ensures ∙ c.in-Some.is) c.make_room.new.self c.make_room.ensures.plan c.make_room.ensures.state
+        still_going (plan_of c.args.which c.args.recording.now) c.loop-core.replay i.plan_is i.along.0 i.along.1 c.in-Some.core (sym c.lowest.ensures
+            ∙ c.in-Some.is) c.make_room.new.self c.make_room.ensures.plan c.make_room.ensures.state
             c.advance.new.self c.advance.ensures.plan c.advance.result c.advance.ensures.place c.in_default-advance.not-Short,
       );
     }
@@ -48,9 +53,11 @@ loop-core-preserved c =
 pub returns-then-not-whole : goal.returns-then-not-whole
 returns-then-not-whole c =
     let i = c.loop-core.invariant in
-    stuck_at (plan_of c.args.which c.args.recording.now) c.loop-core.replay i.plan_is i.along.0 i.along.1 c.cut.result (sym c.lowest.ensures ∙ c.in_default.is) (λ full. let is_whole = c.whole.ensures.1 full in let is_not = c.if-not-whole.true in cc) c.cut.ensures
+    stuck_at (plan_of c.args.which c.args.recording.now) c.loop-core.replay i.plan_is i.along.0 i.along.1 c.cut.result (sym c.lowest.ensures ∙ c.in_default.is)
+    (λ full. let is_whole = c.whole.ensures.1 full in let is_not = c.if-not-whole.true in cc) c.cut.ensures
 
 pub returns : goal.returns
 returns c =
     let i = c.loop-core.invariant in
-    whole_at (plan_of c.args.which c.args.recording.now) c.loop-core.replay i.plan_is i.along.0 i.along.1 c.in_ok-into_outcome.field-0 (sym c.lowest.ensures ∙ c.in_default.is) (c.whole.ensures.0 c.if-not-whole.false) c.in_ok-into_outcome.ensures
+    whole_at (plan_of c.args.which c.args.recording.now) c.loop-core.replay i.plan_is i.along.0 i.along.1 c.in_ok-into_outcome.field-0 (sym c.lowest.ensures
+    ∙ c.in_default.is) (c.whole.ensures.0 c.if-not-whole.false) c.in_ok-into_outcome.ensures

@@ -7,17 +7,22 @@ use Rattle.roomy_lists.proofs.all_lists.RoomyLists.set_last.Goals as goal
 pub returns-clause-items : goal.returns-clause-items
 returns-clause-items g c =
     changed c.self.inside.lists.items c.args.place c.set_last.new.self _
-    (c.set_last.ensures.items ∙ ap (λ xs. slice_set xs (length xs - 1) c.args.item) (found c.self.inside.lists.items c.args.place c.index_mut.result.now (omega (arith, ap length c.self.view_is, c.requires.place)) c.index_mut.ensures.value))
+    (c.set_last.ensures.items
+    ∙ ap (λ xs. slice_set xs (length xs - 1) c.args.item)
+    (found c.self.inside.lists.items c.args.place c.index_mut.result.now
+    (omega (arith, ap length c.self.view_is, c.requires.place)) c.index_mut.ensures.value))
     ∙ ap (λ all. with_newest (items_in all) c.args.place c.args.item) c.self.view_is
 
 pub returns-clause-ready : goal.returns-clause-ready
 returns-clause-ready g c other =
-    ap (λ bs. get_or bs other false) (same_ready c.self.inside.lists.items c.args.place c.index_mut.result.now c.set_last.new.self c.index_mut.ensures.value c.set_last.ensures.ready)
+    ap (λ bs. get_or bs other false)
+    (same_ready c.self.inside.lists.items c.args.place c.index_mut.result.now c.set_last.new.self c.index_mut.ensures.value c.set_last.ensures.ready)
     ∙ ap (λ all. is_ready_at all other) c.self.view_is
 
 pub invariant_of-self : goal.invariant_of-self
 invariant_of-self g c = (
   c.self.invariant.0,
   c.self.invariant.1,
-  λ e. known_still c.self.inside.lists.items c.args.place c.index_mut.result.now c.set_last.new.self c.index_mut.ensures.value c.set_last.ensures.ready (c.self.invariant.2 e),
+  λ e. known_still c.self.inside.lists.items c.args.place c.index_mut.result.now c.set_last.new.self c.index_mut.ensures.value c.set_last.ensures.ready
+      (c.self.invariant.2 e),
 )
