@@ -8,14 +8,16 @@ use Rattle.log_codec.specs.declared.recording.Recording.{Recording}
 use Rattle.log_codec.specs.Faults.{◌>>=◌, Gives}
 use Rattle.log_codec.specs.Laws.{IsBytes}
 use Rattle.log_codec.specs.Reading.{front_at}
+use Rattle.log_codec.specs.Spelling as recordings
+use Rattle.log_codec.specs.declared.version.Version.TheVariants.{Two}
 use Rattle.log_codec.proofs.Steps.{bind_ok, guard_ok, ok_is, Takes, Takes-then}
+use Rattle.log_codec.proofs.Whole.{front_takes, front_again}
 use Rattle.certificate_codec.specs.declared.certificate.Certificate.{Certificate}
 use Rattle.certificate_codec.specs.declared.certificate.TheConstants.{END}
 use Rattle.certificate_codec.specs.Validity.{IsCertificate}
 use Rattle.certificate_codec.specs.Spelling.{Spells, spelling, clocks_text}
 use Rattle.certificate_codec.specs.Reading.{clocks_at, parts_at, certificate_at}
 use Rattle.certificate_codec.specs.Laws.{ReadIsSpelled, SpelledIsRead, WrittenSpells, PrefixFree}
-use Rattle.certificate_codec.proofs.Fronts.{front_taken, front_read}
 use Rattle.certificate_codec.proofs.Parts.{clocks_take, clocks_again}
 
 abbrev made_of : Recording → List (List (List ℕ)) → Certificate
@@ -24,7 +26,7 @@ made_of r clocks = record { recording = r; clocks = clocks }
 -- a certificate that was taken from the front of the bytes
 record PartsTaken (bytes : List ℕ) (c : Certificate) (rest : List ℕ) : Type 0 where
   text : List ℕ
-  spells : Spells c text
+  spells : Spells text c
   taken : Takes bytes text rest
   valid : IsCertificate c
 
@@ -33,20 +35,23 @@ unfolding parts_at
 parts_taken bytes c rest are e =
     let f = bind_ok (front_at bytes) (λ front. clocks_at front.0 front.1 >>= λ clocks. Ok (made_of front.0 clocks.0, clocks.1)) (c, rest) e in
     let k = bind_ok (clocks_at f.0.0 f.0.1) (λ clocks. Ok (made_of f.0.0 clocks.0, clocks.1)) (c, rest) f.2 in
-    let tf = front_taken bytes f.0.0 f.0.1 are f.1 in
+    let tf = front_takes bytes f.0.0 f.0.1 are f.1 in
     let tk = clocks_take f.0.0 f.0.1 k.0.0 k.0.1 tf.taken.rest_fits k.1 in
+    let front = recordings.spelling_in tf.version f.0.0 in
     let made : PartsTaken bytes (made_of f.0.0 k.0.0) k.0.1 = record {
-      text = tf.front ++ clocks_text k.0.0;
-      spells = record { front = tf.front; front_is = tf.front_is; parts = refl };
-      taken = Takes-then bytes tf.front f.0.1 (clocks_text k.0.0) k.0.1 tf.taken tk.0;
+      text = front ++ clocks_text k.0.0;
+      spells = record { front = front; recording = (tf.version, tf.limits, refl); parts = refl };
+      taken = Takes-then bytes front f.0.1 (clocks_text k.0.0) k.0.1 tf.taken tk.0;
       valid = record { recording = tf.valid; each_core = tk.1; entries = tk.2 };
     } in
     subst (λ (y : Certificate × List ℕ). PartsTaken bytes y.0 y.1) (ok_is (made_of f.0.0 k.0.0, k.0.1) (c, rest) k.2) made
 
-parts_again : (c : Certificate) (bytes rest : List ℕ) → IsCertificate c → Spells c bytes → parts_at (bytes ++ rest) ≡ Ok (c, rest)
+parts_again : (c : Certificate) (bytes rest : List ℕ) → IsCertificate c → Spells bytes c → parts_at (bytes ++ rest) ≡ Ok (c, rest)
 unfolding parts_at
 parts_again c bytes rest v s =
-    let f = front_read c.recording s.front (clocks_text c.clocks ++ rest) v.recording s.front_is in
+    let after = clocks_text c.clocks ++ rest in
+    let f : front_at (s.front ++ after) ≡ Ok (c.recording, after) = ap (λ (b : List ℕ). front_at (b ++ after)) s.recording.2.1
+    ∙ front_again s.recording.0 c.recording after v.recording s.recording.2.0 in
     let k = clocks_again c.recording c.clocks rest v.recording v.each_core v.entries in
     ap (λ (b : List ℕ). parts_at (b ++ rest)) s.parts ∙ ap parts_at (append_assoc s.front (clocks_text c.clocks) rest) ∙ rw (f, k) refl
 
@@ -58,7 +63,7 @@ read_is_spelled bytes c are e =
     let t = parts_taken bytes p.0.0 p.0.1 are p.1 in
     let none : p.0.1 ≡ [] = nil_from_length p.0.1 (eqb-true _ _ g.0) in
     let all : t.text ≡ bytes = sym (t.taken.parts ∙ ap (λ (x : List ℕ). t.text ++ x) none ∙ append-nil t.text) in
-    subst (λ (d : Certificate). IsCertificate d × Spells d bytes) g.1 (t.valid, subst (λ (b : List ℕ). Spells p.0.0 b) all t.spells)
+    subst (λ (d : Certificate). IsCertificate d × Spells bytes d) g.1 (t.valid, subst (λ (b : List ℕ). Spells b p.0.0) all t.spells)
 
 pub spelled_is_read : SpelledIsRead
 unfolding certificate_at
@@ -68,7 +73,7 @@ spelled_is_read c bytes v s =
 
 pub written_spells : WrittenSpells
 unfolding spelling
-written_spells c = record { front = _; front_is = refl; parts = refl }
+written_spells c v = record { front = recordings.spelling c.recording; recording = (Two, v.recording.params, refl); parts = refl }
 
 pub prefix_free : PrefixFree
 prefix_free c d first second x y vc vd sc sd e =
@@ -78,6 +83,6 @@ prefix_free c d first second x y vc vd sc sd e =
 
 -- what a reader answered
 pub is_found : (bytes : List ℕ) (result : Result Certificate CodecFault) → IsBytes bytes → Gives (λ x. x) result (certificate_at bytes) →
-    IfOk result (λ c. IsCertificate c × Spells c bytes)
+    IfOk result (λ c. IsCertificate c × Spells bytes c)
 is_found bytes (Ok c) are e = read_is_spelled bytes c are e
 is_found bytes (Err f) are e = tt

@@ -1,6 +1,5 @@
--- The spellings of certificates: the first five parts of a recording, then the clocks.
+-- The spellings of certificates: the first five parts of a recording in either version, then the clocks.
 use Rattle.std.specs.Prelude.{◌≡◌, ℕ, List, ◌++◌, length}
-use Rattle.log_codec.specs.declared.recording.Recording.{Recording}
 use Rattle.log_codec.specs.Spelling as recordings
 use Rattle.log_codec.specs.Spelling.{number}
 use Rattle.log_codec.specs.Turns.{spelled_in_turn, stay, count_up}
@@ -21,14 +20,10 @@ entries_text core entries = number (length entries) ++ spelled_in_turn entry_tex
 abbrev pub clocks_text : List (List (List ℕ)) → List ℕ
 clocks_text clocks = spelled_in_turn entries_text count_up 0 clocks
 
--- the bytes are a recording's first five parts
-abbrev pub SpellsFront : Recording → List ℕ → Type 0
-SpellsFront r front = front ≡ recordings.spelling r
-
--- the bytes spell the certificate
-pub record Spells (c : Certificate) (bytes : List ℕ) : Type 0 where
+-- the bytes spell the certificate: its recording, in a version whose limits it keeps, and then the clocks
+pub record Spells (bytes : List ℕ) (c : Certificate) : Type 0 where
   pub front : List ℕ
-  pub front_is : SpellsFront c.recording front
+  pub recording : recordings.Spells front c.recording
   pub parts : bytes ≡ front ++ clocks_text c.clocks
 
 -- the spelling that is written

@@ -141,9 +141,9 @@ fn whole(alloc: Global, bytes: &[u8]) -> Result<Certificate, CodecFault>
 /// form; whether it shows what it says is for a check. A fault names the first part that has no reading.
 pub fn read_certificate(alloc: Global, bytes: &[u8]) -> Result<Certificate, CodecFault>
     // What is read is spelled so.
-    ensures found { IfOk result (λ c. IsCertificate c × Spells c bytes.now) }
+    ensures found { IfOk result (λ c. IsCertificate c × Spells bytes.now c) }
     // What is spelled so is read, unless memory runs out.
-    ensures only { (c : SomeCertificate) → IsCertificate c → Spells c bytes.now → Gives (λ x. x) result (Ok c) }
+    ensures only { (c : SomeCertificate) → IsCertificate c → Spells bytes.now c → Gives (λ x. x) result (Ok c) }
     // Which part it is that has no reading.
     ensures exact { Gives (λ x. x) result (certificate_at bytes.now) }
 {

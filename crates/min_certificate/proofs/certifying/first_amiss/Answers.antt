@@ -27,5 +27,5 @@ returns c =
     let here : IsLow r c.in_ok-accesses.accesses = subst (λ (l : List Access). IsLow r l) (sym c.in_ok-accesses.ensures) low in
     let recording : c.new-entries.result.recording ≡ r = ap (λ (d : Certificate). d.recording) c.new-entries.ensures in
     let clocks : c.new-entries.result.clocks ≡ c.args.clocks.now = ap (λ (d : Certificate). d.clocks) c.new-entries.ensures in
-    amiss_found r c.new-entries.result c.in_ok-accesses.accesses c.first_amiss-2.result c.recording.ensures.valid here
-    (subst (λ (k : Clocks). HasClocks r k) (sym clocks) c.requires.clocks) recording c.first_amiss-2.ensures
+    amiss_found r c.new-entries.result c.in_ok-accesses.accesses c.first_amiss.result c.recording.ensures.valid here
+    (subst (λ (k : Clocks). HasClocks r k) (sym clocks) c.requires.clocks) recording c.first_amiss.ensures
