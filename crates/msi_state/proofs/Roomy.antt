@@ -1,20 +1,18 @@
 -- Room at the home for the blocks of request links' heads.
-use Rattle.std.proofs.Common.{◌≡◌, ◌≢◌, ◌∙◌, ◌==◌, ◌&&◌, refl, sym, subst, ap, ℕ, ◌<◌, ◌+◌, Bool, true, false, List, [], ◌∷◌, length, get_or, take, arith}
-use Rattle.std.specs.Prelude.{slice_set}
+use Rattle.std.proofs.Common.{◌≡◌, ◌≢◌, ◌∙◌, ◌⊎◌, inl, inr, ◌==◌, ◌&&◌, refl, sym, subst, ap, ℕ, zero, suc, ◌<◌, ◌≤◌, Bool, true, false, List, [], ◌∷◌, length}
+use Rattle.std.proofs.Common.{get_or, arith}
+use Rattle.std.specs.Prelude.{map, slice_set}
+use Rattle.std.proofs.lemmas.Bool.{cases_eq}
 use Rattle.std.proofs.lemmas.Bool.Decides.{nat_tests}
 use Rattle.std.proofs.lemmas.Grind.{common_steps}
-use Rattle.std.proofs.lemmas.List.Folds.{list_all_more, list_any_at}
+use Rattle.std.proofs.lemmas.List.{get_or-map, get_or_past, length-map}
+use Rattle.std.proofs.lemmas.List.Folds.{list_any_at}
 use Rattle.msi_cache.specs.declared.messages.Request.{Request}
 use Rattle.msi_cache.specs.Messages.{request_block}
 use Rattle.msi_directory.specs.Blocks.{Blocks, has_room}
 use Rattle.msi_state.specs.declared.node.Mail.{Mail}
 use Rattle.msi_state.specs.declared.node.Node.{Node}
-use Rattle.msi_state.specs.Ready.{RoomsMade, are_heads_roomy, head_roomy, head_is, is_head}
-
--- some heads' blocks have got room, and the first so many heads' blocks have it
-pub record Making {R K : Type 0} (nodes : List (Node R K)) (old rooms : List Bool) (n : ℕ) : Type 0 where
-  pub made : RoomsMade nodes old rooms
-  pub so_far : are_heads_roomy (take n nodes) rooms ≡ true
+use Rattle.msi_state.specs.Ready.{OthersRoomy, RoomsMade, are_heads_roomy, head_roomy, head_is, is_head, requests_at}
 
 room_kept : (rooms : List Bool) (block b : ℕ) → has_room rooms b ≡ true → has_room (slice_set rooms block true) b ≡ true
 room_kept rooms block b is = grind (arith, nat_tests, common_steps)
@@ -25,26 +23,38 @@ room_elsewhere rooms block b other = grind (arith, nat_tests, common_steps)
 and_true : {a b : Bool} → a ≡ true → b ≡ true → (a && b) ≡ true
 and_true p q = grind arith
 
+and_left : (a b : Bool) → (a && b) ≡ true → a ≡ true
+and_left a b is = grind arith
+
+and_right : (a b : Bool) → (a && b) ≡ true → b ≡ true
+and_right a b is = grind arith
+
 module _ {R K : Type 0} where
   head_more : (requests : List (Mail (Request R) K)) (old new : List Bool) → ((b : ℕ) → has_room old b ≡ true → has_room new b ≡ true) →
       head_roomy requests old ≡ true → head_roomy requests new ≡ true
   head_more [] old new grows is = refl
   head_more (mail ∷ rest) old new grows is = grows (request_block mail.item) is
 
-  heads_more : (nodes : List (Node R K)) (old new : List Bool) → ((b : ℕ) → has_room old b ≡ true → has_room new b ≡ true) → are_heads_roomy nodes old ≡ true →
-      are_heads_roomy nodes new ≡ true
-  heads_more [] old new grows is = refl
-  heads_more (n ∷ ns) old new grows is =
-      both (head_roomy n.requests.items old) (head_roomy n.requests.items new) (are_heads_roomy ns old) (are_heads_roomy ns new)
-      (head_more n.requests.items old new grows) (heads_more ns old new grows) is
-    where
-      both : (a b c d : Bool) → (a ≡ true → b ≡ true) → (c ≡ true → d ≡ true) → (a && c) ≡ true → (b && d) ≡ true
-      both true b true d f h is = grind arith
-      both true b false d f h is = grind arith
-      both false b c d f h is = grind arith
+  -- all heads' blocks have room exactly where each core's has
+  pub each_roomy : (nodes : List (Node R K)) (rooms : List Bool) → are_heads_roomy nodes rooms ≡ true → (c : ℕ) → head_roomy (requests_at nodes c) rooms ≡ true
+  each_roomy [] rooms all c = refl
+  each_roomy (n ∷ ns) rooms all zero = and_left (head_roomy n.requests.items rooms) (are_heads_roomy ns rooms) all
+  each_roomy (n ∷ ns) rooms all (suc c) = each_roomy ns rooms (and_right (head_roomy n.requests.items rooms) (are_heads_roomy ns rooms) all) c
 
-  pub making_none : (nodes : List (Node R K)) (rooms : List Bool) → Making nodes rooms rooms 0
-  making_none nodes rooms = record { made = record { kept = λ b is. is; elsewhere = λ b out. refl }; so_far = refl }
+  all_roomy : (nodes : List (Node R K)) (rooms : List Bool) → ((c : ℕ) → head_roomy (requests_at nodes c) rooms ≡ true) → are_heads_roomy nodes rooms ≡ true
+  all_roomy [] rooms each = refl
+  all_roomy (n ∷ ns) rooms each = and_true (each zero) (all_roomy ns rooms (λ c. each (suc c)))
+
+  with_its : (nodes : List (Node R K)) (core : ℕ) (rooms : List Bool) → OthersRoomy nodes core rooms → head_roomy (requests_at nodes core) rooms ≡ true →
+      are_heads_roomy nodes rooms ≡ true
+  with_its nodes core rooms others its = all_roomy nodes rooms (λ c. by c (cases_eq c core))
+    where
+      by : (c : ℕ) → (c ≡ core) ⊎ (c ≡ core → ⊥) → head_roomy (requests_at nodes c) rooms ≡ true
+      by c (inl same) = ap (λ (k : ℕ). head_roomy (requests_at nodes k) rooms) same ∙ its
+      by c (inr other) = others c other
+
+  requests_within : (nodes : List (Node R K)) (c : ℕ) (n : Node R K) → c < length nodes → get_or nodes c n ≡ n → requests_at nodes c ≡ n.requests.items
+  requests_within nodes c n within at = get_or-map (λ (x : Node R K). x.requests.items) nodes c n [] within ∙ ap (λ (x : Node R K). x.requests.items) at
 
   head_is_at : (requests rest : List (Mail (Request R) K)) (mail : Mail (Request R) K) → requests ≡ mail ∷ rest → head_is (request_block mail.item) requests
       ≡ true
@@ -53,54 +63,58 @@ module _ {R K : Type 0} where
       same : (n : ℕ) → (n == n) ≡ true
       same n = grind (arith, nat_tests)
 
-  head_at : (nodes : List (Node R K)) (i b : ℕ) (d : Node R K) → i < length nodes → head_is b (get_or nodes i d).requests.items ≡ true → is_head nodes b ≡ true
-  head_at nodes i b d within is = list_any_at (λ (n : Node R K). head_is b n.requests.items) nodes i d within is
-
   not_head : (nodes : List (Node R K)) (i b block : ℕ) (d : Node R K) → i < length nodes → head_is block (get_or nodes i d).requests.items ≡ true →
       is_head nodes b ≡ false → b ≢ block
-  not_head nodes i b block d within is out same = absurd (apart (ap (λ (x : ℕ). is_head nodes x) same ∙ head_at nodes i block d within is) out)
+  not_head nodes i b block d within is out same =
+      absurd (apart (ap (λ (x : ℕ). is_head nodes x) same ∙ list_any_at (λ (n : Node R K). head_is block n.requests.items) nodes i d within is) out)
     where
       apart : {x : Bool} → x ≡ true → x ≡ false → ⊥
       apart is_true is_false = grind arith
 
-  -- room was made for the block of one more head
-  pub making_one : (nodes : List (Node R K)) (old rooms : List Bool) (i : ℕ) (n : Node R K) (mail : Mail (Request R) K) (rest : List (Mail (Request R) K)) →
-      i < length nodes → get_or nodes i n ≡ n → n.requests.items ≡ mail ∷ rest →
-      has_room (slice_set rooms (request_block mail.item) true) (request_block mail.item) ≡ true → Making nodes old rooms i →
-      Making nodes old (slice_set rooms (request_block mail.item) true) (i + 1)
-  making_one nodes old rooms i n mail rest within at head roomy was =
-      let block : ℕ = request_block mail.item in
-      let here : head_is block (get_or nodes i n).requests.items ≡ true =
-      head_is_at (get_or nodes i n).requests.items rest mail (ap (λ (x : Node R K). x.requests.items) at ∙ head) in
-      let new : head_roomy (get_or nodes i n).requests.items (slice_set rooms block true) ≡ true =
-      ap (λ (xs : List (Mail (Request R) K)). head_roomy xs (slice_set rooms block true)) (ap (λ (x : Node R K). x.requests.items) at ∙ head) ∙ roomy in
+-- room was made, or not, for the block of one core's oldest request
+pub record MadeFor {R K : Type 0} (nodes : List (Node R K)) (core : ℕ) (old new : List Bool) : Type 0 where
+  pub made : RoomsMade nodes old new
+  pub others : OthersRoomy nodes core new
+  pub all : are_heads_roomy nodes new ≡ true
+
+module _ {R K : Type 0} where
+  pub nothing_made : (nodes : List (Node R K)) (rooms : List Bool) → RoomsMade nodes rooms rooms
+  nothing_made nodes rooms = record { kept = λ b is. is; elsewhere = λ b out. refl }
+
+  -- the core has no request
+  pub none_made : (nodes : List (Node R K)) (core : ℕ) (rooms : List Bool) → OthersRoomy nodes core rooms → requests_at nodes core ≡ [] →
+      MadeFor nodes core rooms rooms
+  none_made nodes core rooms others none =
+      record {
+        made = nothing_made nodes rooms;
+        others = others;
+        all = with_its nodes core rooms others (ap (λ (xs : List (Mail (Request R) K)). head_roomy xs rooms) none);
+      }
+
+  pub no_node : (nodes : List (Node R K)) (core : ℕ) → length nodes ≤ core → requests_at nodes core ≡ []
+  no_node nodes core past =
+      get_or_past (map (λ (n : Node R K). n.requests.items) nodes) core [] (rw (length-map nodes (λ (n : Node R K). n.requests.items)) past)
+
+  pub no_head : (nodes : List (Node R K)) (core : ℕ) (n : Node R K) → core < length nodes → get_or nodes core n ≡ n → n.requests.items ≡ [] →
+      requests_at nodes core ≡ []
+  no_head nodes core n within at none = requests_within nodes core n within at ∙ none
+
+  -- room was made for the block of its oldest request
+  pub one_made : (nodes : List (Node R K)) (core : ℕ) (n : Node R K) (mail : Mail (Request R) K) (rest : List (Mail (Request R) K)) (home new : Blocks R)
+      (block : ℕ)
+      → OthersRoomy nodes core home.rooms → core < length nodes → get_or nodes core n ≡ n → n.requests.items ≡ mail ∷ rest → block ≡ request_block mail.item
+      → new ≡ record home { rooms = slice_set home.rooms block true } → has_room new.rooms block ≡ true → MadeFor nodes core home.rooms new.rooms
+  one_made nodes core n mail rest home new block others within at head about made roomy =
+      let rooms_are : new.rooms ≡ slice_set home.rooms block true = ap (λ (h : Blocks R). h.rooms) made in
+      let its : (get_or nodes core n).requests.items ≡ mail ∷ rest = ap (λ (x : Node R K). x.requests.items) at ∙ head in
+      let here : head_is block (get_or nodes core n).requests.items ≡ true = rw about (head_is_at (get_or nodes core n).requests.items rest mail its) in
+      let grows : (b : ℕ) → has_room home.rooms b ≡ true → has_room new.rooms b ≡ true = λ b is. rw rooms_are (room_kept home.rooms block b is) in
+      let others_after : OthersRoomy nodes core new.rooms = λ c other. head_more (requests_at nodes c) home.rooms new.rooms grows (others c other) in
       record {
         made = record {
-          kept = λ b is. room_kept rooms block b (was.made.kept b is);
-          elsewhere = λ b out. room_elsewhere rooms block b (not_head nodes i b block n within here out) ∙ was.made.elsewhere b out;
+          kept = grows;
+          elsewhere = λ b out. rw rooms_are (room_elsewhere home.rooms block b (not_head nodes core b block n within here out));
         };
-        so_far = list_all_more (λ (x : Node R K). head_roomy x.requests.items (slice_set rooms block true)) nodes i n within
-            ∙ and_true (heads_more (take i nodes) rooms (slice_set rooms block true) (room_kept rooms block) was.so_far) new;
+        others = others_after;
+        all = with_its nodes core new.rooms others_after (rw (requests_within nodes core n within at, head, ← about) roomy);
       }
-
-  -- the next node has no request
-  pub making_same : (nodes : List (Node R K)) (old rooms : List Bool) (i : ℕ) (n : Node R K) → i < length nodes → get_or nodes i n ≡ n →
-      n.requests.items ≡ [] → Making nodes old rooms i → Making nodes old rooms (i + 1)
-  making_same nodes old rooms i n within at none was =
-      record {
-        made = was.made;
-        so_far = list_all_more (λ (x : Node R K). head_roomy x.requests.items rooms) nodes i n within
-            ∙ and_true was.so_far (ap (λ (xs : List (Mail (Request R) K)). head_roomy xs rooms) (ap (λ (x : Node R K). x.requests.items) at ∙ none));
-      }
-
-  -- the same, said of the home before and after
-  pub making_made : (nodes : List (Node R K)) (old : List Bool) (i : ℕ) (n : Node R K) (mail : Mail (Request R) K) (rest : List (Mail (Request R) K))
-      (home new : Blocks R) (block : ℕ) → i < length nodes → get_or nodes i n ≡ n → n.requests.items ≡ mail ∷ rest → block ≡ request_block mail.item →
-      new ≡ record home { rooms = slice_set home.rooms block true } → has_room new.rooms block ≡ true → Making nodes old home.rooms i →
-      Making nodes old new.rooms (i + 1)
-  making_made nodes old i n mail rest home new block within at head same made roomy was =
-      let e : new.rooms ≡ slice_set home.rooms (request_block mail.item) true =
-      ap (λ (h : Blocks R). h.rooms) made ∙ ap (λ (b : ℕ). slice_set home.rooms b true) same in
-      let here : has_room (slice_set home.rooms (request_block mail.item) true) (request_block mail.item) ≡ true =
-      ap (λ (rs : List Bool). has_room rs (request_block mail.item)) (sym e) ∙ ap (λ (b : ℕ). has_room new.rooms b) (sym same) ∙ roomy in
-      subst (λ (rs : List Bool). Making nodes old rs (i + 1)) (sym e) (making_one nodes old home.rooms i n mail rest within at head here was)

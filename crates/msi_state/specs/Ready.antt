@@ -1,6 +1,6 @@
 -- What the moves of a state rest on: each message has a row in its table, and each link that a move
 -- pushes to has room.
-use Rattle.std.specs.Prelude.{◌≡◌, ℕ, Bool, true, false, ◌&&◌, Option, Some, None, List, [], ◌∷◌, length}
+use Rattle.std.specs.Prelude.{◌≡◌, ◌≢◌, ℕ, Bool, true, false, ◌&&◌, Option, Some, None, List, [], ◌∷◌, length, map}
 use Rattle.std.specs.Prelude.{slice_index_or, IsTrue, nat_lt, All, ◌<◌, ◌≤◌, ◌==◌}
 use Rattle.std.specs.List.{list_all, list_any}
 use Rattle.access_times.specs.Riding.{Riding, Carrying}
@@ -143,6 +143,15 @@ module _ {R K : Type 0} where
   -- the block is that of some request link's head
   abbrev pub is_head : List (Node R K) → (block : ℕ) → Bool
   is_head nodes block = list_any (λ n. head_is block n.requests.items) nodes
+
+module _ {R K : Type 0} where
+  -- the requests of a core that are on their way, the oldest first
+  abbrev pub requests_at : List (Node R K) → ℕ → List (Mail (Request R) K)
+  requests_at nodes c = slice_index_or (map (λ n. n.requests.items) nodes) c []
+
+  -- the home has room for the block of each request link's head, but perhaps of this core's
+  abbrev pub OthersRoomy : List (Node R K) → ℕ → List Bool → Type 0
+  OthersRoomy nodes core rooms = (c : ℕ) → c ≢ core → head_roomy (requests_at nodes c) rooms ≡ true
 
 -- the home's rooms before and after room was made for some blocks of request links' heads
 pub record RoomsMade {R K : Type 0} (nodes : List (Node R K)) (old new : List Bool) : Type 0 where

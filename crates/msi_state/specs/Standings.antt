@@ -1,5 +1,5 @@
 -- What the cores and their caches stand at, from which the moves that can be made are found.
-use Rattle.std.specs.Prelude.{ℕ, Bool, true, false, List, length, map}
+use Rattle.std.specs.Prelude.{◌≡◌, ℕ, Bool, true, false, List, length, map}
 use Rattle.std.specs.List.{filter}
 use Rattle.access_times.specs.Riding.{Riding, Carrying}
 use Rattle.image_mem.specs.Contents.{Contents}
@@ -11,7 +11,8 @@ use Rattle.msi_state.specs.declared.node.Node.{Node}
 use Rattle.msi_state.specs.declared.moves.Move.{Move}
 use Rattle.msi_state.specs.declared.standing.Standing.{Standing}
 use Rattle.msi_state.specs.Moves.{candidates}
-use Rattle.msi_state.specs.States.{State}
+use Rattle.msi_state.specs.Ready.{OthersRoomy}
+use Rattle.msi_state.specs.States.{Machinery, State}
 use Rattle.msi_state.specs.Steps.{enabled}
 
 -- such a message ends the wait of a line that expects it
@@ -30,6 +31,12 @@ module _ {R K : Type 0} where
 
   abbrev pub standings_of : State R K → List Standing
   standings_of s = map (standing_of s.image) s.nodes
+
+  -- what the parts of a machine note beside the actors: what each core stands at, and the one core whose oldest
+  -- request may be for a block without room
+  pub record NotesFit (m : Machinery R K) (standings : List Standing) (mover : ℕ) : Type 0 where
+    pub stands : standings ≡ standings_of m.state
+    pub roomy : OthersRoomy m.state.nodes mover m.rooms
 
   -- the enabled ones among the first n moves that a machine can have
   abbrev pub moves_below : Riding R → Carrying K → State R K → ℕ → List Move

@@ -10,8 +10,9 @@ ghost use Rattle.msi_directory.specs.Entries.{has_response_row};
 ghost use Rattle.msi_state.specs.declared.moves.Move.{Move};
 ghost use Rattle.msi_state.specs.FinalMemory.{at_hand, final_word};
 ghost use Rattle.msi_state.specs.Nodes.{instr_of};
-ghost use Rattle.msi_state.specs.Ready.{NamesFit, HeadsFit, heads_roomy, HasRoomFor, Ready, RoomsMade, are_heads_roomy};
-ghost use Rattle.msi_state.specs.Ready.{has_row_for, head_roomy, head_within};
+ghost use Rattle.msi_state.specs.Ready.{NamesFit, HeadsFit, heads_roomy, HasRoomFor, HasRoomTo, OthersRoomy, Ready};
+ghost use Rattle.msi_state.specs.Ready.{RoomsMade, are_heads_roomy, head_roomy, head_within, has_row_for};
+ghost use Rattle.msi_state.specs.Ready.{can_request_in, can_respond_in, request_answer_in, response_answer_in};
 ghost use Rattle.msi_state.specs.Standings.{standing_of, standings_of};
 ghost use Rattle.msi_state.specs.States.{node_at, state_start};
 ghost use Rattle.msi_state.specs.Steps.{AcceptsNext, StepsTo, TellsOf, enabled, event, head_free, request_moved};
@@ -164,15 +165,17 @@ impl<R: Rider, K: Carry> Actors<R, K> {
         self.home.touched()
     }
 
-    /// Makes room in the home for the block of each request link's head, so that no move needs memory.
-    /// After want of memory some of these blocks may have got room, and all else is unchanged.
-    pub(crate) fn make_room(&mut self) -> Result<(), AllocError>
-        requires { HeadsFit self.old.state }
+    /// Makes room in the home for the block of the core's oldest request, if there is one. The blocks of the
+    /// other cores' oldest requests have room. After want of memory nothing has changed.
+    pub(crate) fn make_room(&mut self, core: u8) -> Result<(), AllocError>
+        requires heads { HeadsFit self.old.state }
+        requires others { OthersRoomy self.old.state.nodes core self.old.rooms }
         ensures state { self.new.state ≡ self.old.state }
         ensures rooms { RoomsMade self.old.state.nodes self.old.rooms self.new.rooms }
+        ensures others { OthersRoomy self.old.state.nodes core self.new.rooms }
         ensures ok { OnOk result (heads_roomy self.new ≡ true) }
     {
-        make_room_for_heads(&mut self.home, self.nodes.as_slice())
+        make_room_for_head(&mut self.home, self.nodes.as_slice(), core)
     }
 
     /// Whether the home has room for the block of each request link's head.
@@ -308,21 +311,25 @@ fn collect<R: Rider>(home: &mut Home<R>, from: u8, response: &ResponseSlot<R>) -
     home.collect(from, response.open())
 }
 
-/// Makes room for the block of each request link's head.
-#[tactic(auto, using(crate::proofs::Roomy::making_none))]
-fn make_room_for_heads<R: Rider, K: Carry>(
+/// Makes room for the block of the core's oldest request, if there is one.
+fn make_room_for_head<R: Rider, K: Carry>(
     home: &mut Home<R>,
     nodes: &[Node<R, K>],
+    core: u8,
 ) -> Result<(), AllocError>
-    requires { All (λ n. IsTrue (head_within n.requests.items (length home.old.entries))) nodes.now }
+    requires heads { All (λ n. IsTrue (head_within n.requests.items (length home.old.entries))) nodes.now }
+    requires others { OthersRoomy nodes.now core home.old.rooms }
     ensures entries { home.new.entries ≡ home.old.entries }
     ensures rooms { RoomsMade nodes.now home.old.rooms home.new.rooms }
+    ensures others { OthersRoomy nodes.now core home.new.rooms }
     ensures ok { OnOk result (are_heads_roomy nodes.now home.new.rooms ≡ true) }
 {
-    for node in nodes {
-        if let Some(mail) = node.requests.head() {
-            home.make_room(mail.item.block())?;
-        }
-    }
+    let Some(node) = nodes.get(core as usize) else {
+        return Ok(());
+    };
+    let Some(mail) = node.requests.head() else {
+        return Ok(());
+    };
+    home.make_room(mail.item.block())?;
     Ok(())
 }

@@ -31,26 +31,27 @@ pub struct Stepped {
 }
 
 /// The parts of a machine: the image that it runs, its nodes, its home and the home's carry, and beside
-/// them what each core and its cache stand at. Contracts see the state, and which of the home's blocks
-/// have room for a request.
+/// them what each core and its cache stand at, and which core moved last. Room is made before each step, so
+/// that only that core may have a request for whose block there is none. Contracts see the state, and which
+/// of the home's blocks have room for a request.
 ///
 /// It is for the machine alone, whose states always meet what these calls need.
 #[derive(Drop)]
 pub struct Parts<R, K> {
     actors: Actors<R, K>,
     standings: Vec<Standing>,
+    mover: u8,
 }
 
 impl<R, K> Model for Parts<R, K> {
-    ghost use Rattle.std.specs.Prelude.{◌≡◌};
     ghost use Rattle.msi_state.specs.States.{Machinery};
-    ghost use Rattle.msi_state.specs.Standings.{standings_of};
+    ghost use Rattle.msi_state.specs.Standings.{NotesFit};
 
     ghost Value = { Machinery R K };
 
     ghost view = { λ a. a.actors };
 
-    ghost invariant = { λ a. a.standings.items ≡ standings_of a.actors.state };
+    ghost invariant = { λ a. NotesFit a.actors a.standings.items a.mover };
 }
 
 impl<R: Rider, K: Carry> Parts<R, K> {
@@ -67,7 +68,11 @@ impl<R: Rider, K: Carry> Parts<R, K> {
     {
         let actors = Actors::new(alloc, image, cores, limit)?;
         let standings = actors.standings(alloc)?;
-        Ok(Parts { actors, standings })
+        Ok(Parts {
+            actors,
+            standings,
+            mover: 0,
+        })
     }
 
     /// Whether each core's program is done.
@@ -167,7 +172,7 @@ impl<R: Rider, K: Carry> Parts<R, K> {
         ensures rooms { RoomsMade self.old.state.nodes self.old.rooms self.new.rooms }
         ensures ok { OnOk result (heads_roomy self.new ≡ true) }
     {
-        self.actors.make_room()
+        self.actors.make_room(self.mover)
     }
 
     /// Whether the home has room for the block of each request link's head.
@@ -211,6 +216,7 @@ impl<R: Rider, K: Carry> Parts<R, K> {
         ensures told { TellsOf C.told_local C.told_touch R.riding K.carrying self.old.state self.new.state taken
             clerk.old clerk.new }
     {
+        self.mover = taken.core();
         match taken {
             Move::Core(c) => {
                 let standing = &mut self.standings[c as usize];
