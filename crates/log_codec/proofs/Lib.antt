@@ -10,6 +10,7 @@ pub mod ReducedLaws
 pub mod Written
 pub mod Received
 pub mod Whole
+pub mod Named
 pub mod Tested
 pub mod Counted
 pub mod Looked

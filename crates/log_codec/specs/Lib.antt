@@ -8,3 +8,4 @@ pub mod Reading
 pub mod Counts
 pub mod Laws
 pub mod Sources
+pub mod BadParts

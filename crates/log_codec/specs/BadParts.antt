@@ -1,0 +1,103 @@
+-- The first part that has no reading, in the grammar's own words: the parts below it are spelled by a front of the
+-- bytes, and no valid part follows there.
+use Rattle.std.specs.Prelude.{◌≡◌, ◌≢◌, ℕ, ◌*◌, ◌<◌, ◌≤◌, ◌↔◌, List, [], ◌++◌, length, slice_index_or, All, Err}
+use Rattle.rtr_types.specs.declared.params.Params.{Params}
+use Rattle.rtr_types.specs.Pairs.{pair_count}
+use Rattle.stride_vector.specs.declared.StrideVector.{StrideVector}
+use Rattle.log_codec.specs.declared.codec_fault.TheConstants.{HEADER, IMAGE, TOTALS, REDUCED, REGULATED, END}
+use Rattle.log_codec.specs.declared.version.Version.{Version}
+use Rattle.log_codec.specs.Laws.{IsBytes}
+use Rattle.log_codec.specs.Reading.{front_at, whole_at}
+use Rattle.log_codec.specs.Spelling.{header_text, totals_text, reduced_text, regulated_text}
+use Rattle.log_codec.specs.Validity.{AreEdges, AreVectors, bound_at}
+use Rattle.log_codec.specs.Versions.{FitsIn}
+
+-- ---- a valid part at the front of the bytes, before the rest
+
+pub record IsHeader (bytes : List ℕ) (v : Version) (p : Params) (len : ℕ) (rest : List ℕ) : Type 0 where
+  pub limits : FitsIn v p
+  pub room : len ≤ 4 * p.words
+  pub spelled : bytes ≡ header_text v p len ++ rest
+
+pub record IsImage (len : ℕ) (bytes image rest : List ℕ) : Type 0 where
+  pub long : length image ≡ len
+  pub spelled : bytes ≡ image ++ rest
+
+pub record IsTotals (p : Params) (bytes totals rest : List ℕ) : Type 0 where
+  pub each_core : length totals ≡ p.cores
+  pub most : All (λ t. t ≤ p.limit) totals
+  pub spelled : bytes ≡ totals_text totals ++ rest
+
+pub record IsReduced (v : Version) (totals bytes : List ℕ) (reduced : List (List (ℕ × ℕ)))
+    (rest : List ℕ) : Type 0 where
+  pub pairs : length reduced ≡ pair_count (length totals)
+  pub edges : (place : ℕ) → place < pair_count (length totals) →
+      AreEdges (bound_at totals place) (slice_index_or reduced place [])
+  pub spelled : bytes ≡ reduced_text v (length totals) reduced ++ rest
+
+pub record IsRegulated (totals bytes : List ℕ) (regulated : List (List StrideVector)) (rest : List ℕ) : Type 0 where
+  pub pairs : length regulated ≡ pair_count (length totals)
+  pub vectors : (place : ℕ) → place < pair_count (length totals) →
+      AreVectors (bound_at totals place) (slice_index_or regulated place [])
+  pub spelled : bytes ≡ regulated_text regulated ++ rest
+
+-- ---- the parts up to one, of which each is valid, and the rest after it
+
+pub record UpToHeader (bytes rest : List ℕ) : Type 0 where
+  pub version : Version
+  pub params : Params
+  pub len : ℕ
+  pub header : IsHeader bytes version params len rest
+
+pub record UpToImage (bytes rest : List ℕ) : Type 0 where
+  pub before : List ℕ
+  pub first : UpToHeader bytes before
+  pub image : List ℕ
+  pub second : IsImage first.len before image rest
+
+pub record UpToTotals (bytes rest : List ℕ) : Type 0 where
+  pub before : List ℕ
+  pub two : UpToImage bytes before
+  pub totals : List ℕ
+  pub third : IsTotals two.first.params before totals rest
+
+pub record UpToReduced (bytes rest : List ℕ) : Type 0 where
+  pub before : List ℕ
+  pub three : UpToTotals bytes before
+  pub reduced : List (List (ℕ × ℕ))
+  pub fourth : IsReduced three.two.first.version three.totals before reduced rest
+
+pub record UpToRegulated (bytes rest : List ℕ) : Type 0 where
+  pub before : List ℕ
+  pub four : UpToReduced bytes before
+  pub regulated : List (List StrideVector)
+  pub fifth : IsRegulated four.three.totals before regulated rest
+
+-- ---- which part is named
+
+-- by a reading of a front of the bytes
+pub record FrontNames (bytes : List ℕ) : Type 0 where
+  pub header : (front_at bytes ≡ Err HEADER)
+      ↔ ((v : Version) (p : Params) (len : ℕ) (rest : List ℕ) → IsHeader bytes v p len rest → ⊥)
+  pub image : (front_at bytes ≡ Err IMAGE)
+      ↔ ((rest : List ℕ) × (u : UpToHeader bytes rest) × ((image after : List ℕ) → IsImage u.len rest image after → ⊥))
+  pub totals : (front_at bytes ≡ Err TOTALS)
+      ↔ ((rest : List ℕ) × (u : UpToImage bytes rest)
+      × ((totals after : List ℕ) → IsTotals u.first.params rest totals after → ⊥))
+  pub reduced : (front_at bytes ≡ Err REDUCED) ↔
+      ((rest : List ℕ) × (u : UpToTotals bytes rest)
+      × ((reduced : List (List (ℕ × ℕ))) (after : List ℕ) →
+      IsReduced u.two.first.version u.totals rest reduced after → ⊥))
+  pub regulated : (front_at bytes ≡ Err REGULATED) ↔
+      ((rest : List ℕ) × (u : UpToReduced bytes rest)
+      × ((regulated : List (List StrideVector)) (after : List ℕ) →
+      IsRegulated u.three.totals rest regulated after → ⊥))
+  pub no_other : (part : ℕ) → front_at bytes ≡ Err part → (HEADER ≤ part) × (part ≤ REGULATED)
+
+-- by a reading of all bytes: the same, or the end, where bytes follow the other parts
+pub record WholeNames (bytes : List ℕ) : Type 0 where
+  pub below : (part : ℕ) → part ≢ END → (whole_at bytes ≡ Err part) ↔ (front_at bytes ≡ Err part)
+  pub end : (whole_at bytes ≡ Err END) ↔ ((rest : List ℕ) × UpToRegulated bytes rest × (rest ≢ []))
+
+abbrev pub BadPart : Type 0
+BadPart = (bytes : List ℕ) → IsBytes bytes → FrontNames bytes × WholeNames bytes
