@@ -11,6 +11,7 @@ pub mod Written
 pub mod Received
 pub mod Whole
 pub mod Named
+pub mod BadPartLaws
 pub mod Tested
 pub mod Counted
 pub mod Looked

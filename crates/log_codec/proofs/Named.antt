@@ -29,7 +29,7 @@ bind-names : {A B : Type 0} (k : ℕ) (r : Result A ℕ) (f : A → Result B ℕ
 bind-names k (Ok x) f one two p e = two x p e
 bind-names {A} {B} k (Err q) f one two p e = let same : q ≡ p = cc in one p (ap (λ (n : ℕ). Err n) same)
 
-guard-names : {A : Type 0} (k : ℕ) (b : Bool) (x : A) → Names k (cond b (Ok x) (Err k))
+pub guard-names : {A : Type 0} (k : ℕ) (b : Bool) (x : A) → Names k (cond b (Ok x) (Err k))
 guard-names k true x p e = absurd cc
 guard-names k false x p e = cc
 

@@ -30,20 +30,20 @@ use Rattle.log_codec.proofs.Logs.{few_edges, few_vectors, vectors_take, vectors_
 
 -- ---- part by part
 
-totals_take : (limit cores : ℕ) (bytes totals rest : List ℕ) → IsBytes bytes → totals_at limit cores bytes ≡ Ok (totals, rest) →
+pub totals_take : (limit cores : ℕ) (bytes totals rest : List ℕ) → IsBytes bytes → totals_at limit cores bytes ≡ Ok (totals, rest) →
     Takes bytes (totals_text totals) rest × (length totals ≡ cores) × All (λ t. t ≤ limit) totals
 totals_take limit cores bytes totals rest are e =
     let t = turns_take (λ (s : Unit {0}). total_at limit) stay total_text (λ (s : Unit {0}) t. t ≤ limit)
     (λ s b x r. total_takes limit b x r) cores tt bytes totals rest are e in
     (t.0, t.1, stand-all (λ (t : ℕ). t ≤ limit) totals t.2)
 
-totals_again : (limit : ℕ) (totals rest : List ℕ) → limit < 2 ^ 32 → All (λ t. t ≤ limit) totals → totals_at limit (length totals) (totals_text totals ++ rest)
-    ≡ Ok (totals, rest)
+pub totals_again : (limit : ℕ) (totals rest : List ℕ) → limit < 2 ^ 32 → All (λ t. t ≤ limit) totals →
+    totals_at limit (length totals) (totals_text totals ++ rest) ≡ Ok (totals, rest)
 totals_again limit totals rest small h =
     turns_again (λ (s : Unit {0}). total_at limit) stay total_text (λ (s : Unit {0}) t. t ≤ limit)
     (λ s x r most. total_again limit x r small most) tt totals rest (all-stand (λ (t : ℕ). t ≤ limit) totals h)
 
-regulated_takes : (totals bytes : List ℕ) (regulated : List (List StrideVector)) (rest : List ℕ) → IsBytes bytes → regulated_at totals bytes
+pub regulated_takes : (totals bytes : List ℕ) (regulated : List (List StrideVector)) (rest : List ℕ) → IsBytes bytes → regulated_at totals bytes
     ≡ Ok (regulated, rest) →
     Takes bytes (regulated_text regulated) rest × (length regulated ≡ pair_count (length totals))
     × StandInTurn (λ place vs. AreVectors (bound_at totals place) vs) count_up 0 regulated
@@ -51,7 +51,7 @@ regulated_takes totals bytes regulated rest are e =
     turns_take (λ place. vectors_at (bound_at totals place)) count_up vectors_text (λ place vs. AreVectors (bound_at totals place) vs)
     (λ s b x r. vectors_take s (bound_at totals s) b x r) (pair_count (length totals)) 0 bytes regulated rest are e
 
-regulated_again : (limit : ℕ) (totals : List ℕ) (regulated : List (List StrideVector)) (rest : List ℕ) → limit < 2 ^ 32 → All (λ t. t ≤ limit) totals →
+pub regulated_again : (limit : ℕ) (totals : List ℕ) (regulated : List (List StrideVector)) (rest : List ℕ) → limit < 2 ^ 32 → All (λ t. t ≤ limit) totals →
     length regulated ≡ pair_count (length totals) → StandInTurn (λ place vs. AreVectors (bound_at totals place) vs) count_up 0 regulated →
     regulated_at totals (regulated_text regulated ++ rest) ≡ Ok (regulated, rest)
 regulated_again limit totals regulated rest small most each h =
@@ -66,16 +66,16 @@ regulated_again limit totals regulated rest small most each h =
 abbrev pub made_of : Params → List ℕ → List ℕ → List (List (ℕ × ℕ)) → List (List StrideVector) → Recording
 made_of params image totals reduced regulated = record { params = params; image = image; totals = totals; reduced = reduced; regulated = regulated }
 
-abbrev after_reduced : Params → List ℕ → List ℕ → List (List (ℕ × ℕ)) × List ℕ → Result (Recording × List ℕ) ℕ
+abbrev pub after_reduced : Params → List ℕ → List ℕ → List (List (ℕ × ℕ)) × List ℕ → Result (Recording × List ℕ) ℕ
 after_reduced params image totals reduced = regulated_at totals reduced.1 >>= λ regulated. Ok (made_of params image totals reduced.0 regulated.0, regulated.1)
 
-abbrev after_totals : Version → Params → List ℕ → List ℕ × List ℕ → Result (Recording × List ℕ) ℕ
+abbrev pub after_totals : Version → Params → List ℕ → List ℕ × List ℕ → Result (Recording × List ℕ) ℕ
 after_totals v params image totals = reduced_at v totals.0 totals.1 >>= after_reduced params image totals.0
 
-abbrev after_image : Version → Params → List ℕ × List ℕ → Result (Recording × List ℕ) ℕ
+abbrev pub after_image : Version → Params → List ℕ × List ℕ → Result (Recording × List ℕ) ℕ
 after_image v params image = totals_at params.limit params.cores image.1 >>= after_totals v params image.0
 
-abbrev after_header : Headed → Result (Recording × List ℕ) ℕ
+abbrev pub after_header : Headed → Result (Recording × List ℕ) ℕ
 after_header header = image_at header.2 header.3 >>= after_image header.0 header.1
 
 -- a recording of valid parts
@@ -110,7 +110,7 @@ vectors-stand r v = places-stand (λ place vs. AreVectors (bound_at r.totals pla
     subst (λ (k : ℕ). AreVectors (bound_at r.totals k) (get_or r.regulated i [])) same (v.regulated i (subst (λ (n : ℕ). i < n) v.each_regulated lt)))
 
 -- the limits of either version lie within those of version 2
-within-new : (v : Version) (p : Params) → FitsIn v p → FitsNew p
+pub within-new : (v : Version) (p : Params) → FitsIn v p → FitsNew p
 within-new One p f = (limits_nest p).0 f
 within-new Two p f = f
 

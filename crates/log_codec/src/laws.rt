@@ -1,6 +1,7 @@
 //! What the spellings and the readings have in common, and what validity says.
 ghost use Rattle.log_codec.specs.Laws.{ReadIsSpelled, SpelledIsRead, SpelledIsFront, FrontIsSpelled, ReadAndSpelled};
 ghost use Rattle.log_codec.specs.Laws.{PrefixFree, ValidTest, EdgesByPair, VectorsByPair, LimitsNest, IntoTheTarget};
+ghost use Rattle.log_codec.specs.BadParts.{BadPart};
 ghost use Rattle.log_codec.specs.Sources.{EdgesArePaired, EdgesCounted, EdgesWithin, OneSource};
 
 /// What is read is valid and is spelled so in a version whose limits it keeps, by all bytes or by those
@@ -17,6 +18,12 @@ pub fn spelling_laws()
 /// No spelling of a recording begins that of another, nor its own in the other version.
 pub fn prefix_free()
     ensures { PrefixFree }
+{}
+
+/// The part that a reading of bytes names: the parts below it are spelled by a front of the bytes, in either
+/// version, and no valid part follows there.
+pub fn bad_part_law()
+    ensures { BadPart }
 {}
 
 /// The limits of version 1 and of a run lie within those of version 2. The edges into a core, by which

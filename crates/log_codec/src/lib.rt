@@ -17,7 +17,9 @@ mod version;
 mod writing;
 
 pub use codec_fault::{CodecFault, END, HEADER, IMAGE, REDUCED, REGULATED, TOTALS};
-pub use laws::{prefix_free, source_laws, spelling_laws, validity_laws, version_laws};
+pub use laws::{
+    bad_part_law, prefix_free, source_laws, spelling_laws, validity_laws, version_laws,
+};
 pub use reading::{read, read_front};
 pub use recording::Recording;
 pub use version::{Version, fits_old};
