@@ -125,3 +125,29 @@ fn two_writes_take_their_steps_and_a_choice_decides_which_is_last(
     }
     Ok(())
 }
+
+/// lui x5,0x100; sw x5,-4(x5); ecall: a store to the last word of the largest memory.
+const LAST_WORD: [u8; 12] = [
+    0xb7, 0x02, 0x10, 0x00, 0x23, 0xae, 0x52, 0xfe, 0x73, 0x00, 0x00, 0x00,
+];
+
+#[test]
+fn one_store_touches_one_block_of_the_largest_memory(rt: HostRuntime) -> Result<(), Fail> {
+    let image = Image::flat(LAST_WORD.to_vec(rt.alloc())?, 262_144)?;
+    let params = Params {
+        cores: 1,
+        limit: 10,
+        words: 262_144,
+    };
+    let mut machine = Machine::<NoRider, NoCarry>::new(rt.alloc(), image, params)?;
+    let mut clerk = Counter { told: 0 };
+    assert_eq!(rt; machine.touched(), 0);
+    for _step in 0..5 {
+        machine.make_room()?;
+        assert!(rt; !machine.done() && machine.has_room());
+        let _ = machine.step(0, &mut clerk);
+    }
+    assert_eq!(rt; (machine.done(), clerk.told), (true, 3));
+    assert_eq!(rt; machine.touched(), 1);
+    Ok(())
+}

@@ -73,6 +73,46 @@ pub const EIGHT_WORK: &str = "93124500 13132500 83234004 \
     83a40208 b3847400 23a09218 \
     73000000 000a0000 000b0000";
 
+/// lui x5,0x100; sw x5,-4(x5); ecall: a store to the last word of 262,144.
+pub const LAST_WORD: &str = "b7021000 23ae52fe 73000000";
+
+/// slli x5,x10,17; lui x7,0x20; add x7,x7,x5; lw x6,0(x5); addi x5,x5,16; bne x5,x7,-8; ecall: core c loads the
+/// first word of each block from 131,072 * c up to 131,072 * (c + 1).
+pub const EVERY_BLOCK: &str = "93121501 b7030200 b3835300 03a30200 93820201 e39c72fe 73000000";
+
+/// What `EVERY_BLOCK` leaves: each core stopped where the next one began, and its last word was 0.
+const EVERY_BLOCK_STATE: &str = "core 0 exit retired 24580 pc 0000001c\n\
+    core 0 x5 00020000\n\
+    core 0 x7 00020000\n\
+    core 1 exit retired 24580 pc 0000001c\n\
+    core 1 x5 00040000\n\
+    core 1 x7 00040000\n\
+    core 1 x10 00000001\n\
+    core 2 exit retired 24580 pc 0000001c\n\
+    core 2 x5 00060000\n\
+    core 2 x7 00060000\n\
+    core 2 x10 00000002\n\
+    core 3 exit retired 24580 pc 0000001c\n\
+    core 3 x5 00080000\n\
+    core 3 x7 00080000\n\
+    core 3 x10 00000003\n\
+    core 4 exit retired 24580 pc 0000001c\n\
+    core 4 x5 000a0000\n\
+    core 4 x7 000a0000\n\
+    core 4 x10 00000004\n\
+    core 5 exit retired 24580 pc 0000001c\n\
+    core 5 x5 000c0000\n\
+    core 5 x7 000c0000\n\
+    core 5 x10 00000005\n\
+    core 6 exit retired 24580 pc 0000001c\n\
+    core 6 x5 000e0000\n\
+    core 6 x7 000e0000\n\
+    core 6 x10 00000006\n\
+    core 7 exit retired 24580 pc 0000001c\n\
+    core 7 x5 00100000\n\
+    core 7 x7 00100000\n\
+    core 7 x10 00000007\n";
+
 /// What `EIGHT_WORK` leaves. Each word that is written belongs to one core, and was 0, and the two words
 /// that all cores load are never written; so no schedule changes anything. The results of core c are b00 + c,
 /// a00 + c, and a00 + c + a00.
@@ -252,7 +292,7 @@ const LIMIT_STATE: &str = "core 0 exit retired 3 pc 0000000c\n\
     core 1 x10 00000001\n";
 
 /// The rows.
-pub static RUNS: [Run; 17] = [
+pub static RUNS: [Run; 19] = [
     // Two words of one block. No core stores to the other's word, so no schedule changes anything.
     run!(
         "run --cores 2 --words 16 --seed 5",
@@ -431,6 +471,23 @@ pub static RUNS: [Run; 17] = [
         "run --choices 00ff --loads",
         END,
         "core 0 exit retired 1 pc 00000004\n",
+        ""
+    ),
+    // The last word of the largest memory, which nothing else of it is needed for.
+    run!(
+        "run --words 262144",
+        LAST_WORD,
+        "core 0 exit retired 3 pc 0000000c\n\
+            core 0 x5 00100000\n\
+            mem 000ffffc 00100000\n",
+        ""
+    ),
+    // Every block of the largest memory, 8192 by each core: three instructions before the loop, three for each
+    // block, and ECALL.
+    run!(
+        "run --cores 8 --words 262144 --limit 100000",
+        EVERY_BLOCK,
+        EVERY_BLOCK_STATE,
         ""
     ),
 ];
