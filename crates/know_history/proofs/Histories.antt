@@ -1,5 +1,5 @@
 -- A history that notes what is known at each retirement holds what is known.
-use Rattle.std.proofs.Common.{◌≡◌, ◌≢◌, ◌∙◌, ap, refl, sym, subst, ℕ, zero, suc, ◌-◌, ◌≤◌, ◌⊎◌, inl, inr, ◌↔◌, List, [], length, max, arith}
+use Rattle.std.proofs.Common.{◌≡◌, ◌≢◌, ◌∙◌, ap, refl, sym, subst, ℕ, zero, suc, ◌-◌, ◌<◌, ◌≤◌, ◌⊎◌, inl, inr, ◌↔◌, List, [], length, max, arith}
 use Rattle.std.specs.Prelude.{replicate, slice_index_or}
 use Rattle.std.proofs.lemmas.Bool.{cases_eq}
 use Rattle.rtr_types.specs.declared.TheConstants.{CORES_MAX}
@@ -7,8 +7,8 @@ use Rattle.rtr_types.specs.declared.instr.Instr.{Instr}
 use Rattle.clock_core.specs.declared.clock.Clock.{Clock}
 use Rattle.clock_core.proofs.Paths.{instr_eq}
 use Rattle.know_history.specs.Knowledge.{count_in}
-use Rattle.know_history.specs.Happenings.{IsKnownAt}
-use Rattle.know_history.specs.Laws.{HistoryLaw, HistoryStartLaw}
+use Rattle.know_history.specs.Happenings.{Happening, IsKnownAt}
+use Rattle.know_history.specs.Laws.{HistoryKnows, HistoryLaw, HistoryStartLaw, SameHistoryLaw}
 use Rattle.know_history.specs.Notes.{Notes, known_at, noted_count}
 use Rattle.know_history.proofs.Counting.{zero_at}
 use Rattle.know_history.proofs.KnownAt.{known_stays_law}
@@ -76,3 +76,23 @@ history_law event t y known old new orderly retires next counts noted h x z some
     by : (z.core ≡ y.core) ⊎ (z.core ≢ y.core) → (x.count ≤ known_at new z.core z.count x.core) ↔ IsKnownAt event x z
     by (inl e) = of_core e (cases_eq z.count y.count)
     by (inr apart) = kept (let e = noted.others z.core apart in omega arith)
+
+no_more : (event : ℕ → Happening) (h g : Notes) (core count of : ℕ) → HistoryKnows event h → HistoryKnows event g → 1 ≤ count → count ≤ noted_count h core →
+    count ≤ noted_count g core → «of» < CORES_MAX → «of» ≢ core → known_at h core count «of» ≤ known_at g core count «of»
+no_more event h g core count «of» one two some here there place other = by (cases_eq (known_at h core count «of») 0)
+  where
+    x : Instr
+    x = record { core = «of»; count = known_at h core count «of» }
+
+    y : Instr
+    y = record { core = core; count = count }
+
+    by : (known_at h core count «of» ≡ 0) ⊎ (known_at h core count «of» ≢ 0) → known_at h core count «of» ≤ known_at g core count «of»
+    by (inl none) = omega arith
+    by (inr few) = (two x y some there place other (grind arith)).1 ((one x y some here place other (grind arith)).0 (omega arith))
+
+pub same_history_law : SameHistoryLaw
+same_history_law event h g core count «of» one two some here there place other =
+    let up = no_more event h g core count «of» one two some here there place other in
+    let down = no_more event g h core count «of» two one some there here place other in
+    omega arith

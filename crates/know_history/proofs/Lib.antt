@@ -6,3 +6,4 @@ pub mod Histories
 pub mod OneList
 pub mod Places
 pub mod Noted
+pub mod Noting

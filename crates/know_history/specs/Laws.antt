@@ -54,3 +54,11 @@ abbrev pub HistoryLaw : Type 0
 HistoryLaw = (event : ℕ → Happening) (t : ℕ) (y : Instr) (known : Known) (old new : Notes) → AreOrderly event →
     (event t).retires ≡ Some y → y.count ≡ noted_count old y.core + 1 → IsKnownCount event known y →
     IsNoted old y known new → HistoryKnows event old → HistoryKnows event new
+
+-- Two histories that hold what is known hold the same.
+abbrev pub SameHistoryLaw : Type 0
+SameHistoryLaw =
+    (event : ℕ → Happening) (h g : Notes) (core count of : ℕ) → HistoryKnows event h → HistoryKnows event g →
+    1 ≤ count →
+    count ≤ noted_count h core → count ≤ noted_count g core → «of» < CORES_MAX → «of» ≢ core →
+    known_at h core count «of» ≡ known_at g core count «of»

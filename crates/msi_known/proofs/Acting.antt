@@ -6,12 +6,9 @@ use Rattle.std.proofs.lemmas.List.{map-append}
 use Rattle.access_times.specs.Riding.{Riding, Carrying}
 use Rattle.image_mem.specs.Contents.{Contents}
 use Rattle.rtr_types.specs.declared.access.Kind.{Kind}
-use Rattle.rtr_types.specs.declared.access.Kind.TheVariants.{Load as IsLoad, Store as IsStore}
 use Rattle.rtr_types.specs.declared.instr.Instr.{Instr}
 use Rattle.rv_core.specs.declared.core_state.Core.{Core}
-use Rattle.rv_core.specs.declared.core_state.Need.{Need}
-use Rattle.rv_core.specs.declared.core_state.Need.TheVariants.{Local, Load, Store, Done}
-use Rattle.rv_core.specs.Steps.{need}
+use Rattle.rv_core.specs.Steps.{need, is_done, access_of as need_access}
 use Rattle.rv_core.proofs.LawLemmas.{count_law, number_law}
 use Rattle.msi_cache.specs.declared.messages.FromHome.{FromHome}
 use Rattle.msi_cache.specs.declared.messages.Response.{Response}
@@ -79,33 +76,32 @@ module _ {R K : Type 0} where
   still_acts : (carrying : Carrying K) (c : ℕ) (n : Node R K) → NodeActs carrying c None None n n
   still_acts carrying c n = record { carry = refl; links = λ link here. inl refl }
 
-  worked_acts_in : (needed : Need) (image : Contents) (riding : Riding R) (carrying : Carrying K) (c : ℕ) (rider : R) (n : Node R K) →
-      NodeActs carrying c None (instr_of (event_working_in needed image riding n)) n (node_working_in needed image riding carrying rider n)
-  worked_acts_in Local image riding carrying c rider n = record { carry = refl; links = λ link here. links link }
+  worked_acts_in : (needed : Option (Kind × ℕ)) (done : Bool) (image : Contents) (riding : Riding R) (carrying : Carrying K) (c : ℕ) (rider : R)
+      (n : Node R K) → NodeActs carrying c None (instr_of (event_working_in needed done image riding n)) n
+      (node_working_in needed done image riding carrying rider n)
+  worked_acts_in (Some (kind, word)) done image riding carrying c rider n = tried_acts image riding carrying c rider n word _ kind (allows riding n word kind)
+  worked_acts_in None true image riding carrying c rider n = still_acts carrying c n
+  worked_acts_in None false image riding carrying c rider n = record { carry = refl; links = λ link here. links link }
     where
       links : (link : Channel) → Grows (carries_at link n) (carrying.retired n.carry (next_instr n.core)) (carries_at link (node_local image carrying n))
       links (Requests c) = inl refl
       links (Responses c) = inl refl
       links (Messages c) = inl refl
-  worked_acts_in (Load word) image riding carrying c rider n = tried_acts image riding carrying c rider n word _ IsLoad (allows riding n word IsLoad)
-  worked_acts_in (Store word whole) image riding carrying c rider n = tried_acts image riding carrying c rider n word _ IsStore (allows riding n word IsStore)
-  worked_acts_in (Done stop) image riding carrying c rider n = still_acts carrying c n
 
-  worked_counts_in : (needed : Need) (image : Contents) (riding : Riding R) (carrying : Carrying K) (rider : R) (n : Node R K) →
-      NodeCounts (instr_of (event_working_in needed image riding n)) n (node_working_in needed image riding carrying rider n)
-  worked_counts_in Local image riding carrying rider n = record { number = number_law image n.core 0; count = inr (refl, count_law image n.core 0) }
-  worked_counts_in (Load word) image riding carrying rider n = tried_counts image riding carrying rider n word _ IsLoad (allows riding n word IsLoad)
-  worked_counts_in (Store word whole) image riding carrying rider n = tried_counts image riding carrying rider n word _ IsStore (allows riding n word IsStore)
-  worked_counts_in (Done stop) image riding carrying rider n = record { number = refl; count = inl (refl, refl) }
+  worked_counts_in : (needed : Option (Kind × ℕ)) (done : Bool) (image : Contents) (riding : Riding R) (carrying : Carrying K) (rider : R) (n : Node R K) →
+      NodeCounts (instr_of (event_working_in needed done image riding n)) n (node_working_in needed done image riding carrying rider n)
+  worked_counts_in (Some (kind, word)) done image riding carrying rider n = tried_counts image riding carrying rider n word _ kind (allows riding n word kind)
+  worked_counts_in None true image riding carrying rider n = record { number = refl; count = inl (refl, refl) }
+  worked_counts_in None false image riding carrying rider n = record { number = number_law image n.core 0; count = inr (refl, count_law image n.core 0) }
 
   -- a core's own move
   pub worked_acts : (image : Contents) (riding : Riding R) (carrying : Carrying K) (c : ℕ) (rider : R) (n : Node R K) →
       NodeActs carrying c None (instr_of (event_working image riding n)) n (node_working image riding carrying rider n)
-  worked_acts image riding carrying c rider n = worked_acts_in (need image n.core) image riding carrying c rider n
+  worked_acts image riding carrying c rider n = worked_acts_in (need_access (need image n.core)) (is_done (need image n.core)) image riding carrying c rider n
 
   pub worked_counts : (image : Contents) (riding : Riding R) (carrying : Carrying K) (rider : R) (n : Node R K) →
       NodeCounts (instr_of (event_working image riding n)) n (node_working image riding carrying rider n)
-  worked_counts image riding carrying rider n = worked_counts_in (need image n.core) image riding carrying rider n
+  worked_counts image riding carrying rider n = worked_counts_in (need_access (need image n.core)) (is_done (need image n.core)) image riding carrying rider n
 
   -- a core took a message, after which this was done
   pub acts_after : (riding : Riding R) (carrying : Carrying K) (c : ℕ) (n : Node R K) (mail : Mail (FromHome R) K) (rest : List (Mail (FromHome R) K))
@@ -152,12 +148,11 @@ module _ {R K : Type 0} where
   tried_same image riding carrying rider n word block kind true = refl
   tried_same image riding carrying rider n word block kind false = refl
 
-  worked_same : (needed : Need) (image : Contents) (riding : Riding R) (carrying : Carrying K) (rider : R) (n : Node R K) →
-      (node_working_in needed image riding carrying rider n).messages.items ≡ n.messages.items
-  worked_same Local image riding carrying rider n = refl
-  worked_same (Load word) image riding carrying rider n = tried_same image riding carrying rider n word _ IsLoad (allows riding n word IsLoad)
-  worked_same (Store word whole) image riding carrying rider n = tried_same image riding carrying rider n word _ IsStore (allows riding n word IsStore)
-  worked_same (Done stop) image riding carrying rider n = refl
+  worked_same : (needed : Option (Kind × ℕ)) (done : Bool) (image : Contents) (riding : Riding R) (carrying : Carrying K) (rider : R) (n : Node R K) →
+      (node_working_in needed done image riding carrying rider n).messages.items ≡ n.messages.items
+  worked_same (Some (kind, word)) done image riding carrying rider n = tried_same image riding carrying rider n word _ kind (allows riding n word kind)
+  worked_same None true image riding carrying rider n = refl
+  worked_same None false image riding carrying rider n = refl
 
   -- a core received a message
   pub received_acts : (image : Contents) (riding : Riding R) (carrying : Carrying K) (c : ℕ) (rider : R) (n : Node R K) (mail : Mail (FromHome R) K)
@@ -174,7 +169,7 @@ module _ {R K : Type 0} where
       by true = acts_after riding carrying c n mail rest (instr_of (event_working image riding taken)) (node_working image riding carrying rider taken) is
           (worked_acts image riding carrying c rider taken)
           (ap (λ (xs : List (Mail (FromHome R) K)). map (λ (x : Mail (FromHome R) K). x.carry) xs)
-          (worked_same (need image taken.core) image riding carrying rider taken))
+          (worked_same (need_access (need image taken.core)) (is_done (need image taken.core)) image riding carrying rider taken))
       by false = acts_after riding carrying c n mail rest None (node_answering taken (answer_to riding n mail.item)) is
           (answered_acts carrying c taken (answer_to riding n mail.item))
           (ap (λ (xs : List (Mail (FromHome R) K)). map (λ (x : Mail (FromHome R) K). x.carry) xs) (answered_same taken (answer_to riding n mail.item)))

@@ -1,6 +1,6 @@
 -- A history in which a run's retirements are noted.
 use Rattle.std.proofs.Common.{◌≡◌, ◌≢◌, ◌∙◌, ap, refl, sym, ℕ, suc, ◌+◌, ◌<◌, ◌==◌, ◌⊎◌, inl, inr, false, Option, Some, None, List, [], length, arith}
-use Rattle.std.specs.Prelude.{replicate, slice_index_or}
+use Rattle.std.specs.Prelude.{IsTrue, replicate, slice_index_or}
 use Rattle.std.proofs.lemmas.Bool.{cases_eq}
 use Rattle.std.proofs.lemmas.Bool.Decides.{nat_tests}
 use Rattle.std.proofs.lemmas.List.{length-replicate}
@@ -18,11 +18,12 @@ use Rattle.know_history.proofs.Counting.{is_counted}
 use Rattle.know_history.proofs.Histories.{history_law, history_start_law, none_noted}
 use Rattle.msi_state.specs.Moves.{core_of}
 use Rattle.msi_state.specs.Nodes.{Accesses, Event, Nothing, Retires, carry_after, instr_of}
-use Rattle.msi_state.specs.States.{node_at, node_start}
-use Rattle.msi_state.specs.Steps.{event, retiring, step}
+use Rattle.msi_state.specs.States.{State, node_at, node_start}
+use Rattle.msi_state.specs.Steps.{enabled, event, retiring, step}
+use Rattle.msi_state.specs.declared.moves.Move.{Move}
 use Rattle.msi_plain.proofs.Forgetting as forgetting
 use Rattle.msi_known.specs.Histories.{HistoryTold, KnowsStartLaw, KnowsStepLaw}
-use Rattle.msi_known.specs.Known.{StepKnows}
+use Rattle.msi_known.specs.Known.{CountsRetired, StepKnows}
 use Rattle.msi_known.proofs.Retiring.{at_core, counts_step, retired_next, state_counts}
 use Rattle.msi_known.proofs.Runs.{counts_start, known_start, known_step}
 
@@ -82,6 +83,18 @@ module _ {R : Type 0} where
         history = history_start_law event_at h cores is;
       }
 
+  -- what retires is one of the state's cores
+  pub retires_within : (riding : Riding R) (event_at : ℕ → Happening) (t : ℕ) (s : State R Known) (m : Move) (rider : R) →
+      IsTrue (enabled riding known_carrying s m) → CountsRetired known_carrying event_at t s →
+      (y : Instr) → instr_of (event riding known_carrying s m) ≡ Some y → y.core < length s.nodes
+  retires_within riding event_at t s m rider e counts y f =
+      let lt = at_core riding known_carrying s m e in
+      let same : y.core ≡ core_of m =
+      ap (λ (i : Instr). i.core)
+      (sym (retired_next known_carrying (core_of m) (instr_of (event riding known_carrying s m)) (node_at known_carrying s.nodes (core_of m)) _ y
+      (state_counts riding known_carrying s m rider lt).here f)) ∙ counts.numbers (core_of m) lt in
+      omega arith
+
   pub knows_step : (riding : Riding R) → KnowsStepLaw riding
   knows_step riding event_at t s m rider old new orderly e is note h =
       record {
@@ -103,14 +116,6 @@ module _ {R : Type 0} where
 
       after : NotedAfter event_at (suc t) (length s.nodes) new
       after = told event_at t (length s.nodes) (event riding known_carrying s m)
-          (carry_after known_carrying (retiring riding known_carrying s m)) old new orderly within retires next.known note
+          (carry_after known_carrying (retiring riding known_carrying s m)) old new orderly
+          (retires_within riding event_at t s m rider e h.retired) retires next.known note
           (record { many = h.cores; noted = h.noted; history = h.history })
-        where
-          within : (y : Instr) → instr_of (event riding known_carrying s m) ≡ Some y → y.core < length s.nodes
-          within y f = let lt = at_core riding known_carrying s m e in let same : y.core ≡ core_of m = core y f in omega arith
-            where
-              core : (y : Instr) → instr_of (event riding known_carrying s m) ≡ Some y → y.core ≡ core_of m
-              core y f = ap (λ (i : Instr). i.core)
-                  (sym (retired_next known_carrying (core_of m) (instr_of (event riding known_carrying s m)) (node_at known_carrying s.nodes (core_of m)) _ y
-                  (state_counts riding known_carrying s m rider (at_core riding known_carrying s m e)).here f))
-                  ∙ h.retired.numbers (core_of m) (at_core riding known_carrying s m e)
