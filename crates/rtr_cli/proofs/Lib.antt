@@ -1,3 +1,4 @@
 pub mod RecordingLemmas
 pub mod RefusalLemmas
 pub mod Migrated
+pub mod Certified

@@ -23,7 +23,7 @@ use Rattle.state_text.specs.declared.exit.Exit.TheVariants as exits
 use Rattle.tool_words.specs.declared.command.Command.{Command}
 use Rattle.tool_words.specs.declared.command.Command.TheVariants.{Record, Replay}
 use Rattle.tool_words.specs.Commands.{HasFittingParams}
-use Rattle.rtr_cli.specs.Commands.{InputFails, KeepsRun, Promised, Refuses, image_of, most_of, replay_of}
+use Rattle.rtr_cli.specs.Commands.{KeepsRun, Promised, Refuses, SpellsSome, image_of, most_of, replay_lines}
 
 pub recorded_image : (image : Contents) (params : Params) (schedule : Choices)
     → (recording_of image params schedule).image ≡ image.bytes
@@ -32,22 +32,25 @@ recorded_image image params schedule = refl
 
 -- ---- what every recording keeps of its run
 
+-- what is said of the recording that was read
+of_read : (bytes : List ℕ) (r : Recording) (P : Recording → Type 0) → whole_at bytes ≡ Ok r → SpellsSome (whole_at bytes) P → P r
+of_read bytes r P is h = subst (λ (read : Result Recording ℕ). SpellsSome read P) is h
+
 -- what an audit of a recording answers, of which it is known that it lacks nothing but memory
 only_memory : (loads : Bool) (bytes : List ℕ) (r : Recording) (exit : Exit) → whole_at bytes ≡ Ok r
     → ((fault : AuditFault) → AuditRefuses Reduced r fault → fault ≡ faults.OutOfMemory)
     → Refuses (Replay Reduced loads) bytes exit → exit ≡ exits.OutOfMemory
-only_memory loads bytes r (exits.Bad part) is knows it =
-    let read : ◌≡◌ {A = Result (List ℕ) ℕ} (replay_of Reduced loads (Ok r)) (Err part) = sym (ap (replay_of Reduced loads) is) ∙ it in
-    absurd cc
+only_memory loads bytes r (exits.Bad part) is knows it = let read : Ok r ≡ Err part = sym is ∙ it in absurd cc
 only_memory loads bytes r (exits.Stuck cut) is knows it =
-    let none = knows (faults.Stuck cut) (subst (λ read. InputFails Reduced read (faults.Stuck cut)) is it) in absurd cc
+    let none = knows (faults.Stuck cut) (of_read bytes r (λ q. AuditRefuses Reduced q (faults.Stuck cut)) is it) in absurd cc
 only_memory loads bytes r (exits.Short core count) is knows it =
-    let none = knows (faults.Short core count) (subst (λ read. InputFails Reduced read (faults.Short core count)) is it) in
+    let none = knows (faults.Short core count) (of_read bytes r (λ q. AuditRefuses Reduced q (faults.Short core count)) is it) in
     absurd cc
 only_memory loads bytes r (exits.Undetermined first second) is knows it =
     let none = knows (faults.Undetermined first second)
-    (subst (λ read. InputFails Reduced read (faults.Undetermined first second)) is it) in
+    (of_read bytes r (λ q. AuditRefuses Reduced q (faults.Undetermined first second)) is it) in
     absurd cc
+only_memory loads bytes r (exits.CheckFailed failure) is knows it = absurd it
 only_memory loads bytes r exits.OutOfMemory is knows it = refl
 only_memory loads bytes r exits.Done is knows it = absurd it
 only_memory loads bytes r exits.Usage is knows it = absurd it
@@ -66,16 +69,18 @@ keeps_run params choices seed input fits room =
     record {
       recorded = recorded;
       replays = replays;
-      prints = λ loads.
-          ap (replay_of Reduced loads) recorded.read_back
-          ∙ ap (λ (o : Outcome). printed o (replayed_image r) loads) replays.low
-          ∙ ap (λ (i : Contents). printed (outcome_of image params schedule) i loads) replays.image_is;
+      prints = λ loads out.
+          let same : replay_lines Reduced loads r ≡ state_lines (outcome_of image params schedule) image loads =
+          ap (λ (o : Outcome). state_lines o (replayed_image r) loads) replays.low
+          ∙ ap (λ (i : Contents). state_lines (outcome_of image params schedule) i loads) replays.image_is in (
+            (λ replayed. of_read (spelling r) r (λ q. out ≡ replay_lines Reduced loads q) recorded.read_back replayed ∙ same),
+            (λ ran.
+                subst (λ (read : Result Recording ℕ). SpellsSome read (λ q. out ≡ replay_lines Reduced loads q)) (sym recorded.read_back)
+                (ran ∙ sym same)),
+          );
       refuses = λ loads exit it.
           only_memory loads (spelling r) r exit recorded.read_back replays.answers.not_audited it;
     }
-  where
-    printed : Outcome → Contents → Bool → Result (List ℕ) ℕ
-    printed o i loads = Ok (state_lines o i loads)
 
 -- so the promise of `record` stands whatever its options and its input are
 pub record_promised : (command : Command) (params : Params) (choices : List ℕ) (seed : ℕ) (input : List ℕ)

@@ -1,12 +1,12 @@
 -- What each way to end says of the input and the output.
-use Rattle.std.specs.Prelude.{◌≡◌, ℕ, ◌+◌, ◌≤◌, ◌⊎◌, List, length, Option, Ok}
+use Rattle.std.specs.Prelude.{◌≡◌, ℕ, ◌+◌, ◌≤◌, ◌⊎◌, List, length, Option}
 use Rattle.std.specs.Io.KnownBytes.{Appends, Consumes, IsAtEnd, Keeps}
 use Rattle.rtr_io.specs.Faults.{HasRisen}
 use Rattle.rtr_io.specs.Moved.{GivesPart, TakesJust}
 use Rattle.state_text.specs.declared.exit.Exit.{Exit}
 use Rattle.state_text.specs.declared.exit.Exit.TheVariants as exits
 use Rattle.tool_words.specs.declared.command.Command.{Command}
-use Rattle.rtr_cli.specs.Commands.{Promised, Refuses, made, most_of}
+use Rattle.rtr_cli.specs.Commands.{Makes, Promised, Refuses, most_of}
 
 -- the input was read to its end, and these bytes were its rest; there are at most `most` of them
 pub record IsRead (most : ℕ) (old new : Option (List ℕ)) (bytes : List ℕ) : Type 0 where
@@ -25,16 +25,18 @@ GivesNothing command exit left left' got got' =
 abbrev pub Answers : Command → Exit → (left left' got got' : Option (List ℕ)) → Type 0
 Answers command exits.Done left left' got got' =
     (input : List ℕ) × (out : List ℕ) × IsRead (most_of command) left left' input
-    × (made command input ≡ Ok out) × Promised command input × Appends got got' out
+    × Makes command input out × Promised command input × Appends got got' out
 Answers command exits.WriteFault left left' got got' =
     (input : List ℕ) × (out : List ℕ) × IsRead (most_of command) left left' input
-    × (made command input ≡ Ok out) × GivesPart out got got'
+    × Makes command input out × GivesPart out got got'
 Answers command (exits.Bad part) left left' got got' = GivesNothing command (exits.Bad part) left left' got got'
 Answers command (exits.Stuck cut) left left' got got' = GivesNothing command (exits.Stuck cut) left left' got got'
 Answers command (exits.Short core count) left left' got got' =
     GivesNothing command (exits.Short core count) left left' got got'
 Answers command (exits.Undetermined first second) left left' got got' =
     GivesNothing command (exits.Undetermined first second) left left' got got'
+Answers command (exits.CheckFailed failure) left left' got got' =
+    GivesNothing command (exits.CheckFailed failure) left left' got got'
 Answers command exits.TooLarge left left' got got' = TakesJust (most_of command + 1) left left' × Keeps got got'
 Answers command exits.ReadFault left left' got got' = Keeps got got'
 Answers command exits.OutOfMemory left left' got got' = Keeps got got'

@@ -1,39 +1,52 @@
 -- What each command makes of an input.
-use Rattle.std.specs.Prelude.{◌≡◌, ℕ, ◌*◌, Bool, List, Result, Ok, Err}
+use Rattle.std.specs.Prelude.{◌≡◌, ℕ, ◌*◌, ◌↔◌, Bool, List, Result, Ok, Err}
 use Rattle.recorder.specs.Recordings.{IsRecorded, recording_of}
 use Rattle.image_mem.specs.Contents.{Contents}
-use Rattle.run_outcome.specs.Outcomes.{outcome_of}
+use Rattle.rv_core.specs.declared.outcome.Outcome.{Outcome}
 use Rattle.schedule_pick.specs.Choices.{choices_of}
+use Rattle.run_outcome.specs.Outcomes.{outcome_of}
 use Rattle.log_codec.specs.declared.recording.Recording.{Recording}
 use Rattle.rtr_types.specs.declared.pairs.Which.{Which}
-use Rattle.log_codec.specs.Laws.{IsBytes}
 use Rattle.rtr_types.specs.declared.pairs.Which.TheVariants.{Reduced}
+use Rattle.log_codec.specs.Counts.{edge_count_of}
+use Rattle.log_codec.specs.Laws.{IsBytes}
 use Rattle.log_codec.specs.Reading.{whole_at}
 use Rattle.log_codec.specs.Spelling.{spelling}
 use Rattle.log_codec.specs.Validity.{Valid}
-use Rattle.rtr_types.specs.declared.params.Params.{Params}
-use Rattle.replay_audit.specs.Audits.{AuditRefuses, EveryOrderAgrees}
-use Rattle.replay_audit.specs.Determinate.{IsDeterminate, low_outcome}
+use Rattle.replay_core.specs.Plans.{recorded_image}
 use Rattle.replay_audit.specs.declared.audit_fault.AuditFault.{AuditFault}
 use Rattle.replay_audit.specs.declared.audit_fault.AuditFault.TheVariants as faults
-use Rattle.replay_core.specs.Plans.{recorded_image}
 use Rattle.run_replays.specs.Replays.{ReplaysRun}
-use Rattle.rv_core.specs.declared.outcome.Outcome.{Outcome}
+use Rattle.replay_audit.specs.Audits.{AuditRefuses, EveryOrderAgrees}
+use Rattle.replay_audit.specs.Determinate.{IsDeterminate, low_outcome}
+use Rattle.certificate_codec.specs.declared.certificate.Certificate.{Certificate}
+use Rattle.certificate_codec.specs.Reading.{certificate_at}
+use Rattle.certificate_codec.specs.Spelling.{spelling as certificate_spelling}
+use Rattle.min_certificate.specs.declared.answers.CheckFailure.{CheckFailure}
+use Rattle.min_certificate.specs.declared.answers.CheckFailure.TheVariants as failures
+use Rattle.min_certificate.specs.Answers.{Certifies, CheckFails, Checks, IsFirstAmiss}
+use Rattle.min_certificate.specs.Laws.{IsLeastIn}
 use Rattle.state_text.specs.declared.exit.Exit.{Exit}
 use Rattle.state_text.specs.declared.exit.Exit.TheVariants as exits
+use Rattle.state_text.specs.Checks.{check_lines}
 use Rattle.state_text.specs.Logs.{logs_lines}
 use Rattle.state_text.specs.States.{state_lines}
 use Rattle.tool_words.specs.declared.command.Command.{Command}
-use Rattle.tool_words.specs.declared.command.Command.TheVariants.{Record, Run, Print, Replay, Migrate}
-use Rattle.rtr_cli.specs.declared.commands.TheConstants.{RECORDING_BYTES_MAX}
+use Rattle.tool_words.specs.declared.command.Command.TheVariants.{Record, Run, Print, Replay, Migrate, Certify, Check}
+
+-- the most bytes of a recording or a certificate: 64 MiB
+abbrev pub recording_bytes_max : ℕ
+recording_bytes_max = 67108864
 
 -- the most bytes of input that the command takes
 abbrev pub most_of : Command → ℕ
 most_of (Record params choices seed) = 4 * params.words
 most_of (Run params choices seed loads) = 4 * params.words
-most_of Print = RECORDING_BYTES_MAX
-most_of (Replay which loads) = RECORDING_BYTES_MAX
-most_of Migrate = RECORDING_BYTES_MAX
+most_of Print = recording_bytes_max
+most_of (Replay which loads) = recording_bytes_max
+most_of Migrate = recording_bytes_max
+most_of Certify = recording_bytes_max
+most_of Check = recording_bytes_max
 
 -- the image that the input is
 abbrev pub image_of : Params → (input : List ℕ) → Contents
@@ -47,53 +60,105 @@ outcome_of_input params choices seed input = outcome_of (image_of params input) 
 abbrev pub recording_of_input : Params → (choices : List ℕ) (seed : ℕ) → (input : List ℕ) → Recording
 recording_of_input params choices seed input = recording_of (image_of params input) params (choices_of choices seed)
 
--- the logs of the recording that the input spells, or the first part that has no reading
-abbrev pub logs_of : Result Recording ℕ → Result (List ℕ) ℕ
-logs_of (Ok recording) = Ok (logs_lines recording)
-logs_of (Err part) = Err part
+-- ---- what is given
 
--- the state text of the play of the low order of the recording that the input spells, by one of its logs, or the first
--- part that has no reading
-abbrev pub replay_of : Which → (loads : Bool) → Result Recording ℕ → Result (List ℕ) ℕ
-replay_of which loads (Ok r) = Ok (state_lines (low_outcome which r) (recorded_image r) loads)
-replay_of which loads (Err part) = Err part
+-- the input spells something of which this holds
+abbrev pub SpellsSome : {X : Type 0} → Result X ℕ → (X → Type 0) → Type 0
+SpellsSome (Ok x) P = P x
+SpellsSome (Err part) P = ⊥
 
--- the spelling in the newest version of the recording that the input spells, or the first part that has no reading
-abbrev pub spelled_anew : Result Recording ℕ → Result (List ℕ) ℕ
-spelled_anew (Ok recording) = Ok (spelling recording)
-spelled_anew (Err part) = Err part
+-- the state text of the play of the recording's low order by the log
+abbrev pub replay_lines : Which → (loads : Bool) → Recording → List ℕ
+replay_lines which loads r = state_lines (low_outcome which r) (recorded_image r) loads
 
--- the output of the command for an input, or the first part of the input that has no reading
-abbrev pub made : Command → (input : List ℕ) → Result (List ℕ) ℕ
-made (Record params choices seed) input = Ok (spelling (recording_of_input params choices seed input))
-made (Run params choices seed loads) input =
-    Ok (state_lines (outcome_of_input params choices seed input) (image_of params input) loads)
-made Print input = logs_of (whole_at input)
-made (Replay which loads) input = replay_of which loads (whole_at input)
-made Migrate input = spelled_anew (whole_at input)
+-- the spelling of a certificate that the recording's reduced log is least. Its clocks are exact, so there is one
+abbrev pub IsCertified : Recording → (out : List ℕ) → Type 0
+IsCertified r out = (c : Certificate) × Certifies r c × (out ≡ certificate_spelling c)
+
+-- what a check of the certificate prints: the number of edges of the reduced log
+abbrev pub checked_lines : Certificate → List ℕ
+checked_lines c = check_lines (edge_count_of Reduced c.recording)
+
+-- the command makes this output of the input
+abbrev pub Makes : Command → (input out : List ℕ) → Type 0
+Makes (Record params choices seed) input out = out ≡ spelling (recording_of_input params choices seed input)
+Makes (Run params choices seed loads) input out =
+    out ≡ state_lines (outcome_of_input params choices seed input) (image_of params input) loads
+Makes Print input out = SpellsSome (whole_at input) (λ r. out ≡ logs_lines r)
+Makes (Replay which loads) input out = SpellsSome (whole_at input) (λ r. out ≡ replay_lines which loads r)
+Makes Migrate input out = SpellsSome (whole_at input) (λ r. out ≡ spelling r)
+Makes Certify input out = SpellsSome (whole_at input) (λ r. IsCertified r out)
+Makes Check input out = SpellsSome (certificate_at input) (λ c. out ≡ checked_lines c)
 
 -- ---- why nothing is given
 
--- what the audit of the recording that the input spells answers
-abbrev pub InputFails : Which → Result Recording ℕ → AuditFault → Type 0
-InputFails which (Ok r) fault = AuditRefuses which r fault
-InputFails which (Err part) fault = ⊥
+-- the first part of the input that has no reading, for a command that reads one
+abbrev pub IsUnread : Command → (input : List ℕ) → ℕ → Type 0
+IsUnread (Record params choices seed) input part = ⊥
+IsUnread (Run params choices seed loads) input part = ⊥
+IsUnread Print input part = whole_at input ≡ Err part
+IsUnread (Replay which loads) input part = whole_at input ≡ Err part
+IsUnread Migrate input part = whole_at input ≡ Err part
+IsUnread Certify input part = whole_at input ≡ Err part
+IsUnread Check input part = certificate_at input ≡ Err part
 
 -- the command audits the recording that the input spells by a log, and this is the answer
 abbrev pub AuditFails : Command → (input : List ℕ) → AuditFault → Type 0
 AuditFails (Record params choices seed) input fault = ⊥
 AuditFails (Run params choices seed loads) input fault = ⊥
 AuditFails Print input fault = ⊥
-AuditFails (Replay which loads) input fault = InputFails which (whole_at input) fault
+AuditFails (Replay which loads) input fault = SpellsSome (whole_at input) (λ r. AuditRefuses which r fault)
 AuditFails Migrate input fault = ⊥
+AuditFails Certify input fault = SpellsSome (whole_at input) (λ r. AuditRefuses Reduced r fault)
+AuditFails Check input fault = SpellsSome (certificate_at input) (λ c. AuditRefuses Reduced c.recording fault)
 
--- why the command gives nothing for an input that was read: its first part that has no reading, or what an audit
--- answers. Want of memory says nothing
+-- the recording is determinate, and this is the first edge that no least log has
+abbrev pub IsNotLeast : Recording → CheckFailure → Type 0
+IsNotLeast r (failures.NotConflict edge) = ⊥
+IsNotLeast r (failures.BadClock core entry) = ⊥
+IsNotLeast r (failures.NotNeeded edge) = ⊥
+IsNotLeast r (failures.NotLeast edge) = IsDeterminate Reduced r × IsFirstAmiss r edge
+
+-- the reduced log isn't shown to be least, for this reason
+abbrev pub IsNotShown : Command → (input : List ℕ) → CheckFailure → Type 0
+IsNotShown (Record params choices seed) input failure = ⊥
+IsNotShown (Run params choices seed loads) input failure = ⊥
+IsNotShown Print input failure = ⊥
+IsNotShown (Replay which loads) input failure = ⊥
+IsNotShown Migrate input failure = ⊥
+IsNotShown Certify input failure = SpellsSome (whole_at input) (λ r. IsNotLeast r failure)
+IsNotShown Check input failure = SpellsSome (certificate_at input) (λ c. CheckFails c failure)
+
+-- how a command ends whose audit was refused so
+abbrev pub exit_of_audit : AuditFault → Exit
+exit_of_audit (faults.Stuck cut) = exits.Stuck cut
+exit_of_audit (faults.Short core count) = exits.Short core count
+exit_of_audit (faults.Undetermined first second) = exits.Undetermined first second
+exit_of_audit faults.OutOfMemory = exits.OutOfMemory
+
+-- a command that audits and checks ends so: by what the audit answers, or by what isn't shown. Want of memory says
+-- nothing
+abbrev pub Ends : (AuditFault → Type 0) → (CheckFailure → Type 0) → Exit → Type 0
+Ends Audits Shows (exits.Stuck cut) = Audits (faults.Stuck cut)
+Ends Audits Shows (exits.Short core count) = Audits (faults.Short core count)
+Ends Audits Shows (exits.Undetermined first second) = Audits (faults.Undetermined first second)
+Ends Audits Shows (exits.CheckFailed failure) = Shows failure
+Ends Audits Shows exits.OutOfMemory = Unit {0}
+Ends Audits Shows (exits.Bad part) = ⊥
+Ends Audits Shows exits.Done = ⊥
+Ends Audits Shows exits.Usage = ⊥
+Ends Audits Shows exits.TooLarge = ⊥
+Ends Audits Shows exits.ReadFault = ⊥
+Ends Audits Shows exits.WriteFault = ⊥
+
+-- why the command gives nothing for an input that was read: its first part that has no reading, what an audit
+-- answers, or what isn't shown. Want of memory says nothing
 abbrev pub Refuses : Command → (input : List ℕ) → Exit → Type 0
-Refuses command input (exits.Bad part) = made command input ≡ Err part
+Refuses command input (exits.Bad part) = IsUnread command input part
 Refuses command input (exits.Stuck cut) = AuditFails command input (faults.Stuck cut)
 Refuses command input (exits.Short core count) = AuditFails command input (faults.Short core count)
 Refuses command input (exits.Undetermined first second) = AuditFails command input (faults.Undetermined first second)
+Refuses command input (exits.CheckFailed failure) = IsNotShown command input failure
 Refuses command input exits.OutOfMemory = Unit {0}
 Refuses command input exits.Done = ⊥
 Refuses command input exits.Usage = ⊥
@@ -103,53 +168,59 @@ Refuses command input exits.WriteFault = ⊥
 
 -- a command that replays this recording by the log ends so
 abbrev pub AuditEnds : Which → Recording → Exit → Type 0
-AuditEnds which r (exits.Stuck cut) = AuditRefuses which r (faults.Stuck cut)
-AuditEnds which r (exits.Short core count) = AuditRefuses which r (faults.Short core count)
-AuditEnds which r (exits.Undetermined first second) = AuditRefuses which r (faults.Undetermined first second)
-AuditEnds which r exits.OutOfMemory = Unit {0}
-AuditEnds which r (exits.Bad part) = ⊥
-AuditEnds which r exits.Done = ⊥
-AuditEnds which r exits.Usage = ⊥
-AuditEnds which r exits.TooLarge = ⊥
-AuditEnds which r exits.ReadFault = ⊥
-AuditEnds which r exits.WriteFault = ⊥
+AuditEnds which r exit = Ends (λ fault. AuditRefuses which r fault) (λ failure. ⊥) exit
+
+-- a command that certifies this recording ends so
+abbrev pub CertifyEnds : Recording → Exit → Type 0
+CertifyEnds r exit = Ends (λ fault. AuditRefuses Reduced r fault) (IsNotLeast r) exit
+
+-- a command that checks this certificate ends so
+abbrev pub CheckEnds : Certificate → Exit → Type 0
+CheckEnds c exit = Ends (λ fault. AuditRefuses Reduced c.recording fault) (CheckFails c) exit
 
 -- ---- what is promised beside
 
 -- of the bytes of a recording. They are read back as it, and its reduced log is the least set of the run's accesses.
--- Every
--- order that obeys this log replays the run. So `replay` of them prints what `run` prints of the same image and
--- options,
--- and for no other reason gives nothing than want of memory
+-- Every order that obeys this log replays the run. So `replay` of them prints what `run` prints of the same image and
+-- options, and for no other reason gives nothing than want of memory
 pub record KeepsRun (params : Params) (choices : List ℕ) (seed : ℕ) (input : List ℕ) : Type 0 where
   pub recorded : IsRecorded (image_of params input) params (choices_of choices seed)
   pub replays : ReplaysRun (image_of params input) params (choices_of choices seed) Reduced
       (recording_of_input params choices seed input)
-  pub prints : (loads : Bool) → made (Replay Reduced loads) (spelling (recording_of_input params choices seed input))
-      ≡ made (Run params choices seed loads) input
+  pub prints : (loads : Bool) (out : List ℕ)
+      → Makes (Replay Reduced loads) (spelling (recording_of_input params choices seed input)) out
+      ↔ Makes (Run params choices seed loads) input out
   pub refuses : (loads : Bool) (exit : Exit)
       → Refuses (Replay Reduced loads) (spelling (recording_of_input params choices seed input)) exit
       → exit ≡ exits.OutOfMemory
 
--- the recording that the input spells is determinate by the log: every order that obeys it plays, gives each load the
--- same value, and can go on until it is whole, where it ends as the low order does
-abbrev pub IsReplayed : Which → Result Recording ℕ → Type 0
-IsReplayed which (Ok r) = IsDeterminate which r × EveryOrderAgrees which r
-IsReplayed which (Err part) = ⊥
+-- the recording is determinate by the log: every order that obeys it plays, gives each load the same value, and can
+-- go on until it is whole, where it ends as the low order does
+abbrev pub IsReplayed : Which → Recording → Type 0
+IsReplayed which r = IsDeterminate which r × EveryOrderAgrees which r
 
--- a recording keeps its run, and what was replayed is determinate
+-- a recording keeps its run; what was replayed is determinate; and what was certified or checked is determinate, and
+-- its reduced log is least
 abbrev pub Promised : Command → (input : List ℕ) → Type 0
 Promised (Record params choices seed) input = KeepsRun params choices seed input
 Promised (Run params choices seed loads) input = Unit {0}
 Promised Print input = Unit {0}
-Promised (Replay which loads) input = IsReplayed which (whole_at input)
+Promised (Replay which loads) input = SpellsSome (whole_at input) (λ r. IsReplayed which r)
 Promised Migrate input = Unit {0}
+Promised Certify input = SpellsSome (whole_at input) (λ r. IsDeterminate Reduced r × IsLeastIn r)
+Promised Check input = SpellsSome (certificate_at input) (λ c. Checks c)
+
+-- ---- laws
 
 -- what migrate makes of an input reads as the input does
 abbrev pub MigratedReadsTheSame : Type 0
-MigratedReadsTheSame = (input out : List ℕ) → IsBytes input → made Migrate input ≡ Ok out →
-    whole_at out ≡ whole_at input
+MigratedReadsTheSame = (input out : List ℕ) → IsBytes input → Makes Migrate input out → whole_at out ≡ whole_at input
 
 -- it leaves the bytes of a recording of the newest version as they are
 abbrev pub NewestStays : Type 0
-NewestStays = (recording : Recording) → Valid recording → made Migrate (spelling recording) ≡ Ok (spelling recording)
+NewestStays = (r : Recording) → Valid r → Makes Migrate (spelling r) (spelling r)
+
+-- what certify makes is refused by check for want of memory alone
+abbrev pub CertifiedIsAccepted : Type 0
+CertifiedIsAccepted = (input out : List ℕ) (exit : Exit) → Makes Certify input out → Promised Certify input →
+    Refuses Check out exit → exit ≡ exits.OutOfMemory

@@ -12,21 +12,28 @@ ghost use Rattle.rtr_types.specs.Parameters.{Fits};
 ghost use Rattle.rtr_types.specs.declared.pairs.Which.TheVariants.{Reduced};
 ghost use Rattle.state_text.specs.States.{state_lines};
 ghost use Rattle.tool_words.specs.Commands.{HasFittingParams};
-ghost use Rattle.rtr_cli.specs.Commands.{AuditEnds, Promised, Refuses, image_of, made, most_of};
+ghost use Rattle.min_certificate.specs.Answers.{Checks};
+ghost use Rattle.min_certificate.specs.Laws.{IsLeastIn};
+ghost use Rattle.certificate_codec.specs.Validity.{IsCertificate};
+ghost use Rattle.rtr_cli.specs.Commands.{AuditEnds, CertifyEnds, CheckEnds, IsCertified, IsReplayed, Makes, Promised};
+ghost use Rattle.rtr_cli.specs.Commands.{Refuses};
+ghost use Rattle.rtr_cli.specs.Commands.{checked_lines, exit_of_audit, image_of, most_of, replay_lines};
 
+use certificate_codec::{Certificate, read_certificate, spell_certificate};
 use image_mem::Image;
 use log_codec::{Recording, read, spell};
+use min_certificate::{CertFault, CheckFailure, CheckFault, certify, check};
 use recorder::{Recorded, record_run};
 use replay_audit::laws::replays_fit_their_plan;
 use replay_audit::{AuditFault, Audited, audit};
 use rtr_types::{Params, Which};
 use run_outcome::laws::a_run_fits_its_image;
 use schedule_pick::Schedule;
-use state_text::{Exit, logs_text, state_text};
+use state_text::{Exit, check_text, logs_text, state_text};
 use std::alloc::{AllocError, Global};
 use tool_words::Command;
 
-/// The most bytes that a command takes which reads a recording: 64 MiB.
+/// The most bytes that a command takes which reads a recording or a certificate: 64 MiB.
 pub(crate) const RECORDING_BYTES_MAX: usize = 67_108_864;
 
 /// The most bytes of input that the command takes.
@@ -35,7 +42,11 @@ pub(crate) fn most_of(command: &Command) -> usize
 {
     match command {
         Command::Record { params, .. } | Command::Run { params, .. } => 4 * params.words as usize,
-        Command::Print | Command::Replay { .. } | Command::Migrate => RECORDING_BYTES_MAX,
+        Command::Print
+        | Command::Replay { .. }
+        | Command::Migrate
+        | Command::Certify
+        | Command::Check => RECORDING_BYTES_MAX,
     }
 }
 
@@ -43,7 +54,7 @@ pub(crate) fn most_of(command: &Command) -> usize
 pub(crate) fn make(alloc: Global, command: Command, bytes: Vec<u8>) -> Result<Vec<u8>, Exit>
     requires fits { HasFittingParams command }
     requires within { vec_len bytes ≤ most_of command }
-    ensures made { IfOk result (λ out. made command bytes.items ≡ Ok out.items) }
+    ensures made { IfOk result (λ out. Makes command bytes.items out.items) }
     ensures promised { OnOk result (Promised command bytes.items) }
     ensures refused { IfErr result (Refuses command bytes.items) }
 {
@@ -76,6 +87,14 @@ pub(crate) fn make(alloc: Global, command: Command, bytes: Vec<u8>) -> Result<Ve
         Command::Migrate => {
             let recording = read(alloc, bytes.as_slice())?;
             Ok(spell(alloc, &recording)?)
+        }
+        Command::Certify => {
+            let recording = read(alloc, bytes.as_slice())?;
+            certified(alloc, recording)
+        }
+        Command::Check => {
+            let certificate = read_certificate(alloc, bytes.as_slice())?;
+            checked(alloc, &certificate)
         }
     }
 }
@@ -120,9 +139,8 @@ fn run(
 /// The text of how the low order of the recording's log ends, where the recording is determinate by it.
 fn replay(alloc: Global, recording: Recording, which: Which, loads: bool) -> Result<Vec<u8>, Exit>
     requires { Valid recording }
-    ensures made { IfOk result (λ out.
-        out.items ≡ state_lines (low_outcome which recording) (recorded_image recording) loads) }
-    ensures determinate { OnOk result (IsDeterminate which recording × EveryOrderAgrees which recording) }
+    ensures made { IfOk result (λ out. out.items ≡ replay_lines which loads recording) }
+    ensures determinate { OnOk result (IsReplayed which recording) }
     ensures refused { IfErr result (AuditEnds which recording) }
 {
     replays_fit_their_plan();
@@ -144,13 +162,54 @@ fn audited(alloc: Global, recording: Recording, which: Which) -> Result<Audited,
 {
     match audit(alloc, recording, which) {
         Ok(audited) => Ok(audited),
-        Err(AuditFault::Stuck { cut }) => Err(Exit::Stuck { cut }),
-        Err(AuditFault::Short { core, count }) => Err(Exit::Short { core, count }),
-        Err(AuditFault::Undetermined { first, second }) => Err(Exit::Undetermined {
-            first,
-            second,
+        Err(fault) => Err(exit_of_audit(fault)),
+    }
+}
+
+/// How a command ends whose audit was refused so.
+fn exit_of_audit(fault: AuditFault) -> Exit
+    ensures { result ≡ exit_of_audit fault }
+{
+    match fault {
+        AuditFault::Stuck { cut } => Exit::Stuck { cut },
+        AuditFault::Short { core, count } => Exit::Short { core, count },
+        AuditFault::Undetermined { first, second } => Exit::Undetermined { first, second },
+        AuditFault::OutOfMemory => Exit::OutOfMemory,
+    }
+}
+
+/// The spelled certificate that the recording's reduced log is least.
+fn certified(alloc: Global, recording: Recording) -> Result<Vec<u8>, Exit>
+    requires { Valid recording }
+    ensures made { IfOk result (λ out. IsCertified recording out.items) }
+    ensures promised { OnOk result (IsDeterminate Reduced recording × IsLeastIn recording) }
+    ensures refused { IfErr result (CertifyEnds recording) }
+{
+    let audited = audited(alloc, recording, Which::Reduced)?;
+    match certify(alloc, &audited) {
+        Ok(certificate) => Ok(spell_certificate(alloc, &certificate)?),
+        Err(CertFault::NotLeast { edge }) => Err(Exit::CheckFailed {
+            failure: CheckFailure::NotLeast { edge },
         }),
-        Err(AuditFault::OutOfMemory) => Err(Exit::OutOfMemory),
+        Err(CertFault::OutOfMemory) => Err(Exit::OutOfMemory),
+    }
+}
+
+/// The text of a check of the certificate.
+fn checked(alloc: Global, certificate: &Certificate) -> Result<Vec<u8>, Exit>
+    requires { IsCertificate certificate.now }
+    ensures made { IfOk result (λ out. out.items ≡ checked_lines certificate.now) }
+    ensures promised { OnOk result (Checks certificate.now) }
+    ensures refused { IfErr result (CheckEnds certificate.now) }
+{
+    match check(alloc, certificate) {
+        Ok(()) => {
+            let edges = certificate.recording.edge_count(Which::Reduced);
+            Ok(check_text(alloc, edges)?)
+        }
+        Err(CheckFault::Audit(fault)) => Err(exit_of_audit(fault)),
+        Err(CheckFault::Failed(failure)) => Err(Exit::CheckFailed { failure }),
+        Err(CheckFault::OutOfMemory) => Err(Exit::OutOfMemory),
     }
 }
 

@@ -5,5 +5,5 @@ mod commands;
 mod laws;
 mod tool;
 
-pub use laws::migrate_laws;
+pub use laws::{certify_laws, migrate_laws};
 pub use tool::run_tool;

@@ -20,8 +20,11 @@ use tool_words::{Command, meaning, what_words_mean_fits};
 /// `Usage` comes exactly where the words mean nothing, and then neither input nor output is touched.
 /// `TooLarge` comes exactly where the input has more bytes than the command takes, `Bad` exactly where it
 /// was read to its end and has no reading, with the first part that has none. `Stuck`, `Short` and
-/// `Undetermined` come in `replay` alone, exactly where the input spells a recording and, by the chosen log,
-/// its low order ends before it is whole, falls short, or has two accesses unordered that conflict.
+/// `Undetermined` come in `replay`, `certify` and `check` alone, exactly where the input spells a recording, or
+/// a certificate of one, and by the chosen log its low order ends before it is whole, falls short, or has two
+/// accesses unordered that conflict; `certify` and `check` go by the reduced log. `CheckFailed` comes in these
+/// two alone, where that isn't so: in `certify` exactly where the reduced log isn't least, and in `check`
+/// exactly where the certificate doesn't show it, with the first thing that fails.
 /// `ReadFault` and `WriteFault` come only where the count of faults of the input or the output rose in this
 /// call, and `OutOfMemory` for want of memory alone. The whole output is made before a byte is given, so
 /// every refusal but `WriteFault` has given nothing. The report gets the exit's text, which is empty for

@@ -5,6 +5,8 @@
 #[cfg(test)]
 mod calls;
 #[cfg(test)]
+mod certificate_tables;
+#[cfg(test)]
 mod faults;
 #[cfg(test)]
 mod record_tables;

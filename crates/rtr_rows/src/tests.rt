@@ -1,4 +1,5 @@
 use crate::calls::{ask, bytes, input_of, output_of, recording_of};
+use crate::certificate_tables::CERTIFICATES;
 use crate::record_tables::RECORDINGS;
 use crate::replay_tables::REPLAYS;
 use crate::run_tables::{FAULTY, RUNS};
@@ -8,7 +9,7 @@ use std::test::Fail;
 #[test]
 fn each_row_is_answered(rt: HostRuntime) -> Result<(), Fail> {
     let alloc = rt.alloc();
-    for row in &ROWS {
+    for row in ROWS.iter().chain(&CERTIFICATES) {
         let input = input_of(alloc, row)?;
         let wanted = output_of(alloc, row, input.as_slice())?;
         let answer = ask(alloc, row.words, input)?;
@@ -88,6 +89,20 @@ fn each_recording_replays_its_run(rt: HostRuntime) -> Result<(), Fail> {
         assert_eq!(rt; replay.status, 0, "{words}");
         assert_eq!(rt; replay.output.as_slice(), run.output.as_slice(), "{words}");
         assert_eq!(rt; replay.report.as_slice(), b"".as_slice(), "{words}");
+    }
+    Ok(())
+}
+
+// A run's reduced log is least, so that each recording has a certificate, which a check accepts.
+#[test]
+fn each_recording_is_certified(rt: HostRuntime) -> Result<(), Fail> {
+    let alloc = rt.alloc();
+    for row in &RECORDINGS {
+        let certificate = ask(alloc, "certify", recording_of(alloc, row)?)?;
+        assert_eq!(rt; certificate.status, 0, "{}", row.words);
+        let check = ask(alloc, "check", certificate.output)?;
+        assert_eq!(rt; check.status, 0, "{}", row.words);
+        assert_eq!(rt; check.report.as_slice(), b"".as_slice(), "{}", row.words);
     }
     Ok(())
 }

@@ -2,15 +2,18 @@
 use Rattle.std.specs.Prelude.{ℕ, List, [], ◌++◌, codes, decimal, take}
 use Rattle.std.specs.List.{flat_map}
 use Rattle.rtr_types.specs.declared.cut.Cut.{Cut}
+use Rattle.rtr_types.specs.declared.instr.Edge.{Edge}
 use Rattle.rtr_types.specs.declared.instr.Instr.{Instr}
 use Rattle.log_codec.specs.declared.codec_fault.CodecFault.{CodecFault}
 use Rattle.log_codec.specs.declared.codec_fault.CodecFault.TheVariants as faults
+use Rattle.min_certificate.specs.declared.answers.CheckFailure.{CheckFailure}
+use Rattle.min_certificate.specs.declared.answers.CheckFailure.TheVariants.{NotConflict, BadClock, NotNeeded, NotLeast}
 use Rattle.state_text.specs.declared.exit.Exit.{Exit}
 use Rattle.state_text.specs.declared.exit.Exit.TheVariants.{Done, Usage, TooLarge, Bad, Stuck, Short, Undetermined}
-use Rattle.state_text.specs.declared.exit.Exit.TheVariants.{ReadFault, WriteFault, OutOfMemory}
+use Rattle.state_text.specs.declared.exit.Exit.TheVariants.{CheckFailed, ReadFault, WriteFault, OutOfMemory}
 use Rattle.state_text.specs.Pieces.{line}
 
--- the exit status: a number of the tool's whole table, so that it stays where further ways to end come
+-- the exit status
 abbrev pub status_of : Exit → ℕ
 status_of Done = 0
 status_of Usage = 1
@@ -19,6 +22,7 @@ status_of (Bad part) = 3
 status_of (Stuck cut) = 4
 status_of (Short core count) = 5
 status_of (Undetermined first second) = 6
+status_of (CheckFailed failure) = 7
 status_of ReadFault = 8
 status_of WriteFault = 9
 status_of OutOfMemory = 10
@@ -34,6 +38,18 @@ counts_text cut = flat_map count_text (take cut.cores cut.counts)
 abbrev pub instr_text : Instr → List ℕ
 instr_text at = decimal at.core ++ codes ":" ++ decimal at.count
 
+-- an edge: its source and its target
+abbrev pub edge_text : Edge → List ℕ
+edge_text edge = instr_text edge.from ++ codes " to " ++ instr_text edge.to
+
+-- why a log isn't shown to be least
+abbrev pub failure_line : CheckFailure → List ℕ
+failure_line (NotConflict edge) = line (codes "rtr: edge " ++ edge_text edge ++ codes " is no conflict")
+failure_line (BadClock core entry) =
+    line (codes "rtr: clock " ++ decimal entry ++ codes " of core " ++ decimal core ++ codes " is wrong")
+failure_line (NotNeeded edge) = line (codes "rtr: edge " ++ edge_text edge ++ codes " is not needed")
+failure_line (NotLeast edge) = line (codes "rtr: edge " ++ edge_text edge ++ codes " is not in the least log")
+
 -- what the report gets: nothing, or one line
 abbrev pub fault_line : Exit → List ℕ
 fault_line Done = []
@@ -44,6 +60,7 @@ fault_line (Stuck cut) = line (codes "rtr: stuck at" ++ counts_text cut)
 fault_line (Short core count) = line (codes "rtr: core " ++ decimal core ++ codes " stops at " ++ decimal count)
 fault_line (Undetermined first second) =
     line (codes "rtr: no order from " ++ instr_text first ++ codes " to " ++ instr_text second)
+fault_line (CheckFailed failure) = failure_line failure
 fault_line ReadFault = line (codes "rtr: read fault")
 fault_line WriteFault = line (codes "rtr: write fault")
 fault_line OutOfMemory = line (codes "rtr: out of memory")

@@ -2,3 +2,4 @@ pub mod Exits
 pub mod Logs
 pub mod Pieces
 pub mod States
+pub mod Checks

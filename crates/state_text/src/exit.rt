@@ -4,6 +4,7 @@ ghost use Rattle.state_text.specs.Exits.{exit_of, status_of};
 ghost use Rattle.state_text.specs.declared.exit.Exit.TheVariants.{OutOfMemory};
 
 use log_codec::CodecFault;
+use min_certificate::CheckFailure;
 use rtr_types::{Cut, Instr};
 use std::alloc::AllocError;
 
@@ -27,6 +28,9 @@ pub enum Exit {
     Short { core: u8, count: u32 },
     /// The log leaves open in which order these two accesses come, which conflict.
     Undetermined { first: Instr, second: Instr },
+    /// The recording is determinate by its reduced log, but the log isn't shown to be least: by `check`, or
+    /// by `certify`.
+    CheckFailed { failure: CheckFailure },
     /// The input could not be read.
     ReadFault,
     /// The output could not be written.
@@ -36,7 +40,7 @@ pub enum Exit {
 }
 
 impl Exit {
-    /// The exit status of the process. The status 7 is that of the refusals of a check.
+    /// The exit status of the process.
     pub fn status(&self) -> u8
         ensures { result ≡ status_of self.now }
     {
@@ -48,6 +52,7 @@ impl Exit {
             Exit::Stuck { .. } => 4,
             Exit::Short { .. } => 5,
             Exit::Undetermined { .. } => 6,
+            Exit::CheckFailed { .. } => 7,
             Exit::ReadFault => 8,
             Exit::WriteFault => 9,
             Exit::OutOfMemory => 10,

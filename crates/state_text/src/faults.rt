@@ -1,10 +1,11 @@
 //! The text that tells why a command gave up.
 ghost use Rattle.std.specs.Prelude.{◌≡◌, ◌+◌, ◌*◌, ◌≤◌, [], ◌++◌, length, decimal};
-ghost use Rattle.state_text.specs.Exits.{count_text, counts_text, fault_line, instr_text};
+ghost use Rattle.state_text.specs.Exits.{count_text, counts_text, edge_text, failure_line, fault_line, instr_text};
 
 use crate::exit::Exit;
 use itoa::Buffer;
-use rtr_types::{CORES_MAX, Cut, Instr};
+use min_certificate::CheckFailure;
+use rtr_types::{CORES_MAX, Cut, Edge, Instr};
 use std::marker::Model;
 
 /// The most bytes that a fault text has.
@@ -80,6 +81,48 @@ impl FaultText {
         self.put_number(at.count);
     }
 
+    // Puts the two instructions of an edge at the end.
+    fn put_edge(&mut self, edge: Edge)
+        requires { length self.old + 4 * DIGITS_MAX + 6 ≤ FAULT_TEXT_MAX }
+        ensures text { self.new ≡ self.old ++ edge_text edge }
+        ensures short { length self.new ≤ length self.old + 4 * DIGITS_MAX + 6 }
+    {
+        self.put_instr(edge.from);
+        self.put(b" to ");
+        self.put_instr(edge.to);
+    }
+
+    // Puts the line of a failed check at the end.
+    fn put_failure(&mut self, failure: &CheckFailure)
+        requires { length self.old + 4 * DIGITS_MAX + 42 ≤ FAULT_TEXT_MAX }
+        ensures { self.new ≡ self.old ++ failure_line failure.now }
+    {
+        match failure {
+            CheckFailure::NotConflict { edge } => {
+                self.put(b"rtr: edge ");
+                self.put_edge(*edge);
+                self.put(b" is no conflict\n");
+            }
+            CheckFailure::BadClock { core, entry } => {
+                self.put(b"rtr: clock ");
+                self.put_number(*entry);
+                self.put(b" of core ");
+                self.put_number((*core).into());
+                self.put(b" is wrong\n");
+            }
+            CheckFailure::NotNeeded { edge } => {
+                self.put(b"rtr: edge ");
+                self.put_edge(*edge);
+                self.put(b" is not needed\n");
+            }
+            CheckFailure::NotLeast { edge } => {
+                self.put(b"rtr: edge ");
+                self.put_edge(*edge);
+                self.put(b" is not in the least log\n");
+            }
+        }
+    }
+
     // Puts a space and a count at the end.
     fn put_count(&mut self, count: u32)
         requires { length self.old + DIGITS_MAX + 1 ≤ FAULT_TEXT_MAX }
@@ -137,6 +180,7 @@ pub fn fault_text(exit: &Exit) -> FaultText
             text.put_instr(*second);
             text.put(b"\n");
         }
+        Exit::CheckFailed { failure } => text.put_failure(failure),
         Exit::ReadFault => text.put(b"rtr: read fault\n"),
         Exit::WriteFault => text.put(b"rtr: write fault\n"),
         Exit::OutOfMemory => text.put(b"rtr: out of memory\n"),

@@ -1,14 +1,16 @@
-//! The texts that the tool prints: how a command ended, the state that a run or a replay left, and
-//! the logs of a recording. Each line ends with one line feed, and each text is a list of bytes that
+//! The texts that the tool prints: how a command ended, the state that a run or a replay left, the
+//! logs of a recording, and that a check found a log least. Each line ends with one line feed, and each text is a list of bytes that
 //! the definitions in `specs/` give line by line.
 #![tactic(auto)]
 
+mod checks;
 mod exit;
 mod faults;
 mod hex_word;
 mod logs;
 mod states;
 
+pub use checks::check_text;
 pub use exit::Exit;
 pub use faults::{FAULT_TEXT_MAX, FaultText, fault_text};
 pub use logs::logs_text;

@@ -1,10 +1,11 @@
 //! Texts from the tool's written description.
 ghost use Rattle.std.specs.Prelude.{◌≡◌, ◌≤◌, ◌∷◌, [], IfOk, length};
 
-use crate::{Exit, fault_text, logs_text, state_text};
+use crate::{Exit, check_text, fault_text, logs_text, state_text};
 use image_mem::Image;
 use log_codec::Recording;
-use rtr_types::{CORES_MAX, Cut, Instr, Items, Params, WORDS_MAX};
+use min_certificate::CheckFailure;
+use rtr_types::{CORES_MAX, Cut, Edge, Instr, Items, Params, WORDS_MAX};
 use rv_core::{Core, Halt, LoadNote, Outcome};
 use std::alloc::{AllocError, Global};
 use std::test::Fail;
@@ -38,6 +39,10 @@ fn exits(rt: HostRuntime) {
     let cut = one_each();
     let first = Instr { core: 0, count: 2 };
     let second = Instr { core: 1, count: 2 };
+    let edge = Edge {
+        from: first,
+        to: second,
+    };
     let rows = [
         (Exit::Done, 0, ""),
         (Exit::Usage, 1, "rtr: usage\n"),
@@ -54,6 +59,34 @@ fn exits(rt: HostRuntime) {
             Exit::Undetermined { first, second },
             6,
             "rtr: no order from 0:2 to 1:2\n",
+        ),
+        (
+            Exit::CheckFailed {
+                failure: CheckFailure::NotConflict { edge },
+            },
+            7,
+            "rtr: edge 0:2 to 1:2 is no conflict\n",
+        ),
+        (
+            Exit::CheckFailed {
+                failure: CheckFailure::BadClock { core: 0, entry: 2 },
+            },
+            7,
+            "rtr: clock 2 of core 0 is wrong\n",
+        ),
+        (
+            Exit::CheckFailed {
+                failure: CheckFailure::NotNeeded { edge },
+            },
+            7,
+            "rtr: edge 0:2 to 1:2 is not needed\n",
+        ),
+        (
+            Exit::CheckFailed {
+                failure: CheckFailure::NotLeast { edge },
+            },
+            7,
+            "rtr: edge 0:2 to 1:2 is not in the least log\n",
         ),
         (Exit::ReadFault, 8, "rtr: read fault\n"),
         (Exit::WriteFault, 9, "rtr: write fault\n"),
@@ -74,6 +107,15 @@ fn longest_exit(rt: HostRuntime) {
     };
     let text = fault_text(&Exit::Stuck { cut });
     assert_eq!(rt; text.bytes().len(), 13 + 11 * PLACES + 1);
+}
+
+// The most edges that a number of 64 bits tells.
+#[test]
+fn a_check(rt: HostRuntime) -> Result<(), Fail> {
+    let text = check_text(rt.alloc(), u64::MAX)?;
+    let line = "least 18446744073709551615 edges\n";
+    assert_eq!(rt; text.as_slice(), line.as_bytes());
+    Ok(())
 }
 
 // The recording of one ECALL.

@@ -9,7 +9,7 @@ use Rattle.rtr_types.specs.declared.TheConstants.{CORES_MAX}
 use Rattle.rtr_types.specs.declared.params.TheConstants.{LIMIT_MAX, WORDS_MIN, WORDS_MAX}
 use Rattle.tool_words.specs.declared.command.Command.{Command}
 use Rattle.tool_words.specs.declared.command.Verb.{Verb}
-use Rattle.tool_words.specs.declared.command.Verb.TheVariants.{Record, Run, Print, Replay, Migrate}
+use Rattle.tool_words.specs.declared.command.Verb.TheVariants.{Record, Run, Print, Replay, Migrate, Certify, Check}
 use Rattle.tool_words.specs.declared.options.Name.{Name}
 use Rattle.tool_words.specs.declared.options.Name.TheVariants.{Cores, Limit, Words, Choices, Seed, Log, Loads}
 use Rattle.tool_words.specs.Settings.{Settings}
@@ -158,6 +158,8 @@ command-fits Run s fit = params-fit s fit
 command-fits Print s fit = tt
 command-fits Replay s fit = tt
 command-fits Migrate s fit = tt
+command-fits Certify s fit = tt
+command-fits Check s fit = tt
 
 pub fitting_law : FittingLaw
 fitting_law [] command h = absurd (cc)

@@ -9,7 +9,7 @@ use Rattle.rtr_types.specs.declared.pairs.Which.TheVariants.{Reduced, Regulated}
 use Rattle.rtr_types.specs.declared.TheConstants.{BLOCK_WORDS, CORES_MAX}
 use Rattle.rtr_types.specs.declared.params.TheConstants.{LIMIT_MAX, WORDS_MIN, WORDS_MAX}
 use Rattle.tool_words.specs.declared.command.Verb.{Verb}
-use Rattle.tool_words.specs.declared.command.Verb.TheVariants.{Record, Run, Print, Replay, Migrate}
+use Rattle.tool_words.specs.declared.command.Verb.TheVariants.{Record, Run, Print, Replay, Migrate, Certify, Check}
 use Rattle.tool_words.specs.declared.options.Name.{Name}
 use Rattle.tool_words.specs.declared.options.Name.TheVariants.{Cores, Limit, Words, Choices, Seed, Log, Loads}
 use Rattle.tool_words.specs.Settings.{Settings}
@@ -52,6 +52,8 @@ takes Replay Seed = false
 takes Replay Log = true
 takes Replay Loads = true
 takes Migrate name = false
+takes Certify name = false
+takes Check name = false
 
 -- the option that a word names, where the command takes it
 abbrev pub option_of : Verb → List ℕ → Option Name

@@ -35,6 +35,10 @@ pub enum Command {
     },
     /// Spell the recording on the input in the newest version.
     Migrate,
+    /// Make the certificate that the reduced log of the recording on the input is least.
+    Certify,
+    /// Check the certificate on the input.
+    Check,
 }
 
 /// The first word: a command without its options.
@@ -45,6 +49,8 @@ pub(crate) enum Verb {
     Print,
     Replay,
     Migrate,
+    Certify,
+    Check,
 }
 
 impl Verb {
@@ -62,6 +68,10 @@ impl Verb {
             Some(Verb::Replay)
         } else if word == "migrate" {
             Some(Verb::Migrate)
+        } else if word == "certify" {
+            Some(Verb::Certify)
+        } else if word == "check" {
+            Some(Verb::Check)
         } else {
             None
         }
@@ -90,6 +100,8 @@ impl Verb {
                 loads: settings.loads,
             }),
             Verb::Migrate => Ok(Command::Migrate),
+            Verb::Certify => Ok(Command::Certify),
+            Verb::Check => Ok(Command::Check),
         }
     }
 }

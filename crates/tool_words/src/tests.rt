@@ -147,7 +147,7 @@ fn words_that_mean_a_replay(rt: HostRuntime) -> Result<(), Fail> {
     Ok(())
 }
 
-static FAULTY: [&str; 38] = [
+static FAULTY: [&str; 41] = [
     "",
     "records",
     "--help",
@@ -179,6 +179,9 @@ static FAULTY: [&str; 38] = [
     "replay --limit 1",
     "migrates",
     "migrate --words 16",
+    "certifies",
+    "certify --limit 1",
+    "check --log reduced",
     "run --cores 0",
     "run --cores 9",
     "run --choices 0",
@@ -205,5 +208,11 @@ fn words_that_mean_a_recording(rt: HostRuntime) -> Result<(), Fail> {
     let migrate = words(rt.alloc(), "migrate")?;
     let command = meaning(rt.alloc(), migrate.as_slice())?;
     assert!(rt; matches!(command, Some(Command::Migrate)));
+    let certify = words(rt.alloc(), "certify")?;
+    let command = meaning(rt.alloc(), certify.as_slice())?;
+    assert!(rt; matches!(command, Some(Command::Certify)));
+    let check = words(rt.alloc(), "check")?;
+    let command = meaning(rt.alloc(), check.as_slice())?;
+    assert!(rt; matches!(command, Some(Command::Check)));
     Ok(())
 }

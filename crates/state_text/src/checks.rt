@@ -1,0 +1,15 @@
+//! The text of a check that found nothing wrong.
+ghost use Rattle.std.specs.Prelude.{◌≡◌, IfOk};
+ghost use Rattle.state_text.specs.Checks.{check_lines};
+
+use std::alloc::{AllocError, Global};
+
+/// The text of a check by which a reduced log with this many edges is least: one line. The only refusal is
+/// want of memory.
+pub fn check_text(alloc: Global, edges: u64) -> Result<Vec<u8>, AllocError>
+    ensures { IfOk result (λ text. text.items ≡ check_lines edges) }
+{
+    let mut text = String::new(alloc);
+    writeln!(text, "least {edges} edges")?;
+    Ok(text.into_bytes())
+}
