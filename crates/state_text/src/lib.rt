@@ -1,6 +1,6 @@
-//! The texts that the tool prints: how a command ended, the state that a run or a replay left, the
-//! logs of a recording, and that a check found a log least. Each line ends with one line feed, and each text is a list of bytes that
-//! the definitions in `specs/` give line by line.
+//! The texts that the tool prints: how a command ended, the state that a run or a replay left, the logs of a
+//! recording, and that a check found a log least. Each line ends with one line feed, and each text is a list
+//! of bytes that the definitions in `specs/` give line by line.
 #![tactic(auto)]
 
 mod checks;
