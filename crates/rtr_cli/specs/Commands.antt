@@ -182,7 +182,7 @@ CheckEnds c exit = Ends (λ fault. AuditRefuses Reduced c.recording fault) (Chec
 
 -- of the bytes of a recording. They are read back as it, and its reduced log is the least set of the run's accesses.
 -- Every order that obeys this log replays the run. So `replay` of them prints what `run` prints of the same image and
--- options, and for no other reason gives nothing than want of memory
+-- options, and it and `certify` give nothing for no other reason than want of memory
 pub record KeepsRun (params : Params) (choices : List ℕ) (seed : ℕ) (input : List ℕ) : Type 0 where
   pub recorded : IsRecorded (image_of params input) params (choices_of choices seed)
   pub replays : ReplaysRun (image_of params input) params (choices_of choices seed) Reduced
@@ -192,6 +192,8 @@ pub record KeepsRun (params : Params) (choices : List ℕ) (seed : ℕ) (input :
       ↔ Makes (Run params choices seed loads) input out
   pub refuses : (loads : Bool) (exit : Exit)
       → Refuses (Replay Reduced loads) (spelling (recording_of_input params choices seed input)) exit
+      → exit ≡ exits.OutOfMemory
+  pub certified : (exit : Exit) → Refuses Certify (spelling (recording_of_input params choices seed input)) exit
       → exit ≡ exits.OutOfMemory
 
 -- the recording is determinate by the log: every order that obeys it plays, gives each load the same value, and can
