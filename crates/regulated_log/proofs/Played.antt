@@ -57,7 +57,7 @@ decides_law known r order valid past decides = record {
         ((implies_law known r valid).suffices (accesses_of before order) decides.suffices);
   };
   played = play_of_image after (start after) order ∙ sym (play_of_image before (start before) order);
-  accesses_from = same;
+  accesses = same;
 }
   where
     before : Plan

@@ -102,7 +102,7 @@ pub every_order_law : EveryOrderLaw
 every_order_law which r whole order valid d ord = record {
   plays = ((plays_on p (start p) order rest).0 f.same.plays).0;
   suffices = λ x y q. d.suffices x y (pairs x y q);
-  accesses_from = λ a q. f.same.parts a (subst (λ (l : List Access). StandsIn l a) (sym all) (stands_left (accesses_of p order) later a q));
+  accesses = λ a q. f.same.parts a (subst (λ (l : List Access). StandsIn l a) (sym all) (stands_left (accesses_of p order) later a q));
   pairs = pairs;
   loads = λ c.
       let g = loads_grow p (played p order) rest c in
