@@ -133,7 +133,8 @@ pub record Turned (s s' : State Times NoCarry) (m : Move) (c d : Noted) (rest re
   pub finds : (list : List Retirement) → MachineStandsFor times_parts no_carrying list s → StepFinds no_carrying s m list
 
 -- the times that an access finds are exact, since the noted_accesses clocks are
-pub step_exact : (e : Event) (n : Node Times NoCarry) (list : List Retirement) (all : List Access) → times.accesses list ≡ all → HaveExactClocks all list →
+pub step_exact : (e : Event) (n : Node Times NoCarry) (list : List Retirement) (all : List Access) → times.retired_accesses list ≡ all →
+    HaveExactClocks all list →
     ((a : Access) → e ≡ Accesses a → IsExactRider times_parts (noted_accesses (reverse list)) a (rider_at times_riding n a.word)) → (a : Access) →
     e ≡ Accesses a → AreExactFor all a (rider_of_event times_riding e n)
 step_exact Nothing n list all are exact finds a is = absurd cc

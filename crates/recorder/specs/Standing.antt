@@ -26,7 +26,7 @@ no_carrying = record { none = record {}; joined = λ a b. a; retired = λ a b. a
 -- the reduction stands for these retirements, whose accesses are these: the noted clocks are exact, the counts are the
 -- numbers of retirements, and the edges are the covering pairs
 pub record Reduces (list : List Retirement) (all : List Access) (r : Reduced) (edges : List Edge) : Type 0 where
-  pub accesses_are : times.accesses list ≡ all
+  pub accesses_are : times.retired_accesses list ≡ all
   pub exact : HaveExactClocks all list
   pub counts : (core : ℕ) → core < r.cores → count_of r core ≡ retired_by (reverse list) core
   pub reduction : IsReduction all r edges
