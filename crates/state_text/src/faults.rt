@@ -92,37 +92,6 @@ impl FaultText {
         self.put_instr(edge.to);
     }
 
-    // Puts the line of a failed check at the end.
-    fn put_failure(&mut self, failure: &CheckFailure)
-        requires { length self.old + 4 * DIGITS_MAX + 42 ≤ FAULT_TEXT_MAX }
-        ensures { self.new ≡ self.old ++ failure_line failure.now }
-    {
-        match failure {
-            CheckFailure::NotConflict { edge } => {
-                self.put(b"rtr: edge ");
-                self.put_edge(*edge);
-                self.put(b" is no conflict\n");
-            }
-            CheckFailure::BadClock { core, entry } => {
-                self.put(b"rtr: clock ");
-                self.put_number(*entry);
-                self.put(b" of core ");
-                self.put_number((*core).into());
-                self.put(b" is wrong\n");
-            }
-            CheckFailure::NotNeeded { edge } => {
-                self.put(b"rtr: edge ");
-                self.put_edge(*edge);
-                self.put(b" is not needed\n");
-            }
-            CheckFailure::NotLeast { edge } => {
-                self.put(b"rtr: edge ");
-                self.put_edge(*edge);
-                self.put(b" is not in the least log\n");
-            }
-        }
-    }
-
     // Puts a space and a count at the end.
     fn put_count(&mut self, count: u32)
         requires { length self.old + DIGITS_MAX + 1 ≤ FAULT_TEXT_MAX }
@@ -144,6 +113,38 @@ impl FaultText {
             self.put_count(*count);
         }
     }
+}
+
+/// The line that tells why a log isn't shown to be least.
+fn failure_text(failure: &CheckFailure) -> FaultText
+    ensures { result ≡ failure_line failure.now }
+{
+    let mut text = FaultText::empty();
+    match failure {
+        CheckFailure::NotConflict { edge } => {
+            text.put(b"rtr: edge ");
+            text.put_edge(*edge);
+            text.put(b" is no conflict\n");
+        }
+        CheckFailure::BadClock { core, entry } => {
+            text.put(b"rtr: clock ");
+            text.put_number(*entry);
+            text.put(b" of core ");
+            text.put_number((*core).into());
+            text.put(b" is wrong\n");
+        }
+        CheckFailure::NotNeeded { edge } => {
+            text.put(b"rtr: edge ");
+            text.put_edge(*edge);
+            text.put(b" is not needed\n");
+        }
+        CheckFailure::NotLeast { edge } => {
+            text.put(b"rtr: edge ");
+            text.put_edge(*edge);
+            text.put(b" is not in the least log\n");
+        }
+    }
+    text
 }
 
 /// The text that goes to the report where a command ends so: one line, or nothing where it did what
@@ -180,7 +181,7 @@ pub fn fault_text(exit: &Exit) -> FaultText
             text.put_instr(*second);
             text.put(b"\n");
         }
-        Exit::CheckFailed { failure } => text.put_failure(failure),
+        Exit::CheckFailed { failure } => return failure_text(failure),
         Exit::ReadFault => text.put(b"rtr: read fault\n"),
         Exit::WriteFault => text.put(b"rtr: write fault\n"),
         Exit::OutOfMemory => text.put(b"rtr: out of memory\n"),
