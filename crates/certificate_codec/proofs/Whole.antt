@@ -50,8 +50,8 @@ parts_again : (c : Certificate) (bytes rest : List ℕ) → IsCertificate c → 
 unfolding parts_at
 parts_again c bytes rest v s =
     let after = clocks_text c.clocks ++ rest in
-    let f : front_at (s.front ++ after) ≡ Ok (c.recording, after) = ap (λ (b : List ℕ). front_at (b ++ after)) s.recording.2.1
-    ∙ front_again s.recording.0 c.recording after v.recording s.recording.2.0 in
+    let f : front_at (s.front ++ after) ≡ Ok (c.recording, after) = ap (λ (b : List ℕ). front_at (b ++ after)) s.recording.2
+    ∙ front_again s.recording.0 c.recording after v.recording s.recording.1 in
     let k = clocks_again c.recording c.clocks rest v.recording v.each_core v.entries in
     ap (λ (b : List ℕ). parts_at (b ++ rest)) s.parts ∙ ap parts_at (append_assoc s.front (clocks_text c.clocks) rest) ∙ rw (f, k) refl
 

@@ -9,6 +9,7 @@ use Rattle.conflict_edge.proofs.TwoForms.{least_independent}
 use Rattle.conflict_edge.specs.Conflicts.{CountsRise}
 use Rattle.conflict_edge.specs.Least.{IsLeast}
 use Rattle.log_codec.proofs.Whole.{spelled_is_read}
+use Rattle.log_codec.specs.declared.version.Version.TheVariants.{Two}
 use Rattle.log_codec.specs.Sources.{log_edges}
 use Rattle.log_codec.specs.Validity.{Valid}
 use Rattle.msi_bound.specs.Ends.{end_of}
@@ -68,6 +69,6 @@ recorded_law image params schedule fits words room =
     let valid = recording_valid_law image params schedule fits words room in
     record {
       valid = valid;
-      read_back = spelled_is_read (recording_of image params schedule) valid;
+      read_back = spelled_is_read Two (recording_of image params schedule) valid valid.params;
       least = least image params schedule fits;
     }
