@@ -6,14 +6,14 @@ use Rattle.std.proofs.lemmas.Bool.Decides.{nat_tests}
 use Rattle.rtr_types.specs.declared.instr.Instr.{Instr}
 use Rattle.rtr_types.specs.declared.pairs.Which.TheVariants.{Reduced}
 use Rattle.clock_core.specs.Order.{Among}
+use Rattle.clock_core.proofs.Listed.{among_contains, contains_among}
 use Rattle.clock_core.proofs.Paths.{instr_eq}
 use Rattle.log_codec.specs.declared.recording.Recording.{Recording}
 use Rattle.log_codec.specs.Sources.{HasEdge}
 use Rattle.log_codec.specs.Validity.{Valid}
 use Rattle.log_codec.proofs.SourceLaws.{edges-within}
 use Rattle.clock_entries.specs.Ends.{instr, Clocks, entry_at, last_entry}
-use Rattle.replay_audit.proofs.Logs.{among_contains, edge_within}
-use Rattle.replay_audit.proofs.Sourcing.{contains_among}
+use Rattle.replay_audit.proofs.Logs.{edge_within}
 use Rattle.certificate_codec.specs.declared.certificate.Certificate.{Certificate}
 use Rattle.certificate_codec.specs.Ends.{reduced_edges, IsWithin}
 use Rattle.min_certificate.specs.Places.{entry_in, IsBelow, IsSourceBelow, IsUnknownThere}

@@ -5,6 +5,7 @@
 mod answers;
 mod certifying;
 mod checking;
+mod copies;
 mod core_accesses;
 mod entries;
 mod exact_clocks;
