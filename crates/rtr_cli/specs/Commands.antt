@@ -6,6 +6,7 @@ use Rattle.rv_core.specs.declared.outcome.Outcome.{Outcome}
 use Rattle.schedule_pick.specs.Choices.{choices_of}
 use Rattle.run_outcome.specs.Outcomes.{outcome_of}
 use Rattle.log_codec.specs.declared.recording.Recording.{Recording}
+use Rattle.rtr_types.specs.declared.params.Params.{Params}
 use Rattle.rtr_types.specs.declared.pairs.Which.{Which}
 use Rattle.rtr_types.specs.declared.pairs.Which.TheVariants.{Reduced}
 use Rattle.log_codec.specs.Counts.{edge_count_of}
