@@ -88,7 +88,7 @@ pub static CERTIFICATES: [Row; 23] = [
             010203 010403 01010302 01010304 02 0300 0403 02 0302 0303",
         "least 2 edges\n"
     ),
-    // 1:3 comes before 0:4, and the clock of 0:4 has only two of core 1's instructions. In the other row 0:3 comes
+    // 1:3 comes before 0:4, and the clock of 0:4 has only two of core 1's instructions. In the other row, 0:3 comes
     // before 1:2, whose clock lacks it.
     refused!(
         "check",
