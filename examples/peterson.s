@@ -1,5 +1,4 @@
-# Peterson's lock for two cores, two rounds each. The flags stand at 128 and 132, the turn at 136, the counter at
-# 144.
+# Peterson's lock for two cores, two rounds each. The flags stand at 128 and 132, the turn at 136, the counter at 144.
 #
 # What to look at: the counter is loaded and stored under the lock, so no count is lost: it ends as 4 under every
 # schedule. The words of the lock take nearly all edges; those of the counter are implied by them.
@@ -20,7 +19,7 @@ wait:   lw      a1, 128(s0)
 enter:  lw      a3, 144(zero)
         addi    a3, a3, 1
         sw      a3, 144(zero)
-        sw      zero, 128(t1)            # the own flag goes down
+        sw      zero, 128(t1)           # the own flag goes down
         addi    t0, t0, -1
         bne     t0, zero, round
         ecall
