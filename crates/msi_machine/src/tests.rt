@@ -126,7 +126,7 @@ fn two_writes_take_their_steps_and_a_choice_decides_which_is_last(
     Ok(())
 }
 
-// Each core adds its number and one: the numbers from 1 to 16, which make 136.
+// Each core adds its number and one to the word, which ends as the sum of these numbers from 1 on.
 #[test]
 fn every_core_that_there_may_be_adds_to_one_word(rt: HostRuntime) -> Result<(), Fail> {
     let image = Image::flat(SUM.to_vec(rt.alloc())?, 16)?;
@@ -144,8 +144,9 @@ fn every_core_that_there_may_be_adds_to_one_word(rt: HostRuntime) -> Result<(), 
         }
     }
     assert!(rt; machine.done());
-    assert_eq!(rt; clerk.told, 64);
-    assert_eq!(rt; machine.final_word(8), 136);
+    let cores = CORES_MAX as u32;
+    assert_eq!(rt; clerk.told, 4 * cores);
+    assert_eq!(rt; machine.final_word(8), cores * (cores + 1) / 2);
     Ok(())
 }
 

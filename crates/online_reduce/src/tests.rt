@@ -147,6 +147,6 @@ fn a_store_follows_a_read_of_each_other_core(rt: HostRuntime) -> Result<(), Fail
     assert!(rt; reducer.clock(0).get(0) == 0);
     reducer.ready()?;
     let edges = reducer.retire(&access!(0: 1 Store 0), &mut times);
-    assert_eq!(rt; edges.len(), 15);
+    assert_eq!(rt; edges.len(), CORES_MAX as usize - 1);
     Ok(())
 }
