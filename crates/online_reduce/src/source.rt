@@ -2,6 +2,7 @@
 ghost use Rattle.std.specs.Prelude.{◌≡◌, ◌≢◌, ℕ, ◌+◌, ◌<◌, ◌≤◌, ◌↔◌, ◌++◌, ◌∷◌, ◌%◌, [], IsTrue, None, false, length};
 ghost use Rattle.std.specs.Option.{option_to_list};
 ghost use Rattle.rtr_types.specs.declared.TheConstants.{BLOCK_WORDS, CORES_MAX};
+ghost use Rattle.access_times.specs.Reads.{read_seen};
 ghost use Rattle.access_times.specs.Times.{read_at, write_at};
 ghost use Rattle.online_reduce.specs.Sources.{candidates, candidates_from, read_from, write_from};
 ghost use Rattle.online_reduce.specs.declared.TheConstants.{EDGES_MAX};
@@ -116,9 +117,9 @@ fn push_write(found: &mut Sources, access: &Access, core: u8, write: &Option<(In
 }
 
 /// Adds the core's noted read, where the access writes and is of another core.
-fn push_read(found: &mut Sources, access: &Access, core: u8, read: &Option<(u32, Clock)>)
-    requires { length found.old + length (option_to_list (read_from access.now core read.now)) ≤ EDGES_MAX }
-    ensures { found.new ≡ found.old ++ option_to_list (read_from access.now core read.now) }
+fn push_read(found: &mut Sources, access: &Access, core: u8, read: Option<&(u32, Clock)>)
+    requires { length found.old + length (option_to_list (read_from access.now core (read_seen read.entry))) ≤ EDGES_MAX }
+    ensures { found.new ≡ found.old ++ option_to_list (read_from access.now core (read_seen read.entry)) }
 {
     if let Some((count, clock)) = read {
         if access.kind.is_write() && core != access.at.core {
