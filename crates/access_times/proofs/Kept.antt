@@ -110,10 +110,12 @@ module _ {left : CoreSet} {core : ℕ} {is_done is_left : ℕ → Type 0} where
       passed k below false e =
           let other : k ≢ core = grind (arith, nat_tests) in
           has-without_other left core k lt (let n = other in grind (arith, nat_tests)) other ∙ f.passed k (grind (arith, nat_tests))
+
       done : (k : ℕ) → k < CORES_MAX → has (without_core left core) k ≡ false → (b : Bool) → (k == core) ≡ b → done_now k
       done k lk isnt true e = let same : core ≡ k = grind (arith, nat_tests) in subst done_now same here
       done k lk isnt false e =
           let other : k ≢ core = grind (arith, nat_tests) in keeps_done k other (f.done k lk (sym (has-without_other left core k lt lk other) ∙ isnt))
+
       rest : (k : ℕ) → k < CORES_MAX → has (without_core left core) k ≡ true → (b : Bool) → (k == core) ≡ b → left_now k
       rest k lk is true e =
           let same : k ≡ core = grind (arith, nat_tests) in
@@ -155,8 +157,8 @@ view_absorbed own first second same =
     let b = reads_kept second.readers second.places in
     view_by_places own (reads_absorbed a b) (length-absorbed a b)
     (λ k lk. same k lk ∙ sym (absorbed_at a b k lk
-        ∙ ap (λ (r : Option (ℕ × Clock)). newer_read r (read_in b k)) (read_in-kept first.readers first.places k lk)
-        ∙ ap (newer_read (read_of first k)) (read_in-kept second.readers second.places k lk)))
+    ∙ ap (λ (r : Option (ℕ × Clock)). newer_read r (read_in b k)) (read_in-kept first.readers first.places k lk)
+    ∙ ap (newer_read (read_of first k)) (read_in-kept second.readers second.places k lk)))
 
 -- the fields with a read in the core's place
 abbrev pub inside_with : Inside → ℕ → ℕ × Clock → Inside
@@ -193,8 +195,8 @@ copied own other left core d long other_long lt same f =
     let read = slice_index_or other.places core d in
     looked_at (λ k. read_kept own.readers (slice_set own.places core read) k ≡ read_of other k) (λ k. k ≡ k) f lt
     (ap (read_if (has own.readers core)) (get_or-set_same own.places core read (0, no_counts) (let e = long in omega arith)
-        ∙ get_or_default other.places core d (0, no_counts) (let e = other_long in omega arith))
-        ∙ ap (λ (r : CoreSet). read_kept r other.places core) same)
+    ∙ get_or_default other.places core d (0, no_counts) (let e = other_long in omega arith))
+    ∙ ap (λ (r : CoreSet). read_kept r other.places core) same)
     (λ k n e. ap (read_if (has own.readers k)) (get_or-set_other own.places core k read (0, no_counts) n) ∙ e) (λ k n l. l)
 
 -- what a core ends with where its own and the other read are compared, in either order

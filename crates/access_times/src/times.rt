@@ -118,9 +118,11 @@ impl Rider for Times {
     }
 
     fn copy_from(&mut self, other: &Self) {
-        for slot in 0..BLOCK_WORDS {
-            self.slots[slot].copy_from(&other.slots[slot]);
-        }
+        let [first, second, third, fourth] = &other.slots;
+        self.slots[0].copy_from(first);
+        self.slots[1].copy_from(second);
+        self.slots[2].copy_from(third);
+        self.slots[3].copy_from(fourth);
     }
 
     fn renew(&mut self, other: &Self) {

@@ -13,11 +13,14 @@ returns c = view_same c.loop-core.self-inside c.other.inside (all_passed c.loop-
 
 pub loop-core-preserved : goal.loop-core-preserved
 loop-core-preserved c = elim c.if-has.branch [
-    then-has w ↦
-      rw (w.self-inside-is, w.left-is, w.without-left.ensures)
-      (length-set c.loop-core.self-inside.places c.loop-core.core _ ∙ c.loop-core.invariant.0, c.loop-core.invariant.1,
+  | then-has w ↦
+      rw (w.self-inside-is, w.left-is, w.without-left.ensures) (
+        length-set c.loop-core.self-inside.places c.loop-core.core _ ∙ c.loop-core.invariant.0,
+        c.loop-core.invariant.1,
         copied c.loop-core.self-inside c.other.inside c.loop-core.left c.loop-core.core _ c.loop-core.invariant.0 c.other.invariant c.loop-core-test.true
-        c.loop-core.invariant.1 c.loop-core.invariant.2)
+            c.loop-core.invariant.1 c.loop-core.invariant.2,
+      )
   | else-has w ↦
       rw (w.self-inside-is, w.left-is)
-      (c.loop-core.invariant.0, c.loop-core.invariant.1, passed_by c.loop-core.invariant.2 (sym c.has.ensures ∙ w.if-has.false)) ]
+      (c.loop-core.invariant.0, c.loop-core.invariant.1, passed_by c.loop-core.invariant.2 (sym c.has.ensures ∙ w.if-has.false))
+]
