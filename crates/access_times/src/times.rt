@@ -58,11 +58,15 @@ impl SlotTimes {
         }
     }
 
-    /// Becomes equal to the other.
+    /// Becomes equal to the other. No clock is copied where there is no write.
     fn copy_from(&mut self, other: &SlotTimes)
         ensures { self.new ≡ other.now }
     {
-        self.write = other.write;
+        if other.write.is_some() {
+            self.write = other.write;
+        } else {
+            self.write = None;
+        }
         self.reads.copy_from(&other.reads);
     }
 
@@ -71,7 +75,6 @@ impl SlotTimes {
         ensures { self.new ≡ slot_absorbed other.now self.old }
     {
         if is_same_write(&other.write, &self.write) {
-            self.write = other.write;
             self.reads.renew(&other.reads);
         } else {
             self.copy_from(other);
@@ -219,5 +222,23 @@ mod tests {
         home.on_store(1, Instr { core: 1, count: 6 }, only(1, 6));
         home.absorb(&copy);
         assert!(rt; home.read_by(1, 0).is_none());
+    }
+
+    #[test]
+    fn a_copy_forgets_what_it_was_and_a_renewed_rider_keeps_newer_reads(rt: HostRuntime) {
+        let mut home = Times::fresh();
+        home.on_store(2, Instr { core: 1, count: 3 }, only(1, 3));
+        home.on_load(2, Instr { core: 0, count: 4 }, only(0, 4));
+        let mut copy = Times::fresh();
+        copy.on_load(0, Instr { core: 7, count: 1 }, only(7, 1));
+        copy.copy_from(&home);
+        assert!(rt; copy.read_by(0, 7).is_none());
+        assert_eq!(rt; copy.write(2), home.write(2));
+        assert_eq!(rt; copy.read_by(2, 0), Some((4, only(0, 4))));
+        copy.on_load(2, Instr { core: 0, count: 9 }, only(0, 9));
+        home.on_load(2, Instr { core: 2, count: 5 }, only(2, 5));
+        copy.renew(&home);
+        assert_eq!(rt; copy.read_by(2, 0), Some((9, only(0, 9))));
+        assert_eq!(rt; copy.read_by(2, 2), Some((5, only(2, 5))));
     }
 }

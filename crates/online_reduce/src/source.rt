@@ -42,7 +42,7 @@ impl Model for Sources {
 
 impl Sources {
     /// No candidates.
-    fn new() -> Sources
+    pub fn new() -> Sources
         ensures { result ≡ [] }
     {
         Sources {
@@ -76,18 +76,18 @@ pub fn slot_of(word: u32) -> u8
     (word % BLOCK_WORDS as u32) as u8
 }
 
-/// The candidates of an access, by rising core: the last write of its word and, where it writes, each
-/// core's last read since, as far as other cores made them.
-pub fn candidates(cores: u8, access: &Access, times: &Times) -> Sources
-    requires { cores ≤ CORES_MAX }
-    ensures found { result ≡ candidates cores access.now times.now }
-    ensures few { length result ≤ EDGES_MAX }
+/// Lists the candidates of an access, by rising core: the last write of its word and, where it writes,
+/// each core's last read since, as far as other cores made them. They go into an empty list of the
+/// caller's, which has places for all cores, so that it is moved nowhere.
+pub fn list_candidates(found: &mut Sources, cores: u8, access: &Access, times: &Times)
+    requires none { found.old ≡ [] }
+    requires cores { cores ≤ CORES_MAX }
+    ensures found { found.new ≡ candidates cores access.now times.now }
+    ensures few { length found.new ≤ EDGES_MAX }
 {
-    let mut found = Sources::new();
     for core in 0..cores {
-        push_candidates(&mut found, access, core, times);
+        push_candidates(found, access, core, times);
     }
-    found
 }
 
 /// Adds the candidates of one core.
