@@ -1,7 +1,7 @@
 -- What the loops and the writes that fill the parts of times leave.
-use Rattle.std.proofs.Common.{◌≡◌, ◌∙◌, ap, ℕ, ◌<◌, ◌≤◌, length, List, Option, Some, None, Bool, true, false, arith}
+use Rattle.std.proofs.Common.{◌≡◌, ◌∙◌, ap, sym, ℕ, ◌<◌, ◌≤◌, length, List, Option, Some, None, Bool, true, false, arith}
 use Rattle.std.specs.Prelude.{map, if◌then◌else◌, slice_set, slice_index_or}
-use Rattle.std.proofs.lemmas.List.{get_or-set_same, get_or-set_other, length-set}
+use Rattle.std.proofs.lemmas.List.{ext_get_or, get_or-set_same, get_or-set_other, length-set}
 use Rattle.std.proofs.lemmas.Bool.Decides.{nat_tests}
 use Rattle.std.specs.List.{range_with_len}
 use Rattle.std.proofs.lemmas.List.FromFn.{fill_by_all}
@@ -13,27 +13,12 @@ use Rattle.access_times.specs.declared.times.Times.{Times}
 use Rattle.access_times.specs.Times.{newer_read, read_in, read_noted, no_reads, slot_loaded, slot_stored, slot_set, times_loaded, times_stored, reads_absorbed}
 use Rattle.access_times.specs.Times.{slot_absorbed, is_same_write, slot_at, missing_slot, times_absorbed}
 
-pub reads_filled : (a b reads : List (Option (ℕ × Clock))) (core : ℕ) → length reads ≡ CORES_MAX → CORES_MAX ≤ core →
-    ((k : ℕ) → k < core → read_in reads k ≡ newer_read (read_in a k) (read_in b k)) → reads ≡ reads_absorbed a b
-unfolding reads_absorbed
-reads_filled a b reads core long end done = fill_by_all (λ k. newer_read (read_in a k) (read_in b k)) reads CORES_MAX None long (λ k lt. done k (omega arith))
-
-pub slot_filled : (a b x : SlotTimes) → is_same_write a.write b.write ≡ true → x.write ≡ a.write → x.reads ≡ reads_absorbed a.reads b.reads →
-    x ≡ slot_absorbed a b
-slot_filled a b x same w e = by (is_same_write a.write b.write) same
-  where
-    by : (t : Bool) → t ≡ true → x ≡ (if t then record a { reads = reads_absorbed a.reads b.reads } else a)
-    by true _ =
-        ap (λ (r : List (Option (ℕ × Clock))). (let s : SlotTimes = record { write = x.write; reads = r } in s)) e
-        ∙ ap (λ (v : Option (Instr × Clock)). (let s : SlotTimes = record { write = v; reads = reads_absorbed a.reads b.reads } in s)) w
-    by false f = absurd cc
-
-pub stored_filled : (at : Instr) (clock : Clock) (x : SlotTimes) (core : ℕ) → x.write ≡ Some (at, clock) → length x.reads ≡ CORES_MAX → CORES_MAX ≤ core
-    → ((k : ℕ) → k < core → read_in x.reads k ≡ None) → x ≡ slot_stored at clock
-stored_filled at clock x core w long end done =
-    ap (λ (r : List (Option (ℕ × Clock))). (let s : SlotTimes = record { write = x.write; reads = r } in s))
-    (fill_by_all (λ k. None) x.reads CORES_MAX None long (λ k lt. done k (omega arith)))
-    ∙ ap (λ (v : Option (Instr × Clock)). (let s : SlotTimes = record { write = v; reads = no_reads } in s)) w
+-- times are the others where each slot is
+pub slots_same : (x t : Times) (slot : ℕ) → length x.slots ≡ BLOCK_WORDS → length t.slots ≡ BLOCK_WORDS → BLOCK_WORDS ≤ slot →
+    ((k : ℕ) → k < slot → slot_at x k ≡ slot_at t k) → x ≡ t
+slots_same x t slot long same end done =
+    ap (λ (y : List SlotTimes). (let u : Times = record { slots = y } in u))
+    (ext_get_or missing_slot x.slots t.slots (long ∙ sym same) (λ k lt. done k (omega arith)))
 
 pub slots_filled : (a b x : Times) (slot : ℕ) → length x.slots ≡ BLOCK_WORDS → BLOCK_WORDS ≤ slot →
     ((k : ℕ) → k < slot → slot_at x k ≡ slot_absorbed (slot_at a k) (slot_at b k)) → x ≡ times_absorbed a b

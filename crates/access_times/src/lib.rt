@@ -6,6 +6,7 @@ mod carry;
 mod clerk;
 #[cfg(test)]
 mod noter_tests;
+mod reads;
 mod rider;
 #[cfg(test)]
 mod tests;
@@ -14,6 +15,6 @@ mod times_clerk;
 
 pub use carry::{Carry, NoCarry};
 pub use clerk::Clerk;
-pub use rider::{NoRider, Rider};
+pub use rider::{NoRider, Rider, copied};
 pub use times::Times;
 pub use times_clerk::TimesClerk;

@@ -8,13 +8,13 @@ ghost use Rattle.access_times.specs.Times.{times_noted};
 
 use super::*;
 use clock_core::Clock;
-use rtr_types::{Access, Instr, Kind};
+use rtr_types::{Access, CORES_MAX, Instr, Kind};
 use std::test::Fail;
 
 /// Notes each retirement with the clock that knows of its own core alone.
 #[derive(Drop)]
 struct Noter {
-    counts: [u32; 8],
+    counts: [u32; CORES_MAX as usize],
 }
 
 impl<K: Carry> Clerk<Times, K> for Noter {
@@ -81,7 +81,9 @@ fn a_clerk_notes_through_its_bound(rt: HostRuntime) {
         before: 0,
         after: 9,
     };
-    let mut clerk = Noter { counts: [0; 8] };
+    let mut clerk = Noter {
+        counts: [0; CORES_MAX as usize],
+    };
     let mut rider = Times::fresh();
     tell(&mut clerk, &mut rider, NoCarry, access);
     let mut clock = Clock::zero();

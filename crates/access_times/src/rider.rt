@@ -4,8 +4,8 @@ ghost use Rattle.access_times.specs.Riding.{Riding};
 
 /// What rides on a copy of a block: it lies beside the words in each cache's line and at the home,
 /// and goes with the messages that move the copy. The controllers never look into it.
-pub trait Rider: Copy {
-    /// What the two calls compute.
+pub trait Rider: Drop {
+    /// What a rider that holds nothing is, and what absorbing computes.
     ghost riding: { Riding Self };
 
     /// A rider that holds nothing.
@@ -15,6 +15,23 @@ pub trait Rider: Copy {
     /// Takes over what another copy's rider holds. Any two riders may meet.
     fn absorb(&mut self, other: &Self)
         ensures { self.new ≡ riding.absorbed self.old other.now };
+
+    /// Becomes equal to another copy's rider, whatever it was. It costs what the other holds.
+    fn copy_from(&mut self, other: &Self)
+        ensures { self.new ≡ other.now };
+
+    /// Becomes the other once that has absorbed what this rider was.
+    fn renew(&mut self, other: &Self)
+        ensures { self.new ≡ riding.absorbed other.now self.old };
+}
+
+/// A rider that is equal to this one.
+pub fn copied<R: Rider>(rider: &R) -> R
+    ensures { result ≡ rider.now }
+{
+    let mut copy = R::fresh();
+    copy.copy_from(rider);
+    copy
 }
 
 /// The rider that holds nothing.
@@ -29,4 +46,8 @@ impl Rider for NoRider {
     }
 
     fn absorb(&mut self, _other: &Self) {}
+
+    fn copy_from(&mut self, _other: &Self) {}
+
+    fn renew(&mut self, _other: &Self) {}
 }

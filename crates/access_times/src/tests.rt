@@ -24,6 +24,14 @@ impl Rider for Absorbed {
     fn absorb(&mut self, other: &Self) {
         self.riders = self.riders.wrapping_add(other.riders).wrapping_add(1);
     }
+
+    fn copy_from(&mut self, other: &Self) {
+        self.riders = other.riders;
+    }
+
+    fn renew(&mut self, other: &Self) {
+        self.riders = other.riders.wrapping_add(self.riders).wrapping_add(1);
+    }
 }
 
 /// Counts the retirements that it was told of.

@@ -1,33 +1,26 @@
 //! The rider that records when the words of its block were accessed.
-ghost use Rattle.std.specs.Prelude.{◌≡◌, ℕ, ◌<◌, if◌then◌else◌};
+ghost use Rattle.std.specs.Prelude.{◌≡◌, ℕ, ◌<◌};
 ghost use Rattle.rtr_types.specs.declared.TheConstants.{BLOCK_WORDS, CORES_MAX};
-ghost use Rattle.access_times.specs.Times.{is_same_write, newer_read, read_at, read_in, slot_absorbed, slot_loaded};
-ghost use Rattle.access_times.specs.Times.{slot_stored, times_loaded, times_stored, write_at};
+ghost use Rattle.access_times.specs.Reads.{read_seen};
+ghost use Rattle.access_times.specs.Times.{is_same_write, no_times, read_at, slot_absorbed, slot_loaded, slot_stored};
+ghost use Rattle.access_times.specs.Times.{times_loaded, times_stored, write_at};
 
+use crate::reads::Reads;
 use crate::rider::Rider;
 use clock_core::Clock;
 use rtr_types::{BLOCK_WORDS, CORES_MAX, Instr};
 
-/// A place for each core, as the length of an array.
-const PLACES: usize = CORES_MAX as usize;
-
 /// The times of one word: its last write, and each core's last read since that write, each with the
 /// clock that was noted for it. An access that reads and writes is a write here.
-#[derive(Clone, Copy, Debug)]
+#[derive(Debug, Drop)]
 struct SlotTimes {
     write: Option<(Instr, Clock)>,
-    reads: [Option<(u32, Clock)>; PLACES],
+    reads: Reads,
 }
-
-/// The times of no access.
-const NO_TIMES: SlotTimes = SlotTimes {
-    write: None,
-    reads: [None; PLACES],
-};
 
 /// The rider that records: for each slot of the block the last write, and for each core its last
 /// read since that write, each with the clock that was noted for it.
-#[derive(Clone, Copy, Debug)]
+#[derive(Debug, Drop)]
 pub struct Times {
     slots: [SlotTimes; BLOCK_WORDS],
 }
@@ -45,39 +38,47 @@ fn is_same_write(one: &Option<(Instr, Clock)>, other: &Option<(Instr, Clock)>) -
     }
 }
 
-/// Whether the other read is there and of a greater count, or there is no own one.
-fn is_newer(other: &Option<(u32, Clock)>, own: &Option<(u32, Clock)>) -> bool
-    ensures { newer_read own.now other.now ≡ (if result then other.now else own.now) }
-{
-    match (other, own) {
-        (None, _) => false,
-        (_, None) => true,
-        (Some((other_count, _)), Some((count, _))) => *count < *other_count,
-    }
-}
-
 impl SlotTimes {
-    /// Takes over the other's newer reads, where the last writes are the same. It writes in place and
-    /// copies only what it takes, since two copies of a block mostly have the same reads.
+    /// The times of no access.
+    fn none() -> SlotTimes
+        ensures { result ≡ no_times }
+    {
+        SlotTimes {
+            write: None,
+            reads: Reads::none(),
+        }
+    }
+
+    /// Takes over the other's newer reads, where the last writes are the same.
     fn absorb(&mut self, other: &SlotTimes)
         ensures { self.new ≡ slot_absorbed self.old other.now }
     {
-        if !is_same_write(&self.write, &other.write) {
-            return;
-        }
-        for core in 0..PLACES {
-            if is_newer(&other.reads[core], &self.reads[core]) {
-                self.reads[core] = other.reads[core];
-            }
+        if is_same_write(&self.write, &other.write) {
+            self.reads.absorb(&other.reads);
         }
     }
 
-    /// The core's last read since the last write.
-    fn last_read(&self, core: u8) -> &Option<(u32, Clock)>
-        requires { core < CORES_MAX }
-        ensures { result.now ≡ read_in self.now.reads core }
+    /// Becomes equal to the other. No clock is copied where there is no write.
+    fn copy_from(&mut self, other: &SlotTimes)
+        ensures { self.new ≡ other.now }
     {
-        &self.reads[core as usize]
+        if other.write.is_some() {
+            self.write = other.write;
+        } else {
+            self.write = None;
+        }
+        self.reads.copy_from(&other.reads);
+    }
+
+    /// Becomes the other once that has absorbed what these times were.
+    fn renew(&mut self, other: &SlotTimes)
+        ensures { self.new ≡ slot_absorbed other.now self.old }
+    {
+        if is_same_write(&other.write, &self.write) {
+            self.reads.renew(&other.reads);
+        } else {
+            self.copy_from(other);
+        }
     }
 
     /// Notes the read.
@@ -85,7 +86,7 @@ impl SlotTimes {
         requires { at.core < CORES_MAX }
         ensures { self.new ≡ slot_loaded self.old at clock }
     {
-        self.reads[at.core as usize] = Some((at.count, clock));
+        self.reads.set(at.core, at.count, clock);
     }
 
     /// Notes the write, and forgets the reads.
@@ -93,11 +94,7 @@ impl SlotTimes {
         ensures { self.new ≡ slot_stored at clock }
     {
         self.write = Some((at, clock));
-        for core in 0..PLACES {
-            if self.reads[core].is_some() {
-                self.reads[core] = None;
-            }
-        }
+        self.reads.clear();
     }
 }
 
@@ -108,13 +105,32 @@ impl Rider for Times {
 
     fn fresh() -> Self {
         Times {
-            slots: [NO_TIMES; BLOCK_WORDS],
+            slots: [
+                SlotTimes::none(),
+                SlotTimes::none(),
+                SlotTimes::none(),
+                SlotTimes::none(),
+            ],
         }
     }
 
     fn absorb(&mut self, other: &Self) {
         for slot in 0..BLOCK_WORDS {
             self.slots[slot].absorb(&other.slots[slot]);
+        }
+    }
+
+    fn copy_from(&mut self, other: &Self) {
+        let [first, second, third, fourth] = &other.slots;
+        self.slots[0].copy_from(first);
+        self.slots[1].copy_from(second);
+        self.slots[2].copy_from(third);
+        self.slots[3].copy_from(fourth);
+    }
+
+    fn renew(&mut self, other: &Self) {
+        for slot in 0..BLOCK_WORDS {
+            self.slots[slot].renew(&other.slots[slot]);
         }
     }
 }
@@ -142,16 +158,16 @@ impl Times {
         requires core { core < CORES_MAX }
         ensures { result ≡ read_at self.now slot core }
     {
-        *self.last_read(slot, core)
+        self.last_read(slot, core).copied()
     }
 
     /// The same where it lies, for a caller that needs no copy.
-    pub fn last_read(&self, slot: u8, core: u8) -> &Option<(u32, Clock)>
+    pub fn last_read(&self, slot: u8, core: u8) -> Option<&(u32, Clock)>
         requires slot { slot < BLOCK_WORDS }
         requires core { core < CORES_MAX }
-        ensures { result.now ≡ read_at self.now slot core }
+        ensures { read_seen result ≡ read_at self.now slot core }
     {
-        self.slots[slot as usize].last_read(core)
+        self.slots[slot as usize].reads.get(core)
     }
 
     /// Notes the read, which doesn't write.
@@ -194,7 +210,8 @@ mod tests {
         home.on_store(1, first, only(2, 4));
         assert_eq!(rt; home.write(1), Some((first, only(2, 4))));
         assert!(rt; home.read_by(1, 0).is_none());
-        let mut copy = home;
+        let mut copy = Times::fresh();
+        copy.copy_from(&home);
         home.on_load(1, Instr { core: 0, count: 2 }, only(0, 2));
         copy.on_load(1, Instr { core: 0, count: 3 }, only(0, 3));
         copy.on_load(1, Instr { core: 1, count: 5 }, only(1, 5));
@@ -205,5 +222,23 @@ mod tests {
         home.on_store(1, Instr { core: 1, count: 6 }, only(1, 6));
         home.absorb(&copy);
         assert!(rt; home.read_by(1, 0).is_none());
+    }
+
+    #[test]
+    fn a_copy_forgets_what_it_was_and_a_renewed_rider_keeps_newer_reads(rt: HostRuntime) {
+        let mut home = Times::fresh();
+        home.on_store(2, Instr { core: 1, count: 3 }, only(1, 3));
+        home.on_load(2, Instr { core: 0, count: 4 }, only(0, 4));
+        let mut copy = Times::fresh();
+        copy.on_load(0, Instr { core: 7, count: 1 }, only(7, 1));
+        copy.copy_from(&home);
+        assert!(rt; copy.read_by(0, 7).is_none());
+        assert_eq!(rt; copy.write(2), home.write(2));
+        assert_eq!(rt; copy.read_by(2, 0), Some((4, only(0, 4))));
+        copy.on_load(2, Instr { core: 0, count: 9 }, only(0, 9));
+        home.on_load(2, Instr { core: 2, count: 5 }, only(2, 5));
+        copy.renew(&home);
+        assert_eq!(rt; copy.read_by(2, 0), Some((9, only(0, 9))));
+        assert_eq!(rt; copy.read_by(2, 2), Some((5, only(2, 5))));
     }
 }

@@ -42,7 +42,7 @@ impl State {
 }
 
 /// A line: its state, and the copy of the block that it is for. In `I` the copy means nothing.
-#[derive(Clone, Copy, Debug, PartialEq, Eq)]
+#[derive(Clone, Debug, Drop, PartialEq, Eq)]
 pub struct Line<R> {
     pub state: State,
     pub block: u32,
@@ -211,17 +211,15 @@ impl<R: Rider> Line<R> {
         self.words = words;
         match self.state {
             State::SmD => {
-                let old = self.rider;
-                self.rider = *rider;
-                self.rider.absorb(&old);
+                self.rider.renew(rider);
                 self.state = State::M;
             }
             State::IsD => {
-                self.rider = *rider;
+                self.rider.copy_from(rider);
                 self.state = State::S;
             }
             _ => {
-                self.rider = *rider;
+                self.rider.copy_from(rider);
                 self.state = State::M;
             }
         }

@@ -4,11 +4,12 @@ ghost use Rattle.std.specs.Prelude.{◌≡◌};
 ghost use Rattle.msi_cache.specs.Messages.{block_of, message_seen, message_with, request_block, request_seen};
 ghost use Rattle.msi_cache.specs.Messages.{response_block, response_seen};
 
+use access_times::{Rider, copied};
 use rtr_types::BLOCK_WORDS;
 
 /// What a cache asks of the home: to share a block, to own it, or to give a shared or an owned copy
 /// back.
-#[derive(Clone, Copy, Debug, PartialEq, Eq)]
+#[derive(Clone, Copy, Debug, Drop, PartialEq, Eq)]
 pub enum Request<R> {
     GetS {
         block: u32,
@@ -64,7 +65,7 @@ impl<R> Request<R> {
     }
 }
 
-impl<'a, R: Copy> Request<&'a R> {
+impl<'a, R: Rider> Request<&'a R> {
     /// The request with a copy of the rider that it was lent.
     pub fn owned(self) -> Request<R>
         ensures { result ≡ request_seen self.entry }
@@ -74,7 +75,7 @@ impl<'a, R: Copy> Request<&'a R> {
             Request::GetM { block } => Request::GetM { block },
             Request::PutS { block, rider } => Request::PutS {
                 block,
-                rider: *rider,
+                rider: copied(rider),
             },
             Request::PutM {
                 block,
@@ -83,14 +84,14 @@ impl<'a, R: Copy> Request<&'a R> {
             } => Request::PutM {
                 block,
                 words,
-                rider: *rider,
+                rider: copied(rider),
             },
         }
     }
 }
 
 /// What a cache answers to the home: that it has given up its shared copy, or the copy that it owns.
-#[derive(Clone, Copy, Debug, PartialEq, Eq)]
+#[derive(Clone, Copy, Debug, Drop, PartialEq, Eq)]
 pub enum Response<R> {
     InvAck {
         block: u32,
@@ -135,7 +136,7 @@ impl<R> Response<R> {
     }
 }
 
-impl<'a, R: Copy> Response<&'a R> {
+impl<'a, R: Rider> Response<&'a R> {
     /// The response with a copy of the rider that it was lent.
     pub fn owned(self) -> Response<R>
         ensures { result ≡ response_seen self.entry }
@@ -143,7 +144,7 @@ impl<'a, R: Copy> Response<&'a R> {
         match self {
             Response::InvAck { block, rider } => Response::InvAck {
                 block,
-                rider: *rider,
+                rider: copied(rider),
             },
             Response::OwnerData {
                 block,
@@ -152,7 +153,7 @@ impl<'a, R: Copy> Response<&'a R> {
             } => Response::OwnerData {
                 block,
                 words,
-                rider: *rider,
+                rider: copied(rider),
             },
         }
     }
@@ -160,7 +161,7 @@ impl<'a, R: Copy> Response<&'a R> {
 
 /// What the home sends to a cache: that the owned copy is to be shared or given up, that a shared copy
 /// is to be given up, that a Put was taken, or the block's data, which end a miss.
-#[derive(Clone, Copy, Debug, PartialEq, Eq)]
+#[derive(Clone, Copy, Debug, Drop, PartialEq, Eq)]
 pub enum FromHome<R> {
     FwdGetS {
         block: u32,
@@ -219,7 +220,7 @@ impl<R> FromHome<R> {
 
 impl<R: Copy> FromHome<R> {
     /// The message with this rider, where it has one, in place of its own.
-    pub fn riding<T: Copy>(self, rider: T) -> FromHome<T>
+    pub fn riding<T: Drop>(self, rider: T) -> FromHome<T>
         ensures { result ≡ message_with (λ own. rider) self }
     {
         match self {

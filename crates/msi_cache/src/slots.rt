@@ -43,7 +43,7 @@ impl<R: Rider> RequestSlot<R> {
             Request::GetM { block } => self.bare = Request::GetM { block },
             Request::PutS { block, rider } => {
                 self.bare = Request::PutS { block, rider: () };
-                self.rider = *rider;
+                self.rider.copy_from(rider);
             }
             Request::PutM {
                 block,
@@ -55,7 +55,7 @@ impl<R: Rider> RequestSlot<R> {
                     words,
                     rider: (),
                 };
-                self.rider = *rider;
+                self.rider.copy_from(rider);
             }
         }
     }
@@ -122,7 +122,7 @@ impl<R: Rider> ResponseSlot<R> {
         match response {
             Response::InvAck { block, rider } => {
                 self.bare = Response::InvAck { block, rider: () };
-                self.rider = *rider;
+                self.rider.copy_from(rider);
             }
             Response::OwnerData {
                 block,
@@ -134,7 +134,7 @@ impl<R: Rider> ResponseSlot<R> {
                     words,
                     rider: (),
                 };
-                self.rider = *rider;
+                self.rider.copy_from(rider);
             }
         }
     }
@@ -195,7 +195,7 @@ impl<R: Rider> FromHomeSlot<R> {
     {
         self.bare = message.riding(());
         if let FromHome::BlockData { rider, .. } = message {
-            self.rider = *rider;
+            self.rider.copy_from(rider);
         }
     }
 

@@ -14,12 +14,16 @@ use Rattle.std.proofs.lemmas.List.Sums.{count_by-le-length, prefix_len-le-length
 use Rattle.image_mem.specs.Contents.{Contents}
 use Rattle.msi_directory.specs.Blocks.{Blocks, block_count, has_room, opening_entry, touched}
 use Rattle.msi_directory.specs.Fitting.{stage_fits}
-use Rattle.msi_directory.specs.Kept.{HomeFits, IsEven, Sparse, all_blocks, blocks_in, copy_of, entry_in, home_of}
+use Rattle.msi_directory.specs.Kept.{HomeFits, IsEven, Kept, Sparse, all_blocks, blocks_in, copy_of, entry_in, home_of}
 use Rattle.msi_directory.specs.Kept.{is_kept, kept_at, kept_more, kept_or, kept_with, nothing_kept, place_of}
 use Rattle.msi_directory.specs.declared.entry.Entry.{Entry}
 use Rattle.msi_directory.specs.declared.entry.Stage.{Stage}
 use Rattle.msi_directory.specs.declared.entry.Stage.TheVariants.{Unshared}
 use Rattle.msi_directory.proofs.Openings.{openings_fit}
+
+-- with the opening entry of one more block, which has this rider
+abbrev pub more_opened : {R : Type 0} → Sparse R → ℕ → R → Kept R
+more_opened home block rider = kept_more home.kept block (opening_entry rider home.opening block)
 
 -- a function of the numbers below n, changed at one of them
 module _ {X : Type 0} (f g : ℕ → X) (n k : ℕ) (y : X)

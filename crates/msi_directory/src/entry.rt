@@ -83,7 +83,7 @@ impl Stage {
 
 /// What the home answers: the cores to which it sends Inv, and the one other message that it sends,
 /// with the core to which it goes. There is none exactly where the table's row sends no single message.
-#[derive(Clone, Copy, Debug, PartialEq, Eq)]
+#[derive(Clone, Copy, Debug, Drop, PartialEq, Eq)]
 pub struct HomeAnswer<R> {
     pub invalidate: CoreSet,
     pub send: Option<(u8, FromHome<R>)>,
@@ -111,7 +111,7 @@ impl HomeAnswer<()> {
     }
 
     /// The answer with this rider on the message that it sends, where that message has data.
-    pub fn riding<T: Copy>(self, rider: T) -> HomeAnswer<T>
+    pub fn riding<T: Drop>(self, rider: T) -> HomeAnswer<T>
         ensures { result ≡ answer_riding rider self }
     {
         let send = match self.send {
@@ -127,7 +127,7 @@ impl HomeAnswer<()> {
 
 /// A block at the home: who holds it, and the home's own copy. While a cache owns the block the copy
 /// is an old one.
-#[derive(Clone, Copy, Debug, PartialEq, Eq)]
+#[derive(Clone, Debug, Drop, PartialEq, Eq)]
 pub struct Entry<R> {
     pub stage: Stage,
     pub words: [u32; BLOCK_WORDS],

@@ -20,7 +20,7 @@ use crate::kept_entries::KeptEntries;
 #[cfg(test)]
 mod tests;
 
-use access_times::Rider;
+use access_times::{Rider, copied};
 use image_mem::Image;
 use msi_cache::{Request, Response};
 use rtr_types::{BLOCK_WORDS, CORES_MAX};
@@ -92,7 +92,7 @@ impl<R: Rider> Home<R> {
         if self.kept.place(block).is_some() {
             return Ok(());
         }
-        let entry = opening_entry(&self.opening, block, self.fresh);
+        let entry = opening_entry(&self.opening, block, copied(&self.fresh));
         self.kept.add(block, entry)?;
         Ok(())
     }
@@ -159,7 +159,7 @@ impl<R: Rider> Home<R> {
     {
         let block = request.block();
         let answer = self.serve(from, request.lent());
-        answer.riding(*self.rider(block))
+        answer.riding(copied(self.rider(block)))
     }
 
     /// Takes a request as `on_request` does, with its rider lent. The answer has no rider: data are
@@ -203,7 +203,7 @@ impl<R: Rider> Home<R> {
     {
         let block = response.block();
         let answer = self.collect(from, response.lent());
-        answer.riding(*self.rider(block))
+        answer.riding(copied(self.rider(block)))
     }
 
     /// Takes a response as `on_response` does, with its rider lent. The answer has no rider: data are

@@ -19,7 +19,7 @@ use rtr_types::{BLOCK_WORDS, CORES_MAX, CoreSet};
 
 /// The home's own copy of a block: its words, and what rides on it. While a cache owns the block the copy is
 /// an old one. The block's stage lies apart, so that a look at a stage touches no copy.
-#[derive(Clone, Copy)]
+#[derive(Drop)]
 pub(crate) struct HomeCopy<R> {
     pub(crate) words: [u32; BLOCK_WORDS],
     pub(crate) rider: R,
@@ -87,7 +87,7 @@ impl<R: Rider> HomeCopy<R> {
                 rider,
             } => {
                 self.words = words;
-                self.rider = *rider;
+                self.rider.copy_from(rider);
                 self.hand_over(stage, from, block)
             }
         }
@@ -224,7 +224,7 @@ impl<R: Rider> HomeCopy<R> {
             Stage::Owned { owner } if owner == from => {
                 *stage = Stage::Unshared;
                 self.words = words;
-                self.rider = *rider;
+                self.rider.copy_from(rider);
             }
             _ => {}
         }

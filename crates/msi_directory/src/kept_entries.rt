@@ -101,19 +101,21 @@ impl<R> KeptEntries<R> {
     /// Keeps one more block's entry, behind the others. After want of memory nothing has changed.
     pub(crate) fn add(&mut self, block: u32, entry: Entry<R>) -> Result<(), AllocError>
     where
-        R: Copy,
+        R: Drop,
         requires { place_of self.old.blocks block ≡ None }
         ensures ok { OnOk result (self.new ≡ kept_more self.old block entry) }
         ensures err { OnErr result (self.new ≡ self.old) }
     {
         let place = self.stages.len();
+        let Entry {
+            stage,
+            words,
+            rider,
+        } = entry;
         self.copies.reserve(1)?;
-        self.stages.insert(block, entry.stage)?;
+        self.stages.insert(block, stage)?;
         self.shortcuts[block as usize % SHORTCUTS] = place;
-        self.copies.push_reserved(HomeCopy {
-            words: entry.words,
-            rider: entry.rider,
-        });
+        self.copies.push_reserved(HomeCopy { words, rider });
         Ok(())
     }
 }

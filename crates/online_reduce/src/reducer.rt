@@ -9,7 +9,7 @@ ghost use Rattle.conflict_edge.specs.Times.{IsExactClock};
 
 use crate::pair_lists::PairLists;
 use crate::rule::{EdgeList, clock_into, edges_into, note};
-use crate::source::{Source, candidates, is_alone, is_of_other, slot_of};
+use crate::source::{Source, Sources, is_alone, is_of_other, list_candidates, slot_of};
 use access_times::Times;
 use clock_core::Clock;
 use rtr_types::{Access, CORES_MAX, Instr, Items};
@@ -167,7 +167,8 @@ impl Reducer {
         if is_alone(self.cores, access, times) {
             return SmallVec::new(self.alloc);
         }
-        let found = candidates(self.cores, access, times);
+        let mut found = Sources::new();
+        list_candidates(&mut found, self.cores, access, times);
         let before = &self.clocks[access.at.core as usize];
         edges_into(self.alloc, access.at, before, found.as_slice())
     }
@@ -218,7 +219,8 @@ impl Reducer {
         ensures times { times.new ≡ times_noted access.now times.old (clock_of self.new.state access.now.at.core) }
         ensures held { IsHeld access.now times.new (clock_of self.new.state access.now.at.core) }
     {
-        let found = candidates(self.cores, access, times);
+        let mut found = Sources::new();
+        list_candidates(&mut found, self.cores, access, times);
         self.settle(access, found.as_slice(), times);
     }
 

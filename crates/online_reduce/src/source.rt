@@ -2,6 +2,7 @@
 ghost use Rattle.std.specs.Prelude.{◌≡◌, ◌≢◌, ℕ, ◌+◌, ◌<◌, ◌≤◌, ◌↔◌, ◌++◌, ◌∷◌, ◌%◌, [], IsTrue, None, false, length};
 ghost use Rattle.std.specs.Option.{option_to_list};
 ghost use Rattle.rtr_types.specs.declared.TheConstants.{BLOCK_WORDS, CORES_MAX};
+ghost use Rattle.access_times.specs.Reads.{read_seen};
 ghost use Rattle.access_times.specs.Times.{read_at, write_at};
 ghost use Rattle.online_reduce.specs.Sources.{candidates, candidates_from, read_from, write_from};
 ghost use Rattle.online_reduce.specs.declared.TheConstants.{EDGES_MAX};
@@ -41,7 +42,7 @@ impl Model for Sources {
 
 impl Sources {
     /// No candidates.
-    fn new() -> Sources
+    pub fn new() -> Sources
         ensures { result ≡ [] }
     {
         Sources {
@@ -75,18 +76,18 @@ pub fn slot_of(word: u32) -> u8
     (word % BLOCK_WORDS as u32) as u8
 }
 
-/// The candidates of an access, by rising core: the last write of its word and, where it writes, each
-/// core's last read since, as far as other cores made them.
-pub fn candidates(cores: u8, access: &Access, times: &Times) -> Sources
-    requires { cores ≤ CORES_MAX }
-    ensures found { result ≡ candidates cores access.now times.now }
-    ensures few { length result ≤ EDGES_MAX }
+/// Lists the candidates of an access, by rising core: the last write of its word and, where it writes,
+/// each core's last read since, as far as other cores made them. They go into an empty list of the
+/// caller's, which has places for all cores, so that it is moved nowhere.
+pub fn list_candidates(found: &mut Sources, cores: u8, access: &Access, times: &Times)
+    requires none { found.old ≡ [] }
+    requires cores { cores ≤ CORES_MAX }
+    ensures found { found.new ≡ candidates cores access.now times.now }
+    ensures few { length found.new ≤ EDGES_MAX }
 {
-    let mut found = Sources::new();
     for core in 0..cores {
-        push_candidates(&mut found, access, core, times);
+        push_candidates(found, access, core, times);
     }
-    found
 }
 
 /// Adds the candidates of one core.
@@ -116,9 +117,9 @@ fn push_write(found: &mut Sources, access: &Access, core: u8, write: &Option<(In
 }
 
 /// Adds the core's noted read, where the access writes and is of another core.
-fn push_read(found: &mut Sources, access: &Access, core: u8, read: &Option<(u32, Clock)>)
-    requires { length found.old + length (option_to_list (read_from access.now core read.now)) ≤ EDGES_MAX }
-    ensures { found.new ≡ found.old ++ option_to_list (read_from access.now core read.now) }
+fn push_read(found: &mut Sources, access: &Access, core: u8, read: Option<&(u32, Clock)>)
+    requires { length found.old + length (option_to_list (read_from access.now core (read_seen read.entry))) ≤ EDGES_MAX }
+    ensures { found.new ≡ found.old ++ option_to_list (read_from access.now core (read_seen read.entry)) }
 {
     if let Some((count, clock)) = read {
         if access.kind.is_write() && core != access.at.core {

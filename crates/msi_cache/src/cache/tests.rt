@@ -27,6 +27,14 @@ impl Rider for Trail {
     fn absorb(&mut self, other: &Self) {
         self.digits = self.digits.wrapping_mul(10).wrapping_add(other.digits);
     }
+
+    fn copy_from(&mut self, other: &Self) {
+        self.digits = other.digits;
+    }
+
+    fn renew(&mut self, other: &Self) {
+        self.digits = other.digits.wrapping_mul(10).wrapping_add(self.digits);
+    }
 }
 
 /// What happens to the line of block 4, with block 20 as the other block that goes there. `Data` has
@@ -100,7 +108,7 @@ fn row(
         take(rt, &mut cache, *before);
     }
     assert_eq!(rt; take(rt, &mut cache, step), said, "{step:?}");
-    let line = cache.lines[4];
+    let line = &cache.lines[4];
     assert_eq!(rt;
         (line.state, line.words[0], line.rider.digits),
         left,

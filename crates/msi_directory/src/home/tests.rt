@@ -27,6 +27,14 @@ impl Rider for Trail {
     fn absorb(&mut self, other: &Self) {
         self.digits = self.digits.wrapping_mul(10).wrapping_add(other.digits);
     }
+
+    fn copy_from(&mut self, other: &Self) {
+        self.digits = other.digits;
+    }
+
+    fn renew(&mut self, other: &Self) {
+        self.digits = other.digits.wrapping_mul(10).wrapping_add(self.digits);
+    }
 }
 
 /// A message about block 2, and the core that it comes from. Where it has words or a rider, each is the
@@ -151,7 +159,7 @@ fn put_ack(to: u8) -> HomeAnswer<Trail> {
 /// The answer that sends Inv to the cores of these bits, and no other message.
 fn invalidates(bits: u8) -> HomeAnswer<Trail> {
     HomeAnswer {
-        invalidate: CoreSet { bits },
+        invalidate: CoreSet { bits: bits.into() },
         send: None,
     }
 }
@@ -159,7 +167,7 @@ fn invalidates(bits: u8) -> HomeAnswer<Trail> {
 /// The stage in which the cores of these bits share the block.
 fn shared(bits: u8) -> Stage {
     Stage::Shared {
-        by: CoreSet { bits },
+        by: CoreSet { bits: bits.into() },
     }
 }
 

@@ -1,10 +1,10 @@
-use Rattle.std.proofs.Common.{arith, ◌≡◌, length}
-use Rattle.std.proofs.lemmas.Grind.{common_steps}
-use Rattle.rtr_types.specs.declared.TheConstants.{CORES_MAX}
+use Rattle.std.proofs.Common.{◌∙◌, ap, List, Option, ℕ}
+use Rattle.clock_core.specs.declared.clock.Clock.{Clock}
+use Rattle.access_times.specs.declared.times.SlotTimes.{SlotTimes}
 use Rattle.access_times.proofs.Filled.{read_set}
 use Rattle.access_times.proofs.times.SlotTimes.on_load.Goals as goal
 
 pub returns : goal.returns
 returns c =
-    let long : length c.args.self.now.reads ≡ CORES_MAX = grind (arith, common_steps) in
-    read_set c.args.self.now c.args.at c.args.clock long c.requires
+    ap (λ (r : List (Option (ℕ × Clock))). (let s : SlotTimes = record { write = c.args.self.now.write; reads = r } in s)) c.set.ensures.reads
+    ∙ read_set c.args.self.now c.args.at c.args.clock c.set.ensures.places c.requires

@@ -4,4 +4,4 @@ use Rattle.access_times.proofs.times.TimesRider.fresh.Goals as goal
 
 pub returns : goal.returns
 unfolding fresh_times
-returns c = refl
+returns c = rw (c.none.ensures, c.none-2.ensures, c.none-3.ensures, c.none-4.ensures) refl

@@ -10,4 +10,4 @@ returns-then-is_alone c =
 pub edges_into-requires-clause-cores : goal.edges_into-requires-clause-cores
 edges_into-requires-clause-cores c =
     cores_fit c.self.inside.cores c.args.access.now c.args.times.now c.as_slice.result.now c.self.invariant.0 (c.as_slice.ensures
-    ∙ c.candidates-found.ensures.found)
+    ∙ c.list_candidates.ensures.found)

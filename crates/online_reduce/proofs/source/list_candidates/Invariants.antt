@@ -1,6 +1,6 @@
 use Rattle.std.proofs.Common.{◌≡◌}
 use Rattle.online_reduce.specs.Sources.{candidates}
-use Rattle.online_reduce.proofs.source.candidates.Given as goal
+use Rattle.online_reduce.proofs.source.list_candidates.Given as goal
 
 -- the candidates of the cores so far
 abbrev pub invariant-loop-core : goal.invariant-loop-core

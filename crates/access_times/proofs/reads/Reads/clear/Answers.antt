@@ -1,0 +1,5 @@
+use Rattle.access_times.proofs.Kept.{kept_none}
+use Rattle.access_times.proofs.reads.Reads.clear.Goals as goal
+
+pub returns : goal.returns
+returns c = rw c.empty-self-inside.ensures (kept_none _)

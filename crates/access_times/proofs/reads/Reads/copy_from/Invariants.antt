@@ -1,0 +1,10 @@
+use Rattle.std.proofs.Common.{◌≡◌, length}
+use Rattle.rtr_types.specs.declared.TheConstants.{CORES_MAX}
+use Rattle.access_times.proofs.Kept.{Filling, read_of}
+use Rattle.access_times.proofs.reads.Reads.copy_from.Given as goal
+
+abbrev pub invariant-loop-core : goal.invariant-loop-core
+invariant-loop-core l =
+    (length l.self-inside.places ≡ CORES_MAX)
+    × (l.self-inside.readers ≡ l.other-inside.readers)
+    × Filling l.left l.core (λ k. read_of l.self-inside k ≡ read_of l.other-inside k) (λ k. ◌≡◌ k k)
