@@ -4,7 +4,6 @@ use Rattle.std.proofs.Common.{Ok, Err, refl, sym, ap, subst, ◌∙◌, arith}
 use Rattle.std.proofs.lemmas.Bool.{eq-eqb, ne_eqb}
 use Rattle.std.proofs.lemmas.List.{nil_from_length}
 use Rattle.rtr_types.specs.declared.params.Params.{Params}
-use Rattle.rtr_types.specs.Pairs.{pair_count}
 use Rattle.stride_vector.specs.declared.StrideVector.{StrideVector}
 use Rattle.log_codec.specs.declared.codec_fault.TheConstants.{HEADER, IMAGE, TOTALS, REDUCED, REGULATED, END}
 use Rattle.log_codec.specs.declared.recording.Recording.{Recording}
@@ -14,8 +13,7 @@ use Rattle.log_codec.specs.BadParts.{UpToRegulated, UpToTotals, WholeNames}
 use Rattle.log_codec.specs.Faults.{◌>>=◌}
 use Rattle.log_codec.specs.Laws.{IsBytes}
 use Rattle.log_codec.specs.Reading.{front_at, header_at, image_at, reduced_at, regulated_at, totals_at, whole_at}
-use Rattle.log_codec.specs.Spelling.{header_text, reduced_text, regulated_text, totals_text}
-use Rattle.log_codec.specs.Turns.{StandInTurn, count_up}
+use Rattle.log_codec.specs.Spelling.{header_text, reduced_text, totals_text}
 use Rattle.log_codec.specs.Validity.{AreVectors, bound_at}
 use Rattle.log_codec.specs.Versions.{FitsIn}
 use Rattle.log_codec.proofs.FieldLaws.{header_again, header_takes, image_again, image_takes}
@@ -49,7 +47,7 @@ record Small (p : Params) : Type 0 where
 
 small-params : (v : Version) (p : Params) → FitsIn v p → Small p
 small-params v p fits = let f = within-new v p fits in
-    record { limit = omega (arith, f.limit); together = omega (arith, f.together); cores = omega (arith, f.cores) }
+    record { limit = omega (arith, f.limit); together = omega (arith, f.instructions); cores = omega (arith, f.cores) }
 
 header-read : (bytes : List ℕ) (v : Version) (p : Params) (len : ℕ) (rest : List ℕ) → IsHeader bytes v p len rest → header_at bytes ≡ Ok (v, p, len, rest)
 header-read bytes v p len rest h = ap header_at h.spelled ∙ header_again v p len rest (record { params = h.limits; image = h.room })

@@ -1,5 +1,5 @@
 -- The edges of a log are counted pair by pair.
-use Rattle.std.proofs.Common.{◌≡◌, ◌∙◌, refl, sym, ap, ℕ, zero, suc, ◌+◌, ◌<◌, List, [], ◌∷◌, length, get_or, arith}
+use Rattle.std.proofs.Common.{◌≡◌, ◌∙◌, refl, sym, ap, ℕ, suc, ◌+◌, ◌<◌, List, [], ◌∷◌, length, get_or, arith}
 use Rattle.std.specs.Prelude.{sum_by}
 use Rattle.std.specs.List.{flat_map, range_with_len}
 use Rattle.std.proofs.lemmas.List.{length-map}
@@ -11,7 +11,7 @@ use Rattle.rtr_types.specs.declared.pairs.Which.TheVariants.{Reduced, Regulated}
 use Rattle.stride_vector.specs.declared.StrideVector.{StrideVector}
 use Rattle.stride_vector.specs.Vectors.{edges_of}
 use Rattle.stride_vector.proofs.Sources.{edges-placed}
-use Rattle.log_codec.specs.Counts.{edge_count_of, position_count}
+use Rattle.log_codec.specs.Counts.{position_count}
 use Rattle.log_codec.specs.Sources.{EdgesCounted, edge_between, edges_at, log_edges, edges_of_pair}
 use Rattle.log_codec.specs.declared.recording.Recording.{Recording}
 

@@ -4,11 +4,12 @@ use Rattle.std.proofs.Math.Nat.{mul-le-mul_left}
 use Rattle.std.proofs.lemmas.Bool.Decides.{nat_tests}
 use Rattle.rtr_types.specs.declared.TheConstants.{CORES_MAX}
 use Rattle.rtr_types.specs.declared.params.Params.{Params}
-use Rattle.rtr_types.specs.declared.params.TheConstants.{LIMIT_MAX, WORDS_MIN, WORDS_MAX}
+use Rattle.rtr_types.specs.declared.params.TheConstants.{INSTRUCTIONS_MAX, LIMIT_MAX, WORDS_MIN, WORDS_MAX}
+use Rattle.rtr_types.specs.Parameters.{Fits}
 use Rattle.log_codec.specs.declared.version.Version.{Version}
 use Rattle.log_codec.specs.declared.version.Version.TheVariants.{One, Two}
 use Rattle.log_codec.specs.Laws.{LimitsNest}
-use Rattle.log_codec.specs.Versions.{FitsOld, FitsNew, FitsIn, has_blocks, fits_old, fits_new, fits_in}
+use Rattle.log_codec.specs.Versions.{FitsOld, FitsIn, has_blocks, fits_old, fits_run, fits_in}
 use Rattle.log_codec.proofs.Steps.{and_true}
 
 -- the memory is of whole blocks, and not too large
@@ -58,14 +59,14 @@ true-old p f =
     let e = true-blocks p (record { some_block = f.some_block; words = f.words; whole_blocks = f.whole_blocks }) in
     rw (a, b, c, d, e) refl
 
-pub new-true : (p : Params) → fits_new p ≡ true → FitsNew p
-new-true p e =
-    let a = and_true (nat_le 1 p.cores && nat_le p.cores CORES_MAX) (((nat_le 1 p.limit && nat_le p.limit 1000000) && nat_le (p.cores * p.limit) 4000000)
+pub run-true : (p : Params) → fits_run p ≡ true → Fits p
+run-true p e =
+    let a = and_true (nat_le 1 p.cores && nat_le p.cores CORES_MAX) (((nat_le 1 p.limit && nat_le p.limit LIMIT_MAX) && nat_le (p.cores * p.limit) INSTRUCTIONS_MAX)
     && has_blocks p) e in
     let b = and_true (nat_le 1 p.cores) (nat_le p.cores CORES_MAX) a.0 in
-    let c = and_true ((nat_le 1 p.limit && nat_le p.limit 1000000) && nat_le (p.cores * p.limit) 4000000) (has_blocks p) a.1 in
-    let d = and_true (nat_le 1 p.limit && nat_le p.limit 1000000) (nat_le (p.cores * p.limit) 4000000) c.0 in
-    let f = and_true (nat_le 1 p.limit) (nat_le p.limit 1000000) d.0 in
+    let c = and_true ((nat_le 1 p.limit && nat_le p.limit LIMIT_MAX) && nat_le (p.cores * p.limit) INSTRUCTIONS_MAX) (has_blocks p) a.1 in
+    let d = and_true (nat_le 1 p.limit && nat_le p.limit LIMIT_MAX) (nat_le (p.cores * p.limit) INSTRUCTIONS_MAX) c.0 in
+    let f = and_true (nat_le 1 p.limit) (nat_le p.limit LIMIT_MAX) d.0 in
     let blocks = blocks-true p c.1 in
     let b0 = b.0 in let b1 = b.1 in let d1 = d.1 in let f0 = f.0 in let f1 = f.1 in
     record {
@@ -73,29 +74,29 @@ new-true p e =
       cores = grind (arith, nat_tests);
       some_instruction = grind (arith, nat_tests);
       limit = grind (arith, nat_tests);
-      together = grind (arith, nat_tests);
+      instructions = grind (arith, nat_tests);
       some_block = blocks.some_block;
       words = blocks.words;
       whole_blocks = blocks.whole_blocks;
     }
 
-pub true-new : (p : Params) → FitsNew p → fits_new p ≡ true
-true-new p f =
+pub true-run : (p : Params) → Fits p → fits_run p ≡ true
+true-run p f =
     let a : nat_le 1 p.cores ≡ true = grind (arith, nat_tests) in
     let b : nat_le p.cores CORES_MAX ≡ true = grind (arith, nat_tests) in
     let c : nat_le 1 p.limit ≡ true = grind (arith, nat_tests) in
-    let d : nat_le p.limit 1000000 ≡ true = grind (arith, nat_tests) in
-    let t : nat_le (p.cores * p.limit) 4000000 ≡ true = grind (arith, nat_tests) in
+    let d : nat_le p.limit LIMIT_MAX ≡ true = grind (arith, nat_tests) in
+    let t : nat_le (p.cores * p.limit) INSTRUCTIONS_MAX ≡ true = grind (arith, nat_tests) in
     let e = true-blocks p (record { some_block = f.some_block; words = f.words; whole_blocks = f.whole_blocks }) in
     rw (a, b, c, d, t, e) refl
 
 pub fits-true : (v : Version) (p : Params) → fits_in v p ≡ true → FitsIn v p
 fits-true One p e = old-true p e
-fits-true Two p e = new-true p e
+fits-true Two p e = run-true p e
 
 pub true-fits : (v : Version) (p : Params) → FitsIn v p → fits_in v p ≡ true
 true-fits One p f = true-old p f
-true-fits Two p f = true-new p f
+true-fits Two p f = true-run p f
 
 -- ---- how they nest
 
@@ -107,27 +108,15 @@ together-fits cores limit most each few small =
     omega arith
 
 pub limits_nest : LimitsNest
-limits_nest p = (
-  λ f. let both = together-fits p.cores p.limit 8 100000 f.cores f.limit in
-      record {
-        some_core = f.some_core;
-        cores = omega (arith, f.cores);
-        some_instruction = f.some_instruction;
-        limit = omega (arith, f.limit);
-        together = omega arith;
-        some_block = f.some_block;
-        words = f.words;
-        whole_blocks = f.whole_blocks;
-      },
-  λ f. let both = together-fits p.cores p.limit CORES_MAX LIMIT_MAX f.cores f.limit in
-      record {
-        some_core = f.some_core;
-        cores = f.cores;
-        some_instruction = f.some_instruction;
-        limit = omega (arith, f.limit);
-        together = omega arith;
-        some_block = f.some_block;
-        words = f.words;
-        whole_blocks = f.whole_blocks;
-      },
-)
+limits_nest p f =
+    let both = together-fits p.cores p.limit 8 100000 f.cores f.limit in
+    record {
+      some_core = f.some_core;
+      cores = omega (arith, f.cores);
+      some_instruction = f.some_instruction;
+      limit = omega (arith, f.limit);
+      instructions = omega arith;
+      some_block = f.some_block;
+      words = f.words;
+      whole_blocks = f.whole_blocks;
+    }

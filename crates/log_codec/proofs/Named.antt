@@ -1,5 +1,5 @@
 -- Each part's reader names that part alone.
-use Rattle.std.proofs.Common.{◌≡◌, ℕ, zero, suc, ◌+◌, ◌≤◌, inl, inr, ◌⊎◌, Bool, true, false, cond, ◌&&◌, nat_lt, nat_le, ◌*◌, List, [], ◌∷◌, length, take, drop}
+use Rattle.std.proofs.Common.{◌≡◌, ℕ, zero, suc, ◌+◌, inl, inr, ◌⊎◌, Bool, true, false, cond, ◌&&◌, nat_lt, nat_le, ◌*◌, List, [], ◌∷◌, length, take, drop}
 use Rattle.std.proofs.Common.{Result, Ok, Err, refl, ap}
 use Rattle.std.specs.List.{starts_with}
 use Rattle.std.proofs.Common.{nat_eq}
@@ -13,9 +13,9 @@ use Rattle.log_codec.specs.declared.incoming.Incoming.{Incoming}
 use Rattle.log_codec.specs.declared.version.Version.{Version}
 use Rattle.log_codec.specs.declared.version.Version.TheVariants.{One, Two}
 use Rattle.log_codec.specs.Faults.{◌>>=◌}
-use Rattle.log_codec.specs.Incoming.{pairs_of, incoming_stands, last_source, last_target, remember, target_count}
-use Rattle.log_codec.specs.Reading.{after_number, number_at, version_at, params_of, header_at, image_at, total_at, totals_at, edge_at, edges_at, pairs_at}
-use Rattle.log_codec.specs.Reading.{standing_into, incoming_at, into_at, targets_at, reduced_at, two_strides, strides_at, standing, vector_at, vectors_at}
+use Rattle.log_codec.specs.Incoming.{incoming_stands, last_source, last_target, remember, target_count}
+use Rattle.log_codec.specs.Reading.{after_number, number_at, version_at, params_of, header_at, image_at, total_at, totals_at, edge_at, edges_at}
+use Rattle.log_codec.specs.Reading.{incoming_at, into_at, targets_at, reduced_at, two_strides, strides_at, vector_at, vectors_at}
 use Rattle.log_codec.specs.Reading.{regulated_at}
 use Rattle.log_codec.specs.Turns.{read_in_turn, stay, follow, count_up}
 use Rattle.log_codec.specs.Validity.{bound_at, end_of, vector_stands}

@@ -1,14 +1,14 @@
 -- The next edge in order is the first of those that the cores have next, and what is left is merged_edges the same way.
-use Rattle.std.proofs.Common.{◌≡◌, ◌≢◌, ℕ, zero, suc, ◌+◌, ◌-◌, ◌<◌, ◌≤◌, inl, inr, Bool, true, false, cond, ◌==◌, List, [], ◌∷◌, ◌++◌, length, map, get_or}
+use Rattle.std.proofs.Common.{◌≡◌, ◌≢◌, ℕ, zero, suc, ◌+◌, ◌<◌, ◌≤◌, inl, inr, Bool, true, false, cond, ◌==◌, List, [], ◌∷◌, ◌++◌, length, map}
 use Rattle.std.proofs.Common.{drop, set, Option, Some, None, refl, sym, ap, subst, ◌∙◌, arith}
 use Rattle.std.specs.Prelude.{IfNone, IfSome, slice_get, slice_index}
 use Rattle.std.specs.List.{AllByRecursion, flat_map, range_with_len}
 use Rattle.std.proofs.lemmas.Bool.{cases_eq, cases_lt}
 use Rattle.std.proofs.lemmas.Bool.Decides.{nat_tests}
-use Rattle.std.proofs.lemmas.List.{drop-drop, drop_more, length-append, length-map, get_or-set_same, get_or-set_other}
+use Rattle.std.proofs.lemmas.List.{drop-drop, length-append, length-map, get_or-set_same, get_or-set_other}
 use Rattle.rtr_types.specs.declared.TheConstants.{CORES_MAX}
 use Rattle.log_codec.specs.declared.incoming.Incoming.{Incoming}
-use Rattle.log_codec.specs.Incoming.{Follows, IncomingRises, IsFirst, Keeps, earlier_of, edges_out_of, from_source, incoming, is_earlier, last_source}
+use Rattle.log_codec.specs.Incoming.{Follows, IsFirst, Keeps, earlier_of, edges_out_of, from_source, incoming, is_earlier}
 use Rattle.log_codec.specs.Incoming.{last_target, left, merged_edges, newest, target_of}
 use Rattle.log_codec.proofs.Merges.{Merges, Reaches, Rises, Sorted, all-map, else-reaches, earlier-reaches, from_same, from_other, merge-is, merged-merges}
 use Rattle.log_codec.proofs.Merges.{reaches-then}

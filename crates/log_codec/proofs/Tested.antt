@@ -7,13 +7,13 @@ use Rattle.rtr_types.proofs.PairPlaces.{pairs-placed}
 use Rattle.stride_vector.specs.declared.StrideVector.{StrideVector}
 use Rattle.log_codec.specs.declared.recording.Recording.{Recording}
 use Rattle.log_codec.specs.Turns.{stand_in_turn, stay, follow, count_up}
-use Rattle.log_codec.specs.Versions.{fits_new}
+use Rattle.log_codec.specs.Versions.{fits_run}
 use Rattle.log_codec.specs.Validity.{Valid, is_valid, total_stands, bound_at, EdgeStands, AreEdges, edge_stands, are_edges, VectorStands, AreVectors}
 use Rattle.log_codec.specs.Validity.{vector_stands, are_vectors, end_of}
 use Rattle.log_codec.specs.Laws.{ValidTest, EdgesByPair, VectorsByPair}
 use Rattle.log_codec.proofs.Steps.{and_true}
 use Rattle.log_codec.proofs.InTurn.{stand-true, true-stand, stand-all, all-stand}
-use Rattle.log_codec.proofs.Limits.{new-true, true-new}
+use Rattle.log_codec.proofs.Limits.{run-true, true-run}
 use Rattle.log_codec.proofs.Logs.{vector-true, true-vector}
 use Rattle.log_codec.proofs.ReducedLaws.{all-placed, placed-all}
 use Rattle.log_codec.proofs.Whole.{valid-made, edges-placed, vectors-stand}
@@ -99,7 +99,7 @@ true-le a b h = grind (arith, nat_tests)
 
 -- the tests of the parts
 abbrev first_test : Recording → Bool
-first_test r = fits_new r.params && nat_le (length r.image) (4 * r.params.words)
+first_test r = fits_run r.params && nat_le (length r.image) (4 * r.params.words)
 
 abbrev totals_test : Recording → Bool
 totals_test r = nat_eq (length r.totals) r.params.cores && stand_in_turn (total_stands r.params.limit) stay tt r.totals
@@ -117,7 +117,7 @@ tested r h =
     let a = and_true (first_test r) (totals_test r && (reduced_test r && regulated_test r)) h in
     let b = and_true (totals_test r) (reduced_test r && regulated_test r) a.1 in
     let c = and_true (reduced_test r) (regulated_test r) b.1 in
-    let first = and_true (fits_new r.params) (nat_le (length r.image) (4 * r.params.words)) a.0 in
+    let first = and_true (fits_run r.params) (nat_le (length r.image) (4 * r.params.words)) a.0 in
     let totals = and_true (nat_eq (length r.totals) r.params.cores) (stand_in_turn (total_stands r.params.limit) stay tt r.totals) b.0 in
     let reduced = and_true (nat_eq (length r.reduced) (pair_count r.params.cores))
     (stand_in_turn (λ place es. are_edges (bound_at r.totals place) es) count_up 0 r.reduced) c.0 in
@@ -126,7 +126,7 @@ tested r h =
     let each = eq-true (length r.totals) r.params.cores totals.0 in
     let back : pair_count r.params.cores ≡ pair_count (length r.totals) = ap (λ (n : ℕ). pair_count n) (sym each) in
     let long : length r.reduced ≡ pair_count (length r.totals) = eq-true (length r.reduced) (pair_count r.params.cores) reduced.0 ∙ back in
-    valid-made r.params r.image r.totals r.reduced r.regulated (new-true r.params first.0) (le-true (length r.image) (4 * r.params.words) first.1) each
+    valid-made r.params r.image r.totals r.reduced r.regulated (run-true r.params first.0) (le-true (length r.image) (4 * r.params.words) first.1) each
     (stand-all (λ (t : ℕ). t ≤ r.params.limit) r.totals
     (stand-true (λ (s : Unit {0}) t. t ≤ r.params.limit) (total_stands r.params.limit) stay (total-true r.params.limit) tt r.totals totals.1))
     long
@@ -139,7 +139,7 @@ tested r h =
 
 passes : (r : Recording) → Valid r → is_valid r ≡ true
 passes r v =
-    let a = true-new r.params v.params in
+    let a = true-run r.params v.params in
     let b = true-le (length r.image) (4 * r.params.words) v.image in
     let c = true-eq (length r.totals) r.params.cores v.each_core in
     let d = true-stand (λ (s : Unit {0}) t. t ≤ r.params.limit) (total_stands r.params.limit) stay (true-total r.params.limit) tt r.totals
@@ -151,7 +151,7 @@ passes r v =
     let g = true-eq (length r.regulated) (pair_count r.params.cores) v.each_regulated in
     let h = true-stand (λ place vs. AreVectors (bound_at r.totals place) vs) (λ place vs. are_vectors (bound_at r.totals place) vs) count_up
     (λ place vs i. true-vectors (bound_at r.totals place) vs i) 0 r.regulated (vectors-stand r v) in
-    all_true (fits_new r.params) (nat_le (length r.image) (4 * r.params.words)) (nat_eq (length r.totals) r.params.cores)
+    all_true (fits_run r.params) (nat_le (length r.image) (4 * r.params.words)) (nat_eq (length r.totals) r.params.cores)
     (stand_in_turn (total_stands r.params.limit) stay tt r.totals) (nat_eq (length r.reduced) (pair_count r.params.cores))
     (stand_in_turn (λ place es. are_edges (bound_at r.totals place) es) count_up 0 r.reduced) (nat_eq (length r.regulated) (pair_count r.params.cores))
     (stand_in_turn (λ place vs. are_vectors (bound_at r.totals place) vs) count_up 0 r.regulated) a b c d e f g h

@@ -1,11 +1,11 @@
 -- A recording that is read is the one that is spelled, and what is spelled is read again.
-use Rattle.std.proofs.Common.{◌≡◌, ℕ, ◌+◌, ◌-◌, ◌*◌, ◌^◌, ◌<◌, ◌≤◌, inl, inr, cond, eqb, List, [], ◌++◌, length, take, drop, get_or, Result, Ok, Err, refl, sym}
+use Rattle.std.proofs.Common.{◌≡◌, ℕ, ◌+◌, ◌-◌, ◌*◌, ◌^◌, ◌<◌, ◌≤◌, cond, eqb, List, [], ◌++◌, length, take, drop, get_or, Result, Ok, Err, refl, sym}
 use Rattle.std.proofs.Common.{ap, subst, ◌∙◌, append_assoc, arith}
 use Rattle.std.specs.Prelude.{All, IfOk}
-use Rattle.std.proofs.lemmas.Bool.{cases_lt, eqb-true}
-use Rattle.std.proofs.lemmas.List.{append-nil, nil_from_length, get_or_past, take_at, drop_at, length-append}
+use Rattle.std.proofs.lemmas.Bool.{eqb-true}
+use Rattle.std.proofs.lemmas.List.{append-nil, nil_from_length, take_at, drop_at, length-append}
 use Rattle.rtr_types.specs.declared.params.Params.{Params}
-use Rattle.rtr_types.specs.Pairs.{pair_count, source_at, target_at}
+use Rattle.rtr_types.specs.Pairs.{pair_count, source_at}
 use Rattle.stride_vector.specs.declared.StrideVector.{StrideVector}
 use Rattle.log_codec.specs.declared.codec_fault.TheConstants.{END}
 use Rattle.log_codec.specs.declared.recording.Recording.{Recording}
@@ -16,7 +16,8 @@ use Rattle.log_codec.specs.declared.version.Version.{Version}
 use Rattle.log_codec.specs.declared.version.Version.TheVariants.{One, Two}
 use Rattle.log_codec.specs.Incoming.{IncomingStands, incoming_edges, remember}
 use Rattle.log_codec.specs.Validity.{Valid, EdgeRises, EdgeStands, AreVectors, IsListed, IsLog, bound_at}
-use Rattle.log_codec.specs.Versions.{FitsIn, FitsNew}
+use Rattle.log_codec.specs.Versions.{FitsIn}
+use Rattle.rtr_types.specs.Parameters.{Fits}
 use Rattle.log_codec.specs.Spelling.{Spells, header_text, total_text, totals_text, reduced_text, vectors_text, regulated_text, spelling_in}
 use Rattle.log_codec.specs.Reading.{header_at, image_at, total_at, totals_at, reduced_at, vectors_at, regulated_at, front_at, whole_at}
 use Rattle.log_codec.specs.Laws.{IsBytes, ReadIsSpelled, SpelledIsRead, SpelledIsFront, FrontIsSpelled, PrefixFree, ReadAndSpelled, IntoTheTarget}
@@ -79,7 +80,7 @@ abbrev pub after_header : Headed → Result (Recording × List ℕ) ℕ
 after_header header = image_at header.2 header.3 >>= after_image header.0 header.1
 
 -- a recording of valid parts
-pub valid-made : (p : Params) (image totals : List ℕ) (reduced : List (List (ℕ × ℕ))) (regulated : List (List StrideVector)) → FitsNew p →
+pub valid-made : (p : Params) (image totals : List ℕ) (reduced : List (List (ℕ × ℕ))) (regulated : List (List StrideVector)) → Fits p →
     length image ≤ 4 * p.words → length totals ≡ p.cores → All (λ t. t ≤ p.limit) totals
     → length reduced ≡ pair_count (length totals) → AllEdges totals reduced
     → length regulated ≡ pair_count (length totals) → StandInTurn (λ place vs. AreVectors (bound_at totals place) vs) count_up 0 regulated →
@@ -110,8 +111,8 @@ vectors-stand r v = places-stand (λ place vs. AreVectors (bound_at r.totals pla
     subst (λ (k : ℕ). AreVectors (bound_at r.totals k) (get_or r.regulated i [])) same (v.regulated i (subst (λ (n : ℕ). i < n) v.each_regulated lt)))
 
 -- the limits of either version lie within those of version 2
-pub within-new : (v : Version) (p : Params) → FitsIn v p → FitsNew p
-within-new One p f = (limits_nest p).0 f
+pub within-new : (v : Version) (p : Params) → FitsIn v p → Fits p
+within-new One p f = limits_nest p f
 within-new Two p f = f
 
 -- the front of the bytes, and the version in which it is spelled
@@ -158,7 +159,7 @@ front_again w r rest v fits =
     let p = r.params in
     let small : p.limit < 2 ^ 32 = omega arith in
     let few : length r.totals < 2 ^ 32 = let each = v.each_core in omega arith in
-    let together : length r.totals * p.limit < 2 ^ 32 = let all = params.together in subst (λ (n : ℕ). n * p.limit < 2 ^ 32) (sym v.each_core) (omega arith) in
+    let together : length r.totals * p.limit < 2 ^ 32 = let all = params.instructions in subst (λ (n : ℕ). n * p.limit < 2 ^ 32) (sym v.each_core) (omega arith) in
     let regrouped : spelling_in w r ++ rest ≡ header_text w p (length r.image)
     ++ (r.image ++ (totals_text r.totals ++ (reduced_text w p.cores r.reduced ++ (regulated_text r.regulated ++ rest)))) = simp append_assoc in
     let h = header_again w p (length r.image) (r.image ++ (totals_text r.totals ++ (reduced_text w p.cores r.reduced ++ (regulated_text r.regulated ++ rest))))
@@ -277,7 +278,7 @@ edges_listed r v place lt =
 pub is_log : (r : Recording) → Valid r → IsLog r.params.cores r.reduced
 is_log r v =
     let few = v.params.cores in
-    let together = v.params.together in
+    let together = v.params.instructions in
     record {
       few = few;
       pairs = v.each_reduced;

@@ -9,7 +9,7 @@ use Rattle.log_codec.specs.declared.version.Version.{Version}
 use Rattle.log_codec.specs.Incoming.{IncomingStands, incoming_edges, from_source, remember}
 use Rattle.log_codec.specs.Turns.{StandInTurn}
 use Rattle.log_codec.specs.Validity.{Valid, is_valid, AreEdges, AreVectors}
-use Rattle.log_codec.specs.Versions.{FitsIn, FitsNew, FitsOld}
+use Rattle.log_codec.specs.Versions.{FitsIn, FitsOld}
 use Rattle.log_codec.specs.Spelling.{Spells, spelling, spelling_in}
 use Rattle.log_codec.specs.Reading.{front_at, whole_at}
 
@@ -45,9 +45,9 @@ abbrev pub ReadAndSpelled : Type 0
 ReadAndSpelled = (bytes : List ℕ) (r : Recording) → IsBytes bytes → whole_at bytes ≡ Ok r → whole_at (spelling r)
     ≡ whole_at bytes
 
--- version 1 has the narrower limits, and what a run may have is within those of version 2
+-- version 1 has the narrower limits
 abbrev pub LimitsNest : Type 0
-LimitsNest = (p : Params) → (FitsOld p → FitsNew p) × (Fits p → FitsNew p)
+LimitsNest = (p : Params) → FitsOld p → Fits p
 
 -- the edges into a core stand in turn, and those from each other core are the pair's
 abbrev pub IntoTheTarget : Type 0

@@ -3,12 +3,13 @@ use Rattle.std.specs.Prelude.{◌≡◌, ℕ, ◌*◌, ◌<◌, ◌≤◌, ◌^�
 use Rattle.std.specs.Prelude.{◌&&◌, nat_le, nat_lt, nat_eq, if◌then◌else◌}
 use Rattle.rtr_types.specs.declared.TheConstants.{CORES_MAX}
 use Rattle.rtr_types.specs.Pairs.{pair_count, source_at, target_at}
+use Rattle.rtr_types.specs.Parameters.{Fits}
 use Rattle.stride_vector.specs.declared.StrideVector.{StrideVector}
 use Rattle.stride_vector.specs.Vectors.{last_of}
 use Rattle.log_codec.specs.declared.recording.Recording.{Recording}
 use Rattle.log_codec.specs.Incoming.{incoming_edges}
 use Rattle.log_codec.specs.Turns.{StandInTurn, stand_in_turn, stay, follow, count_up}
-use Rattle.log_codec.specs.Versions.{FitsNew, fits_new}
+use Rattle.log_codec.specs.Versions.{fits_run}
 
 -- the totals of the source and of the target of the pair at a place
 abbrev pub bound_at : List ℕ → ℕ → ℕ × ℕ
@@ -52,7 +53,7 @@ AreVectors most vectors = StandInTurn (VectorStands most) end_of (0, 0) vectors
 
 -- the recording has a spelling in version 2
 pub record Valid (r : Recording) : Type 0 where
-  pub params : FitsNew r.params
+  pub params : Fits r.params
   pub image : length r.image ≤ 4 * r.params.words
   pub each_core : length r.totals ≡ r.params.cores
   pub totals : All (λ t. t ≤ r.params.limit) r.totals
@@ -88,7 +89,7 @@ total_stands limit s total = nat_le total limit
 
 abbrev pub is_valid : Recording → Bool
 is_valid r =
-    (fits_new r.params && nat_le (length r.image) (4 * r.params.words))
+    (fits_run r.params && nat_le (length r.image) (4 * r.params.words))
     && ((nat_eq (length r.totals) r.params.cores && stand_in_turn (total_stands r.params.limit) stay tt r.totals)
     && ((nat_eq (length r.reduced) (pair_count r.params.cores)
     && stand_in_turn (λ place es. are_edges (bound_at r.totals place) es) count_up 0 r.reduced)

@@ -2,7 +2,8 @@
 use Rattle.std.specs.Prelude.{◌≡◌, ℕ, ◌*◌, ◌%◌, ◌≤◌, List, [], ◌∷◌, Bool, ◌&&◌, nat_le, nat_eq}
 use Rattle.rtr_types.specs.declared.TheConstants.{CORES_MAX}
 use Rattle.rtr_types.specs.declared.params.Params.{Params}
-use Rattle.rtr_types.specs.declared.params.TheConstants.{WORDS_MIN, WORDS_MAX}
+use Rattle.rtr_types.specs.declared.params.TheConstants.{INSTRUCTIONS_MAX, LIMIT_MAX, WORDS_MIN, WORDS_MAX}
+use Rattle.rtr_types.specs.Parameters.{Fits}
 use Rattle.log_codec.specs.declared.version.Version.{Version}
 use Rattle.log_codec.specs.declared.version.Version.TheVariants.{One, Two}
 
@@ -21,21 +22,10 @@ pub record FitsOld (p : Params) : Type 0 where
   pub words : p.words ≤ WORDS_MAX
   pub whole_blocks : p.words % 4 ≡ 0
 
--- the limits of version 2: of each core, and of all cores together
-pub record FitsNew (p : Params) : Type 0 where
-  pub some_core : 1 ≤ p.cores
-  pub cores : p.cores ≤ CORES_MAX
-  pub some_instruction : 1 ≤ p.limit
-  pub limit : p.limit ≤ 1000000
-  pub together : p.cores * p.limit ≤ 4000000
-  pub some_block : WORDS_MIN ≤ p.words
-  pub words : p.words ≤ WORDS_MAX
-  pub whole_blocks : p.words % 4 ≡ 0
-
--- the limits of a version
+-- the limits of a version: those of version 2 are what a run may have
 abbrev pub FitsIn : Version → Params → Type 0
 FitsIn One p = FitsOld p
-FitsIn Two p = FitsNew p
+FitsIn Two p = Fits p
 
 -- ---- the same as tests
 
@@ -45,11 +35,12 @@ has_blocks p = (nat_le WORDS_MIN p.words && nat_le p.words WORDS_MAX) && nat_eq 
 abbrev pub fits_old : Params → Bool
 fits_old p = (nat_le 1 p.cores && nat_le p.cores 8) && ((nat_le 1 p.limit && nat_le p.limit 100000) && has_blocks p)
 
-abbrev pub fits_new : Params → Bool
-fits_new p =
+abbrev pub fits_run : Params → Bool
+fits_run p =
     (nat_le 1 p.cores && nat_le p.cores CORES_MAX)
-    && (((nat_le 1 p.limit && nat_le p.limit 1000000) && nat_le (p.cores * p.limit) 4000000) && has_blocks p)
+    && (((nat_le 1 p.limit && nat_le p.limit LIMIT_MAX) && nat_le (p.cores * p.limit) INSTRUCTIONS_MAX)
+    && has_blocks p)
 
 abbrev pub fits_in : Version → Params → Bool
 fits_in One p = fits_old p
-fits_in Two p = fits_new p
+fits_in Two p = fits_run p

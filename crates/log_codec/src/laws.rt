@@ -26,8 +26,8 @@ pub fn bad_part_law()
     ensures { BadPart }
 {}
 
-/// The limits of version 1 and of a run lie within those of version 2. The edges into a core, by which
-/// version 2 spells the reduced log, are in order and are those of the core's pairs.
+/// The limits of version 1 lie within those of version 2, which are what a run may have. The edges into a
+/// core, by which version 2 spells the reduced log, are in order and are those of the core's pairs.
 pub fn version_laws()
     ensures limits { LimitsNest }
     ensures into { IntoTheTarget }

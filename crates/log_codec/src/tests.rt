@@ -19,9 +19,9 @@ struct Worked {
 }
 
 // Recordings of one core, of none of its instructions, of the shortest and the longest numbers; of two
-// cores with one edge, with edges both ways, with strides; of three cores with an edge into two of them,
+// cores with one edge, of the longest numbers, with edges both ways, with strides; of three cores with an edge into two of them,
 // with two edges to one instruction, and with edges from two cores in turn.
-static WORKED: [Worked; 10] = [
+static WORKED: [Worked; 11] = [
     Worked {
         front: &[1, 0x90, 0x4e, 0x80, 0x80, 1, 4, 0x73, 0, 0, 0, 1],
         by_pair: &[],
@@ -55,6 +55,14 @@ static WORKED: [Worked; 10] = [
         rest: &[1, 1, 2, 2, 0],
     },
     Worked {
+        front: &[
+            2, 0xa0, 0x8d, 6, 0x80, 0x80, 0x10, 0, 0xa0, 0x8d, 6, 0xa0, 0x8d, 6,
+        ],
+        by_pair: &[1, 0xa0, 0x8d, 6, 0xa0, 0x8d, 6, 0],
+        by_target: &[0, 1, 0xa0, 0x8d, 6, 0, 0xa0, 0x8d, 6],
+        rest: &[1, 2, 1, 1, 0x9f, 0x8d, 6, 0x9f, 0x8d, 6, 0],
+    },
+    Worked {
         front: &[2, 0x90, 0x4e, 0x10, 0, 5, 4],
         by_pair: &[1, 2, 3, 1, 4, 3],
         by_target: &[1, 4, 1, 3, 1, 2, 0, 3],
@@ -86,19 +94,43 @@ static WORKED: [Worked; 10] = [
     },
 ];
 
-// Recordings of version 2 that are beyond the limits of version 1: of one core, and of four.
-const ONLY_NEW: [&[u8]; 2] = [
-    &[
-        0x52, 0x54, 0x52, 2, 1, 0xc0, 0x84, 0x3d, 4, 0, 0xc0, 0x84, 0x3d,
-    ],
-    &[
-        0x52, 0x54, 0x52, 2, 4, 0xc0, 0x84, 0x3d, 4, 0, 0, 0, 0, 0, 0, 0, 0, 0, 0, 0, 0, 0, 0, 0,
-        0, 0, 0, 0, 0, 0,
-    ],
+// A recording of version 2 that is beyond the limits of version 1: its bytes after the version, and how
+// many bytes 0 follow them.
+struct Beyond {
+    front: &'static [u8],
+    zeros: usize,
+}
+
+// Recordings of one core and of four with the greatest limit, of two with the longest numbers in each part,
+// of nine cores, and of sixteen with as many instructions as they may have together.
+static ONLY_NEW: [Beyond; 5] = [
+    Beyond {
+        front: &[1, 0xc0, 0x84, 0x3d, 4, 0, 0xc0, 0x84, 0x3d],
+        zeros: 0,
+    },
+    Beyond {
+        front: &[4, 0xc0, 0x84, 0x3d, 4, 0],
+        zeros: 20,
+    },
+    Beyond {
+        front: &[
+            2, 0xc0, 0x84, 0x3d, 0x80, 0x80, 0x10, 0, 0xc0, 0x84, 0x3d, 0xc0, 0x84, 0x3d, 0, 1,
+            0xc0, 0x84, 0x3d, 0, 0xc0, 0x84, 0x3d, 1, 1, 0xc0, 0x84, 0x3d, 0xc0, 0x84, 0x3d,
+        ],
+        zeros: 1,
+    },
+    Beyond {
+        front: &[9, 1, 4, 0],
+        zeros: 90,
+    },
+    Beyond {
+        front: &[0x10, 0x90, 0xa1, 0x0f, 4, 0, 0x90, 0xa1, 0x0f],
+        zeros: 271,
+    },
 ];
 
 // Damaged recordings of one core, or damaged in the header, and the part that is named.
-const ONE_CORE_DAMAGED: [(&[u8], u8); 17] = [
+const ONE_CORE_DAMAGED: [(&[u8], u8); 18] = [
     (&[], HEADER),
     (
         &[
@@ -122,6 +154,10 @@ const ONE_CORE_DAMAGED: [(&[u8], u8); 17] = [
     (&[0x52, 0x54, 0x52, 1, 1, 0xa1, 0x8d, 6, 4, 0, 0], HEADER),
     (&[0x52, 0x54, 0x52, 2, 1, 0xc1, 0x84, 0x3d, 4, 0, 0], HEADER),
     (&[0x52, 0x54, 0x52, 2, 5, 0xc0, 0x84, 0x3d, 4, 0, 0], HEADER),
+    (
+        &[0x52, 0x54, 0x52, 2, 0x10, 0x91, 0xa1, 0x0f, 4, 0, 0],
+        HEADER,
+    ),
     (&[0x52, 0x54, 0x52, 2, 0, 1, 4, 0], HEADER),
     (&[0x52, 0x54, 0x52, 2, 0x11, 1, 4, 0], HEADER),
     (&[0x52, 0x54, 0x52, 2, 1, 1, 4, 0, 1, 0], END),
@@ -208,11 +244,15 @@ fn worked_rows(rt: HostRuntime) -> Result<(), Fail> {
 // Version 2 goes beyond the limits of version 1.
 #[test]
 fn beyond_the_old_limits(rt: HostRuntime) -> Result<(), Fail> {
-    for bytes in ONLY_NEW {
-        let recording = read(rt.alloc(), bytes)?;
+    for row in &ONLY_NEW {
+        let mut bytes = joined(rt.alloc(), &[0x52, 0x54, 0x52, 2], row.front)?;
+        for _ in 0..row.zeros {
+            bytes.push(0)?;
+        }
+        let recording = read(rt.alloc(), &bytes)?;
         assert!(rt; !fits_old(&recording.params));
         let again = spell(rt.alloc(), &recording)?;
-        assert_eq!(rt; again.as_slice(), bytes);
+        assert_eq!(rt; again.as_slice(), bytes.as_slice());
     }
     Ok(())
 }

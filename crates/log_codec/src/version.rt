@@ -1,8 +1,8 @@
 //! The versions of the format.
 ghost use Rattle.std.specs.Prelude.{◌≡◌, ◌↔◌, IsTrue};
-ghost use Rattle.log_codec.specs.Versions.{FitsOld, fits_in, fits_new, fits_old, has_blocks, magic};
+ghost use Rattle.log_codec.specs.Versions.{FitsOld, fits_in, fits_old, has_blocks, magic};
 
-use rtr_types::{CORES_MAX, Params, WORDS_MAX, WORDS_MIN};
+use rtr_types::{Params, WORDS_MAX, WORDS_MIN};
 
 /// The most cores of a recording of version 1.
 const OLD_CORES_MAX: u8 = 8;
@@ -10,18 +10,12 @@ const OLD_CORES_MAX: u8 = 8;
 /// The greatest limit of a recording of version 1.
 const OLD_LIMIT_MAX: u32 = 100_000;
 
-/// The greatest limit of a recording of version 2.
-const NEW_LIMIT_MAX: u32 = 1_000_000;
-
-/// The most instructions that the cores of a recording of version 2 may be given together.
-const NEW_INSTRUCTIONS_MAX: u64 = 4_000_000;
-
 /// The versions of a recording's bytes. They differ in the header and in the fourth part.
 #[derive(Clone, Copy, Debug, PartialEq, Eq)]
 pub enum Version {
-    /// At most eight cores; the reduced log stands pair by pair.
+    /// Narrower limits of its own; the reduced log stands pair by pair.
     One,
-    /// At most `CORES_MAX` cores; the reduced log stands target by target.
+    /// The limits of a run; the reduced log stands target by target.
     Two,
 }
 
@@ -42,7 +36,7 @@ impl Version {
     {
         match self {
             Version::One => fits_old(params),
-            Version::Two => fits_new(params),
+            Version::Two => params.fits(),
         }
     }
 }
@@ -64,14 +58,4 @@ pub fn fits_old(params: &Params) -> bool
     let cores = 1 <= params.cores && params.cores <= OLD_CORES_MAX;
     let limit = 1 <= params.limit && params.limit <= OLD_LIMIT_MAX;
     cores && limit && has_blocks(params)
-}
-
-/// Whether the parameters lie within the limits of version 2.
-fn fits_new(params: &Params) -> bool
-    ensures { result ≡ fits_new params.now }
-{
-    let cores = 1 <= params.cores && params.cores <= CORES_MAX;
-    let limit = 1 <= params.limit && params.limit <= NEW_LIMIT_MAX;
-    let together = params.cores as u64 * params.limit as u64 <= NEW_INSTRUCTIONS_MAX;
-    cores && limit && together && has_blocks(params)
 }

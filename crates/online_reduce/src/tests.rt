@@ -2,7 +2,7 @@
 use crate::Reducer;
 use access_times::{Rider, Times};
 use conflict_edge::least_of;
-use rtr_types::{Access, Edge, Instr, Kind};
+use rtr_types::{Access, CORES_MAX, Edge, Instr, Kind};
 use std::alloc::Global;
 use std::process::Abort;
 use std::test::Fail;
@@ -126,5 +126,27 @@ fn touches_leave_their_edges_in_the_lists(rt: HostRuntime) -> Result<(), Fail> {
     assert_eq!(rt; lists.len(), 2);
     assert_eq!(rt; lists[0].as_slice(), [(1, 1)].as_slice());
     assert_eq!(rt; lists[1].as_slice(), [(1, 3)].as_slice());
+    Ok(())
+}
+
+// Each other core reads word 0 and knows nothing of the rest, so core 0's store needs an edge from each.
+#[test]
+fn a_store_follows_a_read_of_each_other_core(rt: HostRuntime) -> Result<(), Fail> {
+    let mut reducer = Reducer::new(rt.alloc(), CORES_MAX)?;
+    let mut times = Times::fresh();
+    for core in 1..CORES_MAX {
+        assert!(rt; reducer.clock(core).get(core) == 0);
+        reducer.ready()?;
+        let at = Instr { core, count: 1 };
+        let access = Access {
+            at,
+            ..access!(0: 1 Load 0)
+        };
+        assert_eq!(rt; reducer.retire(&access, &mut times).len(), 0);
+    }
+    assert!(rt; reducer.clock(0).get(0) == 0);
+    reducer.ready()?;
+    let edges = reducer.retire(&access!(0: 1 Store 0), &mut times);
+    assert_eq!(rt; edges.len(), CORES_MAX as usize - 1);
     Ok(())
 }

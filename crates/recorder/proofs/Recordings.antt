@@ -23,7 +23,6 @@ use Rattle.clock_core.specs.Order.{Among}
 use Rattle.conflict_edge.proofs.TwoForms.{covering_law}
 use Rattle.conflict_edge.specs.Conflicts.{CountsRise}
 use Rattle.conflict_edge.specs.Least.{Covering, IsLeast}
-use Rattle.log_codec.proofs.Limits.{limits_nest}
 use Rattle.log_codec.proofs.SourceLaws.{edges-are-paired}
 use Rattle.log_codec.specs.Sources.{log_edges}
 use Rattle.log_codec.specs.Turns.{StandInTurn, follow}
@@ -89,7 +88,7 @@ pub valid_from : (params : Params) (image : Contents) (outcome : Outcome) (list 
     ((core : ℕ) → core < params.cores → slice_index (map (λ (k : Core). k.count) outcome.cores) core ≡ count_of r core) → IsReduction list r edges →
     Valid (recording_from params image outcome r.lists)
 valid_from params image outcome list r edges fits room run cores counts h = record {
-  params = (limits_nest params).1 fits;
+  params = fits;
   image = room;
   each_core = each;
   totals = All-map (λ t. t ≤ params.limit) (λ (k : Core). k.count) outcome.cores run.counts;

@@ -35,9 +35,9 @@ use Rattle.state_text.specs.States.{state_lines}
 use Rattle.tool_words.specs.declared.command.Command.{Command}
 use Rattle.tool_words.specs.declared.command.Command.TheVariants.{Record, Run, Print, Replay, Migrate, Certify, Check}
 
--- the most bytes of a recording or a certificate: 64 MiB
+-- the most bytes of a recording or a certificate: 512 MiB
 abbrev pub recording_bytes_max : ℕ
-recording_bytes_max = 67108864
+recording_bytes_max = 536870912
 
 -- the most bytes of input that the command takes
 abbrev pub most_of : Command → ℕ

@@ -33,8 +33,8 @@ use state_text::{Exit, check_text, logs_text, state_text};
 use std::alloc::{AllocError, Global};
 use tool_words::Command;
 
-/// The most bytes that a command takes which reads a recording or a certificate: 64 MiB.
-pub(crate) const RECORDING_BYTES_MAX: usize = 67_108_864;
+/// The most bytes that a command takes which reads a recording or a certificate: 512 MiB.
+pub(crate) const RECORDING_BYTES_MAX: usize = 536_870_912;
 
 /// The most bytes of input that the command takes.
 pub(crate) fn most_of(command: &Command) -> usize

@@ -3,6 +3,8 @@
 #![tactic(auto)]
 
 #[cfg(test)]
+mod all_pairs;
+#[cfg(test)]
 mod calls;
 #[cfg(test)]
 mod certificate_tables;

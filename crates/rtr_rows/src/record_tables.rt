@@ -260,14 +260,14 @@ pub static RECORDINGS: [Recorded; 18] = [
             reduced 0\n\
             regulated 0 vectors 0 edges\n"
     ),
-    // Eight cores have 56 pairs in each log.
+    // Sixteen cores have 240 pairs in each log, and the reduced one has a number of edges for each target.
     recorded!(
-        "record --cores 8",
+        "record --cores 16",
         END,
-        "52545202 08 904e 808001 04",
-        "01 01 01 01 01 01 01 01",
-        64,
-        "cores 8 limit 10000 words 16384 image 4\n\
+        "52545202 10 904e 808001 04",
+        "01 01 01 01 01 01 01 01 01 01 01 01 01 01 01 01",
+        256,
+        "cores 16 limit 10000 words 16384 image 4\n\
             total 0 1\n\
             total 1 1\n\
             total 2 1\n\
@@ -276,9 +276,18 @@ pub static RECORDINGS: [Recorded; 18] = [
             total 5 1\n\
             total 6 1\n\
             total 7 1\n\
+            total 8 1\n\
+            total 9 1\n\
+            total 10 1\n\
+            total 11 1\n\
+            total 12 1\n\
+            total 13 1\n\
+            total 14 1\n\
+            total 15 1\n\
             reduced 0\n\
             regulated 0 vectors 0 edges\n"
     ),
+    // Eight have 56.
     recorded!(
         "record --cores=8 --limit=1 --words=4 --choices=ff0007 --seed=0",
         END,

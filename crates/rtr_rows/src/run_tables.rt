@@ -261,8 +261,8 @@ const EIGHT_LOADS: &str = "load 0 3 00000044 00000a00\n\
     load 7 10 0000007c 00000000\n\
     load 7 14 000000f0 00000a07\n";
 
-/// Eight cores that end at once: register x10 holds the number of its core.
-const EIGHT_ENDS: &str = "core 0 exit retired 1 pc 00000004\n\
+/// Sixteen cores that end at once: register x10 holds the number of its core.
+const SIXTEEN_ENDS: &str = "core 0 exit retired 1 pc 00000004\n\
     core 1 exit retired 1 pc 00000004\n\
     core 1 x10 00000001\n\
     core 2 exit retired 1 pc 00000004\n\
@@ -276,7 +276,23 @@ const EIGHT_ENDS: &str = "core 0 exit retired 1 pc 00000004\n\
     core 6 exit retired 1 pc 00000004\n\
     core 6 x10 00000006\n\
     core 7 exit retired 1 pc 00000004\n\
-    core 7 x10 00000007\n";
+    core 7 x10 00000007\n\
+    core 8 exit retired 1 pc 00000004\n\
+    core 8 x10 00000008\n\
+    core 9 exit retired 1 pc 00000004\n\
+    core 9 x10 00000009\n\
+    core 10 exit retired 1 pc 00000004\n\
+    core 10 x10 0000000a\n\
+    core 11 exit retired 1 pc 00000004\n\
+    core 11 x10 0000000b\n\
+    core 12 exit retired 1 pc 00000004\n\
+    core 12 x10 0000000c\n\
+    core 13 exit retired 1 pc 00000004\n\
+    core 13 x10 0000000d\n\
+    core 14 exit retired 1 pc 00000004\n\
+    core 14 x10 0000000e\n\
+    core 15 exit retired 1 pc 00000004\n\
+    core 15 x10 0000000f\n";
 
 /// What `OWN_WORDS` leaves: core 1 alone changes its word, the one at 36.
 const OWN_WORDS_STATE: &str = "core 0 exit retired 4 pc 00000010\n\
@@ -461,9 +477,9 @@ pub static RUNS: [Run; 19] = [
     ),
     // The most cores and the least of all else.
     run!(
-        "run --cores=8 --limit=1 --words=4 --choices=ff0007 --seed=0",
+        "run --cores=16 --limit=1 --words=4 --choices=ff0007 --seed=0",
         END,
-        EIGHT_ENDS,
+        SIXTEEN_ENDS,
         ""
     ),
     // Bytes that the run doesn't reach are ignored.
@@ -493,8 +509,8 @@ pub static RUNS: [Run; 19] = [
 ];
 
 /// Words that mean nothing.
-pub static FAULTY: [&str; 51] = [
-    "run --cores 9",
+pub static FAULTY: [&str; 53] = [
+    "run --cores 17",
     "run --cores 0",
     "run --cores 01",
     "run --cores 2 --cores 2",
@@ -523,7 +539,7 @@ pub static FAULTY: [&str; 51] = [
     "run --loads=1",
     "run --loads --loads",
     "run --limit 0",
-    "run --limit 100001",
+    "run --limit 1000001",
     "run --words 0",
     "run --words 262148",
     "run --cores 2 --",
@@ -538,7 +554,9 @@ pub static FAULTY: [&str; 51] = [
     "replay --log=last",
     "replay --log reduced --log reduced",
     "replay --loads --loads",
-    "record --cores 9",
+    "record --cores 17",
+    "record --cores 16 --limit 250001",
+    "run --limit=1000000 --cores 5 --loads",
     "record --choices 0",
     "",
     "record --words 6",

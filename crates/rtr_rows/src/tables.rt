@@ -75,7 +75,7 @@ pub const CUT_PARTS: [u8; 32] = [
     1, 1, 1, 1, 1, 1, 1, 1, 1, 2, 2, 2, 2, 2, 2, 2, 2, 2, 2, 2, 2, 3, 3, 4, 4, 4, 4, 5, 5, 5, 5, 5,
 ];
 
-pub static ROWS: [Row; 49] = [
+pub static ROWS: [Row; 57] = [
     // A run of one core is recorded.
     bytes!(
         "record",
@@ -321,6 +321,55 @@ pub static ROWS: [Row; 49] = [
         "52545201 02 904e 10 0c" * 1,
         3,
         "rtr: bad input, part 2\n"
+    ),
+    // Each version has its own limits: of cores, of a core's instructions, and version 2 of all instructions.
+    refused!(
+        "print",
+        "52545201 09 01 04 00" * 1,
+        3,
+        "rtr: bad input, part 1\n"
+    ),
+    refused!(
+        "print",
+        "52545201 01 a18d06 04 00 00" * 1,
+        3,
+        "rtr: bad input, part 1\n"
+    ),
+    refused!(
+        "print",
+        "52545202 11 01 04 00" * 1,
+        3,
+        "rtr: bad input, part 1\n"
+    ),
+    refused!(
+        "print",
+        "52545202 01 c1843d 04 00 00" * 1,
+        3,
+        "rtr: bad input, part 1\n"
+    ),
+    refused!(
+        "print",
+        "52545202 05 c0843d 04 00" * 1,
+        3,
+        "rtr: bad input, part 1\n"
+    ),
+    refused!(
+        "print",
+        "52545202 10 91a10f 04 00" * 1,
+        3,
+        "rtr: bad input, part 1\n"
+    ),
+    text!(
+        "print",
+        "52545202 01 c0843d 808010 00 c0843d",
+        "cores 1 limit 1000000 words 262144 image 0\ntotal 0 1000000\nreduced 0\nregulated 0 vectors 0 edges\n"
+    ),
+    bytes!(
+        "migrate",
+        "52545201 02 a08d06 808010 00 a08d06 a08d06 01 a08d06 a08d06 00 00 00" * 1,
+        "52545202 02 a08d06 808010 00 a08d06 a08d06 00 01 a08d06 00 a08d06 00 00",
+        false,
+        ""
     ),
     // Hostile numbers: counts that no file can hold, rises of zero, sums past 2^32, another version.
     refused!(

@@ -4,6 +4,7 @@ use crate::record_tables::RECORDINGS;
 use crate::replay_tables::REPLAYS;
 use crate::run_tables::{FAULTY, RUNS};
 use crate::tables::{CUT_PARTS, CUT_RECORDING, ROWS};
+use log_codec::{fits_old, read, spell_v1};
 use std::test::Fail;
 
 #[test]
@@ -74,6 +75,30 @@ fn each_run_is_recorded_and_printed(rt: HostRuntime) -> Result<(), Fail> {
             row.words
         );
         assert_eq!(rt; said.report.as_slice(), b"".as_slice(), "{}", row.words);
+    }
+    Ok(())
+}
+
+// The recording of a run has a spelling in version 1 too, where it is within the limits of that version. It says
+// the same, and migrates to the one that was recorded.
+#[test]
+fn both_versions_of_each_recording_say_the_same(rt: HostRuntime) -> Result<(), Fail> {
+    let alloc = rt.alloc();
+    for row in &RECORDINGS {
+        let newest = recording_of(alloc, row)?;
+        let recording = read(alloc, newest.as_slice())?;
+        if fits_old(&recording.params) {
+            let oldest = spell_v1(alloc, &recording)?;
+            let said = ask(alloc, "print", oldest.clone()?)?;
+            assert_eq!(rt;
+                said.output.as_slice(),
+                row.text.as_bytes(),
+                "{}",
+                row.words
+            );
+            let again = ask(alloc, "migrate", oldest)?;
+            assert_eq!(rt; again.output.as_slice(), newest.as_slice(), "{}", row.words);
+        }
     }
     Ok(())
 }

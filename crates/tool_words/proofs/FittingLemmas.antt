@@ -1,12 +1,12 @@
 -- Every setting that is put in is in its range, so the parameters fit.
-use Rattle.std.proofs.Common.{◌≡◌, ℕ, ◌≤◌, ◌%◌, Bool, true, false, List, [], ◌∷◌, Option, Some, None, refl, sym, ap, arith, rules, ◌==◌, nat_le, ◌&&◌, ◌-◌, ◌^◌}
+use Rattle.std.proofs.Common.{◌≡◌, ℕ, ◌≤◌, ◌%◌, Bool, true, false, List, [], ◌∷◌, Option, Some, None, refl, sym, ap, arith, rules, ◌==◌, nat_le, ◌&&◌, ◌-◌, ◌^◌, ◌*◌, ◌∙◌}
 use Rattle.std.proofs.Common.{unwrap_or, cond, subst}
 use Rattle.std.specs.Option.{option_and_then, option_map}
 use Rattle.std.specs.Str.Parse.{digits_value}
 use Rattle.std.proofs.lemmas.Bool.Decides.{nat_tests}
 use Rattle.rtr_types.specs.Parameters.{Fits}
 use Rattle.rtr_types.specs.declared.TheConstants.{CORES_MAX}
-use Rattle.rtr_types.specs.declared.params.TheConstants.{LIMIT_MAX, WORDS_MIN, WORDS_MAX}
+use Rattle.rtr_types.specs.declared.params.TheConstants.{INSTRUCTIONS_MAX, LIMIT_MAX, WORDS_MIN, WORDS_MAX}
 use Rattle.tool_words.specs.declared.command.Command.{Command}
 use Rattle.tool_words.specs.declared.command.Verb.{Verb}
 use Rattle.tool_words.specs.declared.command.Verb.TheVariants.{Record, Run, Print, Replay, Migrate, Certify, Check}
@@ -15,9 +15,9 @@ use Rattle.tool_words.specs.declared.options.Name.TheVariants.{Cores, Limit, Wor
 use Rattle.tool_words.specs.Settings.{Settings}
 use Rattle.tool_words.specs.Numerals.{is_numeral, number_between}
 use Rattle.tool_words.specs.Choices.{are_choices}
-use Rattle.tool_words.specs.Options.{is_set, log_named, no_settings, params_of, put, put_new, whole_blocks, cores_default, limit_default, words_default}
+use Rattle.tool_words.specs.Options.{are_together_few, is_set, log_named, no_settings, params_of, put, put_new, whole_blocks, cores_default, limit_default, words_default}
 use Rattle.tool_words.specs.Commands.{HasFittingParams, command_of, verb_named}
-use Rattle.tool_words.specs.Reading.{Set, settings, settled, settled_by, FittingLaw}
+use Rattle.tool_words.specs.Reading.{Set, settings, settled, settled_by, few_together, FittingLaw}
 
 -- a number of cores that is set is in range, and so are a limit and a number of words
 abbrev CoresFit : Option ℕ → Type 0
@@ -145,26 +145,38 @@ words-in : (o : Option ℕ) → WordsFit o → WordsFit (Some (unwrap_or o words
 words-in None fit = (omega arith, omega arith, refl)
 words-in (Some n) fit = fit
 
-params-fit : (s : Settings) → AreFitting s → Fits (params_of s)
-params-fit s fit =
+few-together : (s t : Settings) → few_together s ≡ Some t → (s ≡ t) × ((params_of s).cores * (params_of s).limit ≤ INSTRUCTIONS_MAX)
+few-together s t h = by (are_together_few s) refl h
+  where
+    by : (b : Bool) → are_together_few s ≡ b → cond b (Some s) None ≡ Some t → (s ≡ t) × ((params_of s).cores * (params_of s).limit ≤ INSTRUCTIONS_MAX)
+    by true is e = (cc, grind (arith, nat_tests))
+    by false is e = absurd (cc)
+
+params-fit : (s : Settings) → AreFitting s → (params_of s).cores * (params_of s).limit ≤ INSTRUCTIONS_MAX → Fits (params_of s)
+params-fit s fit few =
     let cores = cores-in s.cores fit.cores in
     let limit = limit-in s.limit fit.limit in
     let words = words-in s.words fit.words in
-    search (rules, cores, limit, words)
+    search (rules, cores, limit, few, words)
 
-command-fits : (verb : Verb) (s : Settings) → AreFitting s → HasFittingParams (command_of verb s)
-command-fits Record s fit = params-fit s fit
-command-fits Run s fit = params-fit s fit
-command-fits Print s fit = tt
-command-fits Replay s fit = tt
-command-fits Migrate s fit = tt
-command-fits Certify s fit = tt
-command-fits Check s fit = tt
+command-fits : (verb : Verb) (s : Settings) → AreFitting s → (params_of s).cores * (params_of s).limit ≤ INSTRUCTIONS_MAX →
+    HasFittingParams (command_of verb s)
+command-fits Record s fit few = params-fit s fit few
+command-fits Run s fit few = params-fit s fit few
+command-fits Print s fit few = tt
+command-fits Replay s fit few = tt
+command-fits Migrate s fit few = tt
+command-fits Certify s fit few = tt
+command-fits Check s fit few = tt
 
 pub fitting_law : FittingLaw
 fitting_law [] command h = absurd (cc)
 fitting_law (first ∷ rest) command h =
-    let verb = and_then-some (λ v. option_map (command_of v) (settled_by v no_settings rest)) (verb_named first) command h in
-    let made = map-some (command_of verb.0) (settled_by verb.0 no_settings rest) command verb.2 in
+    let verb = and_then-some (λ v. option_map (command_of v) (option_and_then few_together (settled_by v no_settings rest))) (verb_named first) command h in
+    let made = map-some (command_of verb.0) (option_and_then few_together (settled_by verb.0 no_settings rest)) command verb.2 in
+    let set = and_then-some few_together (settled_by verb.0 no_settings rest) made.0 made.1 in
+    let few = few-together set.0 made.0 set.2 in
     let P : Command → Type 0 = λ c. HasFittingParams c in
-    subst P made.2 (command-fits verb.0 made.0 (settled_by-fits verb.0 rest made.0 made.1))
+    let fits = command-fits verb.0 set.0 (settled_by-fits verb.0 rest set.0 set.1) few.1 in
+    let same : command_of verb.0 set.0 ≡ command = ap (λ s. command_of verb.0 s) few.0 ∙ made.2 in
+    subst P same fits

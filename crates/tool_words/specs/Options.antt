@@ -1,5 +1,5 @@
 -- The options, and what their settings come to.
-use Rattle.std.specs.Prelude.{ℕ, ◌%◌, ◌-◌, ◌^◌, ◌==◌, Bool, true, false, List, Option, Some, None, is_some, codes}
+use Rattle.std.specs.Prelude.{ℕ, ◌*◌, ◌%◌, ◌-◌, ◌^◌, ◌==◌, nat_le, Bool, true, false, List, Option, Some, None, is_some, codes}
 use Rattle.std.specs.Prelude.{unwrap_or, if◌then◌else◌}
 use Rattle.std.specs.Option.{option_and_then, option_map}
 use Rattle.std.specs.Str.{bytes_eq}
@@ -7,7 +7,7 @@ use Rattle.rtr_types.specs.declared.params.Params.{Params}
 use Rattle.rtr_types.specs.declared.pairs.Which.{Which}
 use Rattle.rtr_types.specs.declared.pairs.Which.TheVariants.{Reduced, Regulated}
 use Rattle.rtr_types.specs.declared.TheConstants.{BLOCK_WORDS, CORES_MAX}
-use Rattle.rtr_types.specs.declared.params.TheConstants.{LIMIT_MAX, WORDS_MIN, WORDS_MAX}
+use Rattle.rtr_types.specs.declared.params.TheConstants.{INSTRUCTIONS_MAX, LIMIT_MAX, WORDS_MIN, WORDS_MAX}
 use Rattle.tool_words.specs.declared.command.Verb.{Verb}
 use Rattle.tool_words.specs.declared.command.Verb.TheVariants.{Record, Run, Print, Replay, Migrate, Certify, Check}
 use Rattle.tool_words.specs.declared.options.Name.{Name}
@@ -133,3 +133,7 @@ params_of s = record {
   limit = unwrap_or s.limit limit_default;
   words = unwrap_or s.words words_default;
 }
+
+-- the cores together are given no more instructions than a run may have, set or by default
+abbrev pub are_together_few : Settings → Bool
+are_together_few s = nat_le ((params_of s).cores * (params_of s).limit) INSTRUCTIONS_MAX

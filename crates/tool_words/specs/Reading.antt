@@ -8,7 +8,7 @@ use Rattle.tool_words.specs.declared.command.Verb.{Verb}
 use Rattle.tool_words.specs.declared.options.Name.{Name}
 use Rattle.tool_words.specs.Settings.{Settings}
 use Rattle.tool_words.specs.Commands.{HasFittingParams, command_of, verb_named}
-use Rattle.tool_words.specs.Options.{no_settings, option_of, put, takes_value}
+use Rattle.tool_words.specs.Options.{are_together_few, no_settings, option_of, put, takes_value}
 
 -- one option and the text of its value, which is empty for a flag
 pub record Set : Type 0 where
@@ -57,11 +57,17 @@ settled s (set ∷ rest) = option_and_then (λ t. settled t rest) (put s set.nam
 unfoldable pub settled_by : Verb → Settings → List (List ℕ) → Option Settings
 settled_by verb s words = option_and_then (settled s) (settings verb words)
 
+-- the settings that words come to; none where the cores and the limit are too many instructions together
+abbrev pub few_together : Settings → Option Settings
+few_together s = if are_together_few s then Some s else None
+
 -- the command that the words mean
 abbrev pub meaning : List (List ℕ) → Option Command
 meaning [] = None
 meaning (first ∷ rest) =
-    option_and_then (λ verb. option_map (command_of verb) (settled_by verb no_settings rest)) (verb_named first)
+    option_and_then
+    (λ verb. option_map (command_of verb) (option_and_then few_together (settled_by verb no_settings rest)))
+    (verb_named first)
 
 -- what words mean has parameters in their ranges
 abbrev pub FittingLaw : Type 0

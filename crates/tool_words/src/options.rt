@@ -2,13 +2,15 @@
 ghost use Rattle.std.specs.Prelude.{◌≡◌};
 ghost use Rattle.std.specs.Option.{option_map};
 ghost use Rattle.tool_words.specs.Settings.{seen};
-ghost use Rattle.tool_words.specs.Options.{is_set, log_named, no_settings, option_of, params_of, put, put_new};
+ghost use Rattle.tool_words.specs.Options.{are_together_few, is_set, log_named, no_settings, option_of, params_of, put, put_new};
 ghost use Rattle.tool_words.specs.Options.{takes_value, whole_blocks};
 
 use crate::choices::are_choices;
 use crate::command::Verb;
 use crate::numerals::number_between;
-use rtr_types::{BLOCK_WORDS, CORES_MAX, LIMIT_MAX, Params, WORDS_MAX, WORDS_MIN, Which};
+use rtr_types::{
+    BLOCK_WORDS, CORES_MAX, INSTRUCTIONS_MAX, LIMIT_MAX, Params, WORDS_MAX, WORDS_MIN, Which,
+};
 
 /// The number of cores of a run whose words name none.
 pub(crate) const CORES_DEFAULT: u8 = 1;
@@ -157,6 +159,14 @@ impl<'a> Settings<'a> {
             limit: self.limit.unwrap_or(LIMIT_DEFAULT),
             words: self.words.unwrap_or(WORDS_DEFAULT),
         }
+    }
+
+    /// Whether the cores together are given no more instructions than a run may have.
+    pub(crate) fn are_together_few(&self) -> bool
+        ensures { result ≡ are_together_few (seen self.now) }
+    {
+        let params = self.params();
+        params.cores as u64 * params.limit as u64 <= INSTRUCTIONS_MAX as u64
     }
 }
 

@@ -13,8 +13,8 @@ use std::alloc::{AllocError, Global};
 
 /// The command that the words mean, or `None`. The first word is the command; options follow in any
 /// order, each at most once, as `--name value` or `--name=value`, and a flag as `--name`. The word after
-/// `--name` is its value, whatever it begins with. Names are exact, and every other list of words, among
-/// them the empty one, means nothing. The only refusal is want of memory, for the choice bytes of a
+/// `--name` is its value, whatever it begins with. Names are exact, the cores times the limit are at most
+/// `INSTRUCTIONS_MAX`, and every other list of words, among them the empty one, means nothing. The only refusal is want of memory, for the choice bytes of a
 /// command, and so never where the words mean nothing.
 pub fn meaning(alloc: Global, words: &[String]) -> Result<Option<Command>, AllocError>
     ensures value { IfOk result (λ command. command ≡ meaning (map string_bytes words.now)) }
@@ -38,7 +38,11 @@ fn read(words: &[String]) -> Option<(Verb, Settings<'_>)>
     let (first, rest) = words.split_first()?;
     let verb = Verb::named(first.as_str())?;
     let settings = read_settings(verb, rest)?;
-    Some((verb, settings))
+    if settings.are_together_few() {
+        Some((verb, settings))
+    } else {
+        None
+    }
 }
 
 /// What the words after the command set.

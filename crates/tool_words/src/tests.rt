@@ -25,7 +25,7 @@ struct Row {
     loads: bool,
 }
 
-static ROWS: [Row; 5] = [
+static ROWS: [Row; 7] = [
     Row {
         line: "run",
         cores: 1,
@@ -45,8 +45,8 @@ static ROWS: [Row; 5] = [
         loads: true,
     },
     Row {
-        line: "run --cores 8 --limit=1 --loads",
-        cores: 8,
+        line: "run --cores 16 --limit=1 --loads",
+        cores: 16,
         limit: 1,
         words: 16_384,
         choices: &[],
@@ -54,11 +54,30 @@ static ROWS: [Row; 5] = [
         loads: true,
     },
     Row {
-        line: "run --words=262144 --choices 00ff1a --limit 100000",
+        line: "run --words=262144 --choices 00ff1a --limit 1000000",
         cores: 1,
-        limit: 100_000,
+        limit: 1_000_000,
         words: 262_144,
         choices: &[0, 255, 26],
+        seed: 0,
+        loads: false,
+    },
+    // Four million instructions together.
+    Row {
+        line: "run --limit 250000 --cores 16",
+        cores: 16,
+        limit: 250_000,
+        words: 16_384,
+        choices: &[],
+        seed: 0,
+        loads: false,
+    },
+    Row {
+        line: "run --cores=4 --limit=1000000",
+        cores: 4,
+        limit: 1_000_000,
+        words: 16_384,
+        choices: &[],
         seed: 0,
         loads: false,
     },
@@ -147,7 +166,7 @@ fn words_that_mean_a_replay(rt: HostRuntime) -> Result<(), Fail> {
     Ok(())
 }
 
-static FAULTY: [&str; 41] = [
+static FAULTY: [&str; 44] = [
     "",
     "records",
     "--help",
@@ -158,7 +177,10 @@ static FAULTY: [&str; 41] = [
     "record --words 262148",
     "record --words 0",
     "record --limit 0",
-    "record --limit 100001",
+    "record --limit 1000001",
+    "record --cores 16 --limit 250001",
+    "record --limit=1000000 --cores=5",
+    "run --limit 307693 --loads --cores 13",
     "record --limit 4294967297",
     "record --limit 010",
     "record --limit +1",
@@ -183,7 +205,7 @@ static FAULTY: [&str; 41] = [
     "certify --limit 1",
     "check --log reduced",
     "run --cores 0",
-    "run --cores 9",
+    "run --cores 17",
     "run --choices 0",
     "run --choices 0A",
     "run --choices=",

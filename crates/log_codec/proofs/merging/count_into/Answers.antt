@@ -1,5 +1,5 @@
-use Rattle.std.proofs.Common.{◌≡◌, ◌+◌, ◌<◌, ◌≤◌, ◌^◌, ℕ, List, length, ap, ◌∙◌, arith}
-use Rattle.log_codec.specs.Incoming.{edges_out_of, incoming_edges}
+use Rattle.std.proofs.Common.{◌≡◌, ℕ, List, length, ap, arith}
+use Rattle.log_codec.specs.Incoming.{edges_out_of}
 use Rattle.log_codec.proofs.Merges.{length-merged}
 use Rattle.log_codec.proofs.NextEdges.{joined_from, length-more}
 use Rattle.log_codec.proofs.ReducedLaws.{list-is, list-own}

@@ -1,9 +1,8 @@
-use Rattle.std.proofs.Common.{◌≡◌, ◌+◌, ◌-◌, ◌++◌, ℕ, List, [], length, sym, ap, subst, ◌∙◌, append_assoc, arith}
-use Rattle.log_codec.specs.declared.incoming.Incoming.{Incoming}
+use Rattle.std.proofs.Common.{◌≡◌, ◌+◌, ◌-◌, ◌++◌, ℕ, List, [], length, ap, ◌∙◌, append_assoc, arith}
 use Rattle.log_codec.specs.Incoming.{incoming_edges, remember}
 use Rattle.log_codec.specs.Spelling.{incoming_text, into_text, number}
 use Rattle.log_codec.specs.Turns.{spelled_in_turn}
-use Rattle.log_codec.proofs.Written.{Writes, log-rises, writes-start, writes-rises, writes-more, writes-none, writes-done}
+use Rattle.log_codec.proofs.Written.{log-rises, writes-start, writes-rises, writes-more, writes-none, writes-done}
 use Rattle.log_codec.proofs.merging.put_into.Goals as goal
 use Rattle.log_codec.proofs.merging.put_into.Goals.{in-Some+in_ok-put_incoming, in_default}
 

@@ -1,12 +1,11 @@
-use Rattle.std.proofs.Common.{◌≡◌, ◌<◌, ◌++◌, ℕ, List, [], length, map, get_or, drop, sym, ap, subst, ◌∙◌, arith}
-use Rattle.std.specs.List.{range_with_len}
+use Rattle.std.proofs.Common.{◌≡◌, ◌<◌, ◌++◌, List, [], get_or, sym, ap, ◌∙◌, arith}
 use Rattle.std.proofs.lemmas.List.FromFn.{length-map-range_with_len}
 use Rattle.log_codec.specs.declared.incoming.Incoming.{Incoming}
 use Rattle.log_codec.specs.Incoming.{incoming_edges, target_count}
 use Rattle.log_codec.specs.Spelling.{into_text, targets_text}
 use Rattle.log_codec.specs.Turns.{count_up}
 use Rattle.log_codec.proofs.InTurn.{puts_on, puts_done}
-use Rattle.log_codec.proofs.ReducedLaws.{all_into, into-at, target-inside}
+use Rattle.log_codec.proofs.ReducedLaws.{all_into, into-at}
 use Rattle.log_codec.proofs.merging.put_targets.Goals as goal
 
 pub loop-target-preserved : goal.loop-target-preserved

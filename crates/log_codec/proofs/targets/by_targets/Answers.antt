@@ -1,7 +1,5 @@
-use Rattle.std.proofs.Common.{◌≡◌, ◌<◌, ◌≤◌, ℕ, List, [], length, replicate, ap, ◌∙◌, arith}
+use Rattle.std.proofs.Common.{ℕ, List, [], replicate, ap, ◌∙◌, arith}
 use Rattle.std.proofs.lemmas.Result.{err_from_is_err_and}
-use Rattle.rtr_types.specs.Pairs.{pair_count}
-use Rattle.log_codec.specs.Incoming.{target_count}
 use Rattle.log_codec.proofs.Received.{fills-start, fills-long, fills-more, fills-fails, fills-done}
 use Rattle.log_codec.proofs.targets.by_targets.Goals as goal
 
