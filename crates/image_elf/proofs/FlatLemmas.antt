@@ -1,5 +1,5 @@
 -- The flat image of a file without a fault is one, case by case.
-use Rattle.std.proofs.Common.{◌≡◌, ◌≢◌, ◌⊎◌, inl, inr, ℕ, ◌+◌, ◌-◌, ◌<◌, ◌≤◌, Bool, true, false, IsTrue, List, length, get_or, refl, ap, ◌∙◌, arith, Some, None}
+use Rattle.std.proofs.Common.{◌≡◌, ◌≢◌, ◌⊎◌, inl, inr, ℕ, ◌+◌, ◌<◌, ◌≤◌, Bool, true, false, IsTrue, List, length, get_or, refl, ap, ◌∙◌, arith, Some, None}
 use Rattle.std.proofs.Common.{zero-add, ◌++◌, ◌∷◌, []}
 use Rattle.std.specs.Prelude.{map, max, Option, is_some, unwrap_or}
 use Rattle.std.specs.List.{range_with_len}
@@ -8,7 +8,7 @@ use Rattle.std.proofs.Math.Nat.{le-max_left, le-max_right, max-le}
 use Rattle.std.proofs.lemmas.Bool.Decides.{nat_tests}
 use Rattle.std.proofs.lemmas.List.FromFn.{length-map-range_with_len, get_or-map-range_with_len, map-range_with_len_more}
 use Rattle.std.proofs.lemmas.List.{get_or_past}
-use Rattle.image_elf.specs.Headers.{entry, header, header_count, has}
+use Rattle.image_elf.specs.Headers.{entry, header, header_count}
 use Rattle.image_elf.specs.FlatImage.{flat_byte, flat_image, flat_length, jump_length, jump_word, loaded_byte, loaded_length, range_byte}
 use Rattle.image_elf.specs.Faults.{elf_fault, first_header_fault, is_taken}
 use Rattle.image_elf.specs.Cases.{EndsBy, IsFlatImage, IsLoadedBy}

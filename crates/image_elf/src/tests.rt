@@ -49,6 +49,65 @@ fn a_program_has_its_flat_image(rt: HostRuntime) -> Result<(), Fail> {
     Ok(())
 }
 
+// What GNU ld 2.40 made of this program, by
+//     riscv64-unknown-elf-as -march=rv32i count.s -o count.o
+//     riscv64-unknown-elf-ld -m elf32lriscv -N -s -Ttext=10 -Tdata=40 count.o -o count.elf
+//
+//          .globl  _start
+//  _start: lw      x5, counter
+//          addi    x5, x5, 1
+//          sw      x5, counter, x6
+//          ecall
+//          .data
+//          .word   7
+//          .bss
+//  counter: .zero  8
+//
+// The first of its two headers is of the type for RISC-V attributes.
+static LINKED: [u8; 480] = [
+    0x7f, 0x45, 0x4c, 0x46, 1, 1, 1, 0, 0, 0, 0, 0, 0, 0, 0, 0, 2, 0, 0xf3, 0, 1, 0, 0, 0, 0x10, 0,
+    0, 0, 0x34, 0, 0, 0, 0xf0, 0, 0, 0, 0, 0, 0, 0, 0x34, 0, 0x20, 0, 2, 0, 0x28, 0, 6, 0, 5, 0, 3,
+    0, 0, 0x70, 0xa8, 0, 0, 0, 0, 0, 0, 0, 0, 0, 0, 0, 0x1a, 0, 0, 0, 0, 0, 0, 0, 4, 0, 0, 0, 1, 0,
+    0, 0, 1, 0, 0, 0, 0x74, 0, 0, 0, 0x10, 0, 0, 0, 0x10, 0, 0, 0, 0x34, 0, 0, 0, 0x3c, 0, 0, 0, 7,
+    0, 0, 0, 4, 0, 0, 0, 0x83, 0x22, 0x40, 4, 0x93, 0x82, 0x12, 0, 0x23, 0x22, 0x50, 4, 0x73, 0, 0,
+    0, 0, 0, 0, 0, 0, 0, 0, 0, 0, 0, 0, 0, 0, 0, 0, 0, 0, 0, 0, 0, 0, 0, 0, 0, 0, 0, 0, 0, 0, 0, 0,
+    0, 7, 0, 0, 0, 0x41, 0x19, 0, 0, 0, 0x72, 0x69, 0x73, 0x63, 0x76, 0, 1, 0x0f, 0, 0, 0, 5, 0x72,
+    0x76, 0x33, 0x32, 0x69, 0x32, 0x70, 0x31, 0, 0, 0x2e, 0x73, 0x68, 0x73, 0x74, 0x72, 0x74, 0x61,
+    0x62, 0, 0x2e, 0x74, 0x65, 0x78, 0x74, 0, 0x2e, 0x64, 0x61, 0x74, 0x61, 0, 0x2e, 0x62, 0x73,
+    0x73, 0, 0x2e, 0x72, 0x69, 0x73, 0x63, 0x76, 0x2e, 0x61, 0x74, 0x74, 0x72, 0x69, 0x62, 0x75,
+    0x74, 0x65, 0x73, 0, 0, 0, 0, 0, 0, 0, 0, 0, 0, 0, 0, 0, 0, 0, 0, 0, 0, 0, 0, 0, 0, 0, 0, 0, 0,
+    0, 0, 0, 0, 0, 0, 0, 0, 0, 0, 0, 0, 0, 0, 0, 0x0b, 0, 0, 0, 1, 0, 0, 0, 7, 0, 0, 0, 0x10, 0, 0,
+    0, 0x74, 0, 0, 0, 0x10, 0, 0, 0, 0, 0, 0, 0, 0, 0, 0, 0, 4, 0, 0, 0, 0, 0, 0, 0, 0x11, 0, 0, 0,
+    1, 0, 0, 0, 3, 0, 0, 0, 0x40, 0, 0, 0, 0xa4, 0, 0, 0, 4, 0, 0, 0, 0, 0, 0, 0, 0, 0, 0, 0, 1, 0,
+    0, 0, 0, 0, 0, 0, 0x17, 0, 0, 0, 8, 0, 0, 0, 3, 0, 0, 0, 0x44, 0, 0, 0, 0xa8, 0, 0, 0, 8, 0, 0,
+    0, 0, 0, 0, 0, 0, 0, 0, 0, 1, 0, 0, 0, 0, 0, 0, 0, 0x1c, 0, 0, 0, 3, 0, 0, 0x70, 0, 0, 0, 0, 0,
+    0, 0, 0, 0xa8, 0, 0, 0, 0x1a, 0, 0, 0, 0, 0, 0, 0, 0, 0, 0, 0, 1, 0, 0, 0, 0, 0, 0, 0, 1, 0, 0,
+    0, 3, 0, 0, 0, 0, 0, 0, 0, 0, 0, 0, 0, 0xc2, 0, 0, 0, 0x2e, 0, 0, 0, 0, 0, 0, 0, 0, 0, 0, 0, 1,
+    0, 0, 0, 0, 0, 0, 0,
+];
+
+// What objcopy's -O binary makes of it: the bytes from address 16 on. The eight bytes of .bss come after.
+static COPIED: [u8; 52] = [
+    0x83, 0x22, 0x40, 4, 0x93, 0x82, 0x12, 0, 0x23, 0x22, 0x50, 4, 0x73, 0, 0, 0, 0, 0, 0, 0, 0, 0,
+    0, 0, 0, 0, 0, 0, 0, 0, 0, 0, 0, 0, 0, 0, 0, 0, 0, 0, 0, 0, 0, 0, 0, 0, 0, 0, 7, 0, 0, 0,
+];
+
+#[test]
+fn a_linked_program_has_the_bytes_that_objcopy_gives(rt: HostRuntime) -> Result<(), Fail> {
+    let image = flatten(rt.alloc(), &LINKED, 32)?;
+    assert_eq!(rt; image.len(), 16 + COPIED.len() + 8);
+    assert_eq!(rt;
+        &image[..16],
+        [0x6f, 0, 0, 1, 0, 0, 0, 0, 0, 0, 0, 0, 0, 0, 0, 0].as_slice()
+    );
+    assert_eq!(rt; &image[16..16 + COPIED.len()], COPIED.as_slice());
+    assert_eq!(rt;
+        &image[16 + COPIED.len()..],
+        [0, 0, 0, 0, 0, 0, 0, 0].as_slice()
+    );
+    Ok(())
+}
+
 // Two words of `TABLE_LAST` written over, and the length of the image for a memory of 8 words, or the fault.
 struct Case {
     what: &'static str,

@@ -1,7 +1,5 @@
-use Rattle.std.proofs.Common.{true, false, inl, inr}
+use Rattle.std.proofs.Common.{inl, inr}
 use Rattle.std.proofs.lemmas.Result.{err_from_is_err_and}
-use Rattle.image_elf.specs.Headers.{accepts_header, is_elf}
-use Rattle.image_elf.specs.Faults.{accepts_entry}
 use Rattle.image_elf.proofs.FaultLemmas.{bad_entry, bad_header, bad_headers, no_fault_at_all, not_elf}
 use Rattle.image_elf.proofs.FlatLemmas.{is_flat_image}
 use Rattle.image_elf.proofs.flattening.flatten.Goals as goal
