@@ -1,0 +1,9 @@
+pub mod FieldLemmas
+pub mod RangeLemmas
+pub mod LoadLemmas
+pub mod FaultLemmas
+pub mod CaseLemmas
+pub mod FlatLemmas
+pub mod FillLemmas
+pub mod LawLemmas
+pub mod CellLemmas
