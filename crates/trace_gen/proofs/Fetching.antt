@@ -13,7 +13,7 @@ use Rattle.rv_decode.specs.Words.{encoding}
 use Rattle.rv_decode.proofs.RoundTrip.{back}
 use Rattle.trace_gen.specs.declared.shape.Shape.{Shape}
 use Rattle.trace_gen.specs.Laws.{Fetches}
-use Rattle.trace_gen.specs.Programs.{program, instruction_bytes, generated, takes}
+use Rattle.trace_gen.specs.Programs.{program, instruction_bytes, takes}
 use Rattle.trace_gen.proofs.FitLemmas.{program_fits}
 use Rattle.trace_gen.proofs.Lengths.{bytes_length}
 use Rattle.trace_gen.proofs.WordBounds.{word_below}

@@ -6,7 +6,7 @@ use Rattle.trace_gen.specs.declared.shape.Shape.{Shape}
 use Rattle.trace_gen.specs.declared.shape.Shape.TheVariants.{Mix, Lock}
 use Rattle.trace_gen.specs.Laws.{Sized}
 use Rattle.trace_gen.specs.Programs.{repeated, lock_setup, lock_round, mixed, mix_word}
-use Rattle.trace_gen.specs.Programs.{mix_round, program, instruction_bytes, generated, image_length}
+use Rattle.trace_gen.specs.Programs.{mix_round, program, instruction_bytes, image_length}
 
 pub mix_round_length : (number : ℕ) → length (mix_round number) ≡ 256
 unfolding mix_round
