@@ -1,0 +1,5 @@
+pub mod Fetching
+pub mod FitLemmas
+pub mod Lengths
+pub mod MixLemmas
+pub mod WordBounds
