@@ -1,14 +1,13 @@
 -- Words on sets of cores. Above this crate they are opaque, and known by the laws of `core_set_laws` alone; the width
--- of a
--- set stands here and in the type's one field.
+-- of a set stands here and in the type's one field.
 use Rattle.std.specs.Prelude.{ℕ, Bool, ◌==◌, ◌*◌, ◌%◌, ◌^◌, bit_and, bit_or, nat_lt}
-use Rattle.std.specs.Int.{Width, bit_at, bit_not, w8}
+use Rattle.std.specs.Int.{Width, bit_at, bit_not, w16}
 use Rattle.rtr_types.specs.declared.TheConstants.{CORES_MAX}
 use Rattle.rtr_types.specs.declared.core_set.CoreSet.{CoreSet}
 
 -- one bit for each core that there may be
 abbrev pub set_width : Width
-set_width = w8
+set_width = w16
 
 abbrev pub no_cores : CoreSet
 no_cores = record { bits = 0 }

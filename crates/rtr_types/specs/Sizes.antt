@@ -1,15 +1,18 @@
 -- The sizes that users and formats see, as numbers. `sizes_law` ties the code's constants, which all definitions cite,
--- to
--- these.
+-- to these.
 use Rattle.std.specs.Prelude.{ℕ}
 
 -- the greatest number of cores of a machine, and so of places of a link from or to the home
 abbrev pub cores_max : ℕ
-cores_max = 8
+cores_max = 16
 
 -- the greatest number of instructions that a core may be given
 abbrev pub limit_max : ℕ
-limit_max = 100000
+limit_max = 1000000
+
+-- the greatest number of instructions that all cores together may be given
+abbrev pub instructions_max : ℕ
+instructions_max = 4000000
 
 -- the words of the smallest memory and of the largest
 abbrev pub words_min : ℕ

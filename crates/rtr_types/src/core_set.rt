@@ -8,7 +8,7 @@ use crate::CORES_MAX;
 /// A set of cores: bit `k` of `bits` is set where core `k` is in it.
 #[derive(Clone, Copy, Debug, Default, PartialEq, Eq)]
 pub struct CoreSet {
-    pub bits: u8,
+    pub bits: u16,
 }
 
 impl CoreSet {

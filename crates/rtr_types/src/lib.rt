@@ -16,11 +16,11 @@ pub use cut::Cut;
 pub use instr::{Edge, Instr};
 pub use items::Items;
 pub use pairs::{Which, pair_at, pair_count, pair_laws, pair_of};
-pub use params::{LIMIT_MAX, Params, WORDS_MAX, WORDS_MIN, sizes_law};
+pub use params::{INSTRUCTIONS_MAX, LIMIT_MAX, Params, WORDS_MAX, WORDS_MIN, sizes_law};
 
 /// The greatest number of cores of a machine. Every array, capacity and inline size that counts
 /// cores is written with it.
-pub const CORES_MAX: u8 = 8;
+pub const CORES_MAX: u8 = 16;
 
 /// How many words a block has: what caches, home and messages hold and move at once. A word's block is
 /// `word / BLOCK_WORDS`, its slot in the block is `word % BLOCK_WORDS`.
