@@ -42,13 +42,15 @@ const ACCESSES: usize = 144;
 /// The most steps of a run: (2 * 8 + 4) for each of the 30 instructions of each core.
 const STEPS: u32 = 4800;
 
-const PARAMS: Params = Params {
+/// All cores, few instructions, and 128 words.
+pub const PARAMS: Params = Params {
     cores: CORES_MAX,
     limit: 100,
     words: 128,
 };
 
-static SEEDS: [u64; 3] = [1, 20_261_127, u64::MAX];
+/// The generator's states at the beginning of the runs.
+pub static SEEDS: [u64; 3] = [1, 20_261_127, u64::MAX];
 
 /// Holds the access that it was told of last. It accepts each instruction.
 #[derive(Drop)]
@@ -71,7 +73,7 @@ impl<R: Rider, K: Carry> Clerk<R, K> for Keeper {
 }
 
 /// The image of the code.
-fn image(alloc: Global) -> Result<Image, Fail>
+pub fn image(alloc: Global) -> Result<Image, Fail>
     ensures { IfOk result (λ image. image.words ≡ 128) }
 {
     let mut bytes = Vec::new(alloc);

@@ -58,11 +58,11 @@ recording_valid_law image params schedule fits words room =
     let w : Standing = standing_at image params schedule t in
     let h = (stands_at image params schedule fits t (omega arith)).records in
     let ends = run_ends image params choices (record { cores = fits.cores; limit = omega (arith, fits.limit) }) in
-    let done : all_done w.state ≡ true = plain_done w.state ∙ ap all_done h.run.state ∙ ends.done in
-    let same : w.state.image ≡ image = ap (λ (u : PlainState). u.image) h.run.state ∙ run_image image params choices t in
+    let done : all_done w.state ≡ true = plain_done w.state ∙ ap all_done h.notes.run.state ∙ ends.done in
+    let same : w.state.image ≡ image = ap (λ (u : PlainState). u.image) h.notes.run.state ∙ run_image image params choices t in
     let at = ended image params schedule t w.state w.clerk w.rest fits done h in
-    subst Valid (recording_is image params schedule w.state w.clerk same at)
-    (recording_valid image params schedule w.state w.clerk same at fits words room)
+    subst Valid (recording_is image params schedule w.state w.clerk fits same at)
+    (recording_valid image params schedule w.state w.clerk fits same at words room)
 
 pub recorded_law : RecordedLaw
 recorded_law image params schedule fits words room =
