@@ -11,7 +11,7 @@ use Rattle.std.proofs.lemmas.List.Sums.{sum_by-cons}
 use Rattle.access_times.specs.Riding.{Riding, Carrying, none_riding, none_carrying}
 use Rattle.image_mem.specs.Contents.{Contents}
 use Rattle.rtr_types.specs.declared.TheConstants.{CORES_MAX}
-use Rattle.rtr_types.specs.declared.params.TheConstants.{LIMIT_MAX}
+use Rattle.rtr_types.specs.declared.params.TheConstants.{INSTRUCTIONS_MAX}
 use Rattle.rtr_types.specs.declared.params.Params.{Params}
 use Rattle.rtr_types.specs.Parameters.{Fits}
 use Rattle.rv_core.specs.Steps.{need, is_done}
@@ -236,8 +236,7 @@ left_until_end image params choices t fits le = left_within image params choices
 
 pub most_steps_few : (params : Params) → Fits params → most_steps params < 2 ^ 32
 most_steps_few params fits =
-    let instructions : params.cores * params.limit ≤ CORES_MAX * LIMIT_MAX = mul-le params.cores params.limit CORES_MAX LIMIT_MAX fits.cores fits.limit in
-    let steps : most_steps params ≤ (2 * CORES_MAX + 4) * (CORES_MAX * LIMIT_MAX) =
-    mul-le (2 * params.cores + 4) (params.cores * params.limit) (2 * CORES_MAX + 4) (CORES_MAX * LIMIT_MAX) (let few = fits.cores in
-    omega arith) instructions in
+    let few = fits.cores in
+    let steps : most_steps params ≤ (2 * CORES_MAX + 4) * INSTRUCTIONS_MAX =
+    mul-le (2 * params.cores + 4) (params.cores * params.limit) (2 * CORES_MAX + 4) INSTRUCTIONS_MAX (omega arith) fits.instructions in
     omega arith

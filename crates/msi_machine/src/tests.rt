@@ -1,10 +1,10 @@
-//! Two cores that write one word, over any choices.
+//! Cores that write one word, over any choices.
 ghost use Rattle.std.specs.Prelude.{◌≡◌, length};
 
 use crate::Machine;
 use access_times::{Carry, Clerk, NoCarry, NoRider, Rider};
 use image_mem::Image;
-use rtr_types::{Access, Instr, Params};
+use rtr_types::{Access, CORES_MAX, Instr, Params};
 use std::alloc::Global;
 use std::test::Fail;
 
@@ -123,6 +123,29 @@ fn two_writes_take_their_steps_and_a_choice_decides_which_is_last(
         let wanted = (run.steps, run.retired, run.word);
         assert_eq!(rt; written(rt.alloc(), run)?, wanted);
     }
+    Ok(())
+}
+
+// Each core adds its number and one: the numbers from 1 to 16, which make 136.
+#[test]
+fn every_core_that_there_may_be_adds_to_one_word(rt: HostRuntime) -> Result<(), Fail> {
+    let image = Image::flat(SUM.to_vec(rt.alloc())?, 16)?;
+    let params = Params {
+        cores: CORES_MAX,
+        limit: 10,
+        words: 16,
+    };
+    let mut machine = Machine::<NoRider, NoCarry>::new(rt.alloc(), image, params)?;
+    let mut clerk = Counter { told: 0 };
+    for choice in 0..1_000 {
+        machine.make_room()?;
+        if !machine.done() && machine.has_room() {
+            let _ = machine.step(choice, &mut clerk);
+        }
+    }
+    assert!(rt; machine.done());
+    assert_eq!(rt; clerk.told, 64);
+    assert_eq!(rt; machine.final_word(8), 136);
     Ok(())
 }
 

@@ -1,5 +1,5 @@
 -- What is known in a run, as its own history holds it.
-use Rattle.std.proofs.Common.{◌≡◌, ◌∙◌, refl, sym, ap, subst, ℕ, zero, suc, ◌+◌, ◌<◌, ◌≤◌, ◌^◌, false, ◌⊎◌, inl, inr, List, [], ◌∷◌, length, Option, Some, None, arith}
+use Rattle.std.proofs.Common.{◌≡◌, ◌∙◌, refl, sym, ap, subst, ℕ, zero, suc, ◌+◌, ◌<◌, ◌≤◌, ◌^◌, ◌↔◌, false, ◌⊎◌, inl, inr, List, [], ◌∷◌, length, Option, Some, None, arith}
 use Rattle.std.proofs.lemmas.List.{length-map}
 use Rattle.access_times.specs.Riding.{none_carrying, none_riding}
 use Rattle.image_mem.specs.Contents.{Contents}
@@ -30,7 +30,7 @@ use Rattle.regulated_log.specs.Happened.{retirements}
 use Rattle.regulated_log.specs.Logs.{IsPast}
 use Rattle.run_outcome.proofs.Fitting.{run_cores}
 use Rattle.recorder.specs.Recordings.{run_knowledge, run_notes}
-use Rattle.recorder.specs.WhatIsKnown.{CountsKnown, HasRetired}
+use Rattle.recorder.specs.WhatIsKnown.{CountsKnown, HasRetired, KnownCountedLaw}
 
 -- where there are moves a choice takes one
 pub none_chosen : (ms : List Move) (choice : ℕ) → chosen_of ms choice ≡ None → 0 < length ms → ⊥
@@ -53,7 +53,7 @@ module _ (image : Contents) (params : Params) (schedule : Choices) (fits : Fits 
   -- the history of the run goes on until it ends
   pub knows_run : (t : ℕ) → t ≤ last → KnowsRun image params choices fits.cores t
   knows_run zero le = run_known_start image params choices fits.cores
-  knows_run (suc t) le = by (chosen (run image params choices t) (choices t)) refl
+  knows_run (suc t) le = by (chosen (run image params choices t) (choices t)) refl (knows_run t (omega (arith, le)))
     where
       going : all_done (run image params choices t) ≡ false
       going = (run_ends image params choices (record { cores = fits.cores; limit = small })).first t (omega (arith, le))
@@ -61,9 +61,10 @@ module _ (image : Contents) (params : Params) (schedule : Choices) (fits : Fits 
       some : 0 < length (plain_moves (run image params choices t))
       some = some_move none_riding none_carrying (run image params choices t) (sound_run image params choices t fits.cores small) going
 
-      by : (o : Option Move) → chosen (run image params choices t) (choices t) ≡ o → KnowsRun image params choices fits.cores (suc t)
-      by None is = absurd (none_chosen (plain_moves (run image params choices t)) (choices t) is some)
-      by (Some m) is = run_known_next image params choices fits.cores t m is (knows_run t (omega (arith, le)))
+      by : (o : Option Move) → chosen (run image params choices t) (choices t) ≡ o → KnowsRun image params choices fits.cores t →
+          KnowsRun image params choices fits.cores (suc t)
+      by None is h = absurd (none_chosen (plain_moves (run image params choices t)) (choices t) is some)
+      by (Some m) is h = run_known_next image params choices fits.cores t m is h
 
   pub long : (t : ℕ) → length (carrying_at image params choices t).nodes ≡ params.cores
   long t =
@@ -128,3 +129,7 @@ module _ (image : Contents) (params : Params) (schedule : Choices) (fits : Fits 
   run_past =
       history_past_law events last params.cores (run_notes image params schedule) fits.cores (run_orderly_law image params choices fits.cores)
       run_history.noted run_history.knows
+
+pub known_counted : KnownCountedLaw
+known_counted image params schedule fits =
+    counts_known image params schedule fits (run_notes image params schedule) (run_history image params schedule fits)

@@ -57,12 +57,12 @@ use Rattle.replay_core.specs.Plans.{plan_of}
 use Rattle.run_outcome.proofs.Fitting.{run_fits_law}
 use Rattle.run_outcome.proofs.Turns.{outcome_is, stands_end}
 use Rattle.run_outcome.specs.Outcomes.{RunFits, outcome_of}
-use Rattle.recorder.proofs.KnownRuns.{counts_known, known_same, run_history, run_past}
+use Rattle.recorder.proofs.KnownRuns.{counts_known, known_counted, known_same, run_past}
 use Rattle.recorder.proofs.Regulating.{counts_noted, edges_noted}
 use Rattle.recorder.proofs.LeastLists.{least_lists_law, reduced_lists}
 use Rattle.recorder.specs.Clerks.{Noted}
 use Rattle.recorder.specs.LeastLists.{AreOf, least_lists}
-use Rattle.recorder.specs.Recordings.{run_accesses, run_knowledge, run_notes, outcome_left, recording_from, recording_of}
+use Rattle.recorder.specs.Recordings.{run_accesses, run_knowledge, outcome_left, recording_from, recording_of}
 use Rattle.recorder.specs.WhatIsKnown.{CountsKnown}
 use Rattle.recorder.specs.Standing.{NotesAt, RecordsAt, Regulates}
 
@@ -235,7 +235,7 @@ module _ (image : Contents) (params : Params) (schedule : Choices) (s : State Ti
   -- so those by what is known in the run
   vectors_are : c.regulation.vectors ≡ regulated params.cores (run_knowledge image params schedule) c.reduction.state.lists
   vectors_are =
-      vectors_by run_known (counts_known image params schedule fits (run_notes image params schedule) (run_history image params schedule fits))
+      vectors_by run_known (known_counted image params schedule fits)
 
   -- the recording is the one that the definition names
   pub recording_is : recording_left params s c ≡ recording_of image params schedule

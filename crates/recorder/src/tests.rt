@@ -193,6 +193,9 @@ fn strides_stand_for_edges_that_are_known(rt: HostRuntime) -> Result<(), Fail> {
         sb: 1,
     };
     assert_eq!(rt; edges_at(&unknown.recording, 0), edges.as_slice());
-    assert_eq!(rt; vectors_at(&unknown.recording, 0), [short, one_edge(5, 7)].as_slice());
+    assert_eq!(rt;
+        vectors_at(&unknown.recording, 0),
+        [short, one_edge(5, 7)].as_slice()
+    );
     Ok(())
 }

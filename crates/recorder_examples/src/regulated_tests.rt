@@ -164,7 +164,11 @@ fn the_vectors_are_those_of_the_definition(rt: HostRuntime) -> Result<(), Fail> 
                 let pair = pair_of(CORES_MAX, place);
                 let (wanted, count) = slow(alloc, &rows, pair, edges.as_slice())?;
                 let found = positions_of(alloc, vectors.as_slice())?;
-                assert_eq!(rt; found.as_slice(), wanted.as_slice(), "seed {seed} pair {place}");
+                assert_eq!(rt;
+                    found.as_slice(),
+                    wanted.as_slice(),
+                    "seed {seed} pair {place}"
+                );
                 assert_eq!(rt; vectors.len() as u64, count, "seed {seed} pair {place}");
                 saved = saved.saturating_add((edges.len() as u64).saturating_sub(count));
             }

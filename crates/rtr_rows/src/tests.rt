@@ -88,8 +88,16 @@ fn each_recording_replays_its_run(rt: HostRuntime) -> Result<(), Fail> {
         for replays in ["replay --loads", "replay --log regulated --loads"] {
             let replay = ask(alloc, replays, recording_of(alloc, row)?)?;
             assert_eq!(rt; replay.status, 0, "{replays}: {words}");
-            assert_eq!(rt; replay.output.as_slice(), run.output.as_slice(), "{replays}: {words}");
-            assert_eq!(rt; replay.report.as_slice(), b"".as_slice(), "{replays}: {words}");
+            assert_eq!(rt;
+                replay.output.as_slice(),
+                run.output.as_slice(),
+                "{replays}: {words}"
+            );
+            assert_eq!(rt;
+                replay.report.as_slice(),
+                b"".as_slice(),
+                "{replays}: {words}"
+            );
         }
     }
     Ok(())
