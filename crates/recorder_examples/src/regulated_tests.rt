@@ -1,6 +1,6 @@
 //! Runs of all cores, whose recorded vectors are those of a slow program, which is written from the
 //! definition over what is known at each retirement.
-use crate::least_tests::{PARAMS, SEEDS, image};
+use crate::least_tests::{PARAMS, SEEDS, STEPS, image};
 use access_times::{Clerk, NoRider, Rider};
 use know_history::Known;
 use msi_machine::Machine;
@@ -10,9 +10,6 @@ use schedule_pick::Schedule;
 use std::alloc::{AllocError, Global};
 use std::test::Fail;
 use stride_vector::StrideVector;
-
-/// The most steps of a run: (2 P + 4) for each of the 30 instructions of each core, P the number of cores.
-const STEPS: u32 = (2 * CORES_MAX as u32 + 4) * 30 * CORES_MAX as u32;
 
 /// Holds the instruction that it was told of last, with what is known at it. It accepts each instruction.
 #[derive(Drop)]
@@ -74,7 +71,7 @@ fn next_position(positions: &[(u64, u64)]) -> Option<(u64, u64)> {
 
 /// What the open vector, with these positions, does with the next edge: it takes it with a further position
 /// or with none, or does not take it.
-enum Taking {
+enum Answer {
     Adds((u64, u64)),
     Covers,
     Ends,
@@ -85,24 +82,24 @@ fn taking(
     pair: (u8, u8),
     positions: &[(u64, u64)],
     edge: (u64, u64),
-) -> Taking {
+) -> Answer {
     for position in positions {
         if position.0 >= edge.0 {
-            return Taking::Covers;
+            return Answer::Covers;
         }
     }
     let Some(next) = next_position(positions) else {
         return if positions.is_empty() {
-            Taking::Ends
+            Answer::Ends
         } else {
-            Taking::Adds(edge)
+            Answer::Adds(edge)
         };
     };
     let implies = next.0 >= edge.0 && next.1 <= edge.1;
     if implies && is_known(rows, (pair.0, next.0), (pair.1, next.1)) {
-        Taking::Adds(next)
+        Answer::Adds(next)
     } else {
-        Taking::Ends
+        Answer::Ends
     }
 }
 
@@ -119,12 +116,12 @@ fn slow(
     for (from, to) in edges {
         let edge = (*from as u64, *to as u64);
         match taking(rows, pair, &open, edge) {
-            Taking::Adds(position) => {
+            Answer::Adds(position) => {
                 open.push(position)?;
                 all.push(position)?;
             }
-            Taking::Covers => {}
-            Taking::Ends => {
+            Answer::Covers => {}
+            Answer::Ends => {
                 open.clear();
                 open.push(edge)?;
                 all.push(edge)?;
