@@ -2,11 +2,11 @@
 use Rattle.std.proofs.Common.{◌≡◌, ◌≢◌, ℕ, ◌<◌, ◌≤◌, ◌⊎◌, Bool, cond, List, [], ◌∷◌, ◌++◌, length, get_or, replicate, refl, sym, ap, subst, ◌∙◌, inl, inr}
 use Rattle.std.proofs.Common.{arith}
 use Rattle.std.specs.Prelude.{slice_set, slice_index_or, nat_le}
-use Rattle.std.specs.List.{range_with_len}
+use Rattle.std.specs.List.{AllByRecursion, range_with_len}
 use Rattle.std.proofs.lemmas.List.{same_lists, length-map, length-set, length-replicate, get_or-set_same, get_or-set_other, get_or-replicate, get_or_default}
 use Rattle.std.proofs.lemmas.List.FromFn.{get_or-map-range_with_len, length-range_with_len}
 use Rattle.rtr_types.specs.Pairs.{IsPair, pair_count, pair_place, source_at, target_at}
-use Rattle.rtr_types.proofs.PairPlaces.{pairs-placed}
+use Rattle.rtr_types.proofs.PairPlaces.{pairs-placed, places-paired}
 use Rattle.rtr_types.specs.declared.instr.Edge.{Edge}
 use Rattle.stride_vector.specs.declared.StrideVector.{StrideVector}
 use Rattle.know_history.specs.Notes.{Notes, known_at, noted_count}
@@ -69,10 +69,23 @@ end_law notes edges s kept = kept.vectors (known_at notes) (λ core count of oth
 pub up_to_law : UpToLaw
 up_to_law cores known others edges most agree within =
     regulated_is cores others edges (regulated cores known edges) (length-regulated cores known edges)
-    (λ place below. regulated_at cores known edges place [] below
+    (λ place below. let pair = (places-paired cores place below).0 in
+    regulated_at cores known edges place [] below
     ∙ greedy_agree (knows_by known (source_at cores place) (target_at cores place)) (knows_by others (source_at cores place) (target_at cores place))
     (most (target_at cores place)) (slice_index_or edges place [])
-    (λ a b le. ap (λ (n : ℕ). nat_le a n) (agree (target_at cores place) b (source_at cores place) le)) (within place below))
+    (λ a b le. ap (λ (n : ℕ). nat_le a n) (agree (target_at cores place) b (source_at cores place) pair le)) (within place below))
+
+-- the vectors of edges that were all noted are a regulation of them
+pub regulation_is : (notes : Notes) (edges : List (List (ℕ × ℕ))) (s : Regulation) → length edges ≡ pair_count s.cores →
+    ((place : ℕ) → place < pair_count s.cores →
+    AllByRecursion (λ (e : ℕ × ℕ). e.1 ≤ noted_count notes (target_at s.cores place)) (slice_index_or edges place [])) →
+    s.vectors ≡ regulated s.cores (known_at notes) edges → IsRegulation notes edges s
+regulation_is notes edges s each within is = record {
+  each = each;
+  vectors = λ known extends.
+      is ∙ up_to_law s.cores (known_at notes) known edges (noted_count notes)
+      (λ core count other pair le. sym (extends core count other pair.differ le)) within;
+}
 
 -- ---- one edge more
 

@@ -48,10 +48,10 @@ abbrev pub EndLaw : Type 0
 EndLaw = (notes : Notes) (edges : List (List (ℕ × ℕ))) (s : Regulation) → IsRegulation notes edges s →
     s.vectors ≡ regulated s.cores (known_at notes) edges
 
--- The vectors depend on what is known up to the edges' targets alone.
+-- The vectors depend on what is known of each pair's source, up to the edges' targets, alone.
 abbrev pub UpToLaw : Type 0
 UpToLaw = (cores : ℕ) (known others : Knowledge) (edges : List (List (ℕ × ℕ))) (most : ℕ → ℕ) →
-    ((core count of : ℕ) → count ≤ most core → known core count of ≡ others core count of) →
+    ((core count of : ℕ) → IsPair cores of core → count ≤ most core → known core count of ≡ others core count of) →
     ((place : ℕ) → place < pair_count cores →
     AllByRecursion (λ e. e.1 ≤ most (target_at cores place)) (slice_index_or edges place [])) →
     regulated cores known edges ≡ regulated cores others edges

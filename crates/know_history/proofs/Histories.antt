@@ -24,7 +24,7 @@ history_start_law event h cores is x y some noted place other pos =
     ≡ length (slice_index_or {A = List Clock} (replicate cores []) y.core []) = ap (λ (lists : Notes). length (slice_index_or lists y.core [])) is in
     let none = none_noted cores y.core in omega arith)
 
-none_before : (h : Notes) (core of : ℕ) → known_at h core 0 «of» ≤ 0
+pub none_before : (h : Notes) (core of : ℕ) → known_at h core 0 «of» ≤ 0
 none_before h core «of» = zero_at CORES_MAX «of»
 
 pub history_law : HistoryLaw

@@ -24,23 +24,12 @@ other_cores : (n : ℕ) (a : Access) (t : Times) → All (λ (s : Source). (s.at
 other_cores n a t = all_from_one (λ (s : Source). (s.at.core < n) × (s.at.core ≢ a.at.core)) (candidates n a t) (λ s one. let q = one_noted n a t s one in
     (q.0, q.1.other))
 
-pub cores_fit : (n : ℕ) (a : Access) (t : Times) (found : List Source) → n ≤ CORES_MAX → found ≡ candidates n a t →
-    All (λ (s : Source). s.at.core < CORES_MAX) found
-cores_fit n a t found few is =
-    All-same (λ (s : Source). s.at.core < CORES_MAX) found (candidates n a t) is
-    (All-weaker (λ (s : Source). (s.at.core < n) × (s.at.core ≢ a.at.core)) (λ (s : Source). s.at.core < CORES_MAX) (λ s q. let lt =
-    q.0 in omega arith) (candidates n a t) (other_cores n a t))
-
 pub sources_pair : (m n : ℕ) (a : Access) (t : Times) (found : List Source) → m ≡ n → a.at.core < n → found ≡ candidates n a t →
     All (λ (s : Source). IsPair m s.at.core a.at.core) found
 sources_pair m n a t found same lt is =
     All-same (λ (s : Source). IsPair m s.at.core a.at.core) found (candidates n a t) is
     (All-weaker (λ (s : Source). (s.at.core < n) × (s.at.core ≢ a.at.core)) (λ (s : Source). IsPair m s.at.core a.at.core)
     (λ s q. (let below = q.0 in record { source = omega arith; target = omega arith; differ = q.1 })) (candidates n a t) (other_cores n a t))
-
-pub no_edges : (n : ℕ) (r : Reduced) (a : Access) (t : Times) → n ≡ r.cores → candidates n a t ≡ [] → [] ≡ edges_of r a t
-unfolding edges_into
-no_edges n r a t same none = ap (edges_into a.at (clock_of r a.at.core)) (sym none ∙ ap (λ (k : ℕ). candidates k a t) same)
 
 -- ---- the state after
 

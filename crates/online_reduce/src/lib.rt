@@ -1,6 +1,7 @@
 //! The reduced log, made while the run goes on: each access gets the edges that nothing else implies.
 #![tactic(auto)]
 
+mod edge_list;
 pub mod laws;
 mod pair_list;
 mod pair_lists;
@@ -10,9 +11,9 @@ mod source;
 #[cfg(test)]
 mod tests;
 
+pub use edge_list::EdgeList;
 pub use reducer::Reducer;
 use rtr_types::CORES_MAX;
-pub use rule::EdgeList;
 
 /// The most edges that one access gets, as it has no more candidates: the last write of its word and
 /// each core's last read since.

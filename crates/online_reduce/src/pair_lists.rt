@@ -6,11 +6,12 @@ ghost use Rattle.online_reduce.specs.Lists.{with_edges};
 ghost use Rattle.online_reduce.specs.Rule.{edges_into};
 ghost use Rattle.online_reduce.specs.declared.TheConstants.{EDGES_MAX};
 
+use crate::edge_list::EdgeList;
 use crate::pair_list::PairList;
 use crate::rule::is_kept;
 use crate::source::Source;
 use clock_core::Clock;
-use rtr_types::{Instr, Items, pair_at, pair_count};
+use rtr_types::{Edge, Instr, Items, pair_at, pair_count};
 use std::alloc::{AllocError, Global};
 use std::marker::Model;
 
@@ -91,17 +92,30 @@ impl PairLists {
     }
 
     /// Puts the edges into an instruction, those from the candidates that are kept, at the ends of
-    /// their pairs' lists.
-    pub(crate) fn add(&mut self, cores: u8, at: Instr, before: &Clock, found: &[Source])
+    /// their pairs' lists, and answers them in the list that is lent, in place of what it had.
+    pub(crate) fn add(
+        &mut self,
+        cores: u8,
+        at: Instr,
+        before: &Clock,
+        found: &[Source],
+        edges: &mut EdgeList,
+    )
         requires cores { cores ≤ CORES_MAX }
         requires room { IsTrue self.old.roomy }
         requires few { length found.now ≤ EDGES_MAX }
         requires pairs { All (λ s. IsPair cores s.at.core at.core) found.now }
         requires lists { length self.old.lists ≡ pair_count cores }
-        ensures { self.new.lists ≡ with_edges cores self.old.lists (edges_into at before.now found.now) }
+        ensures lists { self.new.lists ≡ with_edges cores self.old.lists (edges_into at before.now found.now) }
+        ensures edges { edges.new ≡ edges_into at before.now found.now }
     {
+        edges.clear();
         for source in found {
             if is_kept(before, found, source.at) {
+                edges.push(Edge {
+                    from: source.at,
+                    to: at,
+                });
                 let place = pair_at(cores, source.at.core, at.core);
                 let roomy = self.lists[place].push(source.at.count, at.count);
                 self.known_roomy &= roomy;

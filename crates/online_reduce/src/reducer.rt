@@ -7,13 +7,13 @@ ghost use Rattle.rtr_types.specs.Accesses.{is_write};
 ghost use Rattle.access_times.specs.Times.{times_noted};
 ghost use Rattle.conflict_edge.specs.Times.{IsExactClock};
 
+use crate::edge_list::EdgeList;
 use crate::pair_lists::PairLists;
-use crate::rule::{EdgeList, clock_into, edges_into, note};
+use crate::rule::{clock_into, note};
 use crate::source::{Source, Sources, is_alone, is_of_other, list_candidates, slot_of};
 use access_times::Times;
 use clock_core::Clock;
 use rtr_types::{Access, CORES_MAX, Instr, Items};
-use smallvec::SmallVec;
 use std::alloc::{AllocError, Global};
 use std::marker::Model;
 
@@ -25,7 +25,6 @@ const PLACES: usize = CORES_MAX as usize;
 /// more retirement needs no memory.
 #[derive(Drop)]
 pub struct Reducer {
-    alloc: Global,
     cores: u8,
     clocks: [Clock; PLACES],
     pairs: PairLists,
@@ -62,7 +61,6 @@ impl Reducer {
     {
         let pairs = PairLists::new(alloc, cores)?;
         Ok(Reducer {
-            alloc,
             cores,
             clocks: [Clock::zero(); PLACES],
             pairs,
@@ -109,75 +107,39 @@ impl Reducer {
         self.clocks[at.core as usize] = clock;
     }
 
-    /// The core's next instruction retired with the access. Answers the new edges by rising source core,
-    /// puts them into the pairs' lists, and notes the access in the times of its block.
-    pub fn retire(&mut self, access: &Access, times: &mut Times) -> EdgeList
+    /// The core's next instruction retired with the access. Puts the new edges into the pairs' lists, and
+    /// notes the access in the times of its block. Answers the edges, by rising source core, in the list
+    /// that is lent, in place of what it had.
+    pub fn retire(&mut self, access: &Access, times: &mut Times, edges: &mut EdgeList)
         requires ready { IsTrue self.old.ready }
         requires next { IsNext self.old.state access.now.at }
-        ensures edges { result.items ≡ edges_of self.old.state access.now times.old }
+        ensures edges { edges.new ≡ edges_of self.old.state access.now times.old }
         ensures state { self.new.state ≡ retired self.old.state access.now times.old }
         ensures times { times.new ≡ times_noted access.now times.old (clock_of self.new.state access.now.at.core) }
         ensures held { IsHeld access.now times.new (clock_of self.new.state access.now.at.core) }
         ensures clock { (list : List Access) → IsExact list self.old.state → AreExactFor list access.now times.old →
             IsExactClock (list ++ access.now ∷ []) access.now.at (clock_of self.new.state access.now.at.core) }
         ensures covering { (list : List Access) → IsExact list self.old.state → AreExactFor list access.now times.old →
-            AreCoveringInto (list ++ access.now ∷ []) access.now.at result.items }
+            AreCoveringInto (list ++ access.now ∷ []) access.now.at edges.new }
         ensures exact { (list : List Access) → IsExact list self.old.state → AreExactFor list access.now times.old →
             IsExact (list ++ access.now ∷ []) self.new.state }
-        ensures reduction { (list : List Access) (edges : List Edge) →
-            IsReduction list self.old.state edges → AreExactFor list access.now times.old →
-            IsReduction (list ++ access.now ∷ []) self.new.state (edges ++ result.items) }
-    {
-        let edges = self.edges(access, times);
-        self.touch(access, times);
-        edges
-    }
-
-    /// The same without an answer, at less cost, for a caller that takes the edges from the lists at the
-    /// end.
-    pub fn touch(&mut self, access: &Access, times: &mut Times)
-        requires ready { IsTrue self.old.ready }
-        requires next { IsNext self.old.state access.now.at }
-        ensures state { self.new.state ≡ retired self.old.state access.now times.old }
-        ensures times { times.new ≡ times_noted access.now times.old (clock_of self.new.state access.now.at.core) }
-        ensures held { IsHeld access.now times.new (clock_of self.new.state access.now.at.core) }
-        ensures clock { (list : List Access) → IsExact list self.old.state → AreExactFor list access.now times.old →
-            IsExactClock (list ++ access.now ∷ []) access.now.at (clock_of self.new.state access.now.at.core) }
-        ensures covering { (list : List Access) → IsExact list self.old.state → AreExactFor list access.now times.old →
-            AreCoveringInto (list ++ access.now ∷ []) access.now.at (edges_of self.old.state access.now times.old) }
-        ensures exact { (list : List Access) → IsExact list self.old.state → AreExactFor list access.now times.old →
-            IsExact (list ++ access.now ∷ []) self.new.state }
-        ensures reduction { (list : List Access) (edges : List Edge) →
-            IsReduction list self.old.state edges → AreExactFor list access.now times.old →
-            IsReduction (list ++ access.now ∷ []) self.new.state
-            (edges ++ edges_of self.old.state access.now times.old) }
+        ensures reduction { (list : List Access) (edges_before : List Edge) →
+            IsReduction list self.old.state edges_before → AreExactFor list access.now times.old →
+            IsReduction (list ++ access.now ∷ []) self.new.state (edges_before ++ edges.new) }
     {
         if access.kind.is_write() {
-            self.touch_store(access, times);
+            self.retire_write(access, times, edges);
         } else {
-            self.touch_load(access, times);
+            self.retire_load(access, times, edges);
         }
-    }
-
-    /// The edges that the access gets.
-    fn edges(&self, access: &Access, times: &Times) -> EdgeList
-        requires { IsNext self.now.state access.now.at }
-        ensures { result.items ≡ edges_of self.now.state access.now times.now }
-    {
-        if is_alone(self.cores, access, times) {
-            return SmallVec::new(self.alloc);
-        }
-        let mut found = Sources::new();
-        list_candidates(&mut found, self.cores, access, times);
-        let before = &self.clocks[access.at.core as usize];
-        edges_into(self.alloc, access.at, before, found.as_slice())
     }
 
     /// An access that only reads: it has at most one candidate, so that no list of them is made.
-    fn touch_load(&mut self, access: &Access, times: &mut Times)
+    fn retire_load(&mut self, access: &Access, times: &mut Times, edges: &mut EdgeList)
         requires load { is_write access.now.kind ≡ false }
         requires ready { IsTrue self.old.ready }
         requires next { IsNext self.old.state access.now.at }
+        ensures edges { edges.new ≡ edges_of self.old.state access.now times.old }
         ensures state { self.new.state ≡ retired self.old.state access.now times.old }
         ensures times { times.new ≡ times_noted access.now times.old (clock_of self.new.state access.now.at.core) }
         ensures held { IsHeld access.now times.new (clock_of self.new.state access.now.at.core) }
@@ -188,55 +150,58 @@ impl Reducer {
                     at: *at,
                     clock: *clock,
                 }];
-                self.settle(access, &found, times);
+                self.settle(access, &found, times, edges);
                 return;
             }
         }
-        self.settle(access, &[], times);
+        self.settle(access, &[], times, edges);
     }
 
     /// An access that writes, whose candidates are listed only where there may be one.
-    fn touch_store(&mut self, access: &Access, times: &mut Times)
+    fn retire_write(&mut self, access: &Access, times: &mut Times, edges: &mut EdgeList)
         requires ready { IsTrue self.old.ready }
         requires next { IsNext self.old.state access.now.at }
+        ensures edges { edges.new ≡ edges_of self.old.state access.now times.old }
         ensures state { self.new.state ≡ retired self.old.state access.now times.old }
         ensures times { times.new ≡ times_noted access.now times.old (clock_of self.new.state access.now.at.core) }
         ensures held { IsHeld access.now times.new (clock_of self.new.state access.now.at.core) }
     {
         if is_alone(self.cores, access, times) {
-            self.settle(access, &[], times);
+            self.settle(access, &[], times, edges);
         } else {
-            self.touch_listed(access, times);
+            self.retire_listed(access, times, edges);
         }
     }
 
     /// An access whose candidates are listed. It is apart so that a write without candidates makes no
     /// room on the stack for their list.
-    fn touch_listed(&mut self, access: &Access, times: &mut Times)
+    fn retire_listed(&mut self, access: &Access, times: &mut Times, edges: &mut EdgeList)
         requires ready { IsTrue self.old.ready }
         requires next { IsNext self.old.state access.now.at }
+        ensures edges { edges.new ≡ edges_of self.old.state access.now times.old }
         ensures state { self.new.state ≡ retired self.old.state access.now times.old }
         ensures times { times.new ≡ times_noted access.now times.old (clock_of self.new.state access.now.at.core) }
         ensures held { IsHeld access.now times.new (clock_of self.new.state access.now.at.core) }
     {
         let mut found = Sources::new();
         list_candidates(&mut found, self.cores, access, times);
-        self.settle(access, found.as_slice(), times);
+        self.settle(access, found.as_slice(), times, edges);
     }
 
-    /// Puts the access's edges into the pairs' lists, keeps its clock and notes it, once its candidates
-    /// are found.
-    fn settle(&mut self, access: &Access, found: &[Source], times: &mut Times)
+    /// Puts the access's edges into the pairs' lists and answers them, keeps its clock and notes it, once
+    /// its candidates are found.
+    fn settle(&mut self, access: &Access, found: &[Source], times: &mut Times, edges: &mut EdgeList)
         requires ready { IsTrue self.old.ready }
         requires next { IsNext self.old.state access.now.at }
         requires found { found.now ≡ candidates self.old.state.cores access.now times.old }
+        ensures edges { edges.new ≡ edges_of self.old.state access.now times.old }
         ensures state { self.new.state ≡ retired self.old.state access.now times.old }
         ensures times { times.new ≡ times_noted access.now times.old (clock_of self.new.state access.now.at.core) }
         ensures held { IsHeld access.now times.new (clock_of self.new.state access.now.at.core) }
     {
         let at = access.at;
         let before = self.clocks[at.core as usize];
-        self.pairs.add(self.cores, at, &before, found);
+        self.pairs.add(self.cores, at, &before, found, edges);
         let clock = clock_into(at, before, found);
         self.clocks[at.core as usize] = clock;
         note(access, clock, times);

@@ -1,22 +1,15 @@
 //! Which candidates become edges, and what the new clock is.
-ghost use Rattle.std.specs.Prelude.{◌≡◌, ℕ, ◌<◌, ◌≤◌, All, length};
+ghost use Rattle.std.specs.Prelude.{◌≡◌, ◌<◌};
 ghost use Rattle.rtr_types.specs.declared.TheConstants.{CORES_MAX};
 ghost use Rattle.access_times.specs.declared.times.Times.{Times};
 ghost use Rattle.access_times.specs.Times.{times_noted};
-ghost use Rattle.online_reduce.specs.Rule.{clock_into, edges_into, is_kept, lets_pass};
-ghost use Rattle.online_reduce.specs.declared.TheConstants.{EDGES_MAX};
+ghost use Rattle.online_reduce.specs.Rule.{clock_into, is_kept, lets_pass};
 ghost use Rattle.online_reduce.specs.declared.source.Source.{Source};
 
-use crate::EDGES_MAX;
 use crate::source::{Source, slot_of};
 use access_times::Times;
 use clock_core::Clock;
-use rtr_types::{Access, Edge, Instr};
-use smallvec::SmallVec;
-use std::alloc::Global;
-
-/// The edges into one access. The list never allocates.
-pub type EdgeList = SmallVec<Edge, EDGES_MAX>;
+use rtr_types::{Access, Instr};
 
 /// Whether the candidate is this instruction, or its clock doesn't know of it.
 fn lets_pass(at: Instr, source: &Source) -> bool
@@ -41,25 +34,6 @@ pub fn is_kept(before: &Clock, found: &[Source], at: Instr) -> bool
         }
     }
     true
-}
-
-/// The edges into an instruction from the candidates that are kept.
-pub fn edges_into(alloc: Global, at: Instr, before: &Clock, found: &[Source]) -> EdgeList
-    requires few { length found.now ≤ EDGES_MAX }
-    requires cores { All (λ s. s.at.core < CORES_MAX) found.now }
-    ensures edges { result.items ≡ edges_into at before.now found.now }
-    ensures few { length result.items ≤ EDGES_MAX }
-{
-    let mut edges = SmallVec::new(alloc);
-    for source in found {
-        if is_kept(before, found, source.at) {
-            edges.push_reserved(Edge {
-                from: source.at,
-                to: at,
-            });
-        }
-    }
-    edges
 }
 
 /// The clock of an instruction, from the one before on its core and those of its candidates.

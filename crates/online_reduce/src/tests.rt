@@ -1,5 +1,5 @@
 //! Short runs, with the times that one block's words have in them.
-use crate::Reducer;
+use crate::{EdgeList, Reducer};
 use access_times::{Rider, Times};
 use conflict_edge::least_of;
 use rtr_types::{Access, CORES_MAX, Edge, Instr, Kind};
@@ -45,12 +45,14 @@ fn reduced(rt: &impl Abort, alloc: Global, list: &[Access]) -> Result<(Vec<Edge>
     let mut reducer = Reducer::new(alloc, 3)?;
     let mut times = Times::fresh();
     let mut edges = Vec::new(alloc);
+    let mut new = EdgeList::new();
     for access in list {
         let core = access.at.core;
         assert!(rt; core < 3);
         assert!(rt; reducer.clock(core).get(core) as u64 + 1 == access.at.count as u64);
         reducer.ready()?;
-        for edge in reducer.retire(access, &mut times).as_slice() {
+        reducer.retire(access, &mut times, &mut new);
+        for edge in new.as_slice() {
             edges.push(*edge)?;
         }
     }
@@ -95,37 +97,11 @@ fn a_local_instruction_counts(rt: HostRuntime) -> Result<(), Fail> {
     reducer.ready()?;
     assert!(rt; reducer.is_ready());
     let mut times = Times::fresh();
-    let edges = reducer.retire(&access!(1: 2 Store 0), &mut times);
-    assert_eq!(rt; edges.len(), 0);
+    let mut edges = EdgeList::new();
+    reducer.retire(&access!(1: 2 Store 0), &mut times, &mut edges);
+    assert_eq!(rt; edges.as_slice().len(), 0);
     assert_eq!(rt; reducer.clock(1).get(1), 2);
     assert_eq!(rt; reducer.clock(0).get(1), 0);
-    Ok(())
-}
-
-// Core 1 reads what core 0 wrote, core 0 reads its own write, and then writes over core 1's read.
-static SHARED: [Access; 4] = [
-    access!(0: 1 Store 0),
-    access!(1: 1 Load 0),
-    access!(0: 2 Load 0),
-    access!(0: 3 Store 0),
-];
-
-#[test]
-fn touches_leave_their_edges_in_the_lists(rt: HostRuntime) -> Result<(), Fail> {
-    let mut reducer = Reducer::new(rt.alloc(), 2)?;
-    let mut times = Times::fresh();
-    for access in &SHARED {
-        let core = access.at.core;
-        assert!(rt; core < 2);
-        assert!(rt; reducer.clock(core).get(core) as u64 + 1 == access.at.count as u64);
-        reducer.ready()?;
-        reducer.touch(access, &mut times);
-    }
-    let lists = reducer.finish();
-    let lists = lists.as_slice();
-    assert_eq!(rt; lists.len(), 2);
-    assert_eq!(rt; lists[0].as_slice(), [(1, 1)].as_slice());
-    assert_eq!(rt; lists[1].as_slice(), [(1, 3)].as_slice());
     Ok(())
 }
 
@@ -134,6 +110,7 @@ fn touches_leave_their_edges_in_the_lists(rt: HostRuntime) -> Result<(), Fail> {
 fn a_store_follows_a_read_of_each_other_core(rt: HostRuntime) -> Result<(), Fail> {
     let mut reducer = Reducer::new(rt.alloc(), CORES_MAX)?;
     let mut times = Times::fresh();
+    let mut edges = EdgeList::new();
     for core in 1..CORES_MAX {
         assert!(rt; reducer.clock(core).get(core) == 0);
         reducer.ready()?;
@@ -142,11 +119,12 @@ fn a_store_follows_a_read_of_each_other_core(rt: HostRuntime) -> Result<(), Fail
             at,
             ..access!(0: 1 Load 0)
         };
-        assert_eq!(rt; reducer.retire(&access, &mut times).len(), 0);
+        reducer.retire(&access, &mut times, &mut edges);
+        assert_eq!(rt; edges.as_slice().len(), 0);
     }
     assert!(rt; reducer.clock(0).get(0) == 0);
     reducer.ready()?;
-    let edges = reducer.retire(&access!(0: 1 Store 0), &mut times);
-    assert_eq!(rt; edges.len(), CORES_MAX as usize - 1);
+    reducer.retire(&access!(0: 1 Store 0), &mut times, &mut edges);
+    assert_eq!(rt; edges.as_slice().len(), CORES_MAX as usize - 1);
     Ok(())
 }

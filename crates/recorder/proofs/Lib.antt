@@ -1,5 +1,7 @@
 pub mod Reducing
 pub mod Standing
+pub mod Regulating
+pub mod KnownRuns
 pub mod Covering
 pub mod SortedPairs
 pub mod PairLists

@@ -1,14 +1,13 @@
 -- What is recorded at the end of a run: it is valid, and its reduced log is the least set.
 use Rattle.std.proofs.Common.{◌≡◌, ◌∙◌, sym, ap, subst, ℕ, ◌<◌, ◌≤◌, ◌*◌, List, [], ◌∷◌, length, arith, map, true}
-use Rattle.std.specs.Prelude.{slice_index, slice_index_or}
-use Rattle.std.specs.List.{Contains}
+use Rattle.std.specs.Prelude.{replicate, slice_index, slice_index_or}
+use Rattle.std.specs.List.{AllByRecursion, Contains}
 use Rattle.std.proofs.lemmas.List.{get_or-map, get_or-replicate, length-map, length-replicate}
 use Rattle.std.proofs.lemmas.List.Elements.{All-map}
-use Rattle.access_times.specs.declared.carry.NoCarry.{NoCarry}
 use Rattle.access_times.specs.declared.times.Times.{Times}
 use Rattle.image_mem.specs.Contents.{Contents}
 use Rattle.rtr_types.specs.Parameters.{Fits}
-use Rattle.rtr_types.specs.Pairs.{pair_count, pair_place, source_at, target_at}
+use Rattle.rtr_types.specs.Pairs.{IsPair, pair_count, pair_place, source_at, target_at}
 use Rattle.rtr_types.proofs.PairPlaces.{places-paired}
 use Rattle.rtr_types.specs.declared.access.Access.{Access}
 use Rattle.rtr_types.specs.declared.instr.Edge.{Edge}
@@ -36,18 +35,35 @@ use Rattle.msi_state.specs.Plain.{plain, plain_node}
 use Rattle.msi_state.specs.Runs.{accesses}
 use Rattle.msi_state.specs.States.{State, all_done, no_node}
 use Rattle.msi_state.specs.declared.node.Node.{Node}
+use Rattle.know_history.specs.Knowing.{retired_in}
+use Rattle.know_history.specs.Knowledge.{known_carrying}
+use Rattle.know_history.specs.Notes.{known_at, noted_count}
+use Rattle.know_history.specs.declared.known.Known.{Known}
+use Rattle.edge_regulate.specs.Regulated.{Knowledge, regulated}
+use Rattle.edge_regulate.proofs.Regulations.{end_law, up_to_law}
+use Rattle.msi_known.specs.Events.{happening_at}
+use Rattle.msi_known.specs.RunHistory.{IsHistoryOf}
 use Rattle.online_reduce.proofs.ByPair.{length-by_pair}
 use Rattle.online_reduce.specs.Exact.{IsReduction}
 use Rattle.online_reduce.specs.Lists.{RiseWithin}
 use Rattle.online_reduce.specs.Reduced.{Reduced, count_of}
+use Rattle.regulated_log.proofs.AllPairs.{valid_law}
+use Rattle.regulated_log.proofs.Happened as happened
+use Rattle.regulated_log.proofs.InOrder.{within_law}
+use Rattle.regulated_log.specs.Happened.{retirements}
+use Rattle.replay_core.specs.Orders.{IsWhole}
+use Rattle.replay_core.specs.Plans.{plan_of}
 use Rattle.run_outcome.proofs.Fitting.{run_fits_law}
 use Rattle.run_outcome.proofs.Turns.{outcome_is, stands_end}
 use Rattle.run_outcome.specs.Outcomes.{RunFits, outcome_of}
+use Rattle.recorder.proofs.KnownRuns.{counts_known, known_counted, known_same, run_past}
+use Rattle.recorder.proofs.Regulating.{counts_noted, edges_noted}
 use Rattle.recorder.proofs.LeastLists.{least_lists_law, reduced_lists}
 use Rattle.recorder.specs.Clerks.{Noted}
 use Rattle.recorder.specs.LeastLists.{AreOf, least_lists}
-use Rattle.recorder.specs.Recordings.{run_accesses, outcome_left, recording_from, recording_of}
-use Rattle.recorder.specs.Standing.{RecordsAt, no_carrying}
+use Rattle.recorder.specs.Recordings.{run_accesses, run_knowledge, outcome_left, recording_from, recording_of}
+use Rattle.recorder.specs.WhatIsKnown.{CountsKnown}
+use Rattle.recorder.specs.Standing.{NotesAt, RecordsAt, Regulates}
 
 -- ---- the reduced log
 
@@ -82,11 +98,16 @@ rise_stands most last [] rise = tt
 rise_stands most last (e ∷ edges) rise =
     (record { rises = record { source = rise.0; target = rise.1 }; source_most = rise.2; target_most = rise.3 }, rise_stands most e edges rise.4)
 
--- what is recorded of an outcome and a reduction that fit each other is valid
+-- what is recorded of an outcome with these edges and no vectors
+abbrev pub bare : Params → Contents → Outcome → List (List (ℕ × ℕ)) → Recording
+bare params image outcome lists =
+    recording_from params image outcome lists (replicate {A = List StrideVector} (pair_count params.cores) [])
+
+-- where outcome and reduction fit each other it is valid
 pub valid_from : (params : Params) (image : Contents) (outcome : Outcome) (list : List Access) (r : Reduced) (edges : List Edge) → Fits params →
     length image.bytes ≤ 4 * params.words → RunFits image params outcome → r.cores ≡ params.cores →
     ((core : ℕ) → core < params.cores → slice_index (map (λ (k : Core). k.count) outcome.cores) core ≡ count_of r core) → IsReduction list r edges →
-    Valid (recording_from params image outcome r.lists)
+    Valid (bare params image outcome r.lists)
 valid_from params image outcome list r edges fits room run cores counts h = record {
   params = fits;
   image = room;
@@ -128,41 +149,54 @@ valid_from params image outcome list r edges fits room run cores counts h = reco
 -- ---- the end of a run
 
 -- the counts of the cores are the reduction's
-counts_are : (image : Contents) (params : Params) (schedule : Choices) (t : ℕ) (s : State Times NoCarry) (c : Noted) (rest : Choices) →
-    RecordsAt image params schedule t s c rest → (core : ℕ) → core < params.cores →
-    slice_index (map (λ (k : Core). k.count) (map (λ (n : Node Times NoCarry). n.core) s.nodes)) core ≡ count_of c.reduction.state core
+counts_are : (image : Contents) (params : Params) (schedule : Choices) (t : ℕ) (s : State Times Known) (c : Noted) (rest : Choices) →
+    NotesAt image params schedule t s c rest → (core : ℕ) → core < params.cores →
+    slice_index (map (λ (k : Core). k.count) (map (λ (n : Node Times Known). n.core) s.nodes)) core ≡ count_of c.reduction.state core
 counts_are image params schedule t s c rest h core lt =
     let few : length s.nodes ≡ params.cores = sym (length-map s.nodes plain_node) ∙ h.run.cores in
-    let none : Node Times NoCarry = no_node no_carrying in
+    let none : Node Times Known = no_node known_carrying in
     let within : core < length s.nodes = omega (arith, lt, few) in
-    get_or-map (λ (k : Core). k.count) (map (λ (n : Node Times NoCarry). n.core) s.nodes) core none.core 0
-    (omega (arith, within, length-map s.nodes (λ (n : Node Times NoCarry). n.core)))
-    ∙ ap (λ (k : Core). k.count) (get_or-map (λ (n : Node Times NoCarry). n.core) s.nodes core none none.core within)
+    get_or-map (λ (k : Core). k.count) (map (λ (n : Node Times Known). n.core) s.nodes) core none.core 0
+    (omega (arith, within, length-map s.nodes (λ (n : Node Times Known). n.core)))
+    ∙ ap (λ (k : Core). k.count) (get_or-map (λ (n : Node Times Known). n.core) s.nodes core none none.core within)
     ∙ h.machine.counts core within
     ∙ sym (h.reduces.counts core (omega (arith, lt, h.cores)))
 
 -- what holds at the end
-pub record Ended (image : Contents) (params : Params) (schedule : Choices) (s : State Times NoCarry) (c : Noted) : Type 0 where
+pub record Ended (image : Contents) (params : Params) (schedule : Choices) (s : State Times Known) (c : Noted) : Type 0 where
   pub outcome : outcome_left s c.loads.lists ≡ outcome_of image params schedule
   pub edges : List Edge
   pub reduction : IsReduction (run_accesses image params schedule) c.reduction.state edges
   pub cores : c.reduction.state.cores ≡ params.cores
   pub counts : (core : ℕ) → core < params.cores → slice_index (map (λ (k : Core). k.count) (outcome_left s c.loads.lists).cores) core
       ≡ count_of c.reduction.state core
+  pub noted : (core : ℕ) → core < c.reduction.state.cores → count_of c.reduction.state core ≡ noted_count c.history.notes core
+  pub within : (place : ℕ) → place < pair_count c.reduction.state.cores →
+      AllByRecursion (λ (e : ℕ × ℕ). e.1 ≤ noted_count c.history.notes (target_at c.reduction.state.cores place))
+      (slice_index_or c.reduction.state.lists place [])
+  pub history : IsHistoryOf image params (choice_at schedule) (end_of image params (choice_at schedule)) c.history.notes
+  pub regulates : Regulates c
 
-pub ended : (image : Contents) (params : Params) (schedule : Choices) (t : ℕ) (s : State Times NoCarry) (c : Noted) (rest : Choices) → Fits params →
+pub ended : (image : Contents) (params : Params) (schedule : Choices) (t : ℕ) (s : State Times Known) (c : Noted) (rest : Choices) → Fits params →
     all_done s ≡ true → RecordsAt image params schedule t s c rest → Ended image params schedule s c
 unfolding run_accesses
 ended image params schedule t s c rest fits done h =
+    let n : NotesAt image params schedule t s c rest = h.notes in
     let last : t ≡ end_of image params (choice_at schedule) =
     one_end image params (choice_at schedule) t (record { cores = fits.cores; limit = omega (arith, fits.limit) })
-    (stands_end image params schedule t (plain s) c.loads.lists rest (sym (plain_done s) ∙ done) h.run) in
+    (stands_end image params schedule t (plain s) c.loads.lists rest (sym (plain_done s) ∙ done) n.run) in
+    let few : length s.nodes ≡ params.cores = sym (length-map s.nodes plain_node) ∙ n.run.cores in
     record {
-      outcome = outcome_is image params schedule t s c.loads.lists rest fits done h.run;
-      edges = h.edges;
-      reduction = subst (λ (u : ℕ). IsReduction (accesses image params (choice_at schedule) u) c.reduction.state h.edges) last h.reduces.reduction;
-      cores = h.cores;
-      counts = counts_are image params schedule t s c rest h;
+      outcome = outcome_is image params schedule t s c.loads.lists rest fits done n.run;
+      edges = n.edges;
+      reduction = subst (λ (u : ℕ). IsReduction (accesses image params (choice_at schedule) u) c.reduction.state n.edges) last n.reduces.reduction;
+      cores = n.cores;
+      counts = counts_are image params schedule t s c rest n;
+      noted = counts_noted image params schedule t s c rest n;
+      within = edges_noted image params schedule t s c rest n;
+      history = subst (λ (u : ℕ). IsHistoryOf image params (choice_at schedule) u c.history.notes) last
+          (record { noted = λ core lt. n.knows.noted core (subst (λ (k : ℕ). core < k) (sym few) lt); knows = n.knows.history });
+      regulates = h.regulates;
     }
 
 -- the accesses are of the run's cores
@@ -170,28 +204,75 @@ of_cores : (cores : ℕ) (list : List Access) (r : Reduced) (edges : List Edge) 
 of_cores cores list r edges is h a stands = subst (λ (n : ℕ). a.at.core < n) is (h.exact.within a stands).0
 
 -- what is recorded there
-abbrev pub recording_left : Params → State Times NoCarry → Noted → Recording
-recording_left params s c = recording_from params s.image (outcome_left s c.loads.lists) c.reduction.state.lists
+abbrev pub recording_left : Params → State Times Known → Noted → Recording
+recording_left params s c = recording_from params s.image (outcome_left s c.loads.lists) c.reduction.state.lists c.regulation.vectors
 
-module _ (image : Contents) (params : Params) (schedule : Choices) (s : State Times NoCarry) (c : Noted) (same : s.image ≡ image)
-    (h : Ended image params schedule s c) where
+module _ (image : Contents) (params : Params) (schedule : Choices) (s : State Times Known) (c : Noted) (fits : Fits params)
+    (same : s.image ≡ image) (h : Ended image params schedule s c) where
+  abbrev run_known : Knowledge
+  run_known = run_knowledge image params schedule
+
   lists_are : c.reduction.state.lists ≡ least_lists params.cores (run_accesses image params schedule)
   lists_are = reduced_lists (run_accesses image params schedule) c.reduction.state h.edges h.reduction
       ∙ ap (λ (n : ℕ). least_lists n (run_accesses image params schedule)) h.cores
+
+  -- the vectors are those of the edges by whatever counts what is known
+  pub vectors_by : (known : Knowledge) → CountsKnown image params schedule known →
+      c.regulation.vectors ≡ regulated params.cores known c.reduction.state.lists
+  vectors_by known counts =
+      end_law c.history.notes c.reduction.state.lists c.regulation h.regulates.regulation
+      ∙ ap (λ (n : ℕ). regulated n (known_at c.history.notes) c.reduction.state.lists) (h.regulates.cores ∙ h.cores)
+      ∙ up_to_law params.cores (known_at c.history.notes) known c.reduction.state.lists (noted_count c.history.notes)
+      (λ core count «of» pair le.
+      let noted = h.history.noted core pair.target in
+      known_same image params schedule fits (known_at c.history.notes) known (counts_known image params schedule fits c.history.notes h.history) counts
+      core count «of» pair (omega arith))
+      (subst (λ (n : ℕ). (place : ℕ) → place < pair_count n →
+      AllByRecursion (λ (e : ℕ × ℕ). e.1 ≤ noted_count c.history.notes (target_at n place)) (slice_index_or c.reduction.state.lists place []))
+      h.cores h.within)
+
+  -- so those by what is known in the run
+  vectors_are : c.regulation.vectors ≡ regulated params.cores (run_knowledge image params schedule) c.reduction.state.lists
+  vectors_are =
+      vectors_by run_known (known_counted image params schedule fits)
 
   -- the recording is the one that the definition names
   pub recording_is : recording_left params s c ≡ recording_of image params schedule
   unfolding recording_of
   recording_is =
-      ap (λ (i : Contents). recording_from params i (outcome_left s c.loads.lists) c.reduction.state.lists) same
-      ∙ ap (λ (o : Outcome). recording_from params image o c.reduction.state.lists) h.outcome
-      ∙ ap (λ (ls : List (List (ℕ × ℕ))). recording_from params image (outcome_of image params schedule) ls) lists_are
+      ap (λ (i : Contents). recording_from params i (outcome_left s c.loads.lists) c.reduction.state.lists c.regulation.vectors) same
+      ∙ ap (λ (o : Outcome). recording_from params image o c.reduction.state.lists c.regulation.vectors) h.outcome
+      ∙ ap (λ (vs : List (List StrideVector)). recording_from params image (outcome_of image params schedule) c.reduction.state.lists vs) vectors_are
+      ∙ ap (λ (ls : List (List (ℕ × ℕ))).
+      recording_from params image (outcome_of image params schedule) ls (regulated params.cores (run_knowledge image params schedule) ls)) lists_are
 
-  pub recording_valid : Fits params → image.words ≡ params.words → length image.bytes ≤ 4 * params.words → Valid (recording_left params s c)
-  recording_valid fits words room =
-      subst (λ (i : Contents). Valid (recording_from params i (outcome_left s c.loads.lists) c.reduction.state.lists)) (sym same)
-      (valid_from params image (outcome_left s c.loads.lists) (run_accesses image params schedule) c.reduction.state h.edges fits room
-      (subst (λ (o : Outcome). RunFits image params o) (sym h.outcome) (run_fits_law image params schedule fits words)) h.cores h.counts h.reduction)
+  -- what is recorded but for the vectors is valid
+  bare_valid : image.words ≡ params.words → length image.bytes ≤ 4 * params.words →
+      Valid (bare params image (outcome_left s c.loads.lists) c.reduction.state.lists)
+  bare_valid words room =
+      valid_from params image (outcome_left s c.loads.lists) (run_accesses image params schedule) c.reduction.state h.edges fits room
+      (subst (λ (o : Outcome). RunFits image params o) (sym h.outcome) (run_fits_law image params schedule fits words)) h.cores h.counts h.reduction
+
+  -- the order of retirement is whole
+  order_whole : length (map (λ (k : Core). k.count) (outcome_left s c.loads.lists).cores) ≡ params.cores →
+      IsWhole (plan_of ReducedLog (bare params image (outcome_left s c.loads.lists) c.reduction.state.lists))
+      (retirements (happening_at image params (choice_at schedule)) (end_of image params (choice_at schedule)))
+  order_whole long = record {
+    each = λ core lt.
+        let within : core < params.cores = omega (arith, lt, long) in
+        happened.counts_are (happening_at image params (choice_at schedule)) (end_of image params (choice_at schedule)) core
+        ∙ sym (h.history.noted core within) ∙ sym (h.noted core (omega (arith, within, h.cores))) ∙ sym (h.counts core within);
+  }
+
+  pub recording_valid : image.words ≡ params.words → length image.bytes ≤ 4 * params.words → Valid (recording_left params s c)
+  recording_valid words room =
+      let valid = bare_valid words room in
+      let order = retirements (happening_at image params (choice_at schedule)) (end_of image params (choice_at schedule)) in
+      let within = within_law run_known order (bare params image (outcome_left s c.loads.lists) c.reduction.state.lists) valid
+      (run_past image params schedule fits) (order_whole valid.each_core) in
+      subst (λ (i : Contents). Valid (recording_from params i (outcome_left s c.loads.lists) c.reduction.state.lists c.regulation.vectors)) (sym same)
+      (subst (λ (vs : List (List StrideVector)). Valid (recording_from params image (outcome_left s c.loads.lists) c.reduction.state.lists vs))
+      (sym vectors_are) (valid_law run_known (bare params image (outcome_left s c.loads.lists) c.reduction.state.lists) valid within))
 
   pub recording_least : IsLeast (run_accesses image params schedule) (log_edges ReducedLog (recording_left params s c))
   recording_least =

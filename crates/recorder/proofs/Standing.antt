@@ -1,26 +1,27 @@
 -- Where a run that is recorded stands, from its start on.
-use Rattle.std.proofs.Common.{◌≡◌, ◌∙◌, refl, sym, ap, subst, ℕ, suc, ◌+◌, ◌<◌, false, List, [], ◌∷◌, ◌++◌, append-nil, length, Some, None, arith}
+use Rattle.std.proofs.Common.{◌≡◌, ◌∙◌, refl, sym, ap, subst, ℕ, suc, ◌+◌, ◌<◌, ◌≤◌, false, List, [], ◌∷◌, ◌++◌, append-nil, length, Some, None, arith}
 use Rattle.std.specs.Prelude.{reverse, replicate, All, slice_index}
 use Rattle.std.proofs.lemmas.List.{length-map}
 use Rattle.std.proofs.lemmas.List.Elements.{All-from_get_or}
 use Rattle.std.proofs.lemmas.List.FromFn.{length-map-range_with_len}
 use Rattle.access_times.specs.Times.{times_riding}
-use Rattle.access_times.specs.declared.carry.NoCarry.{NoCarry}
 use Rattle.access_times.specs.declared.times.Times.{Times}
 use Rattle.clock_core.specs.declared.clock.Clock.{Clock}
 use Rattle.image_mem.specs.Contents.{Contents}
 use Rattle.rtr_types.specs.Parameters.{Fits}
+use Rattle.rtr_types.specs.Pairs.{pair_count}
+use Rattle.rtr_types.specs.declared.TheConstants.{CORES_MAX}
 use Rattle.rtr_types.specs.declared.access.Access.{Access}
 use Rattle.rtr_types.specs.declared.instr.Edge.{Edge}
 use Rattle.rtr_types.specs.declared.instr.Instr.{Instr}
 use Rattle.rtr_types.specs.declared.params.Params.{Params}
 use Rattle.rv_core.specs.declared.outcome.LoadNote.{LoadNote}
 use Rattle.schedule_pick.specs.Choices.{Choices, choice_at}
-use Rattle.msi_state.specs.Nodes.{Event, Nothing, Retires, Accesses, Tells, next_instr, rider_at, rider_of_event}
+use Rattle.msi_state.specs.Nodes.{Event, Nothing, Retires, Accesses, Tells, carry_after, next_instr, rider_at, rider_of_event}
 use Rattle.msi_state.specs.Plain.{plain, plain_node}
 use Rattle.msi_state.specs.Runs.{accesses, accesses_in, chosen, event_by, loads_of, opening_state, plain_event, run}
 use Rattle.msi_state.specs.States.{PlainState, State, all_done, no_node, node_at, state_start}
-use Rattle.msi_state.specs.Steps.{event, retiring}
+use Rattle.msi_state.specs.Steps.{event, retiring, step}
 use Rattle.msi_state.specs.declared.node.Node.{Node}
 use Rattle.msi_state.specs.declared.moves.Move.{Move}
 use Rattle.msi_times.proofs.Begins.{machine_start}
@@ -37,8 +38,16 @@ use Rattle.run_outcome.proofs.Turns.{Steps, numbered, stands_next, stands_start}
 use Rattle.run_outcome.specs.Loads.{lists_told}
 use Rattle.run_outcome.specs.Outcomes.{StandsAt}
 use Rattle.recorder.proofs.Reducing.{found_exact, reduces_access, reduces_local}
+use Rattle.know_history.specs.Knowledge.{known_carrying}
+use Rattle.know_history.specs.Notes.{Notes, no_notes, noted_count}
+use Rattle.know_history.specs.declared.known.Known.{Known}
+use Rattle.edge_regulate.specs.Regulated.{IsRegulation}
+use Rattle.msi_known.specs.Events.{happening_at, happening_by, happening_of}
+use Rattle.msi_known.specs.Histories.{HistoryTold, KnowsAt}
+use Rattle.msi_known.proofs.Noting.{knows_start, knows_step}
+use Rattle.msi_known.proofs.Runs.{run_orderly_law, taken_enabled}
 use Rattle.recorder.specs.Clerks.{IsAwaited, Noted, ToldLocal, ToldTouch}
-use Rattle.recorder.specs.Standing.{RecordsAt, Reduces, no_carrying}
+use Rattle.recorder.specs.Standing.{NotesAt, RecordsAt, Reduces, Regulates}
 
 -- ---- the start
 
@@ -46,16 +55,16 @@ none_before : (cores core : ℕ) → count_of (unreduced cores) core ≡ 0
 none_before cores core = ap (λ (c : Clock). slice_index c core) (no_count core) ∙ none_counted core
 
 -- before the first choice
-pub records_start : (image : Contents) (params : Params) (schedule : Choices) (s : State Times NoCarry) (clerk : Noted) → Fits params →
-    s ≡ state_start times_riding no_carrying image params.cores params.limit →
+pub notes_start : (image : Contents) (params : Params) (schedule : Choices) (s : State Times Known) (clerk : Noted) → Fits params →
+    s ≡ state_start times_riding known_carrying image params.cores params.limit →
     plain s ≡ opening_state image params → clerk.reduction.state ≡ unreduced params.cores → clerk.loads.lists ≡ replicate params.cores [] →
-    RecordsAt image params schedule 0 s clerk schedule
-records_start image params schedule s clerk fits is opening unmade none = record {
+    clerk.history.notes ≡ no_notes params.cores → NotesAt image params schedule 0 s clerk schedule
+notes_start image params schedule s clerk fits is opening unmade none unnoted = record {
   run = stands_start image params schedule (plain s) clerk.loads.lists opening none;
   list = [];
   edges = [];
-  machine = subst (λ (u : State Times NoCarry). MachineStandsFor times_parts no_carrying [] u) (sym is)
-      (machine_start times_parts no_carrying times_fresh image params.cores params.limit);
+  machine = subst (λ (u : State Times Known). MachineStandsFor times_parts known_carrying [] u) (sym is)
+      (machine_start times_parts known_carrying times_fresh image params.cores params.limit);
   cores = ap (λ (r : Reduced). r.cores) unmade;
   reduces = subst (λ (r : Reduced). Reduces [] [] r []) (sym unmade) (record {
     accesses_are = refl;
@@ -63,22 +72,40 @@ records_start image params schedule s clerk fits is opening unmade none = record
     counts = λ core lt. none_before params.cores core;
     reduction = begin_law params.cores fits.cores;
   });
+  knows = subst (λ (u : State Times Known). KnowsAt (happening_at image params (choice_at schedule)) 0 u clerk.history.notes) (sym is)
+      (knows_start times_riding (happening_at image params (choice_at schedule)) image params.cores params.limit clerk.history.notes fits.cores unnoted);
+}
+
+-- no edge was told
+pub regulates_start : (cores : ℕ) (clerk : Noted) → clerk.reduction.state ≡ unreduced cores → clerk.untold ≡ [] → clerk.regulation.cores ≡ cores →
+    ((notes : Notes) → IsRegulation notes (replicate (pair_count cores) []) clerk.regulation) → Regulates clerk
+regulates_start cores clerk unmade told few begun = record {
+  cores = few ∙ ap (λ (r : Reduced). r.cores) (sym unmade);
+  all_told = told;
+  regulation = subst (λ (lists : List (List (ℕ × ℕ))). IsRegulation clerk.history.notes lists clerk.regulation)
+      (ap (λ (r : Reduced). r.lists) (sym unmade)) (begun clerk.history.notes);
 }
 
 -- ---- what the clerk was told of
 
-abbrev Told : Event → NoCarry → Noted → Times → Noted → Times → Type 0
+abbrev pub Told : Event → Known → Noted → Times → Noted → Times → Type 0
 Told e carry before r after q =
-    Tells (λ (c : Noted) (i : Instr) (k : NoCarry) (d : Noted). ToldLocal c i d) (λ (c : Noted) (r : Times) (a : Access) (k : NoCarry) (d : Noted) (q : Times).
-    ToldTouch c r a d q) e carry before r after q
+    Tells (λ (c : Noted) (i : Instr) (k : Known) (d : Noted). ToldLocal c i k d) (λ (c : Noted) (r : Times) (a : Access) (k : Known) (d : Noted) (q : Times).
+    ToldTouch c r a k d q) e carry before r after q
 
-pub told_lists : (e : Event) (carry : NoCarry) (before after : Noted) (r q : Times) → Told e carry before r after q →
+pub told_lists : (e : Event) (carry : Known) (before after : Noted) (r q : Times) → Told e carry before r after q →
     after.loads.lists ≡ lists_told before.loads.lists e
 told_lists Nothing carry before after r q is = ap (λ (c : Noted). c.loads.lists) is
 told_lists (Retires at) carry before after r q is = is.loads
 told_lists (Accesses a) carry before after r q is = is.loads
 
-told_cores : (e : Event) (carry : NoCarry) (before after : Noted) (r q : Times) → Told e carry before r after q → after.reduction.state.cores
+told_history : (e : Event) (carry : Known) (before after : Noted) (r q : Times) → Told e carry before r after q →
+    HistoryTold e carry before.history.notes after.history.notes
+told_history Nothing carry before after r q is = ap (λ (c : Noted). c.history.notes) is
+told_history (Retires at) carry before after r q is = is.history
+told_history (Accesses a) carry before after r q is = is.history
+
+told_cores : (e : Event) (carry : Known) (before after : Noted) (r q : Times) → Told e carry before r after q → after.reduction.state.cores
     ≡ before.reduction.state.cores
 told_cores Nothing carry before after r q is = ap (λ (c : Noted). c.reduction.state.cores) is
 told_cores (Retires at) carry before after r q is = ap (λ (s : Reduced). s.cores) is.reduction
@@ -89,7 +116,7 @@ record ReducedAfter (list : List Retirement) (all : List Access) (c : Noted) : T
   edges : List Edge
   reduces : Reduces list all c.reduction.state edges
 
-told_reduces : (e : Event) (n : Node Times NoCarry) (carry : NoCarry) (list : List Retirement) (all : List Access) (edges : List Edge) (before after : Noted)
+told_reduces : (e : Event) (n : Node Times Known) (carry : Known) (list : List Retirement) (all : List Access) (edges : List Edge) (before after : Noted)
     (q : Times) →
     ((a : Access) → e ≡ Accesses a → AreExactFor all a (rider_of_event times_riding e n)) → Told e carry before (rider_of_event times_riding e n) after q →
     Reduces list all before.reduction.state edges →
@@ -121,19 +148,20 @@ told_reduces (Accesses a) n carry list all edges before after q finds is h =
 -- ---- one step
 
 -- the step that the next choice takes, and what the clerk was told of it
-pub record Turned (s s' : State Times NoCarry) (m : Move) (c d : Noted) (rest rest' : Choices) : Type 0 where
+pub record Turned (s s' : State Times Known) (m : Move) (c d : Noted) (rest rest' : Choices) : Type 0 where
   pub steps : Steps (plain s) (plain s') c.loads.lists d.loads.lists rest rest' m
-  pub event_is : event times_riding no_carrying s m ≡ plain_event (plain s) m
-  pub carry : NoCarry
+  pub event_is : event times_riding known_carrying s m ≡ plain_event (plain s) m
+  pub rider : Times
+  pub state : s' ≡ step times_riding known_carrying rider s m
   pub left : Times
-  pub told : Told (event times_riding no_carrying s m) carry c
-      (rider_of_event times_riding (event times_riding no_carrying s m) (retiring times_riding no_carrying s m)) d left
-  pub stands : (list : List Retirement) → MachineStandsFor times_parts no_carrying list s →
-      MachineStandsFor times_parts no_carrying (with_step no_carrying s m (clock_of d.reduction.state) list) s'
-  pub finds : (list : List Retirement) → MachineStandsFor times_parts no_carrying list s → StepFinds no_carrying s m list
+  pub told : Told (event times_riding known_carrying s m) (carry_after known_carrying (retiring times_riding known_carrying s m)) c
+      (rider_of_event times_riding (event times_riding known_carrying s m) (retiring times_riding known_carrying s m)) d left
+  pub stands : (list : List Retirement) → MachineStandsFor times_parts known_carrying list s →
+      MachineStandsFor times_parts known_carrying (with_step known_carrying s m (clock_of d.reduction.state) list) s'
+  pub finds : (list : List Retirement) → MachineStandsFor times_parts known_carrying list s → StepFinds known_carrying s m list
 
 -- the times that an access finds are exact, since the noted_accesses clocks are
-pub step_exact : (e : Event) (n : Node Times NoCarry) (list : List Retirement) (all : List Access) → times.retired_accesses list ≡ all →
+pub step_exact : (e : Event) (n : Node Times Known) (list : List Retirement) (all : List Access) → times.retired_accesses list ≡ all →
     HaveExactClocks all list →
     ((a : Access) → e ≡ Accesses a → IsExactRider times_parts (noted_accesses (reverse list)) a (rider_at times_riding n a.word)) → (a : Access) →
     e ≡ Accesses a → AreExactFor all a (rider_of_event times_riding e n)
@@ -147,59 +175,78 @@ step_exact (Accesses b) n list all are exact finds a is =
     same : b ≡ a
     same = cc
 
-pub records_next : (image : Contents) (params : Params) (schedule : Choices) (t : ℕ) (s s' : State Times NoCarry) (m : Move) (c d : Noted)
+-- the times that its access finds are exact
+pub turned_exact : (all : List Access) (s s' : State Times Known) (m : Move) (c d : Noted) (rest rest' : Choices) (list : List Retirement)
+    (edges : List Edge) → Turned s s' m c d rest rest' → MachineStandsFor times_parts known_carrying list s →
+    Reduces list all c.reduction.state edges → (a : Access) → event times_riding known_carrying s m ≡ Accesses a →
+    AreExactFor all a (rider_of_event times_riding (event times_riding known_carrying s m) (retiring times_riding known_carrying s m))
+turned_exact all s s' m c d rest rest' list edges turned machine reduces =
+    step_exact (event times_riding known_carrying s m) (retiring times_riding known_carrying s m) list all reduces.accesses_are reduces.exact
+    (turned.finds list machine)
+
+pub notes_next : (image : Contents) (params : Params) (schedule : Choices) (t : ℕ) (s s' : State Times Known) (m : Move) (c d : Noted)
     (rest rest' : Choices) → all_done (plain s) ≡ false → Turned s s' m c d rest rest' →
-    RecordsAt image params schedule t s c rest → RecordsAt image params schedule (suc t) s' d rest'
-records_next image params schedule t s s' m c d rest rest' going turned h =
+    NotesAt image params schedule t s c rest → NotesAt image params schedule (suc t) s' d rest'
+notes_next image params schedule t s s' m c d rest rest' going turned h =
     let choices : ℕ → ℕ = choice_at schedule in
-    let e : Event = event times_riding no_carrying s m in
-    let n : Node Times NoCarry = retiring times_riding no_carrying s m in
+    let e : Event = event times_riding known_carrying s m in
+    let n : Node Times Known = retiring times_riding known_carrying s m in
     let all : List Access = accesses image params choices t in
     let after : ReducedAfter (with_event e (clock_of d.reduction.state (core_of_event e)) h.list) (all ++ accesses_in e) d =
-    told_reduces e n turned.carry h.list all h.edges c d turned.left
-    (step_exact e n h.list all h.reduces.accesses_are h.reduces.exact (turned.finds h.list h.machine)) turned.told h.reduces in
+    told_reduces e n (carry_after known_carrying n) h.list all h.edges c d turned.left
+    (turned_exact all s s' m c d rest rest' h.list h.edges turned h.machine h.reduces) turned.told h.reduces in
     let here : run image params choices t ≡ plain s = sym h.run.state in
     let number : choice_at rest 0 ≡ choices t = h.run.rest_is 0 ∙ ap choices (omega arith) in
     let taken : chosen (run image params choices t) (choices t) ≡ Some m = ap (λ (u : PlainState). chosen u (choices t)) here
     ∙ ap (chosen (plain s)) (sym number) ∙ turned.steps.taken in
+    let few : params.cores ≤ CORES_MAX =
+    (let cores : length s.nodes ≡ params.cores = sym (length-map s.nodes plain_node) ∙ h.run.cores in
+    let most = h.knows.retired.few in omega arith) in
     let same : e ≡ event_by (run image params choices t) (chosen (run image params choices t) (choices t)) =
     turned.event_is ∙ ap (λ (u : PlainState). plain_event u m) (sym here) ∙ sym (ap (event_by (run image params choices t)) taken) in
     record {
       run = stands_next image params schedule t (plain s) (plain s') c.loads.lists d.loads.lists rest rest' m going turned.steps h.run;
-      list = with_step no_carrying s m (clock_of d.reduction.state) h.list;
+      list = with_step known_carrying s m (clock_of d.reduction.state) h.list;
       edges = after.edges;
       machine = turned.stands h.list h.machine;
-      cores = told_cores e turned.carry c d (rider_of_event times_riding e n) turned.left turned.told ∙ h.cores;
+      cores = told_cores e (carry_after known_carrying n) c d (rider_of_event times_riding e n) turned.left turned.told ∙ h.cores;
       reduces = subst (λ (x : Event).
-          Reduces (with_step no_carrying s m (clock_of d.reduction.state) h.list) (all ++ accesses_in x) d.reduction.state after.edges) same after.reduces;
+          Reduces (with_step known_carrying s m (clock_of d.reduction.state) h.list) (all ++ accesses_in x) d.reduction.state after.edges) same after.reduces;
+      knows = subst (λ (u : State Times Known). KnowsAt (happening_at image params choices) (suc t) u d.history.notes) (sym turned.state)
+          (knows_step times_riding (happening_at image params choices) t s m turned.rider c.history.notes d.history.notes
+          (run_orderly_law image params choices few) (taken_enabled times_riding s (choice_at rest 0) m turned.steps.taken)
+          (ap (happening_by (run image params choices t)) taken ∙ ap (λ (u : PlainState). happening_of u m) here)
+          (told_history e (carry_after known_carrying n) c d (rider_of_event times_riding e n) turned.left turned.told) h.knows);
     }
 
--- the same state and notes, whatever room there is
-pub records_same : (image : Contents) (params : Params) (schedule : Choices) (t : ℕ) (s u : State Times NoCarry) (c d : Noted) (rest : Choices) → u ≡ s →
-    d.reduction.state ≡ c.reduction.state → d.loads.lists ≡ c.loads.lists →
-    RecordsAt image params schedule t s c rest → RecordsAt image params schedule t u d rest
-records_same image params schedule t s u c d rest state reduction loads h = record {
-  run = subst (λ (v : State Times NoCarry). StandsAt image params schedule t (plain v) d.loads.lists rest) (sym state)
+-- the same state and notes, whatever room there is and whatever the regulation was told
+pub notes_same : (image : Contents) (params : Params) (schedule : Choices) (t : ℕ) (s u : State Times Known) (c d : Noted) (rest : Choices) → u ≡ s →
+    d.reduction.state ≡ c.reduction.state → d.loads.lists ≡ c.loads.lists → d.history.notes ≡ c.history.notes →
+    NotesAt image params schedule t s c rest → NotesAt image params schedule t u d rest
+notes_same image params schedule t s u c d rest state reduction loads history h = record {
+  run = subst (λ (v : State Times Known). StandsAt image params schedule t (plain v) d.loads.lists rest) (sym state)
       (subst (λ (ls : List (List LoadNote)). StandsAt image params schedule t (plain s) ls rest) (sym loads) h.run);
   list = h.list;
   edges = h.edges;
-  machine = subst (λ (v : State Times NoCarry). MachineStandsFor times_parts no_carrying h.list v) (sym state) h.machine;
+  machine = subst (λ (v : State Times Known). MachineStandsFor times_parts known_carrying h.list v) (sym state) h.machine;
   cores = ap (λ (r : Reduced). r.cores) reduction ∙ h.cores;
   reduces = subst (λ (r : Reduced). Reduces h.list (accesses image params (choice_at schedule) t) r h.edges) (sym reduction) h.reduces;
+  knows = subst (λ (v : State Times Known). KnowsAt (happening_at image params (choice_at schedule)) t v d.history.notes) (sym state)
+      (subst (λ (notes : Notes). KnowsAt (happening_at image params (choice_at schedule)) t s notes) (sym history) h.knows);
 }
 
 -- ---- what the clerk awaits
 
 -- the clerk awaits the next instruction of each core
-pub all_awaited : (image : Contents) (params : Params) (schedule : Choices) (t : ℕ) (s : State Times NoCarry) (c : Noted) (rest : Choices) → Fits params →
-    RecordsAt image params schedule t s c rest →
-    All (λ (n : Node Times NoCarry). IsAwaited c (next_instr n.core)) s.nodes
-all_awaited image params schedule t s c rest fits h =
-    All-from_get_or (λ (n : Node Times NoCarry). IsAwaited c (next_instr n.core)) s.nodes (no_node no_carrying) (λ k lt.
-    let id : (node_at no_carrying s.nodes k).core.id ≡ k = numbered no_carrying image params schedule t s c.loads.lists rest fits h.run k lt in
+pub all_awaited : (image : Contents) (params : Params) (schedule : Choices) (t : ℕ) (s : State Times Known) (c : Noted) (rest : Choices) → Fits params →
+    NotesAt image params schedule t s c rest → c.untold ≡ [] →
+    All (λ (n : Node Times Known). IsAwaited c (next_instr n.core)) s.nodes
+all_awaited image params schedule t s c rest fits h told =
+    All-from_get_or (λ (n : Node Times Known). IsAwaited c (next_instr n.core)) s.nodes (no_node known_carrying) (λ k lt.
+    let id : (node_at known_carrying s.nodes k).core.id ≡ k = numbered known_carrying image params schedule t s c.loads.lists rest fits h.run k lt in
     let few : length s.nodes ≡ params.cores = sym (length-map s.nodes plain_node) ∙ h.run.cores in
     let below : k < c.reduction.state.cores = omega (arith, lt, few, h.cores) in
-    let count : (node_at no_carrying s.nodes k).core.count ≡ count_of c.reduction.state k = h.machine.counts k lt ∙ sym (h.reduces.counts k below) in
+    let count : (node_at known_carrying s.nodes k).core.count ≡ count_of c.reduction.state k = h.machine.counts k lt ∙ sym (h.reduces.counts k below) in
     record {
       next = record {
         core = omega (arith, id, below);
@@ -213,4 +260,7 @@ all_awaited image params schedule t s c rest fits h =
         ap length h.run.loads_are,
         length-map-range_with_len (λ (k : ℕ). loads_of k (accesses image params (choice_at schedule) t)) 0 params.cores,
       );
+      noted_core = omega (arith, id, lt, h.knows.cores);
+      unnoted = ap (λ (i : ℕ). i + 1) (h.knows.retired.counts k lt ∙ (sym (h.knows.noted k lt) ∙ ap (noted_count c.history.notes) (sym id)));
+      all_told = told;
     })

@@ -1,21 +1,24 @@
 -- What a run is recorded as.
-use Rattle.std.specs.Prelude.{◌≡◌, ℕ, List, [], map, replicate, Ok}
+use Rattle.std.specs.Prelude.{◌≡◌, ℕ, List, map, Ok}
 use Rattle.access_times.specs.Riding.{none_carrying, none_riding}
 use Rattle.image_mem.specs.Contents.{Contents}
-use Rattle.rtr_types.specs.Pairs.{pair_count}
 use Rattle.rtr_types.specs.declared.access.Access.{Access}
 use Rattle.rtr_types.specs.declared.pairs.Which.TheVariants.{Reduced}
 use Rattle.rtr_types.specs.declared.params.Params.{Params}
 use Rattle.rv_core.specs.declared.outcome.LoadNote.{LoadNote}
 use Rattle.rv_core.specs.declared.outcome.Outcome.{Outcome}
 use Rattle.schedule_pick.specs.Choices.{Choices, choice_at}
+use Rattle.stride_vector.specs.declared.StrideVector.{StrideVector}
 use Rattle.conflict_edge.specs.Least.{IsLeast}
+use Rattle.know_history.specs.Notes.{Notes, known_at}
+use Rattle.edge_regulate.specs.Regulated.{Knowledge, regulated}
 use Rattle.log_codec.specs.Reading.{whole_at}
 use Rattle.log_codec.specs.Sources.{log_edges}
 use Rattle.log_codec.specs.Spelling.{spelling}
 use Rattle.log_codec.specs.Validity.{Valid}
 use Rattle.log_codec.specs.declared.recording.Recording.{Recording}
 use Rattle.msi_bound.specs.Ends.{end_of}
+use Rattle.msi_known.specs.RunHistory.{notes_at}
 use Rattle.msi_state.specs.FinalMemory.{final_memory}
 use Rattle.msi_state.specs.Plain.{plain}
 use Rattle.msi_state.specs.Runs.{accesses}
@@ -37,22 +40,40 @@ outcome_left s loads =
       loads = loads;
     }
 
--- the recording of a run that had this outcome, with these edges by pair of cores, and no vectors
-abbrev pub recording_from : Params → Contents → Outcome → List (List (ℕ × ℕ)) → Recording
-recording_from params image outcome reduced =
+-- what is noted of the whole run: at each retirement how many instructions of each other core are known there
+unfoldable pub run_notes : Contents → Params → Choices → Notes
+run_notes image params schedule =
+    notes_at image params (choice_at schedule) (end_of image params (choice_at schedule))
+
+-- how many instructions of each core are known at each instruction of the run
+abbrev pub run_knowledge : Contents → Params → Choices → Knowledge
+run_knowledge image params schedule = known_at (run_notes image params schedule)
+
+-- the reduced log of the run: the least set of its accesses, by pair of cores
+abbrev pub reduced_of : Contents → Params → Choices → List (List (ℕ × ℕ))
+reduced_of image params schedule = least_lists params.cores (run_accesses image params schedule)
+
+-- the regulated log of the run: each pair's greedy vectors of its reduced edges, by what is known in the run
+abbrev pub regulated_of : Contents → Params → Choices → List (List StrideVector)
+regulated_of image params schedule =
+    regulated params.cores (run_knowledge image params schedule) (reduced_of image params schedule)
+
+-- the recording of a run that had this outcome, with these edges and these vectors by pair of cores
+abbrev pub recording_from : Params → Contents → Outcome → List (List (ℕ × ℕ)) → List (List StrideVector) → Recording
+recording_from params image outcome reduced vectors =
     record {
       params = params;
       image = image.bytes;
       totals = map (λ k. k.count) outcome.cores;
       reduced = reduced;
-      regulated = replicate (pair_count params.cores) [];
+      regulated = vectors;
     }
 
--- the recording of the run: its edges are the least set of its accesses
+-- the recording of the run, with both logs
 unfoldable pub recording_of : Contents → Params → Choices → Recording
 recording_of image params schedule =
-    recording_from params image (outcome_of image params schedule)
-    (least_lists params.cores (run_accesses image params schedule))
+    recording_from params image (outcome_of image params schedule) (reduced_of image params schedule)
+    (regulated_of image params schedule)
 
 -- what is promised of it: it is valid, its spelling is read back as it, and its reduced log is the least set of the
 -- run's accesses

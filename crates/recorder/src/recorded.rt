@@ -1,20 +1,19 @@
 //! What a run came to.
-ghost use Rattle.std.specs.Prelude.{◌≡◌, IfOk, [], length, map, replicate, true};
+ghost use Rattle.std.specs.Prelude.{◌≡◌, ℕ, List, IfOk, length, map, true};
 ghost use Rattle.access_times.specs.Riding.{none_carrying, none_riding};
 ghost use Rattle.msi_state.specs.FinalMemory.{final_memory};
 ghost use Rattle.msi_state.specs.Plain.{plain};
 ghost use Rattle.msi_state.specs.States.{all_done};
-ghost use Rattle.rtr_types.specs.Pairs.{pair_count};
 ghost use Rattle.recorder.specs.Recordings.{outcome_left, recording_from};
 
 use crate::run_clerk::{RunClerk, RunNotes};
-use access_times::{NoCarry, Times};
+use access_times::Times;
+use know_history::Known;
 use log_codec::Recording;
 use msi_machine::Machine;
-use rtr_types::{Items, Params, pair_count};
+use rtr_types::{Items, Params};
 use rv_core::{Core, Outcome};
 use std::alloc::{AllocError, Global};
-use stride_vector::StrideVector;
 
 /// The recording of a run, and what the run came to.
 #[derive(Drop)]
@@ -26,7 +25,7 @@ pub struct Recorded {
 /// What the machine and the clerk hold at the end of a run.
 pub(crate) fn finished(
     alloc: Global,
-    machine: Machine<Times, NoCarry>,
+    machine: Machine<Times, Known>,
     clerk: RunClerk,
     params: Params,
 ) -> Result<Recorded, AllocError>
@@ -36,13 +35,16 @@ pub(crate) fn finished(
     ensures outcome { IfOk result (λ run. run.outcome ≡ outcome_left machine.state clerk.loads.lists) }
     ensures recording { IfOk result (λ run.
         run.recording ≡ recording_from params machine.state.image
-        (outcome_left machine.state clerk.loads.lists) clerk.reduction.state.lists) }
+        (outcome_left machine.state clerk.loads.lists) clerk.reduction.state.lists clerk.regulation.vectors) }
 {
     let cores = cores_of(alloc, &machine, params.cores)?;
     let words = words_of(alloc, &machine, params.words)?;
     let totals = totals_of(alloc, cores.as_slice())?;
-    let regulated = no_vectors(alloc, params.cores)?;
-    let RunNotes { reduced, loads } = clerk.finish(alloc)?;
+    let RunNotes {
+        reduced,
+        regulated,
+        loads,
+    } = clerk.finish(alloc)?;
     let recording = Recording {
         params,
         image: Items::from_vec(machine.into_image().into_bytes()),
@@ -61,7 +63,7 @@ pub(crate) fn finished(
 /// The cores of the machine, of which there are so many.
 fn cores_of(
     alloc: Global,
-    machine: &Machine<Times, NoCarry>,
+    machine: &Machine<Times, Known>,
     cores: u8,
 ) -> Result<Items<Core>, AllocError>
     requires { cores ≡ length machine.now.state.nodes }
@@ -77,7 +79,7 @@ fn cores_of(
 /// The words of the memory at the end, of which there are so many.
 fn words_of(
     alloc: Global,
-    machine: &Machine<Times, NoCarry>,
+    machine: &Machine<Times, Known>,
     words: u32,
 ) -> Result<Items<u32>, AllocError>
     requires done { all_done machine.now.state ≡ true }
@@ -100,15 +102,4 @@ fn totals_of(alloc: Global, cores: &[Core]) -> Result<Items<u32>, AllocError>
         totals.push(core.count())?;
     }
     Ok(totals)
-}
-
-/// No vectors, for each pair of cores.
-fn no_vectors(alloc: Global, cores: u8) -> Result<Items<Items<StrideVector>>, AllocError>
-    ensures { IfOk result (λ lists. lists ≡ replicate (pair_count cores) []) }
-{
-    let mut lists = Items::new(alloc);
-    for place in 0..pair_count(cores) {
-        lists.push(Items::new(alloc))?;
-    }
-    Ok(lists)
 }

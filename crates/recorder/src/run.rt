@@ -1,26 +1,27 @@
 //! The run of an image, recorded.
-ghost use Rattle.std.specs.Prelude.{◌≡◌, ◌<◌, ℕ, suc, All, IfOk, OnOk, false};
+ghost use Rattle.std.specs.Prelude.{◌≡◌, ◌<◌, ℕ, suc, IfOk, OnOk, false};
 ghost use Rattle.access_times.specs.Times.{times_riding};
 ghost use Rattle.conflict_edge.specs.Least.{IsLeast};
+ghost use Rattle.edge_regulate.specs.Regulated.{Knowledge, regulated};
 ghost use Rattle.image_mem.specs.Contents.{Contents};
 ghost use Rattle.log_codec.specs.Sources.{log_edges};
 ghost use Rattle.log_codec.specs.Validity.{Valid};
 ghost use Rattle.run_outcome.specs.Outcomes.{outcome_of};
 ghost use Rattle.msi_state.specs.Bound.{left};
-ghost use Rattle.msi_state.specs.Nodes.{next_instr};
 ghost use Rattle.msi_state.specs.States.{all_done};
 ghost use Rattle.rtr_types.specs.Parameters.{Fits};
 ghost use Rattle.rtr_types.specs.declared.pairs.Which.TheVariants.{Reduced};
 ghost use Rattle.rtr_types.specs.declared.params.Params.{Params};
 ghost use Rattle.schedule_pick.specs.Choices.{Choices};
-ghost use Rattle.recorder.specs.Clerks.{IsAwaited};
 ghost use Rattle.recorder.specs.Recordings.{run_accesses, recording_of};
-ghost use Rattle.recorder.specs.Standing.{RecordsAt};
+ghost use Rattle.recorder.specs.WhatIsKnown.{CountsKnown};
+ghost use Rattle.recorder.specs.Standing.{IsRecording, RecordsAt};
 
 use crate::recorded::{Recorded, finished};
 use crate::run_clerk::RunClerk;
-use access_times::{NoCarry, Times};
+use access_times::Times;
 use image_mem::Image;
+use know_history::Known;
 use msi_machine::Machine;
 use rtr_types::Params;
 use schedule_pick::Schedule;
@@ -31,7 +32,9 @@ use std::alloc::{AllocError, Global};
 ///
 /// The outcome and the recording are one function of image, parameters and schedule. The reduced log is
 /// the least set of the run's accesses: each of its edges is a conflict, they imply the order of every
-/// two accesses that conflict, and no set of conflicts that does lacks one of them.
+/// two accesses that conflict, and no set of conflicts that does lacks one of them. The regulated log has
+/// each pair's greedy vectors of these edges, by what is known in the run at each instruction: whatever
+/// counts the instructions that are known gives these vectors.
 pub fn record_run(
     alloc: Global,
     image: Image,
@@ -43,12 +46,14 @@ pub fn record_run(
     ensures outcome { IfOk result (λ run. run.outcome ≡ outcome_of image params schedule) }
     ensures recording { IfOk result (λ run. run.recording ≡ recording_of image params schedule) }
     ensures valid { IfOk result (λ run. Valid run.recording) }
+    ensures regulated { IfOk result (λ run. (known : Knowledge) → CountsKnown image params schedule known →
+        run.recording.regulated ≡ regulated params.cores known run.recording.reduced) }
     ensures least { IfOk result (λ run. IsLeast (run_accesses image params schedule)
         (log_edges Reduced run.recording)) }
 {
     let words = image.words();
     prove!(words == params.words);
-    let mut machine = Machine::<Times, NoCarry>::new(alloc, image, params)?;
+    let mut machine = Machine::<Times, Known>::new(alloc, image, params)?;
     let mut clerk = RunClerk::new(alloc, params.cores)?;
     let mut choices = schedule;
     while !machine.done() {
@@ -57,14 +62,14 @@ pub fn record_run(
     finished(alloc, machine, clerk, params)
 }
 
-/// One step of the machine, after room was made for it.
+/// One step of the machine, after room was made for it, and what it adds to the regulated log.
 fn turn(
-    machine: &mut Machine<Times, NoCarry>,
+    machine: &mut Machine<Times, Known>,
     clerk: &mut RunClerk,
     choices: &mut Schedule,
 ) -> Result<(), AllocError>
     requires going { all_done machine.old.state ≡ false }
-    requires awaited { All (λ n. IsAwaited clerk.old (next_instr n.core)) machine.old.state.nodes }
+    requires recording { IsRecording machine.old.state clerk.old choices.old }
     ensures stands { (image : Contents) (params : Params) (schedule : Choices) (t : ℕ) → OnOk result
         (RecordsAt image params schedule t machine.old.state clerk.old choices.old →
         RecordsAt image params schedule (suc t) machine.new.state clerk.new choices.new) }
@@ -74,5 +79,6 @@ fn turn(
     machine.make_room()?;
     clerk.ready()?;
     machine.step_timed(choices.next(), clerk);
+    clerk.tell();
     Ok(())
 }

@@ -1,31 +1,47 @@
 //! Who is told of the run's retirements.
-ghost use Rattle.std.specs.Prelude.{◌≡◌, ◌≤◌, [], IfOk, IsTrue, OnOk, replicate};
+ghost use Rattle.std.specs.Prelude.{◌≡◌, ℕ, ◌≤◌, List, [], IfOk, IsTrue, OnOk, replicate};
 ghost use Rattle.std.proofs.Common.{◌∙◌, ap};
+ghost use Rattle.rtr_types.specs.Pairs.{pair_count};
 ghost use Rattle.rtr_types.specs.declared.TheConstants.{CORES_MAX};
+ghost use Rattle.know_history.specs.Notes.{Notes, known_at, no_notes};
+ghost use Rattle.edge_regulate.specs.Regulated.{AreReady, IsRegulation, regulated};
 ghost use Rattle.online_reduce.proofs.ExactNext.{other_clocks_law};
 ghost use Rattle.online_reduce.specs.Reduced.{clock_of, unreduced};
+ghost use Rattle.recorder.specs.Clerks.{CanTell, IsTold};
 
-use access_times::{Clerk, NoCarry, Times, TimesClerk};
+use access_times::{Clerk, Times, TimesClerk};
+use edge_regulate::Regulator;
+use know_history::{History, Known};
 use load_lists::LoadLists;
-use online_reduce::Reducer;
+use online_reduce::{EdgeList, Reducer};
 use rtr_types::{Access, Instr, Items};
 use rv_core::LoadNote;
 use std::alloc::{AllocError, Global};
 use std::marker::Model;
+use stride_vector::StrideVector;
 
-/// Makes the reduced log of the run and keeps each core's loads, among which are its atomic memory
-/// operations. It keeps no other access. It accepts the next instruction of each core while one more
-/// retirement needs no memory.
+/// Makes both logs of the run and keeps each core's loads, among which are its atomic memory operations.
+/// It keeps no other access. It accepts the next instruction of each core while one more retirement needs
+/// no memory.
+///
+/// The regulated log is made from what is known at the instructions up to an edge's target. So a
+/// retirement is noted first, and its edges are told to the regulator by `tell`, after the step in which
+/// it retired.
 #[derive(Drop)]
 pub(crate) struct RunClerk {
     reducer: Reducer,
     loads: LoadLists,
+    history: History,
+    /// The edges of the last retirement, until the regulator is told of them.
+    untold: EdgeList,
+    regulator: Regulator,
 }
 
 /// What the clerk holds at the end of a run.
 #[derive(Drop)]
 pub(crate) struct RunNotes {
     pub(crate) reduced: Items<Items<(u32, u32)>>,
+    pub(crate) regulated: Items<Items<StrideVector>>,
     pub(crate) loads: Items<Items<LoadNote>>,
 }
 
@@ -34,7 +50,13 @@ impl Model for RunClerk {
 
     ghost Value = { Noted };
 
-    ghost view = { λ a. record { reduction = a.reducer; loads = a.loads } };
+    ghost view = { λ a. record {
+      reduction = a.reducer;
+      loads = a.loads;
+      history = a.history;
+      untold = a.untold;
+      regulation = a.regulator;
+    } };
 }
 
 impl RunClerk {
@@ -43,51 +65,94 @@ impl RunClerk {
         requires { cores ≤ CORES_MAX }
         ensures reduction { IfOk result (λ clerk. clerk.reduction.state ≡ unreduced cores) }
         ensures loads { IfOk result (λ clerk. clerk.loads.lists ≡ replicate cores []) }
+        ensures history { IfOk result (λ clerk. clerk.history.notes ≡ no_notes cores) }
+        ensures untold { IfOk result (λ clerk. clerk.untold ≡ []) }
+        ensures cores { IfOk result (λ clerk. clerk.regulation.cores ≡ cores) }
+        ensures regulation { IfOk result (λ clerk. (notes : Notes) →
+            IsRegulation notes (replicate (pair_count cores) []) clerk.regulation) }
     {
         let reducer = Reducer::new(alloc, cores)?;
         let loads = LoadLists::new(alloc, cores)?;
-        Ok(RunClerk { reducer, loads })
+        let history = History::new(alloc, cores)?;
+        let regulator = Regulator::new(alloc, cores)?;
+        Ok(RunClerk {
+            reducer,
+            loads,
+            history,
+            untold: EdgeList::new(),
+            regulator,
+        })
     }
 
     /// Makes room for one more retirement.
     pub(crate) fn ready(&mut self) -> Result<(), AllocError>
         ensures reduction { self.new.reduction.state ≡ self.old.reduction.state }
         ensures loads { self.new.loads.lists ≡ self.old.loads.lists }
+        ensures history { self.new.history.notes ≡ self.old.history.notes }
+        ensures untold { self.new.untold ≡ self.old.untold }
+        ensures cores { self.new.regulation.cores ≡ self.old.regulation.cores }
+        ensures regulation { (notes : Notes) (edges : List (List (ℕ × ℕ))) →
+            IsRegulation notes edges self.old.regulation → IsRegulation notes edges self.new.regulation }
         ensures ready { OnOk result (IsTrue self.new.reduction.ready) }
         ensures roomy { OnOk result (IsTrue self.new.loads.roomy) }
+        ensures history_ready { OnOk result (IsTrue self.new.history.ready) }
+        ensures regulation_ready { OnOk result (AreReady self.new.regulation) }
     {
         self.reducer.ready()?;
+        self.history.ready()?;
+        self.regulator.ready()?;
         self.loads.make_room()
     }
 
-    /// The reduced log, by pair of cores, and each core's loads.
+    /// Tells the regulator the edges of the last retirement.
+    pub(crate) fn tell(&mut self)
+        requires { CanTell self.old }
+        ensures { IsTold self.old self.new }
+    {
+        self.regulator.edges(self.untold.as_slice(), &self.history);
+        self.untold.clear();
+    }
+
+    /// Both logs, by pair of cores, and each core's loads.
     pub(crate) fn finish(self, alloc: Global) -> Result<RunNotes, AllocError>
         ensures reduced { IfOk result (λ notes. notes.reduced ≡ self.reduction.state.lists) }
+        ensures regulated { IfOk result (λ notes. (known : Notes) (edges : List (List (ℕ × ℕ))) →
+            IsRegulation known edges self.regulation →
+            notes.regulated ≡ regulated self.regulation.cores (known_at known) edges) }
+        ensures vectors { IfOk result (λ notes. notes.regulated ≡ self.regulation.vectors) }
         ensures loads { IfOk result (λ notes. notes.loads ≡ self.loads.lists) }
     {
-        let RunClerk { reducer, loads } = self;
+        let RunClerk {
+            reducer,
+            loads,
+            regulator,
+            ..
+        } = self;
         let loads = loads.into_items(alloc)?;
         Ok(RunNotes {
             reduced: reducer.finish(),
+            regulated: regulator.finish(),
             loads,
         })
     }
 }
 
-impl Clerk<Times, NoCarry> for RunClerk {
+impl Clerk<Times, Known> for RunClerk {
     ghost use Rattle.recorder.specs.Clerks.{Accepts, ToldLocal, ToldTouch};
 
     ghost accepts = { λ c i. Accepts c i };
 
-    ghost told_local = { λ c i k d. ToldLocal c i d };
+    ghost told_local = { λ c i k d. ToldLocal c i k d };
 
-    ghost told_touch = { λ c r a k d q. ToldTouch c r a d q };
+    ghost told_touch = { λ c r a k d q. ToldTouch c r a k d q };
 
-    fn local(&mut self, at: Instr, _carry: NoCarry) {
+    fn local(&mut self, at: Instr, carry: Known) {
+        self.history.note(at, carry);
         self.reducer.local(at);
     }
 
-    fn touched(&mut self, access: Access, rider: &mut Times, _carry: NoCarry) {
+    fn touched(&mut self, access: Access, rider: &mut Times, carry: Known) {
+        self.history.note(access.at, carry);
         if access.kind.is_read() {
             let note = LoadNote {
                 count: access.at.count,
@@ -96,11 +161,11 @@ impl Clerk<Times, NoCarry> for RunClerk {
             };
             self.loads.note(access.at.core, note);
         }
-        self.reducer.touch(&access, rider);
+        self.reducer.retire(&access, rider, &mut self.untold);
     }
 }
 
-impl TimesClerk<NoCarry> for RunClerk {
+impl TimesClerk<Known> for RunClerk {
     ghost use Rattle.online_reduce.specs.Reduced.{Reduced};
 
     ghost clock = { λ c core. clock_of c.reduction.state core };

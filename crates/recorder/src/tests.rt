@@ -9,6 +9,7 @@ use rv_core::LoadNote;
 use schedule_pick::Schedule;
 use std::alloc::Global;
 use std::test::Fail;
+use stride_vector::StrideVector;
 
 /// Records a run of the code on so many cores over 64 words. The generator's choices come after these.
 fn recorded(alloc: Global, code: &[u32], cores: u8, choices: &[u8]) -> Result<Recorded, Fail>
@@ -39,6 +40,25 @@ fn edges_at(recording: &Recording, place: usize) -> &[(u32, u32)] {
     }
 }
 
+/// The vectors of the pair of cores at a place.
+fn vectors_at(recording: &Recording, place: usize) -> &[StrideVector] {
+    match recording.regulated.as_slice().get(place) {
+        Some(vectors) => vectors.as_slice(),
+        None => &[],
+    }
+}
+
+/// The vector of one edge.
+fn one_edge(from: u32, to: u32) -> StrideVector {
+    StrideVector {
+        n: 1,
+        a0: from,
+        b0: to,
+        sa: 0,
+        sb: 0,
+    }
+}
+
 // Core 0 stores 7 to word 16 as its third instruction and loads it as its fourth; core 1 loads the word
 // as its second and stores its number, 1, there as its third. The choices let core 1's load come after
 // the first store, and its store before core 0's load. Three pairs conflict, and two edges imply them.
@@ -59,7 +79,8 @@ fn both_cores_conflict(rt: HostRuntime) -> Result<(), Fail> {
     assert_eq!(rt; run.recording.totals.as_slice(), [5u32, 4].as_slice());
     assert_eq!(rt; edges_at(&run.recording, 0), [(3u32, 2u32)].as_slice());
     assert_eq!(rt; edges_at(&run.recording, 1), [(3u32, 4u32)].as_slice());
-    assert_eq!(rt; run.recording.regulated.len(), 2);
+    assert_eq!(rt; vectors_at(&run.recording, 0), [one_edge(3, 2)].as_slice());
+    assert_eq!(rt; vectors_at(&run.recording, 1), [one_edge(3, 4)].as_slice());
     assert_eq!(rt; run.recording.image.len(), 32);
     assert_eq!(rt; run.outcome.words.as_slice().get(16).copied(), Some(1));
     let first = LoadNote {
@@ -125,5 +146,56 @@ fn one_choice_decides(rt: HostRuntime) -> Result<(), Fail> {
     assert_eq!(rt; edges_at(&second.recording, 0).len(), 0);
     assert_eq!(rt; edges_at(&second.recording, 1), [(2u32, 2u32)].as_slice());
     assert_eq!(rt; second.outcome.words.as_slice().get(8).copied(), Some(5));
+    Ok(())
+}
+
+// Core 0 stores to words 16, 17 and 18 as its third, fourth and fifth instruction; core 1 loads them as its
+// third, fourth and seventh. By the strides of the first two edges the third store comes before core 1's
+// fifth instruction. In the first run that store is known there, so that one vector has three positions. In
+// the second it is not, and the third edge opens a vector.
+#[test]
+fn strides_stand_for_edges_that_are_known(rt: HostRuntime) -> Result<(), Fail> {
+    let code = [
+        0x0095_0293u32,
+        0x0005_1a63,
+        0x0450_2023,
+        0x0450_2223,
+        0x0450_2423,
+        0x0000_0073,
+        0x0400_2303,
+        0x0440_2383,
+        0x0000_0013,
+        0x0000_0013,
+        0x0480_2403,
+        0x0000_0073,
+    ];
+    let edges = [(3u32, 3u32), (4, 4), (5, 7)];
+    let known = recorded(rt.alloc(), &code, 2, &[0, 0, 0, 1, 1, 0, 0])?;
+    let long = StrideVector {
+        n: 3,
+        a0: 3,
+        b0: 3,
+        sa: 1,
+        sb: 1,
+    };
+    assert_eq!(rt; edges_at(&known.recording, 0), edges.as_slice());
+    assert_eq!(rt; vectors_at(&known.recording, 0), [long].as_slice());
+    assert_eq!(rt; vectors_at(&known.recording, 1).len(), 0);
+    let choices = [
+        0u8, 0, 0, 1, 1, 0, 1, 1, 1, 1, 1, 1, 1, 1, 1, 1, 0, 1, 1, 1, 1,
+    ];
+    let unknown = recorded(rt.alloc(), &code, 2, &choices)?;
+    let short = StrideVector {
+        n: 2,
+        a0: 3,
+        b0: 3,
+        sa: 1,
+        sb: 1,
+    };
+    assert_eq!(rt; edges_at(&unknown.recording, 0), edges.as_slice());
+    assert_eq!(rt;
+        vectors_at(&unknown.recording, 0),
+        [short, one_edge(5, 7)].as_slice()
+    );
     Ok(())
 }

@@ -1,4 +1,4 @@
-//! Runs of eight cores, whose recorded edges are the least set of the run's accesses by the plain definition.
+//! Runs of all cores, whose recorded edges are the least set of the run's accesses by the plain definition.
 ghost use Rattle.std.specs.Prelude.{◌≡◌, IfOk};
 ghost use Rattle.conflict_edge.specs.Conflicts.{are_after, do_counts_rise};
 
@@ -13,7 +13,7 @@ use schedule_pick::Schedule;
 use std::alloc::{AllocError, Global};
 use std::test::Fail;
 
-/// Eight cores make three rounds of six accesses:
+/// Each core makes three rounds of six accesses:
 ///
 /// - addi x13,x0,3; slli x5,x10,2;
 /// - lw x6,64(x5); addi x6,x6,1; sw x6,68(x5): a core reads its word and writes the next core's;
@@ -36,19 +36,21 @@ const CODE: [u32; 12] = [
     0x0000_0073,
 ];
 
-/// How many accesses a run has: eight cores, three rounds, six accesses.
-const ACCESSES: usize = 144;
+/// How many accesses a run has: three rounds of six accesses for each core.
+const ACCESSES: usize = 18 * CORES_MAX as usize;
 
-/// The most steps of a run: (2 * 8 + 4) for each of the 30 instructions of each core.
-const STEPS: u32 = 4800;
+/// The most steps of a run: (2 P + 4) for each of the 30 instructions of each core, P the number of cores.
+pub const STEPS: u32 = (2 * CORES_MAX as u32 + 4) * 30 * CORES_MAX as u32;
 
-const PARAMS: Params = Params {
+/// All cores, few instructions, and 128 words.
+pub const PARAMS: Params = Params {
     cores: CORES_MAX,
     limit: 100,
     words: 128,
 };
 
-static SEEDS: [u64; 3] = [1, 20_261_127, u64::MAX];
+/// The generator's states at the beginning of the runs.
+pub static SEEDS: [u64; 3] = [1, 20_261_127, u64::MAX];
 
 /// Holds the access that it was told of last. It accepts each instruction.
 #[derive(Drop)]
@@ -71,7 +73,7 @@ impl<R: Rider, K: Carry> Clerk<R, K> for Keeper {
 }
 
 /// The image of the code.
-fn image(alloc: Global) -> Result<Image, Fail>
+pub fn image(alloc: Global) -> Result<Image, Fail>
     ensures { IfOk result (λ image. image.words ≡ 128) }
 {
     let mut bytes = Vec::new(alloc);

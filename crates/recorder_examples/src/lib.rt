@@ -1,6 +1,8 @@
-//! Runs that are recorded, against the least set by the plain definition. It has a test alone, and stands
-//! apart so that the crates above the recorder don't wait for it.
+//! Runs that are recorded, against the least set and the greedy vectors by their plain definitions. It has
+//! tests alone, and stands apart so that the crates above the recorder don't wait for it.
 #![tactic(auto)]
 
 #[cfg(test)]
 mod least_tests;
+#[cfg(test)]
+mod regulated_tests;

@@ -29,7 +29,7 @@ retired_same event t x is = by (event t).retires is
         rw test refl
 
 -- the order has as many places of a core as its instructions retired
-counts_are : (event : ℕ → Happening) (t core : ℕ) → counts nought (retirements event t) core ≡ retired_in event t core
+pub counts_are : (event : ℕ → Happening) (t core : ℕ) → counts nought (retirements event t) core ≡ retired_in event t core
 counts_are event zero core = refl
 counts_are event (suc t) core = ap (λ (f : ℕ → ℕ). f core) (counts_on nought (retirements event t) (core_of (event t).retires))
     ∙ by (event t).retires (counts_are event t core)
@@ -75,13 +75,13 @@ retired_more event t (suc u) core le = by (split t (suc u) le) (retired_more eve
 -- ---- places
 
 -- a place of the order is that of an event
-record EventOf (event : ℕ → Happening) (t : ℕ) (front : List ℕ) (core : ℕ) : Type 0 where
-  u : ℕ
-  y : Instr
-  within : u < t
-  retires : (event u).retires ≡ Some y
-  core_is : y.core ≡ core
-  before : front ≡ retirements event u
+pub record EventOf (event : ℕ → Happening) (t : ℕ) (front : List ℕ) (core : ℕ) : Type 0 where
+  pub u : ℕ
+  pub y : Instr
+  pub within : u < t
+  pub retires : (event u).retires ≡ Some y
+  pub core_is : y.core ≡ core
+  pub before : front ≡ retirements event u
 
 -- a list that isn't empty has a last item
 record Last (xs : List ℕ) : Type 0 where
@@ -93,7 +93,7 @@ last_of : (x : ℕ) (xs : List ℕ) → Last (x ∷ xs)
 last_of x [] = record { init = []; last = x; is = refl }
 last_of x (y ∷ xs) = let l = last_of y xs in record { init = x ∷ l.init; last = l.last; is = ap (λ (l : List ℕ). x ∷ l) l.is }
 
-event_of : (event : ℕ → Happening) (t : ℕ) (front : List ℕ) (core : ℕ) (rest : List ℕ) → retirements event t ≡ front ++ core ∷ rest → EventOf event t front core
+pub event_of : (event : ℕ → Happening) (t : ℕ) (front : List ℕ) (core : ℕ) (rest : List ℕ) → retirements event t ≡ front ++ core ∷ rest → EventOf event t front core
 event_of event zero [] core rest split = absurd cc
 event_of event zero (c ∷ front) core rest split = absurd cc
 event_of event (suc t) front core rest split = by (event t).retires refl rest split (λ more is. later (event_of event t front core more is))

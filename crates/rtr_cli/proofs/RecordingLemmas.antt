@@ -2,6 +2,7 @@
 use Rattle.std.proofs.Common.{◌≡◌, ◌∙◌, refl, sym, ap, subst, ℕ, ◌*◌, ◌≤◌, Bool, List, length, Result, Ok, Err}
 use Rattle.image_mem.specs.Contents.{Contents}
 use Rattle.rtr_types.specs.Parameters.{Fits}
+use Rattle.rtr_types.specs.declared.pairs.Which.{Which}
 use Rattle.rtr_types.specs.declared.pairs.Which.TheVariants.{Reduced}
 use Rattle.rtr_types.specs.declared.params.Params.{Params}
 use Rattle.rv_core.specs.declared.outcome.Outcome.{Outcome}
@@ -16,7 +17,8 @@ use Rattle.replay_audit.specs.declared.audit_fault.AuditFault.{AuditFault}
 use Rattle.replay_audit.specs.declared.audit_fault.AuditFault.TheVariants as faults
 use Rattle.replay_core.specs.Plans.{recorded_image as replayed_image}
 use Rattle.run_records.proofs.Recordings.{recorded_law}
-use Rattle.run_replays.proofs.Replayed.{reduced_replays}
+use Rattle.run_replays.proofs.BothLogs.{both_replay, run_regulated}
+use Rattle.run_replays.specs.Replays.{ReplaysRun}
 use Rattle.state_text.specs.States.{state_lines}
 use Rattle.state_text.specs.declared.exit.Exit.{Exit}
 use Rattle.state_text.specs.declared.exit.Exit.TheVariants as exits
@@ -49,26 +51,26 @@ of_read : (bytes : List ℕ) (r : Recording) (P : Recording → Type 0) → whol
 of_read bytes r P is h = subst (λ (read : Result Recording ℕ). SpellsSome read P) is h
 
 -- what an audit of a recording answers, of which it is known that it lacks nothing but memory
-only_memory : (loads : Bool) (bytes : List ℕ) (r : Recording) (exit : Exit) → whole_at bytes ≡ Ok r
-    → ((fault : AuditFault) → AuditRefuses Reduced r fault → fault ≡ faults.OutOfMemory)
-    → Refuses (Replay Reduced loads) bytes exit → exit ≡ exits.OutOfMemory
-only_memory loads bytes r (exits.Bad part) is knows it = let read : Ok r ≡ Err part = sym is ∙ it in absurd cc
-only_memory loads bytes r (exits.Stuck cut) is knows it =
-    let none = knows (faults.Stuck cut) (of_read bytes r (λ q. AuditRefuses Reduced q (faults.Stuck cut)) is it) in absurd cc
-only_memory loads bytes r (exits.Short core count) is knows it =
-    let none = knows (faults.Short core count) (of_read bytes r (λ q. AuditRefuses Reduced q (faults.Short core count)) is it) in
+only_memory : (which : Which) (loads : Bool) (bytes : List ℕ) (r : Recording) (exit : Exit) → whole_at bytes ≡ Ok r
+    → ((fault : AuditFault) → AuditRefuses which r fault → fault ≡ faults.OutOfMemory)
+    → Refuses (Replay which loads) bytes exit → exit ≡ exits.OutOfMemory
+only_memory which loads bytes r (exits.Bad part) is knows it = let read : Ok r ≡ Err part = sym is ∙ it in absurd cc
+only_memory which loads bytes r (exits.Stuck cut) is knows it =
+    let none = knows (faults.Stuck cut) (of_read bytes r (λ q. AuditRefuses which q (faults.Stuck cut)) is it) in absurd cc
+only_memory which loads bytes r (exits.Short core count) is knows it =
+    let none = knows (faults.Short core count) (of_read bytes r (λ q. AuditRefuses which q (faults.Short core count)) is it) in
     absurd cc
-only_memory loads bytes r (exits.Undetermined first second) is knows it =
+only_memory which loads bytes r (exits.Undetermined first second) is knows it =
     let none = knows (faults.Undetermined first second)
-    (of_read bytes r (λ q. AuditRefuses Reduced q (faults.Undetermined first second)) is it) in
+    (of_read bytes r (λ q. AuditRefuses which q (faults.Undetermined first second)) is it) in
     absurd cc
-only_memory loads bytes r (exits.CheckFailed failure) is knows it = absurd it
-only_memory loads bytes r exits.OutOfMemory is knows it = refl
-only_memory loads bytes r exits.Done is knows it = absurd it
-only_memory loads bytes r exits.Usage is knows it = absurd it
-only_memory loads bytes r exits.TooLarge is knows it = absurd it
-only_memory loads bytes r exits.ReadFault is knows it = absurd it
-only_memory loads bytes r exits.WriteFault is knows it = absurd it
+only_memory which loads bytes r (exits.CheckFailed failure) is knows it = absurd it
+only_memory which loads bytes r exits.OutOfMemory is knows it = refl
+only_memory which loads bytes r exits.Done is knows it = absurd it
+only_memory which loads bytes r exits.Usage is knows it = absurd it
+only_memory which loads bytes r exits.TooLarge is knows it = absurd it
+only_memory which loads bytes r exits.ReadFault is knows it = absurd it
+only_memory which loads bytes r exits.WriteFault is knows it = absurd it
 
 -- an edge that isn't in the least log, of a recording whose log is least
 none_amiss : (r : Recording) (failure : CheckFailure) → IsLeastIn r → IsNotLeast r failure → ⊥
@@ -119,24 +121,26 @@ keeps_run params choices seed input fits room =
     let schedule : Choices = choices_of choices seed in
     let r : Recording = recording_of image params schedule in
     let recorded = recorded_law image params schedule fits refl room in
-    let replays = reduced_replays image params schedule fits refl room in
+    let replays : (which : Which) → ReplaysRun image params schedule which r = λ which.
+    both_replay image params schedule which fits refl room in
     record {
       recorded = recorded;
+      regulates = run_regulated image params schedule fits refl room;
       replays = replays;
-      prints = λ loads out.
-          let same : replay_lines Reduced loads r ≡ state_lines (outcome_of image params schedule) image loads =
-          ap (λ (o : Outcome). state_lines o (replayed_image r) loads) replays.low
-          ∙ ap (λ (i : Contents). state_lines (outcome_of image params schedule) i loads) replays.image_is in (
-            (λ replayed. of_read (spelling r) r (λ q. out ≡ replay_lines Reduced loads q) recorded.read_back replayed ∙ same),
+      prints = λ which loads out.
+          let same : replay_lines which loads r ≡ state_lines (outcome_of image params schedule) image loads =
+          ap (λ (o : Outcome). state_lines o (replayed_image r) loads) (replays which).low
+          ∙ ap (λ (i : Contents). state_lines (outcome_of image params schedule) i loads) (replays which).image_is in (
+            (λ replayed. of_read (spelling r) r (λ q. out ≡ replay_lines which loads q) recorded.read_back replayed ∙ same),
             (λ ran.
-                subst (λ (read : Result Recording ℕ). SpellsSome read (λ q. out ≡ replay_lines Reduced loads q)) (sym recorded.read_back)
+                subst (λ (read : Result Recording ℕ). SpellsSome read (λ q. out ≡ replay_lines which loads q)) (sym recorded.read_back)
                 (ran ∙ sym same)),
           );
-      refuses = λ loads exit it.
-          only_memory loads (spelling r) r exit recorded.read_back replays.answers.not_audited it;
+      refuses = λ which loads exit it.
+          only_memory which loads (spelling r) r exit recorded.read_back (replays which).answers.not_audited it;
       certified = λ exit it.
-          certified_memory (spelling r) r exit recorded.read_back replays.answers.not_audited
-          (least_in_low image params schedule fits refl recorded replays.determinate) it;
+          certified_memory (spelling r) r exit recorded.read_back (replays Reduced).answers.not_audited
+          (least_in_low image params schedule fits refl recorded (replays Reduced).determinate) it;
     }
 
 -- so the promise of `record` stands whatever its options and its input are

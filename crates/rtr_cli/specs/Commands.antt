@@ -17,6 +17,7 @@ use Rattle.log_codec.specs.Validity.{Valid}
 use Rattle.replay_core.specs.Plans.{recorded_image}
 use Rattle.replay_audit.specs.declared.audit_fault.AuditFault.{AuditFault}
 use Rattle.replay_audit.specs.declared.audit_fault.AuditFault.TheVariants as faults
+use Rattle.run_replays.specs.BothLogs.{RegulatesRun}
 use Rattle.run_replays.specs.Replays.{ReplaysRun}
 use Rattle.replay_audit.specs.Audits.{AuditRefuses, EveryOrderAgrees}
 use Rattle.replay_audit.specs.Determinate.{IsDeterminate, low_outcome}
@@ -182,17 +183,22 @@ CheckEnds c exit = Ends (λ fault. AuditRefuses Reduced c.recording fault) (Chec
 -- ---- what is promised beside
 
 -- of the bytes of a recording. They are read back as it, and its reduced log is the least set of the run's accesses.
--- Every order that obeys this log replays the run. So `replay` of them prints what `run` prints of the same image and
--- options, and it and `certify` give nothing for no other reason than want of memory
+-- Each edge of its regulated log goes from an instruction to one that retired later, and each edge of the reduced log
+-- is before by it, with no more vectors than edges. Every order that obeys either log replays the run: it gives each
+-- load the run's value, and is whole or can go on; a whole one ends in the run's memory and cores. So `replay` of them
+-- with either log prints what `run` prints of the same image and options, and it and `certify` give nothing for no
+-- other reason than want of memory
 pub record KeepsRun (params : Params) (choices : List ℕ) (seed : ℕ) (input : List ℕ) : Type 0 where
   pub recorded : IsRecorded (image_of params input) params (choices_of choices seed)
-  pub replays : ReplaysRun (image_of params input) params (choices_of choices seed) Reduced
+  pub regulates : RegulatesRun (image_of params input) params (choices_of choices seed)
       (recording_of_input params choices seed input)
-  pub prints : (loads : Bool) (out : List ℕ)
-      → Makes (Replay Reduced loads) (spelling (recording_of_input params choices seed input)) out
+  pub replays : (which : Which) → ReplaysRun (image_of params input) params (choices_of choices seed) which
+      (recording_of_input params choices seed input)
+  pub prints : (which : Which) (loads : Bool) (out : List ℕ)
+      → Makes (Replay which loads) (spelling (recording_of_input params choices seed input)) out
       ↔ Makes (Run params choices seed loads) input out
-  pub refuses : (loads : Bool) (exit : Exit)
-      → Refuses (Replay Reduced loads) (spelling (recording_of_input params choices seed input)) exit
+  pub refuses : (which : Which) (loads : Bool) (exit : Exit)
+      → Refuses (Replay which loads) (spelling (recording_of_input params choices seed input)) exit
       → exit ≡ exits.OutOfMemory
   pub certified : (exit : Exit) → Refuses Certify (spelling (recording_of_input params choices seed input)) exit
       → exit ≡ exits.OutOfMemory

@@ -1,6 +1,6 @@
 //! Recordings of runs. What each row wants was worked out by hand: which accesses conflict and which edges
-//! imply the others, from the steps that the choices take, and the bytes from the formats. The regulated logs
-//! are empty, so that a recording ends with a byte 00 for each ordered pair of cores.
+//! imply the others, from the steps that the choices take, what is known from the messages that these bring,
+//! and the bytes from the formats.
 
 use crate::run_tables::{
     EIGHT_WORK, END, ENDLESS, HANDED_OVER, ONE_WORD, OWN_BYTES, OWN_WORDS, READER_EVICTS, SUM,
@@ -54,15 +54,29 @@ const OWN_WORDS_LOGS: &str = "cores 2 limit 10000 words 16 image 16\n\
     regulated 0 vectors 0 edges\n";
 
 /// What is said of one of `THREE_WORDS` where core 0's stores come before core 1's loads: each load needs an
-/// edge, as the store that it finds comes after those of the words before.
-const THREE_WORDS_LOGS: &str = "cores 2 limit 10000 words 32 image 48\n\
+/// edge, as the store that it finds comes after those of the words before. Where the third store is known two
+/// instructions before the load that finds it, by the strides of the first two edges, one vector has it.
+const THREE_WORDS_KNOWN: &str = "cores 2 limit 10000 words 32 image 48\n\
     total 0 6\n\
     total 1 8\n\
     reduced 3\n\
     edge 0:3 1:3\n\
     edge 0:4 1:4\n\
     edge 0:5 1:7\n\
-    regulated 0 vectors 0 edges\n";
+    regulated 1 vectors 3 edges\n\
+    vector 0 1 3 3 3 1 1\n";
+
+/// And where it is not known there, so that the third edge opens a vector.
+const THREE_WORDS_UNKNOWN: &str = "cores 2 limit 10000 words 32 image 48\n\
+    total 0 6\n\
+    total 1 8\n\
+    reduced 3\n\
+    edge 0:3 1:3\n\
+    edge 0:4 1:4\n\
+    edge 0:5 1:7\n\
+    regulated 2 vectors 3 edges\n\
+    vector 0 1 2 3 3 1 1\n\
+    vector 0 1 1 5 7\n";
 
 /// The rows.
 pub static RECORDINGS: [Recorded; 18] = [
@@ -90,29 +104,32 @@ pub static RECORDINGS: [Recorded; 18] = [
         "record --cores 2 --words 32 --choices 00000001010101010101010101010101",
         HANDED_OVER,
         "52545202 02 904e 20 20",
-        "0504 01 040103 01 020003",
-        2,
+        "0504 01 040103 01 020003 01 010302 01 010304",
+        0,
         "cores 2 limit 10000 words 32 image 32\n\
             total 0 5\n\
             total 1 4\n\
             reduced 2\n\
             edge 0:3 1:2\n\
             edge 1:3 0:4\n\
-            regulated 0 vectors 0 edges\n"
+            regulated 2 vectors 2 edges\n\
+            vector 0 1 1 3 2\n\
+            vector 1 0 1 3 4\n"
     ),
     // Bytes of one word conflict. Core 0's request is served first.
     recorded!(
         "record --cores 2 --words 16 --choices 000000000000000000000000",
         OWN_BYTES,
         "52545202 02 904e 10 0c",
-        "0303 00 01 020002",
-        2,
+        "0303 00 01 020002 01 010202 00",
+        0,
         "cores 2 limit 10000 words 16 image 12\n\
             total 0 3\n\
             total 1 3\n\
             reduced 1\n\
             edge 0:2 1:2\n\
-            regulated 0 vectors 0 edges\n"
+            regulated 1 vectors 1 edges\n\
+            vector 0 1 1 2 2\n"
     ),
     // Readers ordered through another word. The choices let core 1 end first, and then core 2; so core 1's
     // load at 3 comes before core 0's store at 4 by way of its store and core 2's loads.
@@ -120,8 +137,8 @@ pub static RECORDINGS: [Recorded; 18] = [
         "record --cores 3 --words 64 --choices 010101020201020201010101010101010101010101",
         READ_IN_TURN,
         "52545202 03 904e 40 2c",
-        "050506 01 040205 00 01 040104",
-        6,
+        "050506 01 040205 00 01 040104 00 00 00 01 010404 01 010504 00",
+        0,
         "cores 3 limit 10000 words 64 image 44\n\
             total 0 5\n\
             total 1 5\n\
@@ -129,48 +146,53 @@ pub static RECORDINGS: [Recorded; 18] = [
             reduced 2\n\
             edge 1:4 2:4\n\
             edge 2:5 0:4\n\
-            regulated 0 vectors 0 edges\n"
+            regulated 2 vectors 2 edges\n\
+            vector 1 2 1 4 4\n\
+            vector 2 0 1 5 4\n"
     ),
     // The fifth choice lets the request of one core or of the other be first.
     recorded!(
         "record --cores 2 --words 16 --choices 0000000000",
         ONE_WORD,
         "52545202 02 904e 10 0c",
-        "0303 00 01 020002",
-        2,
+        "0303 00 01 020002 01 010202 00",
+        0,
         "cores 2 limit 10000 words 16 image 12\n\
             total 0 3\n\
             total 1 3\n\
             reduced 1\n\
             edge 0:2 1:2\n\
-            regulated 0 vectors 0 edges\n"
+            regulated 1 vectors 1 edges\n\
+            vector 0 1 1 2 2\n"
     ),
     recorded!(
         "record --cores 2 --words 16 --choices 0000000001",
         ONE_WORD,
         "52545202 02 904e 10 0c",
-        "0303 01 020102",
-        3,
+        "0303 01 020102 00 00 01 010202",
+        0,
         "cores 2 limit 10000 words 16 image 12\n\
             total 0 3\n\
             total 1 3\n\
             reduced 1\n\
             edge 1:2 0:2\n\
-            regulated 0 vectors 0 edges\n"
+            regulated 1 vectors 1 edges\n\
+            vector 1 0 1 2 2\n"
     ),
     // Each core adds to one word: two atomic memory operations conflict.
     recorded!(
         "record --cores 2 --words 16 --choices 0000000000000000000000000000",
         SUM,
         "52545202 02 904e 10 10",
-        "0404 00 01 030003",
-        2,
+        "0404 00 01 030003 01 010303 00",
+        0,
         "cores 2 limit 10000 words 16 image 16\n\
             total 0 4\n\
             total 1 4\n\
             reduced 1\n\
             edge 0:3 1:3\n\
-            regulated 0 vectors 0 edges\n"
+            regulated 1 vectors 1 edges\n\
+            vector 0 1 1 3 3\n"
     ),
     // A read by the first writer between two writes: core 1 loads at 2, core 0 stores at 3 and loads at 4, core
     // 1 stores at 3. No edge leaves the first write.
@@ -178,56 +200,61 @@ pub static RECORDINGS: [Recorded; 18] = [
         "record --cores 2 --words 32 --choices 010101010000000101010100",
         HANDED_OVER,
         "52545202 02 904e 20 20",
-        "0504 01 030102 01 030004",
-        2,
+        "0504 01 030102 01 030004 01 010403 01 010203",
+        0,
         "cores 2 limit 10000 words 32 image 32\n\
             total 0 5\n\
             total 1 4\n\
             reduced 2\n\
             edge 0:4 1:3\n\
             edge 1:2 0:3\n\
-            regulated 0 vectors 0 edges\n"
+            regulated 2 vectors 2 edges\n\
+            vector 0 1 1 4 3\n\
+            vector 1 0 1 2 3\n"
     ),
     // PutS is stalled while Inv takes core 1's read copy back: its read goes home with the answer to Inv.
     recorded!(
         "record --cores 2 --words 96 --choices 01010101010000000000000000",
         READER_EVICTS,
         "52545202 02 904e 60 1c",
-        "0405 01 030103",
-        3,
+        "0405 01 030103 00 00 01 010303",
+        0,
         "cores 2 limit 10000 words 96 image 28\n\
             total 0 4\n\
             total 1 5\n\
             reduced 1\n\
             edge 1:3 0:3\n\
-            regulated 0 vectors 0 edges\n"
+            regulated 1 vectors 1 edges\n\
+            vector 1 0 1 3 3\n"
     ),
     // PutM is stalled while core 1's load, or its store, is forwarded to core 0.
     recorded!(
         "record --cores 2 --words 96 --choices 00000001010101010001000000",
         WRITER_EVICTS,
         "52545202 02 904e 60 1c",
-        "0504 00 01 030003",
-        2,
+        "0504 00 01 030003 01 010303 00",
+        0,
         "cores 2 limit 10000 words 96 image 28\n\
             total 0 5\n\
             total 1 4\n\
             reduced 1\n\
             edge 0:3 1:3\n\
-            regulated 0 vectors 0 edges\n"
+            regulated 1 vectors 1 edges\n\
+            vector 0 1 1 3 3\n"
     ),
     recorded!(
         "record --cores 2 --words 96 --choices 00000001010101010001000000",
         WRITERS_EVICT,
         "52545202 02 904e 60 1c",
-        "0504 00 01 030003",
-        2,
+        "0504 00 01 030003 01 010303 00",
+        0,
         "cores 2 limit 10000 words 96 image 28\n\
             total 0 5\n\
             total 1 4\n\
             reduced 1\n\
             edge 0:3 1:3\n\
-            regulated 0 vectors 0 edges\n"
+            regulated 1 vectors 1 edges\n\
+            vector 0 1 1 3 3\n"
     ),
     // Three stores and then three loads: all stores come first, or the third one after two of the loads, when
     // core 1 gives its read copy up again. The rises are 3 and 3, 1 and 1, 3 and 1.
@@ -235,17 +262,17 @@ pub static RECORDINGS: [Recorded; 18] = [
         "record --cores 2 --words 32 --choices 00000001010000",
         THREE_WORDS,
         "52545202 02 904e 20 30",
-        "0608 00 03 030003 010001 030001",
-        2,
-        THREE_WORDS_LOGS
+        "0608 00 03 030003 010001 030001 01 0303030101 00",
+        0,
+        THREE_WORDS_KNOWN
     ),
     recorded!(
         "record --cores 2 --words 32 --choices 000000010100010101010101010101010001010101",
         THREE_WORDS,
         "52545202 02 904e 20 30",
-        "0608 00 03 030003 010001 030001",
-        2,
-        THREE_WORDS_LOGS
+        "0608 00 03 030003 010001 030001 02 0203030101 010507 00",
+        0,
+        THREE_WORDS_UNKNOWN
     ),
     // Core 0 ends at the limit with its ECALL, and core 1 is stopped by it. No core stores anything.
     recorded!(

@@ -110,10 +110,20 @@ fn each_recording_replays_its_run(rt: HostRuntime) -> Result<(), Fail> {
         let options = row.words.strip_prefix("record").unwrap_or("");
         let words = format!(in alloc; "run{options} --loads")?;
         let run = ask(alloc, &words, bytes(alloc, row.image)?)?;
-        let replay = ask(alloc, "replay --loads", recording_of(alloc, row)?)?;
-        assert_eq!(rt; replay.status, 0, "{words}");
-        assert_eq!(rt; replay.output.as_slice(), run.output.as_slice(), "{words}");
-        assert_eq!(rt; replay.report.as_slice(), b"".as_slice(), "{words}");
+        for replays in ["replay --loads", "replay --log regulated --loads"] {
+            let replay = ask(alloc, replays, recording_of(alloc, row)?)?;
+            assert_eq!(rt; replay.status, 0, "{replays}: {words}");
+            assert_eq!(rt;
+                replay.output.as_slice(),
+                run.output.as_slice(),
+                "{replays}: {words}"
+            );
+            assert_eq!(rt;
+                replay.report.as_slice(),
+                b"".as_slice(),
+                "{replays}: {words}"
+            );
+        }
     }
     Ok(())
 }

@@ -2,7 +2,6 @@
 use Rattle.std.proofs.Common.{◌≡◌, ◌∙◌, refl, sym, ap, subst, ℕ, suc, ◌<◌, Option, Some, None, arith}
 use Rattle.std.specs.Prelude.{reverse}
 use Rattle.access_times.specs.Times.{times_riding}
-use Rattle.access_times.specs.declared.carry.NoCarry.{NoCarry}
 use Rattle.access_times.specs.declared.times.Times.{Times}
 use Rattle.image_mem.specs.Contents.{Contents}
 use Rattle.rtr_types.specs.Parameters.{Fits}
@@ -25,7 +24,8 @@ use Rattle.msi_times.specs.TimedSteps.{times_parts}
 use Rattle.online_reduce.specs.Exact.{AreExactFor}
 use Rattle.online_reduce.specs.Reduced.{clock_of, count_of}
 use Rattle.recorder.proofs.Standing.{step_exact}
-use Rattle.recorder.specs.Standing.{no_carrying}
+use Rattle.know_history.specs.Knowledge.{known_carrying}
+use Rattle.know_history.specs.declared.known.Known.{Known}
 use Rattle.run_laws.proofs.Retiring.{run_tells}
 use Rattle.run_records.proofs.Recording.{StandsWell, clerk_counts, enabled_here, stands_at}
 use Rattle.run_records.specs.Exactness.{ExactClocks, ExactClocksLaw, FoundTimesLaw, RetiredClockLaw}
@@ -34,7 +34,7 @@ use Rattle.run_records.specs.Standings.{Standing, found_by, next_move, reduction
 pub exact_clocks : ExactClocksLaw
 exact_clocks image params schedule t fits le =
     let w : Standing = standing_at image params schedule t in
-    let h = (stands_at image params schedule fits t le).records in
+    let h = (stands_at image params schedule fits t le).records.notes in
     record {
       counts = λ core lt. clerk_counts image params schedule t w.state w.clerk w.rest h core lt;
       clocks = λ core lt. h.reduces.reduction.exact.clocks core (omega (arith, lt, h.cores));
@@ -67,8 +67,8 @@ module _ (image : Contents) (params : Params) (schedule : Choices) (t : ℕ) (a 
   -- the recorder's machine takes the run's move
   here : next_move (standing_at image params schedule t) ≡ chosen (run image params (choice_at schedule) t) (choice_at schedule t)
   here =
-      ap (chosen (plain (standing_at image params schedule t).state)) (h.records.run.rest_is 0 ∙ ap choices (omega arith))
-      ∙ ap (λ (u : PlainState). chosen u (choices t)) h.records.run.state
+      ap (chosen (plain (standing_at image params schedule t).state)) (h.records.notes.run.rest_is 0 ∙ ap choices (omega arith))
+      ∙ ap (λ (u : PlainState). chosen u (choices t)) h.records.notes.run.state
 
   found_exactly : (o : Option Move) → next_move (standing_at image params schedule t) ≡ o
       → AreExactFor (accesses image params (choice_at schedule) t) a (found_by (standing_at image params schedule t) o)
@@ -76,17 +76,17 @@ module _ (image : Contents) (params : Params) (schedule : Choices) (t : ℕ) (a 
       absurd (no_access a (run image params choices t) (chosen (run image params choices t) (choices t)) (sym here ∙ none) is)
   found_exactly (Some m) some =
       let w : Standing = standing_at image params schedule t in
-      let s : State Times NoCarry = w.state in
-      let e : Event = event times_riding no_carrying s m in
-      let n : Node Times NoCarry = retiring times_riding no_carrying s m in
+      let s : State Times Known = w.state in
+      let e : Event = event times_riding known_carrying s m in
+      let n : Node Times Known = retiring times_riding known_carrying s m in
       let accessed : e ≡ Accesses a =
-      forgets_event times_riding no_carrying s m
-      ∙ ap (λ (u : PlainState). plain_event u m) h.records.run.state
+      forgets_event times_riding known_carrying s m
+      ∙ ap (λ (u : PlainState). plain_event u m) h.records.notes.run.state
       ∙ sym (ap (event_by (run image params choices t)) (sym here ∙ some))
       ∙ is in
       let can = enabled_here s (choice_at w.rest 0) m some in
-      step_exact e n h.records.list (accesses image params choices t) h.records.reduces.accesses_are h.records.reduces.exact
-      (λ b is_b. finds_exact times_parts no_carrying times_absorb (reverse h.records.list) s m b h.sound can is_b h.records.machine)
+      step_exact e n h.records.notes.list (accesses image params choices t) h.records.notes.reduces.accesses_are h.records.notes.reduces.exact
+      (λ b is_b. finds_exact times_parts known_carrying times_absorb (reverse h.records.notes.list) s m b h.sound can is_b h.records.notes.machine)
       a accessed
 
 pub found_times : FoundTimesLaw

@@ -6,7 +6,6 @@ use Rattle.std.proofs.lemmas.List.{length-map}
 use Rattle.std.proofs.lemmas.List.Elements.{filter_passes}
 use Rattle.access_times.specs.Riding.{none_riding, none_carrying}
 use Rattle.access_times.specs.Times.{times_riding}
-use Rattle.access_times.specs.declared.carry.NoCarry.{NoCarry}
 use Rattle.access_times.specs.declared.times.Times.{Times}
 use Rattle.image_mem.specs.Contents.{Contents}
 use Rattle.rtr_types.specs.Parameters.{Fits}
@@ -25,7 +24,7 @@ use Rattle.msi_sound.specs.Sound.{Sound}
 use Rattle.msi_sound.proofs.Begins.{chosen_at, sound_run, sound_start}
 use Rattle.msi_sound.proofs.Kept.{sound_kept}
 use Rattle.msi_state.specs.Moves.{candidates}
-use Rattle.msi_state.specs.Nodes.{Event, Nothing, Retires, Accesses, Tells, instr_of, rider_of_event}
+use Rattle.msi_state.specs.Nodes.{Event, Nothing, Retires, Accesses, carry_after, instr_of, rider_of_event}
 use Rattle.msi_state.specs.Plain.{plain, plain_node}
 use Rattle.msi_state.specs.Runs.{chosen, chosen_of, event_at, event_by, plain_event, plain_moves, run}
 use Rattle.msi_state.specs.States.{PlainState, State, all_done, node_at}
@@ -36,71 +35,126 @@ use Rattle.msi_times.proofs.RiderLaws.{times_absorb}
 use Rattle.msi_times.proofs.Timed.{finds_exact}
 use Rattle.msi_times.proofs.Told.{timed_told}
 use Rattle.msi_times.specs.TimedSteps.{times_parts}
-use Rattle.online_reduce.specs.Reduced.{IsNext, clock_of, count_of}
-use Rattle.run_outcome.specs.Loads.{lists_told}
-use Rattle.recorder.proofs.Standing.{Turned, records_next, records_start}
+use Rattle.online_reduce.proofs.ByPair.{length-by_pair}
+use Rattle.online_reduce.specs.Reduced.{IsNext, Reduced, clock_of, count_of, counted, edges_of, retired}
+use Rattle.run_outcome.specs.Loads.{lists_after, lists_told}
+use Rattle.know_history.specs.Knowledge.{known_carrying}
+use Rattle.know_history.specs.Notes.{IsNoted}
+use Rattle.know_history.specs.Rows.{with_note}
+use Rattle.know_history.specs.declared.known.Known.{Known}
+use Rattle.know_history.proofs.Noting.{is_noted}
+use Rattle.edge_regulate.specs.Regulated.{IsRegulation, Regulation}
+use Rattle.edge_regulate.proofs.Regulations.{regulation_is}
+use Rattle.recorder.proofs.KnownRuns.{none_chosen}
+use Rattle.recorder.proofs.Regulating.{counts_noted, edges_noted}
+use Rattle.recorder.proofs.Standing.{Told, Turned, notes_next, notes_same, notes_start}
 use Rattle.recorder.specs.Clerks.{Noted, ToldLocal, ToldTouch}
-use Rattle.recorder.specs.Standing.{RecordsAt, no_carrying}
+use Rattle.recorder.specs.Standing.{NotesAt, RecordsAt, Regulates}
 use Rattle.run_laws.specs.Retirement.{retired_count}
 use Rattle.run_laws.proofs.Retiring.{IsNextOf, run_tells}
 use Rattle.run_records.specs.Recorded.{RecordsLaw}
-use Rattle.run_records.specs.Standings.{Standing, clerk_after, moved_by, next_move, standing_at, standing_start, times_after}
+use Rattle.run_records.specs.Standings.{Standing, clerk_after, moved_by, next_move, regulation_of, standing_at, standing_start, times_after}
 
 -- the machine is sound and is recorded so far
 pub record StandsWell (image : Contents) (params : Params) (schedule : Choices) (t : ℕ) (w : Standing) : Type 0 where
-  pub sound : Sound times_riding no_carrying w.state
+  pub sound : Sound times_riding known_carrying w.state
   pub records : RecordsAt image params schedule t w.state w.clerk w.rest
 
 -- ---- what a choice takes
 
 -- it can be made
-pub enabled_here : (s : State Times NoCarry) (choice : ℕ) (m : Move) → chosen (plain s) choice ≡ Some m
-    → enabled times_riding no_carrying s m ≡ true
+pub enabled_here : (s : State Times Known) (choice : ℕ) (m : Move) → chosen (plain s) choice ≡ Some m
+    → enabled times_riding known_carrying s m ≡ true
 enabled_here s choice m is =
-    chosen_at (moves times_riding no_carrying s) (λ (x : Move). enabled times_riding no_carrying s x ≡ true) choice m
-    (filter_passes (enabled times_riding no_carrying s) (candidates (length s.nodes) (4 * length s.nodes)))
-    (ap (λ (ms : List Move). chosen_of ms choice) (same_moves times_riding no_carrying s) ∙ is)
-
--- where there are moves it takes one
-pub none_chosen : (ms : List Move) (choice : ℕ) → chosen_of ms choice ≡ None → 0 < length ms → ⊥
-none_chosen [] choice is some = omega (arith, some)
-none_chosen (m ∷ ms) choice is some = absurd cc
+    chosen_at (moves times_riding known_carrying s) (λ (x : Move). enabled times_riding known_carrying s x ≡ true) choice m
+    (filter_passes (enabled times_riding known_carrying s) (candidates (length s.nodes) (4 * length s.nodes)))
+    (ap (λ (ms : List Move). chosen_of ms choice) (same_moves times_riding known_carrying s) ∙ is)
 
 -- ---- where the clerk stands
 
 -- its counts are the run's
-pub clerk_counts : (image : Contents) (params : Params) (schedule : Choices) (t : ℕ) (s : State Times NoCarry) (c : Noted)
-    (rest : Choices) → RecordsAt image params schedule t s c rest → (core : ℕ) → core < params.cores
+pub clerk_counts : (image : Contents) (params : Params) (schedule : Choices) (t : ℕ) (s : State Times Known) (c : Noted)
+    (rest : Choices) → NotesAt image params schedule t s c rest → (core : ℕ) → core < params.cores
     → count_of c.reduction.state core ≡ retired_count image params (choice_at schedule) t core
 clerk_counts image params schedule t s c rest h core lt =
     let few : length s.nodes ≡ params.cores = sym (length-map s.nodes plain_node) ∙ h.run.cores in
     h.reduces.counts core (omega (arith, lt, h.cores))
     ∙ sym (h.machine.counts core (omega (arith, lt, few)))
-    ∙ sym (ap (λ n. n.core.count) (plain_node_at no_carrying s.nodes core))
+    ∙ sym (ap (λ n. n.core.count) (plain_node_at known_carrying s.nodes core))
     ∙ ap (λ (u : PlainState). (node_at none_carrying u.nodes core).core.count) h.run.state
 
--- what the clerk's calls do to what it holds
-abbrev IsToldLocal : Noted → Instr → NoCarry → Noted → Type 0
-IsToldLocal c at k d = ToldLocal c at d
-
-abbrev IsToldTouch : Noted → Times → Access → NoCarry → Noted → Times → Type 0
-IsToldTouch c r a k d q = ToldTouch c r a d q
+-- what the clerk holds after an event, before the regulation is told its edges
+with_untold : Noted → Event → Known → (found : Times) → Noted
+with_untold c Nothing known found = c
+with_untold c (Retires at) known found = record {
+  reduction = record { state = counted c.reduction.state at; ready = false };
+  loads = record { lists = c.loads.lists; roomy = false };
+  history = record { notes = with_note c.history.notes at known; ready = false };
+  untold = [];
+  regulation = c.regulation;
+}
+with_untold c (Accesses a) known found = record {
+  reduction = record { state = retired c.reduction.state a found; ready = false };
+  loads = record { lists = lists_after c.loads.lists a; roomy = false };
+  history = record { notes = with_note c.history.notes a.at known; ready = false };
+  untold = edges_of c.reduction.state a found;
+  regulation = c.regulation;
+}
 
 -- it is told of an event as it is to be
-told_of : (e : Event) (n : Node Times NoCarry) (k : NoCarry) (c : Noted)
+told_of : (e : Event) (n : Node Times Known) (k : Known) (c : Noted) → c.untold ≡ []
     → ((at : Instr) → instr_of e ≡ Some at → IsNext c.reduction.state at)
+    → ((at : Instr) → instr_of e ≡ Some at → IsNoted c.history.notes at k (with_note c.history.notes at k))
     → let found : Times = rider_of_event times_riding e n in
-    let d : Noted = clerk_after c e found in
-    Tells (λ c at k d. IsToldLocal c at k d) (λ c r a k d q. IsToldTouch c r a k d q) e k c found d
-    (times_after d.reduction.state e found)
-told_of Nothing n k c next = refl
-told_of (Retires at) n k c next = record { next = next at refl; loads = refl; reduction = refl }
-told_of (Accesses a) n k c next = record { next = next a.at refl; loads = refl; reduction = refl; times = refl }
+    let d : Noted = with_untold c e k found in
+    Told e k c found d (times_after d.reduction.state e found)
+unfolding with_untold
+told_of Nothing n k c none next noted = refl
+told_of (Retires at) n k c none next noted =
+    record { next = next at refl; loads = refl; reduction = refl; history = noted at refl; untold = refl; regulation = refl }
+told_of (Accesses a) n k c none next noted =
+    record { next = next a.at refl; loads = refl; reduction = refl; history = noted a.at refl; untold = refl; regulation = refl; times = refl }
 
-lists_are : (c : Noted) (e : Event) (found : Times) → (clerk_after c e found).loads.lists ≡ lists_told c.loads.lists e
-lists_are c Nothing found = refl
-lists_are c (Retires at) found = refl
-lists_are c (Accesses a) found = refl
+lists_are : (c : Noted) (e : Event) (k : Known) (found : Times) → (with_untold c e k found).loads.lists ≡ lists_told c.loads.lists e
+unfolding with_untold
+lists_are c Nothing k found = refl
+lists_are c (Retires at) k found = refl
+lists_are c (Accesses a) k found = refl
+
+-- but for the regulation and its edges the clerk holds the same once it has told them
+record SameNotes (d x : Noted) : Type 0 where
+  reduction : x.reduction.state ≡ d.reduction.state
+  loads : x.loads.lists ≡ d.loads.lists
+  history : x.history.notes ≡ d.history.notes
+
+same_notes : (c : Noted) (e : Event) (k : Known) (found : Times) → SameNotes (with_untold c e k found) (clerk_after c e k found)
+unfolding with_untold
+same_notes c Nothing k found = record { reduction = refl; loads = refl; history = refl }
+same_notes c (Retires at) k found = record { reduction = refl; loads = refl; history = refl }
+same_notes c (Accesses a) k found = record { reduction = refl; loads = refl; history = refl }
+
+-- ---- the regulation of what is noted
+
+regulates_of : (image : Contents) (params : Params) (schedule : Choices) (t : ℕ) (s : State Times Known) (c : Noted) (rest : Choices)
+    → NotesAt image params schedule t s c rest → c.untold ≡ [] → c.regulation ≡ regulation_of c.reduction.state c.history.notes
+    → Regulates c
+regulates_of image params schedule t s c rest h none is = record {
+  cores = ap (λ (r : Regulation). r.cores) is;
+  all_told = none;
+  regulation = subst (λ (r : Regulation). IsRegulation c.history.notes c.reduction.state.lists r) (sym is)
+      (regulation_is c.history.notes c.reduction.state.lists (regulation_of c.reduction.state c.history.notes)
+      (ap length h.reduces.reduction.by_pairs ∙ length-by_pair c.reduction.state.cores h.edges)
+      (edges_noted image params schedule t s c rest h) refl);
+}
+
+regulates_after : (image : Contents) (params : Params) (schedule : Choices) (t : ℕ) (s : State Times Known) (c : Noted) (rest : Choices)
+    (e : Event) (k : Known) (found : Times) → Regulates c → NotesAt image params schedule t s (clerk_after c e k found) rest
+    → Regulates (clerk_after c e k found)
+regulates_after image params schedule t s c rest Nothing k found kept h = kept
+regulates_after image params schedule t s c rest (Retires at) k found kept h =
+    regulates_of image params schedule t s (clerk_after c (Retires at) k found) rest h refl refl
+regulates_after image params schedule t s c rest (Accesses a) k found kept h =
+    regulates_of image params schedule t s (clerk_after c (Accesses a) k found) rest h refl refl
 
 -- ---- one choice
 
@@ -113,52 +167,73 @@ module _ (image : Contents) (params : Params) (schedule : Choices) (fits : Fits 
       → StandsWell image params schedule (suc t) (moved_by w (Some m))
   move_stands t w m is going h =
       let choices : ℕ → ℕ = choice_at schedule in
-      let s : State Times NoCarry = w.state in
-      let e : Event = event times_riding no_carrying s m in
-      let n : Node Times NoCarry = retiring times_riding no_carrying s m in
+      let s : State Times Known = w.state in
+      let c : Noted = w.clerk in
+      let e : Event = event times_riding known_carrying s m in
+      let n : Node Times Known = retiring times_riding known_carrying s m in
       let found : Times = rider_of_event times_riding e n in
-      let d : Noted = clerk_after w.clerk e found in
+      let k : Known = carry_after known_carrying n in
+      let d : Noted = with_untold c e k found in
+      let x : Noted = clerk_after c e k found in
       let left : Times = times_after d.reduction.state e found in
-      let after : State Times NoCarry = step times_riding no_carrying left s m in
-      let k : NoCarry = w.state.carry in
-      let can : enabled times_riding no_carrying s m ≡ true = enabled_here s (choice_at w.rest 0) m is in
-      let number : choice_at w.rest 0 ≡ choices t = h.records.run.rest_is 0 ∙ ap choices (omega arith) in
+      let after : State Times Known = step times_riding known_carrying left s m in
+      let notes : NotesAt image params schedule t w.state w.clerk w.rest = h.records.notes in
+      let can : enabled times_riding known_carrying s m ≡ true = enabled_here s (choice_at w.rest 0) m is in
+      let number : choice_at w.rest 0 ≡ choices t = notes.run.rest_is 0 ∙ ap choices (omega arith) in
       let taken : chosen (run image params choices t) (choices t) ≡ Some m =
-      ap (λ (u : PlainState). chosen u (choices t)) (sym h.records.run.state) ∙ ap (chosen (plain s)) (sym number) ∙ is in
+      ap (λ (u : PlainState). chosen u (choices t)) (sym notes.run.state) ∙ ap (chosen (plain s)) (sym number) ∙ is in
       let same : e ≡ event_at image params choices t =
-      forgets_event times_riding no_carrying s m
-      ∙ ap (λ (u : PlainState). plain_event u m) h.records.run.state
+      forgets_event times_riding known_carrying s m
+      ∙ ap (λ (u : PlainState). plain_event u m) notes.run.state
       ∙ sym (ap (event_by (run image params choices t)) taken) in
-      let next : (at : Instr) → instr_of e ≡ Some at → IsNext w.clerk.reduction.state at = λ at retires.
+      let next : (at : Instr) → instr_of e ≡ Some at → IsNext c.reduction.state at = λ at retires.
       let it : IsNextOf params.cores (retired_count image params choices t) at =
       (run_tells image params choices t fits.cores small).next at (ap instr_of (sym same) ∙ retires) in
       record {
-        core = omega (arith, it.core, h.records.cores);
-        count = it.count ∙ ap (λ i. i + 1) (sym (clerk_counts image params schedule t s w.clerk w.rest h.records at.core it.core));
+        core = omega (arith, it.core, notes.cores);
+        count = it.count ∙ ap (λ i. i + 1) (sym (clerk_counts image params schedule t s c w.rest notes at.core it.core));
       } in
-      let turned : Turned s after m w.clerk d w.rest (choices_after w.rest) = record {
+      let noted : (at : Instr) → instr_of e ≡ Some at → IsNoted c.history.notes at k (with_note c.history.notes at k) = λ at retires.
+      let here : IsNext c.reduction.state at = next at retires in
+      let few : length s.nodes ≡ params.cores = sym (length-map s.nodes plain_node) ∙ notes.run.cores in
+      is_noted c.history.notes at k (with_note c.history.notes at k) (omega (arith, here.core, notes.cores, few, notes.knows.cores))
+      (here.count ∙ ap (λ i. i + 1) (counts_noted image params schedule t s c w.rest notes at.core here.core)) refl in
+      let told : Told e k c found d left = told_of e n k c h.records.regulates.all_told next noted in
+      let turned : Turned s after m c d w.rest (choices_after w.rest) = record {
         steps = record {
           taken = is;
-          state = forgets_step times_riding no_carrying left s m;
+          state = forgets_step times_riding known_carrying left s m;
           told =
-              lists_are w.clerk e found
-              ∙ ap (λ (x : Event). lists_told w.clerk.loads.lists x) (forgets_event times_riding no_carrying s m);
+              lists_are c e k found
+              ∙ ap (λ (v : Event). lists_told c.loads.lists v) (forgets_event times_riding known_carrying s m);
           left = refl;
         };
-        event_is = forgets_event times_riding no_carrying s m;
-        carry = k;
+        event_is = forgets_event times_riding known_carrying s m;
+        rider = left;
+        state = refl;
         left = left;
-        told = told_of e n k w.clerk next;
+        told = told;
         stands = λ list f.
-            timed_told (λ c at k d. IsToldLocal c at k d) (λ c r a k d q. IsToldTouch c r a k d q)
-            (λ (c : Noted) core. clock_of c.reduction.state core) (λ c d before after a k told. told.times) no_carrying list s m
-            w.clerk d left k h.sound can (told_of e n k w.clerk next) f;
-        finds = λ list f a is_a. finds_exact times_parts no_carrying times_absorb (reverse list) s m a h.sound can is_a f;
+            timed_told (λ c at k d. ToldLocal c at k d) (λ c r a k d q. ToldTouch c r a k d q)
+            (λ (c : Noted) core. clock_of c.reduction.state core) (λ c d before after a k told. told.times) known_carrying list s m
+            c d left k h.sound can told f;
+        finds = λ list f a is_a. finds_exact times_parts known_carrying times_absorb (reverse list) s m a h.sound can is_a f;
       } in
+      let kept : SameNotes d x = same_notes c e k found in
+      let state : (moved_by w (Some m)).state ≡ after =
+      ap (λ (r : Reduced). step times_riding known_carrying (times_after r e found) s m) kept.reduction in
+      let there : NotesAt image params schedule (suc t) (moved_by w (Some m)).state x (choices_after w.rest) =
+      notes_same image params schedule (suc t) after (moved_by w (Some m)).state d x (choices_after w.rest) state kept.reduction kept.loads
+      kept.history
+      (notes_next image params schedule t s after m c d w.rest (choices_after w.rest) (ap all_done notes.run.state ∙ going) turned notes) in
       record {
-        sound = sound_kept times_riding no_carrying s m left can h.sound;
-        records = records_next image params schedule t s after m w.clerk d w.rest (choices_after w.rest)
-            (ap all_done h.records.run.state ∙ going) turned h.records;
+        sound = subst (λ (u : State Times Known). Sound times_riding known_carrying u) (sym state)
+            (sound_kept times_riding known_carrying s m left can h.sound);
+        records = record {
+          notes = there;
+          regulates = regulates_after image params schedule (suc t) (moved_by w (Some m)).state c (choices_after w.rest) e k found
+              h.records.regulates there;
+        };
       }
 
   next_stands : (t : ℕ) (w : Standing) → all_done (run image params (choice_at schedule) t) ≡ false
@@ -173,17 +248,19 @@ module _ (image : Contents) (params : Params) (schedule : Choices) (fits : Fits 
 
       by : (o : Option Move) → next_move w ≡ o → StandsWell image params schedule (suc t) (moved_by w o)
       by None is = absurd (none_chosen (plain_moves (plain w.state)) (choice_at w.rest 0) is
-          (subst (λ (u : PlainState). 0 < length (plain_moves u)) (sym h.records.run.state) some))
+          (subst (λ (u : PlainState). 0 < length (plain_moves u)) (sym h.records.notes.run.state) some))
       by (Some m) is = move_stands t w m is going h
 
   pub stands_at : (t : ℕ) → t ≤ end_of image params (choice_at schedule)
       → StandsWell image params schedule t (standing_at image params schedule t)
   stands_at zero le =
       let w : Standing = standing_start image params schedule in
+      let notes : NotesAt image params schedule 0 (standing_start image params schedule).state (standing_start image params schedule).clerk schedule =
+      notes_start image params schedule w.state w.clerk fits refl (plain_start times_riding known_carrying image params.cores params.limit)
+      refl refl refl in
       record {
-        sound = sound_start times_riding no_carrying image params.cores params.limit fits.cores small;
-        records = records_start image params schedule w.state w.clerk fits refl
-            (plain_start times_riding no_carrying image params.cores params.limit) refl refl;
+        sound = sound_start times_riding known_carrying image params.cores params.limit fits.cores small;
+        records = record { notes = notes; regulates = regulates_of image params schedule 0 w.state w.clerk w.rest notes refl refl };
       }
   stands_at (suc t) le =
       let ends = run_ends image params (choice_at schedule) (record { cores = fits.cores; limit = small }) in

@@ -1,5 +1,5 @@
 -- The recording of every run is valid, and its reduced log is least.
-use Rattle.std.proofs.Common.{◌≡◌, ◌∙◌, refl, ap, subst, ℕ, ◌*◌, ◌≤◌, true, length, arith}
+use Rattle.std.proofs.Common.{◌≡◌, ◌∙◌, refl, sym, ap, subst, ℕ, ◌*◌, ◌≤◌, true, length, arith}
 use Rattle.image_mem.specs.Contents.{Contents}
 use Rattle.rtr_types.specs.Parameters.{Fits}
 use Rattle.rtr_types.specs.declared.params.Params.{Params}
@@ -10,19 +10,23 @@ use Rattle.conflict_edge.specs.Conflicts.{CountsRise}
 use Rattle.conflict_edge.specs.Least.{IsLeast}
 use Rattle.log_codec.proofs.Whole.{spelled_is_read}
 use Rattle.log_codec.specs.declared.version.Version.TheVariants.{Two}
+use Rattle.edge_regulate.specs.Regulated.{Knowledge, regulated}
 use Rattle.log_codec.specs.Sources.{log_edges}
+use Rattle.log_codec.specs.declared.recording.Recording.{Recording}
 use Rattle.log_codec.specs.Validity.{Valid}
 use Rattle.msi_bound.specs.Ends.{end_of}
 use Rattle.msi_bound.proofs.Ends.{run_ends}
 use Rattle.msi_plain.proofs.Shows.{plain_done}
 use Rattle.msi_state.specs.States.{PlainState, all_done}
 use Rattle.run_outcome.proofs.Fitting.{run_image}
-use Rattle.recorder.proofs.Recordings.{ended, least_log, recording_is, recording_valid}
+use Rattle.recorder.proofs.Recordings.{Ended, ended, least_log, recording_is, recording_left, recording_valid, vectors_by}
+use Rattle.recorder.specs.Standing.{RecordsAt}
+use Rattle.recorder.specs.WhatIsKnown.{CountsKnown}
 use Rattle.recorder.specs.LeastLists.{AreOf}
 use Rattle.recorder.specs.Recordings.{run_accesses, recording_of}
 use Rattle.run_laws.proofs.Accessing.{accesses_law}
 use Rattle.run_records.proofs.Recording.{stands_at}
-use Rattle.run_records.specs.Recorded.{LeastLogLaw, RecordedLaw}
+use Rattle.run_records.specs.Recorded.{LeastLogLaw, RecordedLaw, RegulatedLogLaw}
 use Rattle.run_records.specs.Standings.{Standing, standing_at}
 
 -- ---- the reduced log
@@ -48,21 +52,47 @@ least_log_law image params schedule fits =
       needed = least_independent (run_accesses image params schedule) (log_edges Reduced (recording_of image params schedule)) least_here;
     }
 
+-- ---- the end of the run
+
+module _ (image : Contents) (params : Params) (schedule : Choices) (fits : Fits params) where
+  -- where the recorder stands then
+  last : Standing
+  last = standing_at image params schedule (end_of image params (choice_at schedule))
+
+  here : RecordsAt image params schedule (end_of image params (choice_at schedule)) last.state last.clerk last.rest
+  unfolding last
+  here = (stands_at image params schedule fits (end_of image params (choice_at schedule)) (omega arith)).records
+
+  same : last.state.image ≡ image
+  same = ap (λ (u : PlainState). u.image) here.notes.run.state ∙ run_image image params (choice_at schedule) (end_of image params (choice_at schedule))
+
+  at_end : Ended image params schedule last.state last.clerk
+  at_end =
+      let ends = run_ends image params (choice_at schedule) (record { cores = fits.cores; limit = omega (arith, fits.limit) }) in
+      ended image params schedule (end_of image params (choice_at schedule)) last.state last.clerk last.rest fits
+      (plain_done last.state ∙ ap all_done here.notes.run.state ∙ ends.done) here
+
+  is_recorded : recording_left params last.state last.clerk ≡ recording_of image params schedule
+  is_recorded = recording_is image params schedule last.state last.clerk fits same at_end
+
+  regulated_here : (known : Knowledge) → CountsKnown image params schedule known
+      → (recording_of image params schedule).regulated ≡ regulated params.cores known (recording_of image params schedule).reduced
+  regulated_here known counts =
+      ap (λ (r : Recording). r.regulated) (sym is_recorded)
+      ∙ vectors_by image params schedule last.state last.clerk fits same at_end known counts
+      ∙ ap (λ (r : Recording). regulated params.cores known r.reduced) is_recorded
+
+pub regulated_log_law : RegulatedLogLaw
+regulated_log_law image params schedule known fits counts = regulated_here image params schedule fits known counts
+
 -- ---- the spelling
 
 pub recording_valid_law : (image : Contents) (params : Params) (schedule : Choices) → Fits params
     → image.words ≡ params.words → length image.bytes ≤ 4 * params.words → Valid (recording_of image params schedule)
 recording_valid_law image params schedule fits words room =
-    let choices : ℕ → ℕ = choice_at schedule in
-    let t : ℕ = end_of image params choices in
-    let w : Standing = standing_at image params schedule t in
-    let h = (stands_at image params schedule fits t (omega arith)).records in
-    let ends = run_ends image params choices (record { cores = fits.cores; limit = omega (arith, fits.limit) }) in
-    let done : all_done w.state ≡ true = plain_done w.state ∙ ap all_done h.run.state ∙ ends.done in
-    let same : w.state.image ≡ image = ap (λ (u : PlainState). u.image) h.run.state ∙ run_image image params choices t in
-    let at = ended image params schedule t w.state w.clerk w.rest fits done h in
-    subst Valid (recording_is image params schedule w.state w.clerk same at)
-    (recording_valid image params schedule w.state w.clerk same at fits words room)
+    subst Valid (is_recorded image params schedule fits)
+    (recording_valid image params schedule (last image params schedule fits).state (last image params schedule fits).clerk fits
+    (same image params schedule fits) (at_end image params schedule fits) words room)
 
 pub recorded_law : RecordedLaw
 recorded_law image params schedule fits words room =

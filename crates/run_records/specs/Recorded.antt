@@ -10,10 +10,12 @@ use Rattle.rtr_types.specs.declared.params.Params.{Params}
 use Rattle.schedule_pick.specs.Choices.{Choices, choice_at}
 use Rattle.clock_core.specs.Order.{Among, Before}
 use Rattle.conflict_edge.specs.Least.{IsLeast, Others}
+use Rattle.edge_regulate.specs.Regulated.{Knowledge, regulated}
 use Rattle.log_codec.specs.Sources.{log_edges}
 use Rattle.msi_bound.specs.Ends.{end_of}
 use Rattle.recorder.specs.Recordings.{IsRecorded, run_accesses, recording_of}
 use Rattle.recorder.specs.Standing.{RecordsAt}
+use Rattle.recorder.specs.WhatIsKnown.{CountsKnown}
 use Rattle.run_records.specs.Standings.{Standing, standing_at}
 
 -- Until its end a run is recorded: the machine, the clerk and the choices that are left stand t choices into it.
@@ -38,3 +40,11 @@ abbrev pub LeastLogLaw : Type 0
 LeastLogLaw =
     (image : Contents) (params : Params) (schedule : Choices) → Fits params
     → IsLeastLog (run_accesses image params schedule) (log_edges Reduced (recording_of image params schedule))
+
+-- The regulated log has each pair's greedy vectors of the reduced edges, by whatever counts what is known in the run.
+abbrev pub RegulatedLogLaw : Type 0
+RegulatedLogLaw =
+    (image : Contents) (params : Params) (schedule : Choices) (known : Knowledge) → Fits params
+    → CountsKnown image params schedule known
+    → (recording_of image params schedule).regulated
+    ≡ regulated params.cores known (recording_of image params schedule).reduced

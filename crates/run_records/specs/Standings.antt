@@ -2,13 +2,17 @@
 -- clocks that are noted.
 use Rattle.std.specs.Prelude.{ℕ, zero, suc, List, [], Option, Some, None, false, replicate}
 use Rattle.access_times.specs.Times.{fresh_times, times_noted, times_riding}
-use Rattle.access_times.specs.declared.carry.NoCarry.{NoCarry}
 use Rattle.access_times.specs.declared.times.Times.{Times}
 use Rattle.image_mem.specs.Contents.{Contents}
 use Rattle.rtr_types.specs.declared.params.Params.{Params}
 use Rattle.rv_core.specs.declared.outcome.LoadNote.{LoadNote}
 use Rattle.schedule_pick.specs.Choices.{Choices, choice_at, choices_after}
-use Rattle.msi_state.specs.Nodes.{Event, Nothing, Retires, Accesses, rider_of_event}
+use Rattle.know_history.specs.Knowledge.{known_carrying}
+use Rattle.know_history.specs.Notes.{Notes, known_at, no_notes}
+use Rattle.know_history.specs.Rows.{with_note}
+use Rattle.know_history.specs.declared.known.Known.{Known}
+use Rattle.edge_regulate.specs.Regulated.{Regulation, regulated}
+use Rattle.msi_state.specs.Nodes.{Event, Nothing, Retires, Accesses, carry_after, rider_of_event}
 use Rattle.msi_state.specs.Plain.{plain}
 use Rattle.msi_state.specs.Runs.{chosen}
 use Rattle.msi_state.specs.States.{State, state_start}
@@ -17,26 +21,34 @@ use Rattle.msi_state.specs.declared.moves.Move.{Move}
 use Rattle.run_outcome.specs.Loads.{lists_after}
 use Rattle.online_reduce.specs.Reduced.{Reduced, clock_of, counted, retired, unreduced}
 use Rattle.recorder.specs.Clerks.{Noted}
-use Rattle.recorder.specs.Standing.{no_carrying}
 
 -- the machine, what the clerk holds, and the choices that are left
 pub record Standing : Type 0 where
-  pub state : State Times NoCarry
+  pub state : State Times Known
   pub clerk : Noted
   pub rest : Choices
 
--- what the clerk holds with this reduction and these loads; of room it says nothing
-abbrev pub holding : Reduced → List (List LoadNote) → Noted
-holding r lists = record {
+-- the regulation of the reduction's edges, by what is noted
+abbrev pub regulation_of : Reduced → Notes → Regulation
+regulation_of r notes = record { cores = r.cores; vectors = regulated r.cores (known_at notes) r.lists; ready = [] }
+
+-- what the clerk holds with this reduction, these loads and these notes; of room it says nothing
+abbrev pub holding : Reduced → List (List LoadNote) → Notes → Noted
+holding r lists notes = record {
   reduction = record { state = r; ready = false };
   loads = record { lists = lists; roomy = false };
+  history = record { notes = notes; ready = false };
+  untold = [];
+  regulation = regulation_of r notes;
 }
 
--- and after an event whose access found these times
-abbrev pub clerk_after : Noted → Event → (found : Times) → Noted
-clerk_after c Nothing found = c
-clerk_after c (Retires at) found = holding (counted c.reduction.state at) c.loads.lists
-clerk_after c (Accesses a) found = holding (retired c.reduction.state a found) (lists_after c.loads.lists a)
+-- and after an event that was told with this carry, whose access found these times
+abbrev pub clerk_after : Noted → Event → Known → (found : Times) → Noted
+clerk_after c Nothing known found = c
+clerk_after c (Retires at) known found =
+    holding (counted c.reduction.state at) c.loads.lists (with_note c.history.notes at known)
+clerk_after c (Accesses a) known found =
+    holding (retired c.reduction.state a found) (lists_after c.loads.lists a) (with_note c.history.notes a.at known)
 
 -- the times that it leaves: the access is noted with its core's clock
 abbrev pub times_after : Reduced → Event → (found : Times) → Times
@@ -51,16 +63,17 @@ next_move w = chosen (plain w.state) (choice_at w.rest 0)
 abbrev pub found_by : Standing → Option Move → Times
 found_by w None = fresh_times
 found_by w (Some m) =
-    rider_of_event times_riding (event times_riding no_carrying w.state m) (retiring times_riding no_carrying w.state m)
+    rider_of_event times_riding (event times_riding known_carrying w.state m) (retiring times_riding known_carrying w.state m)
 
 -- what stands after a move of which the clerk was told
 abbrev pub moved_by : Standing → Option Move → Standing
 moved_by w None = w
 moved_by w (Some m) =
-    let e = event times_riding no_carrying w.state m in
-    let clerk = clerk_after w.clerk e (found_by w (Some m)) in
+    let e = event times_riding known_carrying w.state m in
+    let known = carry_after known_carrying (retiring times_riding known_carrying w.state m) in
+    let clerk = clerk_after w.clerk e known (found_by w (Some m)) in
     record {
-      state = step times_riding no_carrying (times_after clerk.reduction.state e (found_by w (Some m))) w.state m;
+      state = step times_riding known_carrying (times_after clerk.reduction.state e (found_by w (Some m))) w.state m;
       clerk = clerk;
       rest = choices_after w.rest;
     }
@@ -68,8 +81,8 @@ moved_by w (Some m) =
 -- before the first choice, and after t choices
 abbrev pub standing_start : Contents → Params → Choices → Standing
 standing_start image params schedule = record {
-  state = state_start times_riding no_carrying image params.cores params.limit;
-  clerk = holding (unreduced params.cores) (replicate params.cores []);
+  state = state_start times_riding known_carrying image params.cores params.limit;
+  clerk = holding (unreduced params.cores) (replicate params.cores []) (no_notes params.cores);
   rest = schedule;
 }
 

@@ -1,5 +1,5 @@
 //! What is exact along every run, and what its recording is, with no machine at hand.
-ghost use Rattle.run_records.specs.Recorded.{LeastLogLaw, RecordedLaw, RecordsLaw};
+ghost use Rattle.run_records.specs.Recorded.{LeastLogLaw, RecordedLaw, RecordsLaw, RegulatedLogLaw};
 ghost use Rattle.run_records.specs.Exactness.{ExactClocksLaw, FoundTimesLaw, RetiredClockLaw};
 
 /// After each choice of a run, until its end, the recorder's machine and clerk stand where the run does.
@@ -17,8 +17,10 @@ pub fn clocks_and_times_are_exact()
 {}
 
 /// The recording of every run is valid, so its spelling is read back as it. Its reduced log is the least
-/// set of the run's accesses, and each edge of it is a conflict that the others leave unordered.
+/// set of the run's accesses, and each edge of it is a conflict that the others leave unordered. Its
+/// regulated log has each pair's greedy vectors of these edges, by whatever counts what is known in the run.
 pub fn every_recording_is_read_back_and_least()
     ensures recorded { RecordedLaw }
     ensures least { LeastLogLaw }
+    ensures regulated { RegulatedLogLaw }
 {}

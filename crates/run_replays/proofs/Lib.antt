@@ -1,2 +1,3 @@
 pub mod Decided
 pub mod Replayed
+pub mod BothLogs

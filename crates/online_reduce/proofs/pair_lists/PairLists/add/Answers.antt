@@ -1,6 +1,6 @@
 use Rattle.std.proofs.Common.{◌≡◌, ◌<◌, ◌+◌, ◌-◌, ◌∙◌, ◌++◌, ◌∷◌, [], ap, sym, arith, ℕ, length, refl, vec_len, vec_capacity, take, subst, suc}
 use Rattle.std.proofs.lemmas.Bool.{and_parts}
-use Rattle.std.proofs.lemmas.List.{length-set}
+use Rattle.std.proofs.lemmas.List.{length-set, length_push}
 use Rattle.online_reduce.specs.Lists.{PairRoom, counts, with_edges}
 use Rattle.online_reduce.specs.declared.TheConstants.{EDGES_MAX}
 use Rattle.online_reduce.specs.Rule.{edge_to}
@@ -13,6 +13,8 @@ pub loop-source-init : goal.loop-source-init
 unfolding with_edges
 loop-source-init c = record {
   lists = ap (λ v. v.lists) c.self.view_is;
+  edges = c.clear.ensures;
+  few = omega (arith, ap length c.clear.ensures);
   room = have_room c.self.inside.lists.items (ap (λ v. v.roomy) c.self.view_is ∙ c.requires.room);
   whole = omega arith;
   len = refl;
@@ -87,6 +89,9 @@ loop-source-preserved c =
                 ∙ ap (with_edges c.args.cores c.args.self.now.lists)
                 (chosen_push at before found i s edges
                 (edges ++ edge_to at s ∷ []) c.is_kept.result c.loop-source-test.true c.source-item.is c.is_kept.ensures w.if-is_kept.true refl refl);
+            edges = ap (λ v. v) w.edges-is ∙ chosen_push at before found i s l.edges w.push.new.self c.is_kept.result c.loop-source-test.true c.source-item.is
+                c.is_kept.ensures w.if-is_kept.true w.push.ensures l.invariant.edges;
+            few = omega (arith, l.invariant.few, ap length w.edges-is, ap length w.push.ensures, length_push l.edges (edge_to at s));
             room = room_left rooms w.pair_at-place.result (EDGES_MAX - (i + 1)) w.index_mut.result.now new
                 (counts (edge_to at s)) within w.index_mut.ensures.value w.push-roomy.ensures.edges w.push-roomy.ensures.room
                 (subst (λ (n : ℕ). HaveRoom rooms n) left l.invariant.room);
@@ -103,6 +108,10 @@ loop-source-preserved c =
             lists = l.invariant.lists
                 ∙ ap (with_edges c.args.cores c.args.self.now.lists)
                 (chosen_skip at before found i s edges c.is_kept.result c.loop-source-test.true c.source-item.is c.is_kept.ensures w.if-is_kept.false refl);
+            edges = ap (λ v. v) w.edges-is
+                ∙ chosen_skip at before found i s l.edges c.is_kept.result c.loop-source-test.true c.source-item.is c.is_kept.ensures w.if-is_kept.false
+                l.invariant.edges;
+            few = omega (arith, l.invariant.few, ap length w.edges-is);
             room = room_same rooms (EDGES_MAX - i) (EDGES_MAX - (i + 1)) (omega arith) l.invariant.room;
             whole = l.invariant.whole;
             len = l.invariant.len;
@@ -112,9 +121,15 @@ loop-source-preserved c =
           )
     ]
 
-pub returns : goal.returns
-returns c =
+pub returns-clause-lists : goal.returns-clause-lists
+returns-clause-lists c =
     let l = c.loop-source in
     l.invariant.lists
     ∙ ap (with_edges c.args.cores c.args.self.now.lists)
     (chosen_all c.args.at c.args.before.now c.args.found.now l.source-index _ (omega (arith, c.loop-source-test.false, l.auto.source-index-end)) refl)
+
+pub returns-clause-edges : goal.returns-clause-edges
+returns-clause-edges c =
+    let l = c.loop-source in
+    chosen_all c.args.at c.args.before.now c.args.found.now l.source-index l.edges (omega (arith, c.loop-source-test.false, l.auto.source-index-end))
+    l.invariant.edges

@@ -27,7 +27,7 @@ pub invariant_of-self : goal.invariant_of-self
 invariant_of-self c = (
   c.self.invariant.0,
   length-set c.self.inside.clocks c.args.access.now.at.core c.clock_into-clock.result ∙ c.self.invariant.1,
-  ap length c.add.ensures ∙ length-added c.self.inside.cores c.self.inside.pairs.lists _ ∙ c.self.invariant.2,
+  ap length c.add.ensures.lists ∙ length-added c.self.inside.cores c.self.inside.pairs.lists _ ∙ c.self.invariant.2,
 )
 
 pub returns-clause-held : goal.returns-clause-held

@@ -2,8 +2,8 @@ use Rattle.std.proofs.Common.{◌≡◌, ◌%◌, ◌∙◌, ap, sym, arith, Som
 use Rattle.rtr_types.specs.declared.TheConstants.{BLOCK_WORDS}
 use Rattle.access_times.specs.Times.{write_at}
 use Rattle.online_reduce.proofs.Found.{load_one, load_own, load_unwritten}
-use Rattle.online_reduce.proofs.reducer.Reducer.touch_load.Goals as goal
-use Rattle.online_reduce.proofs.reducer.Reducer.touch_load.Goals.{in-Some+else-is_of_other, in_default}
+use Rattle.online_reduce.proofs.reducer.Reducer.retire_load.Goals as goal
+use Rattle.online_reduce.proofs.reducer.Reducer.retire_load.Goals.{in-Some+else-is_of_other, in_default}
 
 pub settle-requires-clause-found : goal.settle-requires-clause-found
 settle-requires-clause-found c =

@@ -1,0 +1,62 @@
+//! The edges into one access.
+ghost use Rattle.std.specs.Prelude.{◌≡◌, ◌<◌, ◌++◌, [], ◌∷◌, length};
+ghost use Rattle.online_reduce.specs.declared.TheConstants.{EDGES_MAX};
+
+use crate::EDGES_MAX;
+use rtr_types::Edge;
+use std::marker::Model;
+
+/// The edges into one access, in places of the value itself, so that a list takes no memory and isn't
+/// moved to be handed on. Contracts see the list.
+#[derive(Drop)]
+pub struct EdgeList {
+    places: [Edge; EDGES_MAX],
+    len: usize,
+}
+
+impl Model for EdgeList {
+    ghost use Rattle.std.specs.Prelude.{List, ◌≡◌, ◌≤◌, length, take};
+    ghost use Rattle.online_reduce.specs.declared.TheConstants.{EDGES_MAX};
+    ghost use Rattle.rtr_types.specs.declared.instr.Edge.{Edge};
+
+    ghost Value = { List Edge };
+
+    ghost view = { λ a. take a.len a.places };
+
+    ghost invariant = { λ a. (a.len ≤ EDGES_MAX) × (length a.places ≡ EDGES_MAX) };
+}
+
+impl EdgeList {
+    /// No edges.
+    pub fn new() -> EdgeList
+        ensures { result ≡ [] }
+    {
+        EdgeList {
+            places: [Edge::default(); EDGES_MAX],
+            len: 0,
+        }
+    }
+
+    /// Takes all edges out.
+    pub fn clear(&mut self)
+        ensures { self.new ≡ [] }
+    {
+        self.len = 0;
+    }
+
+    /// Puts an edge at the end.
+    pub(crate) fn push(&mut self, edge: Edge)
+        requires { length self.old < EDGES_MAX }
+        ensures { self.new ≡ self.old ++ edge ∷ [] }
+    {
+        self.places[self.len] = edge;
+        self.len += 1;
+    }
+
+    /// The edges, in the order in which they were put.
+    pub fn as_slice(&self) -> &[Edge]
+        ensures { result.now ≡ self.now }
+    {
+        &self.places[..self.len]
+    }
+}

@@ -1,0 +1,176 @@
+//! Runs of all cores, whose recorded vectors are those of a slow program, which is written from the
+//! definition over what is known at each retirement.
+use crate::least_tests::{PARAMS, SEEDS, STEPS, image};
+use access_times::{Clerk, NoRider, Rider};
+use know_history::Known;
+use msi_machine::Machine;
+use recorder::record_run;
+use rtr_types::{Access, CORES_MAX, Instr, pair_count, pair_of};
+use schedule_pick::Schedule;
+use std::alloc::{AllocError, Global};
+use std::test::Fail;
+use stride_vector::StrideVector;
+
+/// Holds the instruction that it was told of last, with what is known at it. It accepts each instruction.
+#[derive(Drop)]
+struct Keeper {
+    told: Option<(Instr, Known)>,
+}
+
+impl<R: Rider> Clerk<R, Known> for Keeper {
+    ghost accepts = { λ c i. Unit {0} };
+
+    ghost told_local = { λ c i k d. Unit {0} };
+
+    ghost told_touch = { λ c r a k d q. q ≡ r };
+
+    fn local(&mut self, at: Instr, carry: Known) {
+        self.told = Some((at, carry));
+    }
+
+    fn touched(&mut self, access: Access, _rider: &mut R, carry: Known) {
+        self.told = Some((access.at, carry));
+    }
+}
+
+/// What was known at each retirement of a run under the seed, in their order, by a machine that records no
+/// times.
+fn known_in_run(alloc: Global, seed: u64) -> Result<Vec<(Instr, Known)>, Fail> {
+    let mut machine = Machine::<NoRider, Known>::new(alloc, image(alloc)?, PARAMS)?;
+    let mut schedule = Schedule::new(Vec::new(alloc), seed);
+    let mut rows = Vec::new(alloc);
+    for _ in 0..STEPS {
+        machine.make_room()?;
+        if !machine.done() {
+            let mut keeper = Keeper { told: None };
+            let _ = machine.step(schedule.next(), &mut keeper);
+            rows.extend(keeper.told)?;
+        }
+    }
+    Ok(rows)
+}
+
+/// Whether the source's instruction is known at the target's.
+fn is_known(rows: &[(Instr, Known)], source: (u8, u64), target: (u8, u64)) -> bool {
+    for (at, known) in rows {
+        if at.core == target.0 && at.count as u64 == target.1 && source.0 < CORES_MAX {
+            return source.1 <= known.count(source.0) as u64;
+        }
+    }
+    false
+}
+
+/// The position that would come next, at the distance of the last two.
+fn next_position(positions: &[(u64, u64)]) -> Option<(u64, u64)> {
+    let (last, before) = positions.split_last()?;
+    let previous = before.last()?;
+    let source = last.0.saturating_add(last.0.saturating_sub(previous.0));
+    let target = last.1.saturating_add(last.1.saturating_sub(previous.1));
+    Some((source, target))
+}
+
+/// What the open vector, with these positions, does with the next edge: it takes it with a further position
+/// or with none, or does not take it.
+enum Answer {
+    Adds((u64, u64)),
+    Covers,
+    Ends,
+}
+
+fn taking(
+    rows: &[(Instr, Known)],
+    pair: (u8, u8),
+    positions: &[(u64, u64)],
+    edge: (u64, u64),
+) -> Answer {
+    for position in positions {
+        if position.0 >= edge.0 {
+            return Answer::Covers;
+        }
+    }
+    let Some(next) = next_position(positions) else {
+        return if positions.is_empty() {
+            Answer::Ends
+        } else {
+            Answer::Adds(edge)
+        };
+    };
+    let implies = next.0 >= edge.0 && next.1 <= edge.1;
+    if implies && is_known(rows, (pair.0, next.0), (pair.1, next.1)) {
+        Answer::Adds(next)
+    } else {
+        Answer::Ends
+    }
+}
+
+/// The positions of each vector of one pair's edges, one after the other, and how many vectors there are.
+fn slow(
+    alloc: Global,
+    rows: &[(Instr, Known)],
+    pair: (u8, u8),
+    edges: &[(u32, u32)],
+) -> Result<(Vec<(u64, u64)>, u64), AllocError> {
+    let mut all = Vec::new(alloc);
+    let mut open = Vec::new(alloc);
+    let mut vectors = 0u64;
+    for (from, to) in edges {
+        let edge = (*from as u64, *to as u64);
+        match taking(rows, pair, &open, edge) {
+            Answer::Adds(position) => {
+                open.push(position)?;
+                all.push(position)?;
+            }
+            Answer::Covers => {}
+            Answer::Ends => {
+                open.clear();
+                open.push(edge)?;
+                all.push(edge)?;
+                vectors = vectors.saturating_add(1);
+            }
+        }
+    }
+    Ok((all, vectors))
+}
+
+/// The positions of the vectors, by their numbers.
+fn positions_of(alloc: Global, vectors: &[StrideVector]) -> Result<Vec<(u64, u64)>, AllocError> {
+    let mut all = Vec::new(alloc);
+    for vector in vectors {
+        let mut position = (vector.a0 as u64, vector.b0 as u64);
+        for _ in 0..vector.n {
+            all.push(position)?;
+            position.0 = position.0.saturating_add(vector.sa as u64);
+            position.1 = position.1.saturating_add(vector.sb as u64);
+        }
+    }
+    Ok(all)
+}
+
+#[test]
+fn the_vectors_are_those_of_the_definition(rt: HostRuntime) -> Result<(), Fail> {
+    let alloc = rt.alloc();
+    let mut saved = 0u64;
+    for seed in &SEEDS {
+        let rows = known_in_run(alloc, *seed)?;
+        let schedule = Schedule::new(Vec::new(alloc), *seed);
+        let run = record_run(alloc, image(alloc)?, PARAMS, schedule)?;
+        for place in 0..pair_count(CORES_MAX) {
+            let reduced = run.recording.reduced.as_slice();
+            let regulated = run.recording.regulated.as_slice();
+            if let (Some(edges), Some(vectors)) = (reduced.get(place), regulated.get(place)) {
+                let pair = pair_of(CORES_MAX, place);
+                let (wanted, count) = slow(alloc, &rows, pair, edges.as_slice())?;
+                let found = positions_of(alloc, vectors.as_slice())?;
+                assert_eq!(rt;
+                    found.as_slice(),
+                    wanted.as_slice(),
+                    "seed {seed} pair {place}"
+                );
+                assert_eq!(rt; vectors.len() as u64, count, "seed {seed} pair {place}");
+                saved = saved.saturating_add((edges.len() as u64).saturating_sub(count));
+            }
+        }
+    }
+    assert!(rt; saved > 0);
+    Ok(())
+}

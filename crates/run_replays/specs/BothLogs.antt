@@ -1,0 +1,36 @@
+-- Both logs of what a run records.
+use Rattle.std.specs.Prelude.{◌≡◌, ℕ, ◌*◌, ◌≤◌, [], length, slice_index_or}
+use Rattle.image_mem.specs.Contents.{Contents}
+use Rattle.rtr_types.specs.Parameters.{Fits}
+use Rattle.rtr_types.specs.declared.pairs.Which.{Which}
+use Rattle.rtr_types.specs.declared.pairs.Which.TheVariants.{Regulated}
+use Rattle.rtr_types.specs.declared.params.Params.{Params}
+use Rattle.schedule_pick.specs.Choices.{Choices}
+use Rattle.log_codec.specs.declared.recording.Recording.{Recording}
+use Rattle.recorder.specs.Recordings.{recording_of}
+use Rattle.run_replays.specs.Deciding.{CoversRun}
+use Rattle.run_replays.specs.Replays.{ReplaysRun}
+
+-- no pair has more vectors than reduced edges
+abbrev pub HasFewVectors : Recording → Type 0
+HasFewVectors r =
+    (place : ℕ) → length (slice_index_or r.regulated place []) ≤ length (slice_index_or r.reduced place [])
+
+-- the regulated log of a run: each of its edges goes forward in the run, each reduced edge is before by it, and it has
+-- at most as many vectors as the reduced log has edges
+pub record RegulatesRun (image : Contents) (params : Params) (schedule : Choices) (r : Recording) : Type 0 where
+  pub covers : CoversRun image params schedule Regulated r
+  pub few : HasFewVectors r
+
+abbrev pub RunRegulatedLaw : Type 0
+RunRegulatedLaw =
+    (image : Contents) (params : Params) (schedule : Choices) → Fits params → image.words ≡ params.words
+    → length image.bytes ≤ 4 * params.words
+    → RegulatesRun image params schedule (recording_of image params schedule)
+
+-- By either log what is recorded replays the run.
+abbrev pub BothReplayLaw : Type 0
+BothReplayLaw =
+    (image : Contents) (params : Params) (schedule : Choices) (which : Which) → Fits params
+    → image.words ≡ params.words → length image.bytes ≤ 4 * params.words
+    → ReplaysRun image params schedule which (recording_of image params schedule)
