@@ -1,11 +1,11 @@
 -- The memory has room for the flat image.
-use Rattle.std.proofs.Common.{◌≡◌, ◌≢◌, ◌⊎◌, inl, inr, ℕ, ◌*◌, ◌<◌, ◌≤◌, Bool, true, false, List, length, arith, refl, None}
+use Rattle.std.proofs.Common.{◌≡◌, ℕ, ◌*◌, ◌<◌, ◌≤◌, Bool, true, false, List, length, arith, refl, None}
 use Rattle.std.proofs.lemmas.Bool.Decides.{nat_tests}
 use Rattle.image_elf.specs.declared.program_header.ProgramHeader.{ProgramHeader}
-use Rattle.image_elf.specs.Headers.{entry, has, header, header_count, is_loaded, range_end}
+use Rattle.image_elf.specs.Headers.{entry, has, header, header_count, is_loaded}
 use Rattle.image_elf.specs.FlatImage.{flat_image}
 use Rattle.image_elf.specs.Faults.{elf_fault, header_fault, is_within_memory}
-use Rattle.image_elf.specs.Cases.{EndsBy, IsLoadedBy}
+use Rattle.image_elf.specs.Cases.{EndsBy}
 use Rattle.image_elf.proofs.CaseLemmas.{no_fault_below}
 use Rattle.image_elf.proofs.FlatLemmas.{is_flat_image, passes}
 
