@@ -16,11 +16,11 @@ use Rattle.image_elf.proofs.RangeLemmas.{taken}
 use Rattle.image_elf.proofs.CaseLemmas.{no_fault_below, loads, loads_none, within, least}
 
 -- what a file without a fault passes
-record Passes (file : List ℕ) (words : ℕ) : Type 0 where
-  headers : first_header_fault file words (header_count file) ≡ None
-  start : (entry file ≡ 0) ⊎ (is_taken file (header_count file) 0 4 ≡ false)
+pub record Passes (file : List ℕ) (words : ℕ) : Type 0 where
+  pub headers : first_header_fault file words (header_count file) ≡ None
+  pub start : (entry file ≡ 0) ⊎ (is_taken file (header_count file) 0 4 ≡ false)
 
-passes : (file : List ℕ) (words : ℕ) → elf_fault file words ≡ None → Passes file words
+pub passes : (file : List ℕ) (words : ℕ) → elf_fault file words ≡ None → Passes file words
 unfolding elf_fault
 passes file words e = record {
   headers = grind (arith, nat_tests);

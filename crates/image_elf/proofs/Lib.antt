@@ -7,3 +7,4 @@ pub mod FlatLemmas
 pub mod FillLemmas
 pub mod LawLemmas
 pub mod CellLemmas
+pub mod RoomLemmas

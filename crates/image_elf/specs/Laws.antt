@@ -1,8 +1,10 @@
 -- What the tests of headers come to.
-use Rattle.std.specs.Prelude.{◌≡◌, ◌↔◌, ℕ, ◌<◌, ◌≤◌, true, IsTrue, List, Some, None}
+use Rattle.std.specs.Prelude.{◌≡◌, ◌↔◌, ℕ, ◌*◌, ◌<◌, ◌≤◌, true, IsTrue, List, length, Some, None}
 use Rattle.image_elf.specs.declared.elf_fault.ElfFault.{ElfFault}
 use Rattle.image_elf.specs.Headers.{header, has}
-use Rattle.image_elf.specs.Faults.{first_header_fault, header_fault, is_taken}
+use Rattle.image_elf.specs.FlatImage.{flat_image}
+use Rattle.image_elf.specs.Cases.{IsFlatImage}
+use Rattle.image_elf.specs.Faults.{elf_fault, first_header_fault, header_fault, is_taken}
 
 -- an address from the first one up to the end that the range of a loaded header, one of the first n, has
 pub record HasAddress (file : List ℕ) (n first end : ℕ) : Type 0 where
@@ -28,3 +30,8 @@ pub record IsFirstFault (file : List ℕ) (words n : ℕ) (fault : ElfFault) : T
 abbrev pub FirstFaultLaw : Type 0
 FirstFaultLaw = (file : List ℕ) (words n : ℕ) (fault : ElfFault)
     → (first_header_fault file words n ≡ Some fault) ↔ IsFirstFault file words n fault
+
+-- the flat image of a file without a fault is one, and the memory has room for it
+abbrev pub FlatImageLaw : Type 0
+FlatImageLaw = (file : List ℕ) (words : ℕ) → elf_fault file words ≡ None
+    → IsFlatImage file (flat_image file) × (length (flat_image file) ≤ 4 * words)

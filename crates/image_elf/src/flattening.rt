@@ -1,5 +1,5 @@
 //! From a file to its flat image.
-ghost use Rattle.std.specs.Prelude.{◌≡◌, ◌⊎◌, ◌≤◌, pos, IsTrue, MatchResult, IfOk, Some, None};
+ghost use Rattle.std.specs.Prelude.{◌≡◌, ◌⊎◌, ◌≤◌, ◌*◌, pos, length, IsTrue, MatchResult, IfOk, Some, None};
 ghost use Rattle.rtr_types.specs.Sizes.{words_max};
 ghost use Rattle.image_elf.specs.declared.elf_fault.ElfFault.TheVariants.{OutOfMemory};
 ghost use Rattle.rv_decode.specs.Ranges.{Fits};
@@ -27,6 +27,7 @@ pub fn flatten(alloc: Global, file: &[u8], words: u32) -> Result<Vec<u8>, ElfFau
     requires { words ≤ words_max }
     // Which bytes the image has, and where it ends.
     ensures image { IfOk result (λ image. IsFlatImage file.now image.items) }
+    ensures room { IfOk result (λ image. length image.items ≤ 4 * words) }
     // Ok comes exactly where the file has no fault, and each fault exactly where it is the file's first; want of
     // memory may take the place of either.
     ensures answer { MatchResult result

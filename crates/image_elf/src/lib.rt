@@ -13,7 +13,7 @@ mod segments;
 
 pub use elf_fault::ElfFault;
 pub use flattening::flatten;
-pub use laws::fault_laws;
+pub use laws::{fault_laws, image_law};
 
 #[cfg(test)]
 mod tests;

@@ -2,6 +2,7 @@ use Rattle.std.proofs.Common.{inl, inr}
 use Rattle.std.proofs.lemmas.Result.{err_from_is_err_and}
 use Rattle.image_elf.proofs.FaultLemmas.{bad_entry, bad_header, bad_headers, no_fault_at_all, not_elf}
 use Rattle.image_elf.proofs.FlatLemmas.{is_flat_image}
+use Rattle.image_elf.proofs.RoomLemmas.{flat_image_fits}
 use Rattle.image_elf.proofs.flattening.flatten.Goals as goal
 
 pub returns-then-not-is_elf-clause-answer : goal.returns-then-not-is_elf-clause-answer
@@ -41,3 +42,10 @@ returns-clause-answer c =
     (rw c.accepts_header.ensures at c.if-not-accepts_header.false) c.in_ok-cells.ensures.1
     (rw c.accepts_entry.ensures at c.if-not-accepts_entry.false) in
     (fine, c.in_ok-image_of.ensures)
+
+pub returns-clause-room : goal.returns-clause-room
+returns-clause-room c =
+    let fine = no_fault_at_all c.args.file.now c.args.words (rw c.is_elf.ensures at c.if-not-is_elf.false)
+    (rw c.accepts_header.ensures at c.if-not-accepts_header.false) c.in_ok-cells.ensures.1
+    (rw c.accepts_entry.ensures at c.if-not-accepts_entry.false) in
+    rw c.in_ok-image_of.ensures (flat_image_fits c.args.file.now c.args.words fine)
