@@ -1,5 +1,5 @@
 -- The test of exact entries.
-use Rattle.std.proofs.Common.{inl, inr, ◌≡◌, ◌≢◌, ◌⊎◌, ◌↔◌, ℕ, zero, suc, ◌<◌, ◌≤◌, List, [], ◌∷◌, Bool, true, false, cond, ◌||◌, max, nat_eq}
+use Rattle.std.proofs.Common.{inl, inr, ◌≡◌, ◌≢◌, ◌⊎◌, ◌↔◌, ℕ, ◌<◌, ◌≤◌, List, [], ◌∷◌, Bool, true, false, cond, ◌||◌, max, nat_eq}
 use Rattle.std.proofs.Common.{refl, sym, ap, ◌∙◌, arith}
 use Rattle.std.proofs.lemmas.Bool.Decides.{nat_tests}
 use Rattle.std.proofs.lemmas.Bool.{cases_lt}
@@ -9,8 +9,8 @@ use Rattle.clock_core.specs.Order.{Relation, Among, previous}
 use Rattle.clock_core.specs.Reach.{IsClock, with_own}
 use Rattle.clock_core.proofs.Reach.{one_clock_law}
 use Rattle.clock_entries.specs.Ends.{is_same, IsEnd}
-use Rattle.clock_entries.specs.Entries.{Entry, IsLastEntry, AreExact}
-use Rattle.clock_entries.specs.Laws.{IsAcyclic, IsBelowSources, IsLog}
+use Rattle.clock_entries.specs.Entries.{Entry}
+use Rattle.clock_entries.specs.Laws.{IsBelowSources}
 use Rattle.clock_entries.specs.Tests.{each_place, is_exact_at, most_before, most_of_sources, HasPlaces, ExactPassesLaw, NextExactLaw}
 use Rattle.clock_entries.proofs.Ends.{cases, same_is, same_of, end_counts, end_source}
 use Rattle.clock_entries.proofs.Exact.{exact_is_good, next_clock}

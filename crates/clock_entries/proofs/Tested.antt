@@ -1,6 +1,6 @@
 -- The tests tell which entries are good and which edges are needed.
 use Rattle.std.proofs.Common.{inl, inr, ◌≡◌, ◌≢◌, ◌⊎◌, ℕ, zero, suc, ◌<◌, ◌≤◌, List, [], ◌∷◌, Bool, true, false, ◌&&◌, ◌||◌, not, nat_eq, nat_le, nat_lt}
-use Rattle.std.proofs.Common.{refl, sym, ap, subst, ◌∙◌, arith}
+use Rattle.std.proofs.Common.{refl, ap, subst, ◌∙◌, arith}
 use Rattle.std.specs.List.{list_all}
 use Rattle.std.proofs.lemmas.Bool.Decides.{nat_tests}
 use Rattle.std.proofs.lemmas.Bool.{cases_lt}
@@ -8,7 +8,7 @@ use Rattle.rtr_types.specs.declared.instr.Instr.{Instr}
 use Rattle.rtr_types.specs.declared.instr.Edge.{Edge}
 use Rattle.clock_core.specs.Order.{Among, previous}
 use Rattle.clock_entries.specs.Ends.{is_same, IsEnd}
-use Rattle.clock_entries.specs.Entries.{Entry, IsGoodAt, AreGood, IsNeeded}
+use Rattle.clock_entries.specs.Entries.{Entry, IsGoodAt, IsNeeded}
 use Rattle.clock_entries.specs.Tests.{each_end, each_place, is_below, is_below_but, are_sources_below, is_good_at, is_unknown_by_others, is_needed}
 use Rattle.clock_entries.specs.Tests.{HasPlaces, GoodTest, NeededTest}
 use Rattle.clock_entries.proofs.Ends.{cases, same_is, same_of, end_edge, end_source, end_target}
