@@ -1,13 +1,13 @@
 -- A part is named exactly where the parts below are spelled by a front of the bytes and no valid one follows.
-use Rattle.std.proofs.Common.{◌≡◌, ◌≢◌, ℕ, ◌≤◌, inl, inr, ◌⊎◌, nat_le, nat_eq, List, [], length, Result, Ok, Err, refl, sym, ap, subst, ◌∙◌, arith}
+use Rattle.std.proofs.Common.{◌≡◌, ◌≢◌, ℕ, ◌≤◌, inl, inr, ◌⊎◌, nat_le, nat_eq, List, [], length, Result, Ok, Err, sym, ap, subst, ◌∙◌, arith}
 use Rattle.std.specs.Prelude.{slice_index}
 use Rattle.log_codec.specs.declared.codec_fault.TheConstants.{HEADER, REGULATED}
 use Rattle.log_codec.specs.declared.recording.Recording.{Recording}
-use Rattle.log_codec.specs.BadParts.{FrontNames, UpToRegulated}
+use Rattle.log_codec.specs.BadParts.{UpToRegulated}
 use Rattle.log_codec.specs.Faults.{◌>>=◌}
 use Rattle.log_codec.specs.Laws.{IsBytes}
 use Rattle.log_codec.specs.Reading.{number_at, front_at}
-use Rattle.log_codec.specs.Turns.{read_in_turn, stay, count_up}
+use Rattle.log_codec.specs.Turns.{stay, count_up}
 use Rattle.log_codec.proofs.BadPartLaws.{after-5, at_end, bad_part, end-names, end-some, never-both, no-reading, read-all, some-end}
 use Rattle.log_codec.proofs.Named.{Names, bind-err, bind-names, guard-names, number-names, turns-name}
 use Rattle.log_codec.proofs.Steps.{bind_ok, ok_is}
