@@ -10,15 +10,17 @@
 set -eu
 cd "$(dirname "$0")/.."
 tool=$PWD/crates/rtr/out/rtr
-command=${1:?run, record or replay}
+command=${1:?run, record, replay, certify or check}
 shift
 [ $# -gt 0 ] || set -- 10 100 500
 [ -x "$tool" ] || { echo "build the tool first: (cd crates/rtr && rt run -- record) < crates/rtr/stdin" >&2; exit 1; }
 place=$(mktemp -d)
 trap 'rm -rf "$place"' EXIT
 options="--cores 2 --limit 100000 --words 128 --seed 7"
-words="$command $options"
-[ "$command" != replay ] || words=replay
+case $command in
+  run | record) words="$command $options" ;;
+  *) words=$command ;;
+esac
 
 # A word as four bytes, the least first.
 word() { printf "\\x$(printf %02x $(($1 & 255)))\\x$(printf %02x $(($1 >> 8 & 255)))\\x$(printf %02x $(($1 >> 16 & 255)))\\x$(printf %02x $(($1 >> 24 & 255)))"; }
@@ -32,8 +34,14 @@ lock() {
   done
 }
 
-# What the command reads for an image: the image, or for a replay the recording of its run.
-input() { if [ "$command" = replay ]; then "$tool" record $options < "$1"; else cat "$1"; fi; }
+# What the command reads for an image: the image, or the recording of its run, or the certificate of that.
+input() {
+  case $command in
+    run | record) cat "$1" ;;
+    check) "$tool" record $options < "$1" | "$tool" certify ;;
+    *) "$tool" record $options < "$1" ;;
+  esac
+}
 
 # The host instructions of the command on an input.
 host() { valgrind --tool=callgrind --callgrind-out-file=/dev/null "$tool" $words < "$1" 2>&1 >/dev/null | sed -n 's/.*Collected : *//p'; }

@@ -3,3 +3,4 @@ pub mod Whole
 pub mod Edges
 pub mod Marks
 pub mod Ends
+pub mod Named

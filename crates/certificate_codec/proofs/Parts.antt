@@ -1,10 +1,9 @@
 -- The sixth part: what is read is spelled so, and what is spelled is read again.
-use Rattle.std.proofs.Common.{inl, inr, ◌≡◌, ◌⊎◌, ℕ, zero, suc, ◌^◌, ◌<◌, ◌≤◌, true, cond, nat_le, nat_eq, List, [], ◌++◌, length, get_or, ◌+◌, Ok, Err, refl}
+use Rattle.std.proofs.Common.{inl, inr, ◌≡◌, ◌⊎◌, ℕ, ◌^◌, ◌<◌, ◌≤◌, true, cond, nat_le, nat_eq, List, [], ◌++◌, length, get_or, ◌+◌, Ok, Err, refl}
 use Rattle.std.proofs.Common.{sym, ap, subst, ◌∙◌, append_assoc, arith}
 use Rattle.std.specs.Prelude.{slice_index}
 use Rattle.std.proofs.lemmas.Bool.Decides.{nat_tests}
 use Rattle.std.proofs.lemmas.List.{get_or_past}
-use Rattle.rtr_types.specs.declared.instr.Edge.{Edge}
 use Rattle.log_codec.specs.declared.recording.Recording.{Recording}
 use Rattle.log_codec.specs.Faults.{◌>>=◌}
 use Rattle.log_codec.specs.Laws.{IsBytes}
@@ -15,9 +14,7 @@ use Rattle.log_codec.specs.Validity.{Valid}
 use Rattle.log_codec.proofs.Steps.{bind_ok, guard_ok, Takes, Takes-then}
 use Rattle.log_codec.proofs.FieldLaws.{number_again, number_takes}
 use Rattle.log_codec.proofs.InTurn.{turns_take, turns_again, stand-places}
-use Rattle.clock_entries.specs.Ends.{ends_to}
-use Rattle.clock_entries.proofs.Ends.{ends_none}
-use Rattle.clock_entries.proofs.Numbers.{Grown, grows}
+use Rattle.clock_entries.proofs.Numbers.{few}
 use Rattle.certificate_codec.specs.declared.certificate.TheConstants.{CLOCKS}
 use Rattle.certificate_codec.specs.Ends.{reduced_edges, end_count}
 use Rattle.certificate_codec.specs.declared.certificate.Certificate.{Certificate}
@@ -109,14 +106,6 @@ totals_small r valid c = by (in_list c (length r.totals))
     by : (c < length r.totals) ⊎ (length r.totals ≤ c) → slice_index r.totals c < 2 ^ 32
     by (inl lt) = let a = valid.totals c 0 lt in let b = valid.params.limit in omega arith
     by (inr past) = let e = get_or_past r.totals c 0 past in omega arith
-
-few : (edges : List Edge) (c n : ℕ) → length (ends_to edges c n) ≤ n
-few edges c zero = let e = ap (λ (l : List ℕ). length l) (ends_none edges c) in omega arith
-few edges c (suc n) = by (grows edges c n) (few edges c n)
-  where
-    by : Grown edges c n ⊎ (ends_to edges c (suc n) ≡ ends_to edges c n) → length (ends_to edges c n) ≤ n → length (ends_to edges c (suc n)) ≤ suc n
-    by (inl g) le = let e = g.len in omega arith
-    by (inr e) le = let f = ap (λ (l : List ℕ). length l) e in omega arith
 
 pub few_ends : (r : Recording) → Valid r → (c : ℕ) → end_count r c < 2 ^ 32
 few_ends r valid c = let a = few (reduced_edges r) c (slice_index r.totals c) in let b = totals_small r valid c in omega arith

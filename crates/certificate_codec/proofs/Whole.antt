@@ -20,7 +20,7 @@ use Rattle.certificate_codec.specs.Reading.{clocks_at, parts_at, certificate_at}
 use Rattle.certificate_codec.specs.Laws.{ReadIsSpelled, SpelledIsRead, WrittenSpells, PrefixFree}
 use Rattle.certificate_codec.proofs.Parts.{clocks_take, clocks_again}
 
-abbrev made_of : Recording → List (List (List ℕ)) → Certificate
+abbrev pub made_of : Recording → List (List (List ℕ)) → Certificate
 made_of r clocks = record { recording = r; clocks = clocks }
 
 -- a certificate that was taken from the front of the bytes

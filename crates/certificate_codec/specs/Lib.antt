@@ -3,3 +3,4 @@ pub mod Validity
 pub mod Spelling
 pub mod Reading
 pub mod Laws
+pub mod BadParts

@@ -15,7 +15,7 @@ pub cases : (b : Bool) → (b ≡ true) ⊎ (b ≡ false)
 cases true = inl refl
 cases false = inr refl
 
-same_is : (x y : Instr) → x ≡ y → is_same x y ≡ true
+pub same_is : (x y : Instr) → x ≡ y → is_same x y ≡ true
 same_is x y e = let a : x.core ≡ y.core = ap (λ (z : Instr). z.core) e in let b : x.count ≡ y.count = ap (λ (z : Instr). z.count) e in grind (arith, nat_tests)
 
 or_first : (a b c : Bool) → a ≡ true → (a || b) || c ≡ true
@@ -46,7 +46,7 @@ or_cases true b c e = inl refl
 or_cases false true c e = inr (inl refl)
 or_cases false false c e = inr (inr e)
 
-same_of : (x y : Instr) → is_same x y ≡ true → x ≡ y
+pub same_of : (x y : Instr) → is_same x y ≡ true → x ≡ y
 same_of x y t = let a : x.core ≡ y.core = grind (arith, nat_tests) in let b : x.count ≡ y.count = grind (arith, nat_tests) in instr_eq x y a b
 
 pub end_edge : (edges : List Edge) (x : Instr) → IsEnd edges x → (y : Instr) × (Among edges x y ⊎ Among edges y x)

@@ -31,6 +31,15 @@ grows edges c n = by (cases (is_end edges (instr c (suc n))))
     })
     by (inr f) = inr (ends_stay edges c n f)
 
+-- ends are no more than their greatest count
+pub few : (edges : List Edge) (c n : ℕ) → length (ends_to edges c n) ≤ n
+few edges c zero = let e = ap (λ (l : List ℕ). length l) (ends_none edges c) in omega arith
+few edges c (suc n) = by (grows edges c n) (few edges c n)
+  where
+    by : Grown edges c n ⊎ (ends_to edges c (suc n) ≡ ends_to edges c n) → length (ends_to edges c n) ≤ n → length (ends_to edges c (suc n)) ≤ suc n
+    by (inl g) le = let e = g.len in omega arith
+    by (inr e) le = let f = ap (λ (l : List ℕ). length l) e in omega arith
+
 -- the k-th end, from 0
 abbrev pub end_at : List Edge → (c n k : ℕ) → ℕ
 end_at edges c n k = get_or (ends_to edges c n) k 0

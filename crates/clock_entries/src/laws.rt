@@ -2,6 +2,7 @@
 ghost use Rattle.clock_entries.specs.Laws.{LastEntryLaw, EveryClockLaw, NextClockLaw, ExactIsGoodLaw, GoodIsAtLeastLaw};
 ghost use Rattle.clock_entries.specs.Laws.{NeededLaw, ImpliedLaw, NeededOrKnownLaw, GoodShowsLeastLaw};
 ghost use Rattle.clock_entries.specs.Laws.{LeastIsNeededLaw, AmissLaw};
+ghost use Rattle.clock_entries.specs.Tests.{ExactPassesLaw, GoodTest, NeededTest, NextExactLaw};
 
 /// Clocks kept at edge ends give each instruction its last entry; where they are exact, that is its
 /// clock but for its own place, and the next clock of a core is merged of last entries.
@@ -31,4 +32,13 @@ pub fn certificates_show_least()
     ensures shown { GoodShowsLeastLaw }
     ensures shows { LeastIsNeededLaw }
     ensures amiss { AmissLaw }
+{}
+
+/// Which entries are good, and which edges are needed, can be tested by computing. So can exact entries be,
+/// where the log has an order: exact ones pass, and one that passes is exact where those that lead to it are.
+pub fn entry_tests()
+    ensures good { GoodTest }
+    ensures needed { NeededTest }
+    ensures passes { ExactPassesLaw }
+    ensures next { NextExactLaw }
 {}

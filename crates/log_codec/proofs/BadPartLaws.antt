@@ -33,11 +33,11 @@ bytes-after (x ∷ a) b h = bytes-after a b h.1
 rest-bytes : (bytes text rest : List ℕ) → IsBytes bytes → bytes ≡ text ++ rest → IsBytes rest
 rest-bytes bytes text rest are is = bytes-after text rest (subst IsBytes is are)
 
-no-reading : {A : Type 0} (k : ℕ) (r : Result A ℕ) → Names k r → ((x : A) → r ≡ Ok x → ⊥) → r ≡ Err k
+pub no-reading : {A : Type 0} (k : ℕ) (r : Result A ℕ) → Names k r → ((x : A) → r ≡ Ok x → ⊥) → r ≡ Err k
 no-reading k (Ok x) names none = absurd (none x refl)
 no-reading {A} k (Err p) names none = ap (λ (n : ℕ). let x : Result A ℕ = Err n in x) (names p refl)
 
-never-both : {A : Type 0} (k : ℕ) (r : Result A ℕ) (x : A) → r ≡ Err k → r ≡ Ok x → ⊥
+pub never-both : {A : Type 0} (k : ℕ) (r : Result A ℕ) (x : A) → r ≡ Err k → r ≡ Ok x → ⊥
 never-both k r x e f = let both : Err k ≡ Ok x = sym e ∙ f in absurd cc
 
 record Small (p : Params) : Type 0 where
@@ -133,7 +133,7 @@ after-4 bytes rest u =
     ∙ ap (λ r. r >>= after_reduced f.params t.two.image t.totals)
     (reduced-read f.version f.params t.before t.totals u.before u.reduced rest f.header.limits t.third u.fourth)
 
-after-5 : (bytes rest : List ℕ) (u : UpToRegulated bytes rest) →
+pub after-5 : (bytes rest : List ℕ) (u : UpToRegulated bytes rest) →
     front_at bytes ≡ Ok (made_of u.four.three.two.first.params u.four.three.two.image u.four.three.totals u.four.reduced u.regulated, rest)
 after-5 bytes rest u =
     let r = u.four in
@@ -366,7 +366,7 @@ front_names bytes are = record {
 -- ---- the end
 
 -- all parts but for the end are valid
-read-all : (bytes : List ℕ) (r : Recording) (rest : List ℕ) → IsBytes bytes → front_at bytes ≡ Ok (r, rest) → UpToRegulated bytes rest
+pub read-all : (bytes : List ℕ) (r : Recording) (rest : List ℕ) → IsBytes bytes → front_at bytes ≡ Ok (r, rest) → UpToRegulated bytes rest
 unfolding front_at
 read-all bytes r rest are e =
     let h = bind_ok (header_at bytes) after_header (r, rest) e in
@@ -389,44 +389,44 @@ read-all bytes r rest are e =
     subst (UpToRegulated bytes) (ap (λ (x : Recording × List ℕ). x.1) all) five
 
 -- the last step, which wants no byte more
-abbrev at_end : Recording × List ℕ → Result Recording ℕ
-at_end front = cond (eqb (length front.1) 0) (Ok front.0) (Err END)
+abbrev pub at_end : {A : Type 0} → ℕ → A × List ℕ → Result A ℕ
+at_end part front = cond (eqb (length front.1) 0) (Ok front.0) (Err part)
 
-end-names : (front : Recording × List ℕ) → Names END (at_end front)
-end-names front = guard-names END (eqb (length front.1) 0) front.0
+pub end-names : {A : Type 0} (part : ℕ) (front : A × List ℕ) → Names part (at_end part front)
+end-names part front = guard-names part (eqb (length front.1) 0) front.0
 
-end-some : (front : Recording × List ℕ) → at_end front ≡ Err END → front.1 ≢ []
-end-some front e none =
+pub end-some : {A : Type 0} (part : ℕ) (front : A × List ℕ) → at_end part front ≡ Err part → front.1 ≢ []
+end-some part front e none =
     let zero_is : eqb (length front.1) 0 ≡ true = eq-eqb (length front.1) 0 (ap (λ (l : List ℕ). length l) none) in
-    let done : Ok front.0 ≡ Err END = subst (λ (b : Bool). cond b (Ok front.0) (Err END) ≡ Err END) zero_is e in
+    let done : Ok front.0 ≡ Err part = subst (λ (b : Bool). cond b (Ok front.0) (Err part) ≡ Err part) zero_is e in
     absurd cc
 
-some-end : (front : Recording × List ℕ) → front.1 ≢ [] → at_end front ≡ Err END
-some-end front some =
+pub some-end : {A : Type 0} (part : ℕ) (front : A × List ℕ) → front.1 ≢ [] → at_end part front ≡ Err part
+some-end part front some =
     let long : eqb (length front.1) 0 ≡ false = ne_eqb (length front.1) 0 (λ none. some (nil_from_length front.1 none)) in
     rw long refl
 
 whole_names : (bytes : List ℕ) → IsBytes bytes → WholeNames bytes
 unfolding whole_at
 whole_names bytes are = record {
-  below = λ part not. (λ e. below part not e, λ e. ap (λ r. r >>= at_end) e);
-  end = (λ e. forth (bind-err (front_at bytes) at_end END e), λ x. ap (λ r. r >>= at_end) (after-5 bytes x.0 x.1) ∙ back x.0 x.1 x.2);
+  below = λ part not. (λ e. below part not e, λ e. ap (λ r. r >>= at_end END) e);
+  end = (λ e. forth (bind-err (front_at bytes) (at_end END) END e), λ x. ap (λ r. r >>= at_end END) (after-5 bytes x.0 x.1) ∙ back x.0 x.1 x.2);
 }
   where
     below : (part : ℕ) → part ≢ END → whole_at bytes ≡ Err part → front_at bytes ≡ Err part
-    below part not e = elim (bind-err (front_at bytes) at_end part e) [
+    below part not e = elim (bind-err (front_at bytes) (at_end END) part e) [
       | inl bad ↦ bad
-      | inr more ↦ absurd (not (end-names more.0 part more.2))
+      | inr more ↦ absurd (not (end-names END more.0 part more.2))
     ]
 
-    forth : (front_at bytes ≡ Err END) ⊎ ((x : Recording × List ℕ) × (front_at bytes ≡ Ok x) × (at_end x ≡ Err END)) → (rest : List ℕ)
+    forth : (front_at bytes ≡ Err END) ⊎ ((x : Recording × List ℕ) × (front_at bytes ≡ Ok x) × (at_end END x ≡ Err END)) → (rest : List ℕ)
         × UpToRegulated bytes rest × (rest ≢ [])
     forth (inl bad) = absurd (let no = (front_names bytes are).no_other END bad in let le = no.1 in omega arith)
-    forth (inr more) = (more.0.1, read-all bytes more.0.0 more.0.1 are more.1, end-some more.0 more.2)
+    forth (inr more) = (more.0.1, read-all bytes more.0.0 more.0.1 are more.1, end-some END more.0 more.2)
 
     back : (rest : List ℕ) (u : UpToRegulated bytes rest) → rest ≢ [] →
-        at_end (made_of u.four.three.two.first.params u.four.three.two.image u.four.three.totals u.four.reduced u.regulated, rest) ≡ Err END
-    back rest u some = some-end (made_of u.four.three.two.first.params u.four.three.two.image u.four.three.totals u.four.reduced u.regulated, rest) some
+        at_end END (made_of u.four.three.two.first.params u.four.three.two.image u.four.three.totals u.four.reduced u.regulated, rest) ≡ Err END
+    back rest u some = some-end END (made_of u.four.three.two.first.params u.four.three.two.image u.four.three.totals u.four.reduced u.regulated, rest) some
 
 pub bad_part : BadPart
 bad_part bytes are = (front_names bytes are, whole_names bytes are)

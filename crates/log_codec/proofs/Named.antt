@@ -25,7 +25,7 @@ use Rattle.log_codec.specs.Versions.{magic, fits_in}
 abbrev pub Names : {A : Type 0} → ℕ → Result A ℕ → Type 0
 Names k r = (p : ℕ) → r ≡ Err p → p ≡ k
 
-bind-names : {A B : Type 0} (k : ℕ) (r : Result A ℕ) (f : A → Result B ℕ) → Names k r → ((x : A) → Names k (f x)) → Names k (r >>= f)
+pub bind-names : {A B : Type 0} (k : ℕ) (r : Result A ℕ) (f : A → Result B ℕ) → Names k r → ((x : A) → Names k (f x)) → Names k (r >>= f)
 bind-names k (Ok x) f one two p e = two x p e
 bind-names {A} {B} k (Err q) f one two p e = let same : q ≡ p = cc in one p (ap (λ (n : ℕ). Err n) same)
 
@@ -38,7 +38,7 @@ pub bind-err : {A B : Type 0} (r : Result A ℕ) (f : A → Result B ℕ) (p : �
 bind-err (Ok x) f p e = inr (x, refl, e)
 bind-err (Err q) f p e = let same : q ≡ p = cc in inl (ap (λ (n : ℕ). Err n) same)
 
-turns-name : {S X : Type 0} (k : ℕ) (item : S → List ℕ → Result (X × List ℕ) ℕ) (next : S → X → S) → ((s : S) (b : List ℕ) → Names k (item s b)) →
+pub turns-name : {S X : Type 0} (k : ℕ) (item : S → List ℕ → Result (X × List ℕ) ℕ) (next : S → X → S) → ((s : S) (b : List ℕ) → Names k (item s b)) →
     (n : ℕ) (s : S) (b : List ℕ) → Names k (read_in_turn item next n s b)
 unfolding read_in_turn
 turns-name k item next one zero s b p e = absurd cc
@@ -47,7 +47,7 @@ turns-name k item next one (suc n) s b p e =
     (λ first. bind-names k (read_in_turn item next n (next s first.0) first.1) (λ others. Ok (first.0 ∷ others.0, others.1))
     (turns-name k item next one n (next s first.0) first.1) (λ others q f. absurd cc)) p e
 
-number-names : (part : ℕ) (bytes : List ℕ) → Names part (number_at part bytes)
+pub number-names : (part : ℕ) (bytes : List ℕ) → Names part (number_at part bytes)
 unfolding number_at
 number-names part bytes p e = by (reading bytes) e
   where

@@ -11,8 +11,8 @@ use Rattle.clock_core.specs.Order.{Among}
 use Rattle.log_codec.specs.declared.recording.Recording.{Recording}
 use Rattle.log_codec.specs.Validity.{Valid}
 use Rattle.clock_entries.specs.Ends.{instr, is_end, IsEnd, ends_to}
-use Rattle.clock_entries.proofs.Ends.{ends_none, ends_more, end_counts}
-use Rattle.clock_entries.proofs.Numbers.{Grown, grows, at_low, ends_rise, fronted, longer}
+use Rattle.clock_entries.proofs.Ends.{ends_more, end_counts}
+use Rattle.clock_entries.proofs.Numbers.{few, at_low, ends_rise, fronted, longer}
 use Rattle.replay_audit.proofs.Logs.{edge_within, recorded_log}
 use Rattle.certificate_codec.specs.declared.certificate.Certificate.{Certificate}
 use Rattle.certificate_codec.specs.Ends.{reduced_edges, IsWithin}
@@ -125,15 +125,6 @@ placed edges c n k lt = by (place_of edges c n (get_or (ends_to edges c n) k 0) 
         on (inl a) = let h = ends_rise edges c n k p.place a p.within in let e = p.at in absurd (omega arith)
         on (inr (inl a)) = let h = ends_rise edges c n p.place k a lt in let e = p.at in absurd (omega arith)
         on (inr (inr e)) = let q = p.number in omega arith
-
--- ends are no more than their greatest count
-few : (edges : List Edge) (c n : ℕ) → length (ends_to edges c n) ≤ n
-few edges c zero = let e = ap (λ (l : List ℕ). length l) (ends_none edges c) in omega arith
-few edges c (suc n) = by (grows edges c n) (few edges c n)
-  where
-    by : Grown edges c n ⊎ (ends_to edges c (suc n) ≡ ends_to edges c n) → length (ends_to edges c n) ≤ n → length (ends_to edges c (suc n)) ≤ suc n
-    by (inl g) le = let e = g.len in omega arith
-    by (inr e) le = let f = ap (λ (l : List ℕ). length l) e in omega arith
 
 pub place_low : (r : Recording) (c k : ℕ) (list : List ℕ) → list ≡ ends_to (reduced_edges r) c (slice_index r.totals c) → k < length list →
     k + 1 ≤ get_or list k 0

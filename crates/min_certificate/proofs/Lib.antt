@@ -5,3 +5,4 @@ pub mod Looked
 pub mod First
 pub mod Exactly
 pub mod Judged
+pub mod Tested

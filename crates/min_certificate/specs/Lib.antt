@@ -6,3 +6,4 @@ pub mod Sound
 pub mod Firsts
 pub mod Laws
 pub mod Answers
+pub mod Tests

@@ -2,6 +2,7 @@
 ghost use Rattle.min_certificate.specs.Answers.{LeastIsCertifiedLaw, PassedIsAcceptedLaw};
 ghost use Rattle.min_certificate.specs.Laws.{AmissByEntriesLaw, AnyOrderIsLeastLaw, EveryOrderIsLeastLaw, ExactFitsLaw};
 ghost use Rattle.min_certificate.specs.Laws.{LeastPassesLaw, NotLeastLaw, PassedIsLeastLaw};
+ghost use Rattle.min_certificate.specs.Tests.{ExactInTest, GoodInTest, NeededInTest};
 
 /// A certificate that passes shows that the reduced log is least, and one with exact entries passes where
 /// it is.
@@ -28,4 +29,12 @@ pub fn certified_is_accepted()
     ensures fits { ExactFitsLaw }
     ensures certified { LeastIsCertifiedLaw }
     ensures accepted { PassedIsAcceptedLaw }
+{}
+
+/// Which entries of a certificate are good, and which edges they show needed, can be tested by computing, and
+/// whether the entries are exact, where the recording is determinate.
+pub fn certificate_tests()
+    ensures good { GoodInTest }
+    ensures needed { NeededInTest }
+    ensures exact { ExactInTest }
 {}

@@ -1,5 +1,5 @@
-use Rattle.std.proofs.Common.{◌≡◌, ◌+◌, ◌<◌, ℕ, length, get_or, false}
-use Rattle.clock_entries.specs.Ends.{instr, is_end, ends_to}
+use Rattle.std.proofs.Common.{◌≡◌}
+use Rattle.clock_entries.specs.Ends.{ends_to}
 use Rattle.certificate_codec.proofs.edge_ends.ends_of_core.Given as goal
 
 abbrev pub invariant-loop-before : goal.invariant-loop-before

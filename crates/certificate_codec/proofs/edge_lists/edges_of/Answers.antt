@@ -1,4 +1,4 @@
-use Rattle.std.proofs.Common.{◌≡◌, ◌∙◌, ap, arith, ◌<◌}
+use Rattle.std.proofs.Common.{◌∙◌, arith, ◌<◌}
 use Rattle.rtr_types.specs.Pairs.{pair_count}
 use Rattle.certificate_codec.proofs.Edges.{edges_more, edges_done, pair_edges_are}
 use Rattle.certificate_codec.proofs.edge_lists.edges_of.Goals as goal

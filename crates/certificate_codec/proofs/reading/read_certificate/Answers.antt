@@ -1,4 +1,4 @@
-use Rattle.std.proofs.Common.{ap, subst, arith}
+use Rattle.std.proofs.Common.{subst, arith}
 use Rattle.log_codec.specs.Faults.{Gives}
 use Rattle.log_codec.proofs.Steps.{bytes-from_index}
 use Rattle.certificate_codec.proofs.Whole.{is_found, spelled_is_read}

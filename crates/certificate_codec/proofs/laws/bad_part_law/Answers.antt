@@ -1,0 +1,5 @@
+use Rattle.certificate_codec.proofs.Named as parts
+use Rattle.certificate_codec.proofs.laws.bad_part_law.Goals as goal
+
+pub returns : goal.returns
+returns c = parts.bad_part_is_named
