@@ -124,13 +124,14 @@ impl<'a> Replay<'a> {
         ensures plan { self.new.plan ≡ self.old.plan }
         ensures place { Advances self.old.plan self.old.state core result self.new.state }
     {
-        let need = self.cores[core as usize].need(&self.image);
+        let op = self.cores[core as usize].next_op(&self.image);
+        let need = self.cores[core as usize].need_by_op(&self.image, op);
         if need.is_done() {
             return Advanced::Short;
         }
         let used = need.access();
         let old = old_value(&self.memory, used);
-        let value = self.cores[core as usize].finish(&self.image, old);
+        let value = self.cores[core as usize].finish_op(&self.image, op, old);
         let count = self.cores[core as usize].count();
         note(&mut self.loads, core, used, count, old);
         leave(&mut self.memory, used, value);

@@ -15,11 +15,11 @@ use Rattle.replay_core.proofs.replay.Replay.advance.Goals as goal
 
 pub old_value-old-requires : goal.old_value-old-requires
 old_value-old-requires c =
-    used_within c.self.inside.image c.index.result.now c.access-used.result _ (c.access-used.ensures ∙ ap access_of c.need-need.ensures)
+    used_within c.self.inside.image c.index-2.result.now c.access-used.result _ (c.access-used.ensures ∙ ap access_of c.need_by_op-need.ensures)
     (c.self.invariant.all_words ∙ sym (ap (λ (i : Contents). i.words) c.self.invariant.image_is))
 
 pub leave-requires : goal.leave-requires
-leave-requires c = used_within c.self.inside.image c.index.result.now c.access-used.result _ (c.access-used.ensures ∙ ap access_of c.need-need.ensures)
+leave-requires c = used_within c.self.inside.image c.index-2.result.now c.access-used.result _ (c.access-used.ensures ∙ ap access_of c.need_by_op-need.ensures)
     (c.self.invariant.all_words ∙ sym (ap (λ (i : Contents). i.words) c.self.invariant.image_is))
 
 pub returns-clause-place : goal.returns-clause-place
@@ -33,19 +33,19 @@ returns-clause-place c =
     let s : Outcome = record { cores = c.self.inside.cores.items; words = c.self.inside.memory; loads = c.self.inside.loads.lists } in
     let left : Outcome =
     record {
-      cores = slice_set c.self.inside.cores.items c.args.core c.finish-value.new.self;
+      cores = slice_set c.self.inside.cores.items c.args.core c.finish_op-value.new.self;
       words = c.leave.new.memory;
       loads = c.note.new.loads.lists;
     } in
     let by = retires_by c.self.inside.image
-    (plan_of c.self.inside.which r) s c.args.core c.index.result.now c.index_mut.result.now c.finish-value.new.self c.access-used.result
-    c.old_value-old.result c.finish-value.result c.count-count.result
+    (plan_of c.self.inside.which r) s c.args.core c.index-2.result.now c.index_mut.result.now c.finish_op-value.new.self c.access-used.result
+    c.old_value-old.result c.finish_op-value.result c.count-count.result
     c.leave.new.memory c.note.new.loads.lists c.access.result all.image_is
-    (c.index.ensures ∙ get_or_default s.cores c.args.core c.index.result.now (starting 0 0) below) (c.index_mut.ensures.value
+    (c.index-2.ensures ∙ get_or_default s.cores c.args.core c.index-2.result.now (starting 0 0) below) (c.index_mut.ensures.value
     ∙ get_or_default s.cores c.args.core c.index_mut.result.now (starting 0 0) below)
-    (sym (ap is_done c.need-need.ensures) ∙ sym c.is_done.ensures ∙ c.if-is_done.false) (c.access-used.ensures
-    ∙ ap access_of c.need-need.ensures) c.old_value-old.ensures c.finish-value.ensures.core c.finish-value.ensures.value
+    (sym (ap is_done c.need_by_op-need.ensures) ∙ sym c.is_done.ensures ∙ c.if-is_done.false) (c.access-used.ensures
+    ∙ ap access_of c.need_by_op-need.ensures) c.old_value-old.ensures c.finish_op-value.ensures.core c.finish_op-value.ensures.value
     (c.count-count.ensures
-    ∙ ap (λ (k : Core). k.count) (c.index-2.ensures ∙ get_or-set_same s.cores c.args.core c.finish-value.new.self c.index-2.result.now below))
+    ∙ ap (λ (k : Core). k.count) (c.index-3.ensures ∙ get_or-set_same s.cores c.args.core c.finish_op-value.new.self c.index-3.result.now below))
     c.leave.ensures c.note.ensures c.access.ensures in
     subst (λ (u : UnderWay). Retires u.plan u.state c.args.core c.access.result left) c.self.view_is by
