@@ -1,16 +1,18 @@
 use crate::calls::{ask, bytes, input_of, output_of, recording_of};
 use crate::certificate_tables::CERTIFICATES;
+use crate::lesson_tables::{EXAMPLES, LESSON};
 use crate::record_tables::RECORDINGS;
 use crate::replay_tables::REPLAYS;
 use crate::run_tables::{FAULTY, RUNS};
-use crate::tables::{CUT_PARTS, CUT_RECORDING, ROWS};
+use crate::tables::{CUT_PARTS, CUT_RECORDING, ROWS, Row};
 use log_codec::{fits_old, read, spell_v1};
+use std::alloc::Global;
+use std::process::Abort;
 use std::test::Fail;
 
-#[test]
-fn each_row_is_answered(rt: HostRuntime) -> Result<(), Fail> {
-    let alloc = rt.alloc();
-    for row in ROWS.iter().chain(&CERTIFICATES) {
+/// Asks what each row asks, and compares the answer.
+fn are_answered(rt: &impl Abort, alloc: Global, rows: &[Row]) -> Result<(), Fail> {
+    for row in rows {
         let input = input_of(alloc, row)?;
         let wanted = output_of(alloc, row, input.as_slice())?;
         let answer = ask(alloc, row.words, input)?;
@@ -28,6 +30,18 @@ fn each_row_is_answered(rt: HostRuntime) -> Result<(), Fail> {
         );
     }
     Ok(())
+}
+
+#[test]
+fn each_row_is_answered(rt: HostRuntime) -> Result<(), Fail> {
+    are_answered(&rt, rt.alloc(), &ROWS)?;
+    are_answered(&rt, rt.alloc(), &CERTIFICATES)
+}
+
+#[test]
+fn each_example_and_each_step_of_the_lesson_is_answered(rt: HostRuntime) -> Result<(), Fail> {
+    are_answered(&rt, rt.alloc(), &EXAMPLES)?;
+    are_answered(&rt, rt.alloc(), &LESSON)
 }
 
 #[test]
