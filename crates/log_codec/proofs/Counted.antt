@@ -5,6 +5,7 @@ use Rattle.std.proofs.Math.Nat.{mul-le-mul_left}
 use Rattle.std.proofs.lemmas.List.{get_or_default}
 use Rattle.std.proofs.lemmas.List.Sums.{sum_by-le}
 use Rattle.rtr_types.specs.Pairs.{pair_count}
+use Rattle.rtr_types.specs.declared.TheConstants.{CORES_MAX}
 use Rattle.stride_vector.specs.declared.StrideVector.{StrideVector}
 use Rattle.log_codec.specs.declared.recording.Recording.{Recording}
 use Rattle.log_codec.specs.Validity.{Valid, bound_at}
@@ -12,15 +13,15 @@ use Rattle.log_codec.specs.Counts.{position_count}
 use Rattle.log_codec.proofs.Logs.{few_edges, few_positions}
 use Rattle.log_codec.proofs.Whole.{bound-most}
 
--- the pairs of at most 256 cores
-few-pairs : (cores : ℕ) → cores ≤ 256 → pair_count cores ≤ 65536
+-- the pairs of as many cores as there may be
+few-pairs : (cores : ℕ) → cores ≤ CORES_MAX → pair_count cores ≤ CORES_MAX * CORES_MAX
 few-pairs cores few =
-    let one = mul-le-mul_left {m = cores - 1} {n = 256} cores (omega arith) in
-    let two = mul-le-mul_left {m = cores} {n = 256} 256 few in
+    let one = mul-le-mul_left {m = cores - 1} {n = CORES_MAX} cores (omega arith) in
+    let two = mul-le-mul_left {m = cores} {n = CORES_MAX} CORES_MAX few in
     omega arith
 
 -- many lists of few elements
-product-fits : (lists most : ℕ) → lists ≤ 65536 → most < 2 ^ 32 → lists * most < 2 ^ 64
+product-fits : (lists most : ℕ) → lists ≤ CORES_MAX * CORES_MAX → most < 2 ^ 32 → lists * most < 2 ^ 64
 product-fits lists most few small =
     let one = mul-le-mul_left {m = most} {n = 2 ^ 32} lists (omega arith) in
     omega arith
