@@ -118,7 +118,7 @@ fn push_write(found: &mut Sources, access: &Access, core: u8, write: &Option<(In
 
 /// Adds the core's noted read, where the access writes and is of another core.
 fn push_read(found: &mut Sources, access: &Access, core: u8, read: Option<&(u32, Clock)>)
-    requires { length found.old + length (option_to_list (read_from access.now core (read_seen read.entry))) ≤ EDGES_MAX }
+    requires { length found.old + length (option_to_list (read_from access.now core (read_seen read))) ≤ EDGES_MAX }
     ensures { found.new ≡ found.old ++ option_to_list (read_from access.now core (read_seen read.entry)) }
 {
     if let Some((count, clock)) = read {
