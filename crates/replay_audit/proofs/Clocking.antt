@@ -5,6 +5,7 @@ use Rattle.std.specs.Prelude.{slice_index, slice_index_or}
 use Rattle.std.proofs.lemmas.Bool.Decides.{nat_tests}
 use Rattle.std.proofs.lemmas.List.{length-replicate}
 use native.Mathlib.Decide.{ℕ_discrete}
+use Rattle.rtr_types.specs.declared.TheConstants.{CORES_MAX}
 use Rattle.rtr_types.specs.declared.instr.Instr.{Instr}
 use Rattle.rtr_types.specs.declared.instr.Edge.{Edge}
 use Rattle.rtr_types.specs.declared.pairs.Which.{Which}
@@ -107,7 +108,7 @@ module _ (which : Which) (r : Recording) (valid : Valid r) (f : ℕ → ℕ) (k 
         where
           by : Dec (i ≡ c) → clock_at k (instr c 0) i ≡ 0
           by (yes e) = own_same (instr c 0) (λ j. slice_index (numbered k c 0) j) i e
-          by (no ne) = own_other (instr c 0) (λ j. slice_index (numbered k c 0) j) i ne ∙ zeros 8 i
+          by (no ne) = own_other (instr c 0) (λ j. slice_index (numbered k c 0) j) i ne ∙ zeros CORES_MAX i
   clock_any acyclic c (suc n) lt le = clocked.exact acyclic c (suc n) lt (omega arith) le
 
   pub next_is : (c : ℕ) (sources : List ℕ) → Ready (plan_of which r) f c → IsAcyclic (log_edges which r) →
