@@ -9,6 +9,8 @@ pub mod Noted
 pub mod Fitting
 pub mod Ahead
 pub mod Sourcing
+pub mod NextEdges
+pub mod Awaited
 pub mod Scan
 pub mod Merged
 pub mod Clocking

@@ -1,13 +1,12 @@
 -- Counts along the low order.
-use Rattle.std.proofs.Common.{◌≡◌, ℕ, zero, suc, ◌+◌, ◌<◌, ◌≤◌, true, false, List, [], ◌∷◌, ◌++◌, length, replicate, refl, sym, ap, ◌∙◌, subst, arith}
+use Rattle.std.proofs.Common.{◌≡◌, ℕ, zero, suc, ◌+◌, ◌<◌, ◌≤◌, true, false, List, [], ◌∷◌, ◌++◌, length, get_or, replicate, refl, sym, ap, ◌∙◌, subst, arith}
 use Rattle.std.proofs.Common.{length-set, get_or-set_same, get_or-set_other}
 use Rattle.std.specs.Prelude.{slice_index, slice_set, Option, Some, None}
 use Rattle.std.proofs.Math.Path.{fun_ext}
-use Rattle.std.proofs.lemmas.List.{length-replicate}
+use Rattle.std.proofs.lemmas.List.{length-replicate, get_or_default}
 use native.Mathlib.Decide.{ℕ_discrete}
 use Rattle.rtr_types.specs.declared.instr.Edge.{Edge}
 use Rattle.rtr_types.specs.declared.pairs.Which.{Which}
-use Rattle.clock_core.specs.Counts.{no_counts}
 use Rattle.log_codec.specs.declared.recording.Recording.{Recording}
 use Rattle.log_codec.specs.Sources.{log_edges}
 use Rattle.log_codec.specs.Validity.{Valid}
@@ -19,7 +18,7 @@ use Rattle.replay_core.proofs.Counts.{bump_here, bump_else, counts_on}
 use Rattle.replay_core.proofs.Fronts.{front_more, low_end}
 use Rattle.replay_core.proofs.Low.{IsLowest, lowest_is, left, left_step}
 use Rattle.replay_core.proofs.Sources.{apart, unmet, all_met}
-use Rattle.replay_audit.specs.Clocks.{AreSources}
+use Rattle.replay_audit.specs.Clocks.{AreSources, sources_in}
 use Rattle.replay_audit.specs.Tallies.{Tallied, AreWanted, IsTally, count_of, wanted_at}
 use Rattle.clock_core.proofs.Listed.{among_contains, contains_among}
 
@@ -28,10 +27,12 @@ zeros zero i = refl
 zeros (suc n) zero = refl
 zeros (suc n) (suc i) = zeros n i
 
-pub counts_start : (which : Which) (r : Recording) (list : List ℕ) (wanted : List (List ℕ)) → Valid r → list ≡ replicate r.params.cores 0 →
-    AreWanted (log_edges which r) r.params.cores wanted → IsTally which r list wanted
-counts_start which r list wanted valid is w = record {
+pub counts_start : (which : Which) (r : Recording) (plan : Plan) (list : List ℕ) (wanted : List (Option (List ℕ))) → Valid r → plan ≡ plan_of which r →
+    list ≡ replicate r.params.cores 0 →
+    AreWanted (log_edges which r) r.params.cores wanted → IsTally which r plan list wanted
+counts_start which r plan list wanted valid plan_is is w = record {
   valid = valid;
+  sources_is = plan_is;
   all_counts = ap (λ (l : List ℕ). length l) is ∙ length-replicate r.params.cores 0;
   all_wanted = w.all;
   within = λ c. let e = none c in omega arith;
@@ -42,21 +43,25 @@ counts_start which r list wanted valid is w = record {
     none : (c : ℕ) → count_of list c ≡ 0
     none c = ap (λ (l : List ℕ). count_of l c) is ∙ zeros r.params.cores c
 
-module _ (which : Which) (r : Recording) (list : List ℕ) (wanted : List (List ℕ)) (h : IsTally which r list wanted) (c count : ℕ)
+module _ (which : Which) (r : Recording) (plan : Plan) (list : List ℕ) (wanted : List (Option (List ℕ))) (h : IsTally which r plan list wanted) (c count : ℕ)
     (inside : c < length r.totals) (below : count_of list c < slice_index r.totals c) (count_is : count ≡ count_of list c + 1) where
   within_list : c < length list
   within_list = let a = h.all_counts in let e = h.valid.each_core in omega arith
 
-  pub counts_step : (sources : List ℕ) → AreSources (log_edges which r) (instr c (count + 1)) sources →
-      IsTally which r (slice_set list c count) (slice_set wanted c sources)
-  counts_step sources new = record {
+  pub counts_step : (next : Plan) (sources : Option (List ℕ)) → next ≡ plan → AreSources plan.edges (instr c (count + 1)) (sources_in sources) →
+      IsTally which r next (slice_set list c count) (slice_set wanted c sources)
+  counts_step next sources kept new_by_plan = record {
     valid = h.valid;
+    sources_is = kept ∙ h.sources_is;
     all_counts = length-set list c count ∙ h.all_counts;
     all_wanted = length-set wanted c sources ∙ h.all_wanted;
     within = λ i. within i (ℕ_discrete i c);
     each = λ i lt. each i lt (ℕ_discrete i c);
   }
     where
+      new : AreSources (log_edges which r) (instr c (count + 1)) (sources_in sources)
+      new = subst (λ (q : Plan). AreSources q.edges (instr c (count + 1)) (sources_in sources)) h.sources_is new_by_plan
+
       here : count_of (slice_set list c count) c ≡ count
       here = get_or-set_same list c count 0 within_list
 
@@ -68,16 +73,23 @@ module _ (which : Which) (r : Recording) (list : List ℕ) (wanted : List (List 
       each : (i : ℕ) → i < r.params.cores → Dec (i ≡ c) → AreSources (log_edges which r) (instr i (count_of (slice_set list c count) i + 1)) (wanted_at
           (slice_set wanted c sources) i)
       each i lt (yes e) =
-          let there : wanted_at (slice_set wanted c sources) c ≡ sources = get_or-set_same wanted c sources no_counts
-          (let a = h.all_wanted in let q = h.valid.each_core in omega arith) in
+          let there : wanted_at (slice_set wanted c sources) c ≡ sources_in sources = ap sources_in (get_or-set_same wanted c sources None
+          (let a = h.all_wanted in let q = h.valid.each_core in omega arith)) in
           subst (λ (x : ℕ). AreSources (log_edges which r) (instr x (count_of (slice_set list c count) x + 1)) (wanted_at (slice_set wanted c sources) x))
           (sym e)
           (subst (λ (l : List ℕ). AreSources (log_edges which r) (instr c (count_of (slice_set list c count) c + 1)) l) (sym there)
-          (subst (λ (n : ℕ). AreSources (log_edges which r) (instr c (n + 1)) sources) (sym here) new))
+          (subst (λ (n : ℕ). AreSources (log_edges which r) (instr c (n + 1)) (sources_in sources)) (sym here) new))
       each i lt (no ne) =
           subst (λ (l : List ℕ). AreSources (log_edges which r) (instr i (count_of (slice_set list c count) i + 1)) l)
-          (sym (get_or-set_other wanted c i sources no_counts ne))
+          (sym (ap sources_in (get_or-set_other wanted c i sources None ne)))
           (subst (λ (n : ℕ). AreSources (log_edges which r) (instr i (n + 1)) (wanted_at wanted i)) (sym (get_or-set_other list c i count 0 ne)) (h.each i lt))
+
+-- the sources of a core's next instruction are those that are wanted
+pub wanted_here : (which : Which) (r : Recording) (plan : Plan) (list : List ℕ) (wanted : List (Option (List ℕ))) (c : ℕ) (o d : Option (List ℕ)) →
+    IsTally which r plan list wanted → c < r.params.cores → o ≡ get_or wanted c d → AreSources (log_edges which r) (instr c (count_of list c + 1)) (sources_in o)
+wanted_here which r plan list wanted c o d h lt is =
+    subst (λ (x : Option (List ℕ)). AreSources (log_edges which r) (instr c (count_of list c + 1)) (sources_in x))
+    (sym (is ∙ get_or_default wanted c d None (let a = h.all_wanted in omega arith))) (h.each c lt)
 
 -- a source that wasn't reached
 pub unsourced_by : (edges : List Edge) (f : ℕ → ℕ) (c n i : ℕ) (s : List ℕ) → AreSources edges (instr c n) s → f i < slice_index s i →

@@ -1,6 +1,6 @@
 -- Clocks by a log, which are kept only of instructions to which an edge leads.
 use Rattle.std.specs.Prelude.{◌≡◌, ℕ, zero, suc, ◌<◌, ◌≤◌, ◌⊎◌, List, [], ◌∷◌, ◌++◌, length, nat_eq, slice_index}
-use Rattle.std.specs.Prelude.{slice_index_or, slice_set, if◌then◌else◌}
+use Rattle.std.specs.Prelude.{slice_index_or, slice_set, Option, Some, None, if◌then◌else◌}
 use Rattle.rtr_types.specs.declared.instr.Instr.{Instr}
 use Rattle.rtr_types.specs.declared.instr.Edge.{Edge}
 use Rattle.clock_core.specs.Counts.{no_counts}
@@ -15,6 +15,11 @@ use Rattle.clock_entries.specs.Laws.{IsAcyclic}
 pub record AreSources (edges : List Edge) (y : Instr) (sources : List ℕ) : Type 0 where
   pub each : (z : Instr) → Among edges z y → slice_index sources z.core ≡ z.count
   pub only : (c : ℕ) → 1 ≤ slice_index sources c → Among edges (instr c (slice_index sources c)) y
+
+-- the sources that were found: where no edge leads to an instruction there are none
+abbrev pub sources_in : Option (List ℕ) → List ℕ
+sources_in None = no_counts
+sources_in (Some sources) = sources
 
 -- the sources of so many cores, one by one, the last core first
 abbrev pub listed : List ℕ → (cores : ℕ) → List Instr

@@ -1,5 +1,6 @@
 pub mod Audits
 pub mod Clocks
+pub mod Coming
 pub mod Determinate
 pub mod Judges
 pub mod Laws

@@ -1,15 +1,14 @@
 -- How far each core has come, and the sources of what comes next.
-use Rattle.std.specs.Prelude.{◌≡◌, ℕ, ◌+◌, ◌<◌, ◌≤◌, List, length, slice_index, slice_index_or}
+use Rattle.std.specs.Prelude.{◌≡◌, ℕ, ◌+◌, ◌<◌, ◌≤◌, List, Option, None, length, slice_index, slice_index_or}
 use Rattle.rtr_types.specs.declared.instr.Edge.{Edge}
 use Rattle.rtr_types.specs.declared.instr.Instr.{Instr}
 use Rattle.rtr_types.specs.declared.pairs.Which.{Which}
-use Rattle.clock_core.specs.Counts.{no_counts}
 use Rattle.log_codec.specs.declared.recording.Recording.{Recording}
 use Rattle.log_codec.specs.Sources.{log_edges}
 use Rattle.log_codec.specs.Validity.{Valid}
-use Rattle.replay_core.specs.Plans.{Plan}
+use Rattle.replay_core.specs.Plans.{Plan, plan_of}
 use Rattle.replay_core.specs.Play.{instr}
-use Rattle.replay_audit.specs.Clocks.{AreSources}
+use Rattle.replay_audit.specs.Clocks.{AreSources, sources_in}
 
 -- what contracts see of a tally: the plan, and the count of each core
 pub record Tallied : Type 0 where
@@ -24,17 +23,20 @@ abbrev pub next_of : List ℕ → ℕ → Instr
 next_of counts c = instr c (count_of counts c + 1)
 
 -- the sources that are wanted before core c's next instruction
-abbrev pub wanted_at : List (List ℕ) → ℕ → List ℕ
-wanted_at wanted c = slice_index_or wanted c no_counts
+abbrev pub wanted_at : List (Option (List ℕ)) → ℕ → List ℕ
+wanted_at wanted c = sources_in (slice_index_or wanted c None)
 
 -- they are those of the first instruction of each of so many cores
-pub record AreWanted (edges : List Edge) (cores : ℕ) (wanted : List (List ℕ)) : Type 0 where
+pub record AreWanted (edges : List Edge) (cores : ℕ) (wanted : List (Option (List ℕ))) : Type 0 where
   pub all : length wanted ≡ cores
   pub each : (c : ℕ) → c < cores → AreSources edges (instr c 1) (wanted_at wanted c)
 
--- each core is within its total, and the sources of its next instruction are wanted
-pub record IsTally (which : Which) (r : Recording) (counts : List ℕ) (wanted : List (List ℕ)) : Type 0 where
+-- each core is within its total, and the sources of its next instruction are wanted; later ones are looked for in the
+-- same log
+pub record IsTally (which : Which) (r : Recording) (sources : Plan) (counts : List ℕ) (wanted : List (Option (List ℕ)))
+    : Type 0 where
   pub valid : Valid r
+  pub sources_is : sources ≡ plan_of which r
   pub all_counts : length counts ≡ r.params.cores
   pub all_wanted : length wanted ≡ r.params.cores
   pub within : (c : ℕ) → count_of counts c ≤ slice_index r.totals c

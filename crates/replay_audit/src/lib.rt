@@ -4,10 +4,12 @@
 
 mod audit_fault;
 mod audited;
+mod coming;
 mod judgement;
 pub mod laws;
 mod log_clocks;
 mod marks;
+mod next_edge;
 mod sourced;
 mod tally;
 #[cfg(test)]

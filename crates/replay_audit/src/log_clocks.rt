@@ -1,7 +1,7 @@
 //! The clocks of instructions by a log. They are kept only where an edge leads to.
 ghost use Rattle.std.specs.Prelude.{◌≡◌, ◌<◌, ◌≤◌, ℕ, IfOk, OnOk, [], length, replicate, slice_index};
 ghost use Rattle.rtr_types.specs.declared.TheConstants.{CORES_MAX};
-ghost use Rattle.replay_audit.specs.Clocks.{clock_at, next_at, number_of, numbered, IsKept, IsNoted};
+ghost use Rattle.replay_audit.specs.Clocks.{clock_at, next_at, number_of, numbered, sources_in, IsKept, IsNoted};
 
 use crate::sourced::Sourced;
 use clock_core::Clock;
@@ -58,7 +58,7 @@ impl LogClocks {
         requires kept { next.now.at.core < length self.old.clocks }
         requires some { 1 ≤ next.now.at.count }
         requires few { cores ≤ CORES_MAX }
-        ensures { OnOk result (IsNoted self.old next.now.at next.now.sources cores self.new) }
+        ensures { OnOk result (IsNoted self.old next.now.at (sources_in next.now.sources) cores self.new) }
     {
         self.keep(next, cores)?;
         let core = next.at.core as usize;
@@ -105,19 +105,19 @@ impl LogClocks {
 
     /// The clock of the instruction before on the core, merged with those of the sources, with the own
     /// count.
-    fn next(&self, next: &Sourced, cores: u8) -> Clock
-        requires core { next.now.at.core < CORES_MAX }
-        requires some { 1 ≤ next.now.at.count }
+    fn next(&self, at: Instr, sources: &Clock, cores: u8) -> Clock
+        requires core { at.core < CORES_MAX }
+        requires some { 1 ≤ at.count }
         requires few { cores ≤ CORES_MAX }
-        ensures { (i : ℕ) → slice_index result i ≡ next_at self.now next.now.at next.now.sources cores i }
+        ensures { (i : ℕ) → slice_index result i ≡ next_at self.now at sources.now cores i }
     {
-        let Instr { core, count } = next.at;
+        let Instr { core, count } = at;
         let mut clock = self.of(Instr {
             core,
             count: count - 1,
         });
         for of in 0..cores {
-            let source = next.sources.get(of);
+            let source = sources.get(of);
             if source != 0 {
                 clock = clock.merge(self.of(Instr {
                     core: of,
@@ -136,12 +136,15 @@ impl LogClocks {
         requires some { 1 ≤ next.now.at.count }
         requires few { cores ≤ CORES_MAX }
         ensures numbers { OnOk result (self.new.numbers ≡ self.old.numbers) }
-        ensures clocks { OnOk result (IsKept self.old next.now.at next.now.sources cores self.new.clocks) }
+        ensures clocks { OnOk result (IsKept self.old next.now.at (sources_in next.now.sources) cores self.new.clocks) }
     {
-        if next.has_some(cores) {
-            let clock = self.next(next, cores);
-            self.clocks[next.at.core as usize].push(clock)?;
+        match &next.sources {
+            Some(sources) => {
+                let clock = self.next(next.at, sources, cores);
+                self.clocks[next.at.core as usize].push(clock)?;
+                Ok(())
+            }
+            None => Ok(()),
         }
-        Ok(())
     }
 }

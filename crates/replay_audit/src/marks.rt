@@ -31,28 +31,24 @@ impl Mark {
     fn are_reads_covered(&self, clock: &Clock) -> bool
         ensures { IsTrue result → (i : ℕ) → i < CORES_MAX → slice_index self.now.reads i ≤ slice_index clock.now i }
     {
+        let mut covered = true;
         for core in 0..CORES_MAX {
-            if self.reads.get(core) > clock.get(core) {
-                return false;
-            }
+            covered = covered && self.reads.get(core) <= clock.get(core);
         }
-        true
+        covered
     }
 
-    /// The mark with an access more.
-    fn next(self, access: &Access) -> Mark
+    /// Notes an access more.
+    fn note(&mut self, access: &Access)
         requires { access.now.at.core < CORES_MAX }
-        ensures { result ≡ next_mark self access.now }
+        ensures { self.new ≡ next_mark self.old access.now }
     {
         if access.kind.is_write() {
-            return Mark {
-                write: access.at,
-                reads: Clock::zero(),
-            };
+            self.write = access.at;
+            self.reads = Clock::zero();
+        } else {
+            self.reads.set(access.at.core, access.at.count);
         }
-        let mut mark = self;
-        mark.reads.set(access.at.core, access.at.count);
-        mark
     }
 }
 
@@ -106,7 +102,7 @@ impl Marks {
     {
         let word = access.word as usize;
         if word < self.marks.len() {
-            self.marks[word] = self.marks[word].next(access);
+            self.marks[word].note(access);
         }
     }
 }

@@ -2,14 +2,14 @@
 ghost use Rattle.std.specs.Prelude.{◌≡◌, ◌<◌, ◌≤◌, ◌+◌, ◌↔◌, length, slice_index, slice_set, replicate, IfOk, IsTrue};
 ghost use Rattle.rtr_types.specs.declared.TheConstants.{CORES_MAX};
 ghost use Rattle.log_codec.specs.Validity.{Valid};
-ghost use Rattle.log_codec.specs.Sources.{log_edges};
 ghost use Rattle.replay_core.specs.Plans.{plan_of};
 ghost use Rattle.replay_core.specs.Orders.{Full, is_ready, is_sourced, lowest_ready, IsWhole};
-ghost use Rattle.replay_audit.specs.Clocks.{AreSources};
+ghost use Rattle.replay_audit.specs.Clocks.{AreSources, sources_in};
 ghost use Rattle.replay_audit.specs.Determinate.{low_order_of};
 ghost use Rattle.replay_audit.specs.Tallies.{AreWanted, count_of, next_of};
 
-use crate::sourced::{Sourced, sources_of};
+use crate::coming::Sources;
+use crate::sourced::Sourced;
 use clock_core::Clock;
 use log_codec::Recording;
 use rtr_types::{CORES_MAX, Instr, Which};
@@ -23,7 +23,8 @@ pub struct Tally<'a> {
     recording: &'a Recording,
     which: Which,
     counts: Vec<u32>,
-    wanted: Vec<Clock>,
+    wanted: Vec<Option<Clock>>,
+    sources: Sources<'a>,
 }
 
 impl<'a> Model for Tally<'a> {
@@ -34,7 +35,7 @@ impl<'a> Model for Tally<'a> {
 
     ghost view = { λ a. record { plan = plan_of a.which a.recording.now; counts = a.counts.items } };
 
-    ghost invariant = { λ a. IsTally a.which a.recording.now a.counts.items a.wanted.items };
+    ghost invariant = { λ a. IsTally a.which a.recording.now a.sources a.counts.items a.wanted.items };
 }
 
 impl<'a> Tally<'a> {
@@ -48,11 +49,15 @@ impl<'a> Tally<'a> {
         ensures plan { IfOk result (λ tally. tally.plan ≡ plan_of which recording.now) }
         ensures counts { IfOk result (λ tally. tally.counts ≡ replicate (length recording.now.totals) 0) }
     {
+        let mut sources = Sources::new(alloc, recording, which)?;
+        let counts = no_counts(alloc, recording.params.cores)?;
+        let wanted = first_wanted(alloc, &mut sources, recording.params.cores)?;
         Ok(Tally {
             recording,
             which,
-            counts: no_counts(alloc, recording.params.cores)?,
-            wanted: first_wanted(alloc, recording, which)?,
+            counts,
+            wanted,
+            sources,
         })
     }
 
@@ -83,19 +88,16 @@ impl<'a> Tally<'a> {
         ensures plan { self.new.plan ≡ self.old.plan }
         ensures counts { self.new.counts ≡ slice_set self.old.counts core (count_of self.old.counts core + 1) }
         ensures at { result.at ≡ next_of self.old.counts core }
-        ensures sources { AreSources self.old.plan.edges (next_of self.old.counts core) result.sources }
+        ensures sources { AreSources self.old.plan.edges (next_of self.old.counts core) (sources_in result.sources) }
     {
-        let sources = self.sources(core);
+        let sources = self.wanted[core as usize];
         let count = self.counts[core as usize] + 1;
+        let next = Instr {
+            core,
+            count: count + 1,
+        };
         self.counts[core as usize] = count;
-        self.wanted[core as usize] = sources_of(
-            self.recording,
-            self.which,
-            Instr {
-                core,
-                count: count + 1,
-            },
-        );
+        self.wanted[core as usize] = self.sources.find(next);
         Sourced {
             at: Instr { core, count },
             sources,
@@ -115,15 +117,6 @@ impl<'a> Tally<'a> {
         true
     }
 
-    /// The sources of the core's next instruction.
-    fn sources(&self, core: u8) -> Clock
-        requires { core < length self.now.plan.totals }
-        ensures { AreSources self.now.plan.edges (next_of self.now.counts core) result }
-    {
-        let _ = &self.recording;
-        self.wanted[core as usize]
-    }
-
     /// Whether the core is below its total and each source of its next instruction was counted.
     fn is_ready(&self, core: u8) -> bool
         requires { core < length self.now.plan.totals }
@@ -140,7 +133,20 @@ impl<'a> Tally<'a> {
         ensures { result
             ≡ is_sourced self.now.plan.edges (count_of self.now.counts) core (count_of self.now.counts core + 1) }
     {
-        let wanted = self.sources(core);
+        let _ = &self.recording;
+        match &self.wanted[core as usize] {
+            None => true,
+            Some(wanted) => self.are_met(core, wanted),
+        }
+    }
+
+    /// Whether each of these sources of the core's next instruction was counted.
+    fn are_met(&self, core: u8, wanted: &Clock) -> bool
+        requires core { core < length self.now.plan.totals }
+        requires sources { AreSources self.now.plan.edges (next_of self.now.counts core) wanted.now }
+        ensures { result
+            ≡ is_sourced self.now.plan.edges (count_of self.now.counts) core (count_of self.now.counts core + 1) }
+    {
         for of in 0..self.recording.params.cores {
             if wanted.get(of) > self.counts[of as usize] {
                 return false;
@@ -174,18 +180,19 @@ fn no_counts(alloc: Global, cores: u8) -> Result<Vec<u32>, AllocError>
     Ok(list)
 }
 
-/// The sources of the first instruction of each core.
+/// The sources of the first instruction of each of so many cores.
 fn first_wanted(
     alloc: Global,
-    recording: &Recording,
-    which: Which,
-) -> Result<Vec<Clock>, AllocError>
-    requires { Valid recording.now }
-    ensures { IfOk result (λ list. AreWanted (log_edges which recording.now) recording.now.params.cores list.items) }
+    sources: &mut Sources,
+    cores: u8,
+) -> Result<Vec<Option<Clock>>, AllocError>
+    requires { cores ≤ length sources.old.totals }
+    ensures plan { sources.new ≡ sources.old }
+    ensures wanted { IfOk result (λ list. AreWanted sources.old.edges cores list.items) }
 {
     let mut list = Vec::new(alloc);
-    for core in 0..recording.params.cores {
-        list.push(sources_of(recording, which, Instr { core, count: 1 }))?;
+    for core in 0..cores {
+        list.push(sources.find(Instr { core, count: 1 }))?;
     }
     Ok(list)
 }

@@ -4,6 +4,7 @@ ghost use Rattle.std.specs.Prelude.{◌≡◌, ◌<◌, ◌≤◌, ℕ, IfOk, On
 ghost use Rattle.rtr_types.specs.declared.TheConstants.{CORES_MAX};
 ghost use Rattle.rtr_types.specs.declared.access.Access.{Access as SomeAccess};
 ghost use Rattle.conflict_edge.specs.Conflicts.{StandsIn};
+ghost use Rattle.replay_audit.specs.Clocks.{sources_in};
 ghost use Rattle.replay_audit.specs.Marks.{mark_at, first_mark};
 ghost use Rattle.replay_audit.specs.Trails.{FoundNext, Watches, Trails};
 
@@ -65,7 +66,7 @@ impl Trail {
         requires access { IfSome access (λ a. a.at.core < CORES_MAX) }
         requires each { (b : SomeAccess) → StandsIn self.old.accesses b → b.at.core < CORES_MAX }
         requires write { (w : ℕ) → (mark_at self.old.marks w).write.core < CORES_MAX }
-        ensures { OnOk result (Trails self.old next.now.at next.now.sources cores access self.new) }
+        ensures { OnOk result (Trails self.old next.now.at (sources_in next.now.sources) cores access self.new) }
     {
         self.clocks.note(next, cores)?;
         match access {

@@ -7,4 +7,4 @@ use Rattle.replay_audit.proofs.log_clocks.LogClocks.next.Given as goal
 
 abbrev pub invariant-loop-of : goal.invariant-loop-of
 invariant-loop-of l = (i : ℕ) → slice_index l.clock i
-    ≡ merged_over (clock_at l.fn.self (previous l.fn.next.at)) (clock_at l.fn.self) (listed l.fn.next.sources l.of) i
+    ≡ merged_over (clock_at l.fn.self (previous l.fn.at)) (clock_at l.fn.self) (listed l.sources l.of) i

@@ -1,24 +1,30 @@
-use Rattle.std.proofs.Common.{◌≡◌, ◌∙◌, ◌+◌, ◌<◌, sym, ap, arith, length}
-use Rattle.std.proofs.lemmas.List.{get_or_default}
-use Rattle.replay_audit.specs.Tallies.{Tallied, count_of}
-use Rattle.replay_audit.proofs.Tallying.{sourced_in, unsourced_by}
+use Rattle.std.proofs.Common.{◌≡◌, ◌+◌, ◌<◌, ℕ, List, None, length, sym, ap, subst, arith}
+use Rattle.std.specs.Prelude.{Option}
+use Rattle.rtr_types.specs.declared.TheConstants.{CORES_MAX}
+use Rattle.clock_core.specs.Counts.{no_counts}
+use Rattle.log_codec.specs.Sources.{log_edges}
+use Rattle.replay_core.specs.Play.{instr}
+use Rattle.replay_audit.specs.Clocks.{AreSources, sources_in}
+use Rattle.replay_audit.specs.Tallies.{Tallied, count_of, next_of}
+use Rattle.replay_audit.proofs.Awaited.{none_of}
+use Rattle.replay_audit.proofs.Tallying.{sourced_in, wanted_here}
 use Rattle.replay_audit.proofs.tally.Tally.is_sourced.Goals as goal
 
-pub returns-then-get-index : goal.returns-then-get-index
-returns-then-get-index c =
+pub returns-in-None : goal.returns-in-None
+returns-in-None c =
     let u = c.args.self.now in
-    let below : c.loop-of.of < length c.self.inside.counts.items = let a = c.self.invariant.all_counts in let lt = c.loop-of-test.true in omega arith in
-    let count : c.index.result.now ≡ count_of u.counts c.loop-of.of =
-    c.index.ensures ∙ get_or_default c.self.inside.counts.items c.loop-of.of c.index.result.now 0 below
-    ∙ ap (λ (t : Tallied). count_of t.counts c.loop-of.of) c.self.view_is in
-    unsourced_by u.plan.edges (count_of u.counts) c.args.core (count_of u.counts c.args.core + 1) c.loop-of.of c.sources-wanted.result c.sources-wanted.ensures
-    (omega (arith, count, c.get.ensures, c.if-get-index.true))
-
-pub returns : goal.returns
-returns c =
-    let u = c.args.self.now in
+    let h = c.self.invariant in
+    let which = c.self.inside.which in
+    let r = c.self.inside.recording.now in
+    let counts = c.self.inside.counts.items in
     let all = ap (λ (t : Tallied). length t.plan.totals) c.self.view_is in
-    sourced_in c.self.inside.which c.self.inside.recording.now u.plan (count_of u.counts) c.args.core
-    (count_of u.counts c.args.core + 1) c.sources-wanted.result c.self.invariant.valid
-    (ap (λ (t : Tallied). t.plan) (sym c.self.view_is)) c.sources-wanted.ensures
-    (λ i lt. c.loop-of.invariant i (omega (arith, all, c.self.invariant.valid.each_core, c.loop-of-test.false)))
+    let cores = h.valid.each_core in
+    let found : AreSources (log_edges which r) (instr c.args.core (count_of counts c.args.core + 1)) (sources_in c.index.result.now) =
+    wanted_here which r c.self.inside.sources counts c.self.inside.wanted.items c.args.core c.index.result.now c.index.result.now h
+    (omega (arith, c.requires)) c.index.ensures in
+    let none : AreSources (log_edges which r) (instr c.args.core (count_of counts c.args.core + 1)) no_counts =
+    subst (λ (o : Option (List ℕ)). AreSources (log_edges which r) (instr c.args.core (count_of counts c.args.core + 1)) (sources_in o)) c.in-None.is found in
+    sourced_in which r u.plan (count_of u.counts) c.args.core (count_of u.counts c.args.core + 1) no_counts h.valid
+    (ap (λ (t : Tallied). t.plan) (sym c.self.view_is))
+    (subst (λ (t : Tallied). AreSources t.plan.edges (next_of t.counts c.args.core) no_counts) c.self.view_is none)
+    (λ i lt. let zero = none_of CORES_MAX i in omega arith)

@@ -1,0 +1,30 @@
+use Rattle.std.proofs.Common.{◌≡◌, ◌∙◌, ◌<◌, ℕ, length, ap, sym, subst, arith}
+use Rattle.std.proofs.lemmas.List.{get_or_default}
+use Rattle.clock_core.specs.Counts.{no_counts}
+use Rattle.log_codec.specs.Sources.{log_edges}
+use Rattle.replay_core.specs.Plans.{Plan}
+use Rattle.replay_audit.specs.declared.coming.Coming.{Coming}
+use Rattle.replay_audit.specs.Clocks.{AreSources}
+use Rattle.replay_audit.specs.Coming.{IsComing, coming_at, no_coming}
+use Rattle.replay_audit.proofs.Awaited.{coming_step, no_sources}
+use Rattle.replay_audit.proofs.coming.Sources.find.Goals as goal
+
+pub returns-then-is_early-clause-sources : goal.returns-then-is_early-clause-sources
+returns-then-is_early-clause-sources c =
+    let all = c.self.invariant in
+    let r = c.self.inside.recording.now in
+    let cores = all.valid.each_core in
+    let totals = ap (λ (q : Plan). length q.totals) c.self.view_is in
+    let below : c.args.at.core < r.params.cores = omega (arith, c.requires.core) in
+    let inside : c.args.at.core < length c.self.inside.coming.items = let a = all.all in omega arith in
+    let is : c.index.result.now ≡ coming_at c.self.inside.coming.items c.args.at.core =
+    c.index.ensures ∙ get_or_default c.self.inside.coming.items c.args.at.core c.index.result.now no_coming inside in
+    let k = subst (λ (x : Coming). IsComing (log_edges c.self.inside.which r) c.args.at.core r.params.cores x) (sym is) (all.each c.args.at.core below) in
+    let early = c.is_early.ensures c.if-is_early.true in
+    subst (λ (q : Plan). AreSources q.edges c.args.at no_counts) c.self.view_is
+    (no_sources c.self.inside.which r all.valid c.index.result.now c.args.at k early.0 early.1)
+
+pub invariant_of-self : goal.invariant_of-self
+invariant_of-self c =
+    coming_step c.self.inside.which c.self.inside.recording.now c.args.self.now c.self.inside.coming.items c.args.at.core c.look-found.result.coming
+    c.self.invariant c.self.view_is c.requires.core c.look-found.ensures.coming

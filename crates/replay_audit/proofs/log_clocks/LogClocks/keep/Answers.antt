@@ -1,0 +1,12 @@
+use Rattle.std.proofs.Common.{◌≡◌, List, [], inl, refl, sym, subst}
+use Rattle.std.specs.Prelude.{Option}
+use Rattle.rtr_types.specs.declared.instr.Instr.{Instr}
+use Rattle.replay_audit.specs.Clocks.{listed, sources_in}
+use Rattle.replay_audit.proofs.Awaited.{listed_nothing}
+use Rattle.replay_audit.proofs.log_clocks.LogClocks.keep.Goals as goal
+
+pub returns-in-None-clause-clocks : goal.returns-in-None-clause-clocks
+returns-in-None-clause-clocks c =
+    let none : listed (sources_in c.args.next.now.sources) c.args.cores ≡ [] =
+    subst (λ o. listed (sources_in o) c.args.cores ≡ []) (sym c.in-None.is) (listed_nothing c.args.cores) in
+    inl (none, refl)
