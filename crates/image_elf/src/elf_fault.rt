@@ -13,7 +13,7 @@ pub enum ElfFault {
     /// The file isn't a little-endian ELF32 program of version 1 for RISC-V at fixed addresses, or its table of
     /// program headers has 65,535 of them or more, or headers that aren't of 32 bytes, or ends past the file.
     Header,
-    /// The segment has more bytes in the file than in memory, or the file ends before it.
+    /// The segment has more bytes in the file than in memory, or its bytes end past the file.
     Segment { index: u32 },
     /// The segment isn't empty, and ends past the memory.
     Outside { index: u32 },
