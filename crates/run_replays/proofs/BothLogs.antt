@@ -115,11 +115,11 @@ module _ (image : Contents) (params : Params) (schedule : Choices) (fits : Fits 
       let same : e.y ≡ y = made e.core_is count in
       let also : RetiresAt image params choices e.u y =
       subst (λ (z : Instr). RetiresAt image params choices e.u z) same (sym (run_retires_law image params choices e.u) ∙ e.retires) in
-      let when : t ≡ e.u = retires_once image params choices t e.u y fits retires also in
+      let moment : t ≡ e.u = retires_once image params choices t e.u y fits retires also in
       let within = e.within in
       let counted = retired_is e.u x.core (omega arith) core in
-      let then : retired_count image params choices t x.core ≡ retired_count image params choices e.u x.core =
-      ap (λ (u : ℕ). retired_count image params choices u x.core) when in
+      let as_then : retired_count image params choices t x.core ≡ retired_count image params choices e.u x.core =
+      ap (λ (u : ℕ). retired_count image params choices u x.core) moment in
       let source = p.source in
       omega arith
     where
