@@ -183,11 +183,11 @@ CheckEnds c exit = Ends (λ fault. AuditRefuses Reduced c.recording fault) (Chec
 -- ---- what is promised beside
 
 -- of the bytes of a recording. They are read back as it, and its reduced log is the least set of the run's accesses.
--- Each edge of its regulated log goes from an instruction to one that retired later, and each edge of the reduced log
--- is before by it, with no more vectors than edges. Every order that obeys either log replays the run: it gives each
--- load the run's value, and is whole or can go on; a whole one ends in the run's memory and cores. So `replay` of them
--- with either log prints what `run` prints of the same image and options, and it and `certify` give nothing for no
--- other reason than want of memory
+-- Its regulated log has the greedy vectors by what is known in the run: each of its edges goes from an instruction to
+-- one that retired later, and each edge of the reduced log is before by it, with no more vectors for a pair of cores
+-- than edges. Every order that obeys either log replays the run: it gives each load the run's value, and is whole or
+-- can go on; a whole one ends in the run's memory and cores. So `replay` of them with either log prints what `run`
+-- prints of the same image and options, and it and `certify` give nothing for no other reason than want of memory
 pub record KeepsRun (params : Params) (choices : List ℕ) (seed : ℕ) (input : List ℕ) : Type 0 where
   pub recorded : IsRecorded (image_of params input) params (choices_of choices seed)
   pub regulates : RegulatesRun (image_of params input) params (choices_of choices seed)

@@ -46,7 +46,7 @@ use Rattle.run_laws.proofs.Later.{retires_once}
 use Rattle.run_plays.specs.Orders.{cores_of, order_of}
 use Rattle.run_plays.specs.ReplayOrders.{GoForward}
 use Rattle.run_plays.proofs.RunLaws.{of_run}
-use Rattle.run_records.proofs.Recordings.{recording_valid_law}
+use Rattle.run_records.proofs.Recordings.{recording_valid_law, regulated_log_law}
 use Rattle.run_replays.specs.BothLogs.{BothReplayLaw, RunRegulatedLaw}
 use Rattle.run_replays.specs.Deciding.{CoversRun}
 use Rattle.run_replays.proofs.Decided.{reduced_decides, run_decides}
@@ -181,6 +181,7 @@ module _ (image : Contents) (params : Params) (schedule : Choices) (fits : Fits 
 
 pub run_regulated : RunRegulatedLaw
 run_regulated image params schedule fits words room = record {
+  vectors = λ known counts. regulated_log_law image params schedule known fits counts;
   covers = covers_run image params schedule fits words room;
   few = few image params schedule fits words room;
 }

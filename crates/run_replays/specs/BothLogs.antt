@@ -7,7 +7,9 @@ use Rattle.rtr_types.specs.declared.pairs.Which.TheVariants.{Regulated}
 use Rattle.rtr_types.specs.declared.params.Params.{Params}
 use Rattle.schedule_pick.specs.Choices.{Choices}
 use Rattle.log_codec.specs.declared.recording.Recording.{Recording}
+use Rattle.edge_regulate.specs.Regulated.{Knowledge, regulated}
 use Rattle.recorder.specs.Recordings.{recording_of}
+use Rattle.recorder.specs.WhatIsKnown.{CountsKnown}
 use Rattle.run_replays.specs.Deciding.{CoversRun}
 use Rattle.run_replays.specs.Replays.{ReplaysRun}
 
@@ -16,9 +18,12 @@ abbrev pub HasFewVectors : Recording → Type 0
 HasFewVectors r =
     (place : ℕ) → length (slice_index_or r.regulated place []) ≤ length (slice_index_or r.reduced place [])
 
--- the regulated log of a run: each of its edges goes forward in the run, each reduced edge is before by it, and it has
--- at most as many vectors as the reduced log has edges
+-- the regulated log of a run has each pair's greedy vectors of the reduced edges, by whatever counts what is known in
+-- the run. Each of its edges goes forward in the run, each reduced edge is before by it, and no pair has more vectors
+-- than reduced edges
 pub record RegulatesRun (image : Contents) (params : Params) (schedule : Choices) (r : Recording) : Type 0 where
+  pub vectors : (known : Knowledge) → CountsKnown image params schedule known
+      → r.regulated ≡ regulated params.cores known r.reduced
   pub covers : CoversRun image params schedule Regulated r
   pub few : HasFewVectors r
 
