@@ -1,7 +1,7 @@
 //! The reduced log, made while the run goes on: each access gets the edges that nothing else implies.
 #![tactic(auto)]
 
-mod edge_list;
+mod edge_places;
 pub mod laws;
 mod pair_list;
 mod pair_lists;
@@ -11,7 +11,7 @@ mod source;
 #[cfg(test)]
 mod tests;
 
-pub use edge_list::EdgeList;
+pub use edge_places::{EdgeList, EdgePlaces};
 pub use reducer::Reducer;
 use rtr_types::CORES_MAX;
 

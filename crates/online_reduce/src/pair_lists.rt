@@ -6,7 +6,7 @@ ghost use Rattle.online_reduce.specs.Lists.{with_edges};
 ghost use Rattle.online_reduce.specs.Rule.{edges_into};
 ghost use Rattle.online_reduce.specs.declared.TheConstants.{EDGES_MAX};
 
-use crate::edge_list::EdgeList;
+use crate::edge_places::EdgePlaces;
 use crate::pair_list::PairList;
 use crate::rule::is_kept;
 use crate::source::Source;
@@ -92,14 +92,14 @@ impl PairLists {
     }
 
     /// Puts the edges into an instruction, those from the candidates that are kept, at the ends of
-    /// their pairs' lists, and answers them in the list that is lent, in place of what it had.
+    /// their pairs' lists, and answers them in the places that are lent, in place of what they had.
     pub(crate) fn add(
         &mut self,
         cores: u8,
         at: Instr,
         before: &Clock,
         found: &[Source],
-        edges: &mut EdgeList,
+        edges: &mut EdgePlaces,
     )
         requires cores { cores ≤ CORES_MAX }
         requires room { IsTrue self.old.roomy }

@@ -7,7 +7,7 @@ ghost use Rattle.rtr_types.specs.Accesses.{is_write};
 ghost use Rattle.access_times.specs.Times.{times_noted};
 ghost use Rattle.conflict_edge.specs.Times.{IsExactClock};
 
-use crate::edge_list::EdgeList;
+use crate::edge_places::{EdgeList, EdgePlaces};
 use crate::pair_lists::PairLists;
 use crate::rule::{clock_into, note};
 use crate::source::{Source, Sources, is_alone, is_of_other, list_candidates, slot_of};
@@ -25,6 +25,7 @@ const PLACES: usize = CORES_MAX as usize;
 /// more retirement needs no memory.
 #[derive(Drop)]
 pub struct Reducer {
+    alloc: Global,
     cores: u8,
     clocks: [Clock; PLACES],
     pairs: PairLists,
@@ -61,6 +62,7 @@ impl Reducer {
     {
         let pairs = PairLists::new(alloc, cores)?;
         Ok(Reducer {
+            alloc,
             cores,
             clocks: [Clock::zero(); PLACES],
             pairs,
@@ -107,10 +109,33 @@ impl Reducer {
         self.clocks[at.core as usize] = clock;
     }
 
-    /// The core's next instruction retired with the access. Puts the new edges into the pairs' lists, and
-    /// notes the access in the times of its block. Answers the edges, by rising source core, in the list
-    /// that is lent, in place of what it had.
-    pub fn retire(&mut self, access: &Access, times: &mut Times, edges: &mut EdgeList)
+    /// The core's next instruction retired with the access. Answers the new edges by rising source core,
+    /// puts them into the pairs' lists, and notes the access in the times of its block.
+    pub fn retire(&mut self, access: &Access, times: &mut Times) -> EdgeList
+        requires ready { IsTrue self.old.ready }
+        requires next { IsNext self.old.state access.now.at }
+        ensures edges { result.items ≡ edges_of self.old.state access.now times.old }
+        ensures state { self.new.state ≡ retired self.old.state access.now times.old }
+        ensures times { times.new ≡ times_noted access.now times.old (clock_of self.new.state access.now.at.core) }
+        ensures held { IsHeld access.now times.new (clock_of self.new.state access.now.at.core) }
+        ensures clock { (list : List Access) → IsExact list self.old.state → AreExactFor list access.now times.old →
+            IsExactClock (list ++ access.now ∷ []) access.now.at (clock_of self.new.state access.now.at.core) }
+        ensures covering { (list : List Access) → IsExact list self.old.state → AreExactFor list access.now times.old →
+            AreCoveringInto (list ++ access.now ∷ []) access.now.at result.items }
+        ensures exact { (list : List Access) → IsExact list self.old.state → AreExactFor list access.now times.old →
+            IsExact (list ++ access.now ∷ []) self.new.state }
+        ensures reduction { (list : List Access) (edges : List Edge) →
+            IsReduction list self.old.state edges → AreExactFor list access.now times.old →
+            IsReduction (list ++ access.now ∷ []) self.new.state (edges ++ result.items) }
+    {
+        let mut edges = EdgePlaces::new();
+        self.retire_into(access, times, &mut edges);
+        edges.to_list(self.alloc)
+    }
+
+    /// The same with the edges in the places that are lent, in place of what they had, so that no list is
+    /// moved.
+    pub fn retire_into(&mut self, access: &Access, times: &mut Times, edges: &mut EdgePlaces)
         requires ready { IsTrue self.old.ready }
         requires next { IsNext self.old.state access.now.at }
         ensures edges { edges.new ≡ edges_of self.old.state access.now times.old }
@@ -135,7 +160,7 @@ impl Reducer {
     }
 
     /// An access that only reads: it has at most one candidate, so that no list of them is made.
-    fn retire_load(&mut self, access: &Access, times: &mut Times, edges: &mut EdgeList)
+    fn retire_load(&mut self, access: &Access, times: &mut Times, edges: &mut EdgePlaces)
         requires load { is_write access.now.kind ≡ false }
         requires ready { IsTrue self.old.ready }
         requires next { IsNext self.old.state access.now.at }
@@ -158,7 +183,7 @@ impl Reducer {
     }
 
     /// An access that writes, whose candidates are listed only where there may be one.
-    fn retire_write(&mut self, access: &Access, times: &mut Times, edges: &mut EdgeList)
+    fn retire_write(&mut self, access: &Access, times: &mut Times, edges: &mut EdgePlaces)
         requires ready { IsTrue self.old.ready }
         requires next { IsNext self.old.state access.now.at }
         ensures edges { edges.new ≡ edges_of self.old.state access.now times.old }
@@ -175,7 +200,7 @@ impl Reducer {
 
     /// An access whose candidates are listed. It is apart so that a write without candidates makes no
     /// room on the stack for their list.
-    fn retire_listed(&mut self, access: &Access, times: &mut Times, edges: &mut EdgeList)
+    fn retire_listed(&mut self, access: &Access, times: &mut Times, edges: &mut EdgePlaces)
         requires ready { IsTrue self.old.ready }
         requires next { IsNext self.old.state access.now.at }
         ensures edges { edges.new ≡ edges_of self.old.state access.now times.old }
@@ -190,7 +215,13 @@ impl Reducer {
 
     /// Puts the access's edges into the pairs' lists and answers them, keeps its clock and notes it, once
     /// its candidates are found.
-    fn settle(&mut self, access: &Access, found: &[Source], times: &mut Times, edges: &mut EdgeList)
+    fn settle(
+        &mut self,
+        access: &Access,
+        found: &[Source],
+        times: &mut Times,
+        edges: &mut EdgePlaces,
+    )
         requires ready { IsTrue self.old.ready }
         requires next { IsNext self.old.state access.now.at }
         requires found { found.now ≡ candidates self.old.state.cores access.now times.old }

@@ -1,5 +1,5 @@
 //! Short runs, with the times that one block's words have in them.
-use crate::{EdgeList, Reducer};
+use crate::{EdgePlaces, Reducer};
 use access_times::{Rider, Times};
 use conflict_edge::least_of;
 use rtr_types::{Access, CORES_MAX, Edge, Instr, Kind};
@@ -45,13 +45,13 @@ fn reduced(rt: &impl Abort, alloc: Global, list: &[Access]) -> Result<(Vec<Edge>
     let mut reducer = Reducer::new(alloc, 3)?;
     let mut times = Times::fresh();
     let mut edges = Vec::new(alloc);
-    let mut new = EdgeList::new();
+    let mut new = EdgePlaces::new();
     for access in list {
         let core = access.at.core;
         assert!(rt; core < 3);
         assert!(rt; reducer.clock(core).get(core) as u64 + 1 == access.at.count as u64);
         reducer.ready()?;
-        reducer.retire(access, &mut times, &mut new);
+        reducer.retire_into(access, &mut times, &mut new);
         for edge in new.as_slice() {
             edges.push(*edge)?;
         }
@@ -97,11 +97,30 @@ fn a_local_instruction_counts(rt: HostRuntime) -> Result<(), Fail> {
     reducer.ready()?;
     assert!(rt; reducer.is_ready());
     let mut times = Times::fresh();
-    let mut edges = EdgeList::new();
-    reducer.retire(&access!(1: 2 Store 0), &mut times, &mut edges);
+    let mut edges = EdgePlaces::new();
+    reducer.retire_into(&access!(1: 2 Store 0), &mut times, &mut edges);
     assert_eq!(rt; edges.as_slice().len(), 0);
     assert_eq!(rt; reducer.clock(1).get(1), 2);
     assert_eq!(rt; reducer.clock(0).get(1), 0);
+    Ok(())
+}
+
+// Core 1 reads what core 0 stored.
+#[test]
+fn the_answered_list_has_the_edges(rt: HostRuntime) -> Result<(), Fail> {
+    let mut reducer = Reducer::new(rt.alloc(), 2)?;
+    let mut times = Times::fresh();
+    reducer.ready()?;
+    let edges = reducer.retire(&access!(0: 1 Store 0), &mut times);
+    assert_eq!(rt; edges.len(), 0);
+    assert!(rt; reducer.clock(1).get(1) == 0);
+    reducer.ready()?;
+    let edges = reducer.retire(&access!(1: 1 Load 0), &mut times);
+    let into_the_load = [Edge {
+        from: Instr { core: 0, count: 1 },
+        to: Instr { core: 1, count: 1 },
+    }];
+    assert_eq!(rt; edges.as_slice(), into_the_load.as_slice());
     Ok(())
 }
 
@@ -110,7 +129,7 @@ fn a_local_instruction_counts(rt: HostRuntime) -> Result<(), Fail> {
 fn a_store_follows_a_read_of_each_other_core(rt: HostRuntime) -> Result<(), Fail> {
     let mut reducer = Reducer::new(rt.alloc(), CORES_MAX)?;
     let mut times = Times::fresh();
-    let mut edges = EdgeList::new();
+    let mut edges = EdgePlaces::new();
     for core in 1..CORES_MAX {
         assert!(rt; reducer.clock(core).get(core) == 0);
         reducer.ready()?;
@@ -119,12 +138,12 @@ fn a_store_follows_a_read_of_each_other_core(rt: HostRuntime) -> Result<(), Fail
             at,
             ..access!(0: 1 Load 0)
         };
-        reducer.retire(&access, &mut times, &mut edges);
+        reducer.retire_into(&access, &mut times, &mut edges);
         assert_eq!(rt; edges.as_slice().len(), 0);
     }
     assert!(rt; reducer.clock(0).get(0) == 0);
     reducer.ready()?;
-    reducer.retire(&access!(0: 1 Store 0), &mut times, &mut edges);
+    reducer.retire_into(&access!(0: 1 Store 0), &mut times, &mut edges);
     assert_eq!(rt; edges.as_slice().len(), CORES_MAX as usize - 1);
     Ok(())
 }

@@ -13,7 +13,7 @@ use access_times::{Clerk, Times, TimesClerk};
 use edge_regulate::Regulator;
 use know_history::{History, Known};
 use load_lists::LoadLists;
-use online_reduce::{EdgeList, Reducer};
+use online_reduce::{EdgePlaces, Reducer};
 use rtr_types::{Access, Instr, Items};
 use rv_core::LoadNote;
 use std::alloc::{AllocError, Global};
@@ -33,7 +33,7 @@ pub(crate) struct RunClerk {
     loads: LoadLists,
     history: History,
     /// The edges of the last retirement, until the regulator is told of them.
-    untold: EdgeList,
+    untold: EdgePlaces,
     regulator: Regulator,
 }
 
@@ -79,7 +79,7 @@ impl RunClerk {
             reducer,
             loads,
             history,
-            untold: EdgeList::new(),
+            untold: EdgePlaces::new(),
             regulator,
         })
     }
@@ -161,7 +161,7 @@ impl Clerk<Times, Known> for RunClerk {
             };
             self.loads.note(access.at.core, note);
         }
-        self.reducer.retire(&access, rider, &mut self.untold);
+        self.reducer.retire_into(&access, rider, &mut self.untold);
     }
 }
 

@@ -4,17 +4,22 @@ ghost use Rattle.online_reduce.specs.declared.TheConstants.{EDGES_MAX};
 
 use crate::EDGES_MAX;
 use rtr_types::Edge;
+use smallvec::SmallVec;
+use std::alloc::Global;
 use std::marker::Model;
 
-/// The edges into one access, in places of the value itself, so that a list takes no memory and isn't
-/// moved to be handed on. Contracts see the list.
+/// The edges into one access, as a list with room for all of them in the value itself.
+pub type EdgeList = SmallVec<Edge, EDGES_MAX>;
+
+/// The edges into one access, in places of the value itself, so that they are lent and not moved.
+/// Contracts see the list.
 #[derive(Drop)]
-pub struct EdgeList {
+pub struct EdgePlaces {
     places: [Edge; EDGES_MAX],
     len: usize,
 }
 
-impl Model for EdgeList {
+impl Model for EdgePlaces {
     ghost use Rattle.std.specs.Prelude.{List, ◌≡◌, ◌≤◌, length, take};
     ghost use Rattle.online_reduce.specs.declared.TheConstants.{EDGES_MAX};
     ghost use Rattle.rtr_types.specs.declared.instr.Edge.{Edge};
@@ -26,12 +31,12 @@ impl Model for EdgeList {
     ghost invariant = { λ a. (a.len ≤ EDGES_MAX) × (length a.places ≡ EDGES_MAX) };
 }
 
-impl EdgeList {
+impl EdgePlaces {
     /// No edges.
-    pub fn new() -> EdgeList
+    pub fn new() -> EdgePlaces
         ensures { result ≡ [] }
     {
-        EdgeList {
+        EdgePlaces {
             places: [Edge::default(); EDGES_MAX],
             len: 0,
         }
@@ -58,5 +63,17 @@ impl EdgeList {
         ensures { result.now ≡ self.now }
     {
         &self.places[..self.len]
+    }
+
+    /// The edges as a list, which takes no memory.
+    pub(crate) fn to_list(&self, alloc: Global) -> EdgeList
+        ensures items { result.items ≡ self.now }
+        ensures inline { result.capacity ≡ EDGES_MAX }
+    {
+        let mut list = SmallVec::new(alloc);
+        for edge in &self.places[..self.len] {
+            list.push_reserved(*edge);
+        }
+        list
     }
 }
