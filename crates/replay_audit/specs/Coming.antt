@@ -71,7 +71,7 @@ pub record IsSource (edges : List Edge) (of : ℕ) (y : Instr) (source : Option 
 abbrev pub edge_of : Coming → (of : ℕ) → Option (ℕ × ℕ)
 edge_of k of = slice_index_or k.edges of None
 
--- the next edge from each of the first n cores but this one, of which none leads to a count below the one that is due
+-- the next edge from each of n other cores, of which none leads to a count below the one that is due
 pub record IsComing (edges : List Edge) (core n : ℕ) (k : Coming) : Type 0 where
   pub each : (i : ℕ) → i < n → i ≢ core → IsNextInto edges i (instr core k.from) (edge_of k i)
   pub due : (i a b : ℕ) → i < n → Leads edges i a core b → k.from ≤ b → k.due ≤ b
