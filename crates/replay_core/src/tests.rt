@@ -4,7 +4,7 @@ ghost use Rattle.log_codec.specs.Validity.{Valid};
 
 use crate::{Advanced, Replay, ReplayFault};
 use log_codec::{Recording, read};
-use rtr_types::{Cut, Which};
+use rtr_types::{CORES_MAX, Cut, Which};
 use rv_core::{LoadNote, Outcome};
 use std::alloc::Global;
 use std::test::Fail;
@@ -47,10 +47,10 @@ fn refused(alloc: Global, rest: &[u8], which: Which) -> Result<Option<ReplayFaul
 
 // A cut of two cores.
 fn cut(first: u32, second: u32) -> Cut {
-    Cut {
-        cores: 2,
-        counts: [first, second, 0, 0, 0, 0, 0, 0],
-    }
+    let mut counts = [0; CORES_MAX as usize];
+    counts[0] = first;
+    counts[1] = second;
+    Cut { cores: 2, counts }
 }
 
 // A log that goes round, a total past the program's end, and a log that leaves the two stores open.
