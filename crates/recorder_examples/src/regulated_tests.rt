@@ -1,5 +1,7 @@
 //! Runs of all cores, whose recorded vectors are those of a slow program, which is written from the
 //! definition over what is known at each retirement.
+ghost use Rattle.std.specs.Prelude.{◌≡◌};
+
 use crate::least_tests::{PARAMS, SEEDS, STEPS, image};
 use access_times::{Clerk, NoRider, Rider};
 use know_history::Known;

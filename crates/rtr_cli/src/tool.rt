@@ -17,6 +17,11 @@ use tool_words::{Command, meaning, what_words_mean_fits};
 /// Does what the words mean: reads the input to its end, gives the output, and tells the report how it
 /// ended. `words` leaves out the program's name.
 ///
+/// At `Done` of `record`, for every image, number of cores, limit and schedule: the recording's reduced log is
+/// the least set of conflict edges that with program order implies the order of every two accesses that
+/// conflict in the run, the regulated log implies it, and every order that obeys either log gives each load
+/// the run's value and the run's final memory, and is never stuck (`KeepsRun` among what is promised).
+///
 /// `Usage` comes exactly where the words mean nothing, and then neither input nor output is touched.
 /// `TooLarge` comes exactly where the input has more bytes than the command takes, `Bad` exactly where it
 /// was read to its end and has no reading, with the first part that has none. `Stuck`, `Short` and
