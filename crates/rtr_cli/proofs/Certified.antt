@@ -56,6 +56,7 @@ accepted out c exits.Usage a h = absurd h
 accepted out c exits.TooLarge a h = absurd h
 accepted out c exits.ReadFault a h = absurd h
 accepted out c exits.WriteFault a h = absurd h
+accepted out c (exits.Elf fault) a h = absurd h
 
 pub certified_is_accepted : CertifiedIsAccepted
 certified_is_accepted input out exit made promised refused = by (whole_at input) made promised

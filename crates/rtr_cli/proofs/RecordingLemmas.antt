@@ -12,7 +12,7 @@ use Rattle.log_codec.specs.Spelling.{spelling}
 use Rattle.log_codec.specs.declared.recording.Recording.{Recording}
 use Rattle.run_outcome.specs.Outcomes.{outcome_of}
 use Rattle.recorder.specs.Recordings.{IsRecorded, recording_of}
-use Rattle.replay_audit.specs.Audits.{AuditRefuses}
+use Rattle.replay_audit.specs.Audits.{AuditRefuses, Findings, IsAuditOf}
 use Rattle.replay_audit.specs.declared.audit_fault.AuditFault.{AuditFault}
 use Rattle.replay_audit.specs.declared.audit_fault.AuditFault.TheVariants as faults
 use Rattle.replay_core.specs.Plans.{recorded_image as replayed_image}
@@ -22,9 +22,9 @@ use Rattle.run_replays.specs.Replays.{ReplaysRun}
 use Rattle.state_text.specs.States.{state_lines}
 use Rattle.state_text.specs.declared.exit.Exit.{Exit}
 use Rattle.state_text.specs.declared.exit.Exit.TheVariants as exits
-use Rattle.tool_words.specs.declared.command.Command.{Command}
+use Rattle.tool_words.specs.declared.command.RunWords.{RunWords}
+use Rattle.image_elf.specs.declared.elf_fault.ElfFault.{ElfFault}
 use Rattle.tool_words.specs.declared.command.Command.TheVariants.{Certify, Record, Replay}
-use Rattle.tool_words.specs.Commands.{HasFittingParams}
 use Rattle.conflict_edge.specs.Least.{IsLeast}
 use Rattle.log_codec.specs.Sources.{log_edges}
 use Rattle.rtr_types.specs.declared.access.Access.{Access}
@@ -37,7 +37,7 @@ use Rattle.min_certificate.specs.declared.answers.CheckFailure.{CheckFailure}
 use Rattle.min_certificate.specs.declared.answers.CheckFailure.TheVariants as failures
 use Rattle.min_certificate.proofs.Judged.{least_is_certified}
 use Rattle.min_certificate.proofs.Lows.{any_order_is_least}
-use Rattle.rtr_cli.specs.Commands.{IsNotLeast, KeepsRun, Promised, Refuses, SpellsSome, image_of, most_of, replay_lines}
+use Rattle.rtr_cli.specs.Commands.{AuditEnds, IsNotLeast, KeepsRun, Promised, Refuses, SpellsSome, image_of, loaded, replay_lines}
 
 pub recorded_image : (image : Contents) (params : Params) (schedule : Choices)
     → (recording_of image params schedule).image ≡ image.bytes
@@ -71,6 +71,7 @@ only_memory which loads bytes r exits.Usage is knows it = absurd it
 only_memory which loads bytes r exits.TooLarge is knows it = absurd it
 only_memory which loads bytes r exits.ReadFault is knows it = absurd it
 only_memory which loads bytes r exits.WriteFault is knows it = absurd it
+only_memory which loads bytes r (exits.Elf fault) is knows it = absurd it
 
 -- an edge that isn't in the least log, of a recording whose log is least
 none_amiss : (r : Recording) (failure : CheckFailure) → IsLeastIn r → IsNotLeast r failure → ⊥
@@ -102,6 +103,7 @@ certified_memory bytes r exits.Usage is knows least it = absurd it
 certified_memory bytes r exits.TooLarge is knows least it = absurd it
 certified_memory bytes r exits.ReadFault is knows least it = absurd it
 certified_memory bytes r exits.WriteFault is knows least it = absurd it
+certified_memory bytes r (exits.Elf fault) is knows least it = absurd it
 
 -- the reduced log is the least set of the low order's accesses too, as it is of those of the order of retirement
 least_in_low : (image : Contents) (params : Params) (schedule : Choices) → Fits params → image.words ≡ params.words
@@ -143,11 +145,41 @@ keeps_run params choices seed input fits room =
           (least_in_low image params schedule fits refl recorded (replays Reduced).determinate) it;
     }
 
--- so the promise of `record` stands whatever its options and its input are
-pub record_promised : (command : Command) (params : Params) (choices : List ℕ) (seed : ℕ) (input : List ℕ)
-    → command ≡ Record params choices seed → HasFittingParams command → length input ≤ most_of command
-    → Promised command input
-record_promised command params choices seed input is fits within =
-    subst (λ (c : Command). Promised c input) (sym is)
-    (keeps_run params choices seed input (subst HasFittingParams is fits)
-    (subst (λ (c : Command). length input ≤ most_of c) is within))
+-- so the promise of `record` stands whatever its options are and whatever image its input is
+pub record_promised : (run : RunWords) (input bytes : List ℕ) → loaded run input ≡ Ok bytes → Fits run.params
+    → length bytes ≤ 4 * run.params.words → Promised (Record run) input
+record_promised run input bytes is fits room =
+    subst (λ (read : Result (List ℕ) ElfFault). SpellsSome read (λ b. KeepsRun run.params run.choices run.seed b)) (sym is)
+    (keeps_run run.params run.choices run.seed bytes fits room)
+
+-- ---- a run's recording in an audit
+
+-- what passes comes to what the run came to
+pub run_audited : (image : Contents) (params : Params) (schedule : Choices) (a : Findings) → Fits params → image.words ≡ params.words
+    → length image.bytes ≤ 4 * params.words → IsAuditOf Reduced (recording_of image params schedule) a
+    → a.outcome ≡ outcome_of image params schedule
+run_audited image params schedule a fits words room audited =
+    (both_replay image params schedule Reduced fits words room).answers.audited a audited
+
+-- a command ends for want of memory where its audit is refused for nothing else
+audit_memory : (which : Which) (r : Recording) (exit : Exit) → ((fault : AuditFault) → AuditRefuses which r fault → fault ≡ faults.OutOfMemory)
+    → AuditEnds which r exit → exit ≡ exits.OutOfMemory
+audit_memory which r (exits.Stuck cut) knows it = let none = knows (faults.Stuck cut) it in absurd cc
+audit_memory which r (exits.Short core count) knows it = let none = knows (faults.Short core count) it in absurd cc
+audit_memory which r (exits.Undetermined first second) knows it = let none = knows (faults.Undetermined first second) it in absurd cc
+audit_memory which r (exits.CheckFailed failure) knows it = absurd it
+audit_memory which r exits.OutOfMemory knows it = refl
+audit_memory which r (exits.Bad part) knows it = absurd it
+audit_memory which r exits.Done knows it = absurd it
+audit_memory which r exits.Usage knows it = absurd it
+audit_memory which r exits.TooLarge knows it = absurd it
+audit_memory which r exits.ReadFault knows it = absurd it
+audit_memory which r exits.WriteFault knows it = absurd it
+audit_memory which r (exits.Elf fault) knows it = absurd it
+
+-- nothing but want of memory refuses it
+pub run_not_refused : (image : Contents) (params : Params) (schedule : Choices) (exit : Exit) → Fits params → image.words ≡ params.words
+    → length image.bytes ≤ 4 * params.words → AuditEnds Reduced (recording_of image params schedule) exit → exit ≡ exits.OutOfMemory
+run_not_refused image params schedule exit fits words room ends =
+    audit_memory Reduced (recording_of image params schedule) exit
+    (both_replay image params schedule Reduced fits words room).answers.not_audited ends

@@ -1,27 +1,33 @@
--- A command that gives nothing for an input that was read answers so.
-use Rattle.std.proofs.Common.{List, ℕ}
-use Rattle.std.specs.Prelude.{Option}
+-- A command that gives nothing for an input that was taken answers so.
+use Rattle.std.proofs.Common.{◌≡◌, Bool, List, ℕ, sym, subst, inl, inr}
+use Rattle.std.specs.Prelude.{Option, Some, None}
 use Rattle.std.specs.Io.KnownBytes.{Keeps}
 use Rattle.replay_audit.specs.declared.audit_fault.AuditFault.{AuditFault}
 use Rattle.replay_audit.specs.declared.audit_fault.AuditFault.TheVariants as faults
 use Rattle.min_certificate.specs.declared.answers.CheckFailure.{CheckFailure}
+use Rattle.image_elf.specs.declared.elf_fault.ElfFault.{ElfFault}
 use Rattle.state_text.specs.declared.exit.Exit.{Exit}
 use Rattle.state_text.specs.declared.exit.Exit.TheVariants as exits
+use Rattle.rtr_types.specs.declared.params.Params.{Params}
+use Rattle.trace_gen.specs.declared.shape.Shape.{Shape}
 use Rattle.tool_words.specs.declared.command.Command.{Command}
-use Rattle.rtr_cli.specs.Answers.{Answers, IsRead}
-use Rattle.rtr_cli.specs.Commands.{Ends, Refuses, exit_of_audit, most_of}
+use Rattle.tool_words.specs.declared.command.Command.TheVariants.{Record, Run, Soak}
+use Rattle.tool_words.specs.declared.command.RunWords.{RunWords}
+use Rattle.rtr_cli.specs.Answers.{Answers, IsTaken}
+use Rattle.rtr_cli.specs.Commands.{Ends, IsWithin, LoadEnds, Refuses, SoakEnds, exit_of_audit, loaded, most_of}
 
-pub refused_answers : (command : Command) (input : List ℕ) (exit : Exit) (left left' got got' : Option (List ℕ)) → IsRead (most_of command) left left' input →
-    Refuses command input exit → Keeps got got' → Answers command exit left left' got got'
+pub refused_answers : (command : Command) (input : List ℕ) (exit : Exit) (left left' got got' : Option (List ℕ))
+    → IsTaken (most_of command) left left' input → Refuses command input exit → Keeps got got' → Answers command exit left left' got got'
 refused_answers command input (exits.Bad part) left left' got got' was h keeps = (input, was, h, keeps)
 refused_answers command input (exits.Stuck cut) left left' got got' was h keeps = (input, was, h, keeps)
 refused_answers command input (exits.Short core count) left left' got got' was h keeps = (input, was, h, keeps)
 refused_answers command input (exits.Undetermined first second) left left' got got' was h keeps = (input, was, h, keeps)
 refused_answers command input (exits.CheckFailed failure) left left' got got' was h keeps = (input, was, h, keeps)
+refused_answers command input (exits.Elf fault) left left' got got' was h keeps = (input, was, h, keeps)
+refused_answers command input exits.TooLarge left left' got got' was h keeps = (inr h, keeps)
 refused_answers command input exits.OutOfMemory left left' got got' was h keeps = keeps
 refused_answers command input exits.Done left left' got got' was h keeps = absurd h
 refused_answers command input exits.Usage left left' got got' was h keeps = absurd h
-refused_answers command input exits.TooLarge left left' got got' was h keeps = absurd h
 refused_answers command input exits.ReadFault left left' got got' was h keeps = absurd h
 refused_answers command input exits.WriteFault left left' got got' was h keeps = absurd h
 
@@ -31,3 +37,23 @@ audit_ends Audits Shows (faults.Stuck cut) h = h
 audit_ends Audits Shows (faults.Short core count) h = h
 audit_ends Audits Shows (faults.Undetermined first second) h = h
 audit_ends Audits Shows faults.OutOfMemory h = tt
+
+-- a run whose input has no image ends as its command does
+pub record_refused : (run : RunWords) (input : List ℕ) (exit : Exit) → LoadEnds run input exit → Refuses (Record run) input exit
+record_refused run input exit (inl is) = subst (λ (e : Exit). Refuses (Record run) input e) (sym is) tt
+record_refused run input exit (inr (fault, is, why)) = subst (λ (e : Exit). Refuses (Record run) input e) (sym is) why
+
+pub run_refused : (run : RunWords) (loads : Bool) (input : List ℕ) (exit : Exit) → LoadEnds run input exit → Refuses (Run run loads) input exit
+run_refused run loads input exit (inl is) = subst (λ (e : Exit). Refuses (Run run loads) input e) (sym is) tt
+run_refused run loads input exit (inr (fault, is, why)) = subst (λ (e : Exit). Refuses (Run run loads) input e) (sym is) why
+
+-- and so does a soak
+pub soak_refused : (shape : Shape) (number : ℕ) (params : Params) (seed : ℕ) (input : List ℕ) (exit : Exit) → SoakEnds shape params exit
+    → Refuses (Soak shape number params seed) input exit
+soak_refused shape number params seed input exit (inl is) = subst (λ (e : Exit). Refuses (Soak shape number params seed) input e) (sym is) tt
+soak_refused shape number params seed input exit (inr (is, more)) = subst (λ (e : Exit). Refuses (Soak shape number params seed) input e) (sym is) more
+
+-- what was taken is within what the command takes
+pub taken_within : (most : Option ℕ) (old new : Option (List ℕ)) (bytes : List ℕ) → IsTaken most old new bytes → IsWithin most bytes
+taken_within None old new bytes taken = taken.1
+taken_within (Some most) old new bytes taken = taken.within

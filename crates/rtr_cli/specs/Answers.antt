@@ -1,12 +1,12 @@
 -- What each way to end says of the input and the output.
-use Rattle.std.specs.Prelude.{◌≡◌, ℕ, ◌+◌, ◌≤◌, ◌⊎◌, List, length, Option}
+use Rattle.std.specs.Prelude.{◌≡◌, ℕ, ◌+◌, ◌≤◌, ◌⊎◌, List, [], length, Option, Some, None}
 use Rattle.std.specs.Io.KnownBytes.{Appends, Consumes, IsAtEnd, Keeps}
 use Rattle.rtr_io.specs.Faults.{HasRisen}
 use Rattle.rtr_io.specs.Moved.{GivesPart, TakesJust}
 use Rattle.state_text.specs.declared.exit.Exit.{Exit}
 use Rattle.state_text.specs.declared.exit.Exit.TheVariants as exits
 use Rattle.tool_words.specs.declared.command.Command.{Command}
-use Rattle.rtr_cli.specs.Commands.{Makes, Promised, Refuses, most_of}
+use Rattle.rtr_cli.specs.Commands.{Makes, Overflows, Promised, Refuses, most_of}
 
 -- the input was read to its end, and these bytes were its rest; there are at most `most` of them
 pub record IsRead (most : ℕ) (old new : Option (List ℕ)) (bytes : List ℕ) : Type 0 where
@@ -14,20 +14,31 @@ pub record IsRead (most : ℕ) (old new : Option (List ℕ)) (bytes : List ℕ) 
   pub end : IsAtEnd new
   pub within : length bytes ≤ most
 
--- the input was read to its end and is refused so, and nothing was given
+-- these bytes were taken: all of an input, or none where the command takes no input, which then is as it was
+abbrev pub IsTaken : (most : Option ℕ) → (old new : Option (List ℕ)) → (bytes : List ℕ) → Type 0
+IsTaken None old new bytes = Keeps old new × (bytes ≡ [])
+IsTaken (Some most) old new bytes = IsRead most old new bytes
+
+-- the input has more bytes than the command takes
+abbrev pub HasMore : (most : Option ℕ) → (old new : Option (List ℕ)) → Type 0
+HasMore None old new = ⊥
+HasMore (Some most) old new = TakesJust (most + 1) old new
+
+-- the input was taken and is refused so, and nothing was given
 abbrev pub GivesNothing : Command → Exit → (left left' got got' : Option (List ℕ)) → Type 0
 GivesNothing command exit left left' got got' =
-    (input : List ℕ) × IsRead (most_of command) left left' input × Refuses command input exit × Keeps got got'
+    (input : List ℕ) × IsTaken (most_of command) left left' input × Refuses command input exit × Keeps got got'
 
--- what a command's exit says of the bytes that the input had left and of those that the output got.
+-- what a command's exit says of the bytes that the input had left and of those that the output got. The input of a
+-- command that takes none is as it was.
 -- At Done the output got exactly what the command makes of the input, which is as promised, and at
 -- WriteFault a part of it.
 abbrev pub Answers : Command → Exit → (left left' got got' : Option (List ℕ)) → Type 0
 Answers command exits.Done left left' got got' =
-    (input : List ℕ) × (out : List ℕ) × IsRead (most_of command) left left' input
+    (input : List ℕ) × (out : List ℕ) × IsTaken (most_of command) left left' input
     × Makes command input out × Promised command input × Appends got got' out
 Answers command exits.WriteFault left left' got got' =
-    (input : List ℕ) × (out : List ℕ) × IsRead (most_of command) left left' input
+    (input : List ℕ) × (out : List ℕ) × IsTaken (most_of command) left left' input
     × Makes command input out × GivesPart out got got'
 Answers command (exits.Bad part) left left' got got' = GivesNothing command (exits.Bad part) left left' got got'
 Answers command (exits.Stuck cut) left left' got got' = GivesNothing command (exits.Stuck cut) left left' got got'
@@ -37,7 +48,9 @@ Answers command (exits.Undetermined first second) left left' got got' =
     GivesNothing command (exits.Undetermined first second) left left' got got'
 Answers command (exits.CheckFailed failure) left left' got got' =
     GivesNothing command (exits.CheckFailed failure) left left' got got'
-Answers command exits.TooLarge left left' got got' = TakesJust (most_of command + 1) left left' × Keeps got got'
+Answers command (exits.Elf fault) left left' got got' = GivesNothing command (exits.Elf fault) left left' got got'
+Answers command exits.TooLarge left left' got got' =
+    (HasMore (most_of command) left left' ⊎ Overflows command) × Keeps got got'
 Answers command exits.ReadFault left left' got got' = Keeps got got'
 Answers command exits.OutOfMemory left left' got got' = Keeps got got'
 Answers command exits.Usage left left' got got' = ⊥

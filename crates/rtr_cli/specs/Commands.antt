@@ -1,6 +1,10 @@
 -- What each command makes of an input.
-use Rattle.std.specs.Prelude.{◌≡◌, ℕ, ◌*◌, ◌↔◌, Bool, List, Result, Ok, Err}
+use Rattle.std.specs.Prelude.{◌≡◌, ℕ, ◌*◌, ◌<◌, ◌≤◌, ◌↔◌, ◌⊎◌, Bool, false, if◌then◌else◌, List, [], length}
+use Rattle.std.specs.Prelude.{Option, Some, None, Result, Ok, Err}
 use Rattle.recorder.specs.Recordings.{IsRecorded, recording_of}
+use Rattle.image_elf.specs.declared.elf_fault.ElfFault.{ElfFault}
+use Rattle.image_elf.specs.Faults.{elf_fault}
+use Rattle.image_elf.specs.FlatImage.{flat_image}
 use Rattle.image_mem.specs.Contents.{Contents}
 use Rattle.rv_core.specs.declared.outcome.Outcome.{Outcome}
 use Rattle.schedule_pick.specs.Choices.{choices_of}
@@ -35,39 +39,65 @@ use Rattle.state_text.specs.Logs.{logs_lines}
 use Rattle.state_text.specs.States.{state_lines}
 use Rattle.tool_words.specs.declared.command.Command.{Command}
 use Rattle.tool_words.specs.declared.command.Command.TheVariants.{Record, Run, Print, Replay, Migrate, Certify, Check}
+use Rattle.tool_words.specs.declared.command.Command.TheVariants.{Gen, Soak}
+use Rattle.tool_words.specs.declared.command.RunWords.{RunWords}
+use Rattle.trace_gen.specs.declared.shape.Shape.{Shape}
+use Rattle.trace_gen.specs.Programs.{generated, image_length}
+use Rattle.rtr_cli.specs.Soaks.{changed_count, soak_lines}
 
--- the most bytes of a recording or a certificate: 512 MiB
-abbrev pub recording_bytes_max : ℕ
-recording_bytes_max = 536870912
+-- the most bytes of a recording, a certificate or an ELF file: 512 MiB
+abbrev pub file_bytes_max : ℕ
+file_bytes_max = 536870912
 
--- the most bytes of input that the command takes
-abbrev pub most_of : Command → ℕ
-most_of (Record params choices seed) = 4 * params.words
-most_of (Run params choices seed loads) = 4 * params.words
-most_of Print = recording_bytes_max
-most_of (Replay which loads) = recording_bytes_max
-most_of Migrate = recording_bytes_max
-most_of Certify = recording_bytes_max
-most_of Check = recording_bytes_max
+-- the most bytes of a run's input: an image has at most those of the memory
+abbrev pub run_bytes_max : RunWords → ℕ
+run_bytes_max run = if run.elf then file_bytes_max else 4 * run.params.words
 
--- the image that the input is
-abbrev pub image_of : Params → (input : List ℕ) → Contents
-image_of params input = record { bytes = input; words = params.words }
+-- the most bytes of input that the command takes, if it takes an input at all
+abbrev pub most_of : Command → Option ℕ
+most_of (Record run) = Some (run_bytes_max run)
+most_of (Run run loads) = Some (run_bytes_max run)
+most_of Print = Some file_bytes_max
+most_of (Replay which loads) = Some file_bytes_max
+most_of Migrate = Some file_bytes_max
+most_of Certify = Some file_bytes_max
+most_of Check = Some file_bytes_max
+most_of (Gen shape number) = None
+most_of (Soak shape number params seed) = None
+
+-- the command takes an input of these bytes; one that takes no input has none
+abbrev pub IsWithin : (most : Option ℕ) → (input : List ℕ) → Type 0
+IsWithin None input = input ≡ []
+IsWithin (Some most) input = length input ≤ most
+
+-- the image, unless the file has a fault
+abbrev pub unless_faulty : (image : List ℕ) → Option ElfFault → Result (List ℕ) ElfFault
+unless_faulty image None = Ok image
+unless_faulty image (Some fault) = Err fault
+
+-- the bytes of the image that a run begins with: the input, or the flat image of the ELF file that the input is
+abbrev pub loaded : RunWords → (input : List ℕ) → Result (List ℕ) ElfFault
+loaded run input =
+    if run.elf then unless_faulty (flat_image input) (elf_fault input run.params.words) else Ok input
+
+-- the image of these bytes
+abbrev pub image_of : Params → (bytes : List ℕ) → Contents
+image_of params bytes = record { bytes = bytes; words = params.words }
 
 -- the outcome of the run of that image under the schedule of these choice bytes and this seed
-abbrev pub outcome_of_input : Params → (choices : List ℕ) (seed : ℕ) → (input : List ℕ) → Outcome
-outcome_of_input params choices seed input = outcome_of (image_of params input) params (choices_of choices seed)
+abbrev pub outcome_of_bytes : Params → (choices : List ℕ) (seed : ℕ) → (bytes : List ℕ) → Outcome
+outcome_of_bytes params choices seed bytes = outcome_of (image_of params bytes) params (choices_of choices seed)
 
 -- the recording of that run: its reduced log is the least set of the run's accesses
-abbrev pub recording_of_input : Params → (choices : List ℕ) (seed : ℕ) → (input : List ℕ) → Recording
-recording_of_input params choices seed input = recording_of (image_of params input) params (choices_of choices seed)
+abbrev pub recording_of_bytes : Params → (choices : List ℕ) (seed : ℕ) → (bytes : List ℕ) → Recording
+recording_of_bytes params choices seed bytes = recording_of (image_of params bytes) params (choices_of choices seed)
 
 -- ---- what is given
 
 -- the input spells something of which this holds
-abbrev pub SpellsSome : {X : Type 0} → Result X ℕ → (X → Type 0) → Type 0
+abbrev pub SpellsSome : {X E : Type 0} → Result X E → (X → Type 0) → Type 0
 SpellsSome (Ok x) P = P x
-SpellsSome (Err part) P = ⊥
+SpellsSome (Err e) P = ⊥
 
 -- the state text of the play of the recording's low order by the log
 abbrev pub replay_lines : Which → (loads : Bool) → Recording → List ℕ
@@ -81,38 +111,66 @@ IsCertified r out = (c : Certificate) × Certifies r c × (out ≡ certificate_s
 abbrev pub checked_lines : Certificate → List ℕ
 checked_lines c = check_lines (edge_count_of Reduced c.recording)
 
+-- what `record` gives of a run of the image of these bytes, and what `run` prints of it
+abbrev pub recorded_bytes : RunWords → (bytes : List ℕ) → List ℕ
+recorded_bytes run bytes = spelling (recording_of_bytes run.params run.choices run.seed bytes)
+
+abbrev pub run_lines : RunWords → (loads : Bool) → (bytes : List ℕ) → List ℕ
+run_lines run loads bytes =
+    state_lines (outcome_of_bytes run.params run.choices run.seed bytes) (image_of run.params bytes) loads
+
+-- what `soak` prints: the recording of the run of the generated image without choice bytes, and how many words of
+-- memory that run changed
+abbrev pub soaked_lines : Shape → (number : ℕ) → Params → (seed : ℕ) → List ℕ
+soaked_lines shape number params seed =
+    soak_lines shape number (recording_of_bytes params [] seed bytes)
+    (changed_count (image_of params bytes) (outcome_of_bytes params [] seed bytes).words)
+  where
+    bytes : List ℕ
+    bytes = generated shape number
+
+-- the generated image fits the memory, and this is what `soak` prints of it
+abbrev pub IsSoaked : Shape → (number : ℕ) → Params → (seed : ℕ) → (out : List ℕ) → Type 0
+IsSoaked shape number params seed out =
+    (image_length shape ≤ 4 * params.words) × (out ≡ soaked_lines shape number params seed)
+
 -- the command makes this output of the input
 abbrev pub Makes : Command → (input out : List ℕ) → Type 0
-Makes (Record params choices seed) input out = out ≡ spelling (recording_of_input params choices seed input)
-Makes (Run params choices seed loads) input out =
-    out ≡ state_lines (outcome_of_input params choices seed input) (image_of params input) loads
+Makes (Record run) input out = SpellsSome (loaded run input) (λ bytes. out ≡ recorded_bytes run bytes)
+Makes (Run run loads) input out = SpellsSome (loaded run input) (λ bytes. out ≡ run_lines run loads bytes)
 Makes Print input out = SpellsSome (whole_at input) (λ r. out ≡ logs_lines r)
 Makes (Replay which loads) input out = SpellsSome (whole_at input) (λ r. out ≡ replay_lines which loads r)
 Makes Migrate input out = SpellsSome (whole_at input) (λ r. out ≡ spelling r)
 Makes Certify input out = SpellsSome (whole_at input) (λ r. IsCertified r out)
 Makes Check input out = SpellsSome (certificate_at input) (λ c. out ≡ checked_lines c)
+Makes (Gen shape number) input out = out ≡ generated shape number
+Makes (Soak shape number params seed) input out = IsSoaked shape number params seed out
 
 -- ---- why nothing is given
 
 -- the first part of the input that has no reading, for a command that reads one
 abbrev pub IsUnread : Command → (input : List ℕ) → ℕ → Type 0
-IsUnread (Record params choices seed) input part = ⊥
-IsUnread (Run params choices seed loads) input part = ⊥
+IsUnread (Record run) input part = ⊥
+IsUnread (Run run loads) input part = ⊥
 IsUnread Print input part = whole_at input ≡ Err part
 IsUnread (Replay which loads) input part = whole_at input ≡ Err part
 IsUnread Migrate input part = whole_at input ≡ Err part
 IsUnread Certify input part = whole_at input ≡ Err part
 IsUnread Check input part = certificate_at input ≡ Err part
+IsUnread (Gen shape number) input part = ⊥
+IsUnread (Soak shape number params seed) input part = ⊥
 
 -- the command audits the recording that the input spells by a log, and this is the answer
 abbrev pub AuditFails : Command → (input : List ℕ) → AuditFault → Type 0
-AuditFails (Record params choices seed) input fault = ⊥
-AuditFails (Run params choices seed loads) input fault = ⊥
+AuditFails (Record run) input fault = ⊥
+AuditFails (Run run loads) input fault = ⊥
 AuditFails Print input fault = ⊥
 AuditFails (Replay which loads) input fault = SpellsSome (whole_at input) (λ r. AuditRefuses which r fault)
 AuditFails Migrate input fault = ⊥
 AuditFails Certify input fault = SpellsSome (whole_at input) (λ r. AuditRefuses Reduced r fault)
 AuditFails Check input fault = SpellsSome (certificate_at input) (λ c. AuditRefuses Reduced c.recording fault)
+AuditFails (Gen shape number) input fault = ⊥
+AuditFails (Soak shape number params seed) input fault = ⊥
 
 -- the recording is determinate, and this is the first edge that no least log has
 abbrev pub IsNotLeast : Recording → CheckFailure → Type 0
@@ -123,13 +181,39 @@ IsNotLeast r (failures.NotLeast edge) = IsDeterminate Reduced r × IsFirstAmiss 
 
 -- the reduced log isn't shown to be least, for this reason
 abbrev pub IsNotShown : Command → (input : List ℕ) → CheckFailure → Type 0
-IsNotShown (Record params choices seed) input failure = ⊥
-IsNotShown (Run params choices seed loads) input failure = ⊥
+IsNotShown (Record run) input failure = ⊥
+IsNotShown (Run run loads) input failure = ⊥
 IsNotShown Print input failure = ⊥
 IsNotShown (Replay which loads) input failure = ⊥
 IsNotShown Migrate input failure = ⊥
 IsNotShown Certify input failure = SpellsSome (whole_at input) (λ r. IsNotLeast r failure)
 IsNotShown Check input failure = SpellsSome (certificate_at input) (λ c. CheckFails c failure)
+IsNotShown (Gen shape number) input failure = ⊥
+IsNotShown (Soak shape number params seed) input failure = ⊥
+
+-- the input is to be an ELF file, and this is the file's first fault
+abbrev pub IsFaulty : Command → (input : List ℕ) → ElfFault → Type 0
+IsFaulty (Record run) input fault = loaded run input ≡ Err fault
+IsFaulty (Run run loads) input fault = loaded run input ≡ Err fault
+IsFaulty Print input fault = ⊥
+IsFaulty (Replay which loads) input fault = ⊥
+IsFaulty Migrate input fault = ⊥
+IsFaulty Certify input fault = ⊥
+IsFaulty Check input fault = ⊥
+IsFaulty (Gen shape number) input fault = ⊥
+IsFaulty (Soak shape number params seed) input fault = ⊥
+
+-- the command makes an image that is longer than the memory
+abbrev pub Overflows : Command → Type 0
+Overflows (Record run) = ⊥
+Overflows (Run run loads) = ⊥
+Overflows Print = ⊥
+Overflows (Replay which loads) = ⊥
+Overflows Migrate = ⊥
+Overflows Certify = ⊥
+Overflows Check = ⊥
+Overflows (Gen shape number) = ⊥
+Overflows (Soak shape number params seed) = 4 * params.words < image_length shape
 
 -- how a command ends whose audit was refused so
 abbrev pub exit_of_audit : AuditFault → Exit
@@ -152,9 +236,11 @@ Ends Audits Shows exits.Usage = ⊥
 Ends Audits Shows exits.TooLarge = ⊥
 Ends Audits Shows exits.ReadFault = ⊥
 Ends Audits Shows exits.WriteFault = ⊥
+Ends Audits Shows (exits.Elf fault) = ⊥
 
--- why the command gives nothing for an input that was read: its first part that has no reading, what an audit
--- answers, or what isn't shown. Want of memory says nothing
+-- why the command gives nothing for an input that was read, or for none: the first fault of an ELF file, its first
+-- part that has no reading, what an audit answers, what isn't shown, or an image of its own that is too long. Want of
+-- memory says nothing
 abbrev pub Refuses : Command → (input : List ℕ) → Exit → Type 0
 Refuses command input (exits.Bad part) = IsUnread command input part
 Refuses command input (exits.Stuck cut) = AuditFails command input (faults.Stuck cut)
@@ -164,9 +250,20 @@ Refuses command input (exits.CheckFailed failure) = IsNotShown command input fai
 Refuses command input exits.OutOfMemory = Unit {0}
 Refuses command input exits.Done = ⊥
 Refuses command input exits.Usage = ⊥
-Refuses command input exits.TooLarge = ⊥
+Refuses command input exits.TooLarge = Overflows command
 Refuses command input exits.ReadFault = ⊥
 Refuses command input exits.WriteFault = ⊥
+Refuses command input (exits.Elf fault) = IsFaulty command input fault
+
+-- a run whose input has no image ends so
+abbrev pub LoadEnds : RunWords → (input : List ℕ) → Exit → Type 0
+LoadEnds run input exit =
+    (exit ≡ exits.OutOfMemory) ⊎ ((fault : ElfFault) × (exit ≡ exits.Elf fault) × (loaded run input ≡ Err fault))
+
+-- a soak ends so: for want of memory, or where the generated image is longer than the memory
+abbrev pub SoakEnds : Shape → Params → Exit → Type 0
+SoakEnds shape params exit =
+    (exit ≡ exits.OutOfMemory) ⊎ ((exit ≡ exits.TooLarge) × (4 * params.words < image_length shape))
 
 -- a command that replays this recording by the log ends so
 abbrev pub AuditEnds : Which → Recording → Exit → Type 0
@@ -182,25 +279,30 @@ CheckEnds c exit = Ends (λ fault. AuditRefuses Reduced c.recording fault) (Chec
 
 -- ---- what is promised beside
 
--- of the bytes of a recording. They are read back as it, and its reduced log is the least set of the run's accesses.
+-- a run with these options of the image on the input
+abbrev pub flat_run : Params → (choices : List ℕ) (seed : ℕ) → RunWords
+flat_run params choices seed = record { params = params; choices = choices; seed = seed; elf = false }
+
+-- of the recording of a run of the image of these bytes. Its spelling is read back as it, and its reduced log is the
+-- least set of the run's accesses.
 -- Its regulated log has the greedy vectors by what is known in the run: each of its edges goes from an instruction to
 -- one that retired later, and each edge of the reduced log is before by it, with no more vectors for a pair of cores
 -- than edges. Every order that obeys either log replays the run: it gives each load the run's value, and is whole or
--- can go on; a whole one ends in the run's memory and cores. So `replay` of them with either log prints what `run`
--- prints of the same image and options, and it and `certify` give nothing for no other reason than want of memory
-pub record KeepsRun (params : Params) (choices : List ℕ) (seed : ℕ) (input : List ℕ) : Type 0 where
-  pub recorded : IsRecorded (image_of params input) params (choices_of choices seed)
-  pub regulates : RegulatesRun (image_of params input) params (choices_of choices seed)
-      (recording_of_input params choices seed input)
-  pub replays : (which : Which) → ReplaysRun (image_of params input) params (choices_of choices seed) which
-      (recording_of_input params choices seed input)
+-- can go on; a whole one ends in the run's memory and cores. So `replay` of its spelling with either log prints what
+-- `run` prints of the same image and options, and it and `certify` give nothing for no other reason than want of memory
+pub record KeepsRun (params : Params) (choices : List ℕ) (seed : ℕ) (bytes : List ℕ) : Type 0 where
+  pub recorded : IsRecorded (image_of params bytes) params (choices_of choices seed)
+  pub regulates : RegulatesRun (image_of params bytes) params (choices_of choices seed)
+      (recording_of_bytes params choices seed bytes)
+  pub replays : (which : Which) → ReplaysRun (image_of params bytes) params (choices_of choices seed) which
+      (recording_of_bytes params choices seed bytes)
   pub prints : (which : Which) (loads : Bool) (out : List ℕ)
-      → Makes (Replay which loads) (spelling (recording_of_input params choices seed input)) out
-      ↔ Makes (Run params choices seed loads) input out
+      → Makes (Replay which loads) (spelling (recording_of_bytes params choices seed bytes)) out
+      ↔ Makes (Run (flat_run params choices seed) loads) bytes out
   pub refuses : (which : Which) (loads : Bool) (exit : Exit)
-      → Refuses (Replay which loads) (spelling (recording_of_input params choices seed input)) exit
+      → Refuses (Replay which loads) (spelling (recording_of_bytes params choices seed bytes)) exit
       → exit ≡ exits.OutOfMemory
-  pub certified : (exit : Exit) → Refuses Certify (spelling (recording_of_input params choices seed input)) exit
+  pub certified : (exit : Exit) → Refuses Certify (spelling (recording_of_bytes params choices seed bytes)) exit
       → exit ≡ exits.OutOfMemory
 
 -- the recording is determinate by the log: every order that obeys it plays, gives each load the same value, and can
@@ -211,13 +313,15 @@ IsReplayed which r = IsDeterminate which r × EveryOrderAgrees which r
 -- a recording keeps its run; what was replayed is determinate; and what was certified or checked is determinate, and
 -- its reduced log is least
 abbrev pub Promised : Command → (input : List ℕ) → Type 0
-Promised (Record params choices seed) input = KeepsRun params choices seed input
-Promised (Run params choices seed loads) input = Unit {0}
+Promised (Record run) input = SpellsSome (loaded run input) (λ bytes. KeepsRun run.params run.choices run.seed bytes)
+Promised (Run run loads) input = Unit {0}
 Promised Print input = Unit {0}
 Promised (Replay which loads) input = SpellsSome (whole_at input) (λ r. IsReplayed which r)
 Promised Migrate input = Unit {0}
 Promised Certify input = SpellsSome (whole_at input) (λ r. IsDeterminate Reduced r × IsLeastIn r)
 Promised Check input = SpellsSome (certificate_at input) (λ c. Checks c)
+Promised (Gen shape number) input = Unit {0}
+Promised (Soak shape number params seed) input = Unit {0}
 
 -- ---- laws
 

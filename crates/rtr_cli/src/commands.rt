@@ -1,5 +1,5 @@
 //! What each command makes of its input, before a byte is given.
-ghost use Rattle.std.specs.Prelude.{◌≡◌, ◌*◌, ◌≤◌, IfErr, IfOk, MatchResult, OnOk, Ok, vec_len};
+ghost use Rattle.std.specs.Prelude.{◌≡◌, ◌*◌, ◌≤◌, IfErr, IfOk, MatchResult, OnOk, Ok, length, vec_len};
 ghost use Rattle.log_codec.specs.Faults.{Gives};
 ghost use Rattle.log_codec.specs.Spelling.{spelling};
 ghost use Rattle.log_codec.specs.Validity.{Valid};
@@ -16,10 +16,14 @@ ghost use Rattle.min_certificate.specs.Answers.{Checks};
 ghost use Rattle.min_certificate.specs.Laws.{IsLeastIn};
 ghost use Rattle.certificate_codec.specs.Validity.{IsCertificate};
 ghost use Rattle.rtr_cli.specs.Commands.{AuditEnds, CertifyEnds, CheckEnds, IsCertified, IsReplayed, Makes, Promised};
-ghost use Rattle.rtr_cli.specs.Commands.{Refuses};
-ghost use Rattle.rtr_cli.specs.Commands.{checked_lines, exit_of_audit, image_of, most_of, replay_lines};
+ghost use Rattle.rtr_cli.specs.Commands.{IsWithin, LoadEnds, Refuses};
+ghost use Rattle.rtr_cli.specs.Commands.{checked_lines, exit_of_audit, image_of, loaded, most_of, replay_lines};
+ghost use Rattle.rtr_cli.specs.Commands.{run_bytes_max};
+ghost use Rattle.tool_words.specs.declared.command.Command.TheVariants.{Record, Run};
 
+use crate::soaks::soak;
 use certificate_codec::{Certificate, read_certificate, spell_certificate};
+use image_elf::{ElfFault, flatten};
 use image_mem::Image;
 use log_codec::{Recording, read, spell};
 use min_certificate::{CertFault, CheckFailure, CheckFault, certify, check};
@@ -31,51 +35,49 @@ use run_outcome::laws::a_run_fits_its_image;
 use schedule_pick::Schedule;
 use state_text::{Exit, check_text, logs_text, state_text};
 use std::alloc::{AllocError, Global};
-use tool_words::Command;
+use tool_words::{Command, RunWords};
+use trace_gen::gen_image;
 
-/// The most bytes that a command takes which reads a recording or a certificate: 512 MiB.
-pub(crate) const RECORDING_BYTES_MAX: usize = 536_870_912;
+/// The most bytes that a command takes which reads a recording, a certificate or an ELF file: 512 MiB.
+pub(crate) const FILE_BYTES_MAX: usize = 536_870_912;
 
-/// The most bytes of input that the command takes.
-pub(crate) fn most_of(command: &Command) -> usize
+/// The most bytes of input that the command takes; a command that makes its own image takes no input.
+pub(crate) fn most_of(command: &Command) -> Option<usize>
     ensures { result ≡ most_of command.now }
 {
     match command {
-        Command::Record { params, .. } | Command::Run { params, .. } => 4 * params.words as usize,
+        Command::Record(run) | Command::Run { run, .. } => Some(run_bytes_max(run)),
         Command::Print
         | Command::Replay { .. }
         | Command::Migrate
         | Command::Certify
-        | Command::Check => RECORDING_BYTES_MAX,
+        | Command::Check => Some(FILE_BYTES_MAX),
+        Command::Gen { .. } | Command::Soak { .. } => None,
+    }
+}
+
+/// The most bytes of a run's input. An image has at most those of the memory.
+fn run_bytes_max(run: &RunWords) -> usize
+    ensures { result ≡ run_bytes_max run.now }
+{
+    if run.elf {
+        FILE_BYTES_MAX
+    } else {
+        4 * run.params.words as usize
     }
 }
 
 /// The whole output of the command for this input, or how the command ends without one.
 pub(crate) fn make(alloc: Global, command: Command, bytes: Vec<u8>) -> Result<Vec<u8>, Exit>
     requires fits { HasFittingParams command }
-    requires within { vec_len bytes ≤ most_of command }
+    requires within { IsWithin (most_of command) bytes.items }
     ensures made { IfOk result (λ out. Makes command bytes.items out.items) }
     ensures promised { OnOk result (Promised command bytes.items) }
     ensures refused { IfErr result (Refuses command bytes.items) }
 {
     match command {
-        Command::Record {
-            params,
-            choices,
-            seed,
-        } => {
-            let schedule = Schedule::new(choices.into_vec(), seed);
-            Ok(record(alloc, params, schedule, bytes)?)
-        }
-        Command::Run {
-            params,
-            choices,
-            seed,
-            loads,
-        } => {
-            let schedule = Schedule::new(choices.into_vec(), seed);
-            Ok(run(alloc, params, schedule, loads, bytes)?)
-        }
+        Command::Record(run) => record_input(alloc, run, bytes),
+        Command::Run { run, loads } => run_input(alloc, run, loads, bytes),
         Command::Print => {
             let recording = read(alloc, bytes.as_slice())?;
             Ok(logs_text(alloc, &recording)?)
@@ -96,6 +98,69 @@ pub(crate) fn make(alloc: Global, command: Command, bytes: Vec<u8>) -> Result<Ve
             let certificate = read_certificate(alloc, bytes.as_slice())?;
             checked(alloc, &certificate)
         }
+        Command::Gen { shape, number } => Ok(gen_image(alloc, number, shape)?),
+        Command::Soak {
+            shape,
+            number,
+            params,
+            seed,
+        } => soak(alloc, shape, number, params, seed),
+    }
+}
+
+/// The recording of a run of the image that the input is, spelled.
+#[tactic(auto, using(crate::proofs::RecordingLemmas::record_promised))]
+fn record_input(alloc: Global, run: RunWords, input: Vec<u8>) -> Result<Vec<u8>, Exit>
+    requires fits { Fits run.params }
+    requires within { length input.items ≤ run_bytes_max run }
+    ensures made { IfOk result (λ out. Makes (Record run) input.items out.items) }
+    ensures promised { OnOk result (Promised (Record run) input.items) }
+    ensures refused { IfErr result (LoadEnds run input.items) }
+{
+    let bytes = loaded(alloc, &run, input)?;
+    let RunWords {
+        params,
+        choices,
+        seed,
+        ..
+    } = run;
+    let schedule = Schedule::new(choices.into_vec(), seed);
+    Ok(record(alloc, params, schedule, bytes)?)
+}
+
+/// The text of how a run of the image ended that the input is.
+fn run_input(alloc: Global, run: RunWords, loads: bool, input: Vec<u8>) -> Result<Vec<u8>, Exit>
+    requires fits { Fits run.params }
+    requires within { length input.items ≤ run_bytes_max run }
+    ensures made { IfOk result (λ out. Makes (Run run loads) input.items out.items) }
+    ensures refused { IfErr result (LoadEnds run input.items) }
+{
+    let bytes = loaded(alloc, &run, input)?;
+    let RunWords {
+        params,
+        choices,
+        seed,
+        ..
+    } = run;
+    let schedule = Schedule::new(choices.into_vec(), seed);
+    Ok(run_image(alloc, params, schedule, loads, bytes)?)
+}
+
+/// The bytes of the image that a run begins with: the input, or the flat image of the ELF file that it is.
+fn loaded(alloc: Global, run: &RunWords, input: Vec<u8>) -> Result<Vec<u8>, Exit>
+    requires fits { Fits run.now.params }
+    requires within { length input.items ≤ run_bytes_max run.now }
+    ensures loaded { MatchResult result (λ bytes. loaded run.now input.items ≡ Ok bytes.items)
+        (LoadEnds run.now input.items) }
+    ensures room { IfOk result (λ bytes. length bytes.items ≤ 4 * run.now.params.words) }
+{
+    if !run.elf {
+        return Ok(input);
+    }
+    match flatten(alloc, input.as_slice(), run.params.words) {
+        Ok(bytes) => Ok(bytes),
+        Err(ElfFault::OutOfMemory) => Err(Exit::OutOfMemory),
+        Err(fault) => Err(Exit::Elf { fault }),
     }
 }
 
@@ -116,7 +181,7 @@ fn record(
 }
 
 /// The text of how a run of the image ended.
-fn run(
+fn run_image(
     alloc: Global,
     params: Params,
     schedule: Schedule,
@@ -156,7 +221,7 @@ fn replay(alloc: Global, recording: Recording, which: Which, loads: bool) -> Res
 }
 
 /// The audit of the recording by one of its logs, or how a command ends that needs it.
-fn audited(alloc: Global, recording: Recording, which: Which) -> Result<Audited, Exit>
+pub(crate) fn audited(alloc: Global, recording: Recording, which: Which) -> Result<Audited, Exit>
     requires { Valid recording }
     ensures { MatchResult result (IsAuditOf which recording) (AuditEnds which recording) }
 {
@@ -214,7 +279,7 @@ fn checked(alloc: Global, certificate: &Certificate) -> Result<Vec<u8>, Exit>
 }
 
 /// The image of these bytes, which fit into the memory.
-fn image(bytes: Vec<u8>, words: u32) -> Image
+pub(crate) fn image(bytes: Vec<u8>, words: u32) -> Image
     requires { vec_len bytes ≤ 4 * words }
     ensures { result ≡ record { bytes = bytes.items; words = words } }
 {

@@ -3,7 +3,10 @@
 
 mod commands;
 mod laws;
+mod soak_texts;
+mod soaks;
 mod tool;
 
 pub use laws::{certify_laws, migrate_laws};
+pub use soak_texts::soak_text;
 pub use tool::run_tool;

@@ -1,11 +1,12 @@
 //! The top call.
-ghost use Rattle.std.specs.Prelude.{◌≡◌, ◌≢◌, ◌↔◌, ◌≤◌, ◌⊎◌, None, Some, map, string_bytes};
+ghost use Rattle.std.specs.Prelude.{◌≡◌, ◌≢◌, ◌↔◌, ◌≤◌, ◌⊎◌, IfOk, IsErrOf, None, Some, map, string_bytes};
 ghost use Rattle.std.specs.Io.KnownBytes.{Keeps};
-ghost use Rattle.rtr_io.specs.Faults.{HasRisen};
+ghost use Rattle.rtr_io.specs.Faults.{HasRisen, IsUnlessFault};
 ghost use Rattle.state_text.specs.Exits.{fault_line};
 ghost use Rattle.tool_words.specs.Commands.{HasFittingParams};
 ghost use Rattle.tool_words.specs.Reading.{meaning};
-ghost use Rattle.rtr_cli.specs.Answers.{Answers, Tells};
+ghost use Rattle.rtr_cli.specs.Answers.{Answers, HasMore, IsTaken, Tells};
+ghost use Rattle.rtr_cli.specs.Commands.{most_of};
 ghost use Rattle.tool_words.specs.declared.command.Command.{Command};
 
 use crate::commands::{make, most_of};
@@ -23,10 +24,13 @@ use tool_words::{Command, meaning, what_words_mean_fits};
 /// the run's value and the run's final memory, and is never stuck (`KeepsRun` among what is promised).
 ///
 /// `Usage` comes exactly where the words mean nothing, and then neither input nor output is touched.
-/// `TooLarge` comes exactly where the input has more bytes than the command takes, `Bad` exactly where it
-/// was read to its end and has no reading, with the first part that has none. `Stuck`, `Short` and
-/// `Undetermined` come in `replay`, `certify` and `check` alone, exactly where the input spells a recording, or
-/// a certificate of one, and by the chosen log its low order ends before it is whole, falls short, or has two
+/// `gen` and `soak` take no input, and leave it as it was. `TooLarge` comes exactly where the input has more bytes
+/// than the command takes, or in `soak` where the image has more than the memory. `Elf` comes exactly where the words
+/// have `--elf`, the input was read to its end, and it is no ELF file with a flat image for the memory, with its
+/// first fault; `record` and `run` do with such a file what they do without the flag with its flat image. `Bad` comes
+/// exactly where the input was read to its end and has no reading, with the first part that has none. `Stuck`,
+/// `Short` and `Undetermined` come in `replay`, `certify` and `check` alone, exactly where the input spells a
+/// recording, or a certificate of one, and by the chosen log its low order ends before it is whole, falls short, or has two
 /// accesses unordered that conflict; `certify` and `check` go by the reduced log. `CheckFailed` comes in these
 /// two alone, where that isn't so: in `certify` exactly where the reduced log isn't least, and in `check`
 /// exactly where the certificate doesn't show it, with the first thing that fails.
@@ -52,6 +56,11 @@ pub fn run_tool<I: Source, O: Sink, E: Sink>(
     ensures no_read_fault { (result ≡ Exit.ReadFault) ⊎ (I.faults input.new ≡ I.faults input.old) }
     ensures write_fault { result ≡ Exit.WriteFault → HasRisen (O.faults output.old) (O.faults output.new) }
     ensures no_write_fault { (result ≡ Exit.WriteFault) ⊎ (O.faults output.new ≡ O.faults output.old) }
+
+    // A command that takes no input leaves it as it was.
+    ensures untaken { (command : Command) → meaning (map string_bytes words.now) ≡ Some command →
+        most_of command ≡ None → Keeps (I.left input.old) (I.left input.new)
+        × (I.faults input.new ≡ I.faults input.old) }
 
     ensures told { Tells (fault_line result) (E.got report.old) (E.got report.new) (E.faults report.old)
         (E.faults report.new) }
@@ -80,8 +89,10 @@ fn perform<I: Source, O: Sink>(
     ensures no_read_fault { (result ≡ Exit.ReadFault) ⊎ (I.faults input.new ≡ I.faults input.old) }
     ensures write_fault { result ≡ Exit.WriteFault → HasRisen (O.faults output.old) (O.faults output.new) }
     ensures no_write_fault { (result ≡ Exit.WriteFault) ⊎ (O.faults output.new ≡ O.faults output.old) }
+    ensures untaken { most_of command ≡ None → Keeps (I.left input.old) (I.left input.new)
+        × (I.faults input.new ≡ I.faults input.old) }
 {
-    let bytes = match read_all(alloc, input, most_of(&command)) {
+    let bytes = match take(alloc, most_of(&command), input) {
         Ok(bytes) => bytes,
         Err(ReadEnd::ReadFault) => return Exit::ReadFault,
         Err(ReadEnd::TooLarge) => return Exit::TooLarge,
@@ -94,6 +105,21 @@ fn perform<I: Source, O: Sink>(
     match write_all(output, out.as_slice()) {
         Ok(()) => Exit::Done,
         Err(WriteFault) => Exit::WriteFault,
+    }
+}
+
+/// The whole input, where at most so many bytes of it are taken; nothing is asked of it where none is taken.
+fn take<I: Source>(alloc: Global, most: Option<usize>, input: &mut I) -> Result<Vec<u8>, ReadEnd>
+    ensures bytes { IfOk result (λ bytes. IsTaken most (I.left input.old) (I.left input.new) bytes.items) }
+    ensures too_large { IsErrOf result ReadEnd.TooLarge → HasMore most (I.left input.old) (I.left input.new) }
+    ensures fault { IsErrOf result ReadEnd.ReadFault → HasRisen (I.faults input.old) (I.faults input.new) }
+    ensures no_fault { IsUnlessFault ReadEnd.ReadFault result (I.faults input.old) (I.faults input.new) }
+    ensures untaken { most ≡ None → Keeps (I.left input.old) (I.left input.new)
+        × (I.faults input.new ≡ I.faults input.old) }
+{
+    match most {
+        Some(most) => read_all(alloc, input, most),
+        None => Ok(Vec::new(alloc)),
     }
 }
 

@@ -11,6 +11,8 @@ mod certificate_tables;
 #[cfg(test)]
 mod faults;
 #[cfg(test)]
+mod generated_tables;
+#[cfg(test)]
 mod lesson_tables;
 #[cfg(test)]
 mod record_tables;

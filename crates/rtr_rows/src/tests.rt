@@ -1,5 +1,6 @@
 use crate::calls::{ask, bytes, input_of, output_of, recording_of};
 use crate::certificate_tables::CERTIFICATES;
+use crate::generated_tables::{ELF_FILES, GENERATED};
 use crate::lesson_tables::{EXAMPLES, LESSON};
 use crate::record_tables::RECORDINGS;
 use crate::replay_tables::REPLAYS;
@@ -42,6 +43,43 @@ fn each_row_is_answered(rt: HostRuntime) -> Result<(), Fail> {
 fn each_example_and_each_step_of_the_lesson_is_answered(rt: HostRuntime) -> Result<(), Fail> {
     are_answered(&rt, rt.alloc(), &EXAMPLES)?;
     are_answered(&rt, rt.alloc(), &LESSON)
+}
+
+#[test]
+fn each_generated_image_and_each_elf_file_is_answered(rt: HostRuntime) -> Result<(), Fail> {
+    are_answered(&rt, rt.alloc(), &GENERATED)?;
+    are_answered(&rt, rt.alloc(), &ELF_FILES)
+}
+
+// Each of two cores takes the lock 500 times and adds 1 to the word that it guards, which no addition is lost of.
+#[test]
+fn a_lock_keeps_every_addition(rt: HostRuntime) -> Result<(), Fail> {
+    let alloc = rt.alloc();
+    let image = ask(alloc, "gen --shape lock --number 500", Vec::new(alloc))?.output;
+    let options = "--cores 2 --limit 100000 --words 128 --seed 7";
+    let run = ask(alloc, &format!(in alloc; "run {options}")?, image.clone()?)?;
+    assert!(rt; run.output.ends_with(b"mem 00000130 000003e8\n".as_slice()));
+    let made = ask(alloc, &format!(in alloc; "record {options}")?, image)?;
+    for words in ["replay", "replay --log regulated"] {
+        let replay = ask(alloc, words, made.output.clone()?)?;
+        assert_eq!(rt; replay.output.as_slice(), run.output.as_slice(), "{words}");
+    }
+    Ok(())
+}
+
+// A mix of four cores, each of which retires as many instructions as the program has: the soak of it comes to the
+// same text each time.
+#[test]
+fn a_soak_of_the_mix_is_the_same_each_time(rt: HostRuntime) -> Result<(), Fail> {
+    let alloc = rt.alloc();
+    let words = "soak --shape mix --number 3 --cores 4 --limit 100000";
+    let first = ask(alloc, words, Vec::new(alloc))?;
+    let second = ask(alloc, words, Vec::new(alloc))?;
+    assert_eq!(rt; first.status, 0);
+    let wanted = b"shape mix number 3 cores 4\nretired 103208\n".as_slice();
+    assert!(rt; first.output.starts_with(wanted));
+    assert_eq!(rt; first.output.as_slice(), second.output.as_slice());
+    Ok(())
 }
 
 #[test]

@@ -4,13 +4,15 @@ use Rattle.std.specs.List.{flat_map}
 use Rattle.rtr_types.specs.declared.cut.Cut.{Cut}
 use Rattle.rtr_types.specs.declared.instr.Edge.{Edge}
 use Rattle.rtr_types.specs.declared.instr.Instr.{Instr}
+use Rattle.image_elf.specs.declared.elf_fault.ElfFault.{ElfFault}
+use Rattle.image_elf.specs.declared.elf_fault.ElfFault.TheVariants as elf_faults
 use Rattle.log_codec.specs.declared.codec_fault.CodecFault.{CodecFault}
 use Rattle.log_codec.specs.declared.codec_fault.CodecFault.TheVariants as faults
 use Rattle.min_certificate.specs.declared.answers.CheckFailure.{CheckFailure}
 use Rattle.min_certificate.specs.declared.answers.CheckFailure.TheVariants.{NotConflict, BadClock, NotNeeded, NotLeast}
 use Rattle.state_text.specs.declared.exit.Exit.{Exit}
 use Rattle.state_text.specs.declared.exit.Exit.TheVariants.{Done, Usage, TooLarge, Bad, Stuck, Short, Undetermined}
-use Rattle.state_text.specs.declared.exit.Exit.TheVariants.{CheckFailed, ReadFault, WriteFault, OutOfMemory}
+use Rattle.state_text.specs.declared.exit.Exit.TheVariants.{CheckFailed, ReadFault, WriteFault, OutOfMemory, Elf}
 use Rattle.state_text.specs.Pieces.{line}
 
 -- the exit status
@@ -26,6 +28,7 @@ status_of (CheckFailed failure) = 7
 status_of ReadFault = 8
 status_of WriteFault = 9
 status_of OutOfMemory = 10
+status_of (Elf fault) = 11
 
 -- the counts of a cut, core 0 first, each after a space
 abbrev pub count_text : ℕ → List ℕ
@@ -50,6 +53,20 @@ failure_line (BadClock core entry) =
 failure_line (NotNeeded edge) = line (codes "rtr: edge " ++ edge_text edge ++ codes " is not needed")
 failure_line (NotLeast edge) = line (codes "rtr: edge " ++ edge_text edge ++ codes " is not in the least log")
 
+-- a segment by its number, and what is wrong with it
+abbrev pub segment_line : (index : ℕ) → (wrong : List ℕ) → List ℕ
+segment_line index wrong = line (codes "rtr: ELF segment " ++ decimal index ++ codes " " ++ wrong)
+
+-- why an ELF file has no flat image; want of memory for it has an exit of its own, and no line here
+abbrev pub elf_line : ElfFault → List ℕ
+elf_line elf_faults.NotElf = line (codes "rtr: not an ELF file")
+elf_line elf_faults.Header = line (codes "rtr: ELF header not accepted")
+elf_line (elf_faults.Segment index) = segment_line index (codes "not accepted")
+elf_line (elf_faults.Outside index) = segment_line index (codes "outside memory")
+elf_line (elf_faults.Overlap index) = segment_line index (codes "overlaps")
+elf_line elf_faults.Entry = line (codes "rtr: ELF entry not accepted")
+elf_line elf_faults.OutOfMemory = []
+
 -- what the report gets: nothing, or one line
 abbrev pub fault_line : Exit → List ℕ
 fault_line Done = []
@@ -64,6 +81,7 @@ fault_line (CheckFailed failure) = failure_line failure
 fault_line ReadFault = line (codes "rtr: read fault")
 fault_line WriteFault = line (codes "rtr: write fault")
 fault_line OutOfMemory = line (codes "rtr: out of memory")
+fault_line (Elf fault) = elf_line fault
 
 -- how a command ends whose input can't be read
 abbrev pub exit_of : CodecFault → Exit

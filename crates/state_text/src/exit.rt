@@ -3,6 +3,7 @@ ghost use Rattle.std.specs.Prelude.{◌≡◌};
 ghost use Rattle.state_text.specs.Exits.{exit_of, status_of};
 ghost use Rattle.state_text.specs.declared.exit.Exit.TheVariants.{OutOfMemory};
 
+use image_elf::ElfFault;
 use log_codec::CodecFault;
 use min_certificate::CheckFailure;
 use rtr_types::{Cut, Instr};
@@ -37,6 +38,9 @@ pub enum Exit {
     WriteFault,
     /// There was no memory for the command's work.
     OutOfMemory,
+    /// The input is to be an ELF file, was read to its end, and has no flat image for the memory. Want of memory
+    /// for that image is `OutOfMemory` above, and never this fault.
+    Elf { fault: ElfFault },
 }
 
 impl Exit {
@@ -56,6 +60,7 @@ impl Exit {
             Exit::ReadFault => 8,
             Exit::WriteFault => 9,
             Exit::OutOfMemory => 10,
+            Exit::Elf { .. } => 11,
         }
     }
 }

@@ -1,8 +1,10 @@
 //! The text that tells why a command gave up.
 ghost use Rattle.std.specs.Prelude.{◌≡◌, ◌+◌, ◌*◌, ◌≤◌, [], ◌++◌, length, decimal};
-ghost use Rattle.state_text.specs.Exits.{count_text, counts_text, edge_text, failure_line, fault_line, instr_text};
+ghost use Rattle.state_text.specs.Exits.{count_text, counts_text, edge_text, elf_line, failure_line, fault_line};
+ghost use Rattle.state_text.specs.Exits.{instr_text, segment_line};
 
 use crate::exit::Exit;
+use image_elf::ElfFault;
 use itoa::Buffer;
 use min_certificate::CheckFailure;
 use rtr_types::{CORES_MAX, Cut, Edge, Instr};
@@ -92,6 +94,18 @@ impl FaultText {
         self.put_instr(edge.to);
     }
 
+    // Puts the line of a segment of an ELF file at the end: its number, and what is wrong with it.
+    fn put_segment(&mut self, index: u32, wrong: &[u8])
+        requires { length self.old + length wrong.now + DIGITS_MAX + 19 ≤ FAULT_TEXT_MAX }
+        ensures { self.new ≡ self.old ++ segment_line index wrong.now }
+    {
+        self.put(b"rtr: ELF segment ");
+        self.put_number(index);
+        self.put(b" ");
+        self.put(wrong);
+        self.put(b"\n");
+    }
+
     // Puts a space and a count at the end.
     fn put_count(&mut self, count: u32)
         requires { length self.old + DIGITS_MAX + 1 ≤ FAULT_TEXT_MAX }
@@ -147,6 +161,23 @@ fn failure_text(failure: &CheckFailure) -> FaultText
     text
 }
 
+/// The line that tells why an ELF file has no flat image; no line for want of memory, which has an exit of its own.
+fn elf_text(fault: ElfFault) -> FaultText
+    ensures { result ≡ elf_line fault }
+{
+    let mut text = FaultText::empty();
+    match fault {
+        ElfFault::NotElf => text.put(b"rtr: not an ELF file\n"),
+        ElfFault::Header => text.put(b"rtr: ELF header not accepted\n"),
+        ElfFault::Segment { index } => text.put_segment(index, b"not accepted"),
+        ElfFault::Outside { index } => text.put_segment(index, b"outside memory"),
+        ElfFault::Overlap { index } => text.put_segment(index, b"overlaps"),
+        ElfFault::Entry => text.put(b"rtr: ELF entry not accepted\n"),
+        ElfFault::OutOfMemory => {}
+    }
+    text
+}
+
 /// The text that goes to the report where a command ends so: one line, or nothing where it did what
 /// it was asked for. It takes no memory.
 pub fn fault_text(exit: &Exit) -> FaultText
@@ -185,6 +216,7 @@ pub fn fault_text(exit: &Exit) -> FaultText
         Exit::ReadFault => text.put(b"rtr: read fault\n"),
         Exit::WriteFault => text.put(b"rtr: write fault\n"),
         Exit::OutOfMemory => text.put(b"rtr: out of memory\n"),
+        Exit::Elf { fault } => return elf_text(*fault),
     }
     text
 }

@@ -2,6 +2,7 @@
 ghost use Rattle.std.specs.Prelude.{◌≡◌, ◌≤◌, ◌∷◌, [], IfOk, length};
 
 use crate::{Exit, check_text, fault_text, logs_text, state_text};
+use image_elf::ElfFault;
 use image_mem::Image;
 use log_codec::Recording;
 use min_certificate::CheckFailure;
@@ -94,6 +95,33 @@ fn exits(rt: HostRuntime) {
     ];
     for (exit, status, text) in rows {
         assert_eq!(rt; exit.status(), status);
+        assert_eq!(rt; fault_text(&exit).bytes(), text.as_bytes());
+    }
+}
+
+// Every fault of an ELF file, with its text.
+#[test]
+fn faults_of_elf_files(rt: HostRuntime) {
+    let rows = [
+        (ElfFault::NotElf, "rtr: not an ELF file\n"),
+        (ElfFault::Header, "rtr: ELF header not accepted\n"),
+        (
+            ElfFault::Segment { index: 0 },
+            "rtr: ELF segment 0 not accepted\n",
+        ),
+        (
+            ElfFault::Outside { index: 65_534 },
+            "rtr: ELF segment 65534 outside memory\n",
+        ),
+        (
+            ElfFault::Overlap { index: 1 },
+            "rtr: ELF segment 1 overlaps\n",
+        ),
+        (ElfFault::Entry, "rtr: ELF entry not accepted\n"),
+    ];
+    for (fault, text) in rows {
+        let exit = Exit::Elf { fault };
+        assert_eq!(rt; exit.status(), 11);
         assert_eq!(rt; fault_text(&exit).bytes(), text.as_bytes());
     }
 }

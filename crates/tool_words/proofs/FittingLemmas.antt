@@ -1,5 +1,5 @@
 -- Every setting that is put in is in its range, so the parameters fit.
-use Rattle.std.proofs.Common.{◌≡◌, ℕ, ◌≤◌, ◌%◌, Bool, true, false, List, [], ◌∷◌, Option, Some, None, refl, sym, ap, arith, rules, ◌==◌, nat_le, ◌&&◌, ◌-◌, ◌^◌, ◌*◌, ◌∙◌}
+use Rattle.std.proofs.Common.{◌≡◌, ℕ, IsTrue, ◌≤◌, ◌%◌, Bool, true, false, List, [], ◌∷◌, Option, Some, None, refl, sym, ap, arith, rules, ◌==◌, nat_le, ◌&&◌, ◌-◌, ◌^◌, ◌*◌, ◌∙◌}
 use Rattle.std.proofs.Common.{unwrap_or, cond, subst}
 use Rattle.std.specs.Option.{option_and_then, option_map}
 use Rattle.std.specs.Str.Parse.{digits_value}
@@ -7,16 +7,19 @@ use Rattle.std.proofs.lemmas.Bool.Decides.{nat_tests}
 use Rattle.rtr_types.specs.Parameters.{Fits}
 use Rattle.rtr_types.specs.declared.TheConstants.{CORES_MAX}
 use Rattle.rtr_types.specs.declared.params.TheConstants.{INSTRUCTIONS_MAX, LIMIT_MAX, WORDS_MIN, WORDS_MAX}
+use Rattle.trace_gen.specs.declared.shape.Shape as shapes
+use Rattle.trace_gen.specs.Programs.{takes}
 use Rattle.tool_words.specs.declared.command.Command.{Command}
+use Rattle.tool_words.specs.declared.command.Command.TheVariants.{Gen as GenImage, Soak as SoakImage}
 use Rattle.tool_words.specs.declared.command.Verb.{Verb}
-use Rattle.tool_words.specs.declared.command.Verb.TheVariants.{Record, Run, Print, Replay, Migrate, Certify, Check}
+use Rattle.tool_words.specs.declared.command.Verb.TheVariants.{Record, Run, Print, Replay, Migrate, Certify, Check, Gen, Soak}
 use Rattle.tool_words.specs.declared.options.Name.{Name}
-use Rattle.tool_words.specs.declared.options.Name.TheVariants.{Cores, Limit, Words, Choices, Seed, Log, Loads}
+use Rattle.tool_words.specs.declared.options.Name.TheVariants.{Cores, Limit, Words, Choices, Seed, Log, Loads, Elf, Shape, Number}
 use Rattle.tool_words.specs.Settings.{Settings}
 use Rattle.tool_words.specs.Numerals.{is_numeral, number_between}
 use Rattle.tool_words.specs.Choices.{are_choices}
-use Rattle.tool_words.specs.Options.{are_together_few, is_set, log_named, no_settings, params_of, put, put_new, whole_blocks, cores_default, limit_default, words_default}
-use Rattle.tool_words.specs.Commands.{HasFittingParams, command_of, verb_named}
+use Rattle.tool_words.specs.Options.{are_together_few, is_set, log_named, no_settings, params_of, put, put_new, shape_named, whole_blocks, cores_default, limit_default, words_default}
+use Rattle.tool_words.specs.Commands.{HasFittingParams, command_of, shaped, verb_named}
 use Rattle.tool_words.specs.Reading.{Set, settings, settled, settled_by, few_together, FittingLaw}
 
 -- a number of cores that is set is in range, and so are a limit and a number of words
@@ -116,6 +119,15 @@ put_new-fits s t Log text h fit =
 put_new-fits s t Loads text h fit =
     let same : record s { loads = true } ≡ t = cc in
     alike s t (ap (λ u. u.cores) (sym same)) (ap (λ u. u.limit) (sym same)) (ap (λ u. u.words) (sym same)) fit
+put_new-fits s t Elf text h fit =
+    let same : record s { elf = true } ≡ t = cc in
+    alike s t (ap (λ u. u.cores) (sym same)) (ap (λ u. u.limit) (sym same)) (ap (λ u. u.words) (sym same)) fit
+put_new-fits s t Shape text h fit =
+    let made = map-some (λ shape. record s { shape = Some shape }) (shape_named text) t h in
+    alike s t (ap (λ u. u.cores) (sym made.2)) (ap (λ u. u.limit) (sym made.2)) (ap (λ u. u.words) (sym made.2)) fit
+put_new-fits s t Number text h fit =
+    let made = map-some (λ n. record s { number = Some n }) (number_between 0 (2 ^ 64 - 1) text) t h in
+    alike s t (ap (λ u. u.cores) (sym made.2)) (ap (λ u. u.limit) (sym made.2)) (ap (λ u. u.words) (sym made.2)) fit
 
 put-fits : (s t : Settings) (name : Name) (text : List ℕ) → put s name text ≡ Some t → AreFitting s → AreFitting t
 put-fits s t name text h fit = put_new-fits s t name text (if-none (is_set s name) (put_new s name text) t h) fit
@@ -159,24 +171,45 @@ params-fit s fit few =
     let words = words-in s.words fit.words in
     search (rules, cores, limit, few, words)
 
-command-fits : (verb : Verb) (s : Settings) → AreFitting s → (params_of s).cores * (params_of s).limit ≤ INSTRUCTIONS_MAX →
-    HasFittingParams (command_of verb s)
-command-fits Record s fit few = params-fit s fit few
-command-fits Run s fit few = params-fit s fit few
-command-fits Print s fit few = tt
-command-fits Replay s fit few = tt
-command-fits Migrate s fit few = tt
-command-fits Certify s fit few = tt
-command-fits Check s fit few = tt
+-- the shape has an image of the number
+shaped-takes : (s : Settings) (p : shapes.Shape × ℕ) → shaped s ≡ Some p → IsTrue (takes p.0 p.1)
+shaped-takes s p h =
+    let shape = and_then-some (λ shape. option_and_then (λ number. cond (takes shape number) (Some (shape, number)) None) s.number) s.shape p h in
+    let number = and_then-some (λ number. cond (takes shape.0 number) (Some (shape.0, number)) None) s.number p shape.2 in
+    by (takes shape.0 number.0) shape.0 number.0 refl number.2
+  where
+    by : (b : Bool) (shape : shapes.Shape) (number : ℕ) → takes shape number ≡ b → cond b (Some (shape, number)) None ≡ Some p → IsTrue (takes p.0 p.1)
+    by true shape number is e =
+        let same : (shape, number) ≡ p = cc in
+        let P : shapes.Shape × ℕ → Type 0 = λ q. IsTrue (takes q.0 q.1) in
+        subst P same is
+    by false shape number is e = absurd (cc)
+
+of-command : (made command : Command) → Some made ≡ Some command → HasFittingParams made → HasFittingParams command
+of-command made command h fits = let same : made ≡ command = cc in let P : Command → Type 0 = λ c. HasFittingParams c in subst P same fits
+
+command-fits : (verb : Verb) (s : Settings) (command : Command) → command_of verb s ≡ Some command → AreFitting s →
+    (params_of s).cores * (params_of s).limit ≤ INSTRUCTIONS_MAX → HasFittingParams command
+command-fits Record s command h fit few = of-command _ command h (params-fit s fit few)
+command-fits Run s command h fit few = of-command _ command h (params-fit s fit few)
+command-fits Print s command h fit few = of-command _ command h tt
+command-fits Replay s command h fit few = of-command _ command h tt
+command-fits Migrate s command h fit few = of-command _ command h tt
+command-fits Certify s command h fit few = of-command _ command h tt
+command-fits Check s command h fit few = of-command _ command h tt
+command-fits Gen s command h fit few =
+    let made = map-some (λ p. GenImage p.0 p.1) (shaped s) command h in
+    let P : Command → Type 0 = λ c. HasFittingParams c in subst P made.2 (shaped-takes s made.0 made.1)
+command-fits Soak s command h fit few =
+    let made = map-some (λ p. SoakImage p.0 p.1 (params_of s) (unwrap_or s.seed 0)) (shaped s) command h in
+    let P : Command → Type 0 = λ c. HasFittingParams c in subst P made.2 (params-fit s fit few, shaped-takes s made.0 made.1)
 
 pub fitting_law : FittingLaw
 fitting_law [] command h = absurd (cc)
 fitting_law (first ∷ rest) command h =
-    let verb = and_then-some (λ v. option_map (command_of v) (option_and_then few_together (settled_by v no_settings rest))) (verb_named first) command h in
-    let made = map-some (command_of verb.0) (option_and_then few_together (settled_by verb.0 no_settings rest)) command verb.2 in
+    let verb = and_then-some (λ v. option_and_then (command_of v) (option_and_then few_together (settled_by v no_settings rest))) (verb_named first) command h in
+    let made = and_then-some (command_of verb.0) (option_and_then few_together (settled_by verb.0 no_settings rest)) command verb.2 in
     let set = and_then-some few_together (settled_by verb.0 no_settings rest) made.0 made.1 in
     let few = few-together set.0 made.0 set.2 in
-    let P : Command → Type 0 = λ c. HasFittingParams c in
-    let fits = command-fits verb.0 set.0 (settled_by-fits verb.0 rest set.0 set.1) few.1 in
-    let same : command_of verb.0 set.0 ≡ command = ap (λ s. command_of verb.0 s) few.0 ∙ made.2 in
-    subst P same fits
+    let meant : command_of verb.0 set.0 ≡ Some command = ap (λ s. command_of verb.0 s) few.0 ∙ made.2 in
+    command-fits verb.0 set.0 command meant (settled_by-fits verb.0 rest set.0 set.1) few.1

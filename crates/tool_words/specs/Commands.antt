@@ -1,16 +1,21 @@
 -- The commands.
-use Rattle.std.specs.Prelude.{ℕ, List, Option, Some, None, codes, unwrap_or, if◌then◌else◌}
+use Rattle.std.specs.Prelude.{ℕ, IsTrue, List, Option, Some, None, codes, unwrap_or, if◌then◌else◌}
+use Rattle.std.specs.Option.{option_and_then, option_map}
 use Rattle.std.specs.Str.{bytes_eq}
 use Rattle.rtr_types.specs.Parameters.{Fits}
 use Rattle.rtr_types.specs.declared.pairs.Which.TheVariants.{Reduced}
+use Rattle.trace_gen.specs.declared.shape.Shape.{Shape}
+use Rattle.trace_gen.specs.Programs.{takes}
+use Rattle.tool_words.specs.declared.command.RunWords.{RunWords}
 use Rattle.tool_words.specs.declared.command.Command.{Command}
 use Rattle.tool_words.specs.declared.command.Command.TheVariants.{Record as RecordRun, Run as RunImage}
 use Rattle.tool_words.specs.declared.command.Command.TheVariants.{Print as PrintLogs}
 use Rattle.tool_words.specs.declared.command.Command.TheVariants.{Replay as ReplayRun, Migrate as MigrateRecording}
 use Rattle.tool_words.specs.declared.command.Command.TheVariants.{Certify as CertifyRecording}
 use Rattle.tool_words.specs.declared.command.Command.TheVariants.{Check as CheckCertificate}
+use Rattle.tool_words.specs.declared.command.Command.TheVariants.{Gen as GenImage, Soak as SoakImage}
 use Rattle.tool_words.specs.declared.command.Verb.{Verb}
-use Rattle.tool_words.specs.declared.command.Verb.TheVariants.{Record, Run, Print, Replay, Migrate, Certify, Check}
+use Rattle.tool_words.specs.declared.command.Verb.TheVariants.{Record, Run, Print, Replay, Migrate, Certify, Check, Gen, Soak}
 use Rattle.tool_words.specs.Settings.{Settings}
 use Rattle.tool_words.specs.Choices.{bytes_of}
 use Rattle.tool_words.specs.Options.{params_of}
@@ -24,24 +29,47 @@ verb_named word =
     if bytes_eq word (codes "replay") then Some Replay else
     if bytes_eq word (codes "migrate") then Some Migrate else
     if bytes_eq word (codes "certify") then Some Certify else
-    if bytes_eq word (codes "check") then Some Check else None
+    if bytes_eq word (codes "check") then Some Check else
+    if bytes_eq word (codes "gen") then Some Gen else
+    if bytes_eq word (codes "soak") then Some Soak else None
 
--- the command with these settings, and its defaults for the others
-abbrev pub command_of : Verb → Settings → Command
-command_of Record s = RecordRun (params_of s) (bytes_of s.choices) (unwrap_or s.seed 0)
-command_of Run s = RunImage (params_of s) (bytes_of s.choices) (unwrap_or s.seed 0) s.loads
-command_of Print s = PrintLogs
-command_of Replay s = ReplayRun (unwrap_or s.log Reduced) s.loads
-command_of Migrate s = MigrateRecording
-command_of Certify s = CertifyRecording
-command_of Check s = CheckCertificate
+-- the run with these settings
+abbrev pub run_of : Settings → RunWords
+run_of s = record {
+  params = params_of s;
+  choices = bytes_of s.choices;
+  seed = unwrap_or s.seed 0;
+  elf = s.elf;
+}
 
--- the parameters of a command, where it has some, lie in their ranges
+-- the shape and the number of an image, where both are set and the shape has an image of this number
+abbrev pub shaped : Settings → Option (Shape × ℕ)
+shaped s =
+    option_and_then
+    (λ shape. option_and_then (λ number. if takes shape number then Some (shape, number) else None) s.number)
+    s.shape
+
+-- the command with these settings, and its defaults for the others; none where it lacks one that it must have
+abbrev pub command_of : Verb → Settings → Option Command
+command_of Record s = Some (RecordRun (run_of s))
+command_of Run s = Some (RunImage (run_of s) s.loads)
+command_of Print s = Some PrintLogs
+command_of Replay s = Some (ReplayRun (unwrap_or s.log Reduced) s.loads)
+command_of Migrate s = Some MigrateRecording
+command_of Certify s = Some CertifyRecording
+command_of Check s = Some CheckCertificate
+command_of Gen s = option_map (λ p. GenImage p.0 p.1) (shaped s)
+command_of Soak s = option_map (λ p. SoakImage p.0 p.1 (params_of s) (unwrap_or s.seed 0)) (shaped s)
+
+-- the parameters of a command, where it has some, lie in their ranges, and a shape that it names has an image of
+-- its number
 abbrev pub HasFittingParams : Command → Type 0
-HasFittingParams (RecordRun params choices seed) = Fits params
-HasFittingParams (RunImage params choices seed loads) = Fits params
+HasFittingParams (RecordRun run) = Fits run.params
+HasFittingParams (RunImage run loads) = Fits run.params
 HasFittingParams PrintLogs = Unit {0}
 HasFittingParams (ReplayRun which loads) = Unit {0}
 HasFittingParams MigrateRecording = Unit {0}
 HasFittingParams CertifyRecording = Unit {0}
 HasFittingParams CheckCertificate = Unit {0}
+HasFittingParams (GenImage shape number) = IsTrue (takes shape number)
+HasFittingParams (SoakImage shape number params seed) = Fits params × IsTrue (takes shape number)

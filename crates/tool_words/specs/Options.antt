@@ -8,10 +8,12 @@ use Rattle.rtr_types.specs.declared.pairs.Which.{Which}
 use Rattle.rtr_types.specs.declared.pairs.Which.TheVariants.{Reduced, Regulated}
 use Rattle.rtr_types.specs.declared.TheConstants.{BLOCK_WORDS, CORES_MAX}
 use Rattle.rtr_types.specs.declared.params.TheConstants.{INSTRUCTIONS_MAX, LIMIT_MAX, WORDS_MIN, WORDS_MAX}
+use Rattle.trace_gen.specs.declared.shape.Shape as shapes
+use Rattle.trace_gen.specs.declared.shape.Shape.TheVariants.{Mix, Lock}
 use Rattle.tool_words.specs.declared.command.Verb.{Verb}
-use Rattle.tool_words.specs.declared.command.Verb.TheVariants.{Record, Run, Print, Replay, Migrate, Certify, Check}
+use Rattle.tool_words.specs.declared.command.Verb.TheVariants.{Record, Run, Print, Replay, Migrate, Certify, Check, Gen, Soak}
 use Rattle.tool_words.specs.declared.options.Name.{Name}
-use Rattle.tool_words.specs.declared.options.Name.TheVariants.{Cores, Limit, Words, Choices, Seed, Log, Loads}
+use Rattle.tool_words.specs.declared.options.Name.TheVariants.{Cores, Limit, Words, Choices, Seed, Log, Loads, Elf, Shape, Number}
 use Rattle.tool_words.specs.Settings.{Settings}
 use Rattle.tool_words.specs.Choices.{are_choices}
 use Rattle.tool_words.specs.Numerals.{number_between}
@@ -25,7 +27,10 @@ option_named word =
     if bytes_eq word (codes "--choices") then Some Choices else
     if bytes_eq word (codes "--seed") then Some Seed else
     if bytes_eq word (codes "--log") then Some Log else
-    if bytes_eq word (codes "--loads") then Some Loads else None
+    if bytes_eq word (codes "--loads") then Some Loads else
+    if bytes_eq word (codes "--elf") then Some Elf else
+    if bytes_eq word (codes "--shape") then Some Shape else
+    if bytes_eq word (codes "--number") then Some Number else None
 
 -- the command takes the option
 abbrev pub takes : Verb → Name → Bool
@@ -36,6 +41,9 @@ takes Record Choices = true
 takes Record Seed = true
 takes Record Log = false
 takes Record Loads = false
+takes Record Elf = true
+takes Record Shape = false
+takes Record Number = false
 takes Run Cores = true
 takes Run Limit = true
 takes Run Words = true
@@ -43,6 +51,9 @@ takes Run Choices = true
 takes Run Seed = true
 takes Run Log = false
 takes Run Loads = true
+takes Run Elf = true
+takes Run Shape = false
+takes Run Number = false
 takes Print name = false
 takes Replay Cores = false
 takes Replay Limit = false
@@ -51,9 +62,32 @@ takes Replay Choices = false
 takes Replay Seed = false
 takes Replay Log = true
 takes Replay Loads = true
+takes Replay Elf = false
+takes Replay Shape = false
+takes Replay Number = false
 takes Migrate name = false
 takes Certify name = false
 takes Check name = false
+takes Gen Cores = false
+takes Gen Limit = false
+takes Gen Words = false
+takes Gen Choices = false
+takes Gen Seed = false
+takes Gen Log = false
+takes Gen Loads = false
+takes Gen Elf = false
+takes Gen Shape = true
+takes Gen Number = true
+takes Soak Cores = true
+takes Soak Limit = true
+takes Soak Words = true
+takes Soak Choices = false
+takes Soak Seed = true
+takes Soak Log = false
+takes Soak Loads = false
+takes Soak Elf = false
+takes Soak Shape = true
+takes Soak Number = true
 
 -- the option that a word names, where the command takes it
 abbrev pub option_of : Verb → List ℕ → Option Name
@@ -68,6 +102,9 @@ takes_value Choices = true
 takes_value Seed = true
 takes_value Log = true
 takes_value Loads = false
+takes_value Elf = false
+takes_value Shape = true
+takes_value Number = true
 
 -- what holds where an option isn't set
 abbrev pub cores_default : ℕ
@@ -89,6 +126,9 @@ no_settings = record {
   seed = None;
   log = None;
   loads = false;
+  elf = false;
+  shape = None;
+  number = None;
 }
 
 -- the number of words of a memory: in range, and of whole blocks
@@ -102,6 +142,12 @@ log_named word =
     if bytes_eq word (codes "reduced") then Some Reduced else
     if bytes_eq word (codes "regulated") then Some Regulated else None
 
+-- the shape that a word names, exactly
+abbrev pub shape_named : List ℕ → Option shapes.Shape
+shape_named word =
+    if bytes_eq word (codes "mix") then Some Mix else
+    if bytes_eq word (codes "lock") then Some Lock else None
+
 -- the option is set
 abbrev pub is_set : Settings → Name → Bool
 is_set s Cores = is_some s.cores
@@ -111,6 +157,9 @@ is_set s Choices = is_some s.choices
 is_set s Seed = is_some s.seed
 is_set s Log = is_some s.log
 is_set s Loads = s.loads
+is_set s Elf = s.elf
+is_set s Shape = is_some s.shape
+is_set s Number = is_some s.number
 
 -- the settings with this one; none where the text is no value of it
 abbrev pub put_new : Settings → Name → List ℕ → Option Settings
@@ -121,6 +170,9 @@ put_new s Choices text = if are_choices text then Some (record s { choices = Som
 put_new s Seed text = option_map (λ n. record s { seed = Some n }) (number_between 0 (2 ^ 64 - 1) text)
 put_new s Log text = option_map (λ w. record s { log = Some w }) (log_named text)
 put_new s Loads text = Some (record s { loads = true })
+put_new s Elf text = Some (record s { elf = true })
+put_new s Shape text = option_map (λ shape. record s { shape = Some shape }) (shape_named text)
+put_new s Number text = option_map (λ n. record s { number = Some n }) (number_between 0 (2 ^ 64 - 1) text)
 
 -- the settings with one more; none where that option was set before
 abbrev pub put : Settings → Name → List ℕ → Option Settings

@@ -66,9 +66,9 @@ abbrev pub meaning : List (List ℕ) → Option Command
 meaning [] = None
 meaning (first ∷ rest) =
     option_and_then
-    (λ verb. option_map (command_of verb) (option_and_then few_together (settled_by verb no_settings rest)))
+    (λ verb. option_and_then (command_of verb) (option_and_then few_together (settled_by verb no_settings rest)))
     (verb_named first)
 
--- what words mean has parameters in their ranges
+-- what words mean has parameters in their ranges, and an image of the shape and number that it names
 abbrev pub FittingLaw : Type 0
 FittingLaw = (words : List (List ℕ)) (command : Command) → meaning words ≡ Some command → HasFittingParams command

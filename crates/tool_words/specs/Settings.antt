@@ -2,9 +2,10 @@
 use Rattle.std.specs.Prelude.{ℕ, Bool, List, Option}
 use Rattle.std.specs.Option.{option_map}
 use Rattle.rtr_types.specs.declared.pairs.Which.{Which}
+use Rattle.trace_gen.specs.declared.shape.Shape.{Shape}
 use Rattle.tool_words.specs.declared.options.Settings.{Settings as Held}
 
--- each option's value, where it is set; of the choices the text, and of the flag whether it is set
+-- each option's value, where it is set; of the choices the text, and of a flag whether it is set
 pub record Settings : Type 0 where
   pub cores : Option ℕ
   pub limit : Option ℕ
@@ -13,6 +14,9 @@ pub record Settings : Type 0 where
   pub seed : Option ℕ
   pub log : Option Which
   pub loads : Bool
+  pub elf : Bool
+  pub shape : Option Shape
+  pub number : Option ℕ
 
 -- the settings as the code holds them, with the choices' text borrowed from the words
 abbrev pub seen : Held → Settings
@@ -25,4 +29,7 @@ seen s =
       seed = s.seed;
       log = s.log;
       loads = s.loads;
+      elf = s.elf;
+      shape = s.shape;
+      number = s.number;
     }

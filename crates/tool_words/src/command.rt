@@ -1,28 +1,35 @@
 //! The commands, and which options each takes.
-ghost use Rattle.std.specs.Prelude.{◌≡◌, IfOk};
+ghost use Rattle.std.specs.Prelude.{◌≡◌, ◌≢◌, IfOk, None, OnErr};
 ghost use Rattle.tool_words.specs.Settings.{seen};
-ghost use Rattle.tool_words.specs.Commands.{command_of, verb_named};
+ghost use Rattle.tool_words.specs.Commands.{command_of, run_of, verb_named};
 
 use crate::choices::bytes_of;
 use crate::options::Settings;
 use rtr_types::{Items, Params, Which};
 use std::alloc::{AllocError, Global};
+use trace_gen::Shape;
+
+/// A run that words ask for, with every option filled in.
+#[derive(Drop)]
+pub struct RunWords {
+    /// The cores, the limit of each and the words of memory.
+    pub params: Params,
+    /// The choice bytes that the schedule begins with.
+    pub choices: Items<u8>,
+    /// The seed of the generator that the schedule goes on with.
+    pub seed: u64,
+    /// Whether the input is an ELF file, and not the image itself.
+    pub elf: bool,
+}
 
 /// What the tool is asked to do, with every option filled in.
 #[derive(Drop)]
 pub enum Command {
-    /// Record a run of the image on the input, under the schedule of these choice bytes and this seed.
-    Record {
-        params: Params,
-        choices: Items<u8>,
-        seed: u64,
-    },
-    /// Run the image on the input, under the schedule of these choice bytes and this seed, and print how
-    /// the run ended; with `loads` also what was loaded.
+    /// Record a run of the image on the input.
+    Record(RunWords),
+    /// Run the image on the input, and print how the run ended; with `loads` also what was loaded.
     Run {
-        params: Params,
-        choices: Items<u8>,
-        seed: u64,
+        run: RunWords,
         loads: bool,
     },
     /// Print the logs of the recording on the input.
@@ -39,6 +46,19 @@ pub enum Command {
     Certify,
     /// Check the certificate on the input.
     Check,
+    /// Make the image of this shape and number, which the shape has.
+    Gen {
+        shape: Shape,
+        number: u64,
+    },
+    /// Make the image of this shape and number, which the shape has, record a run of it without choice bytes,
+    /// replay that, and print a summary.
+    Soak {
+        shape: Shape,
+        number: u64,
+        params: Params,
+        seed: u64,
+    },
 }
 
 /// The first word: a command without its options.
@@ -51,6 +71,8 @@ pub(crate) enum Verb {
     Migrate,
     Certify,
     Check,
+    Gen,
+    Soak,
 }
 
 impl Verb {
@@ -72,36 +94,64 @@ impl Verb {
             Some(Verb::Certify)
         } else if word == "check" {
             Some(Verb::Check)
+        } else if word == "gen" {
+            Some(Verb::Gen)
+        } else if word == "soak" {
+            Some(Verb::Soak)
         } else {
             None
         }
     }
 
-    /// The command with these settings, and its defaults for the others.
-    pub(crate) fn command(self, alloc: Global, settings: &Settings) -> Result<Command, AllocError>
-        ensures { IfOk result (λ command. command ≡ command_of self (seen settings.now)) }
+    /// The command with these settings, and its defaults for the others; `None` where it lacks an option that it
+    /// must have, or the shape has no image of the number. The only refusal is want of memory, for choice bytes.
+    pub(crate) fn command(
+        self,
+        alloc: Global,
+        settings: &Settings,
+    ) -> Result<Option<Command>, AllocError>
+        ensures value { IfOk result (λ command. command ≡ command_of self (seen settings.now)) }
+        ensures meaningful { OnErr result (command_of self (seen settings.now) ≢ None) }
     {
-        let params = settings.params();
-        match self {
-            Verb::Record => Ok(Command::Record {
-                params,
-                choices: bytes_of(alloc, settings.choices)?,
-                seed: settings.seed.unwrap_or(0),
-            }),
-            Verb::Run => Ok(Command::Run {
-                params,
-                choices: bytes_of(alloc, settings.choices)?,
-                seed: settings.seed.unwrap_or(0),
+        Ok(Some(match self {
+            Verb::Record => Command::Record(run_of(alloc, settings)?),
+            Verb::Run => Command::Run {
+                run: run_of(alloc, settings)?,
                 loads: settings.loads,
-            }),
-            Verb::Print => Ok(Command::Print),
-            Verb::Replay => Ok(Command::Replay {
+            },
+            Verb::Print => Command::Print,
+            Verb::Replay => Command::Replay {
                 which: settings.log.unwrap_or(Which::Reduced),
                 loads: settings.loads,
-            }),
-            Verb::Migrate => Ok(Command::Migrate),
-            Verb::Certify => Ok(Command::Certify),
-            Verb::Check => Ok(Command::Check),
-        }
+            },
+            Verb::Migrate => Command::Migrate,
+            Verb::Certify => Command::Certify,
+            Verb::Check => Command::Check,
+            Verb::Gen => match settings.shaped() {
+                Some((shape, number)) => Command::Gen { shape, number },
+                None => return Ok(None),
+            },
+            Verb::Soak => match settings.shaped() {
+                Some((shape, number)) => Command::Soak {
+                    shape,
+                    number,
+                    params: settings.params(),
+                    seed: settings.seed.unwrap_or(0),
+                },
+                None => return Ok(None),
+            },
+        }))
     }
+}
+
+/// The run with these settings.
+fn run_of(alloc: Global, settings: &Settings) -> Result<RunWords, AllocError>
+    ensures { IfOk result (λ run. run ≡ run_of (seen settings.now)) }
+{
+    Ok(RunWords {
+        params: settings.params(),
+        choices: bytes_of(alloc, settings.choices)?,
+        seed: settings.seed.unwrap_or(0),
+        elf: settings.elf,
+    })
 }

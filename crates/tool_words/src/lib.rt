@@ -7,7 +7,7 @@ mod numerals;
 mod options;
 mod reading;
 
-pub use command::Command;
+pub use command::{Command, RunWords};
 pub use reading::{meaning, what_words_mean_fits};
 
 #[cfg(test)]

@@ -2,8 +2,9 @@
 ghost use Rattle.std.specs.Prelude.{◌≡◌};
 ghost use Rattle.std.specs.Option.{option_map};
 ghost use Rattle.tool_words.specs.Settings.{seen};
-ghost use Rattle.tool_words.specs.Options.{are_together_few, is_set, log_named, no_settings, option_of, params_of, put, put_new};
-ghost use Rattle.tool_words.specs.Options.{takes_value, whole_blocks};
+ghost use Rattle.tool_words.specs.Commands.{shaped};
+ghost use Rattle.tool_words.specs.Options.{are_together_few, is_set, log_named, no_settings, option_named, option_of};
+ghost use Rattle.tool_words.specs.Options.{params_of, put, put_new, shape_named, takes, takes_value, whole_blocks};
 
 use crate::choices::are_choices;
 use crate::command::Verb;
@@ -11,6 +12,7 @@ use crate::numerals::number_between;
 use rtr_types::{
     BLOCK_WORDS, CORES_MAX, INSTRUCTIONS_MAX, LIMIT_MAX, Params, WORDS_MAX, WORDS_MIN, Which,
 };
+use trace_gen::Shape;
 
 /// The number of cores of a run whose words name none.
 pub(crate) const CORES_DEFAULT: u8 = 1;
@@ -31,6 +33,9 @@ pub(crate) enum Name {
     Seed,
     Log,
     Loads,
+    Elf,
+    Shape,
+    Number,
 }
 
 impl Name {
@@ -38,15 +43,55 @@ impl Name {
     pub(crate) fn of(verb: Verb, word: &str) -> Option<Name>
         ensures { result ≡ option_of verb word.now }
     {
-        match verb {
-            Verb::Record | Verb::Run if word == "--cores" => Some(Name::Cores),
-            Verb::Record | Verb::Run if word == "--limit" => Some(Name::Limit),
-            Verb::Record | Verb::Run if word == "--words" => Some(Name::Words),
-            Verb::Record | Verb::Run if word == "--choices" => Some(Name::Choices),
-            Verb::Record | Verb::Run if word == "--seed" => Some(Name::Seed),
-            Verb::Replay if word == "--log" => Some(Name::Log),
-            Verb::Run | Verb::Replay if word == "--loads" => Some(Name::Loads),
-            _ => None,
+        let name = Name::named(word)?;
+        if name.is_taken_by(verb) {
+            Some(name)
+        } else {
+            None
+        }
+    }
+
+    /// The option that this word names, exactly.
+    fn named(word: &str) -> Option<Name>
+        ensures { result ≡ option_named word.now }
+    {
+        if word == "--cores" {
+            Some(Name::Cores)
+        } else if word == "--limit" {
+            Some(Name::Limit)
+        } else if word == "--words" {
+            Some(Name::Words)
+        } else if word == "--choices" {
+            Some(Name::Choices)
+        } else if word == "--seed" {
+            Some(Name::Seed)
+        } else if word == "--log" {
+            Some(Name::Log)
+        } else if word == "--loads" {
+            Some(Name::Loads)
+        } else if word == "--elf" {
+            Some(Name::Elf)
+        } else if word == "--shape" {
+            Some(Name::Shape)
+        } else if word == "--number" {
+            Some(Name::Number)
+        } else {
+            None
+        }
+    }
+
+    /// Whether the command takes the option.
+    fn is_taken_by(self, verb: Verb) -> bool
+        ensures { result ≡ takes verb self }
+    {
+        match self {
+            Name::Cores | Name::Limit | Name::Words | Name::Seed => {
+                matches!(verb, Verb::Record | Verb::Run | Verb::Soak)
+            }
+            Name::Choices | Name::Elf => matches!(verb, Verb::Record | Verb::Run),
+            Name::Log => matches!(verb, Verb::Replay),
+            Name::Loads => matches!(verb, Verb::Run | Verb::Replay),
+            Name::Shape | Name::Number => matches!(verb, Verb::Gen | Verb::Soak),
         }
     }
 
@@ -54,7 +99,7 @@ impl Name {
     pub(crate) fn takes_value(self) -> bool
         ensures { result ≡ takes_value self }
     {
-        self != Name::Loads
+        self != Name::Loads && self != Name::Elf
     }
 }
 
@@ -69,6 +114,9 @@ pub(crate) struct Settings<'a> {
     pub(crate) seed: Option<u64>,
     pub(crate) log: Option<Which>,
     pub(crate) loads: bool,
+    pub(crate) elf: bool,
+    pub(crate) shape: Option<Shape>,
+    pub(crate) number: Option<u64>,
 }
 
 impl<'a> Settings<'a> {
@@ -84,6 +132,9 @@ impl<'a> Settings<'a> {
             seed: None,
             log: None,
             loads: false,
+            elf: false,
+            shape: None,
+            number: None,
         }
     }
 
@@ -110,6 +161,9 @@ impl<'a> Settings<'a> {
             Name::Seed => self.seed.is_some(),
             Name::Log => self.log.is_some(),
             Name::Loads => self.loads,
+            Name::Elf => self.elf,
+            Name::Shape => self.shape.is_some(),
+            Name::Number => self.number.is_some(),
         }
     }
 
@@ -147,6 +201,15 @@ impl<'a> Settings<'a> {
                 loads: true,
                 ..self
             }),
+            Name::Elf => Some(Settings { elf: true, ..self }),
+            Name::Shape => Some(Settings {
+                shape: Some(shape_named(text)?),
+                ..self
+            }),
+            Name::Number => Some(Settings {
+                number: Some(number_between(0, u64::MAX, text)?),
+                ..self
+            }),
         }
     }
 
@@ -167,6 +230,32 @@ impl<'a> Settings<'a> {
     {
         let params = self.params();
         params.cores as u64 * params.limit as u64 <= INSTRUCTIONS_MAX as u64
+    }
+
+    /// The shape and the number of an image, where both are set and the shape has an image of this number.
+    pub(crate) fn shaped(&self) -> Option<(Shape, u64)>
+        ensures { result ≡ shaped (seen self.now) }
+    {
+        let shape = self.shape?;
+        let number = self.number?;
+        if shape.takes(number) {
+            Some((shape, number))
+        } else {
+            None
+        }
+    }
+}
+
+/// The shape that the text names, exactly.
+fn shape_named(text: &str) -> Option<Shape>
+    ensures { result ≡ shape_named text.now }
+{
+    if text == "mix" {
+        Some(Shape::Mix)
+    } else if text == "lock" {
+        Some(Shape::Lock)
+    } else {
+        None
     }
 }
 

@@ -4,7 +4,7 @@ ghost use Rattle.std.specs.Prelude.{string_bytes};
 ghost use Rattle.tool_words.specs.Commands.{command_of};
 ghost use Rattle.tool_words.specs.Reading.{FittingLaw, alone, meaning, settled_by, valued};
 ghost use Rattle.tool_words.specs.Options.{no_settings};
-ghost use Rattle.std.specs.Option.{option_map};
+ghost use Rattle.std.specs.Option.{option_and_then, option_map};
 ghost use Rattle.tool_words.specs.Settings.{seen};
 
 use crate::command::{Command, Verb};
@@ -14,26 +14,28 @@ use std::alloc::{AllocError, Global};
 /// The command that the words mean, or `None`. The first word is the command; options follow in any
 /// order, each at most once, as `--name value` or `--name=value`, and a flag as `--name`. The word after
 /// `--name` is its value, whatever it begins with. Names are exact, the cores times the limit are at most
-/// `INSTRUCTIONS_MAX`, and every other list of words, among them the empty one, means nothing. The only refusal is want of memory, for the choice bytes of a
-/// command, and so never where the words mean nothing.
+/// `INSTRUCTIONS_MAX`, `gen` and `soak` have both a shape and a number of which the shape has an image, and every
+/// other list of words, among them the empty one, means nothing. The only refusal is want of memory, for the choice
+/// bytes of a command, and so never where the words mean nothing.
 pub fn meaning(alloc: Global, words: &[String]) -> Result<Option<Command>, AllocError>
     ensures value { IfOk result (λ command. command ≡ meaning (map string_bytes words.now)) }
     ensures meaningful { OnErr result (meaning (map string_bytes words.now) ≢ None) }
 {
     match read(words) {
-        Some((verb, settings)) => Ok(Some(verb.command(alloc, &settings)?)),
+        Some((verb, settings)) => verb.command(alloc, &settings),
         None => Ok(None),
     }
 }
 
-/// The parameters of every command that words mean lie in their ranges.
+/// The parameters of every command that words mean lie in their ranges, and the shape that it names has an image
+/// of its number.
 pub fn what_words_mean_fits()
     ensures { FittingLaw }
 {}
 
 /// The command's name and what its options are set to.
 fn read(words: &[String]) -> Option<(Verb, Settings<'_>)>
-    ensures { meaning (map string_bytes words.now) ≡ option_map (λ r. command_of r.0 (seen r.1)) result }
+    ensures { meaning (map string_bytes words.now) ≡ option_and_then (λ r. command_of r.0 (seen r.1)) result }
 {
     let (first, rest) = words.split_first()?;
     let verb = Verb::named(first.as_str())?;

@@ -1,7 +1,8 @@
-use crate::{Command, meaning};
+use crate::{Command, RunWords, meaning};
 use rtr_types::{Params, Which};
 use std::alloc::{AllocError, Global};
 use std::test::Fail;
+use trace_gen::Shape;
 
 /// The words of a line, which are parted by single spaces.
 fn words(alloc: Global, line: &str) -> Result<Vec<String>, AllocError> {
@@ -23,9 +24,10 @@ struct Row {
     choices: &'static [u8],
     seed: u64,
     loads: bool,
+    elf: bool,
 }
 
-static ROWS: [Row; 7] = [
+static ROWS: [Row; 9] = [
     Row {
         line: "run",
         cores: 1,
@@ -34,6 +36,7 @@ static ROWS: [Row; 7] = [
         choices: &[],
         seed: 0,
         loads: false,
+        elf: false,
     },
     Row {
         line: "run --loads --words 32",
@@ -43,6 +46,7 @@ static ROWS: [Row; 7] = [
         choices: &[],
         seed: 0,
         loads: true,
+        elf: false,
     },
     Row {
         line: "run --cores 16 --limit=1 --loads",
@@ -52,6 +56,7 @@ static ROWS: [Row; 7] = [
         choices: &[],
         seed: 0,
         loads: true,
+        elf: false,
     },
     Row {
         line: "run --words=262144 --choices 00ff1a --limit 1000000",
@@ -61,6 +66,7 @@ static ROWS: [Row; 7] = [
         choices: &[0, 255, 26],
         seed: 0,
         loads: false,
+        elf: false,
     },
     // Four million instructions together.
     Row {
@@ -71,6 +77,7 @@ static ROWS: [Row; 7] = [
         choices: &[],
         seed: 0,
         loads: false,
+        elf: false,
     },
     Row {
         line: "run --cores=4 --limit=1000000",
@@ -80,6 +87,7 @@ static ROWS: [Row; 7] = [
         choices: &[],
         seed: 0,
         loads: false,
+        elf: false,
     },
     Row {
         line: "run --choices=07 --seed 18446744073709551615 --cores=2",
@@ -89,28 +97,49 @@ static ROWS: [Row; 7] = [
         choices: &[7],
         seed: 18_446_744_073_709_551_615,
         loads: false,
+        elf: false,
+    },
+    Row {
+        line: "run --elf --loads",
+        cores: 1,
+        limit: 10_000,
+        words: 16_384,
+        choices: &[],
+        seed: 0,
+        loads: true,
+        elf: true,
+    },
+    Row {
+        line: "run --words 32 --choices 07 --elf",
+        cores: 1,
+        limit: 10_000,
+        words: 32,
+        choices: &[7],
+        seed: 0,
+        loads: false,
+        elf: true,
     },
 ];
 
-/// Whether the command is the run of the row.
-fn is_run(command: Option<Command>, row: &Row) -> bool {
-    let Some(
-        Command::Run {
-            params,
-            choices,
-            seed,
-            loads,
-        },
-    ) = command
-    else {
-        return false;
-    };
+/// Whether the words of a run are those of the row.
+fn is_of_row(run: &RunWords, row: &Row) -> bool {
     let wanted = Params {
         cores: row.cores,
         limit: row.limit,
         words: row.words,
     };
-    params == wanted && choices.as_slice() == row.choices && seed == row.seed && loads == row.loads
+    run.params == wanted
+        && run.choices.as_slice() == row.choices
+        && run.seed == row.seed
+        && run.elf == row.elf
+}
+
+/// Whether the command is the run of the row.
+fn is_run(command: Option<Command>, row: &Row) -> bool {
+    let Some(Command::Run { run, loads }) = command else {
+        return false;
+    };
+    is_of_row(&run, row) && loads == row.loads
 }
 
 #[test]
@@ -166,7 +195,7 @@ fn words_that_mean_a_replay(rt: HostRuntime) -> Result<(), Fail> {
     Ok(())
 }
 
-static FAULTY: [&str; 44] = [
+static FAULTY: [&str; 67] = [
     "",
     "records",
     "--help",
@@ -211,6 +240,29 @@ static FAULTY: [&str; 44] = [
     "run --choices=",
     "run --choices 00 --choices 00",
     "run --seed 18446744073709551616",
+    "record --elf --elf",
+    "record --elf=",
+    "record --elf 1",
+    "print --elf",
+    "replay --elf",
+    "certify --elf",
+    "gen",
+    "gen --shape mix",
+    "gen --number 3",
+    "gen --shape lock --number 0",
+    "gen --shape lock --number 2048",
+    "gen --number 2048 --shape=lock",
+    "gen --shape Mix --number 1",
+    "gen --shape mix --number 18446744073709551616",
+    "gen --shape mix --number 007",
+    "gen --shape mix --number 1 --number 1",
+    "gen --shape mix --number 1 --cores 2",
+    "gen --shape mix --number 1 --elf",
+    "soak --shape lock",
+    "soak --shape lock --number 2048",
+    "soak --shape mix --number 1 --choices 00",
+    "soak --shape mix --number 1 --loads",
+    "soak --shape mix --number 1 --cores 16 --limit 250001",
 ];
 
 #[test]
@@ -236,5 +288,119 @@ fn words_that_mean_a_recording(rt: HostRuntime) -> Result<(), Fail> {
     let check = words(rt.alloc(), "check")?;
     let command = meaning(rt.alloc(), check.as_slice())?;
     assert!(rt; matches!(command, Some(Command::Check)));
+    Ok(())
+}
+
+#[test]
+fn words_that_mean_a_record(rt: HostRuntime) -> Result<(), Fail> {
+    let words = words(rt.alloc(), "record --elf --words 32 --choices=07")?;
+    let meant = match meaning(rt.alloc(), words.as_slice())? {
+        Some(Command::Record(run)) => is_of_row(&run, &ROWS[8]),
+        _ => false,
+    };
+    assert!(rt; meant);
+    Ok(())
+}
+
+/// A line of words and the image that it asks for.
+struct ImageRow {
+    line: &'static str,
+    shape: Shape,
+    number: u64,
+}
+
+static IMAGES: [ImageRow; 4] = [
+    ImageRow {
+        line: "gen --shape lock --number 500",
+        shape: Shape::Lock,
+        number: 500,
+    },
+    ImageRow {
+        line: "gen --number=2047 --shape=lock",
+        shape: Shape::Lock,
+        number: 2047,
+    },
+    ImageRow {
+        line: "gen --shape mix --number 0",
+        shape: Shape::Mix,
+        number: 0,
+    },
+    ImageRow {
+        line: "gen --number 18446744073709551615 --shape mix",
+        shape: Shape::Mix,
+        number: 18_446_744_073_709_551_615,
+    },
+];
+
+#[test]
+fn words_that_mean_an_image(rt: HostRuntime) -> Result<(), Fail> {
+    for row in &IMAGES {
+        let words = words(rt.alloc(), row.line)?;
+        let meant = match meaning(rt.alloc(), words.as_slice())? {
+            Some(Command::Gen { shape, number }) => shape == row.shape && number == row.number,
+            _ => false,
+        };
+        assert!(rt; meant, "{}", row.line);
+    }
+    Ok(())
+}
+
+/// A line of words and the soak that it asks for.
+struct SoakRow {
+    line: &'static str,
+    shape: Shape,
+    number: u64,
+    params: Params,
+    seed: u64,
+}
+
+static SOAKS: [SoakRow; 2] = [
+    SoakRow {
+        line: "soak --shape lock --number 1 --words 4",
+        shape: Shape::Lock,
+        number: 1,
+        params: Params {
+            cores: 1,
+            limit: 10_000,
+            words: 4,
+        },
+        seed: 0,
+    },
+    SoakRow {
+        line: "soak --limit=100000 --number 3 --seed 9 --shape mix --cores 8",
+        shape: Shape::Mix,
+        number: 3,
+        params: Params {
+            cores: 8,
+            limit: 100_000,
+            words: 16_384,
+        },
+        seed: 9,
+    },
+];
+
+/// Whether the command is the soak of the row.
+fn is_soak(command: Option<Command>, row: &SoakRow) -> bool {
+    let Some(
+        Command::Soak {
+            shape,
+            number,
+            params,
+            seed,
+        },
+    ) = command
+    else {
+        return false;
+    };
+    shape == row.shape && number == row.number && params == row.params && seed == row.seed
+}
+
+#[test]
+fn words_that_mean_a_soak(rt: HostRuntime) -> Result<(), Fail> {
+    for row in &SOAKS {
+        let words = words(rt.alloc(), row.line)?;
+        let command = meaning(rt.alloc(), words.as_slice())?;
+        assert!(rt; is_soak(command, row), "{}", row.line);
+    }
     Ok(())
 }

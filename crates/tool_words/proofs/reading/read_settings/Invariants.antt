@@ -17,6 +17,9 @@ invariant-loop-next l = record {
         seed = l.settings.1.1.1.1.0;
         log = l.settings.1.1.1.1.1.0;
         loads = l.settings.1.1.1.1.1.1.0;
+        elf = l.settings.1.1.1.1.1.1.1.0;
+        shape = l.settings.1.1.1.1.1.1.1.1.0;
+        number = l.settings.1.1.1.1.1.1.1.1.1.0;
       }) (map string_bytes (drop l.next l.words));
 }
 

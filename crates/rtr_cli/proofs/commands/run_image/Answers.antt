@@ -7,7 +7,7 @@ use Rattle.run_outcome.specs.Outcomes.{outcome_of}
 use Rattle.state_text.specs.States.{state_lines}
 use Rattle.rtr_cli.specs.Commands.{image_of}
 use Rattle.rtr_cli.proofs.RecordingLemmas.{recorded_image}
-use Rattle.rtr_cli.proofs.commands.run.Goals as goal
+use Rattle.rtr_cli.proofs.commands.run_image.Goals as goal
 
 -- the recording has the bytes that the image was made of
 pub image-image-requires : goal.image-image-requires

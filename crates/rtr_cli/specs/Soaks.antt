@@ -1,0 +1,43 @@
+-- The text of a soak: what a run of a generated image came to.
+use Rattle.std.specs.Prelude.{ℕ, zero, suc, ◌+◌, ◌==◌, if◌then◌else◌, List, ◌++◌, length, sum_by, slice_index}
+use Rattle.std.specs.Prelude.{codes, decimal}
+use Rattle.image_mem.specs.Contents.{Contents, opening_word}
+use Rattle.log_codec.specs.Counts.{edge_count_of}
+use Rattle.log_codec.specs.declared.recording.Recording.{Recording}
+use Rattle.rtr_types.specs.declared.pairs.Which.TheVariants.{Reduced, Regulated}
+use Rattle.state_text.specs.Pieces.{line}
+use Rattle.trace_gen.specs.declared.shape.Shape.{Shape}
+use Rattle.trace_gen.specs.declared.shape.Shape.TheVariants.{Mix, Lock}
+
+-- the word for a shape, as it stands on the command line
+abbrev pub shape_name : Shape → List ℕ
+shape_name Mix = codes "mix"
+shape_name Lock = codes "lock"
+
+-- how many of the first n words don't have their opening values
+unfoldable pub changed_below : Contents → (words : List ℕ) → (n : ℕ) → ℕ
+changed_below image words zero = 0
+changed_below image words (suc n) =
+    changed_below image words n + (if slice_index words n == opening_word image n then 0 else 1)
+
+abbrev pub changed_count : Contents → (words : List ℕ) → ℕ
+changed_count image words = changed_below image words (length words)
+
+-- the instructions that all cores retired
+abbrev pub retired_count : Recording → ℕ
+retired_count r = sum_by (λ t. t) r.totals
+
+-- the vectors of all pairs
+abbrev pub vector_count : Recording → ℕ
+vector_count r = sum_by length r.regulated
+
+-- the program and how many cores ran it, the instructions retired, the sizes of both logs, and the changed words
+abbrev pub soak_lines : Shape → (number : ℕ) → Recording → (changed : ℕ) → List ℕ
+soak_lines shape number r changed =
+    line (codes "shape " ++ shape_name shape ++ codes " number " ++ decimal number ++ codes " cores "
+    ++ decimal r.params.cores)
+    ++ line (codes "retired " ++ decimal (retired_count r))
+    ++ line (codes "reduced " ++ decimal (edge_count_of Reduced r))
+    ++ line (codes "regulated " ++ decimal (vector_count r) ++ codes " vectors " ++ decimal (edge_count_of Regulated r)
+    ++ codes " edges")
+    ++ line (codes "changed " ++ decimal changed ++ codes " words")

@@ -1,0 +1,165 @@
+//! Images that the tool makes itself, and images out of ELF files.
+
+use crate::tables::Row;
+
+/// A call that gives bytes, a text, or both.
+macro_rules! given {
+    ($words:expr, $input:expr, $output:expr, $text:expr) => {
+        Row {
+            words: $words,
+            input: $input,
+            copies: 1,
+            status: 0,
+            output: $output,
+            echoes: false,
+            rest: "",
+            text: $text,
+            report: "",
+        }
+    };
+}
+
+/// A call that is refused.
+macro_rules! refused {
+    ($words:expr, $input:expr, $status:expr, $report:expr) => {
+        Row {
+            words: $words,
+            input: $input,
+            copies: 1,
+            status: $status,
+            output: "",
+            echoes: false,
+            rest: "",
+            text: "",
+            report: $report,
+        }
+    };
+}
+
+/// The input that stands before `gen` and `soak`, which take none.
+const UNREAD: &str = "00";
+
+/// Peterson's lock, taken 500 times by each core.
+pub const LOCK_500: &str =
+    "9302401f 13134500 93431500 13944300 93041000 23209310 23207012 83250410 63860500 \
+    03260012 e30a76fe 83260013 93861600 2328d012 23200310 9382f2ff e39a02fc 73000000";
+
+pub static GENERATED: [Row; 9] = [
+    given!("gen --shape lock --number 500", UNREAD, LOCK_500, ""),
+    refused!("gen --shape lock --number 0", UNREAD, 1, "rtr: usage\n"),
+    refused!("gen --shape lock --number 2048", UNREAD, 1, "rtr: usage\n"),
+    refused!("gen --shape mix", UNREAD, 1, "rtr: usage\n"),
+    refused!("soak --shape mix", UNREAD, 1, "rtr: usage\n"),
+    // One core takes the lock once, and waits for no one.
+    given!(
+        "soak --shape lock --number 1",
+        UNREAD,
+        "",
+        "shape lock number 1 cores 1\nretired 16\nreduced 0\nregulated 0 vectors 0 edges\nchanged 2 words\n"
+    ),
+    // Its 72 bytes fill 18 words, and a memory has whole blocks of 4.
+    refused!(
+        "soak --shape lock --number 1 --words 4",
+        UNREAD,
+        2,
+        "rtr: input too large\n"
+    ),
+    refused!(
+        "soak --shape lock --number 1 --words 16",
+        UNREAD,
+        2,
+        "rtr: input too large\n"
+    ),
+    // In a memory of 20 words every address of the lock but those of its instructions lies past the memory.
+    given!(
+        "soak --shape lock --number 1 --words 20",
+        UNREAD,
+        "",
+        "shape lock number 1 cores 1\nretired 5\nreduced 0\nregulated 0 vectors 0 edges\nchanged 0 words\n"
+    ),
+];
+
+/// ADDI x5, x0, 1 and ECALL at address 16, where the program begins.
+const PROGRAM: &str =
+    "7f454c46 01010100 0000000000000000 0200 f300 01000000 10000000 34000000 00000000 00000000 \
+    3400 2000 0100 0000 0000 0000 01000000 54000000 10000000 10000000 08000000 08000000 05000000 04000000 \
+    93021000 73000000";
+
+/// The first 51 bytes of it.
+const CUT_PROGRAM: &str =
+    "7f454c46 01010100 0000000000000000 0200 f300 01000000 10000000 34000000 00000000 00000000 \
+    3400 2000 0100 0000 0000 00";
+
+/// The same for another machine.
+const OTHER_MACHINE: &str =
+    "7f454c46 01010100 0000000000000000 0200 0300 01000000 10000000 34000000 00000000 \
+    00000000 3400 2000 0100 0000 0000 0000 01000000 54000000 10000000 10000000 08000000 08000000 05000000 04000000 \
+    93021000 73000000";
+
+/// The same with its last byte lost.
+const CUT_SEGMENT: &str =
+    "7f454c46 01010100 0000000000000000 0200 f300 01000000 10000000 34000000 00000000 \
+    00000000 3400 2000 0100 0000 0000 0000 01000000 54000000 10000000 10000000 08000000 08000000 05000000 04000000 \
+    93021000 730000";
+
+/// The same with two headers, of which the second loads the last four bytes again, at address 20.
+const TWICE: &str =
+    "7f454c46 01010100 0000000000000000 0200 f300 01000000 10000000 34000000 00000000 00000000 \
+    3400 2000 0200 0000 0000 0000 01000000 74000000 10000000 10000000 08000000 08000000 05000000 04000000 \
+    01000000 78000000 14000000 14000000 04000000 04000000 05000000 04000000 93021000 73000000";
+
+/// The same where it begins at address 18.
+const OTHER_ENTRY: &str =
+    "7f454c46 01010100 0000000000000000 0200 f300 01000000 12000000 34000000 00000000 \
+    00000000 3400 2000 0100 0000 0000 0000 01000000 54000000 10000000 10000000 08000000 08000000 05000000 04000000 \
+    93021000 73000000";
+
+/// The flat image of the program.
+const FLAT: &str = "6f000001 000000000000000000000000 93021000 73000000";
+
+/// How a run of either ends.
+const ENDS: &str = "core 0 exit retired 3 pc 00000018\ncore 0 x5 00000001\n";
+
+/// The recording of a run of either.
+const RECORDED: &str =
+    "52545202 01 904e 08 18 6f000001 000000000000000000000000 93021000 73000000 03";
+
+pub static ELF_FILES: [Row; 11] = [
+    given!("run --elf --words 8", PROGRAM, "", ENDS),
+    given!("run --words 8", FLAT, "", ENDS),
+    given!("record --elf --words 8", PROGRAM, RECORDED, ""),
+    given!("record --words 8", FLAT, RECORDED, ""),
+    // The file has 92 bytes, and a memory of 8 words 32. Without the flag it is too long.
+    refused!("run --words 8", PROGRAM, 2, "rtr: input too large\n"),
+    refused!(
+        "run --elf --words 8",
+        CUT_PROGRAM,
+        11,
+        "rtr: not an ELF file\n"
+    ),
+    refused!(
+        "record --elf",
+        OTHER_MACHINE,
+        11,
+        "rtr: ELF header not accepted\n"
+    ),
+    refused!(
+        "run --elf",
+        CUT_SEGMENT,
+        11,
+        "rtr: ELF segment 0 not accepted\n"
+    ),
+    refused!(
+        "run --elf --words 4",
+        PROGRAM,
+        11,
+        "rtr: ELF segment 0 outside memory\n"
+    ),
+    refused!("record --elf", TWICE, 11, "rtr: ELF segment 1 overlaps\n"),
+    refused!(
+        "run --elf",
+        OTHER_ENTRY,
+        11,
+        "rtr: ELF entry not accepted\n"
+    ),
+];
