@@ -6,5 +6,6 @@ pub mod Places
 pub mod Fronts
 pub mod Images
 pub mod Sources
+pub mod Wanting
 pub mod Steps
 pub mod Runs

@@ -1,7 +1,9 @@
 -- A run along the low order, as the code goes it.
-use Rattle.std.proofs.Common.{◌≡◌, ◌∙◌, ℕ, ◌<◌, true, false, List, [], ◌∷◌, ◌++◌, length, sym, ap, subst, arith}
-use Rattle.std.specs.Prelude.{Some, None}
+use Rattle.std.proofs.Common.{◌≡◌, ◌≢◌, ◌∙◌, ℕ, ◌<◌, ◌≤◌, true, false, List, [], ◌∷◌, ◌++◌, length, sym, ap, subst, arith}
+use Rattle.std.specs.Prelude.{Some, None, slice_set}
+use Rattle.rtr_types.specs.declared.TheConstants.{CORES_MAX}
 use Rattle.rtr_types.specs.declared.cut.Cut.{Cut}
+use Rattle.rv_core.specs.declared.core_state.Core.{Core}
 use Rattle.rv_core.specs.declared.outcome.Outcome.{Outcome}
 use Rattle.rv_core.specs.Steps.{is_done}
 use Rattle.replay_core.specs.declared.answers.Advanced.{Advanced}
@@ -9,10 +11,14 @@ use Rattle.replay_core.specs.declared.answers.Advanced.TheVariants as advanced
 use Rattle.replay_core.specs.Plans.{Plan}
 use Rattle.replay_core.specs.Play.{need_at, place, start, first_short}
 use Rattle.replay_core.specs.Orders.{counts_in, Full, is_ready, lowest_ready, low_order}
+use Rattle.replay_core.specs.declared.replay.Wanted.{Wanted}
+use Rattle.replay_core.specs.Wanted.{AreWantedBy, AreWantedByEach}
 use Rattle.replay_core.specs.Answers.{UnderWay, Stays, Advances, Replays, EndsAt, cut_of}
 use Rattle.replay_core.proofs.Low.{left}
+use Rattle.replay_core.proofs.Places.{place_law}
 use Rattle.replay_core.proofs.Ready.{ready_is}
 use Rattle.replay_core.proofs.Steps.{goes}
+use Rattle.replay_core.proofs.Wanting.{put_wanted}
 use Rattle.replay_core.proofs.Fronts.{Going, Chosen, chosen, none_chosen, going_on, less_left, falls_short, replays, ends_at}
 
 module _ (p : Plan) (u : UnderWay) (plan_is : u.plan ≡ p) (order : List ℕ) (going : Going p order u.state) where
@@ -33,6 +39,9 @@ module _ (p : Plan) (u : UnderWay) (plan_is : u.plan ≡ p) (order : List ℕ) (
   module _ (c : ℕ) (some : lowest_ready u.plan (counts_in u.state) ≡ Some c) where
     pub choice : Chosen p order u.state c
     choice = chosen p order u.state c going (ap (λ (q : Plan). lowest_ready q (counts_in u.state)) (sym plan_is) ∙ some)
+
+    pub few_cores : length p.totals ≤ CORES_MAX → c < CORES_MAX
+    few_cores few = let i = choice.ready.inside in omega arith
 
     -- room was made
     module _ (v : UnderWay) (same_plan : v.plan ≡ u.plan) (same_state : v.state ≡ u.state) where
@@ -64,6 +73,19 @@ module _ (p : Plan) (u : UnderWay) (plan_is : u.plan ≡ p) (order : List ℕ) (
 
         pub still_going : Going p (order ++ c ∷ []) w.state
         still_going = going_on p order u.state w.state c going choice gone.0 gone.1
+
+        -- the others' counts are as they were
+        pub other_counts : (i : ℕ) → i ≢ c → counts_in w.state i ≡ counts_in u.state i
+        other_counts i ne = ap (λ (s : Outcome). counts_in s i) gone.1 ∙ ap (λ (k : Core). k.count) ((place_law p u.state c).other_cores i ne)
+
+        -- what the core's next instruction waits for was looked up, and the others wait for what they did
+        pub still_wanted : (list : List Wanted) (wanted : Wanted) → length p.totals ≤ CORES_MAX →
+            AreWantedByEach u.plan (counts_in u.state) (length u.plan.totals) list → AreWantedBy w.plan (counts_in w.state) c wanted →
+            AreWantedByEach w.plan (counts_in w.state) (length w.plan.totals) (slice_set list c wanted)
+        still_wanted list wanted few each new =
+            put_wanted w.plan (counts_in u.state) (counts_in w.state) (length w.plan.totals) (length w.plan.totals) c list wanted
+            (subst (λ (q : Plan). AreWantedByEach q (counts_in u.state) (length q.totals) list) (sym (kept ∙ same_plan)) each) (few_cores few) new
+            (λ i below ne. (below, other_counts i ne))
 
         pub fewer : left w.plan.totals (counts_in w.state) 0 < left u.plan.totals (counts_in u.state) 0
         fewer =

@@ -1,5 +1,6 @@
 pub mod Plans
 pub mod Play
+pub mod Wanted
 pub mod Orders
 pub mod Answers
 pub mod Laws

@@ -1,6 +1,7 @@
-use Rattle.std.proofs.Common.{◌≡◌, ℕ, List}
+use Rattle.std.proofs.Common.{◌≡◌, ℕ, List, length}
 use Rattle.replay_core.specs.Plans.{plan_of}
 use Rattle.replay_core.specs.Orders.{counts_in}
+use Rattle.replay_core.specs.Wanted.{AreWantedByEach}
 use Rattle.replay_core.proofs.Low.{left}
 use Rattle.replay_core.proofs.Fronts.{Going}
 use Rattle.replay_core.proofs.replay.Replay.run.Given as goal
@@ -9,6 +10,7 @@ abbrev pub invariant-loop-core : goal.invariant-loop-core
 invariant-loop-core l = record {
   plan_is : l.replay.plan ≡ plan_of l.fn.which l.recording;
   along : (order : List ℕ) × Going (plan_of l.fn.which l.recording) order l.replay.state;
+  wanted : AreWantedByEach l.replay.plan (counts_in l.replay.state) (length l.replay.plan.totals) l.wanted;
 }
 
 abbrev pub decreases-loop-core : goal.decreases-loop-core
