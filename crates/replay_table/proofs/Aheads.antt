@@ -1,0 +1,73 @@
+-- Cores that are ahead by local instructions.
+use Rattle.std.proofs.Common.{◌≡◌, ℕ, subst, zero, suc, ◌+◌, ◌≤◌, List, [], ◌∷◌, set, sym, refl, ap, ◌∙◌, arith}
+use Rattle.std.specs.Prelude.{slice_index}
+use Rattle.rtr_types.specs.declared.instr.Edge.{Edge}
+use Rattle.rv_core.specs.declared.core_state.Core.{Core}
+use Rattle.rv_core.specs.declared.core_state.Need.TheVariants.{Local}
+use Rattle.rv_core.specs.Steps.{need, after}
+use Rattle.rv_core.proofs.LawLemmas.{count_law, number_law}
+use Rattle.replay_core.specs.Plans.{Plan}
+use Rattle.replay_core.specs.Orders.{Sourced}
+use Rattle.replay_table.specs.declared.view.Own.{Own}
+use Rattle.replay_table.specs.declared.view.View.{View}
+use Rattle.replay_table.specs.Aheads.{Due, Ahead}
+
+-- ---- where it ends
+
+-- at the first instruction that isn't local there is one end
+pub ahead_same : (p : Plan) (f g : ℕ → ℕ) (n m : ℕ) (k a b : Core) → Ahead p f n k a → Ahead p g m k b → (need p.image a ≡ Local → ⊥) → (need p.image b ≡ Local → ⊥) → a ≡ b
+ahead_same p f g zero zero k a b h l na nb = sym h ∙ l
+ahead_same p f g zero (suc m) k a b h l na nb = absurd (na (ap (λ (x : Core). need p.image x) (sym h) ∙ l.1))
+ahead_same p f g (suc n) zero k a b h l na nb = absurd (nb (ap (λ (x : Core). need p.image x) (sym l) ∙ h.1))
+ahead_same p f g (suc n) (suc m) k a b h l na nb = ahead_same p f g n m (after p.image k 0) a b h.2 l.2 na nb
+
+ahead-unique : (p : Plan) (f : ℕ → ℕ) (n : ℕ) (k a b : Core) → Ahead p f n k a → Ahead p f n k b → a ≡ b
+ahead-unique p f zero k a b h l = sym h ∙ l
+ahead-unique p f (suc n) k a b h l = ahead-unique p f n (after p.image k 0) a b h.2 l.2
+
+pub ahead_adds : (p : Plan) (f : ℕ → ℕ) (n : ℕ) (k a : Core) → Ahead p f n k a → a.count ≡ k.count + n
+ahead_adds p f zero k a h = let e = ap (λ (x : Core). x.count) h in omega arith
+ahead_adds p f (suc n) k a h = let e = ahead_adds p f n (after p.image k 0) a h.2 in let b = count_law p.image k 0 in omega arith
+
+pub ahead_equal : (p : Plan) (f : ℕ → ℕ) (n m : ℕ) (k a b : Core) → Ahead p f n k a → Ahead p f m k b → a.count ≡ b.count → a ≡ b
+ahead_equal p f n m k a b h l e =
+    let x = ahead_adds p f n k a h in let y = ahead_adds p f m k b l in let same : m ≡ n = omega arith in
+    ahead-unique p f n k a b h (subst (λ (i : ℕ). Ahead p f i k b) same l)
+
+pub ahead_id : (p : Plan) (f : ℕ → ℕ) (n : ℕ) (k a : Core) → Ahead p f n k a → a.id ≡ k.id
+ahead_id p f zero k a h = ap (λ (x : Core). x.id) (sym h)
+ahead_id p f (suc n) k a h = ahead_id p f n (after p.image k 0) a h.2 ∙ number_law p.image k 0
+
+-- ---- one instruction more, and the rest of the way
+
+pub ahead_one : (p : Plan) (f : ℕ → ℕ) (n : ℕ) (k a : Core) → Ahead p f n k a → Due p f a → need p.image a ≡ Local → Ahead p f (suc n) k (after p.image a 0)
+ahead_one p f zero k a h due is = subst (λ (x : Core). Ahead p f (suc zero) x (after p.image a 0)) (sym h) (due, is, refl)
+ahead_one p f (suc n) k a h due is = (h.0, h.1, ahead_one p f n (after p.image k 0) a h.2 due is)
+
+pub ahead_between : (p : Plan) (f : ℕ → ℕ) (n m : ℕ) (k a b : Core) → Ahead p f n k a → Ahead p f m k b → (need p.image b ≡ Local → ⊥) → (i : ℕ) × Ahead p f i a b
+ahead_between p f zero m k a b h l nb = (m, subst (λ (x : Core). Ahead p f m x b) h l)
+ahead_between p f (suc n) zero k a b h l nb = absurd (nb (ap (λ (x : Core). need p.image x) (sym l) ∙ h.1))
+ahead_between p f (suc n) (suc m) k a b h l nb = ahead_between p f n m (after p.image k 0) a b h.2 l.2 nb
+
+-- ---- by more that was seen
+
+pub sourced_more : (edges : List Edge) (f g : ℕ → ℕ) (c n : ℕ) → ((i : ℕ) → f i ≤ g i) → Sourced edges f c n → Sourced edges g c n
+sourced_more [] f g c n le s = tt
+sourced_more (e ∷ edges) f g c n le s = (λ core count. let a = s.0 core count in let b = le e.from.core in omega arith, sourced_more edges f g c n le s.1)
+
+pub due_more : (p : Plan) (f g : ℕ → ℕ) (k : Core) → ((i : ℕ) → f i ≤ g i) → Due p f k → Due p g k
+due_more p f g k le d = record { below = d.below; sourced = sourced_more p.edges f g k.id (k.count + 1) le d.sourced }
+
+pub ahead_more : (p : Plan) (f g : ℕ → ℕ) (n : ℕ) (k a : Core) → ((i : ℕ) → f i ≤ g i) → Ahead p f n k a → Ahead p g n k a
+ahead_more p f g zero k a le h = h
+ahead_more p f g (suc n) k a le h = (due_more p f g k le h.0, h.1, ahead_more p f g n (after p.image k 0) a le h.2)
+
+pub set_rises : (l : List ℕ) (c found i : ℕ) → slice_index l c ≤ found → slice_index l i ≤ slice_index (set l c found) i
+set_rises [] c found i h = omega arith
+set_rises (x ∷ xs) zero found zero h = h
+set_rises (x ∷ xs) zero found (suc i) h = omega arith
+set_rises (x ∷ xs) (suc c) found zero h = omega arith
+set_rises (x ∷ xs) (suc c) found (suc i) h = set_rises xs c found i h
+
+pub own_same : (v : View) (a b : Own) → v.owned ≡ a ∷ [] → v.owned ≡ b ∷ [] → a ≡ b
+own_same v a b h l = let e : a ∷ [] ≡ b ∷ [] = sym h ∙ l in cc

@@ -1,0 +1,41 @@
+-- What the calls of the table know of the instruction that they retire.
+use Rattle.std.proofs.Common.{◌≡◌, ℕ, true, sym, ap, subst, ◌∙◌}
+use Rattle.std.specs.Prelude.{Some, IsTrue}
+use Rattle.rtr_types.specs.declared.access.Kind.{Kind}
+use Rattle.image_mem.specs.Contents.{Contents}
+use Rattle.rv_core.specs.declared.core_state.Core.{Core}
+use Rattle.rv_core.specs.declared.core_state.Need.{Need}
+use Rattle.rv_core.specs.Steps.{need, access_of, after, wrote}
+use Rattle.replay_core.specs.Play.{Use, use_of}
+use Rattle.replay_table.specs.Accesses.{Loads, Stores, Changes, is_load, is_change, is_writing, is_whole, word_of, word_by}
+use Rattle.replay_table.specs.Seats.{Past, Notes}
+use Rattle.replay_table.proofs.Ties.{load_is, change_is, write_is}
+
+-- the access that the code found is the need's
+pub record Found (image : Contents) (k : Core) (used : Use) (word : ℕ) : Type 0 where
+  pub used_is : used ≡ use_of (need image k)
+  pub word_is : word_of (need image k) ≡ word
+
+pub found : (own image : Contents) (l k : Core) (n : Need) (used : Use) (kind : Kind) (word : ℕ) → own ≡ image → l ≡ k → n ≡ need own l → used ≡ access_of n → used ≡ Some (kind, word) → Found image k used word
+found own image l k n used kind word same at is used_is some_ =
+    let e : used ≡ use_of (need image k) = used_is ∙ ap access_of is ∙ ap (λ (x : Contents). access_of (need x l)) same ∙ ap (λ (x : Core). access_of (need image x)) at in
+    record { used_is = e; word_is = ap word_by (sym e ∙ some_) }
+
+pub loads_found : (image : Contents) (k : Core) (used : Use) (word : ℕ) → Found image k used word → IsTrue (is_load (need image k)) → Loads (need image k) word
+loads_found image k used word f t = subst (λ (w : ℕ). Loads (need image k) w) f.word_is (load_is (need image k) t)
+
+pub changes_found : (image : Contents) (k : Core) (used : Use) (word : ℕ) → Found image k used word → IsTrue (is_change (need image k)) → Changes (need image k) word
+changes_found image k used word f t = subst (λ (w : ℕ). Changes (need image k) w) f.word_is (change_is (need image k) t)
+
+pub stores_found : (image : Contents) (k : Core) (used : Use) (word : ℕ) → Found image k used word → IsTrue (is_writing (need image k)) → IsTrue (is_whole (need image k)) → Stores (need image k) word
+stores_found image k used word f t w = subst (λ (x : ℕ). Stores (need image k) x) f.word_is (write_is (need image k) true t w)
+
+-- the core and the value that the code made
+pub after_is : (own image : Contents) (l k m : Core) (old : ℕ) → own ≡ image → l ≡ k → m ≡ after own l old → m ≡ after image k old
+after_is own image l k m old same at is = is ∙ ap (λ (x : Contents). after x l old) same ∙ ap (λ (x : Core). after image x old) at
+
+pub wrote_is : (own image : Contents) (l k : Core) (value old : ℕ) → own ≡ image → l ≡ k → value ≡ wrote own l old → value ≡ wrote image k old
+wrote_is own image l k value old same at is = is ∙ ap (λ (x : Contents). wrote x l old) same ∙ ap (λ (x : Core). wrote image x old) at
+
+pub notes_is : (image : Contents) (past new : Past) (k next : Core) (used : Use) (old : ℕ) → next ≡ after image k old → used ≡ use_of (need image k) → Notes past next used old new → Notes past (after image k old) (use_of (need image k)) old new
+notes_is image past new k next used old core used_is h = subst (λ (u : Use). Notes past (after image k old) u old new) used_is (subst (λ (x : Core). Notes past x used old new) core h)

@@ -1,0 +1,119 @@
+//! What a core has done.
+ghost use Rattle.std.specs.Prelude.{◌≡◌, [], IsTrue, OnOk};
+ghost use Rattle.replay_table.specs.Seats.{Notes};
+
+use replay_audit::Touch;
+use rtr_types::{Instr, Kind};
+use rv_core::{Core, LoadNote};
+use std::alloc::{AllocError, Global};
+use std::marker::Model;
+
+/// A core, what its loads got, and its accesses, oldest first. Contracts see these, and whether there
+/// is room for one access more.
+#[derive(Drop)]
+pub(crate) struct Past {
+    core: Core,
+    loads: Vec<LoadNote>,
+    touched: Vec<Touch>,
+}
+
+impl Model for Past {
+    ghost use Rattle.std.specs.Prelude.{◌&&◌, length, nat_lt, vec_capacity};
+    ghost use Rattle.replay_table.specs.Seats.{Past as SeenPast};
+
+    ghost Value = { SeenPast };
+
+    ghost view = { λ a. record {
+      core = a.core;
+      loads = a.loads.items;
+      touched = a.touched.items;
+      roomy =
+          nat_lt (length a.loads.items) (vec_capacity a.loads)
+          && nat_lt (length a.touched.items) (vec_capacity a.touched);
+    } };
+}
+
+impl Past {
+    /// A core that has done nothing.
+    pub(crate) fn new(alloc: Global, core: Core) -> Past
+        ensures core { result.core ≡ core }
+        ensures loads { result.loads ≡ [] }
+        ensures touched { result.touched ≡ [] }
+    {
+        Past {
+            core,
+            loads: Vec::new(alloc),
+            touched: Vec::new(alloc),
+        }
+    }
+
+    /// The core.
+    pub(crate) fn core(&self) -> &Core
+        ensures { result.now ≡ self.now.core }
+    {
+        &self.core
+    }
+
+    /// Whether there is room for one access more.
+    pub(crate) fn has_room(&self) -> bool
+        ensures { result ≡ self.now.roomy }
+    {
+        self.loads.len() < self.loads.capacity() && self.touched.len() < self.touched.capacity()
+    }
+
+    /// Makes room for one access more. After want of memory the past is as it was.
+    pub(crate) fn make_room(&mut self) -> Result<(), AllocError>
+        ensures core { self.new.core ≡ self.old.core }
+        ensures loads { self.new.loads ≡ self.old.loads }
+        ensures touched { self.new.touched ≡ self.old.touched }
+        ensures room { OnOk result (IsTrue self.new.roomy) }
+    {
+        self.loads.reserve(1)?;
+        self.touched.reserve(1)
+    }
+
+    /// The core has retired a local instruction.
+    pub(crate) fn go_on(&mut self, next: Core)
+        ensures core { self.new.core ≡ next }
+        ensures loads { self.new.loads ≡ self.old.loads }
+        ensures touched { self.new.touched ≡ self.old.touched }
+        ensures room { self.new.roomy ≡ self.old.roomy }
+    {
+        self.core = next;
+    }
+
+    /// The core has retired an access, which found a value.
+    pub(crate) fn note(&mut self, next: Core, used: Option<(Kind, u32)>, value: u32)
+        requires { IsTrue self.old.roomy }
+        ensures { Notes self.old next used value self.new }
+    {
+        self.core = next;
+        let Some((kind, word)) = used else { return };
+        let at = Instr {
+            core: next.id(),
+            count: next.count(),
+        };
+        if kind.is_read() {
+            self.loads.push_reserved(LoadNote {
+                count: at.count,
+                word,
+                value,
+            });
+        }
+        self.touched.push_reserved(Touch { at, word, kind });
+    }
+
+    /// The parts.
+    pub(crate) fn into_parts(self) -> (Core, Vec<LoadNote>, Vec<Touch>)
+        ensures core { result.0 ≡ self.core }
+        ensures loads { result.1.items ≡ self.loads }
+        ensures touched { result.2.items ≡ self.touched }
+    {
+        let Past {
+            core,
+            loads,
+            touched,
+        } = self;
+        (core, loads, touched)
+    }
+}
