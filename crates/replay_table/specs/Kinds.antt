@@ -45,7 +45,7 @@ pub record LoadsWord (p : Plan) (v : View) (word found : ℕ) (w : View) : Type 
   pub next : Next p v own at
   pub access : Loads (need p.image at) word
   pub fits : found < 2 ^ 32
-  pub reached : Reached p (retired p own at found)
+  pub reached : Reached p (seen_of v) (retired p own at found)
   pub view : w ≡ alone_with (retired p own at found) v
 
 -- 3: a word was loaded to be held
@@ -64,6 +64,7 @@ pub record StoresWord (p : Plan) (v : View) (word new : ℕ) (w : View) : Type 0
   pub next : Next p v own at
   pub access : Stores (need p.image at) word
   pub new_is : new ≡ wrote p.image at 0
+  pub reached : Reached p (seen_of v) (retired p own at 0)
   pub view : w ≡ alone_with (retired p own at 0) v
 
 -- the view after a compare-exchange of the held word: it has retired the access, or has failed once more
@@ -84,7 +85,7 @@ pub record ExchangesWord (p : Plan) (v : View) (word old new found : ℕ) (w : V
   pub new_is : new ≡ wrote p.image at old
   pub fits : found < 2 ^ 32
   pub sure : LowDecides p → found ≡ old
-  pub reached : found ≡ old → Reached p (retired p own at old)
+  pub reached : found ≡ old → Reached p (seen_of v) (retired p own at old)
   pub view : w ≡ exchanged p v own at old found
 
 -- 6: a count was published
@@ -97,6 +98,7 @@ pub record PublishesCount (p : Plan) (v : View) (word new : ℕ) (w : View) : Ty
   pub most : at.count ≤ slice_index p.totals at.id
   pub word_is : word ≡ p.image.words + at.id
   pub new_is : new ≡ at.count
+  pub reached : Reached p (seen_of v) (record own { core = at; published = new })
   pub view : w ≡ alone_with (record own { core = at; published = new }) v
 
 -- 7: the first core of a view goes to a new one, before any of them has executed an instruction

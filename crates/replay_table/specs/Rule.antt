@@ -53,12 +53,13 @@ pub record OrderStands (p : Plan) (words : List ℕ) (views : List View) (order 
   pub cores : (id k : ℕ) (o : Own) → Owns views id k o → Agrees p order o
   pub memory : (w : ℕ) → w < p.image.words → slice_index words w ≡ slice_index (played p order).words w
 
--- some replay order plays, and leaves this core as it is here
-pub record Reached (p : Plan) (o : Own) : Type 0 where
+-- some replay order plays, leaves this core as it is here, and has of each core the instructions that were seen of it
+pub record Reached (p : Plan) (f : ℕ → ℕ) (o : Own) : Type 0 where
   pub order : List ℕ
   pub ordered : IsReplayOrder p order
   pub plays : Plays p (start p) order
   pub agrees : Agrees p order o
+  pub seen : (i : ℕ) → f i ≤ counts nought order i
 
 -- ---- a word is held
 

@@ -85,6 +85,7 @@ pub record Tied (p : Plan) (past : Past) (sees : List ℕ) (holds : Option ℕ) 
   pub touched_is : past.touched ≡ own.touched
   pub sees_is : v.seen ≡ sees
   pub holds_is : v.held ≡ holds
+  pub all_polls : length v.polls ≡ length p.totals
   pub wide : length sees ≡ length p.totals
   pub inside : past.core.id < length p.totals
   pub within : past.core.count ≤ slice_index p.totals past.core.id

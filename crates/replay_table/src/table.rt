@@ -1,5 +1,5 @@
 //! The table, and the calls that seats make on it.
-ghost use Rattle.std.specs.Prelude.{◌≡◌, ◌<◌, ◌≤◌, ◌+◌, ℕ, [], length, false, IfOk, IsSome, IsTrue, Ok, Some};
+ghost use Rattle.std.specs.Prelude.{◌≡◌, ◌<◌, ◌≤◌, ◌+◌, ℕ, [], length, false, IfOk, IsSome, IsTrue, Ok, Some, slice_index};
 ghost use Rattle.log_codec.specs.Validity.{Valid};
 ghost use Rattle.rv_core.specs.declared.core_state.Need.TheVariants.{Local};
 ghost use Rattle.rv_core.specs.Needs.{is_reading, is_writing};
@@ -127,6 +127,7 @@ impl<'a, J: Job> ReplayTable<'a, J> {
         ensures touched { seat.new.touched ≡ seat.old.touched }
         ensures room { seat.new.roomy ≡ seat.old.roomy }
         ensures least { seen_of seat.old.view core ≤ result }
+        ensures polls { slice_index seat.new.view.polls core ≡ slice_index seat.old.view.polls core + 1 }
         ensures step { SeesDone (plan_of J.which J.recording) seat.old.view (J.recording.params.words + core) result seat.new.view }
     {
         let word = self.recording.params.words as usize + core as usize;
