@@ -1,13 +1,15 @@
 -- What the calls of the table know of the instruction that they retire.
-use Rattle.std.proofs.Common.{◌≡◌, ℕ, true, sym, ap, subst, ◌∙◌}
-use Rattle.std.specs.Prelude.{Some, IsTrue}
+use Rattle.std.proofs.Common.{◌≡◌, ℕ, true, false, sym, ap, subst, ◌∙◌}
+use Rattle.std.specs.Prelude.{Option, Some, IsTrue}
 use Rattle.rtr_types.specs.declared.access.Kind.{Kind}
 use Rattle.image_mem.specs.Contents.{Contents}
+use Rattle.rv_decode.specs.declared.op.Op.{Op}
 use Rattle.rv_core.specs.declared.core_state.Core.{Core}
 use Rattle.rv_core.specs.declared.core_state.Need.{Need}
-use Rattle.rv_core.specs.Steps.{need, access_of, after, wrote}
+use Rattle.rv_core.specs.Needs.{is_writing}
+use Rattle.rv_core.specs.Steps.{need, access_of, after, wrote, is_done, is_whole, instruction_at}
 use Rattle.replay_core.specs.Play.{Use, use_of}
-use Rattle.replay_table.specs.Accesses.{Loads, Stores, Changes, is_load, is_change, is_writing, is_whole, word_of, word_by}
+use Rattle.replay_table.specs.Accesses.{Loads, Stores, Changes, is_load, is_change, word_of, word_by}
 use Rattle.replay_table.specs.Seats.{Past, Notes}
 use Rattle.replay_table.proofs.Ties.{load_is, change_is, write_is}
 
@@ -16,9 +18,9 @@ pub record Found (image : Contents) (k : Core) (used : Use) (word : ℕ) : Type 
   pub used_is : used ≡ use_of (need image k)
   pub word_is : word_of (need image k) ≡ word
 
-pub found : (own image : Contents) (l k : Core) (n : Need) (used : Use) (kind : Kind) (word : ℕ) → own ≡ image → l ≡ k → n ≡ need own l → used ≡ access_of n → used ≡ Some (kind, word) → Found image k used word
-found own image l k n used kind word same at is used_is some_ =
-    let e : used ≡ use_of (need image k) = used_is ∙ ap access_of is ∙ ap (λ (x : Contents). access_of (need x l)) same ∙ ap (λ (x : Core). access_of (need image x)) at in
+pub found : (image : Contents) (k : Core) (n : Need) (used : Use) (kind : Kind) (word : ℕ) → n ≡ need image k → used ≡ access_of n → used ≡ Some (kind, word) → Found image k used word
+found image k n used kind word is used_is some_ =
+    let e : used ≡ use_of (need image k) = used_is ∙ ap access_of is in
     record { used_is = e; word_is = ap word_by (sym e ∙ some_) }
 
 pub loads_found : (image : Contents) (k : Core) (used : Use) (word : ℕ) → Found image k used word → IsTrue (is_load (need image k)) → Loads (need image k) word
@@ -39,3 +41,10 @@ wrote_is own image l k value old same at is = is ∙ ap (λ (x : Contents). wrot
 
 pub notes_is : (image : Contents) (past new : Past) (k next : Core) (used : Use) (old : ℕ) → next ≡ after image k old → used ≡ use_of (need image k) → Notes past next used old new → Notes past (after image k old) (use_of (need image k)) old new
 notes_is image past new k next used old core used_is h = subst (λ (u : Use). Notes past (after image k old) u old new) used_is (subst (λ (x : Core). Notes past x used old new) core h)
+
+-- the code may retire the instruction
+pub can_finish : (own image : Contents) (l k : Core) (op : Option Op) → own ≡ image → l ≡ k → op ≡ instruction_at image k.pc → is_done (need image k) ≡ false
+    → (is_done (need own l) ≡ false) × (op ≡ instruction_at own l.pc)
+can_finish own image l k op same at is more =
+    subst (λ (x : Core). (is_done (need own x) ≡ false) × (op ≡ instruction_at own x.pc)) (sym at)
+    (subst (λ (x : Contents). (is_done (need x k) ≡ false) × (op ≡ instruction_at x k.pc)) (sym same) (more, is))

@@ -24,7 +24,7 @@ use Rattle.replay_table.specs.declared.view.View.{View}
 use Rattle.replay_table.specs.Accesses.{touches_by}
 use Rattle.replay_table.specs.Rule.{Agrees, TableRule}
 use Rattle.replay_table.specs.Kinds.{both}
-use Rattle.replay_table.specs.Seats.{Sitting, AllAt, Finished, Has, Gathered, Adds, Taken, Ended, IsEnd}
+use Rattle.replay_table.specs.Seats.{Sitting, AllAt, AllEnded, Finished, Has, Gathered, Adds, Taken, Ended, IsEnd}
 use Rattle.replay_table.proofs.Moves.{at_later}
 use Rattle.replay_table.proofs.Starts.{get_end}
 use Rattle.replay_table.proofs.Openings.{index_before, index_end}
@@ -104,6 +104,16 @@ gather_done v0 v xs0 xs e kept joined = record {
   kept = kept;
   each = λ k x o is ow. ⊎_elim (λ t. absurd (get-none x k (subst (λ (l : List Sitting). slice_get l k ≡ Some x) e t))) (λ t. t) (joined k x o is ow);
 }
+
+-- a seat that is left has ended as all have
+pub gather_ended : (p : Plan) (xs rest : List Sitting) (y : Sitting) → xs ≡ rest ++ y ∷ [] → AllEnded p xs → (y.core.count ≡ slice_index p.totals y.core.id) × AllEnded p rest
+gather_ended p xs rest y e all = (
+  all (length rest) y (subst (λ (l : List Sitting). slice_get l (length rest) ≡ Some y) (sym e) (get-last rest y)),
+  λ k x h. all k x (subst (λ (l : List Sitting). slice_get l k ≡ Some x) (sym e) (get-longer rest y x k h)),
+)
+
+pub all_ended : (p : Plan) (table : TableId) (seats : List Sitting) → Finished p table seats → AllEnded p seats
+all_ended p table seats f k x h = f.totals k x h ∙ ap (λ (i : ℕ). slice_index p.totals i) (sym (f.ids k x h))
 
 pub none_left : {A : Type 0} (xs : List A) → length xs ≡ 0 → xs ≡ []
 none_left [] e = refl
@@ -200,9 +210,11 @@ end_is p table seats rest last v words id s e f split g h at is parts wide same 
     let wide' = length-map-range_with_len accesses 0 (length p.totals) in
     record {
       order = order;
-      ordered = st.ordered;
-      plays = st.plays;
-      whole = record { each = λ c lt. let x = get-some seats c (omega arith) in (ends c x.0 x.1).count ∙ f.totals c x.0 x.1 };
+      play = record {
+        ordered = st.ordered;
+        plays = st.plays;
+        whole = record { each = λ c lt. let x = get-some seats c (omega arith) in (ends c x.0 x.1).count ∙ f.totals c x.0 x.1 };
+      };
       outcome = same-outcome e.outcome (played p order)
           (parts.cores ∙ parts-same (λ (x : Sitting). x.core) seats (played p order).cores (starting 0 0) (n ∙ sym known.all_cores) (λ k x has. (ends k x has).core))
           (same-list e.outcome.words (played p order).words 0 (wide ∙ sym known.all_words) (λ i lt. let below : i < p.image.words = omega arith in same i below ∙ ap (λ (l : List ℕ). slice_index l i) (sym is) ∙ st.memory i below))

@@ -1,5 +1,5 @@
 -- An order that goes on from another with places of one core.
-use Rattle.std.proofs.Common.{◌≡◌, ◌≢◌, ℕ, subst, zero, suc, ◌+◌, ◌<◌, ◌≤◌, false, List, [], ◌∷◌, ◌++◌, length, replicate, sym, refl, ap, ◌∙◌, arith, get_or-set_same, append_assoc, append-nil}
+use Rattle.std.proofs.Common.{◌≡◌, ◌≢◌, ℕ, subst, zero, suc, ◌+◌, ◌<◌, ◌≤◌, false, List, [], ◌∷◌, ◌++◌, length, replicate, sym, refl, ap, ◌∙◌, arith, append_assoc, append-nil}
 use Rattle.std.specs.Prelude.{slice_index}
 use Rattle.rtr_types.specs.declared.access.Access.{Access}
 use Rattle.rv_core.specs.declared.core_state.Core.{Core}
@@ -19,7 +19,7 @@ use Rattle.replay_table.specs.Accesses.{touched_after, touches_by}
 use Rattle.replay_table.specs.Aheads.{Due, Ahead}
 use Rattle.replay_table.specs.Kinds.{retired}
 use Rattle.replay_table.proofs.Uses.{touches_on, touches_here, touches_else}
-use Rattle.replay_table.proofs.Aheads.{sourced_more}
+use Rattle.replay_table.proofs.Aheads.{ahead_rest, sourced_more}
 
 -- what the play of an order leaves of a core
 pub record Leaves (p : Plan) (order : List ℕ) (i : ℕ) (k : Core) (notes : List LoadNote) (ts : List Touch) : Type 0 where
@@ -44,21 +44,15 @@ pub record Reach (p : Plan) (c : ℕ) (before order : List ℕ) (o : Own) (memor
 one-place : (p : Plan) (order : List ℕ) (c : ℕ) → played p (order ++ c ∷ []) ≡ place p (played p order) c
 one-place p order c = play_on p (start p) order (c ∷ [])
 
-place-loads : (p : Plan) (s : Outcome) (c : ℕ) → c < length s.loads → loads_at (place p s c) c ≡ loads_after (use_of (need_at p s c)) (loads_at s c) ((core_at s c).count + 1) (old_at p s c)
-unfolding place
-place-loads p s c below = get_or-set_same s.loads c _ [] below
-
-place-words : (p : Plan) (s : Outcome) (c : ℕ) → (place p s c).words ≡ words_after (use_of (need_at p s c)) s.words (new_at p s c)
-unfolding place
-place-words p s c = refl
-
 touched-here : (p : Plan) (s : Outcome) (c : ℕ) (ts : List Touch) → ts ++ touches_by c (touched_at p s c) ≡ touched_after (use_of (need_at p s c)) ts c ((core_at s c).count + 1)
-unfolding touched_at
-touched-here p s c ts = touches_here (use_of (need_at p s c)) ts c ((core_at s c).count + 1) (old_at p s c) (new_at p s c)
+touched-here p s c ts =
+    ap (λ (l : List Access). ts ++ touches_by c l) (place_law p s c).access
+    ∙ touches_here (use_of (need_at p s c)) ts c ((core_at s c).count + 1) (old_at p s c) (new_at p s c)
 
 touched-else : (p : Plan) (s : Outcome) (c i : ℕ) → i ≢ c → touches_by i (touched_at p s c) ≡ []
-unfolding touched_at
-touched-else p s c i ne = touches_else (use_of (need_at p s c)) c i ((core_at s c).count + 1) (old_at p s c) (new_at p s c) ne
+touched-else p s c i ne =
+    ap (λ (l : List Access). touches_by i l) (place_law p s c).access
+    ∙ touches_else (use_of (need_at p s c)) c i ((core_at s c).count + 1) (old_at p s c) (new_at p s c) ne
 
 one-access : (p : Plan) (order : List ℕ) (c i : ℕ) → touches_by i (accesses_of p (order ++ c ∷ [])) ≡ touches_by i (accesses_of p order) ++ touches_by i (touched_at p (played p order) c)
 one-access p order c i =
@@ -105,10 +99,10 @@ reach_one p c before order o words f h inside due go le =
       plays = plays_join p (start p) order (c ∷ []) h.plays (rw at go, tt);
       leaves = record {
         core = ap (λ (x : Outcome). core_at x c) one ∙ law.core c1 ∙ rw (at, h.words) refl;
-        loads = ap (λ (x : Outcome). loads_at x c) one ∙ place-loads p s c c2 ∙ rw (at, h.words, h.leaves.loads) refl;
+        loads = ap (λ (x : Outcome). loads_at x c) one ∙ law.loads c2 ∙ rw (at, h.words, h.leaves.loads) refl;
         touched = one-access p order c c ∙ ap (λ (l : List Touch). l ++ touches_by c (touched_at p s c)) h.leaves.touched ∙ touched-here p s c o.touched ∙ rw (at, ← id) refl;
       };
-      words = ap (λ (x : Outcome). x.words) one ∙ place-words p s c ∙ rw (at, h.words) refl;
+      words = ap (λ (x : Outcome). x.words) one ∙ law.words ∙ rw (at, h.words) refl;
       others = λ i ne. let was = h.others i ne in record {
         core = ap (λ (x : Outcome). core_at x i) one ∙ law.other_cores i ne ∙ was.core;
         loads = ap (λ (x : Outcome). loads_at x i) one ∙ law.other_loads i ne ∙ was.loads;
@@ -144,7 +138,7 @@ reach_locals p c before zero order o at words f h inside ahead le =
 reach_locals p c before (suc n) order o at words f h inside ahead le =
     let one = reach-local p c before order o words f h inside ahead.0 ahead.1 le in
     let e : (order ++ c ∷ []) ++ replicate n c ≡ order ++ replicate (suc n) c = append_assoc order (c ∷ []) (replicate n c) in
-    let rest = reach_locals p c before n (order ++ c ∷ []) (moved_to o (after p.image o.core 0)) at words f one inside ahead.2 (more_counts order c f le) in (
+    let rest = reach_locals p c before n (order ++ c ∷ []) (moved_to o (after p.image o.core 0)) at words f one inside (ahead_rest p f n o.core at ahead) (more_counts order c f le) in (
       subst (λ (l : List ℕ). Reach p c before l (moved_to o at) words) e rest.0,
       subst (λ (l : List ℕ). (i : ℕ) → f i ≤ counts nought l i) e rest.1,
     )

@@ -10,10 +10,11 @@ use Rattle.rv_core.specs.Steps.{need, wrote}
 use Rattle.replay_core.specs.Plans.{Plan}
 use Rattle.replay_core.specs.Play.{Use, use_of, old_for, words_after, core_at, loads_at, played, accesses_of}
 use Rattle.replay_core.specs.Orders.{counts, nought, IsReplayOrder}
+use Rattle.replay_core.proofs.Counts.{counts_on, counts_more}
 use Rattle.replay_core.proofs.Places.{play_law}
 use Rattle.replay_table.specs.declared.view.Own.{Own}
 use Rattle.replay_table.specs.declared.view.View.{View}
-use Rattle.replay_table.specs.Accesses.{Accesses, Changes, touches_by, Loads}
+use Rattle.replay_table.specs.Accesses.{Accesses, Changes, Loads, Stores, touches_by}
 use Rattle.replay_table.specs.Aheads.{Ahead}
 use Rattle.replay_table.specs.Rule.{Owns, seen_of, Agrees, OrderStands, Next, Reached}
 use Rattle.replay_table.specs.Kinds.{retired, alone_with, exchanged}
@@ -126,13 +127,25 @@ pub load_law : LoadLaw
 load_law p s id v w order word h step =
     loaded_stands p s id v w order word step.own step.at h step.next step.access (owned-of v w (retired p step.own step.at (slice_index s.words word)) step.view)
 
--- so an order plays to the load
+-- so an order plays to what the view owns afterwards, and has what was seen
+pub reached_by : (p : Plan) (s : State ℕ View) (id : ℕ) (v w : View) (words' order more : List ℕ) (o' : Own) → At p s id v order → w.owned ≡ o' ∷ [] → OrderStands p words' (set s.views id w) (order ++ more)
+    → Reached p (seen_of v) o'
+reached_by p s id v w words' order more o' h own' st = record {
+  order = order ++ more;
+  ordered = st.ordered;
+  plays = st.plays;
+  agrees = st.cores id 0 o' (owns_here s.views id v w o' h.view own');
+  seen = λ i.
+      let a = seen_counts p s id v order h i in
+      let b : counts nought (order ++ more) i ≡ counts (counts nought order) more i = ap (λ (g : ℕ → ℕ). g i) (counts_on nought order more) in
+      let d = counts_more (counts nought order) more i in
+      omega arith;
+}
+
 pub load_reached : (p : Plan) (s : State ℕ View) (id : ℕ) (v w : View) (order : List ℕ) (word : ℕ) (o : Own) (at : Core) → At p s id v order → (n : Next p v o at) → Loads (need p.image at) word → w.owned ≡ retired p o at (slice_index s.words word) ∷ []
-    → Reached p (retired p o at (slice_index s.words word))
+    → Reached p (seen_of v) (retired p o at (slice_index s.words word))
 load_reached p s id v w order word o at h n a own' =
-    let o' : Own = retired p o at (slice_index s.words word) in
-    let st = loaded_stands p s id v w order word o at h n a own' in
-    record { order = order ++ piece o n.locals; ordered = st.ordered; plays = st.plays; agrees = st.cores id 0 o' (owns_here s.views id v w o' h.view own') }
+    reached_by p s id v w s.words order (piece o n.locals) (retired p o at (slice_index s.words word)) h own' (loaded_stands p s id v w order word o at h n a own')
 
 -- the memory after a word was written
 pub written_same : (p : Plan) (s : State ℕ View) (id : ℕ) (v : View) (order : List ℕ) (at : Core) (word new value : ℕ) (whole : Bool) → At p s id v order → Accesses (need p.image at) word true whole → new ≡ value
@@ -144,16 +157,21 @@ written_same p s id v order at word new value whole h a is i lt =
     index_both s.words (played p order).words word i new value is (omega arith) (omega arith) (h.stands.memory i lt)
     ∙ ap (λ (l : List ℕ). slice_index l i) (sym (words_written (need p.image at) word whole (played p order).words value a))
 
+-- a store of a whole word
+pub stored_stands : (p : Plan) (s : State ℕ View) (id : ℕ) (v w : View) (order : List ℕ) (word new : ℕ) (o : Own) (at : Core) → At p s id v order
+    → (n : Next p v o at) → Stores (need p.image at) word → new ≡ wrote p.image at 0 → w.owned ≡ retired p o at 0 ∷ []
+    → OrderStands p (set s.words word new) (set s.views id w) (order ++ piece o n.locals)
+stored_stands p s id v w order word new o at h n a new_is own' =
+    let found = slice_index s.words word in
+    stands_step p s id v w o (retired p o at 0) order (order ++ piece o n.locals)
+    (words_after (use_of (need p.image at)) (played p order).words (wrote p.image at found)) (set s.words word new) h n.owned own'
+    (subst (λ (x : Own). Reach p o.core.id order (order ++ piece o n.locals) x (words_after (use_of (need p.image at)) (played p order).words (wrote p.image at found)))
+    (whole_retired p o at word found 0 a) (reach_next p s id v order o at word true true h n a))
+    (written_same p s id v order at word new (wrote p.image at found) true h a (new_is ∙ whole_wrote p.image at word 0 found a))
+
 pub store_law : StoreLaw
 store_law p s id v w order word new h step =
-    let a = step.access in
-    let found = slice_index s.words word in
-    stands_step p s id v w step.own (retired p step.own step.at 0) order (order ++ piece step.own step.next.locals)
-    (words_after (use_of (need p.image step.at)) (played p order).words (wrote p.image step.at found)) (set s.words word new) h step.next.owned
-    (owned-of v w (retired p step.own step.at 0) step.view)
-    (subst (λ (x : Own). Reach p step.own.core.id order (order ++ piece step.own step.next.locals) x (words_after (use_of (need p.image step.at)) (played p order).words (wrote p.image step.at found)))
-    (whole_retired p step.own step.at word found 0 a) (reach_next p s id v order step.own step.at word true true h step.next a))
-    (written_same p s id v order step.at word new (wrote p.image step.at found) true h a (step.new_is ∙ whole_wrote p.image step.at word 0 found a))
+    stored_stands p s id v w order word new step.own step.at h step.next step.access step.new_is (owned-of v w (retired p step.own step.at 0) step.view)
 
 -- an exchange of the word that is there
 pub changed_stands : (p : Plan) (s : State ℕ View) (id : ℕ) (v w : View) (order : List ℕ) (word old new : ℕ) (o : Own) (at : Core) → At p s id v order → slice_index s.words word ≡ old
@@ -166,13 +184,19 @@ changed_stands p s id v w order word old new o at h was n a new_is own' =
     (reach_next p s id v order o at word true false h n a))
     (written_same p s id v order at word new (wrote p.image at old) false h a new_is)
 
+-- a publication
+pub published_stands : (p : Plan) (s : State ℕ View) (id : ℕ) (v w : View) (order : List ℕ) (word new n : ℕ) (o : Own) (at : Core) → At p s id v order
+    → v.owned ≡ o ∷ [] → Ahead p (seen_of v) n o.core at → word ≡ p.image.words + at.id → w.owned ≡ record o { core = at; published = new } ∷ []
+    → OrderStands p (set s.words word new) (set s.views id w) (order ++ local_piece o n)
+published_stands p s id v w order word new n o at h own ahead word_is own' =
+    stands_step p s id v w o (record o { core = at; published = new }) order (order ++ local_piece o n) (played p order).words (set s.words word new) h own own'
+    (let m = reach_piece p s id v order o at n h own ahead in
+    record { ordered = m.ordered; plays = m.plays; leaves = record { core = m.leaves.core; loads = m.leaves.loads; touched = m.leaves.touched }; words = m.words; others = m.others })
+    (λ i lt. index_set_else s.words word i new (λ q. omega arith) ∙ h.stands.memory i lt)
+
 pub publish_law : PublishLaw
 publish_law p s id v w order word new h step =
-    stands_step p s id v w step.own (record step.own { core = step.at; published = new }) order (order ++ local_piece step.own step.locals) (played p order).words (set s.words word new) h step.owned
-    (owned-of v w (record step.own { core = step.at; published = new }) step.view)
-    (let m = reach_piece p s id v order step.own step.at step.locals h step.owned step.ahead in
-    record { ordered = m.ordered; plays = m.plays; leaves = record { core = m.leaves.core; loads = m.leaves.loads; touched = m.leaves.touched }; words = m.words; others = m.others })
-    (λ i lt. let e = step.word_is in index_set_else s.words word i new (λ q. omega arith) ∙ h.stands.memory i lt)
+    published_stands p s id v w order word new step.locals step.own step.at h step.owned step.ahead step.word_is (owned-of v w (record step.own { core = step.at; published = new }) step.view)
 
 -- a step that changes neither words nor what is owned
 pub stands_still : (p : Plan) (s : State ℕ View) (id : ℕ) (v w : View) (order : List ℕ) → At p s id v order → w.owned ≡ v.owned → OrderStands p s.words (set s.views id w) order

@@ -12,11 +12,12 @@ use Rattle.rv_core.specs.States.{starting}
 use Rattle.rv_core.proofs.LawLemmas.{start_law}
 use Rattle.replay_core.specs.Plans.{Plan}
 use Rattle.replay_core.specs.Play.{start, core_at}
+use Rattle.replay_core.proofs.Places.{play_start_law}
 use Rattle.replay_table.specs.declared.view.Own.{Own}
 use Rattle.replay_table.specs.declared.view.View.{View}
-use Rattle.replay_table.specs.Rule.{Owns, Agrees, seen_of, TableRule}
+use Rattle.replay_table.specs.Rule.{Owns, Agrees, seen_of, IsRecorded, TableRule}
 use Rattle.replay_table.specs.Seats.{Opening, Past, Tied}
-use Rattle.replay_table.specs.Kinds.{first_alone, own_from, first_own, first_view, rest_view}
+use Rattle.replay_table.specs.Kinds.{without_first, first_alone, own_from, first_own, first_view, rest_view, SplitsView}
 
 zeros : (n i : ℕ) → slice_index (replicate n 0) i ≡ 0
 zeros zero i = refl
@@ -36,19 +37,11 @@ own-has p c zero k h = absurd (omega arith)
 own-has p c (suc n) zero h = let q : c ≡ c + 0 = omega arith in ap (λ (i : ℕ). some (first_own p i)) q
 own-has p c (suc n) (suc k) h = let q : (c + 1) + k ≡ c + suc k = omega arith in own-has p (c + 1) n k (omega arith) ∙ ap (λ (i : ℕ). some (first_own p i)) q
 
-empty-at : (n k : ℕ) → slice_index_or {A = List LoadNote} (replicate n []) k [] ≡ []
-empty-at zero k = refl
-empty-at (suc n) zero = refl
-empty-at (suc n) (suc k) = empty-at n k
-
-start-core : (p : Plan) (c : ℕ) → c < length p.totals → core_at (start p) c ≡ starting c p.limit
-start-core p c below = get_or-map-range_with_len (λ i. starting i p.limit) 0 (length p.totals) c c (starting 0 0) below (omega arith)
-
 agrees-first : (p : Plan) (k : ℕ) → k < length p.totals → Agrees p [] (first_own p k)
 agrees-first p k h = let id = first-id p k in record {
   count = sym (start_law k p.limit).2;
-  core = ap (λ (i : ℕ). core_at (start p) i) id ∙ start-core p k h;
-  loads = empty-at (length p.totals) (first_own p k).core.id;
+  core = ap (λ (i : ℕ). core_at (start p) i) id ∙ (play_start_law p).core k h;
+  loads = (play_start_law p).loads (first_own p k).core.id;
   touched = refl;
 }
 
@@ -74,8 +67,9 @@ first-free : (p : Plan) (j : ℕ) (x : View) (u : ℕ) → get_elem? (one-view p
 first-free p zero x u e q = no-hold u (ap (λ (y : View). y.held) (some-injective _ x e) ∙ q)
 first-free p (suc j) x u e q = absurd (some-ne-none x (sym e))
 
-pub first_rule : (p : Plan) (words : List ℕ) (homes : List _) → Opening (opening_words p.image) (length p.totals) words → TableRule p (record { words = words; homes = homes; views = first_view p ∷ [] })
-first_rule p words homes open_ = let all = length-map-range_with_len (opening_word p.image) 0 p.image.words in record {
+pub first_rule : (p : Plan) (words : List ℕ) (homes : List _) → IsRecorded p → Opening (opening_words p.image) (length p.totals) words → TableRule p (record { words = words; homes = homes; views = first_view p ∷ [] })
+first_rule p words homes recorded open_ = let all = length-map-range_with_len (opening_word p.image) 0 p.image.words in record {
+  recorded = recorded;
   wide = let a = open_.wide in omega arith;
   fits = open_.fits;
   inside = λ j k x ow. let a = owns-first p j k x ow in let b = a.1 in let q : x.core.id ≡ k = ap (λ (y : Own). y.core.id) a.2 ∙ first-id p k in omega arith;
@@ -116,6 +110,19 @@ first_tied p c past sees v is inside core loads touched seen = record {
   wide = ap (λ (l : List ℕ). length l) seen ∙ length-replicate (length p.totals) 0;
   inside = let a = ap (λ (x : Core). x.id) core in let b = first-id p c in omega arith;
   within = let a = ap (λ (x : Core). x.count) core in let b = (start_law c p.limit).2 in omega arith;
+  all_polls = ap (λ (x : View). length x.polls) is ∙ length-replicate (length p.totals) 0;
+  holding = λ value e. absurd (no-hold value e);
+}
+
+-- what is left when c cores have gone may be split: nothing is held, and no core has executed an instruction
+pub rest_splits : (p : Plan) (c : ℕ) (v : View) → v ≡ rest_view p c → SplitsView v (without_first v) (first_alone v)
+rest_splits p c v is = record {
+  held = ap (λ (x : View). x.held) is;
+  fresh = λ k o at.
+      let e : get_elem? (own_from p c (length p.totals - c)) k ≡ some o = subst (λ (x : View). get_elem? x.owned k ≡ some o) is at in
+      ap (λ (x : Own). x.core.count) (own-at p c (length p.totals - c) k o e).1 ∙ (start_law (c + k) p.limit).2;
+  left_is = refl;
+  right_is = refl;
 }
 
 -- ---- the seats that were dealt

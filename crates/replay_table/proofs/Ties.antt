@@ -1,10 +1,11 @@
 -- What ties a seat to its view, step by step.
-use Rattle.std.proofs.Common.{◌≡◌, ◌≢◌, ℕ, subst, suc, ◌+◌, ◌≤◌, true, false, Bool, List, [], ◌∷◌, set, sym, refl, ap, ◌∙◌, arith, length-set}
+use Rattle.std.proofs.Common.{◌≡◌, ◌≢◌, ℕ, subst, suc, ◌+◌, ◌<◌, ◌≤◌, true, false, Bool, List, [], ◌∷◌, length, set, sym, refl, ap, ◌∙◌, arith, length-set}
 use Rattle.std.specs.Prelude.{Option, Some, None, slice_index}
 use Rattle.rv_core.specs.declared.core_state.Core.{Core}
 use Rattle.rv_core.specs.declared.core_state.Need.{Need}
-use Rattle.rv_core.specs.declared.core_state.Need.TheVariants.{Local, Load, Store, Done}
-use Rattle.rv_core.specs.Steps.{need, after}
+use Rattle.rv_core.specs.declared.core_state.Need.TheVariants.{Local, Load, Store, Amo, Done}
+use Rattle.rv_core.specs.Needs.{is_writing}
+use Rattle.rv_core.specs.Steps.{need, after, is_whole}
 use Rattle.rv_core.specs.declared.outcome.LoadNote.{LoadNote}
 use Rattle.rv_core.proofs.LawLemmas.{count_law, number_law}
 use Rattle.replay_core.specs.Plans.{Plan}
@@ -12,33 +13,30 @@ use Rattle.replay_core.specs.Play.{Use, use_of, loads_after}
 use Rattle.replay_table.specs.declared.view.Own.{Own}
 use Rattle.replay_audit.specs.declared.touch.Touch.{Touch}
 use Rattle.replay_table.specs.declared.view.View.{View}
-use Rattle.replay_table.specs.Accesses.{Accesses, Loads, Stores, Changes, touched_after, is_whole, is_load, is_change, is_writing, word_of}
+use Rattle.replay_table.specs.Accesses.{Accesses, Loads, Stores, Changes, touched_after, is_load, is_change, word_of}
 use Rattle.replay_table.specs.Aheads.{Due, Ahead}
 use Rattle.replay_table.specs.Rule.{seen_of, Next}
-use Rattle.replay_table.specs.Kinds.{retired, SeesDone, LoadsWord, HoldsWord, StoresWord, ExchangesWord, PublishesCount}
-use Rattle.replay_table.specs.Seats.{Past, Notes, Tied}
-use Rattle.replay_table.proofs.Uses.{not_local}
-use Rattle.replay_table.proofs.Aheads.{ahead_same, ahead_one, own_same, ahead_equal, ahead_more, set_rises}
+use Rattle.replay_table.specs.Kinds.{retired, polled, SeesDone, LoadsWord, HoldsWord, StoresWord, ExchangesWord, PublishesCount}
+use Rattle.replay_table.specs.Seats.{Past, Notes, Tied, AwaitsChange}
+use Rattle.replay_table.proofs.Uses.{not_local, one_access}
+use Rattle.replay_table.proofs.Aheads.{ahead_same, ahead_one, own_same, ahead_equal, ahead_more, due_more, set_rises}
 use Rattle.replay_table.proofs.Stands.{exchange_hit, exchange_miss}
+use Rattle.replay_table.proofs.Words.{index_set}
 
 -- ---- the tests
 
-load-by : (u : Use) (n : Need) → use_of n ≡ u → is_load n ≡ true → Loads n (word_of n)
-load-by u n e t = by n refl t
-  where
-    by : (m : Need) → m ≡ m → is_load m ≡ true → Loads m (word_of m)
-    by Local q z = absurd (cc)
-    by (Load w) q z = record { kind = _; used = refl; writes_is = refl; whole_is = refl }
-    by (Store w b) q z = absurd (cc)
-    by (Done stop) q z = absurd (cc)
-
 pub load_is : (n : Need) → is_load n ≡ true → Loads n (word_of n)
-load_is n t = load-by (use_of n) n refl t
+load_is Local t = absurd (cc)
+load_is (Load w) t = record { kind = _; used = refl; writes_is = refl; whole_is = refl }
+load_is (Store w b) t = absurd (cc)
+load_is (Amo w) t = absurd (cc)
+load_is (Done stop) t = absurd (cc)
 
 pub write_is : (n : Need) (whole : Bool) → is_writing n ≡ true → is_whole n ≡ whole → Accesses n (word_of n) true whole
 write_is Local whole t e = absurd (cc)
 write_is (Load w) whole t e = absurd (cc)
 write_is (Store w b) whole t e = record { kind = _; used = refl; writes_is = refl; whole_is = e }
+write_is (Amo w) whole t e = record { kind = _; used = refl; writes_is = refl; whole_is = e }
 write_is (Done stop) whole t e = absurd (cc)
 
 pub change_parts : (n : Need) → is_change n ≡ true → (is_writing n ≡ true) × (is_whole n ≡ false)
@@ -46,10 +44,29 @@ change_parts Local t = absurd (cc)
 change_parts (Load w) t = absurd (cc)
 change_parts (Store w true) t = absurd (cc)
 change_parts (Store w false) t = (refl, refl)
+change_parts (Amo w) t = (refl, refl)
 change_parts (Done stop) t = absurd (cc)
 
 pub change_is : (n : Need) → is_change n ≡ true → Changes n (word_of n)
 change_is n t = let c = change_parts n t in write_is n false c.0 c.1
+
+-- ---- what a seat holds
+
+true-false : true ≡ false → ⊥
+true-false e = cc
+
+none-some : (u : ℕ) → None ≡ Some u → ⊥
+none-some u e = cc
+
+-- a seat at an access that doesn't go by a held word holds none
+load-free : (p : Plan) (f : ℕ → ℕ) (k : Core) (word : ℕ) → Loads (need p.image k) word → AwaitsChange p f k → ⊥
+load-free p f k word a h = true-false (one_access (need p.image k) h.word word true false false false h.access a).writes_is
+
+store-free : (p : Plan) (f : ℕ → ℕ) (k : Core) (word : ℕ) → Stores (need p.image k) word → AwaitsChange p f k → ⊥
+store-free p f k word a h = true-false (sym (one_access (need p.image k) h.word word true true false true h.access a).whole_is)
+
+awaits-by : (p : Plan) (k : Core) (v w : View) → w.seen ≡ v.seen → AwaitsChange p (seen_of v) k → AwaitsChange p (seen_of w) k
+awaits-by p k v w seen h = subst (λ (l : List ℕ). AwaitsChange p (λ i. slice_index l i) k) (sym seen) h
 
 -- ---- the way ahead
 
@@ -75,12 +92,14 @@ local_ties p past new sees holds v t due is core loads touched = record {
   wide = t.wide;
   inside = let e = number_law p.image past.core 0 in let c = ap (λ (x : Core). x.id) core in let i = t.inside in omega arith;
   within = subst (λ (x : Core). x.count ≤ slice_index p.totals x.id) (sym core) (within-after p (seen_of v) past.core 0 due);
+  all_polls = t.all_polls;
+  holding = λ value e. let x = t.holding value e in absurd (not_local (need p.image past.core) x.word true false x.access is);
 }
 
 -- the next access of the view is that of the seat's core
-at-same : (p : Plan) (past : Past) (sees : List ℕ) (holds : Option ℕ) (v : View) (o : Own) (at : Core) (word : ℕ) (writes whole writes' whole' : Bool) (word' : ℕ) → (t : Tied p past sees holds v) → Next p v o at → Accesses (need p.image at) word writes whole
+pub at_same : (p : Plan) (past : Past) (sees : List ℕ) (holds : Option ℕ) (v : View) (o : Own) (at : Core) (word : ℕ) (writes whole writes' whole' : Bool) (word' : ℕ) → (t : Tied p past sees holds v) → Next p v o at → Accesses (need p.image at) word writes whole
     → Accesses (need p.image past.core) word' writes' whole' → (t.own ≡ o) × (at ≡ past.core)
-at-same p past sees holds v o at word writes whole writes' whole' word' t n a b =
+at_same p past sees holds v o at word writes whole writes' whole' word' t n a b =
     let e : t.own ≡ o = own_same v t.own o t.owned n.owned in
     let ah : Ahead p (seen_of v) t.locals o.core past.core = subst (λ (x : Own). Ahead p (seen_of v) t.locals x.core past.core) e t.ahead in
     (e, ahead_same p (seen_of v) (seen_of v) n.locals t.locals o.core at past.core n.ahead ah (not_local (need p.image at) word writes whole a) (not_local (need p.image past.core) word' writes' whole' b))
@@ -88,9 +107,9 @@ at-same p past sees holds v o at word writes whole writes' whole' word' t n a b 
 -- a seat that has retired its access
 pub access_ties : (p : Plan) (past new : Past) (sees : List ℕ) (holds holds' : Option ℕ) (v w : View) (o : Own) (at : Core) (word word' old : ℕ) (writes whole writes' whole' : Bool) → Tied p past sees holds v → Next p v o at → Accesses (need p.image at) word writes whole
     → Accesses (need p.image past.core) word' writes' whole' → Due p (seen_of v) past.core → Notes past (after p.image past.core old) (use_of (need p.image past.core)) old new
-    → w.owned ≡ retired p o at old ∷ [] → w.seen ≡ v.seen → w.held ≡ holds' → Tied p new sees holds' w
-access_ties p past new sees holds holds' v w o at word word' old writes whole writes' whole' t n a b due notes own seen held =
-    let e = at-same p past sees holds v o at word writes whole writes' whole' word' t n a b in
+    → w.owned ≡ retired p o at old ∷ [] → w.seen ≡ v.seen → w.polls ≡ v.polls → w.held ≡ holds' → ((value : ℕ) → holds' ≡ Some value → ⊥) → Tied p new sees holds' w
+access_ties p past new sees holds holds' v w o at word word' old writes whole writes' whole' t n a b due notes own seen polls held free =
+    let e = at_same p past sees holds v o at word writes whole writes' whole' word' t n a b in
     let k = past.core in
     let u = use_of (need p.image k) in
     let count = count_law p.image k old in
@@ -108,11 +127,14 @@ access_ties p past new sees holds holds' v w o at word word' old writes whole wr
       wide = t.wide;
       inside = let c = ap (λ (x : Core). x.id) notes.core in let i = t.inside in omega arith;
       within = subst (λ (x : Core). x.count ≤ slice_index p.totals x.id) (sym notes.core) (within-after p (seen_of v) k old due);
+      all_polls = ap (λ (l : List ℕ). length l) polls ∙ t.all_polls;
+      holding = λ value e. absurd (free value e);
     }
 
 -- a view that holds another word, or none
-pub held_ties : (p : Plan) (past : Past) (sees : List ℕ) (holds holds' : Option ℕ) (v w : View) → Tied p past sees holds v → w.owned ≡ v.owned → w.seen ≡ v.seen → w.held ≡ holds' → Tied p past sees holds' w
-held_ties p past sees holds holds' v w t own seen held = record {
+pub held_ties : (p : Plan) (past : Past) (sees : List ℕ) (holds holds' : Option ℕ) (v w : View) → Tied p past sees holds v → w.owned ≡ v.owned → w.seen ≡ v.seen → w.polls ≡ v.polls → w.held ≡ holds'
+    → ((value : ℕ) → holds' ≡ Some value → AwaitsChange p (seen_of v) past.core) → Tied p past sees holds' w
+held_ties p past sees holds holds' v w t own seen polls held awaits = record {
   own = t.own;
   owned = own ∙ t.owned;
   locals = t.locals;
@@ -124,6 +146,8 @@ held_ties p past sees holds holds' v w t own seen held = record {
   wide = t.wide;
   inside = t.inside;
   within = t.within;
+  all_polls = ap (λ (l : List ℕ). length l) polls ∙ t.all_polls;
+  holding = λ value e. awaits-by p past.core v w seen (awaits value e);
 }
 
 -- ---- by kind of step
@@ -132,29 +156,33 @@ pub load_ties : (p : Plan) (past new : Past) (sees : List ℕ) (holds : Option �
     → Notes past (after p.image past.core found) (use_of (need p.image past.core)) found new → Tied p new sees holds w
 load_ties p past new sees holds v w word found t step a due notes =
     access_ties p past new sees holds holds v w step.own step.at word word found false false false false t step.next step.access a due notes
-    (ap (λ (x : View). x.owned) step.view) (ap (λ (x : View). x.seen) step.view) (ap (λ (x : View). x.held) step.view ∙ t.holds_is)
+    (ap (λ (x : View). x.owned) step.view) (ap (λ (x : View). x.seen) step.view) (ap (λ (x : View). x.polls) step.view) (ap (λ (x : View). x.held) step.view ∙ t.holds_is)
+    (λ value e. load-free p (seen_of v) past.core word a (t.holding value e))
 
 pub store_ties : (p : Plan) (past new : Past) (sees : List ℕ) (holds : Option ℕ) (v w : View) (word value : ℕ) → Tied p past sees holds v → StoresWord p v word value w → Stores (need p.image past.core) word → Due p (seen_of v) past.core
     → Notes past (after p.image past.core 0) (use_of (need p.image past.core)) 0 new → Tied p new sees holds w
 store_ties p past new sees holds v w word value t step a due notes =
     access_ties p past new sees holds holds v w step.own step.at word word 0 true true true true t step.next step.access a due notes
-    (ap (λ (x : View). x.owned) step.view) (ap (λ (x : View). x.seen) step.view) (ap (λ (x : View). x.held) step.view ∙ t.holds_is)
+    (ap (λ (x : View). x.owned) step.view) (ap (λ (x : View). x.seen) step.view) (ap (λ (x : View). x.polls) step.view) (ap (λ (x : View). x.held) step.view ∙ t.holds_is)
+    (λ value e. store-free p (seen_of v) past.core word a (t.holding value e))
 
 pub hit_ties : (p : Plan) (past new : Past) (sees : List ℕ) (holds : Option ℕ) (v w : View) (word old value found : ℕ) → Tied p past sees holds v → ExchangesWord p v word old value found w → Changes (need p.image past.core) word → Due p (seen_of v) past.core
     → found ≡ old → Notes past (after p.image past.core old) (use_of (need p.image past.core)) old new → Tied p new sees None w
 hit_ties p past new sees holds v w word old value found t step a due hit notes =
     let w_is = exchange_hit p v w step.own step.at old found step.view hit in
     access_ties p past new sees holds None v w step.own step.at word word old true false true false t step.next step.access a due notes
-    (ap (λ (x : View). x.owned) w_is) (ap (λ (x : View). x.seen) w_is) (ap (λ (x : View). x.held) w_is)
+    (ap (λ (x : View). x.owned) w_is) (ap (λ (x : View). x.seen) w_is) (ap (λ (x : View). x.polls) w_is) (ap (λ (x : View). x.held) w_is) none-some
 
 pub miss_ties : (p : Plan) (past : Past) (sees : List ℕ) (holds : Option ℕ) (v w : View) (word old value found : ℕ) → Tied p past sees holds v → ExchangesWord p v word old value found w → found ≢ old → Tied p past sees None w
 miss_ties p past sees holds v w word old value found t step miss =
     let w_is = exchange_miss p v w step.own step.at old found step.view miss in
-    held_ties p past sees holds None v w t (ap (λ (x : View). x.owned) w_is) (ap (λ (x : View). x.seen) w_is) (ap (λ (x : View). x.held) w_is)
+    held_ties p past sees holds None v w t (ap (λ (x : View). x.owned) w_is) (ap (λ (x : View). x.seen) w_is) (ap (λ (x : View). x.polls) w_is) (ap (λ (x : View). x.held) w_is)
+    (λ value e. absurd (none-some value e))
 
-pub hold_ties : (p : Plan) (past : Past) (sees : List ℕ) (holds : Option ℕ) (v w : View) (word found : ℕ) → Tied p past sees holds v → HoldsWord p v word found w → Tied p past sees (Some found) w
-hold_ties p past sees holds v w word found t step =
-    held_ties p past sees holds (Some found) v w t (ap (λ (x : View). x.owned) step.view) (ap (λ (x : View). x.seen) step.view) (ap (λ (x : View). x.held) step.view)
+pub hold_ties : (p : Plan) (past : Past) (sees : List ℕ) (holds : Option ℕ) (v w : View) (word found : ℕ) → Tied p past sees holds v → HoldsWord p v word found w → Changes (need p.image past.core) word → Due p (seen_of v) past.core → Tied p past sees (Some found) w
+hold_ties p past sees holds v w word found t step a due =
+    held_ties p past sees holds (Some found) v w t (ap (λ (x : View). x.owned) step.view) (ap (λ (x : View). x.seen) step.view) (ap (λ (x : View). x.polls) step.view) (ap (λ (x : View). x.held) step.view)
+    (λ value e. record { due = due; word = word; access = a })
 
 pub see_ties : (p : Plan) (past : Past) (sees : List ℕ) (holds : Option ℕ) (v w : View) (c word found : ℕ) → Tied p past sees holds v → word ≡ p.image.words + c → SeesDone p v word found w → Tied p past (set sees c found) holds w
 see_ties p past sees holds v w c word found t is step =
@@ -173,6 +201,8 @@ see_ties p past sees holds v w c word found t is step =
       wide = length-set sees c found ∙ t.wide;
       inside = t.inside;
       within = t.within;
+      all_polls = ap (λ (x : View). length x.polls) step.view ∙ length-set v.polls step.core (slice_index v.polls step.core + 1) ∙ t.all_polls;
+      holding = λ value e. let x = t.holding value e in record { due = due_more p (seen_of v) (seen_of w) past.core up x.due; word = x.word; access = x.access };
     }
 
 -- the view after a publication
@@ -208,4 +238,19 @@ publish_ties p past sees holds v w word new t val step =
       wide = t.wide;
       inside = t.inside;
       within = t.within;
+      all_polls = ap (λ (x : View). length x.polls) step.view ∙ t.all_polls;
+      holding = λ value e. awaits-by p past.core v w (ap (λ (x : View). x.seen) step.view) (t.holding value e);
     }
+
+-- the look was counted
+pub see_polls : (p : Plan) (past : Past) (sees : List ℕ) (holds : Option ℕ) (v w : View) (c word found : ℕ) → Tied p past sees holds v → c < length p.totals → word ≡ p.image.words + c → SeesDone p v word found w
+    → slice_index w.polls c ≡ slice_index v.polls c + 1
+see_polls p past sees holds v w c word found t inside is step =
+    let e : step.core ≡ c = let q = step.word_is in omega arith in
+    let polls = t.all_polls in
+    ap (λ (x : View). slice_index x.polls c) step.view ∙ ap (λ (i : ℕ). slice_index (polled i v.polls) c) e ∙ index_set v.polls c (slice_index v.polls c + 1) (omega arith)
+
+-- a seat at its core's total holds nothing
+pub end_free : (p : Plan) (past : Past) (sees : List ℕ) (holds : Option ℕ) (v : View) → Tied p past sees holds v → past.core.count ≡ slice_index p.totals past.core.id → v.held ≡ None
+end_free p past sees None v t e = t.holds_is
+end_free p past sees (Some value) v t e = let x = (t.holding value refl).due.below in absurd (omega arith)

@@ -5,10 +5,8 @@ use Rattle.std.specs.List.{Contains, range_with_len}
 use mathlib.Core.Option.{some}
 use lib.ListN.{get_elem?}
 use Rattle.atomic_table.specs.Seated.{TableId}
-use Rattle.rtr_types.specs.declared.instr.Edge.{Edge}
 use Rattle.rtr_types.specs.declared.instr.Instr.{Instr}
 use Rattle.rtr_types.specs.declared.pairs.Which.{Which}
-use Rattle.clock_core.specs.Order.{Among}
 use Rattle.rv_decode.specs.declared.op.Op.{Op}
 use Rattle.rv_core.specs.declared.core_state.Core.{Core}
 use Rattle.rv_core.specs.declared.core_state.Need.{Need}
@@ -96,11 +94,6 @@ pub record IsUpcoming (which : Which) (r : Recording) (k : Core) (u : Upcoming) 
   pub op : u.op ≡ instruction_at (recorded_image r) k.pc
   pub need : u.need ≡ need (recorded_image r) k
   pub sources : AreSources (log_edges which r) (instr k.id (k.count + 1)) u.sources
-
--- the count of y's logged source on core `of`, or 0 where it has none
-pub record IsSourceCount (edges : List Edge) (of : ℕ) (y : Instr) (count : ℕ) : Type 0 where
-  pub each : (a : ℕ) → Among edges (instr of a) y → count ≡ a
-  pub only : 1 ≤ count → Among edges (instr of count) y
 
 -- a logged source of the core's next instruction that the view hasn't seen
 pub record IsUnmet (which : Which) (r : Recording) (v : View) (k : Core) (of : Instr) : Type 0 where
@@ -215,6 +208,10 @@ pub record HasRoom (taken : Taken) (count : ℕ) : Type 0 where
 -- seats of this table
 abbrev pub AllAt : TableId → List Sitting → Type 0
 AllAt table seats = (k : ℕ) (x : Sitting) → slice_get seats k ≡ Some x → x.table_id ≡ table
+
+-- each has a core at its total
+abbrev pub AllEnded : Plan → List Sitting → Type 0
+AllEnded p seats = (k : ℕ) (x : Sitting) → slice_get seats k ≡ Some x → x.core.count ≡ slice_index p.totals x.core.id
 
 -- the view owns this
 abbrev pub Has : View → Own → Type 0

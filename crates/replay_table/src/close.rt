@@ -1,9 +1,9 @@
 //! Closing the table.
-ghost use Rattle.std.specs.Prelude.{◌≡◌, ◌<◌, ◌≤◌, ◌^◌, ◌+◌, ℕ, [], length, slice_index, vec_capacity, IfErr, IfOk};
+ghost use Rattle.std.specs.Prelude.{◌≡◌, ◌<◌, ◌≤◌, ◌^◌, ◌+◌, ℕ, [], length, slice_index, vec_capacity, IfErr, IfOk, None as NoneHeld};
 ghost use Rattle.std.specs.Slots.{slots_items, slots_len, IsFull};
 ghost use Rattle.replay_core.specs.Plans.{plan_of};
 ghost use Rattle.replay_table.specs.Faults.{AreBack};
-ghost use Rattle.replay_table.specs.Seats.{Adds, AllAt, Finished, Gathered, HasRoom, IsEnd};
+ghost use Rattle.replay_table.specs.Seats.{Adds, AllAt, AllEnded, Finished, Gathered, HasRoom, IsEnd};
 
 use crate::closed::Closed;
 use crate::job::Job;
@@ -92,7 +92,9 @@ fn gather<J: Job>(
 )
     requires words { 0 < table.now.shared.table_id.words }
     requires all { (all.old.table_id ≡ table.now.shared.table_id) × (all.old.me.1 ≡ []) }
+    requires held { all.old.me.0.held ≡ NoneHeld }
     requires seats { AllAt table.now.shared.table_id seats.items }
+    requires ended { AllEnded (plan_of J.which J.recording) seats.items }
     requires room { length parts.old.cores + length seats.items ≤ parts.old.room }
     ensures all { (all.new.table_id ≡ all.old.table_id) × (all.new.me.1 ≡ []) }
     ensures gathered { Gathered all.old.me.0 seats.items all.new.me.0 }

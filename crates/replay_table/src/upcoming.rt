@@ -1,11 +1,10 @@
 //! What a seat keeps of its core's next instruction.
 ghost use Rattle.std.specs.Prelude.{◌≡◌, ◌<◌, ◌≤◌, length, slice_index};
-ghost use Rattle.rtr_types.specs.Pairs.{IsPair};
 ghost use Rattle.log_codec.specs.Sources.{log_edges};
 ghost use Rattle.log_codec.specs.Validity.{Valid};
 ghost use Rattle.replay_audit.specs.Clocks.{AreSources};
 ghost use Rattle.replay_core.specs.Plans.{recorded_image};
-ghost use Rattle.replay_table.specs.Seats.{IsSourceCount, IsUpcoming};
+ghost use Rattle.replay_table.specs.Seats.{IsUpcoming};
 
 use image_mem::Image;
 use log_codec::Recording;
@@ -57,20 +56,10 @@ fn sources_of(recording: &Recording, which: Which, at: Instr) -> [u32; PLACES]
     let mut sources = [0; PLACES];
     for of in 0..recording.params.cores {
         if of != at.core {
-            sources[of as usize] = source_of(recording, which, of, at);
+            if let Some(count) = recording.source(which, of, at) {
+                sources[of as usize] = count;
+            }
         }
     }
     sources
-}
-
-/// The count of the logged source on another core, or 0 where there is none.
-fn source_of(recording: &Recording, which: Which, of: u8, at: Instr) -> u32
-    requires valid { Valid recording.now }
-    requires pair { IsPair recording.now.params.cores of at.core }
-    ensures { IsSourceCount (log_edges which recording.now) of at result }
-{
-    match recording.source(which, of, at) {
-        Some(count) => count,
-        None => 0,
-    }
 }

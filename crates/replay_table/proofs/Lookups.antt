@@ -1,0 +1,58 @@
+-- What a seat keeps of its core's next instruction.
+use Rattle.std.proofs.Common.{◌≡◌, ℕ, ◌+◌, ◌<◌, ◌≤◌, length, refl, sym, subst, arith}
+use Rattle.std.specs.Prelude.{slice_index}
+use Rattle.image_mem.specs.Contents.{Contents}
+use Rattle.rtr_types.specs.declared.pairs.Which.{Which}
+use Rattle.clock_core.proofs.Listed.{among_contains, contains_among}
+use Rattle.rv_core.specs.declared.core_state.Core.{Core}
+use Rattle.log_codec.specs.declared.recording.Recording.{Recording}
+use Rattle.log_codec.specs.Sources.{log_edges}
+use Rattle.log_codec.specs.Validity.{Valid}
+use Rattle.replay_core.specs.Plans.{plan_of, recorded_image}
+use Rattle.replay_core.specs.Play.{instr}
+use Rattle.replay_core.proofs.Ready.{within_sourced}
+use Rattle.replay_core.proofs.Sources.{apart}
+use Rattle.replay_audit.specs.Clocks.{AreSources}
+use Rattle.replay_table.specs.declared.upcoming.Upcoming.{Upcoming}
+use Rattle.replay_table.specs.declared.view.View.{View}
+use Rattle.replay_table.specs.Aheads.{Due}
+use Rattle.replay_table.specs.Rule.{seen_of}
+use Rattle.replay_table.specs.Seats.{IsUpcoming, IsUnmet}
+
+-- what was looked up is of the job's recording and log
+pub upcoming_is : (w w' : Which) (r r' : Recording) (k l : Core) (u : Upcoming) → w' ≡ w → r' ≡ r → l ≡ k → IsUpcoming w' r' l u → IsUpcoming w r k u
+upcoming_is w w' r r' k l u e q same h =
+    subst (λ (x : Which). IsUpcoming x r k u) e (subst (λ (x : Recording). IsUpcoming w' x k u) q (subst (λ (x : Core). IsUpcoming w' r' x u) same h))
+
+-- a core all of whose sources were seen is ready
+pub due_by : (which : Which) (r : Recording) (f : ℕ → ℕ) (k : Core) (u : Upcoming) → Valid r → IsUpcoming which r k u → k.count < slice_index r.totals k.id
+    → ((i : ℕ) → i < length r.totals → slice_index u.sources i ≤ f i) → Due (plan_of which r) f k
+due_by which r f k u valid h below met = record {
+  below = below;
+  sourced = within_sourced (log_edges which r) f k.id (k.count + 1)
+      (λ from has.
+      let at = h.sources.each from (contains_among (log_edges which r) from (instr k.id (k.count + 1)) has) in
+      let inside = (apart which r (plan_of which r) valid refl from (instr k.id (k.count + 1)) has).0 in
+      let seen = met from.core inside in
+      omega arith);
+}
+
+-- a source that wasn't seen
+pub unmet_is : (which : Which) (r : Recording) (v : View) (k : Core) (u : Upcoming) (of : ℕ) → IsUpcoming which r k u → of < length r.totals → seen_of v of < slice_index u.sources of
+    → IsUnmet which r v k (instr of (slice_index u.sources of))
+unmet_is which r v k u of h inside unseen = record {
+  inside = inside;
+  unseen = unseen;
+  logged = among_contains (log_edges which r) (instr of (slice_index u.sources of)) (instr k.id (k.count + 1)) (h.sources.only of (omega arith));
+}
+
+-- what a look-up asks of the recording, the image and the core
+pub record CanLook (r : Recording) (image : Contents) (k : Core) : Type 0 where
+  pub valid : Valid r
+  pub image_is : image ≡ recorded_image r
+  pub inside : k.id < length r.totals
+  pub within : k.count ≤ slice_index r.totals k.id
+
+pub can_look : (r r' : Recording) (image : Contents) (k l : Core) → Valid r → r' ≡ r → image ≡ recorded_image r → l ≡ k → k.id < length r.totals → k.count ≤ slice_index r.totals k.id → CanLook r' image l
+can_look r r' image k l valid q image_is same inside within =
+    subst (λ (x : Core). CanLook r' image x) (sym same) (subst (λ (x : Recording). CanLook x image k) (sym q) (record { valid = valid; image_is = image_is; inside = inside; within = within }))
