@@ -1,5 +1,5 @@
 -- What follows from a plan's being that of a valid recording.
-use Rattle.std.proofs.Common.{inl, ◌≡◌, ◌≢◌, ℕ, ◌^◌, ◌<◌, ◌≤◌, Bool, true, length, sym, refl, subst, arith}
+use Rattle.std.proofs.Common.{inl, ◌≡◌, ◌≢◌, ℕ, ◌^◌, ◌<◌, ◌≤◌, Bool, true, List, length, sym, refl, subst, arith}
 use Rattle.std.specs.Prelude.{slice_index, Some}
 use native.Mathlib.Decide.{dec_lt}
 use Rattle.rtr_types.specs.declared.access.Kind.{Kind}

@@ -292,6 +292,7 @@ impl<'a, J: Job> ReplayTable<'a, J> {
         ensures table { seat.new.table_id ≡ seat.old.table_id }
         ensures step { (held : ℕ) → seat.old.view.held ≡ Some held →
             Exchanged (plan_of J.which J.recording) seat.old held result seat.new }
+        ensures sure { IsDeterminate J.which J.recording → result ≡ Ok tt }
         ensures low { IsTrue (is_reading (need (recorded_image J.recording) seat.old.core)) → (held : ℕ) →
             seat.old.view.held ≡ Some held → IsLowValue J.which J.recording seat.old.core held }
     {

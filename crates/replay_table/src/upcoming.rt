@@ -56,8 +56,9 @@ fn sources_of(recording: &Recording, which: Which, at: Instr) -> [u32; PLACES]
     let mut sources = [0; PLACES];
     for of in 0..recording.params.cores {
         if of != at.core {
-            if let Some(count) = recording.source(which, of, at) {
-                sources[of as usize] = count;
+            match recording.source(which, of, at) {
+                Some(count) => sources[of as usize] = count,
+                None => {}
             }
         }
     }
