@@ -24,7 +24,8 @@ ahead_first p f n k a due is rest = (due, is, subst (λ (c : ℕ). IsAhead p f c
 -- ---- where it ends
 
 -- at the first instruction that isn't local there is one end
-pub ahead_same : (p : Plan) (f g : ℕ → ℕ) (n m : ℕ) (k a b : Core) → Ahead p f n k a → Ahead p g m k b → (need p.image a ≡ Local → ⊥) → (need p.image b ≡ Local → ⊥) → a ≡ b
+pub ahead_same : (p : Plan) (f g : ℕ → ℕ) (n m : ℕ) (k a b : Core) → Ahead p f n k a → Ahead p g m k b → (need p.image a ≡ Local → ⊥)
+    → (need p.image b ≡ Local → ⊥) → a ≡ b
 ahead_same p f g zero zero k a b h l na nb = sym h ∙ l
 ahead_same p f g zero (suc m) k a b h l na nb = absurd (na (ap (λ (x : Core). need p.image x) (sym h) ∙ l.1))
 ahead_same p f g (suc n) zero k a b h l na nb = absurd (nb (ap (λ (x : Core). need p.image x) (sym l) ∙ h.1))
@@ -50,10 +51,13 @@ ahead_id p f (suc n) k a h = ahead_id p f n (after p.image k 0) a (ahead_rest p 
 -- ---- one instruction more, and the rest of the way
 
 pub ahead_one : (p : Plan) (f : ℕ → ℕ) (n : ℕ) (k a : Core) → Ahead p f n k a → Due p f a → need p.image a ≡ Local → Ahead p f (suc n) k (after p.image a 0)
-ahead_one p f zero k a h due is = subst (λ (x : Core). Ahead p f (suc zero) x (after p.image a 0)) (sym h) (ahead_first p f zero a (after p.image a 0) due is refl)
-ahead_one p f (suc n) k a h due is = ahead_first p f (suc n) k (after p.image a 0) h.0 h.1 (ahead_one p f n (after p.image k 0) a (ahead_rest p f n k a h) due is)
+ahead_one p f zero k a h due is = subst (λ (x : Core). Ahead p f (suc zero) x (after p.image a 0)) (sym h)
+    (ahead_first p f zero a (after p.image a 0) due is refl)
+ahead_one p f (suc n) k a h due is = ahead_first p f (suc n) k (after p.image a 0) h.0 h.1 (ahead_one p f n (after p.image k 0) a (ahead_rest p f n k a h)
+    due is)
 
-pub ahead_between : (p : Plan) (f : ℕ → ℕ) (n m : ℕ) (k a b : Core) → Ahead p f n k a → Ahead p f m k b → (need p.image b ≡ Local → ⊥) → (i : ℕ) × Ahead p f i a b
+pub ahead_between : (p : Plan) (f : ℕ → ℕ) (n m : ℕ) (k a b : Core) → Ahead p f n k a → Ahead p f m k b → (need p.image b ≡ Local → ⊥)
+    → (i : ℕ) × Ahead p f i a b
 ahead_between p f zero m k a b h l nb = (m, subst (λ (x : Core). Ahead p f m x b) h l)
 ahead_between p f (suc n) zero k a b h l nb = absurd (nb (ap (λ (x : Core). need p.image x) (sym l) ∙ h.1))
 ahead_between p f (suc n) (suc m) k a b h l nb = ahead_between p f n m (after p.image k 0) a b (ahead_rest p f n k a h) (ahead_rest p f m k b l) nb

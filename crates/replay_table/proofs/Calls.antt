@@ -18,7 +18,8 @@ pub record Found (image : Contents) (k : Core) (used : Use) (word : ℕ) : Type 
   pub used_is : used ≡ use_of (need image k)
   pub word_is : word_of (need image k) ≡ word
 
-pub found : (image : Contents) (k : Core) (n : Need) (used : Use) (kind : Kind) (word : ℕ) → n ≡ need image k → used ≡ access_of n → used ≡ Some (kind, word) → Found image k used word
+pub found : (image : Contents) (k : Core) (n : Need) (used : Use) (kind : Kind) (word : ℕ) → n ≡ need image k → used ≡ access_of n
+    → used ≡ Some (kind, word) → Found image k used word
 found image k n used kind word is used_is some_ =
     let e : used ≡ use_of (need image k) = used_is ∙ ap access_of is in
     record { used_is = e; word_is = ap word_by (sym e ∙ some_) }
@@ -26,10 +27,12 @@ found image k n used kind word is used_is some_ =
 pub loads_found : (image : Contents) (k : Core) (used : Use) (word : ℕ) → Found image k used word → IsTrue (is_load (need image k)) → Loads (need image k) word
 loads_found image k used word f t = subst (λ (w : ℕ). Loads (need image k) w) f.word_is (load_is (need image k) t)
 
-pub changes_found : (image : Contents) (k : Core) (used : Use) (word : ℕ) → Found image k used word → IsTrue (is_change (need image k)) → Changes (need image k) word
+pub changes_found : (image : Contents) (k : Core) (used : Use) (word : ℕ) → Found image k used word → IsTrue (is_change (need image k))
+    → Changes (need image k) word
 changes_found image k used word f t = subst (λ (w : ℕ). Changes (need image k) w) f.word_is (change_is (need image k) t)
 
-pub stores_found : (image : Contents) (k : Core) (used : Use) (word : ℕ) → Found image k used word → IsTrue (is_writing (need image k)) → IsTrue (is_whole (need image k)) → Stores (need image k) word
+pub stores_found : (image : Contents) (k : Core) (used : Use) (word : ℕ) → Found image k used word → IsTrue (is_writing (need image k))
+    → IsTrue (is_whole (need image k)) → Stores (need image k) word
 stores_found image k used word f t w = subst (λ (x : ℕ). Stores (need image k) x) f.word_is (write_is (need image k) true t w)
 
 -- the core and the value that the code made
@@ -39,8 +42,10 @@ after_is own image l k m old same at is = is ∙ ap (λ (x : Contents). after x 
 pub wrote_is : (own image : Contents) (l k : Core) (value old : ℕ) → own ≡ image → l ≡ k → value ≡ wrote own l old → value ≡ wrote image k old
 wrote_is own image l k value old same at is = is ∙ ap (λ (x : Contents). wrote x l old) same ∙ ap (λ (x : Core). wrote image x old) at
 
-pub notes_is : (image : Contents) (past new : Past) (k next : Core) (used : Use) (old : ℕ) → next ≡ after image k old → used ≡ use_of (need image k) → Notes past next used old new → Notes past (after image k old) (use_of (need image k)) old new
-notes_is image past new k next used old core used_is h = subst (λ (u : Use). Notes past (after image k old) u old new) used_is (subst (λ (x : Core). Notes past x used old new) core h)
+pub notes_is : (image : Contents) (past new : Past) (k next : Core) (used : Use) (old : ℕ) → next ≡ after image k old → used ≡ use_of (need image k)
+    → Notes past next used old new → Notes past (after image k old) (use_of (need image k)) old new
+notes_is image past new k next used old core used_is h = subst (λ (u : Use). Notes past (after image k old) u old new) used_is
+    (subst (λ (x : Core). Notes past x used old new) core h)
 
 -- the code may retire the instruction
 pub can_finish : (own image : Contents) (l k : Core) (op : Option Op) → own ≡ image → l ≡ k → op ≡ instruction_at image k.pc → is_done (need image k) ≡ false

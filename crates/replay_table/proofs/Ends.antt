@@ -1,5 +1,6 @@
 -- What the last view knows, and what the play of its order leaves.
-use Rattle.std.proofs.Common.{◌≡◌, ℕ, subst, zero, suc, ◌+◌, ◌<◌, ◌⊎◌, inl, inr, ⊎_elim, List, [], ◌∷◌, ◌++◌, length, map, reverse, sym, refl, ap, ◌∙◌, arith, append_assoc}
+use Rattle.std.proofs.Common.{◌≡◌, ℕ, subst, zero, suc, ◌+◌, ◌<◌, ◌⊎◌, inl, inr, ⊎_elim, List, [], ◌∷◌, ◌++◌, length}
+use Rattle.std.proofs.Common.{map, reverse, sym, refl, ap, ◌∙◌, arith, append_assoc}
 use Rattle.std.proofs.lemmas.List.{reverse-append}
 use Rattle.std.proofs.lemmas.List.FromFn.{length-map-range_with_len, get_or-map-range_with_len}
 use Rattle.std.specs.Prelude.{slice_get, Some, slice_index, slice_index_or}
@@ -62,7 +63,8 @@ map-end f [] a = refl
 map-end f (x ∷ xs) a = ap (λ (l : List _). f x ∷ l) (map-end f xs a)
 
 -- lists that have the same at each place
-same-list : {A : Type 0} → (xs ys : List A) (d : A) → length xs ≡ length ys → ((k : ℕ) → k < length xs → slice_index_or xs k d ≡ slice_index_or ys k d) → xs ≡ ys
+same-list : {A : Type 0} → (xs ys : List A) (d : A) → length xs ≡ length ys → ((k : ℕ) → k < length xs → slice_index_or xs k d ≡ slice_index_or ys k d)
+    → xs ≡ ys
 same-list [] [] d e h = refl
 same-list [] (y ∷ ys) d e h = absurd (omega arith)
 same-list (x ∷ xs) [] d e h = absurd (omega arith)
@@ -106,7 +108,8 @@ gather_done v0 v xs0 xs e kept joined = record {
 }
 
 -- a seat that is left has ended as all have
-pub gather_ended : (p : Plan) (xs rest : List Sitting) (y : Sitting) → xs ≡ rest ++ y ∷ [] → AllEnded p xs → (y.core.count ≡ slice_index p.totals y.core.id) × AllEnded p rest
+pub gather_ended : (p : Plan) (xs rest : List Sitting) (y : Sitting) → xs ≡ rest ++ y ∷ [] → AllEnded p xs
+    → (y.core.count ≡ slice_index p.totals y.core.id) × AllEnded p rest
 gather_ended p xs rest y e all = (
   all (length rest) y (subst (λ (l : List Sitting). slice_get l (length rest) ≡ Some y) (sym e) (get-last rest y)),
   λ k x h. all k x (subst (λ (l : List Sitting). slice_get l k ≡ Some x) (sym e) (get-longer rest y x k h)),
@@ -128,15 +131,18 @@ Left all left old new =
     × (map (λ (x : Sitting). x.loads) left ++ reverse new.loads ≡ map (λ (x : Sitting). x.loads) all ++ reverse old.loads)
     × (map (λ (x : Sitting). x.touched) left ++ reverse new.touched ≡ map (λ (x : Sitting). x.touched) all ++ reverse old.touched)
 
-left-one : {A B : Type 0} → (f : A → B) (xs rest : List A) (y : A) (b : B) (zs zs' : List B) → xs ≡ rest ++ y ∷ [] → b ≡ f y → zs' ≡ zs ++ b ∷ [] → map f rest ++ reverse zs' ≡ map f xs ++ reverse zs
+left-one : {A B : Type 0} → (f : A → B) (xs rest : List A) (y : A) (b : B) (zs zs' : List B) → xs ≡ rest ++ y ∷ [] → b ≡ f y → zs' ≡ zs ++ b ∷ []
+    → map f rest ++ reverse zs' ≡ map f xs ++ reverse zs
 left-one f xs rest y b zs zs' e same put =
     ap (λ (l : List _). map f rest ++ reverse l) put ∙ ap (λ (l : List _). map f rest ++ l) (reverse-append zs (b ∷ []))
     ∙ sym (append_assoc (map f rest) (b ∷ []) (reverse zs))
     ∙ ap (λ (z : _). (map f rest ++ z ∷ []) ++ reverse zs) same
     ∙ ap (λ (l : List _). l ++ reverse zs) (sym (map-end f rest y) ∙ ap (λ (l : List _). map f l) (sym e))
 
-pub left_more : (all xs rest : List Sitting) (y : Sitting) (core : Core) (notes : List LoadNote) (ts : List Touch) (old new new' : Taken) → xs ≡ rest ++ y ∷ [] → core ≡ y.core → notes ≡ y.loads → ts ≡ y.touched
-    → new'.cores ≡ new.cores ++ core ∷ [] → new'.loads ≡ new.loads ++ notes ∷ [] → new'.touched ≡ new.touched ++ ts ∷ [] → Left all xs old new → Left all rest old new'
+pub left_more : (all xs rest : List Sitting) (y : Sitting) (core : Core) (notes : List LoadNote) (ts : List Touch) (old new new' : Taken)
+    → xs ≡ rest ++ y ∷ [] → core ≡ y.core → notes ≡ y.loads → ts ≡ y.touched
+    → new'.cores ≡ new.cores ++ core ∷ [] → new'.loads ≡ new.loads ++ notes ∷ [] → new'.touched ≡ new.touched ++ ts ∷ [] → Left all xs old new
+    → Left all rest old new'
 left_more all xs rest y core notes ts old new new' e a b d cores loads touched h = (
   left-one (λ (x : Sitting). x.core) xs rest y core new.cores new'.cores e a cores ∙ h.0,
   left-one (λ (x : Sitting). x.loads) xs rest y notes new.loads new'.loads e b loads ∙ h.1,
@@ -160,7 +166,8 @@ made cores words loads = record { cores = cores; words = words; loads = loads }
 
 same-outcome : (a b : Outcome) → a.cores ≡ b.cores → a.words ≡ b.words → a.loads ≡ b.loads → a ≡ b
 unfolding made
-same-outcome a b cores words loads = ap (λ (z : List Core). made z a.words a.loads) cores ∙ ap (λ (z : List ℕ). made b.cores z a.loads) words ∙ ap (λ (z : List (List LoadNote)). made b.cores b.words z) loads
+same-outcome a b cores words loads = ap (λ (z : List Core). made z a.words a.loads) cores ∙ ap (λ (z : List ℕ). made b.cores z a.loads) words
+    ∙ ap (λ (z : List (List LoadNote)). made b.cores b.words z) loads
 
 -- what the order that stood leaves of a seat's core
 record AtEnd (p : Plan) (order : List ℕ) (k : ℕ) (x : Sitting) : Type 0 where
@@ -169,13 +176,15 @@ record AtEnd (p : Plan) (order : List ℕ) (k : ℕ) (x : Sitting) : Type 0 wher
   pub loads : loads_at (played p order) k ≡ x.loads
   pub touched : touches_by k (accesses_of p order) ≡ x.touched
 
-at-end : (p : Plan) (table : TableId) (seats rest : List Sitting) (last : Sitting) (v : View) (id : ℕ) (s : State ℕ View) → Finished p table seats → seats ≡ rest ++ last ∷ [] → Gathered last.view rest v → (h : TableRule p s) → get_elem? s.views id ≡ some v
+at-end : (p : Plan) (table : TableId) (seats rest : List Sitting) (last : Sitting) (v : View) (id : ℕ) (s : State ℕ View) → Finished p table seats
+    → seats ≡ rest ++ last ∷ [] → Gathered last.view rest v → (h : TableRule p s) → get_elem? s.views id ≡ some v
     → (k : ℕ) (x : Sitting) → slice_get seats k ≡ Some x → AtEnd p h.order.0 k x
 at-end p table seats rest last v id s f split g h at k x has =
     let r = f.rest k x has in
     let order = h.order.0 in
     let mine : Has x.view r.own = (0, subst (λ (l : List Own). get_elem? l 0 ≡ some r.own) (sym r.owned) refl) in
-    let all : Has v r.own = ⊎_elim (λ u. g.each k x r.own u mine) (λ u. g.kept r.own (subst (λ (z : Sitting). Has z.view r.own) (sym u.1) mine)) (get_end rest last x k (subst (λ (l : List Sitting). slice_get l k ≡ Some x) split has)) in
+    let all : Has v r.own = ⊎_elim (λ u. g.each k x r.own u mine) (λ u. g.kept r.own (subst (λ (z : Sitting). Has z.view r.own) (sym u.1) mine))
+    (get_end rest last x k (subst (λ (l : List Sitting). slice_get l k ≡ Some x) split has)) in
     let a : Agrees p order r.own = h.order.1.cores id all.0 r.own (v, at, all.1) in
     let here : k ≡ r.own.core.id = sym (f.ids k x has) ∙ ap (λ (c : Core). c.id) (sym r.core) in
     record {
@@ -191,7 +200,8 @@ get-below (y ∷ ys) zero x e len = omega arith
 get-below (y ∷ ys) (suc k) x e len = let b = get-below ys k x e refl in omega arith
 
 -- the same in each list of parts
-parts-same : {B : Type 0} → (f : Sitting → B) (seats : List Sitting) (ys : List B) (d : B) → length seats ≡ length ys → ((k : ℕ) (x : Sitting) → slice_get seats k ≡ Some x → slice_index_or ys k d ≡ f x) → map f seats ≡ ys
+parts-same : {B : Type 0} → (f : Sitting → B) (seats : List Sitting) (ys : List B) (d : B) → length seats ≡ length ys
+    → ((k : ℕ) (x : Sitting) → slice_get seats k ≡ Some x → slice_index_or ys k d ≡ f x) → map f seats ≡ ys
 parts-same f seats ys d all same =
     let n = length-map' f seats in
     same-list (map f seats) ys d (n ∙ all) (λ k lt. let x = get-some seats k (omega arith) in map-get f seats k x.0 d x.1 ∙ sym (same k x.0 x.1))
@@ -216,11 +226,14 @@ end_is p table seats rest last v words id s e f split g h at is parts wide same 
         whole = record { each = λ c lt. let x = get-some seats c (omega arith) in (ends c x.0 x.1).count ∙ f.totals c x.0 x.1 };
       };
       outcome = same-outcome e.outcome (played p order)
-          (parts.cores ∙ parts-same (λ (x : Sitting). x.core) seats (played p order).cores (starting 0 0) (n ∙ sym known.all_cores) (λ k x has. (ends k x has).core))
-          (same-list e.outcome.words (played p order).words 0 (wide ∙ sym known.all_words) (λ i lt. let below : i < p.image.words = omega arith in same i below ∙ ap (λ (l : List ℕ). slice_index l i) (sym is) ∙ st.memory i below))
+          (parts.cores ∙ parts-same (λ (x : Sitting). x.core) seats (played p order).cores (starting 0 0) (n ∙ sym known.all_cores)
+          (λ k x has. (ends k x has).core))
+          (same-list e.outcome.words (played p order).words 0 (wide ∙ sym known.all_words) (λ i lt. let below : i < p.image.words = omega arith in
+          same i below ∙ ap (λ (l : List ℕ). slice_index l i) (sym is) ∙ st.memory i below))
           (parts.loads ∙ parts-same (λ (x : Sitting). x.loads) seats (played p order).loads [] (n ∙ sym known.all_loads) (λ k x has. (ends k x has).loads));
       touched = parts.touched ∙ parts-same (λ (x : Sitting). x.touched) seats (map accesses (range_with_len 0 (length p.totals))) [] (n ∙ sym wide')
-          (λ k x has. let lt : k < length p.totals = get-below seats k x has n in get_or-map-range_with_len accesses 0 (length p.totals) k k [] lt (omega arith) ∙ (ends k x has).touched);
+          (λ k x has. let lt : k < length p.totals = get-below seats k x has n in get_or-map-range_with_len accesses 0 (length p.totals) k k [] lt
+          (omega arith) ∙ (ends k x has).touched);
     }
 
 -- ---- the words that are read
@@ -242,7 +255,8 @@ index_more xs ys l n a e len same at i h =
 
 -- ---- the parts of all seats, the last seat's put first
 
-pub whole_by : {A B : Type 0} → (f : A → B) (seats rest : List A) (last : A) (old put new : List B) (b : B) → seats ≡ rest ++ last ∷ [] → old ≡ [] → put ≡ old ++ b ∷ [] → b ≡ f last → reverse new ≡ map f rest ++ reverse put → reverse new ≡ map f seats
+pub whole_by : {A B : Type 0} → (f : A → B) (seats rest : List A) (last : A) (old put new : List B) (b : B) → seats ≡ rest ++ last ∷ [] → old ≡ []
+    → put ≡ old ++ b ∷ [] → b ≡ f last → reverse new ≡ map f rest ++ reverse put → reverse new ≡ map f seats
 whole_by f seats rest last old put new b split none is same h =
     h ∙ ap (λ (l : List _). map f rest ++ reverse l) (is ∙ ap (λ (l : List _). l ++ b ∷ []) none)
     ∙ ap (λ (z : _). map f rest ++ z ∷ []) same ∙ sym (map-end f rest last) ∙ ap (λ (l : List _). map f l) (sym split)

@@ -38,7 +38,8 @@ due_by which r f k u valid h below met = record {
 }
 
 -- a source that wasn't seen
-pub unmet_is : (which : Which) (r : Recording) (v : View) (k : Core) (u : Upcoming) (of : ℕ) → IsUpcoming which r k u → of < length r.totals → seen_of v of < slice_index u.sources of
+pub unmet_is : (which : Which) (r : Recording) (v : View) (k : Core) (u : Upcoming) (of : ℕ) → IsUpcoming which r k u → of < length r.totals
+    → seen_of v of < slice_index u.sources of
     → IsUnmet which r v k (instr of (slice_index u.sources of))
 unmet_is which r v k u of h inside unseen = record {
   inside = inside;
@@ -53,6 +54,8 @@ pub record CanLook (r : Recording) (image : Contents) (k : Core) : Type 0 where
   pub inside : k.id < length r.totals
   pub within : k.count ≤ slice_index r.totals k.id
 
-pub can_look : (r r' : Recording) (image : Contents) (k l : Core) → Valid r → r' ≡ r → image ≡ recorded_image r → l ≡ k → k.id < length r.totals → k.count ≤ slice_index r.totals k.id → CanLook r' image l
+pub can_look : (r r' : Recording) (image : Contents) (k l : Core) → Valid r → r' ≡ r → image ≡ recorded_image r → l ≡ k → k.id < length r.totals
+    → k.count ≤ slice_index r.totals k.id → CanLook r' image l
 can_look r r' image k l valid q image_is same inside within =
-    subst (λ (x : Core). CanLook r' image x) (sym same) (subst (λ (x : Recording). CanLook x image k) (sym q) (record { valid = valid; image_is = image_is; inside = inside; within = within }))
+    subst (λ (x : Core). CanLook r' image x) (sym same)
+    (subst (λ (x : Recording). CanLook x image k) (sym q) (record { valid = valid; image_is = image_is; inside = inside; within = within }))

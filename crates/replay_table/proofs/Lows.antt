@@ -26,12 +26,14 @@ use Rattle.replay_table.specs.Kinds.{retired, LoadsWord, ExchangesWord}
 use Rattle.replay_table.specs.Seats.{IsLowValue, Past, Tied}
 use Rattle.replay_table.proofs.Ties.{at_same, load_is, change_is}
 
-noted : (u : Use) (loads : List LoadNote) (count value : ℕ) → is_of_kind is_read u ≡ true → loads_after u loads count value ≡ loads ++ record { count = count; word = word_by u; value = value } ∷ []
+noted : (u : Use) (loads : List LoadNote) (count value : ℕ) → is_of_kind is_read u ≡ true
+    → loads_after u loads count value ≡ loads ++ record { count = count; word = word_by u; value = value } ∷ []
 noted None loads count value e = absurd cc
 noted (Some used) loads count value e = ap (λ (b : Bool). cond b (loads ++ record { count = count; word = used.1; value = value } ∷ []) loads) e
 
 -- some replay order plays to the instruction, and each agrees with the low order
-pub low_value : (which : Which) (r : Recording) (f : ℕ → ℕ) (own : Own) (at k : Core) (found : ℕ) → Valid r → Reached (plan_of which r) f (retired (plan_of which r) own at found) → at ≡ k
+pub low_value : (which : Which) (r : Recording) (f : ℕ → ℕ) (own : Own) (at k : Core) (found : ℕ) → Valid r
+    → Reached (plan_of which r) f (retired (plan_of which r) own at found) → at ≡ k
     → is_reading (need (plan_of which r).image k) ≡ true → IsLowValue which r k found
 low_value which r f own at k found valid reached same reads determinate =
     let p : Plan = plan_of which r in
@@ -39,8 +41,10 @@ low_value which r f own at k found valid reached same reads determinate =
     let more = agrees.loads k.id in
     let note : LoadNote = record { count = k.count + 1; word = word_of (need p.image k); value = found } in
     let id : (retired p own at found).core.id ≡ k.id = number_law p.image at found ∙ ap (λ (x : Core). x.id) same in
-    let here : loads_at (played p reached.order) k.id ≡ own.loads ++ note ∷ [] = ap (λ (i : ℕ). loads_at (played p reached.order) i) (sym id) ∙ reached.agrees.loads
-        ∙ ap (λ (x : Core). loads_after (use_of (need p.image x)) own.loads (x.count + 1) found) same ∙ noted (use_of (need p.image k)) own.loads (k.count + 1) found reads in
+    let here : loads_at (played p reached.order) k.id ≡ own.loads ++ note ∷ [] = ap (λ (i : ℕ). loads_at (played p reached.order) i) (sym id)
+    ∙ reached.agrees.loads
+    ∙ ap (λ (x : Core). loads_after (use_of (need p.image x)) own.loads (x.count + 1) found) same
+    ∙ noted (use_of (need p.image k)) own.loads (k.count + 1) found reads in
     let all : loads_at (played p (low_order p)) k.id ≡ (own.loads ++ note ∷ []) ++ more.0 = more.1 ∙ ap (λ (l : List LoadNote). l ++ more.0) here in
     subst (λ (l : List LoadNote). Contains l note) (sym all) (Contains-append_left (own.loads ++ note ∷ []) more.0 note (Contains-push own.loads note))
 
@@ -52,7 +56,8 @@ load_reads (Amo w) t = absurd (cc)
 load_reads (Done stop) t = absurd (cc)
 
 -- what a load answered
-pub loaded_low : (which : Which) (r : Recording) (past : Past) (sees : List ℕ) (holds : Option ℕ) (v w : View) (word found : ℕ) → Valid r → Tied (plan_of which r) past sees holds v → LoadsWord (plan_of which r) v word found w
+pub loaded_low : (which : Which) (r : Recording) (past : Past) (sees : List ℕ) (holds : Option ℕ) (v w : View) (word found : ℕ) → Valid r
+    → Tied (plan_of which r) past sees holds v → LoadsWord (plan_of which r) v word found w
     → is_load (need (plan_of which r).image past.core) ≡ true → IsLowValue which r past.core found
 loaded_low which r past sees holds v w word found valid t step ask =
     let p : Plan = plan_of which r in
@@ -64,12 +69,15 @@ some-same : (a b : ℕ) → Some a ≡ Some b → a ≡ b
 some-same a b e = cc
 
 -- what was held for an atomic memory operation
-pub exchanged_low : (which : Which) (r : Recording) (past : Past) (sees : List ℕ) (holds : Option ℕ) (v w : View) (word held new found : ℕ) → Valid r → Tied (plan_of which r) past sees holds v
-    → ExchangesWord (plan_of which r) v word held new found w → is_change (need (plan_of which r).image past.core) ≡ true → is_reading (need (plan_of which r).image past.core) ≡ true
+pub exchanged_low : (which : Which) (r : Recording) (past : Past) (sees : List ℕ) (holds : Option ℕ) (v w : View) (word held new found : ℕ) → Valid r
+    → Tied (plan_of which r) past sees holds v
+    → ExchangesWord (plan_of which r) v word held new found w → is_change (need (plan_of which r).image past.core) ≡ true
+    → is_reading (need (plan_of which r).image past.core) ≡ true
     → (u : ℕ) → v.held ≡ Some u → IsLowValue which r past.core u
 exchanged_low which r past sees holds v w word held new found valid t step ask reads u e determinate =
     let p : Plan = plan_of which r in
     let n : Need = need p.image past.core in
     let same = at_same p past sees holds v step.own step.at word true false true false (word_of n) t step.next step.access (change_is n ask) in
     let is : held ≡ u = some-same held u (sym step.held ∙ e) in
-    subst (λ (x : ℕ). IsLowValue which r past.core x) is (low_value which r (seen_of v) step.own step.at past.core held valid (step.reached (step.sure determinate)) same.1 reads) determinate
+    subst (λ (x : ℕ). IsLowValue which r past.core x) is (low_value which r (seen_of v) step.own step.at past.core held valid
+    (step.reached (step.sure determinate)) same.1 reads) determinate

@@ -1,5 +1,6 @@
 -- The accesses of a closed table, by core.
-use Rattle.std.proofs.Common.{inl, inr, ⊎_elim, ◌≡◌, ◌⊎◌, ℕ, zero, suc, ◌+◌, ◌<◌, ◌≤◌, Bool, true, false, cond, eqb, eq-eqb, ne_eqb, List, [], ◌∷◌, ◌++◌, length, map, get_or}
+use Rattle.std.proofs.Common.{inl, inr, ⊎_elim, ◌≡◌, ◌⊎◌, ℕ, zero, suc, ◌+◌, ◌<◌, ◌≤◌, Bool, true, false, cond, eqb}
+use Rattle.std.proofs.Common.{eq-eqb, ne_eqb, List, [], ◌∷◌, ◌++◌, length, map, get_or}
 use Rattle.std.proofs.Common.{sym, refl, ap, ◌∙◌, subst, arith}
 use Rattle.std.specs.Prelude.{slice_index_or}
 use Rattle.std.specs.List.{Contains, range_with_len}
@@ -68,9 +69,11 @@ back-by (b ∷ rest) c t h = by (ℕ_discrete b.at.core c) h (back-by rest c t)
     later : Found rest c t → Found (b ∷ rest) c t
     later r = (r.0, inr r.1, r.2, r.3)
 
-    by : Dec (b.at.core ≡ c) → Contains (with-one (eqb b.at.core c) (as_touch b) (touches_by c rest)) t → (Contains (touches_by c rest) t → Found rest c t) → Found (b ∷ rest) c t
+    by : Dec (b.at.core ≡ c) → Contains (with-one (eqb b.at.core c) (as_touch b) (touches_by c rest)) t
+        → (Contains (touches_by c rest) t → Found rest c t) → Found (b ∷ rest) c t
     by (yes e) h go =
-        let g : Contains (as_touch b ∷ touches_by c rest) t = subst (λ (m : Bool). Contains (with-one m (as_touch b) (touches_by c rest)) t) (eq-eqb b.at.core c e) h in
+        let g : Contains (as_touch b ∷ touches_by c rest) t = subst (λ (m : Bool). Contains (with-one m (as_touch b) (touches_by c rest)) t)
+        (eq-eqb b.at.core c e) h in
         ⊎_elim (λ q. (b, inl refl, only-one (as_touch b) t q, e)) (λ q. later (go q)) (Contains-append_cases (as_touch b ∷ []) (touches_by c rest) t g)
     by (no ne) h go = later (go (subst (λ (m : Bool). Contains (with-one m (as_touch b) (touches_by c rest)) t) (ne_eqb b.at.core c ne) h))
 
@@ -91,7 +94,8 @@ past-end [] i h = refl
 past-end (x ∷ xs) zero h = absurd (omega arith)
 past-end (x ∷ xs) (suc i) h = past-end xs i (omega arith)
 
-are-touches : (list : List Access) (n : ℕ) → CountsRise list → ((a : Access) → StandsIn list a → a.at.core < n) → AreTouches list n (map (λ c. touches_by c list) (range_with_len 0 n))
+are-touches : (list : List Access) (n : ℕ) → CountsRise list → ((a : Access) → StandsIn list a → a.at.core < n)
+    → AreTouches list n (map (λ c. touches_by c list) (range_with_len 0 n))
 are-touches list n rise inside = record {
   all = wide;
   forth = λ a s. subst (λ (l : List Touch). Contains l (as_touch a)) (sym (here a.at.core (inside a s))) (forth-by list a a.at.core refl s);
@@ -101,7 +105,8 @@ are-touches list n rise inside = record {
   ];
   rising = λ c. elim (dec_lt c n) [
     | yes lt ↦ subst (λ (l : List Touch). AreRising l) (sym (here c lt)) (rising-by list c rise)
-    | no ge ↦ subst (λ (l : List Touch). AreRising l) (sym (past-end all c (let w = wide in omega arith))) (record { each = λ i j d lt below. absurd (omega arith) })
+    | no ge ↦ subst (λ (l : List Touch). AreRising l) (sym (past-end all c (let w = wide in omega arith)))
+        (record { each = λ i j d lt below. absurd (omega arith) })
   ];
 }
   where
@@ -122,5 +127,6 @@ end_played which r e end =
     record {
       order = end.order;
       play = end.play;
-      touches = subst (λ (ts : List (List Touch)). AreTouches list (length r.totals) ts) (sym end.touched) (are-touches list (length r.totals) rise.rise rise.inside);
+      touches = subst (λ (ts : List (List Touch)). AreTouches list (length r.totals) ts) (sym end.touched)
+          (are-touches list (length r.totals) rise.rise rise.inside);
     }

@@ -1,5 +1,6 @@
 -- An order that goes on from another with places of one core.
-use Rattle.std.proofs.Common.{◌≡◌, ◌≢◌, ℕ, subst, zero, suc, ◌+◌, ◌<◌, ◌≤◌, false, List, [], ◌∷◌, ◌++◌, length, replicate, sym, refl, ap, ◌∙◌, arith, append_assoc, append-nil}
+use Rattle.std.proofs.Common.{◌≡◌, ◌≢◌, ℕ, subst, zero, suc, ◌+◌, ◌<◌, ◌≤◌, false, List, [], ◌∷◌, ◌++◌, length}
+use Rattle.std.proofs.Common.{replicate, sym, refl, ap, ◌∙◌, arith, append_assoc, append-nil}
 use Rattle.std.specs.Prelude.{slice_index}
 use Rattle.rtr_types.specs.declared.access.Access.{Access}
 use Rattle.rv_core.specs.declared.core_state.Core.{Core}
@@ -8,7 +9,8 @@ use Rattle.rv_core.specs.declared.outcome.LoadNote.{LoadNote}
 use Rattle.rv_core.specs.declared.outcome.Outcome.{Outcome}
 use Rattle.rv_core.specs.Steps.{need, after, wrote, is_done}
 use Rattle.replay_core.specs.Plans.{Plan}
-use Rattle.replay_core.specs.Play.{use_of, old_for, words_after, loads_after, core_at, loads_at, old_at, need_at, new_at, place, touched as touched_at, start, Plays, played, accesses_of}
+use Rattle.replay_core.specs.Play.{use_of, old_for, words_after, loads_after, core_at, loads_at, old_at, need_at}
+use Rattle.replay_core.specs.Play.{new_at, place, touched as touched_at, start, Plays, played, accesses_of}
 use Rattle.replay_core.specs.Orders.{bump, counts, nought, Sourced, Ready, IsReplayOrder}
 use Rattle.replay_core.proofs.Counts.{counts_on, bump_more}
 use Rattle.replay_core.proofs.Lists.{play_on, accesses_on, plays_join, ordered_join}
@@ -29,7 +31,8 @@ pub record Leaves (p : Plan) (order : List ℕ) (i : ℕ) (k : Core) (notes : Li
 
 -- the other cores are left as another order leaves them
 abbrev pub LeavesOthers : Plan → ℕ → List ℕ → List ℕ → Type 0
-LeavesOthers p c before order = (i : ℕ) → i ≢ c → Leaves p order i (core_at (played p before) i) (loads_at (played p before) i) (touches_by i (accesses_of p before))
+LeavesOthers p c before order = (i : ℕ) → i ≢ c → Leaves p order i (core_at (played p before) i) (loads_at (played p before) i)
+    (touches_by i (accesses_of p before))
 
 -- the order goes on from another, to what core c has done by `o` and to these words
 pub record Reach (p : Plan) (c : ℕ) (before order : List ℕ) (o : Own) (memory : List ℕ) : Type 0 where
@@ -44,7 +47,8 @@ pub record Reach (p : Plan) (c : ℕ) (before order : List ℕ) (o : Own) (memor
 one-place : (p : Plan) (order : List ℕ) (c : ℕ) → played p (order ++ c ∷ []) ≡ place p (played p order) c
 one-place p order c = play_on p (start p) order (c ∷ [])
 
-touched-here : (p : Plan) (s : Outcome) (c : ℕ) (ts : List Touch) → ts ++ touches_by c (touched_at p s c) ≡ touched_after (use_of (need_at p s c)) ts c ((core_at s c).count + 1)
+touched-here : (p : Plan) (s : Outcome) (c : ℕ) (ts : List Touch) → ts ++ touches_by c (touched_at p s c) ≡ touched_after (use_of (need_at p s c)) ts c
+    ((core_at s c).count + 1)
 touched-here p s c ts =
     ap (λ (l : List Access). ts ++ touches_by c l) (place_law p s c).access
     ∙ touches_here (use_of (need_at p s c)) ts c ((core_at s c).count + 1) (old_at p s c) (new_at p s c)
@@ -54,14 +58,16 @@ touched-else p s c i ne =
     ap (λ (l : List Access). touches_by i l) (place_law p s c).access
     ∙ touches_else (use_of (need_at p s c)) c i ((core_at s c).count + 1) (old_at p s c) (new_at p s c) ne
 
-one-access : (p : Plan) (order : List ℕ) (c i : ℕ) → touches_by i (accesses_of p (order ++ c ∷ [])) ≡ touches_by i (accesses_of p order) ++ touches_by i (touched_at p (played p order) c)
+one-access : (p : Plan) (order : List ℕ) (c i : ℕ) → touches_by i (accesses_of p (order ++ c ∷ [])) ≡ touches_by i (accesses_of p order) ++ touches_by i
+    (touched_at p (played p order) c)
 one-access p order c i =
     ap (λ (l : List Access). touches_by i l) (accesses_on p (start p) order (c ∷ []))
     ∙ touches_on i (accesses_of p order) (touched_at p (played p order) c ++ [])
     ∙ ap (λ (l : List Access). touches_by i (accesses_of p order) ++ touches_by i l) (append-nil (touched_at p (played p order) c))
 
 -- a core that a play leaves is known
-pub core_known : (p : Plan) (order : List ℕ) (c : ℕ) (k : Core) → IsReplayOrder p order → c < length p.totals → core_at (played p order) c ≡ k → (k.id ≡ c) × (counts nought order c ≡ k.count)
+pub core_known : (p : Plan) (order : List ℕ) (c : ℕ) (k : Core) → IsReplayOrder p order → c < length p.totals → core_at (played p order) c ≡ k
+    → (k.id ≡ c) × (counts nought order c ≡ k.count)
 core_known p order c k ordered inside is =
     let known = play_law p order ordered in (
       ap (λ (x : Core). x.id) (sym is) ∙ known.numbers c inside,
@@ -72,19 +78,22 @@ core_known p order c k ordered inside is =
 abbrev pub found_in : Plan → Core → List ℕ → ℕ
 found_in p k words = old_for (use_of (need p.image k)) words
 
-due-ready : (p : Plan) (order : List ℕ) (c : ℕ) (k : Core) (f : ℕ → ℕ) → IsReplayOrder p order → c < length p.totals → core_at (played p order) c ≡ k → Due p f k → ((i : ℕ) → f i ≤ counts nought order i) → Ready p (counts nought order) c
+due-ready : (p : Plan) (order : List ℕ) (c : ℕ) (k : Core) (f : ℕ → ℕ) → IsReplayOrder p order → c < length p.totals → core_at (played p order) c ≡ k
+    → Due p f k → ((i : ℕ) → f i ≤ counts nought order i) → Ready p (counts nought order) c
 due-ready p order c k f ordered inside is due le =
     let known = core_known p order c k ordered inside is in
     let more : Sourced p.edges (counts nought order) k.id (k.count + 1) = sourced_more p.edges f (counts nought order) k.id (k.count + 1) le due.sourced in
     record {
       inside = inside;
       below = let b = due.below in let t = ap (λ (i : ℕ). slice_index p.totals i) known.0 in let n = known.1 in omega arith;
-      sourced = subst (λ (i : ℕ). Sourced p.edges (counts nought order) i (counts nought order c + 1)) known.0 (subst (λ (n : ℕ). Sourced p.edges (counts nought order) k.id (n + 1)) (sym known.1) more);
+      sourced = subst (λ (i : ℕ). Sourced p.edges (counts nought order) i (counts nought order c + 1)) known.0
+          (subst (λ (n : ℕ). Sourced p.edges (counts nought order) k.id (n + 1)) (sym known.1) more);
     }
 
 pub reach_one : (p : Plan) (c : ℕ) (before order : List ℕ) (o : Own) (words : List ℕ) (f : ℕ → ℕ)
     → Reach p c before order o words → c < length p.totals → Due p f o.core → is_done (need p.image o.core) ≡ false → ((i : ℕ) → f i ≤ counts nought order i)
-    → Reach p c before (order ++ c ∷ []) (retired p o o.core (found_in p o.core words)) (words_after (use_of (need p.image o.core)) words (wrote p.image o.core (found_in p o.core words)))
+    → Reach p c before (order ++ c ∷ []) (retired p o o.core (found_in p o.core words))
+    (words_after (use_of (need p.image o.core)) words (wrote p.image o.core (found_in p o.core words)))
 reach_one p c before order o words f h inside due go le =
     let s = played p order in
     let known = play_law p order h.ordered in
@@ -100,13 +109,15 @@ reach_one p c before order o words f h inside due go le =
       leaves = record {
         core = ap (λ (x : Outcome). core_at x c) one ∙ law.core c1 ∙ rw (at, h.words) refl;
         loads = ap (λ (x : Outcome). loads_at x c) one ∙ law.loads c2 ∙ rw (at, h.words, h.leaves.loads) refl;
-        touched = one-access p order c c ∙ ap (λ (l : List Touch). l ++ touches_by c (touched_at p s c)) h.leaves.touched ∙ touched-here p s c o.touched ∙ rw (at, ← id) refl;
+        touched = one-access p order c c ∙ ap (λ (l : List Touch). l ++ touches_by c (touched_at p s c)) h.leaves.touched ∙ touched-here p s c o.touched
+            ∙ rw (at, ← id) refl;
       };
       words = ap (λ (x : Outcome). x.words) one ∙ law.words ∙ rw (at, h.words) refl;
       others = λ i ne. let was = h.others i ne in record {
         core = ap (λ (x : Outcome). core_at x i) one ∙ law.other_cores i ne ∙ was.core;
         loads = ap (λ (x : Outcome). loads_at x i) one ∙ law.other_loads i ne ∙ was.loads;
-        touched = one-access p order c i ∙ ap (λ (l : List Touch). touches_by i (accesses_of p order) ++ l) (touched-else p s c i ne) ∙ append-nil (touches_by i (accesses_of p order)) ∙ was.touched;
+        touched = one-access p order c i ∙ ap (λ (l : List Touch). touches_by i (accesses_of p order) ++ l) (touched-else p s c i ne)
+            ∙ append-nil (touches_by i (accesses_of p order)) ∙ was.touched;
       };
     }
 
@@ -138,7 +149,8 @@ reach_locals p c before zero order o at words f h inside ahead le =
 reach_locals p c before (suc n) order o at words f h inside ahead le =
     let one = reach-local p c before order o words f h inside ahead.0 ahead.1 le in
     let e : (order ++ c ∷ []) ++ replicate n c ≡ order ++ replicate (suc n) c = append_assoc order (c ∷ []) (replicate n c) in
-    let rest = reach_locals p c before n (order ++ c ∷ []) (moved_to o (after p.image o.core 0)) at words f one inside (ahead_rest p f n o.core at ahead) (more_counts order c f le) in (
+    let rest = reach_locals p c before n (order ++ c ∷ []) (moved_to o (after p.image o.core 0)) at words f one inside (ahead_rest p f n o.core at ahead)
+    (more_counts order c f le) in (
       subst (λ (l : List ℕ). Reach p c before l (moved_to o at) words) e rest.0,
       subst (λ (l : List ℕ). (i : ℕ) → f i ≤ counts nought l i) e rest.1,
     )
@@ -146,10 +158,13 @@ reach_locals p c before (suc n) order o at words f h inside ahead le =
 -- ---- the local instructions and the access
 
 pub reach_access : (p : Plan) (c n : ℕ) (order : List ℕ) (o : Own) (at : Core) (words : List ℕ) (f : ℕ → ℕ)
-    → Reach p c order order o words → c < length p.totals → Ahead p f n o.core at → Due p f at → is_done (need p.image at) ≡ false → ((i : ℕ) → f i ≤ counts nought order i)
-    → Reach p c order (order ++ (replicate n c ++ c ∷ [])) (retired p o at (found_in p at words)) (words_after (use_of (need p.image at)) words (wrote p.image at (found_in p at words)))
+    → Reach p c order order o words → c < length p.totals → Ahead p f n o.core at → Due p f at → is_done (need p.image at) ≡ false
+    → ((i : ℕ) → f i ≤ counts nought order i)
+    → Reach p c order (order ++ (replicate n c ++ c ∷ [])) (retired p o at (found_in p at words))
+    (words_after (use_of (need p.image at)) words (wrote p.image at (found_in p at words)))
 reach_access p c n order o at words f h inside ahead due go le =
     let locals = reach_locals p c order n order o at words f h inside ahead le in
-    subst (λ (l : List ℕ). Reach p c order l (retired p o at (found_in p at words)) (words_after (use_of (need p.image at)) words (wrote p.image at (found_in p at words))))
+    subst (λ (l : List ℕ). Reach p c order l (retired p o at (found_in p at words))
+    (words_after (use_of (need p.image at)) words (wrote p.image at (found_in p at words))))
     (append_assoc order (replicate n c) (c ∷ []))
     (reach_one p c order (order ++ replicate n c) (moved_to o at) words f locals.0 inside due go locals.1)

@@ -38,7 +38,8 @@ never-at : (p : Plan) → IsRecorded p → LowDecides p → (order : List ℕ) (
     → StandsAhead p order c n a → StandsAhead p order d m b → Clash (use_of (need p.image a)) (use_of (need p.image b)) → ⊥
 never-at p rec decides order c d n m a b = subst (λ (q : Plan). LowDecides q → IsReplayOrder q order → c ≢ d
     → StandsAhead q order c n a → StandsAhead q order d m b → Clash (use_of (need q.image a)) (use_of (need q.image b)) → ⊥) (sym rec.plan_is)
-    (λ dec ordered ne one other clash. never_due_law rec.which rec.recording (low_order (plan_of rec.which rec.recording)) order c d n m a b rec.valid dec ordered ne one other clash)
+    (λ dec ordered ne one other clash. never_due_law rec.which rec.recording (low_order (plan_of rec.which rec.recording)) order c d n m a b rec.valid dec
+    ordered ne one other clash)
     decides
 
 -- a view's core stands ahead of the order that stands
@@ -58,7 +59,8 @@ clashes : (u w : Use) (one other : Kind) (word : ℕ) → u ≡ Some (one, word)
 clashes u w one other word a b writes = subst (λ (x : Use). Clash x w) (sym a) (subst (λ (x : Use). Clash (Some (one, word)) x) (sym b) (refl, inl writes))
 
 -- where the recording is determinate, two views never are both due for accesses to one word of which one writes
-pub never_both : (p : Plan) (order : List ℕ) (v x : View) (o y : Own) (at to : Core) (word : ℕ) (whole writes' whole' : Bool) → IsRecorded p → LowDecides p → IsReplayOrder p order
+pub never_both : (p : Plan) (order : List ℕ) (v x : View) (o y : Own) (at to : Core) (word : ℕ) (whole writes' whole' : Bool) → IsRecorded p
+    → LowDecides p → IsReplayOrder p order
     → Next p v o at → Next p x y to → o.core.id < length p.totals → y.core.id < length p.totals → Agrees p order o → Agrees p order y
     → ((i : ℕ) → seen_of v i ≤ counts nought order i) → ((i : ℕ) → seen_of x i ≤ counts nought order i) → o.core.id ≢ y.core.id
     → Accesses (need p.image at) word true whole → Accesses (need p.image to) word writes' whole' → ⊥

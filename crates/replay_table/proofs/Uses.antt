@@ -51,7 +51,8 @@ pub record Same (word word' : ℕ) (writes writes' whole whole' : Bool) : Type 0
   pub writes_is : writes ≡ writes'
   pub whole_is : whole ≡ whole'
 
-pub one_access : (n : Need) (word word' : ℕ) (writes writes' whole whole' : Bool) → Accesses n word writes whole → Accesses n word' writes' whole' → Same word word' writes writes' whole whole'
+pub one_access : (n : Need) (word word' : ℕ) (writes writes' whole whole' : Bool) → Accesses n word writes whole → Accesses n word' writes' whole'
+    → Same word word' writes writes' whole whole'
 one_access n word word' writes writes' whole whole' h g =
     let e : ◌≡◌ {A = Option (Kind × ℕ)} (Some (h.kind, word)) (Some (g.kind, word')) = sym h.used ∙ g.used in
     let pair : ◌≡◌ {A = Kind × ℕ} (h.kind, word) (g.kind, word') = cc in
@@ -64,10 +65,13 @@ one_access n word word' writes writes' whole whole' h g =
 
 -- what the word holds afterwards
 pub words_left : (n : Need) (word : ℕ) (whole : Bool) (words : List ℕ) (value : ℕ) → Accesses n word false whole → words_after (use_of n) words value ≡ words
-words_left n word whole words value h = ap (λ (u : Use). words_after u words value) h.used ∙ ap (λ (b : Bool). cond b (slice_set words word value) words) h.writes_is
+words_left n word whole words value h = ap (λ (u : Use). words_after u words value) h.used
+    ∙ ap (λ (b : Bool). cond b (slice_set words word value) words) h.writes_is
 
-pub words_written : (n : Need) (word : ℕ) (whole : Bool) (words : List ℕ) (value : ℕ) → Accesses n word true whole → words_after (use_of n) words value ≡ slice_set words word value
-words_written n word whole words value h = ap (λ (u : Use). words_after u words value) h.used ∙ ap (λ (b : Bool). cond b (slice_set words word value) words) h.writes_is
+pub words_written : (n : Need) (word : ℕ) (whole : Bool) (words : List ℕ) (value : ℕ) → Accesses n word true whole
+    → words_after (use_of n) words value ≡ slice_set words word value
+words_written n word whole words value h = ap (λ (u : Use). words_after u words value) h.used
+    ∙ ap (λ (b : Bool). cond b (slice_set words word value) words) h.writes_is
 
 -- a store of a whole word is the same whatever the word held: it doesn't read
 unread : (n : Need) (word : ℕ) → (h : Stores n word) → is_read h.kind ≡ false
@@ -80,7 +84,8 @@ pub whole_wrote : (image : Contents) (k : Core) (word one other : ℕ) → Store
 whole_wrote image k word one other h = whole_law image k one other h.whole_is
 
 -- nor does it note what it found
-whole-loads : (n : Need) (word : ℕ) (list : List LoadNote) (count one other : ℕ) → Stores n word → loads_after (use_of n) list count one ≡ loads_after (use_of n) list count other
+whole-loads : (n : Need) (word : ℕ) (list : List LoadNote) (count one other : ℕ) → Stores n word
+    → loads_after (use_of n) list count one ≡ loads_after (use_of n) list count other
 whole-loads n word list count one other h = noted one ∙ sym (noted other)
   where
     noted : (value : ℕ) → loads_after (use_of n) list count value ≡ list
@@ -100,11 +105,13 @@ pub touches_on : (c : ℕ) (xs ys : List Access) → touches_by c (xs ++ ys) ≡
 touches_on c [] ys = refl
 touches_on c (a ∷ xs) ys = by (eqb a.at.core c) (touches_on c xs ys)
   where
-    by : (b : Bool) → touches_by c (xs ++ ys) ≡ touches_by c xs ++ touches_by c ys → cond b (as_touch a ∷ touches_by c (xs ++ ys)) (touches_by c (xs ++ ys)) ≡ cond b (as_touch a ∷ touches_by c xs) (touches_by c xs) ++ touches_by c ys
+    by : (b : Bool) → touches_by c (xs ++ ys) ≡ touches_by c xs ++ touches_by c ys
+        → cond b (as_touch a ∷ touches_by c (xs ++ ys)) (touches_by c (xs ++ ys)) ≡ cond b (as_touch a ∷ touches_by c xs) (touches_by c xs) ++ touches_by c ys
     by true e = ap (λ (l : List Touch). as_touch a ∷ l) e
     by false e = e
 
-pub touches_here : (used : Use) (list : List Touch) (c count before value : ℕ) → list ++ touches_by c (accesses_by used (instr c count) before value) ≡ touched_after used list c count
+pub touches_here : (used : Use) (list : List Touch) (c count before value : ℕ)
+    → list ++ touches_by c (accesses_by used (instr c count) before value) ≡ touched_after used list c count
 touches_here None list c count before value = append-nil list
 touches_here (Some used) list c count before value = rw (eq-eqb c c refl) refl
 

@@ -1,5 +1,6 @@
 //! Closing the table.
-ghost use Rattle.std.specs.Prelude.{◌≡◌, ◌<◌, ◌≤◌, ◌^◌, ◌+◌, ℕ, [], length, slice_index, vec_capacity, IfErr, IfOk, None as NoneHeld};
+ghost use Rattle.std.specs.Prelude.{◌≡◌, ◌<◌, ◌≤◌, ◌^◌, ◌+◌, ℕ, [], length, slice_index, vec_capacity};
+ghost use Rattle.std.specs.Prelude.{IfErr, IfOk, None as NoneHeld};
 ghost use Rattle.std.specs.Slots.{slots_items, slots_len, IsFull};
 ghost use Rattle.replay_core.specs.Plans.{plan_of};
 ghost use Rattle.replay_table.specs.Faults.{AreBack};

@@ -86,8 +86,8 @@ impl<J: Job> Play<u8, View> for ExchangeWord<J> {
     ghost use Rattle.replay_core.specs.Plans.{plan_of};
     ghost use Rattle.replay_table.specs.Kinds.{ExchangesWord};
 
-    ghost then = { λ at before found after. ExchangesWord (plan_of J.which J.recording) before.0 at.word at.first at.second found after.0
-        × (after.1 ≡ before.1) };
+    ghost then = { λ at before found after. ExchangesWord (plan_of J.which J.recording) before.0
+        at.word at.first at.second found after.0 × (after.1 ≡ before.1) };
 }
 
 /// A count is published.

@@ -1,5 +1,6 @@
 //! The table, and the calls that seats make on it.
-ghost use Rattle.std.specs.Prelude.{◌≡◌, ◌<◌, ◌≤◌, ◌+◌, ℕ, [], length, false, IfOk, IsSome, IsTrue, Ok, Some, slice_index};
+ghost use Rattle.std.specs.Prelude.{◌≡◌, ◌<◌, ◌≤◌, ◌+◌, ℕ, [], length, slice_index, false};
+ghost use Rattle.std.specs.Prelude.{IfOk, IsSome, IsTrue, Ok, Some};
 ghost use Rattle.log_codec.specs.Validity.{Valid};
 ghost use Rattle.rv_core.specs.declared.core_state.Need.TheVariants.{Local};
 ghost use Rattle.rv_core.specs.Needs.{is_reading, is_writing};
@@ -128,7 +129,8 @@ impl<'a, J: Job> ReplayTable<'a, J> {
         ensures room { seat.new.roomy ≡ seat.old.roomy }
         ensures least { seen_of seat.old.view core ≤ result }
         ensures polls { slice_index seat.new.view.polls core ≡ slice_index seat.old.view.polls core + 1 }
-        ensures step { SeesDone (plan_of J.which J.recording) seat.old.view (J.recording.params.words + core) result seat.new.view }
+        ensures step { SeesDone (plan_of J.which J.recording) seat.old.view
+            (J.recording.params.words + core) result seat.new.view }
     {
         let word = self.recording.params.words as usize + core as usize;
         let found = self.table.shared.load::<SeeDone<J>>(&mut seat.seat, word);

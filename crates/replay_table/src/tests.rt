@@ -170,10 +170,15 @@ fn both_work<J: Job + Send + Sync, R: Threads + Sync>(
     requires tables { All (λ s. s.table_id ≡ table.now) seats.old }
     ensures { All (λ s. s.table_id ≡ table.now) seats.new }
 {
-    thread::for_each_mut(rt, seats, 2, &|_, seat: &mut CoreSeat<J>|
-        requires { (seat.old.table_id ≡ table.now) × (recording.now ≡ J.recording) }
-        ensures { seat.exit.now.table_id ≡ table.entry.now }
-    { work(table, seat, recording) });
+    thread::for_each_mut(
+        rt,
+        seats,
+        2,
+        &|_, seat: &mut CoreSeat<J>|
+            requires { (seat.old.table_id ≡ table.now) × (recording.now ≡ J.recording) }
+            ensures { seat.exit.now.table_id ≡ table.entry.now }
+        { work(table, seat, recording) },
+    );
 }
 
 /// Closes the table of two seats that are at their totals.

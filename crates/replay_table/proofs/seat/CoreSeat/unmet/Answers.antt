@@ -57,7 +57,8 @@ returns-clause-none g c =
     let all = c.len-of-end.ensures in
     let test = c.loop-of-test.false in
     let wide = t.wide in
-    let below : k.count < slice_index p.totals k.id = subst (λ (x : Sitting). x.core.count < slice_index p.totals x.core.id) (sym c.self.view_is) c.requires.below in
+    let below : k.count < slice_index p.totals k.id = subst (λ (x : Sitting). x.core.count < slice_index p.totals x.core.id) (sym c.self.view_is)
+    c.requires.below in
     subst (λ (x : Sitting). Due p (seen_of x.view) x.core) c.self.view_is
     (due_by g.J.Job.which g.J.Job.recording (seen_of v) k c.self.inside.upcoming c.self.invariant.1.valid c.self.invariant.1.upcoming below
     (λ i lt. let met = c.loop-of.invariant i (omega arith) in let same = ap (λ (l : List ℕ). slice_index l i) t.sees_is in omega arith))
