@@ -1,0 +1,4 @@
+pub mod ClosedCuts
+pub mod CutStates
+pub mod Frees
+pub mod Dues

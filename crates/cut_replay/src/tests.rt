@@ -1,0 +1,1 @@
+//! Recordings whose logs were written by hand.
