@@ -1,1 +1,4 @@
-
+pub mod Cuts
+pub mod Unique
+pub mod Orders
+pub mod Ways

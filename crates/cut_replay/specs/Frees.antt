@@ -11,7 +11,7 @@ use Rattle.replay_core.specs.Play.{instr}
 abbrev pub IsNeededBy : Which → Recording → (at : Instr) → (core count : ℕ) → Type 0
 IsNeededBy which r at core count = IsOrLeads (Among (log_edges which r)) at (instr core count)
 
--- none of the core's first n instructions needs it, and each one from the one after the k-th on does, up to its total
+-- none of the core's first n instructions needs it, and each one after its first k does
 pub record AreBetween (which : Which) (r : Recording) (at : Instr) (core n k : ℕ) : Type 0 where
   pub most : n ≤ slice_index r.totals core
   pub free : (count : ℕ) → 1 ≤ count → count ≤ n → IsNeededBy which r at core count → ⊥

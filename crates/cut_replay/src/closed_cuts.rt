@@ -55,8 +55,8 @@ pub fn cut_without(audited: &Audited, at: Instr) -> Result<Cut, AllocError>
     Ok(Cut { cores, counts })
 }
 
-/// How many of the core's instructions don't need the instruction, which are its first ones: halves what
-/// is left of them until none is.
+/// How many of the core's instructions neither are the instruction nor need it. They are its first ones,
+/// so halving what is left finds them.
 fn free_of(audited: &Audited, core: u8, at: Instr) -> u32
     requires core { core < audited.now.recording.params.cores }
     requires at { IsInstrOf audited.now.recording at }
@@ -65,7 +65,7 @@ fn free_of(audited: &Audited, core: u8, at: Instr) -> u32
     let mut free = 0;
     let mut least = audited.recording().totals.as_slice()[core as usize];
     while free < least {
-        let count = free + (least - free).div_ceil(2);
+        let count = least - (least - free) / 2;
         if audited.clock(Instr { core, count }).covers(at) {
             least = count - 1;
         } else {

@@ -18,6 +18,8 @@ pub fn state_of(alloc: Global, audited: &Audited, cut: &Cut) -> Result<Outcome, 
     requires { IsClosed audited.now.which audited.now.recording cut.now }
     ensures { IfOk result (IsStateAt audited.now.which audited.now.recording cut.now) }
 {
+    // The audit passed, so each order plays.
+    let _ = audited.outcome();
     let mut replay = Replay::new(alloc, audited.recording(), audited.which())?;
     let mut last = 0;
     while let Some(core) = due_core(audited, cut, &replay, last) {

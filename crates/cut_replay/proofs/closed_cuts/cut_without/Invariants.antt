@@ -1,0 +1,11 @@
+use Rattle.std.proofs.Common.{◌≡◌, ◌<◌, ◌≤◌, ℕ, length, get_or}
+use Rattle.rtr_types.specs.declared.TheConstants.{CORES_MAX}
+use Rattle.cut_replay.specs.Frees.{AreFree}
+use Rattle.cut_replay.proofs.closed_cuts.cut_without.Given as goal
+
+abbrev pub invariant-loop-core : goal.invariant-loop-core
+invariant-loop-core l = record {
+  wide : length l.counts ≡ CORES_MAX;
+  done : (c : ℕ) → c < l.core → AreFree l.audited.which l.audited.recording l.fn.at c (get_or l.counts c 0);
+  rest : (c : ℕ) → l.core ≤ c → get_or l.counts c 0 ≡ 0;
+}
