@@ -1,6 +1,8 @@
 -- The two closed cuts of an instruction, by clocks.
-use Rattle.std.proofs.Common.{inl, inr, ◌≡◌, ◌≢◌, ◌⊎◌, ℕ, ◌+◌, ◌<◌, ◌≤◌, length, refl, sym, ap, ◌∙◌, subst, arith}
-use Rattle.std.specs.Prelude.{slice_index}
+use Rattle.std.proofs.Common.{inl, inr, ◌≡◌, ◌≢◌, ◌⊎◌, ℕ, ◌+◌, ◌<◌, ◌≤◌, List, length, refl, sym, ap, ◌∙◌, subst, arith}
+use Rattle.std.proofs.Common.{get_or-set_same, get_or-set_other}
+use Rattle.std.specs.Prelude.{slice_index, slice_set}
+use native.Mathlib.Decide.{ℕ_discrete}
 use Rattle.rtr_types.specs.declared.TheConstants.{CORES_MAX}
 use Rattle.rtr_types.specs.declared.cut.Cut.{Cut}
 use Rattle.rtr_types.specs.declared.instr.Instr.{Instr}
@@ -71,6 +73,20 @@ clock_within which r at clock f is closed le core = by (none_or_some (clock core
     by (inr some) = leads_back (log_edges which r) f (instr core (clock core)) at closed ((is (instr core (clock core)) some).0 (omega arith)) le
 
 -- ---- the cut of a list of counts
+
+-- a list whose places are filled one after the other
+pub filled : (P : ℕ → ℕ → Type 0) (xs : List ℕ) (core value : ℕ) → core < length xs → ((c : ℕ) → c < core → P c (slice_index xs c)) → P core value →
+    (c : ℕ) → c < core + 1 → P c (slice_index (slice_set xs core value) c)
+filled P xs core value inside done here c lt = elim (ℕ_discrete c core) [
+  | yes e ↦
+      let same : slice_index (slice_set xs core value) core ≡ value = get_or-set_same xs core value 0 inside in
+      subst (λ (i : ℕ). P i (slice_index (slice_set xs core value) i)) (sym e) (subst (λ (n : ℕ). P core n) (sym same) here)
+  | no ne ↦ subst (λ (n : ℕ). P c n) (sym (get_or-set_other xs core c value 0 ne)) (done c (omega arith))
+]
+
+pub unfilled : (xs : List ℕ) (core value : ℕ) → ((c : ℕ) → core ≤ c → slice_index xs c ≡ 0) → (c : ℕ) → core + 1 ≤ c →
+    slice_index (slice_set xs core value) c ≡ 0
+unfilled xs core value rest c le = get_or-set_other xs core c value 0 (λ e. omega arith) ∙ rest c (omega arith)
 
 -- the counts of a recording's cores, and 0 at the other places
 pub record IsCountsOf (r : Recording) (f : ℕ → ℕ) (cut : Cut) : Type 0 where

@@ -88,10 +88,10 @@ module _ (p : Plan) (cut : Cut) where
 -- ---- one state
 
 module _ (which : Which) (r : Recording) (valid : Valid r) (whole : List ℕ) (decides : Decides (plan_of which r) whole) (cut : Cut) where
-  p : Plan
+  abbrev p : Plan
   p = plan_of which r
 
-  q : Plan
+  abbrev q : Plan
   q = cut_plan (plan_of which r) cut
 
   agrees : (order : List ℕ) → IsReplayOrder (plan_of which r) order → Agrees (plan_of which r) whole order
@@ -141,7 +141,7 @@ module _ (p : Plan) (cut : Cut) (f : ℕ → ℕ)
     -- and no core that has not come so far is ready
     (none : (c : ℕ) → f c < count_in cut c → Ready p f c → ⊥) where
   -- what a front of the order has of the cut, the counts have
-  HasFront : (ℕ → ℕ) → Type 0
+  abbrev HasFront : (ℕ → ℕ) → Type 0
   HasFront g = (c n : ℕ) → n ≤ g c → n ≤ count_in cut c → n ≤ f c
 
   -- the core's next instruction is in the cut: its sources are in the cut and in the front
@@ -176,7 +176,7 @@ module _ (p : Plan) (cut : Cut) (f : ℕ → ℕ)
           let s : g d ≡ g c = ap g e in
           let t : f d ≡ f c = ap f e in
           let v : count_in cut d ≡ count_in cut c = ap (λ (i : ℕ). count_in cut i) e in
-          let le = next_in g c has ready (omega arith) in
+          let there = next_in g c has ready (omega arith) in
           omega arith
 
   along : (g : ℕ → ℕ) (order : List ℕ) → HasFront g → Ordered p g order → HasFront (counts g order)

@@ -7,7 +7,7 @@ use Rattle.log_codec.specs.declared.recording.Recording.{Recording}
 use Rattle.cut_replay.specs.CutStates.{OneStateLaw}
 use Rattle.cut_replay.specs.ClosedCuts.{count_in, IsContained, IsCutOf, OneLeastCutLaw, OneGreatestCutLaw}
 
-cut_of : ℕ → List ℕ → Cut
+abbrev cut_of : ℕ → List ℕ → Cut
 cut_of cores counts = record { cores = cores; counts = counts }
 
 -- cuts that are contained in each other

@@ -2,6 +2,7 @@
 use Rattle.std.proofs.Common.{inl, inr, ◌≡◌, ◌≢◌, ◌⊎◌, ℕ, ◌+◌, ◌<◌, ◌≤◌, ◌↔◌, Bool, true, false, IsTrue, List, [], ◌∷◌, ◌++◌, length, refl, sym, ap, ◌∙◌, subst, arith}
 use Rattle.std.specs.Prelude.{slice_index, Option}
 use Rattle.std.specs.List.{Contains}
+use Rattle.rtr_types.specs.declared.TheConstants.{CORES_MAX}
 use Rattle.rtr_types.specs.declared.access.Access.{Access}
 use Rattle.rtr_types.specs.declared.cut.Cut.{Cut}
 use Rattle.rtr_types.specs.declared.instr.Instr.{Instr}
@@ -42,8 +43,9 @@ in_or_past : (c n : ℕ) → (c < n) ⊎ (n ≤ c)
 in_or_past c n = grind arith
 
 pub way_start : (which : Which) (r : Recording) (cut : Cut) (u : UnderWay) → IsClosed which r cut → u.plan ≡ plan_of which r →
-    u.state ≡ start (plan_of which r) → IsOnTheWay which r cut u
-way_start which r cut u closed plan_is state_is = record {
+    u.state ≡ start (plan_of which r) → Valid r → IsOnTheWay which r cut u
+way_start which r cut u closed plan_is state_is valid = record {
+  valid = valid;
   closed = closed;
   plan_is = plan_is;
   order = [];
@@ -52,11 +54,14 @@ way_start which r cut u closed plan_is state_is = record {
   within = λ core. omega arith;
 }
 
-module _ {which : Which} {r : Recording} (valid : Valid r) {cut : Cut} {u : UnderWay} (way : IsOnTheWay which r cut u) where
-  p : Plan
+module _ {which : Which} {r : Recording} {cut : Cut} {u : UnderWay} (way : IsOnTheWay which r cut u) where
+  valid : Valid r
+  valid = way.valid
+
+  abbrev p : Plan
   p = plan_of which r
 
-  f : ℕ → ℕ
+  abbrev f : ℕ → ℕ
   f = counts nought way.order
 
   pub counts_are : counts_in u.state ≡ counts nought way.order
@@ -74,6 +79,9 @@ module _ {which : Which} {r : Recording} (valid : Valid r) {cut : Cut} {u : Unde
   in_total : (c : ℕ) → c < length u.plan.totals → count_in cut c ≤ slice_index r.totals c
   in_total c lt = way.closed.is_cut.most c (let a = all_cores in let b = valid.each_core in omega arith)
 
+  pub few_cores : (c : ℕ) → c < length u.plan.totals → c < CORES_MAX
+  few_cores c lt = let a = all_cores in let b = valid.each_core in let m = valid.params.cores in omega arith
+
   -- ---- the next instruction of a core
 
   module _ (c : ℕ) (inside : c < length u.plan.totals) (count : ℕ) (count_is : count ≡ counts_in u.state c) where
@@ -86,7 +94,7 @@ module _ {which : Which} {r : Recording} (valid : Valid r) {cut : Cut} {u : Unde
 
     module _ (below : count < count_in cut c) (clock : List ℕ)
         (is : IsClock (Among (log_edges which r)) (instr c (count + 1)) (λ i. slice_index clock i)) where
-      next : Instr
+      abbrev next : Instr
       next = instr c (count + 1)
 
       here : count ≡ counts nought way.order c
@@ -156,7 +164,7 @@ module _ {which : Which} {r : Recording} (valid : Valid r) {cut : Cut} {u : Unde
     within_on : (i : ℕ) → counts nought (way.order ++ c ∷ []) i ≤ count_in cut i
     within_on i = elim (ℕ_discrete i c) [
       | yes e ↦
-          let on = ap (λ (g : ℕ → ℕ). g i) (counts_on nought way.order (c ∷ [])) in
+          let on : counts nought (way.order ++ c ∷ []) i ≡ bump f c i = ap (λ (g : ℕ → ℕ). g i) (counts_on nought way.order (c ∷ [])) in
           let more = bump_same f c i e in
           let s : f i ≡ f c = ap f e in
           let t : count_in cut i ≡ count_in cut c = ap (λ (k : ℕ). count_in cut k) e in
@@ -164,7 +172,7 @@ module _ {which : Which} {r : Recording} (valid : Valid r) {cut : Cut} {u : Unde
           let same = count_at c in
           omega arith
       | no ne ↦
-          let on = ap (λ (g : ℕ → ℕ). g i) (counts_on nought way.order (c ∷ [])) in
+          let on : counts nought (way.order ++ c ∷ []) i ≡ bump f c i = ap (λ (g : ℕ → ℕ). g i) (counts_on nought way.order (c ∷ [])) in
           let same = bump_else f c i ne in
           let le = way.within i in
           omega arith
@@ -199,6 +207,7 @@ module _ {which : Which} {r : Recording} (valid : Valid r) {cut : Cut} {u : Unde
 
         pub way_on : IsOnTheWay which r cut w
         way_on = record {
+          valid = way.valid;
           closed = way.closed;
           plan_is = kept ∙ same_plan ∙ way.plan_is;
           order = way.order ++ c ∷ [];

@@ -3,6 +3,7 @@ use Rattle.std.specs.Prelude.{◌≡◌, ◌≢◌, ℕ, ◌<◌, ◌≤◌, tru
 use Rattle.rtr_types.specs.declared.cut.Cut.{Cut}
 use Rattle.rtr_types.specs.declared.pairs.Which.{Which}
 use Rattle.log_codec.specs.declared.recording.Recording.{Recording}
+use Rattle.log_codec.specs.Validity.{Valid}
 use Rattle.replay_core.specs.Plans.{plan_of}
 use Rattle.replay_core.specs.Play.{played}
 use Rattle.replay_core.specs.Orders.{counts, counts_in, nought, IsReplayOrder, is_ready}
@@ -11,6 +12,7 @@ use Rattle.cut_replay.specs.ClosedCuts.{count_in, IsClosed}
 
 -- a replay order within the cut was played
 pub record IsOnTheWay (which : Which) (r : Recording) (cut : Cut) (replay : UnderWay) : Type 0 where
+  pub valid : Valid r
   pub closed : IsClosed which r cut
   pub plan_is : replay.plan ≡ plan_of which r
   pub order : List ℕ
