@@ -2,6 +2,8 @@
 //! words of its command line to the top call, and ends with the status of the answer.
 #![tactic(auto)]
 
+mod progress;
+
 use rtr_cli::run_tool;
 use rtr_io::{StdSink, StdSource, write_all};
 use state_text::{Exit, fault_text};
@@ -14,6 +16,7 @@ fn main(rt: HostRuntime) -> ExitCode {
     let mut input = StdSource::new(rt.stdin());
     let mut output = StdSink::new(rt.stdout());
     let mut report = StdSink::new(rt.stderr());
+    progress::show(&rt, rt.stderr());
     let exit = match words(&rt) {
         Ok(words) => run_tool(
             rt.alloc(),

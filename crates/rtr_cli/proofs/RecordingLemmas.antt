@@ -25,19 +25,9 @@ use Rattle.state_text.specs.declared.exit.Exit.TheVariants as exits
 use Rattle.tool_words.specs.declared.command.RunWords.{RunWords}
 use Rattle.image_elf.specs.declared.elf_fault.ElfFault.{ElfFault}
 use Rattle.tool_words.specs.declared.command.Command.TheVariants.{Certify, Record, Replay}
-use Rattle.conflict_edge.specs.Least.{IsLeast}
-use Rattle.log_codec.specs.Sources.{log_edges}
-use Rattle.rtr_types.specs.declared.access.Access.{Access}
-use Rattle.replay_audit.specs.Determinate.{IsDeterminate}
-use Rattle.run_plays.specs.Orders.{order_of}
-use Rattle.run_plays.proofs.RunLaws.{of_run, reduced_order, run_is_play}
-use Rattle.min_certificate.specs.Laws.{IsLeastIn}
-use Rattle.min_certificate.specs.declared.answers.CertFault.TheVariants as certs
-use Rattle.min_certificate.specs.declared.answers.CheckFailure.{CheckFailure}
-use Rattle.min_certificate.specs.declared.answers.CheckFailure.TheVariants as failures
-use Rattle.min_certificate.proofs.Judged.{least_is_certified}
-use Rattle.min_certificate.proofs.Lows.{any_order_is_least}
-use Rattle.rtr_cli.specs.Commands.{AuditEnds, IsNotLeast, KeepsRun, Promised, Refuses, SpellsSome, image_of, loaded, replay_lines}
+use Rattle.rtr_cli.specs.Commands.{AuditEnds, KeepsRun, Promised, SpellsSome, image_of, loaded, replay_lines}
+use Rattle.rtr_cli.specs.Completeness.{IsOfRecord}
+use Rattle.rtr_cli.proofs.AcceptedLemmas.{accepted_is_not_refused}
 
 pub recorded_image : (image : Contents) (params : Params) (schedule : Choices)
     → (recording_of image params schedule).image ≡ image.bytes
@@ -50,72 +40,6 @@ recorded_image image params schedule = refl
 of_read : (bytes : List ℕ) (r : Recording) (P : Recording → Type 0) → whole_at bytes ≡ Ok r → SpellsSome (whole_at bytes) P → P r
 of_read bytes r P is h = subst (λ (read : Result Recording ℕ). SpellsSome read P) is h
 
--- what an audit of a recording answers, of which it is known that it lacks nothing but memory
-only_memory : (which : Which) (loads : Bool) (bytes : List ℕ) (r : Recording) (exit : Exit) → whole_at bytes ≡ Ok r
-    → ((fault : AuditFault) → AuditRefuses which r fault → fault ≡ faults.OutOfMemory)
-    → Refuses (Replay which loads) bytes exit → exit ≡ exits.OutOfMemory
-only_memory which loads bytes r (exits.Bad part) is knows it = let read : Ok r ≡ Err part = sym is ∙ it in absurd cc
-only_memory which loads bytes r (exits.Stuck cut) is knows it =
-    let none = knows (faults.Stuck cut) (of_read bytes r (λ q. AuditRefuses which q (faults.Stuck cut)) is it) in absurd cc
-only_memory which loads bytes r (exits.Short core count) is knows it =
-    let none = knows (faults.Short core count) (of_read bytes r (λ q. AuditRefuses which q (faults.Short core count)) is it) in
-    absurd cc
-only_memory which loads bytes r (exits.Undetermined first second) is knows it =
-    let none = knows (faults.Undetermined first second)
-    (of_read bytes r (λ q. AuditRefuses which q (faults.Undetermined first second)) is it) in
-    absurd cc
-only_memory which loads bytes r (exits.CheckFailed failure) is knows it = absurd it
-only_memory which loads bytes r exits.OutOfMemory is knows it = refl
-only_memory which loads bytes r exits.Done is knows it = absurd it
-only_memory which loads bytes r exits.Usage is knows it = absurd it
-only_memory which loads bytes r exits.TooLarge is knows it = absurd it
-only_memory which loads bytes r exits.ReadFault is knows it = absurd it
-only_memory which loads bytes r exits.WriteFault is knows it = absurd it
-only_memory which loads bytes r (exits.Elf fault) is knows it = absurd it
-
--- an edge that isn't in the least log, of a recording whose log is least
-none_amiss : (r : Recording) (failure : CheckFailure) → IsLeastIn r → IsNotLeast r failure → ⊥
-none_amiss r (failures.NotConflict edge) least amiss = amiss
-none_amiss r (failures.BadClock core entry) least amiss = amiss
-none_amiss r (failures.NotNeeded edge) least amiss = amiss
-none_amiss r (failures.NotLeast edge) least amiss =
-    let none : certs.NotLeast edge ≡ certs.OutOfMemory = least_is_certified r (certs.NotLeast edge) least amiss.1 in absurd cc
-
--- what a certification answers of such a recording
-certified_memory : (bytes : List ℕ) (r : Recording) (exit : Exit) → whole_at bytes ≡ Ok r
-    → ((fault : AuditFault) → AuditRefuses Reduced r fault → fault ≡ faults.OutOfMemory) → IsLeastIn r
-    → Refuses Certify bytes exit → exit ≡ exits.OutOfMemory
-certified_memory bytes r (exits.Bad part) is knows least it = let read : Ok r ≡ Err part = sym is ∙ it in absurd cc
-certified_memory bytes r (exits.Stuck cut) is knows least it =
-    let none = knows (faults.Stuck cut) (of_read bytes r (λ q. AuditRefuses Reduced q (faults.Stuck cut)) is it) in absurd cc
-certified_memory bytes r (exits.Short core count) is knows least it =
-    let none = knows (faults.Short core count) (of_read bytes r (λ q. AuditRefuses Reduced q (faults.Short core count)) is it) in
-    absurd cc
-certified_memory bytes r (exits.Undetermined first second) is knows least it =
-    let none = knows (faults.Undetermined first second)
-    (of_read bytes r (λ q. AuditRefuses Reduced q (faults.Undetermined first second)) is it) in
-    absurd cc
-certified_memory bytes r (exits.CheckFailed failure) is knows least it =
-    absurd (none_amiss r failure least (of_read bytes r (λ q. IsNotLeast q failure) is it))
-certified_memory bytes r exits.OutOfMemory is knows least it = refl
-certified_memory bytes r exits.Done is knows least it = absurd it
-certified_memory bytes r exits.Usage is knows least it = absurd it
-certified_memory bytes r exits.TooLarge is knows least it = absurd it
-certified_memory bytes r exits.ReadFault is knows least it = absurd it
-certified_memory bytes r exits.WriteFault is knows least it = absurd it
-certified_memory bytes r (exits.Elf fault) is knows least it = absurd it
-
--- the reduced log is the least set of the low order's accesses too, as it is of those of the order of retirement
-least_in_low : (image : Contents) (params : Params) (schedule : Choices) → Fits params → image.words ≡ params.words
-    → IsRecorded image params schedule → IsDeterminate Reduced (recording_of image params schedule)
-    → IsLeastIn (recording_of image params schedule)
-least_in_low image params schedule fits words recorded determinate =
-    let r : Recording = recording_of image params schedule in
-    let plays = run_is_play image params schedule r Reduced fits words (of_run image params schedule) in
-    any_order_is_least r (order_of image params schedule) recorded.valid determinate
-    (reduced_order image params schedule fits words) plays.whole
-    (subst (λ (list : List Access). IsLeast list (log_edges Reduced r)) (sym plays.accesses) recorded.least)
-
 pub keeps_run : (params : Params) (choices : List ℕ) (seed : ℕ) (input : List ℕ) → Fits params
     → length input ≤ 4 * params.words → KeepsRun params choices seed input
 keeps_run params choices seed input fits room =
@@ -125,6 +49,10 @@ keeps_run params choices seed input fits room =
     let recorded = recorded_law image params schedule fits refl room in
     let replays : (which : Which) → ReplaysRun image params schedule which r = λ which.
     both_replay image params schedule which fits refl room in
+    let of_record : IsOfRecord r =
+    record { params = params; choices = choices; seed = seed; bytes = input; fits = fits; room = room; recorded = refl } in
+    let accepted : SpellsSome (whole_at (spelling r)) IsOfRecord =
+    subst (λ (read : Result Recording ℕ). SpellsSome read IsOfRecord) (sym recorded.read_back) of_record in
     record {
       recorded = recorded;
       regulates = run_regulated image params schedule fits refl room;
@@ -138,11 +66,8 @@ keeps_run params choices seed input fits room =
                 subst (λ (read : Result Recording ℕ). SpellsSome read (λ q. out ≡ replay_lines which loads q)) (sym recorded.read_back)
                 (ran ∙ sym same)),
           );
-      refuses = λ which loads exit it.
-          only_memory which loads (spelling r) r exit recorded.read_back (replays which).answers.not_audited it;
-      certified = λ exit it.
-          certified_memory (spelling r) r exit recorded.read_back (replays Reduced).answers.not_audited
-          (least_in_low image params schedule fits refl recorded (replays Reduced).determinate) it;
+      refuses = λ which loads exit it. accepted_is_not_refused (Replay which loads) (spelling r) exit accepted it;
+      certified = λ exit it. accepted_is_not_refused Certify (spelling r) exit accepted it;
     }
 
 -- so the promise of `record` stands whatever its options are and whatever image its input is

@@ -1,5 +1,6 @@
 //! What the commands' definitions promise of their outputs.
 ghost use Rattle.rtr_cli.specs.Commands.{CertifiedIsAccepted, MigratedReadsTheSame, NewestStays};
+ghost use Rattle.rtr_cli.specs.Completeness.{AcceptedIsNotRefused, WrittenIsAccepted};
 
 /// What `migrate` makes of a recording of either version reads as the recording does, and it leaves the
 /// bytes of one of the newest version as they are.
@@ -11,4 +12,11 @@ pub fn migrate_laws()
 /// What `certify` makes, `check` accepts, unless memory runs out.
 pub fn certify_laws()
     ensures { CertifiedIsAccepted }
+{}
+
+/// What a command accepts it refuses for want of memory alone, and what `record`, `migrate` and `certify` write is
+/// accepted by the commands that read it.
+pub fn completeness_laws()
+    ensures accepted { AcceptedIsNotRefused }
+    ensures written { WrittenIsAccepted }
 {}

@@ -7,6 +7,6 @@ mod soak_texts;
 mod soaks;
 mod tool;
 
-pub use laws::{certify_laws, migrate_laws};
+pub use laws::{certify_laws, completeness_laws, migrate_laws};
 pub use soak_texts::soak_text;
 pub use tool::run_tool;

@@ -1,5 +1,5 @@
 //! The top call.
-ghost use Rattle.std.specs.Prelude.{◌≡◌, ◌≢◌, ◌↔◌, ◌≤◌, ◌⊎◌, IfOk, IsErrOf, None, Some, map, string_bytes};
+ghost use Rattle.std.specs.Prelude.{◌≡◌, ◌≢◌, ◌↔◌, ◌≤◌, ◌⊎◌, ℕ, IfOk, IsErrOf, List, None, Some, map, string_bytes};
 ghost use Rattle.std.specs.Io.KnownBytes.{Keeps};
 ghost use Rattle.rtr_io.specs.Faults.{HasRisen, IsUnlessFault};
 ghost use Rattle.state_text.specs.Exits.{fault_line};
@@ -7,6 +7,7 @@ ghost use Rattle.tool_words.specs.Commands.{HasFittingParams};
 ghost use Rattle.tool_words.specs.Reading.{meaning};
 ghost use Rattle.rtr_cli.specs.Answers.{Answers, HasMore, IsTaken, Tells};
 ghost use Rattle.rtr_cli.specs.Commands.{most_of};
+ghost use Rattle.rtr_cli.specs.Completeness.{Accepts, EndsWell, HasLeft, IsFaultless};
 ghost use Rattle.tool_words.specs.declared.command.Command.{Command};
 
 use crate::commands::{make, most_of};
@@ -62,6 +63,12 @@ pub fn run_tool<I: Source, O: Sink, E: Sink>(
         most_of command ≡ None → Keeps (I.left input.old) (I.left input.new)
         × (I.faults input.new ≡ I.faults input.old) }
 
+    // Of what it accepts a command makes its whole output, unless memory runs out or a stream fails.
+    ensures complete { (command : Command) (bytes : List ℕ) → meaning (map string_bytes words.now) ≡ Some command →
+        HasLeft (most_of command) (I.left input.old) bytes → Accepts command bytes →
+        IsFaultless (I.faults input.old) (I.faults input.new) →
+        IsFaultless (O.faults output.old) (O.faults output.new) → EndsWell result }
+
     ensures told { Tells (fault_line result) (E.got report.old) (E.got report.new) (E.faults report.old)
         (E.faults report.new) }
 {
@@ -91,6 +98,9 @@ fn perform<I: Source, O: Sink>(
     ensures no_write_fault { (result ≡ Exit.WriteFault) ⊎ (O.faults output.new ≡ O.faults output.old) }
     ensures untaken { most_of command ≡ None → Keeps (I.left input.old) (I.left input.new)
         × (I.faults input.new ≡ I.faults input.old) }
+    ensures complete { (bytes : List ℕ) → HasLeft (most_of command) (I.left input.old) bytes →
+        Accepts command bytes → IsFaultless (I.faults input.old) (I.faults input.new) →
+        IsFaultless (O.faults output.old) (O.faults output.new) → EndsWell result }
 {
     let bytes = match take(alloc, most_of(&command), input) {
         Ok(bytes) => bytes,

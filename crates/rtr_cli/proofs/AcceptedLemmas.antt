@@ -1,0 +1,170 @@
+-- What a command accepts it refuses for want of memory alone.
+use Rattle.std.proofs.Common.{◌≡◌, refl, sym, subst, ℕ, ◌*◌, ◌≤◌, List, arith}
+use Rattle.image_mem.specs.Contents.{Contents}
+use Rattle.certificate_codec.specs.declared.certificate.Certificate.{Certificate}
+use Rattle.certificate_codec.specs.Reading.{certificate_at}
+use Rattle.conflict_edge.specs.Least.{IsLeast}
+use Rattle.log_codec.specs.Reading.{whole_at}
+use Rattle.log_codec.specs.Sources.{log_edges}
+use Rattle.log_codec.specs.declared.recording.Recording.{Recording}
+use Rattle.min_certificate.specs.Answers.{CheckFails}
+use Rattle.min_certificate.specs.Laws.{IsLeastIn}
+use Rattle.min_certificate.specs.declared.answers.CertFault.TheVariants as certs
+use Rattle.min_certificate.specs.declared.answers.CheckFailure.{CheckFailure}
+use Rattle.min_certificate.specs.declared.answers.CheckFailure.TheVariants as failures
+use Rattle.min_certificate.specs.declared.answers.CheckFault.TheVariants as checks
+use Rattle.min_certificate.proofs.Judged.{least_is_certified, passed_is_accepted}
+use Rattle.min_certificate.proofs.Lows.{any_order_is_least}
+use Rattle.replay_audit.specs.declared.audit_fault.AuditFault.{AuditFault}
+use Rattle.replay_audit.specs.declared.audit_fault.AuditFault.TheVariants as faults
+use Rattle.replay_audit.specs.Audits.{AuditRefuses}
+use Rattle.replay_audit.specs.Determinate.{IsDeterminate}
+use Rattle.replay_audit.proofs.Refused.{refused_law}
+use Rattle.recorder.specs.Recordings.{IsRecorded, recording_of}
+use Rattle.run_plays.specs.Orders.{order_of}
+use Rattle.run_plays.proofs.RunLaws.{of_run, reduced_order, run_is_play}
+use Rattle.run_records.proofs.Recordings.{recorded_law}
+use Rattle.run_replays.proofs.BothLogs.{both_replay}
+use Rattle.schedule_pick.specs.Choices.{Choices, choices_of}
+use Rattle.rtr_types.specs.Parameters.{Fits}
+use Rattle.rtr_types.specs.declared.access.Access.{Access}
+use Rattle.rtr_types.specs.declared.pairs.Which.{Which}
+use Rattle.rtr_types.specs.declared.pairs.Which.TheVariants.{Reduced}
+use Rattle.rtr_types.specs.declared.params.Params.{Params}
+use Rattle.tool_words.specs.declared.command.Command.{Command}
+use Rattle.tool_words.specs.declared.command.Command.TheVariants.{Record, Run, Print, Replay, Migrate, Certify, Check, Gen, Soak}
+use Rattle.rtr_cli.specs.Commands.{IsNotLeast, image_of, loaded}
+use Rattle.rtr_cli.specs.Completeness.{Accepts, AcceptedIsNotRefused, IsOfCertify, IsOfRecord}
+use Rattle.rtr_cli.proofs.ReasonLemmas.{HasNoReason, both_said, is_read, memory_alone}
+
+-- ---- the least log
+
+-- an edge that isn't in the least log, of a recording whose log is least
+none_amiss : (r : Recording) (failure : CheckFailure) → IsLeastIn r → IsNotLeast r failure → ⊥
+none_amiss r (failures.NotConflict edge) least amiss = amiss
+none_amiss r (failures.BadClock core entry) least amiss = amiss
+none_amiss r (failures.NotNeeded edge) least amiss = amiss
+none_amiss r (failures.NotLeast edge) least amiss =
+    let none : certs.NotLeast edge ≡ certs.OutOfMemory = least_is_certified r (certs.NotLeast edge) least amiss.1 in absurd cc
+
+-- the reduced log is the least set of the low order's accesses too, as it is of those of the order of retirement
+least_in_low : (image : Contents) (params : Params) (schedule : Choices) → Fits params → image.words ≡ params.words
+    → IsRecorded image params schedule → IsDeterminate Reduced (recording_of image params schedule)
+    → IsLeastIn (recording_of image params schedule)
+least_in_low image params schedule fits words recorded determinate =
+    let r : Recording = recording_of image params schedule in
+    let plays = run_is_play image params schedule r Reduced fits words (of_run image params schedule) in
+    any_order_is_least r (order_of image params schedule) recorded.valid determinate
+    (reduced_order image params schedule fits words) plays.whole
+    (subst (λ (list : List Access). IsLeast list (log_edges Reduced r)) (sym plays.accesses) recorded.least)
+
+-- ---- no reason to refuse what is accepted
+
+-- no audit refuses what `record` makes
+not_audited : (which : Which) (r : Recording) (fault : AuditFault) → IsOfRecord r → AuditRefuses which r fault → fault ≡ faults.OutOfMemory
+not_audited which r fault h refuses =
+    (both_replay (image_of h.params h.bytes) h.params (choices_of h.choices h.seed) which h.fits refl h.room).answers.not_audited fault
+    (subst (λ (q : Recording). AuditRefuses which q fault) h.recorded refuses)
+
+-- its reduced log is least
+not_amiss : (r : Recording) (failure : CheckFailure) → IsOfRecord r → IsNotLeast r failure → ⊥
+not_amiss r failure h amiss =
+    let image : Contents = image_of h.params h.bytes in
+    let schedule : Choices = choices_of h.choices h.seed in
+    none_amiss (recording_of image h.params schedule) failure
+    (least_in_low image h.params schedule h.fits refl (recorded_law image h.params schedule h.fits refl h.room)
+    (both_replay image h.params schedule Reduced h.fits refl h.room).determinate)
+    (subst (λ (q : Recording). IsNotLeast q failure) h.recorded amiss)
+
+-- the recording of a certificate that `certify` makes is determinate, no audit refuses it, and the certificate passes
+determinate_of : (c : Certificate) → IsOfCertify c → IsDeterminate Reduced c.recording
+determinate_of c h = subst (λ (q : Recording). IsDeterminate Reduced q) (sym h.certifies.recording) h.determinate
+
+certificate_not_audited : (c : Certificate) (fault : AuditFault) → IsOfCertify c → AuditRefuses Reduced c.recording fault → fault ≡ faults.OutOfMemory
+certificate_not_audited c faults.OutOfMemory h refuses = refl
+certificate_not_audited c (faults.Stuck cut) h refuses = absurd (refused_law Reduced c.recording (faults.Stuck cut) refuses (λ e. absurd cc) (determinate_of c h))
+certificate_not_audited c (faults.Short core count) h refuses =
+    absurd (refused_law Reduced c.recording (faults.Short core count) refuses (λ e. absurd cc) (determinate_of c h))
+certificate_not_audited c (faults.Undetermined first second) h refuses =
+    absurd (refused_law Reduced c.recording (faults.Undetermined first second) refuses (λ e. absurd cc) (determinate_of c h))
+
+certificate_passes : (c : Certificate) (failure : CheckFailure) → IsOfCertify c → CheckFails c failure → ⊥
+certificate_passes c failure h fails =
+    let none : checks.Failed failure ≡ checks.OutOfMemory =
+    passed_is_accepted c (checks.Failed failure) (determinate_of c h) h.certifies.passes fails in
+    absurd cc
+
+pub no_reason : (command : Command) (input : List ℕ) → Accepts command input → HasNoReason command input
+no_reason (Record run) input a = record {
+  read = λ part h. h;
+  audited = λ fault h. absurd h;
+  shown = λ failure h. h;
+  faultless = λ fault h. is_read (loaded run input) (λ bytes. Unit {0}) fault a h;
+  holds = λ h. h;
+}
+no_reason (Run run loads) input a = record {
+  read = λ part h. h;
+  audited = λ fault h. absurd h;
+  shown = λ failure h. h;
+  faultless = λ fault h. is_read (loaded run input) (λ bytes. Unit {0}) fault a h;
+  holds = λ h. h;
+}
+no_reason Print input a = record {
+  read = λ part h. is_read (whole_at input) (λ r. Unit {0}) part a h;
+  audited = λ fault h. absurd h;
+  shown = λ failure h. h;
+  faultless = λ fault h. h;
+  holds = λ h. h;
+}
+no_reason (Replay which loads) input a = record {
+  read = λ part h. is_read (whole_at input) IsOfRecord part a h;
+  audited = λ fault h.
+      both_said (whole_at input) IsOfRecord (λ r. AuditRefuses which r fault) (fault ≡ faults.OutOfMemory)
+      (λ r is it. not_audited which r fault is it) a h;
+  shown = λ failure h. h;
+  faultless = λ fault h. h;
+  holds = λ h. h;
+}
+no_reason Migrate input a = record {
+  read = λ part h. is_read (whole_at input) (λ r. Unit {0}) part a h;
+  audited = λ fault h. absurd h;
+  shown = λ failure h. h;
+  faultless = λ fault h. h;
+  holds = λ h. h;
+}
+no_reason Certify input a = record {
+  read = λ part h. is_read (whole_at input) IsOfRecord part a h;
+  audited = λ fault h.
+      both_said (whole_at input) IsOfRecord (λ r. AuditRefuses Reduced r fault) (fault ≡ faults.OutOfMemory)
+      (λ r is it. not_audited Reduced r fault is it) a h;
+  shown = λ failure h. both_said (whole_at input) IsOfRecord (λ r. IsNotLeast r failure) ⊥ (λ r is it. not_amiss r failure is it) a h;
+  faultless = λ fault h. h;
+  holds = λ h. h;
+}
+no_reason Check input a = record {
+  read = λ part h. is_read (certificate_at input) IsOfCertify part a h;
+  audited = λ fault h.
+      both_said (certificate_at input) IsOfCertify (λ c. AuditRefuses Reduced c.recording fault) (fault ≡ faults.OutOfMemory)
+      (λ c is it. certificate_not_audited c fault is it) a h;
+  shown = λ failure h.
+      both_said (certificate_at input) IsOfCertify (λ c. CheckFails c failure) ⊥ (λ c is it. certificate_passes c failure is it) a h;
+  faultless = λ fault h. h;
+  holds = λ h. h;
+}
+no_reason (Gen shape number) input a = record {
+  read = λ part h. h;
+  audited = λ fault h. absurd h;
+  shown = λ failure h. h;
+  faultless = λ fault h. h;
+  holds = λ h. h;
+}
+no_reason (Soak shape number params seed) input a = record {
+  read = λ part h. h;
+  audited = λ fault h. absurd h;
+  shown = λ failure h. h;
+  faultless = λ fault h. h;
+  holds = λ more. absurd (omega (arith, a, more));
+}
+
+pub accepted_is_not_refused : AcceptedIsNotRefused
+accepted_is_not_refused command input exit a it = memory_alone command input exit (no_reason command input a) it

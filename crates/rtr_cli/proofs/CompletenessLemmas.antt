@@ -1,0 +1,131 @@
+-- A command whose input is accepted ends at Done, unless memory runs out or a stream fails; and what a command wrote is
+-- accepted by those that read it.
+use Rattle.std.proofs.Common.{◌≡◌, ◌∙◌, refl, sym, ap, subst, ℕ, ◌+◌, ◌*◌, ◌≤◌, Bool, true, false, List, [], ◌++◌, length, Result, Ok, Err, inl, inr, arith}
+use Rattle.std.proofs.lemmas.List.{append-nil, length-append}
+use Rattle.std.specs.Prelude.{◌⊎◌, if◌then◌else◌, Option, Some, None}
+use Rattle.std.specs.Io.KnownBytes.{Consumes, IsAtEnd}
+use Rattle.image_mem.specs.Contents.{Contents}
+use Rattle.image_elf.specs.declared.elf_fault.ElfFault.{ElfFault}
+use Rattle.image_elf.specs.Faults.{elf_fault}
+use Rattle.image_elf.specs.FlatImage.{flat_image}
+use Rattle.image_elf.proofs.RoomLemmas.{flat_image_fits}
+use Rattle.log_codec.specs.Laws.{IsBytes}
+use Rattle.log_codec.specs.Reading.{whole_at}
+use Rattle.log_codec.specs.declared.recording.Recording.{Recording}
+use Rattle.run_records.proofs.Recordings.{recorded_law}
+use Rattle.rtr_io.specs.Moved.{TakesJust}
+use Rattle.rtr_types.specs.Parameters.{Fits}
+use Rattle.schedule_pick.specs.Choices.{choices_of}
+use Rattle.state_text.specs.declared.exit.Exit.{Exit}
+use Rattle.state_text.specs.declared.exit.Exit.TheVariants as exits
+use Rattle.tool_words.specs.declared.command.Command.{Command}
+use Rattle.tool_words.specs.declared.command.Command.TheVariants.{Certify, Migrate, Record}
+use Rattle.tool_words.specs.declared.command.RunWords.{RunWords}
+use Rattle.rtr_cli.specs.Answers.{Answers, GivesNothing, HasMore, IsRead, IsTaken}
+use Rattle.rtr_cli.specs.Commands.{Makes, Refuses, SpellsSome, file_bytes_max, image_of, loaded, most_of, recorded_bytes, recording_of_bytes}
+use Rattle.rtr_cli.specs.Commands.{run_bytes_max, unless_faulty}
+use Rattle.rtr_cli.specs.Completeness.{Accepts, EndsWell, HasLeft, IsOfRecord, RecordingIsAccepted, WrittenIsAccepted}
+use Rattle.rtr_cli.proofs.AcceptedLemmas.{accepted_is_not_refused, no_reason}
+use Rattle.rtr_cli.proofs.Certified.{check_accepts}
+use Rattle.rtr_cli.proofs.Migrated.{migrated_reads_the_same}
+
+-- ---- what the top call answers
+
+-- what was taken is what the input had left
+all_taken : (left' : Option (List ℕ)) (bytes taken : List ℕ) → Consumes (Some bytes) left' taken → IsAtEnd left' → taken ≡ bytes
+all_taken None bytes taken was end = absurd was
+all_taken (Some rest) bytes taken was end = sym (append-nil taken) ∙ ap (λ (ys : List ℕ). taken ++ ys) (sym end) ∙ sym was
+
+taken_is_left : (most : Option ℕ) (left left' : Option (List ℕ)) (bytes taken : List ℕ) → HasLeft most left bytes → IsTaken most left left' taken → taken ≡ bytes
+taken_is_left None left left' bytes taken is was = was.1 ∙ sym is
+taken_is_left (Some most) left left' bytes taken is was =
+    all_taken left' bytes taken (subst (λ (old : Option (List ℕ)). Consumes old left' taken) is.0 was.taken) was.end
+
+-- no more was left than the command takes
+not_so_many : (most : ℕ) (left' : Option (List ℕ)) (bytes taken : List ℕ) → length bytes ≤ most → length taken ≡ most + 1
+    → Consumes (Some bytes) left' taken → ⊥
+not_so_many most None bytes taken within more was = was
+not_so_many most (Some rest) bytes taken within more was =
+    let long : length bytes ≡ length taken + length rest = ap (length {A = ℕ}) was ∙ length-append taken rest in
+    absurd (omega (arith, within, more, long))
+
+not_more : (most : Option ℕ) (left left' : Option (List ℕ)) (bytes : List ℕ) → HasLeft most left bytes → HasMore most left left' → ⊥
+not_more None left left' bytes is more = more
+not_more (Some most) left left' bytes is more =
+    not_so_many most left' bytes more.0 is.1 more.1 (subst (λ (old : Option (List ℕ)). Consumes old left' more.0) is.0 more.2)
+
+-- a call that gave nothing lacked memory
+lacks_memory : (command : Command) (exit : Exit) (left left' got got' : Option (List ℕ)) (bytes : List ℕ) → HasLeft (most_of command) left bytes
+    → Accepts command bytes → GivesNothing command exit left left' got got' → EndsWell exit
+lacks_memory command exit left left' got got' bytes is a h =
+    let same : h.0 ≡ bytes = taken_is_left (most_of command) left left' bytes h.0 is h.1 in
+    inr (accepted_is_not_refused command bytes exit a (subst (λ (input : List ℕ). Refuses command input exit) same h.2))
+
+pub ends_well : (command : Command) (exit : Exit) (left left' got got' : Option (List ℕ)) (bytes : List ℕ) → HasLeft (most_of command) left bytes
+    → Accepts command bytes → Answers command exit left left' got got' → (exit ≡ exits.ReadFault → ⊥) → (exit ≡ exits.WriteFault → ⊥)
+    → EndsWell exit
+ends_well command exits.Done left left' got got' bytes is a h read write = inl refl
+ends_well command exits.OutOfMemory left left' got got' bytes is a h read write = inr refl
+ends_well command exits.ReadFault left left' got got' bytes is a h read write = absurd (read refl)
+ends_well command exits.WriteFault left left' got got' bytes is a h read write = absurd (write refl)
+ends_well command exits.Usage left left' got got' bytes is a h read write = absurd h
+ends_well command exits.TooLarge left left' got got' bytes is a (inl more, keeps) read write =
+    absurd (not_more (most_of command) left left' bytes is more)
+ends_well command exits.TooLarge left left' got got' bytes is a (inr over, keeps) read write = absurd ((no_reason command bytes a).holds over)
+ends_well command (exits.Bad part) left left' got got' bytes is a h read write = lacks_memory command (exits.Bad part) left left' got got' bytes is a h
+ends_well command (exits.Stuck cut) left left' got got' bytes is a h read write = lacks_memory command (exits.Stuck cut) left left' got got' bytes is a h
+ends_well command (exits.Short core count) left left' got got' bytes is a h read write =
+    lacks_memory command (exits.Short core count) left left' got got' bytes is a h
+ends_well command (exits.Undetermined first second) left left' got got' bytes is a h read write =
+    lacks_memory command (exits.Undetermined first second) left left' got got' bytes is a h
+ends_well command (exits.CheckFailed failure) left left' got got' bytes is a h read write =
+    lacks_memory command (exits.CheckFailed failure) left left' got got' bytes is a h
+ends_well command (exits.Elf fault) left left' got got' bytes is a h read write = lacks_memory command (exits.Elf fault) left left' got got' bytes is a h
+
+-- ---- what a command wrote
+
+-- the image of a run fits the memory
+fits_by : (elf : Bool) (fault : Option ElfFault) (words : ℕ) (input bytes : List ℕ) → elf_fault input words ≡ fault
+    → length input ≤ (if elf then file_bytes_max else 4 * words) → (if elf then unless_faulty (flat_image input) fault else Ok input) ≡ Ok bytes
+    → length bytes ≤ 4 * words
+fits_by false fault words input bytes e within is =
+    let same : input ≡ bytes = cc in
+    subst (λ (b : List ℕ). length b ≤ 4 * words) same within
+fits_by true None words input bytes e within is =
+    let same : flat_image input ≡ bytes = cc in
+    subst (λ (b : List ℕ). length b ≤ 4 * words) same (flat_image_fits input words e)
+fits_by true (Some fault) words input bytes e within is = absurd cc
+
+loaded_fits : (run : RunWords) (input bytes : List ℕ) → length input ≤ run_bytes_max run → loaded run input ≡ Ok bytes
+    → length bytes ≤ 4 * run.params.words
+loaded_fits run input bytes within is = fits_by run.elf (elf_fault input run.params.words) run.params.words input bytes refl within is
+
+accepted_recording : (out : List ℕ) (r : Recording) → whole_at out ≡ Ok r → IsOfRecord r → RecordingIsAccepted out
+accepted_recording out r is h =
+    let of_record : SpellsSome (whole_at out) IsOfRecord = subst (λ (read : Result Recording ℕ). SpellsSome read IsOfRecord) (sym is) h in
+    let any : SpellsSome (whole_at out) (λ q. Unit {0}) = subst (λ (read : Result Recording ℕ). SpellsSome read (λ q. Unit {0})) (sym is) tt in
+    record { printed = any; replayed = λ which loads. of_record; migrated = any; certified = of_record }
+
+recorded_is_accepted : (run : RunWords) (out bytes : List ℕ) → Fits run.params → length bytes ≤ 4 * run.params.words → out ≡ recorded_bytes run bytes
+    → RecordingIsAccepted out
+recorded_is_accepted run out bytes fits room made =
+    let recorded = recorded_law (image_of run.params bytes) run.params (choices_of run.choices run.seed) fits refl room in
+    accepted_recording out (recording_of_bytes run.params run.choices run.seed bytes) (ap whole_at made ∙ recorded.read_back)
+    (record { params = run.params; choices = run.choices; seed = run.seed; bytes = bytes; fits = fits; room = room; recorded = refl })
+
+made_of_loaded : (run : RunWords) (input out : List ℕ) (found : Result (List ℕ) ElfFault) → loaded run input ≡ found → Fits run.params
+    → length input ≤ run_bytes_max run → SpellsSome found (λ bytes. out ≡ recorded_bytes run bytes) → RecordingIsAccepted out
+made_of_loaded run input out (Ok bytes) is fits within made =
+    recorded_is_accepted run out bytes fits (loaded_fits run input bytes within is) made
+made_of_loaded run input out (Err fault) is fits within made = absurd made
+
+migrated_of : (out : List ℕ) (read : Result Recording ℕ) → whole_at out ≡ read → SpellsSome read IsOfRecord → RecordingIsAccepted out
+migrated_of out (Ok r) is h = accepted_recording out r is h
+migrated_of out (Err part) is h = absurd h
+
+pub written_is_accepted : WrittenIsAccepted
+written_is_accepted = record {
+  recorded = λ run input out fits within made. made_of_loaded run input out (loaded run input) refl fits within made;
+  migrated = λ input out bytes made a. migrated_of out (whole_at input) (migrated_reads_the_same input out bytes made) a;
+  certified = check_accepts;
+}

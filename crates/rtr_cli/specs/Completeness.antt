@@ -1,0 +1,89 @@
+-- The inputs of which each command makes an output, unless memory runs out: among them whatever another command wrote.
+use Rattle.std.specs.Prelude.{◌≡◌, ℕ, ◌*◌, ◌≤◌, ◌⊎◌, List, [], length, Option, Some, None}
+use Rattle.certificate_codec.specs.declared.certificate.Certificate.{Certificate}
+use Rattle.certificate_codec.specs.Reading.{certificate_at}
+use Rattle.log_codec.specs.Laws.{IsBytes}
+use Rattle.log_codec.specs.Reading.{whole_at}
+use Rattle.log_codec.specs.declared.recording.Recording.{Recording}
+use Rattle.min_certificate.specs.Answers.{Certifies}
+use Rattle.replay_audit.specs.Determinate.{IsDeterminate}
+use Rattle.rtr_io.specs.Faults.{HasRisen}
+use Rattle.rtr_types.specs.Parameters.{Fits}
+use Rattle.rtr_types.specs.declared.pairs.Which.{Which}
+use Rattle.rtr_types.specs.declared.pairs.Which.TheVariants.{Reduced}
+use Rattle.rtr_types.specs.declared.params.Params.{Params}
+use Rattle.state_text.specs.declared.exit.Exit.{Exit}
+use Rattle.state_text.specs.declared.exit.Exit.TheVariants as exits
+use Rattle.tool_words.specs.declared.command.Command.{Command}
+use Rattle.tool_words.specs.declared.command.Command.TheVariants.{Record, Run, Print, Replay, Migrate, Certify, Check}
+use Rattle.tool_words.specs.declared.command.Command.TheVariants.{Gen, Soak}
+use Rattle.tool_words.specs.declared.command.RunWords.{RunWords}
+use Rattle.trace_gen.specs.Programs.{image_length}
+use Rattle.rtr_cli.specs.Commands.{Makes, Promised, Refuses, SpellsSome, loaded, recording_of_bytes, run_bytes_max}
+
+-- the recording is one that `record` makes: that of a run of an image that the memory holds, within the limits
+pub record IsOfRecord (r : Recording) : Type 0 where
+  pub params : Params
+  pub choices : List ℕ
+  pub seed : ℕ
+  pub bytes : List ℕ
+  pub fits : Fits params
+  pub room : length bytes ≤ 4 * params.words
+  pub recorded : r ≡ recording_of_bytes params choices seed bytes
+
+-- the certificate is one that `certify` makes: of a determinate recording, with exact entries
+pub record IsOfCertify (c : Certificate) : Type 0 where
+  pub recording : Recording
+  pub determinate : IsDeterminate Reduced recording
+  pub certifies : Certifies recording c
+
+-- the command makes an output of this input, unless memory runs out: of an image or a faultless ELF file; of any
+-- recording, of either version, or of one that `record` makes; of a certificate that `certify` makes, whose recording
+-- is spelled in either version; or of a generated image that the memory holds
+abbrev pub Accepts : Command → (input : List ℕ) → Type 0
+Accepts (Record run) input = SpellsSome (loaded run input) (λ bytes. Unit {0})
+Accepts (Run run loads) input = SpellsSome (loaded run input) (λ bytes. Unit {0})
+Accepts Print input = SpellsSome (whole_at input) (λ r. Unit {0})
+Accepts (Replay which loads) input = SpellsSome (whole_at input) IsOfRecord
+Accepts Migrate input = SpellsSome (whole_at input) (λ r. Unit {0})
+Accepts Certify input = SpellsSome (whole_at input) IsOfRecord
+Accepts Check input = SpellsSome (certificate_at input) IsOfCertify
+Accepts (Gen shape number) input = Unit {0}
+Accepts (Soak shape number params seed) input = image_length shape ≤ 4 * params.words
+
+-- the input has just these bytes left, no more than the command takes; for a command that takes none they are none,
+-- whatever the input has
+abbrev pub HasLeft : (most : Option ℕ) → (left : Option (List ℕ)) → (bytes : List ℕ) → Type 0
+HasLeft None left bytes = bytes ≡ []
+HasLeft (Some most) left bytes = (left ≡ Some bytes) × (length bytes ≤ most)
+
+-- no fault came in a call
+abbrev pub IsFaultless : (faults faults' : ℕ) → Type 0
+IsFaultless faults faults' = HasRisen faults faults' → ⊥
+
+-- the output is whole, or memory ran out
+abbrev pub EndsWell : Exit → Type 0
+EndsWell exit = (exit ≡ exits.Done) ⊎ (exit ≡ exits.OutOfMemory)
+
+-- ---- laws
+
+-- what a command accepts is refused for want of memory alone
+abbrev pub AcceptedIsNotRefused : Type 0
+AcceptedIsNotRefused = (command : Command) (input : List ℕ) (exit : Exit) → Accepts command input →
+    Refuses command input exit → exit ≡ exits.OutOfMemory
+
+-- what a run was recorded as is replayed by either log, certified, migrated and printed
+pub record RecordingIsAccepted (out : List ℕ) : Type 0 where
+  pub printed : Accepts Print out
+  pub replayed : (which : Which) (loads : Bool) → Accepts (Replay which loads) out
+  pub migrated : Accepts Migrate out
+  pub certified : Accepts Certify out
+
+-- so what `record` writes is accepted by each command that reads recordings, and so is what `migrate` makes of it;
+-- and what `certify` writes of a recording that is determinate is accepted by `check`
+pub record WrittenIsAccepted : Type 0 where
+  pub recorded : (run : RunWords) (input out : List ℕ) → Fits run.params → length input ≤ run_bytes_max run
+      → Makes (Record run) input out → RecordingIsAccepted out
+  pub migrated : (input out : List ℕ) → IsBytes input → Makes Migrate input out → Accepts Certify input
+      → RecordingIsAccepted out
+  pub certified : (input out : List ℕ) → Makes Certify input out → Promised Certify input → Accepts Check out
