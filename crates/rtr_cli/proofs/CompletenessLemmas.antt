@@ -54,12 +54,16 @@ not_more None left left' bytes is more = more
 not_more (Some most) left left' bytes is more =
     not_so_many most left' bytes more.0 is.1 more.1 (subst (λ (old : Option (List ℕ)). Consumes old left' more.0) is.0 more.2)
 
--- a call that gave nothing lacked memory
-lacks_memory : (command : Command) (exit : Exit) (left left' got got' : Option (List ℕ)) (bytes : List ℕ) → HasLeft (most_of command) left bytes
+-- a call that took its input and gave nothing lacked memory
+pub lacks_memory : (command : Command) (exit : Exit) (left left' : Option (List ℕ)) (bytes taken : List ℕ) → HasLeft (most_of command) left bytes
+    → Accepts command bytes → IsTaken (most_of command) left left' taken → Refuses command taken exit → EndsWell exit
+lacks_memory command exit left left' bytes taken is a was refused =
+    let same : taken ≡ bytes = taken_is_left (most_of command) left left' bytes taken is was in
+    inr (accepted_is_not_refused command bytes exit a (subst (λ (input : List ℕ). Refuses command input exit) same refused))
+
+gave_nothing : (command : Command) (exit : Exit) (left left' got got' : Option (List ℕ)) (bytes : List ℕ) → HasLeft (most_of command) left bytes
     → Accepts command bytes → GivesNothing command exit left left' got got' → EndsWell exit
-lacks_memory command exit left left' got got' bytes is a h =
-    let same : h.0 ≡ bytes = taken_is_left (most_of command) left left' bytes h.0 is h.1 in
-    inr (accepted_is_not_refused command bytes exit a (subst (λ (input : List ℕ). Refuses command input exit) same h.2))
+gave_nothing command exit left left' got got' bytes is a h = lacks_memory command exit left left' bytes h.0 is a h.1 h.2
 
 pub ends_well : (command : Command) (exit : Exit) (left left' got got' : Option (List ℕ)) (bytes : List ℕ) → HasLeft (most_of command) left bytes
     → Accepts command bytes → Answers command exit left left' got got' → (exit ≡ exits.ReadFault → ⊥) → (exit ≡ exits.WriteFault → ⊥)
@@ -72,15 +76,15 @@ ends_well command exits.Usage left left' got got' bytes is a h read write = absu
 ends_well command exits.TooLarge left left' got got' bytes is a (inl more, keeps) read write =
     absurd (not_more (most_of command) left left' bytes is more)
 ends_well command exits.TooLarge left left' got got' bytes is a (inr over, keeps) read write = absurd ((no_reason command bytes a).holds over)
-ends_well command (exits.Bad part) left left' got got' bytes is a h read write = lacks_memory command (exits.Bad part) left left' got got' bytes is a h
-ends_well command (exits.Stuck cut) left left' got got' bytes is a h read write = lacks_memory command (exits.Stuck cut) left left' got got' bytes is a h
+ends_well command (exits.Bad part) left left' got got' bytes is a h read write = gave_nothing command (exits.Bad part) left left' got got' bytes is a h
+ends_well command (exits.Stuck cut) left left' got got' bytes is a h read write = gave_nothing command (exits.Stuck cut) left left' got got' bytes is a h
 ends_well command (exits.Short core count) left left' got got' bytes is a h read write =
-    lacks_memory command (exits.Short core count) left left' got got' bytes is a h
+    gave_nothing command (exits.Short core count) left left' got got' bytes is a h
 ends_well command (exits.Undetermined first second) left left' got got' bytes is a h read write =
-    lacks_memory command (exits.Undetermined first second) left left' got got' bytes is a h
+    gave_nothing command (exits.Undetermined first second) left left' got got' bytes is a h
 ends_well command (exits.CheckFailed failure) left left' got got' bytes is a h read write =
-    lacks_memory command (exits.CheckFailed failure) left left' got got' bytes is a h
-ends_well command (exits.Elf fault) left left' got got' bytes is a h read write = lacks_memory command (exits.Elf fault) left left' got got' bytes is a h
+    gave_nothing command (exits.CheckFailed failure) left left' got got' bytes is a h
+ends_well command (exits.Elf fault) left left' got got' bytes is a h read write = gave_nothing command (exits.Elf fault) left left' got got' bytes is a h
 
 -- ---- what a command wrote
 

@@ -1,5 +1,5 @@
 -- The inputs of which each command makes an output, unless memory runs out: among them whatever another command wrote.
-use Rattle.std.specs.Prelude.{◌≡◌, ℕ, ◌*◌, ◌≤◌, ◌⊎◌, List, [], length, Option, Some, None}
+use Rattle.std.specs.Prelude.{◌≡◌, ℕ, ◌*◌, ◌≤◌, ◌⊎◌, Bool, List, [], length, Option, Some, None}
 use Rattle.certificate_codec.specs.declared.certificate.Certificate.{Certificate}
 use Rattle.certificate_codec.specs.Reading.{certificate_at}
 use Rattle.log_codec.specs.Laws.{IsBytes}

@@ -2,6 +2,7 @@ use Rattle.std.proofs.Common.{◌≡◌, List, ℕ, subst, rules}
 use Rattle.std.specs.Prelude.{Option}
 use Rattle.rtr_cli.specs.Answers.{IsTaken}
 use Rattle.rtr_cli.specs.Commands.{most_of}
+use Rattle.rtr_cli.proofs.CompletenessLemmas.{lacks_memory}
 use Rattle.rtr_cli.proofs.RefusalLemmas.{refused_answers}
 use Rattle.rtr_cli.proofs.tool.perform.Goals as goal
 
@@ -10,6 +11,13 @@ pub returns-in-Err-clause-answered : goal.returns-in-Err-clause-answered
 returns-in-Err-clause-answered g c =
     let taken = rw c.most_of.ensures at c.in-Ok.ensures.bytes in
     refused_answers c.args.command c.in-Ok.bytes.items c.in-Err.exit _ _ _ _ taken c.in-Err.ensures.refused (search rules)
+
+-- so memory ran out where the command accepts it
+pub returns-in-Err-clause-complete : goal.returns-in-Err-clause-complete
+returns-in-Err-clause-complete g c =
+    let taken = rw c.most_of.ensures at c.in-Ok.ensures.bytes in
+    λ bytes is accepts read write.
+    lacks_memory c.args.command c.in-Err.exit _ _ bytes c.in-Ok.bytes.items is accepts taken c.in-Err.ensures.refused
 
 -- a part of what the command makes of it was given
 pub returns-clause-answered : goal.returns-clause-answered
