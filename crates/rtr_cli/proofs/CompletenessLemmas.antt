@@ -1,31 +1,26 @@
 -- A command whose input is accepted ends at Done, unless memory runs out or a stream fails; and what a command wrote is
 -- accepted by those that read it.
-use Rattle.std.proofs.Common.{◌≡◌, ◌∙◌, refl, sym, ap, subst, ℕ, ◌+◌, ◌*◌, ◌≤◌, Bool, true, false, List, [], ◌++◌, length, Result, Ok, Err, inl, inr, arith}
-use Rattle.std.proofs.lemmas.List.{append-nil, length-append}
-use Rattle.std.specs.Prelude.{◌⊎◌, if◌then◌else◌, Option, Some, None}
+use Rattle.std.proofs.Common.{◌≡◌, ◌∙◌, refl, sym, ap, subst, ℕ, ◌*◌, ◌≤◌, Bool, true, false, List, ◌++◌, length, Result, Ok, Err, inr}
+use Rattle.std.proofs.lemmas.List.{append-nil}
+use Rattle.std.specs.Prelude.{if◌then◌else◌, Option, Some, None}
 use Rattle.std.specs.Io.KnownBytes.{Consumes, IsAtEnd}
-use Rattle.image_mem.specs.Contents.{Contents}
 use Rattle.image_elf.specs.declared.elf_fault.ElfFault.{ElfFault}
 use Rattle.image_elf.specs.Faults.{elf_fault}
 use Rattle.image_elf.specs.FlatImage.{flat_image}
 use Rattle.image_elf.proofs.RoomLemmas.{flat_image_fits}
-use Rattle.log_codec.specs.Laws.{IsBytes}
 use Rattle.log_codec.specs.Reading.{whole_at}
 use Rattle.log_codec.specs.declared.recording.Recording.{Recording}
 use Rattle.run_records.proofs.Recordings.{recorded_law}
-use Rattle.rtr_io.specs.Moved.{TakesJust}
 use Rattle.rtr_types.specs.Parameters.{Fits}
 use Rattle.schedule_pick.specs.Choices.{choices_of}
 use Rattle.state_text.specs.declared.exit.Exit.{Exit}
-use Rattle.state_text.specs.declared.exit.Exit.TheVariants as exits
 use Rattle.tool_words.specs.declared.command.Command.{Command}
-use Rattle.tool_words.specs.declared.command.Command.TheVariants.{Certify, Migrate, Record}
 use Rattle.tool_words.specs.declared.command.RunWords.{RunWords}
-use Rattle.rtr_cli.specs.Answers.{Answers, GivesNothing, HasMore, IsRead, IsTaken}
-use Rattle.rtr_cli.specs.Commands.{Makes, Refuses, SpellsSome, file_bytes_max, image_of, loaded, most_of, recorded_bytes, recording_of_bytes}
+use Rattle.rtr_cli.specs.Answers.{IsTaken}
+use Rattle.rtr_cli.specs.Commands.{Refuses, SpellsSome, file_bytes_max, image_of, loaded, most_of, recorded_bytes, recording_of_bytes}
 use Rattle.rtr_cli.specs.Commands.{run_bytes_max, unless_faulty}
 use Rattle.rtr_cli.specs.Completeness.{Accepts, EndsWell, HasLeft, IsOfRecord, RecordingIsAccepted, WrittenIsAccepted}
-use Rattle.rtr_cli.proofs.AcceptedLemmas.{accepted_is_not_refused, no_reason}
+use Rattle.rtr_cli.proofs.AcceptedLemmas.{accepted_is_not_refused}
 use Rattle.rtr_cli.proofs.Certified.{check_accepts}
 use Rattle.rtr_cli.proofs.Migrated.{migrated_reads_the_same}
 
@@ -41,50 +36,12 @@ taken_is_left None left left' bytes taken is was = was.1 ∙ sym is
 taken_is_left (Some most) left left' bytes taken is was =
     all_taken left' bytes taken (subst (λ (old : Option (List ℕ)). Consumes old left' taken) is.0 was.taken) was.end
 
--- no more was left than the command takes
-not_so_many : (most : ℕ) (left' : Option (List ℕ)) (bytes taken : List ℕ) → length bytes ≤ most → length taken ≡ most + 1
-    → Consumes (Some bytes) left' taken → ⊥
-not_so_many most None bytes taken within more was = was
-not_so_many most (Some rest) bytes taken within more was =
-    let long : length bytes ≡ length taken + length rest = ap (length {A = ℕ}) was ∙ length-append taken rest in
-    absurd (omega (arith, within, more, long))
-
-not_more : (most : Option ℕ) (left left' : Option (List ℕ)) (bytes : List ℕ) → HasLeft most left bytes → HasMore most left left' → ⊥
-not_more None left left' bytes is more = more
-not_more (Some most) left left' bytes is more =
-    not_so_many most left' bytes more.0 is.1 more.1 (subst (λ (old : Option (List ℕ)). Consumes old left' more.0) is.0 more.2)
-
 -- a call that took its input and gave nothing lacked memory
 pub lacks_memory : (command : Command) (exit : Exit) (left left' : Option (List ℕ)) (bytes taken : List ℕ) → HasLeft (most_of command) left bytes
     → Accepts command bytes → IsTaken (most_of command) left left' taken → Refuses command taken exit → EndsWell exit
 lacks_memory command exit left left' bytes taken is a was refused =
     let same : taken ≡ bytes = taken_is_left (most_of command) left left' bytes taken is was in
     inr (accepted_is_not_refused command bytes exit a (subst (λ (input : List ℕ). Refuses command input exit) same refused))
-
-gave_nothing : (command : Command) (exit : Exit) (left left' got got' : Option (List ℕ)) (bytes : List ℕ) → HasLeft (most_of command) left bytes
-    → Accepts command bytes → GivesNothing command exit left left' got got' → EndsWell exit
-gave_nothing command exit left left' got got' bytes is a h = lacks_memory command exit left left' bytes h.0 is a h.1 h.2
-
-pub ends_well : (command : Command) (exit : Exit) (left left' got got' : Option (List ℕ)) (bytes : List ℕ) → HasLeft (most_of command) left bytes
-    → Accepts command bytes → Answers command exit left left' got got' → (exit ≡ exits.ReadFault → ⊥) → (exit ≡ exits.WriteFault → ⊥)
-    → EndsWell exit
-ends_well command exits.Done left left' got got' bytes is a h read write = inl refl
-ends_well command exits.OutOfMemory left left' got got' bytes is a h read write = inr refl
-ends_well command exits.ReadFault left left' got got' bytes is a h read write = absurd (read refl)
-ends_well command exits.WriteFault left left' got got' bytes is a h read write = absurd (write refl)
-ends_well command exits.Usage left left' got got' bytes is a h read write = absurd h
-ends_well command exits.TooLarge left left' got got' bytes is a (inl more, keeps) read write =
-    absurd (not_more (most_of command) left left' bytes is more)
-ends_well command exits.TooLarge left left' got got' bytes is a (inr over, keeps) read write = absurd ((no_reason command bytes a).holds over)
-ends_well command (exits.Bad part) left left' got got' bytes is a h read write = gave_nothing command (exits.Bad part) left left' got got' bytes is a h
-ends_well command (exits.Stuck cut) left left' got got' bytes is a h read write = gave_nothing command (exits.Stuck cut) left left' got got' bytes is a h
-ends_well command (exits.Short core count) left left' got got' bytes is a h read write =
-    gave_nothing command (exits.Short core count) left left' got got' bytes is a h
-ends_well command (exits.Undetermined first second) left left' got got' bytes is a h read write =
-    gave_nothing command (exits.Undetermined first second) left left' got got' bytes is a h
-ends_well command (exits.CheckFailed failure) left left' got got' bytes is a h read write =
-    gave_nothing command (exits.CheckFailed failure) left left' got got' bytes is a h
-ends_well command (exits.Elf fault) left left' got got' bytes is a h read write = gave_nothing command (exits.Elf fault) left left' got got' bytes is a h
 
 -- ---- what a command wrote
 

@@ -1,8 +1,7 @@
 -- What migrate makes of a recording is read as the recording is.
-use Rattle.std.proofs.Common.{◌≡◌, ℕ, List, Result, Ok, Err, refl, sym, ap, subst, ◌∙◌}
+use Rattle.std.proofs.Common.{◌≡◌, ℕ, Result, Ok, Err, refl, sym, ap, subst, ◌∙◌}
 use Rattle.log_codec.specs.declared.recording.Recording.{Recording}
 use Rattle.log_codec.specs.declared.version.Version.TheVariants.{Two}
-use Rattle.log_codec.specs.Laws.{IsBytes}
 use Rattle.log_codec.specs.Reading.{whole_at}
 use Rattle.log_codec.specs.Spelling.{spelling}
 use Rattle.log_codec.proofs.Whole.{read_and_spelled, spelled_is_read}

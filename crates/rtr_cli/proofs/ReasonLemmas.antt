@@ -1,5 +1,5 @@
 -- Why a command gives nothing, beside want of memory.
-use Rattle.std.proofs.Common.{◌≡◌, ◌∙◌, refl, sym, ℕ, List, Result, Ok, Err}
+use Rattle.std.proofs.Common.{◌≡◌, refl, ℕ, List, Result, Ok, Err}
 use Rattle.image_elf.specs.declared.elf_fault.ElfFault.{ElfFault}
 use Rattle.replay_audit.specs.declared.audit_fault.AuditFault.{AuditFault}
 use Rattle.replay_audit.specs.declared.audit_fault.AuditFault.TheVariants as faults

@@ -1,5 +1,5 @@
 -- What a recording has of its run.
-use Rattle.std.proofs.Common.{◌≡◌, ◌∙◌, refl, sym, ap, subst, ℕ, ◌*◌, ◌≤◌, Bool, List, length, Result, Ok, Err}
+use Rattle.std.proofs.Common.{◌≡◌, ◌∙◌, refl, sym, ap, subst, ℕ, ◌*◌, ◌≤◌, List, length, Result, Ok}
 use Rattle.image_mem.specs.Contents.{Contents}
 use Rattle.rtr_types.specs.Parameters.{Fits}
 use Rattle.rtr_types.specs.declared.pairs.Which.{Which}
@@ -11,7 +11,7 @@ use Rattle.log_codec.specs.Reading.{whole_at}
 use Rattle.log_codec.specs.Spelling.{spelling}
 use Rattle.log_codec.specs.declared.recording.Recording.{Recording}
 use Rattle.run_outcome.specs.Outcomes.{outcome_of}
-use Rattle.recorder.specs.Recordings.{IsRecorded, recording_of}
+use Rattle.recorder.specs.Recordings.{recording_of}
 use Rattle.replay_audit.specs.Audits.{AuditRefuses, Findings, IsAuditOf}
 use Rattle.replay_audit.specs.declared.audit_fault.AuditFault.{AuditFault}
 use Rattle.replay_audit.specs.declared.audit_fault.AuditFault.TheVariants as faults

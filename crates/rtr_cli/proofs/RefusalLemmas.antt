@@ -1,11 +1,10 @@
 -- A command that gives nothing for an input that was taken answers so.
-use Rattle.std.proofs.Common.{◌≡◌, Bool, List, ℕ, sym, subst, inl, inr}
+use Rattle.std.proofs.Common.{Bool, List, ℕ, sym, subst, inl, inr}
 use Rattle.std.specs.Prelude.{Option, Some, None}
 use Rattle.std.specs.Io.KnownBytes.{Keeps}
 use Rattle.replay_audit.specs.declared.audit_fault.AuditFault.{AuditFault}
 use Rattle.replay_audit.specs.declared.audit_fault.AuditFault.TheVariants as faults
 use Rattle.min_certificate.specs.declared.answers.CheckFailure.{CheckFailure}
-use Rattle.image_elf.specs.declared.elf_fault.ElfFault.{ElfFault}
 use Rattle.state_text.specs.declared.exit.Exit.{Exit}
 use Rattle.state_text.specs.declared.exit.Exit.TheVariants as exits
 use Rattle.rtr_types.specs.declared.params.Params.{Params}
@@ -14,7 +13,7 @@ use Rattle.tool_words.specs.declared.command.Command.{Command}
 use Rattle.tool_words.specs.declared.command.Command.TheVariants.{Record, Run, Soak}
 use Rattle.tool_words.specs.declared.command.RunWords.{RunWords}
 use Rattle.rtr_cli.specs.Answers.{Answers, IsTaken}
-use Rattle.rtr_cli.specs.Commands.{Ends, IsWithin, LoadEnds, Refuses, SoakEnds, exit_of_audit, loaded, most_of}
+use Rattle.rtr_cli.specs.Commands.{Ends, IsWithin, LoadEnds, Refuses, SoakEnds, exit_of_audit, most_of}
 
 pub refused_answers : (command : Command) (input : List ℕ) (exit : Exit) (left left' got got' : Option (List ℕ))
     → IsTaken (most_of command) left left' input → Refuses command input exit → Keeps got got' → Answers command exit left left' got got'

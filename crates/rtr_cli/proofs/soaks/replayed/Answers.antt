@@ -1,4 +1,4 @@
-use Rattle.std.proofs.Common.{◌≡◌, ◌∙◌, subst}
+use Rattle.std.proofs.Common.{◌∙◌, subst}
 use Rattle.log_codec.specs.declared.recording.Recording.{Recording}
 use Rattle.replay_audit.specs.Audits.{IsAuditOf}
 use Rattle.rtr_types.specs.declared.pairs.Which.TheVariants.{Reduced}

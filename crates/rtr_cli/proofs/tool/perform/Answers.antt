@@ -1,7 +1,4 @@
-use Rattle.std.proofs.Common.{◌≡◌, List, ℕ, subst, rules}
-use Rattle.std.specs.Prelude.{Option}
-use Rattle.rtr_cli.specs.Answers.{IsTaken}
-use Rattle.rtr_cli.specs.Commands.{most_of}
+use Rattle.std.proofs.Common.{rules}
 use Rattle.rtr_cli.proofs.CompletenessLemmas.{lacks_memory}
 use Rattle.rtr_cli.proofs.RefusalLemmas.{refused_answers}
 use Rattle.rtr_cli.proofs.tool.perform.Goals as goal
