@@ -36,3 +36,8 @@ called s = record s { calls = risen s.calls }
 -- after a call that failed
 abbrev pub failed : Script → Script
 failed s = record s { calls = risen s.calls; faults = risen s.faults }
+
+-- a stream over another: this, and how many of its calls failed
+pub record Over (T : Type 0) : Type 0 where
+  pub inner : T
+  pub faults : ℕ

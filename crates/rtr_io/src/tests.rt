@@ -1,3 +1,6 @@
+ghost use Rattle.std.specs.Prelude.{◌≡◌, ◌≤◌, MatchResult, None};
+ghost use Rattle.rtr_io.specs.Faults.{HasRisen};
+
 use crate::{
     Failed, MemSink, MemSource, ReadEnd, Sink, Source, StdSink, StdSource, WriteFault, read_all,
     write_all,
@@ -43,6 +46,73 @@ impl Write for Fills {
     fn flush(&mut self) -> io::Result<()> {
         Ok(())
     }
+}
+
+/// Moves one byte a call, fails at the call of this number, and counts calls and faults.
+#[derive(Drop)]
+struct Counts {
+    failing: u64,
+    calls: u64,
+    faults: u64,
+}
+
+impl Counts {
+    fn new(failing: u64) -> Counts {
+        Counts {
+            failing,
+            calls: 0,
+            faults: 0,
+        }
+    }
+
+    fn call(&mut self) -> Result<usize, Failed>
+        ensures moved { MatchResult result (λ n. (n ≡ 1) × (self.new.faults ≡ self.old.faults))
+            (λ _. HasRisen self.old.faults self.new.faults) }
+        ensures never_falls { self.old.faults ≤ self.new.faults }
+    {
+        self.calls = self.calls.saturating_add(1);
+        if self.calls == self.failing {
+            self.faults = self.faults.saturating_add(1);
+            return Err(Failed);
+        }
+        Ok(1)
+    }
+}
+
+impl Source for Counts {
+    ghost left = { λ _. None };
+
+    ghost faults = { λ s. s.faults };
+
+    fn take(&mut self, into: &mut [u8]) -> Result<usize, Failed> {
+        into[0] = 7;
+        self.call()
+    }
+}
+
+impl Sink for Counts {
+    ghost got = { λ _. None };
+
+    ghost faults = { λ s. s.faults };
+
+    fn give(&mut self, _piece: &[u8]) -> Result<usize, Failed> {
+        self.call()
+    }
+}
+
+#[test]
+fn no_call_follows_one_that_failed(rt: HostRuntime) -> Result<(), Fail> {
+    for failing in 1..=16 {
+        let mut source = Counts::new(failing);
+        let read = read_all(rt.alloc(), &mut source, 20);
+        assert_eq!(rt; read.err(), Some(ReadEnd::ReadFault));
+        assert_eq!(rt; source.calls, failing);
+
+        let mut sink = Counts::new(failing);
+        assert_eq!(rt; write_all(&mut sink, &[9; 16]), Err(WriteFault));
+        assert_eq!(rt; sink.calls, failing);
+    }
+    Ok(())
 }
 
 #[test]

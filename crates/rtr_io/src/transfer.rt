@@ -2,7 +2,7 @@
 ghost use Rattle.std.specs.Prelude.{◌≡◌, ◌+◌, ◌<◌, ◌≤◌, Err, IfOk, IsErrOf, OnErr, OnOk, length, take, vec_len};
 ghost use Rattle.std.specs.Io.KnownBytes.{Appends, Consumes, IsAtEnd};
 ghost use Rattle.rtr_io.specs.Faults.{HasRisen, IsUnlessFault};
-ghost use Rattle.rtr_io.specs.Moved.{GivesPart, TakesBelow, TakesJust};
+ghost use Rattle.rtr_io.specs.Moved.{GivesPart, TakesAtMost, TakesJust};
 
 use crate::traits::{Failed, Sink, Source};
 use std::alloc::{AllocError, Global};
@@ -36,9 +36,10 @@ pub struct WriteFault;
 const CHUNK: usize = 4096;
 
 /// Reads to the end, at most `max` bytes. `ReadFault` comes only where the source's count of faults
-/// rose in this call. `TooLarge` comes exactly where more than `max` bytes were taken: then just
-/// `max + 1` were. `OutOfMemory` is for want of memory alone; the bytes taken before are dropped.
-/// Every answer but `ReadFault` leaves the count as it was.
+/// rose in this call; at most `max` bytes were taken then. `TooLarge` comes exactly where more than `max`
+/// bytes were taken: then just `max + 1` were. `OutOfMemory` is for want of memory alone; the bytes taken
+/// before, at most `max + 1`, are dropped. Every answer but `ReadFault` leaves the count as it was. No call
+/// of the source follows one that failed.
 pub fn read_all<S: Source>(alloc: Global, source: &mut S, max: usize) -> Result<Vec<u8>, ReadEnd>
     ensures within { IfOk result (λ bytes. vec_len bytes ≤ max) }
     ensures bytes { IfOk result (λ bytes. Consumes (S.left source.old) (S.left source.new) bytes.items) }
@@ -46,7 +47,9 @@ pub fn read_all<S: Source>(alloc: Global, source: &mut S, max: usize) -> Result<
 
     // Each refusal says how much was taken.
     ensures too_large { IsErrOf result ReadEnd.TooLarge → TakesJust (max + 1) (S.left source.old) (S.left source.new) }
-    ensures refused { IsErrOf result ReadEnd.ReadFault → TakesBelow (max + 1) (S.left source.old) (S.left source.new) }
+    ensures refused { IsErrOf result ReadEnd.ReadFault → TakesAtMost max (S.left source.old) (S.left source.new) }
+    ensures dropped { IsErrOf result ReadEnd.OutOfMemory →
+        TakesAtMost (max + 1) (S.left source.old) (S.left source.new) }
 
     ensures fault { IsErrOf result ReadEnd.ReadFault → HasRisen (S.faults source.old) (S.faults source.new) }
     ensures no_fault { IsUnlessFault ReadEnd.ReadFault result (S.faults source.old) (S.faults source.new) }
@@ -66,7 +69,8 @@ pub fn read_all<S: Source>(alloc: Global, source: &mut S, max: usize) -> Result<
 }
 
 /// Gives all bytes. `WriteFault` comes only where the sink's count of faults rose in this call; a
-/// part of the bytes, from their front, was given then. `Ok` leaves the count as it was.
+/// part of the bytes, from their front, was given then. `Ok` leaves the count as it was. No call of the
+/// sink follows one that failed.
 pub fn write_all<S: Sink>(sink: &mut S, bytes: &[u8]) -> Result<(), WriteFault>
     ensures all { OnOk result (Appends (S.got sink.old) (S.got sink.new) bytes.now) }
     ensures part { OnErr result (GivesPart bytes.now (S.got sink.old) (S.got sink.new)) }
