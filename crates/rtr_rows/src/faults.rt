@@ -74,6 +74,35 @@ fn a_fault_is_told_and_a_fault_of_the_report_changes_nothing(rt: HostRuntime) ->
     Ok(())
 }
 
+// A sink that takes one byte a call and fails at a call got the bytes of the calls before, and no call follows.
+#[test]
+fn a_sink_that_fails_got_what_it_took_before(rt: HostRuntime) -> Result<(), Fail> {
+    let alloc = rt.alloc();
+    for call in 1..=16 {
+        let words = words(alloc, "record")?;
+        let mut input = MemSource::new(bytes(alloc, "73000000")?, Vec::new(alloc), 99);
+        let mut output = MemSink::new(alloc, 99, one(alloc, call)?, 1)?;
+        let mut report = MemSink::new(alloc, 99, Vec::new(alloc), 99)?;
+        let exit = run_tool(
+            alloc,
+            words.as_slice(),
+            &mut input,
+            &mut output,
+            &mut report,
+        );
+        let mut given = bytes(alloc, OUTPUT)?;
+        given.truncate(call as usize - 1);
+        assert_eq!(rt; exit.status(), 9, "call {call}");
+        assert_eq!(rt; output.bytes(), given.as_slice(), "call {call}");
+        assert_eq!(rt;
+            report.bytes(),
+            b"rtr: write fault\n".as_slice(),
+            "call {call}"
+        );
+    }
+    Ok(())
+}
+
 fn one(alloc: Global, call: u64) -> Result<Vec<u64>, Fail> {
     Ok(vec![in alloc; call]?)
 }

@@ -509,7 +509,7 @@ pub static RUNS: [Run; 19] = [
 ];
 
 /// Words that mean nothing.
-pub static FAULTY: [&str; 53] = [
+pub static FAULTY: [&str; 54] = [
     "run --cores 17",
     "run --cores 0",
     "run --cores 01",
@@ -555,6 +555,7 @@ pub static FAULTY: [&str; 53] = [
     "replay --log reduced --log reduced",
     "replay --loads --loads",
     "record --cores 17",
+    "record --cores 2 --cores 2",
     "record --cores 16 --limit 250001",
     "run --limit=1000000 --cores 5 --loads",
     "record --choices 0",

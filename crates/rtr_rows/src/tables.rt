@@ -66,16 +66,31 @@ macro_rules! text {
     };
 }
 
-/// A small recording of two cores, which is cut.
-pub const CUT_RECORDING: &str =
-    "52545201 02 904e 10 0c 93025500 23205002 73000000 0303 010202 00 01010202 00";
+/// A recording, and the part that is named where so many bytes are left of it, from none on.
+pub struct Cuts {
+    pub recording: &'static str,
+    pub parts: &'static [u8],
+}
 
-/// The part that is named where so many bytes are left of it, from none on.
-pub const CUT_PARTS: [u8; 32] = [
-    1, 1, 1, 1, 1, 1, 1, 1, 1, 2, 2, 2, 2, 2, 2, 2, 2, 2, 2, 2, 2, 3, 3, 4, 4, 4, 4, 5, 5, 5, 5, 5,
+/// One recording in both versions.
+pub static CUTS: [Cuts; 2] = [
+    Cuts {
+        recording: "52545201 02 904e 10 0c 93025500 23205002 73000000 0303 010202 00 01010202 00",
+        parts: &[
+            1, 1, 1, 1, 1, 1, 1, 1, 1, 2, 2, 2, 2, 2, 2, 2, 2, 2, 2, 2, 2, 3, 3, 4, 4, 4, 4, 5, 5,
+            5, 5, 5,
+        ],
+    },
+    Cuts {
+        recording: "52545202 02 904e 10 0c 93025500 23205002 73000000 0303 00 01020002 01010202 00",
+        parts: &[
+            1, 1, 1, 1, 1, 1, 1, 1, 1, 2, 2, 2, 2, 2, 2, 2, 2, 2, 2, 2, 2, 3, 3, 4, 4, 4, 4, 4, 5,
+            5, 5, 5, 5,
+        ],
+    },
 ];
 
-pub static ROWS: [Row; 57] = [
+pub static ROWS: [Row; 59] = [
     // A run of one core is recorded.
     bytes!(
         "record",
@@ -108,6 +123,8 @@ pub static ROWS: [Row; 57] = [
         "00"
     ),
     refused!("record", "00" * 65537, 2, "rtr: input too large\n"),
+    refused!("record", "13" * 65537, 2, "rtr: input too large\n"),
+    refused!("run", "13" * 65537, 2, "rtr: input too large\n"),
     refused!("record --words 4", "00" * 17, 2, "rtr: input too large\n"),
     // ADDI x0, x0, 0 over and over: the limit ends the run one before the last.
     bytes!(
@@ -318,7 +335,7 @@ pub static ROWS: [Row; 57] = [
     ),
     refused!(
         "print",
-        "52545201 02 904e 10 0c" * 1,
+        "52545201 02 904e 10 0c 93" * 1,
         3,
         "rtr: bad input, part 2\n"
     ),

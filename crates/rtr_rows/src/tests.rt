@@ -5,7 +5,7 @@ use crate::lesson_tables::{EXAMPLES, LESSON};
 use crate::record_tables::RECORDINGS;
 use crate::replay_tables::REPLAYS;
 use crate::run_tables::{FAULTY, RUNS};
-use crate::tables::{CUT_PARTS, CUT_RECORDING, ROWS, Row};
+use crate::tables::{CUTS, ROWS, Row};
 use log_codec::{fits_old, read, spell_v1};
 use std::alloc::Global;
 use std::process::Abort;
@@ -85,12 +85,18 @@ fn a_soak_of_the_mix_is_the_same_each_time(rt: HostRuntime) -> Result<(), Fail> 
 #[test]
 fn a_cut_names_the_part_that_it_cuts(rt: HostRuntime) -> Result<(), Fail> {
     let alloc = rt.alloc();
-    for (len, part) in CUT_PARTS.iter().enumerate() {
-        let mut cut = bytes(alloc, CUT_RECORDING)?;
-        cut.truncate(len);
-        let report = format!(in alloc; "rtr: bad input, part {part}\n")?;
-        let answer = ask(alloc, "print", cut)?;
-        assert_eq!(rt; answer.report.as_slice(), report.as_bytes(), "{len} bytes");
+    for cuts in &CUTS {
+        for (len, part) in cuts.parts.iter().enumerate() {
+            let mut cut = bytes(alloc, cuts.recording)?;
+            cut.truncate(len);
+            let report = format!(in alloc; "rtr: bad input, part {part}\n")?;
+            let answer = ask(alloc, "print", cut)?;
+            assert_eq!(rt; answer.status, 3, "{len} bytes");
+            assert_eq!(rt; answer.output.as_slice(), b"".as_slice(), "{len} bytes");
+            assert_eq!(rt; answer.report.as_slice(), report.as_bytes(), "{len} bytes");
+        }
+        let whole = ask(alloc, "print", bytes(alloc, cuts.recording)?)?;
+        assert_eq!(rt; whole.status, 0);
     }
     Ok(())
 }
