@@ -1,5 +1,5 @@
 -- A command that gives nothing for an input that was taken answers so.
-use Rattle.std.proofs.Common.{Bool, List, ℕ, sym, subst, inl, inr}
+use Rattle.std.proofs.Common.{◌≡◌, ◌≤◌, ◌+◌, Bool, List, [], ℕ, refl, sym, subst, inl, inr, arith}
 use Rattle.std.specs.Prelude.{Option, Some, None}
 use Rattle.std.specs.Io.KnownBytes.{Keeps}
 use Rattle.replay_audit.specs.declared.audit_fault.AuditFault.{AuditFault}
@@ -12,8 +12,20 @@ use Rattle.trace_gen.specs.declared.shape.Shape.{Shape}
 use Rattle.tool_words.specs.declared.command.Command.{Command}
 use Rattle.tool_words.specs.declared.command.Command.TheVariants.{Record, Run, Soak}
 use Rattle.tool_words.specs.declared.command.RunWords.{RunWords}
-use Rattle.rtr_cli.specs.Answers.{Answers, IsTaken}
+use Rattle.rtr_cli.specs.Answers.{Answers, IsTaken, IsTakenUpTo, one_more}
 use Rattle.rtr_cli.specs.Commands.{Ends, IsWithin, LoadEnds, Refuses, SoakEnds, exit_of_audit, most_of}
+
+-- what was taken is at most one byte more than what is taken
+pub taken_up_to : (most : Option ℕ) (old new : Option (List ℕ)) (bytes : List ℕ) → IsTaken most old new bytes → IsTakenUpTo (one_more most) old new
+taken_up_to None old new bytes taken = taken.0
+taken_up_to (Some most) old new bytes taken = let few = taken.within in (bytes, omega (arith, few), taken.taken)
+
+-- nothing was taken
+pub none_taken : (most : Option ℕ) (left : Option (List ℕ)) → IsTakenUpTo most left left
+none_taken None None = tt
+none_taken None (Some bytes) = refl
+none_taken (Some most) None = ([], omega arith, tt)
+none_taken (Some most) (Some bytes) = ([], omega arith, refl)
 
 pub refused_answers : (command : Command) (input : List ℕ) (exit : Exit) (left left' got got' : Option (List ℕ))
     → IsTaken (most_of command) left left' input → Refuses command input exit → Keeps got got' → Answers command exit left left' got got'
@@ -24,7 +36,8 @@ refused_answers command input (exits.Undetermined first second) left left' got g
 refused_answers command input (exits.CheckFailed failure) left left' got got' was h keeps = (input, was, h, keeps)
 refused_answers command input (exits.Elf fault) left left' got got' was h keeps = (input, was, h, keeps)
 refused_answers command input exits.TooLarge left left' got got' was h keeps = (inr h, keeps)
-refused_answers command input exits.OutOfMemory left left' got got' was h keeps = keeps
+refused_answers command input exits.OutOfMemory left left' got got' was h keeps =
+    (taken_up_to (most_of command) left left' input was, keeps)
 refused_answers command input exits.Done left left' got got' was h keeps = absurd h
 refused_answers command input exits.Usage left left' got got' was h keeps = absurd h
 refused_answers command input exits.ReadFault left left' got got' was h keeps = absurd h

@@ -1,8 +1,9 @@
 -- What each way to end says of the input and the output.
 use Rattle.std.specs.Prelude.{◌≡◌, ℕ, ◌+◌, ◌≤◌, ◌⊎◌, List, [], length, Option, Some, None}
+use Rattle.std.specs.Option.{option_map}
 use Rattle.std.specs.Io.KnownBytes.{Appends, Consumes, IsAtEnd, Keeps}
 use Rattle.rtr_io.specs.Faults.{HasRisen}
-use Rattle.rtr_io.specs.Moved.{GivesPart, TakesJust}
+use Rattle.rtr_io.specs.Moved.{GivesPart, TakesAtMost, TakesJust}
 use Rattle.state_text.specs.declared.exit.Exit.{Exit}
 use Rattle.state_text.specs.declared.exit.Exit.TheVariants as exits
 use Rattle.tool_words.specs.declared.command.Command.{Command}
@@ -24,6 +25,15 @@ abbrev pub HasMore : (most : Option ℕ) → (old new : Option (List ℕ)) → T
 HasMore None old new = ⊥
 HasMore (Some most) old new = TakesJust (most + 1) old new
 
+-- at most so many bytes of the input were taken, and none where the command takes no input
+abbrev pub IsTakenUpTo : (most : Option ℕ) → (old new : Option (List ℕ)) → Type 0
+IsTakenUpTo None old new = Keeps old new
+IsTakenUpTo (Some most) old new = TakesAtMost most old new
+
+-- one byte more
+abbrev pub one_more : Option ℕ → Option ℕ
+one_more most = option_map (λ n. n + 1) most
+
 -- the input was taken and is refused so, and nothing was given
 abbrev pub GivesNothing : Command → Exit → (left left' got got' : Option (List ℕ)) → Type 0
 GivesNothing command exit left left' got got' =
@@ -32,7 +42,8 @@ GivesNothing command exit left left' got got' =
 -- what a command's exit says of the bytes that the input had left and of those that the output got. The input of a
 -- command that takes none is as it was.
 -- At Done the output got exactly what the command makes of the input, which is as promised, and at
--- WriteFault a part of it.
+-- WriteFault a part of it. At ReadFault no more was taken than the command takes, and at OutOfMemory at most one byte
+-- more.
 abbrev pub Answers : Command → Exit → (left left' got got' : Option (List ℕ)) → Type 0
 Answers command exits.Done left left' got got' =
     (input : List ℕ) × (out : List ℕ) × IsTaken (most_of command) left left' input
@@ -51,8 +62,9 @@ Answers command (exits.CheckFailed failure) left left' got got' =
 Answers command (exits.Elf fault) left left' got got' = GivesNothing command (exits.Elf fault) left left' got got'
 Answers command exits.TooLarge left left' got got' =
     (HasMore (most_of command) left left' ⊎ Overflows command) × Keeps got got'
-Answers command exits.ReadFault left left' got got' = Keeps got got'
-Answers command exits.OutOfMemory left left' got got' = Keeps got got'
+Answers command exits.ReadFault left left' got got' = IsTakenUpTo (most_of command) left left' × Keeps got got'
+Answers command exits.OutOfMemory left left' got got' =
+    IsTakenUpTo (one_more (most_of command)) left left' × Keeps got got'
 Answers command exits.Usage left left' got got' = ⊥
 
 -- the report got exactly the text, unless its count of faults rose: then a part of it

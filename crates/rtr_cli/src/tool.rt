@@ -5,7 +5,7 @@ ghost use Rattle.rtr_io.specs.Faults.{HasRisen, IsUnlessFault};
 ghost use Rattle.state_text.specs.Exits.{fault_line};
 ghost use Rattle.tool_words.specs.Commands.{HasFittingParams};
 ghost use Rattle.tool_words.specs.Reading.{meaning};
-ghost use Rattle.rtr_cli.specs.Answers.{Answers, HasMore, IsTaken, Tells};
+ghost use Rattle.rtr_cli.specs.Answers.{Answers, HasMore, IsTaken, IsTakenUpTo, Tells, one_more};
 ghost use Rattle.rtr_cli.specs.Commands.{most_of};
 ghost use Rattle.rtr_cli.specs.Completeness.{Accepts, EndsWell, HasLeft, IsFaultless};
 ghost use Rattle.tool_words.specs.declared.command.Command.{Command};
@@ -36,9 +36,11 @@ use tool_words::{Command, meaning, what_words_mean_fits};
 /// two alone, where that isn't so: in `certify` exactly where the reduced log isn't least, and in `check`
 /// exactly where the certificate doesn't show it, with the first thing that fails.
 /// `ReadFault` and `WriteFault` come only where the count of faults of the input or the output rose in this
-/// call, and `OutOfMemory` for want of memory alone. The whole output is made before a byte is given, so
+/// call, and `OutOfMemory` for want of memory alone. At `ReadFault` at most the bytes were taken that the command takes,
+/// and at `OutOfMemory` at most one more. The whole output is made before a byte is given, so
 /// every refusal but `WriteFault` has given nothing. The report gets the exit's text, which is empty for
 /// `Done`; its faults change no exit.
+#[tactic(auto, using(crate::proofs::RefusalLemmas::none_taken))]
 pub fn run_tool<I: Source, O: Sink, E: Sink>(
     alloc: Global,
     words: &[String],
@@ -122,6 +124,9 @@ fn perform<I: Source, O: Sink>(
 fn take<I: Source>(alloc: Global, most: Option<usize>, input: &mut I) -> Result<Vec<u8>, ReadEnd>
     ensures bytes { IfOk result (λ bytes. IsTaken most (I.left input.old) (I.left input.new) bytes.items) }
     ensures too_large { IsErrOf result ReadEnd.TooLarge → HasMore most (I.left input.old) (I.left input.new) }
+    ensures within { IsErrOf result ReadEnd.ReadFault → IsTakenUpTo most (I.left input.old) (I.left input.new) }
+    ensures dropped { IsErrOf result ReadEnd.OutOfMemory →
+        IsTakenUpTo (one_more most) (I.left input.old) (I.left input.new) }
     ensures fault { IsErrOf result ReadEnd.ReadFault → HasRisen (I.faults input.old) (I.faults input.new) }
     ensures no_fault { IsUnlessFault ReadEnd.ReadFault result (I.faults input.old) (I.faults input.new) }
     ensures untaken { most ≡ None → Keeps (I.left input.old) (I.left input.new)
