@@ -17,7 +17,7 @@ use Rattle.min_certificate.proofs.Judged.{least_is_certified, passed_is_accepted
 use Rattle.min_certificate.proofs.Lows.{any_order_is_least}
 use Rattle.replay_audit.specs.declared.audit_fault.AuditFault.{AuditFault}
 use Rattle.replay_audit.specs.declared.audit_fault.AuditFault.TheVariants as faults
-use Rattle.replay_audit.specs.Audits.{AuditRefuses}
+use Rattle.replay_audit.specs.Audits.{AuditRefuses, IsInstrOf}
 use Rattle.replay_audit.specs.Determinate.{IsDeterminate}
 use Rattle.replay_audit.proofs.Refused.{refused_law}
 use Rattle.recorder.specs.Recordings.{IsRecorded, recording_of}
@@ -32,9 +32,9 @@ use Rattle.rtr_types.specs.declared.pairs.Which.{Which}
 use Rattle.rtr_types.specs.declared.pairs.Which.TheVariants.{Reduced}
 use Rattle.rtr_types.specs.declared.params.Params.{Params}
 use Rattle.tool_words.specs.declared.command.Command.{Command}
-use Rattle.tool_words.specs.declared.command.Command.TheVariants.{Record, Run, Print, Replay, Migrate, Certify, Check, Gen, Soak}
+use Rattle.tool_words.specs.declared.command.Command.TheVariants.{Record, Run, Print, Replay, Migrate, Certify, Check, Gen, Soak, At}
 use Rattle.rtr_cli.specs.Commands.{IsNotLeast, image_of, loaded}
-use Rattle.rtr_cli.specs.Completeness.{Accepts, AcceptedIsNotRefused, IsOfCertify, IsOfRecord}
+use Rattle.rtr_cli.specs.Completeness.{Accepts, AcceptedIsNotRefused, IsOfCertify, IsOfRecord, IsOfRecordWith}
 use Rattle.rtr_cli.proofs.ReasonLemmas.{HasNoReason, both_said, is_read, memory_alone}
 
 -- ---- the least log
@@ -97,6 +97,7 @@ certificate_passes c failure h fails =
 pub no_reason : (command : Command) (input : List ℕ) → Accepts command input → HasNoReason command input
 no_reason (Record run) input a = record {
   read = λ part h. h;
+  present = λ at h. h;
   audited = λ fault h. absurd h;
   shown = λ failure h. h;
   faultless = λ fault h. is_read (loaded run input) (λ bytes. Unit {0}) fault a h;
@@ -104,6 +105,7 @@ no_reason (Record run) input a = record {
 }
 no_reason (Run run loads) input a = record {
   read = λ part h. h;
+  present = λ at h. h;
   audited = λ fault h. absurd h;
   shown = λ failure h. h;
   faultless = λ fault h. is_read (loaded run input) (λ bytes. Unit {0}) fault a h;
@@ -111,6 +113,7 @@ no_reason (Run run loads) input a = record {
 }
 no_reason Print input a = record {
   read = λ part h. is_read (whole_at input) (λ r. Unit {0}) part a h;
+  present = λ at h. h;
   audited = λ fault h. absurd h;
   shown = λ failure h. h;
   faultless = λ fault h. h;
@@ -118,6 +121,7 @@ no_reason Print input a = record {
 }
 no_reason (Replay which loads) input a = record {
   read = λ part h. is_read (whole_at input) IsOfRecord part a h;
+  present = λ at h. h;
   audited = λ fault h.
       both_said (whole_at input) IsOfRecord (λ r. AuditRefuses which r fault) (fault ≡ faults.OutOfMemory)
       (λ r is it. not_audited which r fault is it) a h;
@@ -127,6 +131,7 @@ no_reason (Replay which loads) input a = record {
 }
 no_reason Migrate input a = record {
   read = λ part h. is_read (whole_at input) (λ r. Unit {0}) part a h;
+  present = λ at h. h;
   audited = λ fault h. absurd h;
   shown = λ failure h. h;
   faultless = λ fault h. h;
@@ -134,6 +139,7 @@ no_reason Migrate input a = record {
 }
 no_reason Certify input a = record {
   read = λ part h. is_read (whole_at input) IsOfRecord part a h;
+  present = λ at h. h;
   audited = λ fault h.
       both_said (whole_at input) IsOfRecord (λ r. AuditRefuses Reduced r fault) (fault ≡ faults.OutOfMemory)
       (λ r is it. not_audited Reduced r fault is it) a h;
@@ -143,6 +149,7 @@ no_reason Certify input a = record {
 }
 no_reason Check input a = record {
   read = λ part h. is_read (certificate_at input) IsOfCertify part a h;
+  present = λ at h. h;
   audited = λ fault h.
       both_said (certificate_at input) IsOfCertify (λ c. AuditRefuses Reduced c.recording fault) (fault ≡ faults.OutOfMemory)
       (λ c is it. certificate_not_audited c fault is it) a h;
@@ -153,6 +160,7 @@ no_reason Check input a = record {
 }
 no_reason (Gen shape number) input a = record {
   read = λ part h. h;
+  present = λ at h. h;
   audited = λ fault h. absurd h;
   shown = λ failure h. h;
   faultless = λ fault h. h;
@@ -160,10 +168,23 @@ no_reason (Gen shape number) input a = record {
 }
 no_reason (Soak shape number params seed) input a = record {
   read = λ part h. h;
+  present = λ at h. h;
   audited = λ fault h. absurd h;
   shown = λ failure h. h;
   faultless = λ fault h. h;
   holds = λ more. absurd (omega (arith, a, more));
+}
+
+no_reason (At which at latest loads) input a = record {
+  read = λ part h. is_read (whole_at input) (IsOfRecordWith at) part a h;
+  present = λ absent h.
+      both_said (whole_at input) (IsOfRecordWith at) (λ r. IsInstrOf r at → ⊥) ⊥ (λ r is it. it is.1) a h.0;
+  audited = λ fault h.
+      both_said (whole_at input) (IsOfRecordWith at) (λ r. IsInstrOf r at × AuditRefuses which r fault) (fault ≡ faults.OutOfMemory)
+      (λ r is it. not_audited which r fault is.0 it.1) a h;
+  shown = λ failure h. h;
+  faultless = λ fault h. h;
+  holds = λ h. h;
 }
 
 pub accepted_is_not_refused : AcceptedIsNotRefused

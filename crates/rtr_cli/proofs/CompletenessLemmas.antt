@@ -11,6 +11,7 @@ use Rattle.image_elf.proofs.RoomLemmas.{flat_image_fits}
 use Rattle.log_codec.specs.Reading.{whole_at}
 use Rattle.log_codec.specs.declared.recording.Recording.{Recording}
 use Rattle.run_records.proofs.Recordings.{recorded_law}
+use Rattle.replay_audit.specs.Audits.{IsInstrOf}
 use Rattle.rtr_types.specs.Parameters.{Fits}
 use Rattle.schedule_pick.specs.Choices.{choices_of}
 use Rattle.state_text.specs.declared.exit.Exit.{Exit}
@@ -61,11 +62,22 @@ loaded_fits : (run : RunWords) (input bytes : List ℕ) → length input ≤ run
     → length bytes ≤ 4 * run.params.words
 loaded_fits run input bytes within is = fits_by run.elf (elf_fault input run.params.words) run.params.words input bytes refl within is
 
+-- what is said twice of something that was read
+both_hold : {X E : Type 0} (read : Result X E) (P Q : X → Type 0) → SpellsSome read P → SpellsSome read Q → SpellsSome read (λ x. P x × Q x)
+both_hold (Ok x) P Q h k = (h, k)
+both_hold (Err e) P Q h k = h
+
 accepted_recording : (out : List ℕ) (r : Recording) → whole_at out ≡ Ok r → IsOfRecord r → RecordingIsAccepted out
 accepted_recording out r is h =
     let of_record : SpellsSome (whole_at out) IsOfRecord = subst (λ (read : Result Recording ℕ). SpellsSome read IsOfRecord) (sym is) h in
     let any : SpellsSome (whole_at out) (λ q. Unit {0}) = subst (λ (read : Result Recording ℕ). SpellsSome read (λ q. Unit {0})) (sym is) tt in
-    record { printed = any; replayed = λ which loads. of_record; migrated = any; certified = of_record }
+    record {
+      printed = any;
+      replayed = λ which loads. of_record;
+      told = λ which at latest loads has. both_hold (whole_at out) IsOfRecord (λ q. IsInstrOf q at) of_record has;
+      migrated = any;
+      certified = of_record;
+    }
 
 recorded_is_accepted : (run : RunWords) (out bytes : List ℕ) → Fits run.params → length bytes ≤ 4 * run.params.words → out ≡ recorded_bytes run bytes
     → RecordingIsAccepted out

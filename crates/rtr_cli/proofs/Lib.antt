@@ -5,3 +5,4 @@ pub mod RefusalLemmas
 pub mod Migrated
 pub mod Certified
 pub mod CompletenessLemmas
+pub mod CutLemmas

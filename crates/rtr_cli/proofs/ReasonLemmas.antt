@@ -1,17 +1,19 @@
 -- Why a command gives nothing, beside want of memory.
 use Rattle.std.proofs.Common.{◌≡◌, refl, ℕ, List, Result, Ok, Err}
 use Rattle.image_elf.specs.declared.elf_fault.ElfFault.{ElfFault}
+use Rattle.rtr_types.specs.declared.instr.Instr.{Instr}
 use Rattle.replay_audit.specs.declared.audit_fault.AuditFault.{AuditFault}
 use Rattle.replay_audit.specs.declared.audit_fault.AuditFault.TheVariants as faults
 use Rattle.min_certificate.specs.declared.answers.CheckFailure.{CheckFailure}
 use Rattle.state_text.specs.declared.exit.Exit.{Exit}
 use Rattle.state_text.specs.declared.exit.Exit.TheVariants as exits
 use Rattle.tool_words.specs.declared.command.Command.{Command}
-use Rattle.rtr_cli.specs.Commands.{AuditFails, IsFaulty, IsNotShown, IsUnread, Overflows, Refuses, SpellsSome}
+use Rattle.rtr_cli.specs.Commands.{AuditFails, IsAbsent, IsFaulty, IsNotShown, IsUnread, Overflows, Refuses, SpellsSome}
 
 -- there is none for this command and this input
 pub record HasNoReason (command : Command) (input : List ℕ) : Type 0 where
   pub read : (part : ℕ) → IsUnread command input part → ⊥
+  pub present : (at : Instr) → IsAbsent command input at → ⊥
   pub audited : (fault : AuditFault) → AuditFails command input fault → fault ≡ faults.OutOfMemory
   pub shown : (failure : CheckFailure) → IsNotShown command input failure → ⊥
   pub faultless : (fault : ElfFault) → IsFaulty command input fault → ⊥
@@ -26,6 +28,7 @@ memory_alone command input (exits.CheckFailed failure) h it = absurd (h.shown fa
 memory_alone command input exits.OutOfMemory h it = refl
 memory_alone command input exits.TooLarge h it = absurd (h.holds it)
 memory_alone command input (exits.Elf fault) h it = absurd (h.faultless fault it)
+memory_alone command input (exits.NoInstr at) h it = absurd (h.present at it)
 memory_alone command input exits.Done h it = absurd it
 memory_alone command input exits.Usage h it = absurd it
 memory_alone command input exits.ReadFault h it = absurd it

@@ -60,6 +60,7 @@ Answers command (exits.Undetermined first second) left left' got got' =
 Answers command (exits.CheckFailed failure) left left' got got' =
     GivesNothing command (exits.CheckFailed failure) left left' got got'
 Answers command (exits.Elf fault) left left' got got' = GivesNothing command (exits.Elf fault) left left' got got'
+Answers command (exits.NoInstr at) left left' got got' = GivesNothing command (exits.NoInstr at) left left' got got'
 Answers command exits.TooLarge left left' got got' =
     (HasMore (most_of command) left left' ⊎ Overflows command) × Keeps got got'
 Answers command exits.ReadFault left left' got got' = IsTakenUpTo (most_of command) left left' × Keeps got got'

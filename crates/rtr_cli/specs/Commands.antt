@@ -1,5 +1,5 @@
 -- What each command makes of an input.
-use Rattle.std.specs.Prelude.{◌≡◌, ℕ, ◌*◌, ◌<◌, ◌≤◌, ◌↔◌, ◌⊎◌, Bool, false, if◌then◌else◌, List, [], length}
+use Rattle.std.specs.Prelude.{◌≡◌, ℕ, ◌*◌, ◌<◌, ◌≤◌, ◌↔◌, ◌⊎◌, Bool, true, false, if◌then◌else◌, List, [], length}
 use Rattle.std.specs.Prelude.{Option, Some, None, Result, Ok, Err}
 use Rattle.recorder.specs.Recordings.{IsRecorded, recording_of}
 use Rattle.image_elf.specs.declared.elf_fault.ElfFault.{ElfFault}
@@ -10,6 +10,8 @@ use Rattle.rv_core.specs.declared.outcome.Outcome.{Outcome}
 use Rattle.schedule_pick.specs.Choices.{choices_of}
 use Rattle.run_outcome.specs.Outcomes.{outcome_of}
 use Rattle.log_codec.specs.declared.recording.Recording.{Recording}
+use Rattle.rtr_types.specs.declared.cut.Cut.{Cut}
+use Rattle.rtr_types.specs.declared.instr.Instr.{Instr}
 use Rattle.rtr_types.specs.declared.params.Params.{Params}
 use Rattle.rtr_types.specs.declared.pairs.Which.{Which}
 use Rattle.rtr_types.specs.declared.pairs.Which.TheVariants.{Reduced}
@@ -23,8 +25,10 @@ use Rattle.replay_audit.specs.declared.audit_fault.AuditFault.{AuditFault}
 use Rattle.replay_audit.specs.declared.audit_fault.AuditFault.TheVariants as faults
 use Rattle.run_replays.specs.BothLogs.{RegulatesRun}
 use Rattle.run_replays.specs.Replays.{ReplaysRun}
-use Rattle.replay_audit.specs.Audits.{AuditRefuses, EveryOrderAgrees}
+use Rattle.replay_audit.specs.Audits.{AuditRefuses, EveryOrderAgrees, IsInstrOf}
 use Rattle.replay_audit.specs.Determinate.{IsDeterminate, low_outcome}
+use Rattle.cut_replay.specs.ClosedCuts.{IsGreatestWithout, IsLeastWith}
+use Rattle.cut_replay.specs.CutStates.{IsStateAt}
 use Rattle.certificate_codec.specs.declared.certificate.Certificate.{Certificate}
 use Rattle.certificate_codec.specs.Reading.{certificate_at}
 use Rattle.certificate_codec.specs.Spelling.{spelling as certificate_spelling}
@@ -35,11 +39,12 @@ use Rattle.min_certificate.specs.Laws.{IsLeastIn}
 use Rattle.state_text.specs.declared.exit.Exit.{Exit}
 use Rattle.state_text.specs.declared.exit.Exit.TheVariants as exits
 use Rattle.state_text.specs.Checks.{check_lines}
+use Rattle.state_text.specs.Cuts.{cut_state_lines}
 use Rattle.state_text.specs.Logs.{logs_lines}
 use Rattle.state_text.specs.States.{state_lines}
 use Rattle.tool_words.specs.declared.command.Command.{Command}
 use Rattle.tool_words.specs.declared.command.Command.TheVariants.{Record, Run, Print, Replay, Migrate, Certify, Check}
-use Rattle.tool_words.specs.declared.command.Command.TheVariants.{Gen, Soak}
+use Rattle.tool_words.specs.declared.command.Command.TheVariants.{Gen, Soak, At}
 use Rattle.tool_words.specs.declared.command.RunWords.{RunWords}
 use Rattle.trace_gen.specs.declared.shape.Shape.{Shape}
 use Rattle.trace_gen.specs.Programs.{generated, image_length}
@@ -64,6 +69,7 @@ most_of Certify = Some file_bytes_max
 most_of Check = Some file_bytes_max
 most_of (Gen shape number) = None
 most_of (Soak shape number params seed) = None
+most_of (At which at latest loads) = Some file_bytes_max
 
 -- the command takes an input of these bytes; one that takes no input has none
 abbrev pub IsWithin : (most : Option ℕ) → (input : List ℕ) → Type 0
@@ -102,6 +108,19 @@ SpellsSome (Err e) P = ⊥
 -- the state text of the play of the recording's low order by the log
 abbrev pub replay_lines : Which → (loads : Bool) → Recording → List ℕ
 replay_lines which loads r = state_lines (low_outcome which r) (recorded_image r) loads
+
+-- the closed cut that is asked for at an instruction: the least that holds it, or else the greatest that doesn't
+abbrev pub IsCutAt : Which → Recording → Instr → (latest : Bool) → Cut → Type 0
+IsCutAt which r at false cut = IsLeastWith which r at cut
+IsCutAt which r at true cut = IsGreatestWithout which r at cut
+
+-- of an instruction of the recording that cut, and then the state text of what every replay order plays to whose counts
+-- are the cut's
+abbrev pub IsToldAt : Which → Instr → (latest loads : Bool) → Recording → (out : List ℕ) → Type 0
+IsToldAt which at latest loads r out =
+    IsInstrOf r at
+    × (cut : Cut) × (outcome : Outcome) × IsCutAt which r at latest cut × IsStateAt which r cut outcome
+    × (out ≡ cut_state_lines cut outcome (recorded_image r) loads)
 
 -- the spelling of a certificate that the recording's reduced log is least. Its clocks are exact, so there is one
 abbrev pub IsCertified : Recording → (out : List ℕ) → Type 0
@@ -145,6 +164,8 @@ Makes Certify input out = SpellsSome (whole_at input) (λ r. IsCertified r out)
 Makes Check input out = SpellsSome (certificate_at input) (λ c. out ≡ checked_lines c)
 Makes (Gen shape number) input out = out ≡ generated shape number
 Makes (Soak shape number params seed) input out = IsSoaked shape number params seed out
+Makes (At which at latest loads) input out =
+    SpellsSome (whole_at input) (λ r. IsToldAt which at latest loads r out)
 
 -- ---- why nothing is given
 
@@ -159,8 +180,16 @@ IsUnread Certify input part = whole_at input ≡ Err part
 IsUnread Check input part = certificate_at input ≡ Err part
 IsUnread (Gen shape number) input part = ⊥
 IsUnread (Soak shape number params seed) input part = ⊥
+IsUnread (At which at latest loads) input part = whole_at input ≡ Err part
 
--- the command audits the recording that the input spells by a log, and this is the answer
+-- the command names this instruction, and the recording that the input spells doesn't have it
+abbrev pub IsAbsent : Command → (input : List ℕ) → Instr → Type 0
+IsAbsent (At which at latest loads) input absent =
+    SpellsSome (whole_at input) (λ r. IsInstrOf r at → ⊥) × (absent ≡ at)
+IsAbsent command input absent = ⊥
+
+-- the command audits the recording that the input spells by a log, and this is the answer. Where the command names an
+-- instruction, the recording has it
 abbrev pub AuditFails : Command → (input : List ℕ) → AuditFault → Type 0
 AuditFails (Record run) input fault = ⊥
 AuditFails (Run run loads) input fault = ⊥
@@ -171,6 +200,8 @@ AuditFails Certify input fault = SpellsSome (whole_at input) (λ r. AuditRefuses
 AuditFails Check input fault = SpellsSome (certificate_at input) (λ c. AuditRefuses Reduced c.recording fault)
 AuditFails (Gen shape number) input fault = ⊥
 AuditFails (Soak shape number params seed) input fault = ⊥
+AuditFails (At which at latest loads) input fault =
+    SpellsSome (whole_at input) (λ r. IsInstrOf r at × AuditRefuses which r fault)
 
 -- the recording is determinate, and this is the first edge that no least log has
 abbrev pub IsNotLeast : Recording → CheckFailure → Type 0
@@ -190,6 +221,7 @@ IsNotShown Certify input failure = SpellsSome (whole_at input) (λ r. IsNotLeast
 IsNotShown Check input failure = SpellsSome (certificate_at input) (λ c. CheckFails c failure)
 IsNotShown (Gen shape number) input failure = ⊥
 IsNotShown (Soak shape number params seed) input failure = ⊥
+IsNotShown (At which at latest loads) input failure = ⊥
 
 -- the input is to be an ELF file, and this is the file's first fault
 abbrev pub IsFaulty : Command → (input : List ℕ) → ElfFault → Type 0
@@ -202,6 +234,7 @@ IsFaulty Certify input fault = ⊥
 IsFaulty Check input fault = ⊥
 IsFaulty (Gen shape number) input fault = ⊥
 IsFaulty (Soak shape number params seed) input fault = ⊥
+IsFaulty (At which at latest loads) input fault = ⊥
 
 -- the command makes an image that is longer than the memory
 abbrev pub Overflows : Command → Type 0
@@ -214,6 +247,7 @@ Overflows Certify = ⊥
 Overflows Check = ⊥
 Overflows (Gen shape number) = ⊥
 Overflows (Soak shape number params seed) = 4 * params.words < image_length shape
+Overflows (At which at latest loads) = ⊥
 
 -- how a command ends whose audit was refused so
 abbrev pub exit_of_audit : AuditFault → Exit
@@ -237,10 +271,11 @@ Ends Audits Shows exits.TooLarge = ⊥
 Ends Audits Shows exits.ReadFault = ⊥
 Ends Audits Shows exits.WriteFault = ⊥
 Ends Audits Shows (exits.Elf fault) = ⊥
+Ends Audits Shows (exits.NoInstr at) = ⊥
 
 -- why the command gives nothing for an input that was read, or for none: the first fault of an ELF file, its first
--- part that has no reading, what an audit answers, what isn't shown, or an image of its own that is too long. Want of
--- memory says nothing
+-- part that has no reading, an instruction that is absent, what an audit answers, what isn't shown, or an image of its
+-- own that is too long. Want of memory says nothing
 abbrev pub Refuses : Command → (input : List ℕ) → Exit → Type 0
 Refuses command input (exits.Bad part) = IsUnread command input part
 Refuses command input (exits.Stuck cut) = AuditFails command input (faults.Stuck cut)
@@ -254,6 +289,7 @@ Refuses command input exits.TooLarge = Overflows command
 Refuses command input exits.ReadFault = ⊥
 Refuses command input exits.WriteFault = ⊥
 Refuses command input (exits.Elf fault) = IsFaulty command input fault
+Refuses command input (exits.NoInstr at) = IsAbsent command input at
 
 -- a run whose input has no image ends so
 abbrev pub LoadEnds : RunWords → (input : List ℕ) → Exit → Type 0
@@ -268,6 +304,11 @@ SoakEnds shape params exit =
 -- a command that replays this recording by the log ends so
 abbrev pub AuditEnds : Which → Recording → Exit → Type 0
 AuditEnds which r exit = Ends (λ fault. AuditRefuses which r fault) (λ failure. ⊥) exit
+
+-- a command that asks for the state at an instruction of this recording ends so
+abbrev pub AtEnds : Which → Instr → Recording → Exit → Type 0
+AtEnds which at r (exits.NoInstr absent) = (IsInstrOf r at → ⊥) × (absent ≡ at)
+AtEnds which at r exit = Ends (λ fault. IsInstrOf r at × AuditRefuses which r fault) (λ failure. ⊥) exit
 
 -- a command that certifies this recording ends so
 abbrev pub CertifyEnds : Recording → Exit → Type 0
@@ -310,8 +351,8 @@ pub record KeepsRun (params : Params) (choices : List ℕ) (seed : ℕ) (bytes :
 abbrev pub IsReplayed : Which → Recording → Type 0
 IsReplayed which r = IsDeterminate which r × EveryOrderAgrees which r
 
--- a recording keeps its run; what was replayed is determinate; and what was certified or checked is determinate, and
--- its reduced log is least
+-- a recording keeps its run; what was replayed, to its end or to a cut, is determinate; and what was certified or
+-- checked is determinate, and its reduced log is least
 abbrev pub Promised : Command → (input : List ℕ) → Type 0
 Promised (Record run) input = SpellsSome (loaded run input) (λ bytes. KeepsRun run.params run.choices run.seed bytes)
 Promised (Run run loads) input = Unit {0}
@@ -322,6 +363,7 @@ Promised Certify input = SpellsSome (whole_at input) (λ r. IsDeterminate Reduce
 Promised Check input = SpellsSome (certificate_at input) (λ c. Checks c)
 Promised (Gen shape number) input = Unit {0}
 Promised (Soak shape number params seed) input = Unit {0}
+Promised (At which at latest loads) input = SpellsSome (whole_at input) (λ r. IsReplayed which r)
 
 -- ---- laws
 
@@ -332,6 +374,11 @@ MigratedReadsTheSame = (input out : List ℕ) → IsBytes input → Makes Migrat
 -- it leaves the bytes of a recording of the newest version as they are
 abbrev pub NewestStays : Type 0
 NewestStays = (r : Recording) → Valid r → Makes Migrate (spelling r) (spelling r)
+
+-- what at makes of an input is one output
+abbrev pub AtMakesOne : Type 0
+AtMakesOne = (which : Which) (at : Instr) (latest loads : Bool) (input out other : List ℕ) →
+    Makes (At which at latest loads) input out → Makes (At which at latest loads) input other → out ≡ other
 
 -- what certify makes is refused by check for want of memory alone
 abbrev pub CertifiedIsAccepted : Type 0

@@ -6,9 +6,11 @@ use Rattle.log_codec.specs.Laws.{IsBytes}
 use Rattle.log_codec.specs.Reading.{whole_at}
 use Rattle.log_codec.specs.declared.recording.Recording.{Recording}
 use Rattle.min_certificate.specs.Answers.{Certifies}
+use Rattle.replay_audit.specs.Audits.{IsInstrOf}
 use Rattle.replay_audit.specs.Determinate.{IsDeterminate}
 use Rattle.rtr_io.specs.Faults.{HasRisen}
 use Rattle.rtr_types.specs.Parameters.{Fits}
+use Rattle.rtr_types.specs.declared.instr.Instr.{Instr}
 use Rattle.rtr_types.specs.declared.pairs.Which.{Which}
 use Rattle.rtr_types.specs.declared.pairs.Which.TheVariants.{Reduced}
 use Rattle.rtr_types.specs.declared.params.Params.{Params}
@@ -16,7 +18,7 @@ use Rattle.state_text.specs.declared.exit.Exit.{Exit}
 use Rattle.state_text.specs.declared.exit.Exit.TheVariants as exits
 use Rattle.tool_words.specs.declared.command.Command.{Command}
 use Rattle.tool_words.specs.declared.command.Command.TheVariants.{Record, Run, Print, Replay, Migrate, Certify, Check}
-use Rattle.tool_words.specs.declared.command.Command.TheVariants.{Gen, Soak}
+use Rattle.tool_words.specs.declared.command.Command.TheVariants.{Gen, Soak, At}
 use Rattle.tool_words.specs.declared.command.RunWords.{RunWords}
 use Rattle.trace_gen.specs.Programs.{image_length}
 use Rattle.rtr_cli.specs.Commands.{Makes, Promised, Refuses, SpellsSome, loaded, recording_of_bytes, run_bytes_max}
@@ -31,6 +33,10 @@ pub record IsOfRecord (r : Recording) : Type 0 where
   pub room : length bytes ≤ 4 * params.words
   pub recorded : r ≡ recording_of_bytes params choices seed bytes
 
+-- it is, and has the instruction
+abbrev pub IsOfRecordWith : Instr → Recording → Type 0
+IsOfRecordWith at r = IsOfRecord r × IsInstrOf r at
+
 -- the certificate is one that `certify` makes: of a determinate recording, with exact entries
 pub record IsOfCertify (c : Certificate) : Type 0 where
   pub recording : Recording
@@ -38,8 +44,8 @@ pub record IsOfCertify (c : Certificate) : Type 0 where
   pub certifies : Certifies recording c
 
 -- the command makes an output of this input, unless memory runs out: of an image or a faultless ELF file; of any
--- recording, of either version, or of one that `record` makes; of a certificate that `certify` makes, whose recording
--- is spelled in either version; or of a generated image that the memory holds
+-- recording, of either version, or of one that `record` makes, for `at` with the instruction; of a certificate that
+-- `certify` makes, whose recording is spelled in either version; or of a generated image that the memory holds
 abbrev pub Accepts : Command → (input : List ℕ) → Type 0
 Accepts (Record run) input = SpellsSome (loaded run input) (λ bytes. Unit {0})
 Accepts (Run run loads) input = SpellsSome (loaded run input) (λ bytes. Unit {0})
@@ -50,6 +56,7 @@ Accepts Certify input = SpellsSome (whole_at input) IsOfRecord
 Accepts Check input = SpellsSome (certificate_at input) IsOfCertify
 Accepts (Gen shape number) input = Unit {0}
 Accepts (Soak shape number params seed) input = image_length shape ≤ 4 * params.words
+Accepts (At which at latest loads) input = SpellsSome (whole_at input) (IsOfRecordWith at)
 
 -- the input has just these bytes left, no more than the command takes; for a command that takes none they are none,
 -- whatever the input has
@@ -72,10 +79,13 @@ abbrev pub AcceptedIsNotRefused : Type 0
 AcceptedIsNotRefused = (command : Command) (input : List ℕ) (exit : Exit) → Accepts command input →
     Refuses command input exit → exit ≡ exits.OutOfMemory
 
--- what a run was recorded as is replayed by either log, certified, migrated and printed
+-- what a run was recorded as is replayed by either log, to its end and to each of its instructions, certified, migrated
+-- and printed
 pub record RecordingIsAccepted (out : List ℕ) : Type 0 where
   pub printed : Accepts Print out
   pub replayed : (which : Which) (loads : Bool) → Accepts (Replay which loads) out
+  pub told : (which : Which) (at : Instr) (latest loads : Bool) → SpellsSome (whole_at out) (λ r. IsInstrOf r at)
+      → Accepts (At which at latest loads) out
   pub migrated : Accepts Migrate out
   pub certified : Accepts Certify out
 

@@ -21,6 +21,7 @@ ghost use Rattle.rtr_cli.specs.Commands.{checked_lines, exit_of_audit, image_of,
 ghost use Rattle.rtr_cli.specs.Commands.{run_bytes_max};
 ghost use Rattle.tool_words.specs.declared.command.Command.TheVariants.{Record, Run};
 
+use crate::cuts::state_at;
 use crate::soaks::soak;
 use certificate_codec::{Certificate, read_certificate, spell_certificate};
 use image_elf::{ElfFault, flatten};
@@ -51,7 +52,8 @@ pub(crate) fn most_of(command: &Command) -> Option<usize>
         | Command::Replay { .. }
         | Command::Migrate
         | Command::Certify
-        | Command::Check => Some(FILE_BYTES_MAX),
+        | Command::Check
+        | Command::At { .. } => Some(FILE_BYTES_MAX),
         Command::Gen { .. } | Command::Soak { .. } => None,
     }
 }
@@ -105,6 +107,15 @@ pub(crate) fn make(alloc: Global, command: Command, bytes: Vec<u8>) -> Result<Ve
             params,
             seed,
         } => soak(alloc, shape, number, params, seed),
+        Command::At {
+            which,
+            at,
+            latest,
+            loads,
+        } => {
+            let recording = read(alloc, bytes.as_slice())?;
+            state_at(alloc, recording, which, at, latest, loads)
+        }
     }
 }
 

@@ -1,6 +1,8 @@
 //! What the commands' definitions promise of their outputs.
-ghost use Rattle.rtr_cli.specs.Commands.{CertifiedIsAccepted, MigratedReadsTheSame, NewestStays};
+ghost use Rattle.rtr_cli.specs.Commands.{AtMakesOne, CertifiedIsAccepted, MigratedReadsTheSame, NewestStays};
 ghost use Rattle.rtr_cli.specs.Completeness.{AcceptedIsNotRefused, WrittenIsAccepted};
+
+use cut_replay::laws::{one_cut_each, one_state};
 
 /// What `migrate` makes of a recording of either version reads as the recording does, and it leaves the
 /// bytes of one of the newest version as they are.
@@ -13,6 +15,14 @@ pub fn migrate_laws()
 pub fn certify_laws()
     ensures { CertifiedIsAccepted }
 {}
+
+/// What `at` makes of a recording is one text: an instruction has one cut of each kind, and a cut one state.
+pub fn at_laws()
+    ensures { AtMakesOne }
+{
+    one_cut_each();
+    one_state();
+}
 
 /// What a command accepts it refuses for want of memory alone, and what `record`, `migrate` and `certify` write is
 /// accepted by the commands that read it.

@@ -2,11 +2,12 @@
 #![tactic(auto)]
 
 mod commands;
+mod cuts;
 mod laws;
 mod soak_texts;
 mod soaks;
 mod tool;
 
-pub use laws::{certify_laws, completeness_laws, migrate_laws};
+pub use laws::{at_laws, certify_laws, completeness_laws, migrate_laws};
 pub use soak_texts::soak_text;
 pub use tool::run_tool;

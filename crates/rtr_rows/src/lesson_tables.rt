@@ -2,6 +2,8 @@
 //! recordings comes from `tools/reference`, a slow model of the tool; the answers to logs and certificates that
 //! were damaged were worked out by hand.
 
+use crate::cut_tables::{READ, UNWRITTEN};
+use crate::replay_tables::HANDED_OVER_STATE;
 use crate::tables::Row;
 
 macro_rules! answered {
@@ -386,7 +388,7 @@ pub static EXAMPLES: [Row; 21] = [
 ];
 
 /// The steps of the lesson.
-pub static LESSON: [Row; 14] = [
+pub static LESSON: [Row; 18] = [
     answered!(
         "record --cores 2 --words 32 --choices 000001",
         LOST_UPDATE,
@@ -472,5 +474,26 @@ pub static LESSON: [Row; 14] = [
             03000301 01030301 01010301 03000200 010303",
         7,
         "rtr: clock 1 of core 0 is wrong\n"
+    ),
+    // From the load of core 1 to the store that it read; then all of core 1, which doesn't need core 0's load.
+    answered!("replay --loads", HAND_OVER_RECORDING, "", HANDED_OVER_STATE),
+    answered!("at --core 1 --count 2", HAND_OVER_RECORDING, "", READ),
+    answered!(
+        "at --core 0 --count 3 --latest",
+        HAND_OVER_RECORDING,
+        "",
+        UNWRITTEN
+    ),
+    answered!(
+        "at --core 0 --count 4 --latest",
+        HAND_OVER_RECORDING,
+        "",
+        "cut 3 4\n\
+            core 0 total retired 3 pc 0000000c\n\
+            core 0 x5 00000007\n\
+            core 1 exit retired 4 pc 00000020\n\
+            core 1 x7 00000007\n\
+            core 1 x10 00000001\n\
+            mem 00000040 00000001\n"
     ),
 ];

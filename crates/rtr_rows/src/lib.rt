@@ -9,6 +9,8 @@ mod calls;
 #[cfg(test)]
 mod certificate_tables;
 #[cfg(test)]
+mod cut_tables;
+#[cfg(test)]
 mod faults;
 #[cfg(test)]
 mod generated_tables;

@@ -52,7 +52,7 @@ const TWO_CORES: &str = "52545201 02 904e 10 0c";
 const FOR_THREE: &str = "52545201 03 904e 10 0c";
 
 /// What `HANDED_OVER` leaves where core 1 reads what core 0 wrote, and core 0 what core 1 wrote.
-const HANDED_OVER_STATE: &str = "core 0 exit retired 5 pc 00000014\n\
+pub const HANDED_OVER_STATE: &str = "core 0 exit retired 5 pc 00000014\n\
     core 0 x5 00000007\n\
     core 0 x6 00000001\n\
     core 1 exit retired 4 pc 00000020\n\

@@ -1,9 +1,10 @@
 use crate::calls::{ask, bytes, input_of, output_of, recording_of};
 use crate::certificate_tables::CERTIFICATES;
+use crate::cut_tables::STATES;
 use crate::generated_tables::{ELF_FILES, GENERATED};
 use crate::lesson_tables::{EXAMPLES, LESSON};
 use crate::record_tables::RECORDINGS;
-use crate::replay_tables::REPLAYS;
+use crate::replay_tables::{REPLAYS, Replayed};
 use crate::run_tables::{FAULTY, RUNS};
 use crate::tables::{CUTS, ROWS, Row};
 use log_codec::{fits_old, read, spell_v1};
@@ -200,10 +201,9 @@ fn each_recording_is_certified(rt: HostRuntime) -> Result<(), Fail> {
     Ok(())
 }
 
-#[test]
-fn each_log_is_replayed_or_refused(rt: HostRuntime) -> Result<(), Fail> {
-    let alloc = rt.alloc();
-    for row in &REPLAYS {
+/// Asks what each row asks of its recording, and compares the answer.
+fn are_replayed(rt: &impl Abort, alloc: Global, rows: &[Replayed]) -> Result<(), Fail> {
+    for row in rows {
         let mut recording = bytes(alloc, row.header)?;
         for piece in [row.image, row.logs] {
             let piece = bytes(alloc, piece)?;
@@ -224,6 +224,16 @@ fn each_log_is_replayed_or_refused(rt: HostRuntime) -> Result<(), Fail> {
         );
     }
     Ok(())
+}
+
+#[test]
+fn each_log_is_replayed_or_refused(rt: HostRuntime) -> Result<(), Fail> {
+    are_replayed(&rt, rt.alloc(), &REPLAYS)
+}
+
+#[test]
+fn each_state_at_an_instruction_is_told_or_refused(rt: HostRuntime) -> Result<(), Fail> {
+    are_replayed(&rt, rt.alloc(), &STATES)
 }
 
 #[test]

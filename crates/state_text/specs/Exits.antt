@@ -12,7 +12,8 @@ use Rattle.min_certificate.specs.declared.answers.CheckFailure.{CheckFailure}
 use Rattle.min_certificate.specs.declared.answers.CheckFailure.TheVariants.{NotConflict, BadClock, NotNeeded, NotLeast}
 use Rattle.state_text.specs.declared.exit.Exit.{Exit}
 use Rattle.state_text.specs.declared.exit.Exit.TheVariants.{Done, Usage, TooLarge, Bad, Stuck, Short, Undetermined}
-use Rattle.state_text.specs.declared.exit.Exit.TheVariants.{CheckFailed, ReadFault, WriteFault, OutOfMemory, Elf}
+use Rattle.state_text.specs.declared.exit.Exit.TheVariants.{CheckFailed, ReadFault, WriteFault}
+use Rattle.state_text.specs.declared.exit.Exit.TheVariants.{OutOfMemory, Elf, NoInstr}
 use Rattle.state_text.specs.Pieces.{line}
 
 -- the exit status
@@ -29,6 +30,7 @@ status_of ReadFault = 8
 status_of WriteFault = 9
 status_of OutOfMemory = 10
 status_of (Elf fault) = 11
+status_of (NoInstr at) = 12
 
 -- the counts of a cut, core 0 first, each after a space
 abbrev pub count_text : ℕ → List ℕ
@@ -82,6 +84,7 @@ fault_line ReadFault = line (codes "rtr: read fault")
 fault_line WriteFault = line (codes "rtr: write fault")
 fault_line OutOfMemory = line (codes "rtr: out of memory")
 fault_line (Elf fault) = elf_line fault
+fault_line (NoInstr at) = line (codes "rtr: no instruction " ++ instr_text at)
 
 -- how a command ends whose input can't be read
 abbrev pub exit_of : CodecFault → Exit

@@ -3,3 +3,4 @@ pub mod Logs
 pub mod Pieces
 pub mod States
 pub mod Checks
+pub mod Cuts

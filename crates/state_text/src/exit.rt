@@ -41,6 +41,9 @@ pub enum Exit {
     /// The input is to be an ELF file, was read to its end, and has no flat image for the memory. Want of memory
     /// for that image is `OutOfMemory` above, and never this fault.
     Elf { fault: ElfFault },
+    /// The recording on the input has no such instruction: its core isn't one of the recording's, or the count is
+    /// beyond the core's total.
+    NoInstr { at: Instr },
 }
 
 impl Exit {
@@ -61,6 +64,7 @@ impl Exit {
             Exit::WriteFault => 9,
             Exit::OutOfMemory => 10,
             Exit::Elf { .. } => 11,
+            Exit::NoInstr { .. } => 12,
         }
     }
 }

@@ -217,6 +217,11 @@ pub fn fault_text(exit: &Exit) -> FaultText
         Exit::WriteFault => text.put(b"rtr: write fault\n"),
         Exit::OutOfMemory => text.put(b"rtr: out of memory\n"),
         Exit::Elf { fault } => return elf_text(*fault),
+        Exit::NoInstr { at } => {
+            text.put(b"rtr: no instruction ");
+            text.put_instr(*at);
+            text.put(b"\n");
+        }
     }
     text
 }

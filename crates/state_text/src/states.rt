@@ -25,12 +25,27 @@ pub fn state_text(
     ensures { IfOk result (λ text. text.items ≡ state_lines outcome.now image.now loads) }
 {
     let mut text = String::new(alloc);
-    put_cores(&mut text, outcome.cores.as_slice(), image)?;
-    put_memory(&mut text, outcome.words.as_slice(), image)?;
-    if loads {
-        put_loads(&mut text, outcome.loads.as_slice())?;
-    }
+    put_state(&mut text, outcome, image, loads)?;
     Ok(text.into_bytes())
+}
+
+// Puts the lines of a state.
+pub(crate) fn put_state(
+    text: &mut String,
+    outcome: &Outcome,
+    image: &Image,
+    loads: bool,
+) -> Result<(), AllocError>
+    requires { IsOutcomeOf image.now outcome.now }
+    ensures { OnOk result (string_bytes text.new ≡ string_bytes text.old
+        ++ state_lines outcome.now image.now loads) }
+{
+    put_cores(text, outcome.cores.as_slice(), image)?;
+    put_memory(text, outcome.words.as_slice(), image)?;
+    if loads {
+        put_loads(text, outcome.loads.as_slice())?;
+    }
+    Ok(())
 }
 
 // Puts the lines of each core.

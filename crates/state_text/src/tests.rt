@@ -1,7 +1,7 @@
 //! Texts from the tool's written description.
 ghost use Rattle.std.specs.Prelude.{◌≡◌, ◌≤◌, ◌∷◌, [], IfOk, length};
 
-use crate::{Exit, check_text, fault_text, logs_text, state_text};
+use crate::{Exit, check_text, cut_state_text, fault_text, logs_text, state_text};
 use image_elf::ElfFault;
 use image_mem::Image;
 use log_codec::Recording;
@@ -92,6 +92,13 @@ fn exits(rt: HostRuntime) {
         (Exit::ReadFault, 8, "rtr: read fault\n"),
         (Exit::WriteFault, 9, "rtr: write fault\n"),
         (Exit::OutOfMemory, 10, "rtr: out of memory\n"),
+        (
+            Exit::NoInstr {
+                at: Instr { core: 0, count: 6 },
+            },
+            12,
+            "rtr: no instruction 0:6\n",
+        ),
     ];
     for (exit, status, text) in rows {
         assert_eq!(rt; exit.status(), status);
@@ -282,6 +289,27 @@ fn registers(rt: HostRuntime) -> Result<(), Fail> {
         core 0 x1 deadbeef\n\
         core 0 x31 0000000a\n\
         mem 0000000c 000000ff\n";
+    assert_eq!(rt; text.as_slice(), lines.as_bytes());
+    Ok(())
+}
+
+// The state at a cut: the counts of the cores that it has, and then the state.
+#[test]
+fn state_at_a_cut(rt: HostRuntime) -> Result<(), Fail> {
+    let alloc = rt.alloc();
+    let image = image_of(alloc, &[], 4)?;
+    let none = Items::new(alloc);
+    let outcome = Outcome {
+        cores: Items::from_vec(vec![in alloc; core_at(1, 4, Halt::Running)]?),
+        words: Items::from_vec(vec![in alloc; 0; 4]?),
+        loads: Items::from_vec(vec![in alloc; none]?),
+    };
+    let mut cut = one_each();
+    cut.counts[0] = 3;
+    cut.counts[2] = 9;
+    let text = cut_state_text(alloc, &cut, &outcome, &image, true)?;
+    let lines = "cut 3 1\n\
+        core 0 fetch retired 1 pc 00000004\n";
     assert_eq!(rt; text.as_slice(), lines.as_bytes());
     Ok(())
 }

@@ -1,25 +1,30 @@
 -- Every setting that is put in is in its range, so the parameters fit.
-use Rattle.std.proofs.Common.{◌≡◌, ℕ, IsTrue, ◌≤◌, ◌%◌, Bool, true, false, List, [], ◌∷◌, Option, Some, None, refl, sym, ap, arith, rules, ◌==◌, nat_le, ◌&&◌, ◌-◌, ◌^◌, ◌*◌, ◌∙◌}
+use Rattle.std.proofs.Common.{◌≡◌, ℕ, IsTrue, ◌<◌, ◌≤◌, ◌%◌, Bool, true, false, List, [], ◌∷◌, Option}
+use Rattle.std.proofs.Common.{Some, None, refl, sym, ap, arith, rules, ◌==◌, nat_le, ◌&&◌, ◌-◌, ◌^◌, ◌*◌, ◌∙◌}
 use Rattle.std.proofs.Common.{unwrap_or, cond, subst}
 use Rattle.std.specs.Option.{option_and_then, option_map}
 use Rattle.std.specs.Str.Parse.{digits_value}
 use Rattle.std.proofs.lemmas.Bool.Decides.{nat_tests}
 use Rattle.rtr_types.specs.Parameters.{Fits}
+use Rattle.rtr_types.specs.declared.instr.Instr.{Instr}
 use Rattle.rtr_types.specs.declared.TheConstants.{CORES_MAX}
 use Rattle.rtr_types.specs.declared.params.TheConstants.{INSTRUCTIONS_MAX, LIMIT_MAX, WORDS_MIN, WORDS_MAX}
 use Rattle.trace_gen.specs.declared.shape.Shape as shapes
 use Rattle.trace_gen.specs.Programs.{takes}
 use Rattle.tool_words.specs.declared.command.Command.{Command}
 use Rattle.tool_words.specs.declared.command.Command.TheVariants.{Gen as GenImage, Soak as SoakImage}
+use Rattle.tool_words.specs.declared.command.Command.TheVariants.{At as StateAt}
 use Rattle.tool_words.specs.declared.command.Verb.{Verb}
-use Rattle.tool_words.specs.declared.command.Verb.TheVariants.{Record, Run, Print, Replay, Migrate, Certify, Check, Gen, Soak}
+use Rattle.tool_words.specs.declared.command.Verb.TheVariants.{Record, Run, Print, Replay, Migrate, Certify, Check, Gen, Soak, At}
 use Rattle.tool_words.specs.declared.options.Name.{Name}
 use Rattle.tool_words.specs.declared.options.Name.TheVariants.{Cores, Limit, Words, Choices, Seed, Log, Loads, Elf, Shape, Number}
+use Rattle.tool_words.specs.declared.options.Name.TheVariants.{Core, Count, Latest}
 use Rattle.tool_words.specs.Settings.{Settings}
 use Rattle.tool_words.specs.Numerals.{is_numeral, number_between}
 use Rattle.tool_words.specs.Choices.{are_choices}
-use Rattle.tool_words.specs.Options.{are_together_few, is_set, log_named, no_settings, params_of, put, put_new, shape_named, whole_blocks, cores_default, limit_default, words_default}
-use Rattle.tool_words.specs.Commands.{HasFittingParams, command_of, shaped, verb_named}
+use Rattle.tool_words.specs.Options.{are_together_few, is_set, log_named, no_settings, params_of, put}
+use Rattle.tool_words.specs.Options.{put_new, shape_named, which_of, whole_blocks, cores_default, limit_default, words_default}
+use Rattle.tool_words.specs.Commands.{HasFittingParams, MayBe, command_of, instr, named_instr, shaped, verb_named}
 use Rattle.tool_words.specs.Reading.{Set, settings, settled, settled_by, few_together, FittingLaw}
 
 -- a number of cores that is set is in range, and so are a limit and a number of words
@@ -35,10 +40,29 @@ abbrev WordsFit : Option ℕ → Type 0
 WordsFit None = Unit {0}
 WordsFit (Some n) = (WORDS_MIN ≤ n) × (n ≤ WORDS_MAX) × (n % 4 ≡ 0)
 
-record AreFitting (s : Settings) : Type 0 where
-  cores : CoresFit s.cores
-  limit : LimitFits s.limit
-  words : WordsFit s.words
+-- a core's number
+abbrev CoreFits : Option ℕ → Type 0
+CoreFits None = Unit {0}
+CoreFits (Some n) = n < CORES_MAX
+
+-- the settings that have ranges
+record Ranged : Type 0 where
+  cores : Option ℕ
+  limit : Option ℕ
+  words : Option ℕ
+  core : Option ℕ
+  count : Option ℕ
+
+abbrev ranged : Settings → Ranged
+ranged s = record { cores = s.cores; limit = s.limit; words = s.words; core = s.core; count = s.count }
+
+-- a count's range is that of a limit
+record AreFitting (r : Ranged) : Type 0 where
+  cores : CoresFit r.cores
+  limit : LimitFits r.limit
+  words : WordsFit r.words
+  core : CoreFits r.core
+  count : LimitFits r.count
 
 number_between-range : (least most n : ℕ) (text : List ℕ) → number_between least most text ≡ Some n → (least ≤ n) × (n ≤ most)
 unfolding number_between
@@ -83,66 +107,75 @@ whole_blocks-range text n h =
         divides m n true is e = let same : m ≡ n = cc in let zero : m % 4 ≡ 0 = grind (arith, nat_tests) in rw (← same) zero
         divides m n false is e = absurd (cc)
 
--- settings that differ in nothing that has a range
-alike : (s t : Settings) → t.cores ≡ s.cores → t.limit ≡ s.limit → t.words ≡ s.words → AreFitting s → AreFitting t
-alike s t cores limit words fit = record { cores = rw cores fit.cores; limit = rw limit fit.limit; words = rw words fit.words }
+-- a core's number is below their number
+core_range : (n : ℕ) (text : List ℕ) → number_between 0 (CORES_MAX - 1) text ≡ Some n → CoreFits (Some n)
+core_range n text h = let range = number_between-range 0 (CORES_MAX - 1) n text h in omega arith
 
-put_new-fits : (s t : Settings) (name : Name) (text : List ℕ) → put_new s name text ≡ Some t → AreFitting s → AreFitting t
+-- settings that have the same ranged ones
+alike : (r s : Ranged) → r ≡ s → AreFitting r → AreFitting s
+alike r s same fit = let P : Ranged → Type 0 = λ u. AreFitting u in subst P same fit
+
+put_new-fits : (s t : Settings) (name : Name) (text : List ℕ) → put_new s name text ≡ Some t → AreFitting (ranged s) → AreFitting (ranged t)
 put_new-fits s t Cores text h fit =
     let made = map-some (λ n. record s { cores = Some n }) (number_between 1 CORES_MAX text) t h in
-    let cores : t.cores ≡ Some made.0 = ap (λ u. u.cores) (sym made.2) in
-    let limit : t.limit ≡ s.limit = ap (λ u. u.limit) (sym made.2) in
-    let words : t.words ≡ s.words = ap (λ u. u.words) (sym made.2) in
-    record { cores = rw cores (number_between-range 1 CORES_MAX made.0 text made.1); limit = rw limit fit.limit; words = rw words fit.words }
+    alike (record (ranged s) { cores = Some made.0 }) (ranged t) (ap ranged made.2)
+    (record { cores = number_between-range 1 CORES_MAX made.0 text made.1; limit = fit.limit; words = fit.words; core = fit.core; count = fit.count })
 put_new-fits s t Limit text h fit =
     let made = map-some (λ n. record s { limit = Some n }) (number_between 1 LIMIT_MAX text) t h in
-    let cores : t.cores ≡ s.cores = ap (λ u. u.cores) (sym made.2) in
-    let limit : t.limit ≡ Some made.0 = ap (λ u. u.limit) (sym made.2) in
-    let words : t.words ≡ s.words = ap (λ u. u.words) (sym made.2) in
-    record { cores = rw cores fit.cores; limit = rw limit (number_between-range 1 LIMIT_MAX made.0 text made.1); words = rw words fit.words }
+    alike (record (ranged s) { limit = Some made.0 }) (ranged t) (ap ranged made.2)
+    (record { cores = fit.cores; limit = number_between-range 1 LIMIT_MAX made.0 text made.1; words = fit.words; core = fit.core; count = fit.count })
 put_new-fits s t Words text h fit =
     let made = map-some (λ n. record s { words = Some n }) (whole_blocks text) t h in
-    let cores : t.cores ≡ s.cores = ap (λ u. u.cores) (sym made.2) in
-    let limit : t.limit ≡ s.limit = ap (λ u. u.limit) (sym made.2) in
-    let words : t.words ≡ Some made.0 = ap (λ u. u.words) (sym made.2) in
-    record { cores = rw cores fit.cores; limit = rw limit fit.limit; words = rw words (whole_blocks-range text made.0 made.1) }
+    alike (record (ranged s) { words = Some made.0 }) (ranged t) (ap ranged made.2)
+    (record { cores = fit.cores; limit = fit.limit; words = whole_blocks-range text made.0 made.1; core = fit.core; count = fit.count })
 put_new-fits s t Choices text h fit =
     let is : Some (record s { choices = Some text }) ≡ Some t = if-some (are_choices text) _ t h in
     let same : record s { choices = Some text } ≡ t = cc in
-    alike s t (ap (λ u. u.cores) (sym same)) (ap (λ u. u.limit) (sym same)) (ap (λ u. u.words) (sym same)) fit
+    alike (ranged s) (ranged t) (ap ranged same) fit
 put_new-fits s t Seed text h fit =
     let made = map-some (λ n. record s { seed = Some n }) (number_between 0 (2 ^ 64 - 1) text) t h in
-    alike s t (ap (λ u. u.cores) (sym made.2)) (ap (λ u. u.limit) (sym made.2)) (ap (λ u. u.words) (sym made.2)) fit
+    alike (ranged s) (ranged t) (ap ranged made.2) fit
 put_new-fits s t Log text h fit =
     let made = map-some (λ w. record s { log = Some w }) (log_named text) t h in
-    alike s t (ap (λ u. u.cores) (sym made.2)) (ap (λ u. u.limit) (sym made.2)) (ap (λ u. u.words) (sym made.2)) fit
+    alike (ranged s) (ranged t) (ap ranged made.2) fit
 put_new-fits s t Loads text h fit =
     let same : record s { loads = true } ≡ t = cc in
-    alike s t (ap (λ u. u.cores) (sym same)) (ap (λ u. u.limit) (sym same)) (ap (λ u. u.words) (sym same)) fit
+    alike (ranged s) (ranged t) (ap ranged same) fit
 put_new-fits s t Elf text h fit =
     let same : record s { elf = true } ≡ t = cc in
-    alike s t (ap (λ u. u.cores) (sym same)) (ap (λ u. u.limit) (sym same)) (ap (λ u. u.words) (sym same)) fit
+    alike (ranged s) (ranged t) (ap ranged same) fit
 put_new-fits s t Shape text h fit =
     let made = map-some (λ shape. record s { shape = Some shape }) (shape_named text) t h in
-    alike s t (ap (λ u. u.cores) (sym made.2)) (ap (λ u. u.limit) (sym made.2)) (ap (λ u. u.words) (sym made.2)) fit
+    alike (ranged s) (ranged t) (ap ranged made.2) fit
 put_new-fits s t Number text h fit =
     let made = map-some (λ n. record s { number = Some n }) (number_between 0 (2 ^ 64 - 1) text) t h in
-    alike s t (ap (λ u. u.cores) (sym made.2)) (ap (λ u. u.limit) (sym made.2)) (ap (λ u. u.words) (sym made.2)) fit
+    alike (ranged s) (ranged t) (ap ranged made.2) fit
+put_new-fits s t Core text h fit =
+    let made = map-some (λ n. record s { core = Some n }) (number_between 0 (CORES_MAX - 1) text) t h in
+    alike (record (ranged s) { core = Some made.0 }) (ranged t) (ap ranged made.2)
+    (record { cores = fit.cores; limit = fit.limit; words = fit.words; core = core_range made.0 text made.1; count = fit.count })
+put_new-fits s t Count text h fit =
+    let made = map-some (λ n. record s { count = Some n }) (number_between 1 LIMIT_MAX text) t h in
+    alike (record (ranged s) { count = Some made.0 }) (ranged t) (ap ranged made.2)
+    (record { cores = fit.cores; limit = fit.limit; words = fit.words; core = fit.core; count = number_between-range 1 LIMIT_MAX made.0 text made.1 })
+put_new-fits s t Latest text h fit =
+    let same : record s { latest = true } ≡ t = cc in
+    alike (ranged s) (ranged t) (ap ranged same) fit
 
-put-fits : (s t : Settings) (name : Name) (text : List ℕ) → put s name text ≡ Some t → AreFitting s → AreFitting t
+put-fits : (s t : Settings) (name : Name) (text : List ℕ) → put s name text ≡ Some t → AreFitting (ranged s) → AreFitting (ranged t)
 put-fits s t name text h fit = put_new-fits s t name text (if-none (is_set s name) (put_new s name text) t h) fit
 
-settled-fits : (list : List Set) (s t : Settings) → settled s list ≡ Some t → AreFitting s → AreFitting t
-settled-fits [] s t h fit = let same : s ≡ t = cc in let P : Settings → Type 0 = λ u. AreFitting u in subst P same fit
+settled-fits : (list : List Set) (s t : Settings) → settled s list ≡ Some t → AreFitting (ranged s) → AreFitting (ranged t)
+settled-fits [] s t h fit = let same : s ≡ t = cc in alike (ranged s) (ranged t) (ap ranged same) fit
 settled-fits (set ∷ rest) s t h fit =
     let parts = and_then-some (λ u. settled u rest) (put s set.name set.text) t h in
     settled-fits rest parts.0 t parts.2 (put-fits s parts.0 set.name set.text parts.1 fit)
 
-settled_by-fits : (verb : Verb) (words : List (List ℕ)) (t : Settings) → settled_by verb no_settings words ≡ Some t → AreFitting t
+settled_by-fits : (verb : Verb) (words : List (List ℕ)) (t : Settings) → settled_by verb no_settings words ≡ Some t → AreFitting (ranged t)
 unfolding settled_by
 settled_by-fits verb words t h =
     let parts = and_then-some (settled no_settings) (settings verb words) t h in
-    settled-fits parts.0 no_settings t parts.2 (record { cores = tt; limit = tt; words = tt })
+    settled-fits parts.0 no_settings t parts.2 (record { cores = tt; limit = tt; words = tt; core = tt; count = tt })
 
 -- with a default for what isn't set
 cores-in : (o : Option ℕ) → CoresFit o → (1 ≤ unwrap_or o cores_default) × (unwrap_or o cores_default ≤ CORES_MAX)
@@ -164,7 +197,7 @@ few-together s t h = by (are_together_few s) refl h
     by true is e = (cc, grind (arith, nat_tests))
     by false is e = absurd (cc)
 
-params-fit : (s : Settings) → AreFitting s → (params_of s).cores * (params_of s).limit ≤ INSTRUCTIONS_MAX → Fits (params_of s)
+params-fit : (s : Settings) → AreFitting (ranged s) → (params_of s).cores * (params_of s).limit ≤ INSTRUCTIONS_MAX → Fits (params_of s)
 params-fit s fit few =
     let cores = cores-in s.cores fit.cores in
     let limit = limit-in s.limit fit.limit in
@@ -185,10 +218,20 @@ shaped-takes s p h =
         subst P same is
     by false shape number is e = absurd (cc)
 
+-- an instruction whose core and count are in their ranges
+instr_may_be : (s : Settings) (at : Instr) → named_instr s ≡ Some at → AreFitting (ranged s) → MayBe at
+instr_may_be s at h fit =
+    let core = and_then-some (λ core. option_map (instr core) s.count) s.core at h in
+    let count = map-some (instr core.0) s.count at core.2 in
+    let below : CoreFits (Some core.0) = subst (λ (o : Option ℕ). CoreFits o) core.1 fit.core in
+    let within : LimitFits (Some count.0) = subst (λ (o : Option ℕ). LimitFits o) count.1 fit.count in
+    let P : Instr → Type 0 = λ i. MayBe i in
+    subst P count.2 (below, within.0, within.1)
+
 of-command : (made command : Command) → Some made ≡ Some command → HasFittingParams made → HasFittingParams command
 of-command made command h fits = let same : made ≡ command = cc in let P : Command → Type 0 = λ c. HasFittingParams c in subst P same fits
 
-command-fits : (verb : Verb) (s : Settings) (command : Command) → command_of verb s ≡ Some command → AreFitting s →
+command-fits : (verb : Verb) (s : Settings) (command : Command) → command_of verb s ≡ Some command → AreFitting (ranged s) →
     (params_of s).cores * (params_of s).limit ≤ INSTRUCTIONS_MAX → HasFittingParams command
 command-fits Record s command h fit few = of-command _ command h (params-fit s fit few)
 command-fits Run s command h fit few = of-command _ command h (params-fit s fit few)
@@ -203,6 +246,9 @@ command-fits Gen s command h fit few =
 command-fits Soak s command h fit few =
     let made = map-some (λ p. SoakImage p.0 p.1 (params_of s) (unwrap_or s.seed 0)) (shaped s) command h in
     let P : Command → Type 0 = λ c. HasFittingParams c in subst P made.2 (params-fit s fit few, shaped-takes s made.0 made.1)
+command-fits At s command h fit few =
+    let made = map-some (λ at. StateAt (which_of s) at s.latest s.loads) (named_instr s) command h in
+    let P : Command → Type 0 = λ c. HasFittingParams c in subst P made.2 (instr_may_be s made.0 made.1 fit)
 
 pub fitting_law : FittingLaw
 fitting_law [] command h = absurd (cc)

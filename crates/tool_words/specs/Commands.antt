@@ -1,9 +1,11 @@
 -- The commands.
-use Rattle.std.specs.Prelude.{ℕ, IsTrue, List, Option, Some, None, codes, unwrap_or, if◌then◌else◌}
+use Rattle.std.specs.Prelude.{ℕ, ◌<◌, ◌≤◌, IsTrue, List, Option, Some, None, codes, unwrap_or, if◌then◌else◌}
 use Rattle.std.specs.Option.{option_and_then, option_map}
 use Rattle.std.specs.Str.{bytes_eq}
 use Rattle.rtr_types.specs.Parameters.{Fits}
-use Rattle.rtr_types.specs.declared.pairs.Which.TheVariants.{Reduced}
+use Rattle.rtr_types.specs.declared.TheConstants.{CORES_MAX}
+use Rattle.rtr_types.specs.declared.instr.Instr.{Instr}
+use Rattle.rtr_types.specs.declared.params.TheConstants.{LIMIT_MAX}
 use Rattle.trace_gen.specs.declared.shape.Shape.{Shape}
 use Rattle.trace_gen.specs.Programs.{takes}
 use Rattle.tool_words.specs.declared.command.RunWords.{RunWords}
@@ -14,11 +16,13 @@ use Rattle.tool_words.specs.declared.command.Command.TheVariants.{Replay as Repl
 use Rattle.tool_words.specs.declared.command.Command.TheVariants.{Certify as CertifyRecording}
 use Rattle.tool_words.specs.declared.command.Command.TheVariants.{Check as CheckCertificate}
 use Rattle.tool_words.specs.declared.command.Command.TheVariants.{Gen as GenImage, Soak as SoakImage}
+use Rattle.tool_words.specs.declared.command.Command.TheVariants.{At as StateAt}
 use Rattle.tool_words.specs.declared.command.Verb.{Verb}
-use Rattle.tool_words.specs.declared.command.Verb.TheVariants.{Record, Run, Print, Replay, Migrate, Certify, Check, Gen, Soak}
+use Rattle.tool_words.specs.declared.command.Verb.TheVariants.{Record, Run, Print, Replay, Migrate}
+use Rattle.tool_words.specs.declared.command.Verb.TheVariants.{Certify, Check, Gen, Soak, At}
 use Rattle.tool_words.specs.Settings.{Settings}
 use Rattle.tool_words.specs.Choices.{bytes_of}
-use Rattle.tool_words.specs.Options.{params_of}
+use Rattle.tool_words.specs.Options.{params_of, which_of}
 
 -- the command that a word names, exactly
 abbrev pub verb_named : List ℕ → Option Verb
@@ -31,7 +35,8 @@ verb_named word =
     if bytes_eq word (codes "certify") then Some Certify else
     if bytes_eq word (codes "check") then Some Check else
     if bytes_eq word (codes "gen") then Some Gen else
-    if bytes_eq word (codes "soak") then Some Soak else None
+    if bytes_eq word (codes "soak") then Some Soak else
+    if bytes_eq word (codes "at") then Some At else None
 
 -- the run with these settings
 abbrev pub run_of : Settings → RunWords
@@ -49,20 +54,33 @@ shaped s =
     (λ shape. option_and_then (λ number. if takes shape number then Some (shape, number) else None) s.number)
     s.shape
 
+-- an instruction by its core and its count
+abbrev pub instr : (core count : ℕ) → Instr
+instr core count = record { core = core; count = count }
+
+-- the instruction whose core and count are set, both of them
+abbrev pub named_instr : Settings → Option Instr
+named_instr s = option_and_then (λ core. option_map (instr core) s.count) s.core
+
 -- the command with these settings, and its defaults for the others; none where it lacks one that it must have
 abbrev pub command_of : Verb → Settings → Option Command
 command_of Record s = Some (RecordRun (run_of s))
 command_of Run s = Some (RunImage (run_of s) s.loads)
 command_of Print s = Some PrintLogs
-command_of Replay s = Some (ReplayRun (unwrap_or s.log Reduced) s.loads)
+command_of Replay s = Some (ReplayRun (which_of s) s.loads)
 command_of Migrate s = Some MigrateRecording
 command_of Certify s = Some CertifyRecording
 command_of Check s = Some CheckCertificate
 command_of Gen s = option_map (λ p. GenImage p.0 p.1) (shaped s)
 command_of Soak s = option_map (λ p. SoakImage p.0 p.1 (params_of s) (unwrap_or s.seed 0)) (shaped s)
+command_of At s = option_map (λ at. StateAt (which_of s) at s.latest s.loads) (named_instr s)
 
--- the parameters of a command, where it has some, lie in their ranges, and a shape that it names has an image of
--- its number
+-- a machine may have this instruction: the core is one of the most, and the count lies within the greatest limit
+abbrev pub MayBe : Instr → Type 0
+MayBe at = (at.core < CORES_MAX) × (1 ≤ at.count) × (at.count ≤ LIMIT_MAX)
+
+-- the parameters of a command, where it has some, lie in their ranges, a shape that it names has an image of its
+-- number, and an instruction that it names may be
 abbrev pub HasFittingParams : Command → Type 0
 HasFittingParams (RecordRun run) = Fits run.params
 HasFittingParams (RunImage run loads) = Fits run.params
@@ -73,3 +91,4 @@ HasFittingParams CertifyRecording = Unit {0}
 HasFittingParams CheckCertificate = Unit {0}
 HasFittingParams (GenImage shape number) = IsTrue (takes shape number)
 HasFittingParams (SoakImage shape number params seed) = Fits params × IsTrue (takes shape number)
+HasFittingParams (StateAt which at latest loads) = MayBe at

@@ -1,5 +1,6 @@
 -- The options, and what their settings come to.
-use Rattle.std.specs.Prelude.{ℕ, ◌*◌, ◌%◌, ◌-◌, ◌^◌, ◌==◌, nat_le, Bool, true, false, List, Option, Some, None, is_some, codes}
+use Rattle.std.specs.Prelude.{ℕ, ◌*◌, ◌%◌, ◌-◌, ◌^◌, ◌==◌, nat_le, Bool}
+use Rattle.std.specs.Prelude.{true, false, List, Option, Some, None, is_some, codes}
 use Rattle.std.specs.Prelude.{unwrap_or, if◌then◌else◌}
 use Rattle.std.specs.Option.{option_and_then, option_map}
 use Rattle.std.specs.Str.{bytes_eq}
@@ -11,9 +12,11 @@ use Rattle.rtr_types.specs.declared.params.TheConstants.{INSTRUCTIONS_MAX, LIMIT
 use Rattle.trace_gen.specs.declared.shape.Shape as shapes
 use Rattle.trace_gen.specs.declared.shape.Shape.TheVariants.{Mix, Lock}
 use Rattle.tool_words.specs.declared.command.Verb.{Verb}
-use Rattle.tool_words.specs.declared.command.Verb.TheVariants.{Record, Run, Print, Replay, Migrate, Certify, Check, Gen, Soak}
+use Rattle.tool_words.specs.declared.command.Verb.TheVariants.{Record, Run, Replay, Gen, Soak, At}
 use Rattle.tool_words.specs.declared.options.Name.{Name}
-use Rattle.tool_words.specs.declared.options.Name.TheVariants.{Cores, Limit, Words, Choices, Seed, Log, Loads, Elf, Shape, Number}
+use Rattle.tool_words.specs.declared.options.Name.TheVariants.{Cores, Limit, Words, Choices, Seed}
+use Rattle.tool_words.specs.declared.options.Name.TheVariants.{Log, Loads, Elf, Shape, Number}
+use Rattle.tool_words.specs.declared.options.Name.TheVariants.{Core, Count, Latest}
 use Rattle.tool_words.specs.Settings.{Settings}
 use Rattle.tool_words.specs.Choices.{are_choices}
 use Rattle.tool_words.specs.Numerals.{number_between}
@@ -30,64 +33,42 @@ option_named word =
     if bytes_eq word (codes "--loads") then Some Loads else
     if bytes_eq word (codes "--elf") then Some Elf else
     if bytes_eq word (codes "--shape") then Some Shape else
-    if bytes_eq word (codes "--number") then Some Number else None
+    if bytes_eq word (codes "--number") then Some Number else
+    if bytes_eq word (codes "--core") then Some Core else
+    if bytes_eq word (codes "--count") then Some Count else
+    if bytes_eq word (codes "--latest") then Some Latest else None
 
--- the command takes the option
+-- the command takes the option, where it stands here
 abbrev pub takes : Verb → Name → Bool
 takes Record Cores = true
 takes Record Limit = true
 takes Record Words = true
 takes Record Choices = true
 takes Record Seed = true
-takes Record Log = false
-takes Record Loads = false
 takes Record Elf = true
-takes Record Shape = false
-takes Record Number = false
 takes Run Cores = true
 takes Run Limit = true
 takes Run Words = true
 takes Run Choices = true
 takes Run Seed = true
-takes Run Log = false
-takes Run Loads = true
 takes Run Elf = true
-takes Run Shape = false
-takes Run Number = false
-takes Print name = false
-takes Replay Cores = false
-takes Replay Limit = false
-takes Replay Words = false
-takes Replay Choices = false
-takes Replay Seed = false
+takes Run Loads = true
 takes Replay Log = true
 takes Replay Loads = true
-takes Replay Elf = false
-takes Replay Shape = false
-takes Replay Number = false
-takes Migrate name = false
-takes Certify name = false
-takes Check name = false
-takes Gen Cores = false
-takes Gen Limit = false
-takes Gen Words = false
-takes Gen Choices = false
-takes Gen Seed = false
-takes Gen Log = false
-takes Gen Loads = false
-takes Gen Elf = false
 takes Gen Shape = true
 takes Gen Number = true
+takes Soak Shape = true
+takes Soak Number = true
 takes Soak Cores = true
 takes Soak Limit = true
 takes Soak Words = true
-takes Soak Choices = false
 takes Soak Seed = true
-takes Soak Log = false
-takes Soak Loads = false
-takes Soak Elf = false
-takes Soak Shape = true
-takes Soak Number = true
+takes At Core = true
+takes At Count = true
+takes At Log = true
+takes At Latest = true
+takes At Loads = true
+takes verb name = false
 
 -- the option that a word names, where the command takes it
 abbrev pub option_of : Verb → List ℕ → Option Name
@@ -105,6 +86,9 @@ takes_value Loads = false
 takes_value Elf = false
 takes_value Shape = true
 takes_value Number = true
+takes_value Core = true
+takes_value Count = true
+takes_value Latest = false
 
 -- what holds where an option isn't set
 abbrev pub cores_default : ℕ
@@ -129,6 +113,9 @@ no_settings = record {
   elf = false;
   shape = None;
   number = None;
+  core = None;
+  count = None;
+  latest = false;
 }
 
 -- the number of words of a memory: in range, and of whole blocks
@@ -160,6 +147,9 @@ is_set s Loads = s.loads
 is_set s Elf = s.elf
 is_set s Shape = is_some s.shape
 is_set s Number = is_some s.number
+is_set s Core = is_some s.core
+is_set s Count = is_some s.count
+is_set s Latest = s.latest
 
 -- the settings with this one; none where the text is no value of it
 abbrev pub put_new : Settings → Name → List ℕ → Option Settings
@@ -173,6 +163,9 @@ put_new s Loads text = Some (record s { loads = true })
 put_new s Elf text = Some (record s { elf = true })
 put_new s Shape text = option_map (λ shape. record s { shape = Some shape }) (shape_named text)
 put_new s Number text = option_map (λ n. record s { number = Some n }) (number_between 0 (2 ^ 64 - 1) text)
+put_new s Core text = option_map (λ n. record s { core = Some n }) (number_between 0 (CORES_MAX - 1) text)
+put_new s Count text = option_map (λ n. record s { count = Some n }) (number_between 1 LIMIT_MAX text)
+put_new s Latest text = Some (record s { latest = true })
 
 -- the settings with one more; none where that option was set before
 abbrev pub put : Settings → Name → List ℕ → Option Settings
@@ -185,6 +178,10 @@ params_of s = record {
   limit = unwrap_or s.limit limit_default;
   words = unwrap_or s.words words_default;
 }
+
+-- the log of a replay with these settings
+abbrev pub which_of : Settings → Which
+which_of s = unwrap_or s.log Reduced
 
 -- the cores together are given no more instructions than a run may have, set or by default
 abbrev pub are_together_few : Settings → Bool

@@ -17,6 +17,9 @@ pub record Settings : Type 0 where
   pub elf : Bool
   pub shape : Option Shape
   pub number : Option ℕ
+  pub core : Option ℕ
+  pub count : Option ℕ
+  pub latest : Bool
 
 -- the settings as the code holds them, with the choices' text borrowed from the words
 abbrev pub seen : Held → Settings
@@ -32,4 +35,7 @@ seen s =
       elf = s.elf;
       shape = s.shape;
       number = s.number;
+      core = s.core;
+      count = s.count;
+      latest = s.latest;
     }

@@ -5,7 +5,7 @@ ghost use Rattle.tool_words.specs.Commands.{command_of, run_of, verb_named};
 
 use crate::choices::bytes_of;
 use crate::options::Settings;
-use rtr_types::{Items, Params, Which};
+use rtr_types::{Instr, Items, Params, Which};
 use std::alloc::{AllocError, Global};
 use trace_gen::Shape;
 
@@ -59,6 +59,15 @@ pub enum Command {
         params: Params,
         seed: u64,
     },
+    /// Print the state that the recording on the input comes to at the instruction, by one of its logs: after the
+    /// fewest instructions that hold it, or with `latest` after the most that don't; with `loads` also what was
+    /// loaded.
+    At {
+        which: Which,
+        at: Instr,
+        latest: bool,
+        loads: bool,
+    },
 }
 
 /// The first word: a command without its options.
@@ -73,6 +82,7 @@ pub(crate) enum Verb {
     Check,
     Gen,
     Soak,
+    At,
 }
 
 impl Verb {
@@ -98,6 +108,8 @@ impl Verb {
             Some(Verb::Gen)
         } else if word == "soak" {
             Some(Verb::Soak)
+        } else if word == "at" {
+            Some(Verb::At)
         } else {
             None
         }
@@ -121,7 +133,7 @@ impl Verb {
             },
             Verb::Print => Command::Print,
             Verb::Replay => Command::Replay {
-                which: settings.log.unwrap_or(Which::Reduced),
+                which: settings.which(),
                 loads: settings.loads,
             },
             Verb::Migrate => Command::Migrate,
@@ -137,6 +149,15 @@ impl Verb {
                     number,
                     params: settings.params(),
                     seed: settings.seed.unwrap_or(0),
+                },
+                None => return Ok(None),
+            },
+            Verb::At => match settings.instr() {
+                Some(at) => Command::At {
+                    which: settings.which(),
+                    at,
+                    latest: settings.latest,
+                    loads: settings.loads,
                 },
                 None => return Ok(None),
             },

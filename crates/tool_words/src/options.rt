@@ -2,15 +2,16 @@
 ghost use Rattle.std.specs.Prelude.{◌≡◌};
 ghost use Rattle.std.specs.Option.{option_map};
 ghost use Rattle.tool_words.specs.Settings.{seen};
-ghost use Rattle.tool_words.specs.Commands.{shaped};
+ghost use Rattle.tool_words.specs.Commands.{named_instr, shaped};
 ghost use Rattle.tool_words.specs.Options.{are_together_few, is_set, log_named, no_settings, option_named, option_of};
-ghost use Rattle.tool_words.specs.Options.{params_of, put, put_new, shape_named, takes, takes_value, whole_blocks};
+ghost use Rattle.tool_words.specs.Options.{params_of, put, put_new, shape_named, takes, takes_value, which_of};
+ghost use Rattle.tool_words.specs.Options.{whole_blocks};
 
 use crate::choices::are_choices;
 use crate::command::Verb;
 use crate::numerals::number_between;
 use rtr_types::{
-    BLOCK_WORDS, CORES_MAX, INSTRUCTIONS_MAX, LIMIT_MAX, Params, WORDS_MAX, WORDS_MIN, Which,
+    BLOCK_WORDS, CORES_MAX, INSTRUCTIONS_MAX, Instr, LIMIT_MAX, Params, WORDS_MAX, WORDS_MIN, Which,
 };
 use trace_gen::Shape;
 
@@ -36,6 +37,9 @@ pub(crate) enum Name {
     Elf,
     Shape,
     Number,
+    Core,
+    Count,
+    Latest,
 }
 
 impl Name {
@@ -75,6 +79,12 @@ impl Name {
             Some(Name::Shape)
         } else if word == "--number" {
             Some(Name::Number)
+        } else if word == "--core" {
+            Some(Name::Core)
+        } else if word == "--count" {
+            Some(Name::Count)
+        } else if word == "--latest" {
+            Some(Name::Latest)
         } else {
             None
         }
@@ -89,9 +99,10 @@ impl Name {
                 matches!(verb, Verb::Record | Verb::Run | Verb::Soak)
             }
             Name::Choices | Name::Elf => matches!(verb, Verb::Record | Verb::Run),
-            Name::Log => matches!(verb, Verb::Replay),
-            Name::Loads => matches!(verb, Verb::Run | Verb::Replay),
+            Name::Log => matches!(verb, Verb::Replay | Verb::At),
+            Name::Loads => matches!(verb, Verb::Run | Verb::Replay | Verb::At),
             Name::Shape | Name::Number => matches!(verb, Verb::Gen | Verb::Soak),
+            Name::Core | Name::Count | Name::Latest => matches!(verb, Verb::At),
         }
     }
 
@@ -99,7 +110,7 @@ impl Name {
     pub(crate) fn takes_value(self) -> bool
         ensures { result ≡ takes_value self }
     {
-        self != Name::Loads && self != Name::Elf
+        !matches!(self, Name::Loads | Name::Elf | Name::Latest)
     }
 }
 
@@ -117,6 +128,9 @@ pub(crate) struct Settings<'a> {
     pub(crate) elf: bool,
     pub(crate) shape: Option<Shape>,
     pub(crate) number: Option<u64>,
+    pub(crate) core: Option<u8>,
+    pub(crate) count: Option<u32>,
+    pub(crate) latest: bool,
 }
 
 impl<'a> Settings<'a> {
@@ -135,6 +149,9 @@ impl<'a> Settings<'a> {
             elf: false,
             shape: None,
             number: None,
+            core: None,
+            count: None,
+            latest: false,
         }
     }
 
@@ -164,6 +181,9 @@ impl<'a> Settings<'a> {
             Name::Elf => self.elf,
             Name::Shape => self.shape.is_some(),
             Name::Number => self.number.is_some(),
+            Name::Core => self.core.is_some(),
+            Name::Count => self.count.is_some(),
+            Name::Latest => self.latest,
         }
     }
 
@@ -210,6 +230,18 @@ impl<'a> Settings<'a> {
                 number: Some(number_between(0, u64::MAX, text)?),
                 ..self
             }),
+            Name::Core => Some(Settings {
+                core: Some(number_between(0, CORES_MAX as u64 - 1, text)? as u8),
+                ..self
+            }),
+            Name::Count => Some(Settings {
+                count: Some(number_between(1, LIMIT_MAX as u64, text)? as u32),
+                ..self
+            }),
+            Name::Latest => Some(Settings {
+                latest: true,
+                ..self
+            }),
         }
     }
 
@@ -222,6 +254,13 @@ impl<'a> Settings<'a> {
             limit: self.limit.unwrap_or(LIMIT_DEFAULT),
             words: self.words.unwrap_or(WORDS_DEFAULT),
         }
+    }
+
+    /// The log of a replay with these settings.
+    pub(crate) fn which(&self) -> Which
+        ensures { result ≡ which_of (seen self.now) }
+    {
+        self.log.unwrap_or(Which::Reduced)
     }
 
     /// Whether the cores together are given no more instructions than a run may have.
@@ -243,6 +282,15 @@ impl<'a> Settings<'a> {
         } else {
             None
         }
+    }
+
+    /// The instruction whose core and count are set, both of them.
+    pub(crate) fn instr(&self) -> Option<Instr>
+        ensures { result ≡ named_instr (seen self.now) }
+    {
+        let core = self.core?;
+        let count = self.count?;
+        Some(Instr { core, count })
     }
 }
 

@@ -14,9 +14,9 @@ use std::alloc::{AllocError, Global};
 /// The command that the words mean, or `None`. The first word is the command; options follow in any
 /// order, each at most once, as `--name value` or `--name=value`, and a flag as `--name`. The word after
 /// `--name` is its value, whatever it begins with. Names are exact, the cores times the limit are at most
-/// `INSTRUCTIONS_MAX`, `gen` and `soak` have both a shape and a number of which the shape has an image, and every
-/// other list of words, among them the empty one, means nothing. The only refusal is want of memory, for the choice
-/// bytes of a command, and so never where the words mean nothing.
+/// `INSTRUCTIONS_MAX`, `gen` and `soak` have both a shape and a number of which the shape has an image, `at` has both a
+/// core and a count, and every other list of words, among them the empty one, means nothing. The only refusal is want
+/// of memory, for the choice bytes of a command, and so never where the words mean nothing.
 pub fn meaning(alloc: Global, words: &[String]) -> Result<Option<Command>, AllocError>
     ensures value { IfOk result (λ command. command ≡ meaning (map string_bytes words.now)) }
     ensures meaningful { OnErr result (meaning (map string_bytes words.now) ≢ None) }
@@ -27,8 +27,8 @@ pub fn meaning(alloc: Global, words: &[String]) -> Result<Option<Command>, Alloc
     }
 }
 
-/// The parameters of every command that words mean lie in their ranges, and the shape that it names has an image
-/// of its number.
+/// The parameters of every command that words mean lie in their ranges, the shape that it names has an image of its
+/// number, and the instruction that it names has a core below `CORES_MAX` and a count from 1 to `LIMIT_MAX`.
 pub fn what_words_mean_fits()
     ensures { FittingLaw }
 {}

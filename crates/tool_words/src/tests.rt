@@ -1,5 +1,5 @@
 use crate::{Command, RunWords, meaning};
-use rtr_types::{Params, Which};
+use rtr_types::{Instr, Params, Which};
 use std::alloc::{AllocError, Global};
 use std::test::Fail;
 use trace_gen::Shape;
@@ -195,7 +195,7 @@ fn words_that_mean_a_replay(rt: HostRuntime) -> Result<(), Fail> {
     Ok(())
 }
 
-static FAULTY: [&str; 67] = [
+static FAULTY: [&str; 80] = [
     "",
     "records",
     "--help",
@@ -263,6 +263,19 @@ static FAULTY: [&str; 67] = [
     "soak --shape mix --number 1 --choices 00",
     "soak --shape mix --number 1 --loads",
     "soak --shape mix --number 1 --cores 16 --limit 250001",
+    "at",
+    "at --core 1",
+    "at --count 2",
+    "at --core 16 --count 2",
+    "at --core 1 --count 0",
+    "at --core 1 --count 1000001",
+    "at --core 01 --count 2",
+    "at --core 1 --core 1 --count 2",
+    "at --core 1 --count 2 --latest --latest",
+    "at --core 1 --count 2 --latest=",
+    "at --core 1 --count 2 --limit 3",
+    "at --core 1 --count 2 --log least",
+    "replay --latest",
 ];
 
 #[test]
@@ -401,6 +414,75 @@ fn words_that_mean_a_soak(rt: HostRuntime) -> Result<(), Fail> {
         let words = words(rt.alloc(), row.line)?;
         let command = meaning(rt.alloc(), words.as_slice())?;
         assert!(rt; is_soak(command, row), "{}", row.line);
+    }
+    Ok(())
+}
+
+/// A line of words and the instruction that it names, with how it is asked for.
+struct AtRow {
+    line: &'static str,
+    which: Which,
+    at: Instr,
+    latest: bool,
+    loads: bool,
+}
+
+static INSTRUCTIONS: [AtRow; 4] = [
+    AtRow {
+        line: "at --core 1 --count 2",
+        which: Which::Reduced,
+        at: Instr { core: 1, count: 2 },
+        latest: false,
+        loads: false,
+    },
+    AtRow {
+        line: "at --latest --count=1 --core=0",
+        which: Which::Reduced,
+        at: Instr { core: 0, count: 1 },
+        latest: true,
+        loads: false,
+    },
+    AtRow {
+        line: "at --core 15 --log regulated --count 1000000 --loads",
+        which: Which::Regulated,
+        at: Instr {
+            core: 15,
+            count: 1_000_000,
+        },
+        latest: false,
+        loads: true,
+    },
+    AtRow {
+        line: "at --loads --core=3 --latest --count=7 --log=reduced",
+        which: Which::Reduced,
+        at: Instr { core: 3, count: 7 },
+        latest: true,
+        loads: true,
+    },
+];
+
+/// Whether the command asks for the state at the row's instruction.
+fn is_at(command: Option<Command>, row: &AtRow) -> bool {
+    let Some(
+        Command::At {
+            which,
+            at,
+            latest,
+            loads,
+        },
+    ) = command
+    else {
+        return false;
+    };
+    which == row.which && at == row.at && latest == row.latest && loads == row.loads
+}
+
+#[test]
+fn words_that_mean_an_instruction(rt: HostRuntime) -> Result<(), Fail> {
+    for row in &INSTRUCTIONS {
+        let words = words(rt.alloc(), row.line)?;
+        let command = meaning(rt.alloc(), words.as_slice())?;
+        assert!(rt; is_at(command, row), "{}", row.line);
     }
     Ok(())
 }

@@ -20,6 +20,9 @@ invariant-loop-next l = record {
         elf = l.settings.1.1.1.1.1.1.1.0;
         shape = l.settings.1.1.1.1.1.1.1.1.0;
         number = l.settings.1.1.1.1.1.1.1.1.1.0;
+        core = l.settings.1.1.1.1.1.1.1.1.1.1.0;
+        count = l.settings.1.1.1.1.1.1.1.1.1.1.1.0;
+        latest = l.settings.1.1.1.1.1.1.1.1.1.1.1.1.0;
       }) (map string_bytes (drop l.next l.words));
 }
 

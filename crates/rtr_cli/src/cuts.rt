@@ -1,0 +1,58 @@
+//! The state at an instruction of a recording.
+ghost use Rattle.std.specs.Prelude.{◌≡◌, IfErr, IfOk, OnOk};
+ghost use Rattle.log_codec.specs.Validity.{Valid};
+ghost use Rattle.replay_audit.specs.Audits.{IsInstrOf};
+ghost use Rattle.rtr_cli.specs.Commands.{AtEnds, IsCutAt, IsReplayed, IsToldAt};
+
+use crate::commands::{audited, image};
+use cut_replay::{cut_with, cut_without, has_instr, state_of};
+use log_codec::Recording;
+use replay_audit::Audited;
+use replay_audit::laws::replays_fit_their_plan;
+use rtr_types::{Cut, Instr, Which};
+use state_text::{Exit, cut_state_text};
+use std::alloc::{AllocError, Global};
+
+/// The text of the state at an instruction: the cut that is asked for, and then what it comes to. Whether the recording
+/// has the instruction is looked up before the recording is audited.
+pub(crate) fn state_at(
+    alloc: Global,
+    recording: Recording,
+    which: Which,
+    at: Instr,
+    latest: bool,
+    loads: bool,
+) -> Result<Vec<u8>, Exit>
+    requires { Valid recording }
+    ensures made { IfOk result (λ out. IsToldAt which at latest loads recording out.items) }
+    ensures determinate { OnOk result (IsReplayed which recording) }
+    ensures refused { IfErr result (AtEnds which at recording) }
+{
+    replays_fit_their_plan();
+    if !has_instr(&recording, at) {
+        return Err(Exit::NoInstr { at });
+    }
+    let audited = audited(alloc, recording, which)?;
+    let cut = cut_at(&audited, at, latest)?;
+    let outcome = state_of(alloc, &audited, &cut)?;
+    let (recording, _) = audited.into_parts();
+    let Recording {
+        params,
+        image: bytes,
+        ..
+    } = recording;
+    let image = image(bytes.into_vec(), params.words);
+    Ok(cut_state_text(alloc, &cut, &outcome, &image, loads)?)
+}
+
+/// The closed cut that is asked for at the instruction.
+fn cut_at(audited: &Audited, at: Instr, latest: bool) -> Result<Cut, AllocError>
+    requires { IsInstrOf audited.now.recording at }
+    ensures { IfOk result (IsCutAt audited.now.which audited.now.recording at latest) }
+{
+    if latest {
+        cut_without(audited, at)
+    } else {
+        cut_with(audited, at)
+    }
+}
