@@ -22,3 +22,4 @@ pub mod Auditing
 pub mod Refused
 pub mod Judging
 pub mod Touching
+pub mod Touched

@@ -1,11 +1,12 @@
 //! Recordings whose logs were written by hand.
-ghost use Rattle.std.specs.Prelude.{IfOk};
+ghost use Rattle.std.specs.Prelude.{◌≡◌, [], ◌∷◌, IfOk};
 ghost use Rattle.log_codec.specs.Validity.{Valid};
+ghost use Rattle.replay_audit.specs.Touches.{AreTouches, as_touch};
 
-use crate::{AuditFault, audit, ordered};
+use crate::{AuditFault, Audited, Touch, audit, judge, ordered};
 use log_codec::{Recording, read};
-use rtr_types::{CORES_MAX, Cut, Instr, Which};
-use std::alloc::Global;
+use rtr_types::{Access, CORES_MAX, Cut, Instr, Items, Which};
+use std::alloc::{AllocError, Global};
 use std::test::Fail;
 
 /// A place for each core, as the length of an array.
@@ -89,6 +90,57 @@ fn stores_that_are_left_open(rt: HostRuntime) -> Result<(), Fail> {
     assert_eq!(rt; refused(alloc, 2, &two, Which::Regulated)?, unordered(0, 1));
     let three = [3, 3, 3, 1, 2, 2, 0, 0, 0, 0, 0, 0, 0, 0, 0, 0, 0];
     assert_eq!(rt; refused(alloc, 3, &three, Which::Reduced)?, unordered(1, 2));
+    Ok(())
+}
+
+/// The access without its values, in a list of its own.
+fn touch_of(alloc: Global, access: &Access) -> Result<Items<Touch>, AllocError>
+    ensures { IfOk result (λ list. list ≡ as_touch access.now ∷ []) }
+{
+    let mut list = Items::new(alloc);
+    list.push(Touch {
+        at: access.at,
+        word: access.word,
+        kind: access.kind,
+    })?;
+    Ok(list)
+}
+
+/// What an access of core 0 and one of core 1 touched, by core.
+fn touched_by(
+    alloc: Global,
+    first: &Access,
+    second: &Access,
+) -> Result<Vec<Items<Touch>>, AllocError>
+    requires first { first.now.at.core ≡ 0 }
+    requires second { second.now.at.core ≡ 1 }
+    ensures { IfOk result (λ touched. AreTouches (first.now ∷ second.now ∷ []) 2 touched.items) }
+{
+    let mut touched = Vec::new(alloc);
+    touched.push(touch_of(alloc, first)?)?;
+    touched.push(touch_of(alloc, second)?)?;
+    Ok(touched)
+}
+
+/// The judgement by what the low order of an audit touched, where that is once by core 0 and then once by core 1.
+fn judged(alloc: Global, audited: &Audited) -> Result<Option<bool>, AllocError> {
+    let recording = audited.recording();
+    let [first, second] = audited.accesses() else {
+        return Ok(None);
+    };
+    if first.at.core != 0 || second.at.core != 1 || recording.totals.len() != 2 {
+        return Ok(None);
+    }
+    let touched = touched_by(alloc, first, second)?;
+    Ok(Some(judge(alloc, recording, audited.which(), touched.as_slice())?))
+}
+
+// Two stores that the reduced log orders, judged by what they touched.
+#[test]
+fn stores_that_are_judged(rt: HostRuntime) -> Result<(), Fail> {
+    let two = [3, 3, 1, 2, 2, 0, 0, 0];
+    let audited = audit(rt.alloc(), stores(rt.alloc(), 2, &two)?, Which::Reduced)?;
+    assert_eq!(rt; judged(rt.alloc(), &audited)?, Some(true));
     Ok(())
 }
 
