@@ -1,18 +1,11 @@
 //! Recordings whose logs were written by hand.
-ghost use Rattle.std.specs.Prelude.{◌≡◌, ◌<◌, ◌≤◌};
-ghost use Rattle.log_codec.specs.Validity.{Valid};
-ghost use Rattle.cut_replay.specs.ClosedCuts.{IsClosed};
-
 use crate::{cut_with, cut_without, has_instr, state_of};
-use log_codec::{Recording, read};
+use log_codec::read;
 use replay_audit::{Audited, audit};
-use rtr_types::{CORES_MAX, Cut, Instr, Which};
+use rtr_types::{Cut, Edge, Instr, Which};
 use rv_core::{LoadNote, Outcome};
-use std::alloc::{AllocError, Global};
+use std::alloc::AllocError;
 use std::test::Fail;
-
-/// A place for each core, as the length of an array.
-const PLACES: usize = CORES_MAX as usize;
 
 /// Core 0 stores 7 to word 16 and loads it, and core 1 loads it and stores to it. Both logs order 0:3
 /// before 1:2 and 1:3 before 0:4.
@@ -31,194 +24,195 @@ const THREE: [u8; 86] = [
     3, 3, 1, 2, 3, 4, 1, 1, 1, 1, 2, 3,
 ];
 
-/// How many cuts its totals 5, 4 and 4 have, and how many instructions there are.
-const CUTS: u32 = 150;
+/// The edges of the reduced log of the three cores.
+const EDGES: [Edge; 5] = [
+    Edge {
+        from: Instr { core: 0, count: 3 },
+        to: Instr { core: 1, count: 2 },
+    },
+    Edge {
+        from: Instr { core: 0, count: 3 },
+        to: Instr { core: 2, count: 2 },
+    },
+    Edge {
+        from: Instr { core: 1, count: 3 },
+        to: Instr { core: 2, count: 3 },
+    },
+    Edge {
+        from: Instr { core: 2, count: 2 },
+        to: Instr { core: 1, count: 3 },
+    },
+    Edge {
+        from: Instr { core: 2, count: 3 },
+        to: Instr { core: 0, count: 4 },
+    },
+];
 
-const INSTRS: u32 = 13;
-
-/// A cut of the first cores.
-fn cut(cores: u8, first: u32, second: u32, third: u32) -> Cut {
-    let mut counts = [0; PLACES];
-    counts[0] = first;
-    counts[1] = second;
-    counts[2] = third;
-    Cut { cores, counts }
+/// A cut of three cores, without its other places.
+#[derive(Clone, Copy, PartialEq, Eq)]
+struct Counts {
+    first: u32,
+    second: u32,
+    third: u32,
 }
 
-/// The cut of three cores with this number.
-fn numbered(number: u32) -> Cut {
-    cut(3, number % 6, number / 6 % 5, number / 30)
-}
-
-/// The instruction of three cores with this number.
-fn instr(number: u32) -> Instr {
-    match number.checked_sub(5) {
-        None => Instr {
-            core: 0,
-            count: number + 1,
-        },
-        Some(rest) if rest < 4 => Instr {
-            core: 1,
-            count: rest + 1,
-        },
-        Some(rest) => Instr {
-            core: 2,
-            count: rest - 3,
-        },
+impl Counts {
+    /// The cut with this number, of 150 within the totals 5, 4 and 4.
+    fn numbered(number: u32) -> Counts {
+        Counts {
+            first: number % 6,
+            second: number / 6 % 5,
+            third: number / 30,
+        }
     }
-}
 
-/// Whether the cut holds each logged source of an instruction of three cores.
-fn has_sources(recording: &Recording, which: Which, cut: &Cut, at: Instr) -> bool
-    requires valid { Valid recording.now }
-    requires cores { recording.now.params.cores ≡ 3 }
-    requires core { at.core < 3 }
-{
-    for of in 0..3 {
-        if of != at.core {
-            if let Some(source) = recording.source(which, of, at) {
-                if source > cut.counts[of as usize] {
-                    return false;
-                }
+    /// The cut's counts.
+    fn of(cut: &Cut) -> Counts {
+        Counts {
+            first: cut.counts[0],
+            second: cut.counts[1],
+            third: cut.counts[2],
+        }
+    }
+
+    /// Whether the cut holds the instruction.
+    fn holds(self, at: Instr) -> bool {
+        let count = match at.core {
+            0 => self.first,
+            1 => self.second,
+            _ => self.third,
+        };
+        at.count <= count
+    }
+
+    /// Whether the cut holds each source of what it holds.
+    fn is_closed(self) -> bool {
+        for edge in &EDGES {
+            if self.holds(edge.to) && !self.holds(edge.from) {
+                return false;
             }
         }
+        true
     }
-    true
 }
 
-/// Whether it does so for each of the core's instructions that it holds.
-fn is_core_closed(recording: &Recording, which: Which, cut: &Cut, core: u8) -> bool
-    requires valid { Valid recording.now }
-    requires cores { recording.now.params.cores ≡ 3 }
-    requires core { core < 3 }
-{
-    for below in 0..cut.counts[core as usize] {
-        let at = Instr {
-            core,
-            count: below + 1,
+/// The instruction with this number, of 13.
+fn numbered(number: u32) -> Instr {
+    if number < 5 {
+        return Instr {
+            core: 0,
+            count: number + 1,
         };
-        if !has_sources(recording, which, cut, at) {
-            return false;
-        }
     }
-    true
-}
-
-/// Whether it does so for each of three cores.
-fn is_closed(recording: &Recording, which: Which, cut: &Cut) -> bool
-    requires valid { Valid recording.now }
-    requires cores { recording.now.params.cores ≡ 3 }
-{
-    for core in 0..3 {
-        if !is_core_closed(recording, which, cut, core) {
-            return false;
-        }
+    if number < 9 {
+        return Instr {
+            core: 1,
+            count: number - 4,
+        };
     }
-    true
+    Instr {
+        core: 2,
+        count: number - 8,
+    }
 }
 
 /// The least counts of all closed cuts with the instruction.
-fn slow_with(recording: &Recording, which: Which, at: Instr) -> Cut
-    requires valid { Valid recording.now }
-    requires cores { recording.now.params.cores ≡ 3 }
-    requires core { at.core < 3 }
-{
-    let [mut first, mut second, mut third] = [5, 4, 4];
-    for number in 0..CUTS {
-        let cut = numbered(number);
-        if at.count <= cut.counts[at.core as usize] && is_closed(recording, which, &cut) {
-            first = cut.counts[0].min(first);
-            second = cut.counts[1].min(second);
-            third = cut.counts[2].min(third);
+fn slow_with(at: Instr) -> Counts {
+    let mut least = Counts::numbered(149);
+    for number in 0..150 {
+        let cut = Counts::numbered(number);
+        if cut.holds(at) && cut.is_closed() {
+            least = Counts {
+                first: cut.first.min(least.first),
+                second: cut.second.min(least.second),
+                third: cut.third.min(least.third),
+            };
         }
     }
-    cut(3, first, second, third)
+    least
 }
 
 /// The greatest counts of all closed cuts without it.
-fn slow_without(recording: &Recording, which: Which, at: Instr) -> Cut
-    requires valid { Valid recording.now }
-    requires cores { recording.now.params.cores ≡ 3 }
-    requires core { at.core < 3 }
-{
-    let [mut first, mut second, mut third] = [0, 0, 0];
-    for number in 0..CUTS {
-        let cut = numbered(number);
-        if cut.counts[at.core as usize] < at.count && is_closed(recording, which, &cut) {
-            first = cut.counts[0].max(first);
-            second = cut.counts[1].max(second);
-            third = cut.counts[2].max(third);
+fn slow_without(at: Instr) -> Counts {
+    let mut greatest = Counts::numbered(0);
+    for number in 0..150 {
+        let cut = Counts::numbered(number);
+        if !cut.holds(at) && cut.is_closed() {
+            greatest = Counts {
+                first: cut.first.max(greatest.first),
+                second: cut.second.max(greatest.second),
+                third: cut.third.max(greatest.third),
+            };
         }
     }
-    cut(3, first, second, third)
+    greatest
 }
 
-/// Whether the state at a closed cut has come as far as the cut says.
-fn is_reached(alloc: Global, audited: &Audited, cut: &Cut) -> Result<bool, AllocError>
-    requires { IsClosed audited.now.which audited.now.recording cut.now }
-{
-    let outcome = state_of(alloc, audited, cut)?;
-    let [first, second, third] = outcome.cores.as_slice() else {
-        return Ok(false);
-    };
-    let [one, two, three, ..] = cut.counts;
-    Ok((first.count(), second.count(), third.count()) == (one, two, three))
-}
-
-/// Whether the two cuts of an instruction of three cores are those that the slow search finds, and their
-/// states are there.
-fn is_found(alloc: Global, audited: &Audited, at: Instr) -> Result<bool, AllocError> {
-    let recording = audited.recording();
-    let which = audited.which();
-    if recording.params.cores != 3 || !has_instr(recording, at) {
+/// Whether the two cuts of the instruction are those that the slow search finds.
+fn is_found(audited: &Audited, at: Instr) -> Result<bool, AllocError> {
+    let totals = audited.recording().totals.as_slice();
+    if at.core as usize >= totals.len() || at.count == 0 || at.count > totals[at.core as usize] {
         return Ok(false);
     }
     let with = cut_with(audited, at)?;
     let without = cut_without(audited, at)?;
-    Ok(
-        with == slow_with(recording, which, at)
-            && without == slow_without(recording, which, at)
-            && is_reached(alloc, audited, &with)?
-            && is_reached(alloc, audited, &without)?,
-    )
+    Ok(Counts::of(&with) == slow_with(at) && Counts::of(&without) == slow_without(at))
 }
 
-// Each instruction of three cores, by both logs.
+// Each instruction of three cores.
 #[test]
 fn each_instruction(rt: HostRuntime) -> Result<(), Fail> {
-    for which in [Which::Reduced, Which::Regulated] {
-        let audited = audit(rt.alloc(), read(rt.alloc(), &THREE)?, which)?;
-        for number in 0..INSTRS {
-            assert!(rt;
-                is_found(rt.alloc(), &audited, instr(number))?,
-                "{:?}",
-                instr(number)
-            );
-        }
+    let audited = audit(rt.alloc(), read(rt.alloc(), &THREE)?, Which::Reduced)?;
+    for number in 0..13 {
+        assert!(rt; is_found(&audited, numbered(number))?);
     }
     Ok(())
 }
 
-/// The least cut with an instruction, if it is one.
-fn with(audited: &Audited, core: u8, count: u32) -> Result<Option<Cut>, AllocError> {
-    let at = Instr { core, count };
-    if !has_instr(audited.recording(), at) {
+/// The counts of the least cut with an instruction, if it is one.
+fn with(audited: &Audited, core: u8, count: u32) -> Result<Option<Counts>, AllocError> {
+    let totals = audited.recording().totals.as_slice();
+    if core as usize >= totals.len() || count == 0 || count > totals[core as usize] {
         return Ok(None);
     }
-    Ok(Some(cut_with(audited, at)?))
+    let cut = cut_with(audited, Instr { core, count })?;
+    Ok(Some(Counts::of(&cut)))
 }
 
-// An instruction without a source, the last one by each log, and what is no instruction.
+// An instruction without a source, and the last one: by the regulated log all lead to it.
 #[test]
 fn ends(rt: HostRuntime) -> Result<(), Fail> {
     let reduced = audit(rt.alloc(), read(rt.alloc(), &THREE)?, Which::Reduced)?;
-    assert_eq!(rt; with(&reduced, 1, 1)?, Some(cut(3, 0, 1, 0)));
-    assert_eq!(rt; with(&reduced, 0, 5)?, Some(cut(3, 5, 3, 3)));
     let regulated = audit(rt.alloc(), read(rt.alloc(), &THREE)?, Which::Regulated)?;
-    assert_eq!(rt; with(&regulated, 0, 5)?, Some(cut(3, 5, 4, 4)));
-    assert_eq!(rt; with(&regulated, 0, 6)?, None);
-    assert_eq!(rt; with(&regulated, 0, 0)?, None);
-    assert_eq!(rt; with(&regulated, 3, 1)?, None);
+    let own = Counts {
+        first: 0,
+        second: 1,
+        third: 0,
+    };
+    let most = Counts {
+        first: 5,
+        second: 3,
+        third: 3,
+    };
+    let all = Counts {
+        first: 5,
+        second: 4,
+        third: 4,
+    };
+    assert!(rt; with(&reduced, 1, 1)? == Some(own));
+    assert!(rt; with(&reduced, 0, 5)? == Some(most));
+    assert!(rt; with(&regulated, 0, 5)? == Some(all));
+    Ok(())
+}
+
+// What is an instruction, and what isn't: a count of 0, one past the total, and a core that isn't there.
+#[test]
+fn instructions(rt: HostRuntime) -> Result<(), Fail> {
+    let recording = read(rt.alloc(), &THREE)?;
+    assert!(rt; has_instr(&recording, Instr { core: 0, count: 5 }));
+    assert!(rt; !has_instr(&recording, Instr { core: 0, count: 0 }));
+    assert!(rt; !has_instr(&recording, Instr { core: 0, count: 6 }));
+    assert!(rt; !has_instr(&recording, Instr { core: 3, count: 1 }));
     Ok(())
 }
 
@@ -237,24 +231,35 @@ fn is_left(outcome: &Outcome, count: u32, pc: u32, loaded: u32, loads: &[LoadNot
         && others.as_slice() == loads
 }
 
-// What a load read was stored before it, and stands there without it too.
+// Right after a load: core 0's store was before it.
 #[test]
-fn before_and_after_a_load(rt: HostRuntime) -> Result<(), Fail> {
+fn after_a_load(rt: HostRuntime) -> Result<(), Fail> {
+    let audited = audit(
+        rt.alloc(),
+        read(rt.alloc(), &HANDED_OVER)?,
+        Which::Regulated,
+    )?;
+    let totals = audited.recording().totals.as_slice();
+    assert!(rt; totals.len() > 1 && totals[1] >= 2);
+    let cut = cut_with(&audited, Instr { core: 1, count: 2 })?;
+    let outcome = state_of(rt.alloc(), &audited, &cut)?;
     let load = LoadNote {
         count: 2,
         word: 16,
         value: 7,
     };
-    for which in [Which::Reduced, Which::Regulated] {
-        let audited = audit(rt.alloc(), read(rt.alloc(), &HANDED_OVER)?, which)?;
-        let at = Instr { core: 1, count: 2 };
-        assert!(rt; has_instr(audited.recording(), at));
-        let with = cut_with(&audited, at)?;
-        assert_eq!(rt; with, cut(2, 3, 2, 0));
-        assert!(rt; is_left(&state_of(rt.alloc(), &audited, &with)?, 2, 0x18, 7, &[load]));
-        let without = cut_without(&audited, at)?;
-        assert_eq!(rt; without, cut(2, 3, 1, 0));
-        assert!(rt; is_left(&state_of(rt.alloc(), &audited, &without)?, 1, 0x14, 0, &[]));
-    }
+    assert!(rt; is_left(&outcome, 2, 0x18, 7, &[load]));
+    Ok(())
+}
+
+// As late as can be before it: the store is there too, and the load isn't.
+#[test]
+fn before_a_load(rt: HostRuntime) -> Result<(), Fail> {
+    let audited = audit(rt.alloc(), read(rt.alloc(), &HANDED_OVER)?, Which::Reduced)?;
+    let totals = audited.recording().totals.as_slice();
+    assert!(rt; totals.len() > 1 && totals[1] >= 2);
+    let cut = cut_without(&audited, Instr { core: 1, count: 2 })?;
+    let outcome = state_of(rt.alloc(), &audited, &cut)?;
+    assert!(rt; is_left(&outcome, 1, 0x14, 0, &[]));
     Ok(())
 }
