@@ -29,7 +29,9 @@ pub enum CloseFault<'a, J: Job> {
 }
 
 impl<'a, J: Job> ReplayTable<'a, J> {
-    /// What the play of a whole replay order leaves, and by core its accesses.
+    /// Closes the table with all its seats, in the order of their cores and each published at its core's
+    /// total: what the play of a whole replay order leaves, and by core its accesses. Memory is taken first,
+    /// and want of it is the only refusal: it hands back the table and the seats as they were.
     pub fn close(self, alloc: Global, seats: Vec<CoreSeat<J>>) -> Result<Closed, CloseFault<'a, J>>
         requires { Finished (plan_of J.which J.recording) self seats.items }
         ensures ok { IfOk result (λ closed. IsEnd (plan_of J.which J.recording) closed) }

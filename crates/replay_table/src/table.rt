@@ -69,7 +69,8 @@ fn opening(alloc: Global, memory: &Memory, words: u32, cores: u8) -> Result<Vec<
 }
 
 impl<'a, J: Job> ReplayTable<'a, J> {
-    /// The table with the opening memory and done counts of 0, and one seat per core, in order.
+    /// The table with the opening memory and done counts of 0, and one seat per core, in order. The
+    /// recording needs no audit.
     pub fn make(
         alloc: Global,
         recording: &'a Recording,
@@ -139,7 +140,7 @@ impl<'a, J: Job> ReplayTable<'a, J> {
         value
     }
 
-    /// A local instruction retires in the seat, without a step of the table.
+    /// A local instruction retires in the seat of a ready core, without a step of the table.
     pub fn local(&self, seat: &mut CoreSeat<J>)
         requires table { seat.old.table_id ≡ self.now }
         requires ready { Due (plan_of J.which J.recording) (seen_of seat.old.view) seat.old.core }
@@ -239,7 +240,7 @@ impl<'a, J: Job> ReplayTable<'a, J> {
         self.exchange(seat)
     }
 
-    /// The core's done word becomes the core's count.
+    /// The core's done word becomes the core's count, and the view executes the local instructions up to it.
     pub fn publish(&self, seat: &mut CoreSeat<J>)
         requires table { seat.old.table_id ≡ self.now }
         ensures table { seat.new.table_id ≡ seat.old.table_id }
