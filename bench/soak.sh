@@ -6,7 +6,7 @@
 #
 # Each core retires at most LIMIT instructions (100,000 where the environment doesn't say), of the mix whose number
 # NUMBER is (3). For each number of cores it prints a line as bench/measure.sh says, less what a soak of one round of
-# the lock takes. With PARTS=1 it prints then how the host instructions of the last one are spread over the crates.
+# the lock takes. With PARTS=1 it prints then which functions take the host instructions of the last one.
 set -eu
 cd "$(dirname "$0")/.."
 [ $# -gt 0 ] || set -- 8
@@ -14,13 +14,19 @@ cd "$(dirname "$0")/.."
 
 soak() { words="soak --shape mix --number ${NUMBER:-3} --cores $1 --limit ${LIMIT:-100000}"; }
 
-# The host instructions by crate, in thousands, most first: those of a function's own code, whoever calls it.
+# What callgrind counted for each function of the tool, one a line: the host instructions in thousands, and its name.
+calls() {
+  callgrind_annotate --inclusive="$1" --threshold=100 --show-percs=no --auto=no "$place/calls" |
+    sed -n 's/^ *\([0-9,]*\) .*???:\(.*\) \[.*/\1 \2/p' | tr -d , | awk '{ print int($1 / 1000), $2 }'
+}
+
+# The functions that take a hundredth or more: the host instructions in thousands, with those of what it calls and without.
 parts() {
   valgrind --tool=callgrind --callgrind-out-file="$place/calls" "$tool" $words > "$place/out" 2> "$place/err"
-  callgrind_annotate --threshold=100 --show-percs=no --auto=no "$place/calls" |
-    sed -n 's/^ *\([0-9,]*\) .*[:?]\(.*\) \[.*/\1 \2/p' | tr -d , |
-    awk '{ part = $2; sub(/::.*/, "", part); sum[part] += $1 } END { for (p in sum) print int(sum[p] / 1000), p }' |
-    sort -rn | head -40
+  calls no > "$place/own"
+  echo "thousands own-thousands function"
+  calls yes | awk -v own="$place/own" 'BEGIN { while ((getline line < own) > 0) { split(line, f, " "); o[f[2]] = f[1] } }
+    NR == 1 { all = $1 } $2 ~ /::/ && $1 * 100 >= all { print $1, o[$2] + 0, $2 }'
 }
 
 : > "$place/empty"
