@@ -6,9 +6,10 @@
   bench/hostile.py large [MEBIBYTES]       recordings of so many MiB (64) with the worst counts: seconds and peak memory
   bench/hostile.py growth                  the same at 4, 8, 16 and 32 MiB: the time of each is to be about twice that before
   bench/hostile.py memory                  a short run, its replay, certificate and check, each with every allocation failing in turn
-  bench/hostile.py try                     the same by `rt try --fail-alloc`, which builds the tool without a proof
+  bench/hostile.py try [CALLS]             the same by `rt try --fail-alloc`, for the allocations of these numbers (1 2 4 8)
 
-It needs the built tool (crates/rtr/out/rtr, or the one that $RTR names), and a C compiler for `memory`. It ends with status 1 where a
+It needs the built tool (crates/rtr/out/rtr, or the one that $RTR names), a C compiler for `memory`, and Debian's time for `large` and
+`growth`. It ends with status 1 where a
 run crashed, hung, ended with a status outside the table, or told or gave what its status doesn't allow.
 """
 import os
@@ -78,12 +79,11 @@ class Run:
             pid = os.posix_spawn(TOOL, [TOOL] + words, os.environ if environment is None else environment, file_actions=files)
             signal.signal(signal.SIGALRM, lambda _signal, _frame: os.kill(pid, signal.SIGKILL))
             signal.setitimer(signal.ITIMER_REAL, seconds)
-            _, status, usage = os.wait4(pid, 0)
+            _, status = os.waitpid(pid, 0)
             signal.setitimer(signal.ITIMER_REAL, 0)
             self.seconds = time.monotonic() - start
             self.hung = self.seconds >= seconds
             self.status = os.waitstatus_to_exitcode(status)
-            self.peak = usage.ru_maxrss * 1024
             out.seek(0)
             err.seek(0)
             self.output = out.read()
@@ -275,14 +275,16 @@ def edge_counts(size):
 
 
 def vector_counts(size):
-    """The same with vectors of one position, each of three bytes."""
+    """The same with vectors of one position, of three to seven bytes each."""
     cores, limit = 16, 250_000
     head = b"RTR\x02" + number(cores) + number(limit) + number(4) + number(4) + bytes.fromhex("73000000") + number(limit) * cores
     parts, left = [head, bytes(cores)], size - len(head)
+    vectors = [b"\x01" + number(k) * 2 for k in range(1, limit + 1)]
+    whole = b"".join(vectors)
     for _ in range(cores * (cores - 1)):
-        times = max(0, min(limit, left // 3))
-        parts += [number(times), b"\x01\x01\x01" * times]
-        left -= times * 3
+        times = limit if len(whole) <= left else max(0, min(limit, left // 8))
+        parts += [number(times), whole if times == limit else b"".join(vectors[:times])]
+        left -= len(parts[-1])
     return b"".join(parts)
 
 
@@ -296,29 +298,51 @@ def claimed_counts(size):
 SHAPES = {"edges": edge_counts, "vectors": vector_counts, "claims": claimed_counts}
 
 
+def measured(words, place):
+    """Seconds, peak memory in KiB, status, bytes of output and of report of a run of the tool on a file."""
+    told, out, err = place + ".told", place + ".out", place + ".err"
+    start = time.monotonic()
+    with open(place, "rb") as given, open(out, "wb") as output, open(err, "wb") as report_file:
+        status = subprocess.run(
+            ["/usr/bin/time", "-q", "-f", "%M", "-o", told, TOOL] + words, stdin=given, stdout=output, stderr=report_file
+        ).returncode
+    seconds = time.monotonic() - start
+    with open(told) as file:
+        return seconds, int(file.read()), status, os.path.getsize(out), open(err, "rb").read()
+
+
 def large(mebibytes):
     wrong = []
     print("shape bytes command status seconds peak-MiB peak/bytes output-MiB")
-    for shape, make in SHAPES.items():
-        data = make(mebibytes << 20)
-        for words in known([["print"], ["migrate"], ["replay"], ["certify"], ["check"]]):
-            run = Run(words, data, 600)
-            if run.fault():
-                wrong.append(f"{shape} {' '.join(words)}: {run.fault()}")
-            print(
-                f"{shape} {len(data)} {' '.join(words)} {run.status} {run.seconds:.2f} {run.peak >> 20}"
-                f" {run.peak / len(data):.2f} {len(run.output) >> 20}",
-                flush=True,
-            )
+    with tempfile.TemporaryDirectory() as folder:
+        for shape, make in SHAPES.items():
+            place = os.path.join(folder, shape)
+            with open(place, "wb") as file:
+                file.write(make(mebibytes << 20))
+            size = os.path.getsize(place)
+            for words in known([["print"], ["migrate"], ["replay"], ["certify"], ["check"]]):
+                seconds, peak, status, output, told = measured(words, place)
+                if status not in REPORTS or not told.startswith(REPORTS[status]):
+                    wrong.append(f"{shape} {' '.join(words)}: status {status}, report {told!r}")
+                print(
+                    f"{shape} {size} {' '.join(words)} {status} {seconds:.2f} {peak / 1024:.0f} {peak * 1024 / size:.2f}"
+                    f" {output / 2**20:.0f}",
+                    flush=True,
+                )
     return report(wrong)
 
 
 def growth():
     print("shape command seconds at 4, 8, 16 and 32 MiB")
-    for shape, make in SHAPES.items():
-        for words in [["print"], ["migrate"], ["replay"], ["check"]]:
-            times = [Run(words, make(m << 20), 600).seconds for m in (4, 8, 16, 32)]
-            print(shape, " ".join(words), " ".join(f"{t:.2f}" for t in times), flush=True)
+    with tempfile.TemporaryDirectory() as folder:
+        for shape, make in SHAPES.items():
+            sizes = [os.path.join(folder, f"{shape}.{m}") for m in (4, 8, 16, 32)]
+            for m, place in zip((4, 8, 16, 32), sizes):
+                with open(place, "wb") as file:
+                    file.write(make(m << 20))
+            for words in [["print"], ["migrate"], ["replay"], ["check"]]:
+                times = [measured(words, place)[0] for place in sizes]
+                print(shape, " ".join(words), " ".join(f"{t:.2f}" for t in times), flush=True)
     return 0
 
 
@@ -384,15 +408,17 @@ def refused_memory():
     return report(wrong)
 
 
-def by_try():
+def by_try(calls):
     wrong = []
     for words, data in rows():
-        command = ["rt", "try", "rtr", "--fail-alloc", "1..", "--"] + words
-        run = subprocess.run(command, cwd=os.path.join(TOP, "crates/rtr"), input=data, capture_output=True)
-        lines = (run.stdout + run.stderr).decode(errors="replace").splitlines()
-        print(" ".join(words[:3]) + ":", lines[-1] if lines else "")
-        if run.returncode in (2, 3, 4, 5, 6):
-            wrong += [f"{words[0]}: {line}" for line in lines[-6:]]
+        wanted = ask(words, data)
+        for call in calls:
+            command = ["rt", "try", "--fail-alloc", call, "--"] + words
+            run = subprocess.run(command, cwd=os.path.join(TOP, "crates/rtr"), input=data, capture_output=True)
+            last = (run.stdout + run.stderr).decode(errors="replace").strip().splitlines()[-1:]
+            print(" ".join(words[:3]), f"with allocation {call} failing:", *last, flush=True)
+            if not (run.returncode == 10 or (run.returncode == 0 and wanted in run.stdout)):
+                wrong.append(f"{' '.join(words)}, allocation {call}: status {run.returncode}")
     return report(wrong)
 
 
@@ -415,8 +441,8 @@ def main(words):
         return growth()
     if words == ["memory"]:
         return refused_memory()
-    if words == ["try"]:
-        return by_try()
+    if words[:1] == ["try"]:
+        return by_try(words[1:] or ["1", "2", "4", "8"])
     sys.exit(__doc__)
 
 
