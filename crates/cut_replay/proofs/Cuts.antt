@@ -1,5 +1,5 @@
 -- The two closed cuts of an instruction, by clocks.
-use Rattle.std.proofs.Common.{inl, inr, ◌≡◌, ◌≢◌, ◌⊎◌, ℕ, ◌+◌, ◌<◌, ◌≤◌, List, length, refl, sym, ap, ◌∙◌, subst, arith}
+use Rattle.std.proofs.Common.{inl, inr, ◌≡◌, ◌⊎◌, ℕ, ◌+◌, ◌<◌, ◌≤◌, List, length, refl, sym, ◌∙◌, subst, arith}
 use Rattle.std.proofs.Common.{get_or-set_same, get_or-set_other}
 use Rattle.std.specs.Prelude.{slice_index, slice_set}
 use native.Mathlib.Decide.{ℕ_discrete}
@@ -75,7 +75,8 @@ clock_within which r at clock f is closed le core = by (none_or_some (clock core
 -- ---- the cut of a list of counts
 
 -- a list whose places are filled one after the other
-pub filled : (P : ℕ → ℕ → Type 0) (xs : List ℕ) (core value : ℕ) → core < length xs → ((c : ℕ) → c < core → P c (slice_index xs c)) → P core value →
+pub filled : (P : ℕ → ℕ → Type 0) (xs : List ℕ) (core value : ℕ) → core < length xs →
+    ((c : ℕ) → c < core → P c (slice_index xs c)) → P core value →
     (c : ℕ) → c < core + 1 → P c (slice_index (slice_set xs core value) c)
 filled P xs core value inside done here c lt = elim (ℕ_discrete c core) [
   | yes e ↦
@@ -180,7 +181,8 @@ module _ (which : Which) (r : Recording) (valid : Valid r) (at : Instr) (node : 
       greatest = λ other closed without core. each other closed without core (most_or_more r.params.cores core);
     }
       where
-        each : (other : Cut) → IsClosed which r other → (Holds other at → ⊥) → (core : ℕ) → (r.params.cores ≤ core) ⊎ (core < r.params.cores) →
+        each : (other : Cut) → IsClosed which r other → (Holds other at → ⊥) → (core : ℕ) →
+            (r.params.cores ≤ core) ⊎ (core < r.params.cores) →
             count_in other core ≤ count_in cut core
         each other closed without core (inl past) = let none = closed.is_cut.rest core past in omega arith
         each other closed without core (inr lt) = above other closed without core lt (most_or_more (count_in other core) (count_in cut core))
@@ -193,8 +195,10 @@ module _ (which : Which) (r : Recording) (at : Instr) (core : ℕ) where
   up m n le need = by (most_or_more n m) need
     where
       on : m < n → IsNeededBy which r at core m → IsNeededBy which r at core n
-      on lt (inl e) = inr (subst (λ (w : Instr). Before (Among (log_edges which r)) w (instr core n)) (sym e) (one (Among (log_edges which r)) (instr core m) (instr core n) (inl (refl, lt))))
-      on lt (inr p) = inr (joined (Among (log_edges which r)) at (instr core m) (instr core n) p (one (Among (log_edges which r)) (instr core m) (instr core n) (inl (refl, lt))))
+      on lt (inl e) = inr (subst (λ (w : Instr). Before (Among (log_edges which r)) w (instr core n)) (sym e)
+          (one (Among (log_edges which r)) (instr core m) (instr core n) (inl (refl, lt))))
+      on lt (inr p) = inr (joined (Among (log_edges which r)) at (instr core m) (instr core n) p
+          (one (Among (log_edges which r)) (instr core m) (instr core n) (inl (refl, lt))))
 
       by : (n ≤ m) ⊎ (m < n) → IsNeededBy which r at core m → IsNeededBy which r at core n
       by (inl most) h = let e : m ≡ n = omega arith in subst (λ (k : ℕ). IsNeededBy which r at core k) e h

@@ -1,35 +1,32 @@
 -- The replay orders that reach a closed cut: there are some, and they all come to one state.
-use Rattle.std.proofs.Common.{inl, inr, ◌≡◌, ◌≢◌, ◌⊎◌, ℕ, ◌+◌, ◌<◌, ◌≤◌, List, [], ◌∷◌, ◌++◌, append-nil, length, map, refl, sym, ap, ◌∙◌, subst, arith}
+use Rattle.std.proofs.Common.{inl, inr, ◌≡◌, ◌⊎◌, ℕ, ◌+◌, ◌<◌, ◌≤◌, List, [], ◌∷◌, ◌++◌}
+use Rattle.std.proofs.Common.{append-nil, length, map, refl, sym, ap, ◌∙◌, subst, arith}
 use Rattle.std.specs.Prelude.{slice_index}
 use Rattle.std.specs.List.{Contains, range_with_len}
 use Rattle.std.proofs.lemmas.List.FromFn.{length-map-range_with_len, get_or-map-range_with_len}
 use native.Mathlib.Decide.{ℕ_discrete}
 use Rattle.rtr_types.specs.declared.cut.Cut.{Cut}
-use Rattle.rtr_types.specs.declared.instr.Edge.{Edge}
 use Rattle.rtr_types.specs.declared.instr.Instr.{Instr}
 use Rattle.rtr_types.specs.declared.access.Access.{Access}
 use Rattle.rtr_types.specs.declared.pairs.Which.{Which}
-use Rattle.clock_core.specs.Order.{Among}
 use Rattle.conflict_edge.specs.Conflicts.{ConflictPair}
-use Rattle.conflict_edge.specs.Least.{Suffices}
 use Rattle.rv_core.specs.declared.outcome.Outcome.{Outcome}
 use Rattle.log_codec.specs.declared.recording.Recording.{Recording}
-use Rattle.log_codec.specs.Sources.{log_edges}
 use Rattle.log_codec.specs.Validity.{Valid}
 use Rattle.replay_core.specs.Plans.{Plan, plan_of}
 use Rattle.replay_core.specs.Play.{instr, start, play, played, accesses_of, accesses_from, Plays}
-use Rattle.replay_core.specs.Orders.{bump, counts, nought, Sourced, Ready, Ordered, Full, IsReplayOrder, IsWhole}
+use Rattle.replay_core.specs.Orders.{bump, counts, nought, Ready, Ordered, Full, IsReplayOrder, IsWhole}
 use Rattle.replay_core.proofs.Counts.{bump_same, bump_else, counts_more}
 use Rattle.replay_core.proofs.Images.{by_image, same_start}
 use Rattle.replay_core.proofs.Lists.{ordered_on}
-use Rattle.replay_core.proofs.Places.{play_law, start_known}
+use Rattle.replay_core.proofs.Places.{start_known}
 use Rattle.replay_core.proofs.Ready.{source_within, within_sourced}
 use Rattle.replay_audit.specs.Determinate.{Decides}
 use Rattle.replay_audit.specs.Laws.{Agrees}
 use Rattle.replay_audit.proofs.Agreed.{every_order_law}
-use Rattle.replay_audit.proofs.Front.{Tame, Same, Fronts, fronts}
+use Rattle.replay_audit.proofs.Front.{Tame, Fronts, fronts}
 use Rattle.replay_audit.proofs.Logs.{closed_none}
-use Rattle.cut_replay.specs.ClosedCuts.{count_in, IsCutOf, IsClosed}
+use Rattle.cut_replay.specs.ClosedCuts.{count_in}
 use Rattle.cut_replay.specs.CutStates.{Reaches, PlaysTo}
 use Rattle.cut_replay.proofs.Cuts.{most_or_more}
 
@@ -52,7 +49,8 @@ module _ (p : Plan) (cut : Cut) where
   total_is c lt = get_or-map-range_with_len (λ i. count_in cut i) 0 (length p.totals) c c 0 lt (omega arith)
 
   -- an order within the cut is one of it
-  pub ordered_in : (f : ℕ → ℕ) (order : List ℕ) → Ordered p f order → ((c : ℕ) → counts f order c ≤ count_in cut c) → Ordered (cut_plan p cut) f order
+  pub ordered_in : (f : ℕ → ℕ) (order : List ℕ) → Ordered p f order →
+      ((c : ℕ) → counts f order c ≤ count_in cut c) → Ordered (cut_plan p cut) f order
   ordered_in f [] o within = tt
   ordered_in f (c ∷ cs) o within = (
     record {
@@ -150,7 +148,8 @@ module _ (p : Plan) (cut : Cut) (f : ℕ → ℕ)
     where
       sources : f c ≡ g c → (from : Instr) → Contains p.edges (record { from = from; to = instr c (f c + 1) }) → from.count ≤ f from.core
       sources e from there =
-          let in_front = source_within p.edges g c (g c + 1) ready.sourced from (subst (λ (n : ℕ). Contains p.edges (record { from = from; to = instr c (n + 1) })) e there) in
+          let in_front = source_within p.edges g c (g c + 1) ready.sourced from
+          (subst (λ (n : ℕ). Contains p.edges (record { from = from; to = instr c (n + 1) })) e there) in
           let in_cut = closed from (instr c (f c + 1)) there (omega arith) in
           has from.core from.count in_front in_cut
 

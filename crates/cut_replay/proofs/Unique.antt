@@ -1,11 +1,10 @@
 -- There is one cut of each kind.
-use Rattle.std.proofs.Common.{inl, inr, ◌≡◌, ◌⊎◌, ℕ, ◌<◌, ◌≤◌, List, length, get_or, refl, sym, ap, ◌∙◌, arith}
+use Rattle.std.proofs.Common.{◌≡◌, ℕ, List, sym, ap, ◌∙◌, arith}
 use Rattle.std.proofs.lemmas.List.{ext_get_or}
 use Rattle.rtr_types.specs.declared.cut.Cut.{Cut}
-use Rattle.rtr_types.specs.declared.pairs.Which.{Which}
 use Rattle.log_codec.specs.declared.recording.Recording.{Recording}
 use Rattle.cut_replay.specs.CutStates.{OneStateLaw}
-use Rattle.cut_replay.specs.ClosedCuts.{count_in, IsContained, IsCutOf, OneLeastCutLaw, OneGreatestCutLaw}
+use Rattle.cut_replay.specs.ClosedCuts.{IsContained, IsCutOf, OneLeastCutLaw, OneGreatestCutLaw}
 
 abbrev cut_of : ℕ → List ℕ → Cut
 cut_of cores counts = record { cores = cores; counts = counts }
@@ -14,7 +13,8 @@ cut_of cores counts = record { cores = cores; counts = counts }
 pub one_cut : (r : Recording) (cut other : Cut) → IsCutOf r cut → IsCutOf r other → IsContained cut other → IsContained other cut → cut ≡ other
 one_cut r cut other h k up down =
     ap (λ (n : ℕ). cut_of n cut.counts) (h.cores ∙ sym k.cores)
-    ∙ ap (λ (l : List ℕ). cut_of other.cores l) (ext_get_or 0 cut.counts other.counts (h.places ∙ sym k.places) (λ i lt. let a = up i in let b = down i in omega arith))
+    ∙ ap (λ (l : List ℕ). cut_of other.cores l)
+    (ext_get_or 0 cut.counts other.counts (h.places ∙ sym k.places) (λ i lt. let a = up i in let b = down i in omega arith))
 
 pub one_least : OneLeastCutLaw
 one_least which r at cut other h k =

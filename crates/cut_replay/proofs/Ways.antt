@@ -1,5 +1,6 @@
 -- A replay on the way to a closed cut.
-use Rattle.std.proofs.Common.{inl, inr, ◌≡◌, ◌≢◌, ◌⊎◌, ℕ, ◌+◌, ◌<◌, ◌≤◌, ◌↔◌, Bool, true, false, IsTrue, List, [], ◌∷◌, ◌++◌, length, refl, sym, ap, ◌∙◌, subst, arith}
+use Rattle.std.proofs.Common.{inl, inr, ◌≡◌, ◌⊎◌, ℕ, ◌+◌, ◌<◌, ◌≤◌, ◌↔◌, Bool, true, false, IsTrue}
+use Rattle.std.proofs.Common.{List, [], ◌∷◌, ◌++◌, length, refl, sym, ap, ◌∙◌, subst, arith}
 use Rattle.std.specs.Prelude.{slice_index, Option}
 use Rattle.std.specs.List.{Contains}
 use Rattle.rtr_types.specs.declared.TheConstants.{CORES_MAX}
@@ -19,7 +20,7 @@ use Rattle.log_codec.specs.Validity.{Valid}
 use Rattle.replay_core.specs.declared.answers.Advanced.{Advanced}
 use Rattle.replay_core.specs.declared.answers.Advanced.TheVariants as advanced
 use Rattle.replay_core.specs.Plans.{Plan, plan_of}
-use Rattle.replay_core.specs.Play.{instr, need_at, place, play, played, start}
+use Rattle.replay_core.specs.Play.{instr, need_at, place, played, start}
 use Rattle.replay_core.specs.Orders.{bump, counts, counts_in, nought, Ready, IsReplayOrder, is_ready}
 use Rattle.replay_core.specs.Answers.{Advances, Retires, Stays, UnderWay}
 use Rattle.replay_core.proofs.Counts.{bump_same, bump_else, counts_on}
@@ -27,7 +28,6 @@ use Rattle.replay_core.proofs.Lists.{one_more, play_on, plays_on}
 use Rattle.replay_core.proofs.Low.{left, left_step}
 use Rattle.replay_core.proofs.Places.{play_law}
 use Rattle.replay_core.proofs.Ready.{ready_true, ready_is, within_sourced}
-use Rattle.replay_core.proofs.Steps.{goes}
 use native.Mathlib.Decide.{ℕ_discrete}
 use Rattle.replay_audit.specs.Audits.{IsInstrOf}
 use Rattle.replay_audit.specs.Determinate.{Decides}
@@ -36,7 +36,7 @@ use Rattle.replay_audit.proofs.Logs.{Closed, ready_before}
 use Rattle.cut_replay.specs.ClosedCuts.{count_in, IsClosed}
 use Rattle.cut_replay.specs.CutStates.{Reaches, IsStateAt}
 use Rattle.cut_replay.specs.Dues.{IsDue, IsOnTheWay, IsWaitedFor, NoneIsDue}
-use Rattle.cut_replay.proofs.Cuts.{has_within, none_or_some, most_or_more}
+use Rattle.cut_replay.proofs.Cuts.{has_within, none_or_some}
 use Rattle.cut_replay.proofs.Orders.{all_there, plays_to}
 
 in_or_past : (c n : ℕ) → (c < n) ⊎ (n ≤ c)
@@ -104,7 +104,8 @@ module _ {which : Which} {r : Recording} {cut : Cut} {u : UnderWay} (way : IsOnT
           from.count ≤ counts nought way.order from.core
       source_there waited from there =
           let w : EdgeWithin r from next = has_within which r from next valid there in
-          let leads : IsOrLeads (Among (log_edges which r)) from next = inr (one (Among (log_edges which r)) from next (inr (contains_among (log_edges which r) from next there))) in
+          let leads : IsOrLeads (Among (log_edges which r)) from next =
+          inr (one (Among (log_edges which r)) from next (inr (contains_among (log_edges which r) from next there))) in
           let known = (is from w.some_source).1 leads in
           let le = waited from.core (let a = all_cores in let b = valid.each_core in let s = w.pair.source in omega arith) w.pair.differ in
           let same = count_at from.core in
@@ -121,7 +122,8 @@ module _ {which : Which} {r : Recording} {cut : Cut} {u : UnderWay} (way : IsOnT
       ready_waited : Ready (plan_of which r) (counts nought way.order) c → IsWaitedFor u c clock
       ready_waited ready of lt ne = by (none_or_some (slice_index clock of))
         where
-          leads : IsOrLeads (Among (log_edges which r)) (instr of (slice_index clock of)) (instr c (count + 1)) → slice_index clock of ≤ counts_in u.state of
+          leads : IsOrLeads (Among (log_edges which r)) (instr of (slice_index clock of)) (instr c (count + 1)) →
+              slice_index clock of ≤ counts_in u.state of
           leads (inl e) = absurd (ne (ap (λ (x : Instr). x.core) e))
           leads (inr before) =
               let le = ready_before p f c (instr of (slice_index clock of)) next closed_so_far ready refl (let e = here in omega arith) before in
@@ -181,7 +183,8 @@ module _ {which : Which} {r : Recording} {cut : Cut} {u : UnderWay} (way : IsOnT
     -- room was made
     module _ (v : UnderWay) (same_plan : v.plan ≡ u.plan) (same_state : v.state ≡ u.state) where
       pub ready_with_room : is_ready v.plan (counts_in v.state) c ≡ true
-      ready_with_room = ap (λ (q : Plan). is_ready q (counts_in v.state) c) same_plan ∙ ap (λ (s : Outcome). is_ready u.plan (counts_in s) c) same_state ∙ due.ready
+      ready_with_room = ap (λ (q : Plan). is_ready q (counts_in v.state) c) same_plan
+          ∙ ap (λ (s : Outcome). is_ready u.plan (counts_in s) c) same_state ∙ due.ready
 
       -- the call's answer, at what the order comes to
       advances : (answer : Advanced) (t : Outcome) → Advances v.plan v.state c answer t →

@@ -1,4 +1,4 @@
-use Rattle.std.proofs.Common.{◌<◌, ◌≡◌, ◌∙◌, ℕ, ap, arith, length, length-set, refl}
+use Rattle.std.proofs.Common.{◌<◌, ◌≡◌, ◌∙◌, ap, arith, length, length-set, refl}
 use Rattle.std.specs.Prelude.{slice_index}
 use Rattle.rtr_types.specs.declared.TheConstants.{CORES_MAX}
 use Rattle.log_codec.specs.declared.recording.Recording.{Recording}
@@ -17,7 +17,8 @@ loop-core-preserved c =
     let inside : c.loop-core.core < length c.loop-core.counts = omega arith in
     record {
       wide = length-set c.loop-core.counts c.loop-core.core c.free_of.result ∙ l.wide;
-      done = filled (λ core n. AreFree a.which a.recording c.args.at core n) c.loop-core.counts c.loop-core.core c.free_of.result inside l.done c.free_of.ensures;
+      done = filled (λ core n. AreFree a.which a.recording c.args.at core n) c.loop-core.counts c.loop-core.core c.free_of.result inside l.done
+          c.free_of.ensures;
       rest = unfilled c.loop-core.counts c.loop-core.core c.free_of.result l.rest;
     }
 

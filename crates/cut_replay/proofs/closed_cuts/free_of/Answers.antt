@@ -12,7 +12,8 @@ loop-free-preserved-then-covers c =
     let need = (c.clock.ensures c.args.at c.requires.at.some).0 (c.covers.ensures.0 c.if-covers.true) in
     let within = l.within in
     record {
-      between = between_need a.which a.recording c.args.at c.args.core c.loop-free.free c.loop-free.least m l.between some (omega arith) (m - 1) (omega arith) need;
+      between = between_need a.which a.recording c.args.at c.args.core c.loop-free.free c.loop-free.least m l.between some (omega arith) (m - 1)
+          (omega arith) need;
       within = omega arith;
     }
 
