@@ -22,4 +22,3 @@ pub mod Auditing
 pub mod Refused
 pub mod Judging
 pub mod Touching
-pub mod Touched

@@ -174,7 +174,6 @@ no_reason (Soak shape number params seed) input a = record {
   faultless = λ fault h. h;
   holds = λ more. absurd (omega (arith, a, more));
 }
-
 no_reason (At which at latest loads) input a = record {
   read = λ part h. is_read (whole_at input) (IsOfRecordWith at) part a h;
   present = λ absent h.

@@ -2,6 +2,9 @@
 ghost use Rattle.std.specs.Prelude.{◌≡◌, IfErr, IfOk, OnOk};
 ghost use Rattle.log_codec.specs.Validity.{Valid};
 ghost use Rattle.replay_audit.specs.Audits.{IsInstrOf};
+ghost use Rattle.replay_core.specs.Plans.{recorded_image};
+ghost use Rattle.state_text.specs.Cuts.{cut_state_lines};
+ghost use Rattle.state_text.specs.States.{IsOutcomeOf};
 ghost use Rattle.rtr_cli.specs.Commands.{AtEnds, IsCutAt, IsReplayed, IsToldAt};
 
 use crate::commands::{audited, image};
@@ -10,6 +13,7 @@ use log_codec::Recording;
 use replay_audit::Audited;
 use replay_audit::laws::replays_fit_their_plan;
 use rtr_types::{Cut, Instr, Which};
+use rv_core::Outcome;
 use state_text::{Exit, cut_state_text};
 use std::alloc::{AllocError, Global};
 
@@ -36,13 +40,29 @@ pub(crate) fn state_at(
     let cut = cut_at(&audited, at, latest)?;
     let outcome = state_of(alloc, &audited, &cut)?;
     let (recording, _) = audited.into_parts();
+    Ok(told(alloc, recording, &cut, &outcome, loads)?)
+}
+
+/// The text of the cut and of what it comes to.
+fn told(
+    alloc: Global,
+    recording: Recording,
+    cut: &Cut,
+    outcome: &Outcome,
+    loads: bool,
+) -> Result<Vec<u8>, AllocError>
+    requires valid { Valid recording }
+    requires fits { IsOutcomeOf (recorded_image recording) outcome.now }
+    ensures { IfOk result (λ out. out.items
+        ≡ cut_state_lines cut.now outcome.now (recorded_image recording) loads) }
+{
     let Recording {
         params,
         image: bytes,
         ..
     } = recording;
     let image = image(bytes.into_vec(), params.words);
-    Ok(cut_state_text(alloc, &cut, &outcome, &image, loads)?)
+    cut_state_text(alloc, cut, outcome, &image, loads)
 }
 
 /// The closed cut that is asked for at the instruction.
