@@ -11,21 +11,21 @@ use Rattle.know_history.specs.declared.known.Known.{Known}
 use Rattle.know_history.specs.Notes.{Notes, IsNoted, no_notes, noted_count}
 use Rattle.known_examples.specs.Dense.{AreCounted}
 
-pub counted_start : (notes : Notes) (counts : List ℕ) → notes ≡ no_notes 8 → counts ≡ replicate CORES_MAX 0 → AreCounted notes counts
-counted_start notes counts notes_is counts_is = record {
+pub begun : (notes : Notes) (counts : List ℕ) → notes ≡ no_notes 8 → counts ≡ replicate CORES_MAX 0 → AreCounted notes counts
+begun notes counts notes_is counts_is = record {
   cores = ap (λ (h : Notes). length h) notes_is;
-  all = ap (λ (l : List ℕ). length l) counts_is ∙ length-replicate CORES_MAX 0;
+  all = ap (λ (l : List ℕ). length l) counts_is ∙ length-replicate {A = ℕ} CORES_MAX 0;
   each = λ c below.
-      ap (λ (h : Notes). noted_count h c) notes_is ∙ ap (λ (l : List Clock). length l) (get_or-replicate 8 c [] [] below)
-      ∙ sym (ap (λ (l : List ℕ). slice_index l c) counts_is ∙ get_or-replicate CORES_MAX c 0 0 (omega arith));
+      ap (λ (h : Notes). noted_count h c) notes_is ∙ ap (λ (l : List Clock). length l) (get_or-replicate {A = List Clock} 8 c [] [] below)
+      ∙ sym (ap (λ (l : List ℕ). slice_index l c) counts_is ∙ get_or-replicate {A = ℕ} CORES_MAX c 0 0 (omega arith));
 }
 
 module _ (old : Notes) (counts : List ℕ) (at : Instr) (h : AreCounted old counts) (inside : at.core < 8) where
-  pub next_count : (count : ℕ) → count ≡ slice_index counts at.core → at.count ≡ count + 1 → at.count ≡ noted_count old at.core + 1
-  next_count count is next = let e = h.each at.core inside in omega arith
+  pub next_one : (count : ℕ) → count ≡ slice_index counts at.core → at.count ≡ count + 1 → at.count ≡ noted_count old at.core + 1
+  next_one count is next = let e = h.each at.core inside in omega arith
 
-  pub counted_more : (new : Notes) (known : Known) → IsNoted old at known new → AreCounted new (slice_set counts at.core at.count)
-  counted_more new known n = record {
+  pub noted : (new : Notes) (known : Known) → IsNoted old at known new → AreCounted new (slice_set counts at.core at.count)
+  noted new known n = record {
     cores = n.cores ∙ h.cores;
     all = length-set counts at.core at.count ∙ h.all;
     each = each;

@@ -97,6 +97,7 @@ fn is_next(count: u32, next: u32) -> bool
 }
 
 /// The history of the retirements.
+#[tactic(auto, using(crate::proofs::Counted::begun, crate::proofs::Counted::noted, crate::proofs::Counted::next_one))]
 fn note_all(alloc: Global, rows: &[(Instr, Known)]) -> Result<Noted, AllocError>
     ensures { IfOk result (λ noted. AreCounted noted.history.notes noted.counts) }
 {
@@ -178,7 +179,10 @@ fn histories_say_what_was_known(rt: HostRuntime) -> Result<(), Fail> {
         let noted = note_all(rt.alloc(), &rows)?;
         for core in 0..CORES - 1 {
             assert_eq!(rt; noted.counts[core as usize], RETIRED);
-            assert!(rt; is_dense_of(&noted, &rows, core), "seed {seed}, core {core}");
+            assert!(rt;
+                is_dense_of(&noted, &rows, core),
+                "seed {seed}, core {core}"
+            );
         }
         assert!(rt; is_dense_of(&noted, &rows, 7), "seed {seed}");
         assert!(rt; noted.history.changes(0, 1) > 1, "seed {seed}");
