@@ -12,7 +12,6 @@ use Rattle.replay_core.specs.Plans.{plan_of, recorded_image}
 use Rattle.replay_core.specs.Play.{instr}
 use Rattle.replay_core.proofs.Ready.{within_sourced}
 use Rattle.replay_core.proofs.Sources.{apart}
-use Rattle.replay_audit.specs.Clocks.{AreSources}
 use Rattle.replay_table.specs.declared.upcoming.Upcoming.{Upcoming}
 use Rattle.replay_table.specs.declared.view.View.{View}
 use Rattle.replay_table.specs.Aheads.{Due}

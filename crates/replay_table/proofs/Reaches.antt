@@ -9,7 +9,7 @@ use Rattle.rv_core.specs.declared.outcome.LoadNote.{LoadNote}
 use Rattle.rv_core.specs.declared.outcome.Outcome.{Outcome}
 use Rattle.rv_core.specs.Steps.{need, after, wrote, is_done}
 use Rattle.replay_core.specs.Plans.{Plan}
-use Rattle.replay_core.specs.Play.{use_of, old_for, words_after, loads_after, core_at, loads_at, old_at, need_at}
+use Rattle.replay_core.specs.Play.{use_of, old_for, words_after, core_at, loads_at, old_at, need_at}
 use Rattle.replay_core.specs.Play.{new_at, place, touched as touched_at, start, Plays, played, accesses_of}
 use Rattle.replay_core.specs.Orders.{bump, counts, nought, Sourced, Ready, IsReplayOrder}
 use Rattle.replay_core.proofs.Counts.{counts_on, bump_more}

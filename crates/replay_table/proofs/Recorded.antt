@@ -9,7 +9,7 @@ use Rattle.rv_core.specs.Steps.{need}
 use Rattle.log_codec.specs.declared.recording.Recording.{Recording}
 use Rattle.log_codec.specs.Validity.{Valid}
 use Rattle.replay_core.specs.Plans.{Plan, plan_of}
-use Rattle.replay_core.specs.Play.{Use, use_of, core_at, played}
+use Rattle.replay_core.specs.Play.{Use, use_of}
 use Rattle.replay_core.specs.Orders.{counts, nought, IsReplayOrder, low_order}
 use Rattle.replay_audit.specs.Laws.{Clash, StandsAhead, IsAhead, IsDue}
 use Rattle.replay_audit.proofs.Ahead.{never_due_law}

@@ -2,13 +2,12 @@
 use Rattle.std.proofs.Common.{inl, inr, ◌⊎◌, ⊎_elim, length-append, ◌≡◌, ℕ, subst, zero, suc, ◌+◌, ◌-◌, ◌<◌, List, []}
 use Rattle.std.proofs.Common.{◌∷◌, ◌++◌, length, take, drop, replicate, sym, refl, ap, ◌∙◌, arith}
 use Rattle.std.proofs.lemmas.List.{length-replicate}
-use Rattle.std.specs.Prelude.{Some, None, slice_get, slice_index, slice_index_or}
-use Rattle.std.proofs.lemmas.List.FromFn.{length-map-range_with_len, get_or-map-range_with_len}
+use Rattle.std.specs.Prelude.{Some, None, slice_get, slice_index}
+use Rattle.std.proofs.lemmas.List.FromFn.{length-map-range_with_len}
 use mathlib.Core.Option.{some, some-injective, some-ne-none}
 use lib.ListN.{get_elem?}
 use Rattle.image_mem.specs.Contents.{opening_word, opening_words}
 use Rattle.rv_core.specs.declared.core_state.Core.{Core}
-use Rattle.rv_core.specs.declared.outcome.LoadNote.{LoadNote}
 use Rattle.rv_core.specs.States.{starting}
 use Rattle.rv_core.proofs.LawLemmas.{start_law}
 use Rattle.replay_core.specs.Plans.{Plan}

@@ -9,7 +9,7 @@ use Rattle.rv_core.specs.Steps.{need, after, is_whole}
 use Rattle.rv_core.specs.declared.outcome.LoadNote.{LoadNote}
 use Rattle.rv_core.proofs.LawLemmas.{count_law, number_law}
 use Rattle.replay_core.specs.Plans.{Plan}
-use Rattle.replay_core.specs.Play.{Use, use_of, loads_after}
+use Rattle.replay_core.specs.Play.{use_of, loads_after}
 use Rattle.replay_table.specs.declared.view.Own.{Own}
 use Rattle.replay_audit.specs.declared.touch.Touch.{Touch}
 use Rattle.replay_table.specs.declared.view.View.{View}

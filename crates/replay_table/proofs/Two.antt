@@ -1,9 +1,9 @@
 -- A table of two seats that are at their totals.
-use Rattle.std.proofs.Common.{◌≡◌, ℕ, zero, suc, ◌<◌, List, [], ◌∷◌, length, refl, ap, subst, arith}
-use Rattle.std.specs.Prelude.{Some, All, slice_get, slice_index}
+use Rattle.std.proofs.Common.{◌≡◌, ℕ, zero, suc, [], ◌∷◌, length, subst, arith}
+use Rattle.std.specs.Prelude.{Some, slice_get, slice_index}
 use Rattle.atomic_table.specs.Seated.{TableId}
 use Rattle.replay_core.specs.Plans.{Plan}
-use Rattle.replay_table.specs.Seats.{AllAt, AtRest, Finished, Sitting}
+use Rattle.replay_table.specs.Seats.{AtRest, Finished, Sitting}
 
 -- a seat of this number, at its total
 pub record Ended (p : Plan) (table : TableId) (k : ℕ) (x : Sitting) : Type 0 where

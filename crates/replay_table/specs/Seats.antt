@@ -1,15 +1,13 @@
 -- What contracts see of a seat.
 use Rattle.std.specs.Prelude.{◌≡◌, ◌≢◌, ℕ, ◌+◌, ◌^◌, ◌<◌, ◌≤◌, Bool, List, [], ◌∷◌, ◌++◌, length, map, reverse}
-use Rattle.std.specs.Prelude.{slice_index, slice_get, Option, Some, None, Result, Ok, Err, MatchResult}
+use Rattle.std.specs.Prelude.{slice_index, slice_get, Option, Some, Result, Ok, Err, MatchResult}
 use Rattle.std.specs.List.{Contains, range_with_len}
 use mathlib.Core.Option.{some}
 use lib.ListN.{get_elem?}
 use Rattle.atomic_table.specs.Seated.{TableId}
 use Rattle.rtr_types.specs.declared.instr.Instr.{Instr}
 use Rattle.rtr_types.specs.declared.pairs.Which.{Which}
-use Rattle.rv_decode.specs.declared.op.Op.{Op}
 use Rattle.rv_core.specs.declared.core_state.Core.{Core}
-use Rattle.rv_core.specs.declared.core_state.Need.{Need}
 use Rattle.rv_core.specs.declared.outcome.LoadNote.{LoadNote}
 use Rattle.rv_core.specs.declared.outcome.Outcome.{Outcome}
 use Rattle.rv_core.specs.States.{starting}
@@ -19,7 +17,7 @@ use Rattle.log_codec.specs.declared.recording.Recording.{Recording}
 use Rattle.log_codec.specs.Sources.{HasEdge, log_edges}
 use Rattle.log_codec.specs.Validity.{Valid}
 use Rattle.replay_core.specs.Plans.{Plan, recorded_image, plan_of}
-use Rattle.replay_core.specs.Play.{Use, use_of, instr, loads_at, loads_after, played, accesses_of}
+use Rattle.replay_core.specs.Play.{Use, instr, loads_at, loads_after, played, accesses_of}
 use Rattle.replay_audit.specs.declared.touch.Touch.{Touch}
 use Rattle.replay_audit.specs.Clocks.{AreSources}
 use Rattle.replay_audit.specs.Determinate.{IsDeterminate, low_outcome}

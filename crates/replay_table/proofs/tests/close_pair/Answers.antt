@@ -13,7 +13,7 @@ close-requires g c =
     let a : Sitting = c.publish.new.seat in
     let b : Sitting = c.publish-2.new.seat in
     let items : c.push_reserved-2.new.self.items ≡ a ∷ b ∷ [] = c.push_reserved-2.ensures.items
-        ∙ ap (λ (l : List Sitting). l ++ b ∷ []) (c.push_reserved.ensures.items ∙ ap (λ (l : List Sitting). l ++ a ∷ []) c.in_ok-seats.ensures.items) in
+    ∙ ap (λ (l : List Sitting). l ++ b ∷ []) (c.push_reserved.ensures.items ∙ ap (λ (l : List Sitting). l ++ a ∷ []) c.in_ok-seats.ensures.items) in
     let totals = c.as_slice.ensures ∙ ap (λ (r : Recording). r.totals) c.requires.recording in
     let least = c.in-len2.len_at_least in
     let most = c.in-len2.len_below in
