@@ -82,7 +82,8 @@ determinate_of c h = subst (λ (q : Recording). IsDeterminate Reduced q) (sym h.
 
 certificate_not_audited : (c : Certificate) (fault : AuditFault) → IsOfCertify c → AuditRefuses Reduced c.recording fault → fault ≡ faults.OutOfMemory
 certificate_not_audited c faults.OutOfMemory h refuses = refl
-certificate_not_audited c (faults.Stuck cut) h refuses = absurd (refused_law Reduced c.recording (faults.Stuck cut) refuses (λ e. absurd cc) (determinate_of c h))
+certificate_not_audited c (faults.Stuck cut) h refuses =
+    absurd (refused_law Reduced c.recording (faults.Stuck cut) refuses (λ e. absurd cc) (determinate_of c h))
 certificate_not_audited c (faults.Short core count) h refuses =
     absurd (refused_law Reduced c.recording (faults.Short core count) refuses (λ e. absurd cc) (determinate_of c h))
 certificate_not_audited c (faults.Undetermined first second) h refuses =

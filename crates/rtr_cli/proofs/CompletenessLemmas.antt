@@ -32,7 +32,8 @@ all_taken : (left' : Option (List ℕ)) (bytes taken : List ℕ) → Consumes (S
 all_taken None bytes taken was end = absurd was
 all_taken (Some rest) bytes taken was end = sym (append-nil taken) ∙ ap (λ (ys : List ℕ). taken ++ ys) (sym end) ∙ sym was
 
-taken_is_left : (most : Option ℕ) (left left' : Option (List ℕ)) (bytes taken : List ℕ) → HasLeft most left bytes → IsTaken most left left' taken → taken ≡ bytes
+taken_is_left : (most : Option ℕ) (left left' : Option (List ℕ)) (bytes taken : List ℕ) → HasLeft most left bytes
+    → IsTaken most left left' taken → taken ≡ bytes
 taken_is_left None left left' bytes taken is was = was.1 ∙ sym is
 taken_is_left (Some most) left left' bytes taken is was =
     all_taken left' bytes taken (subst (λ (old : Option (List ℕ)). Consumes old left' taken) is.0 was.taken) was.end
