@@ -1,0 +1,11 @@
+pub mod Vectors
+pub mod Cuts
+pub mod Kept
+pub mod Arrivals
+pub mod Thinning
+pub mod Showing
+pub mod Validity
+pub mod Spelling
+pub mod Reading
+pub mod Answers
+pub mod Laws

@@ -1,0 +1,31 @@
+-- The spellings of thinned recordings: the first five parts of a recording in version 2, then what shows that each
+-- vector is needed.
+use Rattle.std.specs.Prelude.{◌≡◌, ℕ, List, ◌++◌}
+use Rattle.log_codec.specs.Spelling as recordings
+use Rattle.log_codec.specs.Spelling.{number}
+use Rattle.log_codec.specs.Turns.{spelled_in_turn, stay, count_up}
+use Rattle.vector_reduce.specs.declared.thinned.Shown.{Shown}
+use Rattle.vector_reduce.specs.declared.thinned.Thinned.{Thinned}
+use Rattle.vector_reduce.specs.Validity.{counts_of}
+
+abbrev pub count_text : ℕ → ℕ → List ℕ
+count_text core n = number n
+
+-- a number for each core
+abbrev pub counts_text : List ℕ → List ℕ
+counts_text counts = spelled_in_turn count_text count_up 0 counts
+
+-- the number of an edge, and the counts of a cut
+abbrev pub one_text : Unit {0} → Shown → List ℕ
+one_text s x = number x.edge ++ counts_text (counts_of x.cut)
+
+-- the sixth part: one for each vector
+abbrev pub shown_text : List Shown → List ℕ
+shown_text shown = spelled_in_turn one_text stay tt shown
+
+-- the one spelling
+unfoldable pub spelling : Thinned → List ℕ
+spelling t = recordings.spelling t.recording ++ shown_text t.shown
+
+abbrev pub Spells : List ℕ → Thinned → Type 0
+Spells bytes t = bytes ≡ spelling t

@@ -1,0 +1,163 @@
+//! Reading thinned recordings, with the first part that has no reading where there is one.
+ghost use Rattle.std.specs.Prelude.{◌≡◌, ◌<◌, ◌≤◌, length, IfOk, Ok};
+ghost use Rattle.rtr_types.specs.declared.TheConstants.{CORES_MAX};
+ghost use Rattle.log_codec.specs.Faults.{Gives};
+ghost use Rattle.log_codec.specs.Reading.{number_at};
+ghost use Rattle.log_codec.specs.Turns.{read_in_turn, stay};
+ghost use Rattle.log_codec.specs.Validity.{Valid};
+ghost use Rattle.vector_reduce.specs.Reading.{count_at, counts_at, front_two_at, one_at, parts_at, thinned_at};
+ghost use Rattle.vector_reduce.specs.Spelling.{Spells};
+ghost use Rattle.vector_reduce.specs.Validity.{IsThin, cut_of};
+ghost use Rattle.vector_reduce.specs.declared.thinned.Thinned.{Thinned as SomeThinned};
+
+use crate::pair_vector::vectors_of;
+use crate::thinned::{END, SHOWN, Shown, Thinned};
+use log_codec::{CodecFault, HEADER, Recording, read_front};
+use rtr_types::{CORES_MAX, Cut, Items};
+use std::alloc::Global;
+use varint_core::take_u32;
+
+/// A place for each core, as the length of an array.
+const PLACES: usize = CORES_MAX as usize;
+
+/// The letters RTR, and version 2.
+const MAGIC: [u8; 4] = [0x52, 0x54, 0x52, 2];
+
+/// The number that the bytes begin with, and the bytes after it.
+#[tactic(auto, unfolding(log_codec::specs::Reading::number_at))]
+fn number(bytes: &[u8]) -> Result<(u32, &[u8]), CodecFault>
+    ensures { Gives (λ x. (x.0, x.1.now)) result (number_at SHOWN bytes.now) }
+{
+    match take_u32(bytes) {
+        Ok((n, len)) => Ok((n, &bytes[len..])),
+        Err(_) => Err(CodecFault::Bad { part: SHOWN }),
+    }
+}
+
+/// A count of a core, at most its total.
+#[tactic(auto, unfolding(crate::specs::Reading::count_at))]
+fn count<'a>(totals: &[u32], core: usize, bytes: &'a [u8]) -> Result<(u32, &'a [u8]), CodecFault>
+    requires { core < length totals.now }
+    ensures { Gives (λ x. (x.0, x.1.now)) result (count_at totals.now core bytes.now) }
+{
+    let (n, rest) = number(bytes)?;
+    if n > totals[core] {
+        return Err(CodecFault::Bad { part: SHOWN });
+    }
+    Ok((n, rest))
+}
+
+/// A count of each core.
+fn counts<'a>(
+    alloc: Global,
+    totals: &[u32],
+    bytes: &'a [u8],
+) -> Result<(Items<u32>, &'a [u8]), CodecFault>
+    ensures { Gives (λ x. (x.0, x.1.now)) result (counts_at totals.now bytes.now) }
+{
+    let mut found = Items::new(alloc);
+    let mut rest = bytes;
+    for core in 0..totals.len() {
+        let (next, after) = count(totals, core, rest)?;
+        found.push(next)?;
+        rest = after;
+    }
+    Ok((found, rest))
+}
+
+/// The cut with these counts.
+fn cut_of(counts: &[u32]) -> Cut
+    requires { length counts.now ≤ CORES_MAX }
+    ensures { result ≡ cut_of counts.now }
+{
+    let mut places = [0; PLACES];
+    for core in 0..counts.len() {
+        places[core] = counts[core];
+    }
+    Cut {
+        cores: counts.len() as u8,
+        counts: places,
+    }
+}
+
+/// The number of an edge, and a cut.
+#[tactic(auto, unfolding(crate::specs::Reading::one_at))]
+fn one<'a>(alloc: Global, totals: &[u32], bytes: &'a [u8]) -> Result<(Shown, &'a [u8]), CodecFault>
+    requires { length totals.now ≤ CORES_MAX }
+    ensures { Gives (λ x. (x.0, x.1.now)) result (one_at totals.now tt bytes.now) }
+{
+    let (edge, rest) = number(bytes)?;
+    let (counts, rest) = counts(alloc, totals, rest)?;
+    let cut = cut_of(counts.as_slice());
+    Ok((Shown { edge, cut }, rest))
+}
+
+/// The sixth part: one for each of so many vectors.
+fn shown<'a>(
+    alloc: Global,
+    totals: &[u32],
+    vectors: usize,
+    bytes: &'a [u8],
+) -> Result<(Items<Shown>, &'a [u8]), CodecFault>
+    requires { length totals.now ≤ CORES_MAX }
+    ensures { Gives (λ x. (x.0, x.1.now)) result (read_in_turn (one_at totals.now) stay vectors tt bytes.now) }
+{
+    let mut found = Items::new(alloc);
+    let mut rest = bytes;
+    for _ in 0..vectors {
+        let (next, after) = one(alloc, totals, rest)?;
+        found.push(next)?;
+        rest = after;
+    }
+    Ok((found, rest))
+}
+
+/// The first five parts, which are a recording's in version 2, and the bytes after them.
+#[tactic(auto, unfolding(crate::specs::Reading::front_two_at))]
+fn front(alloc: Global, bytes: &[u8]) -> Result<(Recording, &[u8]), CodecFault>
+    ensures read { Gives (λ x. (x.0, x.1.now)) result (front_two_at bytes.now) }
+    ensures valid { IfOk result (λ x. Valid x.0) }
+{
+    if !bytes.starts_with(&MAGIC) {
+        return Err(CodecFault::Bad { part: HEADER });
+    }
+    let (recording, len) = read_front(alloc, bytes)?;
+    Ok((recording, &bytes[len..]))
+}
+
+/// The parts but for the end, and the bytes after them.
+#[tactic(auto, unfolding(crate::specs::Reading::parts_at))]
+fn parts(alloc: Global, bytes: &[u8]) -> Result<(Thinned, &[u8]), CodecFault>
+    ensures { Gives (λ x. (x.0, x.1.now)) result (parts_at bytes.now) }
+{
+    let (recording, rest) = front(alloc, bytes)?;
+    let vectors = vectors_of(alloc, &recording)?.len();
+    let (shown, rest) = shown(alloc, recording.totals.as_slice(), vectors, rest)?;
+    Ok((Thinned { recording, shown }, rest))
+}
+
+/// All parts.
+#[tactic(auto, unfolding(crate::specs::Reading::thinned_at))]
+fn whole(alloc: Global, bytes: &[u8]) -> Result<Thinned, CodecFault>
+    ensures { Gives (λ x. x) result (thinned_at bytes.now) }
+{
+    let (thinned, rest) = parts(alloc, bytes)?;
+    if !rest.is_empty() {
+        return Err(CodecFault::Bad { part: END });
+    }
+    Ok(thinned)
+}
+
+/// The thinned recording that the bytes spell, all of the bytes. Its form is right; whether it shows what it
+/// says is for a check. A fault names the first part that has no reading: bytes that don't begin as version 2
+/// does have no first part.
+pub fn read_thin(alloc: Global, bytes: &[u8]) -> Result<Thinned, CodecFault>
+    // What is read is spelled so.
+    ensures found { IfOk result (λ t. IsThin t × Spells bytes.now t) }
+    // What is spelled so is read, unless memory runs out.
+    ensures only { (t : SomeThinned) → IsThin t → Spells bytes.now t → Gives (λ x. x) result (Ok t) }
+    // Which part it is that has no reading.
+    ensures exact { Gives (λ x. x) result (thinned_at bytes.now) }
+{
+    whole(alloc, bytes)
+}
