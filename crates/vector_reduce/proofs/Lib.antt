@@ -1,0 +1,14 @@
+pub mod Edges
+pub mod Cutting
+pub mod Leaving
+pub mod Orders
+pub mod Parts
+pub mod Whole
+pub mod Closed
+pub mod Keeping
+pub mod Checked
+pub mod Judged
+pub mod Trials
+pub mod Assembled
+pub mod Gathered
+pub mod Next

@@ -69,6 +69,10 @@ pub record IsTooMany (r : Recording) (vectors edges : ℕ) : Type 0 where
 abbrev pub too_many_of : Recording → ThinFault
 too_many_of r = thins.TooMany (length (vectors_of r)) (length (regulated_edges r))
 
+-- there are too many, and the fault has their numbers
+abbrev pub IsRefusedFor : Recording → ThinFault → Type 0
+IsRefusedFor r fault = AreTooMany r × (fault ≡ too_many_of r)
+
 -- why nothing is left out. Want of memory says nothing
 abbrev pub ThinRefuses : Recording → ThinFault → Type 0
 ThinRefuses r (thins.TooMany vectors edges) = IsTooMany r vectors edges

@@ -1,7 +1,8 @@
 -- Where the edges of vectors arrive, core by core, and how a cut is closed by going along them.
-use Rattle.std.specs.Prelude.{◌≡◌, ◌≢◌, ℕ, suc, ◌+◌, ◌<◌, ◌≤◌, List, [], ◌∷◌, length, map, max, slice_index, slice_index_or}
+use Rattle.std.specs.Prelude.{◌≡◌, ◌≢◌, ℕ, suc, ◌-◌, ◌<◌, ◌≤◌, ◌^◌, All, List, [], length, map, max, slice_index, slice_index_or}
 use Rattle.std.specs.Prelude.{Bool, true, false, ◌⊎◌, Option, Some, None}
-use Rattle.std.specs.List.{range_with_len}
+use Rattle.std.specs.List.{Contains, range_with_len}
+use Rattle.std.specs.List.Sorted.{IsNonDecreasingBy}
 use Rattle.rtr_types.specs.declared.TheConstants.{CORES_MAX}
 use Rattle.rtr_types.specs.declared.instr.Instr.{Instr}
 use Rattle.rtr_types.specs.declared.instr.Edge.{Edge}
@@ -13,7 +14,7 @@ use Rattle.vector_reduce.specs.declared.closing.Closing.{Closing}
 use Rattle.vector_reduce.specs.declared.pair_vector.PairVector.{PairVector}
 use Rattle.vector_reduce.specs.declared.thinned.Shown.{Shown}
 use Rattle.vector_reduce.specs.Cuts.{Holds, IsClosed}
-use Rattle.vector_reduce.specs.Kept.{kept}
+use Rattle.vector_reduce.specs.Kept.{beside, is_beside}
 use Rattle.vector_reduce.specs.Showing.{IsLeastShown}
 use Rattle.vector_reduce.specs.Thinning.{IsImplied}
 use Rattle.vector_reduce.specs.Vectors.{edge_at, edges_in, edges_of_all, vector_at}
@@ -24,14 +25,15 @@ use Rattle.vector_reduce.specs.Vectors.{edge_at, edges_in, edges_of_all, vector_
 pub record IsBetween (cores : ℕ) (v : PairVector) : Type 0 where
   pub vector : IsVector v.vector
   pub pair : IsPair cores v.from v.to
-  pub some : 1 ≤ v.vector.a0
+  pub some_source : 1 ≤ v.vector.a0
+  pub some_target : 1 ≤ v.vector.b0
 
 abbrev pub AreBetween : ℕ → List PairVector → Type 0
 AreBetween cores vectors = (k : ℕ) → k < length vectors → IsBetween cores (vector_at vectors k)
 
--- the edges of those that are marked
-abbrev pub marked_edges : List PairVector → List Bool → List Edge
-marked_edges vectors marked = edges_of_all (kept vectors marked)
+-- the edges of the others of the vector that is tried next
+abbrev pub edges_beside : List PairVector → List Bool → List Edge
+edges_beside vectors stays = edges_of_all (beside vectors stays)
 
 -- ---- where they arrive
 
@@ -65,16 +67,12 @@ pub record Arrives (vectors : List PairVector) (core : ℕ) (a : Arrival) : Type
   pub vector : a.vector < length vectors
   pub edge : Among (edges_in (vector_at vectors a.vector)) a.from (record { core = core; count = a.count })
 
--- the arrival stands in the list
-abbrev pub StandsAt : List Arrival → Arrival → Type 0
-StandsAt list a = (i : ℕ) × (i < length list) × (arrival_at list i ≡ a)
-
 -- all edges into a core and no others, by rising count of the target
 pub record AreInto (vectors : List PairVector) (core : ℕ) (list : List Arrival) : Type 0 where
-  pub each : (i : ℕ) → i < length list → Arrives vectors core (arrival_at list i)
+  pub each : All (Arrives vectors core) list
   pub all : (j : ℕ) (x y : Instr) → j < length vectors → Among (edges_in (vector_at vectors j)) x y → y.core ≡ core →
-      StandsAt list (arrival x y.count j)
-  pub rise : (i k : ℕ) → i ≤ k → k < length list → (arrival_at list i).count ≤ (arrival_at list k).count
+      Contains list (arrival x y.count j)
+  pub rise : IsNonDecreasingBy (λ a. a.count) list
 
 -- the lists of all cores
 pub record Arranges (vectors : List PairVector) (lists : List (List Arrival)) : Type 0 where
@@ -97,8 +95,8 @@ pub record Raises (s : Closing) (at : Instr) (t : Closing) : Type 0 where
   pub elsewhere : (core : ℕ) → core ≢ at.core → counts_of t core ≡ counts_of s core
   pub passed : t.passed ≡ s.passed
 
--- where it is marked
-abbrev pub Takes : Closing → (is_marked : Bool) → Instr → Closing → Type 0
+-- where the edge counts
+abbrev pub Takes : Closing → (counts : Bool) → Instr → Closing → Type 0
 Takes s true from t = Raises s from t
 Takes s false from t = t ≡ s
 
@@ -111,6 +109,7 @@ pub record Passes (s : Closing) (core : ℕ) (t : Closing) : Type 0 where
 -- the core's next arrival is this one, and its target lies in the cut
 pub record IsDue (list : List Arrival) (s : Closing) (core : ℕ) (a : Arrival) : Type 0 where
   pub within : passed_of s core < length list
+  pub fits : passed_of s core < 2 ^ 64 - 1
   pub is : arrival_at list (passed_of s core) ≡ a
   pub due : a.count ≤ counts_of s core
 
@@ -125,10 +124,10 @@ abbrev pub AnyDue : List (List Arrival) → Closing → Option (ℕ × Arrival) 
 AnyDue lists s None = (core : ℕ) → core < length lists → NextDue (list_at lists core) s core None
 AnyDue lists s (Some d) = (d.0 < length lists) × IsDue (list_at lists d.0) s d.0 d.1
 
--- the sources of the marked arrivals that were gone past lie in the cut
-pub record HasPassed (a : Arranged) (marked : List Bool) (s : Closing) : Type 0 where
+-- the sources of those vectors' arrivals that were gone past lie in the cut
+pub record HasPassed (a : Arranged) (stays : List Bool) (s : Closing) : Type 0 where
   pub sources : (core i : ℕ) → core < length a.lists → i < passed_of s core → i < length (list_at a.lists core) →
-      slice_index_or marked (arrival_at (list_at a.lists core) i).vector false ≡ true →
+      is_beside stays (arrival_at (list_at a.lists core) i).vector ≡ true →
       Holds (counts_of s) (arrival_at (list_at a.lists core) i).from
 
 -- what lies in the cut is y or leads to y by the edges
@@ -136,14 +135,14 @@ abbrev pub Leads : List Edge → Instr → (ℕ → ℕ) → Type 0
 Leads edges y cut = (x : Instr) → 1 ≤ x.count → Holds cut x → IsOrLeads (Among edges) x y
 
 -- a cut under way, of what leads to y
-pub record IsClosing (a : Arranged) (marked : List Bool) (y : Instr) (s : Closing) : Type 0 where
-  pub passed : HasPassed a marked s
-  pub leads : Leads (marked_edges a.vectors marked) y (counts_of s)
+pub record IsClosing (a : Arranged) (stays : List Bool) (y : Instr) (s : Closing) : Type 0 where
+  pub passed : HasPassed a stays s
+  pub leads : Leads (edges_beside a.vectors stays) y (counts_of s)
 
 -- it is closed and has y
-pub record IsClosedAt (a : Arranged) (marked : List Bool) (y : Instr) (s : Closing) : Type 0 where
-  pub closing : IsClosing a marked y s
-  pub closed : IsClosed (marked_edges a.vectors marked) (counts_of s)
+pub record IsClosedAt (a : Arranged) (stays : List Bool) (y : Instr) (s : Closing) : Type 0 where
+  pub closing : IsClosing a stays y s
+  pub closed : IsClosed (edges_beside a.vectors stays) (counts_of s)
   pub holds : Holds (counts_of s) y
 
 -- what a trial of a vector against others comes to: the first edge that they don't imply, or one past its last edge

@@ -1,8 +1,10 @@
 -- Cuts: how far each core has come. A cut is seen as a function from cores to counts.
-use Rattle.std.specs.Prelude.{ℕ, ◌≤◌, List, slice_index}
+use Rattle.std.specs.Prelude.{ℕ, ◌<◌, ◌≤◌, List, slice_index}
 use Rattle.rtr_types.specs.declared.cut.Cut.{Cut}
 use Rattle.rtr_types.specs.declared.instr.Instr.{Instr}
 use Rattle.rtr_types.specs.declared.instr.Edge.{Edge}
+use Rattle.stride_vector.specs.declared.StrideVector.{StrideVector}
+use Rattle.stride_vector.specs.Vectors.{position_of}
 use Rattle.clock_core.specs.Order.{Before, Among}
 
 abbrev pub counts_in : Cut → ℕ → ℕ
@@ -15,6 +17,12 @@ Holds cut x = x.count ≤ cut x.core
 -- with the target of an edge the source lies in the cut
 abbrev pub IsClosed : List Edge → (ℕ → ℕ) → Type 0
 IsClosed edges cut = (x y : Instr) → Among edges x y → Holds cut y → Holds cut x
+
+-- the last position of a vector whose target's count is at most so many
+pub record IsLastWithin (v : StrideVector) (most position : ℕ) : Type 0 where
+  pub within : position < v.n
+  pub target : (position_of v position).1 ≤ most
+  pub last : (k : ℕ) → k < v.n → (position_of v k).1 ≤ most → k ≤ position
 
 -- the least closed cut in which an instruction lies
 pub record IsLeastCut (edges : List Edge) (y : Instr) (cut : ℕ → ℕ) : Type 0 where

@@ -44,6 +44,14 @@ pub record AreLeastShown (vectors : List PairVector) (shown : List Shown) : Type
   pub each : (k : ℕ) → k < length vectors →
       IsLeastShown (others_of vectors k) (vector_at vectors k) (slice_index_or shown k no_shown)
 
+-- a cut of so many cores, in as many places as there may be cores
+pub record IsFormed (cores : ℕ) (s : Shown) : Type 0 where
+  pub cores_is : s.cut.cores ≡ cores
+  pub places : length s.cut.counts ≡ CORES_MAX
+
+abbrev pub AreFormed : ℕ → List Shown → Type 0
+AreFormed cores shown = (k : ℕ) → k < length shown → IsFormed cores (slice_index_or shown k no_shown)
+
 -- ---- in a thinned recording
 
 abbrev pub IsShownAt : Thinned → ℕ → Type 0

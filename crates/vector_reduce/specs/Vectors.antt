@@ -1,5 +1,5 @@
 -- The vectors of a recording's regulated log, one after the other, and their edges.
-use Rattle.std.specs.Prelude.{◌≡◌, ℕ, ◌+◌, List, [], ◌++◌, map, take, drop, slice_index_or}
+use Rattle.std.specs.Prelude.{◌≡◌, ℕ, suc, List, [], ◌++◌, map, take, drop, slice_index_or}
 use Rattle.std.specs.List.{flat_map, range_with_len}
 use Rattle.rtr_types.specs.declared.instr.Edge.{Edge}
 use Rattle.rtr_types.specs.declared.pairs.Which.TheVariants.{Regulated}
@@ -51,7 +51,7 @@ vector_at vectors k = slice_index_or vectors k no_vector
 
 -- all but that one
 abbrev pub others_of : List PairVector → ℕ → List PairVector
-others_of vectors k = take k vectors ++ drop (k + 1) vectors
+others_of vectors k = take k vectors ++ drop (suc k) vectors
 
 -- the edges of a recording's vectors are those of its regulated log
 abbrev pub VectorsAreTheLog : Type 0

@@ -2,9 +2,10 @@
 ghost use Rattle.std.specs.Prelude.{◌≡◌, ◌<◌, ◌≤◌, ◌++◌, ℕ, length, IfOk, OnOk};
 ghost use Rattle.rtr_types.specs.declared.TheConstants.{CORES_MAX};
 ghost use Rattle.stride_vector.specs.Vectors.{IsVector};
-ghost use Rattle.vector_reduce.specs.Arrivals.{AnyDue, AreBetween, AreInto, IsClosedAt, IsClosing, NextDue, Tries};
-ghost use Rattle.vector_reduce.specs.Arrivals.{arrivals_in, list_at};
-ghost use Rattle.vector_reduce.specs.Kept.{kept};
+ghost use Rattle.vector_reduce.specs.Arrivals.{AnyDue, AreBetween, AreInto, IsClosedAt, IsClosing, NextDue};
+ghost use Rattle.vector_reduce.specs.Arrivals.{Tries, arrivals_in, list_at};
+ghost use Rattle.vector_reduce.specs.Kept.{beside, is_beside};
+ghost use Rattle.vector_reduce.specs.Showing.{IsFormed};
 ghost use Rattle.vector_reduce.specs.Vectors.{vector_at};
 
 use crate::closing::Closing;
@@ -61,23 +62,24 @@ impl Arrivals {
         self.vectors.as_slice()
     }
 
-    /// What a trial of a vector against the marked ones comes to: the number of its first edge that they
+    /// What a trial of the next vector comes to, after so many answers whether one stays. The others are those
+    /// that stay before it, and all after it. The answer has the number of the vector's first edge that they
     /// don't imply, with the least cut that has the edge's target and is closed under them. Where they imply
-    /// all edges the number is that of the positions. The vector itself isn't marked.
+    /// all edges the number is that of the positions.
     ///
     /// The targets rise from each edge to the next, so that one cut grows along them: each edge of all
     /// vectors is looked up at most once in a trial.
-    pub fn trial(&self, vector: usize, marked: &[bool]) -> Shown
-        requires within { vector < length self.now.vectors }
-        requires marks { length marked.now ≡ length self.now.vectors }
-        ensures { Tries (kept self.now.vectors marked.now) (vector_at self.now.vectors vector) result }
+    pub fn trial(&self, stays: &[bool]) -> Shown
+        requires { length stays.now < length self.now.vectors }
+        ensures tried { Tries (beside self.now.vectors stays.now) (vector_at self.now.vectors (length stays.now)) result }
+        ensures formed { IsFormed (length self.now.lists) result }
     {
-        let tried = &self.vectors.as_slice()[vector];
+        let tried = &self.vectors.as_slice()[stays.len()];
         let cores = self.lists.len() as u8;
         let mut closing = Closing::none();
         for position in 0..tried.vector.n {
             let edge = tried.edge(position);
-            self.close(&mut closing, marked, edge.to);
+            self.close(&mut closing, stays, edge.to);
             if !closing.holds(edge.from) {
                 return Shown {
                     edge: position,
@@ -91,16 +93,15 @@ impl Arrivals {
         }
     }
 
-    /// Puts an instruction into a cut, and all that leads to it by the marked vectors.
-    fn close(&self, closing: &mut Closing, marked: &[bool], at: Instr)
+    /// Puts an instruction into a cut, and all that leads to it by the others of the next vector.
+    fn close(&self, closing: &mut Closing, stays: &[bool], at: Instr)
         requires core { at.core < length self.now.lists }
-        requires marks { length marked.now ≡ length self.now.vectors }
-        requires closing { IsClosing self.now marked.now at closing.old }
-        ensures { IsClosedAt self.now marked.now at closing.new }
+        requires closing { IsClosing self.now stays.now at closing.old }
+        ensures { IsClosedAt self.now stays.now at closing.new }
     {
         closing.raise(at);
         while let Some((core, arrival)) = self.due(closing) {
-            closing.take(marked[arrival.vector], arrival.from);
+            closing.take(is_beside(stays, arrival.vector), arrival.from);
             closing.pass(core);
         }
     }
@@ -138,7 +139,19 @@ impl Arrivals {
     }
 }
 
+/// Whether a vector is one of the others of the next one, after so many answers whether one stays.
+#[tactic(auto, using(crate::proofs::Next::beside_some, crate::proofs::Next::beside_none))]
+fn is_beside(stays: &[bool], number: usize) -> bool
+    ensures { result ≡ is_beside stays.now number }
+{
+    match stays.get(number) {
+        Some(stays) => *stays,
+        None => stays.len() < number,
+    }
+}
+
 /// Puts the edges of a vector with this number at the end.
+#[tactic(auto, using(crate::proofs::Next::arrivals_more))]
 fn push_arrivals(
     list: &mut Vec<Arrival>,
     number: usize,
@@ -159,6 +172,7 @@ fn push_arrivals(
 }
 
 /// The edges into a core, by rising count of the target.
+#[tactic(auto, using(crate::proofs::Gathered::gathers_more, crate::proofs::Gathered::gathers_past))]
 fn arrivals_into(
     alloc: Global,
     vectors: &[PairVector],

@@ -1,14 +1,15 @@
 //! Checking what shows that each vector is needed.
-ghost use Rattle.std.specs.Prelude.{◌≡◌, ◌<◌, ◌↔◌, length, IsTrue, IsOkUnless, MatchResult};
+ghost use Rattle.std.specs.Prelude.{◌≡◌, ◌≢◌, ◌-◌, ◌<◌, ◌≤◌, ◌^◌, ◌↔◌, length, IfOk, IfSome, IsTrue, IsOkUnless, MatchResult};
 ghost use Rattle.rtr_types.specs.declared.TheConstants.{CORES_MAX};
 ghost use Rattle.rtr_types.specs.declared.pairs.Which.TheVariants.{Regulated};
+ghost use Rattle.stride_vector.specs.Vectors.{IsVector};
 ghost use Rattle.replay_audit.specs.Determinate.{IsDeterminate};
 ghost use Rattle.vector_reduce.specs.Answers.{IsAccepted, ThinCheckRefuses};
 ghost use Rattle.vector_reduce.specs.Arrivals.{AreBetween, IsBetween};
-ghost use Rattle.vector_reduce.specs.Cuts.{Holds, IsClosed, counts_in};
+ghost use Rattle.vector_reduce.specs.Cuts.{Holds, IsClosed, IsLastWithin, counts_in};
 ghost use Rattle.vector_reduce.specs.Showing.{EachShown, FirstNotShown, IsShown};
 ghost use Rattle.vector_reduce.specs.Validity.{IsThin};
-ghost use Rattle.vector_reduce.specs.Vectors.{edge_at, edges_in, edges_of_all, others_of, vector_at};
+ghost use Rattle.vector_reduce.specs.Vectors.{edge_at, edges_in, edges_of_all, others_of, vector_at, vectors_of};
 
 use crate::answers::ThinCheckFault;
 use crate::copies::copied;
@@ -16,7 +17,8 @@ use crate::pair_vector::{PairVector, vectors_of};
 use crate::thinned::{Shown, Thinned};
 use replay_audit::audit;
 use rtr_types::{CORES_MAX, Cut, Instr, Which};
-use std::alloc::Global;
+use std::alloc::{AllocError, Global};
+use stride_vector::StrideVector;
 
 /// Whether the instruction lies in the cut.
 fn holds(cut: &Cut, at: Instr) -> bool
@@ -24,6 +26,19 @@ fn holds(cut: &Cut, at: Instr) -> bool
     ensures { IsTrue result ↔ Holds (counts_in cut.now) at }
 {
     at.count <= cut.counts[at.core as usize]
+}
+
+/// The last position whose target's count is at most so many. The first one's is.
+fn last_within(vector: &StrideVector, most: u32) -> u32
+    requires vector { IsVector vector.now }
+    requires first { vector.now.b0 ≤ most }
+    ensures { IsLastWithin vector.now most result }
+{
+    let last = vector.n - 1;
+    if last == 0 {
+        return 0;
+    }
+    last.min((most - vector.b0) / vector.sb)
 }
 
 /// Whether the cut is closed under the edges of a vector. The sources rise with the targets, so that the
@@ -36,13 +51,20 @@ fn is_closed_under(cut: &Cut, vector: &PairVector) -> bool
     if most < vector.vector.b0 {
         return true;
     }
-    let last = vector.vector.n - 1;
-    let position = if last == 0 {
-        0
-    } else {
-        last.min((most - vector.vector.b0) / vector.vector.sb)
-    };
+    let position = last_within(&vector.vector, most);
     holds(cut, vector.edge(position).from)
+}
+
+/// Whether the cut is closed under the vector with one number, if that isn't the other number.
+fn is_closed_unless(cut: &Cut, vectors: &[PairVector], other: usize, number: usize) -> bool
+    requires between { AreBetween CORES_MAX vectors.now }
+    requires within { other < length vectors.now }
+    ensures { IsTrue result ↔ (other ≢ number → IsClosed (edges_in (vector_at vectors.now other)) (counts_in cut.now)) }
+{
+    if other == number {
+        return true;
+    }
+    is_closed_under(cut, &vectors[other])
 }
 
 /// Whether the cut is closed under the vectors but for the one with this number.
@@ -51,7 +73,7 @@ fn is_closed_under_others(cut: &Cut, vectors: &[PairVector], number: usize) -> b
     ensures { IsTrue result ↔ IsClosed (edges_of_all (others_of vectors.now number)) (counts_in cut.now) }
 {
     for other in 0..vectors.len() {
-        if other != number && !is_closed_under(cut, &vectors[other]) {
+        if !is_closed_unless(cut, vectors, other, number) {
             return false;
         }
     }
@@ -66,7 +88,9 @@ fn parts(cut: &Cut, vector: &PairVector, position: u32) -> bool
         × (Holds (counts_in cut.now) (edge_at vector.now position).from → ⊥)) }
 {
     let edge = vector.edge(position);
-    holds(cut, edge.to) && !holds(cut, edge.from)
+    let target = holds(cut, edge.to);
+    let source = holds(cut, edge.from);
+    target && !source
 }
 
 /// Whether this shows that the vector with this number is needed.
@@ -76,24 +100,38 @@ fn is_shown(vectors: &[PairVector], number: usize, shown: &Shown) -> bool
     ensures { IsTrue result ↔ IsShown (others_of vectors.now number) (vector_at vectors.now number) shown.now }
 {
     let vector = &vectors[number];
-    if shown.edge >= vector.vector.n || !parts(&shown.cut, vector, shown.edge) {
+    if shown.edge >= vector.vector.n {
+        return false;
+    }
+    if !parts(&shown.cut, vector, shown.edge) {
         return false;
     }
     is_closed_under_others(&shown.cut, vectors, number)
 }
 
 /// The number of the first vector, from 0, that isn't shown to be needed.
-fn first_not_shown(vectors: &[PairVector], shown: &[Shown]) -> Option<usize>
+fn first_not_shown(vectors: &[PairVector], shown: &[Shown]) -> Option<u32>
     requires between { AreBetween CORES_MAX vectors.now }
+    requires few { length vectors.now < 2 ^ 32 }
     requires all { length shown.now ≡ length vectors.now }
     ensures { FirstNotShown vectors.now shown.now result }
 {
     for number in 0..vectors.len() {
         if !is_shown(vectors, number, &shown[number]) {
-            return Some(number);
+            return Some(number as u32);
         }
     }
     None
+}
+
+/// The same of a thinned recording.
+fn first_of(alloc: Global, value: &Thinned) -> Result<Option<u32>, AllocError>
+    requires { IsThin value.now }
+    ensures first { IfOk result (FirstNotShown (vectors_of value.now.recording) value.now.shown) }
+    ensures fits { IfOk result (λ first. IfSome first (λ number. number < 2 ^ 32 - 1)) }
+{
+    let vectors = vectors_of(alloc, &value.recording)?;
+    Ok(first_not_shown(vectors.as_slice(), value.shown.as_slice()))
 }
 
 /// Whether a thinned recording shows what it says, whoever made it: where the answer is Ok, the recording is
@@ -113,13 +151,8 @@ pub fn check_thin(alloc: Global, value: &Thinned) -> Result<(), ThinCheckFault>
 {
     let recording = copied(alloc, &value.recording)?;
     audit(alloc, recording, Which::Regulated)?;
-    let vectors = vectors_of(alloc, &value.recording)?;
-    match first_not_shown(vectors.as_slice(), value.shown.as_slice()) {
-        Some(number) => {
-            Err(ThinCheckFault::NotShown {
-                vector: number as u32 + 1,
-            })
-        }
+    match first_of(alloc, value)? {
+        Some(before) => Err(ThinCheckFault::NotShown { vector: before + 1 }),
         None => Ok(()),
     }
 }

@@ -1,5 +1,5 @@
 //! A cut that is being closed.
-ghost use Rattle.std.specs.Prelude.{◌≡◌, ◌<◌, ◌^◌, ℕ, IsTrue};
+ghost use Rattle.std.specs.Prelude.{◌≡◌, ◌<◌, ◌-◌, ◌^◌, ◌↔◌, ℕ, IsTrue};
 ghost use Rattle.rtr_types.specs.declared.TheConstants.{CORES_MAX};
 ghost use Rattle.vector_reduce.specs.Arrivals.{Passes, Raises, Takes, counts_of, passed_of};
 ghost use Rattle.vector_reduce.specs.Cuts.{Holds};
@@ -38,12 +38,12 @@ impl Closing {
         self.counts[at.core as usize] = count.max(at.count);
     }
 
-    /// Puts the source of an edge into the cut, where the edge's vector is marked.
-    pub fn take(&mut self, is_marked: bool, from: Instr)
+    /// Puts the source of an edge into the cut, where the edge counts.
+    pub fn take(&mut self, counts: bool, from: Instr)
         requires { from.core < CORES_MAX }
-        ensures { Takes self.old is_marked from self.new }
+        ensures { Takes self.old counts from self.new }
     {
-        if is_marked {
+        if counts {
             self.raise(from);
         }
     }

@@ -57,6 +57,7 @@ fn copies_of<T: Copy>(alloc: Global, lists: &[Items<T>]) -> Result<Items<Items<T
 }
 
 /// The vectors of a pair that stay, by the first answers.
+#[tactic(auto, using(crate::proofs::Next::kept_yes, crate::proofs::Next::kept_no, crate::proofs::Next::kept_enough))]
 fn kept(
     alloc: Global,
     vectors: &[StrideVector],

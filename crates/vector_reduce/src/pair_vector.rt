@@ -62,12 +62,8 @@ pub fn vectors_of(alloc: Global, recording: &Recording) -> Result<Items<PairVect
     let mut list = Vec::new(alloc);
     for place in 0..pair_count(cores) {
         let (from, to) = pair_of(cores, place);
-        push_vectors(
-            &mut list,
-            from,
-            to,
-            recording.regulated.as_slice()[place].as_slice(),
-        )?;
+        let vectors = recording.regulated.as_slice()[place].as_slice();
+        push_vectors(&mut list, from, to, vectors)?;
     }
     Ok(Items::from_vec(list))
 }

@@ -2,9 +2,9 @@
 ghost use Rattle.std.specs.Prelude.{◌≡◌, ◌<◌, ◌^◌, length, sum_by, Err, IfOk, IsOkUnless, MatchResult};
 ghost use Rattle.rtr_types.specs.declared.pairs.Which.TheVariants.{Regulated};
 ghost use Rattle.log_codec.specs.Validity.{Valid};
-ghost use Rattle.vector_reduce.specs.Answers.{AreFew, AreTooMany, IsThinningOf, ThinRefuses, too_many_of};
-ghost use Rattle.vector_reduce.specs.Kept.{kept};
-ghost use Rattle.vector_reduce.specs.Showing.{AreLeastShown};
+ghost use Rattle.vector_reduce.specs.Answers.{AreFew, AreTooMany, IsRefusedFor, IsThinningOf, ThinRefuses, too_many_of};
+ghost use Rattle.vector_reduce.specs.Kept.{IsLeftOf, IsShownLeft, kept};
+ghost use Rattle.vector_reduce.specs.Showing.{AreFormed, AreLeastShown};
 ghost use Rattle.vector_reduce.specs.Thinning.{EachNeeded, IsThinned};
 ghost use Rattle.vector_reduce.specs.Vectors.{vectors_of};
 
@@ -34,12 +34,14 @@ fn vector_count(regulated: &[Items<StrideVector>]) -> u64
 /// Refuses a recording with too many vectors, or with too many positions.
 fn count(recording: &Recording) -> Result<(), ThinFault>
     requires { Valid recording.now }
-    ensures { MatchResult result (λ _. AreFew recording.now)
-        (λ fault. AreTooMany recording.now × (fault ≡ too_many_of recording.now)) }
+    ensures { MatchResult result (λ _. AreFew recording.now) (IsRefusedFor recording.now) }
 {
     let vectors = vector_count(recording.regulated.as_slice());
     let edges = recording.edge_count(Which::Regulated);
-    if vectors > VECTORS_MAX || edges > POSITIONS_MAX {
+    if vectors > VECTORS_MAX {
+        return Err(ThinFault::TooMany { vectors, edges });
+    }
+    if edges > POSITIONS_MAX {
         return Err(ThinFault::TooMany { vectors, edges });
     }
     Ok(())
@@ -51,27 +53,25 @@ fn stays(alloc: Global, arrivals: &Arrivals) -> Result<Vec<bool>, AllocError>
     ensures thinned { IfOk result (λ stays. IsThinned arrivals.now.vectors (kept arrivals.now.vectors stays.items)) }
 {
     let vectors = arrivals.vectors();
-    let mut stays = vec![in alloc; true; vectors.len()]?;
+    let mut stays = Vec::new(alloc);
     for number in 0..vectors.len() {
-        stays[number] = false;
-        let trial = arrivals.trial(number, stays.as_slice());
-        stays[number] = trial.edge < vectors[number].vector.n;
+        let trial = arrivals.trial(stays.as_slice());
+        stays.push(trial.edge < vectors[number].vector.n)?;
     }
     Ok(stays)
 }
 
-/// What shows that each vector is needed, where each is.
+/// What shows that each vector is needed, where each is: all stay.
 fn shown(alloc: Global, arrivals: &Arrivals) -> Result<Items<Shown>, AllocError>
     requires { EachNeeded arrivals.now.vectors }
-    ensures { IfOk result (AreLeastShown arrivals.now.vectors) }
+    ensures least { IfOk result (AreLeastShown arrivals.now.vectors) }
+    ensures formed { IfOk result (AreFormed (length arrivals.now.lists)) }
 {
-    let vectors = arrivals.vectors();
-    let mut others = vec![in alloc; true; vectors.len()]?;
+    let mut stays = Vec::new(alloc);
     let mut shown = Items::new(alloc);
-    for number in 0..vectors.len() {
-        others[number] = false;
-        shown.push(arrivals.trial(number, others.as_slice()))?;
-        others[number] = true;
+    for number in 0..arrivals.vectors().len() {
+        shown.push(arrivals.trial(stays.as_slice()))?;
+        stays.push(true)?;
     }
     Ok(shown)
 }
@@ -79,10 +79,35 @@ fn shown(alloc: Global, arrivals: &Arrivals) -> Result<Items<Shown>, AllocError>
 /// The vectors of a valid recording with their edges by target.
 fn arrivals_of(alloc: Global, recording: &Recording) -> Result<Arrivals, AllocError>
     requires { Valid recording.now }
-    ensures { IfOk result (λ a. a.vectors ≡ vectors_of recording.now) }
+    ensures vectors { IfOk result (λ a. a.vectors ≡ vectors_of recording.now) }
+    ensures cores { IfOk result (λ a. length a.lists ≡ recording.now.params.cores) }
 {
     let vectors = vectors_of(alloc, recording)?;
     Arrivals::new(alloc, recording.params.cores, vectors)
+}
+
+/// The recording without the vectors that the others imply.
+fn without_implied(alloc: Global, recording: &Recording) -> Result<Recording, AllocError>
+    requires { Valid recording.now }
+    ensures { IfOk result (IsLeftOf recording.now) }
+{
+    let arrivals = arrivals_of(alloc, recording)?;
+    let stays = stays(alloc, &arrivals)?;
+    kept_of(alloc, recording, stays.as_slice())
+}
+
+/// That recording, and what shows that its vectors are needed.
+fn left_of(alloc: Global, recording: &Recording) -> Result<Thinned, AllocError>
+    requires { Valid recording.now }
+    ensures { IfOk result (IsShownLeft recording.now) }
+{
+    let left = without_implied(alloc, recording)?;
+    let arrivals = arrivals_of(alloc, &left)?;
+    let shown = shown(alloc, &arrivals)?;
+    Ok(Thinned {
+        recording: left,
+        shown,
+    })
 }
 
 /// The recording without the vectors that others imply, and what shows that those which are left are needed.
@@ -101,12 +126,9 @@ pub fn thin(alloc: Global, audited: &Audited) -> Result<Thinned, ThinFault>
     // Too many never are, and take no memory.
     ensures refused { AreTooMany audited.now.recording → result ≡ Err (too_many_of audited.now.recording) }
 {
+    // The accesses come with the fact that the recording is determinate.
+    let _ = audited.accesses();
     let recording = audited.recording();
     count(recording)?;
-    let arrivals = arrivals_of(alloc, recording)?;
-    let stays = stays(alloc, &arrivals)?;
-    let recording = kept_of(alloc, recording, stays.as_slice())?;
-    let arrivals = arrivals_of(alloc, &recording)?;
-    let shown = shown(alloc, &arrivals)?;
-    Ok(Thinned { recording, shown })
+    Ok(left_of(alloc, recording)?)
 }

@@ -1,0 +1,50 @@
+-- What a check answers.
+use Rattle.std.proofs.Common.{◌≡◌, ◌≢◌, ℕ, ◌+◌, ◌<◌, ◌≤◌, List, length, None, Some, refl, sym, ap, subst, ◌∙◌, arith}
+use Rattle.rtr_types.specs.declared.pairs.Which.TheVariants.{Regulated}
+use Rattle.log_codec.specs.declared.recording.Recording.{Recording}
+use Rattle.replay_audit.specs.declared.audit_fault.AuditFault.{AuditFault}
+use Rattle.replay_audit.specs.declared.audit_fault.AuditFault.TheVariants as audits
+use Rattle.replay_audit.specs.Audits.{AuditRefuses, Findings, IsAuditOf, PassesOf, Passed}
+use Rattle.replay_audit.specs.Determinate.{IsDeterminate}
+use Rattle.replay_audit.proofs.Refused.{refused_law}
+use Rattle.vector_reduce.specs.declared.answers.ThinCheckFault.{ThinCheckFault}
+use Rattle.vector_reduce.specs.declared.answers.ThinCheckFault.TheVariants as checks
+use Rattle.vector_reduce.specs.declared.thinned.Thinned.{Thinned}
+use Rattle.vector_reduce.specs.Answers.{IsAccepted, ThinCheckRefuses, fault_of_audit}
+use Rattle.vector_reduce.specs.Showing.{EachShown, FirstNotShown, no_shown}
+use Rattle.vector_reduce.specs.Thinning.{EachNeeded}
+use Rattle.vector_reduce.specs.Vectors.{others_of, vector_at, vectors_of}
+use Rattle.vector_reduce.proofs.Leaving.{shown_is_needed}
+use Rattle.std.specs.Prelude.{slice_index_or}
+use Rattle.rtr_types.specs.declared.pairs.Which.{Which}
+
+pub audit_refuses : (t : Thinned) (fault : AuditFault) → AuditRefuses Regulated t.recording fault → ThinCheckRefuses t (fault_of_audit fault)
+audit_refuses t (audits.Stuck cut) h = record { refused = h; not_memory = λ e. absurd cc }
+audit_refuses t (audits.Short core count) h = record { refused = h; not_memory = λ e. absurd cc }
+audit_refuses t (audits.Undetermined first second) h = record { refused = h; not_memory = λ e. absurd cc }
+audit_refuses t audits.OutOfMemory h = tt
+
+pub audit_complete : (r : Recording) (fault : AuditFault) → IsDeterminate Regulated r → AuditRefuses Regulated r fault → fault_of_audit fault ≡ checks.OutOfMemory
+audit_complete r (audits.Stuck cut) d h = absurd (refused_law Regulated r (audits.Stuck cut) h (λ e. absurd cc) d)
+audit_complete r (audits.Short core count) d h = absurd (refused_law Regulated r (audits.Short core count) h (λ e. absurd cc) d)
+audit_complete r (audits.Undetermined first second) d h = absurd (refused_law Regulated r (audits.Undetermined first second) h (λ e. absurd cc) d)
+audit_complete r audits.OutOfMemory d h = refl
+
+pub audited_is : (r : Recording) (a : Findings) → IsAuditOf Regulated r a → IsDeterminate Regulated r
+audited_is r a h =
+    let p : Passed Regulated a.recording a.outcome a.accesses = subst (λ (w : Which). Passed w a.recording a.outcome a.accesses) h.which_is h.passed in
+    subst (λ (q : Recording). IsDeterminate Regulated q) h.recording_is p.determinate
+
+pub accepted : (t : Thinned) → IsDeterminate Regulated t.recording → FirstNotShown (vectors_of t.recording) t.shown None → IsAccepted t
+accepted t d all = record {
+  determinate = d;
+  needed = λ k lt. shown_is_needed (others_of (vectors_of t.recording) k) (vector_at (vectors_of t.recording) k) (slice_index_or t.shown k no_shown) (all k lt);
+  shown = all;
+}
+
+pub not_accepted : (t : Thinned) (number : ℕ) → IsDeterminate Regulated t.recording → FirstNotShown (vectors_of t.recording) t.shown (Some number) →
+    ThinCheckRefuses t (checks.NotShown (number + 1))
+not_accepted t number d first = record { determinate = d; before = number; number = refl; within = first.0; not_shown = first.1; first = first.2 }
+
+pub shown_is_accepted : (t : Thinned) (number : ℕ) → EachShown t → FirstNotShown (vectors_of t.recording) t.shown (Some number) → ⊥
+shown_is_accepted t number all first = first.1 (all number first.0)

@@ -1,0 +1,27 @@
+use Rattle.std.proofs.Common.{◌≡◌, ◌∙◌, ◌+◌, ℕ, None, Some, sym, subst}
+use Rattle.std.specs.Prelude.{Option}
+use Rattle.std.proofs.lemmas.Result.{err_from_is_err_and}
+use Rattle.rtr_types.specs.declared.pairs.Which.TheVariants.{Regulated}
+use Rattle.log_codec.specs.declared.recording.Recording.{Recording}
+use Rattle.replay_audit.specs.Audits.{AuditRefuses, IsAuditOf}
+use Rattle.vector_reduce.specs.Showing.{FirstNotShown}
+use Rattle.vector_reduce.specs.Vectors.{vectors_of}
+use Rattle.vector_reduce.proofs.Judged.{accepted, audit_complete, audit_refuses, audited_is, not_accepted, shown_is_accepted}
+use Rattle.vector_reduce.proofs.checking.check_thin.Goals as goal
+
+pub returns-in_err-audit-clause-complete : goal.returns-in_err-audit-clause-complete
+returns-in_err-audit-clause-complete c d p =
+    let t = c.args.value.now in
+    let q = err_from_is_err_and c.from_residual-in_err-audit.result c.from_residual-in_err-audit.ensures.1 in
+    let refused : AuditRefuses Regulated t.recording c.in_err-audit.field-0.0 =
+    subst (λ (r : Recording). AuditRefuses Regulated r c.in_err-audit.field-0.0) c.in_ok-recording.ensures c.in_err-audit.ensures in
+    rw q.1 (q.2 ∙ audit_complete t.recording c.in_err-audit.field-0.0 d refused)
+
+pub returns-in-Some-clause-answer : goal.returns-in-Some-clause-answer
+returns-in-Some-clause-answer c = ?
+
+pub returns-in-Some-clause-complete : goal.returns-in-Some-clause-complete
+returns-in-Some-clause-complete c d p = ?
+
+pub returns-clause-answer : goal.returns-clause-answer
+returns-clause-answer c = ?

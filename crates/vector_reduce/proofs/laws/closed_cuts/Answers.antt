@@ -1,0 +1,5 @@
+use Rattle.vector_reduce.proofs.Cutting.{closed_holds, cut_shows}
+use Rattle.vector_reduce.proofs.laws.closed_cuts.Goals as goal
+
+pub returns : goal.returns
+returns c = record { holds = closed_holds; shows = cut_shows }

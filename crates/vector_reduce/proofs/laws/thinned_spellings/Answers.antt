@@ -1,0 +1,5 @@
+use Rattle.vector_reduce.proofs.Whole as whole
+use Rattle.vector_reduce.proofs.laws.thinned_spellings.Goals as goal
+
+pub returns : goal.returns
+returns c = record { read = whole.read_is_spelled; spelled = whole.spelled_is_read; prefix = whole.prefix_free }
