@@ -92,3 +92,16 @@ closed_others vs number cut each x y among held =
 pub others_closed : (vs : List PairVector) (number j : ℕ) (cut : Cut) → IsClosed (edges_of_all (others_of vs number)) (counts_in cut) →
     j < length vs → j ≢ number → IsClosed (edges_in (vector_at vs j)) (counts_in cut)
 others_closed vs number j cut closed lt ne x y among held = closed x y (among_others vs number j x y lt ne among) held
+
+pub closed_more : (vs : List PairVector) (number other : ℕ) (cut : Cut) →
+    ((j : ℕ) → j < other → j ≢ number → IsClosed (edges_in (vector_at vs j)) (counts_in cut)) →
+    (other ≢ number → IsClosed (edges_in (vector_at vs other)) (counts_in cut)) →
+    (j : ℕ) → j < other + 1 → j ≢ number → IsClosed (edges_in (vector_at vs j)) (counts_in cut)
+closed_more vs number other cut before here j less ne = by (split j other less)
+  where
+    split : (i m : ℕ) → i < m + 1 → (i < m) ⊎ (i ≡ m)
+    split i m h = grind arith
+
+    by : (j < other) ⊎ (j ≡ other) → IsClosed (edges_in (vector_at vs j)) (counts_in cut)
+    by (inl lt) = before j lt ne
+    by (inr e) = subst (λ (i : ℕ). IsClosed (edges_in (vector_at vs i)) (counts_in cut)) (sym e) (here (λ f. ne (e ∙ f)))

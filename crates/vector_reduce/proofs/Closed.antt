@@ -230,7 +230,7 @@ goes_on a stays y s t u core d r inside due took passes g = record {
 
 -- ---- how many arrivals are to come
 
-pub to_go : List (List Arrival) → Closing → ℕ → ℕ
+abbrev pub to_go : List (List Arrival) → Closing → ℕ → ℕ
 to_go lists s zero = 0
 to_go lists s (suc n) = to_go lists s n + (length (list_at lists n) - passed_of s n)
 
@@ -246,17 +246,17 @@ to_go_less : (lists : List (List Arrival)) (s u : Closing) (core n : ℕ) → co
     passed_of u core ≡ suc (passed_of s core) → ((other : ℕ) → other ≢ core → passed_of u other ≡ passed_of s other) →
     to_go lists u n < to_go lists s n
 to_go_less lists s u core zero lt within up same = absurd (omega (arith, lt))
-to_go_less lists s u core (suc n) lt within up same = by (same_or_not core n)
+to_go_less lists s u core (suc n) lt within up same = by (λ below. to_go_less lists s u core n below within up same) (same_or_not core n)
   where
-    by : (core ≡ n) ⊎ (core ≢ n) → to_go lists u (suc n) < to_go lists s (suc n)
-    by (inl e) =
+    by : (core < n → to_go lists u n < to_go lists s n) → (core ≡ n) ⊎ (core ≢ n) → to_go lists u (suc n) < to_go lists s (suc n)
+    by shorter (inl e) =
         let before = to_go_same lists s u n (λ other less. same other (λ f. absurd (omega (arith, less, e, f)))) in
         let u_is : passed_of u n ≡ passed_of u core = ap (passed_of u) (sym e) in
         let s_is : passed_of s n ≡ passed_of s core = ap (passed_of s) (sym e) in
         let long : length (list_at lists n) ≡ length (list_at lists core) = ap (λ (c : ℕ). length (list_at lists c)) (sym e) in
         omega (arith, before, u_is, s_is, long, within, up)
-    by (inr ne) =
-        let before = to_go_less lists s u core n (omega (arith, lt, ne)) within up same in
+    by shorter (inr ne) =
+        let before = shorter (omega (arith, lt, ne)) in
         let own = same n (λ f. ne (sym f)) in
         omega (arith, before, own)
 
@@ -391,3 +391,27 @@ tries_implied a stays v k s shown ge y is = inr (is, implied)
         let lt = e.1 in
         subst (λ (i : Instr). Before (Among (edges_beside a.vectors stays)) i z) e.2
         (subst (λ (i : Instr). Before (Among (edges_beside a.vectors stays)) (edge_at v e.0).from i) e.3 (y.implied e.0 (omega (arith, ge, lt))))
+
+-- ---- what the calls need
+
+-- the due arrival
+pub due_is : (a : Arranged) (s : Closing) (o : Option (ℕ × Arrival)) (core : ℕ) (d : Arrival) → AnyDue a.lists s o → o ≡ Some (core, d) →
+    (core < length a.lists) × IsDue (list_at a.lists core) s core d
+due_is a s o core d h is = subst (λ (p : Option (ℕ × Arrival)). AnyDue a.lists s p) is h
+
+pub source_inside : (a : Arranged) (s : Closing) (core : ℕ) (d : Arrival) → Arranges a.vectors a.lists → core < length a.lists →
+    IsDue (list_at a.lists core) s core d → d.from.core < CORES_MAX
+source_inside a s core d r inside due =
+    let arrives = due_edge a [] s core d r inside due in
+    let e = edge_among (vector_at a.vectors d.vector) d.from (at core d.count) arrives.edge in
+    let same : (vector_at a.vectors d.vector).from ≡ d.from.core = ap (λ (i : Instr). i.core) e.2 in
+    let from = (r.between d.vector arrives.vector).pair.source in
+    let few = r.few in
+    omega (arith, same, from, few)
+
+pub still_fits : (list : List Arrival) (s t : Closing) (core : ℕ) (d : Arrival) (b : Bool) → IsDue list s core d → Takes s b d.from t →
+    passed_of t core < 2 ^ 64 - 1
+still_fits list s t core d b due took =
+    let same : passed_of t core ≡ passed_of s core = ap (λ (l : List ℕ). get_or l core 0) (took_passed s t b d.from took) in
+    let fits = due.fits in
+    omega (arith, same, fits)

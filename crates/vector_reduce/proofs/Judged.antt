@@ -1,5 +1,5 @@
 -- What a check answers.
-use Rattle.std.proofs.Common.{◌≡◌, ◌≢◌, ℕ, ◌+◌, ◌<◌, ◌≤◌, List, length, None, Some, refl, sym, ap, subst, ◌∙◌, arith}
+use Rattle.std.proofs.Common.{◌≡◌, ◌≢◌, ℕ, ◌+◌, ◌-◌, ◌^◌, ◌<◌, ◌≤◌, List, length, None, Some, refl, sym, ap, subst, ◌∙◌, arith}
 use Rattle.rtr_types.specs.declared.pairs.Which.TheVariants.{Regulated}
 use Rattle.log_codec.specs.declared.recording.Recording.{Recording}
 use Rattle.replay_audit.specs.declared.audit_fault.AuditFault.{AuditFault}
@@ -15,7 +15,9 @@ use Rattle.vector_reduce.specs.Showing.{EachShown, FirstNotShown, no_shown}
 use Rattle.vector_reduce.specs.Thinning.{EachNeeded}
 use Rattle.vector_reduce.specs.Vectors.{others_of, vector_at, vectors_of}
 use Rattle.vector_reduce.proofs.Leaving.{shown_is_needed}
-use Rattle.std.specs.Prelude.{slice_index_or}
+use Rattle.std.specs.Prelude.{IfSome, Option, slice_index_or}
+use Rattle.vector_reduce.specs.declared.pair_vector.PairVector.{PairVector}
+use Rattle.vector_reduce.specs.declared.thinned.Shown.{Shown}
 use Rattle.rtr_types.specs.declared.pairs.Which.{Which}
 
 pub audit_refuses : (t : Thinned) (fault : AuditFault) → AuditRefuses Regulated t.recording fault → ThinCheckRefuses t (fault_of_audit fault)
@@ -48,3 +50,8 @@ not_accepted t number d first = record { determinate = d; before = number; numbe
 
 pub shown_is_accepted : (t : Thinned) (number : ℕ) → EachShown t → FirstNotShown (vectors_of t.recording) t.shown (Some number) → ⊥
 shown_is_accepted t number all first = first.1 (all number first.0)
+
+pub first_fits : (vs : List PairVector) (shown : List Shown) (o : Option ℕ) → FirstNotShown vs shown o → length vs < 2 ^ 32 - 1 →
+    IfSome o (λ number. number < 2 ^ 32 - 1)
+first_fits vs shown None first few = tt
+first_fits vs shown (Some number) first few = let lt = first.0 in omega (arith, lt, few)

@@ -8,7 +8,7 @@ use Rattle.vector_reduce.specs.declared.pair_vector.PairVector.{PairVector}
 use Rattle.vector_reduce.specs.declared.thinned.Shown.{Shown}
 use Rattle.vector_reduce.specs.Arrivals.{Tries}
 use Rattle.vector_reduce.specs.Kept.{beside, kept}
-use Rattle.vector_reduce.specs.Showing.{IsLeastShown}
+use Rattle.vector_reduce.specs.Showing.{IsLeastShown, no_shown}
 use Rattle.vector_reduce.specs.Thinning.{EachNeeded, IsImplied, IsNeeded, IsThinned, Thins}
 use Rattle.vector_reduce.specs.Vectors.{no_vector, others_of, vector_at}
 use Rattle.vector_reduce.proofs.Keeping.{kept_none, kept_push}
@@ -101,3 +101,28 @@ tried_is_shown vs stays k s lt all needed tries = by (subst (λ (i : ℕ). Tries
     by : Tries (others_of vs k) (vector_at vs k) s → IsLeastShown (others_of vs k) (vector_at vs k) s
     by (inl least) = least
     by (inr implied) = absurd (never_both (others_of vs k) (vector_at vs k) implied.1 (needed k lt))
+
+-- ---- a longer list
+
+pub more_at : (P : ℕ → Shown → Type 0) (shown new : List Shown) (k : ℕ) (s : Shown) → length shown ≡ k → new ≡ shown ++ s ∷ [] →
+    ((j : ℕ) → j < k → P j (get_or shown j no_shown)) → P k s → (j : ℕ) → j < k + 1 → P j (get_or new j no_shown)
+more_at P shown new k s all is before here j lt = subst (λ (l : List Shown). P j (get_or l j no_shown)) (sym is) (by (split j k lt))
+  where
+    split : (i m : ℕ) → i < m + 1 → (i < m) ⊎ (i ≡ m)
+    split i m h = grind arith
+
+    front : (l : List Shown) (i : ℕ) → i < length l → get_or (l ++ s ∷ []) i no_shown ≡ get_or l i no_shown
+    front [] i less = absurd (omega (arith, less))
+    front (x ∷ l) zero less = refl
+    front (x ∷ l) (suc i) less = front l i (omega (arith, less))
+
+    last : (l : List Shown) → get_or (l ++ s ∷ []) (length l) no_shown ≡ s
+    last [] = refl
+    last (x ∷ l) = last l
+
+    by : (j < k) ⊎ (j ≡ k) → P j (get_or (shown ++ s ∷ []) j no_shown)
+    by (inl less) = subst (λ (x : Shown). P j x) (sym (front shown j (omega (arith, less, all)))) (before j less)
+    by (inr e) =
+        let place : j ≡ length shown = omega (arith, e, all) in
+        let own : get_or (shown ++ s ∷ []) j no_shown ≡ s = ap (λ (i : ℕ). get_or (shown ++ s ∷ []) i no_shown) place ∙ last shown in
+        subst (λ (x : Shown). P j x) (sym own) (subst (λ (i : ℕ). P i s) (sym e) here)

@@ -80,6 +80,11 @@ pub record Arranges (vectors : List PairVector) (lists : List (List Arrival)) : 
   pub between : AreBetween (length lists) vectors
   pub each : (core : ℕ) → core < length lists → AreInto vectors core (list_at lists core)
 
+-- as many as there are cores
+pub record IsArranged (cores : ℕ) (vectors : List PairVector) (lists : List (List Arrival)) : Type 0 where
+  pub all : length lists ≡ cores
+  pub arranges : Arranges vectors lists
+
 -- ---- closing a cut
 
 abbrev pub counts_of : Closing → ℕ → ℕ

@@ -1,5 +1,5 @@
 -- What shows that a vector is needed.
-use Rattle.std.specs.Prelude.{◌≡◌, ℕ, ◌<◌, List, length, slice_index_or, replicate, Option, Some, None}
+use Rattle.std.specs.Prelude.{◌≡◌, ℕ, ◌<◌, List, [], length, slice_index_or, Option, Some, None}
 use Rattle.rtr_types.specs.declared.TheConstants.{CORES_MAX}
 use Rattle.clock_core.specs.Order.{Before, Among}
 use Rattle.vector_reduce.specs.declared.pair_vector.PairVector.{PairVector}
@@ -24,7 +24,7 @@ pub record IsLeastShown (others : List PairVector) (v : PairVector) (s : Shown) 
 
 -- what stands past the end
 abbrev pub no_shown : Shown
-no_shown = record { edge = 0; cut = record { cores = 0; counts = replicate CORES_MAX 0 } }
+no_shown = record { edge = 0; cut = record { cores = 0; counts = [] } }
 
 -- the vector with a number, counted from 0, is shown to be needed among these, with one for each
 abbrev pub IsShownAmong : List PairVector → List Shown → ℕ → Type 0

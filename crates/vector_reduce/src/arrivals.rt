@@ -2,7 +2,7 @@
 ghost use Rattle.std.specs.Prelude.{◌≡◌, ◌<◌, ◌≤◌, ◌++◌, ℕ, length, IfOk, OnOk};
 ghost use Rattle.rtr_types.specs.declared.TheConstants.{CORES_MAX};
 ghost use Rattle.stride_vector.specs.Vectors.{IsVector};
-ghost use Rattle.vector_reduce.specs.Arrivals.{AnyDue, AreBetween, AreInto, IsClosedAt, IsClosing, NextDue};
+ghost use Rattle.vector_reduce.specs.Arrivals.{AnyDue, AreBetween, AreInto, IsBetween, IsClosedAt, IsClosing, NextDue};
 ghost use Rattle.vector_reduce.specs.Arrivals.{Tries, arrivals_in, list_at};
 ghost use Rattle.vector_reduce.specs.Kept.{beside, is_beside};
 ghost use Rattle.vector_reduce.specs.Showing.{IsFormed};
@@ -26,18 +26,19 @@ pub struct Arrival {
 /// Vectors, and for each core the edges into it by rising count of the target.
 #[derive(Drop)]
 pub struct Arrivals {
+    cores: u8,
     vectors: Items<PairVector>,
     lists: Vec<Items<Arrival>>,
 }
 
 impl Model for Arrivals {
-    ghost use Rattle.vector_reduce.specs.Arrivals.{Arranged, Arranges};
+    ghost use Rattle.vector_reduce.specs.Arrivals.{Arranged, IsArranged};
 
     ghost Value = { Arranged };
 
     ghost view = { λ a. record { vectors = a.vectors; lists = a.lists.items } };
 
-    ghost invariant = { λ a. Arranges a.vectors a.lists.items };
+    ghost invariant = { λ a. IsArranged a.cores a.vectors a.lists.items };
 }
 
 impl Arrivals {
@@ -52,7 +53,11 @@ impl Arrivals {
         for core in 0..cores {
             lists.push(arrivals_into(alloc, vectors.as_slice(), core)?)?;
         }
-        Ok(Arrivals { vectors, lists })
+        Ok(Arrivals {
+            cores,
+            vectors,
+            lists,
+        })
     }
 
     /// The vectors.
@@ -74,22 +79,30 @@ impl Arrivals {
         ensures tried { Tries (beside self.now.vectors stays.now) (vector_at self.now.vectors (length stays.now)) result }
         ensures formed { IsFormed (length self.now.lists) result }
     {
-        let tried = &self.vectors.as_slice()[stays.len()];
-        let cores = self.lists.len() as u8;
+        let vectors = self.vectors.as_slice();
+        self.tried(&vectors[stays.len()], stays)
+    }
+
+    /// The same of this vector, which is the next one.
+    fn tried(&self, vector: &PairVector, stays: &[bool]) -> Shown
+        requires { IsBetween (length self.now.lists) vector.now }
+        ensures tried { Tries (beside self.now.vectors stays.now) vector.now result }
+        ensures formed { IsFormed (length self.now.lists) result }
+    {
         let mut closing = Closing::none();
-        for position in 0..tried.vector.n {
-            let edge = tried.edge(position);
+        for position in 0..vector.vector.n {
+            let edge = vector.edge(position);
             self.close(&mut closing, stays, edge.to);
             if !closing.holds(edge.from) {
                 return Shown {
                     edge: position,
-                    cut: closing.cut(cores),
+                    cut: closing.cut(self.cores),
                 };
             }
         }
         Shown {
-            edge: tried.vector.n,
-            cut: closing.cut(cores),
+            edge: vector.vector.n,
+            cut: closing.cut(self.cores),
         }
     }
 
@@ -99,6 +112,7 @@ impl Arrivals {
         requires closing { IsClosing self.now stays.now at closing.old }
         ensures { IsClosedAt self.now stays.now at closing.new }
     {
+        let _ = &self.lists;
         closing.raise(at);
         while let Some((core, arrival)) = self.due(closing) {
             closing.take(is_beside(stays, arrival.vector), arrival.from);
@@ -110,7 +124,7 @@ impl Arrivals {
     fn due(&self, closing: &Closing) -> Option<(u8, Arrival)>
         ensures { AnyDue self.now.lists closing.now result }
     {
-        for core in 0..self.lists.len() as u8 {
+        for core in 0..self.cores {
             if let Some(arrival) = self.next(closing, core) {
                 return Some((core, arrival));
             }
@@ -140,14 +154,14 @@ impl Arrivals {
 }
 
 /// Whether a vector is one of the others of the next one, after so many answers whether one stays.
-#[tactic(auto, using(crate::proofs::Next::beside_some, crate::proofs::Next::beside_none))]
+#[tactic(auto, using(crate::proofs::Next::beside_at, crate::proofs::Next::beside_past))]
 fn is_beside(stays: &[bool], number: usize) -> bool
     ensures { result ≡ is_beside stays.now number }
 {
-    match stays.get(number) {
-        Some(stays) => *stays,
-        None => stays.len() < number,
+    if number < stays.len() {
+        return stays[number];
     }
+    stays.len() < number
 }
 
 /// Puts the edges of a vector with this number at the end.

@@ -87,8 +87,10 @@ fn kept_lists(
     let mut left = Items::new(alloc);
     let mut rest = stays;
     for vectors in lists {
-        left.push(kept(alloc, vectors.as_slice(), rest)?)?;
-        rest = &rest[vectors.len()..];
+        let list = vectors.as_slice();
+        let (own, after) = rest.split_at(list.len());
+        left.push(kept(alloc, list, own)?)?;
+        rest = after;
     }
     Ok(left)
 }

@@ -1,5 +1,5 @@
 use Rattle.std.proofs.Common.{refl, arith}
-use Rattle.vector_reduce.proofs.Checked.{closed_others, others_closed}
+use Rattle.vector_reduce.proofs.Checked.{closed_more, closed_others, others_closed}
 use Rattle.vector_reduce.proofs.checking.is_closed_under_others.Goals as goal
 
 pub returns-then-not-is_closed_unless : goal.returns-then-not-is_closed_unless
@@ -10,7 +10,9 @@ returns-then-not-is_closed_unless c = (
 )
 
 pub loop-other-preserved : goal.loop-other-preserved
-loop-other-preserved c j less ne = ?
+loop-other-preserved c =
+    closed_more c.args.vectors.now c.args.number c.loop-other.other c.args.cut.now c.loop-other.invariant
+    (c.is_closed_unless.ensures.0 c.if-not-is_closed_unless.false)
 
 pub returns : goal.returns
 returns c = (

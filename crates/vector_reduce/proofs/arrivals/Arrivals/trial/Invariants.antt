@@ -1,5 +1,0 @@
-use Rattle.vector_reduce.proofs.Closed.{Trying}
-use Rattle.vector_reduce.proofs.arrivals.Arrivals.trial.Given as goal
-
-abbrev pub invariant-loop-position : goal.invariant-loop-position
-invariant-loop-position l = Trying l.self l.stays l.tried l.position l.closing
