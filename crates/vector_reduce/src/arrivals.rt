@@ -94,15 +94,17 @@ impl Arrivals {
             let edge = vector.edge(position);
             self.close(&mut closing, stays, edge.to);
             if !closing.holds(edge.from) {
+                let least = closing.cut(self.cores);
                 return Shown {
                     edge: position,
-                    cut: closing.cut(self.cores),
+                    cut: least,
                 };
             }
         }
+        let cut = closing.cut(self.cores);
         Shown {
             edge: vector.vector.n,
-            cut: closing.cut(self.cores),
+            cut,
         }
     }
 

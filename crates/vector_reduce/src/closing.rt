@@ -1,5 +1,5 @@
 //! A cut that is being closed.
-ghost use Rattle.std.specs.Prelude.{◌≡◌, ◌<◌, ◌-◌, ◌^◌, ◌↔◌, ℕ, IsTrue};
+ghost use Rattle.std.specs.Prelude.{◌≡◌, ◌<◌, ◌-◌, ◌^◌, ◌↔◌, ℕ, length, IsTrue};
 ghost use Rattle.rtr_types.specs.declared.TheConstants.{CORES_MAX};
 ghost use Rattle.vector_reduce.specs.Arrivals.{Passes, Raises, Takes, counts_of, passed_of};
 ghost use Rattle.vector_reduce.specs.Cuts.{Holds};
@@ -69,6 +69,7 @@ impl Closing {
     pub fn cut(&self, cores: u8) -> Cut
         ensures cores { result.cores ≡ cores }
         ensures counts { result.counts ≡ self.now.counts }
+        ensures places { length result.counts ≡ CORES_MAX }
     {
         Cut {
             cores,

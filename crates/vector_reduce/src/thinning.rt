@@ -1,5 +1,5 @@
 //! Leaving out whole vectors.
-ghost use Rattle.std.specs.Prelude.{◌≡◌, ◌<◌, ◌^◌, length, sum_by, Err, IfOk, IsOkUnless, MatchResult};
+ghost use Rattle.std.specs.Prelude.{◌≡◌, ◌<◌, ◌^◌, length, sum_by, Err, IfOk, IsOkUnless, MatchOption, MatchResult};
 ghost use Rattle.rtr_types.specs.declared.pairs.Which.TheVariants.{Regulated};
 ghost use Rattle.log_codec.specs.Validity.{Valid};
 ghost use Rattle.vector_reduce.specs.Answers.{AreFew, AreTooMany, IsRefusedFor, IsThinningOf, ThinRefuses, too_many_of};
@@ -31,20 +31,20 @@ fn vector_count(regulated: &[Items<StrideVector>]) -> u64
     count
 }
 
-/// Refuses a recording with too many vectors, or with too many positions.
-fn count(recording: &Recording) -> Result<(), ThinFault>
+/// Why a recording with too many vectors, or with too many positions, is refused; none where it has few.
+fn refused(recording: &Recording) -> Option<ThinFault>
     requires { Valid recording.now }
-    ensures { MatchResult result (λ _. AreFew recording.now) (IsRefusedFor recording.now) }
+    ensures { MatchOption result (AreFew recording.now) (IsRefusedFor recording.now) }
 {
     let vectors = vector_count(recording.regulated.as_slice());
     let edges = recording.edge_count(Which::Regulated);
     if vectors > VECTORS_MAX {
-        return Err(ThinFault::TooMany { vectors, edges });
+        return Some(ThinFault::TooMany { vectors, edges });
     }
     if edges > POSITIONS_MAX {
-        return Err(ThinFault::TooMany { vectors, edges });
+        return Some(ThinFault::TooMany { vectors, edges });
     }
-    Ok(())
+    None
 }
 
 /// Which vectors stay: each is tried once, in order, against those that aren't left out so far.
@@ -129,6 +129,8 @@ pub fn thin(alloc: Global, audited: &Audited) -> Result<Thinned, ThinFault>
     // The accesses come with the fact that the recording is determinate.
     let _ = audited.accesses();
     let recording = audited.recording();
-    count(recording)?;
+    if let Some(fault) = refused(recording) {
+        return Err(fault);
+    }
     Ok(left_of(alloc, recording)?)
 }

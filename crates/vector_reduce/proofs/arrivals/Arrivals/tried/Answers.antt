@@ -1,4 +1,4 @@
-use Rattle.std.proofs.Common.{◌≡◌, ◌<◌, ◌≤◌, ℕ, List, length, refl, sym, ap, subst, arith}
+use Rattle.std.proofs.Common.{◌≡◌, ◌<◌, ◌≤◌, ◌∙◌, ℕ, List, length, refl, sym, ap, subst, arith}
 use Rattle.rtr_types.specs.declared.TheConstants.{CORES_MAX}
 use Rattle.rtr_types.specs.declared.instr.Edge.{Edge}
 use Rattle.vector_reduce.specs.Arrivals.{Arranged, IsClosedAt, IsClosing, counts_of}
@@ -42,9 +42,21 @@ returns-then-not-holds-clause-tried c =
     tries_shown c.args.self.now c.args.stays.now c.args.vector.now c.loop-position.position c.loop-position.closing c.close.new.closing _
     c.loop-position-test.true c.loop-position.invariant closed
     (λ held. let t = c.holds.ensures.1 (subst (λ (e : Edge). Holds (counts_of c.close.new.closing) e.from) (sym c.edge-edge.ensures) held) in
-    let f = c.if-not-holds.true in absurd cc) refl c.cut.ensures.counts
+    let f = c.if-not-holds.true in absurd cc) refl c.cut-least.ensures.counts
 
 pub returns-clause-tried : goal.returns-clause-tried
 returns-clause-tried c =
     tries_implied c.args.self.now c.args.stays.now c.args.vector.now c.loop-position.position c.loop-position.closing _ c.loop-position-test.false
     c.loop-position.invariant refl
+
+pub returns-then-not-holds-clause-formed : goal.returns-then-not-holds-clause-formed
+returns-then-not-holds-clause-formed c = record {
+  cores_is = c.cut-least.ensures.cores ∙ sym c.self.invariant.all ∙ ap (λ (a : Arranged). length a.lists) c.self.view_is;
+  places = c.cut-least.ensures.places;
+}
+
+pub returns-clause-formed : goal.returns-clause-formed
+returns-clause-formed c = record {
+  cores_is = c.cut-cut.ensures.cores ∙ sym c.self.invariant.all ∙ ap (λ (a : Arranged). length a.lists) c.self.view_is;
+  places = c.cut-cut.ensures.places;
+}

@@ -3,7 +3,7 @@ use Rattle.std.specs.Prelude.{sum_by}
 use Rattle.stride_vector.specs.declared.StrideVector.{StrideVector}
 use Rattle.vector_reduce.proofs.Assembled.{few_enough, too_many_positions, too_many_vectors}
 use Rattle.vector_reduce.proofs.Keeping.{vectors_fit}
-use Rattle.vector_reduce.proofs.thinning.count.Goals as goal
+use Rattle.vector_reduce.proofs.thinning.refused.Goals as goal
 
 pub vector_count-vectors-requires : goal.vector_count-vectors-requires
 vector_count-vectors-requires c = let fit = vectors_fit c.args.recording.now c.requires in rw c.as_slice.ensures (omega (arith, fit))
