@@ -2,6 +2,8 @@ use Rattle.std.proofs.Common.{◌≡◌, ◌+◌, ◌∙◌, ◌<◌, ℕ, List,
 use Rattle.std.specs.Prelude.{Bool}
 use Rattle.std.proofs.lemmas.List.{length_push}
 use Rattle.vector_reduce.specs.declared.thinned.Shown.{Shown}
+use Rattle.vector_reduce.specs.Arrivals.{Tries}
+use Rattle.vector_reduce.specs.Kept.{beside}
 use Rattle.vector_reduce.specs.Showing.{IsFormed, IsLeastShown}
 use Rattle.vector_reduce.specs.Vectors.{others_of, vector_at}
 use Rattle.vector_reduce.proofs.Trials.{AllStay, more_at, none_stay, one_more_stays, tried_is_shown}
@@ -28,7 +30,9 @@ loop-number-preserved c =
       number = ap length c.in_ok-push.ensures.ok ∙ length_push c.loop-number.shown c.trial.result ∙ ap (λ (n : ℕ). n + 1) i.number;
       least = more_at (λ (j : ℕ) (s : Shown). IsLeastShown (others_of c.args.arrivals.now.vectors j) (vector_at c.args.arrivals.now.vectors j) s)
           c.loop-number.shown c.push.new.self k c.trial.result i.number c.in_ok-push.ensures.ok i.least
-          (tried_is_shown vs c.loop-number.stays.items k c.trial.result lt i.stays c.requires c.trial.ensures.tried);
+          (tried_is_shown vs c.loop-number.stays.items k c.trial.result lt i.stays c.requires
+          (subst (λ (b : List Bool). Tries (beside c.args.arrivals.now.vectors b) (vector_at c.args.arrivals.now.vectors (length b)) c.trial.result)
+          c.as_slice.ensures.value c.trial.ensures.tried));
       formed = more_at (λ (j : ℕ) (s : Shown). IsFormed (length c.args.arrivals.now.lists) s)
           c.loop-number.shown c.push.new.self k c.trial.result i.number c.in_ok-push.ensures.ok i.formed c.trial.ensures.formed;
     }

@@ -2,7 +2,9 @@ use Rattle.std.proofs.Common.{◌≡◌, ◌+◌, ◌∙◌, ◌<◌, ℕ, List,
 use Rattle.std.specs.Prelude.{Bool}
 use Rattle.std.proofs.lemmas.List.{length_push}
 use Rattle.vector_reduce.specs.declared.pair_vector.PairVector.{PairVector}
-use Rattle.vector_reduce.specs.Vectors.{no_vector}
+use Rattle.vector_reduce.specs.Arrivals.{Tries}
+use Rattle.vector_reduce.specs.Kept.{beside}
+use Rattle.vector_reduce.specs.Vectors.{no_vector, vector_at}
 use Rattle.vector_reduce.proofs.Trials.{SoFar, so_far_all, so_far_more, so_far_none}
 use Rattle.vector_reduce.proofs.thinning.stays.Goals as goal
 
@@ -22,7 +24,9 @@ loop-number-preserved c =
     record {
       number = ap length c.in_ok-push.ensures.items ∙ length_push stays _ ∙ ap (λ (n : ℕ). n + 1) number;
       so_far = subst (λ (l : List Bool). SoFar c.args.arrivals.now.vectors l) (sym c.in_ok-push.ensures.items)
-          (so_far_more vs stays c.trial-trial.result _ lt c.loop-number.invariant.so_far c.trial-trial.ensures.tried
+          (so_far_more vs stays c.trial-trial.result _ lt c.loop-number.invariant.so_far
+          (subst (λ (b : List Bool). Tries (beside c.args.arrivals.now.vectors b) (vector_at c.args.arrivals.now.vectors (length b)) c.trial-trial.result)
+          c.as_slice.ensures.value c.trial-trial.ensures.tried)
           (ap (λ (l : List PairVector). nat_lt c.trial-trial.result.edge (get_or l c.loop-number.number no_vector).vector.n) c.vectors-vectors.ensures
           ∙ ap (λ (n : ℕ). nat_lt c.trial-trial.result.edge (get_or c.args.arrivals.now.vectors n no_vector).vector.n) (sym number)));
     }
