@@ -1,0 +1,5 @@
+mod Options
+mod Names
+mod Order
+mod Cut
+mod Meant
