@@ -1,11 +1,9 @@
 -- The parts that the two laws of readings name, by their numbers.
 use Rattle.std.proofs.Common.{◌≡◌, ◌≢◌, ◌↔◌, ◌≤◌, ◌==◌, ℕ, Bool, true, false, List, Err, refl, arith}
 use Rattle.std.proofs.lemmas.Bool.Decides.{nat_tests}
-use Rattle.certificate_codec.specs.Reading.{certificate_at}
 use Rattle.certificate_codec.proofs.Named.{bad_part_is_named}
-use Rattle.log_codec.specs.BadParts.{FrontNames, WholeNames}
 use Rattle.log_codec.specs.Laws.{IsBytes}
-use Rattle.log_codec.specs.Reading.{front_at, whole_at}
+use Rattle.log_codec.specs.Reading.{whole_at}
 use Rattle.log_codec.proofs.BadPartLaws.{bad_part}
 use Rattle.codec_laws.specs.Parts.{CertificateNames, NamedParts, RecordingNames}
 

@@ -16,7 +16,8 @@ NoHeader bytes = (v : Version) (p : Params) (len : ℕ) (rest : List ℕ) → Is
 
 -- a header, and no image after it
 abbrev pub NoImage : (bytes : List ℕ) → Type 0
-NoImage bytes = (rest : List ℕ) × (u : UpToHeader bytes rest) × ((image after : List ℕ) → IsImage u.len rest image after → ⊥)
+NoImage bytes = (rest : List ℕ) × (u : UpToHeader bytes rest)
+    × ((image after : List ℕ) → IsImage u.len rest image after → ⊥)
 
 -- an image, and no totals after it
 abbrev pub NoTotals : (bytes : List ℕ) → Type 0
@@ -37,7 +38,8 @@ NoRegulated bytes = (rest : List ℕ) × (u : UpToReduced bytes rest)
 -- both logs, and no clocks after them
 abbrev pub NoClocks : (bytes : List ℕ) → Type 0
 NoClocks bytes = (rest : List ℕ) × (u : UpToRegulated bytes rest)
-    × ((clocks : List (List (List ℕ))) (after : List ℕ) → AreClocks (recording_up_to bytes rest u) rest clocks after → ⊥)
+    × ((clocks : List (List (List ℕ))) (after : List ℕ) →
+    AreClocks (recording_up_to bytes rest u) rest clocks after → ⊥)
 
 -- of a recording's bytes: part k is named just where the parts below it are there and it isn't, and 6 where bytes
 -- follow all others

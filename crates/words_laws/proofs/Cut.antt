@@ -1,8 +1,8 @@
 -- Words that spell settings are cut into these, and words that are cut into settings spell them.
 use Rattle.std.proofs.Common.{◌≡◌, ℕ, ◌+◌, ◌==◌, Bool, true, false, List, [], ◌∷◌, ◌++◌, Option, Some, None, refl, sym, ap, ◌∙◌, subst}
-use Rattle.std.proofs.Common.{cond, is_some, codes, length, drop, not, arith, append_assoc, get_or, inl, inr, nat_lt}
+use Rattle.std.proofs.Common.{cond, is_some, length, not, arith, append_assoc, get_or, inl, inr, nat_lt}
 use Rattle.std.specs.Option.{option_and_then}
-use Rattle.std.specs.List.{after_first, before_first, position_or_len, prefix_len}
+use Rattle.std.specs.List.{after_first, before_first, position_or_len}
 use Rattle.std.proofs.Math.Seq.{take-append_seam, drop-append-add}
 use Rattle.std.proofs.lemmas.Bool.Decides.{nat_tests}
 use Rattle.std.proofs.lemmas.List.{length-append}
@@ -11,7 +11,7 @@ use Rattle.std.proofs.lemmas.List.Sums.{passes_at_first, split_at_first}
 use Rattle.tool_words.specs.Commands.{verb_named}
 use Rattle.tool_words.specs.Options.{option_named, option_of, takes, takes_value}
 use Rattle.tool_words.specs.Reading.{Set, alone, flag, is_equals, prepend, settings, valued}
-use Rattle.words_laws.specs.Grammar.{AreSpelled, Spells, apart, flag_set, joined, value_set}
+use Rattle.words_laws.specs.Grammar.{AreSpelled, Spells, apart, joined}
 use Rattle.words_laws.proofs.Names.{IsPlain, names-are-plain}
 use Rattle.words_laws.proofs.Options.{begins, one-of-two, part-is, prepend-more, prepend-none, prepend_all, prepended}
 

@@ -1,5 +1,5 @@
 -- The names of options have no `=`, and what is put in is set.
-use Rattle.std.proofs.Common.{◌≡◌, ℕ, Bool, true, false, List, Option, Some, None, refl, sym}
+use Rattle.std.proofs.Common.{◌≡◌, ℕ, Bool, true, false, List, Option, Some, refl, sym}
 use Rattle.std.proofs.Common.{cond, is_some, codes, subst, length, arith}
 use Rattle.std.specs.List.{position_or_len}
 use Rattle.std.specs.Str.{bytes_eq}

@@ -1,5 +1,5 @@
 -- Chains of values that may be missing.
-use Rattle.std.proofs.Common.{◌≡◌, Bool, true, false, List, [], ◌∷◌, ◌++◌, Option, Some, None, refl, ap, cond, is_some}
+use Rattle.std.proofs.Common.{◌≡◌, Bool, true, false, List, [], ◌∷◌, ◌++◌, Option, Some, None, refl, cond, is_some}
 use Rattle.std.specs.Option.{option_and_then, option_map}
 use Rattle.tool_words.specs.Reading.{Set, prepend}
 
