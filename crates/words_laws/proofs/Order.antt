@@ -60,6 +60,9 @@ merge d s = record {
   elf = d.elf || s.elf;
   shape = pick d.shape s.shape;
   number = pick d.number s.number;
+  core = pick d.core s.core;
+  count = pick d.count s.count;
+  latest = d.latest || s.latest;
 }
 
 -- some option is set in both
@@ -74,7 +77,10 @@ overlaps d s =
     || ((d.loads && s.loads)
     || ((d.elf && s.elf)
     || ((is_some d.shape && is_some s.shape)
-    || ((is_some d.number && is_some s.number))))))))))
+    || ((is_some d.number && is_some s.number)
+    || ((is_some d.core && is_some s.core)
+    || ((is_some d.count && is_some s.count)
+    || ((d.latest && s.latest)))))))))))))
 
 or-false : (b : Bool) → (b || false) ≡ b
 or-false true = refl
@@ -120,35 +126,163 @@ is-shape x = is_set (record no_settings { shape = Some Mix }) x.name
 abbrev is-number : Set → Bool
 is-number x = is_set (record no_settings { number = Some 0 }) x.name
 
+abbrev is-core : Set → Bool
+is-core x = is_set (record no_settings { core = Some 0 }) x.name
+
+abbrev is-count : Set → Bool
+is-count x = is_set (record no_settings { count = Some 0 }) x.name
+
+abbrev is-latest : Set → Bool
+is-latest x = is_set (record no_settings { latest = true }) x.name
+
+over-cores : (s : Settings) (o : Option ℕ) →
+    option_map (λ d. merge d s) (option_map (λ v. record no_settings { cores = Some v }) o) ≡ option_map (λ v. record s { cores = Some v }) o
+over-cores s None = refl
+over-cores s (Some v) = refl
+
+before-cores : (s : Settings) (o : Option ℕ) →
+    option_map (λ d. overlaps d s) (option_map (λ v. record no_settings { cores = Some v }) o)
+    ≡ option_map (λ d. is_some s.cores) (option_map (λ v. record no_settings { cores = Some v }) o)
+before-cores s None = refl
+before-cores s (Some v) = ap (λ b. Some b) (or-false (is_some s.cores))
+
 lays-cores : (s : Settings) (x : Set) → is-cores x ≡ true → Lays s x
-lays-cores s x h = record { over = grind arith; before = grind (arith, or-false) }
+lays-cores s x h = record { over = grind (arith, over-cores s); before = grind (arith, or-false, before-cores s) }
+
+over-limit : (s : Settings) (o : Option ℕ) →
+    option_map (λ d. merge d s) (option_map (λ v. record no_settings { limit = Some v }) o) ≡ option_map (λ v. record s { limit = Some v }) o
+over-limit s None = refl
+over-limit s (Some v) = refl
+
+before-limit : (s : Settings) (o : Option ℕ) →
+    option_map (λ d. overlaps d s) (option_map (λ v. record no_settings { limit = Some v }) o)
+    ≡ option_map (λ d. is_some s.limit) (option_map (λ v. record no_settings { limit = Some v }) o)
+before-limit s None = refl
+before-limit s (Some v) = ap (λ b. Some b) (or-false (is_some s.limit))
 
 lays-limit : (s : Settings) (x : Set) → is-limit x ≡ true → Lays s x
-lays-limit s x h = record { over = grind arith; before = grind (arith, or-false) }
+lays-limit s x h = record { over = grind (arith, over-limit s); before = grind (arith, or-false, before-limit s) }
+
+over-words : (s : Settings) (o : Option ℕ) →
+    option_map (λ d. merge d s) (option_map (λ v. record no_settings { words = Some v }) o) ≡ option_map (λ v. record s { words = Some v }) o
+over-words s None = refl
+over-words s (Some v) = refl
+
+before-words : (s : Settings) (o : Option ℕ) →
+    option_map (λ d. overlaps d s) (option_map (λ v. record no_settings { words = Some v }) o)
+    ≡ option_map (λ d. is_some s.words) (option_map (λ v. record no_settings { words = Some v }) o)
+before-words s None = refl
+before-words s (Some v) = ap (λ b. Some b) (or-false (is_some s.words))
 
 lays-words : (s : Settings) (x : Set) → is-words x ≡ true → Lays s x
-lays-words s x h = record { over = grind arith; before = grind (arith, or-false) }
+lays-words s x h = record { over = grind (arith, over-words s); before = grind (arith, or-false, before-words s) }
+
+over-choices : (s : Settings) (text : List ℕ) (b : Bool) →
+    option_map (λ d. merge d s) (cond b (Some (record no_settings { choices = Some text })) None) ≡ cond b (Some (record s { choices = Some text })) None
+over-choices s text true = refl
+over-choices s text false = refl
+
+before-choices : (s : Settings) (text : List ℕ) (b : Bool) →
+    option_map (λ d. overlaps d s) (cond b (Some (record no_settings { choices = Some text })) None)
+    ≡ option_map (λ d. is_some s.choices) (cond b (Some (record no_settings { choices = Some text })) None)
+before-choices s text true = ap (λ b. Some b) (or-false (is_some s.choices))
+before-choices s text false = refl
 
 lays-choices : (s : Settings) (x : Set) → is-choices x ≡ true → Lays s x
-lays-choices s x h = record { over = grind arith; before = grind (arith, or-false) }
+lays-choices s x h = record { over = grind (arith, over-choices s); before = grind (arith, or-false, before-choices s) }
+
+over-seed : (s : Settings) (o : Option ℕ) →
+    option_map (λ d. merge d s) (option_map (λ v. record no_settings { seed = Some v }) o) ≡ option_map (λ v. record s { seed = Some v }) o
+over-seed s None = refl
+over-seed s (Some v) = refl
+
+before-seed : (s : Settings) (o : Option ℕ) →
+    option_map (λ d. overlaps d s) (option_map (λ v. record no_settings { seed = Some v }) o)
+    ≡ option_map (λ d. is_some s.seed) (option_map (λ v. record no_settings { seed = Some v }) o)
+before-seed s None = refl
+before-seed s (Some v) = ap (λ b. Some b) (or-false (is_some s.seed))
 
 lays-seed : (s : Settings) (x : Set) → is-seed x ≡ true → Lays s x
-lays-seed s x h = record { over = grind arith; before = grind (arith, or-false) }
+lays-seed s x h = record { over = grind (arith, over-seed s); before = grind (arith, or-false, before-seed s) }
+
+over-log : (s : Settings) (o : Option Which) →
+    option_map (λ d. merge d s) (option_map (λ v. record no_settings { log = Some v }) o) ≡ option_map (λ v. record s { log = Some v }) o
+over-log s None = refl
+over-log s (Some v) = refl
+
+before-log : (s : Settings) (o : Option Which) →
+    option_map (λ d. overlaps d s) (option_map (λ v. record no_settings { log = Some v }) o)
+    ≡ option_map (λ d. is_some s.log) (option_map (λ v. record no_settings { log = Some v }) o)
+before-log s None = refl
+before-log s (Some v) = ap (λ b. Some b) (or-false (is_some s.log))
 
 lays-log : (s : Settings) (x : Set) → is-log x ≡ true → Lays s x
-lays-log s x h = record { over = grind arith; before = grind (arith, or-false) }
+lays-log s x h = record { over = grind (arith, over-log s); before = grind (arith, or-false, before-log s) }
 
 lays-loads : (s : Settings) (x : Set) → is-loads x ≡ true → Lays s x
-lays-loads s x h = record { over = grind arith; before = grind (arith, or-false) }
+lays-loads s x h = record { over = grind (arith); before = grind (arith, or-false) }
 
 lays-elf : (s : Settings) (x : Set) → is-elf x ≡ true → Lays s x
-lays-elf s x h = record { over = grind arith; before = grind (arith, or-false) }
+lays-elf s x h = record { over = grind (arith); before = grind (arith, or-false) }
+
+over-shape : (s : Settings) (o : Option Shape) →
+    option_map (λ d. merge d s) (option_map (λ v. record no_settings { shape = Some v }) o) ≡ option_map (λ v. record s { shape = Some v }) o
+over-shape s None = refl
+over-shape s (Some v) = refl
+
+before-shape : (s : Settings) (o : Option Shape) →
+    option_map (λ d. overlaps d s) (option_map (λ v. record no_settings { shape = Some v }) o)
+    ≡ option_map (λ d. is_some s.shape) (option_map (λ v. record no_settings { shape = Some v }) o)
+before-shape s None = refl
+before-shape s (Some v) = ap (λ b. Some b) (or-false (is_some s.shape))
 
 lays-shape : (s : Settings) (x : Set) → is-shape x ≡ true → Lays s x
-lays-shape s x h = record { over = grind arith; before = grind (arith, or-false) }
+lays-shape s x h = record { over = grind (arith, over-shape s); before = grind (arith, or-false, before-shape s) }
+
+over-number : (s : Settings) (o : Option ℕ) →
+    option_map (λ d. merge d s) (option_map (λ v. record no_settings { number = Some v }) o) ≡ option_map (λ v. record s { number = Some v }) o
+over-number s None = refl
+over-number s (Some v) = refl
+
+before-number : (s : Settings) (o : Option ℕ) →
+    option_map (λ d. overlaps d s) (option_map (λ v. record no_settings { number = Some v }) o)
+    ≡ option_map (λ d. is_some s.number) (option_map (λ v. record no_settings { number = Some v }) o)
+before-number s None = refl
+before-number s (Some v) = ap (λ b. Some b) (or-false (is_some s.number))
 
 lays-number : (s : Settings) (x : Set) → is-number x ≡ true → Lays s x
-lays-number s x h = record { over = grind arith; before = grind (arith, or-false) }
+lays-number s x h = record { over = grind (arith, over-number s); before = grind (arith, or-false, before-number s) }
+
+over-core : (s : Settings) (o : Option ℕ) →
+    option_map (λ d. merge d s) (option_map (λ v. record no_settings { core = Some v }) o) ≡ option_map (λ v. record s { core = Some v }) o
+over-core s None = refl
+over-core s (Some v) = refl
+
+before-core : (s : Settings) (o : Option ℕ) →
+    option_map (λ d. overlaps d s) (option_map (λ v. record no_settings { core = Some v }) o)
+    ≡ option_map (λ d. is_some s.core) (option_map (λ v. record no_settings { core = Some v }) o)
+before-core s None = refl
+before-core s (Some v) = ap (λ b. Some b) (or-false (is_some s.core))
+
+lays-core : (s : Settings) (x : Set) → is-core x ≡ true → Lays s x
+lays-core s x h = record { over = grind (arith, over-core s); before = grind (arith, or-false, before-core s) }
+
+over-count : (s : Settings) (o : Option ℕ) →
+    option_map (λ d. merge d s) (option_map (λ v. record no_settings { count = Some v }) o) ≡ option_map (λ v. record s { count = Some v }) o
+over-count s None = refl
+over-count s (Some v) = refl
+
+before-count : (s : Settings) (o : Option ℕ) →
+    option_map (λ d. overlaps d s) (option_map (λ v. record no_settings { count = Some v }) o)
+    ≡ option_map (λ d. is_some s.count) (option_map (λ v. record no_settings { count = Some v }) o)
+before-count s None = refl
+before-count s (Some v) = ap (λ b. Some b) (or-false (is_some s.count))
+
+lays-count : (s : Settings) (x : Set) → is-count x ≡ true → Lays s x
+lays-count s x h = record { over = grind (arith, over-count s); before = grind (arith, or-false, before-count s) }
+
+lays-latest : (s : Settings) (x : Set) → is-latest x ≡ true → Lays s x
+lays-latest s x h = record { over = grind (arith); before = grind (arith, or-false) }
 
 some-option : (x : Set) →
     (is-cores x ||
@@ -160,7 +294,10 @@ some-option : (x : Set) →
     (is-loads x ||
     (is-elf x ||
     (is-shape x ||
-    (is-number x)))))))))) ≡ true
+    (is-number x ||
+    (is-core x ||
+    (is-count x ||
+    (is-latest x))))))))))))) ≡ true
 some-option x = grind arith
 
 lays : (s : Settings) (x : Set) → Lays s x
@@ -174,7 +311,10 @@ lays s x =
     either (is-loads x) _ h6 (lays-loads s x) (λ h7.
     either (is-elf x) _ h7 (lays-elf s x) (λ h8.
     either (is-shape x) _ h8 (lays-shape s x) (λ h9.
-    lays-number s x h9)))))))))
+    either (is-number x) _ h9 (lays-number s x) (λ h10.
+    either (is-core x) _ h10 (lays-core s x) (λ h11.
+    either (is-count x) _ h11 (lays-count s x) (λ h12.
+    lays-latest s x h12))))))))))))
 
 laid : (s : Settings) (x : Set) (d : Settings) → single x ≡ Some d → put_new s x.name x.text ≡ Some (merge d s)
 laid s x d p = sym (lays s x).over ∙ ap (λ o. option_map (λ d. merge d s) o) p
@@ -221,6 +361,9 @@ record Apart (d e : Settings) : Type 0 where
   elf : (d.elf && e.elf) ≡ false
   shape : (is_some d.shape && is_some e.shape) ≡ false
   number : (is_some d.number && is_some e.number) ≡ false
+  core : (is_some d.core && is_some e.core) ≡ false
+  count : (is_some d.count && is_some e.count) ≡ false
+  latest : (d.latest && e.latest) ≡ false
 
 -- settings that set the same option are of it
 same-cores : (x y : Set) (d e : Settings) → single x ≡ Some d → single y ≡ Some e → is_some d.cores ≡ true →
@@ -263,6 +406,18 @@ same-number : (x y : Set) (d e : Settings) → single x ≡ Some d → single y 
     is_some e.number ≡ true → x.name ≡ y.name
 same-number x y d e p q a b = grind arith
 
+same-core : (x y : Set) (d e : Settings) → single x ≡ Some d → single y ≡ Some e → is_some d.core ≡ true →
+    is_some e.core ≡ true → x.name ≡ y.name
+same-core x y d e p q a b = grind arith
+
+same-count : (x y : Set) (d e : Settings) → single x ≡ Some d → single y ≡ Some e → is_some d.count ≡ true →
+    is_some e.count ≡ true → x.name ≡ y.name
+same-count x y d e p q a b = grind arith
+
+same-latest : (x y : Set) (d e : Settings) → single x ≡ Some d → single y ≡ Some e → d.latest ≡ true →
+    e.latest ≡ true → x.name ≡ y.name
+same-latest x y d e p q a b = grind arith
+
 apart-by-name : (x y : Set) (d e : Settings) → single x ≡ Some d → single y ≡ Some e → x.name ≢ y.name → Apart d e
 apart-by-name x y d e p q ne = record {
   cores = not-both (is_some d.cores) (is_some e.cores) (λ a b. ne (same-cores x y d e p q a b));
@@ -275,6 +430,9 @@ apart-by-name x y d e p q ne = record {
   elf = not-both d.elf e.elf (λ a b. ne (same-elf x y d e p q a b));
   shape = not-both (is_some d.shape) (is_some e.shape) (λ a b. ne (same-shape x y d e p q a b));
   number = not-both (is_some d.number) (is_some e.number) (λ a b. ne (same-number x y d e p q a b));
+  core = not-both (is_some d.core) (is_some e.core) (λ a b. ne (same-core x y d e p q a b));
+  count = not-both (is_some d.count) (is_some e.count) (λ a b. ne (same-count x y d e p q a b));
+  latest = not-both d.latest e.latest (λ a b. ne (same-latest x y d e p q a b));
 }
 
 -- whether e is set there already goes by what was there before d
@@ -291,6 +449,9 @@ overlaps-before d e s h =
       or-apart e.elf d.elf s.elf h.elf,
       is-some-pick e.shape d.shape s.shape h.shape,
       is-some-pick e.number d.number s.number h.number,
+      is-some-pick e.core d.core s.core h.core,
+      is-some-pick e.count d.count s.count h.count,
+      or-apart e.latest d.latest s.latest h.latest,
     ) refl
 
 same-fields : (s t : Settings) → s.cores ≡ t.cores →
@@ -302,8 +463,11 @@ same-fields : (s t : Settings) → s.cores ≡ t.cores →
     s.loads ≡ t.loads →
     s.elf ≡ t.elf →
     s.shape ≡ t.shape →
-    s.number ≡ t.number → s ≡ t
-same-fields s t p0 p1 p2 p3 p4 p5 p6 p7 p8 p9 =
+    s.number ≡ t.number →
+    s.core ≡ t.core →
+    s.count ≡ t.count →
+    s.latest ≡ t.latest → s ≡ t
+same-fields s t p0 p1 p2 p3 p4 p5 p6 p7 p8 p9 p10 p11 p12 =
     let f0 : Option ℕ → Settings = λ v. record s { cores = v } in
     let s1 = f0 t.cores in
     let f1 : Option ℕ → Settings = λ v. record s1 { limit = v } in
@@ -323,7 +487,13 @@ same-fields s t p0 p1 p2 p3 p4 p5 p6 p7 p8 p9 =
     let f8 : Option Shape → Settings = λ v. record s8 { shape = v } in
     let s9 = f8 t.shape in
     let f9 : Option ℕ → Settings = λ v. record s9 { number = v } in
-    ap f0 p0 ∙ ap f1 p1 ∙ ap f2 p2 ∙ ap f3 p3 ∙ ap f4 p4 ∙ ap f5 p5 ∙ ap f6 p6 ∙ ap f7 p7 ∙ ap f8 p8 ∙ ap f9 p9
+    let s10 = f9 t.number in
+    let f10 : Option ℕ → Settings = λ v. record s10 { core = v } in
+    let s11 = f10 t.core in
+    let f11 : Option ℕ → Settings = λ v. record s11 { count = v } in
+    let s12 = f11 t.count in
+    let f12 : Bool → Settings = λ v. record s12 { latest = v } in
+    ap f0 p0 ∙ ap f1 p1 ∙ ap f2 p2 ∙ ap f3 p3 ∙ ap f4 p4 ∙ ap f5 p5 ∙ ap f6 p6 ∙ ap f7 p7 ∙ ap f8 p8 ∙ ap f9 p9 ∙ ap f10 p10 ∙ ap f11 p11 ∙ ap f12 p12
 
 merge-merge : (d e s : Settings) → Apart d e → merge e (merge d s) ≡ merge d (merge e s)
 merge-merge d e s h =
@@ -338,6 +508,9 @@ merge-merge d e s h =
     (or-or e.elf d.elf s.elf)
     (pick-pick e.shape d.shape s.shape h.shape)
     (pick-pick e.number d.number s.number h.number)
+    (pick-pick e.core d.core s.core h.core)
+    (pick-pick e.count d.count s.count h.count)
+    (or-or e.latest d.latest s.latest)
 
 -- ---- one after the other
 
