@@ -1,0 +1,5 @@
+pub mod Dealing
+pub mod Ends
+pub mod Looking
+pub mod Shorts
+pub mod Steps

@@ -1,0 +1,19 @@
+use Rattle.std.proofs.Common.{◌≡◌, ◌<◌, refl, arith}
+use Rattle.replay_core.specs.Plans.{plan_of}
+use Rattle.replay_threads.proofs.Looking.{sees_most, sees_more}
+use Rattle.replay_threads.proofs.Steps.{see_looks}
+use Rattle.replay_threads.proofs.waits.look.Goals as goal
+
+pub returns-clause-looks : goal.returns-clause-looks
+returns-clause-looks g c =
+    let e = c.seen_done.ensures in
+    see_looks (plan_of g.J.Job.which g.J.Job.recording) _ c.seen_done.result c.args.seat.now c.seen_done.new.seat e.table e.core e.step
+
+pub returns-clause-least : goal.returns-clause-least
+returns-clause-least g c =
+    sees_most (plan_of g.J.Job.which g.J.Job.recording) c.args.seat.now.view c.seen_done.new.seat.view _ c.seen_done.result c.seen_done.ensures.step
+
+pub returns-clause-less : goal.returns-clause-less
+returns-clause-less g c = λ up. let is = c.seen.ensures in
+    sees_more (plan_of g.J.Job.which g.J.Job.recording) c.args.seat.now.view c.seen_done.new.seat.view _ c.seen_done.result c.args.of c.seen_done.ensures.step refl
+    (omega arith)

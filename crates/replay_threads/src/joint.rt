@@ -1,0 +1,142 @@
+//! The replay of a recording on several threads.
+ghost use Rattle.std.specs.Prelude.{◌≡◌, ◌<◌, ◌≤◌, IfOk, length};
+ghost use Rattle.atomic_table.specs.Seated.{TableId};
+ghost use Rattle.log_codec.specs.Validity.{Valid};
+ghost use Rattle.replay_core.specs.Plans.{plan_of};
+ghost use Rattle.replay_core.specs.Orders.{IsWhole};
+ghost use Rattle.replay_audit.specs.Determinate.{low_order_of};
+ghost use Rattle.replay_table.specs.Seats.{Finished};
+ghost use Rattle.replay_threads.specs.Groups.{AllAt, AllDone, AreAt, AreGrouped, AreInOrder};
+ghost use Rattle.replay_threads.specs.Joints.{IsJointOf};
+
+use crate::gate::Gate;
+use crate::groups::{Group, give, no_groups, take_last};
+use crate::rounds::rounds;
+use crate::worker::Worker;
+use log_codec::Recording;
+use replay_audit::{judge, ordered};
+use replay_table::laws::an_end_was_played;
+use replay_table::{Closed, CoreSeat, Job, ReplayTable};
+use rtr_types::Which;
+use std::alloc::{AllocError, Global};
+use std::marker::Brand;
+use std::sync::Wait;
+use std::thread::Threads;
+
+/// What a replay on several threads came to.
+#[derive(Drop)]
+pub enum Joint {
+    /// The table was brought to its end, each core at its total.
+    Ran(Closed),
+    /// The recording isn't determinate by the log.
+    Unsure,
+}
+
+/// Replays a recording by one of its logs on so many threads, without a replay beforehand. Core c is worked
+/// by thread c mod `threads`. Where no thread can be made the turns are taken one after the other. It may
+/// wait, and its promise holds if it returns.
+///
+/// `Ran` comes where the recording is determinate by the log, with the outcome of the low order, and
+/// `Unsure` where it isn't.
+pub fn replay_parallel<R: Threads + Wait + Sync, G: Gate>(
+    rt: &R,
+    alloc: Global,
+    recording: &Recording,
+    which: Which,
+    threads: u32,
+    gate: &G,
+) -> Result<Joint, AllocError>
+    requires valid { Valid recording.now }
+    requires threads { (1 ≤ threads) × (threads ≤ 8) }
+    ensures { IfOk result (IsJointOf which recording.now) }
+{
+    if !ordered(alloc, recording, which)? {
+        return Ok(Joint::Unsure);
+    }
+    run::<Brand, R, G>(rt, alloc, recording, which, threads, gate)
+}
+
+/// The same for a job, whose log's low order is whole.
+fn run<J: Job + Send + Sync, R: Threads + Wait + Sync, G: Gate>(
+    rt: &R,
+    alloc: Global,
+    recording: &Recording,
+    which: Which,
+    threads: u32,
+    gate: &G,
+) -> Result<Joint, AllocError>
+    requires valid { Valid J.recording }
+    requires recording { recording.now ≡ J.recording }
+    requires which { which ≡ J.which }
+    requires ordered { IsWhole (plan_of J.which J.recording) (low_order_of J.which J.recording) }
+    requires threads { (1 ≤ threads) × (threads ≤ 8) }
+    ensures { IfOk result (IsJointOf J.which J.recording) }
+{
+    let (table, seats) = ReplayTable::<J>::make(alloc, recording, which)?;
+    let count = recording.params.cores.min(threads as u8);
+    let mut groups = groups_of(alloc, recording, which, count, seats)?;
+    if !rounds(rt, &table, groups.as_mut_slice(), gate)? {
+        return Ok(Joint::Unsure);
+    }
+    let seats = seats_of(alloc, groups, recording.params.cores)?;
+    let Ok(closed) = table.close(alloc, seats) else {
+        return Err(AllocError);
+    };
+    an_end_was_played();
+    if !judge(alloc, recording, which, closed.touched())? {
+        return Ok(Joint::Unsure);
+    }
+    Ok(Joint::Ran(closed))
+}
+
+/// The workers of the seats, in so many groups: core c in group c mod `count`.
+fn groups_of<'a, J: Job>(
+    alloc: Global,
+    recording: &'a Recording,
+    which: Which,
+    count: u8,
+    mut seats: Vec<CoreSeat<J>>,
+) -> Result<Vec<Group<'a, J>>, AllocError>
+    requires valid { Valid J.recording }
+    requires recording { recording.now ≡ J.recording }
+    requires which { which ≡ J.which }
+    requires count { 0 < count }
+    requires all { length seats.items ≡ length J.recording.totals }
+    requires order { AreInOrder seats.items }
+    ensures grouped { IfOk result (λ groups. AreGrouped count (length J.recording.totals) groups.items) }
+    ensures at { IfOk result (λ groups. (table : TableId) → AllAt table seats.items → AreAt table groups.items) }
+{
+    let mut groups = no_groups(alloc, count)?;
+    for core in 0..recording.params.cores {
+        let seat = seats.remove(0);
+        let worker = Worker::among(recording, which, count, seat);
+        give(groups.as_mut_slice(), (core % count) as usize, worker)?;
+    }
+    Ok(groups)
+}
+
+/// The seats of the workers, core 0 first.
+fn seats_of<J: Job>(
+    alloc: Global,
+    mut groups: Vec<Group<J>>,
+    cores: u8,
+) -> Result<Vec<CoreSeat<J>>, AllocError>
+    requires count { 0 < length groups.items }
+    requires cores { cores ≡ length J.recording.totals }
+    requires grouped { AreGrouped (length groups.items) cores groups.items }
+    requires done { AllDone J.recording groups.items }
+    ensures { IfOk result (λ seats. (table : TableId) → AreAt table groups.entry.items →
+        Finished (plan_of J.which J.recording) table seats.items) }
+{
+    let count = groups.len();
+    let mut seats = Vec::new(alloc);
+    let mut core = cores as usize;
+    while core > 0 {
+        core -= 1;
+        let Some(worker) = take_last(groups.as_mut_slice(), core % count) else {
+            unreachable!()
+        };
+        seats.insert(0, worker.into_seat())?;
+    }
+    Ok(seats)
+}

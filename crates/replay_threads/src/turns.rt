@@ -1,0 +1,185 @@
+//! A worker's turn: its core runs by what the table gives.
+ghost use Rattle.std.specs.Prelude.{◌≡◌, ◌<◌, ◌+◌, false, IfNone, IfOk, IfSome, IsTrue, slice_index};
+ghost use Rattle.rv_core.specs.Needs.{is_writing};
+ghost use Rattle.rv_core.specs.Steps.{need as need_of_core, is_whole};
+ghost use Rattle.log_codec.specs.Validity.{Valid};
+ghost use Rattle.replay_core.specs.Plans.{plan_of, recorded_image};
+ghost use Rattle.replay_table.specs.Aheads.{Due};
+ghost use Rattle.replay_table.specs.Rule.{seen_of};
+ghost use Rattle.replay_table.specs.Seats.{AtRest};
+ghost use Rattle.replay_threads.specs.Turns.{Continues, EndsBy, IsReached};
+
+use crate::gate::Gate;
+use crate::waits::{publish, wait};
+use replay_table::{CoreSeat, Job, ReplayTable};
+use rtr_types::Instr;
+use rv_core::Need;
+use std::alloc::AllocError;
+
+/// After how many instructions at most a worker lets others see how far it has come. Each time costs them
+/// the place of its done word in their caches.
+const PUBLISHED_AFTER: u32 = 32;
+
+/// How a worker's turn ended.
+#[derive(Clone, Copy, Debug, PartialEq, Eq)]
+pub enum Turn {
+    /// The core is at its total.
+    Ended,
+    /// The core's next instruction waits for this logged source, which wasn't seen by at least 64 loads of
+    /// its core's done word.
+    Waiting { of: Instr },
+    /// The core's program is done below the core's total.
+    Short,
+    /// Another core's write came between the two steps of a write that depends on the word before.
+    Raced,
+}
+
+/// Runs the core until it is at its total, or the turn ends before.
+#[tactic(auto, using(crate::proofs::Ends::goes_none, crate::proofs::Ends::goes_then, crate::proofs::Ends::ends_sooner, crate::proofs::Ends::ends_published))]
+pub(crate) fn run<J: Job, G: Gate>(
+    seat: &mut CoreSeat<J>,
+    total: u32,
+    groups: u8,
+    table: &ReplayTable<J>,
+    gate: &G,
+) -> Result<Turn, AllocError>
+    requires valid { Valid J.recording }
+    requires table { seat.old.table_id ≡ table.now }
+    requires total { total ≡ slice_index J.recording.totals seat.old.core.id }
+    requires groups { 0 < groups }
+    ensures goes_on { Continues seat.old seat.new }
+    ensures rest { IfOk result (λ turn. AtRest seat.new) }
+    ensures reached { IfOk result (λ turn. IsReached J.which J.recording seat.new) }
+    ensures ends { IfOk result (λ turn. EndsBy J.which J.recording seat.old turn seat.new) }
+{
+    while seat.core().count() < total {
+        if let Some(end) = one(seat, total, groups, table, gate)? {
+            publish(seat, table);
+            return Ok(end);
+        }
+        if seat.core().count() % PUBLISHED_AFTER == 0 {
+            publish(seat, table);
+        }
+    }
+    publish(seat, table);
+    Ok(Turn::Ended)
+}
+
+/// One instruction more, if the turn doesn't end before it.
+#[tactic(auto, using(crate::proofs::Ends::goes_then, crate::proofs::Ends::ends_sooner))]
+fn one<J: Job, G: Gate>(
+    seat: &mut CoreSeat<J>,
+    total: u32,
+    groups: u8,
+    table: &ReplayTable<J>,
+    gate: &G,
+) -> Result<Option<Turn>, AllocError>
+    requires valid { Valid J.recording }
+    requires table { seat.old.table_id ≡ table.now }
+    requires total { total ≡ slice_index J.recording.totals seat.old.core.id }
+    requires below { seat.old.core.count < total }
+    requires groups { 0 < groups }
+    ensures goes_on { Continues seat.old seat.new }
+    ensures more { IfOk result (λ end. IfNone end (seat.new.core.count ≡ seat.old.core.count + 1)) }
+    ensures ends { IfOk result (λ end. IfSome end (λ turn. EndsBy J.which J.recording seat.old turn seat.new)) }
+{
+    if let Some(of) = wait(seat, groups, table) {
+        return Ok(Some(Turn::Waiting { of }));
+    }
+    seat.make_room()?;
+    Ok(retire(seat, total, table, gate))
+}
+
+/// The next instruction, which is due, unless the program is done or the write loses its word.
+fn retire<J: Job, G: Gate>(
+    seat: &mut CoreSeat<J>,
+    total: u32,
+    table: &ReplayTable<J>,
+    gate: &G,
+) -> Option<Turn>
+    requires valid { Valid J.recording }
+    requires table { seat.old.table_id ≡ table.now }
+    requires below { seat.old.core.count < total }
+    requires due { Due (plan_of J.which J.recording) (seen_of seat.old.view) seat.old.core }
+    requires room { IsTrue seat.old.roomy }
+    ensures goes_on { Continues seat.old seat.new }
+    ensures more { IfNone result (seat.new.core.count ≡ seat.old.core.count + 1) }
+    ensures ends { IfSome result (λ turn. EndsBy J.which J.recording seat.old turn seat.new) }
+{
+    let core = seat.core();
+    let at = Instr {
+        core: core.id(),
+        count: core.count() + 1,
+    };
+    let need = seat.need();
+    match need {
+        Need::Done(_) => {
+            publish(seat, table);
+            Some(Turn::Short)
+        }
+        Need::Local => {
+            gate.pass(at);
+            table.local(seat);
+            None
+        }
+        Need::Load { .. } => {
+            gate.pass(at);
+            table.load_word(seat);
+            None
+        }
+        Need::Store { .. } | Need::Amo { .. } => {
+            gate.pass(at);
+            write(seat, table, need)
+        }
+    }
+}
+
+/// The next instruction, which writes.
+fn write<J: Job>(seat: &mut CoreSeat<J>, table: &ReplayTable<J>, need: Need) -> Option<Turn>
+    requires table { seat.old.table_id ≡ table.now }
+    requires due { Due (plan_of J.which J.recording) (seen_of seat.old.view) seat.old.core }
+    requires room { IsTrue seat.old.roomy }
+    requires need { need ≡ need_of_core (recorded_image J.recording) seat.old.core }
+    requires write { IsTrue (is_writing need) }
+    ensures goes_on { Continues seat.old seat.new }
+    ensures more { IfNone result (seat.new.core.count ≡ seat.old.core.count + 1) }
+    ensures ends { IfSome result (λ turn. EndsBy J.which J.recording seat.old turn seat.new) }
+{
+    if need.is_whole() {
+        store_whole(seat, table);
+        return None;
+    }
+    exchange(seat, table)
+}
+
+/// The next instruction, which stores a whole word.
+fn store_whole<J: Job>(seat: &mut CoreSeat<J>, table: &ReplayTable<J>)
+    requires table { seat.old.table_id ≡ table.now }
+    requires due { Due (plan_of J.which J.recording) (seen_of seat.old.view) seat.old.core }
+    requires room { IsTrue seat.old.roomy }
+    requires write { IsTrue (is_writing (need_of_core (recorded_image J.recording) seat.old.core)) }
+    requires whole { IsTrue (is_whole (need_of_core (recorded_image J.recording) seat.old.core)) }
+    ensures goes_on { Continues seat.old seat.new }
+    ensures more { seat.new.core.count ≡ seat.old.core.count + 1 }
+{
+    let _ = table.store_word(seat);
+}
+
+/// The next instruction, whose word is held and then exchanged for the value after, unless another write came
+/// in between.
+fn exchange<J: Job>(seat: &mut CoreSeat<J>, table: &ReplayTable<J>) -> Option<Turn>
+    requires table { seat.old.table_id ≡ table.now }
+    requires due { Due (plan_of J.which J.recording) (seen_of seat.old.view) seat.old.core }
+    requires room { IsTrue seat.old.roomy }
+    requires write { IsTrue (is_writing (need_of_core (recorded_image J.recording) seat.old.core)) }
+    requires part { is_whole (need_of_core (recorded_image J.recording) seat.old.core) ≡ false }
+    ensures goes_on { Continues seat.old seat.new }
+    ensures more { IfNone result (seat.new.core.count ≡ seat.old.core.count + 1) }
+    ensures ends { IfSome result (λ turn. EndsBy J.which J.recording seat.old turn seat.new) }
+{
+    table.hold_word(seat);
+    match table.store_word(seat) {
+        Ok(()) => None,
+        Err(_) => Some(Turn::Raced),
+    }
+}
