@@ -28,7 +28,8 @@ close-requires g c =
     let other : Ended p c.args.table 1 b = record {
       table_is = c.publish-2.ensures.table ∙ c.requires.second;
       id = ap (λ (k : Core). k.id) (c.publish-2.ensures.core ∙ sym c.core-2.ensures.core) ∙ sym c.id-2.ensures ∙ c.if-id-ne1.false;
-      total = ap (λ (k : Core). k.count) (c.publish-2.ensures.core ∙ sym c.core-else-id-ne1.ensures.core) ∙ sym c.count-else-id-ne1.ensures ∙ c.if-count-two.false
+      total = ap (λ (k : Core). k.count) (c.publish-2.ensures.core ∙ sym c.core-else-id-ne1.ensures.core) ∙ sym c.count-else-id-ne1.ensures
+          ∙ c.if-count-two.false
           ∙ ap (λ (l : List ℕ). slice_index l 1) totals;
       rest = c.publish-2.ensures.rest;
     } in
