@@ -1,5 +1,6 @@
 -- Workers that are dealt to groups, and seats that are taken back from them.
-use Rattle.std.proofs.Common.{◌≡◌, ◌≢◌, ℕ, zero, suc, ◌+◌, ◌-◌, ◌<◌, ◌≤◌, ◌%◌, eq-eqb, ne_eqb, Bool, cond, List, [], ◌∷◌, ◌++◌, length, map, take, drop, get_or, append-nil, refl, sym, ap, ◌∙◌, subst, arith}
+use Rattle.std.proofs.Common.{◌≡◌, ◌≢◌, ℕ, zero, suc, ◌+◌, ◌-◌, ◌<◌, ◌≤◌, ◌%◌, eq-eqb, ne_eqb, Bool, cond, List, [], ◌∷◌, ◌++◌, length, map, take}
+use Rattle.std.proofs.Common.{drop, get_or, append-nil, refl, sym, ap, ◌∙◌, subst, arith}
 use Rattle.std.specs.Prelude.{All, slice_get, slice_index, slice_index_or, Some}
 use Rattle.std.specs.List.{range_with_len}
 use Rattle.std.proofs.lemmas.List.{map-append, get_or_default}
@@ -101,7 +102,8 @@ grouped_none n groups all none = record { all = all; ids = λ g lt. ap ids_of (n
 pub at_none : (table : TableId) (groups : List Grouped) → ((g : ℕ) → workers_at groups g ≡ []) → AreAt table groups
 at_none table groups none g lt = subst (λ (l : List Sitting). AllAt table l) (sym (none g)) (All-nil (λ (x : Sitting). x.table_id ≡ table))
 
-pub grouped_more : (n c m : ℕ) (old new : List Grouped) (x : Sitting) → AreGrouped n c old → IsGivenTo old (c % n) x new → x.core.id ≡ c → c % n < n → m ≡ c + 1 →
+pub grouped_more : (n c m : ℕ) (old new : List Grouped) (x : Sitting) → AreGrouped n c old → IsGivenTo old (c % n) x new → x.core.id ≡ c → c % n < n →
+    m ≡ c + 1 →
     AreGrouped n m new
 grouped_more n c m old new x h given id within more =
     let is : m ≡ suc c = omega arith in
@@ -117,7 +119,8 @@ grouped_more n c m old new x h given id within more =
       ];
     })
 
-pub at_more : (table : TableId) (to : ℕ) (old new : List Grouped) (x : Sitting) → AreAt table old → IsGivenTo old to x new → to < length old → x.table_id ≡ table → AreAt table new
+pub at_more : (table : TableId) (to : ℕ) (old new : List Grouped) (x : Sitting) → AreAt table old → IsGivenTo old to x new → to < length old →
+    x.table_id ≡ table → AreAt table new
 at_more table to old new x h given within at g lt = elim (ℕ_discrete to g) [
   | yes e ↦
       subst (λ (i : ℕ). AllAt table (workers_at new i)) e
@@ -141,8 +144,8 @@ taken_last r n c m old new x h done more within given =
     let is : m ≡ suc c = omega arith in
     let g = c % n in
     let ids : ids_of (workers_at new g) ++ x.core.id ∷ [] ≡ members n g c ++ c ∷ [] =
-        sym (map-append (λ (y : Sitting). y.core.id) (workers_at new g) (x ∷ [])) ∙ ap ids_of (sym given.there) ∙ h.ids g within
-        ∙ ap (λ (k : ℕ). members n g k) is ∙ members-here n g c refl in
+    sym (map-append (λ (y : Sitting). y.core.id) (workers_at new g) (x ∷ [])) ∙ ap ids_of (sym given.there) ∙ h.ids g within
+    ∙ ap (λ (k : ℕ). members n g k) is ∙ members-here n g c refl in
     let last = last-same (ids_of (workers_at new g)) (members n g c) x.core.id c ids in
     let all = h.all in
     let over : All (IsDone r) (workers_at new g ++ x ∷ []) = subst (λ (l : List Sitting). All (IsDone r) l) given.there (done g (omega arith)) in
@@ -178,7 +181,8 @@ at_less table from old new x h given within =
 pub some_last : (n c m : ℕ) (old : List Grouped) → AreGrouped n m old → m ≡ c + 1 → c % n < n → workers_at old (c % n) ≡ [] → ⊥
 some_last n c m old h more within none =
     let is : m ≡ suc c = omega arith in
-    last-nil (members n (c % n) c) c (sym (members-here n (c % n) c refl) ∙ ap (λ (k : ℕ). members n (c % n) k) (sym is) ∙ sym (h.ids (c % n) within) ∙ ap ids_of none)
+    last-nil (members n (c % n) c) c (sym (members-here n (c % n) c refl) ∙ ap (λ (k : ℕ). members n (c % n) k) (sym is) ∙ sym (h.ids (c % n) within)
+    ∙ ap ids_of none)
 
 -- ---- all seats
 
@@ -191,7 +195,8 @@ ids-length : (xs : List Sitting) → length (ids_of xs) ≡ length xs
 ids-length [] = refl
 ids-length (x ∷ xs) = ap suc (ids-length xs)
 
-pub all_seats : (which : Which) (r : Recording) (table : TableId) (seats : List Sitting) → ids_of seats ≡ range_with_len 0 (length r.totals) → AllAt table seats →
+pub all_seats : (which : Which) (r : Recording) (table : TableId) (seats : List Sitting) → ids_of seats ≡ range_with_len 0 (length r.totals) →
+    AllAt table seats →
     All (IsDone r) seats → Finished (plan_of which r) table seats
 all_seats which r table seats ids at done = record {
   all = long;

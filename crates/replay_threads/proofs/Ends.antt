@@ -46,7 +46,12 @@ looks_then x y z a b = record { goes_on = goes_then x y z a.goes_on b.goes_on; c
 -- what ends a turn that began later ends one that began earlier
 pub ends_sooner : (which : Which) (r : Recording) (x y z : Sitting) (turn : Turn) → Continues x y → EndsBy which r y turn z → EndsBy which r x turn z
 ends_sooner which r x y z Ended go h = h
-ends_sooner which r x y z (Waiting of) go h = record { source = h.source; unseen = h.unseen; loads = let p = go.polls of.core in let q = h.loads in omega arith }
+ends_sooner which r x y z (Waiting of) go h = record {
+  source = h.source;
+  unseen = h.unseen;
+  loads = let p = go.polls of.core in let q = h.loads in omega
+      arith;
+}
 ends_sooner which r x y z Short go h = h
 ends_sooner which r x y z Raced go h = record { failed = let p = go.failed in let q = h.failed in omega arith; undetermined = h.undetermined }
 

@@ -29,12 +29,12 @@ owed-most xs c found most fits = elim (dec_lt c (length xs)) [
 polled-more : (c : ℕ) (polls : List ℕ) (i : ℕ) → slice_index polls i ≤ slice_index (polled c polls) i
 polled-more c polls i = elim (ℕ_discrete i c) [
   | yes z ↦ elim (dec_lt c (length polls)) [
-      | yes lt ↦
-          let s : slice_index (polled c polls) c ≡ slice_index polls c + 1 = get_or-set_same polls c (slice_index polls c + 1) 0 lt in
-          let e = ap (λ (j : ℕ). slice_index polls j) z in
-          let f = ap (λ (j : ℕ). slice_index (polled c polls) j) z in omega arith
-      | no out ↦ let e = ap (λ (l : List ℕ). slice_index l i) (set_past polls c (slice_index polls c + 1) (omega arith)) in omega arith
-    ]
+    | yes lt ↦
+        let s : slice_index (polled c polls) c ≡ slice_index polls c + 1 = get_or-set_same polls c (slice_index polls c + 1) 0 lt in
+        let e = ap (λ (j : ℕ). slice_index polls j) z in
+        let f = ap (λ (j : ℕ). slice_index (polled c polls) j) z in omega arith
+    | no out ↦ let e = ap (λ (l : List ℕ). slice_index l i) (set_past polls c (slice_index polls c + 1) (omega arith)) in omega arith
+  ]
   | no ne ↦ let e : slice_index (polled c polls) i ≡ slice_index polls i = get_or-set_other polls c i (slice_index polls c + 1) 0 ne in omega arith
 ]
 

@@ -73,7 +73,8 @@ pub store_retires : (p : Plan) (image : Contents) (word new : ℕ) (x y : Sittin
 store_retires p image word new x y table core step =
     retires image 0 x y table core (record { polls = ap (λ (v : View). v.polls) step.view; failed = ap (λ (v : View). v.failed) step.view })
 
-pub hold_stays : (p : Plan) (word value : ℕ) (x y : Sitting) → y.table_id ≡ x.table_id → y.core ≡ x.core → HoldsWord p x.view word value y.view → Continues x y
+pub hold_stays : (p : Plan) (word value : ℕ) (x y : Sitting) → y.table_id ≡ x.table_id → y.core ≡ x.core → HoldsWord p x.view word value y.view →
+    Continues x y
 hold_stays p word value x y table core step =
     stays x y table core (record { polls = ap (λ (v : View). v.polls) step.view; failed = ap (λ (v : View). v.failed) step.view })
 
@@ -81,7 +82,7 @@ hold_stays p word value x y table core step =
 pub exchange_retires : (p : Plan) (held : ℕ) (x y : Sitting) → y.table_id ≡ x.table_id → Exchanged p x held (Ok tt) y → Retires x y
 exchange_retires p held x y table e =
     let hit : exchanged p x.view e.step.own e.step.at held held ≡ record (alone_with (retired p e.step.own e.step.at held) x.view) { held = None } =
-        rw (eq-eqb held held refl) refl in
+    rw (eq-eqb held held refl) refl in
     retires p.image held x y table e.answer (record {
       polls = ap (λ (v : View). v.polls) (e.step.view ∙ hit);
       failed = ap (λ (v : View). v.failed) (e.step.view ∙ hit);
@@ -96,7 +97,7 @@ pub exchange_fails : (p : Plan) (held : ℕ) (raced : Raced) (x y : Sitting) →
 exchange_fails p held raced x y table e =
     let ne : raced.found ≢ held = e.answer.1 in
     let miss : exchanged p x.view e.step.own e.step.at held raced.found ≡ record x.view { held = None; failed = x.view.failed + 1 } =
-        rw (ne_eqb raced.found held ne) refl in
+    rw (ne_eqb raced.found held ne) refl in
     let core : y.core ≡ x.core = e.answer.2 in
     let count = ap (λ (k : Core). k.count) core in
     let failed = ap (λ (v : View). v.failed) (e.step.view ∙ miss) in
@@ -119,8 +120,10 @@ held_retires p word value held x m y table core hold table' e =
     let second = exchange_retires p held m y table' e in
     record { goes_on = goes_then x m y first second.goes_on; more = let c = ap (λ (k : Core). k.count) core in let n = second.more in omega arith }
 
-pub held_fails : (which : Which) (r : Recording) (p : Plan) (word value held : ℕ) (raced : Raced) (x m y : Sitting) → m.table_id ≡ x.table_id → m.core ≡ x.core →
-    HoldsWord p x.view word value m.view → y.table_id ≡ m.table_id → Exchanged p m held (Err raced) y → (IsDeterminate which r → ⊥) → Continues x y × HasRaced which r x y
+pub held_fails : (which : Which) (r : Recording) (p : Plan) (word value held : ℕ) (raced : Raced) (x m y : Sitting) → m.table_id ≡ x.table_id →
+    m.core ≡ x.core →
+    HoldsWord p x.view word value m.view → y.table_id ≡ m.table_id → Exchanged p m held (Err raced) y → (IsDeterminate which r → ⊥) →
+    Continues x y × HasRaced which r x y
 held_fails which r p word value held raced x m y table core hold table' e undecided =
     let first = hold_stays p word value x m table core hold in
     let second = exchange_fails p held raced m y table' e in
@@ -129,7 +132,8 @@ held_fails which r p word value held raced x m y table core hold table' e undeci
 pub is_held : (p : Plan) (word value : ℕ) (x m : Sitting) → HoldsWord p x.view word value m.view → m.view.held ≡ Some value
 is_held p word value x m hold = ap (λ (v : View). v.held) hold.view
 
-pub held_due : (p : Plan) (word value : ℕ) (x m : Sitting) → HoldsWord p x.view word value m.view → m.core ≡ x.core → Due p (seen_of x.view) x.core → Due p (seen_of m.view) m.core
+pub held_due : (p : Plan) (word value : ℕ) (x m : Sitting) → HoldsWord p x.view word value m.view → m.core ≡ x.core → Due p (seen_of x.view) x.core → Due p
+    (seen_of m.view) m.core
 held_due p word value x m hold core due =
     let seen : m.view.seen ≡ x.view.seen = ap (λ (v : View). v.seen) hold.view in
     subst (λ (l : List ℕ). Due p (λ i. slice_index l i) m.core) (sym seen) (subst (λ (k : Core). Due p (λ i. slice_index x.view.seen i) k) (sym core) due)
@@ -149,7 +153,8 @@ see_looks p word found x y table core step =
       core = core;
     }
 
-pub publish_looks : (p : Plan) (word new : ℕ) (x y : Sitting) → y.table_id ≡ x.table_id → y.core ≡ x.core → PublishesCount p x.view word new y.view → Looks x y
+pub publish_looks : (p : Plan) (word new : ℕ) (x y : Sitting) → y.table_id ≡ x.table_id → y.core ≡ x.core → PublishesCount p x.view word new y.view →
+    Looks x y
 publish_looks p word new x y table core step = record {
   goes_on = stays x y table core (record { polls = ap (λ (v : View). v.polls) step.view; failed = ap (λ (v : View). v.failed) step.view });
   core = core;
@@ -166,7 +171,8 @@ publish_same p word new x y core step = record {
 own-head : (a b : Own) → a ∷ [] ≡ b ∷ [] → a ≡ b
 own-head a b e = cc
 
-pub publish_reached : (which : Which) (r : Recording) (word new : ℕ) (x y : Sitting) → PublishesCount (plan_of which r) x.view word new y.view → AtRest y → IsReached which r y
+pub publish_reached : (which : Which) (r : Recording) (word new : ℕ) (x y : Sitting) → PublishesCount (plan_of which r) x.view word new y.view → AtRest y →
+    IsReached which r y
 publish_reached which r word new x y step rest =
     let p = plan_of which r in
     let o : Own = record step.own { core = step.at; published = new } in
@@ -190,9 +196,9 @@ short_ends which r x y valid same reached inside due done =
     let core = same.core in
     let at : reached.own.core ≡ x.core = reached.core ∙ core in
     let there : core_at (played p reached.reached.order) x.core.id ≡ x.core =
-        subst (λ (k : Core). core_at (played p reached.reached.order) k.id ≡ k) at reached.reached.agrees.core in
+    subst (λ (k : Core). core_at (played p reached.reached.order) k.id ≡ k) at reached.reached.agrees.core in
     let seen : (i : ℕ) → seen_of x.view i ≤ counts nought reached.reached.order i =
-        λ i. let e = ap (λ (l : List ℕ). slice_index l i) same.seen in let m = reached.reached.seen i in omega arith in
+    λ i. let e = ap (λ (l : List ℕ). slice_index l i) same.seen in let m = reached.reached.seen i in omega arith in
     record {
       below = rw core due.below;
       done = ap (λ (k : Core). is_done (need p.image k)) core ∙ done;

@@ -97,11 +97,7 @@ impl<'a, J: Job> Group<'a, J> {
 }
 
 /// Each worker takes a turn, one after the other.
-fn turns_of<J: Job, G: Gate>(
-    table: &ReplayTable<J>,
-    workers: &mut [Worker<J>],
-    gate: &G,
-) -> Stand
+fn turns_of<J: Job, G: Gate>(table: &ReplayTable<J>, workers: &mut [Worker<J>], gate: &G) -> Stand
     requires { AllAt table.now workers.old }
     ensures { Turned J.which J.recording table.now workers.old result workers.new }
 {
@@ -129,11 +125,16 @@ pub(crate) fn one_round<J: Job + Send + Sync, R: Threads + Sync, G: Gate>(
         return;
     }
     let threads = groups.len();
-    thread::for_each_mut(rt, groups, threads, &|_, group: &mut Group<J>|
-        requires { AllAt table.now group.now.workers }
-        ensures { Turned J.which J.recording table.entry.now group.entry.now.workers group.exit.now.stand
-            group.exit.now.workers }
-    { group.take_turns(table, gate) });
+    thread::for_each_mut(
+        rt,
+        groups,
+        threads,
+        &|_, group: &mut Group<J>|
+            requires { AllAt table.now group.now.workers }
+            ensures { Turned J.which J.recording table.entry.now group.entry.now.workers group.exit.now.stand
+                group.exit.now.workers }
+        { group.take_turns(table, gate) },
+    );
 }
 
 /// How the groups stand, taken together.

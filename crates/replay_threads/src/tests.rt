@@ -76,7 +76,11 @@ impl Meeting {
 
 impl Gate for Meeting {
     fn pass(&self, at: Instr) {
-        let passed = if at.core == 0 { &self.first } else { &self.second };
+        let passed = if at.core == 0 {
+            &self.first
+        } else {
+            &self.second
+        };
         let before = passed.fetch_add(1, Ordering::SeqCst);
         if before.wrapping_add(1) != at.count as u64 {
             self.astray.store(1, Ordering::SeqCst);

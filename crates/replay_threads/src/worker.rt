@@ -88,11 +88,7 @@ impl<'a, J: Job> Worker<'a, J> {
     /// Runs the core until it has ended, or its next instruction waits for a source, or it can't go on. At
     /// each answer the core's count is published. After want of memory the instructions that have retired
     /// stay retired. It waits for nobody.
-    pub fn turn<G: Gate>(
-        &mut self,
-        table: &ReplayTable<J>,
-        gate: &G,
-    ) -> Result<Turn, AllocError>
+    pub fn turn<G: Gate>(&mut self, table: &ReplayTable<J>, gate: &G) -> Result<Turn, AllocError>
         requires { self.old.table_id ≡ table.now }
         ensures goes_on { Continues self.old self.new }
         ensures rest { IfOk result (λ turn. AtRest self.new) }

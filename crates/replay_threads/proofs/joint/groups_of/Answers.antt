@@ -19,7 +19,7 @@ loop-core-preserved g c =
     let orig : List Sitting = c.args.seats.items in
     let x : Sitting = c.remove-seat.result in
     let given0 : IsGivenTo items (k % n) c.among-worker.result new =
-        subst (λ (l : List Grouped). IsGivenTo l (k % n) c.among-worker.result new) c.as_mut_slice.ensures.value c.in_ok-give.ensures in
+    subst (λ (l : List Grouped). IsGivenTo l (k % n) c.among-worker.result new) c.as_mut_slice.ensures.value c.in_ok-give.ensures in
     let given : IsGivenTo items (k % n) x new = subst (λ (y : Sitting). IsGivenTo items (k % n) y new) c.among-worker.ensures given0 in
     let w = written c.loop-core.groups.len new items given.all c.loop-core.groups.ok.0 in
     let below = c.loop-core-test.true in
@@ -34,5 +34,6 @@ loop-core-preserved g c =
       left = c.remove-seat.ensures.items ∙ ap (λ (l : List Sitting). drop 1 l) i.left ∙ drop_next k (k + 1) orig refl;
       grouped = subst (λ (l : List Grouped). AreGrouped n (k + 1) l) (sym w) (grouped_more n k (k + 1) items new x i.grouped given id within refl);
       at = λ table h. subst (λ (l : List Grouped). AreAt table l) (sym w)
-          (at_more table (k % n) items new x (i.at table h) given (omega (arith, within, long)) (subst (λ (y : Sitting). y.table_id ≡ table) (get_or_from_slice_get orig k x x there) (h k x (omega arith))));
+          (at_more table (k % n) items new x (i.at table h) given (omega (arith, within, long)) (subst (λ (y : Sitting). y.table_id ≡ table)
+          (get_or_from_slice_get orig k x x there) (h k x (omega arith))));
     }

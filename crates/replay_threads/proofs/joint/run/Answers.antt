@@ -20,7 +20,7 @@ rounds-requires-after_bounds g c = λ κs within.
     let t = c.in_ok-table.table in
     let seats = c.in_ok-table.seats.items in
     let at : AreAt t c.in_ok-groups.groups.items =
-        c.in_ok-groups.ensures.at t (λ k d lt. c.in_ok-table.ensures.tables k (get_or seats k d) (slice_get-get_or seats k d lt)) in
+    c.in_ok-groups.ensures.at t (λ k d lt. c.in_ok-table.ensures.tables k (get_or seats k d) (slice_get-get_or seats k d lt)) in
     all_groups (λ (l : List Sitting). AllAt t l) c.as_mut_slice.result.now (subst (λ (l : List Grouped). AreAt t l) (sym c.as_mut_slice.ensures.value) at)
 
 pub seats_of-requires-clause-grouped : goal.seats_of-requires-clause-grouped

@@ -15,7 +15,7 @@ unreachable-requires g c =
     let k = c.loop-core.core - 1 in
     let up = c.loop-core-test.true in
     let none : workers_at c.loop-core.groups.items (k % n) ≡ [] =
-        subst (λ (l : List Grouped). workers_at l (k % n) ≡ []) c.as_mut_slice.ensures.value c.in_default.ensures.none in
+    subst (λ (l : List Grouped). workers_at l (k % n) ≡ []) c.as_mut_slice.ensures.value c.in_default.ensures.none in
     some_last n k c.loop-core.core c.loop-core.groups.items i.grouped (omega (arith, up)) (mod_below k n i.some) none
 
 pub loop-core-preserved : goal.loop-core-preserved
@@ -31,7 +31,7 @@ loop-core-preserved g c =
     let x : Sitting = c.into_seat.result in
     let seats : List Sitting = c.loop-core.seats.items in
     let given0 : IsGivenTo new (k % n) c.in-Some.worker items =
-        subst (λ (l : List Grouped). IsGivenTo new (k % n) c.in-Some.worker l) c.as_mut_slice.ensures.value c.in-Some.ensures.some in
+    subst (λ (l : List Grouped). IsGivenTo new (k % n) c.in-Some.worker l) c.as_mut_slice.ensures.value c.in-Some.ensures.some in
     let given : IsGivenTo new (k % n) x items = subst (λ (y : Sitting). IsGivenTo new (k % n) y items) (sym c.into_seat.ensures) given0 in
     let w = written c.loop-core.groups.len new items (sym given.all) c.loop-core.groups.ok.0 in
     let more : core ≡ k + 1 = omega (arith, up) in
@@ -51,8 +51,7 @@ loop-core-preserved g c =
           ∙ range_more k core (c.args.cores - core) (c.args.cores - k) more (omega (arith, most, more));
       at = λ table h.
           let a = i.at table h in
-          let q = at_less table (k % n) items new x a.0 given (omega (arith, within, count)) in
-          (
+          let q = at_less table (k % n) items new x a.0 given (omega (arith, within, count)) in (
             subst (λ (l : List Grouped). AreAt table l) (sym w) q.0,
             subst (λ (l : List Sitting). AllAt table l) (sym put) (all_cons (λ (y : Sitting). y.table_id ≡ table) x seats q.1 a.1),
           );

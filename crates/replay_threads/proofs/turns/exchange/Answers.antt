@@ -16,8 +16,9 @@ returns-in-Ok-clause-goes_on g c =
     let p = plan_of g.J.Job.which g.J.Job.recording in
     let e = c.hold_word.ensures in
     let part : is_whole (need (recorded_image g.J.Job.recording) c.hold_word.new.seat.core) ≡ false =
-        ap (λ (k : Core). is_whole (need (recorded_image g.J.Job.recording) k)) e.core ∙ c.requires.part in
-    (held_retires p _ c.hold_word.result c.hold_word.result c.args.seat.now c.hold_word.new.seat c.store_word.new.seat e.table e.core e.step c.in-Ok.ensures.table
+    ap (λ (k : Core). is_whole (need (recorded_image g.J.Job.recording) k)) e.core ∙ c.requires.part in
+    (held_retires p _ c.hold_word.result c.hold_word.result c.args.seat.now c.hold_word.new.seat c.store_word.new.seat e.table e.core e.step
+    c.in-Ok.ensures.table
     (c.in-Ok.ensures.change part c.hold_word.result (is_held p _ c.hold_word.result c.args.seat.now c.hold_word.new.seat e.step))).goes_on
 
 pub returns-in-Ok-clause-more : goal.returns-in-Ok-clause-more
@@ -25,8 +26,9 @@ returns-in-Ok-clause-more g c =
     let p = plan_of g.J.Job.which g.J.Job.recording in
     let e = c.hold_word.ensures in
     let part : is_whole (need (recorded_image g.J.Job.recording) c.hold_word.new.seat.core) ≡ false =
-        ap (λ (k : Core). is_whole (need (recorded_image g.J.Job.recording) k)) e.core ∙ c.requires.part in
-    (held_retires p _ c.hold_word.result c.hold_word.result c.args.seat.now c.hold_word.new.seat c.store_word.new.seat e.table e.core e.step c.in-Ok.ensures.table
+    ap (λ (k : Core). is_whole (need (recorded_image g.J.Job.recording) k)) e.core ∙ c.requires.part in
+    (held_retires p _ c.hold_word.result c.hold_word.result c.args.seat.now c.hold_word.new.seat c.store_word.new.seat e.table e.core e.step
+    c.in-Ok.ensures.table
     (c.in-Ok.ensures.change part c.hold_word.result (is_held p _ c.hold_word.result c.args.seat.now c.hold_word.new.seat e.step))).more
 
 ok_err : {A B : Type 0} (a : A) (b : B) → Err b ≡ Ok a → ⊥
@@ -37,8 +39,9 @@ returns-in-Err-clause-goes_on g c =
     let p = plan_of g.J.Job.which g.J.Job.recording in
     let e = c.hold_word.ensures in
     let part : is_whole (need (recorded_image g.J.Job.recording) c.hold_word.new.seat.core) ≡ false =
-        ap (λ (k : Core). is_whole (need (recorded_image g.J.Job.recording) k)) e.core ∙ c.requires.part in
-    (held_fails g.J.Job.which g.J.Job.recording p _ c.hold_word.result c.hold_word.result _ c.args.seat.now c.hold_word.new.seat c.store_word.new.seat e.table e.core e.step
+    ap (λ (k : Core). is_whole (need (recorded_image g.J.Job.recording) k)) e.core ∙ c.requires.part in
+    (held_fails g.J.Job.which g.J.Job.recording p _ c.hold_word.result c.hold_word.result _ c.args.seat.now c.hold_word.new.seat c.store_word.new.seat
+    e.table e.core e.step
     c.in-Err.ensures.table (c.in-Err.ensures.change part c.hold_word.result (is_held p _ c.hold_word.result c.args.seat.now c.hold_word.new.seat e.step))
     (λ d. ok_err _ _ (c.in-Err.ensures.sure d))).0
 
@@ -47,7 +50,8 @@ returns-in-Err-clause-ends g c =
     let p = plan_of g.J.Job.which g.J.Job.recording in
     let e = c.hold_word.ensures in
     let part : is_whole (need (recorded_image g.J.Job.recording) c.hold_word.new.seat.core) ≡ false =
-        ap (λ (k : Core). is_whole (need (recorded_image g.J.Job.recording) k)) e.core ∙ c.requires.part in
-    (held_fails g.J.Job.which g.J.Job.recording p _ c.hold_word.result c.hold_word.result _ c.args.seat.now c.hold_word.new.seat c.store_word.new.seat e.table e.core e.step
+    ap (λ (k : Core). is_whole (need (recorded_image g.J.Job.recording) k)) e.core ∙ c.requires.part in
+    (held_fails g.J.Job.which g.J.Job.recording p _ c.hold_word.result c.hold_word.result _ c.args.seat.now c.hold_word.new.seat c.store_word.new.seat
+    e.table e.core e.step
     c.in-Err.ensures.table (c.in-Err.ensures.change part c.hold_word.result (is_held p _ c.hold_word.result c.args.seat.now c.hold_word.new.seat e.step))
     (λ d. ok_err _ _ (c.in-Err.ensures.sure d))).1

@@ -15,5 +15,6 @@ returns-clause-least g c =
 
 pub returns-clause-less : goal.returns-clause-less
 returns-clause-less g c = λ up. let is = c.seen.ensures in
-    sees_more (plan_of g.J.Job.which g.J.Job.recording) c.args.seat.now.view c.seen_done.new.seat.view _ c.seen_done.result c.args.of c.seen_done.ensures.step refl
+    sees_more (plan_of g.J.Job.which g.J.Job.recording) c.args.seat.now.view c.seen_done.new.seat.view _ c.seen_done.result c.args.of
+    c.seen_done.ensures.step refl
     (omega arith)
