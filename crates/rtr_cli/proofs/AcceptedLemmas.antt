@@ -1,5 +1,5 @@
 -- What a command accepts it refuses for want of memory alone.
-use Rattle.std.proofs.Common.{◌≡◌, refl, sym, subst, ℕ, List, arith}
+use Rattle.std.proofs.Common.{◌≡◌, refl, sym, subst, ℕ, List, inl, inr, arith}
 use Rattle.image_mem.specs.Contents.{Contents}
 use Rattle.certificate_codec.specs.declared.certificate.Certificate.{Certificate}
 use Rattle.certificate_codec.specs.Reading.{certificate_at}
@@ -29,12 +29,15 @@ use Rattle.schedule_pick.specs.Choices.{Choices, choices_of}
 use Rattle.rtr_types.specs.Parameters.{Fits}
 use Rattle.rtr_types.specs.declared.access.Access.{Access}
 use Rattle.rtr_types.specs.declared.pairs.Which.{Which}
-use Rattle.rtr_types.specs.declared.pairs.Which.TheVariants.{Reduced}
+use Rattle.rtr_types.specs.declared.pairs.Which.TheVariants.{Reduced, Regulated}
 use Rattle.rtr_types.specs.declared.params.Params.{Params}
 use Rattle.tool_words.specs.declared.command.Command.{Command}
 use Rattle.tool_words.specs.declared.command.Command.TheVariants.{Record, Run, Print, Replay, Migrate, Certify, Check, Gen, Soak, At}
+use Rattle.tool_words.specs.declared.command.Command.TheVariants.{Thin, CheckThin}
+use Rattle.vector_reduce.specs.Answers.{AreFew, AreTooMany, IsTooMany, IsNotShown as IsNotNeededShown}
+use Rattle.vector_reduce.specs.Reading.{thinned_at}
 use Rattle.rtr_cli.specs.Commands.{IsNotLeast, image_of, loaded}
-use Rattle.rtr_cli.specs.Completeness.{Accepts, AcceptedIsNotRefused, IsOfCertify, IsOfRecord, IsOfRecordWith}
+use Rattle.rtr_cli.specs.Completeness.{Accepts, AcceptedIsNotRefused, IsOfCertify, IsOfRecord, IsOfRecordWith, IsOfRecordWithFew, IsOfThin}
 use Rattle.rtr_cli.proofs.ReasonLemmas.{HasNoReason, both_said, is_read, memory_alone}
 
 -- ---- the least log
@@ -60,6 +63,21 @@ least_in_low image params schedule fits words recorded determinate =
 
 -- ---- no reason to refuse what is accepted
 
+-- no audit refuses what is determinate
+pub determinate_not_audited : (which : Which) (r : Recording) (fault : AuditFault) → IsDeterminate which r → AuditRefuses which r fault
+    → fault ≡ faults.OutOfMemory
+determinate_not_audited which r faults.OutOfMemory is refuses = refl
+determinate_not_audited which r (faults.Stuck cut) is refuses = absurd (refused_law which r (faults.Stuck cut) refuses (λ e. absurd cc) is)
+determinate_not_audited which r (faults.Short core count) is refuses =
+    absurd (refused_law which r (faults.Short core count) refuses (λ e. absurd cc) is)
+determinate_not_audited which r (faults.Undetermined first second) is refuses =
+    absurd (refused_law which r (faults.Undetermined first second) refuses (λ e. absurd cc) is)
+
+-- few vectors aren't too many
+not_too_many : (r : Recording) → AreFew r → AreTooMany r → ⊥
+not_too_many r few (inl more) = absurd (omega (arith, few.vectors, more))
+not_too_many r few (inr more) = absurd (omega (arith, few.positions, more))
+
 -- no audit refuses what `record` makes
 not_audited : (which : Which) (r : Recording) (fault : AuditFault) → IsOfRecord r → AuditRefuses which r fault → fault ≡ faults.OutOfMemory
 not_audited which r fault h refuses =
@@ -81,13 +99,7 @@ determinate_of : (c : Certificate) → IsOfCertify c → IsDeterminate Reduced c
 determinate_of c h = subst (λ (q : Recording). IsDeterminate Reduced q) (sym h.certifies.recording) h.determinate
 
 certificate_not_audited : (c : Certificate) (fault : AuditFault) → IsOfCertify c → AuditRefuses Reduced c.recording fault → fault ≡ faults.OutOfMemory
-certificate_not_audited c faults.OutOfMemory h refuses = refl
-certificate_not_audited c (faults.Stuck cut) h refuses =
-    absurd (refused_law Reduced c.recording (faults.Stuck cut) refuses (λ e. absurd cc) (determinate_of c h))
-certificate_not_audited c (faults.Short core count) h refuses =
-    absurd (refused_law Reduced c.recording (faults.Short core count) refuses (λ e. absurd cc) (determinate_of c h))
-certificate_not_audited c (faults.Undetermined first second) h refuses =
-    absurd (refused_law Reduced c.recording (faults.Undetermined first second) refuses (λ e. absurd cc) (determinate_of c h))
+certificate_not_audited c fault h refuses = determinate_not_audited Reduced c.recording fault (determinate_of c h) refuses
 
 certificate_passes : (c : Certificate) (failure : CheckFailure) → IsOfCertify c → CheckFails c failure → ⊥
 certificate_passes c failure h fails =
@@ -101,6 +113,8 @@ no_reason (Record run) input a = record {
   present = λ at h. h;
   audited = λ fault h. absurd h;
   shown = λ failure h. h;
+  few = λ vectors edges h. h;
+  needed = λ vector h. h;
   faultless = λ fault h. is_read (loaded run input) (λ bytes. Unit {0}) fault a h;
   holds = λ h. h;
 }
@@ -109,6 +123,8 @@ no_reason (Run run loads) input a = record {
   present = λ at h. h;
   audited = λ fault h. absurd h;
   shown = λ failure h. h;
+  few = λ vectors edges h. h;
+  needed = λ vector h. h;
   faultless = λ fault h. is_read (loaded run input) (λ bytes. Unit {0}) fault a h;
   holds = λ h. h;
 }
@@ -117,6 +133,8 @@ no_reason Print input a = record {
   present = λ at h. h;
   audited = λ fault h. absurd h;
   shown = λ failure h. h;
+  few = λ vectors edges h. h;
+  needed = λ vector h. h;
   faultless = λ fault h. h;
   holds = λ h. h;
 }
@@ -127,6 +145,8 @@ no_reason (Replay which loads) input a = record {
       both_said (whole_at input) IsOfRecord (λ r. AuditRefuses which r fault) (fault ≡ faults.OutOfMemory)
       (λ r is it. not_audited which r fault is it) a h;
   shown = λ failure h. h;
+  few = λ vectors edges h. h;
+  needed = λ vector h. h;
   faultless = λ fault h. h;
   holds = λ h. h;
 }
@@ -135,6 +155,8 @@ no_reason Migrate input a = record {
   present = λ at h. h;
   audited = λ fault h. absurd h;
   shown = λ failure h. h;
+  few = λ vectors edges h. h;
+  needed = λ vector h. h;
   faultless = λ fault h. h;
   holds = λ h. h;
 }
@@ -145,6 +167,8 @@ no_reason Certify input a = record {
       both_said (whole_at input) IsOfRecord (λ r. AuditRefuses Reduced r fault) (fault ≡ faults.OutOfMemory)
       (λ r is it. not_audited Reduced r fault is it) a h;
   shown = λ failure h. both_said (whole_at input) IsOfRecord (λ r. IsNotLeast r failure) ⊥ (λ r is it. not_amiss r failure is it) a h;
+  few = λ vectors edges h. h;
+  needed = λ vector h. h;
   faultless = λ fault h. h;
   holds = λ h. h;
 }
@@ -156,6 +180,8 @@ no_reason Check input a = record {
       (λ c is it. certificate_not_audited c fault is it) a h;
   shown = λ failure h.
       both_said (certificate_at input) IsOfCertify (λ c. CheckFails c failure) ⊥ (λ c is it. certificate_passes c failure is it) a h;
+  few = λ vectors edges h. h;
+  needed = λ vector h. h;
   faultless = λ fault h. h;
   holds = λ h. h;
 }
@@ -164,6 +190,8 @@ no_reason (Gen shape number) input a = record {
   present = λ at h. h;
   audited = λ fault h. absurd h;
   shown = λ failure h. h;
+  few = λ vectors edges h. h;
+  needed = λ vector h. h;
   faultless = λ fault h. h;
   holds = λ h. h;
 }
@@ -172,6 +200,8 @@ no_reason (Soak shape number params seed) input a = record {
   present = λ at h. h;
   audited = λ fault h. absurd h;
   shown = λ failure h. h;
+  few = λ vectors edges h. h;
+  needed = λ vector h. h;
   faultless = λ fault h. h;
   holds = λ more. absurd (omega (arith, a, more));
 }
@@ -183,6 +213,36 @@ no_reason (At which at latest loads) input a = record {
       both_said (whole_at input) (IsOfRecordWith at) (λ r. IsInstrOf r at × AuditRefuses which r fault) (fault ≡ faults.OutOfMemory)
       (λ r is it. not_audited which r fault is.0 it.1) a h;
   shown = λ failure h. h;
+  few = λ vectors edges h. h;
+  needed = λ vector h. h;
+  faultless = λ fault h. h;
+  holds = λ h. h;
+}
+no_reason (Thin certify) input a = record {
+  read = λ part h. is_read (whole_at input) IsOfRecordWithFew part a h;
+  present = λ at h. h;
+  audited = λ fault h.
+      both_said (whole_at input) IsOfRecordWithFew (λ r. AuditRefuses Regulated r fault) (fault ≡ faults.OutOfMemory)
+      (λ r is it. not_audited Regulated r fault is.0 it) a h;
+  shown = λ failure h. h;
+  few = λ vectors edges h.
+      both_said (whole_at input) IsOfRecordWithFew (λ r. IsDeterminate Regulated r × IsTooMany r vectors edges) ⊥
+      (λ r is it. not_too_many r is.1 it.1.too_many) a h;
+  needed = λ vector h. h;
+  faultless = λ fault h. h;
+  holds = λ h. h;
+}
+no_reason CheckThin input a = record {
+  read = λ part h. is_read (thinned_at input) IsOfThin part a h;
+  present = λ at h. h;
+  audited = λ fault h.
+      both_said (thinned_at input) IsOfThin (λ t. AuditRefuses Regulated t.recording fault) (fault ≡ faults.OutOfMemory)
+      (λ t is it. determinate_not_audited Regulated t.recording fault is.1.determinate it) a h;
+  shown = λ failure h. h;
+  few = λ vectors edges h. h;
+  needed = λ vector h.
+      both_said (thinned_at input) IsOfThin (λ t. IsNotNeededShown t vector) ⊥
+      (λ t is it. it.not_shown (is.1.shown it.before it.within).shown) a h;
   faultless = λ fault h. h;
   holds = λ h. h;
 }

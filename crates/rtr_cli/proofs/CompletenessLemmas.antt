@@ -17,10 +17,15 @@ use Rattle.schedule_pick.specs.Choices.{choices_of}
 use Rattle.state_text.specs.declared.exit.Exit.{Exit}
 use Rattle.tool_words.specs.declared.command.Command.{Command}
 use Rattle.tool_words.specs.declared.command.RunWords.{RunWords}
+use Rattle.tool_words.specs.declared.command.Command.TheVariants.{CheckThin}
+use Rattle.vector_reduce.specs.declared.thinned.Thinned.{Thinned}
+use Rattle.vector_reduce.specs.Answers.{AreFew}
+use Rattle.vector_reduce.specs.Laws.{SpelledIsRead}
+use Rattle.vector_reduce.specs.Reading.{thinned_at}
 use Rattle.rtr_cli.specs.Answers.{IsTaken}
 use Rattle.rtr_cli.specs.Commands.{Refuses, SpellsSome, file_bytes_max, image_of, loaded, most_of, recorded_bytes, recording_of_bytes}
-use Rattle.rtr_cli.specs.Commands.{run_bytes_max, unless_faulty}
-use Rattle.rtr_cli.specs.Completeness.{Accepts, EndsWell, HasLeft, IsOfRecord, RecordingIsAccepted, WrittenIsAccepted}
+use Rattle.rtr_cli.specs.Commands.{IsThinnedTo, run_bytes_max, unless_faulty}
+use Rattle.rtr_cli.specs.Completeness.{Accepts, EndsWell, HasLeft, IsOfRecord, IsOfThin, RecordingIsAccepted, WrittenIsAccepted}
 use Rattle.rtr_cli.proofs.AcceptedLemmas.{accepted_is_not_refused}
 use Rattle.rtr_cli.proofs.Certified.{check_accepts}
 use Rattle.rtr_cli.proofs.Migrated.{migrated_reads_the_same}
@@ -76,6 +81,7 @@ accepted_recording out r is h =
       printed = any;
       replayed = λ which loads. of_record;
       told = λ which at latest loads has. both_hold (whole_at out) IsOfRecord (λ q. IsInstrOf q at) of_record has;
+      thinned = λ certify few. both_hold (whole_at out) IsOfRecord AreFew of_record few;
       migrated = any;
       certified = of_record;
     }
@@ -97,9 +103,18 @@ migrated_of : (out : List ℕ) (read : Result Recording ℕ) → whole_at out �
 migrated_of out (Ok r) is h = accepted_recording out r is h
 migrated_of out (Err part) is h = absurd h
 
-pub written_is_accepted : WrittenIsAccepted
-written_is_accepted = record {
+-- a thin file is read back
+thinned_of : SpelledIsRead → (input out : List ℕ) (read : Result Recording ℕ) → SpellsSome read (λ r. IsThinnedTo true r out) → Accepts CheckThin out
+thinned_of reads input out (Ok r) (t, thinning, is) =
+    let read : thinned_at out ≡ Ok t = ap thinned_at is ∙ reads t thinning.thin in
+    let of_thin : IsOfThin t = (r, thinning) in
+    subst (λ (found : Result Thinned ℕ). SpellsSome found IsOfThin) (sym read) of_thin
+thinned_of reads input out (Err part) made = absurd made
+
+pub written_is_accepted : SpelledIsRead → WrittenIsAccepted
+written_is_accepted reads = record {
   recorded = λ run input out fits within made. made_of_loaded run input out (loaded run input) refl fits within made;
   migrated = λ input out bytes made a. migrated_of out (whole_at input) (migrated_reads_the_same input out bytes made) a;
   certified = check_accepts;
+  thinned = λ input out made. thinned_of reads input out (whole_at input) made;
 }

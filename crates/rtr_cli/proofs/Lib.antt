@@ -6,3 +6,4 @@ pub mod Migrated
 pub mod Certified
 pub mod CompletenessLemmas
 pub mod CutLemmas
+pub mod ThinLemmas

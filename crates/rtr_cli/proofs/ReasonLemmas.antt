@@ -8,7 +8,7 @@ use Rattle.min_certificate.specs.declared.answers.CheckFailure.{CheckFailure}
 use Rattle.state_text.specs.declared.exit.Exit.{Exit}
 use Rattle.state_text.specs.declared.exit.Exit.TheVariants as exits
 use Rattle.tool_words.specs.declared.command.Command.{Command}
-use Rattle.rtr_cli.specs.Commands.{AuditFails, IsAbsent, IsFaulty, IsNotShown, IsUnread, Overflows, Refuses, SpellsSome}
+use Rattle.rtr_cli.specs.Commands.{AuditFails, IsAbsent, IsFaulty, IsNotNeeded, IsTooLong, IsNotShown, IsUnread, Overflows, Refuses, SpellsSome}
 
 -- there is none for this command and this input
 pub record HasNoReason (command : Command) (input : List ℕ) : Type 0 where
@@ -16,6 +16,8 @@ pub record HasNoReason (command : Command) (input : List ℕ) : Type 0 where
   pub present : (at : Instr) → IsAbsent command input at → ⊥
   pub audited : (fault : AuditFault) → AuditFails command input fault → fault ≡ faults.OutOfMemory
   pub shown : (failure : CheckFailure) → IsNotShown command input failure → ⊥
+  pub few : (vectors edges : ℕ) → IsTooLong command input vectors edges → ⊥
+  pub needed : (vector : ℕ) → IsNotNeeded command input vector → ⊥
   pub faultless : (fault : ElfFault) → IsFaulty command input fault → ⊥
   pub holds : Overflows command → ⊥
 
@@ -29,6 +31,8 @@ memory_alone command input exits.OutOfMemory h it = refl
 memory_alone command input exits.TooLarge h it = absurd (h.holds it)
 memory_alone command input (exits.Elf fault) h it = absurd (h.faultless fault it)
 memory_alone command input (exits.NoInstr at) h it = absurd (h.present at it)
+memory_alone command input (exits.TooMany vectors edges) h it = absurd (h.few vectors edges it)
+memory_alone command input (exits.NotShown vector) h it = absurd (h.needed vector it)
 memory_alone command input exits.Done h it = absurd it
 memory_alone command input exits.Usage h it = absurd it
 memory_alone command input exits.ReadFault h it = absurd it

@@ -102,6 +102,8 @@ audit_memory which r exits.ReadFault knows it = absurd it
 audit_memory which r exits.WriteFault knows it = absurd it
 audit_memory which r (exits.Elf fault) knows it = absurd it
 audit_memory which r (exits.NoInstr at) knows it = absurd it
+audit_memory which r (exits.TooMany vectors edges) knows it = absurd it
+audit_memory which r (exits.NotShown vector) knows it = absurd it
 
 -- nothing but want of memory refuses it
 pub run_not_refused : (image : Contents) (params : Params) (schedule : Choices) (exit : Exit) → Fits params → image.words ≡ params.words

@@ -36,6 +36,8 @@ refused_answers command input (exits.Undetermined first second) left left' got g
 refused_answers command input (exits.CheckFailed failure) left left' got got' was h keeps = (input, was, h, keeps)
 refused_answers command input (exits.Elf fault) left left' got got' was h keeps = (input, was, h, keeps)
 refused_answers command input (exits.NoInstr at) left left' got got' was h keeps = (input, was, h, keeps)
+refused_answers command input (exits.TooMany vectors edges) left left' got got' was h keeps = (input, was, h, keeps)
+refused_answers command input (exits.NotShown vector) left left' got got' was h keeps = (input, was, h, keeps)
 refused_answers command input exits.TooLarge left left' got got' was h keeps = (inr h, keeps)
 refused_answers command input exits.OutOfMemory left left' got got' was h keeps =
     (taken_up_to (most_of command) left left' input was, keeps)

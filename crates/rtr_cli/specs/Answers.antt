@@ -61,6 +61,10 @@ Answers command (exits.CheckFailed failure) left left' got got' =
     GivesNothing command (exits.CheckFailed failure) left left' got got'
 Answers command (exits.Elf fault) left left' got got' = GivesNothing command (exits.Elf fault) left left' got got'
 Answers command (exits.NoInstr at) left left' got got' = GivesNothing command (exits.NoInstr at) left left' got got'
+Answers command (exits.TooMany vectors edges) left left' got got' =
+    GivesNothing command (exits.TooMany vectors edges) left left' got got'
+Answers command (exits.NotShown vector) left left' got got' =
+    GivesNothing command (exits.NotShown vector) left left' got got'
 Answers command exits.TooLarge left left' got got' =
     (HasMore (most_of command) left left' ⊎ Overflows command) × Keeps got got'
 Answers command exits.ReadFault left left' got got' = IsTakenUpTo (most_of command) left left' × Keeps got got'

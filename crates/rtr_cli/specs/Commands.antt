@@ -14,7 +14,7 @@ use Rattle.rtr_types.specs.declared.cut.Cut.{Cut}
 use Rattle.rtr_types.specs.declared.instr.Instr.{Instr}
 use Rattle.rtr_types.specs.declared.params.Params.{Params}
 use Rattle.rtr_types.specs.declared.pairs.Which.{Which}
-use Rattle.rtr_types.specs.declared.pairs.Which.TheVariants.{Reduced}
+use Rattle.rtr_types.specs.declared.pairs.Which.TheVariants.{Reduced, Regulated}
 use Rattle.log_codec.specs.Counts.{edge_count_of}
 use Rattle.log_codec.specs.Laws.{IsBytes}
 use Rattle.log_codec.specs.Reading.{whole_at}
@@ -29,6 +29,11 @@ use Rattle.replay_audit.specs.Audits.{AuditRefuses, EveryOrderAgrees, IsInstrOf}
 use Rattle.replay_audit.specs.Determinate.{IsDeterminate, low_outcome}
 use Rattle.cut_replay.specs.ClosedCuts.{IsGreatestWithout, IsLeastWith}
 use Rattle.cut_replay.specs.CutStates.{IsStateAt}
+use Rattle.vector_reduce.specs.declared.thinned.Thinned.{Thinned}
+use Rattle.vector_reduce.specs.Answers.{IsAccepted, IsThinningOf, IsTooMany, IsNotShown as IsNotNeededShown}
+use Rattle.vector_reduce.specs.Reading.{thinned_at}
+use Rattle.vector_reduce.specs.Spelling.{spelling as thin_spelling}
+use Rattle.vector_reduce.specs.Vectors.{vectors_of}
 use Rattle.certificate_codec.specs.declared.certificate.Certificate.{Certificate}
 use Rattle.certificate_codec.specs.Reading.{certificate_at}
 use Rattle.certificate_codec.specs.Spelling.{spelling as certificate_spelling}
@@ -38,13 +43,13 @@ use Rattle.min_certificate.specs.Answers.{Certifies, CheckFails, Checks, IsFirst
 use Rattle.min_certificate.specs.Laws.{IsLeastIn}
 use Rattle.state_text.specs.declared.exit.Exit.{Exit}
 use Rattle.state_text.specs.declared.exit.Exit.TheVariants as exits
-use Rattle.state_text.specs.Checks.{check_lines}
+use Rattle.state_text.specs.Checks.{check_lines, needed_lines}
 use Rattle.state_text.specs.Cuts.{cut_state_lines}
 use Rattle.state_text.specs.Logs.{logs_lines}
 use Rattle.state_text.specs.States.{state_lines}
 use Rattle.tool_words.specs.declared.command.Command.{Command}
 use Rattle.tool_words.specs.declared.command.Command.TheVariants.{Record, Run, Print, Replay, Migrate, Certify, Check}
-use Rattle.tool_words.specs.declared.command.Command.TheVariants.{Gen, Soak, At}
+use Rattle.tool_words.specs.declared.command.Command.TheVariants.{Gen, Soak, At, Thin, CheckThin}
 use Rattle.tool_words.specs.declared.command.RunWords.{RunWords}
 use Rattle.trace_gen.specs.declared.shape.Shape.{Shape}
 use Rattle.trace_gen.specs.Programs.{generated, image_length}
@@ -70,6 +75,8 @@ most_of Check = Some file_bytes_max
 most_of (Gen shape number) = None
 most_of (Soak shape number params seed) = None
 most_of (At which at latest loads) = Some file_bytes_max
+most_of (Thin certify) = Some file_bytes_max
+most_of CheckThin = Some file_bytes_max
 
 -- the command takes an input of these bytes; one that takes no input has none
 abbrev pub IsWithin : (most : Option ℕ) → (input : List ℕ) → Type 0
@@ -122,6 +129,20 @@ IsToldAt which at latest loads r out =
     × (cut : Cut) × (outcome : Outcome) × IsCutAt which r at latest cut × IsStateAt which r cut outcome
     × (out ≡ cut_state_lines cut outcome (recorded_image r) loads)
 
+-- what is written of a thinned recording: its spelling, or with what shows that each of its vectors is needed
+abbrev pub thinned_bytes : (certify : Bool) → Thinned → List ℕ
+thinned_bytes false t = spelling t.recording
+thinned_bytes true t = thin_spelling t
+
+-- that of the recording with fewer vectors: those that are left where each is tried once, in order, and left out where
+-- the others that aren't left out so far imply it
+abbrev pub IsThinnedTo : (certify : Bool) → Recording → (out : List ℕ) → Type 0
+IsThinnedTo certify r out = (t : Thinned) × IsThinningOf r t × (out ≡ thinned_bytes certify t)
+
+-- what a check of a thin file prints: the number of its vectors
+abbrev pub thin_checked_lines : Thinned → List ℕ
+thin_checked_lines t = needed_lines (length (vectors_of t.recording))
+
 -- the spelling of a certificate that the recording's reduced log is least. Its clocks are exact, so there is one
 abbrev pub IsCertified : Recording → (out : List ℕ) → Type 0
 IsCertified r out = (c : Certificate) × Certifies r c × (out ≡ certificate_spelling c)
@@ -166,6 +187,8 @@ Makes (Gen shape number) input out = out ≡ generated shape number
 Makes (Soak shape number params seed) input out = IsSoaked shape number params seed out
 Makes (At which at latest loads) input out =
     SpellsSome (whole_at input) (λ r. IsToldAt which at latest loads r out)
+Makes (Thin certify) input out = SpellsSome (whole_at input) (λ r. IsThinnedTo certify r out)
+Makes CheckThin input out = SpellsSome (thinned_at input) (λ t. out ≡ thin_checked_lines t)
 
 -- ---- why nothing is given
 
@@ -181,6 +204,8 @@ IsUnread Check input part = certificate_at input ≡ Err part
 IsUnread (Gen shape number) input part = ⊥
 IsUnread (Soak shape number params seed) input part = ⊥
 IsUnread (At which at latest loads) input part = whole_at input ≡ Err part
+IsUnread (Thin certify) input part = whole_at input ≡ Err part
+IsUnread CheckThin input part = thinned_at input ≡ Err part
 
 -- the command names this instruction, and the recording that the input spells doesn't have it
 abbrev pub IsAbsent : Command → (input : List ℕ) → Instr → Type 0
@@ -202,6 +227,21 @@ AuditFails (Gen shape number) input fault = ⊥
 AuditFails (Soak shape number params seed) input fault = ⊥
 AuditFails (At which at latest loads) input fault =
     SpellsSome (whole_at input) (λ r. IsInstrOf r at × AuditRefuses which r fault)
+AuditFails (Thin certify) input fault = SpellsSome (whole_at input) (λ r. AuditRefuses Regulated r fault)
+AuditFails CheckThin input fault = SpellsSome (thinned_at input) (λ t. AuditRefuses Regulated t.recording fault)
+
+-- the command thins a recording that is determinate by its regulated log, and this is how many vectors that log has,
+-- and how many edges they have: more than are tried
+abbrev pub IsTooLong : Command → (input : List ℕ) → (vectors edges : ℕ) → Type 0
+IsTooLong (Thin certify) input vectors edges =
+    SpellsSome (whole_at input) (λ r. IsDeterminate Regulated r × IsTooMany r vectors edges)
+IsTooLong command input vectors edges = ⊥
+
+-- the command checks a thin file, whose recording is determinate by its regulated log, and this is its first vector,
+-- counted from 1, that isn't shown to be needed
+abbrev pub IsNotNeeded : Command → (input : List ℕ) → (vector : ℕ) → Type 0
+IsNotNeeded CheckThin input vector = SpellsSome (thinned_at input) (λ t. IsNotNeededShown t vector)
+IsNotNeeded command input vector = ⊥
 
 -- the recording is determinate, and this is the first edge that no least log has
 abbrev pub IsNotLeast : Recording → CheckFailure → Type 0
@@ -222,6 +262,8 @@ IsNotShown Check input failure = SpellsSome (certificate_at input) (λ c. CheckF
 IsNotShown (Gen shape number) input failure = ⊥
 IsNotShown (Soak shape number params seed) input failure = ⊥
 IsNotShown (At which at latest loads) input failure = ⊥
+IsNotShown (Thin certify) input failure = ⊥
+IsNotShown CheckThin input failure = ⊥
 
 -- the input is to be an ELF file, and this is the file's first fault
 abbrev pub IsFaulty : Command → (input : List ℕ) → ElfFault → Type 0
@@ -235,6 +277,8 @@ IsFaulty Check input fault = ⊥
 IsFaulty (Gen shape number) input fault = ⊥
 IsFaulty (Soak shape number params seed) input fault = ⊥
 IsFaulty (At which at latest loads) input fault = ⊥
+IsFaulty (Thin certify) input fault = ⊥
+IsFaulty CheckThin input fault = ⊥
 
 -- the command makes an image that is longer than the memory
 abbrev pub Overflows : Command → Type 0
@@ -248,6 +292,8 @@ Overflows Check = ⊥
 Overflows (Gen shape number) = ⊥
 Overflows (Soak shape number params seed) = 4 * params.words < image_length shape
 Overflows (At which at latest loads) = ⊥
+Overflows (Thin certify) = ⊥
+Overflows CheckThin = ⊥
 
 -- how a command ends whose audit was refused so
 abbrev pub exit_of_audit : AuditFault → Exit
@@ -272,10 +318,12 @@ Ends Audits Shows exits.ReadFault = ⊥
 Ends Audits Shows exits.WriteFault = ⊥
 Ends Audits Shows (exits.Elf fault) = ⊥
 Ends Audits Shows (exits.NoInstr at) = ⊥
+Ends Audits Shows (exits.TooMany vectors edges) = ⊥
+Ends Audits Shows (exits.NotShown vector) = ⊥
 
 -- why the command gives nothing for an input that was read, or for none: the first fault of an ELF file, its first
--- part that has no reading, an instruction that is absent, what an audit answers, what isn't shown, or an image of its
--- own that is too long. Want of memory says nothing
+-- part that has no reading, an instruction that is absent, what an audit answers, what isn't shown, vectors that are
+-- too many, or an image of its own that is too long. Want of memory says nothing
 abbrev pub Refuses : Command → (input : List ℕ) → Exit → Type 0
 Refuses command input (exits.Bad part) = IsUnread command input part
 Refuses command input (exits.Stuck cut) = AuditFails command input (faults.Stuck cut)
@@ -290,6 +338,8 @@ Refuses command input exits.ReadFault = ⊥
 Refuses command input exits.WriteFault = ⊥
 Refuses command input (exits.Elf fault) = IsFaulty command input fault
 Refuses command input (exits.NoInstr at) = IsAbsent command input at
+Refuses command input (exits.TooMany vectors edges) = IsTooLong command input vectors edges
+Refuses command input (exits.NotShown vector) = IsNotNeeded command input vector
 
 -- a run whose input has no image ends so
 abbrev pub LoadEnds : RunWords → (input : List ℕ) → Exit → Type 0
@@ -309,6 +359,16 @@ AuditEnds which r exit = Ends (λ fault. AuditRefuses which r fault) (λ failure
 abbrev pub AtEnds : Which → Instr → Recording → Exit → Type 0
 AtEnds which at r (exits.NoInstr absent) = (IsInstrOf r at → ⊥) × (absent ≡ at)
 AtEnds which at r exit = Ends (λ fault. IsInstrOf r at × AuditRefuses which r fault) (λ failure. ⊥) exit
+
+-- a command that thins this recording ends so
+abbrev pub ThinEnds : Recording → Exit → Type 0
+ThinEnds r (exits.TooMany vectors edges) = IsDeterminate Regulated r × IsTooMany r vectors edges
+ThinEnds r exit = Ends (λ fault. AuditRefuses Regulated r fault) (λ failure. ⊥) exit
+
+-- a command that checks this thin file ends so
+abbrev pub CheckThinEnds : Thinned → Exit → Type 0
+CheckThinEnds t (exits.NotShown vector) = IsNotNeededShown t vector
+CheckThinEnds t exit = Ends (λ fault. AuditRefuses Regulated t.recording fault) (λ failure. ⊥) exit
 
 -- a command that certifies this recording ends so
 abbrev pub CertifyEnds : Recording → Exit → Type 0
@@ -351,8 +411,9 @@ pub record KeepsRun (params : Params) (choices : List ℕ) (seed : ℕ) (bytes :
 abbrev pub IsReplayed : Which → Recording → Type 0
 IsReplayed which r = IsDeterminate which r × EveryOrderAgrees which r
 
--- a recording keeps its run; what was replayed, to its end or to a cut, is determinate; and what was certified or
--- checked is determinate, and its reduced log is least
+-- a recording keeps its run; what was replayed, to its end or to a cut, is determinate; what was certified or checked
+-- is determinate, and its reduced log is least; and what was thinned or is checked to be so is determinate, and of a
+-- checked one each vector is needed
 abbrev pub Promised : Command → (input : List ℕ) → Type 0
 Promised (Record run) input = SpellsSome (loaded run input) (λ bytes. KeepsRun run.params run.choices run.seed bytes)
 Promised (Run run loads) input = Unit {0}
@@ -364,6 +425,8 @@ Promised Check input = SpellsSome (certificate_at input) (λ c. Checks c)
 Promised (Gen shape number) input = Unit {0}
 Promised (Soak shape number params seed) input = Unit {0}
 Promised (At which at latest loads) input = SpellsSome (whole_at input) (λ r. IsReplayed which r)
+Promised (Thin certify) input = SpellsSome (whole_at input) (λ r. IsReplayed Regulated r)
+Promised CheckThin input = SpellsSome (thinned_at input) (λ t. IsAccepted t)
 
 -- ---- laws
 
@@ -379,6 +442,11 @@ NewestStays = (r : Recording) → Valid r → Makes Migrate (spelling r) (spelli
 abbrev pub AtMakesOne : Type 0
 AtMakesOne = (which : Which) (at : Instr) (latest loads : Bool) (input out other : List ℕ) →
     Makes (At which at latest loads) input out → Makes (At which at latest loads) input other → out ≡ other
+
+-- the recording that thin makes of an input is refused by a replay of its regulated log for want of memory alone
+abbrev pub ThinnedIsReplayed : Type 0
+ThinnedIsReplayed = (loads : Bool) (input out : List ℕ) (exit : Exit) → Makes (Thin false) input out →
+    Refuses (Replay Regulated loads) out exit → exit ≡ exits.OutOfMemory
 
 -- what certify makes is refused by check for want of memory alone
 abbrev pub CertifiedIsAccepted : Type 0

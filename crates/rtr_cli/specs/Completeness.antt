@@ -1,5 +1,5 @@
 -- The inputs of which each command makes an output, unless memory runs out: among them whatever another command wrote.
-use Rattle.std.specs.Prelude.{◌≡◌, ℕ, ◌*◌, ◌≤◌, ◌⊎◌, Bool, List, [], length, Option, Some, None}
+use Rattle.std.specs.Prelude.{◌≡◌, ℕ, ◌*◌, ◌≤◌, ◌⊎◌, Bool, true, List, [], length, Option, Some, None}
 use Rattle.certificate_codec.specs.declared.certificate.Certificate.{Certificate}
 use Rattle.certificate_codec.specs.Reading.{certificate_at}
 use Rattle.log_codec.specs.Laws.{IsBytes}
@@ -18,9 +18,12 @@ use Rattle.state_text.specs.declared.exit.Exit.{Exit}
 use Rattle.state_text.specs.declared.exit.Exit.TheVariants as exits
 use Rattle.tool_words.specs.declared.command.Command.{Command}
 use Rattle.tool_words.specs.declared.command.Command.TheVariants.{Record, Run, Print, Replay, Migrate, Certify, Check}
-use Rattle.tool_words.specs.declared.command.Command.TheVariants.{Gen, Soak, At}
+use Rattle.tool_words.specs.declared.command.Command.TheVariants.{Gen, Soak, At, Thin, CheckThin}
 use Rattle.tool_words.specs.declared.command.RunWords.{RunWords}
 use Rattle.trace_gen.specs.Programs.{image_length}
+use Rattle.vector_reduce.specs.declared.thinned.Thinned.{Thinned}
+use Rattle.vector_reduce.specs.Answers.{AreFew, IsThinningOf}
+use Rattle.vector_reduce.specs.Reading.{thinned_at}
 use Rattle.rtr_cli.specs.Commands.{Makes, Promised, Refuses, SpellsSome, loaded, recording_of_bytes, run_bytes_max}
 
 -- the recording is one that `record` makes: that of a run of an image that the memory holds, within the limits
@@ -37,6 +40,14 @@ pub record IsOfRecord (r : Recording) : Type 0 where
 abbrev pub IsOfRecordWith : Instr → Recording → Type 0
 IsOfRecordWith at r = IsOfRecord r × IsInstrOf r at
 
+-- it is, and has no more vectors, nor more edges of them, than are tried
+abbrev pub IsOfRecordWithFew : Recording → Type 0
+IsOfRecordWithFew r = IsOfRecord r × AreFew r
+
+-- the thin file is one that `thin` makes
+abbrev pub IsOfThin : Thinned → Type 0
+IsOfThin t = (recording : Recording) × IsThinningOf recording t
+
 -- the certificate is one that `certify` makes: of a determinate recording, with exact entries
 pub record IsOfCertify (c : Certificate) : Type 0 where
   pub recording : Recording
@@ -44,8 +55,9 @@ pub record IsOfCertify (c : Certificate) : Type 0 where
   pub certifies : Certifies recording c
 
 -- the command makes an output of this input, unless memory runs out: of an image or a faultless ELF file; of any
--- recording, of either version, or of one that `record` makes, for `at` with the instruction; of a certificate that
--- `certify` makes, whose recording is spelled in either version; or of a generated image that the memory holds
+-- recording, of either version, or of one that `record` makes, for `at` with the instruction and for `thin` with few
+-- vectors; of a thin file that `thin` makes, or a certificate that `certify` makes, whose recording is spelled in
+-- either version; or of a generated image that the memory holds
 abbrev pub Accepts : Command → (input : List ℕ) → Type 0
 Accepts (Record run) input = SpellsSome (loaded run input) (λ bytes. Unit {0})
 Accepts (Run run loads) input = SpellsSome (loaded run input) (λ bytes. Unit {0})
@@ -57,6 +69,8 @@ Accepts Check input = SpellsSome (certificate_at input) IsOfCertify
 Accepts (Gen shape number) input = Unit {0}
 Accepts (Soak shape number params seed) input = image_length shape ≤ 4 * params.words
 Accepts (At which at latest loads) input = SpellsSome (whole_at input) (IsOfRecordWith at)
+Accepts (Thin certify) input = SpellsSome (whole_at input) IsOfRecordWithFew
+Accepts CheckThin input = SpellsSome (thinned_at input) IsOfThin
 
 -- the input has just these bytes left, no more than the command takes; for a command that takes none they are none,
 -- whatever the input has
@@ -86,6 +100,7 @@ pub record RecordingIsAccepted (out : List ℕ) : Type 0 where
   pub replayed : (which : Which) (loads : Bool) → Accepts (Replay which loads) out
   pub told : (which : Which) (at : Instr) (latest loads : Bool) → SpellsSome (whole_at out) (λ r. IsInstrOf r at)
       → Accepts (At which at latest loads) out
+  pub thinned : (certify : Bool) → SpellsSome (whole_at out) AreFew → Accepts (Thin certify) out
   pub migrated : Accepts Migrate out
   pub certified : Accepts Certify out
 
@@ -97,3 +112,4 @@ pub record WrittenIsAccepted : Type 0 where
   pub migrated : (input out : List ℕ) → IsBytes input → Makes Migrate input out → Accepts Certify input
       → RecordingIsAccepted out
   pub certified : (input out : List ℕ) → Makes Certify input out → Promised Certify input → Accepts Check out
+  pub thinned : (input out : List ℕ) → Makes (Thin true) input out → Accepts CheckThin out

@@ -23,6 +23,7 @@ ghost use Rattle.tool_words.specs.declared.command.Command.TheVariants.{Record, 
 
 use crate::cuts::state_at;
 use crate::soaks::soak;
+use crate::thins::{checked_thin, thinned};
 use certificate_codec::{Certificate, read_certificate, spell_certificate};
 use image_elf::{ElfFault, flatten};
 use image_mem::Image;
@@ -38,6 +39,7 @@ use state_text::{Exit, check_text, logs_text, state_text};
 use std::alloc::{AllocError, Global};
 use tool_words::{Command, RunWords};
 use trace_gen::gen_image;
+use vector_reduce::read_thin;
 
 /// The most bytes that a command takes which reads a recording, a certificate or an ELF file: 512 MiB.
 pub(crate) const FILE_BYTES_MAX: usize = 536_870_912;
@@ -53,7 +55,9 @@ pub(crate) fn most_of(command: &Command) -> Option<usize>
         | Command::Migrate
         | Command::Certify
         | Command::Check
-        | Command::At { .. } => Some(FILE_BYTES_MAX),
+        | Command::At { .. }
+        | Command::Thin { .. }
+        | Command::CheckThin => Some(FILE_BYTES_MAX),
         Command::Gen { .. } | Command::Soak { .. } => None,
     }
 }
@@ -115,6 +119,14 @@ pub(crate) fn make(alloc: Global, command: Command, bytes: Vec<u8>) -> Result<Ve
         } => {
             let recording = read(alloc, bytes.as_slice())?;
             state_at(alloc, recording, which, at, latest, loads)
+        }
+        Command::Thin { certify } => {
+            let recording = read(alloc, bytes.as_slice())?;
+            thinned(alloc, recording, certify)
+        }
+        Command::CheckThin => {
+            let thinned = read_thin(alloc, bytes.as_slice())?;
+            checked_thin(alloc, &thinned)
         }
     }
 }
@@ -243,7 +255,7 @@ pub(crate) fn audited(alloc: Global, recording: Recording, which: Which) -> Resu
 }
 
 /// How a command ends whose audit was refused so.
-fn exit_of_audit(fault: AuditFault) -> Exit
+pub(crate) fn exit_of_audit(fault: AuditFault) -> Exit
     ensures { result ≡ exit_of_audit fault }
 {
     match fault {

@@ -1,8 +1,10 @@
 //! What the commands' definitions promise of their outputs.
 ghost use Rattle.rtr_cli.specs.Commands.{AtMakesOne, CertifiedIsAccepted, MigratedReadsTheSame, NewestStays};
+ghost use Rattle.rtr_cli.specs.Commands.{ThinnedIsReplayed};
 ghost use Rattle.rtr_cli.specs.Completeness.{AcceptedIsNotRefused, WrittenIsAccepted};
 
 use cut_replay::laws::{one_cut_each, one_state};
+use vector_reduce::laws::thinned_spellings;
 
 /// What `migrate` makes of a recording of either version reads as the recording does, and it leaves the
 /// bytes of one of the newest version as they are.
@@ -24,9 +26,17 @@ pub fn at_laws()
     one_state();
 }
 
-/// What a command accepts it refuses for want of memory alone, and what `record`, `migrate` and `certify` write is
-/// accepted by the commands that read it.
+/// The recording that `thin` makes is determinate by its regulated log, so that a replay by it isn't refused, unless
+/// memory runs out.
+pub fn thin_laws()
+    ensures { ThinnedIsReplayed }
+{}
+
+/// What a command accepts it refuses for want of memory alone, and what `record`, `migrate`, `certify` and `thin` write
+/// is accepted by the commands that read it.
 pub fn completeness_laws()
     ensures accepted { AcceptedIsNotRefused }
     ensures written { WrittenIsAccepted }
-{}
+{
+    thinned_spellings();
+}

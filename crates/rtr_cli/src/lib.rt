@@ -6,8 +6,9 @@ mod cuts;
 mod laws;
 mod soak_texts;
 mod soaks;
+mod thins;
 mod tool;
 
-pub use laws::{at_laws, certify_laws, completeness_laws, migrate_laws};
+pub use laws::{at_laws, certify_laws, completeness_laws, migrate_laws, thin_laws};
 pub use soak_texts::soak_text;
 pub use tool::run_tool;

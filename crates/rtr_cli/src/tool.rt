@@ -31,12 +31,14 @@ use tool_words::{Command, meaning, what_words_mean_fits};
 /// first fault; `record` and `run` do with such a file what they do without the flag with its flat image. `Bad` comes
 /// exactly where the input was read to its end and has no reading, with the first part that has none. `NoInstr` comes
 /// in `at` alone, exactly where the recording doesn't have the instruction that the words name, whatever an audit
-/// would answer. `Stuck`, `Short` and `Undetermined` come in `replay`, `certify`, `check` and `at` alone, exactly
-/// where the input spells a recording, or a certificate of one, which has the instruction in `at`, and by the chosen
-/// log its low order ends before it is whole, falls short, or has two accesses unordered that conflict; `certify` and
-/// `check` go by the reduced log. `CheckFailed` comes in these two alone, where that isn't so: in `certify` exactly
-/// where the reduced log isn't least, and in `check` exactly where the certificate doesn't show it, with the first
-/// thing that fails.
+/// would answer. `Stuck`, `Short` and `Undetermined` come in `replay`, `certify`, `check`, `at`, `thin` and
+/// `checkthin` alone, exactly where the input spells a recording, or a certificate or a thin file of one, which has the
+/// instruction in `at`, and by the chosen log its low order ends before it is whole, falls short, or has two accesses
+/// unordered that conflict; `certify` and `check` go by the reduced log, and `thin` and `checkthin` by the regulated
+/// one. `CheckFailed` comes in `certify` and `check` alone, where that isn't so: in `certify` exactly where the reduced
+/// log isn't least, and in `check` exactly where the certificate doesn't show it, with the first thing that fails.
+/// Likewise `TooMany` comes in `thin` alone, exactly where there are more vectors or more edges of them than are tried,
+/// and `NotShown` in `checkthin` alone, exactly where a vector isn't shown to be needed, with the first such.
 /// `ReadFault` and `WriteFault` come only where the count of faults of the input or the output rose in this
 /// call, and `OutOfMemory` for want of memory alone. At `ReadFault` at most the bytes were taken that the command takes,
 /// and at `OutOfMemory` at most one more. The whole output is made before a byte is given, so

@@ -26,3 +26,5 @@ mod run_tables;
 mod tables;
 #[cfg(test)]
 mod tests;
+#[cfg(test)]
+mod thin_tables;

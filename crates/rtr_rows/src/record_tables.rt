@@ -35,7 +35,7 @@ macro_rules! recorded {
 /// addi x5,x0,1; beq x10,x5,+16; bne x10,x0,+24; sw x5,64(x0); ecall; lw x6,64(x0); sw x5,128(x0); ecall;
 /// lw x7,128(x0); lw x6,64(x0); ecall: core 0 writes a word. Core 1 reads that word and writes another, and
 /// core 2 reads the other and then the first.
-const READ_IN_TURN: &str =
+pub const READ_IN_TURN: &str =
     "93021000 63085500 631c0500 23205004 73000000 03230004 23205008 73000000 \
     83230008 03230004 73000000";
 

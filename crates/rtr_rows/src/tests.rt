@@ -3,10 +3,11 @@ use crate::certificate_tables::CERTIFICATES;
 use crate::cut_tables::STATES;
 use crate::generated_tables::{ELF_FILES, GENERATED};
 use crate::lesson_tables::{EXAMPLES, LESSON};
-use crate::record_tables::RECORDINGS;
+use crate::record_tables::{READ_IN_TURN, RECORDINGS};
 use crate::replay_tables::{REPLAYS, Replayed};
 use crate::run_tables::{FAULTY, RUNS};
 use crate::tables::{CUTS, ROWS, Row};
+use crate::thin_tables::{FEWER, MORE, NEW, OLD, THINNED};
 use log_codec::{fits_old, read, spell_v1};
 use std::alloc::Global;
 use std::process::Abort;
@@ -249,5 +250,101 @@ fn words_that_mean_nothing_are_refused(rt: HostRuntime) -> Result<(), Fail> {
             "{words}"
         );
     }
+    Ok(())
+}
+
+/// The bytes of a recording of `READ_IN_TURN`: the pieces before and after the image; none where none stands before it.
+fn read_in_turn(alloc: Global, header: &str, logs: &str) -> Result<Vec<u8>, Fail> {
+    let mut recording = bytes(alloc, header)?;
+    if !recording.is_empty() {
+        for piece in [READ_IN_TURN, logs] {
+            let piece = bytes(alloc, piece)?;
+            recording.extend_from_slice(piece.as_slice())?;
+        }
+    }
+    Ok(recording)
+}
+
+#[test]
+fn each_log_is_thinned_or_refused(rt: HostRuntime) -> Result<(), Fail> {
+    let alloc = rt.alloc();
+    for row in &THINNED {
+        let mut wanted = read_in_turn(alloc, row.gives, row.left)?;
+        wanted.extend_from_slice(row.text.as_bytes())?;
+        let (words, logs) = (row.words, row.logs);
+        let answer = ask(alloc, words, read_in_turn(alloc, row.header, logs)?)?;
+        assert_eq!(rt; answer.status, row.status, "{words}: {logs}");
+        assert_eq!(rt;
+            answer.output.as_slice(),
+            wanted.as_slice(),
+            "{words}: {logs}"
+        );
+        assert_eq!(rt;
+            answer.report.as_slice(),
+            row.report.as_bytes(),
+            "{words}: {logs}"
+        );
+    }
+    Ok(())
+}
+
+// A replay by the thinned log says what one by the log before says.
+#[test]
+fn a_thinned_log_replays_the_same(rt: HostRuntime) -> Result<(), Fail> {
+    let alloc = rt.alloc();
+    let words = "replay --log regulated --loads";
+    let before = ask(alloc, words, read_in_turn(alloc, OLD, MORE)?)?;
+    let after = ask(alloc, words, read_in_turn(alloc, NEW, FEWER)?)?;
+    assert_eq!(rt; after.status, 0);
+    assert_eq!(rt; after.output.as_slice(), before.output.as_slice());
+    Ok(())
+}
+
+// Each recording has a thinning, whose certificate is accepted, and which replays the run.
+#[test]
+fn each_recording_is_thinned(rt: HostRuntime) -> Result<(), Fail> {
+    let alloc = rt.alloc();
+    for row in &RECORDINGS {
+        let thinned = ask(alloc, "thin", recording_of(alloc, row)?)?;
+        let replay = ask(alloc, "replay --log regulated --loads", thinned.output)?;
+        let run = ask(alloc, "replay --loads", recording_of(alloc, row)?)?;
+        assert_eq!(rt;
+            replay.output.as_slice(),
+            run.output.as_slice(),
+            "{}",
+            row.words
+        );
+        let certificate = ask(alloc, "thin --certify", recording_of(alloc, row)?)?;
+        let check = ask(alloc, "checkthin", certificate.output)?;
+        assert_eq!(rt; check.status, 0, "{}", row.words);
+    }
+    Ok(())
+}
+
+// Two cores that jump in place, with an edge between each two instructions of one count: one vector more than are
+// tried.
+#[test]
+fn too_many_vectors_are_told(rt: HostRuntime) -> Result<(), Fail> {
+    let alloc = rt.alloc();
+    let mut recording = bytes(
+        alloc,
+        "52545201 02 904e 04 04 6f000000 8120 8120 00 00 8120",
+    )?;
+    for count in 1..4098 {
+        recording.push(1)?;
+        for number in [count, count] {
+            if number < 128 {
+                recording.push(number as u8)?;
+            } else {
+                recording.extend_from_slice(&[(number % 128) as u8 + 128, (number / 128) as u8])?;
+            }
+        }
+    }
+    recording.push(0)?;
+    let answer = ask(alloc, "thin", recording)?;
+    assert_eq!(rt; answer.status, 13);
+    assert_eq!(rt; answer.output.as_slice(), b"".as_slice());
+    let wanted = b"rtr: 4097 vectors with 4097 edges are too many\n".as_slice();
+    assert_eq!(rt; answer.report.as_slice(), wanted);
     Ok(())
 }

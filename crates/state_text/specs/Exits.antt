@@ -14,6 +14,7 @@ use Rattle.state_text.specs.declared.exit.Exit.{Exit}
 use Rattle.state_text.specs.declared.exit.Exit.TheVariants.{Done, Usage, TooLarge, Bad, Stuck, Short, Undetermined}
 use Rattle.state_text.specs.declared.exit.Exit.TheVariants.{CheckFailed, ReadFault, WriteFault}
 use Rattle.state_text.specs.declared.exit.Exit.TheVariants.{OutOfMemory, Elf, NoInstr}
+use Rattle.state_text.specs.declared.exit.Exit.TheVariants.{TooMany, NotShown}
 use Rattle.state_text.specs.Pieces.{line}
 
 -- the exit status
@@ -31,6 +32,8 @@ status_of WriteFault = 9
 status_of OutOfMemory = 10
 status_of (Elf fault) = 11
 status_of (NoInstr at) = 12
+status_of (TooMany vectors edges) = 13
+status_of (NotShown vector) = 14
 
 -- the counts of a cut, core 0 first, each after a space
 abbrev pub count_text : ℕ → List ℕ
@@ -85,6 +88,9 @@ fault_line WriteFault = line (codes "rtr: write fault")
 fault_line OutOfMemory = line (codes "rtr: out of memory")
 fault_line (Elf fault) = elf_line fault
 fault_line (NoInstr at) = line (codes "rtr: no instruction " ++ instr_text at)
+fault_line (TooMany vectors edges) =
+    line (codes "rtr: " ++ decimal vectors ++ codes " vectors with " ++ decimal edges ++ codes " edges are too many")
+fault_line (NotShown vector) = line (codes "rtr: vector " ++ decimal vector ++ codes " is not shown needed")
 
 -- how a command ends whose input can't be read
 abbrev pub exit_of : CodecFault → Exit

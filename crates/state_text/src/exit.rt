@@ -44,6 +44,10 @@ pub enum Exit {
     /// The recording on the input has no such instruction: its core isn't one of the recording's, or the count is
     /// beyond the core's total.
     NoInstr { at: Instr },
+    /// The regulated log has more vectors than are tried, or more edges in all of them.
+    TooMany { vectors: u64, edges: u64 },
+    /// The vector with this number, counted from 1, isn't shown to be needed by the thin file. It is the first such.
+    NotShown { vector: u32 },
 }
 
 impl Exit {
@@ -65,6 +69,8 @@ impl Exit {
             Exit::OutOfMemory => 10,
             Exit::Elf { .. } => 11,
             Exit::NoInstr { .. } => 12,
+            Exit::TooMany { .. } => 13,
+            Exit::NotShown { .. } => 14,
         }
     }
 }

@@ -16,6 +16,9 @@ pub const FAULT_TEXT_MAX: usize = 256;
 /// The most digits of a number of 32 bits.
 const DIGITS_MAX: usize = 10;
 
+/// The most digits of a number of 64 bits.
+const LONG_DIGITS_MAX: usize = 20;
+
 /// A text of at most 256 bytes that stands inline, so that it can be made where memory ran out.
 #[derive(Drop)]
 pub struct FaultText {
@@ -67,6 +70,16 @@ impl FaultText {
         requires { length self.old + DIGITS_MAX ≤ FAULT_TEXT_MAX }
         ensures text { self.new ≡ self.old ++ decimal number }
         ensures short { length self.new ≤ length self.old + DIGITS_MAX }
+    {
+        let mut buffer = Buffer::new();
+        self.put(buffer.format(number).as_bytes());
+    }
+
+    // Puts a decimal number of 64 bits at the end.
+    fn put_long(&mut self, number: u64)
+        requires { length self.old + LONG_DIGITS_MAX ≤ FAULT_TEXT_MAX }
+        ensures text { self.new ≡ self.old ++ decimal number }
+        ensures short { length self.new ≤ length self.old + LONG_DIGITS_MAX }
     {
         let mut buffer = Buffer::new();
         self.put(buffer.format(number).as_bytes());
@@ -221,6 +234,18 @@ pub fn fault_text(exit: &Exit) -> FaultText
             text.put(b"rtr: no instruction ");
             text.put_instr(*at);
             text.put(b"\n");
+        }
+        Exit::TooMany { vectors, edges } => {
+            text.put(b"rtr: ");
+            text.put_long(*vectors);
+            text.put(b" vectors with ");
+            text.put_long(*edges);
+            text.put(b" edges are too many\n");
+        }
+        Exit::NotShown { vector } => {
+            text.put(b"rtr: vector ");
+            text.put_number(*vector);
+            text.put(b" is not shown needed\n");
         }
     }
     text

@@ -1,6 +1,6 @@
 //! The texts that the tool prints: how a command ended, the state that a run or a replay left or a cut comes to, the
-//! logs of a recording, and that a check found a log least. Each line ends with one line feed, and each text is a list
-//! of bytes that the definitions in `specs/` give line by line.
+//! logs of a recording, and that a check found a log least or its vectors needed. Each line ends with one line feed,
+//! and each text is a list of bytes that the definitions in `specs/` give line by line.
 #![tactic(auto)]
 
 mod checks;
@@ -11,7 +11,7 @@ mod hex_word;
 mod logs;
 mod states;
 
-pub use checks::check_text;
+pub use checks::{check_text, needed_text};
 pub use cuts::cut_state_text;
 pub use exit::Exit;
 pub use faults::{FAULT_TEXT_MAX, FaultText, fault_text};

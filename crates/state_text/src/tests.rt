@@ -1,7 +1,7 @@
 //! Texts from the tool's written description.
 ghost use Rattle.std.specs.Prelude.{◌≡◌, ◌≤◌, ◌∷◌, [], IfOk, length};
 
-use crate::{Exit, check_text, cut_state_text, fault_text, logs_text, state_text};
+use crate::{Exit, check_text, cut_state_text, fault_text, logs_text, needed_text, state_text};
 use image_elf::ElfFault;
 use image_mem::Image;
 use log_codec::Recording;
@@ -99,6 +99,19 @@ fn exits(rt: HostRuntime) {
             12,
             "rtr: no instruction 0:6\n",
         ),
+        (
+            Exit::TooMany {
+                vectors: 5000,
+                edges: 9000,
+            },
+            13,
+            "rtr: 5000 vectors with 9000 edges are too many\n",
+        ),
+        (
+            Exit::NotShown { vector: 1 },
+            14,
+            "rtr: vector 1 is not shown needed\n",
+        ),
     ];
     for (exit, status, text) in rows {
         assert_eq!(rt; exit.status(), status);
@@ -149,6 +162,15 @@ fn longest_exit(rt: HostRuntime) {
 fn a_check(rt: HostRuntime) -> Result<(), Fail> {
     let text = check_text(rt.alloc(), u64::MAX)?;
     let line = "least 18446744073709551615 edges\n";
+    assert_eq!(rt; text.as_slice(), line.as_bytes());
+    Ok(())
+}
+
+// The most vectors that a number of 64 bits tells.
+#[test]
+fn a_check_of_vectors(rt: HostRuntime) -> Result<(), Fail> {
+    let text = needed_text(rt.alloc(), u64::MAX)?;
+    let line = "needed 18446744073709551615 vectors\n";
     assert_eq!(rt; text.as_slice(), line.as_bytes());
     Ok(())
 }

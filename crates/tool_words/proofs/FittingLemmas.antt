@@ -15,10 +15,10 @@ use Rattle.tool_words.specs.declared.command.Command.{Command}
 use Rattle.tool_words.specs.declared.command.Command.TheVariants.{Gen as GenImage, Soak as SoakImage}
 use Rattle.tool_words.specs.declared.command.Command.TheVariants.{At as StateAt}
 use Rattle.tool_words.specs.declared.command.Verb.{Verb}
-use Rattle.tool_words.specs.declared.command.Verb.TheVariants.{Record, Run, Print, Replay, Migrate, Certify, Check, Gen, Soak, At}
+use Rattle.tool_words.specs.declared.command.Verb.TheVariants.{Record, Run, Print, Replay, Migrate, Certify, Check, Gen, Soak, At, Thin, CheckThin}
 use Rattle.tool_words.specs.declared.options.Name.{Name}
 use Rattle.tool_words.specs.declared.options.Name.TheVariants.{Cores, Limit, Words, Choices, Seed, Log, Loads, Elf, Shape, Number}
-use Rattle.tool_words.specs.declared.options.Name.TheVariants.{Core, Count, Latest}
+use Rattle.tool_words.specs.declared.options.Name.TheVariants.{Core, Count, Latest, Certified}
 use Rattle.tool_words.specs.Settings.{Settings}
 use Rattle.tool_words.specs.Numerals.{is_numeral, number_between}
 use Rattle.tool_words.specs.Choices.{are_choices}
@@ -161,6 +161,9 @@ put_new-fits s t Count text h fit =
 put_new-fits s t Latest text h fit =
     let same : record s { latest = true } ≡ t = cc in
     alike (ranged s) (ranged t) (ap ranged same) fit
+put_new-fits s t Certified text h fit =
+    let same : record s { certify = true } ≡ t = cc in
+    alike (ranged s) (ranged t) (ap ranged same) fit
 
 put-fits : (s t : Settings) (name : Name) (text : List ℕ) → put s name text ≡ Some t → AreFitting (ranged s) → AreFitting (ranged t)
 put-fits s t name text h fit = put_new-fits s t name text (if-none (is_set s name) (put_new s name text) t h) fit
@@ -249,6 +252,8 @@ command-fits Soak s command h fit few =
 command-fits At s command h fit few =
     let made = map-some (λ at. StateAt (which_of s) at s.latest s.loads) (named_instr s) command h in
     let P : Command → Type 0 = λ c. HasFittingParams c in subst P made.2 (instr_may_be s made.0 made.1 fit)
+command-fits Thin s command h fit few = of-command _ command h tt
+command-fits CheckThin s command h fit few = of-command _ command h tt
 
 pub fitting_law : FittingLaw
 fitting_law [] command h = absurd (cc)

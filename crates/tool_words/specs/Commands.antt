@@ -16,10 +16,12 @@ use Rattle.tool_words.specs.declared.command.Command.TheVariants.{Replay as Repl
 use Rattle.tool_words.specs.declared.command.Command.TheVariants.{Certify as CertifyRecording}
 use Rattle.tool_words.specs.declared.command.Command.TheVariants.{Check as CheckCertificate}
 use Rattle.tool_words.specs.declared.command.Command.TheVariants.{Gen as GenImage, Soak as SoakImage}
-use Rattle.tool_words.specs.declared.command.Command.TheVariants.{At as StateAt}
+use Rattle.tool_words.specs.declared.command.Command.TheVariants.{At as StateAt, Thin as ThinVectors}
+use Rattle.tool_words.specs.declared.command.Command.TheVariants.{CheckThin as CheckThinned}
 use Rattle.tool_words.specs.declared.command.Verb.{Verb}
 use Rattle.tool_words.specs.declared.command.Verb.TheVariants.{Record, Run, Print, Replay, Migrate}
 use Rattle.tool_words.specs.declared.command.Verb.TheVariants.{Certify, Check, Gen, Soak, At}
+use Rattle.tool_words.specs.declared.command.Verb.TheVariants.{Thin, CheckThin}
 use Rattle.tool_words.specs.Settings.{Settings}
 use Rattle.tool_words.specs.Choices.{bytes_of}
 use Rattle.tool_words.specs.Options.{params_of, which_of}
@@ -36,7 +38,9 @@ verb_named word =
     if bytes_eq word (codes "check") then Some Check else
     if bytes_eq word (codes "gen") then Some Gen else
     if bytes_eq word (codes "soak") then Some Soak else
-    if bytes_eq word (codes "at") then Some At else None
+    if bytes_eq word (codes "at") then Some At else
+    if bytes_eq word (codes "thin") then Some Thin else
+    if bytes_eq word (codes "checkthin") then Some CheckThin else None
 
 -- the run with these settings
 abbrev pub run_of : Settings → RunWords
@@ -74,6 +78,8 @@ command_of Check s = Some CheckCertificate
 command_of Gen s = option_map (λ p. GenImage p.0 p.1) (shaped s)
 command_of Soak s = option_map (λ p. SoakImage p.0 p.1 (params_of s) (unwrap_or s.seed 0)) (shaped s)
 command_of At s = option_map (λ at. StateAt (which_of s) at s.latest s.loads) (named_instr s)
+command_of Thin s = Some (ThinVectors s.certify)
+command_of CheckThin s = Some CheckThinned
 
 -- a machine may have this instruction: the core is one of the most, and the count lies within the greatest limit
 abbrev pub MayBe : Instr → Type 0
@@ -92,3 +98,5 @@ HasFittingParams CheckCertificate = Unit {0}
 HasFittingParams (GenImage shape number) = IsTrue (takes shape number)
 HasFittingParams (SoakImage shape number params seed) = Fits params × IsTrue (takes shape number)
 HasFittingParams (StateAt which at latest loads) = MayBe at
+HasFittingParams (ThinVectors certify) = Unit {0}
+HasFittingParams CheckThinned = Unit {0}

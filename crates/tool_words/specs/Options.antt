@@ -12,11 +12,11 @@ use Rattle.rtr_types.specs.declared.params.TheConstants.{INSTRUCTIONS_MAX, LIMIT
 use Rattle.trace_gen.specs.declared.shape.Shape as shapes
 use Rattle.trace_gen.specs.declared.shape.Shape.TheVariants.{Mix, Lock}
 use Rattle.tool_words.specs.declared.command.Verb.{Verb}
-use Rattle.tool_words.specs.declared.command.Verb.TheVariants.{Record, Run, Replay, Gen, Soak, At}
+use Rattle.tool_words.specs.declared.command.Verb.TheVariants.{Record, Run, Replay, Gen, Soak, At, Thin}
 use Rattle.tool_words.specs.declared.options.Name.{Name}
 use Rattle.tool_words.specs.declared.options.Name.TheVariants.{Cores, Limit, Words, Choices, Seed}
 use Rattle.tool_words.specs.declared.options.Name.TheVariants.{Log, Loads, Elf, Shape, Number}
-use Rattle.tool_words.specs.declared.options.Name.TheVariants.{Core, Count, Latest}
+use Rattle.tool_words.specs.declared.options.Name.TheVariants.{Core, Count, Latest, Certified}
 use Rattle.tool_words.specs.Settings.{Settings}
 use Rattle.tool_words.specs.Choices.{are_choices}
 use Rattle.tool_words.specs.Numerals.{number_between}
@@ -36,7 +36,8 @@ option_named word =
     if bytes_eq word (codes "--number") then Some Number else
     if bytes_eq word (codes "--core") then Some Core else
     if bytes_eq word (codes "--count") then Some Count else
-    if bytes_eq word (codes "--latest") then Some Latest else None
+    if bytes_eq word (codes "--latest") then Some Latest else
+    if bytes_eq word (codes "--certify") then Some Certified else None
 
 -- the command takes the option, where it stands here
 abbrev pub takes : Verb → Name → Bool
@@ -68,6 +69,7 @@ takes At Count = true
 takes At Log = true
 takes At Latest = true
 takes At Loads = true
+takes Thin Certified = true
 takes verb name = false
 
 -- the option that a word names, where the command takes it
@@ -89,6 +91,7 @@ takes_value Number = true
 takes_value Core = true
 takes_value Count = true
 takes_value Latest = false
+takes_value Certified = false
 
 -- what holds where an option isn't set
 abbrev pub cores_default : ℕ
@@ -116,6 +119,7 @@ no_settings = record {
   core = None;
   count = None;
   latest = false;
+  certify = false;
 }
 
 -- the number of words of a memory: in range, and of whole blocks
@@ -150,6 +154,7 @@ is_set s Number = is_some s.number
 is_set s Core = is_some s.core
 is_set s Count = is_some s.count
 is_set s Latest = s.latest
+is_set s Certified = s.certify
 
 -- the settings with this one; none where the text is no value of it
 abbrev pub put_new : Settings → Name → List ℕ → Option Settings
@@ -166,6 +171,7 @@ put_new s Number text = option_map (λ n. record s { number = Some n }) (number_
 put_new s Core text = option_map (λ n. record s { core = Some n }) (number_between 0 (CORES_MAX - 1) text)
 put_new s Count text = option_map (λ n. record s { count = Some n }) (number_between 1 LIMIT_MAX text)
 put_new s Latest text = Some (record s { latest = true })
+put_new s Certified text = Some (record s { certify = true })
 
 -- the settings with one more; none where that option was set before
 abbrev pub put : Settings → Name → List ℕ → Option Settings

@@ -20,6 +20,7 @@ pub record Settings : Type 0 where
   pub core : Option ℕ
   pub count : Option ℕ
   pub latest : Bool
+  pub certify : Bool
 
 -- the settings as the code holds them, with the choices' text borrowed from the words
 abbrev pub seen : Held → Settings
@@ -38,4 +39,5 @@ seen s =
       core = s.core;
       count = s.count;
       latest = s.latest;
+      certify = s.certify;
     }

@@ -68,6 +68,13 @@ pub enum Command {
         latest: bool,
         loads: bool,
     },
+    /// Leave out vectors of the regulated log of the recording on the input that the others imply; with `certify`
+    /// also show of each that is left that it is needed.
+    Thin {
+        certify: bool,
+    },
+    /// Check what the thin file on the input shows.
+    CheckThin,
 }
 
 /// The first word: a command without its options.
@@ -83,6 +90,8 @@ pub(crate) enum Verb {
     Gen,
     Soak,
     At,
+    Thin,
+    CheckThin,
 }
 
 impl Verb {
@@ -110,6 +119,10 @@ impl Verb {
             Some(Verb::Soak)
         } else if word == "at" {
             Some(Verb::At)
+        } else if word == "thin" {
+            Some(Verb::Thin)
+        } else if word == "checkthin" {
+            Some(Verb::CheckThin)
         } else {
             None
         }
@@ -161,6 +174,10 @@ impl Verb {
                 },
                 None => return Ok(None),
             },
+            Verb::Thin => Command::Thin {
+                certify: settings.certify,
+            },
+            Verb::CheckThin => Command::CheckThin,
         }))
     }
 }

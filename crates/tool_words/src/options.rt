@@ -40,6 +40,7 @@ pub(crate) enum Name {
     Core,
     Count,
     Latest,
+    Certified,
 }
 
 impl Name {
@@ -85,6 +86,8 @@ impl Name {
             Some(Name::Count)
         } else if word == "--latest" {
             Some(Name::Latest)
+        } else if word == "--certify" {
+            Some(Name::Certified)
         } else {
             None
         }
@@ -103,6 +106,7 @@ impl Name {
             Name::Loads => matches!(verb, Verb::Run | Verb::Replay | Verb::At),
             Name::Shape | Name::Number => matches!(verb, Verb::Gen | Verb::Soak),
             Name::Core | Name::Count | Name::Latest => matches!(verb, Verb::At),
+            Name::Certified => matches!(verb, Verb::Thin),
         }
     }
 
@@ -110,7 +114,10 @@ impl Name {
     pub(crate) fn takes_value(self) -> bool
         ensures { result ≡ takes_value self }
     {
-        !matches!(self, Name::Loads | Name::Elf | Name::Latest)
+        !matches!(
+            self,
+            Name::Loads | Name::Elf | Name::Latest | Name::Certified
+        )
     }
 }
 
@@ -131,6 +138,7 @@ pub(crate) struct Settings<'a> {
     pub(crate) core: Option<u8>,
     pub(crate) count: Option<u32>,
     pub(crate) latest: bool,
+    pub(crate) certify: bool,
 }
 
 impl<'a> Settings<'a> {
@@ -152,6 +160,7 @@ impl<'a> Settings<'a> {
             core: None,
             count: None,
             latest: false,
+            certify: false,
         }
     }
 
@@ -184,6 +193,7 @@ impl<'a> Settings<'a> {
             Name::Core => self.core.is_some(),
             Name::Count => self.count.is_some(),
             Name::Latest => self.latest,
+            Name::Certified => self.certify,
         }
     }
 
@@ -240,6 +250,10 @@ impl<'a> Settings<'a> {
             }),
             Name::Latest => Some(Settings {
                 latest: true,
+                ..self
+            }),
+            Name::Certified => Some(Settings {
+                certify: true,
                 ..self
             }),
         }

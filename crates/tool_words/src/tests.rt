@@ -195,7 +195,7 @@ fn words_that_mean_a_replay(rt: HostRuntime) -> Result<(), Fail> {
     Ok(())
 }
 
-static FAULTY: [&str; 80] = [
+static FAULTY: [&str; 87] = [
     "",
     "records",
     "--help",
@@ -276,6 +276,13 @@ static FAULTY: [&str; 80] = [
     "at --core 1 --count 2 --limit 3",
     "at --core 1 --count 2 --log least",
     "replay --latest",
+    "thin --certify --certify",
+    "thin --certify=",
+    "thin --certify 1",
+    "thin --log regulated",
+    "checkthin --certify",
+    "certify --certify",
+    "check thin",
 ];
 
 #[test]
@@ -304,14 +311,19 @@ fn words_that_mean_a_recording(rt: HostRuntime) -> Result<(), Fail> {
     Ok(())
 }
 
+/// Whether the command records the run of the row.
+fn is_record(command: Option<Command>, row: &Row) -> bool {
+    let Some(Command::Record(run)) = command else {
+        return false;
+    };
+    is_of_row(&run, row)
+}
+
 #[test]
 fn words_that_mean_a_record(rt: HostRuntime) -> Result<(), Fail> {
     let words = words(rt.alloc(), "record --elf --words 32 --choices=07")?;
-    let meant = match meaning(rt.alloc(), words.as_slice())? {
-        Some(Command::Record(run)) => is_of_row(&run, &ROWS[8]),
-        _ => false,
-    };
-    assert!(rt; meant);
+    let command = meaning(rt.alloc(), words.as_slice())?;
+    assert!(rt; is_record(command, &ROWS[8]));
     Ok(())
 }
 
@@ -484,5 +496,30 @@ fn words_that_mean_an_instruction(rt: HostRuntime) -> Result<(), Fail> {
         let command = meaning(rt.alloc(), words.as_slice())?;
         assert!(rt; is_at(command, row), "{}", row.line);
     }
+    Ok(())
+}
+
+/// The words of a line, and what they mean.
+fn meaning_of(alloc: Global, line: &str) -> Result<Option<Command>, AllocError> {
+    let words = words(alloc, line)?;
+    meaning(alloc, words.as_slice())
+}
+
+#[test]
+fn words_that_mean_fewer_vectors(rt: HostRuntime) -> Result<(), Fail> {
+    let alloc = rt.alloc();
+    assert!(rt;
+        matches!(
+            meaning_of(alloc, "thin")?,
+            Some(Command::Thin { certify: false })
+        )
+    );
+    assert!(rt;
+        matches!(
+            meaning_of(alloc, "thin --certify")?,
+            Some(Command::Thin { certify: true })
+        )
+    );
+    assert!(rt; matches!(meaning_of(alloc, "checkthin")?, Some(Command::CheckThin)));
     Ok(())
 }

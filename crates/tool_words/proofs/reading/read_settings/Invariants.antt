@@ -23,6 +23,7 @@ invariant-loop-next l = record {
         core = l.settings.1.1.1.1.1.1.1.1.1.1.0;
         count = l.settings.1.1.1.1.1.1.1.1.1.1.1.0;
         latest = l.settings.1.1.1.1.1.1.1.1.1.1.1.1.0;
+        certify = l.settings.1.1.1.1.1.1.1.1.1.1.1.1.1.0;
       }) (map string_bytes (drop l.next l.words));
 }
 
