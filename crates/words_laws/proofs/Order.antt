@@ -63,6 +63,7 @@ merge d s = record {
   core = pick d.core s.core;
   count = pick d.count s.count;
   latest = d.latest || s.latest;
+  certify = d.certify || s.certify;
 }
 
 -- some option is set in both
@@ -80,7 +81,8 @@ overlaps d s =
     || ((is_some d.number && is_some s.number)
     || ((is_some d.core && is_some s.core)
     || ((is_some d.count && is_some s.count)
-    || ((d.latest && s.latest)))))))))))))
+    || ((d.latest && s.latest)
+    || ((d.certify && s.certify))))))))))))))
 
 or-false : (b : Bool) → (b || false) ≡ b
 or-false true = refl
@@ -134,6 +136,9 @@ is-count x = is_set (record no_settings { count = Some 0 }) x.name
 
 abbrev is-latest : Set → Bool
 is-latest x = is_set (record no_settings { latest = true }) x.name
+
+abbrev is-certify : Set → Bool
+is-certify x = is_set (record no_settings { certify = true }) x.name
 
 over-cores : (s : Settings) (o : Option ℕ) →
     option_map (λ d. merge d s) (option_map (λ v. record no_settings { cores = Some v }) o) ≡ option_map (λ v. record s { cores = Some v }) o
@@ -284,6 +289,9 @@ lays-count s x h = record { over = grind (arith, over-count s); before = grind (
 lays-latest : (s : Settings) (x : Set) → is-latest x ≡ true → Lays s x
 lays-latest s x h = record { over = grind (arith); before = grind (arith, or-false) }
 
+lays-certify : (s : Settings) (x : Set) → is-certify x ≡ true → Lays s x
+lays-certify s x h = record { over = grind (arith); before = grind (arith, or-false) }
+
 some-option : (x : Set) →
     (is-cores x ||
     (is-limit x ||
@@ -297,7 +305,8 @@ some-option : (x : Set) →
     (is-number x ||
     (is-core x ||
     (is-count x ||
-    (is-latest x))))))))))))) ≡ true
+    (is-latest x ||
+    (is-certify x)))))))))))))) ≡ true
 some-option x = grind arith
 
 lays : (s : Settings) (x : Set) → Lays s x
@@ -314,7 +323,8 @@ lays s x =
     either (is-number x) _ h9 (lays-number s x) (λ h10.
     either (is-core x) _ h10 (lays-core s x) (λ h11.
     either (is-count x) _ h11 (lays-count s x) (λ h12.
-    lays-latest s x h12))))))))))))
+    either (is-latest x) _ h12 (lays-latest s x) (λ h13.
+    lays-certify s x h13)))))))))))))
 
 laid : (s : Settings) (x : Set) (d : Settings) → single x ≡ Some d → put_new s x.name x.text ≡ Some (merge d s)
 laid s x d p = sym (lays s x).over ∙ ap (λ o. option_map (λ d. merge d s) o) p
@@ -364,6 +374,7 @@ record Apart (d e : Settings) : Type 0 where
   core : (is_some d.core && is_some e.core) ≡ false
   count : (is_some d.count && is_some e.count) ≡ false
   latest : (d.latest && e.latest) ≡ false
+  certify : (d.certify && e.certify) ≡ false
 
 -- settings that set the same option are of it
 same-cores : (x y : Set) (d e : Settings) → single x ≡ Some d → single y ≡ Some e → is_some d.cores ≡ true →
@@ -418,6 +429,10 @@ same-latest : (x y : Set) (d e : Settings) → single x ≡ Some d → single y 
     e.latest ≡ true → x.name ≡ y.name
 same-latest x y d e p q a b = grind arith
 
+same-certify : (x y : Set) (d e : Settings) → single x ≡ Some d → single y ≡ Some e → d.certify ≡ true →
+    e.certify ≡ true → x.name ≡ y.name
+same-certify x y d e p q a b = grind arith
+
 apart-by-name : (x y : Set) (d e : Settings) → single x ≡ Some d → single y ≡ Some e → x.name ≢ y.name → Apart d e
 apart-by-name x y d e p q ne = record {
   cores = not-both (is_some d.cores) (is_some e.cores) (λ a b. ne (same-cores x y d e p q a b));
@@ -433,6 +448,7 @@ apart-by-name x y d e p q ne = record {
   core = not-both (is_some d.core) (is_some e.core) (λ a b. ne (same-core x y d e p q a b));
   count = not-both (is_some d.count) (is_some e.count) (λ a b. ne (same-count x y d e p q a b));
   latest = not-both d.latest e.latest (λ a b. ne (same-latest x y d e p q a b));
+  certify = not-both d.certify e.certify (λ a b. ne (same-certify x y d e p q a b));
 }
 
 -- whether e is set there already goes by what was there before d
@@ -452,6 +468,7 @@ overlaps-before d e s h =
       is-some-pick e.core d.core s.core h.core,
       is-some-pick e.count d.count s.count h.count,
       or-apart e.latest d.latest s.latest h.latest,
+      or-apart e.certify d.certify s.certify h.certify,
     ) refl
 
 same-fields : (s t : Settings) → s.cores ≡ t.cores →
@@ -466,8 +483,9 @@ same-fields : (s t : Settings) → s.cores ≡ t.cores →
     s.number ≡ t.number →
     s.core ≡ t.core →
     s.count ≡ t.count →
-    s.latest ≡ t.latest → s ≡ t
-same-fields s t p0 p1 p2 p3 p4 p5 p6 p7 p8 p9 p10 p11 p12 =
+    s.latest ≡ t.latest →
+    s.certify ≡ t.certify → s ≡ t
+same-fields s t p0 p1 p2 p3 p4 p5 p6 p7 p8 p9 p10 p11 p12 p13 =
     let f0 : Option ℕ → Settings = λ v. record s { cores = v } in
     let s1 = f0 t.cores in
     let f1 : Option ℕ → Settings = λ v. record s1 { limit = v } in
@@ -493,7 +511,10 @@ same-fields s t p0 p1 p2 p3 p4 p5 p6 p7 p8 p9 p10 p11 p12 =
     let f11 : Option ℕ → Settings = λ v. record s11 { count = v } in
     let s12 = f11 t.count in
     let f12 : Bool → Settings = λ v. record s12 { latest = v } in
+    let s13 = f12 t.latest in
+    let f13 : Bool → Settings = λ v. record s13 { certify = v } in
     ap f0 p0 ∙ ap f1 p1 ∙ ap f2 p2 ∙ ap f3 p3 ∙ ap f4 p4 ∙ ap f5 p5 ∙ ap f6 p6 ∙ ap f7 p7 ∙ ap f8 p8 ∙ ap f9 p9 ∙ ap f10 p10 ∙ ap f11 p11 ∙ ap f12 p12
+    ∙ ap f13 p13
 
 merge-merge : (d e s : Settings) → Apart d e → merge e (merge d s) ≡ merge d (merge e s)
 merge-merge d e s h =
@@ -511,6 +532,7 @@ merge-merge d e s h =
     (pick-pick e.core d.core s.core h.core)
     (pick-pick e.count d.count s.count h.count)
     (or-or e.latest d.latest s.latest)
+    (or-or e.certify d.certify s.certify)
 
 -- ---- one after the other
 
