@@ -242,7 +242,7 @@ no_reason CheckThin input a = record {
   few = λ vectors edges h. h;
   needed = λ vector h.
       both_said (thinned_at input) IsOfThin (λ t. IsNotNeededShown t vector) ⊥
-      (λ t is it. it.not_shown (is.1.shown it.before it.within).shown) a h;
+      (λ t is it. it.not_shown (is.1.shown.each it.before it.within).shown) a h;
   faultless = λ fault h. h;
   holds = λ h. h;
 }

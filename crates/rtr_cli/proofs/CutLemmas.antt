@@ -96,6 +96,8 @@ at_ends which at r exits.ReadFault has it = it
 at_ends which at r exits.WriteFault has it = it
 at_ends which at r (exits.Elf fault) has it = it
 at_ends which at r (exits.NoInstr absent) has it = absurd it
+at_ends which at r (exits.TooMany vectors edges) has it = it
+at_ends which at r (exits.NotShown vector) has it = it
 
 -- what was audited is replayed
 pub replayed_of : (which : Which) (r : Recording) (a : Findings) → IsAuditOf which r a → IsReplayed which r
