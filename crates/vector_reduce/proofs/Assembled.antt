@@ -1,5 +1,5 @@
 -- What thinning gives.
-use Rattle.std.proofs.Common.{◌≡◌, ◌≢◌, ℕ, zero, suc, ◌+◌, ◌<◌, ◌≤◌, ◌^◌, ◌⊎◌, inl, inr, List, [], ◌∷◌, length, take, get_or, refl, sym, ap, subst, ◌∙◌, arith}
+use Rattle.std.proofs.Common.{◌≡◌, ℕ, suc, ◌+◌, ◌<◌, ◌≤◌, inl, inr, List, [], ◌∷◌, length, get_or, refl, sym, ap, subst, ◌∙◌, arith}
 use Rattle.std.specs.Prelude.{Bool, slice_index, slice_index_or, sum_by}
 use Rattle.std.proofs.lemmas.Bool.{cases_lt}
 use Rattle.std.proofs.lemmas.List.{get_or-take, get_or_past, length-take-le}
@@ -13,7 +13,7 @@ use Rattle.clock_core.specs.Order.{Among, Before}
 use Rattle.clock_core.proofs.Listed.{among_contains}
 use Rattle.log_codec.specs.declared.recording.Recording.{Recording}
 use Rattle.log_codec.specs.Sources.{EdgeWithin}
-use Rattle.log_codec.specs.Turns.{StandInTurn, stay, count_up}
+use Rattle.log_codec.specs.Turns.{StandInTurn, stay}
 use Rattle.log_codec.specs.Validity.{Valid}
 use Rattle.log_codec.proofs.InTurn.{places-stand}
 use Rattle.log_codec.proofs.SourceLaws.{edges-within}

@@ -1,10 +1,9 @@
 -- What a check of a cut looks at.
-use Rattle.std.proofs.Common.{◌≡◌, ◌≢◌, ℕ, zero, suc, ◌+◌, ◌-◌, ◌*◌, ◌/◌, ◌<◌, ◌≤◌, ◌⊎◌, ◌↔◌, inl, inr, List, length, min, refl, sym, ap, subst, ◌∙◌, arith}
+use Rattle.std.proofs.Common.{◌≡◌, ◌≢◌, ℕ, ◌+◌, ◌-◌, ◌*◌, ◌/◌, ◌<◌, ◌≤◌, ◌⊎◌, ◌↔◌, inl, inr, List, length, min, sym, ap, subst, ◌∙◌, arith}
 use Rattle.std.proofs.Math.Nat.{mul-le-mul_left}
 use Rattle.std.proofs.lemmas.Nat.{div-add-mod', le-div}
 use Rattle.rtr_types.specs.declared.cut.Cut.{Cut}
 use Rattle.rtr_types.specs.declared.instr.Instr.{Instr}
-use Rattle.clock_core.specs.Order.{Among}
 use Rattle.stride_vector.specs.declared.StrideVector.{StrideVector}
 use Rattle.stride_vector.specs.Vectors.{IsVector, position_of}
 use Rattle.vector_reduce.specs.declared.pair_vector.PairVector.{PairVector}

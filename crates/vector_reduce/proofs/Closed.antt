@@ -1,7 +1,7 @@
 -- Closing a cut by going along the arrivals.
-use Rattle.std.proofs.Common.{◌≡◌, ◌≢◌, ℕ, zero, suc, ◌+◌, ◌-◌, ◌*◌, ◌<◌, ◌≤◌, ◌^◌, ◌⊎◌, inl, inr, List, [], length, get_or, max, refl, sym, ap, subst, ◌∙◌, true, false, arith}
-use Rattle.std.specs.Prelude.{All, Bool, Option, Some, None}
-use Rattle.std.specs.List.{Contains}
+use Rattle.std.proofs.Common.{◌≡◌, ◌≢◌, ℕ, zero, suc, ◌+◌, ◌-◌, ◌*◌, ◌<◌, ◌≤◌, ◌^◌, ◌⊎◌, inl, inr, List, [], length, get_or, max, refl, sym, ap, subst, ◌∙◌}
+use Rattle.std.proofs.Common.{true, false, arith}
+use Rattle.std.specs.Prelude.{Bool, Option, Some, None}
 use Rattle.std.proofs.Math.Nat.{mul-le-mul_left}
 use Rattle.std.proofs.lemmas.List.{get_or_default}
 use Rattle.rtr_types.specs.declared.TheConstants.{CORES_MAX}
@@ -13,13 +13,14 @@ use Rattle.vector_reduce.specs.declared.arrivals.Arrival.{Arrival}
 use Rattle.vector_reduce.specs.declared.closing.Closing.{Closing}
 use Rattle.vector_reduce.specs.declared.pair_vector.PairVector.{PairVector}
 use Rattle.vector_reduce.specs.declared.thinned.Shown.{Shown}
-use Rattle.vector_reduce.specs.Arrivals.{AnyDue, Arranged, Arranges, Arrives, HasPassed, IsBetween, IsClosedAt, IsClosing, IsDue, Leads, NextDue, Passes, Raises}
+use Rattle.vector_reduce.specs.Arrivals.{AnyDue, Arranged, Arranges, Arrives, HasPassed, IsBetween, IsClosedAt, IsClosing, IsDue, Leads, Passes}
+use Rattle.vector_reduce.specs.Arrivals.{Raises}
 use Rattle.vector_reduce.specs.Arrivals.{Takes, Tries, arrival, arrival_at, counts_of, edges_beside, list_at, no_arrival, passed_of}
 use Rattle.vector_reduce.specs.Cuts.{Holds, IsClosed, IsLeastCut}
 use Rattle.vector_reduce.specs.Kept.{beside, is_beside}
 use Rattle.vector_reduce.specs.Showing.{IsLeastShown}
 use Rattle.vector_reduce.specs.Thinning.{IsImplied}
-use Rattle.vector_reduce.specs.Vectors.{edge_at, edges_in, edges_of_all, vector_at}
+use Rattle.vector_reduce.specs.Vectors.{edge_at, edges_in, vector_at}
 use Rattle.vector_reduce.proofs.Cutting.{closed_holds}
 use Rattle.vector_reduce.proofs.Edges.{among_beside, beside_among, edge_among}
 
@@ -198,7 +199,8 @@ goes_on a stays y s t u core d r inside due took passes g = record {
     source_leads is = onward (among_beside a.vectors stays d.vector d.from (at core d.count) arrives.vector is arrives.edge) target_leads
 
     source_held : is_beside stays d.vector ≡ true → Holds (counts_of u) d.from
-    source_held is = subst (λ (l : List ℕ). d.from.count ≤ get_or l d.from.core 0) (sym passes.counts) (took_holds s t (is_beside stays d.vector) d.from took is)
+    source_held is = subst (λ (l : List ℕ). d.from.count ≤ get_or l d.from.core 0) (sym passes.counts)
+        (took_holds s t (is_beside stays d.vector) d.from took is)
 
     passed_is : (other : ℕ) → passed_of t other ≡ passed_of s other
     passed_is other = ap (λ (l : List ℕ). get_or l other 0) (took_passed s t (is_beside stays d.vector) d.from took)
@@ -372,7 +374,8 @@ tries_shown a stays v k s t shown lt y c out edge cut = inl (made shown.edge (sy
     es : List Edge
     es = edges_beside a.vectors stays
 
-    made : (e : ℕ) → k ≡ e → (l : List ℕ) → t.counts ≡ l → IsLeastShown (beside a.vectors stays) v (record { edge = e; cut = record { cores = shown.cut.cores; counts = l } })
+    made : (e : ℕ) → k ≡ e → (l : List ℕ) → t.counts ≡ l →
+        IsLeastShown (beside a.vectors stays) v (record { edge = e; cut = record { cores = shown.cut.cores; counts = l } })
     made e ke l tl = subst (λ (i : ℕ). IsLeastShown (beside a.vectors stays) v (record { edge = i; cut = record { cores = shown.cut.cores; counts = l } })) ke
         (subst (λ (m : List ℕ). IsLeastShown (beside a.vectors stays) v (record { edge = k; cut = record { cores = shown.cut.cores; counts = m } })) tl
         (record {

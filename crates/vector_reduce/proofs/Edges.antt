@@ -1,7 +1,8 @@
 -- Which edges some vectors have.
-use Rattle.std.proofs.Common.{◌≡◌, ◌≢◌, ℕ, zero, suc, ◌<◌, ◌≤◌, ◌⊎◌, inl, inr, List, [], ◌∷◌, ◌++◌, length, take, drop, get_or, refl, sym, ap, subst, ◌∙◌, true, false}
+use Rattle.std.proofs.Common.{◌≡◌, ◌≢◌, ℕ, zero, suc, ◌<◌, ◌⊎◌, inl, inr, List, [], ◌∷◌, ◌++◌, length, refl, sym, ap, subst, ◌∙◌, true}
+use Rattle.std.proofs.Common.{false}
 use Rattle.std.proofs.Common.{arith}
-use Rattle.std.specs.Prelude.{Bool, map, sum_by, slice_index_or}
+use Rattle.std.specs.Prelude.{Bool, map, slice_index_or}
 use Rattle.std.specs.List.{Contains, flat_map, range_with_len}
 use Rattle.std.proofs.lemmas.List.{map-append}
 use Rattle.std.proofs.lemmas.Grind.{flat_map-append}
@@ -18,7 +19,7 @@ use Rattle.log_codec.specs.declared.recording.Recording.{Recording}
 use Rattle.log_codec.specs.Sources.{edge_between, edges_at, log_edges}
 use Rattle.log_codec.proofs.Looked.{contains-map, map-contains}
 use Rattle.vector_reduce.specs.declared.pair_vector.PairVector.{PairVector}
-use Rattle.vector_reduce.specs.Kept.{kept, beside, is_beside}
+use Rattle.vector_reduce.specs.Kept.{beside, is_beside}
 use Rattle.vector_reduce.specs.Vectors.{edge_at, edges_in, edges_of_all, led_between, pair_vectors, vectors_of, vector_at, others_of, VectorsAreTheLog}
 
 -- ---- joined lists

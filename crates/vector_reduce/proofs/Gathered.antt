@@ -1,18 +1,18 @@
 -- The edges into a core, gathered vector by vector and then sorted.
-use Rattle.std.proofs.Common.{◌≡◌, ◌≢◌, ℕ, zero, suc, ◌+◌, ◌<◌, ◌≤◌, ◌⊎◌, inl, inr, List, [], ◌∷◌, ◌++◌, length, get_or, refl, sym, ap, subst, ◌∙◌, true, false, nat_lt, arith}
-use Rattle.std.specs.Prelude.{All, Bool, map}
+use Rattle.std.proofs.Common.{◌≡◌, ◌≢◌, ℕ, suc, ◌+◌, ◌<◌, ◌≤◌, ◌⊎◌, inl, inr, List, [], ◌++◌, length, get_or, sym, ap, subst, ◌∙◌}
+use Rattle.std.proofs.Common.{arith}
 use Rattle.std.specs.List.{Contains, range_with_len}
 use Rattle.std.specs.List.Sorted.{IsNonDecreasingBy, IsPermutation}
-use Rattle.std.proofs.lemmas.List.{get_or_default, length-append}
+use Rattle.std.proofs.lemmas.List.{get_or_default}
 use Rattle.std.proofs.lemmas.List.Elements.{Contains-append_cases, Contains-append_left, Contains-append_right}
-use Rattle.std.proofs.lemmas.List.FromFn.{get_or-map-range_with_len, get_or-range_with_len, length-range_with_len}
+use Rattle.std.proofs.lemmas.List.FromFn.{get_or-range_with_len, length-range_with_len}
 use Rattle.std.proofs.lemmas.List.Sorted.{All-permutation, Contains-permutation}
 use Rattle.rtr_types.specs.declared.instr.Instr.{Instr}
 use Rattle.clock_core.specs.Order.{Among}
 use Rattle.log_codec.proofs.Looked.{contains-map, map-contains}
 use Rattle.vector_reduce.specs.declared.arrivals.Arrival.{Arrival}
 use Rattle.vector_reduce.specs.declared.pair_vector.PairVector.{PairVector}
-use Rattle.vector_reduce.specs.Arrivals.{AreInto, Arrives, arrival, arrival_of, arrivals_in, no_arrival}
+use Rattle.vector_reduce.specs.Arrivals.{AreInto, Arrives, arrival, arrival_of, arrivals_in}
 use Rattle.vector_reduce.specs.Vectors.{edge_at, edges_in, vector_at}
 use Rattle.vector_reduce.proofs.Edges.{among_edge, edge_among}
 
@@ -68,7 +68,8 @@ gathers_more vs core n list new lt into is g = subst (λ (l : List Arrival). Gat
       | inr new ↦ own_arrives vs core n a lt into new
     ]
 
-    all : (j : ℕ) (x y : Instr) → j < n + 1 → j < length vs → Among (edges_in (vector_at vs j)) x y → y.core ≡ core → Contains (list ++ own) (arrival x y.count j)
+    all : (j : ℕ) (x y : Instr) → j < n + 1 → j < length vs → Among (edges_in (vector_at vs j)) x y → y.core ≡ core →
+        Contains (list ++ own) (arrival x y.count j)
     all j x y less inside among e = by (nothing_below j n (omega (arith, less)))
       where
         by : (j < n) ⊎ (j ≡ n) → Contains (list ++ own) (arrival x y.count j)

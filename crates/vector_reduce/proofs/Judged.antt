@@ -1,18 +1,16 @@
 -- What a check answers.
-use Rattle.std.proofs.Common.{◌≡◌, ◌≢◌, ℕ, ◌+◌, ◌-◌, ◌^◌, ◌<◌, ◌≤◌, List, length, None, Some, refl, sym, ap, subst, ◌∙◌, arith}
+use Rattle.std.proofs.Common.{◌≡◌, ℕ, ◌+◌, ◌-◌, ◌^◌, ◌<◌, List, length, None, Some, refl, subst, arith}
 use Rattle.rtr_types.specs.declared.pairs.Which.TheVariants.{Regulated}
 use Rattle.log_codec.specs.declared.recording.Recording.{Recording}
 use Rattle.replay_audit.specs.declared.audit_fault.AuditFault.{AuditFault}
 use Rattle.replay_audit.specs.declared.audit_fault.AuditFault.TheVariants as audits
-use Rattle.replay_audit.specs.Audits.{AuditRefuses, Findings, IsAuditOf, PassesOf, Passed}
+use Rattle.replay_audit.specs.Audits.{AuditRefuses, Findings, IsAuditOf, Passed}
 use Rattle.replay_audit.specs.Determinate.{IsDeterminate}
 use Rattle.replay_audit.proofs.Refused.{refused_law}
-use Rattle.vector_reduce.specs.declared.answers.ThinCheckFault.{ThinCheckFault}
 use Rattle.vector_reduce.specs.declared.answers.ThinCheckFault.TheVariants as checks
 use Rattle.vector_reduce.specs.declared.thinned.Thinned.{Thinned}
 use Rattle.vector_reduce.specs.Answers.{IsAccepted, ThinCheckRefuses, fault_of_audit}
 use Rattle.vector_reduce.specs.Showing.{EachShown, FirstNotShown, no_shown}
-use Rattle.vector_reduce.specs.Thinning.{EachNeeded}
 use Rattle.vector_reduce.specs.Vectors.{others_of, vector_at, vectors_of}
 use Rattle.vector_reduce.proofs.Leaving.{shown_is_needed}
 use Rattle.std.specs.Prelude.{IfSome, Option, slice_index_or}
@@ -26,7 +24,8 @@ audit_refuses t (audits.Short core count) h = record { refused = h; not_memory =
 audit_refuses t (audits.Undetermined first second) h = record { refused = h; not_memory = λ e. absurd cc }
 audit_refuses t audits.OutOfMemory h = tt
 
-pub audit_complete : (r : Recording) (fault : AuditFault) → IsDeterminate Regulated r → AuditRefuses Regulated r fault → fault_of_audit fault ≡ checks.OutOfMemory
+pub audit_complete : (r : Recording) (fault : AuditFault) → IsDeterminate Regulated r → AuditRefuses Regulated r fault →
+    fault_of_audit fault ≡ checks.OutOfMemory
 audit_complete r (audits.Stuck cut) d h = absurd (refused_law Regulated r (audits.Stuck cut) h (λ e. absurd cc) d)
 audit_complete r (audits.Short core count) d h = absurd (refused_law Regulated r (audits.Short core count) h (λ e. absurd cc) d)
 audit_complete r (audits.Undetermined first second) d h = absurd (refused_law Regulated r (audits.Undetermined first second) h (λ e. absurd cc) d)

@@ -1,9 +1,10 @@
 -- Vectors that are kept, and the recording with them.
-use Rattle.std.proofs.Common.{◌≡◌, ◌≢◌, ℕ, zero, suc, ◌+◌, ◌-◌, ◌*◌, ◌<◌, ◌≤◌, ◌^◌, ◌⊎◌, inl, inr, List, [], ◌∷◌, ◌++◌, length, take, drop, get_or, cond, refl, sym, ap, subst, ◌∙◌, true, false}
-use Rattle.std.proofs.Common.{append-nil, append_assoc, arith}
-use Rattle.std.specs.Prelude.{All, Bool, map, sum_by, slice_index, slice_index_or}
+use Rattle.std.proofs.Common.{◌≡◌, ℕ, zero, suc, ◌+◌, ◌-◌, ◌*◌, ◌<◌, ◌≤◌, ◌^◌, List, [], ◌∷◌, ◌++◌, length, drop, get_or, cond, refl}
+use Rattle.std.proofs.Common.{sym, ap, subst, ◌∙◌, true, false}
+use Rattle.std.proofs.Common.{append-nil, arith}
+use Rattle.std.specs.Prelude.{All, Bool, map, sum_by}
 use Rattle.std.specs.List.{Contains, flat_map, range_with_len}
-use Rattle.std.proofs.lemmas.List.{drop_more, get_or_default, get_or_past, length-append, length-map, map-id}
+use Rattle.std.proofs.lemmas.List.{get_or_default, length-append, length-map, map-id}
 use Rattle.std.proofs.lemmas.List.Elements.{Contains-get_or}
 use Rattle.std.proofs.lemmas.List.FromFn.{get_or-range_with_len, length-range_with_len, map-range_with_len_more}
 use Rattle.std.proofs.Math.Nat.{mul-le-mul_left}
@@ -15,7 +16,7 @@ use Rattle.rtr_types.specs.Pairs.{IsPair, pair_count, source_at, target_at}
 use Rattle.rtr_types.specs.Parameters.{Fits}
 use Rattle.rtr_types.proofs.PairPlaces.{places-paired}
 use Rattle.stride_vector.specs.declared.StrideVector.{StrideVector}
-use Rattle.stride_vector.specs.Vectors.{IsVector, last_of}
+use Rattle.stride_vector.specs.Vectors.{last_of}
 use Rattle.log_codec.specs.declared.recording.Recording.{Recording}
 use Rattle.log_codec.specs.Turns.{StandInTurn}
 use Rattle.log_codec.specs.Validity.{AreEdges, AreVectors, Valid, VectorStands, bound_at, end_of}
@@ -23,7 +24,6 @@ use Rattle.log_codec.proofs.Logs.{few_vectors, vector_small}
 use Rattle.log_codec.proofs.Looked.{contains-flat, map-contains}
 use Rattle.log_codec.proofs.Whole as whole
 use Rattle.vector_reduce.specs.declared.pair_vector.PairVector.{PairVector}
-use Rattle.vector_reduce.specs.Answers.{IsSameButLog}
 use Rattle.vector_reduce.specs.Arrivals.{AreBetween, IsBetween}
 use Rattle.vector_reduce.specs.Kept.{IsKeptOf, kept, kept_lists}
 use Rattle.vector_reduce.specs.Vectors.{led_between, no_vector, pair_vectors, vectors_of, vector_at}
@@ -235,7 +235,8 @@ between_placed r v valid p = record {
     small = whole.totals_small r p.place valid
 
 pub vectors_between : (r : Recording) → Valid r → AreBetween r.params.cores (vectors_of r)
-vectors_between r valid k lt = between_placed r (vector_at (vectors_of r) k) valid (placed r (vector_at (vectors_of r) k) valid (Contains-get_or (vectors_of r) k no_vector lt))
+vectors_between r valid k lt =
+    between_placed r (vector_at (vectors_of r) k) valid (placed r (vector_at (vectors_of r) k) valid (Contains-get_or (vectors_of r) k no_vector lt))
 
 -- a position's number can be spelled
 pub positions_small : (r : Recording) (k : ℕ) → Valid r → k < length (vectors_of r) → (vector_at (vectors_of r) k).vector.n < 2 ^ 32

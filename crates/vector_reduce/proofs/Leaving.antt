@@ -1,15 +1,14 @@
 -- What thinning leaves.
-use Rattle.std.proofs.Common.{◌≡◌, ◌≢◌, ℕ, zero, suc, ◌<◌, ◌≤◌, ◌⊎◌, inl, inr, List, [], ◌∷◌, ◌++◌, length, take, drop, get_or, refl, sym, ap, subst, ◌∙◌}
+use Rattle.std.proofs.Common.{◌≡◌, ℕ, zero, suc, ◌<◌, ◌⊎◌, inl, inr, List, [], ◌∷◌, ◌++◌, length, take, drop, refl, sym, ap, subst, ◌∙◌}
 use Rattle.std.proofs.Common.{append_assoc, append-nil, arith}
-use Rattle.std.proofs.lemmas.List.{take-append-le, drop-append-le, take_at, drop_at, drop_all, length-append}
+use Rattle.std.proofs.lemmas.List.{take-append-le, drop-append-le, length-append}
 use Rattle.rtr_types.specs.declared.instr.Instr.{Instr}
-use Rattle.rtr_types.specs.declared.instr.Edge.{Edge}
 use Rattle.clock_core.specs.Order.{Before, Among, Within}
 use Rattle.clock_core.proofs.Paths.{one, mapped, more}
 use Rattle.vector_reduce.specs.declared.pair_vector.PairVector.{PairVector}
 use Rattle.vector_reduce.specs.Laws.{NeededStaysLaw, OneThinningLaw, ShownIsNeededLaw, ThinnedIsNeededLaw, ThinnedIsSameLaw}
 use Rattle.vector_reduce.specs.Thinning.{EachNeeded, IsImplied, IsNeeded, Thins}
-use Rattle.vector_reduce.specs.Vectors.{edge_at, edges_in, edges_of_all, no_vector, others_of, vector_at}
+use Rattle.vector_reduce.specs.Vectors.{edge_at, edges_in, edges_of_all, others_of, vector_at}
 use Rattle.vector_reduce.specs.Cuts.{counts_in}
 use Rattle.vector_reduce.proofs.Cutting.{cut_shows}
 use Rattle.vector_reduce.proofs.Edges.{all_cases, all_left, all_right, append_among, among_edge}

@@ -1,5 +1,6 @@
 -- Logs by which the same is before have the same replay orders, and are determinate alike.
-use Rattle.std.proofs.Common.{◌≡◌, ◌≢◌, ℕ, suc, ◌+◌, ◌<◌, ◌≤◌, ◌⊎◌, inl, inr, List, [], ◌∷◌, ◌++◌, length, refl, sym, ap, subst, ◌∙◌, arith, true, false, nat_eq}
+use Rattle.std.proofs.Common.{◌≡◌, ◌≢◌, ℕ, ◌+◌, ◌<◌, ◌≤◌, inr, List, [], ◌∷◌, ◌++◌, length, refl, sym, ap, subst, ◌∙◌, arith, true, false}
+use Rattle.std.proofs.Common.{nat_eq}
 use Rattle.std.specs.Prelude.{slice_index}
 use Rattle.std.specs.List.{Contains}
 use Rattle.std.proofs.lemmas.Bool.Decides.{nat_tests}
@@ -16,17 +17,17 @@ use Rattle.rv_core.specs.declared.outcome.Outcome.{Outcome}
 use Rattle.log_codec.specs.declared.recording.Recording.{Recording}
 use Rattle.log_codec.specs.Validity.{Valid}
 use Rattle.replay_core.specs.Laws.{PlaceOf}
-use Rattle.replay_core.specs.Orders.{bump, counts, nought, IsReplayOrder, IsWhole, Ready, Sourced}
+use Rattle.replay_core.specs.Orders.{bump, counts, nought, IsReplayOrder, IsWhole, Ready}
 use Rattle.replay_core.specs.Plans.{Plan, plan_of}
 use Rattle.replay_core.specs.Play.{instr, start, Plays, accesses_of, accesses_from}
 use Rattle.replay_core.proofs.Counts.{counts_more, counts_on, place_of}
 use Rattle.replay_core.proofs.Images.{by_image, same_start}
 use Rattle.replay_core.proofs.Lists.{one_more, ordered_on, places_law}
 use Rattle.replay_core.proofs.Ready.{sourced_law}
-use Rattle.replay_audit.specs.Determinate.{Decides, IsDeterminate, low_order_of}
+use Rattle.replay_audit.specs.Determinate.{IsDeterminate, low_order_of}
 use Rattle.replay_audit.proofs.Agreed.{any_whole_law}
 use Rattle.replay_audit.proofs.Logs.{recorded_log}
-use Rattle.vector_reduce.specs.Answers.{HaveSameBefore, HaveSameOrders, IsSameButLog}
+use Rattle.vector_reduce.specs.Answers.{HaveSameBefore, IsSameButLog}
 use Rattle.vector_reduce.specs.Cuts.{Holds, IsClosed}
 use Rattle.vector_reduce.specs.Laws.{SameOrdersLaw}
 use Rattle.vector_reduce.specs.Vectors.{regulated_edges}
@@ -82,7 +83,8 @@ ready_too r s vr vs same before front c o ready = record {
     longer = (one_more p front c o).1 ready
 
     closed : IsClosed p.edges (bump f c)
-    closed = subst (λ (g : ℕ → ℕ). IsClosed p.edges g) (counts_on nought front (c ∷ [])) (counts_closed p (front ++ c ∷ []) (recorded_log Regulated r vr) longer)
+    closed = subst (λ (g : ℕ → ℕ). IsClosed p.edges g) (counts_on nought front (c ∷ []))
+        (counts_closed p (front ++ c ∷ []) (recorded_log Regulated r vr) longer)
 
     from_source : (from : Instr) → Contains q.edges (record { from = from; to = y }) → from.count ≤ f from.core
     from_source from has =
@@ -138,7 +140,9 @@ still_determinate r s vr vs same before d = (any_whole_law Regulated s order vs 
     ordered = (same_orders r s vr vs same before order).0 d.ordered
 
     whole : IsWhole q order
-    whole = record { each = λ c lt. d.whole.each c (subst (λ (t : List ℕ). c < length t) same.totals lt) ∙ ap (λ (t : List ℕ). slice_index t c) (sym same.totals) }
+    whole = record {
+      each = λ c lt. d.whole.each c (subst (λ (t : List ℕ). c < length t) same.totals lt) ∙ ap (λ (t : List ℕ). slice_index t c) (sym same.totals);
+    }
 
     image : p.image ≡ q.image
     image = ap2 same.image same.params

@@ -1,8 +1,8 @@
 -- The sixth part: what is read is spelled so, and what is spelled is read again.
-use Rattle.std.proofs.Common.{inl, inr, ◌≡◌, ◌⊎◌, ℕ, ◌^◌, ◌<◌, ◌≤◌, true, cond, nat_le, zero, suc, List, [], ◌∷◌, ◌++◌, length, take, get_or, ◌+◌, Ok, Err, refl}
+use Rattle.std.proofs.Common.{inl, inr, ◌≡◌, ◌⊎◌, ℕ, ◌^◌, ◌<◌, ◌≤◌, true, cond, nat_le, zero, suc, List, [], ◌∷◌, ◌++◌, length, get_or, Ok, Err}
+use Rattle.std.proofs.Common.{refl}
 use Rattle.std.proofs.Common.{sym, ap, subst, ◌∙◌, append_assoc, arith}
-use Rattle.std.specs.Prelude.{map, Result, slice_index}
-use Rattle.std.specs.List.{range_with_len}
+use Rattle.std.specs.Prelude.{Result, slice_index}
 use Rattle.std.proofs.lemmas.Bool.{cases_lt}
 use Rattle.std.proofs.lemmas.Bool.Decides.{nat_tests}
 use Rattle.std.proofs.lemmas.List.{get_or_past}
@@ -134,7 +134,8 @@ pub shown_again : (r : Recording) (shown : List Shown) (rest : List ℕ) → Val
     StandInTurn (ShownStands r.totals) stay tt shown → shown_in r (shown_text shown ++ rest) ≡ Ok (shown, rest)
 shown_again r shown rest valid each h =
     ap (λ (n : ℕ). read_in_turn (one_at r.totals) stay n tt (spelled_in_turn one_text stay tt shown ++ rest)) (sym each)
-    ∙ turns_again (one_at r.totals) stay one_text (ShownStands r.totals) (λ s x d stands. one_again r.totals s x d (totals_small r valid) stands) tt shown rest h
+    ∙ turns_again (one_at r.totals) stay one_text (ShownStands r.totals) (λ s x d stands. one_again r.totals s x d (totals_small r valid) stands) tt
+    shown rest h
 
 -- ---- loops
 

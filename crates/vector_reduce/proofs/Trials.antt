@@ -1,5 +1,6 @@
 -- Trials of vectors, one after the other.
-use Rattle.std.proofs.Common.{◌≡◌, ◌≢◌, ℕ, zero, suc, ◌+◌, ◌<◌, ◌≤◌, ◌⊎◌, inl, inr, List, [], ◌∷◌, ◌++◌, length, take, drop, get_or, cond, refl, sym, ap, subst, ◌∙◌, true, false}
+use Rattle.std.proofs.Common.{◌≡◌, ℕ, zero, suc, ◌+◌, ◌<◌, ◌⊎◌, inl, inr, List, [], ◌∷◌, ◌++◌, length, take, drop, get_or, cond, refl, sym, ap, subst}
+use Rattle.std.proofs.Common.{◌∙◌, true, false}
 use Rattle.std.proofs.Common.{append-nil, arith, nat_lt}
 use Rattle.std.specs.Prelude.{Bool}
 use Rattle.std.proofs.lemmas.Bool.Decides.{nat_tests}
@@ -9,7 +10,7 @@ use Rattle.vector_reduce.specs.declared.thinned.Shown.{Shown}
 use Rattle.vector_reduce.specs.Arrivals.{Tries}
 use Rattle.vector_reduce.specs.Kept.{beside, kept}
 use Rattle.vector_reduce.specs.Showing.{IsLeastShown, no_shown}
-use Rattle.vector_reduce.specs.Thinning.{EachNeeded, IsImplied, IsNeeded, IsThinned, Thins}
+use Rattle.vector_reduce.specs.Thinning.{EachNeeded, IsThinned, Thins}
 use Rattle.vector_reduce.specs.Vectors.{no_vector, others_of, vector_at}
 use Rattle.vector_reduce.proofs.Keeping.{kept_none, kept_push}
 use Rattle.vector_reduce.proofs.Leaving.{never_both, shown_is_needed}

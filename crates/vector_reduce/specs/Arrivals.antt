@@ -1,5 +1,6 @@
 -- Where the edges of vectors arrive, core by core, and how a cut is closed by going along them.
-use Rattle.std.specs.Prelude.{◌≡◌, ◌≢◌, ℕ, suc, ◌-◌, ◌<◌, ◌≤◌, ◌^◌, All, List, [], length, map, max, slice_index, slice_index_or}
+use Rattle.std.specs.Prelude.{◌≡◌, ◌≢◌, ℕ, suc, ◌-◌, ◌<◌, ◌≤◌, ◌^◌, All, List, [], length, map, max, slice_index}
+use Rattle.std.specs.Prelude.{slice_index_or}
 use Rattle.std.specs.Prelude.{Bool, true, false, ◌⊎◌, Option, Some, None}
 use Rattle.std.specs.List.{Contains, range_with_len}
 use Rattle.std.specs.List.Sorted.{IsNonDecreasingBy}
@@ -7,7 +8,7 @@ use Rattle.rtr_types.specs.declared.TheConstants.{CORES_MAX}
 use Rattle.rtr_types.specs.declared.instr.Instr.{Instr}
 use Rattle.rtr_types.specs.declared.instr.Edge.{Edge}
 use Rattle.rtr_types.specs.Pairs.{IsPair}
-use Rattle.clock_core.specs.Order.{Before, IsOrLeads, Among}
+use Rattle.clock_core.specs.Order.{IsOrLeads, Among}
 use Rattle.stride_vector.specs.Vectors.{IsVector}
 use Rattle.vector_reduce.specs.declared.arrivals.Arrival.{Arrival}
 use Rattle.vector_reduce.specs.declared.closing.Closing.{Closing}

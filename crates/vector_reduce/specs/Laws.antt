@@ -1,5 +1,5 @@
 -- Laws of thinning, and of what is written of it.
-use Rattle.std.specs.Prelude.{◌≡◌, ℕ, ◌↔◌, List, [], ◌++◌, Ok}
+use Rattle.std.specs.Prelude.{◌≡◌, ℕ, ◌↔◌, List, ◌++◌, Ok}
 use Rattle.rtr_types.specs.declared.instr.Instr.{Instr}
 use Rattle.clock_core.specs.Order.{Before, Among}
 use Rattle.log_codec.specs.declared.recording.Recording.{Recording}

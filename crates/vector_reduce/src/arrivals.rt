@@ -76,7 +76,8 @@ impl Arrivals {
     /// vectors is looked up at most once in a trial.
     pub fn trial(&self, stays: &[bool]) -> Shown
         requires { length stays.now < length self.now.vectors }
-        ensures tried { Tries (beside self.now.vectors stays.now) (vector_at self.now.vectors (length stays.now)) result }
+        ensures tried { Tries (beside self.now.vectors stays.now) (vector_at self.now.vectors (length stays.now))
+            result }
         ensures formed { IsFormed (length self.now.lists) result }
     {
         let vectors = self.vectors.as_slice();

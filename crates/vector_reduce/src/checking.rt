@@ -1,5 +1,6 @@
 //! Checking what shows that each vector is needed.
-ghost use Rattle.std.specs.Prelude.{◌≡◌, ◌≢◌, ◌-◌, ◌<◌, ◌≤◌, ◌^◌, ◌↔◌, length, IfOk, IfSome, IsTrue, IsOkUnless, MatchResult};
+ghost use Rattle.std.specs.Prelude.{◌≡◌, ◌≢◌, ◌-◌, ◌<◌, ◌≤◌, ◌^◌, ◌↔◌, length, IfOk, IfSome, IsTrue, IsOkUnless};
+ghost use Rattle.std.specs.Prelude.{MatchResult};
 ghost use Rattle.rtr_types.specs.declared.TheConstants.{CORES_MAX};
 ghost use Rattle.rtr_types.specs.declared.pairs.Which.TheVariants.{Regulated};
 ghost use Rattle.stride_vector.specs.Vectors.{IsVector};

@@ -1,4 +1,4 @@
-use Rattle.std.proofs.Common.{rules, ◌≡◌, List, length, sym, subst}
+use Rattle.std.proofs.Common.{rules, List, sym, subst}
 use Rattle.std.proofs.lemmas.List.Sorted.{IsNonDecreasingBy-from_sort_by_key}
 use Rattle.vector_reduce.specs.declared.arrivals.Arrival.{Arrival}
 use Rattle.vector_reduce.specs.Arrivals.{AreInto}

@@ -1,4 +1,4 @@
-use Rattle.std.proofs.Common.{◌≡◌, ◌∙◌, ◌+◌, ℕ, None, Some, sym, subst}
+use Rattle.std.proofs.Common.{◌∙◌, ℕ, subst}
 use Rattle.std.specs.Prelude.{Option}
 use Rattle.std.proofs.lemmas.Result.{err_from_is_err_and}
 use Rattle.rtr_types.specs.declared.pairs.Which.TheVariants.{Regulated}
@@ -6,7 +6,7 @@ use Rattle.log_codec.specs.declared.recording.Recording.{Recording}
 use Rattle.replay_audit.specs.Audits.{AuditRefuses, IsAuditOf}
 use Rattle.vector_reduce.specs.Showing.{FirstNotShown}
 use Rattle.vector_reduce.specs.Vectors.{vectors_of}
-use Rattle.vector_reduce.proofs.Judged.{accepted, audit_complete, audit_refuses, audited_is, not_accepted, shown_is_accepted}
+use Rattle.vector_reduce.proofs.Judged.{accepted, audit_complete, audited_is, not_accepted, shown_is_accepted}
 use Rattle.vector_reduce.proofs.checking.check_thin.Goals as goal
 
 pub returns-in_err-audit-clause-complete : goal.returns-in_err-audit-clause-complete

@@ -1,4 +1,4 @@
-use Rattle.std.proofs.Common.{◌≡◌, ◌∙◌, ◌<◌, ◌^◌, List, ap, arith, length, sym, subst}
+use Rattle.std.proofs.Common.{◌∙◌, ◌<◌, ◌^◌, List, ap, arith, length, sym, subst}
 use Rattle.rtr_types.specs.declared.TheConstants.{CORES_MAX}
 use Rattle.vector_reduce.specs.declared.pair_vector.PairVector.{PairVector}
 use Rattle.vector_reduce.specs.declared.thinned.Shown.{Shown}

@@ -10,7 +10,8 @@ arrivals_of-requires c = c.in_ok-left.ensures.valid
 
 pub shown-requires : goal.shown-requires
 shown-requires c =
-    subst (λ (l : List PairVector). EachNeeded l) (sym c.in_ok-arrivals.ensures.vectors) (left_needed c.args.recording.now c.in_ok-left.left c.in_ok-left.ensures)
+    subst (λ (l : List PairVector). EachNeeded l) (sym c.in_ok-arrivals.ensures.vectors)
+    (left_needed c.args.recording.now c.in_ok-left.left c.in_ok-left.ensures)
 
 pub returns : goal.returns
 returns c =

@@ -1,4 +1,4 @@
-use Rattle.std.proofs.Common.{List, ap, length, ◌∙◌, ◌<◌, ◌^◌, arith}
+use Rattle.std.proofs.Common.{List, ap, length, ◌∙◌, arith}
 use Rattle.std.specs.Prelude.{sum_by}
 use Rattle.stride_vector.specs.declared.StrideVector.{StrideVector}
 use Rattle.vector_reduce.proofs.Assembled.{few_enough, too_many_positions, too_many_vectors}

@@ -1,4 +1,4 @@
-use Rattle.std.proofs.Common.{◌≡◌, ◌+◌, ◌∙◌, ◌<◌, ℕ, List, ap, arith, get_or, length, nat_lt, sym, subst}
+use Rattle.std.proofs.Common.{◌+◌, ◌∙◌, ◌<◌, ℕ, List, ap, arith, get_or, length, nat_lt, sym, subst}
 use Rattle.std.specs.Prelude.{Bool}
 use Rattle.std.proofs.lemmas.List.{length_push}
 use Rattle.vector_reduce.specs.declared.pair_vector.PairVector.{PairVector}

@@ -1,4 +1,4 @@
-use Rattle.std.proofs.Common.{◌≡◌, ◌∙◌, Err, None, Some, ap, subst, sym}
+use Rattle.std.proofs.Common.{◌≡◌, Err, None, Some, ap, subst}
 use Rattle.std.specs.Prelude.{MatchOption, Option}
 use Rattle.log_codec.specs.declared.recording.Recording.{Recording}
 use Rattle.vector_reduce.specs.declared.answers.ThinFault.{ThinFault}

@@ -1,4 +1,4 @@
-use Rattle.std.proofs.Common.{◌≡◌, ◌∙◌, List, Ok, Err, ap, length, subst, sym}
+use Rattle.std.proofs.Common.{◌∙◌, List, Ok, Err, ap, length, subst, sym}
 use Rattle.std.specs.Prelude.{Bool, IfOk, Result}
 use Rattle.log_codec.specs.declared.recording.Recording.{Recording}
 use Rattle.log_codec.specs.Validity.{Valid}

@@ -1,4 +1,4 @@
-use Rattle.std.proofs.Common.{◌≡◌, ◌<◌, ℕ, None, Some, length, sym, subst, arith}
+use Rattle.std.proofs.Common.{ℕ, subst, arith}
 use Rattle.std.specs.Prelude.{Bool, Option}
 use Rattle.vector_reduce.specs.declared.arrivals.Arrival.{Arrival}
 use Rattle.vector_reduce.specs.Arrivals.{AnyDue, Arranged, Arranges, Takes}
@@ -10,19 +10,22 @@ loop-core-init c = goes c.args.self.now c.args.stays.now c.args.at c.args.closin
 
 pub raise-requires : goal.raise-requires
 raise-requires c =
-    let r : Arranges c.args.self.now.vectors c.args.self.now.lists = subst (λ (a : Arranged). Arranges a.vectors a.lists) c.self.view_is c.self.invariant.arranges in
+    let r : Arranges c.args.self.now.vectors c.args.self.now.lists =
+    subst (λ (a : Arranged). Arranges a.vectors a.lists) c.self.view_is c.self.invariant.arranges in
     let few = r.few in
     omega (arith, few, c.requires.core)
 
 pub take-requires : goal.take-requires
 take-requires c =
-    let r : Arranges c.args.self.now.vectors c.args.self.now.lists = subst (λ (a : Arranged). Arranges a.vectors a.lists) c.self.view_is c.self.invariant.arranges in
+    let r : Arranges c.args.self.now.vectors c.args.self.now.lists =
+    subst (λ (a : Arranged). Arranges a.vectors a.lists) c.self.view_is c.self.invariant.arranges in
     let due = due_is c.args.self.now c.loop-core.closing c.due.result c.in-Some.core c.in-Some.arrival c.due.ensures c.in-Some.is in
     source_inside c.args.self.now c.loop-core.closing c.in-Some.core c.in-Some.arrival r due.0 due.1
 
 pub pass-requires-clause-core : goal.pass-requires-clause-core
 pass-requires-clause-core c =
-    let r : Arranges c.args.self.now.vectors c.args.self.now.lists = subst (λ (a : Arranged). Arranges a.vectors a.lists) c.self.view_is c.self.invariant.arranges in
+    let r : Arranges c.args.self.now.vectors c.args.self.now.lists =
+    subst (λ (a : Arranged). Arranges a.vectors a.lists) c.self.view_is c.self.invariant.arranges in
     let few = r.few in
     let due = due_is c.args.self.now c.loop-core.closing c.due.result c.in-Some.core c.in-Some.arrival c.due.ensures c.in-Some.is in
     let inside = due.0 in
@@ -41,7 +44,8 @@ loop-core-smaller c =
 
 pub loop-core-preserved : goal.loop-core-preserved
 loop-core-preserved c =
-    let r : Arranges c.args.self.now.vectors c.args.self.now.lists = subst (λ (a : Arranged). Arranges a.vectors a.lists) c.self.view_is c.self.invariant.arranges in
+    let r : Arranges c.args.self.now.vectors c.args.self.now.lists =
+    subst (λ (a : Arranged). Arranges a.vectors a.lists) c.self.view_is c.self.invariant.arranges in
     let due = due_is c.args.self.now c.loop-core.closing c.due.result c.in-Some.core c.in-Some.arrival c.due.ensures c.in-Some.is in
     goes_on c.args.self.now c.args.stays.now c.args.at c.loop-core.closing c.take.new.self c.pass.new.self c.in-Some.core c.in-Some.arrival r due.0 due.1
     (subst (λ (b : Bool). Takes c.loop-core.closing b c.in-Some.arrival.from c.take.new.self) c.is_beside.ensures c.take.ensures) c.pass.ensures
@@ -49,6 +53,7 @@ loop-core-preserved c =
 
 pub returns : goal.returns
 returns c =
-    let r : Arranges c.args.self.now.vectors c.args.self.now.lists = subst (λ (a : Arranged). Arranges a.vectors a.lists) c.self.view_is c.self.invariant.arranges in
+    let r : Arranges c.args.self.now.vectors c.args.self.now.lists =
+    subst (λ (a : Arranged). Arranges a.vectors a.lists) c.self.view_is c.self.invariant.arranges in
     closed_at_end c.args.self.now c.args.stays.now c.args.at c.loop-core.closing r
     (subst (λ (o : Option (ℕ × Arrival)). AnyDue c.args.self.now.lists c.loop-core.closing o) c.in_default.is c.due.ensures) c.loop-core.invariant

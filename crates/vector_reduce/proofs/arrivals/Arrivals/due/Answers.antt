@@ -1,4 +1,4 @@
-use Rattle.std.proofs.Common.{◌≡◌, ◌<◌, ◌∙◌, ℕ, None, Some, length, sym, ap, subst, arith}
+use Rattle.std.proofs.Common.{length, ap, subst, arith}
 use Rattle.std.specs.Prelude.{Option}
 use Rattle.vector_reduce.specs.declared.arrivals.Arrival.{Arrival}
 use Rattle.vector_reduce.specs.Arrivals.{Arranged, NextDue, list_at}
@@ -8,7 +8,8 @@ use Rattle.vector_reduce.proofs.arrivals.Arrivals.due.Goals as goal
 pub loop-core-preserved : goal.loop-core-preserved
 loop-core-preserved c =
     more_none c.args.self.now.lists c.args.closing.now c.loop-core.core c.loop-core.invariant
-    (subst (λ (o : Option Arrival). NextDue (list_at c.args.self.now.lists c.loop-core.core) c.args.closing.now c.loop-core.core o) c.in_default.is c.next.ensures)
+    (subst (λ (o : Option Arrival). NextDue (list_at c.args.self.now.lists c.loop-core.core) c.args.closing.now c.loop-core.core o)
+    c.in_default.is c.next.ensures)
 
 pub returns : goal.returns
 returns c k lt =

@@ -1,4 +1,4 @@
-use Rattle.std.proofs.Common.{◌≡◌, ℕ, ◌<◌, None}
+use Rattle.std.proofs.Common.{ℕ, ◌<◌, None}
 use Rattle.vector_reduce.specs.Arrivals.{NextDue, list_at}
 use Rattle.vector_reduce.proofs.arrivals.Arrivals.due.Given as goal
 

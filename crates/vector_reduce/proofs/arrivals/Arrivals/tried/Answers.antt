@@ -1,4 +1,4 @@
-use Rattle.std.proofs.Common.{◌≡◌, ◌<◌, ◌≤◌, ◌∙◌, ℕ, List, length, refl, sym, ap, subst, arith}
+use Rattle.std.proofs.Common.{◌<◌, ◌∙◌, length, refl, sym, ap, subst, arith}
 use Rattle.rtr_types.specs.declared.TheConstants.{CORES_MAX}
 use Rattle.rtr_types.specs.declared.instr.Edge.{Edge}
 use Rattle.vector_reduce.specs.Arrivals.{Arranged, IsClosedAt, IsClosing, counts_of}
@@ -8,7 +8,8 @@ use Rattle.vector_reduce.proofs.Closed.{tries_first, tries_implied, tries_next, 
 use Rattle.vector_reduce.proofs.arrivals.Arrivals.tried.Goals as goal
 
 pub loop-position-init : goal.loop-position-init
-loop-position-init c = tries_first c.args.self.now c.args.stays.now c.args.vector.now c.none-closing.result c.none-closing.ensures.counts c.none-closing.ensures.passed
+loop-position-init c =
+    tries_first c.args.self.now c.args.stays.now c.args.vector.now c.none-closing.result c.none-closing.ensures.counts c.none-closing.ensures.passed
 
 pub close-requires-clause-core : goal.close-requires-clause-core
 close-requires-clause-core c =
