@@ -4,7 +4,7 @@ use log_codec::read;
 use replay_audit::{Audited, audit};
 use rtr_types::{Cut, Edge, Instr, Which};
 use rv_core::{LoadNote, Outcome};
-use std::alloc::AllocError;
+use std::alloc::{AllocError, Global};
 use std::test::Fail;
 
 /// Core 0 stores 7 to word 16 and loads it, and core 1 loads it and stores to it. Both logs order 0:3
@@ -216,8 +216,41 @@ fn instructions(rt: HostRuntime) -> Result<(), Fail> {
     Ok(())
 }
 
+/// The state at the least cut with an instruction of core 1, if it is one.
+fn state_with(alloc: Global, audited: &Audited, count: u32) -> Result<Option<Outcome>, AllocError> {
+    let totals = audited.recording().totals.as_slice();
+    if totals.len() < 2 || count == 0 || count > totals[1] {
+        return Ok(None);
+    }
+    let cut = cut_with(audited, Instr { core: 1, count })?;
+    Ok(Some(state_of(alloc, audited, &cut)?))
+}
+
+/// The state at the greatest cut without it.
+fn state_without(
+    alloc: Global,
+    audited: &Audited,
+    count: u32,
+) -> Result<Option<Outcome>, AllocError> {
+    let totals = audited.recording().totals.as_slice();
+    if totals.len() < 2 || count == 0 || count > totals[1] {
+        return Ok(None);
+    }
+    let cut = cut_without(audited, Instr { core: 1, count })?;
+    Ok(Some(state_of(alloc, audited, &cut)?))
+}
+
 /// Whether core 0 has stored its word, and core 1 has come this far, with this register and these loads.
-fn is_left(outcome: &Outcome, count: u32, pc: u32, loaded: u32, loads: &[LoadNote]) -> bool {
+fn is_left(
+    outcome: &Option<Outcome>,
+    count: u32,
+    pc: u32,
+    loaded: u32,
+    loads: &[LoadNote],
+) -> bool {
+    let Some(outcome) = outcome else {
+        return false;
+    };
     let [first, second] = outcome.cores.as_slice() else {
         return false;
     };
@@ -234,15 +267,9 @@ fn is_left(outcome: &Outcome, count: u32, pc: u32, loaded: u32, loads: &[LoadNot
 // Right after a load: core 0's store was before it.
 #[test]
 fn after_a_load(rt: HostRuntime) -> Result<(), Fail> {
-    let audited = audit(
-        rt.alloc(),
-        read(rt.alloc(), &HANDED_OVER)?,
-        Which::Regulated,
-    )?;
-    let totals = audited.recording().totals.as_slice();
-    assert!(rt; totals.len() > 1 && totals[1] >= 2);
-    let cut = cut_with(&audited, Instr { core: 1, count: 2 })?;
-    let outcome = state_of(rt.alloc(), &audited, &cut)?;
+    let recording = read(rt.alloc(), &HANDED_OVER)?;
+    let audited = audit(rt.alloc(), recording, Which::Regulated)?;
+    let outcome = state_with(rt.alloc(), &audited, 2)?;
     let load = LoadNote {
         count: 2,
         word: 16,
@@ -255,11 +282,9 @@ fn after_a_load(rt: HostRuntime) -> Result<(), Fail> {
 // As late as can be before it: the store is there too, and the load isn't.
 #[test]
 fn before_a_load(rt: HostRuntime) -> Result<(), Fail> {
-    let audited = audit(rt.alloc(), read(rt.alloc(), &HANDED_OVER)?, Which::Reduced)?;
-    let totals = audited.recording().totals.as_slice();
-    assert!(rt; totals.len() > 1 && totals[1] >= 2);
-    let cut = cut_without(&audited, Instr { core: 1, count: 2 })?;
-    let outcome = state_of(rt.alloc(), &audited, &cut)?;
+    let recording = read(rt.alloc(), &HANDED_OVER)?;
+    let audited = audit(rt.alloc(), recording, Which::Reduced)?;
+    let outcome = state_without(rt.alloc(), &audited, 2)?;
     assert!(rt; is_left(&outcome, 1, 0x14, 0, &[]));
     Ok(())
 }
