@@ -179,29 +179,40 @@ fn with(audited: &Audited, core: u8, count: u32) -> Result<Option<Counts>, Alloc
     Ok(Some(Counts::of(&cut)))
 }
 
-// An instruction without a source, and the last one: by the regulated log all lead to it.
+/// Whether the least cut with an instruction of the three cores has these counts, by the log.
+fn has_cut(alloc: Global, which: Which, at: Instr, counts: Counts) -> Result<bool, Fail> {
+    let audited = audit(alloc, read(alloc, &THREE)?, which)?;
+    Ok(with(&audited, at.core, at.count)? == Some(counts))
+}
+
+// An instruction without a source.
 #[test]
-fn ends(rt: HostRuntime) -> Result<(), Fail> {
-    let reduced = audit(rt.alloc(), read(rt.alloc(), &THREE)?, Which::Reduced)?;
-    let regulated = audit(rt.alloc(), read(rt.alloc(), &THREE)?, Which::Regulated)?;
+fn without_a_source(rt: HostRuntime) -> Result<(), Fail> {
     let own = Counts {
         first: 0,
         second: 1,
         third: 0,
     };
-    let most = Counts {
-        first: 5,
-        second: 3,
-        third: 3,
-    };
+    assert!(rt; has_cut(rt.alloc(), Which::Reduced, Instr { core: 1, count: 1 }, own)?);
+    Ok(())
+}
+
+// The last instruction: by the regulated log all lead to it.
+#[test]
+fn the_last_one(rt: HostRuntime) -> Result<(), Fail> {
     let all = Counts {
         first: 5,
         second: 4,
         third: 4,
     };
-    assert!(rt; with(&reduced, 1, 1)? == Some(own));
-    assert!(rt; with(&reduced, 0, 5)? == Some(most));
-    assert!(rt; with(&regulated, 0, 5)? == Some(all));
+    assert!(rt;
+        has_cut(
+            rt.alloc(),
+            Which::Regulated,
+            Instr { core: 0, count: 5 },
+            all
+        )?
+    );
     Ok(())
 }
 
