@@ -320,31 +320,3 @@ fn each_recording_is_thinned(rt: HostRuntime) -> Result<(), Fail> {
     }
     Ok(())
 }
-
-// Two cores that jump in place, with an edge between each two instructions of one count: one vector more than are
-// tried.
-#[test]
-fn too_many_vectors_are_told(rt: HostRuntime) -> Result<(), Fail> {
-    let alloc = rt.alloc();
-    let mut recording = bytes(
-        alloc,
-        "52545201 02 904e 04 04 6f000000 8120 8120 00 00 8120",
-    )?;
-    for count in 1..4098 {
-        recording.push(1)?;
-        for number in [count, count] {
-            if number < 128 {
-                recording.push(number as u8)?;
-            } else {
-                recording.extend_from_slice(&[(number % 128) as u8 + 128, (number / 128) as u8])?;
-            }
-        }
-    }
-    recording.push(0)?;
-    let answer = ask(alloc, "thin", recording)?;
-    assert_eq!(rt; answer.status, 13);
-    assert_eq!(rt; answer.output.as_slice(), b"".as_slice());
-    let wanted = b"rtr: 4097 vectors with 4097 edges are too many\n".as_slice();
-    assert_eq!(rt; answer.report.as_slice(), wanted);
-    Ok(())
-}
