@@ -38,11 +38,26 @@ macro_rules! fault {
     };
 }
 
-static ROWS: [Row; 8] = [
+static ROWS: [Row; 22] = [
     fault!("record", 1, 0, 0, 99, 8, 0, "rtr: read fault\n"),
     fault!("record", 2, 0, 0, 99, 8, 0, "rtr: read fault\n"),
     fault!("record", 0, 1, 0, 99, 9, 0, "rtr: write fault\n"),
+    // A sink that takes one byte a call got what it took before the call that failed.
+    fault!("record", 0, 1, 0, 1, 9, 0, "rtr: write fault\n"),
+    fault!("record", 0, 2, 0, 1, 9, 1, "rtr: write fault\n"),
     fault!("record", 0, 3, 0, 1, 9, 2, "rtr: write fault\n"),
+    fault!("record", 0, 4, 0, 1, 9, 3, "rtr: write fault\n"),
+    fault!("record", 0, 5, 0, 1, 9, 4, "rtr: write fault\n"),
+    fault!("record", 0, 6, 0, 1, 9, 5, "rtr: write fault\n"),
+    fault!("record", 0, 7, 0, 1, 9, 6, "rtr: write fault\n"),
+    fault!("record", 0, 8, 0, 1, 9, 7, "rtr: write fault\n"),
+    fault!("record", 0, 9, 0, 1, 9, 8, "rtr: write fault\n"),
+    fault!("record", 0, 10, 0, 1, 9, 9, "rtr: write fault\n"),
+    fault!("record", 0, 11, 0, 1, 9, 10, "rtr: write fault\n"),
+    fault!("record", 0, 12, 0, 1, 9, 11, "rtr: write fault\n"),
+    fault!("record", 0, 13, 0, 1, 9, 12, "rtr: write fault\n"),
+    fault!("record", 0, 14, 0, 1, 9, 13, "rtr: write fault\n"),
+    fault!("record", 0, 15, 0, 1, 9, 14, "rtr: write fault\n"),
     fault!("record", 0, 16, 0, 1, 9, 15, "rtr: write fault\n"),
     fault!("record", 0, 17, 0, 1, 0, 16, ""),
     fault!("record", 1, 0, 1, 99, 8, 0, ""),
@@ -70,35 +85,6 @@ fn a_fault_is_told_and_a_fault_of_the_report_changes_nothing(rt: HostRuntime) ->
         assert_eq!(rt; exit.status(), row.status);
         assert_eq!(rt; output.bytes(), given.as_slice());
         assert_eq!(rt; report.bytes(), row.report.as_bytes());
-    }
-    Ok(())
-}
-
-// A sink that takes one byte a call and fails at a call got the bytes of the calls before, and no call follows.
-#[test]
-fn a_sink_that_fails_got_what_it_took_before(rt: HostRuntime) -> Result<(), Fail> {
-    let alloc = rt.alloc();
-    for call in 1..=16 {
-        let words = words(alloc, "record")?;
-        let mut input = MemSource::new(bytes(alloc, "73000000")?, Vec::new(alloc), 99);
-        let mut output = MemSink::new(alloc, 99, one(alloc, call)?, 1)?;
-        let mut report = MemSink::new(alloc, 99, Vec::new(alloc), 99)?;
-        let exit = run_tool(
-            alloc,
-            words.as_slice(),
-            &mut input,
-            &mut output,
-            &mut report,
-        );
-        let mut given = bytes(alloc, OUTPUT)?;
-        given.truncate(call as usize - 1);
-        assert_eq!(rt; exit.status(), 9, "call {call}");
-        assert_eq!(rt; output.bytes(), given.as_slice(), "call {call}");
-        assert_eq!(rt;
-            report.bytes(),
-            b"rtr: write fault\n".as_slice(),
-            "call {call}"
-        );
     }
     Ok(())
 }
