@@ -1,6 +1,6 @@
 -- What the loops and the writes that fill the parts of times leave.
-use Rattle.std.proofs.Common.{◌≡◌, ◌∙◌, ap, sym, ℕ, ◌<◌, ◌≤◌, length, List, Option, Some, None, Bool, true, false, arith}
-use Rattle.std.specs.Prelude.{map, if◌then◌else◌, slice_set, slice_index_or}
+use Rattle.std.proofs.Common.{◌≡◌, ◌∙◌, ap, sym, ℕ, ◌<◌, ◌≤◌, length, List, Option, Some, None, arith}
+use Rattle.std.specs.Prelude.{map, slice_set, slice_index_or}
 use Rattle.std.proofs.lemmas.List.{ext_get_or, get_or-set_same, get_or-set_other, length-set}
 use Rattle.std.proofs.lemmas.Bool.Decides.{nat_tests}
 use Rattle.std.specs.List.{range_with_len}
@@ -10,8 +10,8 @@ use Rattle.clock_core.specs.declared.clock.Clock.{Clock}
 use Rattle.rtr_types.specs.declared.TheConstants.{BLOCK_WORDS, CORES_MAX}
 use Rattle.access_times.specs.declared.times.SlotTimes.{SlotTimes}
 use Rattle.access_times.specs.declared.times.Times.{Times}
-use Rattle.access_times.specs.Times.{newer_read, read_in, read_noted, no_reads, slot_loaded, slot_stored, slot_set, times_loaded, times_stored, reads_absorbed}
-use Rattle.access_times.specs.Times.{slot_absorbed, is_same_write, slot_at, missing_slot, times_absorbed}
+use Rattle.access_times.specs.Times.{read_noted, slot_loaded, slot_stored, slot_set, times_loaded, times_stored}
+use Rattle.access_times.specs.Times.{slot_absorbed, slot_at, missing_slot, times_absorbed}
 
 -- times are the others where each slot is
 pub slots_same : (x t : Times) (slot : ℕ) → length x.slots ≡ BLOCK_WORDS → length t.slots ≡ BLOCK_WORDS → BLOCK_WORDS ≤ slot →

@@ -1,7 +1,6 @@
 -- What the kept reads of a word are to contracts, and what the writes and loops over their places leave.
 use Rattle.std.proofs.Common.{◌≡◌, ◌≢◌, ◌∙◌, refl, sym, ap, subst, ◌+◌, ℕ, ◌<◌, ◌≤◌, length, List, Option, Some, None, Bool, true, false, arith}
-use Rattle.std.specs.Prelude.{◌==◌, if◌then◌else◌, map, replicate, slice_index_or, slice_set, nat_lt}
-use Rattle.std.specs.List.{range_with_len}
+use Rattle.std.specs.Prelude.{◌==◌, if◌then◌else◌, slice_index_or, slice_set}
 use Rattle.std.proofs.lemmas.Bool.Decides.{nat_tests}
 use Rattle.std.proofs.lemmas.List.{get_or-set_same, get_or-set_other, length-set, get_or-replicate, length-replicate, get_or_default}
 use Rattle.std.proofs.lemmas.List.FromFn.{fill_by_all, get_or-map-range_with_len, length-map-range_with_len}
@@ -52,7 +51,8 @@ kept_set readers places core read long lt =
     (length-set old core (Some read) ∙ length-kept readers places)
     (λ k lk. by k lk (k == core) refl)
   where
-    here : (k : ℕ) → k ≡ core → read_kept (with_core readers core) (slice_set places core read) k ≡ read_in (slice_set (reads_kept readers places) core (Some read)) k
+    here : (k : ℕ) → k ≡ core →
+        read_kept (with_core readers core) (slice_set places core read) k ≡ read_in (slice_set (reads_kept readers places) core (Some read)) k
     here k e = rw e (set_here readers places core read long lt
         ∙ sym (get_or-set_same (reads_kept readers places) core (Some read) None (let e = length-kept readers places in omega arith)))
 
@@ -141,7 +141,7 @@ view_same own other same =
     view_by_places own (reads_kept other.readers other.places) (length-kept other.readers other.places)
     (λ k lk. same k lk ∙ sym (read_in-kept other.readers other.places k lk))
 
-absorbed_at : (a b : List (Option (ℕ × Clock))) (k : ℕ) → k < CORES_MAX → read_in (reads_absorbed a b) k ≡ newer_read (read_in a k) (read_in b k)
+pub absorbed_at : (a b : List (Option (ℕ × Clock))) (k : ℕ) → k < CORES_MAX → read_in (reads_absorbed a b) k ≡ newer_read (read_in a k) (read_in b k)
 unfolding reads_absorbed
 absorbed_at a b k lk = get_or-map-range_with_len (λ core. newer_read (read_in a core) (read_in b core)) 0 CORES_MAX k k None lk (omega arith)
 

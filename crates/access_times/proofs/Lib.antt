@@ -1,2 +1,2 @@
 mod Filled
-mod Kept
+pub mod Kept

@@ -21,6 +21,11 @@ is_same_write None (Some b) = false
 is_same_write (Some a) None = false
 is_same_write (Some a) (Some b) = (a.0.core == b.0.core) && ((a.0.count == b.0.count) && bytes_eq a.1 b.1)
 
+-- a core's noted read, with its instruction
+abbrev pub read_note : (core : ℕ) → Option (ℕ × Clock) → Option (Instr × Clock)
+read_note core None = None
+read_note core (Some r) = Some (record { core = core; count = r.0 }, r.1)
+
 -- the read with the greater count, where there are two
 abbrev pub newer_read : Option (ℕ × Clock) → Option (ℕ × Clock) → Option (ℕ × Clock)
 newer_read None b = b

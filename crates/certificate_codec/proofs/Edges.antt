@@ -1,25 +1,17 @@
 -- The list of edges, pair by pair.
-use Rattle.std.proofs.Common.{◌≡◌, ℕ, ◌+◌, ◌<◌, List, [], ◌∷◌, ◌++◌, get_or, refl, sym, ap, ◌∙◌, subst, arith}
+use Rattle.std.proofs.Common.{◌≡◌, ℕ, ◌+◌, ◌<◌, List, [], ◌∷◌, ◌++◌, get_or, sym, ap, ◌∙◌, subst}
 use Rattle.std.specs.Prelude.{map}
 use Rattle.std.specs.List.{flat_map, range_with_len}
 use Rattle.std.proofs.lemmas.List.{get_or_default, append-nil}
-use Rattle.std.proofs.lemmas.List.FromFn.{map-range_with_len_more}
 use Rattle.std.proofs.lemmas.Grind.{flat_map-append}
 use Rattle.rtr_types.specs.declared.instr.Edge.{Edge}
 use Rattle.rtr_types.specs.declared.pairs.Which.TheVariants.{Reduced}
 use Rattle.rtr_types.specs.Pairs.{pair_count, source_at, target_at}
+use Rattle.rtr_types.proofs.Ranges.{range_more}
 use Rattle.log_codec.specs.declared.recording.Recording.{Recording}
 use Rattle.log_codec.specs.Sources.{log_edges, edges_at, edge_between}
 use Rattle.log_codec.specs.Validity.{Valid}
 use Rattle.certificate_codec.specs.Ends.{reduced_edges}
-
-range_more : (n : ℕ) → range_with_len 0 (n + 1) ≡ range_with_len 0 n ++ n ∷ []
-range_more n = sym (map_id (range_with_len 0 (n + 1))) ∙ map-range_with_len_more (λ (i : ℕ). i) 0 n n (omega arith)
-    ∙ ap (λ (l : List ℕ). l ++ n ∷ []) (map_id (range_with_len 0 n))
-  where
-    map_id : (l : List ℕ) → map (λ (i : ℕ). i) l ≡ l
-    map_id [] = refl
-    map_id (x ∷ l) = ap (λ (m : List ℕ). x ∷ m) (map_id l)
 
 -- the edges of one pair more
 pub edges_more : (r : Recording) (place : ℕ) (old new : List Edge) → old ≡ flat_map (edges_at Reduced r) (range_with_len 0 place) →

@@ -23,7 +23,7 @@ is_end-push : (edges : List Edge) (e : Edge) (x : Instr) → is_end (edges ++ e 
 is_end-push [] e x = refl
 is_end-push (f ∷ edges) e x = ap (λ (b : Bool). ends_here f x || b) (is_end-push edges e x) ∙ or_last (ends_here f x) (ends_here e x) (is_end edges x)
 
-one_more : (edges : List Edge) (i : ℕ) (d : Edge) → i < length edges → take (i + 1) edges ≡ take i edges ++ get_or edges i d ∷ []
+pub one_more : (edges : List Edge) (i : ℕ) (d : Edge) → i < length edges → take (i + 1) edges ≡ take i edges ++ get_or edges i d ∷ []
 one_more edges i d lt = let e : i + 1 ≡ suc i = omega arith in ap (λ (k : ℕ). take k edges) e ∙ take-suc edges i d lt
 
 or_two : (a b c : Bool) → b || (a || c) ≡ (a || b) || c

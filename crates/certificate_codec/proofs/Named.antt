@@ -7,7 +7,7 @@ use Rattle.log_codec.specs.BadParts.{UpToRegulated}
 use Rattle.log_codec.specs.Faults.{◌>>=◌}
 use Rattle.log_codec.specs.Laws.{IsBytes}
 use Rattle.log_codec.specs.Reading.{number_at, front_at}
-use Rattle.log_codec.specs.Turns.{stay, count_up}
+use Rattle.rtr_types.specs.Turns.{stay, count_up}
 use Rattle.log_codec.proofs.BadPartLaws.{after-5, at_end, bad_part, end-names, end-some, never-both, no-reading, read-all, some-end}
 use Rattle.log_codec.proofs.Named.{Names, bind-err, bind-names, guard-names, number-names, turns-name}
 use Rattle.log_codec.proofs.Steps.{bind_ok, ok_is}

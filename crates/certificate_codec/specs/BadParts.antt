@@ -6,7 +6,7 @@ use Rattle.log_codec.specs.declared.recording.Recording.{Recording}
 use Rattle.log_codec.specs.BadParts.{FrontNames, UpToRegulated}
 use Rattle.log_codec.specs.Laws.{IsBytes}
 use Rattle.log_codec.specs.Reading.{front_at}
-use Rattle.log_codec.specs.Turns.{StandInTurn, count_up}
+use Rattle.rtr_types.specs.Turns.{StandInTurn, count_up}
 use Rattle.certificate_codec.specs.declared.certificate.TheConstants.{CLOCKS, END}
 use Rattle.certificate_codec.specs.Reading.{certificate_at}
 use Rattle.certificate_codec.specs.Spelling.{clocks_text}

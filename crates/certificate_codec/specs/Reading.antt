@@ -3,7 +3,8 @@ use Rattle.std.specs.Prelude.{ℕ, List, length, slice_index, Result, Ok, Err, n
 use Rattle.log_codec.specs.declared.recording.Recording.{Recording}
 use Rattle.log_codec.specs.Faults.{◌>>=◌}
 use Rattle.log_codec.specs.Reading.{number_at, front_at}
-use Rattle.log_codec.specs.Turns.{read_in_turn, stay, count_up}
+use Rattle.rtr_types.specs.Turns.{stay, count_up}
+use Rattle.log_codec.specs.Turns.{read_in_turn}
 use Rattle.certificate_codec.specs.declared.certificate.Certificate.{Certificate}
 use Rattle.certificate_codec.specs.declared.certificate.TheConstants.{CLOCKS, END}
 use Rattle.certificate_codec.specs.Ends.{end_count}

@@ -2,23 +2,21 @@
 use Rattle.std.specs.Prelude.{◌≡◌, ℕ, List, ◌++◌, length}
 use Rattle.log_codec.specs.Spelling as recordings
 use Rattle.log_codec.specs.Spelling.{number}
-use Rattle.log_codec.specs.Turns.{spelled_in_turn, stay, count_up}
+use Rattle.rtr_types.specs.Turns.{stay, count_up}
+use Rattle.log_codec.specs.Turns.{alike, spelled_in_turn}
 use Rattle.certificate_codec.specs.declared.certificate.Certificate.{Certificate}
 
-abbrev pub count_text : ℕ → ℕ → List ℕ
-count_text core n = number n
-
 -- an entry: a number for each core
-abbrev pub entry_text : Unit {0} → List ℕ → List ℕ
-entry_text s entry = spelled_in_turn count_text count_up 0 entry
+abbrev pub entry_text : List ℕ → List ℕ
+entry_text entry = spelled_in_turn (alike number) count_up 0 entry
 
 -- the entries of a core: how many, and these
-abbrev pub entries_text : ℕ → List (List ℕ) → List ℕ
-entries_text core entries = number (length entries) ++ spelled_in_turn entry_text stay tt entries
+abbrev pub entries_text : List (List ℕ) → List ℕ
+entries_text entries = number (length entries) ++ spelled_in_turn (alike entry_text) stay (tt {0}) entries
 
 -- the sixth part: the entries of each core
 abbrev pub clocks_text : List (List (List ℕ)) → List ℕ
-clocks_text clocks = spelled_in_turn entries_text count_up 0 clocks
+clocks_text clocks = spelled_in_turn (alike entries_text) count_up 0 clocks
 
 -- the bytes spell the certificate: its recording, in a version whose limits it keeps, and then the clocks
 pub record Spells (bytes : List ℕ) (c : Certificate) : Type 0 where

@@ -1,7 +1,7 @@
 -- Which certificates have a spelling.
 use Rattle.std.specs.Prelude.{◌≡◌, ℕ, ◌≤◌, List, length, slice_index}
 use Rattle.log_codec.specs.declared.recording.Recording.{Recording}
-use Rattle.log_codec.specs.Turns.{StandInTurn, stay, count_up}
+use Rattle.rtr_types.specs.Turns.{StandInTurn, stay, count_up}
 use Rattle.log_codec.specs.Validity.{Valid}
 use Rattle.certificate_codec.specs.declared.certificate.Certificate.{Certificate}
 use Rattle.certificate_codec.specs.Ends.{end_count}

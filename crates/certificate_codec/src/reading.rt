@@ -2,7 +2,8 @@
 ghost use Rattle.std.specs.Prelude.{◌≡◌, ◌<◌, length, IfOk, Ok};
 ghost use Rattle.log_codec.specs.Faults.{Gives};
 ghost use Rattle.log_codec.specs.Reading.{number_at};
-ghost use Rattle.log_codec.specs.Turns.{read_in_turn, stay};
+ghost use Rattle.rtr_types.specs.Turns.{stay};
+ghost use Rattle.log_codec.specs.Turns.{read_in_turn};
 ghost use Rattle.log_codec.specs.Validity.{Valid};
 ghost use Rattle.certificate_codec.specs.Reading.{count_at, entry_at, entries_at, clocks_at, parts_at, certificate_at};
 ghost use Rattle.certificate_codec.specs.Spelling.{Spells};

@@ -11,7 +11,7 @@ use varint_core::put_u32;
 
 /// An entry: a number for each core.
 fn put_entry(out: &mut Vec<u8>, entry: &[u32]) -> Result<(), AllocError>
-    ensures { OnOk result (out.new.items ≡ out.old.items ++ entry_text tt entry.now) }
+    ensures { OnOk result (out.new.items ≡ out.old.items ++ entry_text entry.now) }
 {
     for count in entry {
         put_u32(out, *count)?;
@@ -22,7 +22,7 @@ fn put_entry(out: &mut Vec<u8>, entry: &[u32]) -> Result<(), AllocError>
 /// The entries of a core: how many, and these.
 fn put_entries(out: &mut Vec<u8>, entries: &[Items<u32>]) -> Result<(), AllocError>
     requires { length entries.now < 2 ^ 32 }
-    ensures { OnOk result (out.new.items ≡ out.old.items ++ entries_text 0 entries.now) }
+    ensures { OnOk result (out.new.items ≡ out.old.items ++ entries_text entries.now) }
 {
     put_u32(out, entries.len() as u32)?;
     for entry in entries {

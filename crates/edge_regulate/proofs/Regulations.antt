@@ -5,13 +5,15 @@ use Rattle.std.specs.Prelude.{slice_set, slice_index_or, nat_le}
 use Rattle.std.specs.List.{AllByRecursion, range_with_len}
 use Rattle.std.proofs.lemmas.List.{same_lists, length-map, length-set, length-replicate, get_or-set_same, get_or-set_other, get_or-replicate, get_or_default}
 use Rattle.std.proofs.lemmas.List.FromFn.{get_or-map-range_with_len, length-range_with_len}
+use Rattle.std.proofs.lemmas.Bool.{cases_eq}
 use Rattle.rtr_types.specs.Pairs.{IsPair, pair_count, pair_place, source_at, target_at}
 use Rattle.rtr_types.proofs.PairPlaces.{pairs-placed, places-paired}
 use Rattle.rtr_types.specs.declared.instr.Edge.{Edge}
 use Rattle.stride_vector.specs.declared.StrideVector.{StrideVector}
 use Rattle.know_history.specs.Notes.{Notes, known_at, noted_count}
 use Rattle.edge_regulate.specs.Greedy.{Knows, opened, taking, greedy, told}
-use Rattle.edge_regulate.specs.Regulated.{Knowledge, knows_by, vectors_at, regulated, counts, with_edge, Regulation, Extends, IsRegulation}
+use Rattle.rtr_types.specs.PairEdges.{counts, with_edge}
+use Rattle.edge_regulate.specs.Regulated.{Knowledge, knows_by, vectors_at, regulated, Regulation, Extends, IsRegulation}
 use Rattle.edge_regulate.specs.Laws.{BeginLaw, LaterLaw, NotedLaw, EndLaw, UpToLaw}
 use Rattle.edge_regulate.proofs.Online.{greedy_told}
 use Rattle.edge_regulate.proofs.Agree.{AgreeUpTo, takes_agree, greedy_agree}
@@ -54,11 +56,8 @@ later_law notes later edges s grows kept = record {
 }
 
 pub noted_law : NotedLaw
-noted_law old new at known next noted = record { counts = λ core. by core (split core at.core); same = noted.kept }
+noted_law old new at known next noted = record { counts = λ core. by core (cases_eq core at.core); same = noted.kept }
   where
-    split : (i j : ℕ) → (i ≡ j) ⊎ (i ≢ j)
-    split i j = grind arith
-
     by : (core : ℕ) → (core ≡ at.core) ⊎ (core ≢ at.core) → noted_count old core ≤ noted_count new core
     by core (inl same) = let here = noted.count in subst (λ (c : ℕ). noted_count old c ≤ noted_count new c) (sym same) (omega arith)
     by core (inr other) = let there = noted.others core other in omega arith
@@ -137,15 +136,12 @@ tell notes edges s t e kept pair noted cores vectors = record {
       vectors
       ∙ regulated_is s.cores known (with_edge s.cores edges e) (slice_set s.vectors place (told_of notes s e)) (length-set s.vectors place (told_of notes s e)
       ∙ long known extends)
-      (λ k below. at known extends k below (split k place))
+      (λ k below. at known extends k below (cases_eq k place))
       ∙ ap (λ (n : ℕ). regulated n known (with_edge s.cores edges e)) (sym cores);
 }
   where
     place : ℕ
     place = pair_place s.cores e.from.core e.to.core
-
-    split : (i j : ℕ) → (i ≡ j) ⊎ (i ≢ j)
-    split i j = grind arith
 
     long : (known : Knowledge) → Extends notes known → length s.vectors ≡ pair_count s.cores
     long known extends = ap length (kept.vectors known extends) ∙ length-regulated s.cores known edges

@@ -1,8 +1,8 @@
 -- The pairs' lists of vectors while edges are told.
-use Rattle.std.proofs.Common.{◌≡◌, ◌≢◌, ℕ, ◌+◌, ◌-◌, ◌<◌, ◌≤◌, Bool, true, false, List, [], ◌∷◌, ◌++◌, length, get_or, replicate, zero, suc, sym, ap, subst}
+use Rattle.std.proofs.Common.{◌≡◌, ℕ, ◌-◌, ◌<◌, ◌≤◌, Bool, true, List, [], ◌∷◌, ◌++◌, length, get_or, replicate, zero, suc, sym, ap, subst}
 use Rattle.std.proofs.Common.{◌∙◌, arith, IsTrue}
-use Rattle.std.specs.Prelude.{All, map, slice_index_or, slice_set}
-use Rattle.std.proofs.lemmas.List.{get_or_default, get_or-set_other, length-map, length-set}
+use Rattle.std.specs.Prelude.{All, slice_set}
+use Rattle.std.proofs.lemmas.List.{length-map, length-set}
 use Rattle.std.proofs.lemmas.List.Elements.{All-push, All-set}
 use Rattle.rtr_types.specs.Pairs.{pair_count, pair_place}
 use Rattle.rtr_types.specs.declared.instr.Edge.{Edge}
@@ -10,8 +10,9 @@ use Rattle.stride_vector.specs.declared.StrideVector.{StrideVector}
 use Rattle.roomy_lists.specs.Lists.{Listed, are_ready, is_ready_at, items_at, items_in, with_item, with_newest}
 use Rattle.roomy_lists.proofs.Rooms.{ready_each}
 use Rattle.know_history.specs.Notes.{Notes, core_count, known_at, noted_count}
-use Rattle.edge_regulate.specs.Greedy.{opened, told}
-use Rattle.edge_regulate.specs.Regulated.{knows_by, counts, IsGrowing, Regulation, IsRegulation, regulated}
+use Rattle.edge_regulate.specs.Greedy.{told}
+use Rattle.rtr_types.specs.PairEdges.{counts}
+use Rattle.edge_regulate.specs.Regulated.{knows_by, IsGrowing, Regulation, IsRegulation, regulated}
 use Rattle.edge_regulate.proofs.Regulations.{told_of, begin_law}
 
 -- a core whose retirements were noted is among the cores

@@ -8,7 +8,8 @@ use Rattle.rtr_types.proofs.PairPlaces.{pairs-placed}
 use Rattle.rtr_types.specs.declared.instr.Edge.{Edge}
 use Rattle.stride_vector.specs.declared.StrideVector.{StrideVector}
 use Rattle.know_history.specs.Notes.{Notes}
-use Rattle.edge_regulate.specs.Regulated.{Regulation, AreReady, ArePairsApart, IsNextEdge, IsRegulation, IsSameAt, end_target, with_edge, with_edges}
+use Rattle.rtr_types.specs.PairEdges.{with_edge, with_edges}
+use Rattle.edge_regulate.specs.Regulated.{Regulation, AreReady, ArePairsApart, IsNextEdge, IsRegulation, IsSameAt, end_target}
 
 -- the place of an edge's pair
 abbrev pub place_in : ℕ → Edge → ℕ

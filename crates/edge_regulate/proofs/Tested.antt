@@ -9,7 +9,8 @@ use Rattle.rtr_types.specs.Pairs.{IsPair, pair_count, pair_place}
 use Rattle.rtr_types.specs.declared.instr.Edge.{Edge}
 use Rattle.know_history.specs.Notes.{Notes, noted_count}
 use Rattle.edge_regulate.specs.Examples.{do_rise}
-use Rattle.edge_regulate.specs.Regulated.{AreReady, Regulation, IsRegulation, IsNextEdge, with_edge}
+use Rattle.rtr_types.specs.PairEdges.{with_edge}
+use Rattle.edge_regulate.specs.Regulated.{AreReady, Regulation, IsRegulation, IsNextEdge}
 use Rattle.edge_regulate.proofs.Ends.{next_law}
 
 -- what the test says of an edge at a place

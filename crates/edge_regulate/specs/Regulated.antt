@@ -1,7 +1,7 @@
 -- The regulated log: each pair's greedy vectors, by what each core knew when it retired.
-use Rattle.std.specs.Prelude.{◌≡◌, ◌≢◌, ℕ, ◌-◌, ◌<◌, ◌≤◌, List, [], ◌∷◌, ◌++◌, Bool, true, false, nat_le, map, length}
-use Rattle.std.specs.Prelude.{slice_index_or, slice_set}
-use Rattle.std.specs.List.{fold, range_with_len}
+use Rattle.std.specs.Prelude.{◌≡◌, ◌≢◌, ℕ, ◌-◌, ◌<◌, ◌≤◌, List, [], Bool, true, false, nat_le, map, length}
+use Rattle.std.specs.Prelude.{slice_index_or}
+use Rattle.std.specs.List.{range_with_len}
 use Rattle.rtr_types.specs.Pairs.{IsPair, pair_count, pair_place, source_at, target_at}
 use Rattle.rtr_types.specs.declared.instr.Edge.{Edge}
 use Rattle.stride_vector.specs.declared.StrideVector.{StrideVector}
@@ -27,19 +27,6 @@ unfoldable pub regulated : (cores : ℕ) → Knowledge → List (List (ℕ × �
 regulated cores known edges = map (vectors_at cores known edges) (range_with_len 0 (pair_count cores))
 
 -- ---- while the run goes on
-
-abbrev pub counts : Edge → ℕ × ℕ
-counts e = (e.from.count, e.to.count)
-
--- the edge is put at the end of its pair's list
-abbrev pub with_edge : ℕ → List (List (ℕ × ℕ)) → Edge → List (List (ℕ × ℕ))
-with_edge cores edges e =
-    slice_set edges (pair_place cores e.from.core e.to.core)
-    (slice_index_or edges (pair_place cores e.from.core e.to.core) [] ++ counts e ∷ [])
-
--- the edges are put at the ends of their pairs' lists
-unfoldable pub with_edges : ℕ → List (List (ℕ × ℕ)) → List Edge → List (List (ℕ × ℕ))
-with_edges cores edges new = fold (with_edge cores) edges new
 
 -- the edges are of different pairs
 abbrev pub ArePairsApart : ℕ → List Edge → Type 0

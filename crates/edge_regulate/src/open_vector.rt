@@ -5,7 +5,8 @@ ghost use Rattle.rtr_types.specs.declared.TheConstants.{CORES_MAX};
 ghost use Rattle.stride_vector.specs.Vectors.{last_of};
 ghost use Rattle.know_history.specs.Notes.{core_count, known_at, noted_count};
 ghost use Rattle.edge_regulate.specs.Greedy.{opened, takes, taking, told};
-ghost use Rattle.edge_regulate.specs.Regulated.{IsGrowing, counts, end_target, knows_by};
+ghost use Rattle.rtr_types.specs.PairEdges.{counts};
+ghost use Rattle.edge_regulate.specs.Regulated.{IsGrowing, end_target, knows_by};
 
 use know_history::History;
 use rtr_types::Edge;

@@ -39,7 +39,8 @@ impl Model for Regulator {
 impl Regulator {
     ghost use Rattle.know_history.specs.Notes.{Notes, known_at};
     ghost use Rattle.edge_regulate.specs.Regulated.{AreReady, ArePairsApart, IsNextEdge, IsRegulation, IsSameAt};
-    ghost use Rattle.edge_regulate.specs.Regulated.{regulated, with_edge, with_edges};
+    ghost use Rattle.rtr_types.specs.PairEdges.{with_edge, with_edges};
+    ghost use Rattle.edge_regulate.specs.Regulated.{regulated};
 
     /// No vectors yet, for so many cores.
     pub fn new(alloc: Global, cores: u8) -> Result<Regulator, AllocError>

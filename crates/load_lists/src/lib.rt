@@ -1,7 +1,6 @@
 //! What each core's loads and atomic memory operations read, in lists that take their room beforehand.
 #![tactic(auto)]
 
-mod load_list;
 mod loads_by_core;
 
 pub use loads_by_core::LoadLists;

@@ -1,8 +1,8 @@
 //! What the instructions of each core read.
 ghost use Rattle.std.specs.Prelude.{◌≡◌, ◌<◌, [], IfOk, IsTrue, OnOk, length, replicate};
-ghost use Rattle.load_lists.specs.Lists.{with_note};
+ghost use Rattle.roomy_lists.specs.Lists.{with_item};
 
-use crate::load_list::LoadList;
+use roomy_lists::RoomyLists;
 use rtr_types::Items;
 use rv_core::LoadNote;
 use std::alloc::{AllocError, Global};
@@ -12,22 +12,15 @@ use std::marker::Model;
 /// first. Contracts see the lists, and whether there is room for one more note of each core.
 #[derive(Drop)]
 pub struct LoadLists {
-    lists: Vec<LoadList>,
-    /// Set only where each list has room for one more note, so that this is looked up once and not at
-    /// each step of a machine.
-    known_roomy: bool,
+    notes: RoomyLists<LoadNote>,
 }
 
 impl Model for LoadLists {
-    ghost use Rattle.std.specs.Prelude.{IsTrue};
-    ghost use Rattle.std.specs.List.{list_all};
-    ghost use Rattle.load_lists.specs.Lists.{LoadRooms, is_roomy, seen_as};
+    ghost use Rattle.load_lists.specs.Lists.{LoadRooms, seen_as};
 
     ghost Value = { LoadRooms };
 
-    ghost view = { λ a. seen_as a.lists.items };
-
-    ghost invariant = { λ a. IsTrue a.known_roomy → IsTrue (list_all is_roomy a.lists.items) };
+    ghost view = { λ a. seen_as a.notes };
 }
 
 impl LoadLists {
@@ -35,14 +28,8 @@ impl LoadLists {
     pub fn new(alloc: Global, cores: u8) -> Result<LoadLists, AllocError>
         ensures { IfOk result (λ loads. loads.lists ≡ replicate cores []) }
     {
-        let mut lists = Vec::with_capacity(alloc, cores as usize)?;
-        for core in 0..cores {
-            lists.push(LoadList::new(alloc))?;
-        }
-        Ok(LoadLists {
-            lists,
-            known_roomy: false,
-        })
+        let notes = RoomyLists::new(alloc, cores as usize)?;
+        Ok(LoadLists { notes })
     }
 
     /// Makes room for one more note of each core, so that `note` needs no memory. After want of memory
@@ -51,51 +38,31 @@ impl LoadLists {
         ensures lists { self.new.lists ≡ self.old.lists }
         ensures roomy { OnOk result (IsTrue self.new.roomy) }
     {
-        if self.known_roomy {
-            return Ok(());
-        }
-        for core in 0..self.lists.len() {
-            self.lists[core].make_room()?;
-        }
-        self.known_roomy = true;
-        Ok(())
+        self.notes.make_room()
     }
 
     /// Whether there is room for one more note of each core.
     pub fn has_room(&self) -> bool
         ensures { result ≡ self.now.roomy }
     {
-        if self.known_roomy {
-            return true;
-        }
-        for list in &self.lists {
-            if !list.has_room() {
-                return false;
-            }
-        }
-        true
+        self.notes.has_room()
     }
 
     /// Puts a note at the end of its core's list.
     pub fn note(&mut self, core: u8, note: LoadNote)
         requires core { core < length self.old.lists }
         requires room { IsTrue self.old.roomy }
-        ensures { self.new.lists ≡ with_note self.old.lists core note }
+        ensures { self.new.lists ≡ with_item self.old.lists core note }
     {
-        let roomy = self.lists[core as usize].note(note);
-        self.known_roomy &= roomy;
+        self.notes.push(core as usize, note);
     }
 
-    /// The lists.
-    pub fn into_items(self, alloc: Global) -> Result<Items<Items<LoadNote>>, AllocError>
-        ensures { IfOk result (λ items. items ≡ self.lists) }
+    /// The lists. It takes no memory.
+    pub fn into_items(self) -> Items<Items<LoadNote>>
+        ensures { result ≡ self.lists }
     {
-        let LoadLists { lists, .. } = self;
-        let mut items = Items::new(alloc);
-        for list in lists {
-            items.push(list.into_items())?;
-        }
-        Ok(items)
+        let LoadLists { notes } = self;
+        notes.into_items()
     }
 }
 
@@ -122,7 +89,7 @@ mod tests {
         loads.make_room()?;
         assert!(rt; loads.has_room());
         loads.note(1, second);
-        let items = loads.into_items(rt.alloc())?;
+        let items = loads.into_items();
         let lists = items.as_slice();
         assert_eq!(rt; lists.len(), 2);
         assert_eq!(rt; lists[0].len(), 0);

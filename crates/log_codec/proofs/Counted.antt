@@ -1,9 +1,10 @@
 -- The edges of a valid recording can be counted.
-use Rattle.std.proofs.Common.{ℕ, ◌-◌, ◌*◌, ◌^◌, ◌<◌, ◌≤◌, List, [], length, get_or, subst, arith}
-use Rattle.std.specs.Prelude.{sum_by}
+use Rattle.std.proofs.Common.{ℕ, ◌-◌, ◌*◌, ◌^◌, ◌<◌, ◌≤◌, List, [], length, get_or, subst, arith, inl, inr}
+use Rattle.std.specs.Prelude.{sum_by, slice_index}
 use Rattle.std.proofs.Math.Nat.{mul-le-mul_left}
-use Rattle.std.proofs.lemmas.List.{get_or_default}
+use Rattle.std.proofs.lemmas.List.{get_or_default, get_or_past}
 use Rattle.std.proofs.lemmas.List.Sums.{sum_by-le}
+use Rattle.std.proofs.lemmas.Bool.{cases_lt}
 use Rattle.rtr_types.specs.Pairs.{pair_count}
 use Rattle.rtr_types.specs.declared.TheConstants.{CORES_MAX}
 use Rattle.stride_vector.specs.declared.StrideVector.{StrideVector}
@@ -14,7 +15,7 @@ use Rattle.log_codec.proofs.Logs.{few_edges, few_positions}
 use Rattle.log_codec.proofs.Whole.{bound-most}
 
 -- the pairs of as many cores as there may be
-few-pairs : (cores : ℕ) → cores ≤ CORES_MAX → pair_count cores ≤ CORES_MAX * CORES_MAX
+pub few-pairs : (cores : ℕ) → cores ≤ CORES_MAX → pair_count cores ≤ CORES_MAX * CORES_MAX
 few-pairs cores few =
     let one = mul-le-mul_left {m = cores - 1} {n = CORES_MAX} cores (omega arith) in
     let two = mul-le-mul_left {m = cores} {n = CORES_MAX} CORES_MAX few in
@@ -51,3 +52,10 @@ positions_fit r v =
     subst (λ (vectors : List StrideVector). position_count vectors ≤ r.params.limit) (get_or_default r.regulated place [] d lt) (omega arith)) in
     let product = product-fits (length r.regulated) r.params.limit (omega arith) (omega arith) in
     omega arith
+
+-- totals are numbers that a recording spells
+pub totals_small : (r : Recording) → Valid r → (c : ℕ) → slice_index r.totals c < 2 ^ 32
+totals_small r valid c = elim (cases_lt c (length r.totals)) [
+  | inl lt ↦ let a = valid.totals c 0 lt in let b = valid.params.limit in omega arith
+  | inr past ↦ let e = get_or_past r.totals c 0 past in omega arith
+]

@@ -6,6 +6,7 @@ use Rattle.std.specs.List.{starts_with}
 use Rattle.std.specs.Cmp.Lexicographic.{same_text}
 use Rattle.std.proofs.lemmas.Bool.Decides.{nat_tests}
 use Rattle.std.proofs.lemmas.List.{take_at, drop_at, take-append-drop, length-append, length-take}
+use Rattle.std.proofs.lemmas.Bool.{and_parts}
 use Rattle.rtr_types.specs.declared.params.Params.{Params}
 use Rattle.varint_core.specs.declared.Varint.{Varint}
 use Rattle.varint_core.specs.Leb128.{reading}
@@ -19,7 +20,7 @@ use Rattle.log_codec.specs.Versions.{magic, FitsIn, fits_in}
 use Rattle.log_codec.specs.Spelling.{number, header_text}
 use Rattle.log_codec.specs.Reading.{after_number, number_at, version_at, params_of, header_at, image_at, total_at}
 use Rattle.log_codec.proofs.Limits.{fits-true, true-fits}
-use Rattle.log_codec.proofs.Steps.{bind_ok, guard_ok, refuse_ok, ok_is, and_true, bytes-drop, Takes, Takes-then}
+use Rattle.log_codec.proofs.Steps.{bind_ok, guard_ok, refuse_ok, ok_is, bytes-drop, Takes, Takes-then}
 
 -- ---- numbers
 
@@ -84,7 +85,7 @@ unfolding params_of
 params_fit v cores limit words len p e =
     let made : Params = record { cores = cores; limit = limit; words = words } in
     let g = guard_ok (fits_in v made && nat_le len (4 * words)) HEADER made p e in
-    let a = and_true (fits_in v made) (nat_le len (4 * words)) g.0 in
+    let a = and_parts (fits_in v made) (nat_le len (4 * words)) g.0 in
     let long = a.1 in
     let whole : HeaderFits v made len = record { params = fits-true v made a.0; image = grind (arith, nat_tests) } in
     (subst (λ (q : Params). HeaderFits v q len) g.1 whole, ap (λ (q : Params). q.cores) g.1, ap (λ (q : Params). q.limit) g.1, ap (λ (q : Params). q.words) g.1)

@@ -5,12 +5,14 @@ use Rattle.std.specs.Prelude.{All}
 use Rattle.std.specs.List.{AllByRecursion}
 use Rattle.std.proofs.lemmas.List.Elements.{All-from_recursion, recursion_from_All}
 use Rattle.std.proofs.lemmas.List.{append-nil, drop_more, drop_all}
+use Rattle.std.proofs.lemmas.Bool.{and_parts}
 use Rattle.log_codec.specs.declared.codec_fault.CodecFault.{CodecFault}
 use Rattle.log_codec.specs.declared.codec_fault.CodecFault.TheVariants as faults
 use Rattle.log_codec.specs.Faults.{◌>>=◌, Fails}
-use Rattle.log_codec.specs.Turns.{read_in_turn, spelled_in_turn, StandInTurn, stand_in_turn, stay, count_up}
+use Rattle.rtr_types.specs.Turns.{StandInTurn, stand_in_turn, stay, count_up}
+use Rattle.log_codec.specs.Turns.{read_in_turn, spelled_in_turn}
 use Rattle.log_codec.specs.Laws.{IsBytes}
-use Rattle.log_codec.proofs.Steps.{bind_ok, ok_is, and_true, Takes, Takes-then, Takes-none}
+use Rattle.log_codec.proofs.Steps.{bind_ok, ok_is, Takes, Takes-then, Takes-none}
 
 -- ---- a loop that reads
 
@@ -127,7 +129,7 @@ pub stand-true : {S X : Type 0} (P : S → X → Type 0) (p : S → X → Bool) 
     stand_in_turn p next s xs ≡ true → StandInTurn P next s xs
 stand-true P p next one s [] h = tt
 stand-true P p next one s (x ∷ xs) h =
-    let both = and_true (p s x) (stand_in_turn p next (next s x) xs) h in
+    let both = and_parts (p s x) (stand_in_turn p next (next s x) xs) h in
     (one s x both.0, stand-true P p next one (next s x) xs both.1)
 
 pub true-stand : {S X : Type 0} (P : S → X → Type 0) (p : S → X → Bool) (next : S → X → S) → ((s : S) (x : X) → P s x → p s x ≡ true) → (s : S) (xs : List X) →

@@ -2,6 +2,7 @@
 use Rattle.std.proofs.Common.{◌≡◌, ℕ, ◌*◌, ◌%◌, ◌≤◌, true, ◌&&◌, nat_le, nat_eq, refl, arith}
 use Rattle.std.proofs.Math.Nat.{mul-le-mul_left}
 use Rattle.std.proofs.lemmas.Bool.Decides.{nat_tests}
+use Rattle.std.proofs.lemmas.Bool.{and_parts}
 use Rattle.rtr_types.specs.declared.TheConstants.{CORES_MAX}
 use Rattle.rtr_types.specs.declared.params.Params.{Params}
 use Rattle.rtr_types.specs.declared.params.TheConstants.{INSTRUCTIONS_MAX, LIMIT_MAX, WORDS_MIN, WORDS_MAX}
@@ -10,7 +11,6 @@ use Rattle.log_codec.specs.declared.version.Version.{Version}
 use Rattle.log_codec.specs.declared.version.Version.TheVariants.{One, Two}
 use Rattle.log_codec.specs.Laws.{LimitsNest}
 use Rattle.log_codec.specs.Versions.{FitsOld, FitsIn, has_blocks, fits_old, fits_run, fits_in}
-use Rattle.log_codec.proofs.Steps.{and_true}
 
 -- the memory is of whole blocks, and not too large
 record HasBlocks (p : Params) : Type 0 where
@@ -20,8 +20,8 @@ record HasBlocks (p : Params) : Type 0 where
 
 blocks-true : (p : Params) → has_blocks p ≡ true → HasBlocks p
 blocks-true p e =
-    let a = and_true (nat_le WORDS_MIN p.words && nat_le p.words WORDS_MAX) (nat_eq (p.words % 4) 0) e in
-    let b = and_true (nat_le WORDS_MIN p.words) (nat_le p.words WORDS_MAX) a.0 in
+    let a = and_parts (nat_le WORDS_MIN p.words && nat_le p.words WORDS_MAX) (nat_eq (p.words % 4) 0) e in
+    let b = and_parts (nat_le WORDS_MIN p.words) (nat_le p.words WORDS_MAX) a.0 in
     let a1 = a.1 in let b0 = b.0 in let b1 = b.1 in
     record { some_block = grind (arith, nat_tests); words = grind (arith, nat_tests); whole_blocks = grind (arith, nat_tests) }
 
@@ -34,10 +34,10 @@ true-blocks p h =
 
 pub old-true : (p : Params) → fits_old p ≡ true → FitsOld p
 old-true p e =
-    let a = and_true (nat_le 1 p.cores && nat_le p.cores 8) ((nat_le 1 p.limit && nat_le p.limit 100000) && has_blocks p) e in
-    let b = and_true (nat_le 1 p.cores) (nat_le p.cores 8) a.0 in
-    let c = and_true (nat_le 1 p.limit && nat_le p.limit 100000) (has_blocks p) a.1 in
-    let d = and_true (nat_le 1 p.limit) (nat_le p.limit 100000) c.0 in
+    let a = and_parts (nat_le 1 p.cores && nat_le p.cores 8) ((nat_le 1 p.limit && nat_le p.limit 100000) && has_blocks p) e in
+    let b = and_parts (nat_le 1 p.cores) (nat_le p.cores 8) a.0 in
+    let c = and_parts (nat_le 1 p.limit && nat_le p.limit 100000) (has_blocks p) a.1 in
+    let d = and_parts (nat_le 1 p.limit) (nat_le p.limit 100000) c.0 in
     let blocks = blocks-true p c.1 in
     let b0 = b.0 in let b1 = b.1 in let d0 = d.0 in let d1 = d.1 in
     record {
@@ -61,12 +61,12 @@ true-old p f =
 
 pub run-true : (p : Params) → fits_run p ≡ true → Fits p
 run-true p e =
-    let a = and_true (nat_le 1 p.cores && nat_le p.cores CORES_MAX) (((nat_le 1 p.limit && nat_le p.limit LIMIT_MAX) && nat_le (p.cores * p.limit) INSTRUCTIONS_MAX)
-    && has_blocks p) e in
-    let b = and_true (nat_le 1 p.cores) (nat_le p.cores CORES_MAX) a.0 in
-    let c = and_true ((nat_le 1 p.limit && nat_le p.limit LIMIT_MAX) && nat_le (p.cores * p.limit) INSTRUCTIONS_MAX) (has_blocks p) a.1 in
-    let d = and_true (nat_le 1 p.limit && nat_le p.limit LIMIT_MAX) (nat_le (p.cores * p.limit) INSTRUCTIONS_MAX) c.0 in
-    let f = and_true (nat_le 1 p.limit) (nat_le p.limit LIMIT_MAX) d.0 in
+    let a = and_parts (nat_le 1 p.cores && nat_le p.cores CORES_MAX)
+    (((nat_le 1 p.limit && nat_le p.limit LIMIT_MAX) && nat_le (p.cores * p.limit) INSTRUCTIONS_MAX) && has_blocks p) e in
+    let b = and_parts (nat_le 1 p.cores) (nat_le p.cores CORES_MAX) a.0 in
+    let c = and_parts ((nat_le 1 p.limit && nat_le p.limit LIMIT_MAX) && nat_le (p.cores * p.limit) INSTRUCTIONS_MAX) (has_blocks p) a.1 in
+    let d = and_parts (nat_le 1 p.limit && nat_le p.limit LIMIT_MAX) (nat_le (p.cores * p.limit) INSTRUCTIONS_MAX) c.0 in
+    let f = and_parts (nat_le 1 p.limit) (nat_le p.limit LIMIT_MAX) d.0 in
     let blocks = blocks-true p c.1 in
     let b0 = b.0 in let b1 = b.1 in let d1 = d.1 in let f0 = f.0 in let f1 = f.1 in
     record {

@@ -4,7 +4,7 @@ use Rattle.std.proofs.Common.{Ok, Err, refl, sym, ap, subst, ◌∙◌, append_a
 use Rattle.std.specs.Prelude.{sum_by}
 use Rattle.std.proofs.Common.{inl, inr}
 use Rattle.std.proofs.Math.Nat.{mul-le-mul_left}
-use Rattle.std.proofs.lemmas.Bool.{cases_lt}
+use Rattle.std.proofs.lemmas.Bool.{cases_lt, and_parts}
 use Rattle.std.proofs.lemmas.List.Sums.{sum_by-cons}
 use Rattle.std.proofs.lemmas.Bool.Decides.{nat_tests}
 use Rattle.stride_vector.specs.declared.StrideVector.{StrideVector}
@@ -12,11 +12,13 @@ use Rattle.stride_vector.specs.Vectors.{last_of}
 use Rattle.log_codec.specs.declared.codec_fault.TheConstants.{REDUCED, REGULATED}
 use Rattle.log_codec.specs.Faults.{◌>>=◌}
 use Rattle.log_codec.specs.Laws.{IsBytes}
-use Rattle.log_codec.specs.Turns.{read_in_turn, spelled_in_turn, StandInTurn, follow}
-use Rattle.log_codec.specs.Validity.{EdgeStands, AreEdges, VectorStands, AreVectors, end_of, strides_stand, vector_stands}
+use Rattle.rtr_types.specs.Turns.{StandInTurn, follow}
+use Rattle.log_codec.specs.Turns.{alike, read_in_turn, spelled_in_turn}
+use Rattle.rtr_types.specs.PairEdges.{EdgeStands, AreEdges}
+use Rattle.log_codec.specs.Validity.{VectorStands, AreVectors, end_of, strides_stand, vector_stands}
 use Rattle.log_codec.specs.Spelling.{number, edge_text, edges_text, strides_text, vector_text, vectors_text}
 use Rattle.log_codec.specs.Reading.{number_at, edge_at, edges_at, two_strides, strides_at, standing, vector_at, vectors_at}
-use Rattle.log_codec.proofs.Steps.{bind_ok, guard_ok, ok_is, and_true, Takes, Takes-then, Takes-none}
+use Rattle.log_codec.proofs.Steps.{bind_ok, guard_ok, ok_is, Takes, Takes-then, Takes-none}
 use Rattle.log_codec.proofs.FieldLaws.{number_takes, number_again}
 use Rattle.log_codec.proofs.InTurn.{turns_take, turns_again}
 
@@ -40,9 +42,9 @@ edge_takes most last bytes e rest are h =
     ) (e, rest) q.2 in
     let tb = number_takes REDUCED bytes b.0 b.1 are p.1 in
     let ta = number_takes REDUCED b.1 a.0 a.1 tb.0.rest_fits q.1 in
-    let u = and_true (nat_lt 0 a.0 && nat_lt 0 b.0) (nat_le (last.0 + a.0) most.0 && nat_le (last.1 + b.0) most.1) g.0 in
-    let v = and_true (nat_lt 0 a.0) (nat_lt 0 b.0) u.0 in
-    let w = and_true (nat_le (last.0 + a.0) most.0) (nat_le (last.1 + b.0) most.1) u.1 in
+    let u = and_parts (nat_lt 0 a.0 && nat_lt 0 b.0) (nat_le (last.0 + a.0) most.0 && nat_le (last.1 + b.0) most.1) g.0 in
+    let v = and_parts (nat_lt 0 a.0) (nat_lt 0 b.0) u.0 in
+    let w = and_parts (nat_le (last.0 + a.0) most.0) (nat_le (last.1 + b.0) most.1) u.1 in
     build a.0 b.0 a.1 (Takes-then bytes (number b.0) b.1 (number a.0) a.1 tb.0 ta.0) (ap (λ (x : (ℕ × ℕ) × List ℕ). x.0.0) g.1)
     (ap (λ (x : (ℕ × ℕ) × List ℕ). x.0.1) g.1) (ap (λ (x : (ℕ × ℕ) × List ℕ). x.1) g.1) v.0 v.1 w.0 w.1
   where
@@ -100,7 +102,7 @@ pub few_edges : (most : ℕ × ℕ) (edges : List (ℕ × ℕ)) → AreEdges mos
 few_edges most edges h = let few = edges-few most (0, 0) edges (omega arith) h in omega arith
 
 pub edges_take : (place : ℕ) (most : ℕ × ℕ) (bytes : List ℕ) (edges : List (ℕ × ℕ)) (rest : List ℕ) → IsBytes bytes → edges_at most bytes ≡ Ok (edges, rest) →
-    Takes bytes (edges_text place edges) rest × AreEdges most edges
+    Takes bytes (edges_text edges) rest × AreEdges most edges
 unfolding edges_at
 edges_take place most bytes edges rest are h =
     let p = bind_ok (number_at REDUCED bytes) (λ count. read_in_turn (edge_at most) follow count.0 (0, 0) count.1) (edges, rest) h in
@@ -111,7 +113,7 @@ edges_take place most bytes edges rest are h =
     (subst (λ (k : ℕ). Takes bytes (number k ++ spelled_in_turn edge_text follow (0, 0) edges) rest) (sym items.1) both, items.2)
 
 pub edges_again : (place : ℕ) (most : ℕ × ℕ) (edges : List (ℕ × ℕ)) (rest : List ℕ) → most.0 < 2 ^ 32 → most.1 < 2 ^ 32 → AreEdges most edges →
-    edges_at most (edges_text place edges ++ rest) ≡ Ok (edges, rest)
+    edges_at most (edges_text edges ++ rest) ≡ Ok (edges, rest)
 unfolding edges_at
 edges_again place most edges rest fits_a fits_b h =
     let few = few_edges most edges h in
@@ -166,7 +168,7 @@ strides-true v e = elim (cases_lt 1 v.n) [
   | inl more ↦
       let t : nat_lt 1 v.n ≡ true = grind (arith, nat_tests) in
       let f : nat_le 1 v.sa && nat_le 1 v.sb ≡ true = rw t at e in
-      let both = and_true (nat_le 1 v.sa) (nat_le 1 v.sb) f in
+      let both = and_parts (nat_le 1 v.sa) (nat_le 1 v.sb) f in
       let a = both.0 in
       let b = both.1 in
       let sa : 1 ≤ v.sa = grind (arith, nat_tests) in
@@ -175,7 +177,7 @@ strides-true v e = elim (cases_lt 1 v.n) [
   | inr one ↦
       let t : nat_lt 1 v.n ≡ false = grind (arith, nat_tests) in
       let f : nat_eq v.sa 0 && nat_eq v.sb 0 ≡ true = rw t at e in
-      let both = and_true (nat_eq v.sa 0) (nat_eq v.sb 0) f in
+      let both = and_parts (nat_eq v.sa 0) (nat_eq v.sb 0) f in
       let a = both.0 in
       let b = both.1 in
       let sa : v.sa ≡ 0 = grind (arith, nat_tests) in
@@ -203,12 +205,12 @@ true-strides v h = elim (cases_lt 1 v.n) [
 
 pub vector-true : (most last : ℕ × ℕ) (v : StrideVector) → vector_stands most last v ≡ true → VectorStands most last v
 vector-true most last v e =
-    let p = and_true (nat_le 1 v.n && strides_stand v) ((nat_lt last.0 v.a0 && nat_lt last.1 v.b0)
+    let p = and_parts (nat_le 1 v.n && strides_stand v) ((nat_lt last.0 v.a0 && nat_lt last.1 v.b0)
     && (nat_le (last_of v).0 most.0 && nat_le (last_of v).1 most.1)) e in
-    let q = and_true (nat_le 1 v.n) (strides_stand v) p.0 in
-    let r = and_true (nat_lt last.0 v.a0 && nat_lt last.1 v.b0) (nat_le (last_of v).0 most.0 && nat_le (last_of v).1 most.1) p.1 in
-    let s = and_true (nat_lt last.0 v.a0) (nat_lt last.1 v.b0) r.0 in
-    let t = and_true (nat_le (last_of v).0 most.0) (nat_le (last_of v).1 most.1) r.1 in
+    let q = and_parts (nat_le 1 v.n) (strides_stand v) p.0 in
+    let r = and_parts (nat_lt last.0 v.a0 && nat_lt last.1 v.b0) (nat_le (last_of v).0 most.0 && nat_le (last_of v).1 most.1) p.1 in
+    let s = and_parts (nat_lt last.0 v.a0) (nat_lt last.1 v.b0) r.0 in
+    let t = and_parts (nat_le (last_of v).0 most.0) (nat_le (last_of v).1 most.1) r.1 in
     let strides = strides-true v q.1 in
     let q0 = q.0 in let s0 = s.0 in let s1 = s.1 in let t0 = t.0 in let t1 = t.1 in
     record {
@@ -282,7 +284,7 @@ abbrev after_n : ℕ × ℕ → ℕ × ℕ → ℕ × List ℕ → Result (Strid
 after_n most last n = number_at REGULATED n.1 >>= λ a. after_a most last n.0 a
 
 vector_takes : (most last : ℕ × ℕ) (bytes : List ℕ) (v : StrideVector) (rest : List ℕ) → IsBytes bytes → vector_at most last bytes ≡ Ok (v, rest) →
-    Takes bytes (vector_text last v) rest × VectorStands most last v
+    Takes bytes (vector_text v) rest × VectorStands most last v
 unfolding vector_at
 vector_takes most last bytes v rest are h =
     let n = bind_ok (number_at REGULATED bytes) (after_n most last) (v, rest) h in
@@ -299,10 +301,10 @@ vector_takes most last bytes v rest are h =
     let t1 = Takes-then a.0.1 (number b.0.0) b.0.1 (strides_text made) s.0.2 tb.0 ts in
     let t2 = Takes-then n.0.1 (number a.0.0) a.0.1 (number b.0.0 ++ strides_text made) s.0.2 ta.0 t1 in
     let t3 = Takes-then bytes (number n.0.0) n.0.1 (number a.0.0 ++ (number b.0.0 ++ strides_text made)) s.0.2 tn.0 t2 in
-    subst (λ (y : StrideVector × List ℕ). Takes bytes (vector_text last y.0) y.1 × VectorStands most last y.0) g.1 (t3, vector-true most last made g.0)
+    subst (λ (y : StrideVector × List ℕ). Takes bytes (vector_text y.0) y.1 × VectorStands most last y.0) g.1 (t3, vector-true most last made g.0)
 
 vector_again : (most last : ℕ × ℕ) (v : StrideVector) (rest : List ℕ) → most.0 < 2 ^ 32 → most.1 < 2 ^ 32 → VectorStands most last v →
-    vector_at most last (vector_text last v ++ rest) ≡ Ok (v, rest)
+    vector_at most last (vector_text v ++ rest) ≡ Ok (v, rest)
 unfolding vector_at
 vector_again most last v rest fits_a fits_b h =
     let small = vector_small most last v h in
@@ -314,7 +316,7 @@ vector_again most last v rest fits_a fits_b h =
       no_source_stride = h.no_source_stride;
       no_target_stride = h.no_target_stride;
     }) in
-    let regrouped : vector_text last v ++ rest ≡ number v.n ++ (number v.a0 ++ (number v.b0 ++ (strides_text v ++ rest))) = simp append_assoc in
+    let regrouped : vector_text v ++ rest ≡ number v.n ++ (number v.a0 ++ (number v.b0 ++ (strides_text v ++ rest))) = simp append_assoc in
     let n = number_again REGULATED v.n (number v.a0 ++ (number v.b0 ++ (strides_text v ++ rest))) (omega arith) in
     let a = number_again REGULATED v.a0 (number v.b0 ++ (strides_text v ++ rest)) (omega arith) in
     let b = number_again REGULATED v.b0 (strides_text v ++ rest) (omega arith) in
@@ -349,23 +351,23 @@ few_vectors most vectors h =
     omega arith
 
 pub vectors_take : (place : ℕ) (most : ℕ × ℕ) (bytes : List ℕ) (vectors : List StrideVector) (rest : List ℕ) → IsBytes bytes →
-    vectors_at most bytes ≡ Ok (vectors, rest) → Takes bytes (vectors_text place vectors) rest × AreVectors most vectors
+    vectors_at most bytes ≡ Ok (vectors, rest) → Takes bytes (vectors_text vectors) rest × AreVectors most vectors
 unfolding vectors_at
 vectors_take place most bytes vectors rest are h =
     let p = bind_ok (number_at REGULATED bytes) (λ count. read_in_turn (vector_at most) end_of count.0 (0, 0) count.1) (vectors, rest) h in
     let n = p.0 in
     let t = number_takes REGULATED bytes n.0 n.1 are p.1 in
-    let items = turns_take (vector_at most) end_of vector_text (VectorStands most) (λ s b x r. vector_takes most s b x r) n.0
+    let items = turns_take (vector_at most) end_of (alike vector_text) (VectorStands most) (λ s b x r. vector_takes most s b x r) n.0
     (0, 0) n.1 vectors rest t.0.rest_fits p.2 in
-    let both = Takes-then bytes (number n.0) n.1 (spelled_in_turn vector_text end_of (0, 0) vectors) rest t.0 items.0 in
-    (subst (λ (k : ℕ). Takes bytes (number k ++ spelled_in_turn vector_text end_of (0, 0) vectors) rest) (sym items.1) both, items.2)
+    let both = Takes-then bytes (number n.0) n.1 (spelled_in_turn (alike vector_text) end_of (0, 0) vectors) rest t.0 items.0 in
+    (subst (λ (k : ℕ). Takes bytes (number k ++ spelled_in_turn (alike vector_text) end_of (0, 0) vectors) rest) (sym items.1) both, items.2)
 
 pub vectors_again : (place : ℕ) (most : ℕ × ℕ) (vectors : List StrideVector) (rest : List ℕ) → most.0 < 2 ^ 32 → most.1 < 2 ^ 32 → AreVectors most vectors →
-    vectors_at most (vectors_text place vectors ++ rest) ≡ Ok (vectors, rest)
+    vectors_at most (vectors_text vectors ++ rest) ≡ Ok (vectors, rest)
 unfolding vectors_at
 vectors_again place most vectors rest fits_a fits_b h =
     let few = few_vectors most vectors h in
-    let items = turns_again (vector_at most) end_of vector_text (VectorStands most) (λ s x r stands. vector_again most s x r fits_a fits_b stands)
+    let items = turns_again (vector_at most) end_of (alike vector_text) (VectorStands most) (λ s x r stands. vector_again most s x r fits_a fits_b stands)
     (0, 0) vectors rest h in
-    ap (vectors_at most) (append_assoc (number (length vectors)) (spelled_in_turn vector_text end_of (0, 0) vectors) rest)
-    ∙ rw (number_again REGULATED (length vectors) (spelled_in_turn vector_text end_of (0, 0) vectors ++ rest) (omega arith)) items
+    ap (vectors_at most) (append_assoc (number (length vectors)) (spelled_in_turn (alike vector_text) end_of (0, 0) vectors) rest)
+    ∙ rw (number_again REGULATED (length vectors) (spelled_in_turn (alike vector_text) end_of (0, 0) vectors ++ rest) (omega arith)) items

@@ -17,7 +17,8 @@ use Rattle.log_codec.specs.Incoming.{incoming_stands, last_source, last_target, 
 use Rattle.log_codec.specs.Reading.{after_number, number_at, version_at, params_of, header_at, image_at, total_at, totals_at, edge_at, edges_at}
 use Rattle.log_codec.specs.Reading.{incoming_at, into_at, targets_at, reduced_at, two_strides, strides_at, vector_at, vectors_at}
 use Rattle.log_codec.specs.Reading.{regulated_at}
-use Rattle.log_codec.specs.Turns.{read_in_turn, stay, follow, count_up}
+use Rattle.rtr_types.specs.Turns.{stay, follow, count_up}
+use Rattle.log_codec.specs.Turns.{read_in_turn}
 use Rattle.log_codec.specs.Validity.{bound_at, end_of, vector_stands}
 use Rattle.log_codec.specs.Versions.{magic, fits_in}
 

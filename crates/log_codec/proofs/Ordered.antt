@@ -7,8 +7,8 @@ use Rattle.std.proofs.lemmas.Bool.Decides.{nat_tests}
 use Rattle.std.proofs.lemmas.List.{length-append, length-map}
 use Rattle.log_codec.specs.declared.incoming.Incoming.{Incoming}
 use Rattle.log_codec.specs.Incoming.{Follows, IncomingRises, incoming, last_source, remember, from_source}
-use Rattle.log_codec.specs.Turns.{StandInTurn, follow}
-use Rattle.log_codec.specs.Validity.{EdgeRises, EdgeStands}
+use Rattle.rtr_types.specs.Turns.{StandInTurn, follow}
+use Rattle.rtr_types.specs.PairEdges.{EdgeRises, EdgeStands}
 use Rattle.log_codec.proofs.Merges.{from_same, from_other, Reaches, reaches-then, Sorted, Rises}
 
 -- ---- the last edge from a core

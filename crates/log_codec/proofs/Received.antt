@@ -15,12 +15,13 @@ use Rattle.log_codec.specs.declared.incoming.Incoming.{Incoming}
 use Rattle.log_codec.specs.Faults.{◌>>=◌, Fails}
 use Rattle.log_codec.specs.Incoming.{Keeps, pairs_of, from_source, remember, target_count, with_into}
 use Rattle.log_codec.specs.Reading.{incoming_at, into_at, put_into_lists, targets_at}
-use Rattle.log_codec.specs.Turns.{read_in_turn, count_up}
+use Rattle.rtr_types.specs.Turns.{count_up}
+use Rattle.rtr_types.proofs.Ranges.{zero_at}
+use Rattle.log_codec.specs.Turns.{read_in_turn}
 use Rattle.log_codec.proofs.InTurn.{with_front, begins, goes_on, ends, is_done}
 use Rattle.log_codec.proofs.Merges.{from-append, from_same, from_other}
 use Rattle.log_codec.proofs.NextEdges.{keeps-more, keeps-none}
 use Rattle.log_codec.proofs.Steps.{bind_ok, ok_is}
-use Rattle.log_codec.proofs.Written.{zero-at}
 
 -- ---- the lists of the pairs
 
@@ -143,7 +144,7 @@ pub reads-start : (totals : List ℕ) (target count : ℕ) (old : List (List (�
     Reads totals target count 0 old old None (replicate CORES_MAX 0) bytes bytes
 reads-start totals target count old bytes long = record {
   edges = [];
-  keeps = keeps-none (replicate CORES_MAX 0) (length-replicate {A = ℕ} CORES_MAX 0) (λ k lt. zero-at CORES_MAX k);
+  keeps = keeps-none (replicate CORES_MAX 0) (length-replicate {A = ℕ} CORES_MAX 0) (λ k lt. zero_at CORES_MAX k);
   made = with-none (length totals) old target long;
   read = begins (incoming_at totals target) remember count [] bytes;
 }

@@ -3,7 +3,7 @@ use Rattle.std.proofs.Common.{◌≡◌, ◌≢◌, ℕ, ◌+◌, ◌-◌, ◌*�
 use Rattle.std.proofs.Common.{length, map, get_or, Result, Ok, refl, sym, ap, subst, ◌∙◌, append_assoc, arith}
 use Rattle.std.specs.Prelude.{All, slice_index}
 use Rattle.std.specs.List.{AllByRecursion, range_with_len}
-use Rattle.std.proofs.lemmas.Bool.{cases_eq, cases_lt}
+use Rattle.std.proofs.lemmas.Bool.{cases_eq, cases_lt, and_parts}
 use Rattle.std.proofs.lemmas.Bool.Decides.{nat_tests}
 use Rattle.std.proofs.lemmas.List.{get_or_default, get_or_past}
 use Rattle.std.proofs.lemmas.List.FromFn.{length-map-range_with_len, get_or-map-range_with_len, fill_by_all}
@@ -17,8 +17,10 @@ use Rattle.log_codec.specs.Faults.{◌>>=◌}
 use Rattle.log_codec.specs.Incoming.{IncomingRises, IncomingStands, pairs_of, edges_out_of, incoming_edges, follows, from_source, incoming, incoming_stands}
 use Rattle.log_codec.specs.Incoming.{is_pair, last_source, last_target, remember, target_count, Follows}
 use Rattle.log_codec.specs.Laws.{IsBytes}
-use Rattle.log_codec.specs.Turns.{read_in_turn, spelled_in_turn, StandInTurn, follow, count_up}
-use Rattle.log_codec.specs.Validity.{AreEdges, EdgeRises, EdgeStands, bound_at}
+use Rattle.rtr_types.specs.Turns.{StandInTurn, follow, count_up}
+use Rattle.log_codec.specs.Turns.{alike, read_in_turn, spelled_in_turn}
+use Rattle.rtr_types.specs.PairEdges.{AreEdges, EdgeRises, EdgeStands}
+use Rattle.log_codec.specs.Validity.{bound_at}
 use Rattle.log_codec.specs.Spelling.{number, edges_text, incoming_text, into_text, pairs_text, targets_text, reduced_text}
 use Rattle.log_codec.specs.Reading.{number_at, edges_at, incoming_at, into_at, pairs_at, reduced_at, standing_into, targets_at}
 use Rattle.log_codec.proofs.FieldLaws.{number_takes, number_again}
@@ -27,7 +29,7 @@ use Rattle.log_codec.proofs.Logs.{edges_take, edges_again, few_edges}
 use Rattle.log_codec.proofs.Merges.{Merges, Rises, all-map, merge-is, merged-merges, length-merged}
 use Rattle.log_codec.proofs.Ordered.{InOrder, ReachesAll, last_counts, rises-turn, turn-order, each, from-all, all-from, from-none, bounded, rises-of}
 use Rattle.log_codec.proofs.Ordered.{length-joined}
-use Rattle.log_codec.proofs.Steps.{bind_ok, guard_ok, ok_is, and_true, Takes, Takes-then}
+use Rattle.log_codec.proofs.Steps.{bind_ok, guard_ok, ok_is, Takes, Takes-then}
 
 -- ---- bounds
 
@@ -75,14 +77,14 @@ placed-all totals reduced long are = places-stand (λ place es. AreEdges (bound_
 pairs_take : (totals bytes : List ℕ) (reduced : List (List (ℕ × ℕ))) (rest : List ℕ) → IsBytes bytes → pairs_at totals bytes ≡ Ok (reduced, rest) →
     Takes bytes (pairs_text reduced) rest × (length reduced ≡ pair_count (length totals)) × AllStand totals reduced
 pairs_take totals bytes reduced rest are e =
-    turns_take (λ place. edges_at (bound_at totals place)) count_up edges_text (λ place es. AreEdges (bound_at totals place) es)
+    turns_take (λ place. edges_at (bound_at totals place)) count_up (alike edges_text) (λ place es. AreEdges (bound_at totals place) es)
     (λ s b x r. edges_take s (bound_at totals s) b x r) (pair_count (length totals)) 0 bytes reduced rest are e
 
 pairs_again : (limit : ℕ) (totals : List ℕ) (reduced : List (List (ℕ × ℕ))) (rest : List ℕ) → limit < 2 ^ 32 → All (λ t. t ≤ limit) totals →
     length reduced ≡ pair_count (length totals) → AllStand totals reduced →
     pairs_at totals (pairs_text reduced ++ rest) ≡ Ok (reduced, rest)
 pairs_again limit totals reduced rest small most long h =
-    let again = turns_again (λ place. edges_at (bound_at totals place)) count_up edges_text (λ place es. AreEdges (bound_at totals place) es)
+    let again = turns_again (λ place. edges_at (bound_at totals place)) count_up (alike edges_text) (λ place es. AreEdges (bound_at totals place) es)
     (λ s x r stands. let b = bound-small limit totals s small most in edges_again s (bound_at totals s) x r b.source b.target stands) 0 reduced rest h in
     subst (λ (n : ℕ). read_in_turn (λ place. edges_at (bound_at totals place)) count_up n 0 (pairs_text reduced ++ rest) ≡ Ok (reduced, rest)) long again
 
@@ -106,12 +108,12 @@ true-follows (d ∷ before) e (inr same) = let is = same.0 in let low = same.1 i
 pub stands-true : (totals : List ℕ) (target : ℕ) (before : List Incoming) (e : Incoming) → incoming_stands totals target before e ≡ true →
     IncomingStands totals target before e
 stands-true totals target before e t =
-    let p = and_true (is_pair (length totals) e.source target) ((follows before e && nat_lt (last_source e.source before) e.counts.0)
+    let p = and_parts (is_pair (length totals) e.source target) ((follows before e && nat_lt (last_source e.source before) e.counts.0)
     && (nat_le e.counts.0 (slice_index totals e.source) && nat_le e.counts.1 (slice_index totals target))) t in
-    let q = and_true (follows before e && nat_lt (last_source e.source before) e.counts.0) (nat_le e.counts.0 (slice_index totals e.source)
+    let q = and_parts (follows before e && nat_lt (last_source e.source before) e.counts.0) (nat_le e.counts.0 (slice_index totals e.source)
     && nat_le e.counts.1 (slice_index totals target)) p.1 in
-    let r = and_true (follows before e) (nat_lt (last_source e.source before) e.counts.0) q.0 in
-    let s = and_true (nat_le e.counts.0 (slice_index totals e.source)) (nat_le e.counts.1 (slice_index totals target)) q.1 in
+    let r = and_parts (follows before e) (nat_lt (last_source e.source before) e.counts.0) q.0 in
+    let s = and_parts (nat_le e.counts.0 (slice_index totals e.source)) (nat_le e.counts.1 (slice_index totals target)) q.1 in
     let p0 = p.0 in let r1 = r.1 in let s0 = s.0 in let s1 = s.1 in
     record {
       pair = record { source = grind (arith, nat_tests); target = grind (arith, nat_tests); differ = λ same. grind (arith, nat_tests) };
@@ -196,7 +198,7 @@ incoming_again totals target before e rest few small h =
 
 into_takes : (totals : List ℕ) (target : ℕ) (bytes : List ℕ) (edges : List Incoming) (rest : List ℕ) → IsBytes bytes → into_at totals target bytes
     ≡ Ok (edges, rest) →
-    Takes bytes (into_text target edges) rest × StandInTurn (IncomingStands totals target) remember [] edges
+    Takes bytes (into_text edges) rest × StandInTurn (IncomingStands totals target) remember [] edges
 unfolding into_at
 into_takes totals target bytes edges rest are h =
     let n = bind_ok (number_at REDUCED bytes) (λ count. read_in_turn (incoming_at totals target) remember count.0 [] count.1) (edges, rest) h in
@@ -208,7 +210,7 @@ into_takes totals target bytes edges rest are h =
 
 into_again : (totals : List ℕ) (target : ℕ) (edges : List Incoming) (rest : List ℕ) → length totals < 2 ^ 32 → ((j : ℕ) → slice_index totals j < 2 ^ 32) →
     length edges < 2 ^ 32 → StandInTurn (IncomingStands totals target) remember [] edges →
-    into_at totals target (into_text target edges ++ rest) ≡ Ok (edges, rest)
+    into_at totals target (into_text edges ++ rest) ≡ Ok (edges, rest)
 unfolding into_at
 into_again totals target edges rest few small fits h =
     let items = turns_again (incoming_at totals target) remember incoming_text (IncomingStands totals target)
@@ -439,7 +441,7 @@ targets_take totals bytes reduced rest are e =
     let cores = length totals in
     let r = bind_ok (read_in_turn (into_at totals) count_up (target_count cores) 0 bytes) (λ into. Ok (pairs_of cores into.0, into.1)) (reduced, rest) e in
     let into = r.0.0 in
-    let t = turns_take (into_at totals) count_up into_text (λ target. StandInTurn (IncomingStands totals target) remember [])
+    let t = turns_take (into_at totals) count_up (alike into_text) (λ target. StandInTurn (IncomingStands totals target) remember [])
     (λ s b x r. into_takes totals s b x r) (target_count cores) 0 bytes into r.0.1 are r.1 in
     let stand : (target : ℕ) → target < target_count cores → StandInTurn (IncomingStands totals target) remember [] (get_or into target []) = λ target lt.
     subst (λ (k : ℕ). StandInTurn (IncomingStands totals k) remember [] (get_or into target [])) (zero-plus target)
@@ -448,7 +450,7 @@ targets_take totals bytes reduced rest are e =
     fill_by_all (incoming_edges cores (pairs_of cores into)) into (target_count cores) [] t.1
     (λ target lt. into-again totals into target (target-inside cores target lt) (stand target lt)) in
     let text : Takes bytes (targets_text cores (pairs_of cores into)) r.0.1 =
-    subst (λ (l : List (List Incoming)). Takes bytes (spelled_in_turn into_text count_up 0 l) r.0.1) same t.0 in
+    subst (λ (l : List (List Incoming)). Takes bytes (spelled_in_turn (alike into_text) count_up 0 l) r.0.1) same t.0 in
     subst (λ (y : List (List (ℕ × ℕ)) × List ℕ). Takes bytes (targets_text cores y.0) y.1 × (length y.0 ≡ pair_count cores) × AllEdges totals y.0)
     (ok_is (pairs_of cores into, r.0.1) (reduced, rest) r.2) (
       text,
@@ -489,7 +491,7 @@ targets_again limit totals reduced rest small together few most long are =
     places-stand (λ target. Into totals target) 0 (all_into cores reduced) []
     (λ target lt. into-one target
     (subst (λ (n : ℕ). target < n) (length-map-range_with_len (incoming_edges cores reduced) 0 (target_count cores)) lt)) in
-    let again = turns_again (into_at totals) count_up into_text (λ target. Into totals target) (λ s x r h. into_again totals s x r few counts h.0 h.1) 0
+    let again = turns_again (into_at totals) count_up (alike into_text) (λ target. Into totals target) (λ s x r h. into_again totals s x r few counts h.0 h.1) 0
     (all_into cores reduced) rest stand in
     let read : read_in_turn (into_at totals) count_up (target_count cores) 0 (targets_text cores reduced ++ rest) ≡ Ok (all_into cores reduced, rest) =
     subst (λ (n : ℕ). read_in_turn (into_at totals) count_up n 0 (targets_text cores reduced ++ rest) ≡ Ok (all_into cores reduced, rest))

@@ -5,8 +5,9 @@ use Rattle.std.proofs.Math.Nat.{mul-le-mul_left}
 use Rattle.stride_vector.specs.declared.StrideVector.{StrideVector}
 use Rattle.stride_vector.specs.Vectors.{IsVector, position_of, edges_of, last_of}
 use Rattle.stride_vector.proofs.Sources.{edges-placed}
-use Rattle.log_codec.specs.Turns.{StandInTurn, follow}
-use Rattle.log_codec.specs.Validity.{EdgeRises, EdgeStands, VectorStands, AreVectors, end_of}
+use Rattle.rtr_types.specs.Turns.{StandInTurn, follow}
+use Rattle.rtr_types.specs.PairEdges.{EdgeRises, EdgeStands}
+use Rattle.log_codec.specs.Validity.{VectorStands, AreVectors, end_of}
 use Rattle.log_codec.specs.Sources.{AreApart}
 use Rattle.log_codec.proofs.Looked.{Rising, contains-flat, flat-contains}
 

@@ -16,8 +16,9 @@ use Rattle.stride_vector.specs.declared.StrideVector.{StrideVector}
 use Rattle.stride_vector.specs.Vectors.{position_of, edges_of}
 use Rattle.stride_vector.proofs.Sources.{positions-rise}
 use Rattle.log_codec.specs.declared.recording.Recording.{Recording}
-use Rattle.log_codec.specs.Turns.{StandInTurn, follow}
-use Rattle.log_codec.specs.Validity.{Valid, EdgeRises, bound_at, AreEdges, AreVectors}
+use Rattle.rtr_types.specs.Turns.{StandInTurn, follow}
+use Rattle.rtr_types.specs.PairEdges.{EdgeRises, AreEdges}
+use Rattle.log_codec.specs.Validity.{Valid, bound_at, AreVectors}
 use Rattle.log_codec.specs.Sources.{edges_of_pair, edge_between, edges_at, log_edges, HasEdge, EdgesArePaired, EdgesWithin, OneSource, AreApart}
 use Rattle.log_codec.proofs.Whole.{edges_listed, totals_small}
 use Rattle.log_codec.proofs.Tested.{edges_by_pair, vectors_by_pair}

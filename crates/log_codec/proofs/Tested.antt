@@ -2,16 +2,17 @@
 use Rattle.std.proofs.Common.{◌≡◌, ℕ, ◌*◌, ◌≤◌, ◌&&◌, Bool, true, nat_lt, nat_le, nat_eq, List, [], length, get_or, refl, sym, ap, subst, ◌∙◌, arith}
 use Rattle.std.specs.Prelude.{slice_index}
 use Rattle.std.proofs.lemmas.Bool.Decides.{nat_tests}
+use Rattle.std.proofs.lemmas.Bool.{eqb-true, eq-eqb, leb-true, le-leb, and_parts}
 use Rattle.rtr_types.specs.Pairs.{pair_count, pair_place, source_at, target_at}
 use Rattle.rtr_types.proofs.PairPlaces.{pairs-placed}
 use Rattle.stride_vector.specs.declared.StrideVector.{StrideVector}
 use Rattle.log_codec.specs.declared.recording.Recording.{Recording}
-use Rattle.log_codec.specs.Turns.{stand_in_turn, stay, follow, count_up}
+use Rattle.rtr_types.specs.Turns.{stand_in_turn, stay, follow, count_up}
 use Rattle.log_codec.specs.Versions.{fits_run}
-use Rattle.log_codec.specs.Validity.{Valid, is_valid, total_stands, bound_at, EdgeStands, AreEdges, edge_stands, are_edges, VectorStands, AreVectors}
+use Rattle.rtr_types.specs.PairEdges.{EdgeStands, AreEdges}
+use Rattle.log_codec.specs.Validity.{Valid, is_valid, total_stands, bound_at, edge_stands, are_edges, VectorStands, AreVectors}
 use Rattle.log_codec.specs.Validity.{vector_stands, are_vectors, end_of}
 use Rattle.log_codec.specs.Laws.{ValidTest, EdgesByPair, VectorsByPair}
-use Rattle.log_codec.proofs.Steps.{and_true}
 use Rattle.log_codec.proofs.InTurn.{stand-true, true-stand, stand-all, all-stand}
 use Rattle.log_codec.proofs.Limits.{run-true, true-run}
 use Rattle.log_codec.proofs.Logs.{vector-true, true-vector}
@@ -48,9 +49,9 @@ vectors_by_pair r from to v pair =
 
 edge-true : (most last e : ℕ × ℕ) → edge_stands most last e ≡ true → EdgeStands most last e
 edge-true most last e h =
-    let p = and_true (nat_lt last.0 e.0 && nat_lt last.1 e.1) (nat_le e.0 most.0 && nat_le e.1 most.1) h in
-    let q = and_true (nat_lt last.0 e.0) (nat_lt last.1 e.1) p.0 in
-    let s = and_true (nat_le e.0 most.0) (nat_le e.1 most.1) p.1 in
+    let p = and_parts (nat_lt last.0 e.0 && nat_lt last.1 e.1) (nat_le e.0 most.0 && nat_le e.1 most.1) h in
+    let q = and_parts (nat_lt last.0 e.0) (nat_lt last.1 e.1) p.0 in
+    let s = and_parts (nat_le e.0 most.0) (nat_le e.1 most.1) p.1 in
     let q0 = q.0 in let q1 = q.1 in let s0 = s.0 in let s1 = s.1 in
     record {
       rises = record { source = grind (arith, nat_tests); target = grind (arith, nat_tests) };
@@ -85,18 +86,6 @@ vectors-true most vectors h = stand-true (VectorStands most) (vector_stands most
 true-vectors : (most : ℕ × ℕ) (vectors : List StrideVector) → AreVectors most vectors → are_vectors most vectors ≡ true
 true-vectors most vectors h = true-stand (VectorStands most) (vector_stands most) end_of (λ s x e. true-vector most s x e) (0, 0) vectors h
 
-eq-true : (a b : ℕ) → nat_eq a b ≡ true → a ≡ b
-eq-true a b h = grind (arith, nat_tests)
-
-true-eq : (a b : ℕ) → a ≡ b → nat_eq a b ≡ true
-true-eq a b h = grind (arith, nat_tests)
-
-le-true : (a b : ℕ) → nat_le a b ≡ true → a ≤ b
-le-true a b h = grind (arith, nat_tests)
-
-true-le : (a b : ℕ) → a ≤ b → nat_le a b ≡ true
-true-le a b h = grind (arith, nat_tests)
-
 -- the tests of the parts
 abbrev first_test : Recording → Bool
 first_test r = fits_run r.params && nat_le (length r.image) (4 * r.params.words)
@@ -114,41 +103,41 @@ regulated_test r = nat_eq (length r.regulated) (pair_count r.params.cores)
 
 tested : (r : Recording) → is_valid r ≡ true → Valid r
 tested r h =
-    let a = and_true (first_test r) (totals_test r && (reduced_test r && regulated_test r)) h in
-    let b = and_true (totals_test r) (reduced_test r && regulated_test r) a.1 in
-    let c = and_true (reduced_test r) (regulated_test r) b.1 in
-    let first = and_true (fits_run r.params) (nat_le (length r.image) (4 * r.params.words)) a.0 in
-    let totals = and_true (nat_eq (length r.totals) r.params.cores) (stand_in_turn (total_stands r.params.limit) stay tt r.totals) b.0 in
-    let reduced = and_true (nat_eq (length r.reduced) (pair_count r.params.cores))
+    let a = and_parts (first_test r) (totals_test r && (reduced_test r && regulated_test r)) h in
+    let b = and_parts (totals_test r) (reduced_test r && regulated_test r) a.1 in
+    let c = and_parts (reduced_test r) (regulated_test r) b.1 in
+    let first = and_parts (fits_run r.params) (nat_le (length r.image) (4 * r.params.words)) a.0 in
+    let totals = and_parts (nat_eq (length r.totals) r.params.cores) (stand_in_turn (total_stands r.params.limit) stay tt r.totals) b.0 in
+    let reduced = and_parts (nat_eq (length r.reduced) (pair_count r.params.cores))
     (stand_in_turn (λ place es. are_edges (bound_at r.totals place) es) count_up 0 r.reduced) c.0 in
-    let regulated = and_true (nat_eq (length r.regulated) (pair_count r.params.cores))
+    let regulated = and_parts (nat_eq (length r.regulated) (pair_count r.params.cores))
     (stand_in_turn (λ place vs. are_vectors (bound_at r.totals place) vs) count_up 0 r.regulated) c.1 in
-    let each = eq-true (length r.totals) r.params.cores totals.0 in
+    let each = eqb-true (length r.totals) r.params.cores totals.0 in
     let back : pair_count r.params.cores ≡ pair_count (length r.totals) = ap (λ (n : ℕ). pair_count n) (sym each) in
-    let long : length r.reduced ≡ pair_count (length r.totals) = eq-true (length r.reduced) (pair_count r.params.cores) reduced.0 ∙ back in
-    valid-made r.params r.image r.totals r.reduced r.regulated (run-true r.params first.0) (le-true (length r.image) (4 * r.params.words) first.1) each
+    let long : length r.reduced ≡ pair_count (length r.totals) = eqb-true (length r.reduced) (pair_count r.params.cores) reduced.0 ∙ back in
+    valid-made r.params r.image r.totals r.reduced r.regulated (run-true r.params first.0) (leb-true (length r.image) (4 * r.params.words) first.1) each
     (stand-all (λ (t : ℕ). t ≤ r.params.limit) r.totals
     (stand-true (λ (s : Unit {0}) t. t ≤ r.params.limit) (total_stands r.params.limit) stay (total-true r.params.limit) tt r.totals totals.1))
     long
     (all-placed r.totals r.reduced long
     (stand-true (λ place es. AreEdges (bound_at r.totals place) es) (λ place es. are_edges (bound_at r.totals place) es) count_up
     (λ place es e. edges-true (bound_at r.totals place) es e) 0 r.reduced reduced.1))
-    (eq-true (length r.regulated) (pair_count r.params.cores) regulated.0 ∙ back)
+    (eqb-true (length r.regulated) (pair_count r.params.cores) regulated.0 ∙ back)
     (stand-true (λ place vs. AreVectors (bound_at r.totals place) vs) (λ place vs. are_vectors (bound_at r.totals place) vs) count_up
     (λ place vs e. vectors-true (bound_at r.totals place) vs e) 0 r.regulated regulated.1)
 
 passes : (r : Recording) → Valid r → is_valid r ≡ true
 passes r v =
     let a = true-run r.params v.params in
-    let b = true-le (length r.image) (4 * r.params.words) v.image in
-    let c = true-eq (length r.totals) r.params.cores v.each_core in
+    let b = le-leb (length r.image) (4 * r.params.words) v.image in
+    let c = eq-eqb (length r.totals) r.params.cores v.each_core in
     let d = true-stand (λ (s : Unit {0}) t. t ≤ r.params.limit) (total_stands r.params.limit) stay (true-total r.params.limit) tt r.totals
     (all-stand (λ (t : ℕ). t ≤ r.params.limit) r.totals v.totals) in
-    let e = true-eq (length r.reduced) (pair_count r.params.cores) v.each_reduced in
+    let e = eq-eqb (length r.reduced) (pair_count r.params.cores) v.each_reduced in
     let f = true-stand (λ place es. AreEdges (bound_at r.totals place) es) (λ place es. are_edges (bound_at r.totals place) es) count_up
     (λ place es h. true-edges (bound_at r.totals place) es h) 0 r.reduced
     (placed-all r.totals r.reduced (v.each_reduced ∙ ap (λ (n : ℕ). pair_count n) (sym v.each_core)) (edges-placed r v)) in
-    let g = true-eq (length r.regulated) (pair_count r.params.cores) v.each_regulated in
+    let g = eq-eqb (length r.regulated) (pair_count r.params.cores) v.each_regulated in
     let h = true-stand (λ place vs. AreVectors (bound_at r.totals place) vs) (λ place vs. are_vectors (bound_at r.totals place) vs) count_up
     (λ place vs i. true-vectors (bound_at r.totals place) vs i) 0 r.regulated (vectors-stand r v) in
     all_true (fits_run r.params) (nat_le (length r.image) (4 * r.params.words)) (nat_eq (length r.totals) r.params.cores)

@@ -11,14 +11,16 @@ use Rattle.log_codec.specs.declared.codec_fault.TheConstants.{END}
 use Rattle.log_codec.specs.declared.recording.Recording.{Recording}
 use Rattle.log_codec.specs.declared.codec_fault.CodecFault.{CodecFault}
 use Rattle.log_codec.specs.Faults.{◌>>=◌, Fails, Gives}
-use Rattle.log_codec.specs.Turns.{read_in_turn, StandInTurn, stay, follow, count_up}
+use Rattle.rtr_types.specs.Turns.{StandInTurn, stay, follow, count_up}
+use Rattle.log_codec.specs.Turns.{alike, read_in_turn}
 use Rattle.log_codec.specs.declared.version.Version.{Version}
 use Rattle.log_codec.specs.declared.version.Version.TheVariants.{One, Two}
 use Rattle.log_codec.specs.Incoming.{IncomingStands, incoming_edges, remember}
-use Rattle.log_codec.specs.Validity.{Valid, EdgeRises, EdgeStands, AreVectors, IsListed, IsLog, bound_at}
+use Rattle.rtr_types.specs.PairEdges.{EdgeRises, EdgeStands}
+use Rattle.log_codec.specs.Validity.{Valid, AreVectors, IsListed, IsLog, bound_at}
 use Rattle.log_codec.specs.Versions.{FitsIn}
 use Rattle.rtr_types.specs.Parameters.{Fits}
-use Rattle.log_codec.specs.Spelling.{Spells, header_text, total_text, totals_text, reduced_text, vectors_text, regulated_text, spelling_in}
+use Rattle.log_codec.specs.Spelling.{Spells, header_text, totals_text, reduced_text, vectors_text, regulated_text, spelling_in, number}
 use Rattle.log_codec.specs.Reading.{header_at, image_at, total_at, totals_at, reduced_at, vectors_at, regulated_at, front_at, whole_at}
 use Rattle.log_codec.specs.Laws.{IsBytes, ReadIsSpelled, SpelledIsRead, SpelledIsFront, FrontIsSpelled, PrefixFree, ReadAndSpelled, IntoTheTarget}
 use Rattle.log_codec.proofs.Steps.{bind_ok, guard_ok, ok_is, Takes, Takes-then}
@@ -34,14 +36,14 @@ use Rattle.log_codec.proofs.Logs.{few_edges, few_vectors, vectors_take, vectors_
 pub totals_take : (limit cores : ℕ) (bytes totals rest : List ℕ) → IsBytes bytes → totals_at limit cores bytes ≡ Ok (totals, rest) →
     Takes bytes (totals_text totals) rest × (length totals ≡ cores) × All (λ t. t ≤ limit) totals
 totals_take limit cores bytes totals rest are e =
-    let t = turns_take (λ (s : Unit {0}). total_at limit) stay total_text (λ (s : Unit {0}) t. t ≤ limit)
+    let t = turns_take (λ (s : Unit {0}). total_at limit) stay (alike number) (λ (s : Unit {0}) t. t ≤ limit)
     (λ s b x r. total_takes limit b x r) cores tt bytes totals rest are e in
     (t.0, t.1, stand-all (λ (t : ℕ). t ≤ limit) totals t.2)
 
 pub totals_again : (limit : ℕ) (totals rest : List ℕ) → limit < 2 ^ 32 → All (λ t. t ≤ limit) totals →
     totals_at limit (length totals) (totals_text totals ++ rest) ≡ Ok (totals, rest)
 totals_again limit totals rest small h =
-    turns_again (λ (s : Unit {0}). total_at limit) stay total_text (λ (s : Unit {0}) t. t ≤ limit)
+    turns_again (λ (s : Unit {0}). total_at limit) stay (alike number) (λ (s : Unit {0}) t. t ≤ limit)
     (λ s x r most. total_again limit x r small most) tt totals rest (all-stand (λ (t : ℕ). t ≤ limit) totals h)
 
 pub regulated_takes : (totals bytes : List ℕ) (regulated : List (List StrideVector)) (rest : List ℕ) → IsBytes bytes → regulated_at totals bytes
@@ -49,14 +51,14 @@ pub regulated_takes : (totals bytes : List ℕ) (regulated : List (List StrideVe
     Takes bytes (regulated_text regulated) rest × (length regulated ≡ pair_count (length totals))
     × StandInTurn (λ place vs. AreVectors (bound_at totals place) vs) count_up 0 regulated
 regulated_takes totals bytes regulated rest are e =
-    turns_take (λ place. vectors_at (bound_at totals place)) count_up vectors_text (λ place vs. AreVectors (bound_at totals place) vs)
+    turns_take (λ place. vectors_at (bound_at totals place)) count_up (alike vectors_text) (λ place vs. AreVectors (bound_at totals place) vs)
     (λ s b x r. vectors_take s (bound_at totals s) b x r) (pair_count (length totals)) 0 bytes regulated rest are e
 
 pub regulated_again : (limit : ℕ) (totals : List ℕ) (regulated : List (List StrideVector)) (rest : List ℕ) → limit < 2 ^ 32 → All (λ t. t ≤ limit) totals →
     length regulated ≡ pair_count (length totals) → StandInTurn (λ place vs. AreVectors (bound_at totals place) vs) count_up 0 regulated →
     regulated_at totals (regulated_text regulated ++ rest) ≡ Ok (regulated, rest)
 regulated_again limit totals regulated rest small most each h =
-    let again = turns_again (λ place. vectors_at (bound_at totals place)) count_up vectors_text (λ place vs. AreVectors (bound_at totals place) vs)
+    let again = turns_again (λ place. vectors_at (bound_at totals place)) count_up (alike vectors_text) (λ place vs. AreVectors (bound_at totals place) vs)
     (λ s x r stands. let b = bound-small limit totals s small most in
     vectors_again s (bound_at totals s) x r b.source b.target stands) 0 regulated rest h in
     subst (λ (n : ℕ). read_in_turn (λ place. vectors_at (bound_at totals place)) count_up n 0 (regulated_text regulated ++ rest)
@@ -159,7 +161,8 @@ front_again w r rest v fits =
     let p = r.params in
     let small : p.limit < 2 ^ 32 = omega arith in
     let few : length r.totals < 2 ^ 32 = let each = v.each_core in omega arith in
-    let together : length r.totals * p.limit < 2 ^ 32 = let all = params.instructions in subst (λ (n : ℕ). n * p.limit < 2 ^ 32) (sym v.each_core) (omega arith) in
+    let together : length r.totals * p.limit < 2 ^ 32 =
+    let all = params.instructions in subst (λ (n : ℕ). n * p.limit < 2 ^ 32) (sym v.each_core) (omega arith) in
     let regrouped : spelling_in w r ++ rest ≡ header_text w p (length r.image)
     ++ (r.image ++ (totals_text r.totals ++ (reduced_text w p.cores r.reduced ++ (regulated_text r.regulated ++ rest)))) = simp append_assoc in
     let h = header_again w p (length r.image) (r.image ++ (totals_text r.totals ++ (reduced_text w p.cores r.reduced ++ (regulated_text r.regulated ++ rest))))

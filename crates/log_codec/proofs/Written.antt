@@ -2,16 +2,16 @@
 use Rattle.std.proofs.Common.{◌≡◌, ℕ, suc, ◌+◌, ◌-◌, ◌<◌, ◌≤◌, List, [], ◌∷◌, ◌++◌, length, drop, replicate, set, Option, None, Some, refl, sym, ap, subst, ◌∙◌}
 use Rattle.std.proofs.Common.{append_assoc, arith}
 use Rattle.std.specs.Prelude.{slice_get, slice_index}
-use Rattle.std.proofs.lemmas.List.{append-nil, get_or-replicate, get_or_past, length-replicate, length-set, nil_from_length}
-use Rattle.std.proofs.lemmas.Bool.{cases_lt}
-use Rattle.std.proofs.Common.{inl, inr}
+use Rattle.std.proofs.lemmas.List.{append-nil, length-replicate, length-set, nil_from_length}
 use Rattle.rtr_types.specs.declared.TheConstants.{CORES_MAX}
 use Rattle.log_codec.specs.declared.incoming.Incoming.{Incoming}
 use Rattle.log_codec.specs.Incoming.{IncomingRises, IsFirst, Keeps, edges_out_of, incoming_edges, last_source, last_target, left, merged_edges, remember}
 use Rattle.log_codec.specs.Incoming.{target_of}
 use Rattle.log_codec.specs.Spelling.{incoming_text, number}
 use Rattle.log_codec.specs.Validity.{IsLog}
-use Rattle.log_codec.specs.Turns.{StandInTurn, spelled_in_turn}
+use Rattle.rtr_types.specs.Turns.{StandInTurn}
+use Rattle.rtr_types.proofs.Ranges.{zero_at}
+use Rattle.log_codec.specs.Turns.{spelled_in_turn}
 use Rattle.log_codec.proofs.Merges.{Rises, length-merged, merged-agree}
 use Rattle.log_codec.proofs.NextEdges.{joined_from, length-more, length-within, keeps-more, keeps-none, left-other, left-own, merge-none, merge-step}
 use Rattle.log_codec.proofs.NextEdges.{rises-drop, target-is, target-reached}
@@ -27,15 +27,9 @@ pub record Writes (cores target many : ℕ) (reduced : List (List (ℕ × ℕ)))
   pub few : length (merged_edges cores (left cores reduced target next)) ≡ many
   pub wrote : out ++ spelled_in_turn incoming_text remember before (merged_edges cores (left cores reduced target next)) ≡ whole
 
-pub zero-at : (n k : ℕ) → slice_index (replicate n 0) k ≡ 0
-zero-at n k = elim (cases_lt k n) [
-  | inl lt ↦ get_or-replicate n k 0 0 lt
-  | inr le ↦ get_or_past (replicate n 0) k 0 (subst (λ (m : ℕ). m ≤ k) (sym (length-replicate {A = ℕ} n 0)) le)
-]
-
 -- at the start all are left
 all-left : (cores : ℕ) (reduced : List (List (ℕ × ℕ))) (target n i : ℕ) → left cores reduced target (replicate n 0) i ≡ edges_out_of cores reduced target i
-all-left cores reduced target n i = ap (λ (k : ℕ). drop k (edges_out_of cores reduced target i)) (zero-at n i)
+all-left cores reduced target n i = ap (λ (k : ℕ). drop k (edges_out_of cores reduced target i)) (zero_at n i)
 
 left-rises : (cores : ℕ) (reduced : List (List (ℕ × ℕ))) (target : ℕ) (next : List ℕ) → target < cores → AllRise cores reduced → (i : ℕ) → i < cores →
     Rises (left cores reduced target next i)
@@ -55,7 +49,7 @@ writes-start cores target many reduced out whole inside rise few wrote =
     (λ i lt. all-left cores reduced target CORES_MAX i) in
     record {
       before = [];
-      keeps = keeps-none zeros (length-replicate {A = ℕ} CORES_MAX 0) (λ k lt. zero-at CORES_MAX k);
+      keeps = keeps-none zeros (length-replicate {A = ℕ} CORES_MAX 0) (λ k lt. zero_at CORES_MAX k);
       places = length-replicate {A = ℕ} CORES_MAX 0;
       turn = subst (StandInTurn IncomingRises remember []) (sym same) (into-rises cores reduced target inside rise);
       few = ap (λ (l : List Incoming). length l) same ∙ few;

@@ -9,7 +9,8 @@ use Rattle.log_codec.specs.declared.version.Version.{Version}
 use Rattle.log_codec.specs.Laws.{IsBytes}
 use Rattle.log_codec.specs.Reading.{front_at, whole_at}
 use Rattle.log_codec.specs.Spelling.{header_text, totals_text, reduced_text, regulated_text}
-use Rattle.log_codec.specs.Validity.{AreEdges, AreVectors, bound_at}
+use Rattle.rtr_types.specs.PairEdges.{AreEdges}
+use Rattle.log_codec.specs.Validity.{AreVectors, bound_at}
 use Rattle.log_codec.specs.Versions.{FitsIn}
 
 -- ---- a valid part at the front of the bytes, before the rest

@@ -7,8 +7,9 @@ use Rattle.rtr_types.specs.Parameters.{Fits}
 use Rattle.log_codec.specs.declared.recording.Recording.{Recording}
 use Rattle.log_codec.specs.declared.version.Version.{Version}
 use Rattle.log_codec.specs.Incoming.{IncomingStands, incoming_edges, from_source, remember}
-use Rattle.log_codec.specs.Turns.{StandInTurn}
-use Rattle.log_codec.specs.Validity.{Valid, is_valid, AreEdges, AreVectors}
+use Rattle.rtr_types.specs.Turns.{StandInTurn}
+use Rattle.rtr_types.specs.PairEdges.{AreEdges}
+use Rattle.log_codec.specs.Validity.{Valid, is_valid, AreVectors}
 use Rattle.log_codec.specs.Versions.{FitsIn, FitsOld}
 use Rattle.log_codec.specs.Spelling.{Spells, spelling, spelling_in}
 use Rattle.log_codec.specs.Reading.{front_at, whole_at}

@@ -11,7 +11,8 @@ use Rattle.varint_core.specs.Leb128 as leb128
 use Rattle.log_codec.specs.declared.codec_fault.TheConstants.{HEADER, IMAGE, TOTALS, REDUCED, REGULATED, END}
 use Rattle.log_codec.specs.declared.recording.Recording.{Recording}
 use Rattle.log_codec.specs.Faults.{◌>>=◌}
-use Rattle.log_codec.specs.Turns.{read_in_turn, stay, follow, count_up}
+use Rattle.rtr_types.specs.Turns.{stay, follow, count_up}
+use Rattle.log_codec.specs.Turns.{read_in_turn}
 use Rattle.log_codec.specs.declared.incoming.Incoming.{Incoming}
 use Rattle.log_codec.specs.declared.version.Version.{Version}
 use Rattle.log_codec.specs.declared.version.Version.TheVariants.{One, Two}

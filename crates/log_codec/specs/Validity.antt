@@ -8,28 +8,14 @@ use Rattle.stride_vector.specs.declared.StrideVector.{StrideVector}
 use Rattle.stride_vector.specs.Vectors.{last_of}
 use Rattle.log_codec.specs.declared.recording.Recording.{Recording}
 use Rattle.log_codec.specs.Incoming.{incoming_edges}
-use Rattle.log_codec.specs.Turns.{StandInTurn, stand_in_turn, stay, follow, count_up}
+use Rattle.rtr_types.specs.PairEdges.{AreEdges, EdgeRises}
+use Rattle.rtr_types.specs.Turns.{StandInTurn, stand_in_turn, stay, follow, count_up}
 use Rattle.log_codec.specs.Versions.{fits_run}
 
 -- the totals of the source and of the target of the pair at a place
 abbrev pub bound_at : List ℕ → ℕ → ℕ × ℕ
 bound_at totals place =
     (slice_index totals (source_at (length totals) place), slice_index totals (target_at (length totals) place))
-
--- both counts of an edge are above the last edge's
-pub record EdgeRises (last e : ℕ × ℕ) : Type 0 where
-  pub source : last.0 < e.0
-  pub target : last.1 < e.1
-
--- an edge after the last one, with counts that the two cores reach
-pub record EdgeStands (most last e : ℕ × ℕ) : Type 0 where
-  pub rises : EdgeRises last e
-  pub source_most : e.0 ≤ most.0
-  pub target_most : e.1 ≤ most.1
-
--- the edges of a pair whose cores have these totals
-abbrev pub AreEdges : ℕ × ℕ → List (ℕ × ℕ) → Type 0
-AreEdges most edges = StandInTurn (EdgeStands most) follow (0, 0) edges
 
 -- where a vector ends
 abbrev pub end_of : ℕ × ℕ → StrideVector → ℕ × ℕ

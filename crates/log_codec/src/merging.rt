@@ -104,7 +104,7 @@ fn put_into(
     requires log { IsLog cores reduced.now }
     requires target { target < cores }
     ensures { OnOk result (out.new.items ≡ out.old.items
-        ++ into_text target (incoming_edges cores reduced.now target)) }
+        ++ into_text (incoming_edges cores reduced.now target)) }
 {
     let count = count_into(reduced, cores, target);
     put_u32(out, count)?;

@@ -2,8 +2,8 @@
 ghost use Rattle.std.specs.Prelude.{◌≡◌, ℕ, Some, IfSome};
 ghost use Rattle.std.specs.List.{Contains, flat_map};
 ghost use Rattle.stride_vector.specs.Vectors.{edges_of};
-ghost use Rattle.log_codec.specs.Turns.{StandInTurn, follow};
-ghost use Rattle.log_codec.specs.Validity.{EdgeRises};
+ghost use Rattle.rtr_types.specs.Turns.{StandInTurn, follow};
+ghost use Rattle.rtr_types.specs.PairEdges.{EdgeRises};
 ghost use Rattle.log_codec.specs.Sources.{AreApart};
 
 use crate::recording::Recording;

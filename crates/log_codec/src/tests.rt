@@ -19,8 +19,8 @@ struct Worked {
 }
 
 // Recordings of one core, of none of its instructions, of the shortest and the longest numbers; of two
-// cores with one edge, of the longest numbers, with edges both ways, with strides; of three cores with an edge into two of them,
-// with two edges to one instruction, and with edges from two cores in turn.
+// cores with one edge, of the longest numbers, with edges both ways, with strides; of three cores with an
+// edge into two of them, with two edges to one instruction, and with edges from two cores in turn.
 static WORKED: [Worked; 11] = [
     Worked {
         front: &[1, 0x90, 0x4e, 0x80, 0x80, 1, 4, 0x73, 0, 0, 0, 1],

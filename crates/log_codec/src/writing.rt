@@ -1,8 +1,9 @@
 //! Writing the one spelling of each version.
 ghost use Rattle.std.specs.Prelude.{◌≡◌, ◌++◌, ◌<◌, ◌≤◌, ◌^◌, ℕ, [], length, slice_index_or, OnOk, IfOk};
 ghost use Rattle.rtr_types.specs.Parameters.{Fits};
-ghost use Rattle.log_codec.specs.Turns.{StandInTurn, follow};
-ghost use Rattle.log_codec.specs.Validity.{Valid, EdgeRises, IsListed, IsLog};
+ghost use Rattle.rtr_types.specs.Turns.{StandInTurn, follow};
+ghost use Rattle.rtr_types.specs.PairEdges.{EdgeRises};
+ghost use Rattle.log_codec.specs.Validity.{Valid, IsListed, IsLog};
 ghost use Rattle.log_codec.specs.Versions.{FitsOld};
 ghost use Rattle.log_codec.specs.declared.version.Version.TheVariants.{One};
 ghost use Rattle.log_codec.specs.Spelling.{header_text, totals_text, edges_text, pairs_text, reduced_text};
@@ -47,7 +48,7 @@ fn put_totals(out: &mut Vec<u8>, totals: &[u32]) -> Result<(), AllocError>
 fn put_edges(out: &mut Vec<u8>, edges: &[(u32, u32)]) -> Result<(), AllocError>
     requires few { length edges.now < 2 ^ 32 }
     requires rising { StandInTurn EdgeRises follow (0, 0) edges.now }
-    ensures { OnOk result (out.new.items ≡ out.old.items ++ edges_text 0 edges.now) }
+    ensures { OnOk result (out.new.items ≡ out.old.items ++ edges_text edges.now) }
 {
     put_u32(out, edges.len() as u32)?;
     let mut last = (0, 0);
@@ -72,7 +73,7 @@ fn put_pairs(out: &mut Vec<u8>, reduced: &[Items<(u32, u32)>]) -> Result<(), All
 
 /// A vector: the number of positions, the first position, and the strides if there are any.
 fn put_vector(out: &mut Vec<u8>, v: &StrideVector) -> Result<(), AllocError>
-    ensures { OnOk result (out.new.items ≡ out.old.items ++ vector_text (0, 0) v.now) }
+    ensures { OnOk result (out.new.items ≡ out.old.items ++ vector_text v.now) }
 {
     put_u32(out, v.n)?;
     put_u32(out, v.a0)?;
@@ -87,7 +88,7 @@ fn put_vector(out: &mut Vec<u8>, v: &StrideVector) -> Result<(), AllocError>
 /// The vectors of a pair: how many, and these.
 fn put_vectors(out: &mut Vec<u8>, vectors: &[StrideVector]) -> Result<(), AllocError>
     requires { length vectors.now < 2 ^ 32 }
-    ensures { OnOk result (out.new.items ≡ out.old.items ++ vectors_text 0 vectors.now) }
+    ensures { OnOk result (out.new.items ≡ out.old.items ++ vectors_text vectors.now) }
 {
     put_u32(out, vectors.len() as u32)?;
     for v in vectors {

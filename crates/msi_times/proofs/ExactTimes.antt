@@ -1,22 +1,22 @@
--- Exact times in the words on clocks, and the order of the retired_accesses that a machine stands for.
+-- Exact times in the words on clocks, and the order of the accesses that a machine stands for.
 use Rattle.std.proofs.Common.{◌≡◌, ◌∙◌, ap, refl, sym, subst, ℕ, ◌+◌, ◌<◌, ◌≤◌, ◌%◌, Bool, true, false, List, [], ◌∷◌, ◌++◌, Option, Some, None, arith, inl}
 use Rattle.std.proofs.Common.{inr}
 use Rattle.std.specs.Prelude.{reverse, if◌then◌else◌, ◌&&◌, nat_eq}
 use Rattle.std.proofs.lemmas.Bool.Decides.{nat_tests}
 use Rattle.std.proofs.lemmas.List.{append-nil, reverse-append}
-use Rattle.access_times.specs.Times.{write_at, read_at}
+use Rattle.access_times.specs.Times.{read_note, write_at, read_at}
 use Rattle.rtr_types.specs.declared.TheConstants.{BLOCK_WORDS, CORES_MAX}
 use Rattle.clock_core.specs.declared.clock.Clock.{Clock}
 use Rattle.rtr_types.specs.Accesses.{is_write}
 use Rattle.rtr_types.specs.declared.access.Access.{Access}
 use Rattle.rtr_types.specs.declared.instr.Instr.{Instr}
 use Rattle.conflict_edge.proofs.History.{Rising}
-use Rattle.conflict_edge.proofs.Reversed.{stands_forth, reverse-cons}
+use Rattle.conflict_edge.proofs.Reversed.{stands_forth, reverse-cons, stands_front, stands_last}
 use Rattle.conflict_edge.specs.Clocks.{last_write as last_write_in, last_read as last_read_in}
 use Rattle.conflict_edge.specs.Conflicts.{CountsRise, StandsIn}
 use Rattle.conflict_edge.specs.Times.{IsExactClock, IsNoteOf}
 use Rattle.msi_times.proofs.Counting.{retired_more}
-use Rattle.msi_times.specs.ExactTimes.{with_access, retired_accesses, IsClockOf, HaveExactClocks, read_note, ExactTimesLaw, OrderedLaw}
+use Rattle.msi_times.specs.ExactTimes.{with_access, retired_accesses, IsClockOf, HaveExactClocks, ExactTimesLaw, OrderedLaw}
 use Rattle.msi_times.specs.History.{last_noted_write, last_noted_read}
 use Rattle.msi_times.specs.Retirements.{Retirement, noted_accesses, noted_by, retired_by, IsAccessOf, AreInOrder}
 
@@ -53,7 +53,7 @@ clocks-reverse all [] p = tt
 clocks-reverse all (r ∷ list) p =
     subst (HaveExactClocks all) (sym (reverse-front r list)) (clocks-append all (reverse list) (r ∷ []) (clocks-reverse all list p.1) (p.0, tt))
 
--- ---- notes of the last retired_accesses
+-- ---- notes of the last accesses
 
 write_note : (all : List Access) (t : Bool) (a : Access) (clock : Clock) (old : Option Access) (found : Option (Instr × Clock)) → IsExactClock all a.at clock →
     IsNoteOf all old found → IsNoteOf all (if t then Some a else old) (if t then Some (a.at, clock) else found)
@@ -131,7 +131,7 @@ exact_times_law list a rider exact finds =
       };
     }
 
--- ---- the order of the retired_accesses
+-- ---- the order of the accesses
 
 below_next : (r : Retirement) (h : List Retirement) (b : Access) (o : Option Access) → r.at.core < CORES_MAX → r.at.count ≡ retired_by h r.at.core + 1 →
     IsAccessOf o r.at → (StandsIn (retired_accesses h) b → (b.at.core < CORES_MAX) × (b.at.count ≤ retired_by h b.at.core)) →
@@ -162,15 +162,6 @@ rising : (h : List Retirement) → AreInOrder h → Rising (retired_accesses h)
 rising [] order = tt
 rising (r ∷ h) order = rising_next r h r.access order.0.count order.0.access order.1 (rising h order.1)
 
-stands_front : (h : List Access) (a b : Access) → StandsIn h b → StandsIn (h ++ (a ∷ [])) b
-stands_front [] a b s = absurd s
-stands_front (x ∷ h) a b (inl e) = inl e
-stands_front (x ∷ h) a b (inr s) = inr (stands_front h a b s)
-
-stands_end : (h : List Access) (a : Access) → StandsIn (h ++ (a ∷ [])) a
-stands_end [] a = inl refl
-stands_end (x ∷ h) a = inr (stands_end h a)
-
 -- where the oldest is last, the others rise above it
 rising_split : (h : List Access) (a : Access) → Rising (h ++ (a ∷ [])) → Rising h × (1 ≤ a.at.count)
     × ((b : Access) → StandsIn h b → a.at.core ≡ b.at.core → a.at.count < b.at.count)
@@ -182,7 +173,7 @@ rising_split (x ∷ h) a r = split (rising_split h a r.2)
     split rest = ((r.0, λ b s e. r.1 b (stands_front h a b s) e, rest.0), rest.1, above)
       where
         above : (b : Access) → StandsIn (x ∷ h) b → a.at.core ≡ b.at.core → a.at.count < b.at.count
-        above b (inl same) e = subst (λ (y : Access). a.at.core ≡ y.at.core → a.at.count < y.at.count) same (λ f. r.1 a (stands_end h a) f) e
+        above b (inl same) e = subst (λ (y : Access). a.at.core ≡ y.at.core → a.at.count < y.at.count) same (λ f. r.1 a (stands_last h a) f) e
         above b (inr s) e = rest.2 b s e
 
 rising_forth : (list : List Access) → Rising (reverse list) → CountsRise list

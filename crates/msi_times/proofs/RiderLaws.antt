@@ -1,7 +1,7 @@
 -- The laws of the rider that records times.
-use Rattle.std.proofs.Common.{◌≡◌, ◌∙◌, ap, refl, sym, ℕ, ◌<◌, ◌==◌, ◌%◌, ◌/◌, Bool, true, false, ◌&&◌, List, Option, Some, None, arith}
+use Rattle.std.proofs.Common.{◌≡◌, ◌∙◌, ap, refl, sym, ℕ, ◌<◌, ◌==◌, ◌%◌, ◌/◌, Bool, true, false, ◌&&◌, Option, Some, None, arith}
 use Rattle.msi_sound.proofs.Blocks.{eqb_same}
-use Rattle.access_times.specs.Times.{is_same_write, newer_read, read_in, no_reads, no_times, missing_slot, slot_at, slot_absorbed, reads_absorbed}
+use Rattle.access_times.specs.Times.{is_same_write, read_in, no_reads, no_times, missing_slot, slot_at, slot_absorbed, reads_absorbed}
 use Rattle.access_times.specs.Times.{times_absorbed, fresh_times, write_at, read_at, slot_loaded, times_loaded, times_stored, times_noted}
 use Rattle.rtr_types.specs.declared.TheConstants.{BLOCK_WORDS, CORES_MAX}
 use Rattle.std.specs.Prelude.{if◌then◌else◌, slice_index_or, map}
@@ -16,6 +16,7 @@ use Rattle.rtr_types.specs.declared.access.Access.{Access}
 use Rattle.clock_core.specs.declared.clock.Clock.{Clock}
 use Rattle.access_times.specs.declared.times.SlotTimes.{SlotTimes}
 use Rattle.access_times.specs.declared.times.Times.{Times}
+use Rattle.access_times.proofs.Kept.{absorbed_at}
 use Rattle.rtr_types.specs.Accesses.{is_write}
 use Rattle.msi_times.specs.StandsFor.{word_number, AbsorbsAll}
 use Rattle.msi_times.proofs.StandsFor.{IsFresh}
@@ -31,10 +32,6 @@ read_of f d lt = get_or-map-range_with_len f 0 CORES_MAX d d None lt (omega arit
 absorbed_slot : (x y : Times) (s : ℕ) → s < BLOCK_WORDS → slot_at (times_absorbed x y) s ≡ slot_absorbed (slot_at x s) (slot_at y s)
 unfolding times_absorbed
 absorbed_slot x y s lt = slot_of (λ k. slot_absorbed (slot_at x k) (slot_at y k)) s lt
-
-absorbed_reads : (a b : List (Option (ℕ × Clock))) (d : ℕ) → d < CORES_MAX → read_in (reads_absorbed a b) d ≡ newer_read (read_in a d) (read_in b d)
-unfolding reads_absorbed
-absorbed_reads a b d lt = read_of (λ k. newer_read (read_in a k) (read_in b k)) d lt
 
 same_self : (w : Option (Instr × Clock)) → is_same_write w w ≡ true
 same_self None = refl
@@ -61,7 +58,7 @@ times_absorb slot ls =
       write = λ x y e. ap (λ (k : SlotTimes). k.write) (absorbed_slot x.rider y.rider slot ls) ∙ slot_write (slot_at x.rider slot) (slot_at y.rider slot);
       read = λ x y d ld e.
           ap (λ (k : SlotTimes). read_in k.reads d) (absorbed_slot x.rider y.rider slot ls ∙ slot_reads (slot_at x.rider slot) (slot_at y.rider slot) e)
-          ∙ absorbed_reads (slot_at x.rider slot).reads (slot_at y.rider slot).reads d ld;
+          ∙ absorbed_at (slot_at x.rider slot).reads (slot_at y.rider slot).reads d ld;
     }
 
 -- ---- the start

@@ -1,19 +1,18 @@
 -- What the home sends goes to a core that is there.
-use Rattle.std.proofs.Common.{◌≡◌, ◌∙◌, ap, sym, subst, ℕ, ◌<◌, ◌≤◌, Bool, true, false, List, [], length, Some, arith, inl, inr, ◌⊎◌}
+use Rattle.std.proofs.Common.{◌≡◌, ◌∙◌, ap, sym, subst, ℕ, ◌<◌, ◌≤◌, Bool, true, false, List, length, Some, arith, inl, inr, ◌⊎◌}
 use Rattle.msi_directory.specs.Entries.{answer_to_request, answer_to_response}
 use Rattle.rtr_types.specs.declared.TheConstants.{CORES_MAX}
 use Rattle.std.proofs.lemmas.Bool.Decides.{nat_tests}
 use Rattle.access_times.specs.Riding.{Riding, Carrying}
 use Rattle.rtr_types.specs.CoreSets.{no_cores}
-use Rattle.msi_cache.specs.declared.line.State.TheVariants.{I}
 use Rattle.msi_cache.specs.declared.messages.FromHome.{FromHome}
 use Rattle.msi_cache.specs.declared.messages.Request.{Request}
 use Rattle.msi_cache.specs.declared.messages.Response.{Response}
 use Rattle.msi_cache.specs.Messages.{block_of, request_block, response_block}
 use Rattle.msi_directory.specs.declared.entry.Entry.{Entry}
 use Rattle.msi_directory.specs.Blocks.{entry_at}
-use Rattle.msi_protocol.specs.Phases.{Phase, Role, Out, role, role_in, picture, StageFits}
-use Rattle.msi_protocol.specs.Block.{view}
+use Rattle.msi_protocol.specs.Phases.{Role, Out, role, role_in, StageFits}
+use Rattle.msi_protocol.proofs.Quiet.{idle_out}
 use Rattle.msi_state.specs.States.{State}
 use Rattle.msi_times.specs.History.{NotedAccess}
 use Rattle.msi_times.specs.StandsFor.{TimesParts}
@@ -25,9 +24,6 @@ use Rattle.msi_times.proofs.Home.{past_blank}
 abbrev is_out : Role → Bool
 is_out Out = true
 is_out _ = false
-
-idle_out : (p : Phase) → picture p ≡ view I [] [] [] → is_out (role_in p) ≡ true
-idle_out p is = grind arith
 
 module _ {R : Type 0} where
   request_sends : (riding : Riding R) (e : Entry R) (c : ℕ) (r : Request R) (to : ℕ) (m : FromHome R) → c < CORES_MAX → StageFits e.stage →
@@ -52,7 +48,7 @@ module _ {R K : Type 0} where
           let g = f.blocks b in
           let st = some_slot parts h b g.block g.exact in
           let blank = subst IsBlank (sym (g.shows d ld)) (past_blank parts.riding carrying s.nodes b d past) in
-          let out = idle_out (g.block.seats d).phase (blank_picture b (g.block.seats d) blank) in
+          let out = ap is_out (idle_out (g.block.seats d).phase (blank_picture b (g.block.seats d) blank)) in
           let role_is : is_out (role_in (g.block.seats d).phase) ≡ is_out (role (entry_at parts.riding.fresh s.home b).stage d) =
           ap is_out (st.roles d ld) ∙ ap (λ (e : Entry R). is_out (role e.stage d)) g.entry_is in
           absurd (cc (out, role_is, some))

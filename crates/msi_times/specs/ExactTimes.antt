@@ -1,7 +1,6 @@
--- What the times that an access finds are by the words on exact clocks, once the clocks that were noted_accesses are
--- exact.
+-- What the times that an access finds are by the words on exact clocks, once the clocks that were noted are exact.
 use Rattle.std.specs.Prelude.{◌≡◌, ℕ, ◌%◌, true, Option, Some, None, List, [], ◌∷◌, reverse}
-use Rattle.access_times.specs.Times.{write_at, read_at}
+use Rattle.access_times.specs.Times.{read_note, write_at, read_at}
 use Rattle.rtr_types.specs.declared.TheConstants.{BLOCK_WORDS}
 use Rattle.access_times.specs.declared.times.Times.{Times}
 use Rattle.clock_core.specs.declared.clock.Clock.{Clock}
@@ -18,7 +17,7 @@ abbrev pub with_access : Option Access → List Access → List Access
 with_access None list = list
 with_access (Some a) list = a ∷ list
 
--- the retired_accesses among the retirements
+-- the accesses among the retirements
 abbrev pub retired_accesses : List Retirement → List Access
 retired_accesses [] = []
 retired_accesses (r ∷ list) = with_access r.access (retired_accesses list)
@@ -28,15 +27,10 @@ abbrev pub IsClockOf : List Access → Option Access → Clock → Type 0
 IsClockOf all None clock = Unit {0}
 IsClockOf all (Some a) clock = IsExactClock all a.at clock
 
--- each of the retirements with an access has its exact clock over all of these retired_accesses
+-- each of the retirements with an access has its exact clock over all of these accesses
 abbrev pub HaveExactClocks : List Access → List Retirement → Type 0
 HaveExactClocks all [] = Unit {0}
 HaveExactClocks all (r ∷ list) = IsClockOf all r.access r.clock × HaveExactClocks all list
-
--- a core's read, with the core
-abbrev pub read_note : ℕ → Option (ℕ × Clock) → Option (Instr × Clock)
-read_note core None = None
-read_note core (Some r) = Some (record { core = core; count = r.0 }, r.1)
 
 -- the times that an access finds in its word's slot are exact: the last write and, where the access writes, all
 pub record FindsExactTimes (list : List Access) (a : Access) (rider : Times) : Type 0 where
@@ -50,7 +44,7 @@ ExactTimesLaw =
     (list : List Retirement) (a : Access) (rider : Times) → HaveExactClocks (retired_accesses list) list
     → IsExactRider times_parts (noted_accesses (reverse list)) a rider → FindsExactTimes (retired_accesses list) a rider
 
--- The retired_accesses of retirements in order have rising counts, and are of cores that there may be.
+-- The accesses of retirements in order have rising counts, and are of cores that there may be.
 pub record AreOrdered (list : List Access) : Type 0 where
   pub rise : CountsRise list
   pub cores : AreCores list

@@ -12,7 +12,7 @@ use Rattle.msi_times.specs.History.{NotedAccess, write_after, read_after, IsExac
 use Rattle.msi_times.specs.NodeSights.{AllStandFor}
 use Rattle.msi_times.specs.StandsFor.{TimesParts, slot_times, word_number}
 
--- an instruction that retired, with its access if it made one, and the clock that was noted_accesses for it
+-- an instruction that retired, with its access if it made one, and the clock that was noted for it
 pub record Retirement : Type 0 where
   pub at : Instr
   pub access : Option Access
@@ -75,7 +75,7 @@ noted_after Nothing clock h = h
 noted_after (Retires at) clock h = h
 noted_after (Accesses a) clock h = record { access = a; clock = clock } ∷ h
 
--- the rider is the old one with the access noted_accesses, in each slot
+-- the rider is the old one with the access noted, in each slot
 pub record RiderNotes {R : Type 0} (parts : TimesParts R) (n : NotedAccess) (old new : R) : Type 0 where
   pub write : (slot : ℕ) → slot < BLOCK_WORDS
       → parts.write new slot ≡ write_after n (word_number (n.access.word / BLOCK_WORDS) slot) (parts.write old slot)

@@ -19,7 +19,7 @@ use Rattle.msi_times.specs.Retirements.{RiderNotes, IsExactRider}
 use Rattle.msi_times.specs.StandsFor.{TimesParts}
 
 module _ {R K : Type 0} where
-  -- where an access retires, the rider left is the one found with the access and the clock noted_accesses
+  -- where an access retires, the rider left is the one found with the access and the clock noted
   abbrev pub RiderFits : TimesParts R → Clock → R → Event → Node R K → Type 0
   RiderFits parts clock rider e n =
       (a : Access) → e ≡ Accesses a
@@ -79,16 +79,16 @@ TimedTold {C} {K} told_local told_touch clock carrying =
     → let later = with_step carrying s m (clock new) list in
     MachineStandsFor times_parts carrying later (step times_riding carrying rider s m)
 
--- the clock noted_accesses at the core's last one of the retirements, newest first, and zero before the first
+-- the clock noted at the core's last one of the retirements, newest first, and zero before the first
 abbrev pub last_clock : List Retirement → ℕ → Clock
 last_clock [] core = no_counts
 last_clock (r ∷ h) core = if r.at.core == core then r.clock else last_clock h core
 
--- these clocks are the ones last noted_accesses for each core
+-- these clocks are the ones last noted for each core
 abbrev pub AreLastClocks : (ℕ → Clock) → List Retirement → Type 0
 AreLastClocks clock list = (core : ℕ) → clock core ≡ last_clock (reverse list) core
 
--- a clerk that has the clocks last noted_accesses has them after it was told of an event
+-- a clerk that has the clocks last noted has them after it was told of an event
 abbrev pub ClocksTold : {C K : Type 0} → (C → Instr → K → C → Type 0) → (C → Times → Access → K → C → Times → Type 0)
     → (C → ℕ → Clock) → Type 0
 ClocksTold {C} {K} told_local told_touch clock =

@@ -1,12 +1,12 @@
 -- The test of covering pairs is right.
-use Rattle.std.proofs.Common.{◌≡◌, ◌≢◌, ◌∙◌, refl, sym, ap, subst, ℕ, ◌≤◌, ◌&&◌, ◌||◌, ◌⊎◌, inl, inr, Bool, true, false, not, nat_eq, nat_le, List, [], ◌∷◌}
+use Rattle.std.proofs.Common.{◌≡◌, ◌≢◌, ◌∙◌, refl, sym, ap, subst, ◌≤◌, ◌&&◌, ◌||◌, ◌⊎◌, inl, inr, Bool, true, false, not, List, [], ◌∷◌}
 use Rattle.std.proofs.Common.{reverse, arith}
-use Rattle.std.proofs.lemmas.Bool.{and_parts}
+use Rattle.std.proofs.lemmas.Bool.{and_parts, and_from, leb-true, le-leb}
 use Rattle.std.specs.List.{list_any}
 use Rattle.std.proofs.lemmas.Bool.Decides.{nat_tests}
 use Rattle.rtr_types.specs.declared.access.Access.{Access}
 use Rattle.rtr_types.specs.declared.instr.Instr.{Instr}
-use Rattle.clock_core.proofs.Paths.{instr_eq, joined, last_at, more, one}
+use Rattle.clock_core.proofs.Paths.{joined, last_at, more, one, same_instr}
 use Rattle.clock_core.specs.Order.{Before, IsOrLeads, Step}
 use Rattle.conflict_edge.proofs.History.{Pair, do_conflict-true, do_conflict-yes, ends}
 use Rattle.conflict_edge.proofs.Reach.{clock_law}
@@ -16,86 +16,31 @@ use Rattle.conflict_edge.proofs.TwoForms.{acyclic}
 use Rattle.conflict_edge.specs.Clocks.{clock}
 use Rattle.conflict_edge.specs.Conflicts.{ConflictPair, Conflicts, CountsRise, StandsIn, do_conflict}
 use Rattle.conflict_edge.specs.Least.{Covering}
+use Rattle.conflict_edge.proofs.Standing.{one_first, one_access, positive}
 use Rattle.online_reduce.proofs.Rises.{AtAccess, pair_source}
 use Rattle.rtr_types.specs.Accesses.{is_same}
 use Rattle.recorder.specs.LeastLists.{is_covering, is_or_leads, stands_between}
 
-pub both : (a b : Bool) → a ≡ true → b ≡ true → (a && b) ≡ true
-both a b p q = rw (p, q) refl
-
 -- ---- accesses of a list
 
-pub positive : (list : List Access) (a : Access) → CountsRise list → StandsIn list a → 1 ≤ a.at.count
-positive [] a rise stands = absurd stands
-positive (b ∷ later) a rise (inl e) = subst (λ (x : Access). 1 ≤ x.at.count) e rise.0
-positive (b ∷ later) a rise (inr s) = positive later a rise.2 s
-
--- two accesses of one instruction are one
-pub one_access : (list : List Access) (a b : Access) → CountsRise list → StandsIn list a → StandsIn list b → a.at ≡ b.at → a ≡ b
-one_access [] a b rise s t same = absurd s
-one_access (c ∷ later) a b rise (inl e) (inl f) same = sym e ∙ f
-one_access (c ∷ later) a b rise (inl e) (inr t) same =
-    let is : c.at ≡ b.at = ap (λ (x : Access). x.at) e ∙ same in
-    let lt = rise.1 b t (ap (λ (i : Instr). i.core) is) in
-    let eq : c.at.count ≡ b.at.count = ap (λ (i : Instr). i.count) is in
-    absurd (omega arith)
-one_access (c ∷ later) a b rise (inr s) (inl f) same =
-    let is : c.at ≡ a.at = ap (λ (x : Access). x.at) f ∙ sym same in
-    let lt = rise.1 a s (ap (λ (i : Instr). i.core) is) in
-    let eq : c.at.count ≡ a.at.count = ap (λ (i : Instr). i.count) is in
-    absurd (omega arith)
-one_access (c ∷ later) a b rise (inr s) (inr t) same = one_access later a b rise.2 s t same
-
-turned_conflict : (a b : Access) → Conflicts a b → Conflicts b a
-turned_conflict a b c = (λ same. c.0 (sym same), sym c.1, turned c.2)
-  where
-    turned : {A B : Type 0} → A ⊎ B → B ⊎ A
-    turned (inl x) = inr x
-    turned (inr x) = inl x
-
--- one of two accesses that conflict comes first
-one_first : (list : List Access) (a b : Access) → StandsIn list a → StandsIn list b → Conflicts a b → ConflictPair list a.at b.at ⊎ ConflictPair list b.at a.at
-one_first [] a b s t c = absurd s
-one_first (d ∷ later) a b (inl e) (inl f) c = absurd (c.0 (ap (λ (x : Access). x.at.core) (sym e ∙ f)))
-one_first (d ∷ later) a b (inl e) (inr t) c = inl (inl (ap (λ (x : Access). x.at) e, b, t, refl, subst (λ (x : Access). Conflicts x b) (sym e) c))
-one_first (d ∷ later) a b (inr s) (inl f) c =
-    inr (inl (ap (λ (x : Access). x.at) f, a, s, refl, subst (λ (x : Access). Conflicts x a) (sym f) (turned_conflict a b c)))
-one_first (d ∷ later) a b (inr s) (inr t) c = by (one_first later a b s t c)
-  where
-    by : ConflictPair later a.at b.at ⊎ ConflictPair later b.at a.at → ConflictPair (d ∷ later) a.at b.at ⊎ ConflictPair (d ∷ later) b.at a.at
-    by (inl p) = inl (inr p)
-    by (inr p) = inr (inr p)
-
 -- ---- the tests
-
-same_is : (x y : Instr) → is_same x y ≡ true → x ≡ y
-same_is x y e = let p = and_parts (nat_eq x.core y.core) (nat_eq x.count y.count) e in instr_eq x y (eq x.core y.core p.0) (eq x.count y.count p.1)
-  where
-    eq : (m n : ℕ) → nat_eq m n ≡ true → m ≡ n
-    eq m n t = grind (arith, nat_tests)
 
 is_same_itself : (x y : Instr) → x ≡ y → not (is_same x y) ≡ true → ⊥
 is_same_itself x y e t = let core : x.core ≡ y.core = ap (λ (i : Instr). i.core) e in let count : x.count ≡ y.count = ap (λ (i : Instr). i.count) e in
     grind (arith, nat_tests)
 
 other_differs : (x y : Instr) → x ≢ y → not (is_same x y) ≡ true
-other_differs x y d = by (is_same x y) (same_is x y)
+other_differs x y d = by (is_same x y) (same_instr x y)
   where
     by : (b : Bool) → (b ≡ true → x ≡ y) → not b ≡ true
     by true f = absurd (d (f refl))
     by false f = refl
 
 test_leads : (list : List Access) (x y : Instr) → CountsRise list → 1 ≤ x.count → is_or_leads list x y ≡ true → IsOrLeads (ConflictPair list) x y
-test_leads list x y rise pos e = (clock_law list y rise x pos).0 (le x.count (clock (reverse list) y x.core) e)
-  where
-    le : (m n : ℕ) → nat_le m n ≡ true → m ≤ n
-    le m n t = grind (arith, nat_tests)
+test_leads list x y rise pos e = (clock_law list y rise x pos).0 (leb-true x.count (clock (reverse list) y x.core) e)
 
 leads_test : (list : List Access) (x y : Instr) → CountsRise list → 1 ≤ x.count → IsOrLeads (ConflictPair list) x y → is_or_leads list x y ≡ true
-leads_test list x y rise pos leads = le x.count (clock (reverse list) y x.core) ((clock_law list y rise x pos).1 leads)
-  where
-    le : (m n : ℕ) → m ≤ n → nat_le m n ≡ true
-    le m n t = grind (arith, nat_tests)
+leads_test list x y rise pos leads = le-leb x.count (clock (reverse list) y x.core) ((clock_law list y rise x pos).1 leads)
 
 -- ---- what stands between
 
@@ -203,17 +148,17 @@ covering_is list x y rise sx sy e = (pair, free)
         let b = between list x.at z y.at rise conflict.0 p q in
         let w : Access = b.access in
         none (passes (stands_between list x y) list w b.stands
-        (both (not (is_same w.at x.at) && not (is_same w.at y.at)) (is_or_leads list x.at w.at && is_or_leads list w.at y.at)
-        (both (not (is_same w.at x.at)) (not (is_same w.at y.at)) (apart_back x.at w.at b.after) (apart w.at y.at b.before))
-        (both (is_or_leads list x.at w.at) (is_or_leads list w.at y.at)
+        (and_from (not (is_same w.at x.at) && not (is_same w.at y.at)) (is_or_leads list x.at w.at && is_or_leads list w.at y.at)
+        (and_from (not (is_same w.at x.at)) (not (is_same w.at y.at)) (apart_back x.at w.at b.after) (apart w.at y.at b.before))
+        (and_from (is_or_leads list x.at w.at) (is_or_leads list w.at y.at)
         (leads_test list x.at w.at rise (positive list x rise sx) (inr b.after))
         (leads_test list w.at y.at rise (positive list w rise b.stands) (inr b.before)))))
 
 pub covering_passes : (list : List Access) (x y : Access) → CountsRise list → StandsIn list x → StandsIn list y → Covering list x.at y.at →
     is_covering list x y ≡ true
 covering_passes list x y rise sx sy cover =
-    both (do_conflict x y && is_or_leads list x.at y.at) (not (list_any (stands_between list x y) list))
-    (both (do_conflict x y) (is_or_leads list x.at y.at) (do_conflict-yes x y conflict)
+    and_from (do_conflict x y && is_or_leads list x.at y.at) (not (list_any (stands_between list x y) list))
+    (and_from (do_conflict x y) (is_or_leads list x.at y.at) (do_conflict-yes x y conflict)
     (leads_test list x.at y.at rise (positive list x rise sx) (inr (one (ConflictPair list) x.at y.at (inr cover.0)))))
     (ap not (passed (stands_between list x y) list none))
   where

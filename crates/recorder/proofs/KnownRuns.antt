@@ -1,6 +1,8 @@
 -- What is known in a run, as its own history holds it.
-use Rattle.std.proofs.Common.{◌≡◌, ◌∙◌, refl, sym, ap, subst, ℕ, zero, suc, ◌+◌, ◌<◌, ◌≤◌, ◌^◌, ◌↔◌, false, ◌⊎◌, inl, inr, List, [], ◌∷◌, length, Option, Some, None, arith}
+use Rattle.std.proofs.Common.{◌≡◌, ◌∙◌, refl, sym, ap, subst, ℕ, zero, suc, ◌<◌, ◌≤◌, ◌^◌, ◌↔◌, false, ◌⊎◌, inl, inr, List, [], ◌∷◌}
+use Rattle.std.proofs.Common.{length, Option, Some, None, arith}
 use Rattle.std.proofs.lemmas.List.{length-map}
+use Rattle.std.proofs.lemmas.Bool.{cases_lt}
 use Rattle.access_times.specs.Riding.{none_carrying, none_riding}
 use Rattle.image_mem.specs.Contents.{Contents}
 use Rattle.rtr_types.specs.Parameters.{Fits}
@@ -10,10 +12,10 @@ use Rattle.rtr_types.specs.declared.params.Params.{Params}
 use Rattle.schedule_pick.specs.Choices.{Choices, choice_at}
 use Rattle.know_history.specs.Happenings.{Happening, IsKnownAt}
 use Rattle.know_history.specs.Knowing.{retired_in}
-use Rattle.know_history.specs.Notes.{Notes, known_at, noted_count}
+use Rattle.know_history.specs.Notes.{Notes, known_at}
 use Rattle.know_history.proofs.Histories.{none_before}
 use Rattle.edge_regulate.specs.Regulated.{Knowledge}
-use Rattle.msi_bound.proofs.Ends.{run_ends}
+use Rattle.msi_bound.proofs.Ends.{run_ends, run_cores}
 use Rattle.msi_bound.specs.Ends.{end_of}
 use Rattle.msi_known.specs.Events.{happening_at}
 use Rattle.msi_known.specs.RunHistory.{IsHistoryOf, carrying_at}
@@ -28,7 +30,6 @@ use Rattle.msi_state.specs.declared.moves.Move.{Move}
 use Rattle.regulated_log.proofs.Happened.{history_past_law}
 use Rattle.regulated_log.specs.Happened.{retirements}
 use Rattle.regulated_log.specs.Logs.{IsPast}
-use Rattle.run_outcome.proofs.Fitting.{run_cores}
 use Rattle.recorder.specs.Recordings.{run_knowledge, run_notes}
 use Rattle.recorder.specs.WhatIsKnown.{CountsKnown, HasRetired, KnownCountedLaw}
 
@@ -81,11 +82,8 @@ module _ (image : Contents) (params : Params) (schedule : Choices) (fits : Fits 
   -- such notes count what is known
   pub counts_known : (h : Notes) → IsHistoryOf image params (choice_at schedule) (end_of image params (choice_at schedule)) h →
       CountsKnown image params schedule (known_at h)
-  counts_known h holds = record { each = λ x y pair some retired. by x y pair some retired (split y.count 1) }
+  counts_known h holds = record { each = λ x y pair some retired. by x y pair some retired (cases_lt y.count 1) }
     where
-      split : (m n : ℕ) → (m < n) ⊎ (n ≤ m)
-      split m n = grind arith
-
       by : (x y : Instr) → IsPair params.cores x.core y.core → 1 ≤ x.count → HasRetired image params schedule y → (y.count < 1) ⊎ (1 ≤ y.count) →
           (x.count ≤ known_at h y.core y.count x.core) ↔ IsKnownAt (happening_at image params (choice_at schedule)) x y
       by x y pair some retired (inl none) = (

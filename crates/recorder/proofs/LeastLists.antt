@@ -15,7 +15,7 @@ use Rattle.online_reduce.proofs.ByPair.{by_pair_at, length-by_pair}
 use Rattle.online_reduce.proofs.Reductions.{listed_law}
 use Rattle.online_reduce.proofs.Rises.{AtAccess, pair_source, pair_target}
 use Rattle.online_reduce.specs.Exact.{IsReduction}
-use Rattle.online_reduce.specs.Lists.{RiseWithin, pair_edges}
+use Rattle.rtr_types.specs.PairEdges.{pair_edges, AreEdgesAfter}
 use Rattle.online_reduce.specs.Reduced.{Reduced, count_of}
 use Rattle.recorder.proofs.PairLists.{covers_pair, pair_covers, pair_sorted}
 use Rattle.recorder.proofs.SortedPairs.{In, Sorted, sorted_is}
@@ -86,14 +86,14 @@ least_lists_law cores list rise of x y = (to, λ q. from q.0 q.1)
 
 -- ---- the lists of a reduction
 
-rises_above : (most last : ℕ × ℕ) (edges : List (ℕ × ℕ)) (e : ℕ × ℕ) → RiseWithin most last edges → In edges e → last.1 < e.1
+rises_above : (most last : ℕ × ℕ) (edges : List (ℕ × ℕ)) (e : ℕ × ℕ) → AreEdgesAfter most last edges → In edges e → last.1 < e.1
 rises_above most last [] e rise s = absurd s
-rises_above most last (d ∷ edges) e rise (inl same) = subst (λ (f : ℕ × ℕ). last.1 < f.1) same rise.1
-rises_above most last (d ∷ edges) e rise (inr s) = let lt = rises_above most d edges e rise.4 s in let up = rise.1 in omega arith
+rises_above most last (d ∷ edges) e rise (inl same) = subst (λ (f : ℕ × ℕ). last.1 < f.1) same rise.0.rises.target
+rises_above most last (d ∷ edges) e rise (inr s) = let lt = rises_above most d edges e rise.1 s in let up = rise.0.rises.target in omega arith
 
-rise_sorted : (most last : ℕ × ℕ) (edges : List (ℕ × ℕ)) → RiseWithin most last edges → Sorted edges
+rise_sorted : (most last : ℕ × ℕ) (edges : List (ℕ × ℕ)) → AreEdgesAfter most last edges → Sorted edges
 rise_sorted most last [] rise = tt
-rise_sorted most last (e ∷ edges) rise = (λ f s. inl (rises_above most e edges f rise.4 s), rise_sorted most e edges rise.4)
+rise_sorted most last (e ∷ edges) rise = (λ f s. inl (rises_above most e edges f rise.1 s), rise_sorted most e edges rise.1)
 
 -- a reduction's list of a pair is the list of the covering pairs
 reduced_pair : (list : List Access) (r : Reduced) (edges : List Edge) (place : ℕ) → place < pair_count r.cores → IsReduction list r edges →
@@ -122,7 +122,7 @@ reduced_pair list r edges place lt h =
     sorted =
         rise_sorted (count_of r (source_at r.cores place), count_of r (target_at r.cores place)) (0, 0)
         (pair_edges (source_at r.cores place) (target_at r.cores place) edges)
-        (subst (λ (es : List (ℕ × ℕ)). RiseWithin (count_of r (source_at r.cores place), count_of r (target_at r.cores place)) (0, 0) es) here
+        (subst (λ (es : List (ℕ × ℕ)). AreEdgesAfter (count_of r (source_at r.cores place), count_of r (target_at r.cores place)) (0, 0) es) here
         (h.rising place lt))
 
     into : (e : ℕ × ℕ) → In (pair_edges (source_at r.cores place) (target_at r.cores place) edges) e →

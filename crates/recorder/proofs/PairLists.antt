@@ -1,23 +1,16 @@
 -- A pair's list has exactly the covering pairs between its two cores, and it is sorted.
 use Rattle.std.proofs.Common.{◌≡◌, ◌∙◌, refl, sym, ap, subst, ℕ, ◌&&◌, ◌⊎◌, inl, inr, Bool, true, false, cond, nat_eq, List, [], ◌∷◌, map, arith}
-use Rattle.std.proofs.lemmas.Bool.{and_parts, cases_Bool}
+use Rattle.std.proofs.lemmas.Bool.{and_parts, cases_Bool, and_from, eqb-true, eq-eqb}
 use Rattle.std.specs.List.{filter, flat_map}
-use Rattle.std.proofs.lemmas.Bool.Decides.{nat_tests}
 use Rattle.rtr_types.specs.declared.access.Access.{Access}
 use Rattle.rtr_types.specs.declared.instr.Instr.{Instr}
 use Rattle.clock_core.proofs.Paths.{instr_eq}
 use Rattle.conflict_edge.specs.Conflicts.{CountsRise, StandsIn}
 use Rattle.conflict_edge.specs.Least.{Covering}
 use Rattle.online_reduce.proofs.Rises.{AtAccess, pair_source, pair_target}
-use Rattle.recorder.proofs.Covering.{both, covering_is, covering_passes}
+use Rattle.recorder.proofs.Covering.{covering_is, covering_passes}
 use Rattle.recorder.proofs.SortedPairs.{Below, In, Sorted, in_cases, in_left, in_right, sorted_append}
 use Rattle.recorder.specs.LeastLists.{covering_counts, is_covering, pair_list}
-
-eq_of : (m n : ℕ) → nat_eq m n ≡ true → m ≡ n
-eq_of m n t = grind (arith, nat_tests)
-
-of_eq : (m n : ℕ) → m ≡ n → nat_eq m n ≡ true
-of_eq m n t = grind (arith, nat_tests)
 
 abbrev counts : Access → Access → ℕ × ℕ
 counts y x = (x.at.count, y.at.count)
@@ -78,8 +71,8 @@ sources_sorted list (x ∷ some) from y rise = by (cases_Bool (is_source list fr
     below : is_source list from y x ≡ true → (f : ℕ × ℕ) → In (map (counts y) (filter (is_source list from y) some)) f → Below (counts y x) f
     below test f s =
         let r = source_in list some from y f s in
-        let mine = eq_of x.at.core from (and_parts (nat_eq x.at.core from) (is_covering list x y) test).0 in
-        let its = eq_of r.access.at.core from (and_parts (nat_eq r.access.at.core from) (is_covering list r.access y) r.passes).0 in
+        let mine = eqb-true x.at.core from (and_parts (nat_eq x.at.core from) (is_covering list x y) test).0 in
+        let its = eqb-true r.access.at.core from (and_parts (nat_eq r.access.at.core from) (is_covering list r.access y) r.passes).0 in
         let lt = rise.1 r.access r.stands (mine ∙ sym its) in
         subst (λ (g : ℕ × ℕ). Below (counts y x) g) r.is (inr (refl, lt))
 
@@ -106,7 +99,7 @@ target_in list (y ∷ some) from to e s = by (cases_Bool (is_of to y)) s (λ t. 
 
     head : is_of to y ≡ true → In (covering_counts list from y) e ⊎ In (flat_map (covering_counts list from) (filter (is_of to) some)) e →
         (In (flat_map (covering_counts list from) (filter (is_of to) some)) e → Target list (y ∷ some) from to e) → Target list (y ∷ some) from to e
-    head test (inl t) rest = record { access = y; stands = inl refl; core = eq_of y.at.core to test; source = source_in list list from y e t }
+    head test (inl t) rest = record { access = y; stands = inl refl; core = eqb-true y.at.core to test; source = source_in list list from y e t }
     head test (inr t) rest = rest t
 
     by : (is_of to y ≡ true) ⊎ (is_of to y ≡ false) → In (flat_map (covering_counts list from) (filter (is_of to) (y ∷ some))) e →
@@ -119,7 +112,7 @@ in_target : (list some : List Access) (from to : ℕ) (y : Access) (e : ℕ × �
     In (flat_map (covering_counts list from) (filter (is_of to) some)) e
 in_target list [] from to y e s core t = absurd s
 in_target list (z ∷ some) from to y e (inl same) core t =
-    let test : is_of to z ≡ true = of_eq z.at.core to (ap (λ (a : Access). a.at.core) same ∙ core) in
+    let test : is_of to z ≡ true = eq-eqb z.at.core to (ap (λ (a : Access). a.at.core) same ∙ core) in
     rw test (in_left (covering_counts list from z) (flat_map (covering_counts list from) (filter (is_of to) some)) e
     (subst (λ (a : Access). In (covering_counts list from a) e) (sym same) t))
 in_target list (z ∷ some) from to y e (inr s) core t = by (is_of to z) (in_target list some from to y e s core t)
@@ -140,7 +133,7 @@ targets_sorted list (y ∷ some) from to rise rises = by (cases_Bool (is_of to y
     below test e f s t =
         let q = source_in list list from y e s in
         let r = target_in list some from to f t in
-        let lt = rises.1 r.access r.stands (eq_of y.at.core to test ∙ sym r.core) in
+        let lt = rises.1 r.access r.stands (eqb-true y.at.core to test ∙ sym r.core) in
         let mine : y.at.count ≡ e.1 = ap (λ (g : ℕ × ℕ). g.1) q.is in
         let its : r.access.at.count ≡ f.1 = ap (λ (g : ℕ × ℕ). g.1) r.source.is in
         inl (omega arith)
@@ -167,7 +160,7 @@ pair_covers list from to e rise s =
     let x : Instr = record { core = from; count = e.0 } in
     let y : Instr = record { core = to; count = e.1 } in
     subst (λ (v : Instr). Covering list x v) (instr_eq r.access.at y r.core (ap (λ (g : ℕ × ℕ). g.1) q.is))
-    (subst (λ (u : Instr). Covering list u r.access.at) (instr_eq q.access.at x (eq_of q.access.at.core from p.0) (ap (λ (g : ℕ × ℕ). g.0) q.is))
+    (subst (λ (u : Instr). Covering list u r.access.at) (instr_eq q.access.at x (eqb-true q.access.at.core from p.0) (ap (λ (g : ℕ × ℕ). g.0) q.is))
     (covering_is list q.access r.access rise q.stands r.stands p.1))
 
 pub covers_pair : (list : List Access) (x y : Instr) → CountsRise list → Covering list x y → In (pair_list list x.core y.core) (x.count, y.count)
@@ -178,10 +171,10 @@ covers_pair list x y rise cover =
     let is : Covering list a.access.at b.access.at =
     subst (λ (u : Instr). Covering list u b.access.at) (sym a.at_is) (subst (λ (v : Instr). Covering list x v) (sym b.at_is) cover) in
     let test : is_covering list a.access b.access ≡ true = covering_passes list a.access b.access rise a.stands b.stands is in
-    let core : nat_eq a.access.at.core x.core ≡ true = of_eq a.access.at.core x.core (ap (λ (i : Instr). i.core) a.at_is) in
+    let core : nat_eq a.access.at.core x.core ≡ true = eq-eqb a.access.at.core x.core (ap (λ (i : Instr). i.core) a.at_is) in
     subst (λ (g : ℕ × ℕ). In (flat_map (covering_counts list x.core) (filter (is_of y.core) list)) g) (same a.access.at b.access.at a.at_is b.at_is)
     (in_target list list x.core y.core b.access (counts b.access a.access) b.stands (ap (λ (i : Instr). i.core) b.at_is)
-    (in_source list list x.core b.access a.access a.stands (both (nat_eq a.access.at.core x.core) (is_covering list a.access b.access) core test)))
+    (in_source list list x.core b.access a.access a.stands (and_from (nat_eq a.access.at.core x.core) (is_covering list a.access b.access) core test)))
   where
     same : (u v : Instr) → u ≡ x → v ≡ y → ◌≡◌ {A = ℕ × ℕ} (u.count, v.count) (x.count, y.count)
     same u v p q = cc

@@ -1,5 +1,5 @@
 -- What is recorded at the end of a run: it is valid, and its reduced log is the least set.
-use Rattle.std.proofs.Common.{◌≡◌, ◌∙◌, sym, ap, subst, ℕ, ◌<◌, ◌≤◌, ◌*◌, List, [], ◌∷◌, length, arith, map, true}
+use Rattle.std.proofs.Common.{◌≡◌, ◌∙◌, sym, ap, subst, ℕ, ◌<◌, ◌≤◌, ◌*◌, List, [], length, arith, map, true}
 use Rattle.std.specs.Prelude.{replicate, slice_index, slice_index_or}
 use Rattle.std.specs.List.{AllByRecursion, Contains}
 use Rattle.std.proofs.lemmas.List.{get_or-map, get_or-replicate, length-map, length-replicate}
@@ -7,7 +7,7 @@ use Rattle.std.proofs.lemmas.List.Elements.{All-map}
 use Rattle.access_times.specs.declared.times.Times.{Times}
 use Rattle.image_mem.specs.Contents.{Contents}
 use Rattle.rtr_types.specs.Parameters.{Fits}
-use Rattle.rtr_types.specs.Pairs.{IsPair, pair_count, pair_place, source_at, target_at}
+use Rattle.rtr_types.specs.Pairs.{pair_count, pair_place, source_at, target_at}
 use Rattle.rtr_types.proofs.PairPlaces.{places-paired}
 use Rattle.rtr_types.specs.declared.access.Access.{Access}
 use Rattle.rtr_types.specs.declared.instr.Edge.{Edge}
@@ -24,8 +24,8 @@ use Rattle.conflict_edge.specs.Conflicts.{CountsRise}
 use Rattle.conflict_edge.specs.Least.{Covering, IsLeast}
 use Rattle.log_codec.proofs.SourceLaws.{edges-are-paired}
 use Rattle.log_codec.specs.Sources.{log_edges}
-use Rattle.log_codec.specs.Turns.{StandInTurn, follow}
-use Rattle.log_codec.specs.Validity.{AreEdges, AreVectors, EdgeStands, Valid, bound_at}
+use Rattle.rtr_types.specs.PairEdges.{AreEdges}
+use Rattle.log_codec.specs.Validity.{AreVectors, Valid, bound_at}
 use Rattle.log_codec.specs.declared.recording.Recording.{Recording}
 use Rattle.stride_vector.specs.declared.StrideVector.{StrideVector}
 use Rattle.msi_bound.proofs.Ends.{one_end}
@@ -35,7 +35,6 @@ use Rattle.msi_state.specs.Plain.{plain, plain_node}
 use Rattle.msi_state.specs.Runs.{accesses}
 use Rattle.msi_state.specs.States.{State, all_done, no_node}
 use Rattle.msi_state.specs.declared.node.Node.{Node}
-use Rattle.know_history.specs.Knowing.{retired_in}
 use Rattle.know_history.specs.Knowledge.{known_carrying}
 use Rattle.know_history.specs.Notes.{known_at, noted_count}
 use Rattle.know_history.specs.declared.known.Known.{Known}
@@ -45,7 +44,6 @@ use Rattle.msi_known.specs.Events.{happening_at}
 use Rattle.msi_known.specs.RunHistory.{IsHistoryOf}
 use Rattle.online_reduce.proofs.ByPair.{length-by_pair}
 use Rattle.online_reduce.specs.Exact.{IsReduction}
-use Rattle.online_reduce.specs.Lists.{RiseWithin}
 use Rattle.online_reduce.specs.Reduced.{Reduced, count_of}
 use Rattle.regulated_log.proofs.AllPairs.{valid_law}
 use Rattle.regulated_log.proofs.Happened as happened
@@ -93,11 +91,6 @@ least_log r list rise of is = (covering_law list edges rise).1 (λ x y. (to x y,
 
 -- ---- validity
 
-rise_stands : (most last : ℕ × ℕ) (edges : List (ℕ × ℕ)) → RiseWithin most last edges → StandInTurn (EdgeStands most) follow last edges
-rise_stands most last [] rise = tt
-rise_stands most last (e ∷ edges) rise =
-    (record { rises = record { source = rise.0; target = rise.1 }; source_most = rise.2; target_most = rise.3 }, rise_stands most e edges rise.4)
-
 -- what is recorded of an outcome with these edges and no vectors
 abbrev pub bare : Params → Contents → Outcome → List (List (ℕ × ℕ)) → Recording
 bare params image outcome lists =
@@ -118,8 +111,7 @@ valid_from params image outcome list r edges fits room run cores counts h = reco
       let below : place < pair_count r.cores = rw cores lt in
       let pair = (places-paired r.cores place below).0 in
       subst (λ (most : ℕ × ℕ). AreEdges most (slice_index_or r.lists place [])) (bound place pair.source pair.target)
-      (rise_stands (count_of r (source_at r.cores place), count_of r (target_at r.cores place)) (0, 0) (slice_index_or r.lists place [])
-      (h.rising place below));
+      (h.rising place below);
   each_regulated = length-replicate {A = List StrideVector} (pair_count params.cores) [];
   regulated = λ place lt.
       subst (λ (vs : List StrideVector). AreVectors (bound_at totals place) vs)

@@ -6,45 +6,34 @@ use Rattle.std.proofs.lemmas.Bool.{cases_eq}
 use Rattle.std.proofs.lemmas.Bool.Decides.{nat_tests}
 use Rattle.std.proofs.lemmas.List.{get_or-set_same, reverse-append}
 use Rattle.access_times.specs.declared.times.Times.{Times}
-use Rattle.access_times.specs.Times.{read_at}
-use Rattle.rtr_types.specs.declared.TheConstants.{BLOCK_WORDS}
 use Rattle.clock_core.specs.Counts.{no_counts}
 use Rattle.clock_core.specs.declared.clock.Clock.{Clock}
 use Rattle.rtr_types.specs.declared.access.Access.{Access}
 use Rattle.rtr_types.specs.declared.instr.Edge.{Edge}
 use Rattle.rtr_types.specs.declared.instr.Instr.{Instr}
-use Rattle.conflict_edge.proofs.Reach.{kept_clock_law}
+use Rattle.conflict_edge.proofs.Reach.{kept_clock_law, rising_next}
 use Rattle.conflict_edge.proofs.Reversed.{stands_forth}
-use Rattle.conflict_edge.proofs.Steps.{rising}
-use Rattle.conflict_edge.specs.Clocks.{last_read}
 use Rattle.conflict_edge.specs.Conflicts.{CountsRise, StandsIn}
-use Rattle.conflict_edge.specs.Times.{IsExactClock, IsNoteOf}
+use Rattle.conflict_edge.specs.Times.{IsExactClock}
 use Rattle.msi_times.specs.ExactTimes.{FindsExactTimes, HaveExactClocks, IsClockOf, retired_accesses, with_access}
-use Rattle.msi_times.specs.ExactTimes as times
 use Rattle.msi_times.specs.Retirements.{Retirement, retired_by}
 use Rattle.online_reduce.proofs.ExactNext.{other_clocks_law, retired_own}
 use Rattle.online_reduce.proofs.Reductions.{count_law, retire_law}
 use Rattle.online_reduce.proofs.Step.{next_of}
-use Rattle.online_reduce.specs.Exact.{AreExactFor, IsExact, IsReduction, read_note}
+use Rattle.online_reduce.specs.Exact.{AreExactFor, IsExact, IsReduction}
 use Rattle.online_reduce.specs.Reduced.{IsNext, Reduced, clock_of, count_of, counted, edges_of, retired}
 use Rattle.recorder.specs.Standing.{Reduces}
 
 -- ---- what an access finds
 
-same_note : (core : ℕ) (n : Option (ℕ × Clock)) → times.read_note core n ≡ read_note core n
-same_note core None = refl
-same_note core (Some n) = refl
-
 -- the times that an access finds are exact for it
 pub found_exact : (list : List Access) (a : Access) (rider : Times) → FindsExactTimes list a rider → AreExactFor list a rider
 found_exact list a rider found = record {
   write_is = found.write;
-  read_is = λ writes core lt.
-      subst (λ (n : Option (Instr × Clock)). IsNoteOf list (last_read (reverse list) a.word core) n)
-      (same_note core (read_at rider (a.word % BLOCK_WORDS) core)) ((found.times writes).read_is core lt);
+  read_is = λ writes core lt. (found.times writes).read_is core lt;
 }
 
--- ---- the retired_accesses and the clocks of one retirement more
+-- ---- the accesses and the clocks of one retirement more
 
 accesses_more : (list : List Retirement) (r : Retirement) → retired_accesses (list ++ r ∷ []) ≡ retired_accesses list ++ with_access r.access []
 accesses_more [] r = refl
@@ -64,7 +53,7 @@ clocks_more all (q ∷ list) r exact own = (exact.0, clocks_more all list r exac
 clock_stays : (all : List Access) (a b : Access) (clock : Clock) → CountsRise (all ++ a ∷ []) → StandsIn all b → IsExactClock all b.at clock →
     IsExactClock (all ++ a ∷ []) b.at clock
 clock_stays all a b clock rise stands exact i lt =
-    exact i lt ∙ sym (kept_clock_law all a b.at i rise (λ (same : b.at.core ≡ a.at.core). (rising all a rise).1 b (stands_forth all b stands) same))
+    exact i lt ∙ sym (kept_clock_law all a b.at i rise (λ (same : b.at.core ≡ a.at.core). (rising_next all a rise).1 b (stands_forth all b stands) same))
 
 clocks_stay : (all : List Access) (a : Access) (list : List Retirement) → CountsRise (all ++ a ∷ []) →
     ((b : Access) → StandsIn (retired_accesses list) b → StandsIn all b) → HaveExactClocks all list → HaveExactClocks (all ++ a ∷ []) list

@@ -1,5 +1,5 @@
 -- A retirement keeps the regulation.
-use Rattle.std.proofs.Common.{◌≡◌, ◌∙◌, refl, sym, ap, subst, ℕ, suc, ◌+◌, ◌<◌, ◌≤◌, List, [], ◌∷◌, ◌++◌, length, arith}
+use Rattle.std.proofs.Common.{◌≡◌, ◌∙◌, refl, sym, ap, subst, ℕ, ◌+◌, ◌<◌, ◌≤◌, List, [], ◌∷◌, length, arith}
 use Rattle.std.specs.Prelude.{All, slice_index_or}
 use Rattle.std.specs.List.{AllByRecursion}
 use Rattle.std.proofs.lemmas.List.{length-map}
@@ -17,10 +17,10 @@ use Rattle.schedule_pick.specs.Choices.{Choices, choice_at}
 use Rattle.know_history.specs.Knowledge.{known_carrying}
 use Rattle.know_history.specs.Notes.{IsNoted, Notes, noted_count}
 use Rattle.know_history.specs.declared.known.Known.{Known}
-use Rattle.edge_regulate.specs.Regulated.{AreReady, ArePairsApart, IsNextEdge, IsRegulation, Regulation, with_edges}
+use Rattle.rtr_types.specs.PairEdges.{with_edges, AreEdgesAfter}
+use Rattle.edge_regulate.specs.Regulated.{AreReady, ArePairsApart, IsNextEdge, IsRegulation, Regulation}
 use Rattle.edge_regulate.proofs.Regulations.{later_law, noted_law}
 use Rattle.online_reduce.specs.Exact.{AreExactFor, IsReduction}
-use Rattle.online_reduce.specs.Lists.{RiseWithin}
 use Rattle.online_reduce.specs.Reduced.{IsNext, Reduced, count_of, edges_of}
 use Rattle.msi_state.specs.Nodes.{Event, Nothing, Retires, Accesses, carry_after, rider_of_event}
 use Rattle.msi_state.specs.Plain.{plain_node}
@@ -150,10 +150,10 @@ told_regulates told d e untold is = record {
 
 -- ---- the edges that were told, by what is noted
 
-rise_within : (most last : ℕ × ℕ) (edges : List (ℕ × ℕ)) (bound : ℕ) → most.1 ≤ bound → RiseWithin most last edges →
+rise_within : (most last : ℕ × ℕ) (edges : List (ℕ × ℕ)) (bound : ℕ) → most.1 ≤ bound → AreEdgesAfter most last edges →
     AllByRecursion (λ (e : ℕ × ℕ). e.1 ≤ bound) edges
 rise_within most last [] bound le rise = tt
-rise_within most last (e ∷ edges) bound le rise = (let here = rise.3 in omega arith, rise_within most e edges bound le rise.4)
+rise_within most last (e ∷ edges) bound le rise = (let here = rise.0.target_most in omega arith, rise_within most e edges bound le rise.1)
 
 -- each pair's edges end within what is noted of the target
 pub edges_noted : (image : Contents) (params : Params) (schedule : Choices) (t : ℕ) (s : State Times Known) (c : Noted) (rest : Choices) →

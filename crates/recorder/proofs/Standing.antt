@@ -47,7 +47,7 @@ use Rattle.msi_known.specs.Histories.{HistoryTold, KnowsAt}
 use Rattle.msi_known.proofs.Noting.{knows_start, knows_step}
 use Rattle.msi_known.proofs.Runs.{run_orderly_law, taken_enabled}
 use Rattle.recorder.specs.Clerks.{IsAwaited, Noted, ToldLocal, ToldTouch}
-use Rattle.recorder.specs.Standing.{NotesAt, RecordsAt, Reduces, Regulates}
+use Rattle.recorder.specs.Standing.{NotesAt, Reduces, Regulates}
 
 -- ---- the start
 
@@ -160,7 +160,7 @@ pub record Turned (s s' : State Times Known) (m : Move) (c d : Noted) (rest rest
       MachineStandsFor times_parts known_carrying (with_step known_carrying s m (clock_of d.reduction.state) list) s'
   pub finds : (list : List Retirement) → MachineStandsFor times_parts known_carrying list s → StepFinds known_carrying s m list
 
--- the times that an access finds are exact, since the noted_accesses clocks are
+-- the times that an access finds are exact, since the noted clocks are
 pub step_exact : (e : Event) (n : Node Times Known) (list : List Retirement) (all : List Access) → times.retired_accesses list ≡ all →
     HaveExactClocks all list →
     ((a : Access) → e ≡ Accesses a → IsExactRider times_parts (noted_accesses (reverse list)) a (rider_at times_riding n a.word)) → (a : Access) →

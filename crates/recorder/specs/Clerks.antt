@@ -7,7 +7,8 @@ use Rattle.rtr_types.specs.declared.instr.Edge.{Edge}
 use Rattle.rtr_types.specs.declared.instr.Instr.{Instr}
 use Rattle.know_history.specs.Notes.{IsNoted, NotesReady, core_count, noted_count}
 use Rattle.know_history.specs.declared.known.Known.{Known}
-use Rattle.edge_regulate.specs.Regulated.{AreReady, ArePairsApart, IsNextEdge, IsRegulation, Regulation, with_edges}
+use Rattle.rtr_types.specs.PairEdges.{with_edges}
+use Rattle.edge_regulate.specs.Regulated.{AreReady, ArePairsApart, IsNextEdge, IsRegulation, Regulation}
 use Rattle.load_lists.specs.Lists.{LoadRooms}
 use Rattle.run_outcome.specs.Loads.{lists_after}
 use Rattle.online_reduce.specs.Reduced.{IsNext, Readied, clock_of, counted, edges_of, retired}

@@ -1,5 +1,5 @@
 -- What a count of what is known in a run counts.
-use Rattle.std.specs.Prelude.{ℕ, ◌≤◌, ◌↔◌}
+use Rattle.std.specs.Prelude.{◌≤◌, ◌↔◌}
 use Rattle.image_mem.specs.Contents.{Contents}
 use Rattle.rtr_types.specs.Pairs.{IsPair}
 use Rattle.rtr_types.specs.Parameters.{Fits}
@@ -16,7 +16,8 @@ use Rattle.recorder.specs.Recordings.{run_knowledge}
 -- the instruction retires in the run, or is before the first of its core
 abbrev pub HasRetired : Contents → Params → Choices → Instr → Type 0
 HasRetired image params schedule y =
-    y.count ≤ retired_in (happening_at image params (choice_at schedule)) (end_of image params (choice_at schedule)) y.core
+    y.count ≤
+    retired_in (happening_at image params (choice_at schedule)) (end_of image params (choice_at schedule)) y.core
 
 -- at each instruction y of the run it counts the instructions x of each other core that are known there: those whose
 -- retirement leads to y's, by the order of each actor's events and by the messages between actors

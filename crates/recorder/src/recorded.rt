@@ -44,7 +44,7 @@ pub(crate) fn finished(
         reduced,
         regulated,
         loads,
-    } = clerk.finish(alloc)?;
+    } = clerk.finish();
     let recording = Recording {
         params,
         image: Items::from_vec(machine.into_image().into_bytes()),

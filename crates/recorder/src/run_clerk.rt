@@ -114,13 +114,13 @@ impl RunClerk {
     }
 
     /// Both logs, by pair of cores, and each core's loads.
-    pub(crate) fn finish(self, alloc: Global) -> Result<RunNotes, AllocError>
-        ensures reduced { IfOk result (λ notes. notes.reduced ≡ self.reduction.state.lists) }
-        ensures regulated { IfOk result (λ notes. (known : Notes) (edges : List (List (ℕ × ℕ))) →
+    pub(crate) fn finish(self) -> RunNotes
+        ensures reduced { result.reduced ≡ self.reduction.state.lists }
+        ensures regulated { (known : Notes) (edges : List (List (ℕ × ℕ))) →
             IsRegulation known edges self.regulation →
-            notes.regulated ≡ regulated self.regulation.cores (known_at known) edges) }
-        ensures vectors { IfOk result (λ notes. notes.regulated ≡ self.regulation.vectors) }
-        ensures loads { IfOk result (λ notes. notes.loads ≡ self.loads.lists) }
+            result.regulated ≡ regulated self.regulation.cores (known_at known) edges }
+        ensures vectors { result.regulated ≡ self.regulation.vectors }
+        ensures loads { result.loads ≡ self.loads.lists }
     {
         let RunClerk {
             reducer,
@@ -128,12 +128,11 @@ impl RunClerk {
             regulator,
             ..
         } = self;
-        let loads = loads.into_items(alloc)?;
-        Ok(RunNotes {
+        RunNotes {
             reduced: reducer.finish(),
             regulated: regulator.finish(),
-            loads,
-        })
+            loads: loads.into_items(),
+        }
     }
 }
 

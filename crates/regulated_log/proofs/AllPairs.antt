@@ -1,10 +1,10 @@
 -- The vectors of all pairs.
-use Rattle.std.proofs.Common.{◌≡◌, ℕ, zero, suc, ◌<◌, ◌≤◌, ◌⊎◌, true, List, [], ◌∷◌, length, refl, sym, ap, subst, ◌∙◌, inl, inr, arith}
-use Rattle.std.specs.Prelude.{slice_index, slice_index_or, nat_le}
+use Rattle.std.proofs.Common.{◌≡◌, ℕ, zero, suc, ◌<◌, ◌≤◌, ◌⊎◌, List, [], ◌∷◌, length, refl, sym, ap, subst, ◌∙◌, inl, inr, arith}
+use Rattle.std.specs.Prelude.{slice_index, slice_index_or}
 use Rattle.std.specs.List.{AllByRecursion, Contains, flat_map}
 use Rattle.std.proofs.lemmas.List.{get_or_past}
-use Rattle.std.proofs.lemmas.Bool.{cases_lt}
-use Rattle.std.proofs.lemmas.Bool.Decides.{nat_tests}
+use Rattle.std.proofs.lemmas.Bool.{cases_lt, leb-true}
+use Rattle.std.proofs.Math.Nat.{eq-or-lt_of_le}
 use Rattle.rtr_types.specs.Pairs.{IsPair, pair_count, pair_place, source_at, target_at}
 use Rattle.rtr_types.proofs.PairPlaces.{pairs-placed, places-paired}
 use Rattle.rtr_types.specs.declared.instr.Instr.{Instr}
@@ -12,6 +12,7 @@ use Rattle.rtr_types.specs.declared.instr.Edge.{Edge}
 use Rattle.rtr_types.specs.declared.pairs.Which.TheVariants.{Reduced, Regulated}
 use Rattle.clock_core.specs.Order.{Among, Before}
 use Rattle.clock_core.proofs.Paths.{joined, one, instr_eq, mapped}
+use Rattle.clock_core.proofs.Listed.{contains_among, among_contains}
 use Rattle.stride_vector.specs.declared.StrideVector.{StrideVector}
 use Rattle.stride_vector.specs.Vectors.{edges_of}
 use Rattle.log_codec.specs.declared.recording.Recording.{Recording}
@@ -36,19 +37,6 @@ all_contains P (y ∷ xs) x all (suc k, below, is) = all_contains P xs x all.1 (
 pub contains_all : {X : Type 0} (P : X → Type 0) (xs : List X) → ((x : X) → Contains xs x → P x) → AllByRecursion P xs
 contains_all P [] each = tt
 contains_all P (x ∷ xs) each = (each x (0, omega arith, refl), contains_all P xs (λ y has. each y (suc has.0, let below = has.1 in omega arith, has.2)))
-
-pub contains_among : (edges : List Edge) (x y : Instr) → Contains edges (record { from = x; to = y }) → Among edges x y
-contains_among [] x y (k, below, is) = absurd (omega arith)
-contains_among (e ∷ edges) x y (zero, below, is) = inl (ap (λ (f : Edge). f.from) is, ap (λ (f : Edge). f.to) is)
-contains_among (e ∷ edges) x y (suc k, below, is) = inr (contains_among edges x y (k, omega arith, is))
-
-pub among_contains : (edges : List Edge) (x y : Instr) → Among edges x y → Contains edges (record { from = x; to = y })
-among_contains [] x y among = absurd among
-among_contains (e ∷ edges) x y (inl both) = (0, omega arith, ap (λ (v : Instr). edge v e.to) both.0 ∙ ap (λ (v : Instr). edge x v) both.1)
-  where
-    edge : Instr → Instr → Edge
-    edge v w = record { from = v; to = w }
-among_contains (e ∷ edges) x y (inr there) = let has = among_contains edges x y there in (suc has.0, let below = has.1 in omega arith, has.2)
 
 -- ---- the vectors of one pair
 
@@ -83,12 +71,9 @@ is_edge_between known r x y pair has =
 abbrev instr : ℕ → ℕ → Instr
 instr core count = record { core = core; count = count }
 
-le_cases : (m n : ℕ) → m ≤ n → (m ≡ n) ⊎ (m < n)
-le_cases m n h = grind arith
-
 -- from an instruction to an edge that leaves no earlier one and enters no later one
 pub by_edge : (edges : List Edge) (x y : Instr) (a b : ℕ) → x.count ≤ a → b ≤ y.count → Among edges (instr x.core a) (instr y.core b) → Before (Among edges) x y
-by_edge edges x y a b source target among = ends (le_cases b y.count target) (begins (le_cases x.count a source))
+by_edge edges x y a b source target among = ends (eq-or-lt_of_le target) (begins (eq-or-lt_of_le source))
   where
     begins : (x.count ≡ a) ⊎ (x.count < a) → Before (Among edges) x (instr y.core b)
     begins (inl same) = one (Among edges) x (instr y.core b)
@@ -150,12 +135,9 @@ knows_within known r place valid below within a b some most knows =
     let upto : b ≤ slice_index r.totals (target_at r.params.cores place) = subst (λ (j : ℕ). b ≤ slice_index r.totals j) same_target most in
     let has = within.each (target_at r.params.cores place) b (source_at r.params.cores place) (omega arith) (omega arith) pair.differ some upto in
     let le : a ≤ known (target_at r.params.cores place) b (source_at r.params.cores place) =
-    le_from a (known (target_at r.params.cores place) b (source_at r.params.cores place)) knows in
+    leb-true a (known (target_at r.params.cores place) b (source_at r.params.cores place)) knows in
     let all : a ≤ slice_index r.totals (source_at r.params.cores place) = omega arith in
     subst (λ (i : ℕ). a ≤ slice_index r.totals i) (sym same) all
-  where
-    le_from : (m n : ℕ) → nat_le m n ≡ true → m ≤ n
-    le_from m n t = grind (arith, nat_tests)
 
 pub valid_law : ValidLaw
 valid_law known r valid within = record {

@@ -1,9 +1,10 @@
 -- What a history holds as known has retired before.
-use Rattle.std.proofs.Common.{◌≡◌, ◌≢◌, ℕ, zero, suc, ◌+◌, ◌<◌, ◌≤◌, ◌⊎◌, ◌==◌, Bool, true, false, List, [], ◌∷◌, ◌++◌, Option, Some, None, refl, sym, ap}
+use Rattle.std.proofs.Common.{◌≡◌, ◌≢◌, ℕ, zero, suc, ◌+◌, ◌<◌, ◌≤◌, ◌⊎◌, ◌==◌, true, false, List, [], ◌∷◌, ◌++◌, Option, Some, None, refl, sym, ap}
 use Rattle.std.proofs.Common.{subst, ◌∙◌, inl, inr, arith}
 use Rattle.std.specs.Prelude.{if◌then◌else◌}
 use Rattle.std.proofs.lemmas.List.{append-nil, append_assoc, same_from_push}
 use Rattle.std.proofs.lemmas.Bool.Decides.{nat_tests}
+use Rattle.std.proofs.lemmas.Bool.{cases_eq, cases_lt}
 use Rattle.rtr_types.specs.Pairs.{IsPair}
 use Rattle.rtr_types.specs.declared.instr.Instr.{Instr}
 use Rattle.know_history.specs.Happenings.{Happening, IsKnownAt}
@@ -11,6 +12,7 @@ use Rattle.know_history.specs.Knowing.{is_of, retired_in}
 use Rattle.know_history.specs.Laws.{AreOrderly}
 use Rattle.know_history.specs.Notes.{known_at, noted_count}
 use Rattle.know_history.proofs.KnownAt.{known_earlier_law}
+use Rattle.know_history.proofs.Counting.{retired_rises}
 use Rattle.replay_core.specs.Orders.{bump, counts, nought}
 use Rattle.replay_core.proofs.Counts.{bump_same, bump_else, counts_on}
 use Rattle.regulated_log.specs.Happened.{core_of, retirements, HistoryPastLaw}
@@ -34,9 +36,6 @@ counts_are event zero core = refl
 counts_are event (suc t) core = ap (λ (f : ℕ → ℕ). f core) (counts_on nought (retirements event t) (core_of (event t).retires))
     ∙ by (event t).retires (counts_are event t core)
   where
-    split : (i j : ℕ) → (i ≡ j) ⊎ (i ≢ j)
-    split i j = grind arith
-
     more : (y : Instr) → (core ≡ y.core) ⊎ (core ≢ y.core) → counts nought (retirements event t) core ≡ retired_in event t core →
         bump (counts nought (retirements event t)) y.core core ≡ (if y.core == core then retired_in event t core + 1 else retired_in event t core)
     more y (inl same) was =
@@ -49,28 +48,7 @@ counts_are event (suc t) core = ap (λ (f : ℕ → ℕ). f core) (counts_on nou
     by : (o : Option Instr) → counts nought (retirements event t) core ≡ retired_in event t core →
         counts (counts nought (retirements event t)) (core_of o) core ≡ (if is_of core o then retired_in event t core + 1 else retired_in event t core)
     by None was = was
-    by (Some y) was = more y (split core y.core) was
-
-retired_step : (event : ℕ → Happening) (t core : ℕ) → retired_in event t core ≤ retired_in event (suc t) core
-retired_step event t core = by (event t).retires
-  where
-    choose : (b : Bool) (n : ℕ) → n ≤ (if b then n + 1 else n)
-    choose b n = grind arith
-
-    by : (o : Option Instr) → retired_in event t core ≤ (if is_of core o then retired_in event t core + 1 else retired_in event t core)
-    by o = choose (is_of core o) (retired_in event t core)
-
-retired_more : (event : ℕ → Happening) (t u core : ℕ) → t ≤ u → retired_in event t core ≤ retired_in event u core
-retired_more event t zero core le = let none : t ≡ 0 = omega arith in subst (λ (n : ℕ). retired_in event n core ≤ 0) (sym none) (omega arith)
-retired_more event t (suc u) core le = by (split t (suc u) le) (retired_more event t u core) (retired_step event u core)
-  where
-    split : (m n : ℕ) → m ≤ n → (m ≡ n) ⊎ (m < n)
-    split m n h = grind arith
-
-    by : (t ≡ suc u) ⊎ (t < suc u) → (t ≤ u → retired_in event t core ≤ retired_in event u core) → retired_in event u core ≤ retired_in event (suc u) core →
-        retired_in event t core ≤ retired_in event (suc u) core
-    by (inl same) on step = let all = ap (λ (n : ℕ). retired_in event n core) same in omega arith
-    by (inr lt) on step = let was = on (omega arith) in omega arith
+    by (Some y) was = more y (cases_eq core y.core) was
 
 -- ---- places
 
@@ -93,7 +71,8 @@ last_of : (x : ℕ) (xs : List ℕ) → Last (x ∷ xs)
 last_of x [] = record { init = []; last = x; is = refl }
 last_of x (y ∷ xs) = let l = last_of y xs in record { init = x ∷ l.init; last = l.last; is = ap (λ (l : List ℕ). x ∷ l) l.is }
 
-pub event_of : (event : ℕ → Happening) (t : ℕ) (front : List ℕ) (core : ℕ) (rest : List ℕ) → retirements event t ≡ front ++ core ∷ rest → EventOf event t front core
+pub event_of : (event : ℕ → Happening) (t : ℕ) (front : List ℕ) (core : ℕ) (rest : List ℕ) → retirements event t ≡ front ++ core ∷ rest →
+    EventOf event t front core
 event_of event zero [] core rest split = absurd cc
 event_of event zero (c ∷ front) core rest split = absurd cc
 event_of event (suc t) front core rest split = by (event t).retires refl rest split (λ more is. later (event_of event t front core more is))
@@ -122,28 +101,22 @@ known_before event u x y orderly retires k =
     let here = (orderly k.here y k.retires).count in
     let now = (orderly u y retires).count in
     let one = retired_same event k.there x k.retired in
-    let up = retired_more event (suc k.there) k.here x.core (omega arith) in
-    by (split u k.here) here now (retired_same event u y retires) (omega arith)
+    let up = retired_rises event (suc k.there) k.here x.core (omega arith) in
+    by (cases_lt u k.here) here now (retired_same event u y retires) (omega arith)
   where
-    split : (m n : ℕ) → (m < n) ⊎ (n ≤ m)
-    split m n = grind arith
-
     by : (u < k.here) ⊎ (k.here ≤ u) → y.count ≡ retired_in event k.here y.core + 1 → y.count ≡ retired_in event u y.core + 1 → retired_in event (suc u) y.core
         ≡ retired_in event u y.core + 1 → x.count ≤ retired_in event k.here x.core →
         x.count ≤ retired_in event u x.core
-    by (inl lt) here now one most = let up = retired_more event (suc u) k.here y.core (omega arith) in absurd (omega arith)
-    by (inr le) here now one most = let up = retired_more event k.here u x.core le in omega arith
+    by (inl lt) here now one most = let up = retired_rises event (suc u) k.here y.core (omega arith) in absurd (omega arith)
+    by (inr le) here now one most = let up = retired_rises event k.here u x.core le in omega arith
 
 pub history_past_law : HistoryPastLaw
 history_past_law event t cores h few orderly noted knows =
     record {
       each = λ front core rest of split pair.
-          at front core of pair (event_of event t front core rest split) (cases (known_at h core (counts nought front core + 1) of) 0);
+          at front core of pair (event_of event t front core rest split) (cases_eq (known_at h core (counts nought front core + 1) of) 0);
     }
   where
-    cases : (m n : ℕ) → (m ≡ n) ⊎ (m ≢ n)
-    cases m n = grind arith
-
     at : (front : List ℕ) (core of : ℕ) → IsPair cores of core → EventOf event t front core → (known_at h core (counts nought front core + 1) of ≡ 0)
         ⊎ (known_at h core (counts nought front core + 1) of ≢ 0) →
         known_at h core (counts nought front core + 1) of ≤ counts nought front of
@@ -160,7 +133,7 @@ history_past_law event t cores h few orderly noted knows =
         let count_is : e.y.count ≡ counts nought front core + 1 = omega arith in
         let one = retired_same event e.u e.y e.retires in
         let own_next = ap (λ (c : ℕ). retired_in event (suc e.u) c) e.core_is in
-        let up = retired_more event (suc e.u) t core (omega arith) in
+        let up = retired_rises event (suc e.u) t core (omega arith) in
         let all = noted core target in
         let most : e.y.count ≤ noted_count h core = omega arith in
         let most_there : e.y.count ≤ noted_count h e.y.core = subst (λ (c : ℕ). e.y.count ≤ noted_count h c) (sym e.core_is) most in

@@ -3,7 +3,7 @@ use Rattle.std.proofs.Common.{◌≡◌, ◌≢◌, ℕ, ◌+◌, ◌<◌, ◌�
 use Rattle.std.specs.Prelude.{slice_index, slice_index_or, nat_le}
 use Rattle.std.specs.List.{AllByRecursion, Contains, flat_map}
 use Rattle.std.proofs.lemmas.List.{get_or_default}
-use Rattle.std.proofs.lemmas.Bool.Decides.{nat_tests}
+use Rattle.std.proofs.lemmas.Bool.{leb-true, cases_eq}
 use Rattle.rtr_types.specs.Pairs.{IsPair, pair_place}
 use Rattle.rtr_types.proofs.PairPlaces.{pairs-placed}
 use Rattle.rtr_types.specs.declared.instr.Instr.{Instr}
@@ -17,7 +17,7 @@ use Rattle.log_codec.proofs.SourceLaws.{edges-are-paired, edges-within}
 use Rattle.log_codec.proofs.Rises.{no_vector, position_at}
 use Rattle.replay_core.specs.Plans.{plan_of}
 use Rattle.replay_core.specs.Orders.{bump, counts, nought, Sourced}
-use Rattle.replay_core.proofs.Counts.{bump_more, bump_same, bump_else, counts_on}
+use Rattle.replay_core.proofs.Counts.{bump_same, bump_else, counts_on, counts_more}
 use Rattle.replay_core.proofs.Lists.{places_law}
 use Rattle.replay_core.proofs.Ready.{source_within, within_sourced}
 use Rattle.edge_regulate.specs.Regulated.{Knowledge, knows_by}
@@ -35,12 +35,9 @@ pub record PlaceOf (order : List ℕ) (f : ℕ → ℕ) (core count : ℕ) : Typ
   pub split : order ≡ front ++ core ∷ rest
   pub before : counts f front core + 1 ≡ count
 
-cases : (m n : ℕ) → (m ≡ n) ⊎ (m ≢ n)
-cases m n = grind arith
-
 pub place_of : (order : List ℕ) (f : ℕ → ℕ) (core count : ℕ) → f core < count → count ≤ counts f order core → PlaceOf order f core count
 place_of [] f core count above most = absurd (omega arith)
-place_of (c ∷ order) f core count above most = by (λ lt. place_of order (bump f c) core count lt most) (cases core c) (cases (f core + 1) count)
+place_of (c ∷ order) f core count above most = by (λ lt. place_of order (bump f c) core count lt most) (cases_eq core c) (cases_eq (f core + 1) count)
   where
     later : PlaceOf order (bump f c) core count → PlaceOf (c ∷ order) f core count
     later p = record { front = c ∷ p.front; rest = p.rest; split = ap (λ (l : List ℕ). c ∷ l) p.split; before = p.before }
@@ -51,15 +48,7 @@ place_of (c ∷ order) f core count above most = by (λ lt. place_of order (bump
     by on (inl same) (inr there) = let more = bump_same f c core same in later (on (omega arith))
     by on (inr other) _ = let as_was = bump_else f c core other in later (on (omega arith))
 
--- counts only rise
-pub counts_more : (f : ℕ → ℕ) (order : List ℕ) (i : ℕ) → f i ≤ counts f order i
-counts_more f [] i = omega arith
-counts_more f (c ∷ order) i = let one = bump_more f c i in let rest = counts_more (bump f c) order i in omega arith
-
 -- ---- what is known retires before
-
-le_from : (m n : ℕ) → nat_le m n ≡ true → m ≤ n
-le_from m n t = grind (arith, nat_tests)
 
 -- what holds of each position of a vector holds of each edge
 positions_all : (P : ℕ × ℕ → Type 0) (vectors : List StrideVector) (a b : ℕ) → AllByRecursion (EachPosition P) vectors →
@@ -84,7 +73,7 @@ source_retired known order r front core rest from valid past split sourced has =
     let stand = valid.reduced place (pairs-placed r.params.cores from.core core p.0).0 in
     let before : ℕ × ℕ → Type 0 = λ (e : ℕ × ℕ). e.1 ≡ n → e.0 ≤ counts nought front from.core in
     let by_known = λ (a b : ℕ) (knows : nat_le a (known core b from.core) ≡ true) (is : b ≡ n).
-    (let le = le_from a (known core b from.core) knows in
+    (let le = leb-true a (known core b from.core) knows in
     let same = ap (λ (m : ℕ). known core m from.core) is in
     let retired = past.each front core rest from.core split p.0 in
     let all : a ≤ counts nought front from.core = omega arith in all) in
@@ -184,7 +173,7 @@ past_law pairs order known = (forth, back)
     forth : KnownRetired pairs order known → IsPast pairs order known
     forth retired = record {
       each = λ front core rest of split other.
-          at front core rest of split other (cases (known core (counts nought front core + 1) of) 0);
+          at front core rest of split other (cases_eq (known core (counts nought front core + 1) of) 0);
     }
       where
         at : (front : List ℕ) (core : ℕ) (rest : List ℕ) (of : ℕ) → order ≡ front ++ core ∷ rest → IsPair pairs of core →

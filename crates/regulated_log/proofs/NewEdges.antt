@@ -1,5 +1,5 @@
 -- The edges that a retirement adds can be told next, each of another pair.
-use Rattle.std.proofs.Common.{ℕ, zero, suc, ◌+◌, ◌<◌, ◌≤◌, List, [], ◌∷◌, ◌++◌, length, get_or, refl, sym, ap, subst, ◌∙◌, inl, inr, arith}
+use Rattle.std.proofs.Common.{ℕ, zero, suc, ◌+◌, ◌<◌, ◌≤◌, List, [], ◌∷◌, ◌++◌, length, get_or, refl, sym, ap, subst, ◌∙◌, arith}
 use Rattle.std.specs.Prelude.{slice_index_or}
 use Rattle.std.specs.List.{AllByRecursion, Contains}
 use Rattle.rtr_types.specs.Pairs.{IsPair, pair_place, source_at, target_at}
@@ -7,25 +7,20 @@ use Rattle.rtr_types.proofs.PairPlaces.{pairs-placed}
 use Rattle.rtr_types.specs.declared.instr.Instr.{Instr}
 use Rattle.rtr_types.specs.declared.instr.Edge.{Edge}
 use Rattle.clock_core.specs.Order.{Among}
-use Rattle.online_reduce.specs.Lists.{RiseWithin, with_edges}
+use Rattle.clock_core.proofs.Listed.{place_among}
+use Rattle.rtr_types.specs.PairEdges.{with_edges, AreEdgesAfter}
 use Rattle.online_reduce.specs.Reduced.{count_of, edges_of, retired}
 use Rattle.online_reduce.specs.Exact.{IsReduction, AreCoveringInto, SourcesRise}
 use Rattle.online_reduce.proofs.Reductions.{retire_law, listed_law}
 use Rattle.online_reduce.proofs.Rises.{among_right}
 use Rattle.online_reduce.proofs.Touched.{covering_after}
 use Rattle.know_history.specs.Notes.{noted_count}
-use Rattle.edge_regulate.specs.Regulated.{Regulation, IsRegulation, IsNextEdge, ArePairsApart}
-use Rattle.edge_regulate.specs.Regulated as regulated
+use Rattle.edge_regulate.specs.Regulated.{IsNextEdge}
 use Rattle.edge_regulate.proofs.Ends.{next_law}
 use Rattle.regulated_log.specs.NewEdges.{NewEdgesLaw}
 use Rattle.regulated_log.proofs.AllPairs.{all_contains}
 
 -- ---- lists of edges
-
-among_at : (edges : List Edge) (k : ℕ) (d : Edge) → k < length edges → Among edges (get_or edges k d).from (get_or edges k d).to
-among_at [] k d lt = absurd (omega arith)
-among_at (e ∷ edges) zero d lt = inl (refl, refl)
-among_at (e ∷ edges) (suc k) d lt = inr (among_at edges k d (omega arith))
 
 sources-above : (low : ℕ) (edges : List Edge) (k : ℕ) (d : Edge) → SourcesRise low edges → k < length edges → low ≤ (get_or edges k d).from.core
 sources-above low [] k d rise lt = absurd (omega arith)
@@ -40,29 +35,29 @@ sources-rise_at low (e ∷ edges) zero (suc j) d rise before lt = let up = sourc
 sources-rise_at low (e ∷ edges) (suc i) (suc j) d rise before lt = sources-rise_at (e.from.core + 1) edges i j d rise.1 (omega arith) (omega arith)
 
 -- counts that rise are at least 1, and at most the most
-rise_some : (most last : ℕ × ℕ) (edges : List (ℕ × ℕ)) → RiseWithin most last edges → AllByRecursion (λ (e : ℕ × ℕ). (1 ≤ e.0) × (e.1 ≤ most.1)) edges
+rise_some : (most last : ℕ × ℕ) (edges : List (ℕ × ℕ)) → AreEdgesAfter most last edges → AllByRecursion (λ (e : ℕ × ℕ). (1 ≤ e.0) × (e.1 ≤ most.1)) edges
 rise_some most last [] rise = tt
-rise_some most last (e ∷ edges) rise = ((let up = rise.0 in omega arith, rise.3), rise_some most e edges rise.4)
+rise_some most last (e ∷ edges) rise = ((let up = rise.0.rises.source in omega arith, rise.0.target_most), rise_some most e edges rise.1)
 
-rise_below : (most last : ℕ × ℕ) (edges : List (ℕ × ℕ)) (b : ℕ) → RiseWithin most last edges → most.1 < b → AllByRecursion (λ (e : ℕ × ℕ). e.1 < b) edges
+rise_below : (most last : ℕ × ℕ) (edges : List (ℕ × ℕ)) (b : ℕ) → AreEdgesAfter most last edges → most.1 < b → AllByRecursion (λ (e : ℕ × ℕ). e.1 < b) edges
 rise_below most last [] b rise lt = tt
-rise_below most last (e ∷ edges) b rise lt = (let le = rise.3 in omega arith, rise_below most e edges b rise.4 lt)
+rise_below most last (e ∷ edges) b rise lt = (let le = rise.0.target_most in omega arith, rise_below most e edges b rise.1 lt)
 
 -- ---- the new edges
 
 pub new_edges_law : NewEdgesLaw
-unfolding with_edges regulated.with_edges
+unfolding with_edges
 new_edges_law notes list r edges a t s is_next times kept cores going noted = record {
-  next = λ k d lt. next (get_or (edges_of r a t) k d) (among_at (edges_of r a t) k d lt);
+  next = λ k d lt. next (get_or (edges_of r a t) k d) (place_among (edges_of r a t) k d lt);
   apart = λ i j d before lt same.
-      let one = pair (get_or (edges_of r a t) i d) (among_at (edges_of r a t) i d (omega arith)) in
-      let two = pair (get_or (edges_of r a t) j d) (among_at (edges_of r a t) j d lt) in
+      let one = pair (get_or (edges_of r a t) i d) (place_among (edges_of r a t) i d (omega arith)) in
+      let two = pair (get_or (edges_of r a t) j d) (place_among (edges_of r a t) j d lt) in
       let up = sources-rise_at 0 (edges_of r a t) i j d covering.order before lt in
       let source = sym (pairs-placed s.cores (get_or (edges_of r a t) i d).from.core (get_or (edges_of r a t) i d).to.core one).1
       ∙ ap (λ (p : ℕ). source_at s.cores p) same
       ∙ (pairs-placed s.cores (get_or (edges_of r a t) j d).from.core (get_or (edges_of r a t) j d).to.core two).1 in
       omega arith;
-  lists = ap (λ (n : ℕ). regulated.with_edges n r.lists (edges_of r a t)) (sym cores);
+  lists = ap (λ (n : ℕ). with_edges n r.lists (edges_of r a t)) (sym cores);
 }
   where
     covering : AreCoveringInto (list ++ a ∷ []) a.at (edges_of r a t)

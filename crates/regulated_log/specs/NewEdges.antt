@@ -6,7 +6,8 @@ use Rattle.access_times.specs.declared.times.Times.{Times}
 use Rattle.online_reduce.specs.Reduced.{Reduced, IsNext, edges_of, retired}
 use Rattle.online_reduce.specs.Exact.{AreExactFor, IsReduction}
 use Rattle.know_history.specs.Notes.{Notes, noted_count}
-use Rattle.edge_regulate.specs.Regulated.{Regulation, IsRegulation, IsNextEdge, ArePairsApart, with_edges}
+use Rattle.rtr_types.specs.PairEdges.{with_edges}
+use Rattle.edge_regulate.specs.Regulated.{Regulation, IsRegulation, IsNextEdge, ArePairsApart}
 
 -- they can be told next, are of different pairs, and take the one's edges on to the other's
 pub record CanBeTold (notes : Notes) (r : Reduced) (a : Access) (t : Times) (s : Regulation) : Type 0 where

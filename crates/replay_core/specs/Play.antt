@@ -1,5 +1,5 @@
 -- The play of a list of cores: at each place its core retires one instruction, over one flat memory. What a play has
--- come to is an outcome; the accesses_from stand apart from it, so that two lists can end in the same outcome.
+-- come to is an outcome; the accesses stand apart from it, so that two lists can end in the same outcome.
 use Rattle.std.specs.Prelude.{◌≡◌, ℕ, ◌+◌, false, List, [], ◌∷◌, ◌++◌, length, map, replicate, slice_index}
 use Rattle.std.specs.Prelude.{slice_index_or, slice_set, Option, Some, None, if◌then◌else◌}
 use Rattle.std.specs.List.{range_with_len}
@@ -99,7 +99,7 @@ abbrev pub play : Plan → Outcome → List ℕ → Outcome
 play p s [] = s
 play p s (c ∷ cs) = play p (place p s c) cs
 
--- their accesses_from, in order
+-- their accesses, in order
 abbrev pub accesses_from : Plan → Outcome → List ℕ → List Access
 accesses_from p s [] = []
 accesses_from p s (c ∷ cs) = touched p s c ++ accesses_from p (place p s c) cs

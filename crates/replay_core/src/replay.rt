@@ -197,7 +197,7 @@ impl<'a> Replay<'a> {
         Ok(Outcome {
             cores: Items::from_vec(cores),
             words: words_of(alloc, &memory, image.words())?,
-            loads: loads.into_items(alloc)?,
+            loads: loads.into_items(),
         })
     }
 

@@ -1,26 +1,13 @@
 -- One list is changed, or gets room.
-use Rattle.std.proofs.Common.{◌≡◌, ◌≢◌, ℕ, ◌+◌, ◌<◌, ◌≤◌, Bool, true, false, ◌&&◌, List, [], ◌∷◌, length, take, get_or, refl, sym, ap, subst, ◌∙◌, arith, zero}
+use Rattle.std.proofs.Common.{◌≡◌, ◌≢◌, ℕ, ◌+◌, ◌<◌, ◌≤◌, Bool, true, false, ◌&&◌, List, [], ◌∷◌, length, take, get_or, sym, ap, subst, ◌∙◌, arith, zero}
 use Rattle.std.proofs.Common.{suc, IsTrue}
 use Rattle.std.specs.Prelude.{map, slice_set}
 use Rattle.std.proofs.lemmas.List.{get_or-map, get_or-set_other, length-set, map-set, take_all, take_more_set}
 use Rattle.std.proofs.lemmas.List.Folds.{list_all-append}
 use Rattle.std.proofs.Math.Seq.{map-set_same}
+use Rattle.std.proofs.lemmas.Bool.{and_from}
 use Rattle.roomy_lists.specs.Lists.{Listed, are_ready, is_ready_at, items_at, items_in}
-
-is_true : (b : Bool) → b ≡ true → IsTrue b
-is_true b e = grind arith
-
-true_is : (b : Bool) → IsTrue b → b ≡ true
-true_is b t = grind arith
-
-both_true : (a b : Bool) → IsTrue a → IsTrue b → IsTrue (a && b)
-both_true a b p q = grind arith
-
-first_true : (a b : Bool) → IsTrue (a && b) → IsTrue a
-first_true a b p = grind arith
-
-second_true : (a b : Bool) → IsTrue (a && b) → IsTrue b
-second_true a b p = grind arith
+use Rattle.rtr_types.proofs.Truths.{is_true, true_is, both_true, first_true, second_true}
 
 module _ {T : Type 0} where
   abbrev pub items_of : Listed T → List T
@@ -64,11 +51,8 @@ module _ {T : Type 0} where
     same = same_items all i old new is kept ∙ made.same;
     long = length-set all i new ∙ made.long;
     ready = ap are_ready (take_more_set all i new within) ∙ list_all-append ready_of (take i all) (new ∷ [])
-        ∙ both (are_ready (take i all)) (are_ready (new ∷ [])) made.ready (ap (λ (b : Bool). b && true) (true_is new.ready has));
+        ∙ and_from (are_ready (take i all)) (are_ready (new ∷ [])) made.ready (ap (λ (b : Bool). b && true) (true_is new.ready has));
   }
-    where
-      both : (a b : Bool) → a ≡ true → b ≡ true → (a && b) ≡ true
-      both a b p q = rw (p, q) refl
 
   -- once room was made for each list, all have it
   pub all_made : (before all : List (Listed T)) (n : ℕ) → length all ≤ n → Made before all n → IsTrue (are_ready all)

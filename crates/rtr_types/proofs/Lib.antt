@@ -1,2 +1,4 @@
 pub mod Members
 pub mod PairPlaces
+pub mod Truths
+pub mod Ranges

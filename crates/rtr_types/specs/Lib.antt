@@ -1,5 +1,7 @@
 pub mod Accesses
 pub mod CoreSets
+pub mod PairEdges
 pub mod Pairs
 pub mod Parameters
 pub mod Sizes
+pub mod Turns

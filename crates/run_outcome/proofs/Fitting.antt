@@ -15,12 +15,13 @@ use Rattle.rv_core.specs.declared.core_state.Core.{Core}
 use Rattle.schedule_pick.specs.Choices.{choice_at}
 use Rattle.msi_bound.specs.Ends.{end_of}
 use Rattle.msi_bound.proofs.Capacity.{cores_kept}
+use Rattle.msi_bound.proofs.Ends.{run_cores}
 use Rattle.msi_data.proofs.Remembers.{each_within, image_kept}
 use Rattle.msi_sound.proofs.Begins.{sound_run}
 use Rattle.msi_state.specs.FinalMemory.{final_word}
 use Rattle.msi_state.specs.declared.node.Node.{Node}
 use Rattle.msi_state.specs.declared.moves.Move.{Move}
-use Rattle.msi_state.specs.States.{PlainState, no_node, node_at, node_start}
+use Rattle.msi_state.specs.States.{PlainState, no_node, node_at}
 use Rattle.msi_state.specs.Runs.{accesses, chosen, loads_of, run, stepped_by}
 use Rattle.run_outcome.specs.Loads.{note_of}
 use Rattle.run_outcome.specs.Outcomes.{RunFitsLaw, outcome_of}
@@ -29,11 +30,6 @@ use Rattle.run_outcome.proofs.Limits.{run_limits}
 cores_stepped : (s : PlainState) (taken : Option Move) → length (stepped_by s taken).nodes ≡ length s.nodes
 cores_stepped s None = refl
 cores_stepped s (Some m) = cores_kept none_riding none_carrying s m tt
-
-pub run_cores : (image : Contents) (params : Params) (choices : ℕ → ℕ) (t : ℕ) → length (run image params choices t).nodes ≡ params.cores
-run_cores image params choices zero = length-map-range_with_len (node_start none_riding none_carrying params.limit) 0 params.cores
-run_cores image params choices (suc t) = cores_stepped (run image params choices t) (chosen (run image params choices t) (choices t))
-    ∙ run_cores image params choices t
 
 image_stepped : (s : PlainState) (taken : Option Move) → (stepped_by s taken).image ≡ s.image
 image_stepped s None = refl

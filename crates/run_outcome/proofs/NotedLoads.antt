@@ -3,10 +3,11 @@ use Rattle.std.proofs.Common.{◌≡◌, ◌≢◌, refl, ap, ◌∙◌, ℕ, ze
 use Rattle.std.specs.Prelude.{map}
 use Rattle.std.specs.List.{range_with_len}
 use Rattle.std.proofs.lemmas.Bool.Decides.{nat_tests}
+use Rattle.std.proofs.Math.Bool.{and-false}
 use Rattle.rtr_types.specs.Accesses.{is_read}
 use Rattle.rtr_types.specs.declared.access.Access.{Access}
 use Rattle.rv_core.specs.declared.outcome.LoadNote.{LoadNote}
-use Rattle.load_lists.specs.Lists.{with_note}
+use Rattle.roomy_lists.specs.Lists.{with_item}
 use Rattle.msi_state.specs.Runs.{loads_of}
 use Rattle.run_outcome.specs.Loads.{lists_after, note_of}
 
@@ -48,8 +49,8 @@ later_lists xs a from (suc n) before =
     let tail : lists_of (xs ++ a ∷ []) (from + 1) n ≡ lists_of xs (from + 1) n = later_lists xs a (from + 1) n (omega arith) in
     rw (head, tail) refl
 
--- a load is with_note in its core's list
-noted_from : (xs : List Access) (a : Access) (from n i : ℕ) → a.at.core ≡ from + i → is_read a.kind ≡ true → with_note (lists_of xs from n) i (note_of a)
+-- a load is noted in its core's list
+noted_from : (xs : List Access) (a : Access) (from n i : ℕ) → a.at.core ≡ from + i → is_read a.kind ≡ true → with_item (lists_of xs from n) i (note_of a)
     ≡ lists_of (xs ++ a ∷ []) from n
 noted_from xs a from zero i at read = refl
 noted_from xs a from (suc n) zero at read =
@@ -58,25 +59,21 @@ noted_from xs a from (suc n) zero at read =
     rw (head, tail) refl
 noted_from xs a from (suc n) (suc i) at read =
     let head : loads_of from (xs ++ a ∷ []) ≡ loads_of from xs = others_load from xs a (λ is. omega (arith, at, is)) in
-    let tail : with_note (lists_of xs (from + 1) n) i (note_of a) ≡ lists_of (xs ++ a ∷ []) (from + 1) n = noted_from xs a (from + 1) n i (omega arith) read in
+    let tail : with_item (lists_of xs (from + 1) n) i (note_of a) ≡ lists_of (xs ++ a ∷ []) (from + 1) n = noted_from xs a (from + 1) n i (omega arith) read in
     rw head (ap (λ (lists : List (List LoadNote)). loads_of from xs ∷ lists) tail)
 
 not_noted : (xs : List Access) (a : Access) (from n : ℕ) → is_read a.kind ≡ false → lists_of xs from n ≡ lists_of (xs ++ a ∷ []) from n
 not_noted xs a from zero writes = refl
 not_noted xs a from (suc n) writes =
-    let head : loads_of from (xs ++ a ∷ []) ≡ loads_of from xs = no_load from xs a (rw writes (both_no (a.at.core == from))) in
+    let head : loads_of from (xs ++ a ∷ []) ≡ loads_of from xs = no_load from xs a (rw writes (and-false (a.at.core == from))) in
     let tail : lists_of xs (from + 1) n ≡ lists_of (xs ++ a ∷ []) (from + 1) n = not_noted xs a (from + 1) n writes in
     rw head (ap (λ (lists : List (List LoadNote)). loads_of from xs ∷ lists) tail)
-  where
-    both_no : (b : Bool) → (b && false) ≡ false
-    both_no true = refl
-    both_no false = refl
 
 -- the lists after one more access are those of one access more
 pub lists_more : (xs : List Access) (a : Access) (n : ℕ) → lists_after (lists_of xs 0 n) a ≡ lists_of (xs ++ a ∷ []) 0 n
 lists_more xs a n = by_kind (is_read a.kind) refl
   where
-    by_kind : (read : Bool) → is_read a.kind ≡ read → cond read (with_note (lists_of xs 0 n) a.at.core (note_of a)) (lists_of xs 0 n)
+    by_kind : (read : Bool) → is_read a.kind ≡ read → cond read (with_item (lists_of xs 0 n) a.at.core (note_of a)) (lists_of xs 0 n)
         ≡ lists_of (xs ++ a ∷ []) 0 n
     by_kind true is = noted_from xs a 0 n a.at.core (omega arith) is
     by_kind false is = not_noted xs a 0 n is

@@ -47,9 +47,9 @@ touched_by : (p : Plan) (s : Outcome) (c : ℕ) (used : Use) → use_of (need_at
 unfolding touched
 touched_by p s c used is = ap (told_of p s c) is
 
--- ---- what accesses_from leave
+-- ---- what accesses leave
 
--- the outcome of these accesses_from, beside these cores
+-- the outcome of these accesses, beside these cores
 abbrev pub outcome_with : Contents → (cores : ℕ) → List Core → List Access → Outcome
 outcome_with image cores now list = record { cores = now; words = memory_left image list; loads = loads_by_core cores list }
 
@@ -60,14 +60,14 @@ outcome_cores image cores now later list is = ap (λ (l : List Core). outcome_wi
 abbrev made : List Core → List ℕ → List (List LoadNote) → Outcome
 made cores words loads = record { cores = cores; words = words; loads = loads }
 
--- an event's access finds what the accesses_from before it left
+-- an event's access finds what the accesses before it left
 abbrev pub FoundIn : Contents → List Access → Event → Type 0
 FoundIn image list (Accesses a) = a.before ≡ last_value (opening_word image a.word) a.word list
 FoundIn image list _ = Unit {0}
 
 -- ---- an event
 
--- playing the event's cores leads from one outcome to the other, by the event's accesses_from
+-- playing the event's cores leads from one outcome to the other, by the event's accesses
 pub record EventPlays (p : Plan) (s t : Outcome) (e : Event) : Type 0 where
   pub state : play p s (cores_of (retired_in e)) ≡ t
   pub plays : Plays p s (cores_of (retired_in e))

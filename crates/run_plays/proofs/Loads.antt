@@ -1,4 +1,4 @@
--- The loads of runs and of plays are those of their accesses_from.
+-- The loads of runs and of plays are those of their accesses.
 use Rattle.std.proofs.Common.{◌≡◌, ◌∙◌, refl, sym, ap, ℕ, ◌+◌, Bool, true, false, List, [], ◌∷◌, ◌++◌, append-nil, append_assoc, length, Some, None}
 use Rattle.std.specs.Prelude.{slice_index_or, slice_set, if◌then◌else◌}
 use Rattle.std.proofs.lemmas.List.{set-get_or}
@@ -6,7 +6,7 @@ use Rattle.rtr_types.specs.Accesses.{is_read}
 use Rattle.rtr_types.specs.declared.access.Access.{Access}
 use Rattle.rv_core.specs.declared.outcome.LoadNote.{LoadNote}
 use Rattle.rv_core.specs.declared.outcome.Outcome.{Outcome}
-use Rattle.load_lists.specs.Lists.{with_note}
+use Rattle.roomy_lists.specs.Lists.{with_item}
 use Rattle.run_outcome.specs.Loads.{note_of}
 use Rattle.run_outcome.specs.Outcomes.{outcome_of}
 use Rattle.run_outcome.proofs.NotedLoads.{lists_more}
@@ -16,7 +16,7 @@ use Rattle.replay_core.specs.Plans.{Plan}
 use Rattle.replay_core.specs.Play.{Use, accesses_from, accesses_by, core_at, instr, loads_after, need_at, new_at, old_at, place, play, start, touched, use_of}
 use Rattle.run_plays.specs.Loads.{OutcomeLoadsLaw, PlayLoadsLaw, loads_by_core}
 
--- the core's list with the access with_note, if it reads, in place of what it was
+-- the core's list with the access noted, if it reads, in place of what it was
 pub loads_noted : (list : List Access) (a : Access) (n : ℕ)
     → slice_set (loads_by_core n list) a.at.core
     (if is_read a.kind then slice_index_or (loads_by_core n list) a.at.core [] ++ note_of a ∷ []
@@ -30,7 +30,7 @@ loads_noted list a n = by (is_read a.kind) ∙ lists_more list a n
     by : (read : Bool)
         → slice_set lists a.at.core
         (if read then slice_index_or lists a.at.core [] ++ note_of a ∷ [] else slice_index_or lists a.at.core [])
-        ≡ (if read then with_note lists a.at.core (note_of a) else lists)
+        ≡ (if read then with_item lists a.at.core (note_of a) else lists)
     by true = refl
     by false = set-get_or lists a.at.core []
 

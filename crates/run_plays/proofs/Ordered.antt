@@ -12,6 +12,7 @@ use Rattle.rtr_types.specs.declared.params.Params.{Params}
 use Rattle.rv_core.specs.States.{starting}
 use Rattle.rv_core.specs.declared.core_state.Core.{Core}
 use Rattle.conflict_edge.specs.Conflicts.{ConflictPair, StandsIn}
+use Rattle.conflict_edge.proofs.Standing.{stands_which}
 use Rattle.msi_state.specs.Nodes.{Event, Nothing, Retires, Accesses, instr_of}
 use Rattle.msi_state.specs.Runs.{accesses, accesses_in, event_at, retired_in, retirements}
 use Rattle.replay_core.specs.Plans.{Plan}
@@ -20,7 +21,7 @@ use Rattle.replay_core.specs.Orders.{Full, Ordered, Ready, counts, nought}
 use Rattle.replay_core.proofs.Lists.{ordered_join}
 use Rattle.replay_core.proofs.Ready.{within_sourced}
 use Rattle.run_laws.specs.Retirement.{RetiresAt, retired_count}
-use Rattle.run_laws.proofs.Accessing.{run_retired, stands_cases}
+use Rattle.run_laws.proofs.Accessing.{run_retired}
 use Rattle.run_laws.proofs.Later.{goes}
 use Rattle.run_laws.proofs.Retiring.{counted, run_tells}
 use Rattle.run_laws.proofs.RunCores.{length-run_cores, run_cores}
@@ -40,7 +41,7 @@ pair_end (a ∷ list) x y (inr p) = let it = pair_end list x y p in (it.0, inr i
 front_pair : (xs ys : List Access) (x y : Instr) → ((b : Access) → StandsIn ys b → b.at ≢ y) → ConflictPair (xs ++ ys) x y
     → ConflictPair xs x y
 front_pair [] ys x y none pair = let it = pair_end ys x y pair in absurd (none it.0 it.1 it.2)
-front_pair (a ∷ xs) ys x y none (inl p) = elim (stands_cases xs ys p.1 p.2) [
+front_pair (a ∷ xs) ys x y none (inl p) = elim (stands_which xs ys p.1 p.2) [
   | inl there ↦ inl (p.0, p.1, there, p.3, p.4)
   | inr there ↦ absurd (none p.1 there p.3)
 ]

@@ -29,7 +29,7 @@ use Rattle.run_laws.proofs.RunCores.{event_cores, run_cores}
 use Rattle.run_plays.specs.Orders.{cores_of}
 use Rattle.run_plays.proofs.Events.{EventPlays, FoundIn, event_plays, outcome_with}
 
--- playing the order from the start comes to this outcome, by these accesses_from
+-- playing the order from the start comes to this outcome, by these accesses
 pub record PlayedTo (p : Plan) (order : List ℕ) (s : Outcome) (list : List Access) : Type 0 where
   pub state : play p (start p) order ≡ s
   pub plays : Plays p (start p) order

@@ -2,7 +2,8 @@ use Rattle.std.proofs.Common.{◌≡◌, Ok, subst}
 use Rattle.std.proofs.lemmas.Result.{err_from_is_err_and}
 use Rattle.log_codec.specs.declared.recording.Recording.{Recording}
 use Rattle.log_codec.specs.Faults.{Fails}
-use Rattle.log_codec.specs.Turns.{read_in_turn, count_up}
+use Rattle.rtr_types.specs.Turns.{count_up}
+use Rattle.log_codec.specs.Turns.{read_in_turn}
 use Rattle.log_codec.proofs.InTurn.{begins, goes_on, ends, is_done}
 use Rattle.certificate_codec.specs.Reading.{entries_at}
 use Rattle.certificate_codec.proofs.reading.clocks.Goals as goal

@@ -1,7 +1,8 @@
 use Rattle.std.proofs.Common.{◌≡◌, ◌<◌, ◌^◌, ◌++◌, List, ℕ, [], length, get_or, refl, sym, subst, ◌∙◌}
 use Rattle.std.proofs.lemmas.List.{get_or_default}
-use Rattle.log_codec.specs.Turns.{count_up}
+use Rattle.rtr_types.specs.Turns.{count_up}
 use Rattle.log_codec.proofs.InTurn.{puts_on, puts_done}
+use Rattle.log_codec.specs.Turns.{alike}
 use Rattle.certificate_codec.specs.Spelling.{entries_text, clocks_text}
 use Rattle.certificate_codec.proofs.writing.put_clocks.Goals as goal
 
@@ -18,12 +19,12 @@ pub loop-entries-preserved : goal.loop-entries-preserved
 loop-entries-preserved c =
     let i = c.loop-entries.entries-index in
     let item = c.entries-item.result in
-    let is : c.put_entries.new.out.items ≡ c.loop-entries.out.items ++ entries_text i (get_or c.args.clocks.now i item) =
+    let is : c.put_entries.new.out.items ≡ c.loop-entries.out.items ++ entries_text (get_or c.args.clocks.now i item) =
     rw (← c.entries-item.is, ← c.as_slice.ensures) c.in_ok-put_entries.ensures in
-    puts_on entries_text count_up c.loop-entries.out.items c.put_entries.new.out.items
+    puts_on (alike entries_text) count_up c.loop-entries.out.items c.put_entries.new.out.items
     (c.args.out.now.items ++ clocks_text c.args.clocks.now) i c.args.clocks.now i item c.loop-entries-test.true is c.loop-entries.invariant
 
 pub returns : goal.returns
-returns c = puts_done entries_text count_up c.loop-entries.out.items
+returns c = puts_done (alike entries_text) count_up c.loop-entries.out.items
     (c.args.out.now.items ++ clocks_text c.args.clocks.now) c.loop-entries.entries-index c.args.clocks.now c.loop-entries.entries-index
     c.loop-entries-test.false c.loop-entries.invariant

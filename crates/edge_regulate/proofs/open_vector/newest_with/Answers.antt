@@ -1,5 +1,6 @@
 use Rattle.know_history.specs.Notes.{known_at}
-use Rattle.edge_regulate.specs.Regulated.{counts, knows_by}
+use Rattle.rtr_types.specs.PairEdges.{counts}
+use Rattle.edge_regulate.specs.Regulated.{knows_by}
 use Rattle.edge_regulate.proofs.Growing.{newest_opened, newest_taken}
 use Rattle.edge_regulate.proofs.open_vector.newest_with.Goals as goal
 

@@ -1,5 +1,5 @@
 use Rattle.std.proofs.Common.{arith}
-use Rattle.edge_regulate.specs.Regulated.{counts}
+use Rattle.rtr_types.specs.PairEdges.{counts}
 use Rattle.edge_regulate.proofs.Growing.{opened_growing}
 use Rattle.edge_regulate.proofs.open_vector.opened.Goals as goal
 

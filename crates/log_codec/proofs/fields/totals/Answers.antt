@@ -1,7 +1,8 @@
 use Rattle.std.proofs.Common.{arith, refl, ◌∷◌, []}
 use Rattle.std.proofs.lemmas.List.{length-append}
 use Rattle.std.proofs.lemmas.Result.{err_from_is_err_and}
-use Rattle.log_codec.specs.Turns.{read_in_turn, stay}
+use Rattle.rtr_types.specs.Turns.{stay}
+use Rattle.log_codec.specs.Turns.{read_in_turn}
 use Rattle.log_codec.specs.Reading.{total_at}
 use Rattle.log_codec.proofs.InTurn.{begins, goes_on, ends, is_done}
 use Rattle.log_codec.proofs.fields.totals.Goals as goal

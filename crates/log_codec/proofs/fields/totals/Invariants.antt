@@ -1,5 +1,6 @@
 use Rattle.std.proofs.Common.{◌≡◌, ◌-◌, length}
-use Rattle.log_codec.specs.Turns.{read_in_turn, stay}
+use Rattle.rtr_types.specs.Turns.{stay}
+use Rattle.log_codec.specs.Turns.{read_in_turn}
 use Rattle.log_codec.specs.Reading.{total_at}
 use Rattle.log_codec.proofs.InTurn.{with_front}
 use Rattle.log_codec.proofs.fields.totals.Given as goal

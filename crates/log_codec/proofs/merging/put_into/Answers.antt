@@ -13,25 +13,25 @@ loop-init c =
     let reduced = c.args.reduced.now in
     let edges = incoming_edges cores reduced target in
     let text = spelled_in_turn incoming_text remember [] edges in
-    let wrote : c.put_u32.new.out.items ++ text ≡ c.args.out.now.items ++ into_text target edges =
+    let wrote : c.put_u32.new.out.items ++ text ≡ c.args.out.now.items ++ into_text edges =
     ap (λ (l : List ℕ). l ++ text) (c.in_ok-put_u32.ensures.ok ∙ ap (λ (n : ℕ). c.args.out.now.items ++ number n) c.count_into-count.ensures)
     ∙ append_assoc c.args.out.now.items (number (length edges)) text in
     writes-start cores target (c.count_into-count.result - 0) reduced c.put_u32.new.out.items
-    (c.args.out.now.items ++ into_text target edges) c.requires.target (log-rises cores reduced c.requires.log)
+    (c.args.out.now.items ++ into_text edges) c.requires.target (log-rises cores reduced c.requires.log)
     (omega (arith, c.count_into-count.ensures)) wrote
 
 pub put_incoming-requires-clause-target : goal.put_incoming-requires-clause-target
 put_incoming-requires-clause-target c =
     (writes-rises c.args.cores c.args.target
     (c.count_into-count.result - c.loop.counter) c.args.reduced.now c.loop.next c.loop.last c.loop.counts c.loop.out.items
-    (c.args.out.now.items ++ into_text c.args.target (incoming_edges c.args.cores c.args.reduced.now c.args.target)) c.in-Some.edge
+    (c.args.out.now.items ++ into_text (incoming_edges c.args.cores c.args.reduced.now c.args.target)) c.in-Some.edge
     c.requires.log.few c.requires.target (log-rises c.args.cores c.args.reduced.now c.requires.log) c.loop.invariant c.in-Some.ensures.first).0
 
 pub put_incoming-requires-clause-source : goal.put_incoming-requires-clause-source
 put_incoming-requires-clause-source c =
     (writes-rises c.args.cores c.args.target
     (c.count_into-count.result - c.loop.counter) c.args.reduced.now c.loop.next c.loop.last c.loop.counts c.loop.out.items
-    (c.args.out.now.items ++ into_text c.args.target (incoming_edges c.args.cores c.args.reduced.now c.args.target)) c.in-Some.edge
+    (c.args.out.now.items ++ into_text (incoming_edges c.args.cores c.args.reduced.now c.args.target)) c.in-Some.edge
     c.requires.log.few c.requires.target (log-rises c.args.cores c.args.reduced.now c.requires.log) c.loop.invariant c.in-Some.ensures.first).1
 
 pub loop-preserved : goal.loop-preserved
@@ -39,7 +39,7 @@ loop-preserved c =
     let cores = c.args.cores in
     let target = c.args.target in
     let reduced = c.args.reduced.now in
-    let whole = c.args.out.now.items ++ into_text target (incoming_edges cores reduced target) in
+    let whole = c.args.out.now.items ++ into_text (incoming_edges cores reduced target) in
     let many = c.count_into-count.result - c.loop.counter in
     let one : many - 1 ≡ c.count_into-count.result - (c.loop.counter + 1) = omega arith in
     elim c.match-first_left.branch [
@@ -58,5 +58,5 @@ pub returns : goal.returns
 returns c =
     writes-done c.args.cores c.args.target
     (c.count_into-count.result - c.loop.counter) c.args.reduced.now c.loop.next c.loop.last c.loop.counts c.loop.out.items
-    (c.args.out.now.items ++ into_text c.args.target (incoming_edges c.args.cores c.args.reduced.now c.args.target)) c.loop.invariant
+    (c.args.out.now.items ++ into_text (incoming_edges c.args.cores c.args.reduced.now c.args.target)) c.loop.invariant
     (omega (arith, c.loop-test.false))

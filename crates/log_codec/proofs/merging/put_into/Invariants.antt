@@ -6,4 +6,4 @@ use Rattle.log_codec.proofs.merging.put_into.Given as goal
 
 abbrev pub invariant-loop : goal.invariant-loop
 invariant-loop l = Writes l.cores l.target (l.count - l.counter) l.reduced l.next l.last l.counts l.out.items
-    (l.fn.out.items ++ into_text l.target (incoming_edges l.cores l.reduced l.target))
+    (l.fn.out.items ++ into_text (incoming_edges l.cores l.reduced l.target))

@@ -1,6 +1,7 @@
 use Rattle.std.proofs.Common.{arith}
 use Rattle.std.proofs.lemmas.Result.{err_from_is_err_and}
-use Rattle.log_codec.specs.Turns.{read_in_turn, follow}
+use Rattle.rtr_types.specs.Turns.{follow}
+use Rattle.log_codec.specs.Turns.{read_in_turn}
 use Rattle.log_codec.specs.Reading.{edge_at}
 use Rattle.log_codec.proofs.InTurn.{begins, goes_on, ends, is_done}
 use Rattle.log_codec.proofs.pairs.edges_from.Goals as goal

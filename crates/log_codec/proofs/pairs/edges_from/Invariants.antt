@@ -1,5 +1,6 @@
 use Rattle.std.proofs.Common.{◌≡◌, ◌-◌, ◌≤◌}
-use Rattle.log_codec.specs.Turns.{read_in_turn, follow}
+use Rattle.rtr_types.specs.Turns.{follow}
+use Rattle.log_codec.specs.Turns.{read_in_turn}
 use Rattle.log_codec.specs.Reading.{edge_at}
 use Rattle.log_codec.proofs.InTurn.{with_front}
 use Rattle.log_codec.proofs.pairs.edges_from.Given as goal

@@ -1,7 +1,8 @@
 use Rattle.std.proofs.Common.{◌≡◌, ◌<◌, ◌^◌, ◌++◌, List, [], length, get_or, refl, sym, subst, ◌∙◌}
 use Rattle.std.proofs.lemmas.List.{get_or_default}
 use Rattle.stride_vector.specs.declared.StrideVector.{StrideVector}
-use Rattle.log_codec.specs.Turns.{count_up}
+use Rattle.log_codec.specs.Turns.{alike}
+use Rattle.rtr_types.specs.Turns.{count_up}
 use Rattle.log_codec.specs.Spelling.{vectors_text, regulated_text}
 use Rattle.log_codec.proofs.InTurn.{puts_on, puts_done}
 use Rattle.log_codec.proofs.writing.put_regulated.Goals as goal
@@ -19,12 +20,12 @@ pub loop-vectors-preserved : goal.loop-vectors-preserved
 loop-vectors-preserved c =
     let i = c.loop-vectors.vectors-index in
     let item = c.vectors-item.result in
-    let is : c.put_vectors.new.out.items ≡ c.loop-vectors.out.items ++ vectors_text i (get_or c.args.regulated.now i item) =
+    let is : c.put_vectors.new.out.items ≡ c.loop-vectors.out.items ++ vectors_text (get_or c.args.regulated.now i item) =
     rw (← c.vectors-item.is, ← c.as_slice.ensures) c.in_ok-put_vectors.ensures in
-    puts_on vectors_text count_up c.loop-vectors.out.items c.put_vectors.new.out.items
+    puts_on (alike vectors_text) count_up c.loop-vectors.out.items c.put_vectors.new.out.items
     (c.args.out.now.items ++ regulated_text c.args.regulated.now) i c.args.regulated.now i item c.loop-vectors-test.true is c.loop-vectors.invariant
 
 pub returns : goal.returns
-returns c = puts_done vectors_text count_up c.loop-vectors.out.items
+returns c = puts_done (alike vectors_text) count_up c.loop-vectors.out.items
     (c.args.out.now.items ++ regulated_text c.args.regulated.now) c.loop-vectors.vectors-index c.args.regulated.now c.loop-vectors.vectors-index
     c.loop-vectors-test.false c.loop-vectors.invariant

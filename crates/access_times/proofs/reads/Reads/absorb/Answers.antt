@@ -41,8 +41,8 @@ loop-core-preserved c = elim c.if-has.branch [
         stays (λ k. read_of c.loop-core.self-inside k ≡ newer_read (read_of c.self.inside k) (read_of c.other.inside k))
             (λ k. (has c.other.inside.readers k ≡ true) × (read_of c.loop-core.self-inside k ≡ read_of c.self.inside k)) c.loop-core.left
             c.loop-core.core c.loop-core-test.true
-            (rest.1 ∙ sym (is_mine c.self.inside c.loop-core.self-inside c.other.inside c.loop-core.core _ (0, no_counts) w.has-then-has.result None c.loop-core.invariant.0
-            c.loop-core-test.true w.has-then-has.ensures rest.1)
+            (rest.1 ∙ sym (is_mine c.self.inside c.loop-core.self-inside c.other.inside c.loop-core.core _ (0, no_counts) w.has-then-has.result None
+            c.loop-core.invariant.0 c.loop-core-test.true w.has-then-has.ensures rest.1)
             ∙ ends_absorbing c.self.inside c.loop-core.self-inside c.other.inside c.loop-core.core _ _ w.has-then-has.result _ c.loop-core.invariant.0
             c.other.invariant c.loop-core-test.true w.has-then-has.ensures rest (w.is_newer.ensures ∙ if_false w.is_newer.result _ _ w.if-is_newer.false))
             c.loop-core.invariant.1,

@@ -31,7 +31,8 @@ loop-core-preserved c = elim c.if-has.branch [
         taken c.self.inside c.loop-core.self-inside c.other.inside (λ k. newer_read (read_of c.other.inside k) (read_of c.self.inside k)) c.loop-core.left
             c.loop-core.core _ c.loop-core.invariant.0 c.loop-core-test.true
             (ends_renewing c.self.inside c.loop-core.self-inside c.other.inside c.loop-core.core _ _ w.has-then-has.result _ c.loop-core.invariant.0
-            c.other.invariant c.loop-core-test.true w.has-then-has.ensures rest (w.is_no_older.ensures ∙ if_true w.is_no_older.result _ _ w.if-is_no_older.true))
+            c.other.invariant c.loop-core-test.true w.has-then-has.ensures rest
+            (w.is_no_older.ensures ∙ if_true w.is_no_older.result _ _ w.if-is_no_older.true))
             c.loop-core.invariant.1,
       )
   | then-has+else-is_no_older w ↦
@@ -41,10 +42,11 @@ loop-core-preserved c = elim c.if-has.branch [
         stays (λ k. read_of c.loop-core.self-inside k ≡ newer_read (read_of c.other.inside k) (read_of c.self.inside k))
             (λ k. (has c.other.inside.readers k ≡ true) × (read_of c.loop-core.self-inside k ≡ read_of c.self.inside k)) c.loop-core.left
             c.loop-core.core c.loop-core-test.true
-            (rest.1 ∙ sym (is_mine c.self.inside c.loop-core.self-inside c.other.inside c.loop-core.core _ (0, no_counts) w.has-then-has.result None c.loop-core.invariant.0
-            c.loop-core-test.true w.has-then-has.ensures rest.1)
+            (rest.1 ∙ sym (is_mine c.self.inside c.loop-core.self-inside c.other.inside c.loop-core.core _ (0, no_counts) w.has-then-has.result None
+            c.loop-core.invariant.0 c.loop-core-test.true w.has-then-has.ensures rest.1)
             ∙ ends_renewing c.self.inside c.loop-core.self-inside c.other.inside c.loop-core.core _ _ w.has-then-has.result _ c.loop-core.invariant.0
-            c.other.invariant c.loop-core-test.true w.has-then-has.ensures rest (w.is_no_older.ensures ∙ if_false w.is_no_older.result _ _ w.if-is_no_older.false))
+            c.other.invariant c.loop-core-test.true w.has-then-has.ensures rest
+            (w.is_no_older.ensures ∙ if_false w.is_no_older.result _ _ w.if-is_no_older.false))
             c.loop-core.invariant.1,
       )
   | else-has w ↦

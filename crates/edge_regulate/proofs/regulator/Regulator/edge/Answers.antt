@@ -4,7 +4,7 @@ use Rattle.rtr_types.specs.Pairs.{pair_place}
 use Rattle.stride_vector.specs.declared.StrideVector.{StrideVector}
 use Rattle.roomy_lists.specs.Lists.{items_at, items_in}
 use Rattle.edge_regulate.specs.Greedy.{opened}
-use Rattle.edge_regulate.specs.Regulated.{counts}
+use Rattle.rtr_types.specs.PairEdges.{counts}
 use Rattle.edge_regulate.proofs.Regulations.{tell}
 use Rattle.edge_regulate.proofs.Rooms.{edge_told, growing_more, growing_on, long_more}
 use Rattle.edge_regulate.proofs.regulator.Regulator.edge.Goals as goal

@@ -1,6 +1,6 @@
-use Rattle.std.proofs.Common.{◌∙◌, arith}
+use Rattle.std.proofs.Common.{arith}
 use Rattle.std.proofs.lemmas.Result.{on_ok_weaker}
-use Rattle.edge_regulate.proofs.Rooms.{all_ready, length-items}
+use Rattle.edge_regulate.proofs.Rooms.{all_ready}
 use Rattle.edge_regulate.proofs.regulator.Regulator.ready.Goals as goal
 
 pub returns-clause-ready : goal.returns-clause-ready

@@ -74,7 +74,8 @@ loop-core-preserved c =
 pub returns-then-not-whole : goal.returns-then-not-whole
 returns-then-not-whole c =
     let i = c.loop-core.invariant in
-    stuck_at (plan_of c.args.which c.args.recording.now) c.loop-core.replay i.plan_is i.along.0 i.along.1 c.cut.result (sym c.lowest_by.ensures ∙ c.in_default.is)
+    stuck_at (plan_of c.args.which c.args.recording.now) c.loop-core.replay i.plan_is i.along.0 i.along.1 c.cut.result
+    (sym c.lowest_by.ensures ∙ c.in_default.is)
     (λ full. let is_whole = c.whole.ensures.1 full in let is_not = c.if-not-whole.true in cc) c.cut.ensures
 
 pub returns : goal.returns
