@@ -15,7 +15,7 @@ use Rattle.rtr_types.specs.declared.instr.Instr.{Instr}
 use Rattle.rtr_types.specs.declared.instr.Edge.{Edge}
 use Rattle.clock_core.specs.Order.{Among}
 use Rattle.online_reduce.specs.Exact.{SourcesRise}
-use Rattle.online_reduce.specs.Lists.{counts, with_edge, with_edges, is_between, pair_edges, by_pair}
+use Rattle.rtr_types.specs.PairEdges.{counts, with_edge, with_edges, is_between, pair_edges, by_pair}
 
 -- ---- the edges of one pair
 

@@ -8,7 +8,6 @@ use Rattle.std.proofs.lemmas.Bool.Decides.{nat_tests}
 use Rattle.rtr_types.specs.declared.instr.Instr.{Instr}
 use Rattle.clock_core.specs.Order.{Among}
 use Rattle.clock_core.proofs.Paths.{instr_eq}
-use Rattle.clock_core.specs.declared.clock.Clock.{Clock}
 use Rattle.online_reduce.specs.declared.source.Source.{Source}
 use Rattle.online_reduce.specs.Sources.{IsOneOf}
 use Rattle.online_reduce.specs.Rule.{is_above, lets_pass, is_kept, edge_to}
@@ -26,13 +25,11 @@ same_instr x y e =
 
 -- ---- the test
 
--- neither the previous clock nor another candidate's knows of it
-pub record Passes (before : Clock) (found : List Source) (at : Instr) : Type 0 where
-  pub own : slice_index before at.core < at.count
-  pub others : (s : Source) → IsOneOf found s → s.at ≢ at → slice_index s.clock at.core < at.count
+-- no other candidate's clock knows of it
+abbrev pub Passes : List Source → Instr → Type 0
+Passes found at = (s : Source) → IsOneOf found s → s.at ≢ at → slice_index s.clock at.core < at.count
 
-all_others : (found : List Source) (at : Instr) → list_all (lets_pass at) found ≡ true → (s : Source) → IsOneOf found s → s.at ≢ at →
-    slice_index s.clock at.core < at.count
+pub all_others : (found : List Source) (at : Instr) → is_kept found at ≡ true → Passes found at
 all_others [] at e s one d = absurd one
 all_others (r ∷ found) at e s (inl f) d =
     subst (λ (v : Source). v.at ≢ at → slice_index v.clock at.core < at.count) f
@@ -43,8 +40,7 @@ all_others (r ∷ found) at e s (inl f) d =
     by other (inr above) = grind (arith, nat_tests)
 all_others (r ∷ found) at e s (inr one) d = all_others found at (and_parts (lets_pass at r) (list_all (lets_pass at) found) e).1 s one d
 
-others_all : (found : List Source) (at : Instr) → ((s : Source) → IsOneOf found s → s.at ≢ at → slice_index s.clock at.core < at.count) →
-    list_all (lets_pass at) found ≡ true
+pub others_all : (found : List Source) (at : Instr) → Passes found at → is_kept found at ≡ true
 others_all [] at f = refl
 others_all (r ∷ found) at f = by (is_same r.at at) refl (others_all found at (λ s one d. f s (inr one) d))
   where
@@ -61,54 +57,42 @@ others_all (r ∷ found) at f = by (is_same r.at at) refl (others_all found at (
         let above : is_above r.clock at ≡ true = grind (arith, nat_tests) in
         rw (above, rest) refl
 
-pub kept_passes : (before : Clock) (found : List Source) (at : Instr) → is_kept before found at ≡ true → Passes before found at
-kept_passes before found at e =
-    let both = and_parts (is_above before at) (list_all (lets_pass at) found) e in
-    let above : is_above before at ≡ true = both.0 in
-    record { own = grind (arith, nat_tests); others = all_others found at both.1 }
-
-pub passes_kept : (before : Clock) (found : List Source) (at : Instr) → Passes before found at → is_kept before found at ≡ true
-passes_kept before found at p =
-    let lt = p.own in
-    let above : is_above before at ≡ true = grind (arith, nat_tests) in
-    rw (above, others_all found at p.others) refl
-
 -- ---- the edges
 
 -- the edge comes from one of some candidates, which is kept
-abbrev pub ComesFrom : Instr → Clock → List Source → List Source → Instr → Instr → Type 0
-ComesFrom at before found some x y = (y ≡ at) × (s : Source) × IsOneOf some s × (s.at ≡ x) × (is_kept before found s.at ≡ true)
+abbrev pub ComesFrom : Instr → List Source → List Source → Instr → Instr → Type 0
+ComesFrom at found some x y = (y ≡ at) × (s : Source) × IsOneOf some s × (s.at ≡ x) × (is_kept found s.at ≡ true)
 
-pub chosen_from : (at : Instr) (before : Clock) (found some : List Source) (x y : Instr) → Among (chosen at before found some) x y →
-    ComesFrom at before found some x y
-chosen_from at before found [] x y e = absurd e
-chosen_from at before found (s ∷ some) x y e = by (is_kept before found s.at) refl e (λ f. chosen_from at before found some x y f)
+pub chosen_from : (at : Instr) (found some : List Source) (x y : Instr) → Among (chosen at found some) x y →
+    ComesFrom at found some x y
+chosen_from at found [] x y e = absurd e
+chosen_from at found (s ∷ some) x y e = by (is_kept found s.at) refl e (λ f. chosen_from at found some x y f)
   where
-    more : ComesFrom at before found some x y → ComesFrom at before found (s ∷ some) x y
+    more : ComesFrom at found some x y → ComesFrom at found (s ∷ some) x y
     more q = (q.0, q.1, inr q.2, q.3, q.4)
 
-    by : (b : Bool) → is_kept before found s.at ≡ b →
+    by : (b : Bool) → is_kept found s.at ≡ b →
         Among (map (edge_to at)
-        (cond b (s ∷ filter (λ (r : Source). is_kept before found r.at) some) (filter (λ (r : Source). is_kept before found r.at) some))) x y →
-        (Among (chosen at before found some) x y → ComesFrom at before found some x y) → ComesFrom at before found (s ∷ some) x y
+        (cond b (s ∷ filter (λ (r : Source). is_kept found r.at) some) (filter (λ (r : Source). is_kept found r.at) some))) x y →
+        (Among (chosen at found some) x y → ComesFrom at found some x y) → ComesFrom at found (s ∷ some) x y
     by true t (inl f) later = (sym f.1, s, inl refl, f.0, t)
     by true t (inr f) later = more (later f)
     by false t f later = more (later f)
 
-pub from_chosen : (at : Instr) (before : Clock) (found some : List Source) (s : Source) → IsOneOf some s → is_kept before found s.at ≡ true →
-    Among (chosen at before found some) s.at at
-from_chosen at before found [] s one kept = absurd one
-from_chosen at before found (r ∷ some) s (inl e) kept = by (is_kept before found r.at) (ap (λ (v : Source). is_kept before found v.at) e ∙ kept)
+pub from_chosen : (at : Instr) (found some : List Source) (s : Source) → IsOneOf some s → is_kept found s.at ≡ true →
+    Among (chosen at found some) s.at at
+from_chosen at found [] s one kept = absurd one
+from_chosen at found (r ∷ some) s (inl e) kept = by (is_kept found r.at) (ap (λ (v : Source). is_kept found v.at) e ∙ kept)
   where
     by : (b : Bool) → b ≡ true →
         Among (map (edge_to at)
-        (cond b (r ∷ filter (λ (v : Source). is_kept before found v.at) some) (filter (λ (v : Source). is_kept before found v.at) some))) s.at at
+        (cond b (r ∷ filter (λ (v : Source). is_kept found v.at) some) (filter (λ (v : Source). is_kept found v.at) some))) s.at at
     by true t = inl (ap (λ (v : Source). v.at) e, refl)
     by false t = absurd cc
-from_chosen at before found (r ∷ some) s (inr one) kept = by (is_kept before found r.at) (from_chosen at before found some s one kept)
+from_chosen at found (r ∷ some) s (inr one) kept = by (is_kept found r.at) (from_chosen at found some s one kept)
   where
-    by : (b : Bool) → Among (chosen at before found some) s.at at →
+    by : (b : Bool) → Among (chosen at found some) s.at at →
         Among (map (edge_to at)
-        (cond b (r ∷ filter (λ (v : Source). is_kept before found v.at) some) (filter (λ (v : Source). is_kept before found v.at) some))) s.at at
+        (cond b (r ∷ filter (λ (v : Source). is_kept found v.at) some) (filter (λ (v : Source). is_kept found v.at) some))) s.at at
     by true f = inr f
     by false f = f

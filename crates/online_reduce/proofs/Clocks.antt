@@ -10,8 +10,10 @@ use Rattle.clock_core.specs.declared.clock.Clock.{Clock}
 use Rattle.clock_core.proofs.Merging.{get_or-merged}
 use Rattle.conflict_edge.specs.Clocks.{clock, greatest, reaches}
 use Rattle.conflict_edge.specs.Conflicts.{StandsIn, CountsRise}
-use Rattle.conflict_edge.proofs.Clocks.{clock-newest, clock-older}
-use Rattle.conflict_edge.proofs.History.{reaches-true, reaches-false, reaches-yes, reaches-no}
+use Rattle.clock_core.proofs.Paths.{joined}
+use Rattle.clock_core.specs.Order.{Before}
+use Rattle.conflict_edge.proofs.Clocks.{clock-newest, clock-older, clock-own, clock-before, clock-up_to, UpTo}
+use Rattle.conflict_edge.proofs.History.{Pair, Rising, reaches-true, reaches-false, reaches-yes, reaches-no}
 use Rattle.conflict_edge.proofs.Scan.{stands-split}
 use Rattle.online_reduce.specs.declared.source.Source.{Source}
 use Rattle.online_reduce.specs.Sources.{IsOneOf}
@@ -89,6 +91,24 @@ same_clock (a ∷ h) x y i other core le ends = by (reaches a x) refl (same_cloc
             let up = ends a (inl refl) e_x in
             let down = reaches-false a x t e_x in
             omega arith
+
+-- ---- what leads to an instruction
+
+pub up_joined : (h : List Access) (x y z : Instr) → UpTo h x y → UpTo h y z → UpTo h x z
+up_joined h x y z (inl e) u = subst (λ (v : Instr). UpTo h v z) (sym e) u
+up_joined h x y z (inr p) (inl e) = inr (subst (λ (v : Instr). Before (Pair h) x v) e p)
+up_joined h x y z (inr p) (inr q) = inr (joined (Pair h) x y z p q)
+
+pub up_counts : (h : List Access) (x y : Instr) → Rising h → UpTo h x y → x.count ≤ clock h y x.core
+up_counts h x y rising (inl e) = subst (λ (v : Instr). x.count ≤ clock h v x.core) e (clock-own h x)
+up_counts h x y rising (inr p) = clock-before h x y rising p
+
+-- and its whole clock is below
+pub up_clock : (h : List Access) (x y : Instr) (i n : ℕ) → Rising h → UpTo h x y → 1 ≤ n → n ≤ clock h x i → n ≤ clock h y i
+up_clock h x y i n rising up pos le = up_counts h at y rising (up_joined h at x y (clock-up_to h at x pos le) up)
+  where
+    at : Instr
+    at = record { core = i; count = n }
 
 -- ---- counts rise by one access more
 

@@ -10,21 +10,22 @@ use Rattle.rtr_types.specs.declared.access.Access.{Access}
 use Rattle.clock_core.specs.Counts.{no_counts}
 use Rattle.clock_core.specs.declared.clock.Clock.{Clock}
 use Rattle.clock_core.proofs.Reach.{same_below}
+use Rattle.clock_core.specs.Order.{previous}
 use Rattle.access_times.specs.declared.times.Times.{Times}
 use Rattle.conflict_edge.specs.Clocks.{clock, IsBelowMerged}
 use Rattle.conflict_edge.specs.Conflicts.{StandsIn}
 use Rattle.conflict_edge.specs.Times.{IsExactClock}
 use Rattle.conflict_edge.proofs.Clocks.{own_clock}
+use Rattle.conflict_edge.proofs.History.{Rising}
 use Rattle.conflict_edge.proofs.Reach.{online_clock_law, kept_clock_law}
 use Rattle.conflict_edge.proofs.Reversed.{rising_back, stands_back}
 use Rattle.conflict_edge.proofs.Scan.{stands-split}
-use Rattle.online_reduce.specs.declared.source.Source.{Source}
-use Rattle.online_reduce.specs.Sources.{candidates, IsOneOf}
 use Rattle.online_reduce.specs.Rule.{clock_into, merged_with}
 use Rattle.online_reduce.specs.Reduced.{Reduced, IsNext, clock_of, count_of, counted, retired, next_clock, OtherClocksLaw}
 use Rattle.online_reduce.specs.Exact.{IsExact, last_of}
-use Rattle.online_reduce.proofs.Clocks.{longer-fold, IsBelow, below_merged, merged_above, same_clock}
-use Rattle.online_reduce.proofs.Step.{Next}
+use Rattle.online_reduce.proofs.Clocks.{longer-fold, IsBelow, below_merged, merged_above, same_clock, up_clock}
+use Rattle.online_reduce.proofs.Noted.{IsLed}
+use Rattle.online_reduce.proofs.Step.{Next, found_of}
 
 -- ---- a clock is put in its core's place
 
@@ -37,44 +38,46 @@ put_other r core other new d = get_or-set_other r.clocks core other new no_count
 -- ---- the clock of an access
 
 -- the merged clock, without its own place
-merged_clock : (list : List Access) (r : Reduced) (a : Access) (t : Times) → Next list r a t → (i n : ℕ) → i < CORES_MAX →
-    IsBelow (clock_of r a.at.core) (candidates r.cores a t) i n ↔ IsBelowMerged (reverse list) a i n
-merged_clock list r a t next i n lt = (to, from)
+merged_clock : (list : List Access) (r : Reduced) (a : Access) (t : Times) → Next list r a t → (i n : ℕ) → i < CORES_MAX → 1 ≤ n →
+    IsBelow (clock_of r a.at.core) (found_of r a t) i n ↔ IsBelowMerged (reverse list) a i n
+merged_clock list r a t next i n lt pos = (to, from)
   where
-    to : IsBelow (clock_of r a.at.core) (candidates r.cores a t) i n → IsBelowMerged (reverse list) a i n
+    to : IsBelow (clock_of r a.at.core) (found_of r a t) i n → IsBelowMerged (reverse list) a i n
     to (inl le) = inl (let e = next.before i lt in omega arith)
     to (inr q) = inr (q.0.at, next.found.candidate q.0 q.1, let e = next.found.exact q.0 q.1 i lt in let le = q.2 in omega arith)
 
-    by : (z : Instr) → n ≤ clock (reverse list) z i → (s : Source) × IsOneOf (candidates r.cores a t) s × (s.at ≡ z) → (s : Source)
-        × IsOneOf (candidates r.cores a t) s × (n ≤ slice_index s.clock i)
-    by z le s = (
-      s.0,
-      s.1,
-      let e = next.found.exact s.0 s.1 i lt in
-          let f : clock (reverse list) s.0.at i ≡ clock (reverse list) z i = ap (λ (v : Instr). clock (reverse list) v i) s.2 in omega arith,
-    )
+    rising : Rising (reverse list)
+    rising = rising_back list next.exact.rise
 
-    from : IsBelowMerged (reverse list) a i n → IsBelow (clock_of r a.at.core) (candidates r.cores a t) i n
+    by : (z : Instr) → n ≤ clock (reverse list) z i → IsLed (reverse list) a (found_of r a t) z → IsBelow (clock_of r a.at.core) (found_of r a t) i n
+    by z le (inl q) = inr (
+      q.0,
+      q.1,
+      let e = next.found.exact q.0 q.1 i lt in let f = up_clock (reverse list) z q.0.at i n rising q.2 pos le in omega arith,
+    )
+    by z le (inr up) = inl (let e = next.before i lt in let f = up_clock (reverse list) z (previous a.at) i n rising up pos le in omega arith)
+
+    from : IsBelowMerged (reverse list) a i n → IsBelow (clock_of r a.at.core) (found_of r a t) i n
     from (inl le) = inl (let e = next.before i lt in omega arith)
-    from (inr q) = inr (by q.0 q.2 (next.found.all q.0 q.1))
+    from (inr q) = by q.0 q.2 (next.found.all q.0 q.1)
 
 pub next_exact : (list : List Access) (r : Reduced) (a : Access) (t : Times) → Next list r a t → IsExactClock (list ++ (a ∷ [])) a.at (next_clock r a t)
 unfolding clock_into
 next_exact list r a t next i lt = by (cases_eq i a.at.core)
   where
     m : Clock
-    m = fold merged_with (clock_of r a.at.core) (candidates r.cores a t)
+    m = fold merged_with (clock_of r a.at.core) (found_of r a t)
 
     room : a.at.core < length m
     room = let core = next.next.core in let few = next.exact.few in
-        omega (arith, next.exact.wide a.at.core next.next.core, longer-fold (clock_of r a.at.core) (candidates r.cores a t))
+        omega (arith, next.exact.wide a.at.core next.next.core, longer-fold (clock_of r a.at.core) (found_of r a t))
 
     same : i ≢ a.at.core → (k : ℕ) → 1 ≤ k → (k ≤ slice_index m i) ↔ (k ≤ clock (reverse (list ++ (a ∷ []))) a.at i)
     same d k pos = (
       λ le. ((online_clock_law list a next.rise).others i k d pos).1
-          ((merged_clock list r a t next i k lt).0 (below_merged (clock_of r a.at.core) (candidates r.cores a t) i k le)),
-      λ le. merged_above (clock_of r a.at.core) (candidates r.cores a t) i k
-          ((merged_clock list r a t next i k lt).1 (((online_clock_law list a next.rise).others i k d pos).0 le)),
+          ((merged_clock list r a t next i k lt pos).0 (below_merged (clock_of r a.at.core) (found_of r a t) i k le)),
+      λ le. merged_above (clock_of r a.at.core) (found_of r a t) i k
+          ((merged_clock list r a t next i k lt pos).1 (((online_clock_law list a next.rise).others i k d pos).0 le)),
     )
 
     by : (i ≡ a.at.core) ⊎ (i ≢ a.at.core) → slice_index (slice_set m a.at.core a.at.count) i ≡ clock (reverse (list ++ (a ∷ []))) a.at i
@@ -89,18 +92,18 @@ next_exact list r a t next i lt = by (cases_eq i a.at.core)
 next_own : (list : List Access) (r : Reduced) (a : Access) (t : Times) → Next list r a t → slice_index (next_clock r a t) a.at.core ≡ a.at.count
 unfolding clock_into
 next_own list r a t next =
-    get_or-set_same (fold merged_with (clock_of r a.at.core) (candidates r.cores a t)) a.at.core a.at.count 0
+    get_or-set_same (fold merged_with (clock_of r a.at.core) (found_of r a t)) a.at.core a.at.count 0
     (let core = next.next.core in let few = next.exact.few in
-    omega (arith, next.exact.wide a.at.core next.next.core, longer-fold (clock_of r a.at.core) (candidates r.cores a t)))
+    omega (arith, next.exact.wide a.at.core next.next.core, longer-fold (clock_of r a.at.core) (found_of r a t)))
 
 next_wide : (list : List Access) (r : Reduced) (a : Access) (t : Times) → Next list r a t → CORES_MAX ≤ length (next_clock r a t)
 unfolding clock_into
 next_wide list r a t next =
     omega (
       arith,
-      length-set (fold merged_with (clock_of r a.at.core) (candidates r.cores a t)) a.at.core a.at.count,
+      length-set (fold merged_with (clock_of r a.at.core) (found_of r a t)) a.at.core a.at.count,
       next.exact.wide a.at.core next.next.core,
-      longer-fold (clock_of r a.at.core) (candidates r.cores a t),
+      longer-fold (clock_of r a.at.core) (found_of r a t),
     )
 
 -- ---- one core's clock changes

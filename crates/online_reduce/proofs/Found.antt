@@ -1,8 +1,8 @@
 -- The candidates of an access: what they are, and how many.
 use Rattle.std.proofs.Common.{◌≡◌, ◌≢◌, ℕ, zero, suc, ◌+◌, ◌%◌, ◌<◌, ◌≤◌, ◌⊎◌, List, [], ◌∷◌, ◌++◌, length, refl, sym, ◌∙◌, ap, subst, inl, inr, arith, true}
-use Rattle.std.proofs.Common.{false, Bool, not, ◌&&◌, nat_eq, nat_lt, Option, Some, None}
+use Rattle.std.proofs.Common.{false, Bool, not, ◌&&◌, nat_eq, nat_lt, Option, Some, None, get_or}
 use Rattle.std.proofs.lemmas.Bool.{and_parts}
-use Rattle.std.specs.Prelude.{All, if◌then◌else◌}
+use Rattle.std.specs.Prelude.{All, ⊤, if◌then◌else◌}
 use Rattle.std.specs.Option.{option_to_list}
 use Rattle.std.proofs.lemmas.List.{length-append}
 use Rattle.std.proofs.lemmas.List.Elements.{All-nil, All-cons}
@@ -16,7 +16,8 @@ use Rattle.access_times.specs.declared.times.Times.{Times}
 use Rattle.access_times.specs.Times.{write_at, read_at}
 use Rattle.online_reduce.specs.declared.TheConstants.{EDGES_MAX}
 use Rattle.online_reduce.specs.declared.source.Source.{Source}
-use Rattle.online_reduce.specs.Sources.{write_from, read_from, candidates_from, candidates, IsOneOf}
+use Rattle.online_reduce.specs.Rule.{is_above}
+use Rattle.online_reduce.specs.Sources.{is_live, write_from, read_from, reads_from, or_write, candidates, IsOneOf}
 
 -- ---- one of a list
 
@@ -54,275 +55,304 @@ option_one (Some r) s e = inl (same r s e)
     same : (r s : Source) → Some r ≡ Some s → r ≡ s
     same r s e = cc
 
--- ---- the candidates of one core
+-- ---- live instructions
 
--- the write that is noted, by this core, which is not a's
-pub record Wrote (a : Access) (core : ℕ) (w : Option (Instr × Clock)) (s : Source) : Type 0 where
+-- of another core, and above the clock before
+pub record Lives (before : Clock) (a : Access) (at : Instr) : Type 0 where
+  pub other : at.core ≢ a.at.core
+  pub above : is_above before at ≡ true
+
+pub live_is : (before : Clock) (a : Access) (at : Instr) → is_live before a at ≡ true → Lives before a at
+live_is before a at e =
+    let both = and_parts (not (nat_eq at.core a.at.core)) (is_above before at) e in
+    let one : not (nat_eq at.core a.at.core) ≡ true = both.0 in
+    record { other = grind (arith, nat_tests); above = both.1 }
+
+pub is_live_of : (before : Clock) (a : Access) (at : Instr) → Lives before a at → is_live before a at ≡ true
+is_live_of before a at l =
+    let other = l.other in
+    let one : not (nat_eq at.core a.at.core) ≡ true = grind (arith, nat_tests) in
+    rw (one, l.above) refl
+
+-- ---- the write
+
+-- the write that is noted, where it is live and of one of the cores
+pub record Wrote (cores : ℕ) (before : Clock) (a : Access) (w : Option (Instr × Clock)) (s : Source) : Type 0 where
   pub noted : w ≡ Some (s.at, s.clock)
-  pub core_is : s.at.core ≡ core
-  pub other : core ≢ a.at.core
+  pub within : s.at.core < cores
+  pub lives : Lives before a s.at
 
--- the read that is noted of this core, which is not a's, where a writes
-pub record Read (a : Access) (core : ℕ) (r : Option (ℕ × Clock)) (s : Source) : Type 0 where
-  pub writes : is_write a.kind ≡ true
-  pub noted : r ≡ Some (s.at.count, s.clock)
-  pub core_is : s.at.core ≡ core
-  pub other : core ≢ a.at.core
-
-pub wrote : (a : Access) (core : ℕ) (w : Option (Instr × Clock)) (s : Source) → write_from a core w ≡ Some s → Wrote a core w s
-wrote a core None s e = absurd cc
-wrote a core (Some w) s e = by (nat_eq w.0.core core && not (nat_eq core a.at.core)) refl e
+pub wrote : (cores : ℕ) (before : Clock) (a : Access) (w : Option (Instr × Clock)) (s : Source) → write_from cores before a w ≡ Some s →
+    Wrote cores before a w s
+wrote cores before a None s e = absurd cc
+wrote cores before a (Some w) s e = by (nat_lt w.0.core cores && is_live before a w.0) refl e
   where
-    by : (b : Bool) → nat_eq w.0.core core && not (nat_eq core a.at.core) ≡ b → (if b then Some (record { at = w.0; clock = w.1 }) else None) ≡ Some s →
-        Wrote a core (Some w) s
+    by : (b : Bool) → nat_lt w.0.core cores && is_live before a w.0 ≡ b → (if b then Some (record { at = w.0; clock = w.1 }) else None) ≡ Some s →
+        Wrote cores before a (Some w) s
     by true t f =
         let is : ◌≡◌ {A = Source} (record { at = w.0; clock = w.1 }) s = cc in
-        let both = and_parts (nat_eq w.0.core core) (not (nat_eq core a.at.core)) t in
-        let one : nat_eq w.0.core core ≡ true = both.0 in
-        let two : not (nat_eq core a.at.core) ≡ true = both.1 in
+        let both = and_parts (nat_lt w.0.core cores) (is_live before a w.0) t in
+        let one : nat_lt w.0.core cores ≡ true = both.0 in
+        let within : w.0.core < cores = grind (arith, nat_tests) in
         record {
           noted = ap (λ (v : Source). (let n : Option (Instr × Clock) = Some (v.at, v.clock) in n)) is;
-          core_is = sym (ap (λ (v : Source). v.at.core) is) ∙ grind (arith, nat_tests);
-          other = grind (arith, nat_tests);
+          within = subst (λ (v : Source). v.at.core < cores) is within;
+          lives = subst (λ (v : Source). Lives before a v.at) is (live_is before a w.0 both.1);
         }
     by false t f = absurd cc
 
-wrote_back : (a : Access) (core : ℕ) (s : Source) → s.at.core ≡ core → core ≢ a.at.core → write_from a core (Some (s.at, s.clock)) ≡ Some s
-wrote_back a core s e d = by (nat_eq s.at.core core && not (nat_eq core a.at.core)) (grind (arith, nat_tests))
+pub wrote_back : (cores : ℕ) (before : Clock) (a : Access) (s : Source) → s.at.core < cores → is_live before a s.at ≡ true →
+    write_from cores before a (Some (s.at, s.clock)) ≡ Some s
+wrote_back cores before a s lt live =
+    by (nat_lt s.at.core cores && is_live before a s.at) (let one : nat_lt s.at.core cores ≡ true = grind (arith, nat_tests) in rw (one, live) refl)
   where
     by : (b : Bool) → b ≡ true → (if b then Some (record { at = s.at; clock = s.clock }) else None) ≡ Some s
     by true t = refl
     by false t = absurd cc
 
-pub did_read : (a : Access) (core : ℕ) (r : Option (ℕ × Clock)) (s : Source) → read_from a core r ≡ Some s → Read a core r s
-did_read a core None s e = absurd cc
-did_read a core (Some r) s e = by (is_write a.kind && not (nat_eq core a.at.core)) refl e
+-- a write of no core of these, or that is not live, gives none
+pub no_write : (cores : ℕ) (before : Clock) (a : Access) (w : Instr × Clock) → (w.0.core < cores → is_live before a w.0 ≡ true → ⊥) →
+    write_from cores before a (Some w) ≡ None
+no_write cores before a w dead = by (nat_lt w.0.core cores && is_live before a w.0) refl
   where
-    by : (b : Bool) → is_write a.kind && not (nat_eq core a.at.core) ≡ b →
-        (if b then Some (record { at = record { core = core; count = r.0 }; clock = r.1 }) else None) ≡ Some s → Read a core (Some r) s
+    by : (b : Bool) → nat_lt w.0.core cores && is_live before a w.0 ≡ b → (if b then Some (let s : Source = record { at = w.0; clock = w.1 } in s) else None)
+        ≡ None
+    by false e = refl
+    by true e =
+        let both = and_parts (nat_lt w.0.core cores) (is_live before a w.0) e in
+        let one : nat_lt w.0.core cores ≡ true = both.0 in
+        absurd (dead (grind (arith, nat_tests)) both.1)
+
+-- ---- the reads
+
+-- the read that is noted, where a writes and it is live
+pub record Read (before : Clock) (a : Access) (core : ℕ) (r : Option (ℕ × Clock)) (s : Source) : Type 0 where
+  pub writes : is_write a.kind ≡ true
+  pub noted : r ≡ Some (s.at.count, s.clock)
+  pub core_is : s.at.core ≡ core
+  pub lives : Lives before a s.at
+
+did_read : (before : Clock) (a : Access) (core : ℕ) (r : Option (ℕ × Clock)) (s : Source) → read_from before a core r ≡ Some s → Read before a core r s
+did_read before a core None s e = absurd cc
+did_read before a core (Some r) s e = by (is_write a.kind && is_live before a at) refl e
+  where
+    at : Instr
+    at = record { core = core; count = r.0 }
+
+    by : (b : Bool) → is_write a.kind && is_live before a at ≡ b → (if b then Some (record { at = at; clock = r.1 }) else None) ≡ Some s →
+        Read before a core (Some r) s
     by true t f =
-        let is : ◌≡◌ {A = Source} (record { at = record { core = core; count = r.0 }; clock = r.1 }) s = cc in
-        let both = and_parts (is_write a.kind) (not (nat_eq core a.at.core)) t in
-        let two : not (nat_eq core a.at.core) ≡ true = both.1 in
+        let is : ◌≡◌ {A = Source} (record { at = at; clock = r.1 }) s = cc in
+        let both = and_parts (is_write a.kind) (is_live before a at) t in
         record {
           writes = both.0;
           noted = ap (λ (v : Source). (let n : Option (ℕ × Clock) = Some (v.at.count, v.clock) in n)) is;
           core_is = sym (ap (λ (v : Source). v.at.core) is);
-          other = grind (arith, nat_tests);
+          lives = subst (λ (v : Source). Lives before a v.at) is (live_is before a at both.1);
         }
     by false t f = absurd cc
 
-read_back : (a : Access) (s : Source) → is_write a.kind ≡ true → s.at.core ≢ a.at.core → read_from a s.at.core (Some (s.at.count, s.clock)) ≡ Some s
-read_back a s w d = by (is_write a.kind && not (nat_eq s.at.core a.at.core)) (let t : not (nat_eq s.at.core a.at.core) ≡ true = grind (arith, nat_tests) in
-    rw (w, t) refl)
+read_back : (before : Clock) (a : Access) (s : Source) → is_write a.kind ≡ true → Lives before a s.at →
+    read_from before a s.at.core (Some (s.at.count, s.clock)) ≡ Some s
+read_back before a s w l = by (is_write a.kind && is_live before a s.at) (rw (w, is_live_of before a s.at l) refl)
   where
     by : (b : Bool) → b ≡ true → (if b then Some (record { at = record { core = s.at.core; count = s.at.count }; clock = s.clock }) else None) ≡ Some s
     by true t = refl
     by false t = absurd cc
 
--- ---- all candidates
+-- s is noted in the times as a read, a writes, and s is live
+pub record IsReadIn (before : Clock) (a : Access) (t : Times) (s : Source) : Type 0 where
+  pub writes : is_write a.kind ≡ true
+  pub noted : read_at t (a.word % BLOCK_WORDS) s.at.core ≡ Some (s.at.count, s.clock)
+  pub lives : Lives before a s.at
 
--- s is noted in the times as a write or, where a writes, as a read, and is of another core than a
-pub record IsNotedIn (a : Access) (t : Times) (s : Source) : Type 0 where
-  pub other : s.at.core ≢ a.at.core
-  pub noted : (write_at t (a.word % BLOCK_WORDS) ≡ Some (s.at, s.clock))
-      ⊎ ((is_write a.kind ≡ true) × (read_at t (a.word % BLOCK_WORDS) s.at.core ≡ Some (s.at.count, s.clock)))
+pub reads_more : (n : ℕ) (before : Clock) (a : Access) (t : Times) → reads_from (n + 1) before a t
+    ≡ reads_from n before a t ++ option_to_list (read_from before a n (read_at t (a.word % BLOCK_WORDS) n))
+unfolding reads_from
+reads_more n before a t = ap (λ (k : ℕ). reads_from k before a t) (let e : n + 1 ≡ suc n = omega arith in e)
 
-from_is : (a : Access) (t : Times) (core : ℕ) (s : Source) → IsOneOf (candidates_from a t core) s → (s.at.core ≡ core) × IsNotedIn a t s
-from_is a t core s o =
-    by (one_cases (option_to_list (write_from a core (write_at t (a.word % BLOCK_WORDS))))
-    (option_to_list (read_from a core (read_at t (a.word % BLOCK_WORDS) core))) s o)
+pub one_read : (n : ℕ) (before : Clock) (a : Access) (t : Times) (s : Source) → IsOneOf (reads_from n before a t) s →
+    (s.at.core < n) × IsReadIn before a t s
+unfolding reads_from
+one_read zero before a t s o = absurd o
+one_read (suc n) before a t s o =
+    by (λ p. one_read n before a t s p)
+    (one_cases (reads_from n before a t) (option_to_list (read_from before a n (read_at t (a.word % BLOCK_WORDS) n))) s o)
   where
-    by : IsOneOf (option_to_list (write_from a core (write_at t (a.word % BLOCK_WORDS)))) s
-        ⊎ IsOneOf (option_to_list (read_from a core (read_at t (a.word % BLOCK_WORDS) core))) s → (s.at.core ≡ core) × IsNotedIn a t s
-    by (inl p) =
-        let w = wrote a core (write_at t (a.word % BLOCK_WORDS)) s (one_option (write_from a core (write_at t (a.word % BLOCK_WORDS))) s p) in
-        (w.core_is, record { other = λ e. w.other (sym w.core_is ∙ e); noted = inl w.noted })
-    by (inr p) =
-        let r = did_read a core (read_at t (a.word % BLOCK_WORDS) core) s (one_option (read_from a core (read_at t (a.word % BLOCK_WORDS) core)) s p) in (
-          r.core_is,
+    by : (IsOneOf (reads_from n before a t) s → (s.at.core < n) × IsReadIn before a t s) → IsOneOf (reads_from n before a t) s
+        ⊎ IsOneOf (option_to_list (read_from before a n (read_at t (a.word % BLOCK_WORDS) n))) s →
+        (s.at.core < suc n) × IsReadIn before a t s
+    by earlier (inl p) = let q = earlier p in let lt = q.0 in (omega arith, q.1)
+    by earlier (inr p) =
+        let r = did_read before a n (read_at t (a.word % BLOCK_WORDS) n) s (one_option (read_from before a n (read_at t (a.word % BLOCK_WORDS) n)) s p) in
+        let e = r.core_is in (
+          omega arith,
           record {
-            other = λ e. r.other (sym r.core_is ∙ e);
-            noted = inr (r.writes, subst (λ (k : ℕ). read_at t (a.word % BLOCK_WORDS) k ≡ Some (s.at.count, s.clock)) (sym r.core_is) r.noted);
+            writes = r.writes;
+            noted = subst (λ (k : ℕ). read_at t (a.word % BLOCK_WORDS) k ≡ Some (s.at.count, s.clock)) (sym r.core_is) r.noted;
+            lives = r.lives;
           },
         )
 
-is_from : (a : Access) (t : Times) (s : Source) → IsNotedIn a t s → IsOneOf (candidates_from a t s.at.core) s
-is_from a t s n = by n.noted
-  where
-    by : (write_at t (a.word % BLOCK_WORDS) ≡ Some (s.at, s.clock))
-        ⊎ ((is_write a.kind ≡ true) × (read_at t (a.word % BLOCK_WORDS) s.at.core ≡ Some (s.at.count, s.clock))) → IsOneOf (candidates_from a t s.at.core) s
-    by (inl e) =
-        one_left (option_to_list (write_from a s.at.core (write_at t (a.word % BLOCK_WORDS))))
-        (option_to_list (read_from a s.at.core (read_at t (a.word % BLOCK_WORDS) s.at.core))) s
-        (option_one (write_from a s.at.core (write_at t (a.word % BLOCK_WORDS))) s (ap (write_from a s.at.core) e ∙ wrote_back a s.at.core s refl n.other))
-    by (inr q) =
-        one_right (option_to_list (write_from a s.at.core (write_at t (a.word % BLOCK_WORDS))))
-        (option_to_list (read_from a s.at.core (read_at t (a.word % BLOCK_WORDS) s.at.core))) s
-        (option_one (read_from a s.at.core (read_at t (a.word % BLOCK_WORDS) s.at.core)) s (ap (read_from a s.at.core) q.1 ∙ read_back a s q.0 n.other))
-
-pub one_noted : (n : ℕ) (a : Access) (t : Times) (s : Source) → IsOneOf (candidates n a t) s → (s.at.core < n) × IsNotedIn a t s
-unfolding candidates
-one_noted zero a t s o = absurd o
-one_noted (suc n) a t s o = by (λ p. one_noted n a t s p) (one_cases (candidates n a t) (candidates_from a t n) s o)
-  where
-    by : (IsOneOf (candidates n a t) s → (s.at.core < n) × IsNotedIn a t s) → IsOneOf (candidates n a t) s ⊎ IsOneOf (candidates_from a t n) s →
-        (s.at.core < suc n) × IsNotedIn a t s
-    by before (inl p) = let q = before p in let lt = q.0 in (omega arith, q.1)
-    by before (inr p) = let q = from_is a t n s p in let e = q.0 in (omega arith, q.1)
-
-pub noted_one : (n : ℕ) (a : Access) (t : Times) (s : Source) → s.at.core < n → IsNotedIn a t s → IsOneOf (candidates n a t) s
-unfolding candidates
-noted_one zero a t s lt n = absurd (omega arith)
-noted_one (suc n) a t s lt noted = by (λ below. noted_one n a t s below noted) (split s.at.core n)
+pub read_one : (n : ℕ) (before : Clock) (a : Access) (t : Times) (s : Source) → s.at.core < n → IsReadIn before a t s → IsOneOf (reads_from n before a t) s
+unfolding reads_from
+read_one zero before a t s lt r = absurd (omega arith)
+read_one (suc n) before a t s lt r = by (λ below. read_one n before a t s below r) (split s.at.core n)
   where
     split : (i j : ℕ) → (i < j) ⊎ (j ≤ i)
     split i j = grind arith
 
-    by : (s.at.core < n → IsOneOf (candidates n a t) s) → (s.at.core < n) ⊎ (n ≤ s.at.core) → IsOneOf (candidates n a t ++ candidates_from a t n) s
-    by before (inl below) = one_left (candidates n a t) (candidates_from a t n) s (before below)
-    by before (inr past) = let e : s.at.core ≡ n = omega arith in
-        one_right (candidates n a t) (candidates_from a t n) s (subst (λ (k : ℕ). IsOneOf (candidates_from a t k) s) e (is_from a t s noted))
+    by : (s.at.core < n → IsOneOf (reads_from n before a t) s) → (s.at.core < n) ⊎ (n ≤ s.at.core) → IsOneOf (reads_from n before a t
+        ++ option_to_list (read_from before a n (read_at t (a.word % BLOCK_WORDS) n))) s
+    by earlier (inl below) =
+        one_left (reads_from n before a t) (option_to_list (read_from before a n (read_at t (a.word % BLOCK_WORDS) n))) s (earlier below)
+    by earlier (inr past) =
+        let e : s.at.core ≡ n = omega arith in
+        one_right (reads_from n before a t) (option_to_list (read_from before a n (read_at t (a.word % BLOCK_WORDS) n))) s
+        (subst (λ (k : ℕ). IsOneOf (option_to_list (read_from before a k (read_at t (a.word % BLOCK_WORDS) k))) s) e
+        (option_one (read_from before a s.at.core (read_at t (a.word % BLOCK_WORDS) s.at.core)) s
+        (ap (read_from before a s.at.core) r.noted ∙ read_back before a s r.writes r.lives)))
 
 -- ---- how many
-
--- whether the write's core is one of the first
-written : ℕ → Option (Instr × Clock) → ℕ
-written n None = 0
-written n (Some w) = if nat_lt w.0.core n then 1 else 0
-
-written-le : (n : ℕ) (w : Option (Instr × Clock)) → written n w ≤ 1
-unfolding written
-written-le n None = omega arith
-written-le n (Some w) = by (nat_lt w.0.core n)
-  where
-    by : (b : Bool) → (if b then 1 else 0) ≤ 1
-    by true = omega arith
-    by false = omega arith
-
-write_once : (n : ℕ) (a : Access) (w : Option (Instr × Clock)) → length (option_to_list (write_from a n w)) + written n w ≤ written (suc n) w
-unfolding written
-write_once n a None = omega arith
-write_once n a (Some w) = by (nat_eq w.0.core n && not (nat_eq n a.at.core)) refl
-  where
-    by : (b : Bool) → nat_eq w.0.core n && not (nat_eq n a.at.core) ≡ b →
-        length (option_to_list (if b then Some (let s : Source = record { at = w.0; clock = w.1 } in s) else None)) + (if nat_lt w.0.core n then 1 else 0) ≤
-        (if nat_lt w.0.core (suc n) then 1 else 0)
-    by true t =
-        let one : nat_eq w.0.core n ≡ true = (and_parts (nat_eq w.0.core n) (not (nat_eq n a.at.core)) t).0 in
-        grind (arith, nat_tests)
-    by false t = grind (arith, nat_tests)
 
 one_at_most : (o : Option Source) → length (option_to_list o) ≤ 1
 one_at_most None = omega arith
 one_at_most (Some s) = omega arith
 
-found-le : (n : ℕ) (a : Access) (t : Times) → length (candidates n a t) ≤ n + written n (write_at t (a.word % BLOCK_WORDS))
-unfolding candidates
-found-le zero a t = omega arith
-found-le (suc n) a t =
+pub reads_few : (n : ℕ) (before : Clock) (a : Access) (t : Times) → length (reads_from n before a t) ≤ n
+unfolding reads_from
+reads_few zero before a t = omega arith
+reads_few (suc n) before a t =
     omega (
       arith,
-      length-append (candidates n a t) (candidates_from a t n),
-      found-le n a t,
-      length-append (option_to_list (write_from a n (write_at t (a.word % BLOCK_WORDS)))) (option_to_list (read_from a n (read_at t (a.word % BLOCK_WORDS) n))),
-      write_once n a (write_at t (a.word % BLOCK_WORDS)),
-      one_at_most (read_from a n (read_at t (a.word % BLOCK_WORDS) n)),
+      length-append (reads_from n before a t) (option_to_list (read_from before a n (read_at t (a.word % BLOCK_WORDS) n))),
+      reads_few n before a t,
+      one_at_most (read_from before a n (read_at t (a.word % BLOCK_WORDS) n)),
     )
 
-pub found_few : (n : ℕ) (a : Access) (t : Times) → n ≤ CORES_MAX → length (candidates n a t) ≤ EDGES_MAX
-found_few n a t le = omega (arith, found-le n a t, written-le n (write_at t (a.word % BLOCK_WORDS)))
+or_few : (reads : List Source) (write : Option Source) (n : ℕ) → 1 ≤ n → length reads ≤ n → length (or_write reads write) ≤ n
+or_few [] write n pos le = omega (arith, one_at_most write)
+or_few (r ∷ reads) write n pos le = le
 
-pub found_more : (n : ℕ) (a : Access) (t : Times) → candidates (n + 1) a t ≡ candidates n a t ++ candidates_from a t n
-unfolding candidates
-found_more n a t = ap (λ (k : ℕ). candidates k a t) (let e : n + 1 ≡ suc n = omega arith in e)
+pub found_few : (n : ℕ) (before : Clock) (a : Access) (t : Times) → n ≤ CORES_MAX → length (candidates n before a t) ≤ EDGES_MAX
+found_few n before a t le =
+    or_few (reads_from n before a t) (write_from n before a (write_at t (a.word % BLOCK_WORDS))) EDGES_MAX (omega arith)
+    (omega (arith, reads_few n before a t))
 
-pub room_more : (n : ℕ) (a : Access) (t : Times) → n < CORES_MAX → length (candidates n a t) + length (candidates_from a t n) ≤ EDGES_MAX
-room_more n a t lt =
-    omega (arith, sym (length-append (candidates n a t) (candidates_from a t n)), ap length (found_more n a t), found_few (n + 1) a t (omega arith))
+-- ---- no reads
 
--- ---- none, or the one of a load
+loads_none : (before : Clock) (a : Access) (core : ℕ) (r : Option (ℕ × Clock)) → is_write a.kind ≡ false → read_from before a core r ≡ None
+loads_none before a core None loads = refl
+loads_none before a core (Some r) loads = rw loads refl
 
--- neither writes nor reads give one
-pub none_found : (n : ℕ) (a : Access) (t : Times) → ((k : ℕ) → k < n → write_from a k (write_at t (a.word % BLOCK_WORDS)) ≡ None) →
-    ((k : ℕ) → k < n → read_from a k (read_at t (a.word % BLOCK_WORDS) k) ≡ None) → candidates n a t ≡ []
-unfolding candidates
-none_found zero a t unwritten unread = refl
-none_found (suc n) a t unwritten unread =
-    ap (λ (xs : List Source). xs ++ candidates_from a t n) (none_found n a t (λ k lt. unwritten k (omega arith)) (λ k lt. unread k (omega arith)))
-    ∙ ap (λ (v : Option Source). option_to_list v ++ option_to_list (read_from a n (read_at t (a.word % BLOCK_WORDS) n))) (unwritten n (omega arith))
-    ∙ ap (λ (v : Option Source). option_to_list v) (unread n (omega arith))
+pub reads_none : (n : ℕ) (before : Clock) (a : Access) (t : Times) →
+    ((k : ℕ) → k < n → read_from before a k (read_at t (a.word % BLOCK_WORDS) k) ≡ None) → reads_from n before a t ≡ []
+unfolding reads_from
+reads_none zero before a t none = refl
+reads_none (suc n) before a t none =
+    ap (λ (xs : List Source). xs ++ option_to_list (read_from before a n (read_at t (a.word % BLOCK_WORDS) n)))
+    (reads_none n before a t (λ k lt. none k (omega arith)))
+    ∙ ap (λ (v : Option Source). option_to_list v) (none n (omega arith))
 
 -- a load has no read as a candidate
-reads_none : (a : Access) (core : ℕ) (r : Option (ℕ × Clock)) → is_write a.kind ≡ false → read_from a core r ≡ None
-reads_none a core None loads = refl
-reads_none a core (Some r) loads = rw loads refl
+pub load_reads : (n : ℕ) (before : Clock) (a : Access) (t : Times) → is_write a.kind ≡ false → reads_from n before a t ≡ []
+load_reads n before a t loads = reads_none n before a t (λ k lt. loads_none before a k (read_at t (a.word % BLOCK_WORDS) k) loads)
 
-load_from : (a : Access) (t : Times) (core : ℕ) (w : Option (Instr × Clock)) → is_write a.kind ≡ false → write_at t (a.word % BLOCK_WORDS) ≡ w →
-    candidates_from a t core ≡ option_to_list (write_from a core w) ++ []
-load_from a t core w loads noted =
-    ap (λ (v : Option (Instr × Clock)). option_to_list (write_from a core v) ++ option_to_list (read_from a core (read_at t (a.word % BLOCK_WORDS) core))) noted
-    ∙ ap (λ (v : Option Source). option_to_list (write_from a core w) ++ option_to_list v) (reads_none a core (read_at t (a.word % BLOCK_WORDS) core) loads)
+-- ---- the reads, or the write
 
-not_by : (a : Access) (core : ℕ) (w : Instr × Clock) → nat_eq w.0.core core && not (nat_eq core a.at.core) ≡ false → write_from a core (Some w) ≡ None
-not_by a core w e = by (nat_eq w.0.core core && not (nat_eq core a.at.core)) e
+-- where there are reads, they are the candidates
+or_reads : (reads : List Source) (write : Option Source) (s : Source) → IsOneOf reads s → IsOneOf (or_write reads write) s
+or_reads [] write s one = absurd one
+or_reads (r ∷ reads) write s one = one
+
+pub read_found : (n : ℕ) (before : Clock) (a : Access) (t : Times) (s : Source) → IsOneOf (reads_from n before a t) s → IsOneOf (candidates n before a t) s
+read_found n before a t s one = or_reads (reads_from n before a t) (write_from n before a (write_at t (a.word % BLOCK_WORDS))) s one
+
+-- the write is a candidate, or there is a read
+or_other : (reads : List Source) (write : Option Source) (s : Source) → write ≡ Some s → IsOneOf (or_write reads write) s ⊎ ((r : Source) × IsOneOf reads r)
+or_other [] write s e = inl (option_one write s e)
+or_other (r ∷ reads) write s e = inr (r, inl refl)
+
+pub write_or_read : (n : ℕ) (before : Clock) (a : Access) (t : Times) (s : Source) → write_from n before a (write_at t (a.word % BLOCK_WORDS)) ≡ Some s →
+    IsOneOf (candidates n before a t) s ⊎ ((r : Source) × IsOneOf (reads_from n before a t) r)
+write_or_read n before a t s e = or_other (reads_from n before a t) (write_from n before a (write_at t (a.word % BLOCK_WORDS))) s e
+
+or_cases : (reads : List Source) (write : Option Source) (s : Source) → IsOneOf (or_write reads write) s → IsOneOf reads s ⊎ (write ≡ Some s)
+or_cases [] write s one = inr (one_option write s one)
+or_cases (r ∷ reads) write s one = inl one
+
+-- s is noted in the times as a write or, where a writes, as a read, and is live
+pub record IsNotedIn (before : Clock) (a : Access) (t : Times) (s : Source) : Type 0 where
+  pub lives : Lives before a s.at
+  pub noted : (write_at t (a.word % BLOCK_WORDS) ≡ Some (s.at, s.clock))
+      ⊎ ((is_write a.kind ≡ true) × (read_at t (a.word % BLOCK_WORDS) s.at.core ≡ Some (s.at.count, s.clock)))
+
+pub one_noted : (n : ℕ) (before : Clock) (a : Access) (t : Times) (s : Source) → IsOneOf (candidates n before a t) s →
+    (s.at.core < n) × IsNotedIn before a t s
+one_noted n before a t s one = by (or_cases (reads_from n before a t) (write_from n before a (write_at t (a.word % BLOCK_WORDS))) s one)
   where
-    by : (b : Bool) → b ≡ false → (if b then Some (let s : Source = record { at = w.0; clock = w.1 } in s) else None) ≡ None
-    by false f = refl
-    by true f = absurd cc
+    by : IsOneOf (reads_from n before a t) s ⊎ (write_from n before a (write_at t (a.word % BLOCK_WORDS)) ≡ Some s) →
+        (s.at.core < n) × IsNotedIn before a t s
+    by (inl p) = let q = one_read n before a t s p in (q.0, record { lives = q.1.lives; noted = inr (q.1.writes, q.1.noted) })
+    by (inr e) =
+        let w = wrote n before a (write_at t (a.word % BLOCK_WORDS)) s e in
+        (w.within, record { lives = w.lives; noted = inl w.noted })
 
--- a load has no candidate where the word's last write is of no other core
-pub load_none : (n : ℕ) (a : Access) (t : Times) (w : Option (Instr × Clock)) → is_write a.kind ≡ false → write_at t (a.word % BLOCK_WORDS) ≡ w →
-    ((k : ℕ) → k < n → write_from a k w ≡ None) → candidates n a t ≡ []
-unfolding candidates
-load_none zero a t w loads noted none = refl
-load_none (suc n) a t w loads noted none =
-    ap (λ (xs : List Source). xs ++ candidates_from a t n) (load_none n a t w loads noted (λ k lt. none k (omega arith)))
-    ∙ load_from a t n w loads noted
-    ∙ ap (λ (v : Option Source). option_to_list v ++ []) (none n (omega arith))
+-- where there are no reads, the write is the only candidate
+pub only_write : (n : ℕ) (before : Clock) (a : Access) (t : Times) (w : Option Source) → reads_from n before a t ≡ [] →
+    write_from n before a (write_at t (a.word % BLOCK_WORDS)) ≡ w → candidates n before a t ≡ option_to_list w
+only_write n before a t w none is =
+    ap (λ (xs : List Source). or_write xs (write_from n before a (write_at t (a.word % BLOCK_WORDS)))) none ∙ ap (λ (v : Option Source). option_to_list v) is
 
-pub load_unwritten : (n : ℕ) (a : Access) (t : Times) → is_write a.kind ≡ false → write_at t (a.word % BLOCK_WORDS) ≡ None → candidates n a t ≡ []
-load_unwritten n a t loads noted = load_none n a t None loads noted (λ k lt. refl)
+-- ---- by rising core
 
--- the write is not of one of these cores, or of the access's own
-pub own_gives_none : (n : ℕ) (a : Access) (w : Instr × Clock) → ((w.0.core < n) × (w.0.core ≢ a.at.core) → ⊥) → (k : ℕ) → k < n → write_from a k (Some w) ≡ None
-own_gives_none n a w own k lt = not_by a k w (by (nat_eq w.0.core k && not (nat_eq k a.at.core)) refl)
-  where
-    by : (b : Bool) → nat_eq w.0.core k && not (nat_eq k a.at.core) ≡ b → b ≡ false
-    by false e = refl
-    by true e =
-        let both = and_parts (nat_eq w.0.core k) (not (nat_eq k a.at.core)) e in
-        let one : nat_eq w.0.core k ≡ true = both.0 in
-        let two : not (nat_eq k a.at.core) ≡ true = both.1 in
-        let is : w.0.core ≡ k = grind (arith, nat_tests) in
-        let differ : k ≢ a.at.core = grind (arith, nat_tests) in
-        absurd (own (omega arith, λ (f : w.0.core ≡ a.at.core). differ (sym is ∙ f)))
+-- the cores rise, from low on
+abbrev pub CoresRise : ℕ → List Source → Type 0
+CoresRise low [] = ⊤
+CoresRise low (s ∷ found) = (low ≤ s.at.core) × CoresRise (s.at.core + 1) found
 
-pub load_own : (n : ℕ) (a : Access) (t : Times) (w : Instr × Clock) → is_write a.kind ≡ false → write_at t (a.word % BLOCK_WORDS) ≡ Some w →
-    ((w.0.core < n) × (w.0.core ≢ a.at.core) → ⊥) → candidates n a t ≡ []
-load_own n a t w loads noted own = load_none n a t (Some w) loads noted (own_gives_none n a w own)
+-- each is below n
+abbrev CoresBelow : ℕ → List Source → Type 0
+CoresBelow n [] = ⊤
+CoresBelow n (s ∷ found) = (s.at.core < n) × CoresBelow n found
 
--- and else it is the one
-pub load_one : (n : ℕ) (a : Access) (t : Times) (s : Source) → is_write a.kind ≡ false → write_at t (a.word % BLOCK_WORDS) ≡ Some (s.at, s.clock) →
-    s.at.core < n → s.at.core ≢ a.at.core → candidates n a t ≡ s ∷ []
-unfolding candidates
-load_one zero a t s loads noted lt other = absurd (omega arith)
-load_one (suc n) a t s loads noted lt other = by (λ below. load_one n a t s loads noted below other) (split s.at.core n)
-  where
-    split : (i j : ℕ) → (i < j) ⊎ (j ≤ i)
-    split i j = grind arith
+each_below : (n : ℕ) (found : List Source) → ((s : Source) → IsOneOf found s → s.at.core < n) → CoresBelow n found
+each_below n [] each = tt
+each_below n (s ∷ found) each = (each s (inl refl), each_below n found (λ r o. each r (inr o)))
 
-    by : (s.at.core < n → candidates n a t ≡ s ∷ []) → (s.at.core < n) ⊎ (n ≤ s.at.core) → candidates n a t ++ candidates_from a t n ≡ s ∷ []
-    by before (inl below) =
-        let differ : s.at.core ≢ n = omega arith in
-        let none : write_from a n (Some (s.at, s.clock)) ≡ None = not_by a n (s.at, s.clock) (grind (arith, nat_tests)) in
-        ap (λ (xs : List Source). xs ++ candidates_from a t n) (before below)
-        ∙ ap (λ (xs : List Source). s ∷ xs) (load_from a t n (Some (s.at, s.clock)) loads noted ∙ ap (λ (v : Option Source). option_to_list v ++ []) none)
-    by before (inr past) =
-        let e : s.at.core ≡ n = omega arith in
-        let none : candidates n a t ≡ [] =
-        load_none n a t (Some (s.at, s.clock)) loads noted
-        (λ k lt. not_by a k (s.at, s.clock) (let differ : s.at.core ≢ k = omega arith in grind (arith, nat_tests))) in
-        ap (λ (xs : List Source). xs ++ candidates_from a t n) none
-        ∙ load_from a t n (Some (s.at, s.clock)) loads noted
-        ∙ ap (λ (v : Option Source). option_to_list v ++ []) (wrote_back a n s e (λ f. other (e ∙ f)))
+rise_one : (low n : ℕ) (found : List Source) (o : Option Source) → low ≤ n → CoresRise low found → CoresBelow n found →
+    ((s : Source) → o ≡ Some s → s.at.core ≡ n) → CoresRise low (found ++ option_to_list o)
+rise_one low n [] None le rise below is = tt
+rise_one low n [] (Some s) le rise below is = let e = is s refl in (omega arith, tt)
+rise_one low n (r ∷ found) o le rise below is = (rise.0, rise_one (r.at.core + 1) n found o (let lt = below.0 in omega arith) rise.1 below.1 is)
+
+reads_rise : (n : ℕ) (before : Clock) (a : Access) (t : Times) → CoresRise 0 (reads_from n before a t)
+unfolding reads_from
+reads_rise zero before a t = tt
+reads_rise (suc n) before a t =
+    rise_one 0 n (reads_from n before a t) (read_from before a n (read_at t (a.word % BLOCK_WORDS) n)) (omega arith) (reads_rise n before a t)
+    (each_below n (reads_from n before a t) (λ s o. (one_read n before a t s o).0))
+    (λ s e. (did_read before a n (read_at t (a.word % BLOCK_WORDS) n) s e).core_is)
+
+or_rise : (reads : List Source) (write : Option Source) → CoresRise 0 reads → CoresRise 0 (or_write reads write)
+or_rise [] None rise = tt
+or_rise [] (Some s) rise = (omega arith, tt)
+or_rise (r ∷ reads) write rise = rise
+
+pub candidates_rise : (n : ℕ) (before : Clock) (a : Access) (t : Times) → CoresRise 0 (candidates n before a t)
+candidates_rise n before a t =
+    or_rise (reads_from n before a t) (write_from n before a (write_at t (a.word % BLOCK_WORDS))) (reads_rise n before a t)
+
+cores_above : (low : ℕ) (found : List Source) (k : ℕ) (d : Source) → CoresRise low found → k < length found → low ≤ (get_or found k d).at.core
+cores_above low [] k d rise lt = absurd (omega arith)
+cores_above low (s ∷ found) zero d rise lt = rise.0
+cores_above low (s ∷ found) (suc k) d rise lt =
+    let first = rise.0 in let rest = cores_above (s.at.core + 1) found k d rise.1 (omega arith) in omega arith
+
+pub cores_rise_at : (low : ℕ) (found : List Source) (i j : ℕ) (d : Source) → CoresRise low found → i < j → j < length found →
+    (get_or found i d).at.core < (get_or found j d).at.core
+cores_rise_at low [] i j d rise earlier lt = absurd (omega arith)
+cores_rise_at low (s ∷ found) i zero d rise earlier lt = absurd (omega arith)
+cores_rise_at low (s ∷ found) zero (suc j) d rise earlier lt =
+    let up = cores_above (s.at.core + 1) found j d rise.1 (omega arith) in omega arith
+cores_rise_at low (s ∷ found) (suc i) (suc j) d rise earlier lt = cores_rise_at (s.at.core + 1) found i j d rise.1 (omega arith) (omega arith)

@@ -25,7 +25,7 @@ use Rattle.conflict_edge.specs.Scan.{AddsCoveringInto}
 use Rattle.conflict_edge.specs.Times.{IsExactClock}
 use Rattle.conflict_edge.proofs.Next.{covering_next}
 use Rattle.conflict_edge.proofs.TwoForms.{covering_law}
-use Rattle.online_reduce.specs.Lists.{counts, is_between, with_edges, pair_edges, by_pair, RiseWithin}
+use Rattle.rtr_types.specs.PairEdges.{counts, is_between, with_edges, pair_edges, by_pair, AreEdgesAfter}
 use Rattle.online_reduce.specs.Reduced.{Reduced, unreduced, count_of, counted, retired, edges_of}
 use Rattle.online_reduce.specs.Exact.{IsExact, BeginLaw, CountLaw, RetireLaw, LeastLaw, ListedLaw}
 use Rattle.online_reduce.proofs.ByPair.{pair_append, each_pair, OneEdge, pair_one, by_pair_at, by_pair_none, by_pair_add}
@@ -79,7 +79,7 @@ begin_law cores few = record {
   covering = λ x y. (λ s. absurd s, λ c. c.0);
   by_pairs = by_pair_none cores;
   rising = λ place lt.
-      subst (λ (es : List (ℕ × ℕ)). RiseWithin (count_of (unreduced cores) (source_at cores place), count_of (unreduced cores) (target_at cores place))
+      subst (λ (es : List (ℕ × ℕ)). AreEdgesAfter (count_of (unreduced cores) (source_at cores place), count_of (unreduced cores) (target_at cores place))
       (0, 0) es)
       (sym (get_or-replicate (pair_count cores) place [] [] lt)) tt;
 }
@@ -189,9 +189,9 @@ retire_law list r edges a t is_next times kept = record {
 
     rising : (place : ℕ) → place < pair_count r.cores → (pair_edges (source_at r.cores place) (target_at r.cores place) (edges_of r a t) ≡ [])
         ⊎ OneEdge (source_at r.cores place) (target_at r.cores place) (edges_of r a t) →
-        RiseWithin (most (retired r a t) place) (0, 0) (slice_index_or (retired r a t).lists place [])
+        AreEdgesAfter (most (retired r a t) place) (0, 0) (slice_index_or (retired r a t).lists place [])
     rising place lt (inl none) =
-        subst (λ (es : List (ℕ × ℕ)). RiseWithin (most (retired r a t) place) (0, 0) es)
+        subst (λ (es : List (ℕ × ℕ)). AreEdgesAfter (most (retired r a t) place) (0, 0) es)
         (sym (at_place place lt ∙ ap (λ (es : List (ℕ × ℕ)). slice_index_or r.lists place [] ++ es) none ∙ append-nil (slice_index_or r.lists place [])))
         (rise_wider (most r place) (most (retired r a t) place) (0, 0) (slice_index_or r.lists place [])
         (retired_grows list r a t next (source_at r.cores place)) (retired_grows list r a t next (target_at r.cores place)) (kept.rising place lt))
@@ -205,7 +205,7 @@ retire_law list r edges a t is_next times kept = record {
         let source : o.edge.from.count ≤ count_of (retired r a t) (source_at r.cores place) =
         subst (λ (k : ℕ). o.edge.from.count ≤ count_of (retired r a t) k) o.from_is i.within in
         let pos = i.pos in
-        subst (λ (es : List (ℕ × ℕ)). RiseWithin (most (retired r a t) place) (0, 0) es)
+        subst (λ (es : List (ℕ × ℕ)). AreEdgesAfter (most (retired r a t) place) (0, 0) es)
         (sym (at_place place lt ∙ ap (λ (es : List (ℕ × ℕ)). slice_index_or r.lists place [] ++ es) o.only))
         (rise_push (most r place) (most (retired r a t) place) (0, 0) (counts o.edge) (slice_index_or r.lists place [])
         (retired_grows list r a t next (source_at r.cores place)) (retired_grows list r a t next (target_at r.cores place)) (kept.rising place lt)

@@ -1,11 +1,10 @@
 -- What the two retirements leave, from the parts that the code has.
-use Rattle.std.proofs.Common.{◌≡◌, ◌≢◌, ℕ, ◌<◌, List, length, get_or, refl, ◌∙◌, ap, arith}
+use Rattle.std.proofs.Common.{◌≡◌, ℕ, ◌<◌, List, [], length, get_or, sym, ◌∙◌, ap, subst, arith}
 use Rattle.std.specs.Prelude.{All, slice_set}
 use Rattle.std.proofs.lemmas.List.{get_or_default}
-use Rattle.std.proofs.lemmas.List.Elements.{All-same, All-weaker}
+use Rattle.std.proofs.lemmas.List.Elements.{All-same}
 use Rattle.rtr_types.specs.Pairs.{IsPair}
 use Rattle.rtr_types.specs.declared.instr.Instr.{Instr}
-use Rattle.rtr_types.specs.declared.instr.Edge.{Edge}
 use Rattle.rtr_types.specs.declared.access.Access.{Access}
 use Rattle.clock_core.specs.Counts.{no_counts}
 use Rattle.clock_core.specs.declared.clock.Clock.{Clock}
@@ -13,28 +12,40 @@ use Rattle.access_times.specs.declared.times.Times.{Times}
 use Rattle.online_reduce.specs.declared.source.Source.{Source}
 use Rattle.online_reduce.specs.Sources.{candidates}
 use Rattle.online_reduce.specs.Rule.{edges_into, clock_into}
-use Rattle.online_reduce.specs.Lists.{with_edges}
-use Rattle.online_reduce.specs.Reduced.{Reduced, clock_of, counted, retired, edges_of}
-use Rattle.online_reduce.proofs.Found.{all_from_one, one_noted}
+use Rattle.rtr_types.specs.PairEdges.{with_edges}
+use Rattle.online_reduce.specs.Reduced.{Reduced, clock_of, counted, edges_of, retired}
+use Rattle.online_reduce.proofs.Found.{CoresRise, all_from_one, candidates_rise, cores_rise_at, one_noted}
 
 -- ---- what the calls within a retirement need
 
-other_cores : (n : ℕ) (a : Access) (t : Times) → All (λ (s : Source). (s.at.core < n) × (s.at.core ≢ a.at.core)) (candidates n a t)
-other_cores n a t = all_from_one (λ (s : Source). (s.at.core < n) × (s.at.core ≢ a.at.core)) (candidates n a t) (λ s one. let q = one_noted n a t s one in
-    (q.0, q.1.other))
+-- the candidates that the call is given are those of the state
+abbrev pub AreFound : Reduced → Access → Times → List Source → Type 0
+AreFound r a t found = found ≡ candidates r.cores (clock_of r a.at.core) a t
 
-pub sources_pair : (m n : ℕ) (a : Access) (t : Times) (found : List Source) → m ≡ n → a.at.core < n → found ≡ candidates n a t →
+pub sources_pair : (m : ℕ) (r : Reduced) (a : Access) (t : Times) (found : List Source) → m ≡ r.cores → a.at.core < r.cores → AreFound r a t found →
     All (λ (s : Source). IsPair m s.at.core a.at.core) found
-sources_pair m n a t found same lt is =
-    All-same (λ (s : Source). IsPair m s.at.core a.at.core) found (candidates n a t) is
-    (All-weaker (λ (s : Source). (s.at.core < n) × (s.at.core ≢ a.at.core)) (λ (s : Source). IsPair m s.at.core a.at.core)
-    (λ s q. (let below = q.0 in record { source = omega arith; target = omega arith; differ = q.1 })) (candidates n a t) (other_cores n a t))
+sources_pair m r a t found same lt is =
+    All-same (λ (s : Source). IsPair m s.at.core a.at.core) found (candidates r.cores (clock_of r a.at.core) a t) is
+    (all_from_one (λ (s : Source). IsPair m s.at.core a.at.core) (candidates r.cores (clock_of r a.at.core) a t) (λ s one.
+    let q = one_noted r.cores (clock_of r a.at.core) a t s one in
+    let below = q.0 in
+    record { source = omega arith; target = omega arith; differ = q.1.lives.other }))
+
+pub sources_apart : (r : Reduced) (a : Access) (t : Times) (found : List Source) → AreFound r a t found → (i j : ℕ) (d : Source) → i < j →
+    j < length found → (get_or found i d).at.core < (get_or found j d).at.core
+sources_apart r a t found is i j d earlier lt =
+    cores_rise_at 0 found i j d (subst (λ (xs : List Source). CoresRise 0 xs) (sym is) (candidates_rise r.cores (clock_of r a.at.core) a t)) earlier lt
 
 -- ---- the state after
 
 -- the clock that was read is the core's
 read_is : (r : Reduced) (core : ℕ) (d : Clock) → core < length r.clocks → get_or r.clocks core d ≡ clock_of r core
 read_is r core d lt = get_or_default r.clocks core d no_counts lt
+
+-- the same, where the clocks are those of the state
+pub same_clock_of : (clocks : List Clock) (r : Reduced) (core : ℕ) (d : Clock) → clocks ≡ r.clocks → core < length clocks →
+    get_or clocks core d ≡ clock_of r core
+same_clock_of clocks r core d same lt = ap (λ (cs : List Clock). get_or cs core d) same ∙ read_is r core d (omega (arith, lt, ap length same))
 
 pub counted_is : (r now : Reduced) (at : Instr) (d new : Clock) → r ≡ now → at.core < length r.clocks →
     new ≡ slice_set (get_or r.clocks at.core d) at.core at.count →
@@ -44,32 +55,19 @@ counted_is r now at d new same lt set =
     (set ∙ ap (λ (m : Clock). slice_set m at.core at.count) (read_is r at.core d lt))
     ∙ ap (λ (s : Reduced). counted s at) same
 
--- what the code has at the end of a retirement with an access
-pub record Parts (r : Reduced) (a : Access) (t : Times) (d new_clock : Clock) (sources : List Source) (new_edges : List Edge)
-    (new_lists : List (List (ℕ × ℕ))) : Type 0 where
-  pub within : a.at.core < length r.clocks
-  pub found : sources ≡ candidates r.cores a t
-  pub edges : new_edges ≡ edges_into a.at (get_or r.clocks a.at.core d) sources
-  pub clock : new_clock ≡ clock_into a.at (get_or r.clocks a.at.core d) sources
-  pub lists : new_lists ≡ with_edges r.cores r.lists new_edges
+-- ---- without candidates
 
-pub edges_are : (r now : Reduced) (a : Access) (t : Times) (d clock : Clock) (found : List Source) (edges : List Edge) (lists : List (List (ℕ × ℕ))) →
-    r ≡ now → Parts r a t d clock found edges lists → edges ≡ edges_of now a t
-edges_are r now a t d clock found edges lists same parts =
-    parts.edges ∙ ap (λ (m : Clock). edges_into a.at m found) (read_is r a.at.core d parts.within) ∙ ap (edges_into a.at (clock_of r a.at.core)) parts.found
-    ∙ ap (λ (s : Reduced). edges_of s a t) same
+-- an access that has none gets no edge
+pub alone_edges : (r : Reduced) (a : Access) (t : Times) → AreFound r a t [] → edges_of r a t ≡ []
+unfolding edges_into
+alone_edges r a t alone = ap (edges_into a.at) (sym alone)
 
-pub retired_is : (r now : Reduced) (a : Access) (t : Times) (d clock : Clock) (found : List Source) (edges : List Edge) (lists : List (List (ℕ × ℕ))) →
-    r ≡ now → Parts r a t d clock found edges lists →
-    ◌≡◌ {A = Reduced} (record { cores = r.cores; clocks = slice_set r.clocks a.at.core clock; lists = lists }) (retired now a t)
-retired_is r now a t d clock found edges lists same parts =
-    ap (λ (m : Clock). (let s : Reduced = record { cores = r.cores; clocks = slice_set r.clocks a.at.core m; lists = lists } in s))
-    (parts.clock ∙ ap (λ (m : Clock). clock_into a.at m found) (read_is r a.at.core d parts.within) ∙ ap (clock_into a.at (clock_of r a.at.core)) parts.found)
-    ∙ ap (λ (ls : List (List (ℕ × ℕ))).
-    (let s : Reduced = record {
+-- and is retired as an instruction without an access is
+pub alone_retired : (r : Reduced) (a : Access) (t : Times) → AreFound r a t [] → retired r a t ≡ counted r a.at
+unfolding edges_into clock_into with_edges
+alone_retired r a t alone =
+    ap (λ (found : List Source). (let s : Reduced = record {
       cores = r.cores;
-      clocks = slice_set r.clocks a.at.core (clock_into a.at (clock_of r a.at.core) (candidates r.cores a t));
-      lists = ls;
-    } in s))
-    (parts.lists ∙ ap (with_edges r.cores r.lists) (edges_are r r a t d clock found edges lists refl parts))
-    ∙ ap (λ (s : Reduced). retired s a t) same
+      clocks = slice_set r.clocks a.at.core (clock_into a.at (clock_of r a.at.core) found);
+      lists = with_edges r.cores r.lists (edges_into a.at found);
+    } in s)) (sym alone)

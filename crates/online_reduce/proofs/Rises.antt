@@ -12,27 +12,29 @@ use Rattle.conflict_edge.specs.Least.{Covering}
 use Rattle.conflict_edge.proofs.History.{ends}
 use Rattle.conflict_edge.proofs.Reversed.{pair_forth, stands_back}
 use Rattle.conflict_edge.proofs.Scan.{stands-left}
-use Rattle.online_reduce.specs.Lists.{RiseWithin}
+use Rattle.rtr_types.specs.PairEdges.{EdgeStands, AreEdgesAfter}
 
 -- ---- lists of counts
 
-pub rise_wider : (most wider last : ℕ × ℕ) (edges : List (ℕ × ℕ)) → most.0 ≤ wider.0 → most.1 ≤ wider.1 → RiseWithin most last edges →
-    RiseWithin wider last edges
+stands_wider : (most wider last e : ℕ × ℕ) → most.0 ≤ wider.0 → most.1 ≤ wider.1 → EdgeStands most last e → EdgeStands wider last e
+stands_wider most wider last e p q stands = let source = stands.source_most in let target = stands.target_most in
+    record { rises = stands.rises; source_most = omega arith; target_most = omega arith }
+
+pub rise_wider : (most wider last : ℕ × ℕ) (edges : List (ℕ × ℕ)) → most.0 ≤ wider.0 → most.1 ≤ wider.1 → AreEdgesAfter most last edges →
+    AreEdgesAfter wider last edges
 rise_wider most wider last [] p q rise = tt
 rise_wider most wider last (e ∷ edges) p q rise =
-    (rise.0, rise.1, let le = rise.2 in omega arith, let le = rise.3 in omega arith, rise_wider most wider e edges p q rise.4)
+    (stands_wider most wider last e p q rise.0, rise_wider most wider e edges p q rise.1)
 
 -- an edge whose source count is above all others, and whose target count is above what was the most
-pub rise_push : (most wider last new : ℕ × ℕ) (edges : List (ℕ × ℕ)) → most.0 ≤ wider.0 → most.1 ≤ wider.1 → RiseWithin most last edges →
+pub rise_push : (most wider last new : ℕ × ℕ) (edges : List (ℕ × ℕ)) → most.0 ≤ wider.0 → most.1 ≤ wider.1 → AreEdgesAfter most last edges →
     last.0 < new.0 → last.1 < new.1 → AllByRecursion (λ (e : ℕ × ℕ). e.0 < new.0) edges → most.1 < new.1 → new.0 ≤ wider.0 → new.1 ≤ wider.1 →
-    RiseWithin wider last (edges ++ new ∷ [])
-rise_push most wider last new [] p q rise above_source above_target below past source_le target_le = (above_source, above_target, source_le, target_le, tt)
+    AreEdgesAfter wider last (edges ++ new ∷ [])
+rise_push most wider last new [] p q rise above_source above_target below past source_le target_le =
+    (record { rises = record { source = above_source; target = above_target }; source_most = source_le; target_most = target_le }, tt)
 rise_push most wider last new (e ∷ edges) p q rise above_source above_target below past source_le target_le = (
-  rise.0,
-  rise.1,
-  let le = rise.2 in omega arith,
-  let le = rise.3 in omega arith,
-  rise_push most wider e new edges p q rise.4 below.0 (let le = rise.3 in omega arith) below.1 past source_le target_le,
+  stands_wider most wider last e p q rise.0,
+  rise_push most wider e new edges p q rise.1 below.0 (let le = rise.0.target_most in omega arith) below.1 past source_le target_le,
 )
 
 -- ---- edges among lists

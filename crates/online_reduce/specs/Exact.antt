@@ -2,7 +2,6 @@
 use Rattle.std.specs.Prelude.{◌≡◌, ℕ, ◌+◌, ◌%◌, ◌<◌, ◌≤◌, ◌↔◌, List, [], ◌∷◌, ◌++◌, ⊤, reverse, length, Option, Some}
 use Rattle.std.specs.Prelude.{false, IsTrue, slice_index_or}
 use Rattle.std.specs.List.{Contains}
-use Rattle.std.specs.Option.{option_map}
 use Rattle.rtr_types.specs.Accesses.{is_write}
 use Rattle.rtr_types.specs.Pairs.{IsPair, pair_count, pair_place, source_at, target_at}
 use Rattle.rtr_types.specs.declared.instr.Instr.{Instr}
@@ -17,13 +16,9 @@ use Rattle.conflict_edge.specs.Scan.{AreCovering}
 use Rattle.conflict_edge.specs.Times.{IsExactClock, IsNoteOf, AreExactTimes}
 use Rattle.rtr_types.specs.declared.TheConstants.{BLOCK_WORDS, CORES_MAX}
 use Rattle.access_times.specs.declared.times.Times.{Times}
-use Rattle.access_times.specs.Times.{write_at, read_at}
-use Rattle.online_reduce.specs.Lists.{by_pair, RiseWithin}
+use Rattle.access_times.specs.Times.{read_note, write_at, read_at}
+use Rattle.rtr_types.specs.PairEdges.{by_pair, AreEdges}
 use Rattle.online_reduce.specs.Reduced.{Reduced, IsNext, unreduced, clock_of, count_of, counted, retired, edges_of}
-
--- a core's noted read, with its instruction
-abbrev pub read_note : ℕ → Option (ℕ × Clock) → Option (Instr × Clock)
-read_note core = option_map (λ (n : ℕ × Clock). let at : Instr = record { core = core; count = n.0 } in (at, n.1))
 
 -- the times are exact for the access, which comes after the list: they hold the word's last write, and where the access
 -- writes also each core's last read since, each with its exact clock
@@ -64,7 +59,7 @@ pub record AreCoveringInto (list : List Access) (at : Instr) (edges : List Edge)
 -- each pair's edges rise in both counts, up to what its cores have retired
 abbrev pub AreRising : Reduced → List (List (ℕ × ℕ)) → Type 0
 AreRising r lists = (place : ℕ) → place < pair_count r.cores →
-    RiseWithin (count_of r (source_at r.cores place), count_of r (target_at r.cores place)) (0, 0)
+    AreEdges (count_of r (source_at r.cores place), count_of r (target_at r.cores place))
     (slice_index_or lists place [])
 
 -- the edges so far are the covering pairs of the list, and they stand by pair, rising in both counts

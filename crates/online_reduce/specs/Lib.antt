@@ -1,5 +1,4 @@
-pub mod Sources
 pub mod Rule
-pub mod Lists
+pub mod Sources
 pub mod Reduced
 pub mod Exact

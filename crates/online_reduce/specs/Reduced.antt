@@ -10,7 +10,7 @@ use Rattle.clock_core.specs.declared.clock.Clock.{Clock}
 use Rattle.access_times.specs.declared.times.Times.{Times}
 use Rattle.online_reduce.specs.Sources.{candidates}
 use Rattle.online_reduce.specs.Rule.{edges_into, clock_into}
-use Rattle.online_reduce.specs.Lists.{with_edges}
+use Rattle.rtr_types.specs.PairEdges.{with_edges}
 
 -- the number of cores, each core's last noted clock, and each pair's edges so far
 pub record Reduced : Type 0 where
@@ -47,11 +47,12 @@ counted r at = record r { clocks = slice_set r.clocks at.core (slice_set (clock_
 
 -- the edges that the access gets
 abbrev pub edges_of : Reduced → Access → Times → List Edge
-edges_of r a t = edges_into a.at (clock_of r a.at.core) (candidates r.cores a t)
+edges_of r a t = edges_into a.at (candidates r.cores (clock_of r a.at.core) a t)
 
 -- the clock that the access gets
 abbrev pub next_clock : Reduced → Access → Times → Clock
-next_clock r a t = clock_into a.at (clock_of r a.at.core) (candidates r.cores a t)
+next_clock r a t =
+    let before = clock_of r a.at.core in clock_into a.at before (candidates r.cores before a t)
 
 -- an instruction with the access retired
 abbrev pub retired : Reduced → Access → Times → Reduced

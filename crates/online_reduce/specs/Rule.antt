@@ -1,5 +1,5 @@
 -- Which candidates become edges, and what the new clock is.
-use Rattle.std.specs.Prelude.{List, Bool, ◌&&◌, ◌||◌, nat_lt, map, slice_index, slice_set}
+use Rattle.std.specs.Prelude.{List, Bool, ◌||◌, nat_lt, map, slice_index, slice_set}
 use Rattle.std.specs.List.{filter, list_all, fold}
 use Rattle.rtr_types.specs.Accesses.{is_same}
 use Rattle.rtr_types.specs.declared.instr.Instr.{Instr}
@@ -16,16 +16,16 @@ is_above clock at = nat_lt (slice_index clock at.core) at.count
 abbrev pub lets_pass : Instr → Source → Bool
 lets_pass at s = is_same s.at at || is_above s.clock at
 
--- neither the previous clock nor the clock of another candidate knows of it
-abbrev pub is_kept : Clock → List Source → Instr → Bool
-is_kept before found at = is_above before at && list_all (lets_pass at) found
+-- no other candidate's clock knows of it
+abbrev pub is_kept : List Source → Instr → Bool
+is_kept found at = list_all (lets_pass at) found
 
 abbrev pub edge_to : Instr → Source → Edge
 edge_to at s = record { from = s.at; to = at }
 
 -- the edges into an instruction, from the candidates that are kept
-unfoldable pub edges_into : Instr → Clock → List Source → List Edge
-edges_into at before found = map (edge_to at) (filter (λ s. is_kept before found s.at) found)
+unfoldable pub edges_into : Instr → List Source → List Edge
+edges_into at found = map (edge_to at) (filter (λ s. is_kept found s.at) found)
 
 abbrev pub merged_with : Clock → Source → Clock
 merged_with clock s = merged clock s.clock

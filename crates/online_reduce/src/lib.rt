@@ -3,7 +3,6 @@
 
 mod edge_places;
 pub mod laws;
-mod pair_list;
 mod pair_lists;
 mod reducer;
 mod rule;
@@ -15,6 +14,6 @@ pub use edge_places::{EdgeList, EdgePlaces};
 pub use reducer::Reducer;
 use rtr_types::CORES_MAX;
 
-/// The most edges that one access gets, as it has no more candidates: the last write of its word and
-/// each core's last read since.
-const EDGES_MAX: usize = CORES_MAX as usize + 1;
+/// The most edges that one access gets, as it has no more candidates: each core's last read of its word
+/// since the last write, or that write.
+const EDGES_MAX: usize = CORES_MAX as usize;

@@ -1,19 +1,19 @@
 //! The online reduction.
-ghost use Rattle.std.specs.Prelude.{◌≡◌, ◌<◌, ◌≤◌, ◌++◌, ◌∷◌, [], List, IfOk, IsTrue, OnErr, OnOk, false};
+ghost use Rattle.std.specs.Prelude.{◌≡◌, ◌<◌, ◌≤◌, ◌++◌, ◌∷◌, [], List, IfOk, IsTrue, OnErr, OnOk};
 ghost use Rattle.rtr_types.specs.declared.TheConstants.{CORES_MAX};
 ghost use Rattle.rtr_types.specs.declared.access.Access.{Access};
 ghost use Rattle.rtr_types.specs.declared.instr.Edge.{Edge};
-ghost use Rattle.rtr_types.specs.Accesses.{is_write};
 ghost use Rattle.access_times.specs.Times.{times_noted};
 ghost use Rattle.conflict_edge.specs.Times.{IsExactClock};
 
 use crate::edge_places::{EdgeList, EdgePlaces};
-use crate::pair_lists::PairLists;
+use crate::pair_lists::{PairLists, add_edges};
 use crate::rule::{clock_into, note};
-use crate::source::{Source, Sources, is_alone, is_of_other, list_candidates, slot_of};
+use crate::source::{Source, Sources, is_live, is_unread, list_reads, slot_of};
 use access_times::Times;
 use clock_core::Clock;
-use rtr_types::{Access, CORES_MAX, Instr, Items};
+use roomy_lists::RoomyLists;
+use rtr_types::{Access, CORES_MAX, Instr, Items, pair_count};
 use std::alloc::{AllocError, Global};
 use std::marker::Model;
 
@@ -33,6 +33,7 @@ pub struct Reducer {
 
 impl Model for Reducer {
     ghost use Rattle.std.specs.Prelude.{◌≡◌, ◌≤◌, length};
+    ghost use Rattle.roomy_lists.specs.Lists.{are_ready, items_in};
     ghost use Rattle.rtr_types.specs.Pairs.{pair_count};
     ghost use Rattle.rtr_types.specs.declared.TheConstants.{CORES_MAX};
     ghost use Rattle.online_reduce.specs.Reduced.{Readied};
@@ -40,18 +41,18 @@ impl Model for Reducer {
     ghost Value = { Readied };
 
     ghost view = { λ a. record {
-      state = record { cores = a.cores; clocks = a.clocks; lists = a.pairs.lists };
-      ready = a.pairs.roomy;
+      state = record { cores = a.cores; clocks = a.clocks; lists = items_in a.pairs };
+      ready = are_ready a.pairs;
     } };
 
     ghost invariant = { λ a.
         (a.cores ≤ CORES_MAX)
         × (length a.clocks ≡ CORES_MAX)
-        × (length a.pairs.lists ≡ pair_count a.cores) };
+        × (length a.pairs ≡ pair_count a.cores) };
 }
 
 impl Reducer {
-    ghost use Rattle.online_reduce.specs.Sources.{candidates};
+    ghost use Rattle.online_reduce.specs.Sources.{candidates, reads_from};
     ghost use Rattle.online_reduce.specs.Reduced.{IsNext, clock_of, counted, edges_of, retired, unreduced};
     ghost use Rattle.online_reduce.specs.Exact.{AreCoveringInto, AreExactFor, AreRising, IsExact, IsHeld, IsReduction};
 
@@ -60,7 +61,7 @@ impl Reducer {
         requires { cores ≤ CORES_MAX }
         ensures { IfOk result (λ reducer. reducer.state ≡ unreduced cores) }
     {
-        let pairs = PairLists::new(alloc, cores)?;
+        let pairs = RoomyLists::new(alloc, pair_count(cores))?;
         Ok(Reducer {
             alloc,
             cores,
@@ -76,7 +77,12 @@ impl Reducer {
         ensures ready { OnOk result (IsTrue self.new.ready) }
         ensures err { OnErr result (self.new ≡ self.old) }
     {
-        self.pairs.make_room()
+        if self.pairs.has_room() {
+            return Ok(());
+        }
+        let made = self.pairs.make_room();
+        // Where some lists got room before one got none, that one still has none.
+        if self.pairs.has_room() { Ok(()) } else { made }
     }
 
     /// Whether one retirement needs no memory.
@@ -104,9 +110,7 @@ impl Reducer {
         ensures reduction { (list : List Access) (edges : List Edge) →
             IsReduction list self.old.state edges → IsReduction list self.new.state edges }
     {
-        let mut clock = self.clocks[at.core as usize];
-        clock.set(at.core, at.count);
-        self.clocks[at.core as usize] = clock;
+        self.clocks[at.core as usize].set(at.core, at.count);
     }
 
     /// The core's next instruction retired with the access. Answers the new edges by rising source core,
@@ -152,25 +156,28 @@ impl Reducer {
             IsReduction list self.old.state edges_before → AreExactFor list access.now times.old →
             IsReduction (list ++ access.now ∷ []) self.new.state (edges_before ++ edges.new) }
     {
-        if access.kind.is_write() {
-            self.retire_write(access, times, edges);
+        if is_unread(self.cores, access, times) {
+            self.retire_unread(access, times, edges);
         } else {
-            self.retire_load(access, times, edges);
+            self.retire_read(access, times, edges);
         }
     }
 
-    /// An access that only reads: it has at most one candidate, so that no list of them is made.
-    fn retire_load(&mut self, access: &Access, times: &mut Times, edges: &mut EdgePlaces)
-        requires load { is_write access.now.kind ≡ false }
+    /// An access without a read among its candidates: it has at most one, the write, so that no list of
+    /// them is made.
+    fn retire_unread(&mut self, access: &Access, times: &mut Times, edges: &mut EdgePlaces)
         requires ready { IsTrue self.old.ready }
         requires next { IsNext self.old.state access.now.at }
+        requires unread { reads_from self.old.state.cores (clock_of self.old.state access.now.at.core)
+            access.now times.old ≡ [] }
         ensures edges { edges.new ≡ edges_of self.old.state access.now times.old }
         ensures state { self.new.state ≡ retired self.old.state access.now times.old }
         ensures times { times.new ≡ times_noted access.now times.old (clock_of self.new.state access.now.at.core) }
         ensures held { IsHeld access.now times.new (clock_of self.new.state access.now.at.core) }
     {
         if let Some((at, clock)) = times.last_write(slot_of(access.word)) {
-            if is_of_other(self.cores, access, *at) {
+            let before = &self.clocks[access.at.core as usize];
+            if at.core < self.cores && is_live(before, access, *at) {
                 let found = [Source {
                     at: *at,
                     clock: *clock,
@@ -179,28 +186,28 @@ impl Reducer {
                 return;
             }
         }
-        self.settle(access, &[], times, edges);
+        self.retire_alone(access, times, edges);
     }
 
-    /// An access that writes, whose candidates are listed only where there may be one.
-    fn retire_write(&mut self, access: &Access, times: &mut Times, edges: &mut EdgePlaces)
-        requires ready { IsTrue self.old.ready }
+    /// An access without candidates, as most are: it gets no edge, and its clock is the previous one with
+    /// its own count.
+    fn retire_alone(&mut self, access: &Access, times: &mut Times, edges: &mut EdgePlaces)
         requires next { IsNext self.old.state access.now.at }
+        requires alone { candidates self.old.state.cores (clock_of self.old.state access.now.at.core)
+            access.now times.old ≡ [] }
         ensures edges { edges.new ≡ edges_of self.old.state access.now times.old }
         ensures state { self.new.state ≡ retired self.old.state access.now times.old }
         ensures times { times.new ≡ times_noted access.now times.old (clock_of self.new.state access.now.at.core) }
         ensures held { IsHeld access.now times.new (clock_of self.new.state access.now.at.core) }
     {
-        if is_alone(self.cores, access, times) {
-            self.settle(access, &[], times, edges);
-        } else {
-            self.retire_listed(access, times, edges);
-        }
+        edges.clear();
+        self.local(access.at);
+        note(access, self.clocks[access.at.core as usize], times);
     }
 
-    /// An access whose candidates are listed. It is apart so that a write without candidates makes no
-    /// room on the stack for their list.
-    fn retire_listed(&mut self, access: &Access, times: &mut Times, edges: &mut EdgePlaces)
+    /// An access with noted reads, whose candidates are listed. It is apart so that an access without
+    /// them makes no room on the stack for their list.
+    fn retire_read(&mut self, access: &Access, times: &mut Times, edges: &mut EdgePlaces)
         requires ready { IsTrue self.old.ready }
         requires next { IsNext self.old.state access.now.at }
         ensures edges { edges.new ≡ edges_of self.old.state access.now times.old }
@@ -209,8 +216,13 @@ impl Reducer {
         ensures held { IsHeld access.now times.new (clock_of self.new.state access.now.at.core) }
     {
         let mut found = Sources::new();
-        list_candidates(&mut found, self.cores, access, times);
-        self.settle(access, found.as_slice(), times, edges);
+        let before = &self.clocks[access.at.core as usize];
+        list_reads(&mut found, self.cores, before, access, times);
+        if found.is_empty() {
+            self.retire_unread(access, times, edges);
+        } else {
+            self.settle(access, found.as_slice(), times, edges);
+        }
     }
 
     /// Puts the access's edges into the pairs' lists and answers them, keeps its clock and notes it, once
@@ -224,7 +236,8 @@ impl Reducer {
     )
         requires ready { IsTrue self.old.ready }
         requires next { IsNext self.old.state access.now.at }
-        requires found { found.now ≡ candidates self.old.state.cores access.now times.old }
+        requires found { found.now ≡ candidates self.old.state.cores (clock_of self.old.state access.now.at.core)
+            access.now times.old }
         ensures edges { edges.new ≡ edges_of self.old.state access.now times.old }
         ensures state { self.new.state ≡ retired self.old.state access.now times.old }
         ensures times { times.new ≡ times_noted access.now times.old (clock_of self.new.state access.now.at.core) }
@@ -232,7 +245,7 @@ impl Reducer {
     {
         let at = access.at;
         let before = self.clocks[at.core as usize];
-        self.pairs.add(self.cores, at, &before, found, edges);
+        add_edges(&mut self.pairs, self.cores, at, found, edges);
         let clock = clock_into(at, before, found);
         self.clocks[at.core as usize] = clock;
         note(access, clock, times);

@@ -19,15 +19,11 @@ fn lets_pass(at: Instr, source: &Source) -> bool
     source.at == at || !source.clock.covers(at)
 }
 
-/// Whether the candidate at this instruction becomes an edge: neither the clock before on the new
-/// access's core nor the clock of another candidate knows of it.
-pub fn is_kept(before: &Clock, found: &[Source], at: Instr) -> bool
+/// Whether the candidate at this instruction becomes an edge: no other candidate's clock knows of it.
+pub fn is_kept(found: &[Source], at: Instr) -> bool
     requires { at.core < CORES_MAX }
-    ensures { result ≡ is_kept before.now found.now at }
+    ensures { result ≡ is_kept found.now at }
 {
-    if before.covers(at) {
-        return false;
-    }
     for source in found {
         if !lets_pass(at, source) {
             return false;

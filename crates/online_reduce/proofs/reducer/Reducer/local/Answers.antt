@@ -1,5 +1,6 @@
 use Rattle.std.proofs.Common.{◌≡◌, ap, sym, subst, arith}
 use Rattle.std.specs.Prelude.{slice_set}
+use Rattle.roomy_lists.specs.Lists.{items_in}
 use Rattle.online_reduce.specs.Reduced.{Reduced, counted}
 use Rattle.online_reduce.specs.Exact.{IsExact, IsReduction}
 use Rattle.online_reduce.proofs.ExactNext.{counted_exact}
@@ -8,16 +9,16 @@ use Rattle.online_reduce.proofs.Retired.{counted_is}
 use Rattle.online_reduce.proofs.reducer.Reducer.local.Goals as goal
 
 -- the state before and after, as its fields
-abbrev before : goal.After-index-self-at-2 → Reduced
-before c = record { cores = c.self.inside.cores; clocks = c.self.inside.clocks; lists = c.self.inside.pairs.lists }
+abbrev before : goal.After-set → Reduced
+before c = record { cores = c.self.inside.cores; clocks = c.self.inside.clocks; lists = items_in c.self.inside.pairs }
 
-abbrev after : goal.After-index-self-at-2 → Reduced
-after c = record { cores = c.self.inside.cores; clocks = slice_set c.self.inside.clocks c.args.at.core c.set.new.self; lists = c.self.inside.pairs.lists }
+abbrev after : goal.After-set → Reduced
+after c = record { cores = c.self.inside.cores; clocks = slice_set c.self.inside.clocks c.args.at.core c.set.new.self; lists = items_in c.self.inside.pairs }
 
-is_before : (c : goal.After-index-self-at-2) → before c ≡ c.args.self.now.state
+is_before : (c : goal.After-set) → before c ≡ c.args.self.now.state
 is_before c = ap (λ v. v.state) c.self.view_is
 
-is_after : (c : goal.After-index-self-at-2) → after c ≡ counted c.args.self.now.state c.args.at
+is_after : (c : goal.After-set) → after c ≡ counted c.args.self.now.state c.args.at
 is_after c =
     let within = ap (λ (r : Reduced). r.cores) (is_before c) in
     let lt = c.requires.core in

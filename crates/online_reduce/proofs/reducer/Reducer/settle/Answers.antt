@@ -6,28 +6,34 @@ use Rattle.clock_core.specs.declared.clock.Clock.{Clock}
 use Rattle.access_times.specs.declared.times.Times.{Times}
 use Rattle.access_times.specs.Times.{times_noted}
 use Rattle.online_reduce.specs.Exact.{IsHeld}
+use Rattle.online_reduce.specs.Reduced.{clock_of}
 use Rattle.online_reduce.proofs.Found.{found_few}
 use Rattle.online_reduce.proofs.Held.{held}
-use Rattle.online_reduce.proofs.Retired.{sources_pair}
-use Rattle.online_reduce.proofs.Rooms.{length-added}
+use Rattle.online_reduce.proofs.Retired.{sources_apart, sources_pair}
+use Rattle.online_reduce.proofs.Rooms.{length-after}
 use Rattle.online_reduce.proofs.reducer.Reducer.settle.Goals as goal
 
-pub add-requires-clause-few : goal.add-requires-clause-few
-add-requires-clause-few c =
+pub add_edges-requires-clause-few : goal.add_edges-requires-clause-few
+add_edges-requires-clause-few c =
+    let r = c.args.self.now.state in
+    let a = c.args.access.now in
     let same = ap (λ v. v.state.cores) c.self.view_is in
-    omega (arith, ap length c.requires.found, found_few c.args.self.now.state.cores c.args.access.now c.args.times.now (omega (arith, c.self.invariant.0)))
+    omega (arith, ap length c.requires.found, found_few r.cores (clock_of r a.at.core) a c.args.times.now (omega (arith, c.self.invariant.0)))
 
-pub add-requires-clause-pairs : goal.add-requires-clause-pairs
-add-requires-clause-pairs c =
+pub add_edges-requires-clause-each : goal.add_edges-requires-clause-each
+add_edges-requires-clause-each c =
     let same = ap (λ v. v.state.cores) c.self.view_is in
-    let lt = c.requires.next.core in
-    sources_pair c.self.inside.cores c.args.self.now.state.cores c.args.access.now c.args.times.now c.args.found.now same lt c.requires.found
+    sources_pair c.self.inside.cores c.args.self.now.state c.args.access.now c.args.times.now c.args.found.now same c.requires.next.core c.requires.found
+
+pub add_edges-requires-clause-apart : goal.add_edges-requires-clause-apart
+add_edges-requires-clause-apart c =
+    sources_apart c.args.self.now.state c.args.access.now c.args.times.now c.args.found.now c.requires.found
 
 pub invariant_of-self : goal.invariant_of-self
 invariant_of-self c = (
   c.self.invariant.0,
   length-set c.self.inside.clocks c.args.access.now.at.core c.clock_into-clock.result ∙ c.self.invariant.1,
-  ap length c.add.ensures.lists ∙ length-added c.self.inside.cores c.self.inside.pairs.lists _ ∙ c.self.invariant.2,
+  length-after c.self.inside.cores c.self.inside.pairs c.add_edges.new.pairs _ c.add_edges.ensures.lists ∙ c.self.invariant.2,
 )
 
 pub returns-clause-held : goal.returns-clause-held

@@ -1,8 +1,0 @@
-use Rattle.std.proofs.Common.{◌≡◌, true, take}
-use Rattle.std.specs.List.{list_all}
-use Rattle.online_reduce.specs.Lists.{is_roomy}
-use Rattle.online_reduce.proofs.pair_lists.PairLists.has_room.Given as goal
-
--- each list so far has room
-abbrev pub invariant-loop-list : goal.invariant-loop-list
-invariant-loop-list l = (list_all is_roomy l.list-items ≡ l.fn.self.roomy) × (list_all is_roomy (take l.list-index l.list-items) ≡ true)
