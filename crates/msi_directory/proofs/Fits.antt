@@ -1,12 +1,13 @@
 -- Each row of the table leaves a stage that fits.
 use Rattle.std.proofs.Common.{◌≡◌, ℕ, ◌<◌, arith, refl, ap, not, Bool, true, false, IsTrue, Option, Some, None, List}
-use Rattle.std.specs.Prelude.{if◌then◌else◌, ◌&&◌, ◌==◌, All, length, slice_index_or, slice_set}
+use Rattle.std.specs.Prelude.{if◌then◌else◌, ◌==◌, All, length, slice_index_or, slice_set}
 use Rattle.std.proofs.lemmas.List.Elements.{All-set}
 use Rattle.std.proofs.lemmas.Bool.Decides.{nat_tests}
 use Rattle.rtr_types.proofs.Members.{no_cores_below, with_nonempty, with_below, without_below}
 use Rattle.rtr_types.specs.declared.TheConstants.{CORES_MAX}
 use Rattle.rtr_types.specs.declared.core_set.CoreSet.{CoreSet}
 use Rattle.rtr_types.specs.CoreSets.{has, with_core, without_core, is_below, is_none, no_cores}
+use Rattle.rtr_types.proofs.Truths.{both_true, first_true, second_true}
 use Rattle.msi_cache.specs.Table.{Ask, Reply}
 use Rattle.msi_cache.specs.Messages.{ask_of, reply_of}
 use Rattle.msi_cache.specs.declared.messages.Request.{Request}
@@ -18,21 +19,12 @@ use Rattle.msi_directory.specs.declared.entry.Stage.{Stage}
 use Rattle.msi_directory.specs.declared.entry.Stage.TheVariants.{Unshared, Shared, Owned, Acks, Data}
 use Rattle.msi_directory.specs.declared.entry.Entry.{Entry}
 
-both : (a b : Bool) → IsTrue a → IsTrue b → IsTrue (a && b)
-both a b h k = grind arith
-
-first_of_both : (a b : Bool) → IsTrue (a && b) → IsTrue a
-first_of_both a b h = grind arith
-
-second_of_both : (a b : Bool) → IsTrue (a && b) → IsTrue b
-second_of_both a b h = grind arith
-
 -- a set that is known to be in range fits where it isn't empty
 fits_some : (s : CoreSet) → IsTrue (is_below s) → is_none s ≡ false → IsTrue (set_fits s)
-fits_some s low some = both (not (is_none s)) (is_below s) (ap not some) low
+fits_some s low some = both_true (not (is_none s)) (is_below s) (ap not some) low
 
 in_range : (s : CoreSet) → IsTrue (set_fits s) → IsTrue (is_below s)
-in_range s h = second_of_both (not (is_none s)) (is_below s) h
+in_range s h = second_true (not (is_none s)) (is_below s) h
 
 fits_with : (s : CoreSet) (c : ℕ) → c < CORES_MAX → IsTrue (is_below s) → IsTrue (set_fits (with_core s c))
 fits_with s c h low = fits_some (with_core s c) (with_below s c low) (with_nonempty s c h)
@@ -45,7 +37,7 @@ abbrev row_fits : Option HomeRow → Bool
 row_fits None = true
 row_fits (Some r) = stage_fits r.next
 
--- a fact of a choice holds where it holds of both branches
+-- a fact of a choice holds where it holds of both_true branches
 chosen : {X : Type 0} (P : X → Type 0) (b : Bool) (x y : X) → (b ≡ true → P x) → (b ≡ false → P y) → P (if b then x else y)
 chosen P true x y f g = f refl
 chosen P false x y f g = g refl
@@ -55,7 +47,7 @@ shared_fits s low = chosen (λ t. IsTrue (stage_fits t)) (is_none s) Unshared (S
 
 left_fits : (left : CoreSet) (requester : ℕ) → IsTrue (is_below left) → IsTrue (core_fits requester) → is_none left ≡ false →
     IsTrue (stage_fits (Acks left requester))
-left_fits left requester low h e = both (set_fits left) (core_fits requester) (fits_some left low e) h
+left_fits left requester low h e = both_true (set_fits left) (core_fits requester) (fits_some left low e) h
 
 own_fits : (others : CoreSet) (c : ℕ) → IsTrue (is_below others) → c < CORES_MAX → IsTrue (row_fits (own_from others c))
 own_fits others c low h = chosen (λ r. IsTrue (row_fits r)) (is_none others) _ _ (λ e. core_below c h) (λ e. left_fits others c low (core_below c h) e)
@@ -78,8 +70,8 @@ request_fits (Shared by) c Ask.PutS h fits =
     chosen (λ r. IsTrue (row_fits r)) (has by c) _ _ (λ e. shared_fits (without_core by c) (without_below by c (in_range by fits))) (λ e. fits)
 request_fits (Shared by) c Ask.PutM h fits =
     chosen (λ r. IsTrue (row_fits r)) (has by c) _ _ (λ e. shared_fits (without_core by c) (without_below by c (in_range by fits))) (λ e. fits)
-request_fits (Owned owner) c Ask.GetS h fits = both (core_fits owner) (core_fits c) fits (core_below c h)
-request_fits (Owned owner) c Ask.GetM h fits = both (core_fits owner) (core_fits c) fits (core_below c h)
+request_fits (Owned owner) c Ask.GetS h fits = both_true (core_fits owner) (core_fits c) fits (core_below c h)
+request_fits (Owned owner) c Ask.GetM h fits = both_true (core_fits owner) (core_fits c) fits (core_below c h)
 request_fits (Owned owner) c Ask.PutS h fits = chosen (λ r. IsTrue (row_fits r)) (c == owner) _ _ (λ e. refl) (λ e. fits)
 request_fits (Owned owner) c Ask.PutM h fits = chosen (λ r. IsTrue (row_fits r)) (c == owner) _ _ (λ e. refl) (λ e. fits)
 request_fits (Acks «of» requester) c ask h fits = refl
@@ -87,13 +79,13 @@ request_fits (Data «of» requester share) c ask h fits = refl
 
 response_fits : (stage : Stage) (c : ℕ) (reply : Reply) → c < CORES_MAX → IsTrue (stage_fits stage) → IsTrue (row_fits (response_row stage c reply))
 response_fits (Acks «of» requester) c Reply.InvAck h fits =
-    let range = in_range «of» (first_of_both (set_fits «of») (core_fits requester) fits) in
+    let range = in_range «of» (first_true (set_fits «of») (core_fits requester) fits) in
     chosen (λ r. IsTrue (row_fits r)) (has «of» c) _ _
-    (λ e. acknowledged_fits (without_core «of» c) requester (without_below «of» c range) (second_of_both (set_fits «of») (core_fits requester) fits))
+    (λ e. acknowledged_fits (without_core «of» c) requester (without_below «of» c range) (second_true (set_fits «of») (core_fits requester) fits))
     (λ e. refl)
 response_fits (Data «of» requester share) c Reply.OwnerData h fits =
     chosen (λ r. IsTrue (row_fits r)) (c == «of») _ _
-    (λ e. given_fits share c requester h (second_of_both (core_fits «of») (core_fits requester) fits))
+    (λ e. given_fits share c requester h (second_true (core_fits «of») (core_fits requester) fits))
     (λ e. refl)
 response_fits Unshared c reply h fits = refl
 response_fits (Shared by) c reply h fits = refl

@@ -133,3 +133,11 @@ pub struct Entry<R> {
     pub words: [u32; BLOCK_WORDS],
     pub rider: R,
 }
+
+/// What the home answers to a message whose rider was lent, and beside it, lent too, the rider of the message's
+/// block as the home has it by then: data are sent with it.
+#[derive(Drop)]
+pub struct Served<'a, R> {
+    pub answer: HomeAnswer<()>,
+    pub rider: &'a R,
+}

@@ -14,7 +14,7 @@ ghost use Rattle.msi_directory.specs.PlainPart.{PlainRequest, PlainResponse};
 ghost use Rattle.msi_directory.specs.Table.{is_free, owner_of};
 ghost use Rattle.msi_directory.specs.declared.entry.Entry.{Entry};
 
-use crate::entry::{Entry, HomeAnswer, Stage};
+use crate::entry::{Entry, HomeAnswer, Served, Stage};
 use crate::kept_entries::KeptEntries;
 
 #[cfg(test)]
@@ -49,6 +49,9 @@ impl<R> Model for Home<R> {
 }
 
 impl<R: Rider> Home<R> {
+    ghost use Rattle.std.specs.Borrow.{sem};
+    ghost use Rattle.msi_directory.specs.Lent.{EndsAs, TookRequest, TookResponse};
+
     /// A home over the image: each block is held by no cache, and has its opening words and a fresh
     /// rider. A last block that the memory's words fill only in part is filled up with zeros.
     pub fn new(alloc: Global, image: &Image) -> Result<Home<R>, AllocError>
@@ -157,33 +160,29 @@ impl<R: Rider> Home<R> {
         ensures answer { result ≡ answer_to_request R.riding.absorbed
             (entry_at R.riding.fresh self.old.entries (request_block request)) from request }
     {
-        let block = request.block();
-        let answer = self.serve(from, request.lent());
-        answer.riding(copied(self.rider(block)))
+        let Served { answer, rider } = self.serve(from, request.lent());
+        answer.riding(copied(rider))
     }
 
-    /// Takes a request as `on_request` does, with its rider lent. The answer has no rider: data are
-    /// sent with the block's `rider`, as it is after the call.
-    pub fn serve(&mut self, from: u8, request: Request<&R>) -> HomeAnswer<()>
+    /// Takes a request as `on_request` does, with its rider lent, and lends the block's rider as it is
+    /// after the call: data are sent with it. So the block is looked up once.
+    pub fn serve<'a>(&'a mut self, from: u8, request: Request<&R>) -> Served<'a, R>
         requires from { from < CORES_MAX }
         requires within { request_block (request_seen request) < length self.old.entries }
         requires room { IsTrue (has_room self.old.rooms (request_block (request_seen request))) }
         requires row { IsTrue (has_request_row
             (entry_at R.riding.fresh self.old.entries (request_block (request_seen request))).stage from
             (request_seen request)) }
-        ensures blocks { self.new ≡ record self.old {
-          entries =
-              entries_after_request R.riding self.old.entries from (request_seen request.entry);
-        } }
-        ensures elsewhere { SameElsewhere R.riding.fresh self.old.entries self.new.entries
-            (request_block (request_seen request.entry)) }
-        ensures answer { answer_riding
-            (entry_at R.riding.fresh self.new.entries (request_block (request_seen request.entry))).rider result ≡ answer_to_request R.riding.absorbed
+        ensures* home { sem 𝓛 (EndsAs R.row self.entry
+            (TookRequest R.riding self.old from (request_seen request.entry) result.rider.now)) }
+        ensures answer { answer_riding result.rider.now result.answer ≡ answer_to_request R.riding.absorbed
             (entry_at R.riding.fresh self.old.entries (request_block (request_seen request.entry))) from
             (request_seen request.entry) }
     {
         let place = self.kept.place(request.block()).unwrap();
-        self.kept.serve(place, from, request)
+        let answer = self.kept.serve(place, from, request);
+        let rider = &self.kept.copy(place).rider;
+        Served { answer, rider }
     }
 
     /// Takes a response from core `from`, about a block at which the table has a row for it. Only that
@@ -201,33 +200,28 @@ impl<R: Rider> Home<R> {
         ensures answer { result ≡ answer_to_response R.riding.absorbed
             (entry_at R.riding.fresh self.old.entries (response_block response)) from response }
     {
-        let block = response.block();
-        let answer = self.collect(from, response.lent());
-        answer.riding(copied(self.rider(block)))
+        let Served { answer, rider } = self.collect(from, response.lent());
+        answer.riding(copied(rider))
     }
 
-    /// Takes a response as `on_response` does, with its rider lent. The answer has no rider: data are
-    /// sent with the block's `rider`, as it is after the call.
-    pub fn collect(&mut self, from: u8, response: Response<&R>) -> HomeAnswer<()>
+    /// Takes a response as `on_response` does, with its rider lent, and lends the block's rider as it
+    /// is after the call: data are sent with it. So the block is looked up once.
+    pub fn collect<'a>(&'a mut self, from: u8, response: Response<&R>) -> Served<'a, R>
         requires from { from < CORES_MAX }
         requires within { response_block (response_seen response) < length self.old.entries }
         requires row { IsTrue (has_response_row
             (entry_at R.riding.fresh self.old.entries (response_block (response_seen response))).stage from
             (response_seen response)) }
-        ensures blocks { self.new ≡ record self.old {
-          entries =
-              entries_after_response R.riding self.old.entries from (response_seen response.entry);
-        } }
-        ensures elsewhere { SameElsewhere R.riding.fresh self.old.entries self.new.entries
-            (response_block (response_seen response.entry)) }
-        ensures answer { answer_riding (entry_at R.riding.fresh self.new.entries
-            (response_block (response_seen response.entry))).rider result
-            ≡ answer_to_response R.riding.absorbed
+        ensures* home { sem 𝓛 (EndsAs R.row self.entry
+            (TookResponse R.riding self.old from (response_seen response.entry) result.rider.now)) }
+        ensures answer { answer_riding result.rider.now result.answer ≡ answer_to_response R.riding.absorbed
             (entry_at R.riding.fresh self.old.entries (response_block (response_seen response.entry))) from
             (response_seen response.entry) }
     {
         let place = self.kept.place(response.block()).unwrap();
-        self.kept.collect(place, from, response)
+        let answer = self.kept.collect(place, from, response);
+        let rider = &self.kept.copy(place).rider;
+        Served { answer, rider }
     }
 
     /// The rider on the home's copy of the block, one of the memory's.

@@ -8,7 +8,7 @@ use Rattle.msi_directory.specs.Kept.{blocks_in, home_of}
 use Rattle.msi_directory.specs.declared.entry.Entry.{Entry}
 use Rattle.msi_directory.specs.declared.entry.Stage.{Stage}
 use Rattle.msi_directory.proofs.Fits.{response_keeps_all}
-use Rattle.msi_directory.proofs.Rows.{blocks_after, fits_after, is_found, row_answers, same_elsewhere}
+use Rattle.msi_directory.proofs.Rows.{blocks_after, copy_after, fits_after, is_found, rider_after, row_answers, same_elsewhere}
 use Rattle.msi_directory.proofs.Seen.{seen_response_block}
 use Rattle.msi_directory.proofs.Sparse.{reads_kept, stage_kept}
 use Rattle.msi_directory.proofs.home.Home.collect.Goals as goal
@@ -23,8 +23,8 @@ unwrap-place-requires g c =
     let kept = stage_kept home block within (no_entry g.R.Rider.riding.fresh) test refl row in
     rw (c.place.ensures.place, c.block.ensures, seen_response_block c.args.response) kept
 
-pub collect-requires-clause-row : goal.collect-requires-clause-row
-collect-requires-clause-row g c =
+pub collect-answer-requires-clause-row : goal.collect-answer-requires-clause-row
+collect-answer-requires-clause-row g c =
     let home = home_of c.self.inside.opening c.self.inside.fresh c.self.inside.kept in
     let block = response_block (response_seen c.args.response) in
     let within = rw (← c.self.view_is) at c.requires.within in
@@ -34,8 +34,8 @@ collect-requires-clause-row g c =
     let past = no_entry g.R.Rider.riding.fresh in
     rw (← c.self.view_is, reads_kept home block within past c.unwrap-place.result found.stands) at c.requires.row
 
-pub collect-requires-clause-fits : goal.collect-requires-clause-fits
-collect-requires-clause-fits g c =
+pub collect-answer-requires-clause-fits : goal.collect-answer-requires-clause-fits
+collect-answer-requires-clause-fits g c =
     let home = home_of c.self.inside.opening c.self.inside.fresh c.self.inside.kept in
     let block = response_block (response_seen c.args.response) in
     let within = rw (← c.self.view_is) at c.requires.within in
@@ -60,10 +60,10 @@ invariant_of-self g c =
     let stages =
     response_keeps_all g.R.Rider.riding.absorbed entries block old (row old) c.args.from (response_seen c.args.response) c.self.invariant.stages within
     (get_or_default entries block past old within) c.requires.from refl in
-    fits_after home block c.unwrap-place.result found within past row c.collect.new.self c.collect.ensures.kept stages c.self.invariant
+    fits_after home block c.unwrap-place.result found within past row c.collect-answer.new.self c.collect-answer.ensures.kept stages c.self.invariant
 
-pub returns-clause-blocks : goal.returns-clause-blocks
-returns-clause-blocks g c =
+pub copy-requires : goal.copy-requires
+copy-requires g c =
     let home = home_of c.self.inside.opening c.self.inside.fresh c.self.inside.kept in
     let block = response_block (response_seen c.args.response) in
     let within = rw (← c.self.view_is) at c.requires.within in
@@ -72,22 +72,10 @@ returns-clause-blocks g c =
     c.place.ensures.place c.place.ensures.stage c.place.ensures.copy c.unwrap-place.ensures in
     let past = no_entry g.R.Rider.riding.fresh in
     let row = λ (e : Entry _). entry_after_response g.R.Rider.riding.absorbed e c.args.from (response_seen c.args.response) in
-    rw (← c.self.view_is) (blocks_after home block c.unwrap-place.result found within past row c.collect.new.self c.collect.ensures.kept)
+    copy_after home block c.unwrap-place.result found within past row c.collect-answer.new.self c.collect-answer.ensures.kept
 
-pub returns-clause-elsewhere : goal.returns-clause-elsewhere
-returns-clause-elsewhere g c =
-    let home = home_of c.self.inside.opening c.self.inside.fresh c.self.inside.kept in
-    let block = response_block (response_seen c.args.response) in
-    let within = rw (← c.self.view_is) at c.requires.within in
-    let found =
-    is_found home c.block.result block c.unwrap-place.result c.place.result (c.block.ensures ∙ seen_response_block c.args.response)
-    c.place.ensures.place c.place.ensures.stage c.place.ensures.copy c.unwrap-place.ensures in
-    let past = no_entry g.R.Rider.riding.fresh in
-    let row = λ (e : Entry _). entry_after_response g.R.Rider.riding.absorbed e c.args.from (response_seen c.args.response) in
-    rw (← c.self.view_is) (same_elsewhere home block c.unwrap-place.result found within past row c.collect.new.self c.collect.ensures.kept)
-
-pub returns-clause-answer : goal.returns-clause-answer
-returns-clause-answer g c =
+pub returns : goal.returns
+returns g c =
     let home = home_of c.self.inside.opening c.self.inside.fresh c.self.inside.kept in
     let block = response_block (response_seen c.args.response) in
     let within = rw (← c.self.view_is) at c.requires.within in
@@ -97,6 +85,22 @@ returns-clause-answer g c =
     let past = no_entry g.R.Rider.riding.fresh in
     let row = λ (e : Entry _). entry_after_response g.R.Rider.riding.absorbed e c.args.from (response_seen c.args.response) in
     let wanted = λ (e : Entry _). answer_to_response g.R.Rider.riding.absorbed e c.args.from (response_seen c.args.response) in
-    rw (← c.self.view_is)
-    (row_answers home block c.unwrap-place.result found within past row c.collect.new.self c.collect.ensures.kept
-    _ (λ rider. answer_riding rider c.collect.result) wanted c.collect.ensures.answer)
+    let after = c.collect-answer.new.self in
+    let changes = c.collect-answer.ensures.kept in
+    let place = c.unwrap-place.result in
+    rw (← c.self.view_is) (
+      (
+        refl,
+        λ _. tt,
+        record {
+          blocks = blocks_after home block place found within past row after changes;
+          elsewhere = same_elsewhere home block place found within past row after changes;
+          rider = rider_after home block place found within past row after changes c.copy.result.now c.copy.ensures;
+        },
+      ),
+      record {
+        home = tt;
+        answer = row_answers home block place found within past row after changes _ (λ rider. answer_riding rider c.collect-answer.result) wanted
+            c.copy.result.now c.copy.ensures c.collect-answer.ensures.answer;
+      },
+    )

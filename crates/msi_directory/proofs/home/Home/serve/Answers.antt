@@ -7,7 +7,7 @@ use Rattle.msi_directory.specs.Entries.{answer_riding, answer_to_request, entry_
 use Rattle.msi_directory.specs.Kept.{blocks_in, home_of}
 use Rattle.msi_directory.specs.declared.entry.Entry.{Entry}
 use Rattle.msi_directory.proofs.Fits.{request_keeps_all}
-use Rattle.msi_directory.proofs.Rows.{blocks_after, fits_after, is_found, row_answers, same_elsewhere}
+use Rattle.msi_directory.proofs.Rows.{blocks_after, copy_after, fits_after, is_found, rider_after, row_answers, same_elsewhere}
 use Rattle.msi_directory.proofs.Seen.{seen_request_block}
 use Rattle.msi_directory.proofs.Sparse.{reads_kept, room_reads}
 use Rattle.msi_directory.proofs.home.Home.serve.Goals as goal
@@ -20,8 +20,8 @@ unwrap-place-requires g c =
     let room = rw (← c.self.view_is, room_reads home block within) at c.requires.room in
     rw (c.place.ensures.place, c.block.ensures, seen_request_block c.args.request) room
 
-pub serve-requires-clause-row : goal.serve-requires-clause-row
-serve-requires-clause-row g c =
+pub serve-answer-requires-clause-row : goal.serve-answer-requires-clause-row
+serve-answer-requires-clause-row g c =
     let home = home_of c.self.inside.opening c.self.inside.fresh c.self.inside.kept in
     let block = request_block (request_seen c.args.request) in
     let within = rw (← c.self.view_is) at c.requires.within in
@@ -46,10 +46,10 @@ invariant_of-self g c =
     let stages =
     request_keeps_all g.R.Rider.riding.absorbed entries block old (row old) c.args.from (request_seen c.args.request) c.self.invariant.stages within
     (get_or_default entries block past old within) c.requires.from refl in
-    fits_after home block c.unwrap-place.result found within past row c.serve.new.self c.serve.ensures.kept stages c.self.invariant
+    fits_after home block c.unwrap-place.result found within past row c.serve-answer.new.self c.serve-answer.ensures.kept stages c.self.invariant
 
-pub returns-clause-blocks : goal.returns-clause-blocks
-returns-clause-blocks g c =
+pub copy-requires : goal.copy-requires
+copy-requires g c =
     let home = home_of c.self.inside.opening c.self.inside.fresh c.self.inside.kept in
     let block = request_block (request_seen c.args.request) in
     let within = rw (← c.self.view_is) at c.requires.within in
@@ -58,22 +58,10 @@ returns-clause-blocks g c =
     c.place.ensures.place c.place.ensures.stage c.place.ensures.copy c.unwrap-place.ensures in
     let past = no_entry g.R.Rider.riding.fresh in
     let row = λ (e : Entry _). entry_after_request g.R.Rider.riding.absorbed e c.args.from (request_seen c.args.request) in
-    rw (← c.self.view_is) (blocks_after home block c.unwrap-place.result found within past row c.serve.new.self c.serve.ensures.kept)
+    copy_after home block c.unwrap-place.result found within past row c.serve-answer.new.self c.serve-answer.ensures.kept
 
-pub returns-clause-elsewhere : goal.returns-clause-elsewhere
-returns-clause-elsewhere g c =
-    let home = home_of c.self.inside.opening c.self.inside.fresh c.self.inside.kept in
-    let block = request_block (request_seen c.args.request) in
-    let within = rw (← c.self.view_is) at c.requires.within in
-    let found =
-    is_found home c.block.result block c.unwrap-place.result c.place.result (c.block.ensures ∙ seen_request_block c.args.request)
-    c.place.ensures.place c.place.ensures.stage c.place.ensures.copy c.unwrap-place.ensures in
-    let past = no_entry g.R.Rider.riding.fresh in
-    let row = λ (e : Entry _). entry_after_request g.R.Rider.riding.absorbed e c.args.from (request_seen c.args.request) in
-    rw (← c.self.view_is) (same_elsewhere home block c.unwrap-place.result found within past row c.serve.new.self c.serve.ensures.kept)
-
-pub returns-clause-answer : goal.returns-clause-answer
-returns-clause-answer g c =
+pub returns : goal.returns
+returns g c =
     let home = home_of c.self.inside.opening c.self.inside.fresh c.self.inside.kept in
     let block = request_block (request_seen c.args.request) in
     let within = rw (← c.self.view_is) at c.requires.within in
@@ -83,6 +71,22 @@ returns-clause-answer g c =
     let past = no_entry g.R.Rider.riding.fresh in
     let row = λ (e : Entry _). entry_after_request g.R.Rider.riding.absorbed e c.args.from (request_seen c.args.request) in
     let wanted = λ (e : Entry _). answer_to_request g.R.Rider.riding.absorbed e c.args.from (request_seen c.args.request) in
-    rw (← c.self.view_is)
-    (row_answers home block c.unwrap-place.result found within past row c.serve.new.self c.serve.ensures.kept
-    _ (λ rider. answer_riding rider c.serve.result) wanted c.serve.ensures.answer)
+    let after = c.serve-answer.new.self in
+    let changes = c.serve-answer.ensures.kept in
+    let place = c.unwrap-place.result in
+    rw (← c.self.view_is) (
+      (
+        refl,
+        λ _. tt,
+        record {
+          blocks = blocks_after home block place found within past row after changes;
+          elsewhere = same_elsewhere home block place found within past row after changes;
+          rider = rider_after home block place found within past row after changes c.copy.result.now c.copy.ensures;
+        },
+      ),
+      record {
+        home = tt;
+        answer = row_answers home block place found within past row after changes _ (λ rider. answer_riding rider c.serve-answer.result) wanted
+            c.copy.result.now c.copy.ensures c.serve-answer.ensures.answer;
+      },
+    )
