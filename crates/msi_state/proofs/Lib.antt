@@ -4,5 +4,9 @@ pub mod Roomy
 pub mod Moved
 pub mod Start
 pub mod Standings
+pub mod Bits
+pub mod Delivered
+pub mod Turns
+pub mod Renewed
 pub mod Found
 pub mod Served

@@ -1,9 +1,11 @@
--- What the home answers goes to cores that are there, and is what the step delivers.
+-- What the home answers goes to cores that are there, whose links have room, and is what the step delivers.
 use Rattle.std.proofs.Common.{arith, ◌≡◌, ◌∙◌, refl, sym, ap, subst, ℕ, ◌<◌, ◌==◌, ◌&&◌, Bool, true, false, IsTrue, Option, Some, None, List, ◌∷◌, ◌++◌, length}
-use Rattle.std.proofs.Common.{drop, take}
+use Rattle.std.proofs.Common.{drop, inl, inr, take}
 use Rattle.std.specs.Prelude.{if◌then◌else◌, nat_lt, slice_set, All}
 use Rattle.std.specs.Option.{IfSome}
+use Rattle.std.proofs.lemmas.Bool.{cases_eq}
 use Rattle.std.proofs.lemmas.Bool.Decides.{nat_tests}
+use Rattle.std.proofs.lemmas.List.{get_or-set_other, get_or-set_same, length-set}
 use Rattle.std.proofs.lemmas.List.Elements.{All-get_or}
 use Rattle.std.proofs.Math.Seq.{take-append_seam}
 use Rattle.access_times.specs.Riding.{Riding, Carrying}
@@ -11,11 +13,13 @@ use Rattle.link_order.specs.Queue.{Queue}
 use Rattle.rtr_types.specs.CoreSets.{has, without_core, is_none}
 use Rattle.msi_cache.specs.Table.{Ask, Reply}
 use Rattle.msi_cache.specs.Messages.{ask_of, reply_of, request_block, response_block}
+use Rattle.msi_cache.specs.declared.messages.FromHome.{FromHome}
 use Rattle.msi_cache.specs.declared.messages.Request.{Request}
 use Rattle.msi_cache.specs.declared.messages.Response.{Response}
-use Rattle.msi_directory.specs.Blocks.{no_entry, entry_at, entries_after_request, entries_after_response}
-use Rattle.msi_directory.specs.Entries.{answer_by, answer_riding, answer_to_request, answer_to_response, entry_after_request, entry_after_response}
+use Rattle.msi_directory.specs.Blocks.{Blocks, no_entry, entry_at, entries_after_request, entries_after_response}
+use Rattle.msi_directory.specs.Entries.{answer_by, answer_to_request, answer_to_response, entry_after_request, entry_after_response}
 use Rattle.msi_directory.specs.Entries.{has_request_row, has_response_row, sent}
+use Rattle.msi_directory.specs.Lent.{TookRequest, TookResponse}
 use Rattle.msi_directory.specs.Table.{Send, NoMessage, HomeRow, request_row, response_row}
 use Rattle.msi_directory.specs.declared.entry.Stage.TheVariants.{Unshared, Shared, Owned, Acks, Data}
 use Rattle.msi_directory.specs.declared.entry.Stage.{Stage}
@@ -23,8 +27,8 @@ use Rattle.msi_directory.specs.declared.entry.Entry.{Entry}
 use Rattle.msi_directory.specs.declared.entry.HomeAnswer.{HomeAnswer}
 use Rattle.msi_state.specs.declared.node.Mail.{Mail}
 use Rattle.msi_state.specs.declared.node.Node.{Node}
-use Rattle.msi_state.specs.Ready.{can_request_in, can_respond_in, names_below}
-use Rattle.msi_state.specs.States.{State, node_at}
+use Rattle.msi_state.specs.Ready.{HasRoomTo, can_request_in, can_respond_in, names_below}
+use Rattle.msi_state.specs.States.{State, no_node, node_at}
 use Rattle.msi_state.specs.Steps.{delivered, node_requested, node_responded, request_moved, request_moved_in, response_moved, response_moved_in}
 
 -- what is sent goes to one of the first n cores
@@ -103,13 +107,6 @@ module _ {R : Type 0} where
       IsTrue (names_below (entry_at fresh home block).stage n)
   names_at fresh home n block names within = All-get_or (λ (x : Entry R). IsTrue (names_below x.stage n)) home block (no_entry fresh) within names
 
-  -- the rider that the home has on the block's copy by now makes the answer whole
-  pub ridden : (fresh : R) (entries : List (Entry R)) (block same : ℕ) (rider : R) (bare : HomeAnswer (Unit {0})) (whole : HomeAnswer R) →
-      rider ≡ (entry_at fresh entries block).rider → block ≡ same → answer_riding (entry_at fresh entries same).rider bare ≡ whole → answer_riding rider bare
-      ≡ whole
-  ridden fresh entries block same rider bare whole is there answered =
-      ap (λ (r : R). answer_riding r bare) (is ∙ ap (λ (b : ℕ). (entry_at fresh entries b).rider) there) ∙ answered
-
   pub request_named : (riding : Riding R) (home : List (Entry R)) (n c : ℕ) (request : Request R) (answer : HomeAnswer R) →
       All (λ x. IsTrue (names_below x.stage n)) home → request_block request < length home → c < n →
       answer ≡ answer_to_request riding.absorbed (entry_at riding.fresh home (request_block request)) c request → IfSome answer.send (λ s. s.0 < n)
@@ -128,7 +125,38 @@ module _ {R : Type 0} where
       (answer_below (response_row e.stage c (reply_of response)) (response_block response) (entry_after_response riding.absorbed e c response) n
       (response_below e.stage c (reply_of response) n (names_at riding.fresh home n (response_block response) names within)))
 
+module _ {R : Type 0} (riding : Riding R) (old : Blocks R) (c : ℕ) where
+  -- the entries of a home that took a request, and of one that took a response
+  pub request_kept : (request : Request R) (lent : R) (new : Blocks R) → TookRequest riding old c request lent new
+      → new.entries ≡ entries_after_request riding old.entries c request
+  request_kept request lent new took = ap (λ (b : Blocks R). b.entries) took.blocks
+
+  pub response_kept : (response : Response R) (lent : R) (new : Blocks R) → TookResponse riding old c response lent new
+      → new.entries ≡ entries_after_response riding old.entries c response
+  response_kept response lent new took = ap (λ (b : Blocks R). b.entries) took.blocks
+
 module _ {R K : Type 0} where
+  messages_kept : (carrying : Carrying K) (nodes : List (Node R K)) (c d : ℕ) (node : Node R K) → d < length nodes →
+      node.messages ≡ (node_at carrying nodes c).messages → (node_at carrying (slice_set nodes c node) d).messages ≡ (node_at carrying nodes d).messages
+  messages_kept carrying nodes c d node there same =
+      elim (cases_eq d c) [
+        | inl is ↦
+            ap (λ (k : ℕ). (node_at carrying (slice_set nodes c node) k).messages) is
+            ∙ ap (λ (n : Node R K). n.messages) (get_or-set_same nodes c node (no_node carrying) (subst (λ (k : ℕ). k < length nodes) is there))
+            ∙ same
+            ∙ ap (λ (k : ℕ). (node_at carrying nodes k).messages) (sym is)
+        | inr other ↦ ap (λ (n : Node R K). n.messages) (get_or-set_other nodes c d node (no_node carrying) other)
+      ]
+
+  -- a change of one node that leaves its messages alone leaves room for the answer
+  pub room_kept : (carrying : Carrying K) (answer : HomeAnswer R) (nodes after : List (Node R K)) (c : ℕ) (node : Node R K) →
+      HasRoomTo carrying answer nodes → after ≡ slice_set nodes c node → node.messages ≡ (node_at carrying nodes c).messages → HasRoomTo carrying answer after
+  room_kept carrying answer nodes after c node rooms is same d within heard =
+      let there : d < length nodes = subst (λ (k : ℕ). d < k) (ap length is ∙ length-set nodes c node) within in
+      let messages : (node_at carrying after d).messages ≡ (node_at carrying nodes d).messages =
+      ap (λ (ns : List (Node R K)). (node_at carrying ns d).messages) is ∙ messages_kept carrying nodes c d node there same in
+      subst (λ (q : Queue (Mail (FromHome R) K)). length q.items < q.room) (sym messages) (rooms d there heard)
+
   -- what the home does with the head of core c's requests, and the delivery of its answer, are the step
   pub request_delivered : (riding : Riding R) (carrying : Carrying K) (s : State R K) (c block : ℕ) (mail : Mail (Request R) K)
       (rest : List (Mail (Request R) K)) (answer : HomeAnswer R) (carry : K) (nodes : List (Node R K)) (home : List (Entry R)) →

@@ -1,5 +1,5 @@
 -- What the cores and their caches stand at after a move.
-use Rattle.std.proofs.Common.{◌≡◌, ◌∙◌, refl, ap, ℕ, ◌<◌, ◌%◌, Bool, true, false, ◌||◌, cond, Option, Some, None, List, [], ◌∷◌, zero, suc, length, get_or}
+use Rattle.std.proofs.Common.{◌≡◌, ◌∙◌, refl, ap, ℕ, ◌<◌, ◌%◌, Bool, false, ◌||◌, Option, Some, None, List, [], ◌∷◌, zero, suc, length, get_or}
 use Rattle.std.proofs.Common.{arith}
 use Rattle.std.specs.Prelude.{map, slice_set, slice_index_or}
 use Rattle.std.specs.List.{list_all, list_any}
@@ -8,7 +8,6 @@ use Rattle.std.proofs.lemmas.List.{get_or-map, map-set}
 use Rattle.std.proofs.lemmas.List.Folds.{list_all-map}
 use Rattle.access_times.specs.Riding.{Riding, Carrying}
 use Rattle.image_mem.specs.Contents.{Contents}
-use Rattle.rtr_types.specs.CoreSets.{has}
 use Rattle.rtr_types.specs.declared.core_set.CoreSet.{CoreSet}
 use Rattle.rv_core.specs.Steps.{is_done}
 use Rattle.msi_cache.specs.Table.{Row, Signal, is_transient, row}
@@ -16,7 +15,6 @@ use Rattle.msi_cache.specs.declared.line.State.{State as LineState}
 use Rattle.msi_cache.specs.declared.line.TheConstants.{LINES}
 use Rattle.msi_cache.specs.declared.line.Line.{Line}
 use Rattle.msi_cache.specs.declared.messages.FromHome.{FromHome}
-use Rattle.msi_cache.specs.declared.messages.FromHome.TheVariants.{Inv}
 use Rattle.msi_cache.specs.declared.messages.Request.{Request}
 use Rattle.msi_cache.specs.declared.messages.Response.{Response}
 use Rattle.msi_cache.specs.Lines.{empty_line, line_after, line_by, lines_after, lines_put, lines_riding, waits}
@@ -28,8 +26,9 @@ use Rattle.msi_state.specs.declared.node.Node.{Node}
 use Rattle.msi_state.specs.declared.standing.Standing.{Standing}
 use Rattle.msi_state.specs.Standings.{ends_wait, standing_of, standings_of}
 use Rattle.msi_state.specs.States.{State, all_done, no_node, node_at}
-use Rattle.msi_state.specs.Steps.{delivered_in, node_requested, node_responded, node_sent, nodes_sent, nodes_told, request_moved, request_moved_in}
+use Rattle.msi_state.specs.Steps.{delivered_in, node_requested, node_responded, request_moved, request_moved_in}
 use Rattle.msi_state.specs.Steps.{response_moved, response_moved_in}
+use Rattle.msi_state.proofs.Delivered.{delivered_same}
 
 -- an element gives way to one that the test cannot tell from it
 any_set_same : {X : Type 0} (test : X → Bool) (xs : List X) (i : ℕ) (y d : X) → test y ≡ test (get_or xs i d) → list_any test (slice_set xs i y)
@@ -79,28 +78,10 @@ module _ {R K : Type 0} where
       ≡ slice_set (standings_of s) c (standing_of s.image node)
   node_stands s c node = map-set (standing_of s.image) s.nodes c node
 
-  sent_stands : (carrying : Carrying K) (image : Contents) (nodes : List (Node R K)) (to : ℕ) (m : FromHome R) (carry : K) →
-      map (standing_of image) (nodes_sent carrying nodes to m carry) ≡ map (standing_of image) nodes
-  sent_stands carrying image nodes to m carry =
-      map-set_same (standing_of image) nodes to (node_sent (node_at carrying nodes to) m carry) (no_node carrying) refl
-
-  told_stands : (carrying : Carrying K) (image : Contents) (set : CoreSet) (m : FromHome R) (carry : K) (n : ℕ) (nodes : List (Node R K)) →
-      map (standing_of image) (nodes_told carrying set m carry n nodes) ≡ map (standing_of image) nodes
-  told_stands carrying image set m carry zero nodes = refl
-  told_stands carrying image set m carry (suc n) nodes =
-      told_one (has set n) (told_stands carrying image set m carry n nodes)
-    where
-      told_one : (is_told : Bool) → map (standing_of image) (nodes_told carrying set m carry n nodes) ≡ map (standing_of image) nodes →
-          map (standing_of image)
-          (cond is_told (nodes_sent carrying (nodes_told carrying set m carry n nodes) n m carry) (nodes_told carrying set m carry n nodes))
-          ≡ map (standing_of image) nodes
-      told_one true before = sent_stands carrying image (nodes_told carrying set m carry n nodes) n m carry ∙ before
-      told_one false before = before
-
   delivered_stands : (send : Option (ℕ × FromHome R)) (carrying : Carrying K) (image : Contents) (set : CoreSet) (block : ℕ) (carry : K)
       (nodes : List (Node R K)) → map (standing_of image) (delivered_in send carrying set block carry nodes) ≡ map (standing_of image) nodes
-  delivered_stands (Some (to, m)) carrying image set block carry nodes = sent_stands carrying image nodes to m carry
-  delivered_stands None carrying image set block carry nodes = told_stands carrying image set (Inv block) carry (length nodes) nodes
+  delivered_stands send carrying image set block carry nodes =
+      delivered_same (standing_of image) (λ n m k. refl) carrying send set block carry nodes
 
   -- the home's moves change neither cores nor caches
   pub request_stands : (riding : Riding R) (carrying : Carrying K) (s : State R K) (c : ℕ) → standings_of (request_moved riding carrying s c) ≡ standings_of s

@@ -10,3 +10,4 @@ pub mod Bound
 pub mod Sights
 pub mod Coherent
 pub mod Standings
+pub mod Marks

@@ -1,14 +1,17 @@
 //! The actors of a machine, the image that its cores run, and each kind of move in code.
-ghost use Rattle.std.specs.Prelude.{◌≡◌, ◌<◌, ◌≤◌, ◌/◌, All, IfOk, IsTrue, OnOk, length, not, slice_set, true};
+ghost use Rattle.std.specs.Prelude.{◌≡◌, ◌≢◌, ◌<◌, ◌≤◌, ◌/◌, All, IfOk, IsTrue, OnOk, length, not, slice_set, true};
+ghost use Rattle.std.specs.Borrow.{sem};
 ghost use Rattle.rtr_types.specs.declared.TheConstants.{BLOCK_WORDS, CORES_MAX};
 ghost use Rattle.link_order.specs.Queue.{is_nil};
 ghost use Rattle.msi_cache.specs.Messages.{request_block, response_block};
-ghost use Rattle.msi_directory.specs.Blocks.{entries_after_request, entries_after_response, entry_at, has_room};
-ghost use Rattle.msi_directory.specs.Blocks.{touched};
+ghost use Rattle.msi_directory.specs.Blocks.{entry_at, has_room, touched};
 ghost use Rattle.msi_directory.specs.Entries.{answer_riding, answer_to_request, answer_to_response, has_request_row};
 ghost use Rattle.msi_directory.specs.Entries.{has_response_row};
+ghost use Rattle.msi_directory.specs.Lent.{EndsAs, TookRequest, TookResponse};
 ghost use Rattle.msi_state.specs.declared.moves.Move.{Move};
 ghost use Rattle.msi_state.specs.FinalMemory.{at_hand, final_word};
+ghost use Rattle.msi_state.specs.Marks.{IsRequestTurn, IsResponseTurn, IsWithin, after_turn, differ, is_marked};
+ghost use Rattle.msi_state.specs.Moves.{core_of};
 ghost use Rattle.msi_state.specs.Nodes.{instr_of};
 ghost use Rattle.msi_state.specs.Ready.{NamesFit, HeadsFit, heads_roomy, HasRoomFor, HasRoomTo, OthersRoomy, Ready};
 ghost use Rattle.msi_state.specs.Ready.{RoomsMade, are_heads_roomy, head_roomy, head_within, has_row_for};
@@ -18,14 +21,17 @@ ghost use Rattle.msi_state.specs.States.{node_at, state_start};
 ghost use Rattle.msi_state.specs.Steps.{AcceptsNext, StepsTo, TellsOf, enabled, event, head_free, request_moved};
 ghost use Rattle.msi_state.specs.Steps.{response_moved};
 
+use crate::marking::{mark_askers, mark_hearers};
+use crate::marks::Marks;
+use crate::moves::Move;
 use crate::node::Node;
 use crate::sending::deliver;
 use crate::standing::Standing;
 use access_times::{Carry, Clerk, Rider};
 use image_mem::Image;
 use msi_cache::{RequestSlot, ResponseSlot};
-use msi_directory::{Home, HomeAnswer};
-use rtr_types::{BLOCK_WORDS, CORES_MAX, Instr};
+use msi_directory::{Home, HomeAnswer, Served};
+use rtr_types::{BLOCK_WORDS, CORES_MAX, CoreSet, Instr};
 use rv_core::Core;
 use std::alloc::{AllocError, Global};
 use std::marker::Model;
@@ -238,7 +244,7 @@ impl<R: Rider, K: Carry> Actors<R, K> {
         self.nodes[c as usize].receive(&self.image, standing, clerk)
     }
 
-    pub(crate) fn take_request(&mut self, c: u8)
+    pub(crate) fn take_request(&mut self, c: u8) -> Turn
         requires cores { length self.old.state.nodes ≤ CORES_MAX }
         requires here { c < length self.old.state.nodes }
         requires names { NamesFit self.old.state }
@@ -247,19 +253,21 @@ impl<R: Rider, K: Carry> Actors<R, K> {
         requires roomy { IsTrue (head_roomy (node_at K.carrying self.old.state.nodes c).requests.items self.old.rooms) }
         ensures state { self.new.state ≡ request_moved R.riding K.carrying self.old.state c }
         ensures rooms { self.new.rooms ≡ self.old.rooms }
+        ensures turn { IsRequestTurn (node_at K.carrying self.old.state.nodes c).requests.items R.riding
+            self.old.state c result }
     {
         let Some(mail) = self.nodes[c as usize].requests.head() else {
-            return;
+            return Turn::none();
         };
         let block = mail.item.block();
         self.carry = self.carry.join(mail.carry);
-        let answer = serve(&mut self.home, c, &mail.item);
+        let Served { answer, rider } = serve(&mut self.home, c, &mail.item);
         self.nodes[c as usize].requests.drop_head();
-        let rider = self.home.rider(block);
         deliver(self.nodes.as_mut_slice(), answer, block, rider, self.carry);
+        Turn { block, answer }
     }
 
-    pub(crate) fn take_response(&mut self, c: u8)
+    pub(crate) fn take_response(&mut self, c: u8) -> Turn
         requires cores { length self.old.state.nodes ≤ CORES_MAX }
         requires here { c < length self.old.state.nodes }
         requires names { NamesFit self.old.state }
@@ -267,46 +275,120 @@ impl<R: Rider, K: Carry> Actors<R, K> {
         requires room { HasRoomFor R.riding K.carrying self.old.state (Move.Response c) }
         ensures state { self.new.state ≡ response_moved R.riding K.carrying self.old.state c }
         ensures rooms { self.new.rooms ≡ self.old.rooms }
+        ensures turn { IsResponseTurn (node_at K.carrying self.old.state.nodes c).responses.items R.riding
+            self.old.state c result }
     {
         let Some(mail) = self.nodes[c as usize].responses.head() else {
-            return;
+            return Turn::none();
         };
         let block = mail.item.block();
         self.carry = self.carry.join(mail.carry);
-        let answer = collect(&mut self.home, c, &mail.item);
+        let Served { answer, rider } = collect(&mut self.home, c, &mail.item);
         self.nodes[c as usize].responses.drop_head();
-        let rider = self.home.rider(block);
         deliver(self.nodes.as_mut_slice(), answer, block, rider, self.carry);
+        Turn { block, answer }
     }
 }
 
-/// The home takes the request that lies here. The rider that goes with the answer is its block's.
-fn serve<R: Rider>(home: &mut Home<R>, from: u8, request: &RequestSlot<R>) -> HomeAnswer<()>
+/// What the home did in a move: the block that it was about, and what it answered.
+#[derive(Clone, Copy)]
+pub struct Turn {
+    pub block: u32,
+    pub answer: HomeAnswer<()>,
+}
+
+impl Turn {
+    /// The home did nothing.
+    fn none() -> Turn {
+        Turn {
+            block: 0,
+            answer: HomeAnswer {
+                invalidate: CoreSet::empty(),
+                send: None,
+            },
+        }
+    }
+}
+
+// What moves can be made after a move.
+impl<R: Rider, K: Carry> Actors<R, K> {
+    /// Marks what can be made at the core's node: the core's own move, and where the home can take a
+    /// response, or the cache a message.
+    pub(crate) fn mark_node(&self, core: u8, standing: Standing, marks: &mut Marks)
+        requires few { length self.now.state.nodes ≤ CORES_MAX }
+        requires here { core < length self.now.state.nodes }
+        requires cores { marks.old.cores ≡ length self.now.state.nodes }
+        requires stands { standing ≡ standing_of self.now.state.image (node_at K.carrying self.now.state.nodes core) }
+        ensures cores { marks.new.cores ≡ marks.old.cores }
+        ensures within { IsWithin marks.old → IsWithin marks.new }
+        ensures own { is_marked marks.new (Move.Core core)
+            ≡ enabled R.riding K.carrying self.now.state (Move.Core core) }
+        ensures response { is_marked marks.new (Move.Response core)
+            ≡ enabled R.riding K.carrying self.now.state (Move.Response core) }
+        ensures message { is_marked marks.new (Move.FromHome core)
+            ≡ enabled R.riding K.carrying self.now.state (Move.FromHome core) }
+        ensures others { (m : Move) → core_of m ≢ core → is_marked marks.new m ≡ is_marked marks.old m }
+    {
+        marks.set(Move::Core(core), standing.may_move());
+        marks.set(Move::Response(core), self.has_response(core));
+        marks.set(Move::FromHome(core), self.has_message(core));
+    }
+
+    /// Marks what can be made after the home's turn: the cores that it answered have a message, and where
+    /// its block is free now and wasn't, or was and isn't, so are the requests for the block.
+    pub(crate) fn mark_turn(&self, turn: Turn, was_free: bool, marks: &mut Marks)
+        requires few { length self.now.state.nodes ≤ CORES_MAX }
+        requires cores { marks.old.cores ≡ length self.now.state.nodes }
+        requires within { turn.block < length self.now.state.home }
+        ensures cores { marks.new.cores ≡ marks.old.cores }
+        ensures within { IsWithin marks.old → IsWithin marks.new }
+        ensures marked { (m : Move) → is_marked marks.new m ≡ after_turn R.riding self.now.state turn was_free
+            marks.old m }
+    {
+        mark_hearers(turn.answer, marks);
+        let free = self.home.is_free(turn.block);
+        if is_other(free, was_free) {
+            mark_askers(self.nodes.as_slice(), marks, turn.block, free);
+        }
+    }
+}
+
+/// Whether the one holds and the other doesn't.
+fn is_other(one: bool, other: bool) -> bool
+    ensures { result ≡ differ one other }
+{
+    if one { !other } else { other }
+}
+
+/// The home takes the request that lies here, and lends its block's rider, which goes with the answer.
+fn serve<'a, R: Rider>(home: &'a mut Home<R>, from: u8, request: &RequestSlot<R>) -> Served<'a, R>
     requires from { from < CORES_MAX }
     requires within { request_block request.now < length home.old.entries }
     requires room { IsTrue (has_room home.old.rooms (request_block request.now)) }
     requires row { let entry = entry_at R.riding.fresh home.old.entries (request_block request.now) in
         IsTrue (has_request_row entry.stage from request.now) }
-    ensures entries { home.new
-        ≡ record home.old { entries = entries_after_request R.riding home.old.entries from request.now } }
+    ensures* home { sem 𝓛 (EndsAs R.row home.entry
+        (TookRequest R.riding home.old from request.now result.rider.now)) }
     ensures answer { let old = entry_at R.riding.fresh home.old.entries (request_block request.now) in
-        let new = entry_at R.riding.fresh home.new.entries (request_block request.now) in
-        answer_riding new.rider result ≡ answer_to_request R.riding.absorbed old from request.now }
+        answer_riding result.rider.now result.answer ≡ answer_to_request R.riding.absorbed old from request.now }
 {
     home.serve(from, request.open())
 }
 
-/// The home takes the response that lies here. The rider that goes with the answer is its block's.
-fn collect<R: Rider>(home: &mut Home<R>, from: u8, response: &ResponseSlot<R>) -> HomeAnswer<()>
+/// The home takes the response that lies here, and lends its block's rider, which goes with the answer.
+fn collect<'a, R: Rider>(
+    home: &'a mut Home<R>,
+    from: u8,
+    response: &ResponseSlot<R>,
+) -> Served<'a, R>
     requires from { from < CORES_MAX }
     requires within { response_block response.now < length home.old.entries }
     requires row { let entry = entry_at R.riding.fresh home.old.entries (response_block response.now) in
         IsTrue (has_response_row entry.stage from response.now) }
-    ensures entries { home.new
-        ≡ record home.old { entries = entries_after_response R.riding home.old.entries from response.now } }
+    ensures* home { sem 𝓛 (EndsAs R.row home.entry
+        (TookResponse R.riding home.old from response.now result.rider.now)) }
     ensures answer { let old = entry_at R.riding.fresh home.old.entries (response_block response.now) in
-        let new = entry_at R.riding.fresh home.new.entries (response_block response.now) in
-        answer_riding new.rider result ≡ answer_to_response R.riding.absorbed old from response.now }
+        answer_riding result.rider.now result.answer ≡ answer_to_response R.riding.absorbed old from response.now }
 {
     home.collect(from, response.open())
 }

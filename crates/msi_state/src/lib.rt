@@ -8,7 +8,8 @@
 #![tactic(auto)]
 
 mod actors;
-mod move_list;
+mod marking;
+mod marks;
 mod moves;
 mod node;
 mod parts;

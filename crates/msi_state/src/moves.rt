@@ -1,5 +1,6 @@
 //! The moves of the machine.
 ghost use Rattle.std.specs.Prelude.{◌≡◌, ◌≤◌, ◌<◌, ◌*◌};
+ghost use Rattle.msi_state.specs.Marks.{number_of};
 ghost use Rattle.msi_state.specs.Moves.{candidate, core_of};
 ghost use Rattle.rtr_types.specs.declared.TheConstants.{CORES_MAX};
 
@@ -23,6 +24,19 @@ impl Move {
     {
         match self {
             Move::Core(c) | Move::Request(c) | Move::Response(c) | Move::FromHome(c) => c,
+        }
+    }
+
+    /// Its number among all moves that a machine of so many cores can have.
+    pub(crate) fn number(self, cores: u32) -> u32
+        requires { cores ≤ CORES_MAX }
+        ensures { result ≡ number_of cores self }
+    {
+        match self {
+            Move::Core(c) => c as u32,
+            Move::Request(c) => cores + c as u32,
+            Move::Response(c) => 2 * cores + c as u32,
+            Move::FromHome(c) => 3 * cores + c as u32,
         }
     }
 

@@ -1,20 +1,20 @@
 //! The parts of a machine, and its moves in code.
-ghost use Rattle.std.specs.Prelude.{◌≡◌, ◌<◌, ◌≤◌, ◌*◌, ◌/◌, [], IfOk, IsTrue, OnOk, length, true, slice_index_or};
+ghost use Rattle.std.specs.Prelude.{◌≡◌, ◌<◌, ◌≤◌, ◌/◌, IfOk, IsTrue, OnOk, length, true};
 ghost use Rattle.rtr_types.specs.declared.TheConstants.{BLOCK_WORDS, CORES_MAX};
 ghost use Rattle.msi_directory.specs.Blocks.{touched};
 ghost use Rattle.msi_state.specs.declared.moves.Move.{Move};
 ghost use Rattle.msi_state.specs.FinalMemory.{at_hand, final_word};
+ghost use Rattle.msi_state.specs.Marks.{AllMarked, marked};
 ghost use Rattle.msi_state.specs.Moves.{IsNumbered};
 ghost use Rattle.msi_state.specs.Nodes.{instr_of};
 ghost use Rattle.msi_state.specs.Ready.{HeadsFit, heads_roomy, Ready, RoomsMade};
-ghost use Rattle.msi_state.specs.Standings.{moves_below};
 ghost use Rattle.msi_state.specs.States.{node_at, state_start, all_done};
 ghost use Rattle.msi_state.specs.Steps.{AcceptsNext, StepsTo, TellsOf, enabled, event, moves};
 
 use crate::actors::Actors;
-use crate::move_list::MoveList;
+use crate::marks::Marks;
 use crate::moves::Move;
-use crate::standing::{Standing, are_done};
+use crate::standing::{Standing, are_done, first_marks};
 use access_times::{Carry, Clerk, Rider};
 use image_mem::Image;
 use rtr_types::{BLOCK_WORDS, CORES_MAX, Instr};
@@ -31,19 +31,21 @@ pub struct Stepped {
 }
 
 /// The parts of a machine: the image that it runs, its nodes, its home and the home's carry, and beside
-/// them what each core and its cache stand at, and which core moved last. Room is made before each step, so
-/// that only that core may have a request for whose block there is none. Contracts see the state, and which
-/// of the home's blocks have room for a request.
+/// them what each core and its cache stand at, which moves can be made, and which core moved last. Room is
+/// made before each step, so that only that core may have a request for whose block there is none; and the
+/// home is asked only then whether that block is free. Contracts see the state, and which of the home's
+/// blocks have room for a request.
 ///
 /// It is for the machine alone, whose states always meet what these calls need.
 #[derive(Drop)]
-pub struct Parts<R, K> {
+pub struct Parts<R: Rider, K: Carry> {
     actors: Actors<R, K>,
     standings: Vec<Standing>,
+    marks: Marks,
     mover: u8,
 }
 
-impl<R, K> Model for Parts<R, K> {
+impl<R: Rider, K: Carry> Model for Parts<R, K> {
     ghost use Rattle.msi_state.specs.States.{Machinery};
     ghost use Rattle.msi_state.specs.Standings.{NotesFit};
 
@@ -51,7 +53,7 @@ impl<R, K> Model for Parts<R, K> {
 
     ghost view = { λ a. a.actors };
 
-    ghost invariant = { λ a. NotesFit a.actors a.standings.items a.mover };
+    ghost invariant = { λ a. NotesFit R.riding K.carrying a.actors a.standings.items a.marks a.mover };
 }
 
 impl<R: Rider, K: Carry> Parts<R, K> {
@@ -68,9 +70,11 @@ impl<R: Rider, K: Carry> Parts<R, K> {
     {
         let actors = Actors::new(alloc, image, cores, limit)?;
         let standings = actors.standings(alloc)?;
+        let marks = first_marks(standings.as_slice());
         Ok(Parts {
             actors,
             standings,
+            marks,
             mover: 0,
         })
     }
@@ -83,44 +87,13 @@ impl<R: Rider, K: Carry> Parts<R, K> {
         are_done(self.standings.as_slice())
     }
 
-    /// Whether the move can be made.
-    pub fn is_enabled(&self, taken: Move) -> bool
-        requires { HeadsFit self.now.state }
-        ensures { result ≡ enabled R.riding K.carrying self.now.state taken }
-    {
-        if taken.core() as usize >= self.standings.len() {
-            return false;
-        }
-        match taken {
-            Move::Core(c) => self.may_move(c),
-            Move::Request(c) => self.may_take_request(c),
-            Move::Response(c) => self.may_take_response(c),
-            Move::FromHome(c) => self.may_take_message(c),
-        }
-    }
-
     /// How many moves can be made.
     pub fn count_moves(&self) -> u32
         requires cores { length self.now.state.nodes ≤ CORES_MAX }
         requires heads { HeadsFit self.now.state }
         ensures { result ≡ length (moves R.riding K.carrying self.now.state) }
     {
-        let mut found = MoveList::new();
-        self.find_moves(&mut found);
-        found.len()
-    }
-
-    /// The move of this number, from 0, among those that can be made.
-    pub fn pick(&self, number: u32) -> Move
-        requires cores { length self.now.state.nodes ≤ CORES_MAX }
-        requires heads { HeadsFit self.now.state }
-        requires within { number < length (moves R.riding K.carrying self.now.state) }
-        ensures chosen { (d : Move) → result ≡ slice_index_or (moves R.riding K.carrying self.now.state) number d }
-        ensures enabled { IsTrue (enabled R.riding K.carrying self.now.state result) }
-    {
-        let mut found = MoveList::new();
-        self.find_moves(&mut found);
-        found.get(number)
+        self.all_marks().count()
     }
 
     /// The image that the machine runs.
@@ -197,16 +170,42 @@ impl<R: Rider, K: Carry> Parts<R, K> {
         ensures told { TellsOf C.told_local C.told_touch R.riding K.carrying self.old.state self.new.state result.taken
             clerk.old clerk.new }
     {
-        let mut found = MoveList::new();
-        self.find_moves(&mut found);
-        let taken = found.get(choice % found.len());
-        let retired = self.make_move(taken, clerk);
+        let marks = self.all_marks();
+        let taken = marks.pick(choice % marks.count());
+        let retired = self.make_move(taken, marks, clerk);
         Stepped { taken, retired }
     }
+}
 
-    /// Makes a move that can be made.
-    pub fn make_move<C: Clerk<R, K>>(&mut self, taken: Move, clerk: &mut C) -> Option<Instr>
+// What moves can be made, and each of them.
+impl<R: Rider, K: Carry> Parts<R, K> {
+    /// The marks of the moves that can be made.
+    fn all_marks(&self) -> Marks
+        requires cores { length self.now.state.nodes ≤ CORES_MAX }
+        requires heads { HeadsFit self.now.state }
+        ensures all { AllMarked R.riding K.carrying self.now.state result }
+        ensures moves { marked result ≡ moves R.riding K.carrying self.now.state }
+    {
+        let mut marks = self.marks;
+        // no move asked the home about the block of the mover's oldest request yet
+        if (self.mover as u32) < marks.cores {
+            marks.set(
+                Move::Request(self.mover),
+                self.actors.has_free_head(self.mover),
+            );
+        }
+        marks
+    }
+
+    /// Makes a move that can be made, where the marks are those of the moves that can.
+    fn make_move<C: Clerk<R, K>>(
+        &mut self,
+        taken: Move,
+        marks: Marks,
+        clerk: &mut C,
+    ) -> Option<Instr>
         requires enabled { IsTrue (enabled R.riding K.carrying self.old.state taken) }
+        requires marked { AllMarked R.riding K.carrying self.old.state marks }
         requires ready { Ready R.riding K.carrying self.old.state }
         requires roomy { IsTrue (heads_roomy self.old) }
         requires accepts { AcceptsNext C.accepts clerk.old self.old.state }
@@ -217,116 +216,31 @@ impl<R: Rider, K: Carry> Parts<R, K> {
             clerk.old clerk.new }
     {
         self.mover = taken.core();
+        self.marks = marks;
         match taken {
             Move::Core(c) => {
                 let standing = &mut self.standings[c as usize];
-                self.actors.move_core(c, standing, clerk)
+                let retired = self.actors.move_core(c, standing, clerk);
+                self.marks.set(taken, standing.may_move());
+                retired
             }
             Move::Request(c) => {
-                self.actors.take_request(c);
+                // a request is taken only where its block is free, and a response only where it isn't
+                let turn = self.actors.take_request(c);
+                self.actors.mark_turn(turn, true, &mut self.marks);
                 None
             }
             Move::Response(c) => {
-                self.actors.take_response(c);
+                let turn = self.actors.take_response(c);
+                self.marks.set(taken, self.actors.has_response(c));
+                self.actors.mark_turn(turn, false, &mut self.marks);
                 None
             }
             Move::FromHome(c) => {
                 let standing = &mut self.standings[c as usize];
-                self.actors.take_message(c, standing, clerk)
-            }
-        }
-    }
-}
-
-// What moves can be made.
-impl<R: Rider, K: Carry> Parts<R, K> {
-    fn may_move(&self, c: u8) -> bool
-        requires { c < length self.now.state.nodes }
-        ensures { result ≡ enabled R.riding K.carrying self.now.state (Move.Core c) }
-    {
-        self.standings[c as usize].may_move()
-    }
-
-    fn may_take_request(&self, c: u8) -> bool
-        requires here { c < length self.now.state.nodes }
-        requires heads { HeadsFit self.now.state }
-        ensures { result ≡ enabled R.riding K.carrying self.now.state (Move.Request c) }
-    {
-        self.actors.has_free_head(c)
-    }
-
-    fn may_take_response(&self, c: u8) -> bool
-        requires { c < length self.now.state.nodes }
-        ensures { result ≡ enabled R.riding K.carrying self.now.state (Move.Response c) }
-    {
-        self.actors.has_response(c)
-    }
-
-    fn may_take_message(&self, c: u8) -> bool
-        requires { c < length self.now.state.nodes }
-        ensures { result ≡ enabled R.riding K.carrying self.now.state (Move.FromHome c) }
-    {
-        self.actors.has_message(c)
-    }
-
-    /// Finds the moves that can be made, in order.
-    fn find_moves(&self, found: &mut MoveList)
-        requires cores { length self.now.state.nodes ≤ CORES_MAX }
-        requires heads { HeadsFit self.now.state }
-        requires none { found.old ≡ [] }
-        ensures { found.new ≡ moves R.riding K.carrying self.now.state }
-    {
-        self.find_core_moves(found);
-        self.find_requests(found);
-        self.find_responses(found);
-        self.find_messages(found);
-    }
-
-    fn find_core_moves(&self, found: &mut MoveList)
-        requires cores { length self.now.state.nodes ≤ CORES_MAX }
-        requires before { found.old ≡ moves_below R.riding K.carrying self.now.state 0 }
-        ensures { found.new ≡ moves_below R.riding K.carrying self.now.state (length self.now.state.nodes) }
-    {
-        for c in 0..self.cores() {
-            if self.may_move(c) {
-                found.push(Move::Core(c));
-            }
-        }
-    }
-
-    fn find_requests(&self, found: &mut MoveList)
-        requires cores { length self.now.state.nodes ≤ CORES_MAX }
-        requires heads { HeadsFit self.now.state }
-        requires before { found.old ≡ moves_below R.riding K.carrying self.now.state (length self.now.state.nodes) }
-        ensures { found.new ≡ moves_below R.riding K.carrying self.now.state (2 * length self.now.state.nodes) }
-    {
-        for c in 0..self.cores() {
-            if self.may_take_request(c) {
-                found.push(Move::Request(c));
-            }
-        }
-    }
-
-    fn find_responses(&self, found: &mut MoveList)
-        requires cores { length self.now.state.nodes ≤ CORES_MAX }
-        requires before { found.old ≡ moves_below R.riding K.carrying self.now.state (2 * length self.now.state.nodes) }
-        ensures { found.new ≡ moves_below R.riding K.carrying self.now.state (3 * length self.now.state.nodes) }
-    {
-        for c in 0..self.cores() {
-            if self.may_take_response(c) {
-                found.push(Move::Response(c));
-            }
-        }
-    }
-
-    fn find_messages(&self, found: &mut MoveList)
-        requires cores { length self.now.state.nodes ≤ CORES_MAX }
-        requires before { found.old ≡ moves_below R.riding K.carrying self.now.state (3 * length self.now.state.nodes) }
-        ensures { found.new ≡ moves_below R.riding K.carrying self.now.state (4 * length self.now.state.nodes) }
-    {
-        for c in 0..self.cores() {
-            if self.may_take_message(c) {
-                found.push(Move::FromHome(c));
+                let retired = self.actors.take_message(c, standing, clerk);
+                self.actors.mark_node(c, *standing, &mut self.marks);
+                retired
             }
         }
     }

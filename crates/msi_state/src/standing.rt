@@ -1,14 +1,20 @@
 //! What a core and its cache stand at.
-ghost use Rattle.std.specs.Prelude.{◌≡◌, ◌&&◌, IsTrue, not};
+ghost use Rattle.std.specs.Prelude.{◌≡◌, ◌≤◌, ◌&&◌, IsTrue, length, not};
 ghost use Rattle.std.specs.List.{list_all};
 ghost use Rattle.rv_core.specs.Steps.{is_done};
 ghost use Rattle.msi_cache.specs.Lines.{has_row, line_for, lines_after, waits};
 ghost use Rattle.msi_cache.specs.Messages.{block_of, message_seen, signal};
-ghost use Rattle.msi_state.specs.Standings.{ends_wait, standing_with};
+ghost use Rattle.rtr_types.specs.declared.TheConstants.{CORES_MAX};
+ghost use Rattle.msi_state.specs.declared.moves.Move.{Move};
+ghost use Rattle.msi_state.specs.Marks.{IsWithin, is_marked};
+ghost use Rattle.msi_state.specs.Standings.{ends_wait, may_begin, standing_with};
 
+use crate::marks::Marks;
+use crate::moves::Move;
 use access_times::Rider;
 use image_mem::Image;
 use msi_cache::{Cache, FromHome};
+use rtr_types::CORES_MAX;
 use rv_core::{Core, Need};
 use rv_decode::Op;
 
@@ -44,6 +50,23 @@ pub(crate) fn are_done(standings: &[Standing]) -> bool
     ensures { result ≡ list_all (λ s. is_done s.need) standings.now }
 {
     standings.iter().all(|s| s.need.is_done())
+}
+
+/// The marks of a machine at whose nodes nothing is under way: each core that may move is marked. There are
+/// none where there are more cores than there may be.
+pub(crate) fn first_marks(standings: &[Standing]) -> Marks
+    ensures cores { length standings.now ≤ CORES_MAX → result.cores ≡ length standings.now }
+    ensures within { IsWithin result }
+    ensures marked { length standings.now ≤ CORES_MAX → (m : Move) → is_marked result m ≡ may_begin standings.now m }
+{
+    if standings.len() > CORES_MAX as usize {
+        return Marks::none(0);
+    }
+    let mut marks = Marks::none(standings.len() as u32);
+    for (c, standing) in standings.iter().enumerate() {
+        marks.set(Move::Core(c as u8), standing.may_move());
+    }
+    marks
 }
 
 // Whether such a message ends the wait of a line that expects it.
