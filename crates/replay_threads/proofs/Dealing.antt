@@ -1,5 +1,5 @@
 -- Workers that are dealt to groups, and seats that are taken back from them.
-use Rattle.std.proofs.Common.{◌≡◌, ◌≢◌, ℕ, zero, suc, ◌+◌, ◌-◌, ◌<◌, ◌≤◌, ◌%◌, eq-eqb, ne_eqb, Bool, cond, List, [], ◌∷◌, ◌++◌, length, map, take}
+use Rattle.std.proofs.Common.{◌≡◌, ◌≢◌, ℕ, zero, suc, ◌+◌, ◌<◌, ◌%◌, eq-eqb, ne_eqb, Bool, cond, List, [], ◌∷◌, ◌++◌, length, take}
 use Rattle.std.proofs.Common.{drop, get_or, append-nil, refl, sym, ap, ◌∙◌, subst, arith}
 use Rattle.std.specs.Prelude.{All, slice_get, slice_index, slice_index_or, Some}
 use Rattle.std.specs.List.{range_with_len}
@@ -10,9 +10,9 @@ use Rattle.std.proofs.lemmas.Option.{slice_get_within, get_or_from_slice_get}
 use native.Mathlib.Decide.{ℕ_discrete}
 use Rattle.atomic_table.specs.Seated.{TableId}
 use Rattle.log_codec.specs.declared.recording.Recording.{Recording}
-use Rattle.replay_core.specs.Plans.{Plan, plan_of}
+use Rattle.replay_core.specs.Plans.{plan_of}
 use Rattle.rtr_types.specs.declared.pairs.Which.{Which}
-use Rattle.replay_table.specs.Seats.{Sitting, Finished, AtRest}
+use Rattle.replay_table.specs.Seats.{Sitting, Finished}
 use Rattle.replay_threads.specs.Groups.{Grouped, no_group, members, workers_at, ids_of, AllAt, AreAt, AreGrouped, AreKept, IsGivenTo, IsDone, AllDone}
 
 -- ---- lists

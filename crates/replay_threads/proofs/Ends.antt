@@ -1,13 +1,12 @@
 -- What a closed table comes to, and how turns end.
-use Rattle.std.proofs.Common.{◌≡◌, ℕ, ◌+◌, ◌<◌, ◌≤◌, List, length, refl, sym, ap, ◌∙◌, subst, arith}
+use Rattle.std.proofs.Common.{ℕ, List, refl, ap, ◌∙◌, arith}
 use Rattle.std.specs.Prelude.{slice_index}
-use Rattle.rtr_types.specs.declared.instr.Instr.{Instr}
 use Rattle.rtr_types.specs.declared.pairs.Which.{Which}
 use Rattle.log_codec.specs.declared.recording.Recording.{Recording}
 use Rattle.log_codec.specs.Validity.{Valid}
 use Rattle.replay_core.specs.Plans.{plan_of}
 use Rattle.replay_core.specs.Orders.{low_order}
-use Rattle.replay_audit.specs.Determinate.{IsDeterminate, low_outcome}
+use Rattle.replay_audit.specs.Determinate.{IsDeterminate}
 use Rattle.replay_audit.proofs.Agreed.{every_order_law}
 use Rattle.replay_table.specs.Seats.{Ended as AnEnd, IsEnd, Sitting}
 use Rattle.replay_threads.specs.declared.turns.Turn.{Turn}
@@ -65,3 +64,6 @@ ends_published which r x y z (Waiting of) same h = record {
 }
 ends_published which r x y z Short same h = record { below = rw same.core h.below; done = rw same.core h.done; undetermined = h.undetermined }
 ends_published which r x y z Raced same h = record { failed = let e = same.failed in let u = h.failed in omega arith; undetermined = h.undetermined }
+
+-- what a turn's loop goes by
+pub ruleset turns_go_on = (goes_none, goes_then, ends_sooner, ends_published)

@@ -1,8 +1,8 @@
 -- A core that is done below its total leaves the recording open.
 use Rattle.std.proofs.Common.{◌≡◌, ℕ, ◌<◌, ◌≤◌, true, false, List, [], ◌∷◌, ◌++◌, length, ap, sym, ◌∙◌}
+use Rattle.std.proofs.lemmas.Bool.{true≢false}
 use Rattle.rtr_types.specs.declared.pairs.Which.{Which}
 use Rattle.rv_core.specs.declared.core_state.Core.{Core}
-use Rattle.rv_core.specs.declared.core_state.Need.{Need}
 use Rattle.rv_core.specs.Steps.{need, is_done}
 use Rattle.log_codec.specs.declared.recording.Recording.{Recording}
 use Rattle.log_codec.specs.Validity.{Valid}
@@ -15,9 +15,6 @@ use Rattle.replay_audit.specs.Determinate.{IsDeterminate}
 use Rattle.replay_audit.proofs.Ahead.{due_ready}
 use Rattle.replay_audit.proofs.Agreed.{every_order_law}
 
-true_false : true ≡ false → ⊥
-true_false e = cc
-
 -- an order that plays to a core which is due and done goes on to one that falls short, and in a determinate recording none
 -- does
 pub short_open : (which : Which) (r : Recording) (order : List ℕ) (f : ℕ → ℕ) (k : Core) → Valid r → IsReplayOrder (plan_of which r) order →
@@ -29,4 +26,4 @@ short_open which r order f k valid ord le lt at due done det =
     let longer : IsReplayOrder p (order ++ k.id ∷ []) = (one_more p order k.id ord).1 ready in
     let plays = (every_order_law which r (low_order p) (order ++ k.id ∷ []) valid det longer).plays in
     let last : is_done (need_at p (play p (start p) order) k.id) ≡ false = ((plays_on p (start p) order (k.id ∷ [])).0 plays).1.0 in
-    true_false (sym done ∙ ap (λ (x : Core). is_done (need p.image x)) (sym at) ∙ last)
+    true≢false (sym done ∙ ap (λ (x : Core). is_done (need p.image x)) (sym at) ∙ last)

@@ -1,6 +1,6 @@
 -- What each call of the table does to a seat, as far as a turn goes by it.
 use Rattle.std.proofs.Common.{◌≡◌, ◌≢◌, ℕ, ◌+◌, ◌<◌, ◌≤◌, eq-eqb, ne_eqb, true, List, [], ◌∷◌, length, refl, sym, ap, ◌∙◌, subst, arith}
-use Rattle.std.specs.Prelude.{slice_index, Some, None, Result, Ok, Err}
+use Rattle.std.specs.Prelude.{slice_index, Some, None, Ok, Err}
 use Rattle.rtr_types.specs.declared.pairs.Which.{Which}
 use Rattle.image_mem.specs.Contents.{Contents}
 use Rattle.rv_core.specs.declared.core_state.Core.{Core}
@@ -15,7 +15,7 @@ use Rattle.replay_table.specs.declared.view.Own.{Own}
 use Rattle.replay_table.specs.declared.view.View.{View}
 use Rattle.replay_table.specs.Aheads.{Due}
 use Rattle.replay_table.specs.Rule.{seen_of, Reached}
-use Rattle.replay_table.specs.Kinds.{SeesDone, LoadsWord, HoldsWord, StoresWord, ExchangesWord, PublishesCount, alone_with, exchanged, retired}
+use Rattle.replay_table.specs.Kinds.{SeesDone, LoadsWord, HoldsWord, StoresWord, PublishesCount, alone_with, exchanged, retired}
 use Rattle.replay_table.specs.Seats.{Sitting, AtRest, Exchanged}
 use Rattle.replay_core.specs.Orders.{counts, nought}
 use Rattle.replay_threads.specs.Turns.{Continues, Looks, FallsShort, HasRaced, IsReached, Publishes}

@@ -14,20 +14,34 @@ use rtr_types::Instr;
 /// the awaited core is worked by the same group: it can't get on meanwhile.
 const LOADS: u32 = 64;
 
-/// The same where the awaited core is worked beside it. It is about as long as a round takes to begin.
-const LOADS_BESIDE: u32 = 16_384;
+/// The same where the awaited core is worked beside it, by a group that has others too: it may not have its turn
+/// now, so the wait is a short one.
+const LOADS_BESIDE: u32 = 1_024;
+
+/// The same where each group has one core alone, so that the awaited one is worked at the same time unless its
+/// turn has ended. It is much longer than a thread takes to begin, or to get its processor back.
+const LOADS_ALONE: u32 = 4_194_304;
+
+/// How the cores are shared out among the groups that are worked at a time.
+#[derive(Clone, Copy)]
+pub(crate) struct Crew {
+    /// How many groups there are: core c is in group c mod `groups`.
+    pub(crate) groups: u8,
+    /// Whether each group has one core alone.
+    pub(crate) alone: bool,
+}
 
 /// Loads done words until all logged sources of the next instruction are seen. Answers one that isn't
 /// where its core didn't get on for long enough.
 #[tactic(auto, using(crate::proofs::Ends::looks_none, crate::proofs::Ends::looks_then))]
 pub(crate) fn wait<J: Job>(
     seat: &mut CoreSeat<J>,
-    groups: u8,
+    crew: Crew,
     table: &ReplayTable<J>,
 ) -> Option<Instr>
     requires table { seat.old.table_id ≡ table.now }
     requires below { seat.old.core.count < slice_index J.recording.totals seat.old.core.id }
-    requires groups { 0 < groups }
+    requires groups { 0 < crew.groups }
     ensures looks { Looks seat.old seat.new }
     ensures none { IfNone result (Due (plan_of J.which J.recording) (seen_of seat.new.view) seat.new.core) }
     ensures some { IfSome result (λ of. Awaits J.which J.recording of seat.old seat.new) }
@@ -35,7 +49,7 @@ pub(crate) fn wait<J: Job>(
     while let Some(of) = seat.unmet() {
         publish(seat, table);
         let own = seat.core().id();
-        if !await_source(seat, of, patience(own, of.core, groups), table) {
+        if !await_source(seat, of, patience(own, of.core, crew), table) {
             return Some(of);
         }
     }
@@ -54,7 +68,7 @@ fn await_source<J: Job>(
     requires table { seat.old.table_id ≡ table.now }
     requires core { of.core < length J.recording.totals }
     requires unseen { seen_of seat.old.view of.core < of.count }
-    requires patience { (64 ≤ patience) × (patience ≤ 16384) }
+    requires patience { (64 ≤ patience) × (patience ≤ 4194304) }
     ensures looks { Looks seat.old seat.new }
     ensures seen { IsTrue result → to_see seat.new.view < to_see seat.old.view }
     ensures unseen { result ≡ false → (seen_of seat.new.view of.core < of.count)
@@ -99,12 +113,14 @@ pub(crate) fn publish<J: Job>(seat: &mut CoreSeat<J>, table: &ReplayTable<J>)
 
 /// How many loads in a row that bring nothing new are enough for a worker of core `own` that waits for core
 /// `of`.
-fn patience(own: u8, of: u8, groups: u8) -> u32
-    requires { 0 < groups }
-    ensures { (64 ≤ result) × (result ≤ 16384) }
+fn patience(own: u8, of: u8, crew: Crew) -> u32
+    requires { 0 < crew.groups }
+    ensures { (64 ≤ result) × (result ≤ 4194304) }
 {
-    if of % groups == own % groups {
+    if of % crew.groups == own % crew.groups {
         LOADS
+    } else if crew.alone {
+        LOADS_ALONE
     } else {
         LOADS_BESIDE
     }

@@ -6,6 +6,7 @@ ghost use Rattle.replay_threads.specs.Turns.{Continues, EndsBy, HasEnded, IsReac
 
 use crate::gate::Gate;
 use crate::turns::{Turn, run};
+use crate::waits::Crew;
 use log_codec::Recording;
 use replay_table::{CoreSeat, Job, ReplayTable};
 use rtr_types::Which;
@@ -17,7 +18,7 @@ use std::marker::Model;
 pub struct Worker<'a, J: Job> {
     recording: &'a Recording,
     which: Which,
-    groups: u8,
+    crew: Crew,
     seat: CoreSeat<J>,
 }
 
@@ -29,7 +30,7 @@ impl<'a, J: Job> Model for Worker<'a, J> {
 
     ghost view = { λ w. w.seat };
 
-    ghost invariant = { λ w. WorksOn J.which J.recording w.which w.recording.now w.groups };
+    ghost invariant = { λ w. WorksOn J.which J.recording w.which w.recording.now w.crew.groups };
 }
 
 impl<'a, J: Job> Worker<'a, J> {
@@ -43,7 +44,10 @@ impl<'a, J: Job> Worker<'a, J> {
         Worker {
             recording,
             which,
-            groups: 1,
+            crew: Crew {
+                groups: 1,
+                alone: false,
+            },
             seat,
         }
     }
@@ -64,7 +68,10 @@ impl<'a, J: Job> Worker<'a, J> {
         Worker {
             recording,
             which,
-            groups,
+            crew: Crew {
+                groups,
+                alone: recording.params.cores <= groups,
+            },
             seat,
         }
     }
@@ -97,6 +104,6 @@ impl<'a, J: Job> Worker<'a, J> {
     {
         let core = self.seat.core().id();
         let total = self.recording.totals.as_slice()[core as usize];
-        run(&mut self.seat, total, self.groups, table, gate)
+        run(&mut self.seat, total, self.crew, table, gate)
     }
 }

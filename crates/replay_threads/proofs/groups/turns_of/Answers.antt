@@ -1,4 +1,4 @@
-use Rattle.std.proofs.Common.{◌<◌, arith}
+use Rattle.std.proofs.Common.{arith}
 use Rattle.replay_threads.proofs.Dealing.{ids_same}
 use Rattle.replay_threads.proofs.groups.turns_of.Goals as goal
 

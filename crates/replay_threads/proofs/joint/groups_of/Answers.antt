@@ -1,8 +1,7 @@
-use Rattle.std.proofs.Common.{◌≡◌, ◌+◌, ◌-◌, ◌<◌, ◌%◌, ℕ, List, length, take, drop, ap, refl, sym, subst, arith, ◌∙◌}
+use Rattle.std.proofs.Common.{◌≡◌, ◌+◌, ◌<◌, ◌%◌, List, drop, ap, refl, sym, subst, arith, ◌∙◌}
 use Rattle.std.proofs.Common.{get_or}
 use Rattle.std.proofs.lemmas.Option.{get_or_from_slice_get}
 use Rattle.std.proofs.lemmas.Nat.{mod_below}
-use Rattle.atomic_table.specs.Seated.{TableId}
 use Rattle.log_codec.specs.declared.recording.Recording.{Recording}
 use Rattle.replay_table.specs.Seats.{Sitting}
 use Rattle.replay_threads.specs.Groups.{Grouped, AreAt, AreGrouped, IsGivenTo}

@@ -1,8 +1,7 @@
-use Rattle.std.proofs.Common.{◌≡◌, ◌+◌, ◌-◌, ◌<◌, ◌%◌, suc, ℕ, List, ◌∷◌, length, take, drop, ap, refl, sym, subst, arith, ◌∙◌}
+use Rattle.std.proofs.Common.{◌≡◌, ◌+◌, ◌-◌, ◌<◌, ◌%◌, ℕ, List, ◌∷◌, length, ap, sym, subst, arith, ◌∙◌}
 use Rattle.std.specs.Prelude.{All, []}
 use Rattle.std.specs.List.{range_with_len}
 use Rattle.std.proofs.lemmas.Nat.{mod_below}
-use Rattle.atomic_table.specs.Seated.{TableId}
 use Rattle.replay_table.specs.Seats.{Sitting}
 use Rattle.replay_threads.specs.Groups.{Grouped, AllAt, AllDone, AreAt, AreGrouped, IsDone, IsGivenTo, ids_of, workers_at}
 use Rattle.replay_threads.proofs.Dealing.{written, range_more, all_cons, all_seats, at_less, some_last, taken_last}

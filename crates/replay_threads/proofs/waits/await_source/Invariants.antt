@@ -15,4 +15,4 @@ invariant-loop-idle g l = record {
 }
 
 abbrev pub decreases-loop-idle : goal.decreases-loop-idle
-decreases-loop-idle g l = to_see l.seat.view * 20000 + (l.patience - l.idle)
+decreases-loop-idle g l = to_see l.seat.view * 5000000 + (l.patience - l.idle)

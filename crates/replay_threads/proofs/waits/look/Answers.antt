@@ -1,4 +1,4 @@
-use Rattle.std.proofs.Common.{◌≡◌, ◌<◌, refl, arith}
+use Rattle.std.proofs.Common.{refl, arith}
 use Rattle.replay_core.specs.Plans.{plan_of}
 use Rattle.replay_threads.proofs.Looking.{sees_most, sees_more}
 use Rattle.replay_threads.proofs.Steps.{see_looks}
