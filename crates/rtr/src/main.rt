@@ -4,7 +4,8 @@
 
 mod progress;
 
-use rtr_cli::run_tool;
+use replay_threads::OpenGate;
+use rtr_cli::{Ended, run_tool};
 use rtr_io::{StdSink, StdSource, write_all};
 use state_text::{Exit, fault_text};
 use std::alloc::Global;
@@ -18,13 +19,18 @@ fn main(rt: HostRuntime) -> ExitCode {
     let mut report = StdSink::new(rt.stderr());
     progress::show(&rt, rt.stderr());
     let exit = match words(&rt) {
-        Ok(words) => run_tool(
-            rt.alloc(),
-            words.as_slice(),
-            &mut input,
-            &mut output,
-            &mut report,
-        ),
+        Ok(words) => {
+            let Ended { exit, .. } = run_tool(
+                &rt,
+                rt.alloc(),
+                words.as_slice(),
+                &mut input,
+                &mut output,
+                &mut report,
+                &OpenGate,
+            );
+            exit
+        }
         Err(exit) => {
             // There is no one to tell of a fault of the report.
             let _ = write_all(&mut report, fault_text(&exit).bytes());

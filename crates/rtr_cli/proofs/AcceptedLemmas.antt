@@ -138,7 +138,7 @@ no_reason Print input a = record {
   faultless = λ fault h. h;
   holds = λ h. h;
 }
-no_reason (Replay which loads) input a = record {
+no_reason (Replay which threads loads) input a = record {
   read = λ part h. is_read (whole_at input) IsOfRecord part a h;
   present = λ at h. h;
   audited = λ fault h.

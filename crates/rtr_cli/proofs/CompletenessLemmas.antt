@@ -79,7 +79,7 @@ accepted_recording out r is h =
     let any : SpellsSome (whole_at out) (λ q. Unit {0}) = subst (λ (read : Result Recording ℕ). SpellsSome read (λ q. Unit {0})) (sym is) tt in
     record {
       printed = any;
-      replayed = λ which loads. of_record;
+      replayed = λ which threads loads. of_record;
       told = λ which at latest loads has. both_hold (whole_at out) IsOfRecord (λ q. IsInstrOf q at) of_record has;
       thinned = λ certify few. both_hold (whole_at out) IsOfRecord AreFew of_record few;
       migrated = any;

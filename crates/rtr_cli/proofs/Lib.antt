@@ -2,6 +2,7 @@ pub mod ReasonLemmas
 pub mod AcceptedLemmas
 pub mod RecordingLemmas
 pub mod RefusalLemmas
+pub mod JointLemmas
 pub mod Migrated
 pub mod Certified
 pub mod CompletenessLemmas

@@ -57,7 +57,7 @@ keeps_run params choices seed input fits room =
       recorded = recorded;
       regulates = run_regulated image params schedule fits refl room;
       replays = replays;
-      prints = λ which loads out.
+      prints = λ which threads loads out.
           let same : replay_lines which loads r ≡ state_lines (outcome_of image params schedule) image loads =
           ap (λ (o : Outcome). state_lines o (replayed_image r) loads) (replays which).low
           ∙ ap (λ (i : Contents). state_lines (outcome_of image params schedule) i loads) (replays which).image_is in (
@@ -66,7 +66,7 @@ keeps_run params choices seed input fits room =
                 subst (λ (read : Result Recording ℕ). SpellsSome read (λ q. out ≡ replay_lines which loads q)) (sym recorded.read_back)
                 (ran ∙ sym same)),
           );
-      refuses = λ which loads exit it. accepted_is_not_refused (Replay which loads) (spelling r) exit accepted it;
+      refuses = λ which threads loads exit it. accepted_is_not_refused (Replay which threads loads) (spelling r) exit accepted it;
       certified = λ exit it. accepted_is_not_refused Certify (spelling r) exit accepted it;
     }
 

@@ -1,5 +1,6 @@
 -- What is thinned is determinate by its regulated log.
 use Rattle.std.proofs.Common.{◌≡◌, ◌∙◌, refl, sym, ap, subst, Bool, false, List, ℕ, Result, Ok, Err}
+use Rattle.std.specs.Prelude.{Option}
 use Rattle.rtr_types.specs.declared.pairs.Which.{Which}
 use Rattle.rtr_types.specs.declared.pairs.Which.TheVariants.{Regulated}
 use Rattle.log_codec.specs.declared.recording.Recording.{Recording}
@@ -20,8 +21,9 @@ use Rattle.rtr_cli.proofs.AcceptedLemmas.{determinate_not_audited}
 use Rattle.rtr_cli.proofs.ReasonLemmas.{HasNoReason, both_said, is_read, memory_alone}
 
 -- nothing speaks against a replay of what is determinate
-replayed : (loads : Bool) (out : List ℕ) → SpellsSome (whole_at out) (IsDeterminate Regulated) → HasNoReason (Replay Regulated loads) out
-replayed loads out a = record {
+replayed : (threads : Option ℕ) (loads : Bool) (out : List ℕ) → SpellsSome (whole_at out) (IsDeterminate Regulated)
+    → HasNoReason (Replay Regulated threads loads) out
+replayed threads loads out a = record {
   read = λ part h. is_read (whole_at out) (IsDeterminate Regulated) part a h;
   present = λ at h. h;
   audited = λ fault h.
@@ -86,5 +88,5 @@ thin_check_ends t (faults.Undetermined first second) it = it
 thin_check_ends t faults.OutOfMemory it = tt
 
 pub thinned_is_replayed : ThinnedIsReplayed
-thinned_is_replayed loads input out exit made refused =
-    memory_alone (Replay Regulated loads) out exit (replayed loads out (thinned_reads out (whole_at input) made)) refused
+thinned_is_replayed threads loads input out exit made refused =
+    memory_alone (Replay Regulated threads loads) out exit (replayed threads loads out (thinned_reads out (whole_at input) made)) refused

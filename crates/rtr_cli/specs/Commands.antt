@@ -68,7 +68,7 @@ abbrev pub most_of : Command → Option ℕ
 most_of (Record run) = Some (run_bytes_max run)
 most_of (Run run loads) = Some (run_bytes_max run)
 most_of Print = Some file_bytes_max
-most_of (Replay which loads) = Some file_bytes_max
+most_of (Replay which threads loads) = Some file_bytes_max
 most_of Migrate = Some file_bytes_max
 most_of Certify = Some file_bytes_max
 most_of Check = Some file_bytes_max
@@ -179,7 +179,7 @@ abbrev pub Makes : Command → (input out : List ℕ) → Type 0
 Makes (Record run) input out = SpellsSome (loaded run input) (λ bytes. out ≡ recorded_bytes run bytes)
 Makes (Run run loads) input out = SpellsSome (loaded run input) (λ bytes. out ≡ run_lines run loads bytes)
 Makes Print input out = SpellsSome (whole_at input) (λ r. out ≡ logs_lines r)
-Makes (Replay which loads) input out = SpellsSome (whole_at input) (λ r. out ≡ replay_lines which loads r)
+Makes (Replay which threads loads) input out = SpellsSome (whole_at input) (λ r. out ≡ replay_lines which loads r)
 Makes Migrate input out = SpellsSome (whole_at input) (λ r. out ≡ spelling r)
 Makes Certify input out = SpellsSome (whole_at input) (λ r. IsCertified r out)
 Makes Check input out = SpellsSome (certificate_at input) (λ c. out ≡ checked_lines c)
@@ -197,7 +197,7 @@ abbrev pub IsUnread : Command → (input : List ℕ) → ℕ → Type 0
 IsUnread (Record run) input part = ⊥
 IsUnread (Run run loads) input part = ⊥
 IsUnread Print input part = whole_at input ≡ Err part
-IsUnread (Replay which loads) input part = whole_at input ≡ Err part
+IsUnread (Replay which threads loads) input part = whole_at input ≡ Err part
 IsUnread Migrate input part = whole_at input ≡ Err part
 IsUnread Certify input part = whole_at input ≡ Err part
 IsUnread Check input part = certificate_at input ≡ Err part
@@ -219,7 +219,7 @@ abbrev pub AuditFails : Command → (input : List ℕ) → AuditFault → Type 0
 AuditFails (Record run) input fault = ⊥
 AuditFails (Run run loads) input fault = ⊥
 AuditFails Print input fault = ⊥
-AuditFails (Replay which loads) input fault = SpellsSome (whole_at input) (λ r. AuditRefuses which r fault)
+AuditFails (Replay which threads loads) input fault = SpellsSome (whole_at input) (λ r. AuditRefuses which r fault)
 AuditFails Migrate input fault = ⊥
 AuditFails Certify input fault = SpellsSome (whole_at input) (λ r. AuditRefuses Reduced r fault)
 AuditFails Check input fault = SpellsSome (certificate_at input) (λ c. AuditRefuses Reduced c.recording fault)
@@ -255,7 +255,7 @@ abbrev pub IsNotShown : Command → (input : List ℕ) → CheckFailure → Type
 IsNotShown (Record run) input failure = ⊥
 IsNotShown (Run run loads) input failure = ⊥
 IsNotShown Print input failure = ⊥
-IsNotShown (Replay which loads) input failure = ⊥
+IsNotShown (Replay which threads loads) input failure = ⊥
 IsNotShown Migrate input failure = ⊥
 IsNotShown Certify input failure = SpellsSome (whole_at input) (λ r. IsNotLeast r failure)
 IsNotShown Check input failure = SpellsSome (certificate_at input) (λ c. CheckFails c failure)
@@ -270,7 +270,7 @@ abbrev pub IsFaulty : Command → (input : List ℕ) → ElfFault → Type 0
 IsFaulty (Record run) input fault = loaded run input ≡ Err fault
 IsFaulty (Run run loads) input fault = loaded run input ≡ Err fault
 IsFaulty Print input fault = ⊥
-IsFaulty (Replay which loads) input fault = ⊥
+IsFaulty (Replay which threads loads) input fault = ⊥
 IsFaulty Migrate input fault = ⊥
 IsFaulty Certify input fault = ⊥
 IsFaulty Check input fault = ⊥
@@ -285,7 +285,7 @@ abbrev pub Overflows : Command → Type 0
 Overflows (Record run) = ⊥
 Overflows (Run run loads) = ⊥
 Overflows Print = ⊥
-Overflows (Replay which loads) = ⊥
+Overflows (Replay which threads loads) = ⊥
 Overflows Migrate = ⊥
 Overflows Certify = ⊥
 Overflows Check = ⊥
@@ -397,11 +397,11 @@ pub record KeepsRun (params : Params) (choices : List ℕ) (seed : ℕ) (bytes :
       (recording_of_bytes params choices seed bytes)
   pub replays : (which : Which) → ReplaysRun (image_of params bytes) params (choices_of choices seed) which
       (recording_of_bytes params choices seed bytes)
-  pub prints : (which : Which) (loads : Bool) (out : List ℕ)
-      → Makes (Replay which loads) (spelling (recording_of_bytes params choices seed bytes)) out
+  pub prints : (which : Which) (threads : Option ℕ) (loads : Bool) (out : List ℕ)
+      → Makes (Replay which threads loads) (spelling (recording_of_bytes params choices seed bytes)) out
       ↔ Makes (Run (flat_run params choices seed) loads) bytes out
-  pub refuses : (which : Which) (loads : Bool) (exit : Exit)
-      → Refuses (Replay which loads) (spelling (recording_of_bytes params choices seed bytes)) exit
+  pub refuses : (which : Which) (threads : Option ℕ) (loads : Bool) (exit : Exit)
+      → Refuses (Replay which threads loads) (spelling (recording_of_bytes params choices seed bytes)) exit
       → exit ≡ exits.OutOfMemory
   pub certified : (exit : Exit) → Refuses Certify (spelling (recording_of_bytes params choices seed bytes)) exit
       → exit ≡ exits.OutOfMemory
@@ -418,7 +418,7 @@ abbrev pub Promised : Command → (input : List ℕ) → Type 0
 Promised (Record run) input = SpellsSome (loaded run input) (λ bytes. KeepsRun run.params run.choices run.seed bytes)
 Promised (Run run loads) input = Unit {0}
 Promised Print input = Unit {0}
-Promised (Replay which loads) input = SpellsSome (whole_at input) (λ r. IsReplayed which r)
+Promised (Replay which threads loads) input = SpellsSome (whole_at input) (λ r. IsReplayed which r)
 Promised Migrate input = Unit {0}
 Promised Certify input = SpellsSome (whole_at input) (λ r. IsDeterminate Reduced r × IsLeastIn r)
 Promised Check input = SpellsSome (certificate_at input) (λ c. Checks c)
@@ -445,8 +445,8 @@ AtMakesOne = (which : Which) (at : Instr) (latest loads : Bool) (input out other
 
 -- the recording that thin makes of an input is refused by a replay of its regulated log for want of memory alone
 abbrev pub ThinnedIsReplayed : Type 0
-ThinnedIsReplayed = (loads : Bool) (input out : List ℕ) (exit : Exit) → Makes (Thin false) input out →
-    Refuses (Replay Regulated loads) out exit → exit ≡ exits.OutOfMemory
+ThinnedIsReplayed = (threads : Option ℕ) (loads : Bool) (input out : List ℕ) (exit : Exit) →
+    Makes (Thin false) input out → Refuses (Replay Regulated threads loads) out exit → exit ≡ exits.OutOfMemory
 
 -- what certify makes is refused by check for want of memory alone
 abbrev pub CertifiedIsAccepted : Type 0

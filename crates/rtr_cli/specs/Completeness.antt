@@ -62,7 +62,7 @@ abbrev pub Accepts : Command → (input : List ℕ) → Type 0
 Accepts (Record run) input = SpellsSome (loaded run input) (λ bytes. Unit {0})
 Accepts (Run run loads) input = SpellsSome (loaded run input) (λ bytes. Unit {0})
 Accepts Print input = SpellsSome (whole_at input) (λ r. Unit {0})
-Accepts (Replay which loads) input = SpellsSome (whole_at input) IsOfRecord
+Accepts (Replay which threads loads) input = SpellsSome (whole_at input) IsOfRecord
 Accepts Migrate input = SpellsSome (whole_at input) (λ r. Unit {0})
 Accepts Certify input = SpellsSome (whole_at input) IsOfRecord
 Accepts Check input = SpellsSome (certificate_at input) IsOfCertify
@@ -97,7 +97,7 @@ AcceptedIsNotRefused = (command : Command) (input : List ℕ) (exit : Exit) → 
 -- and printed
 pub record RecordingIsAccepted (out : List ℕ) : Type 0 where
   pub printed : Accepts Print out
-  pub replayed : (which : Which) (loads : Bool) → Accepts (Replay which loads) out
+  pub replayed : (which : Which) (threads : Option ℕ) (loads : Bool) → Accepts (Replay which threads loads) out
   pub told : (which : Which) (at : Instr) (latest loads : Bool) → SpellsSome (whole_at out) (λ r. IsInstrOf r at)
       → Accepts (At which at latest loads) out
   pub thinned : (certify : Bool) → SpellsSome (whole_at out) AreFew → Accepts (Thin certify) out

@@ -88,7 +88,7 @@ pub(crate) fn make(alloc: Global, command: Command, bytes: Vec<u8>) -> Result<Ve
             let recording = read(alloc, bytes.as_slice())?;
             Ok(logs_text(alloc, &recording)?)
         }
-        Command::Replay { which, loads } => {
+        Command::Replay { which, loads, .. } => {
             let recording = read(alloc, bytes.as_slice())?;
             replay(alloc, recording, which, loads)
         }

@@ -3,12 +3,14 @@
 
 mod commands;
 mod cuts;
+mod joint;
 mod laws;
 mod soak_texts;
 mod soaks;
 mod thins;
 mod tool;
 
+pub use joint::Ended;
 pub use laws::{at_laws, certify_laws, completeness_laws, migrate_laws, thin_laws};
 pub use soak_texts::soak_text;
-pub use tool::run_tool;
+pub use tool::{run_alone, run_tool};

@@ -1,5 +1,6 @@
 //! The top call.
-ghost use Rattle.std.specs.Prelude.{◌≡◌, ◌≢◌, ◌↔◌, ◌≤◌, ◌⊎◌, ℕ, IfOk, IsErrOf, List, None, Some, map, string_bytes};
+ghost use Rattle.std.specs.Prelude.{◌≡◌, ◌≢◌, ◌↔◌, ◌≤◌, ◌⊎◌, ℕ, IfNone, IfOk, IfSome, IsErrOf, List, None, Some, map};
+ghost use Rattle.std.specs.Prelude.{string_bytes};
 ghost use Rattle.std.specs.Io.KnownBytes.{Keeps};
 ghost use Rattle.rtr_io.specs.Faults.{HasRisen, IsUnlessFault};
 ghost use Rattle.state_text.specs.Exits.{fault_line};
@@ -8,12 +9,18 @@ ghost use Rattle.tool_words.specs.Reading.{meaning};
 ghost use Rattle.rtr_cli.specs.Answers.{Answers, HasMore, IsTaken, IsTakenUpTo, Tells, one_more};
 ghost use Rattle.rtr_cli.specs.Commands.{most_of};
 ghost use Rattle.rtr_cli.specs.Completeness.{Accepts, EndsWell, HasLeft, IsFaultless};
+ghost use Rattle.rtr_cli.specs.Joints.{PrintsSome, asked_by};
+ghost use Rattle.rtr_cli.specs.declared.joint.Asked.{Asked};
 ghost use Rattle.tool_words.specs.declared.command.Command.{Command};
 
 use crate::commands::{make, most_of};
+use crate::joint::{Asked, Ended, perform_joint};
+use replay_threads::Gate;
 use rtr_io::{ReadEnd, Sink, Source, WriteFault, read_all, write_all};
 use state_text::{Exit, fault_text};
 use std::alloc::{AllocError, Global};
+use std::sync::Wait;
+use std::thread::Threads;
 use tool_words::{Command, meaning, what_words_mean_fits};
 
 /// Does what the words mean: reads the input to its end, gives the output, and tells the report how it
@@ -40,18 +47,92 @@ use tool_words::{Command, meaning, what_words_mean_fits};
 /// Likewise `TooMany` comes in `thin` alone, exactly where there are more vectors or more edges of them than are tried,
 /// and `NotShown` in `checkthin` alone, exactly where a vector isn't shown to be needed, with the first such.
 /// `ReadFault` and `WriteFault` come only where the count of faults of the input or the output rose in this
-/// call, and `OutOfMemory` for want of memory alone. At `ReadFault` at most the bytes were taken that the command takes,
-/// and at `OutOfMemory` at most one more. The whole output is made before a byte is given, so
+/// call, and `OutOfMemory` for want of memory alone. At `ReadFault` at most the bytes were taken that the command
+/// takes, and at `OutOfMemory` at most one more. The whole output is made before a byte is given, so
 /// every refusal but `WriteFault` has given nothing. The report gets the exit's text, which is empty for
 /// `Done`; its faults change no exit.
+///
+/// `replay` with `--threads` is done by workers, whose instructions pass the gate one by one; no replay and no audit
+/// comes before. What it prints and how it ends is the same as without. The answer then has the table that the
+/// workers shared, closed. There the call may wait, for its workers alone, and what it promises holds if it returns.
 #[tactic(auto, using(crate::proofs::RefusalLemmas::none_taken))]
-pub fn run_tool<I: Source, O: Sink, E: Sink>(
+pub fn run_tool<R: Threads + Wait + Sync, I: Source, O: Sink, E: Sink, G: Gate>(
+    rt: &R,
+    alloc: Global,
+    words: &[String],
+    input: &mut I,
+    output: &mut O,
+    report: &mut E,
+    gate: &G,
+) -> Ended
+    ensures usage { (result.exit ≡ Exit.Usage) ↔ (meaning (map string_bytes words.now) ≡ None) }
+    ensures untouched { result.exit ≡ Exit.Usage → Keeps (I.left input.old) (I.left input.new)
+        × Keeps (O.got output.old) (O.got output.new) }
+    ensures answered { (command : Command) → meaning (map string_bytes words.now) ≡ Some command →
+        Answers command result.exit (I.left input.old) (I.left input.new) (O.got output.old) (O.got output.new) }
+
+    // Faults of the input and the output are told apart by their counts.
+    ensures read_fault { result.exit ≡ Exit.ReadFault → HasRisen (I.faults input.old) (I.faults input.new) }
+    ensures no_read_fault { (result.exit ≡ Exit.ReadFault) ⊎ (I.faults input.new ≡ I.faults input.old) }
+    ensures write_fault { result.exit ≡ Exit.WriteFault → HasRisen (O.faults output.old) (O.faults output.new) }
+    ensures no_write_fault { (result.exit ≡ Exit.WriteFault) ⊎ (O.faults output.new ≡ O.faults output.old) }
+
+    // A command that takes no input leaves it as it was.
+    ensures untaken { (command : Command) → meaning (map string_bytes words.now) ≡ Some command →
+        most_of command ≡ None → Keeps (I.left input.old) (I.left input.new)
+        × (I.faults input.new ≡ I.faults input.old) }
+
+    // Of what it accepts a command makes its whole output, unless memory runs out or a stream fails.
+    ensures complete { (command : Command) (bytes : List ℕ) → meaning (map string_bytes words.now) ≡ Some command →
+        HasLeft (most_of command) (I.left input.old) bytes → Accepts command bytes →
+        IsFaultless (I.faults input.old) (I.faults input.new) →
+        IsFaultless (O.faults output.old) (O.faults output.new) → EndsWell result.exit }
+
+    ensures told { Tells (fault_line result.exit) (E.got report.old) (E.got report.new) (E.faults report.old)
+        (E.faults report.new) }
+
+    // A closed table comes exactly where words with `--threads` end at Done, whose output has what it comes to.
+    ensures joint { (asked : Asked) → asked_by (meaning (map string_bytes words.now)) ≡ Some asked →
+        IfNone result.joint (result.exit ≢ Exit.Done) }
+    ensures unasked { asked_by (meaning (map string_bytes words.now)) ≡ None → result.joint ≡ None }
+    ensures closed { IfSome result.joint (λ closed. (result.exit ≡ Exit.Done) × PrintsSome
+        (asked_by (meaning (map string_bytes words.now))) closed (I.left input.old) (I.left input.new)
+        (O.got output.old) (O.got output.new)) }
+{
+    what_words_mean_fits();
+    let meant = match meaning(alloc, words) {
+        Ok(meant) => meant,
+        Err(AllocError) => {
+            tell(report, &Exit::OutOfMemory);
+            return Ended {
+                exit: Exit::OutOfMemory,
+                joint: None,
+            };
+        }
+    };
+    match Asked::by(&meant) {
+        Some(asked) => {
+            let ended = perform_joint(rt, alloc, asked, input, output, gate);
+            tell(report, &ended.exit);
+            ended
+        }
+        None => Ended {
+            exit: run_alone(alloc, words, input, output, report),
+            joint: None,
+        },
+    }
+}
+
+/// Does what words without `--threads` mean, as `run_tool` does. It waits for nobody, and returns.
+#[tactic(auto, using(crate::proofs::RefusalLemmas::none_taken))]
+pub fn run_alone<I: Source, O: Sink, E: Sink>(
     alloc: Global,
     words: &[String],
     input: &mut I,
     output: &mut O,
     report: &mut E,
 ) -> Exit
+    requires { asked_by (meaning (map string_bytes words.now)) ≡ None }
     ensures usage { (result ≡ Exit.Usage) ↔ (meaning (map string_bytes words.now) ≡ None) }
     ensures untouched { result ≡ Exit.Usage → Keeps (I.left input.old) (I.left input.new)
         × Keeps (O.got output.old) (O.got output.new) }
@@ -125,7 +206,11 @@ fn perform<I: Source, O: Sink>(
 }
 
 /// The whole input, where at most so many bytes of it are taken; nothing is asked of it where none is taken.
-fn take<I: Source>(alloc: Global, most: Option<usize>, input: &mut I) -> Result<Vec<u8>, ReadEnd>
+pub(crate) fn take<I: Source>(
+    alloc: Global,
+    most: Option<usize>,
+    input: &mut I,
+) -> Result<Vec<u8>, ReadEnd>
     ensures bytes { IfOk result (λ bytes. IsTaken most (I.left input.old) (I.left input.new) bytes.items) }
     ensures too_large { IsErrOf result ReadEnd.TooLarge → HasMore most (I.left input.old) (I.left input.new) }
     ensures within { IsErrOf result ReadEnd.ReadFault → IsTakenUpTo most (I.left input.old) (I.left input.new) }

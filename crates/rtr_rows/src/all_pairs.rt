@@ -19,7 +19,7 @@ const LAST: u8 = 121;
 /// slli x5,x10,4; addi x6,x10,1; sw x6,256(x5); addi x7,x0,50; addi x7,x7,-1; bne x7,x0,-4; then sixteen loads,
 /// lw x8,256(x0) to lw x8,496(x0); ecall: each core writes a word of its own, goes round a loop for a hundred
 /// instructions while the others write theirs, and reads the words of all.
-const EACH_READS_ALL: &str = "93124500 13031500 23a06210 93032003 9383f3ff e39e03fe \
+pub const EACH_READS_ALL: &str = "93124500 13031500 23a06210 93032003 9383f3ff e39e03fe \
     03240010 03240011 03240012 03240013 03240014 03240015 03240016 03240017 \
     03240018 03240019 0324001a 0324001b 0324001c 0324001d 0324001e 0324001f \
     73000000";
@@ -71,13 +71,13 @@ fn text(alloc: Global) -> Result<String, AllocError> {
 fn each_core_comes_before_every_other(rt: HostRuntime) -> Result<(), Fail> {
     let alloc = rt.alloc();
     let words = "record --cores 16 --words 128 --seed 1";
-    let made = ask(alloc, words, bytes(alloc, EACH_READS_ALL)?)?;
+    let made = ask(&rt, alloc, words, bytes(alloc, EACH_READS_ALL)?)?;
     assert_eq!(rt; made.status, 0);
     assert!(rt; made.output.starts_with(front(alloc)?.as_slice()));
-    let said = ask(alloc, "print", made.output.clone()?)?;
+    let said = ask(&rt, alloc, "print", made.output.clone()?)?;
     assert!(rt; said.output.starts_with(text(alloc)?.as_bytes()));
-    let certificate = ask(alloc, "certify", made.output)?;
-    let check = ask(alloc, "check", certificate.output)?;
+    let certificate = ask(&rt, alloc, "certify", made.output)?;
+    let check = ask(&rt, alloc, "check", certificate.output)?;
     assert_eq!(rt; check.output.as_slice(), b"least 240 edges\n".as_slice());
     Ok(())
 }

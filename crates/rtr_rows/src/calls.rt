@@ -2,20 +2,24 @@
 
 use crate::record_tables::Recorded;
 use crate::tables::Row;
+use replay_threads::{Gate, OpenGate};
 use rtr_cli::run_tool;
 use rtr_io::{MemSink, MemSource};
 use std::alloc::{AllocError, Global};
+use std::sync::Wait;
+use std::thread::Threads;
 
 /// Room for the longest output of a row.
-const ROOM: usize = 200_000;
+const ROOM: usize = 1_000_000;
 
 /// More than any call moves.
 const ALL: usize = 1 << 20;
 
-/// How a call of the tool ended, and what it gave.
+/// How a call of the tool ended, whether with a closed table, and what it gave.
 #[derive(Drop)]
 pub struct Answer {
     pub status: u8,
+    pub joint: bool,
     pub output: Vec<u8>,
     pub report: Vec<u8>,
 }
@@ -88,21 +92,40 @@ pub fn recording_of(alloc: Global, row: &Recorded) -> Result<Vec<u8>, AllocError
     Ok(recording)
 }
 
-/// The tool's answer to these words and this input, where nothing fails.
-pub fn ask(alloc: Global, line: &str, input: Vec<u8>) -> Result<Answer, AllocError> {
+/// The tool's answer to these words and this input, where nothing fails and the gate stands open.
+pub fn ask<R: Threads + Wait + Sync>(
+    rt: &R,
+    alloc: Global,
+    line: &str,
+    input: Vec<u8>,
+) -> Result<Answer, AllocError> {
+    ask_at(rt, alloc, line, input, &OpenGate)
+}
+
+/// The same where workers pass this gate.
+pub fn ask_at<R: Threads + Wait + Sync, G: Gate>(
+    rt: &R,
+    alloc: Global,
+    line: &str,
+    input: Vec<u8>,
+    gate: &G,
+) -> Result<Answer, AllocError> {
     let words = words(alloc, line)?;
     let mut input = MemSource::new(input, Vec::new(alloc), ALL);
     let mut output = MemSink::new(alloc, ROOM, Vec::new(alloc), ALL)?;
     let mut report = MemSink::new(alloc, ROOM, Vec::new(alloc), ALL)?;
-    let exit = run_tool(
+    let ended = run_tool(
+        rt,
         alloc,
         words.as_slice(),
         &mut input,
         &mut output,
         &mut report,
+        gate,
     );
     Ok(Answer {
-        status: exit.status(),
+        status: ended.exit.status(),
+        joint: ended.joint.is_some(),
         output: output.bytes().to_vec(alloc)?,
         report: report.bytes().to_vec(alloc)?,
     })

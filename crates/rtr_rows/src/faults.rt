@@ -1,6 +1,7 @@
 //! Sources and sinks that fail.
 
 use crate::calls::{bytes, words};
+use replay_threads::OpenGate;
 use rtr_cli::run_tool;
 use rtr_io::{MemSink, MemSource};
 use std::alloc::Global;
@@ -73,16 +74,18 @@ fn a_fault_is_told_and_a_fault_of_the_report_changes_nothing(rt: HostRuntime) ->
         let mut input = MemSource::new(image, one(alloc, row.input_fails)?, 99);
         let mut output = MemSink::new(alloc, 99, one(alloc, row.output_fails)?, row.most.max(1))?;
         let mut report = MemSink::new(alloc, 99, one(alloc, row.report_fails)?, 99)?;
-        let exit = run_tool(
+        let ended = run_tool(
+            &rt,
             alloc,
             words.as_slice(),
             &mut input,
             &mut output,
             &mut report,
+            &OpenGate,
         );
         let mut given = bytes(alloc, OUTPUT)?;
         given.truncate(row.given);
-        assert_eq!(rt; exit.status(), row.status);
+        assert_eq!(rt; ended.exit.status(), row.status);
         assert_eq!(rt; output.bytes(), given.as_slice());
         assert_eq!(rt; report.bytes(), row.report.as_bytes());
     }

@@ -388,7 +388,7 @@ pub static EXAMPLES: [Row; 21] = [
 ];
 
 /// The steps of the lesson.
-pub static LESSON: [Row; 18] = [
+pub static LESSON: [Row; 20] = [
     answered!(
         "record --cores 2 --words 32 --choices 000001",
         LOST_UPDATE,
@@ -446,9 +446,16 @@ pub static LESSON: [Row; 18] = [
     ),
     answered!("replay --loads", LOST, "", LOST_STATE),
     answered!("replay --log regulated --loads", LOST, "", LOST_STATE),
+    answered!("replay --threads 2 --loads", LOST, "", LOST_STATE),
     // The edge from core 1 is left out; it is turned round; core 0 is said to have retired one more.
     refused!(
         "replay",
+        "52545202 02904e20 10832200 04938212 00232050 04730000 00040400 01030003 01010303 01010103",
+        6,
+        "rtr: no order from 0:3 to 1:1\n"
+    ),
+    refused!(
+        "replay --threads 2",
         "52545202 02904e20 10832200 04938212 00232050 04730000 00040400 01030003 01010303 01010103",
         6,
         "rtr: no order from 0:3 to 1:1\n"

@@ -28,3 +28,5 @@ mod tables;
 mod tests;
 #[cfg(test)]
 mod thin_tables;
+#[cfg(test)]
+mod worker_tests;

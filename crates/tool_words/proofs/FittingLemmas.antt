@@ -17,14 +17,15 @@ use Rattle.tool_words.specs.declared.command.Command.TheVariants.{At as StateAt}
 use Rattle.tool_words.specs.declared.command.Verb.{Verb}
 use Rattle.tool_words.specs.declared.command.Verb.TheVariants.{Record, Run, Print, Replay, Migrate, Certify, Check, Gen, Soak, At, Thin, CheckThin}
 use Rattle.tool_words.specs.declared.options.Name.{Name}
+use Rattle.tool_words.specs.declared.options.TheConstants.{THREADS_MAX}
 use Rattle.tool_words.specs.declared.options.Name.TheVariants.{Cores, Limit, Words, Choices, Seed, Log, Loads, Elf, Shape, Number}
-use Rattle.tool_words.specs.declared.options.Name.TheVariants.{Core, Count, Latest, Certified}
+use Rattle.tool_words.specs.declared.options.Name.TheVariants.{Core, Count, Latest, Certified, Threads}
 use Rattle.tool_words.specs.Settings.{Settings}
 use Rattle.tool_words.specs.Numerals.{is_numeral, number_between}
 use Rattle.tool_words.specs.Choices.{are_choices}
 use Rattle.tool_words.specs.Options.{are_together_few, is_set, log_named, no_settings, params_of, put}
 use Rattle.tool_words.specs.Options.{put_new, shape_named, which_of, whole_blocks, cores_default, limit_default, words_default}
-use Rattle.tool_words.specs.Commands.{HasFittingParams, MayBe, command_of, instr, named_instr, shaped, verb_named}
+use Rattle.tool_words.specs.Commands.{AreFewThreads, HasFittingParams, MayBe, command_of, instr, named_instr, shaped, verb_named}
 use Rattle.tool_words.specs.Reading.{Set, settings, settled, settled_by, few_together, FittingLaw}
 
 -- a number of cores that is set is in range, and so are a limit and a number of words
@@ -52,9 +53,10 @@ record Ranged : Type 0 where
   words : Option ℕ
   core : Option ℕ
   count : Option ℕ
+  threads : Option ℕ
 
 abbrev ranged : Settings → Ranged
-ranged s = record { cores = s.cores; limit = s.limit; words = s.words; core = s.core; count = s.count }
+ranged s = record { cores = s.cores; limit = s.limit; words = s.words; core = s.core; count = s.count; threads = s.threads }
 
 -- a count's range is that of a limit
 record AreFitting (r : Ranged) : Type 0 where
@@ -63,6 +65,7 @@ record AreFitting (r : Ranged) : Type 0 where
   words : WordsFit r.words
   core : CoreFits r.core
   count : LimitFits r.count
+  threads : AreFewThreads r.threads
 
 number_between-range : (least most n : ℕ) (text : List ℕ) → number_between least most text ≡ Some n → (least ≤ n) × (n ≤ most)
 unfolding number_between
@@ -119,15 +122,29 @@ put_new-fits : (s t : Settings) (name : Name) (text : List ℕ) → put_new s na
 put_new-fits s t Cores text h fit =
     let made = map-some (λ n. record s { cores = Some n }) (number_between 1 CORES_MAX text) t h in
     alike (record (ranged s) { cores = Some made.0 }) (ranged t) (ap ranged made.2)
-    (record { cores = number_between-range 1 CORES_MAX made.0 text made.1; limit = fit.limit; words = fit.words; core = fit.core; count = fit.count })
+    (record {
+      cores = number_between-range 1 CORES_MAX made.0 text made.1;
+      limit = fit.limit;
+      words = fit.words;
+      core = fit.core;
+      count = fit.count;
+      threads = fit.threads;
+    })
 put_new-fits s t Limit text h fit =
     let made = map-some (λ n. record s { limit = Some n }) (number_between 1 LIMIT_MAX text) t h in
     alike (record (ranged s) { limit = Some made.0 }) (ranged t) (ap ranged made.2)
-    (record { cores = fit.cores; limit = number_between-range 1 LIMIT_MAX made.0 text made.1; words = fit.words; core = fit.core; count = fit.count })
+    (record {
+      cores = fit.cores;
+      limit = number_between-range 1 LIMIT_MAX made.0 text made.1;
+      words = fit.words;
+      core = fit.core;
+      count = fit.count;
+      threads = fit.threads;
+    })
 put_new-fits s t Words text h fit =
     let made = map-some (λ n. record s { words = Some n }) (whole_blocks text) t h in
     alike (record (ranged s) { words = Some made.0 }) (ranged t) (ap ranged made.2)
-    (record { cores = fit.cores; limit = fit.limit; words = whole_blocks-range text made.0 made.1; core = fit.core; count = fit.count })
+    (record { cores = fit.cores; limit = fit.limit; words = whole_blocks-range text made.0 made.1; core = fit.core; count = fit.count; threads = fit.threads })
 put_new-fits s t Choices text h fit =
     let is : Some (record s { choices = Some text }) ≡ Some t = if-some (are_choices text) _ t h in
     let same : record s { choices = Some text } ≡ t = cc in
@@ -153,17 +170,35 @@ put_new-fits s t Number text h fit =
 put_new-fits s t Core text h fit =
     let made = map-some (λ n. record s { core = Some n }) (number_between 0 (CORES_MAX - 1) text) t h in
     alike (record (ranged s) { core = Some made.0 }) (ranged t) (ap ranged made.2)
-    (record { cores = fit.cores; limit = fit.limit; words = fit.words; core = core_range made.0 text made.1; count = fit.count })
+    (record { cores = fit.cores; limit = fit.limit; words = fit.words; core = core_range made.0 text made.1; count = fit.count; threads = fit.threads })
 put_new-fits s t Count text h fit =
     let made = map-some (λ n. record s { count = Some n }) (number_between 1 LIMIT_MAX text) t h in
     alike (record (ranged s) { count = Some made.0 }) (ranged t) (ap ranged made.2)
-    (record { cores = fit.cores; limit = fit.limit; words = fit.words; core = fit.core; count = number_between-range 1 LIMIT_MAX made.0 text made.1 })
+    (record {
+      cores = fit.cores;
+      limit = fit.limit;
+      words = fit.words;
+      core = fit.core;
+      count = number_between-range 1 LIMIT_MAX made.0 text made.1;
+      threads = fit.threads;
+    })
 put_new-fits s t Latest text h fit =
     let same : record s { latest = true } ≡ t = cc in
     alike (ranged s) (ranged t) (ap ranged same) fit
 put_new-fits s t Certified text h fit =
     let same : record s { certify = true } ≡ t = cc in
     alike (ranged s) (ranged t) (ap ranged same) fit
+put_new-fits s t Threads text h fit =
+    let made = map-some (λ n. record s { threads = Some n }) (number_between 1 THREADS_MAX text) t h in
+    alike (record (ranged s) { threads = Some made.0 }) (ranged t) (ap ranged made.2)
+    (record {
+      cores = fit.cores;
+      limit = fit.limit;
+      words = fit.words;
+      core = fit.core;
+      count = fit.count;
+      threads = number_between-range 1 THREADS_MAX made.0 text made.1;
+    })
 
 put-fits : (s t : Settings) (name : Name) (text : List ℕ) → put s name text ≡ Some t → AreFitting (ranged s) → AreFitting (ranged t)
 put-fits s t name text h fit = put_new-fits s t name text (if-none (is_set s name) (put_new s name text) t h) fit
@@ -178,7 +213,7 @@ settled_by-fits : (verb : Verb) (words : List (List ℕ)) (t : Settings) → set
 unfolding settled_by
 settled_by-fits verb words t h =
     let parts = and_then-some (settled no_settings) (settings verb words) t h in
-    settled-fits parts.0 no_settings t parts.2 (record { cores = tt; limit = tt; words = tt; core = tt; count = tt })
+    settled-fits parts.0 no_settings t parts.2 (record { cores = tt; limit = tt; words = tt; core = tt; count = tt; threads = tt })
 
 -- with a default for what isn't set
 cores-in : (o : Option ℕ) → CoresFit o → (1 ≤ unwrap_or o cores_default) × (unwrap_or o cores_default ≤ CORES_MAX)
@@ -239,7 +274,7 @@ command-fits : (verb : Verb) (s : Settings) (command : Command) → command_of v
 command-fits Record s command h fit few = of-command _ command h (params-fit s fit few)
 command-fits Run s command h fit few = of-command _ command h (params-fit s fit few)
 command-fits Print s command h fit few = of-command _ command h tt
-command-fits Replay s command h fit few = of-command _ command h tt
+command-fits Replay s command h fit few = of-command _ command h fit.threads
 command-fits Migrate s command h fit few = of-command _ command h tt
 command-fits Certify s command h fit few = of-command _ command h tt
 command-fits Check s command h fit few = of-command _ command h tt
@@ -258,7 +293,8 @@ command-fits CheckThin s command h fit few = of-command _ command h tt
 pub fitting_law : FittingLaw
 fitting_law [] command h = absurd (cc)
 fitting_law (first ∷ rest) command h =
-    let verb = and_then-some (λ v. option_and_then (command_of v) (option_and_then few_together (settled_by v no_settings rest))) (verb_named first) command h in
+    let verb = and_then-some (λ v. option_and_then (command_of v) (option_and_then few_together (settled_by v no_settings rest)))
+    (verb_named first) command h in
     let made = and_then-some (command_of verb.0) (option_and_then few_together (settled_by verb.0 no_settings rest)) command verb.2 in
     let set = and_then-some few_together (settled_by verb.0 no_settings rest) made.0 made.1 in
     let few = few-together set.0 made.0 set.2 in

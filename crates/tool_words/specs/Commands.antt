@@ -22,6 +22,7 @@ use Rattle.tool_words.specs.declared.command.Verb.{Verb}
 use Rattle.tool_words.specs.declared.command.Verb.TheVariants.{Record, Run, Print, Replay, Migrate}
 use Rattle.tool_words.specs.declared.command.Verb.TheVariants.{Certify, Check, Gen, Soak, At}
 use Rattle.tool_words.specs.declared.command.Verb.TheVariants.{Thin, CheckThin}
+use Rattle.tool_words.specs.declared.options.TheConstants.{THREADS_MAX}
 use Rattle.tool_words.specs.Settings.{Settings}
 use Rattle.tool_words.specs.Choices.{bytes_of}
 use Rattle.tool_words.specs.Options.{params_of, which_of}
@@ -71,7 +72,7 @@ abbrev pub command_of : Verb → Settings → Option Command
 command_of Record s = Some (RecordRun (run_of s))
 command_of Run s = Some (RunImage (run_of s) s.loads)
 command_of Print s = Some PrintLogs
-command_of Replay s = Some (ReplayRun (which_of s) s.loads)
+command_of Replay s = Some (ReplayRun (which_of s) s.threads s.loads)
 command_of Migrate s = Some MigrateRecording
 command_of Certify s = Some CertifyRecording
 command_of Check s = Some CheckCertificate
@@ -85,13 +86,18 @@ command_of CheckThin s = Some CheckThinned
 abbrev pub MayBe : Instr → Type 0
 MayBe at = (at.core < CORES_MAX) × (1 ≤ at.count) × (at.count ≤ LIMIT_MAX)
 
+-- the threads of a replay, where their number is set: one at the least
+abbrev pub AreFewThreads : Option ℕ → Type 0
+AreFewThreads None = Unit {0}
+AreFewThreads (Some n) = (1 ≤ n) × (n ≤ THREADS_MAX)
+
 -- the parameters of a command, where it has some, lie in their ranges, a shape that it names has an image of its
--- number, and an instruction that it names may be
+-- number, an instruction that it names may be, and so may its threads
 abbrev pub HasFittingParams : Command → Type 0
 HasFittingParams (RecordRun run) = Fits run.params
 HasFittingParams (RunImage run loads) = Fits run.params
 HasFittingParams PrintLogs = Unit {0}
-HasFittingParams (ReplayRun which loads) = Unit {0}
+HasFittingParams (ReplayRun which threads loads) = AreFewThreads threads
 HasFittingParams MigrateRecording = Unit {0}
 HasFittingParams CertifyRecording = Unit {0}
 HasFittingParams CheckCertificate = Unit {0}

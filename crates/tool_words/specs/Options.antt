@@ -14,9 +14,10 @@ use Rattle.trace_gen.specs.declared.shape.Shape.TheVariants.{Mix, Lock}
 use Rattle.tool_words.specs.declared.command.Verb.{Verb}
 use Rattle.tool_words.specs.declared.command.Verb.TheVariants.{Record, Run, Replay, Gen, Soak, At, Thin}
 use Rattle.tool_words.specs.declared.options.Name.{Name}
+use Rattle.tool_words.specs.declared.options.TheConstants.{THREADS_MAX}
 use Rattle.tool_words.specs.declared.options.Name.TheVariants.{Cores, Limit, Words, Choices, Seed}
 use Rattle.tool_words.specs.declared.options.Name.TheVariants.{Log, Loads, Elf, Shape, Number}
-use Rattle.tool_words.specs.declared.options.Name.TheVariants.{Core, Count, Latest, Certified}
+use Rattle.tool_words.specs.declared.options.Name.TheVariants.{Core, Count, Latest, Certified, Threads}
 use Rattle.tool_words.specs.Settings.{Settings}
 use Rattle.tool_words.specs.Choices.{are_choices}
 use Rattle.tool_words.specs.Numerals.{number_between}
@@ -37,7 +38,8 @@ option_named word =
     if bytes_eq word (codes "--core") then Some Core else
     if bytes_eq word (codes "--count") then Some Count else
     if bytes_eq word (codes "--latest") then Some Latest else
-    if bytes_eq word (codes "--certify") then Some Certified else None
+    if bytes_eq word (codes "--certify") then Some Certified else
+    if bytes_eq word (codes "--threads") then Some Threads else None
 
 -- the command takes the option, where it stands here
 abbrev pub takes : Verb → Name → Bool
@@ -56,6 +58,7 @@ takes Run Elf = true
 takes Run Loads = true
 takes Replay Log = true
 takes Replay Loads = true
+takes Replay Threads = true
 takes Gen Shape = true
 takes Gen Number = true
 takes Soak Shape = true
@@ -92,6 +95,7 @@ takes_value Core = true
 takes_value Count = true
 takes_value Latest = false
 takes_value Certified = false
+takes_value Threads = true
 
 -- what holds where an option isn't set
 abbrev pub cores_default : ℕ
@@ -120,6 +124,7 @@ no_settings = record {
   count = None;
   latest = false;
   certify = false;
+  threads = None;
 }
 
 -- the number of words of a memory: in range, and of whole blocks
@@ -155,6 +160,7 @@ is_set s Core = is_some s.core
 is_set s Count = is_some s.count
 is_set s Latest = s.latest
 is_set s Certified = s.certify
+is_set s Threads = is_some s.threads
 
 -- the settings with this one; none where the text is no value of it
 abbrev pub put_new : Settings → Name → List ℕ → Option Settings
@@ -172,6 +178,7 @@ put_new s Core text = option_map (λ n. record s { core = Some n }) (number_betw
 put_new s Count text = option_map (λ n. record s { count = Some n }) (number_between 1 LIMIT_MAX text)
 put_new s Latest text = Some (record s { latest = true })
 put_new s Certified text = Some (record s { certify = true })
+put_new s Threads text = option_map (λ n. record s { threads = Some n }) (number_between 1 THREADS_MAX text)
 
 -- the settings with one more; none where that option was set before
 abbrev pub put : Settings → Name → List ℕ → Option Settings

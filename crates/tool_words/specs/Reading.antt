@@ -69,7 +69,7 @@ meaning (first ∷ rest) =
     (λ verb. option_and_then (command_of verb) (option_and_then few_together (settled_by verb no_settings rest)))
     (verb_named first)
 
--- what words mean has parameters in their ranges, an image of the shape and number that it names, and an instruction
--- that may be
+-- what words mean has parameters in their ranges, an image of the shape and number that it names, an instruction that
+-- may be, and a number of threads that may be
 abbrev pub FittingLaw : Type 0
 FittingLaw = (words : List (List ℕ)) (command : Command) → meaning words ≡ Some command → HasFittingParams command

@@ -21,6 +21,7 @@ pub record Settings : Type 0 where
   pub count : Option ℕ
   pub latest : Bool
   pub certify : Bool
+  pub threads : Option ℕ
 
 -- the settings as the code holds them, with the choices' text borrowed from the words
 abbrev pub seen : Held → Settings
@@ -40,4 +41,5 @@ seen s =
       count = s.count;
       latest = s.latest;
       certify = s.certify;
+      threads = s.threads;
     }

@@ -35,9 +35,10 @@ pub enum Command {
     /// Print the logs of the recording on the input.
     Print,
     /// Replay the recording on the input by one of its logs, and print how the replay ended; with `loads`
-    /// also what was loaded.
+    /// also what was loaded. `threads` is `None` exactly where the words have no `--threads`.
     Replay {
         which: Which,
+        threads: Option<u32>,
         loads: bool,
     },
     /// Spell the recording on the input in the newest version.
@@ -147,6 +148,7 @@ impl Verb {
             Verb::Print => Command::Print,
             Verb::Replay => Command::Replay {
                 which: settings.which(),
+                threads: settings.threads,
                 loads: settings.loads,
             },
             Verb::Migrate => Command::Migrate,

@@ -8,6 +8,7 @@ mod options;
 mod reading;
 
 pub use command::{Command, RunWords};
+pub use options::THREADS_MAX;
 pub use reading::{meaning, what_words_mean_fits};
 
 #[cfg(test)]

@@ -24,6 +24,9 @@ pub(crate) const LIMIT_DEFAULT: u32 = 10_000;
 /// The words of a memory whose words name none.
 pub(crate) const WORDS_DEFAULT: u32 = 16_384;
 
+/// The most threads of a replay.
+pub const THREADS_MAX: u32 = 8;
+
 /// An option by its name.
 #[derive(Clone, Copy, Debug, PartialEq, Eq)]
 pub(crate) enum Name {
@@ -41,6 +44,7 @@ pub(crate) enum Name {
     Count,
     Latest,
     Certified,
+    Threads,
 }
 
 impl Name {
@@ -88,6 +92,8 @@ impl Name {
             Some(Name::Latest)
         } else if word == "--certify" {
             Some(Name::Certified)
+        } else if word == "--threads" {
+            Some(Name::Threads)
         } else {
             None
         }
@@ -107,6 +113,7 @@ impl Name {
             Name::Shape | Name::Number => matches!(verb, Verb::Gen | Verb::Soak),
             Name::Core | Name::Count | Name::Latest => matches!(verb, Verb::At),
             Name::Certified => matches!(verb, Verb::Thin),
+            Name::Threads => matches!(verb, Verb::Replay),
         }
     }
 
@@ -139,6 +146,7 @@ pub(crate) struct Settings<'a> {
     pub(crate) count: Option<u32>,
     pub(crate) latest: bool,
     pub(crate) certify: bool,
+    pub(crate) threads: Option<u32>,
 }
 
 impl<'a> Settings<'a> {
@@ -161,6 +169,7 @@ impl<'a> Settings<'a> {
             count: None,
             latest: false,
             certify: false,
+            threads: None,
         }
     }
 
@@ -194,6 +203,7 @@ impl<'a> Settings<'a> {
             Name::Count => self.count.is_some(),
             Name::Latest => self.latest,
             Name::Certified => self.certify,
+            Name::Threads => self.threads.is_some(),
         }
     }
 
@@ -254,6 +264,10 @@ impl<'a> Settings<'a> {
             }),
             Name::Certified => Some(Settings {
                 certify: true,
+                ..self
+            }),
+            Name::Threads => Some(Settings {
+                threads: Some(number_between(1, THREADS_MAX as u64, text)? as u32),
                 ..self
             }),
         }

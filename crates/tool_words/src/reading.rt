@@ -28,7 +28,8 @@ pub fn meaning(alloc: Global, words: &[String]) -> Result<Option<Command>, Alloc
 }
 
 /// The parameters of every command that words mean lie in their ranges, the shape that it names has an image of its
-/// number, and the instruction that it names has a core below `CORES_MAX` and a count from 1 to `LIMIT_MAX`.
+/// number, the instruction that it names has a core below `CORES_MAX` and a count from 1 to `LIMIT_MAX`, and there are
+/// 1 to `THREADS_MAX` threads, where the words have a number of them.
 pub fn what_words_mean_fits()
     ensures { FittingLaw }
 {}

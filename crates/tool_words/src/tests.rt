@@ -156,28 +156,51 @@ fn words_that_mean_a_run(rt: HostRuntime) -> Result<(), Fail> {
 struct ReplayRow {
     line: &'static str,
     which: Which,
+    threads: Option<u32>,
     loads: bool,
 }
 
-static REPLAYS: [ReplayRow; 4] = [
+static REPLAYS: [ReplayRow; 7] = [
     ReplayRow {
         line: "replay",
         which: Which::Reduced,
+        threads: None,
         loads: false,
     },
     ReplayRow {
         line: "replay --log regulated",
         which: Which::Regulated,
+        threads: None,
         loads: false,
     },
     ReplayRow {
         line: "replay --loads --log=reduced",
         which: Which::Reduced,
+        threads: None,
         loads: true,
     },
     ReplayRow {
         line: "replay --log=regulated --loads",
         which: Which::Regulated,
+        threads: None,
+        loads: true,
+    },
+    ReplayRow {
+        line: "replay --threads 1",
+        which: Which::Reduced,
+        threads: Some(1),
+        loads: false,
+    },
+    ReplayRow {
+        line: "replay --threads=8 --log regulated",
+        which: Which::Regulated,
+        threads: Some(8),
+        loads: false,
+    },
+    ReplayRow {
+        line: "replay --loads --threads 2",
+        which: Which::Reduced,
+        threads: Some(2),
         loads: true,
     },
 ];
@@ -187,7 +210,13 @@ fn words_that_mean_a_replay(rt: HostRuntime) -> Result<(), Fail> {
     for row in &REPLAYS {
         let words = words(rt.alloc(), row.line)?;
         let meant = match meaning(rt.alloc(), words.as_slice())? {
-            Some(Command::Replay { which, loads }) => which == row.which && loads == row.loads,
+            Some(
+                Command::Replay {
+                    which,
+                    threads,
+                    loads,
+                },
+            ) => which == row.which && threads == row.threads && loads == row.loads,
             _ => false,
         };
         assert!(rt; meant, "{}", row.line);
@@ -195,7 +224,7 @@ fn words_that_mean_a_replay(rt: HostRuntime) -> Result<(), Fail> {
     Ok(())
 }
 
-static FAULTY: [&str; 87] = [
+static FAULTY: [&str; 94] = [
     "",
     "records",
     "--help",
@@ -283,6 +312,13 @@ static FAULTY: [&str; 87] = [
     "checkthin --certify",
     "certify --certify",
     "check thin",
+    "replay --threads",
+    "replay --threads 0",
+    "replay --threads 9",
+    "replay --threads=02",
+    "replay --threads 2 --threads 2",
+    "run --threads 2",
+    "at --core 0 --count 1 --threads 2",
 ];
 
 #[test]

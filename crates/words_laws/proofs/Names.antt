@@ -37,7 +37,8 @@ names-are-plain word h =
     or-else word (codes "--core") _ _ refl (
     or-else word (codes "--count") _ _ refl (
     or-else word (codes "--latest") _ _ refl (
-    or-else word (codes "--certify") _ _ refl (λ k. absurd (cc))))))))))))))) h
+    or-else word (codes "--certify") _ _ refl (
+    or-else word (codes "--threads") _ _ refl (λ k. absurd (cc)))))))))))))))) h
 
 -- what is put in is set
 pub put-sets : (s t : Settings) (x : Set) → put s x.name x.text ≡ Some t → is_set t x.name ≡ true

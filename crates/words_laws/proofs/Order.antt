@@ -2,6 +2,7 @@
 -- set, and to put it in is to lay these over those that were there.
 use Rattle.std.proofs.Common.{◌≡◌, ◌≢◌, ℕ, Bool, true, false, ◌&&◌, ◌||◌, List, [], Option, Some, None, refl, sym, ap, ◌∙◌, cond, is_some, arith}
 use Rattle.std.specs.Option.{option_and_then, option_map}
+use Rattle.std.proofs.Math.Bool.{or-false}
 use Rattle.rtr_types.specs.declared.pairs.Which.{Which}
 use Rattle.rtr_types.specs.declared.pairs.Which.TheVariants.{Reduced}
 use Rattle.trace_gen.specs.declared.shape.Shape.{Shape}
@@ -64,6 +65,7 @@ merge d s = record {
   count = pick d.count s.count;
   latest = d.latest || s.latest;
   certify = d.certify || s.certify;
+  threads = pick d.threads s.threads;
 }
 
 -- some option is set in both
@@ -82,11 +84,8 @@ overlaps d s =
     || ((is_some d.core && is_some s.core)
     || ((is_some d.count && is_some s.count)
     || ((d.latest && s.latest)
-    || ((d.certify && s.certify))))))))))))))
-
-or-false : (b : Bool) → (b || false) ≡ b
-or-false true = refl
-or-false false = refl
+    || ((d.certify && s.certify)
+    || ((is_some d.threads && is_some s.threads)))))))))))))))
 
 either : {P : Type 0} (a b : Bool) → (a || b) ≡ true → (a ≡ true → P) → (b ≡ true → P) → P
 either true b h f g = f refl
@@ -139,6 +138,9 @@ is-latest x = is_set (record no_settings { latest = true }) x.name
 
 abbrev is-certify : Set → Bool
 is-certify x = is_set (record no_settings { certify = true }) x.name
+
+abbrev is-threads : Set → Bool
+is-threads x = is_set (record no_settings { threads = Some 0 }) x.name
 
 over-cores : (s : Settings) (o : Option ℕ) →
     option_map (λ d. merge d s) (option_map (λ v. record no_settings { cores = Some v }) o) ≡ option_map (λ v. record s { cores = Some v }) o
@@ -292,6 +294,20 @@ lays-latest s x h = record { over = grind (arith); before = grind (arith, or-fal
 lays-certify : (s : Settings) (x : Set) → is-certify x ≡ true → Lays s x
 lays-certify s x h = record { over = grind (arith); before = grind (arith, or-false) }
 
+over-threads : (s : Settings) (o : Option ℕ) →
+    option_map (λ d. merge d s) (option_map (λ v. record no_settings { threads = Some v }) o) ≡ option_map (λ v. record s { threads = Some v }) o
+over-threads s None = refl
+over-threads s (Some v) = refl
+
+before-threads : (s : Settings) (o : Option ℕ) →
+    option_map (λ d. overlaps d s) (option_map (λ v. record no_settings { threads = Some v }) o)
+    ≡ option_map (λ d. is_some s.threads) (option_map (λ v. record no_settings { threads = Some v }) o)
+before-threads s None = refl
+before-threads s (Some v) = refl
+
+lays-threads : (s : Settings) (x : Set) → is-threads x ≡ true → Lays s x
+lays-threads s x h = record { over = grind (arith, over-threads s); before = grind (arith, or-false, before-threads s) }
+
 some-option : (x : Set) →
     (is-cores x ||
     (is-limit x ||
@@ -306,7 +322,8 @@ some-option : (x : Set) →
     (is-core x ||
     (is-count x ||
     (is-latest x ||
-    (is-certify x)))))))))))))) ≡ true
+    (is-certify x ||
+    (is-threads x))))))))))))))) ≡ true
 some-option x = grind arith
 
 lays : (s : Settings) (x : Set) → Lays s x
@@ -324,7 +341,8 @@ lays s x =
     either (is-core x) _ h10 (lays-core s x) (λ h11.
     either (is-count x) _ h11 (lays-count s x) (λ h12.
     either (is-latest x) _ h12 (lays-latest s x) (λ h13.
-    lays-certify s x h13)))))))))))))
+    either (is-certify x) _ h13 (lays-certify s x) (λ h14.
+    lays-threads s x h14))))))))))))))
 
 laid : (s : Settings) (x : Set) (d : Settings) → single x ≡ Some d → put_new s x.name x.text ≡ Some (merge d s)
 laid s x d p = sym (lays s x).over ∙ ap (λ o. option_map (λ d. merge d s) o) p
@@ -375,6 +393,7 @@ record Apart (d e : Settings) : Type 0 where
   count : (is_some d.count && is_some e.count) ≡ false
   latest : (d.latest && e.latest) ≡ false
   certify : (d.certify && e.certify) ≡ false
+  threads : (is_some d.threads && is_some e.threads) ≡ false
 
 -- settings that set the same option are of it
 same-cores : (x y : Set) (d e : Settings) → single x ≡ Some d → single y ≡ Some e → is_some d.cores ≡ true →
@@ -433,6 +452,10 @@ same-certify : (x y : Set) (d e : Settings) → single x ≡ Some d → single y
     e.certify ≡ true → x.name ≡ y.name
 same-certify x y d e p q a b = grind arith
 
+same-threads : (x y : Set) (d e : Settings) → single x ≡ Some d → single y ≡ Some e → is_some d.threads ≡ true →
+    is_some e.threads ≡ true → x.name ≡ y.name
+same-threads x y d e p q a b = grind arith
+
 apart-by-name : (x y : Set) (d e : Settings) → single x ≡ Some d → single y ≡ Some e → x.name ≢ y.name → Apart d e
 apart-by-name x y d e p q ne = record {
   cores = not-both (is_some d.cores) (is_some e.cores) (λ a b. ne (same-cores x y d e p q a b));
@@ -449,6 +472,7 @@ apart-by-name x y d e p q ne = record {
   count = not-both (is_some d.count) (is_some e.count) (λ a b. ne (same-count x y d e p q a b));
   latest = not-both d.latest e.latest (λ a b. ne (same-latest x y d e p q a b));
   certify = not-both d.certify e.certify (λ a b. ne (same-certify x y d e p q a b));
+  threads = not-both (is_some d.threads) (is_some e.threads) (λ a b. ne (same-threads x y d e p q a b));
 }
 
 -- whether e is set there already goes by what was there before d
@@ -469,6 +493,7 @@ overlaps-before d e s h =
       is-some-pick e.count d.count s.count h.count,
       or-apart e.latest d.latest s.latest h.latest,
       or-apart e.certify d.certify s.certify h.certify,
+      is-some-pick e.threads d.threads s.threads h.threads,
     ) refl
 
 same-fields : (s t : Settings) → s.cores ≡ t.cores →
@@ -484,8 +509,9 @@ same-fields : (s t : Settings) → s.cores ≡ t.cores →
     s.core ≡ t.core →
     s.count ≡ t.count →
     s.latest ≡ t.latest →
-    s.certify ≡ t.certify → s ≡ t
-same-fields s t p0 p1 p2 p3 p4 p5 p6 p7 p8 p9 p10 p11 p12 p13 =
+    s.certify ≡ t.certify →
+    s.threads ≡ t.threads → s ≡ t
+same-fields s t p0 p1 p2 p3 p4 p5 p6 p7 p8 p9 p10 p11 p12 p13 p14 =
     let f0 : Option ℕ → Settings = λ v. record s { cores = v } in
     let s1 = f0 t.cores in
     let f1 : Option ℕ → Settings = λ v. record s1 { limit = v } in
@@ -513,8 +539,10 @@ same-fields s t p0 p1 p2 p3 p4 p5 p6 p7 p8 p9 p10 p11 p12 p13 =
     let f12 : Bool → Settings = λ v. record s12 { latest = v } in
     let s13 = f12 t.latest in
     let f13 : Bool → Settings = λ v. record s13 { certify = v } in
+    let s14 = f13 t.certify in
+    let f14 : Option ℕ → Settings = λ v. record s14 { threads = v } in
     ap f0 p0 ∙ ap f1 p1 ∙ ap f2 p2 ∙ ap f3 p3 ∙ ap f4 p4 ∙ ap f5 p5 ∙ ap f6 p6 ∙ ap f7 p7 ∙ ap f8 p8 ∙ ap f9 p9 ∙ ap f10 p10 ∙ ap f11 p11 ∙ ap f12 p12
-    ∙ ap f13 p13
+    ∙ ap f13 p13 ∙ ap f14 p14
 
 merge-merge : (d e s : Settings) → Apart d e → merge e (merge d s) ≡ merge d (merge e s)
 merge-merge d e s h =
@@ -533,6 +561,7 @@ merge-merge d e s h =
     (pick-pick e.count d.count s.count h.count)
     (or-or e.latest d.latest s.latest)
     (or-or e.certify d.certify s.certify)
+    (pick-pick e.threads d.threads s.threads h.threads)
 
 -- ---- one after the other
 

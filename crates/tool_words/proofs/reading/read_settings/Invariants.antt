@@ -24,6 +24,7 @@ invariant-loop-next l = record {
         count = l.settings.1.1.1.1.1.1.1.1.1.1.1.0;
         latest = l.settings.1.1.1.1.1.1.1.1.1.1.1.1.0;
         certify = l.settings.1.1.1.1.1.1.1.1.1.1.1.1.1.0;
+        threads = l.settings.1.1.1.1.1.1.1.1.1.1.1.1.1.1.0;
       }) (map string_bytes (drop l.next l.words));
 }
 

@@ -1,0 +1,172 @@
+//! Replays on several threads, and a gate that sees whether two cores were worked at once.
+
+use crate::all_pairs::EACH_READS_ALL;
+use crate::calls::{ask, ask_at, bytes, recording_of};
+use crate::record_tables::RECORDINGS;
+use crate::run_tables::SUM;
+use replay_threads::Gate;
+use rtr_types::Instr;
+use std::alloc::Global;
+use std::sync::Wait;
+use std::sync::atomic::{AtomicU64, Ordering};
+use std::test::Fail;
+use std::thread::{self, Threads};
+
+/// How often core 0 looks for core 1 at the most.
+const LOOKS: u64 = 10_000_000;
+
+/// A gate that holds core 0 before its first instruction until core 1 has come, and counts the calls of both.
+#[derive(Drop)]
+struct Meeting {
+    first: AtomicU64,
+    second: AtomicU64,
+    missed: AtomicU64,
+    astray: AtomicU64,
+}
+
+impl Meeting {
+    fn new() -> Meeting {
+        Meeting {
+            first: AtomicU64::new(0),
+            second: AtomicU64::new(0),
+            missed: AtomicU64::new(0),
+            astray: AtomicU64::new(0),
+        }
+    }
+
+    /// Looks for core 1 until it has come.
+    fn meet(&self) {
+        for look in 0..LOOKS {
+            if self.second.load(Ordering::SeqCst) > 0 {
+                return;
+            }
+            thread::yield_now();
+        }
+        self.missed.store(1, Ordering::SeqCst);
+    }
+
+    /// Whether no look was in vain, and each core's calls were its counts from 1 on, in order and once each.
+    fn is_in_order(&self) -> bool {
+        self.missed.load(Ordering::SeqCst) == 0 && self.astray.load(Ordering::SeqCst) == 0
+    }
+
+    /// How many calls both cores made.
+    fn calls(&self) -> (u64, u64) {
+        let first = self.first.load(Ordering::SeqCst);
+        (first, self.second.load(Ordering::SeqCst))
+    }
+}
+
+impl Gate for Meeting {
+    fn pass(&self, at: Instr) {
+        let passed = if at.core == 0 {
+            &self.first
+        } else {
+            &self.second
+        };
+        let before = passed.fetch_add(1, Ordering::SeqCst);
+        if before.wrapping_add(1) != at.count as u64 {
+            self.astray.store(1, Ordering::SeqCst);
+        }
+        if at.core == 0 && at.count == 1 {
+            self.meet();
+        }
+    }
+}
+
+// Each of two cores takes the lock 500 times. Two workers replay it at the same time: core 0 is held until core 1 has
+// come.
+#[test]
+fn two_workers_meet_and_pass_each_instruction_once(rt: HostRuntime) -> Result<(), Fail> {
+    let alloc = rt.alloc();
+    let image = ask(&rt, alloc, "gen --shape lock --number 500", Vec::new(alloc))?.output;
+    let options = "--cores 2 --limit 100000 --words 128 --seed 7";
+    let run = ask(
+        &rt,
+        alloc,
+        &format!(in alloc; "run {options} --loads")?,
+        image.clone()?,
+    )?;
+    let made = ask(&rt, alloc, &format!(in alloc; "record {options}")?, image)?;
+    let gate = Meeting::new();
+    let words = "replay --threads 2 --loads";
+    let replay = ask_at(&rt, alloc, words, made.output, &gate)?;
+    assert_eq!(rt; replay.status, 0);
+    assert!(rt; replay.joint);
+    assert_eq!(rt; replay.output.as_slice(), run.output.as_slice());
+    assert!(rt; gate.is_in_order());
+    let (first, second) = gate.calls();
+    assert_eq!(rt; first.wrapping_add(second), 23_676);
+    Ok(())
+}
+
+// A log that goes round: no worker starts, so that nobody passes the gate.
+#[test]
+fn no_worker_starts_where_the_log_goes_round(rt: HostRuntime) -> Result<(), Fail> {
+    let alloc = rt.alloc();
+    let header = "52545201 02 904e 10 0c 93025500 23205002 73000000";
+    let rest = "0303 010202 010202 00 00";
+    let recording = bytes(alloc, &format!(in alloc; "{header} {rest}")?)?;
+    let gate = Meeting::new();
+    let answer = ask_at(&rt, alloc, "replay --threads 2", recording, &gate)?;
+    assert_eq!(rt; answer.status, 4);
+    assert!(rt; !answer.joint);
+    assert_eq!(rt; answer.report.as_slice(), b"rtr: stuck at 1 1\n".as_slice());
+    assert!(rt; gate.calls() == (0, 0));
+    Ok(())
+}
+
+/// Whether workers come to what one thread comes to: two by the reduced log, and eight by the regulated one.
+fn workers_agree<R: Threads + Wait + Sync>(
+    rt: &R,
+    alloc: Global,
+    recording: Vec<u8>,
+) -> Result<bool, Fail> {
+    let alone = ask(rt, alloc, "replay --loads", recording.clone()?)?;
+    let few = ask(rt, alloc, "replay --loads --threads 2", recording.clone()?)?;
+    let many = ask(
+        rt,
+        alloc,
+        "replay --log regulated --loads --threads 8",
+        recording,
+    )?;
+    let ended = alone.status == 0 && few.joint && many.joint;
+    Ok(
+        ended
+            && few.output.as_slice() == alone.output.as_slice()
+            && many.output.as_slice() == alone.output.as_slice(),
+    )
+}
+
+#[test]
+fn each_recording_is_replayed_by_workers(rt: HostRuntime) -> Result<(), Fail> {
+    let alloc = rt.alloc();
+    for row in &RECORDINGS {
+        let agree = workers_agree(&rt, alloc, recording_of(alloc, row)?)?;
+        assert!(rt; agree, "{}", row.words);
+    }
+    Ok(())
+}
+
+// Two cores add to a word by atomic memory operations, and each has what it found there among its loads.
+#[test]
+fn workers_add_to_one_word(rt: HostRuntime) -> Result<(), Fail> {
+    let alloc = rt.alloc();
+    let words = "record --cores 2 --words 16 --choices 0000000000000000000000000000";
+    let made = ask(&rt, alloc, words, bytes(alloc, SUM)?)?.output;
+    let replay = ask(&rt, alloc, "replay --threads 2 --loads", made.clone()?)?;
+    let loads = b"load 0 3 00000020 00000000\nload 1 3 00000020 00000001\n";
+    assert!(rt; replay.output.ends_with(loads.as_slice()));
+    assert!(rt; workers_agree(&rt, alloc, made)?);
+    Ok(())
+}
+
+// As many cores as there can be, each of which waits for every other, on fewer threads.
+#[test]
+fn sixteen_cores_are_worked_by_eight_threads(rt: HostRuntime) -> Result<(), Fail> {
+    let alloc = rt.alloc();
+    let words = "record --cores 16 --words 128 --seed 1";
+    let made = ask(&rt, alloc, words, bytes(alloc, EACH_READS_ALL)?)?;
+    assert!(rt; workers_agree(&rt, alloc, made.output)?);
+    Ok(())
+}
