@@ -13,11 +13,7 @@ shift
 . bench/measure.sh
 instructions=${INSTRUCTIONS:-100000}
 
-# LUI and ADDI x5, a million rounds, so that the limit stops each core; x6 is the core's own block; the loop, and ECALL.
-for w in 0x000f42b7 0x24028293 0x00451313 0x10032383 0x00138393 0x10732023 0x0073f413 0x00041863 0x04002483 \
-  0x00148493 0x04902023 0xfff28293 0xfc029ee3 0x00000073; do
-  word $w
-done > "$place/image"
+counters > "$place/image"
 
 echo "cores retired seconds host/retired peak-KiB output-bytes"
 for cores in "$@"; do

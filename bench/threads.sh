@@ -1,0 +1,46 @@
+#!/usr/bin/env bash
+# Measures the replay on threads: how long `replay` takes alone, and with 1, 2 and 4 threads.
+#
+#   bench/threads.sh [TIMES]              each is taken so many times (9 where the word is missing), and the least is told
+#
+# The works are two cores that take Peterson's lock 500 times (they wait for each other all the time), and cores that
+# each count up a word of their own, and every eighth (counters) or 512th time (loners) a word of all; of these each
+# core retires 100,000 instructions. For each work and each log it prints a line: the work, how many cores, the log,
+# and the seconds alone and with 1, 2 and 4 threads. A machine of fewer processors than threads shows no gain by them.
+set -eu
+cd "$(dirname "$0")/.."
+times=${1:-9}
+. bench/measure.sh
+
+# The least seconds that a command takes on the recording.
+least() {
+  for _ in $(seq "$times"); do
+    start=$(date +%s%N)
+    "$tool" "$@" < "$place/recording" > "$place/out"
+    end=$(date +%s%N)
+    echo $(((end - start) / 1000))
+  done | sort -n | sed -n '1s/$/ \/ 1000000/p' | bc -l | cut -c1-6
+}
+
+# A line for each log of a work: its name, its cores, and the options of the recording.
+work() {
+  "$tool" record --cores "$2" --limit 100000 --words 1024 --seed 7 < "$place/image" > "$place/recording"
+  for log in reduced regulated; do
+    line="$1 $2 $log $(least replay --log $log)"
+    cp "$place/out" "$place/alone"
+    for threads in 1 2 4; do
+      line="$line $(least replay --log $log --threads $threads)"
+      cmp "$place/out" "$place/alone"
+    done
+    echo "$line"
+  done
+}
+
+echo "work cores log alone 1 2 4"
+lock 500 > "$place/image"
+work lock 2
+counters > "$place/image"
+work counters 4
+loners > "$place/image"
+work loners 2
+work loners 4
