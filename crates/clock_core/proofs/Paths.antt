@@ -1,6 +1,8 @@
 -- Paths, over any relation.
-use Rattle.std.proofs.Common.{◌≡◌, ℕ, zero, suc, ◌⊎◌, ◌∙◌, ap, subst, refl, inl, inr}
+use Rattle.std.proofs.Common.{◌≡◌, ℕ, zero, suc, ◌⊎◌, ◌∙◌, ap, subst, refl, inl, inr, arith, true}
+use Rattle.std.proofs.lemmas.Bool.Decides.{nat_tests}
 use Rattle.rtr_types.specs.declared.instr.Instr.{Instr}
+use Rattle.rtr_types.specs.Accesses.{is_same}
 use Rattle.clock_core.specs.Order.{Relation, Step, Path, Before, Within}
 
 pub joined_at : (E : Relation) (n : ℕ) (x y z : Instr) → Path E n x y → Before E y z → Before E x z
@@ -47,3 +49,6 @@ instr_of c n = record { core = c; count = n }
 -- core and count name an instruction
 pub instr_eq : (x y : Instr) → x.core ≡ y.core → x.count ≡ y.count → x ≡ y
 instr_eq x y p q = ap (λ (c : ℕ). instr_of c x.count) p ∙ ap (λ (n : ℕ). instr_of y.core n) q
+
+pub same_instr : (x y : Instr) → is_same x y ≡ true → x ≡ y
+same_instr x y t = let a : x.core ≡ y.core = grind (arith, nat_tests) in let b : x.count ≡ y.count = grind (arith, nat_tests) in instr_eq x y a b

@@ -1,6 +1,8 @@
 -- A clock merged over predecessors is reachability.
 use Rattle.std.proofs.Common.{◌≡◌, ◌≢◌, ℕ, ◌-◌, ◌<◌, ◌≤◌, ◌⊎◌, ◌↔◌, List, [], ◌∷◌, refl, sym, ◌∙◌, ap, subst, inl, inr, arith, true, false, nat_eq, max}
 use Rattle.std.proofs.lemmas.Bool.Decides.{nat_tests}
+use Rattle.std.proofs.lemmas.Bool.{cases_eq, cases_lt, cases_order}
+use Rattle.std.proofs.Math.Nat.{eq-or-lt_of_le}
 use Rattle.rtr_types.specs.declared.instr.Instr.{Instr}
 use Rattle.clock_core.specs.Order.{Relation, ProgramOrder, Step, Before, IsOrLeads, Among, previous}
 use Rattle.clock_core.specs.Reach.{IsClock, merged_over, with_own, IsOneOf, MergeLaw, OneClockLaw}
@@ -15,14 +17,15 @@ merged_over-at p clock [] z i s = absurd s
 merged_over-at p clock (w ∷ zs) z i (inl e) = let same : clock w i ≡ clock z i = ap (λ (v : Instr). clock v i) e in omega arith
 merged_over-at p clock (w ∷ zs) z i (inr s) = omega (arith, merged_over-at p clock zs z i s)
 
+-- what the greater of two reaches, one of them does
+pub reached_by : (n x y : ℕ) → n ≤ max x y → (n ≤ x) ⊎ (n ≤ y)
+reached_by n x y le = grind arith
+
 merged_over-from : (p : ℕ → ℕ) (clock : Instr → ℕ → ℕ) (zs : List Instr) (n i : ℕ) → n ≤ merged_over p clock zs i →
     (n ≤ p i) ⊎ ((z : Instr) × IsOneOf zs z × (n ≤ clock z i))
 merged_over-from p clock [] n i le = inl le
-merged_over-from p clock (z ∷ zs) n i le = by (split n (clock z i) (merged_over p clock zs i) le) (merged_over-from p clock zs n i)
+merged_over-from p clock (z ∷ zs) n i le = by (reached_by n (clock z i) (merged_over p clock zs i) le) (merged_over-from p clock zs n i)
   where
-    split : (n x y : ℕ) → n ≤ max x y → (n ≤ x) ⊎ (n ≤ y)
-    split n x y h = grind arith
-
     by : (n ≤ clock z i) ⊎ (n ≤ merged_over p clock zs i) → (n ≤ merged_over p clock zs i → (n ≤ p i) ⊎ ((v : Instr) × IsOneOf zs v × (n ≤ clock v i))) →
         (n ≤ p i) ⊎ ((v : Instr) × IsOneOf (z ∷ zs) v × (n ≤ clock v i))
     by (inl a) f = inr (z, inl refl, a)
@@ -32,25 +35,16 @@ merged_over-from p clock (z ∷ zs) n i le = by (split n (clock z i) (merged_ove
         on (inl q) = inl q
         on (inr q) = inr (q.0, inr q.1, q.2)
 
-own-same : (y : Instr) (p : ℕ → ℕ) (i : ℕ) → i ≡ y.core → with_own y p i ≡ y.count
-own-same y p i e = let t : nat_eq i y.core ≡ true = grind (arith, nat_tests) in rw t refl
+pub own_same : (y : Instr) (p : ℕ → ℕ) (i : ℕ) → i ≡ y.core → with_own y p i ≡ y.count
+own_same y p i e = let t : nat_eq i y.core ≡ true = grind (arith, nat_tests) in rw t refl
 
-own-other : (y : Instr) (p : ℕ → ℕ) (i : ℕ) → i ≢ y.core → with_own y p i ≡ p i
-own-other y p i e = let t : nat_eq i y.core ≡ false = grind (arith, nat_tests) in rw t refl
-
-nat_cases : (m n : ℕ) → (m ≡ n) ⊎ (m ≢ n)
-nat_cases m n = grind arith
-
-le_cases : (m n : ℕ) → m ≤ n → (m ≡ n) ⊎ (m < n)
-le_cases m n h = grind arith
-
-order : (m n : ℕ) → (m ≤ n) ⊎ (n < m)
-order m n = grind arith
+pub own_other : (y : Instr) (p : ℕ → ℕ) (i : ℕ) → i ≢ y.core → with_own y p i ≡ p i
+own_other y p i e = let t : nat_eq i y.core ≡ false = grind (arith, nat_tests) in rw t refl
 
 pub merge_any : (E : Relation) (y : Instr) (sources : List Instr) (p : ℕ → ℕ) (clock : Instr → ℕ → ℕ) →
     1 ≤ y.count → (Before E y y → ⊥) → ((z : Instr) → E z y ↔ IsOneOf sources z) → IsClock E (previous y) p →
     ((z : Instr) → IsOneOf sources z → IsClock E z (clock z)) → IsClock E y (with_own y (merged_over p clock sources))
-merge_any E y sources p clock pos acyclic source p_is clock_is x x_pos = (to (nat_cases x.core y.core), back (nat_cases x.core y.core))
+merge_any E y sources p clock pos acyclic source p_is clock_is x x_pos = (to (cases_eq x.core y.core), back (cases_eq x.core y.core))
   where
     own_step : ProgramOrder (previous y) y
     own_step = (refl, omega arith)
@@ -68,12 +62,12 @@ merge_any E y sources p clock pos acyclic source p_is clock_is x x_pos = (to (na
     other (inr q) = inr (up q.0 ((clock_is q.0 q.1 x x_pos).0 q.2) (inr ((source q.0).1 q.1)))
 
     to : (x.core ≡ y.core) ⊎ (x.core ≢ y.core) → x.count ≤ with_own y (merged_over p clock sources) x.core → IsOrLeads E x y
-    to (inl e) le = let f = own-same y (merged_over p clock sources) x.core e in same e (le_cases x.count y.count (omega arith))
-    to (inr d) le = let f = own-other y (merged_over p clock sources) x.core d in other (merged_over-from p clock sources x.count x.core (omega arith))
+    to (inl e) le = let f = own_same y (merged_over p clock sources) x.core e in same e (eq-or-lt_of_le {n = x.count} {m = y.count} (omega arith))
+    to (inr d) le = let f = own_other y (merged_over p clock sources) x.core d in other (merged_over-from p clock sources x.count x.core (omega arith))
 
-    not_later : x.core ≡ y.core → Before E x y → (x.count ≤ y.count) ⊎ (y.count < x.count) → x.count ≤ y.count
-    not_later e q (inl le) = le
-    not_later e q (inr lt) = absurd (acyclic (joined E y x y (one E y x (inl (sym e, lt))) q))
+    not_later : x.core ≡ y.core → Before E x y → (y.count < x.count) ⊎ (x.count ≤ y.count) → x.count ≤ y.count
+    not_later e q (inr le) = le
+    not_later e q (inl lt) = absurd (acyclic (joined E y x y (one E y x (inl (sym e, lt))) q))
 
     onto_previous : (w : Instr) → IsOrLeads E x w → x.core ≢ y.core → ProgramOrder w y → (w.count ≡ y.count - 1) ⊎ (w.count < y.count - 1) →
         IsOrLeads E x (previous y)
@@ -83,7 +77,7 @@ merge_any E y sources p clock pos acyclic source p_is clock_is x x_pos = (to (na
 
     last : (w : Instr) → IsOrLeads E x w → x.core ≢ y.core → Step E w y → x.count ≤ merged_over p clock sources x.core
     last w u d (inl s) =
-        let le = (p_is x x_pos).1 (onto_previous w u d s (le_cases w.count (y.count - 1) (let lt = s.1 in omega arith))) in
+        let le = (p_is x x_pos).1 (onto_previous w u d s (eq-or-lt_of_le {n = w.count} {m = y.count - 1} (let lt = s.1 in omega arith))) in
         omega (arith, merged_over-up p clock sources x.core)
     last w u d (inr s) =
         let at = (source w).0 s in
@@ -96,26 +90,29 @@ merge_any E y sources p clock pos acyclic source p_is clock_is x x_pos = (to (na
 
     back_same : x.core ≡ y.core → IsOrLeads E x y → x.count ≤ y.count
     back_same e (inl f) = let g : x.count ≡ y.count = ap (λ (v : Instr). v.count) f in omega arith
-    back_same e (inr q) = not_later e q (order x.count y.count)
+    back_same e (inr q) = not_later e q (cases_lt y.count x.count)
 
     back : (x.core ≡ y.core) ⊎ (x.core ≢ y.core) → IsOrLeads E x y → x.count ≤ with_own y (merged_over p clock sources) x.core
-    back (inl e) u = let f = own-same y (merged_over p clock sources) x.core e in let le = back_same e u in omega arith
-    back (inr d) u = let f = own-other y (merged_over p clock sources) x.core d in let le = back_other d u in omega arith
+    back (inl e) u = let f = own_same y (merged_over p clock sources) x.core e in let le = back_same e u in omega arith
+    back (inr d) u = let f = own_other y (merged_over p clock sources) x.core d in let le = back_other d u in omega arith
 
 pub merge_law : MergeLaw
 merge_law edges y sources p clock pos acyclic source p_is clock_is = merge_any (Among edges) y sources p clock pos acyclic source p_is clock_is
 
 -- two numbers with the same ones below are equal
 pub same_below : (m n : ℕ) → ((k : ℕ) → 1 ≤ k → (k ≤ m) ↔ (k ≤ n)) → m ≡ n
-same_below m n f = by (order m n) (order n m)
+same_below m n f = by (cases_order m n)
   where
     le : (a b : ℕ) → ((k : ℕ) → 1 ≤ k → k ≤ a → k ≤ b) → b < a → ⊥
     le a b g lt = let h = g a (omega arith) (omega arith) in omega arith
 
-    by : (m ≤ n) ⊎ (n < m) → (n ≤ m) ⊎ (m < n) → m ≡ n
-    by (inl p) (inl q) = omega arith
-    by (inr p) _ = absurd (le m n (λ k pos. (f k pos).0) p)
-    by (inl p) (inr q) = absurd (le n m (λ k pos. (f k pos).1) q)
+    by : (m ≡ n) ⊎ ((m < n) ⊎ (n < m)) → m ≡ n
+    by (inl same) = same
+    by (inr (inl lt)) = absurd (le n m (λ k pos. (f k pos).1) lt)
+    by (inr (inr lt)) = absurd (le m n (λ k pos. (f k pos).0) lt)
+
+pub clock_same : (E : Relation) (y : Instr) (p q : ℕ → ℕ) → ((i : ℕ) → p i ≡ q i) → IsClock E y p → IsClock E y q
+clock_same E y p q h k x pos = (λ le. (k x pos).0 (let e = h x.core in omega arith), λ u. let le = (k x pos).1 u in let e = h x.core in omega arith)
 
 pub one_clock_any : (E : Relation) (y : Instr) (p q : ℕ → ℕ) → IsClock E y p → IsClock E y q → (i : ℕ) → p i ≡ q i
 one_clock_any E y p q p_is q_is i = same_below (p i) (q i) same

@@ -3,17 +3,14 @@ use Rattle.std.proofs.Common.{inl, inr, ◌≡◌, ◌⊎◌, ℕ, zero, suc, �
 use Rattle.std.proofs.Common.{◌||◌}
 use Rattle.std.specs.Prelude.{slice_index}
 use Rattle.std.proofs.lemmas.Bool.Decides.{nat_tests}
+use Rattle.std.proofs.lemmas.Bool.{cases_Bool}
 use Rattle.rtr_types.specs.declared.instr.Instr.{Instr}
 use Rattle.rtr_types.specs.declared.instr.Edge.{Edge}
 use Rattle.clock_core.specs.Order.{Among}
-use Rattle.clock_core.proofs.Paths.{instr_eq}
+use Rattle.clock_core.proofs.Paths.{instr_eq, same_instr}
 use Rattle.clock_entries.specs.Ends.{instr, is_same, is_end, IsEnd, ends_to, entry_at, entry_of, Clocks}
 use Rattle.clock_entries.specs.Entries.{Entry, IsLastEntry}
 use Rattle.clock_entries.specs.Laws.{IsLog, LastEntryLaw}
-
-pub cases : (b : Bool) → (b ≡ true) ⊎ (b ≡ false)
-cases true = inl refl
-cases false = inr refl
 
 pub same_is : (x y : Instr) → x ≡ y → is_same x y ≡ true
 same_is x y e = let a : x.core ≡ y.core = ap (λ (z : Instr). z.core) e in let b : x.count ≡ y.count = ap (λ (z : Instr). z.count) e in grind (arith, nat_tests)
@@ -46,9 +43,6 @@ or_cases true b c e = inl refl
 or_cases false true c e = inr (inl refl)
 or_cases false false c e = inr (inr e)
 
-pub same_of : (x y : Instr) → is_same x y ≡ true → x ≡ y
-same_of x y t = let a : x.core ≡ y.core = grind (arith, nat_tests) in let b : x.count ≡ y.count = grind (arith, nat_tests) in instr_eq x y a b
-
 pub end_edge : (edges : List Edge) (x : Instr) → IsEnd edges x → (y : Instr) × (Among edges x y ⊎ Among edges y x)
 end_edge [] x end = absurd (cc)
 end_edge (e ∷ edges) x end = by (or_cases (is_same e.from x) (is_same e.to x) (is_end edges x) end) (end_edge edges x)
@@ -59,8 +53,8 @@ end_edge (e ∷ edges) x end = by (or_cases (is_same e.from x) (is_same e.to x) 
 
     by : (is_same e.from x ≡ true) ⊎ ((is_same e.to x ≡ true) ⊎ (is_end edges x ≡ true)) → (IsEnd edges x → (y : Instr) × (Among edges x y ⊎ Among edges y x)) →
         (y : Instr) × (Among (e ∷ edges) x y ⊎ Among (e ∷ edges) y x)
-    by (inl t) go = (e.to, inl (inl (same_of e.from x t, refl)))
-    by (inr (inl t)) go = (e.from, inr (inl (refl, same_of e.to x t)))
+    by (inl t) go = (e.to, inl (inl (same_instr e.from x t, refl)))
+    by (inr (inl t)) go = (e.from, inr (inl (refl, same_instr e.to x t)))
     by (inr (inr t)) go = on (go t)
 
 pub end_counts : (edges : List Edge) (x : Instr) → IsLog edges → IsEnd edges x → 1 ≤ x.count
@@ -109,7 +103,7 @@ stays_by : (edges : List Edge) (clocks : Clocks) (c m n i : ℕ) → m ≡ suc n
     entry_of edges clocks (instr c m) i ≡ entry_of edges clocks (instr c n) i
 stays_by edges clocks c m n i e =
     subst (λ (k : ℕ). (IsEnd edges (instr c k) → ⊥) → entry_of edges clocks (instr c k) i ≡ entry_of edges clocks (instr c n) i) (sym e)
-    (λ ne. stays_at edges clocks c n i ne (cases (is_end edges (instr c (suc n)))))
+    (λ ne. stays_at edges clocks c n i ne (cases_Bool (is_end edges (instr c (suc n)))))
 
 pub last_entry_law : LastEntryLaw
 last_entry_law edges clocks = record {
@@ -131,13 +125,13 @@ pub record NoFloor (edges : List Edge) (entry : Entry) (y : Instr) : Type 0 wher
   pub none : (w : Instr) → IsEnd edges w → w.core ≡ y.core → w.count ≤ y.count → ⊥
   pub same : (i : ℕ) → entry y i ≡ 0
 
-at_most : (m n : ℕ) → m ≤ suc n → (m ≡ suc n) ⊎ (m ≤ n)
+pub at_most : (m n : ℕ) → m ≤ suc n → (m ≡ suc n) ⊎ (m ≤ n)
 at_most m n le = grind arith
 
 pub floor : (edges : List Edge) (entry : Entry) → IsLog edges → IsLastEntry edges entry → (c n : ℕ) → Floor edges entry (instr c n)
     ⊎ NoFloor edges entry (instr c n)
 floor edges entry log last c zero = inr (record { none = λ w end e le. let pos = end_counts edges w log end in omega arith; same = λ i. last.none c i })
-floor edges entry log last c (suc n) = by (cases (is_end edges (instr c (suc n)))) (floor edges entry log last c n)
+floor edges entry log last c (suc n) = by (cases_Bool (is_end edges (instr c (suc n)))) (floor edges entry log last c n)
   where
     before : is_end edges (instr c (suc n)) ≡ false → (i : ℕ) → entry (instr c (suc n)) i ≡ entry (instr c n) i
     before f i = last.stays (instr c (suc n)) (omega arith) (not_end edges (instr c (suc n)) f) i ∙ ap (λ (k : ℕ). entry (instr c k) i) (minus_one n)

@@ -1,31 +1,25 @@
 -- Exact entries are good, and decide which edges the others imply.
 use Rattle.std.proofs.Common.{inl, inr, ◌≡◌, ◌≢◌, ◌⊎◌, ℕ, zero, suc, ◌-◌, ◌<◌, ◌≤◌, List, refl, sym, ap, ◌∙◌, subst, arith}
+use Rattle.std.proofs.lemmas.Bool.{cases_eq, cases_lt}
+use Rattle.std.proofs.Math.Nat.{eq-or-lt_of_le, eq-zero-or-pos, lt_of_not-le}
 use Rattle.rtr_types.specs.declared.instr.Instr.{Instr}
 use Rattle.rtr_types.specs.declared.instr.Edge.{Edge}
 use Rattle.clock_core.specs.Order.{Relation, ProgramOrder, Step, Path, Before, IsOrLeads, Among, previous}
 use Rattle.clock_core.specs.Reach.{IsClock, with_own}
 use Rattle.clock_core.proofs.Paths.{joined, one, more, last_at, instr_eq}
+use Rattle.clock_core.proofs.Reach.{own_same, own_other}
 use Rattle.conflict_edge.specs.Least.{Others}
 use Rattle.clock_entries.specs.Ends.{instr}
 use Rattle.clock_entries.specs.Entries.{Entry, IsLastEntry, AreGood, AreExact, IsNeeded, IsKnownOtherwise, IsImplied}
 use Rattle.clock_entries.specs.Laws.{IsLog, EveryClockLaw, NextClockLaw, IsBelowSources, ExactIsGoodLaw, NeededLaw, ImpliedLaw, NeededOrKnownLaw}
 use Rattle.clock_entries.proofs.Ends.{end_source, end_target, end_counts, Floor, NoFloor, floor, floor_of}
-use Rattle.clock_entries.proofs.Good.{same_or_not, own_same, own_other, rises, own_stands, known}
+use Rattle.clock_entries.proofs.Good.{rises, own_stands, known}
 
 -- ---- paths
 
-order : (m n : ℕ) → (m ≤ n) ⊎ (n < m)
-order m n = grind arith
-
-some_or_none : (n : ℕ) → (n ≡ 0) ⊎ (1 ≤ n)
-some_or_none n = grind arith
-
-le_cases : (m n : ℕ) → m ≤ n → (m ≡ n) ⊎ (m < n)
-le_cases m n h = grind arith
-
 -- on along a core
 onward : (E : Relation) (x w y : Instr) → IsOrLeads E x w → w.core ≡ y.core → w.count ≤ y.count → IsOrLeads E x y
-onward E x w y u c le = by u (le_cases w.count y.count le)
+onward E x w y u c le = by u (eq-or-lt_of_le le)
   where
     by : IsOrLeads E x w → (w.count ≡ y.count) ⊎ (w.count < y.count) → IsOrLeads E x y
     by u (inl e) = subst (λ (z : Instr). IsOrLeads E x z) (instr_eq w y c e) u
@@ -46,7 +40,7 @@ reached edges entry exact y f n i pos le = (exact f.at f.is_one (instr i n) pos)
 
 pub exact_is_good : ExactIsGoodLaw
 exact_is_good edges entry log acyclic last exact x end =
-    record { own = own; rises = λ i ne. rises i (some_or_none (entry (previous x) i)); sources = λ z a i. sources z a i (some_or_none (entry z i)) }
+    record { own = own; rises = λ i ne. rises i (eq-zero-or-pos (entry (previous x) i)); sources = λ z a i. sources z a i (eq-zero-or-pos (entry z i)) }
   where
     E : Relation
     E = Among edges
@@ -64,12 +58,12 @@ exact_is_good edges entry log acyclic last exact x end =
         by (inl e) = let f : k ≡ x.count = ap (λ (z : Instr). z.count) e in omega arith
         by (inr p) = acyclic x (joined (Among edges) x (instr x.core k) x (one (Among edges) x (instr x.core k) (inl (refl, lt))) p)
 
-    own_by : (entry x x.core ≤ x.count) ⊎ (x.count < entry x x.core) → entry x x.core ≡ x.count
-    own_by (inl le) = let u = up in omega arith
-    own_by (inr lt) = absurd (not_later (entry x x.core) lt (omega arith))
+    own_by : (x.count < entry x x.core) ⊎ (entry x x.core ≤ x.count) → entry x x.core ≡ x.count
+    own_by (inr le) = let u = up in omega arith
+    own_by (inl lt) = absurd (not_later (entry x x.core) lt (omega arith))
 
     own : entry x x.core ≡ x.count
-    own = own_by (order (entry x x.core) x.count)
+    own = own_by (cases_lt x.count (entry x x.core))
 
     rises : (i : ℕ) → (entry (previous x) i ≡ 0) ⊎ (1 ≤ entry (previous x) i) → entry (previous x) i ≤ entry x i
     rises i (inl e) = omega arith
@@ -97,7 +91,7 @@ record Enters (E : Relation) (x y : Instr) : Type 0 where
 enters : (E : Relation) → ((u : Instr) → Before E u u → ⊥) → (n : ℕ) (x y : Instr) → Path E n x y → x.core ≢ y.core → Enters E x y
 enters E acyclic zero x y (inl s) ne = absurd (ne s.0)
 enters E acyclic zero x y (inr s) ne = record { from = x; at = y; leads = inl refl; edge = s; core = refl; count = omega arith }
-enters E acyclic (suc n) x y p ne = by (same_or_not p.0.core y.core) p.1 (λ d. enters E acyclic n p.0 y p.2 d)
+enters E acyclic (suc n) x y p ne = by (cases_eq p.0.core y.core) p.1 (λ d. enters E acyclic n p.0 y p.2 d)
   where
     by : (p.0.core ≡ y.core) ⊎ (p.0.core ≢ y.core) → Step E x p.0 → (p.0.core ≢ y.core → Enters E p.0 y) → Enters E x y
     by (inr d) s go = let r = go d in record { from = r.from; at = r.at; leads = inr (before s r.leads); edge = r.edge; core = r.core; count = r.count }
@@ -106,14 +100,14 @@ enters E acyclic (suc n) x y p ne = by (same_or_not p.0.core y.core) p.1 (λ d. 
         before {w} s (inl e) = subst (λ (z : Instr). Before E x z) e (one E x p.0 s)
         before {w} s (inr q) = joined E x p.0 w (one E x p.0 s) q
     by (inl e) (inl s) _ = absurd (ne (s.0 ∙ e))
-    by (inl e) (inr s) _ = record { from = x; at = p.0; leads = inl refl; edge = s; core = e; count = not_later (order p.0.count y.count) }
+    by (inl e) (inr s) _ = record { from = x; at = p.0; leads = inl refl; edge = s; core = e; count = not_later (cases_lt y.count p.0.count) }
       where
-        not_later : (p.0.count ≤ y.count) ⊎ (y.count < p.0.count) → p.0.count ≤ y.count
-        not_later (inl le) = le
-        not_later (inr lt) = absurd (acyclic y (joined E y p.0 y (one E y p.0 (inl (sym e, lt))) (n, p.2)))
+        not_later : (y.count < p.0.count) ⊎ (p.0.count ≤ y.count) → p.0.count ≤ y.count
+        not_later (inr le) = le
+        not_later (inl lt) = absurd (acyclic y (joined E y p.0 y (one E y p.0 (inl (sym e, lt))) (n, p.2)))
 
 pub every_clock : EveryClockLaw
-every_clock edges entry y log acyclic last exact x x_pos = (to (same_or_not x.core y.core), back)
+every_clock edges entry y log acyclic last exact x x_pos = (to (cases_eq x.core y.core), back)
   where
     to : (x.core ≡ y.core) ⊎ (x.core ≢ y.core) → x.count ≤ with_own y (entry y) x.core → IsOrLeads (Among edges) x y
     to (inl e) le = let f = own_same y (entry y) x.core e in onward (Among edges) x x y (inl refl) e (omega arith)
@@ -135,24 +129,24 @@ every_clock edges entry y log acyclic last exact x x_pos = (to (same_or_not x.co
         let e = f.same x.core in
         omega arith
 
-    not_later : x.core ≡ y.core → IsOrLeads (Among edges) x y → (x.count ≤ y.count) ⊎ (y.count < x.count) → x.count ≤ y.count
-    not_later e u (inl le) = le
-    not_later e (inl f) (inr lt) = let g : x.count ≡ y.count = ap (λ (z : Instr). z.count) f in omega arith
-    not_later e (inr p) (inr lt) = absurd (acyclic y (joined (Among edges) y x y (one (Among edges) y x (inl (sym e, lt))) p))
+    not_later : x.core ≡ y.core → IsOrLeads (Among edges) x y → (y.count < x.count) ⊎ (x.count ≤ y.count) → x.count ≤ y.count
+    not_later e u (inr le) = le
+    not_later e (inl f) (inl lt) = let g : x.count ≡ y.count = ap (λ (z : Instr). z.count) f in omega arith
+    not_later e (inr p) (inl lt) = absurd (acyclic y (joined (Among edges) y x y (one (Among edges) y x (inl (sym e, lt))) p))
 
     from_other : x.core ≢ y.core → IsOrLeads (Among edges) x y → x.count ≤ entry y x.core
     from_other ne (inl e) = absurd (ne (ap (λ (z : Instr). z.core) e))
     from_other ne (inr p) = through (enters (Among edges) acyclic p.0 x y p.1 ne) (floor edges entry log last y.core y.count)
 
     back : IsOrLeads (Among edges) x y → x.count ≤ with_own y (entry y) x.core
-    back u = by (same_or_not x.core y.core)
+    back u = by (cases_eq x.core y.core)
       where
         by : (x.core ≡ y.core) ⊎ (x.core ≢ y.core) → x.count ≤ with_own y (entry y) x.core
-        by (inl e) = let f = own_same y (entry y) x.core e in let le = not_later e u (order x.count y.count) in omega arith
+        by (inl e) = let f = own_same y (entry y) x.core e in let le = not_later e u (cases_lt y.count x.count) in omega arith
         by (inr ne) = let f = own_other y (entry y) x.core ne in let le = from_other ne u in omega arith
 
 pub next_clock : NextClockLaw
-next_clock edges entry y merged log acyclic last pos own sources merge x x_pos = (to (same_or_not x.core y.core), back (same_or_not x.core y.core))
+next_clock edges entry y merged log acyclic last pos own sources merge x x_pos = (to (cases_eq x.core y.core), back (cases_eq x.core y.core))
   where
     before : IsClock (Among edges) (previous y) (with_own (previous y) (entry (previous y)))
     before = every_clock edges entry (previous y) log acyclic last (λ w end e le. own w end e (omega arith))
@@ -169,10 +163,10 @@ next_clock edges entry y merged log acyclic last pos own sources merge x x_pos =
     to (inl e) le = let f = own_same y merged x.core e in onward (Among edges) x x y (inl refl) e (omega arith)
     to (inr ne) le = let e = own_other y merged x.core ne in other ((merge x.core x.count ne x_pos).0 (omega arith)) ne
 
-    not_later : x.core ≡ y.core → IsOrLeads (Among edges) x y → (x.count ≤ y.count) ⊎ (y.count < x.count) → x.count ≤ y.count
-    not_later e u (inl le) = le
-    not_later e (inl f) (inr lt) = let g : x.count ≡ y.count = ap (λ (z : Instr). z.count) f in omega arith
-    not_later e (inr p) (inr lt) = absurd (acyclic y (joined (Among edges) y x y (one (Among edges) y x (inl (sym e, lt))) p))
+    not_later : x.core ≡ y.core → IsOrLeads (Among edges) x y → (y.count < x.count) ⊎ (x.count ≤ y.count) → x.count ≤ y.count
+    not_later e u (inr le) = le
+    not_later e (inl f) (inl lt) = let g : x.count ≡ y.count = ap (λ (z : Instr). z.count) f in omega arith
+    not_later e (inr p) (inl lt) = absurd (acyclic y (joined (Among edges) y x y (one (Among edges) y x (inl (sym e, lt))) p))
 
     through : (w : Instr) → x.core ≢ y.core → IsOrLeads (Among edges) x w → Step (Among edges) w y → IsBelowSources edges entry y x.core x.count
     through w ne u (inl s) =
@@ -186,7 +180,7 @@ next_clock edges entry y merged log acyclic last pos own sources merge x x_pos =
     from_other ne (inr p) = let l = last_at (Among edges) p.0 x y p.1 in through l.0 ne l.1 l.2
 
     back : (x.core ≡ y.core) ⊎ (x.core ≢ y.core) → IsOrLeads (Among edges) x y → x.count ≤ with_own y merged x.core
-    back (inl e) u = let f = own_same y merged x.core e in let le = not_later e u (order x.count y.count) in omega arith
+    back (inl e) u = let f = own_same y merged x.core e in let le = not_later e u (cases_lt y.count x.count) in omega arith
     back (inr ne) u = let f = own_other y merged x.core ne in let le = (merge x.core x.count ne x_pos).1 (from_other ne u) in omega arith
 
 -- ---- edges that the others imply
@@ -226,13 +220,6 @@ known_otherwise edges entry x y log last good a p = let l = last_at (Others (Amo
         let o = own_stands edges entry w x.core good (end_source edges w y s.0) in
         inr (w, s.0, (λ e. s.1 e refl), omega arith)
 
-below : (m n : ℕ) → (n ≤ m → ⊥) → m < n
-below m n f = by (order n m)
-  where
-    by : (n ≤ m) ⊎ (m < n) → m < n
-    by (inl le) = absurd (f le)
-    by (inr lt) = lt
-
 pub needed_or_known : NeededOrKnownLaw
 needed_or_known edges entry x y = (to, back)
   where
@@ -242,8 +229,8 @@ needed_or_known edges entry x y = (to, back)
 
     back : (IsKnownOtherwise edges entry x y → ⊥) → IsNeeded edges entry x y
     back f = record {
-      before = below (entry (previous y) x.core) x.count (λ le. f (inl le));
-      others = λ z a ne. below (entry z x.core) x.count (λ le. f (inr (z, a, ne, le)));
+      before = lt_of_not-le (λ le. f (inl le));
+      others = λ z a ne. lt_of_not-le (λ le. f (inr (z, a, ne, le)));
     }
 
 pub needed : NeededLaw

@@ -1,27 +1,19 @@
 -- Good entries grow along paths.
-use Rattle.std.proofs.Common.{inl, inr, ◌≡◌, ◌≢◌, ◌⊎◌, ℕ, zero, suc, ◌+◌, ◌-◌, ◌≤◌, List, refl, sym, ap, ◌∙◌, arith, true, false, nat_eq}
-use Rattle.std.proofs.lemmas.Bool.Decides.{nat_tests}
+use Rattle.std.proofs.Common.{inl, inr, ◌≡◌, ◌≢◌, ◌⊎◌, ℕ, zero, suc, ◌+◌, ◌-◌, ◌≤◌, List, refl, sym, ap, ◌∙◌, arith, true, false}
+use Rattle.std.proofs.lemmas.Bool.{cases_Bool, cases_eq}
 use Rattle.rtr_types.specs.declared.instr.Instr.{Instr}
 use Rattle.rtr_types.specs.declared.instr.Edge.{Edge}
 use Rattle.clock_core.specs.Order.{Step, Path, IsOrLeads, Among}
 use Rattle.clock_core.specs.Reach.{with_own}
+use Rattle.clock_core.proofs.Reach.{own_same, own_other}
 use Rattle.clock_entries.specs.Ends.{instr, is_end, IsEnd}
 use Rattle.clock_entries.specs.Entries.{Entry, IsLastEntry, AreGood}
 use Rattle.clock_entries.specs.Laws.{GoodIsAtLeastLaw}
-use Rattle.clock_entries.proofs.Ends.{cases, end_source, end_target, not_end, minus_one}
-
-pub same_or_not : (m n : ℕ) → (m ≡ n) ⊎ (m ≢ n)
-same_or_not m n = grind arith
-
-pub own_same : (y : Instr) (p : ℕ → ℕ) (i : ℕ) → i ≡ y.core → with_own y p i ≡ y.count
-own_same y p i e = let t : nat_eq i y.core ≡ true = grind (arith, nat_tests) in rw t refl
-
-pub own_other : (y : Instr) (p : ℕ → ℕ) (i : ℕ) → i ≢ y.core → with_own y p i ≡ p i
-own_other y p i e = let t : nat_eq i y.core ≡ false = grind (arith, nat_tests) in rw t refl
+use Rattle.clock_entries.proofs.Ends.{end_source, end_target, not_end, minus_one}
 
 rises_once : (edges : List Edge) (entry : Entry) → IsLastEntry edges entry → AreGood edges entry → (c n i : ℕ) → i ≢ c →
     entry (instr c n) i ≤ entry (instr c (suc n)) i
-rises_once edges entry last good c n i ne = by (cases (is_end edges (instr c (suc n))))
+rises_once edges entry last good c n i ne = by (cases_Bool (is_end edges (instr c (suc n))))
   where
     same : entry (instr c (suc n - 1)) i ≡ entry (instr c n) i
     same = ap (λ (k : ℕ). entry (instr c k) i) (minus_one n)
@@ -50,7 +42,7 @@ rises edges entry last good c m n i le ne =
 
 -- at an edge end the own count stands in the entry
 pub own_stands : (edges : List Edge) (entry : Entry) (x : Instr) (i : ℕ) → AreGood edges entry → IsEnd edges x → with_own x (entry x) i ≡ entry x i
-own_stands edges entry x i good end = by (same_or_not i x.core)
+own_stands edges entry x i good end = by (cases_eq i x.core)
   where
     by : (i ≡ x.core) ⊎ (i ≢ x.core) → with_own x (entry x) i ≡ entry x i
     by (inl e) = own_same x (entry x) i e ∙ sym (good x end).own ∙ ap (λ (k : ℕ). entry x k) (sym e)
@@ -65,7 +57,7 @@ step_up edges entry last good z y i (inr a) =
     let q = own_stands edges entry y i good t in
     let le = (good y t).sources z a i in
     omega arith
-step_up edges entry last good z y i (inl s) = by (same_or_not i y.core)
+step_up edges entry last good z y i (inl s) = by (cases_eq i y.core)
   where
     by : (i ≡ y.core) ⊎ (i ≢ y.core) → with_own z (entry z) i ≤ with_own y (entry y) i
     by (inl e) =

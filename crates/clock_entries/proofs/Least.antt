@@ -1,5 +1,6 @@
 -- What entries show of a sufficient log.
 use Rattle.std.proofs.Common.{inl, inr, ◌≡◌, ◌≢◌, ◌⊎◌, List, [], ◌∷◌, refl, sym, subst, true, false}
+use Rattle.std.proofs.lemmas.Bool.{cases_Bool}
 use Rattle.rtr_types.specs.declared.instr.Instr.{Instr}
 use Rattle.rtr_types.specs.declared.access.Access.{Access}
 use Rattle.clock_core.specs.Order.{Among}
@@ -10,7 +11,6 @@ use Rattle.conflict_edge.proofs.Independent.{cases_instr}
 use Rattle.conflict_edge.proofs.TwoForms.{independent_law}
 use Rattle.clock_entries.specs.Entries.{IsAmiss}
 use Rattle.clock_entries.specs.Laws.{GoodShowsLeastLaw, LeastIsNeededLaw, AmissLaw}
-use Rattle.clock_entries.proofs.Ends.{cases}
 use Rattle.clock_entries.proofs.Exact.{needed, needed_or_known, implied_law}
 
 pub good_shows_least : GoodShowsLeastLaw
@@ -28,7 +28,7 @@ HasLater later a y = (b : Access) × StandsIn later b × (b.at ≡ y) × Conflic
 
 later_decided : (later : List Access) (a : Access) (y : Instr) → HasLater later a y ⊎ (HasLater later a y → ⊥)
 later_decided [] a y = inr (λ q. absurd q.1)
-later_decided (b ∷ later) a y = by (later_decided later a y) (cases_instr b.at y) (cases (do_conflict a b))
+later_decided (b ∷ later) a y = by (later_decided later a y) (cases_instr b.at y) (cases_Bool (do_conflict a b))
   where
     none : ((b.at ≡ y) → Conflicts a b → ⊥) → (HasLater later a y → ⊥) → HasLater (b ∷ later) a y → ⊥
     none f g (c, inl e, p, q) = f (subst (λ (d : Access). d.at ≡ y) (sym e) p) (subst (λ (d : Access). Conflicts a d) (sym e) q)

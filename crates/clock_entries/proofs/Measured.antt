@@ -1,26 +1,23 @@
 -- The test of exact entries.
-use Rattle.std.proofs.Common.{inl, inr, ◌≡◌, ◌≢◌, ◌⊎◌, ◌↔◌, ℕ, ◌<◌, ◌≤◌, List, [], ◌∷◌, Bool, true, false, cond, ◌||◌, max, nat_eq}
+use Rattle.std.proofs.Common.{inl, inr, ◌≡◌, ◌≢◌, ◌⊎◌, ◌↔◌, ℕ, ◌<◌, ◌≤◌, List, [], ◌∷◌, Bool, true, false, cond, ◌||◌, nat_eq}
 use Rattle.std.proofs.Common.{refl, sym, ap, ◌∙◌, arith}
 use Rattle.std.proofs.lemmas.Bool.Decides.{nat_tests}
-use Rattle.std.proofs.lemmas.Bool.{cases_lt}
+use Rattle.std.proofs.lemmas.Bool.{cases_lt, cases_Bool, cases_eq, and_parts}
 use Rattle.rtr_types.specs.declared.instr.Instr.{Instr}
 use Rattle.rtr_types.specs.declared.instr.Edge.{Edge}
-use Rattle.clock_core.specs.Order.{Relation, Among, previous}
+use Rattle.clock_core.specs.Order.{Among, previous}
 use Rattle.clock_core.specs.Reach.{IsClock, with_own}
-use Rattle.clock_core.proofs.Reach.{one_clock_law}
+use Rattle.clock_core.proofs.Reach.{one_clock_law, own_same, own_other, reached_by, clock_same}
+use Rattle.clock_core.proofs.Paths.{same_instr}
 use Rattle.clock_entries.specs.Ends.{is_same, IsEnd}
 use Rattle.clock_entries.specs.Entries.{Entry}
 use Rattle.clock_entries.specs.Laws.{IsBelowSources}
 use Rattle.clock_entries.specs.Tests.{each_place, is_exact_at, most_before, most_of_sources, HasPlaces, ExactPassesLaw, NextExactLaw}
-use Rattle.clock_entries.proofs.Ends.{cases, same_is, same_of, end_counts, end_source}
+use Rattle.clock_entries.proofs.Ends.{same_is, end_counts, end_source}
 use Rattle.clock_entries.proofs.Exact.{exact_is_good, next_clock}
-use Rattle.clock_entries.proofs.Good.{same_or_not, own_same, own_other}
-use Rattle.clock_entries.proofs.Tested.{all-places, both-true, else-true, end-each, places-all, true-both, true-else}
+use Rattle.clock_entries.proofs.Tested.{all-places, else-true, end-each, places-all, true-both, true-else}
 
 -- ---- the greatest count of the sources
-
-split : (n x y : ℕ) → n ≤ max x y → (n ≤ x) ⊎ (n ≤ y)
-split n x y h = grind arith
 
 picked : (b : Bool) (k n : ℕ) → b ≡ true → n ≤ cond b k 0 → n ≤ k
 picked true k n e le = le
@@ -36,12 +33,12 @@ IsOfSource edges entry y i n = (z : Instr) × Among edges z y × (n ≤ entry z 
 most-from : (edges : List Edge) (entry : Entry) (y : Instr) (i n : ℕ) → 1 ≤ n → n ≤ most_of_sources edges entry y i → IsOfSource edges entry y i n
 most-from [] entry y i n pos le = absurd (omega arith)
 most-from (e ∷ edges) entry y i n pos le =
-    by (split n (cond (is_same e.to y) (entry e.from i) 0) (most_of_sources edges entry y i) le) (cases (is_same e.to y))
+    by (reached_by n (cond (is_same e.to y) (entry e.from i) 0) (most_of_sources edges entry y i) le) (cases_Bool (is_same e.to y))
     (λ later. most-from edges entry y i n pos later)
   where
     by : (n ≤ cond (is_same e.to y) (entry e.from i) 0) ⊎ (n ≤ most_of_sources edges entry y i) → (is_same e.to y ≡ true) ⊎ (is_same e.to y ≡ false) →
         (n ≤ most_of_sources edges entry y i → IsOfSource edges entry y i n) → IsOfSource (e ∷ edges) entry y i n
-    by (inl a) (inl t) go = (e.from, inl (refl, same_of e.to y t), picked (is_same e.to y) (entry e.from i) n t a)
+    by (inl a) (inl t) go = (e.from, inl (refl, same_instr e.to y t), picked (is_same e.to y) (entry e.from i) n t a)
     by (inl a) (inr f) go = absurd (left-out (is_same e.to y) (entry e.from i) n f pos a)
     by (inr a) c go = let s = go a in (s.0, inr s.1, s.2)
 
@@ -55,7 +52,7 @@ from-most (e ∷ edges) entry y z i (inl is) =
 from-most (e ∷ edges) entry y z i (inr a) = omega (arith, from-most edges entry y z i a)
 
 most-below : (edges : List Edge) (entry : Entry) (y : Instr) (i n : ℕ) → 1 ≤ n → (n ≤ most_before edges entry y i) ↔ IsBelowSources edges entry y i n
-most-below edges entry y i n pos = (λ le. to (split n (entry (previous y) i) (most_of_sources edges entry y i) le), back)
+most-below edges entry y i n pos = (λ le. to (reached_by n (entry (previous y) i) (most_of_sources edges entry y i) le), back)
   where
     to : (n ≤ entry (previous y) i) ⊎ (n ≤ most_of_sources edges entry y i) → IsBelowSources edges entry y i n
     to (inl a) = inl a
@@ -82,22 +79,16 @@ most-ends cores edges entry y i none le = by (none-or-some (most_before edges en
 
 -- ---- exact
 
-clock-same : (E : Relation) (y : Instr) (f g : ℕ → ℕ) → ((i : ℕ) → f i ≡ g i) → IsClock E y f → IsClock E y g
-clock-same E y f g same is x pos =
-    let e = same x.core in
-    let b = is x pos in
-    (λ le. b.0 (omega arith), λ u. let le = b.1 u in omega arith)
-
 abbrev place_test : List Edge → Entry → Instr → ℕ → Bool
 place_test edges entry y i = nat_eq i y.core || nat_eq (entry y i) (most_before edges entry y i)
 
 pub next_exact : NextExactLaw
 next_exact cores edges entry y log acyclic last none pos test own sources =
-    clock-same (Among edges) y (with_own y (most_before edges entry y)) (entry y) agree
+    clock_same (Among edges) y (with_own y (most_before edges entry y)) (entry y) agree
     (next_clock edges entry y (most_before edges entry y) log acyclic last pos own sources (λ i n ne some. most-below edges entry y i n some))
   where
     both : (nat_eq (entry y y.core) y.count ≡ true) × (each_place (place_test edges entry y) cores ≡ true)
-    both = both-true (nat_eq (entry y y.core) y.count) (each_place (place_test edges entry y) cores) test
+    both = and_parts (nat_eq (entry y y.core) y.count) (each_place (place_test edges entry y) cores) test
 
     own_count : entry y y.core ≡ y.count
     own_count = let t = both.0 in grind (arith, nat_tests)
@@ -115,7 +106,7 @@ next_exact cores edges entry y log acyclic last none pos test own sources =
     at i (inr ne) = own_other y (most_before edges entry y) i ne ∙ other i ne (cases_lt i cores)
 
     agree : (i : ℕ) → with_own y (most_before edges entry y) i ≡ entry y i
-    agree i = at i (same_or_not i y.core)
+    agree i = at i (cases_eq i y.core)
 
 pub exact_passes : ExactPassesLaw
 exact_passes cores edges entry log acyclic last none exact = end-each (is_exact_at cores edges entry) edges one

@@ -1,13 +1,13 @@
 -- The numbers of edge ends: an end's place in its core's list.
-use Rattle.std.proofs.Common.{inl, inr, ◌≡◌, ◌⊎◌, ℕ, zero, suc, ◌+◌, ◌<◌, ◌≤◌, List, [], ◌∷◌, ◌++◌, length, get_or, refl, sym, ap, ◌∙◌, subst, arith, true}
+use Rattle.std.proofs.Common.{inl, inr, ◌≡◌, ◌⊎◌, ℕ, zero, suc, ◌+◌, ◌<◌, ◌≤◌, List, [], ◌∷◌, ◌++◌, length, get_or, sym, ap, ◌∙◌, subst, arith, true}
 use Rattle.std.proofs.Common.{false, leb}
 use Rattle.std.specs.List.Sorted.{IsPartitionPoint, IsNonDecreasingBy}
-use Rattle.std.proofs.lemmas.Bool.{leb-true, leb-false}
-use Rattle.std.proofs.lemmas.List.{get_or_append_left, get_or_push}
+use Rattle.std.proofs.lemmas.Bool.{leb-true, leb-false, cases_Bool, cases_order}
+use Rattle.std.proofs.lemmas.List.{get_or_append_left, get_or_push, length_push}
 use Rattle.std.proofs.lemmas.List.Sorted.{IsNonDecreasingBy-from_default}
 use Rattle.rtr_types.specs.declared.instr.Edge.{Edge}
 use Rattle.clock_entries.specs.Ends.{instr, is_end, ends_to}
-use Rattle.clock_entries.proofs.Ends.{cases, ends_none, ends_more, ends_stay}
+use Rattle.clock_entries.proofs.Ends.{ends_none, ends_more, ends_stay, at_most}
 
 -- what a list of ends is one count further on
 pub record Grown (edges : List Edge) (c n : ℕ) : Type 0 where
@@ -15,19 +15,15 @@ pub record Grown (edges : List Edge) (c n : ℕ) : Type 0 where
   pub list : ends_to edges c (suc n) ≡ ends_to edges c n ++ suc n ∷ []
   pub len : length (ends_to edges c (suc n)) ≡ length (ends_to edges c n) + 1
 
-len_push : (l : List ℕ) (k : ℕ) → length (l ++ k ∷ []) ≡ length l + 1
-len_push [] k = refl
-len_push (x ∷ l) k = let e = len_push l k in omega arith
-
 pub grows : (edges : List Edge) (c n : ℕ) → Grown edges c n ⊎ (ends_to edges c (suc n) ≡ ends_to edges c n)
-grows edges c n = by (cases (is_end edges (instr c (suc n))))
+grows edges c n = by (cases_Bool (is_end edges (instr c (suc n))))
   where
     by : (is_end edges (instr c (suc n)) ≡ true) ⊎ (is_end edges (instr c (suc n)) ≡ false) → Grown edges c n ⊎ (ends_to edges c (suc n) ≡ ends_to edges c n)
     by (inl t) = let e = ends_more edges c n t in inl (record {
       ended = t;
       list = e;
       len = ap (λ (l : List ℕ). length l) e
-          ∙ len_push (ends_to edges c n) (suc n);
+          ∙ length_push (ends_to edges c n) (suc n);
     })
     by (inr f) = inr (ends_stay edges c n f)
 
@@ -44,16 +40,13 @@ few edges c (suc n) = by (grows edges c n) (few edges c n)
 abbrev pub end_at : List Edge → (c n k : ℕ) → ℕ
 end_at edges c n k = get_or (ends_to edges c n) k 0
 
-earlier : (m n : ℕ) → m ≤ suc n → (m ≡ suc n) ⊎ (m ≤ n)
-earlier m n le = grind arith
-
 in_front : (k n : ℕ) → k < n + 1 → (k ≡ n) ⊎ (k < n)
 in_front k n lt = grind arith
 
 -- lists of ends are fronts of longer ones
 pub longer : (edges : List Edge) (c m n : ℕ) → m ≤ n → length (ends_to edges c m) ≤ length (ends_to edges c n)
 longer edges c m zero le = let e : m ≡ 0 = omega arith in subst (λ (k : ℕ). length (ends_to edges c k) ≤ length (ends_to edges c 0)) (sym e) (omega arith)
-longer edges c m (suc n) le = by (earlier m n le) (grows edges c n) (λ l. longer edges c m n l)
+longer edges c m (suc n) le = by (at_most m n le) (grows edges c n) (λ l. longer edges c m n l)
   where
     by : (m ≡ suc n) ⊎ (m ≤ n) → Grown edges c n ⊎ (ends_to edges c (suc n) ≡ ends_to edges c n) →
         (m ≤ n → length (ends_to edges c m) ≤ length (ends_to edges c n)) →
@@ -64,7 +57,7 @@ longer edges c m (suc n) le = by (earlier m n le) (grows edges c n) (λ l. longe
 
 pub fronted : (edges : List Edge) (c m n k : ℕ) → m ≤ n → k < length (ends_to edges c m) → end_at edges c n k ≡ end_at edges c m k
 fronted edges c m zero k le lt = let e : 0 ≡ m = omega arith in ap (λ (j : ℕ). end_at edges c j k) e
-fronted edges c m (suc n) k le lt = by (earlier m n le) (grows edges c n) (λ l. fronted edges c m n k l lt)
+fronted edges c m (suc n) k le lt = by (at_most m n le) (grows edges c n) (λ l. fronted edges c m n k l lt)
   where
     by : (m ≡ suc n) ⊎ (m ≤ n) → Grown edges c n ⊎ (ends_to edges c (suc n) ≡ ends_to edges c n) → (m ≤ n → end_at edges c n k ≡ end_at edges c m k) →
         end_at edges c (suc n) k ≡ end_at edges c m k
@@ -100,7 +93,7 @@ at_low edges c (suc n) k lt = by (grows edges c n) (λ l. at_low edges c n k l)
 -- those behind the ends up to m are greater than m
 pub at_high : (edges : List Edge) (c m n k : ℕ) → m ≤ n → length (ends_to edges c m) ≤ k → k < length (ends_to edges c n) → m < end_at edges c n k
 at_high edges c m zero k le from lt = let e = ap (λ (l : List ℕ). length l) (ends_none edges c) in absurd (omega arith)
-at_high edges c m (suc n) k le from lt = by (earlier m n le) (grows edges c n) (λ l h. at_high edges c m n k l from h)
+at_high edges c m (suc n) k le from lt = by (at_most m n le) (grows edges c n) (λ l h. at_high edges c m n k l from h)
   where
     by : (m ≡ suc n) ⊎ (m ≤ n) → Grown edges c n ⊎ (ends_to edges c (suc n) ≡ ends_to edges c n) →
         (m ≤ n → k < length (ends_to edges c n) → m < end_at edges c n k) → m < end_at edges c (suc n) k
@@ -148,11 +141,8 @@ ends_fall_not edges c n = IsNonDecreasingBy-from_default (λ (x : ℕ). x) (ends
 -- the place up to which ends are at most m is how many they are
 pub counted : (edges : List Edge) (c m n place : ℕ) → m ≤ n → place ≤ length (ends_to edges c n) →
     IsPartitionPoint (λ v. leb v m ≡ true) (λ v. leb v m ≡ false) (ends_to edges c n) place → place ≡ length (ends_to edges c m)
-counted edges c m n place le most parted = by (order place (length (ends_to edges c m))) (order (length (ends_to edges c m)) place)
+counted edges c m n place le most parted = by (cases_order place (length (ends_to edges c m)))
   where
-    order : (i j : ℕ) → (i ≤ j) ⊎ (j < i)
-    order i j = grind arith
-
     less : place < length (ends_to edges c m) → ⊥
     less lt =
         let up = longer edges c m n le in
@@ -167,8 +157,8 @@ counted edges c m n place le most parted = by (order place (length (ends_to edge
         let low = leb-true (end_at edges c n (length (ends_to edges c m))) m (parted.0 (length (ends_to edges c m)) 0 (omega arith) lt) in
         omega arith
 
-    by : (place ≤ length (ends_to edges c m)) ⊎ (length (ends_to edges c m) < place) → (length (ends_to edges c m) ≤ place)
-        ⊎ (place < length (ends_to edges c m)) → place ≡ length (ends_to edges c m)
-    by (inl a) (inl b) = omega arith
-    by (inr a) _ = absurd (more a)
-    by (inl a) (inr b) = absurd (less b)
+    by : (place ≡ length (ends_to edges c m)) ⊎ ((place < length (ends_to edges c m)) ⊎ (length (ends_to edges c m) < place)) →
+        place ≡ length (ends_to edges c m)
+    by (inl same) = same
+    by (inr (inl lt)) = absurd (less lt)
+    by (inr (inr lt)) = absurd (more lt)

@@ -3,21 +3,18 @@ use Rattle.std.proofs.Common.{inl, inr, ◌≡◌, ◌≢◌, ◌⊎◌, ℕ, ze
 use Rattle.std.proofs.Common.{refl, ap, subst, ◌∙◌, arith}
 use Rattle.std.specs.List.{list_all}
 use Rattle.std.proofs.lemmas.Bool.Decides.{nat_tests}
-use Rattle.std.proofs.lemmas.Bool.{cases_lt}
+use Rattle.std.proofs.lemmas.Bool.{cases_lt, cases_Bool, and_parts}
 use Rattle.rtr_types.specs.declared.instr.Instr.{Instr}
 use Rattle.rtr_types.specs.declared.instr.Edge.{Edge}
 use Rattle.clock_core.specs.Order.{Among, previous}
+use Rattle.clock_core.proofs.Paths.{same_instr}
 use Rattle.clock_entries.specs.Ends.{is_same, IsEnd}
 use Rattle.clock_entries.specs.Entries.{Entry, IsGoodAt, IsNeeded}
 use Rattle.clock_entries.specs.Tests.{each_end, each_place, is_below, is_below_but, are_sources_below, is_good_at, is_unknown_by_others, is_needed}
 use Rattle.clock_entries.specs.Tests.{HasPlaces, GoodTest, NeededTest}
-use Rattle.clock_entries.proofs.Ends.{cases, same_is, same_of, end_edge, end_source, end_target}
+use Rattle.clock_entries.proofs.Ends.{same_is, end_edge, end_source, end_target}
 
 -- ---- tests of lists
-
-pub both-true : (a b : Bool) → a && b ≡ true → (a ≡ true) × (b ≡ true)
-both-true true b h = (refl, h)
-both-true false b h = absurd cc
 
 pub true-both : (a b : Bool) → a ≡ true → b ≡ true → a && b ≡ true
 true-both true b g h = h
@@ -48,8 +45,8 @@ all-edges : (test : Edge → Bool) (edges : List Edge) → list_all test edges �
 all-edges test [] h x y a = absurd a
 all-edges test (e ∷ edges) h x y (inl is) =
     let same : e ≡ edge x y = ap (λ (z : Instr). edge z e.to) is.0 ∙ ap (λ (z : Instr). edge x z) is.1 in
-    subst (λ (d : Edge). test d ≡ true) same (both-true (test e) (list_all test edges) h).0
-all-edges test (e ∷ edges) h x y (inr a) = all-edges test edges (both-true (test e) (list_all test edges) h).1 x y a
+    subst (λ (d : Edge). test d ≡ true) same (and_parts (test e) (list_all test edges) h).0
+all-edges test (e ∷ edges) h x y (inr a) = all-edges test edges (and_parts (test e) (list_all test edges) h).1 x y a
 
 edges-all : (test : Edge → Bool) (edges : List Edge) → ((x y : Instr) → Among edges x y → test (edge x y) ≡ true) → list_all test edges ≡ true
 edges-all test [] h = refl
@@ -61,7 +58,7 @@ pub each-end : (test : Instr → Bool) (edges : List Edge) → each_end test edg
 each-end test edges h x end = by (end_edge edges x end)
   where
     ends : (y z : Instr) → Among edges y z → (test y ≡ true) × (test z ≡ true)
-    ends y z is = both-true (test y) (test z) (all-edges (λ e. test e.from && test e.to) edges h y z is)
+    ends y z is = and_parts (test y) (test z) (all-edges (λ e. test e.from && test e.to) edges h y z is)
 
     by : (y : Instr) × (Among edges x y ⊎ Among edges y x) → test x ≡ true
     by (y, inl is) = (ends x y is).0
@@ -74,7 +71,7 @@ end-each test edges h = edges-all (λ e. test e.from && test e.to) edges
 pub all-places : (test : ℕ → Bool) (n : ℕ) → each_place test n ≡ true → (i : ℕ) → i < n → test i ≡ true
 all-places test zero h i lt = absurd (omega arith)
 all-places test (suc n) h i lt =
-    let both = both-true (test n) (each_place test n) h in
+    let both = and_parts (test n) (each_place test n) h in
     by both.0 (λ less. all-places test n both.1 i less) (cases_lt i n)
   where
     by : test n ≡ true → (i < n → test i ≡ true) → (i < n) ⊎ (n ≤ i) → test i ≡ true
@@ -123,8 +120,8 @@ source_test cores entry x e = not (is_same e.to x) || is_below cores (entry e.fr
 
 good-true : (cores : ℕ) (edges : List Edge) (entry : Entry) (x : Instr) → HasPlaces cores entry → is_good_at cores edges entry x ≡ true → IsGoodAt edges entry x
 good-true cores edges entry x none h =
-    let a = both-true (nat_eq (entry x x.core) x.count) (is_below_but cores x.core (entry (previous x)) (entry x) && are_sources_below cores edges entry x) h in
-    let b = both-true (is_below_but cores x.core (entry (previous x)) (entry x)) (are_sources_below cores edges entry x) a.1 in
+    let a = and_parts (nat_eq (entry x x.core) x.count) (is_below_but cores x.core (entry (previous x)) (entry x) && are_sources_below cores edges entry x) h in
+    let b = and_parts (is_below_but cores x.core (entry (previous x)) (entry x)) (are_sources_below cores edges entry x) a.1 in
     record {
       own = let t = a.0 in grind (arith, nat_tests);
       rises = but-true cores x.core (entry (previous x)) (entry x) (none (previous x)) b.0;
@@ -139,7 +136,7 @@ true-good cores edges entry x g =
     (true-both (is_below_but cores x.core (entry (previous x)) (entry x)) (are_sources_below cores edges entry x)
     (true-but cores x.core (entry (previous x)) (entry x) g.rises)
     (edges-all (source_test cores entry x) edges (λ z y is. true-where (is_same y x) (is_below cores (entry z) (entry x))
-    (λ t. true-below cores (entry z) (entry x) (g.sources z (subst (λ (w : Instr). Among edges z w) (same_of y x t) is))))))
+    (λ t. true-below cores (entry z) (entry x) (g.sources z (subst (λ (w : Instr). Among edges z w) (same_instr y x t) is))))))
 
 pub good_test : GoodTest
 good_test cores edges entry none = (
@@ -154,18 +151,18 @@ other_test entry x y e = not (is_same e.to y) || (is_same e.from x || nat_lt (en
 
 needed-true : (edges : List Edge) (entry : Entry) (x y : Instr) → is_needed edges entry x y ≡ true → IsNeeded edges entry x y
 needed-true edges entry x y h =
-    let a = both-true (nat_lt (entry (previous y) x.core) x.count) (is_unknown_by_others edges entry x y) h in
+    let a = and_parts (nat_lt (entry (previous y) x.core) x.count) (is_unknown_by_others edges entry x y) h in
     record { before = let t = a.0 in grind (arith, nat_tests); others = λ z is other. at z is other a.1 }
   where
     at : (z : Instr) → Among edges z y → z ≢ x → is_unknown_by_others edges entry x y ≡ true → entry z x.core < x.count
     at z is other all =
         let t = all-edges (other_test entry x y) edges all z y is in
         let u = where-true (is_same y y) (is_same z x || nat_lt (entry z x.core) x.count) t (same_is y y refl) in
-        let w = else-true (is_same z x) (nat_lt (entry z x.core) x.count) u (apart (cases (is_same z x))) in
+        let w = else-true (is_same z x) (nat_lt (entry z x.core) x.count) u (apart (cases_Bool (is_same z x))) in
         grind (arith, nat_tests)
       where
         apart : (is_same z x ≡ true) ⊎ (is_same z x ≡ false) → is_same z x ≡ false
-        apart (inl t) = absurd (other (same_of z x t))
+        apart (inl t) = absurd (other (same_instr z x t))
         apart (inr f) = f
 
 true-needed : (edges : List Edge) (entry : Entry) (x y : Instr) → IsNeeded edges entry x y → is_needed edges entry x y ≡ true
@@ -173,7 +170,7 @@ true-needed edges entry x y n =
     let before : nat_lt (entry (previous y) x.core) x.count ≡ true = let lt = n.before in grind (arith, nat_tests) in
     true-both (nat_lt (entry (previous y) x.core) x.count) (is_unknown_by_others edges entry x y) before
     (edges-all (other_test entry x y) edges (λ z w is. true-where (is_same w y) (is_same z x || nat_lt (entry z x.core) x.count)
-    (λ t. true-else (is_same z x) (nat_lt (entry z x.core) x.count) (at z (subst (λ (v : Instr). Among edges z v) (same_of w y t) is)))))
+    (λ t. true-else (is_same z x) (nat_lt (entry z x.core) x.count) (at z (subst (λ (v : Instr). Among edges z v) (same_instr w y t) is)))))
   where
     at : (z : Instr) → Among edges z y → is_same z x ≡ false → nat_lt (entry z x.core) x.count ≡ true
     at z is f = let lt = n.others z is (λ e. absurd (let t = same_is z x e in cc)) in grind (arith, nat_tests)

@@ -1,5 +1,6 @@
 -- Pairs that none of the others imply are covering pairs, and a least set has no others.
-use Rattle.std.proofs.Common.{◌≡◌, ◌≢◌, ℕ, zero, suc, ◌⊎◌, List, [], ◌∷◌, sym, ◌∙◌, ap, subst, inl, inr, arith}
+use Rattle.std.proofs.Common.{◌≡◌, ◌≢◌, ℕ, zero, suc, ◌⊎◌, List, [], ◌∷◌, sym, ◌∙◌, ap, subst, inl, inr}
+use Rattle.std.proofs.lemmas.Bool.{cases_eq}
 use Rattle.clock_core.proofs.Paths.{joined, one, mapped, instr_eq}
 use Rattle.clock_core.specs.Order.{Relation, Within, Step, Path, Before, Among}
 use Rattle.conflict_edge.specs.Least.{Others}
@@ -7,16 +8,13 @@ use Rattle.rtr_types.specs.declared.instr.Edge.{Edge}
 use Rattle.rtr_types.specs.declared.instr.Instr.{Instr}
 
 pub cases_instr : (x y : Instr) → (x ≡ y) ⊎ (x ≢ y)
-cases_instr x y = elim (nat x.core y.core) [
-  | inl p ↦ elim (nat x.count y.count) [
+cases_instr x y = elim (cases_eq x.core y.core) [
+  | inl p ↦ elim (cases_eq x.count y.count) [
     | inl q ↦ inl (instr_eq x y p q)
     | inr q ↦ inr (λ e. q (ap (λ (z : Instr). z.count) e))
   ]
   | inr p ↦ inr (λ e. p (ap (λ (z : Instr). z.core) e))
 ]
-  where
-    nat : (m n : ℕ) → (m ≡ n) ⊎ (m ≢ n)
-    nat m n = grind arith
 
 -- a path that ends before y has no edge into y
 no_edge_into : (C E : Relation) → Within E C → ((x : Instr) → Before C x x → ⊥) → (x y : Instr) → (n : ℕ) (u v : Instr) → Path E n u v → Before C v y →

@@ -13,3 +13,4 @@ pub mod Steps
 pub mod Next
 pub mod Shuffled
 pub mod Once
+pub mod Standing

@@ -13,12 +13,13 @@ use Rattle.conflict_edge.proofs.History.{Pair, Rising, ends, older, reaches-no}
 use Rattle.conflict_edge.proofs.Kept.{Cover, kept_covers, covers_kept}
 use Rattle.conflict_edge.proofs.Reversed.{reverse-next, pair_back, pair_forth, stands_forth}
 use Rattle.conflict_edge.proofs.Scan.{stands-left}
-use Rattle.conflict_edge.proofs.Steps.{stands_at, rising}
+use Rattle.conflict_edge.proofs.Steps.{stands_at}
 use Rattle.conflict_edge.specs.Clocks.{clock}
 use Rattle.conflict_edge.specs.Conflicts.{AreCores, StandsIn, ConflictPair, CountsRise, are_after, do_counts_rise, is_short_history}
 use Rattle.conflict_edge.specs.Least.{Covering}
 use Rattle.conflict_edge.specs.Scan.{AreExactClocks, AddsCoveringInto, AreCovering}
 use Rattle.conflict_edge.specs.Times.{IsExactClock}
+use Rattle.conflict_edge.proofs.Reach.{rising_next}
 use Rattle.rtr_types.specs.declared.TheConstants.{CORES_MAX}
 use Rattle.rtr_types.specs.declared.access.Access.{Access}
 use Rattle.rtr_types.specs.declared.instr.Edge.{Edge}
@@ -103,7 +104,7 @@ covering_next l a old new rise was adds x y =
     (λ s. to ((adds x y).0 s), λ c. (adds x y).1 (back (cover_cases a (reverse l) x y r (in_next x y (to_cover (l ++ (a ∷ [])) x y c)))))
   where
     r : Rising (a ∷ reverse l)
-    r = rising l a rise
+    r = rising_next l a rise
 
     in_next : (x y : Instr) → Cover (reverse (l ++ (a ∷ []))) x y → Cover (a ∷ reverse l) x y
     in_next x y c = subst (λ (g : List Access). Cover g x y) (reverse-next l a) c
@@ -130,7 +131,7 @@ exact_next l a clocks next m rise len was now is s d e lt = by (cases_lt s (leng
         let c = get_or_append_left clocks (m ∷ []) e s (omega arith) in
         let old = was s d e below i fits in
         let stands = stands_forth l (get_or l s d) (stands_at l s d below) in
-        let same = clock-older a (reverse l) (get_or l s d).at i (older a (reverse l) (get_or l s d) (get_or l s d).at (rising l a rise) stands refl) in
+        let same = clock-older a (reverse l) (get_or l s d).at i (older a (reverse l) (get_or l s d) (get_or l s d).at (rising_next l a rise) stands refl) in
         rw (is, c, b, reverse-next l a) (old ∙ sym same)
     by (inr past) i fits =
         let at : length l ≡ s = omega (arith, length_push l a, lt) in
@@ -199,4 +200,4 @@ history_cores list e = in_range list (and_parts (nat_le (length list) ACCESSES_M
 
 -- no covering pair of the list leads into what comes next
 pub no_old : (l : List Access) (a : Access) (x : Instr) → CountsRise (l ++ (a ∷ [])) → Covering l x a.at → ⊥
-no_old l a x rise c = not_newest a (reverse l) x a.at (rising l a rise) (pair_forth l x a.at c.0) refl
+no_old l a x rise c = not_newest a (reverse l) x a.at (rising_next l a rise) (pair_forth l x a.at c.0) refl

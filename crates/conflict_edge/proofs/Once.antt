@@ -1,10 +1,9 @@
 -- No edge stands twice.
 use Rattle.std.proofs.Common.{◌≡◌, ℕ, ◌+◌, ◌-◌, ◌<◌, ◌≤◌, ◌⊎◌, List, [], ◌∷◌, reverse, ◌++◌, refl, sym, ◌∙◌, ap, subst, inl, inr, arith, true, false, nat_eq}
 use Rattle.std.proofs.Common.{◌&&◌, cond, drop}
-use Rattle.std.proofs.lemmas.Bool.{and_parts, cases_Bool}
+use Rattle.std.proofs.lemmas.Bool.{and_parts, cases_Bool, eqb-true}
 use Rattle.std.specs.List.{count_by, sum_by}
 use Rattle.std.specs.List.Sorted.{IsPermutation}
-use Rattle.std.proofs.lemmas.Bool.Decides.{nat_tests}
 use Rattle.std.proofs.lemmas.List.Sorted.{sum_by-IsPermutation}
 use Rattle.std.proofs.lemmas.List.Sums.{sum_by-append}
 use Rattle.clock_core.proofs.Paths.{instr_eq}
@@ -21,16 +20,13 @@ use Rattle.rtr_types.specs.declared.access.Access.{Access}
 use Rattle.rtr_types.specs.declared.instr.Edge.{Edge}
 use Rattle.rtr_types.specs.declared.instr.Instr.{Instr}
 
-eq_true : (m n : ℕ) → nat_eq m n ≡ true → m ≡ n
-eq_true m n e = grind (arith, nat_tests)
-
 is_edge-true : (e : Edge) (x y : Instr) → is_edge x y e ≡ true → (e.from ≡ x) × (e.to ≡ y)
 is_edge-true e x y h =
     let p = and_parts (nat_eq e.from.core x.core && nat_eq e.from.count x.count) (nat_eq e.to.core y.core && nat_eq e.to.count y.count) h in
     let q = and_parts (nat_eq e.from.core x.core) (nat_eq e.from.count x.count) p.0 in
     let r = and_parts (nat_eq e.to.core y.core) (nat_eq e.to.count y.count) p.1 in (
-      instr_eq e.from x (eq_true e.from.core x.core q.0) (eq_true e.from.count x.count q.1),
-      instr_eq e.to y (eq_true e.to.core y.core r.0) (eq_true e.to.count y.count r.1),
+      instr_eq e.from x (eqb-true e.from.core x.core q.0) (eqb-true e.from.count x.count q.1),
+      instr_eq e.to y (eqb-true e.to.core y.core r.0) (eqb-true e.to.count y.count r.1),
     )
 
 count-none : (es : List Edge) (x y : Instr) → (Among es x y → ⊥) → count_by (is_edge x y) es ≡ 0

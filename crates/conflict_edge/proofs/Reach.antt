@@ -25,6 +25,7 @@ clock_up list x y rise (inr p) =
 pub clock_law : ClockLaw
 clock_law list y rise x pos = (λ le. up_back list x y (clock-up_to (reverse list) x y pos le), clock_up list x y rise)
 
+-- the list with the next access, newest first
 pub rising_next : (list : List Access) (a : Access) → CountsRise (list ++ (a ∷ [])) → Rising (a ∷ reverse list)
 rising_next list a rise = subst Rising (reverse-next list a) (rising_back (list ++ (a ∷ [])) rise)
 

@@ -11,12 +11,12 @@ use Rattle.rtr_types.specs.declared.instr.Instr.{Instr}
 pub reverse-cons : (a : Access) (list : List Access) → reverse (a ∷ list) ≡ reverse list ++ (a ∷ [])
 reverse-cons a list = reverse_onto list a []
 
-stands_front : (g : List Access) (a b : Access) → StandsIn g b → StandsIn (g ++ (a ∷ [])) b
+pub stands_front : (g : List Access) (a b : Access) → StandsIn g b → StandsIn (g ++ (a ∷ [])) b
 stands_front [] a b s = absurd s
 stands_front (c ∷ g) a b (inl e) = inl e
 stands_front (c ∷ g) a b (inr s) = inr (stands_front g a b s)
 
-stands_last : (g : List Access) (a : Access) → StandsIn (g ++ (a ∷ [])) a
+pub stands_last : (g : List Access) (a : Access) → StandsIn (g ++ (a ∷ [])) a
 stands_last [] a = inl refl
 stands_last (c ∷ g) a = inr (stands_last g a)
 

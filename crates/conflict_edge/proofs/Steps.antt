@@ -10,12 +10,13 @@ use Rattle.conflict_edge.proofs.Clocks.{own_clock}
 use Rattle.conflict_edge.proofs.History.{Source, Pair, Rising}
 use Rattle.conflict_edge.proofs.Kept.{Cover}
 use Rattle.conflict_edge.proofs.Online.{pair_source}
-use Rattle.conflict_edge.proofs.Reversed.{reverse-cons, rising_back, reverse-next, pair_back, pair_forth}
+use Rattle.conflict_edge.proofs.Reversed.{reverse-cons, reverse-next, pair_back, pair_forth}
 use Rattle.conflict_edge.proofs.Scan.{Direct, Reached, FoundFrom, reached_skip, reached_merge, found_skip, found_push, covered_not, not_covered, direct_clock}
 use Rattle.conflict_edge.specs.Clocks.{clock}
 use Rattle.conflict_edge.specs.Conflicts.{Conflicts, StandsIn, ConflictPair, CountsRise}
 use Rattle.conflict_edge.specs.Least.{Covering}
 use Rattle.conflict_edge.specs.Scan.{AddsCoveringInto}
+use Rattle.conflict_edge.proofs.Reach.{rising_next}
 use Rattle.rtr_types.specs.declared.TheConstants.{CORES_MAX}
 use Rattle.rtr_types.specs.declared.access.Access.{Access}
 use Rattle.rtr_types.specs.declared.instr.Edge.{Edge}
@@ -46,10 +47,6 @@ pub stands_at : (e : List Access) (i : ℕ) (d : Access) → i < length e → St
 stands_at [] i d lt = absurd (omega arith)
 stands_at (a ∷ e) zero d lt = inl refl
 stands_at (a ∷ e) (suc i) d lt = inr (stands_at e i d (omega arith))
-
--- the list with the next access, newest first
-pub rising : (e : List Access) (a : Access) → CountsRise (e ++ (a ∷ [])) → Rising (a ∷ reverse e)
-rising e a rise = subst Rising (reverse-next e a) (rising_back (e ++ (a ∷ [])) rise)
 
 -- the steps of the scan, at a place of the list in order
 pub skip_reached : (e : List Access) (s : ℕ) (a b : Access) (m : ℕ → ℕ) → At e s b → (Direct b a → ⊥) → Reached (reverse e) (reverse (drop s e)) a m →
@@ -186,5 +183,5 @@ end_found e a old new rise found x y = (λ s. to ((found x y).0 s), λ q. (found
           λ z p r.
               q.1.1 z (more (Pair (a ∷ reverse e)) (ConflictPair now) into x z p) (more (Pair (a ∷ reverse e)) (ConflictPair now) into z a.at r),
         ) in
-        let s = pair_source a (reverse e) x (rising e a rise) c.0 in
+        let s = pair_source a (reverse e) x (rising_next e a rise) c.0 in
         inr (q.0, s.0, s.1, s.2, c)

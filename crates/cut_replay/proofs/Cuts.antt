@@ -2,6 +2,8 @@
 use Rattle.std.proofs.Common.{inl, inr, ◌≡◌, ◌⊎◌, ℕ, ◌+◌, ◌<◌, ◌≤◌, List, length, refl, sym, ◌∙◌, subst, arith}
 use Rattle.std.proofs.Common.{get_or-set_same, get_or-set_other}
 use Rattle.std.specs.Prelude.{slice_index, slice_set}
+use Rattle.std.proofs.lemmas.Bool.{cases_lt}
+use Rattle.std.proofs.Math.Nat.{eq-zero-or-pos}
 use native.Mathlib.Decide.{ℕ_discrete}
 use Rattle.rtr_types.specs.declared.TheConstants.{CORES_MAX}
 use Rattle.rtr_types.specs.declared.cut.Cut.{Cut}
@@ -21,12 +23,6 @@ use Rattle.cut_replay.specs.ClosedCuts.{count_in, Holds, IsCutOf, IsClosed, IsLe
 use Rattle.cut_replay.specs.Frees.{IsNeededBy, AreBetween, AreFree}
 
 -- ---- numbers
-
-pub none_or_some : (n : ℕ) → (n ≡ 0) ⊎ (1 ≤ n)
-none_or_some n = grind arith
-
-pub most_or_more : (m n : ℕ) → (m ≤ n) ⊎ (n < m)
-most_or_more m n = grind arith
 
 -- ---- what leads to an instruction of a closed cut is in it
 
@@ -66,7 +62,7 @@ then_edge which r x y z leads has = by leads
 -- a clock is within whatever is closed and holds its instruction
 pub clock_within : (which : Which) (r : Recording) (at : Instr) (clock f : ℕ → ℕ) → IsClock (Among (log_edges which r)) at clock →
     Closed (log_edges which r) f → at.count ≤ f at.core → (core : ℕ) → clock core ≤ f core
-clock_within which r at clock f is closed le core = by (none_or_some (clock core))
+clock_within which r at clock f is closed le core = by (eq-zero-or-pos (clock core))
   where
     by : (clock core ≡ 0) ⊎ (1 ≤ clock core) → clock core ≤ f core
     by (inl none) = omega arith
@@ -126,13 +122,13 @@ module _ (which : Which) (r : Recording) (valid : Valid r) (at : Instr) (node : 
     least_with = record {
       closed = record { is_cut = least-cut; sources = least-sources };
       holds = let e = h.done at.core inside in let le = (is at node.some).1 (inl refl) in omega arith;
-      least = λ other closed holds core. each other closed holds core (most_or_more r.params.cores core);
+      least = λ other closed holds core. each other closed holds core (cases_lt core r.params.cores);
     }
       where
-        each : (other : Cut) → IsClosed which r other → Holds other at → (core : ℕ) → (r.params.cores ≤ core) ⊎ (core < r.params.cores) →
+        each : (other : Cut) → IsClosed which r other → Holds other at → (core : ℕ) → (core < r.params.cores) ⊎ (r.params.cores ≤ core) →
             count_in cut core ≤ count_in other core
-        each other closed holds core (inl past) = let none = h.rest core past in omega arith
-        each other closed holds core (inr lt) =
+        each other closed holds core (inr past) = let none = h.rest core past in omega arith
+        each other closed holds core (inl lt) =
             let e = h.done core lt in
             let le = clock_within which r at clock (count_in other) is (closed_counts which r other closed) holds core in
             omega arith
@@ -144,14 +140,14 @@ module _ (which : Which) (r : Recording) (valid : Valid r) (at : Instr) (node : 
     free-at core lt = subst (λ (n : ℕ). AreFree which r at core n) (sym (h.done core lt)) (are core lt)
 
     greatest-sources : (from to : Instr) → HasEdge which r from to → Holds cut to → Holds cut from
-    greatest-sources from to has le = by (most_or_more from.count (count_in cut from.core))
+    greatest-sources from to has le = by (cases_lt (count_in cut from.core) from.count)
       where
         w : EdgeWithin r from to
         w = has_within which r from to valid has
 
-        by : (from.count ≤ count_in cut from.core) ⊎ (count_in cut from.core < from.count) → Holds cut from
-        by (inl most) = most
-        by (inr more) =
+        by : (count_in cut from.core < from.count) ⊎ (from.count ≤ count_in cut from.core) → Holds cut from
+        by (inr most) = most
+        by (inl more) =
             let need = (free-at from.core w.pair.source).need from.count more w.source_most in
             absurd ((free-at to.core w.pair.target).free to.count w.some_target le (then_edge which r at from to need has))
 
@@ -159,9 +155,9 @@ module _ (which : Which) (r : Recording) (valid : Valid r) (at : Instr) (node : 
     not_held le = (free-at at.core inside).free at.count node.some le (inl refl)
 
     above : (other : Cut) → IsClosed which r other → (Holds other at → ⊥) → (core : ℕ) → core < r.params.cores →
-        (count_in other core ≤ count_in cut core) ⊎ (count_in cut core < count_in other core) → count_in other core ≤ count_in cut core
-    above other closed without core lt (inl most) = most
-    above other closed without core lt (inr more) =
+        (count_in cut core < count_in other core) ⊎ (count_in other core ≤ count_in cut core) → count_in other core ≤ count_in cut core
+    above other closed without core lt (inr most) = most
+    above other closed without core lt (inl more) =
         let need = (free-at core lt).need (count_in other core) more (closed.is_cut.most core lt) in
         absurd (without (leads_back (log_edges which r) (count_in other) at (instr core (count_in other core)) (closed_counts which r other closed) need
         (omega arith)))
@@ -178,21 +174,21 @@ module _ (which : Which) (r : Recording) (valid : Valid r) (at : Instr) (node : 
         sources = greatest-sources;
       };
       without = not_held;
-      greatest = λ other closed without core. each other closed without core (most_or_more r.params.cores core);
+      greatest = λ other closed without core. each other closed without core (cases_lt core r.params.cores);
     }
       where
         each : (other : Cut) → IsClosed which r other → (Holds other at → ⊥) → (core : ℕ) →
-            (r.params.cores ≤ core) ⊎ (core < r.params.cores) →
+            (core < r.params.cores) ⊎ (r.params.cores ≤ core) →
             count_in other core ≤ count_in cut core
-        each other closed without core (inl past) = let none = closed.is_cut.rest core past in omega arith
-        each other closed without core (inr lt) = above other closed without core lt (most_or_more (count_in other core) (count_in cut core))
+        each other closed without core (inr past) = let none = closed.is_cut.rest core past in omega arith
+        each other closed without core (inl lt) = above other closed without core lt (cases_lt (count_in cut core) (count_in other core))
 
 -- ---- the instructions of one core that need it
 
 module _ (which : Which) (r : Recording) (at : Instr) (core : ℕ) where
   -- each instruction after one that needs it does
   up : (m n : ℕ) → m ≤ n → IsNeededBy which r at core m → IsNeededBy which r at core n
-  up m n le need = by (most_or_more n m) need
+  up m n le need = by (cases_lt m n) need
     where
       on : m < n → IsNeededBy which r at core m → IsNeededBy which r at core n
       on lt (inl e) = inr (subst (λ (w : Instr). Before (Among (log_edges which r)) w (instr core n)) (sym e)
@@ -200,9 +196,9 @@ module _ (which : Which) (r : Recording) (at : Instr) (core : ℕ) where
       on lt (inr p) = inr (joined (Among (log_edges which r)) at (instr core m) (instr core n) p
           (one (Among (log_edges which r)) (instr core m) (instr core n) (inl (refl, lt))))
 
-      by : (n ≤ m) ⊎ (m < n) → IsNeededBy which r at core m → IsNeededBy which r at core n
-      by (inl most) h = let e : m ≡ n = omega arith in subst (λ (k : ℕ). IsNeededBy which r at core k) e h
-      by (inr lt) h = on lt h
+      by : (m < n) ⊎ (n ≤ m) → IsNeededBy which r at core m → IsNeededBy which r at core n
+      by (inr most) h = let e : m ≡ n = omega arith in subst (λ (k : ℕ). IsNeededBy which r at core k) e h
+      by (inl lt) h = on lt h
 
   -- nothing is known yet
   pub between_start : (total : ℕ) → total ≡ slice_index r.totals core → AreBetween which r at core 0 total

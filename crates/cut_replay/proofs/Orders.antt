@@ -4,6 +4,7 @@ use Rattle.std.proofs.Common.{append-nil, length, map, refl, sym, ap, ◌∙◌,
 use Rattle.std.specs.Prelude.{slice_index}
 use Rattle.std.specs.List.{Contains, range_with_len}
 use Rattle.std.proofs.lemmas.List.FromFn.{length-map-range_with_len, get_or-map-range_with_len}
+use Rattle.std.proofs.lemmas.Bool.{cases_lt}
 use native.Mathlib.Decide.{ℕ_discrete}
 use Rattle.rtr_types.specs.declared.cut.Cut.{Cut}
 use Rattle.rtr_types.specs.declared.instr.Instr.{Instr}
@@ -28,7 +29,6 @@ use Rattle.replay_audit.proofs.Front.{Tame, Fronts, fronts}
 use Rattle.replay_audit.proofs.Logs.{closed_none}
 use Rattle.cut_replay.specs.ClosedCuts.{count_in}
 use Rattle.cut_replay.specs.CutStates.{Reaches, PlaysTo}
-use Rattle.cut_replay.proofs.Cuts.{most_or_more}
 
 -- ---- the recording as far as the cut goes
 
@@ -144,7 +144,7 @@ module _ (p : Plan) (cut : Cut) (f : ℕ → ℕ)
 
   -- the core's next instruction is in the cut: its sources are in the cut and in the front
   next_in : (g : ℕ → ℕ) (c : ℕ) → HasFront g → Ready p g c → g c + 1 ≤ count_in cut c → g c + 1 ≤ f c
-  next_in g c has ready le = by (most_or_more (g c + 1) (f c))
+  next_in g c has ready le = by (cases_lt (f c) (g c + 1))
     where
       sources : f c ≡ g c → (from : Instr) → Contains p.edges (record { from = from; to = instr c (f c + 1) }) → from.count ≤ f from.core
       sources e from there =
@@ -153,9 +153,9 @@ module _ (p : Plan) (cut : Cut) (f : ℕ → ℕ)
           let in_cut = closed from (instr c (f c + 1)) there (omega arith) in
           has from.core from.count in_front in_cut
 
-      by : (g c + 1 ≤ f c) ⊎ (f c < g c + 1) → g c + 1 ≤ f c
-      by (inl most) = most
-      by (inr more) =
+      by : (f c < g c + 1) ⊎ (g c + 1 ≤ f c) → g c + 1 ≤ f c
+      by (inr most) = most
+      by (inl more) =
           let back = has c (g c) (omega arith) (omega arith) in
           let same : f c ≡ g c = omega arith in
           let lt = ready.below in
@@ -164,13 +164,13 @@ module _ (p : Plan) (cut : Cut) (f : ℕ → ℕ)
 
   front_on : (g : ℕ → ℕ) (c : ℕ) → HasFront g → Ready p g c → HasFront (bump g c)
   front_on g c has ready d n le in_cut = elim (ℕ_discrete d c) [
-    | yes e ↦ own e (most_or_more n (g c))
+    | yes e ↦ own e (cases_lt (g c) n)
     | no ne ↦ let same = bump_else g c d ne in has d n (omega arith) in_cut
   ]
     where
-      own : d ≡ c → (n ≤ g c) ⊎ (g c < n) → n ≤ f d
-      own e (inl most) = let s : g d ≡ g c = ap g e in has d n (omega arith) in_cut
-      own e (inr more) =
+      own : d ≡ c → (g c < n) ⊎ (n ≤ g c) → n ≤ f d
+      own e (inr most) = let s : g d ≡ g c = ap g e in has d n (omega arith) in_cut
+      own e (inl more) =
           let up = bump_same g c d e in
           let s : g d ≡ g c = ap g e in
           let t : f d ≡ f c = ap f e in

@@ -3,6 +3,8 @@ use Rattle.std.proofs.Common.{inl, inr, ◌≡◌, ◌⊎◌, ℕ, ◌+◌, ◌<
 use Rattle.std.proofs.Common.{List, [], ◌∷◌, ◌++◌, length, refl, sym, ap, ◌∙◌, subst, arith}
 use Rattle.std.specs.Prelude.{slice_index, Option}
 use Rattle.std.specs.List.{Contains}
+use Rattle.std.proofs.lemmas.Bool.{cases_lt}
+use Rattle.std.proofs.Math.Nat.{eq-zero-or-pos}
 use Rattle.rtr_types.specs.declared.TheConstants.{CORES_MAX}
 use Rattle.rtr_types.specs.declared.access.Access.{Access}
 use Rattle.rtr_types.specs.declared.cut.Cut.{Cut}
@@ -36,11 +38,8 @@ use Rattle.replay_audit.proofs.Logs.{Closed, ready_before}
 use Rattle.cut_replay.specs.ClosedCuts.{count_in, IsClosed}
 use Rattle.cut_replay.specs.CutStates.{Reaches, IsStateAt}
 use Rattle.cut_replay.specs.Dues.{IsDue, IsOnTheWay, IsWaitedFor, NoneIsDue}
-use Rattle.cut_replay.proofs.Cuts.{has_within, none_or_some}
+use Rattle.cut_replay.proofs.Cuts.{has_within}
 use Rattle.cut_replay.proofs.Orders.{all_there, plays_to}
-
-in_or_past : (c n : ℕ) → (c < n) ⊎ (n ≤ c)
-in_or_past c n = grind arith
 
 pub way_start : (which : Which) (r : Recording) (cut : Cut) (u : UnderWay) → IsClosed which r cut → u.plan ≡ plan_of which r →
     u.state ≡ start (plan_of which r) → Valid r → IsOnTheWay which r cut u
@@ -120,7 +119,7 @@ module _ {which : Which} {r : Recording} {cut : Cut} {u : UnderWay} (way : IsOnT
       }
 
       ready_waited : Ready (plan_of which r) (counts nought way.order) c → IsWaitedFor u c clock
-      ready_waited ready of lt ne = by (none_or_some (slice_index clock of))
+      ready_waited ready of lt ne = by (eq-zero-or-pos (slice_index clock of))
         where
           leads : IsOrLeads (Among (log_edges which r)) (instr of (slice_index clock of)) (instr c (count + 1)) →
               slice_index clock of ≤ counts_in u.state of
@@ -253,7 +252,7 @@ module _ {which : Which} {r : Recording} {cut : Cut} {u : UnderWay} (way : IsOnT
     reaches : Reaches which r cut way.order
     reaches = record {
       ordered = way.ordered;
-      counts_are = λ c. let le = cut_there c (in_or_past c (length r.totals)) in let most = way.within c in omega arith;
+      counts_are = λ c. let le = cut_there c (cases_lt c (length r.totals)) in let most = way.within c in omega arith;
     }
 
     pub state_at : (outcome : Outcome) → outcome ≡ u.state → IsStateAt which r cut outcome

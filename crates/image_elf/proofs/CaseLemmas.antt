@@ -36,7 +36,7 @@ taken_fault : (file : List ℕ) (words n : ℕ) → is_loaded (header file n) �
     → is_taken file n (header file n).vaddr (range_end (header file n)) ≡ true → header_fault file words n ≡ None → ⊥
 taken_fault file words n loaded overlaps none = grind (arith, nat_tests)
 
-has_loaded : (h : ProgramHeader) (address : ℕ) → has h address ≡ true → is_loaded h ≡ true
+pub has_loaded : (h : ProgramHeader) (address : ℕ) → has h address ≡ true → is_loaded h ≡ true
 has_loaded h address e = grind (arith, nat_tests)
 
 has_from : (h : ProgramHeader) (address : ℕ) → has h address ≡ true → h.vaddr ≤ address

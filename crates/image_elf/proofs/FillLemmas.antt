@@ -1,8 +1,9 @@
 -- A range is filled from its first address on.
-use Rattle.std.proofs.Common.{◌≡◌, ◌≢◌, ◌⊎◌, inl, inr, ℕ, ◌+◌, ◌<◌, ◌≤◌, true, false, List, length, set, refl, ◌∙◌, arith, Some, None}
+use Rattle.std.proofs.Common.{◌≡◌, ◌≢◌, inl, inr, ℕ, ◌+◌, ◌<◌, ◌≤◌, true, false, List, length, set, refl, ◌∙◌, arith, Some, None}
 use Rattle.std.specs.Prelude.{Option, ◌&&◌, nat_le, nat_lt, if◌then◌else◌}
 use Rattle.std.proofs.lemmas.Bool.Decides.{nat_tests}
 use Rattle.std.proofs.lemmas.List.{length-set, get_or-set_same, get_or-set_other}
+use Rattle.std.proofs.lemmas.Bool.{cases_eq}
 use Rattle.image_elf.specs.declared.program_header.ProgramHeader.{ProgramHeader}
 use Rattle.image_elf.specs.Headers.{has, is_loaded, range_end}
 use Rattle.image_elf.specs.FlatImage.{range_byte}
@@ -23,9 +24,6 @@ fill_none file h cells = record {
   cells = λ address. rw (nothing_filled address h.vaddr) refl;
 }
 
-same_or_other : (a b : ℕ) → (a ≡ b) ⊎ (a ≢ b)
-same_or_other a b = grind arith
-
 filled_here : (first a : ℕ) → first ≤ a → (nat_le first a && nat_lt a (a + 1)) ≡ true
 filled_here first a h = grind (arith, nat_tests)
 
@@ -37,7 +35,7 @@ pub fill_more : (file : List ℕ) (h : ProgramHeader) (old new : List (Option �
     → FilledUpTo file h old (set new next (Some (range_byte file h next))) (next + 1)
 fill_more file h old new next filled from there = record {
   length = length-set new next (Some (range_byte file h next)) ∙ filled.length;
-  cells = λ address. elim (same_or_other address next) [
+  cells = λ address. elim (cases_eq address next) [
     | inl same ↦ rw (same, filled_here h.vaddr next from) (get_or-set_same new next (Some (range_byte file h next)) None there)
     | inr other ↦
         rw (filled_elsewhere h.vaddr next address other)

@@ -1,5 +1,5 @@
 -- The flat image of a file without a fault is one, case by case.
-use Rattle.std.proofs.Common.{◌≡◌, ◌≢◌, ◌⊎◌, inl, inr, ℕ, ◌+◌, ◌<◌, ◌≤◌, Bool, true, false, IsTrue, List, length, get_or, refl, ap, ◌∙◌, arith, Some, None}
+use Rattle.std.proofs.Common.{◌≡◌, ◌≢◌, ◌⊎◌, inl, inr, ℕ, ◌+◌, ◌<◌, ◌≤◌, false, IsTrue, List, length, get_or, refl, ap, ◌∙◌, arith, Some, None}
 use Rattle.std.proofs.Common.{zero-add, ◌++◌, ◌∷◌, []}
 use Rattle.std.specs.Prelude.{map, max, Option, is_some, unwrap_or}
 use Rattle.std.specs.List.{range_with_len}
@@ -8,6 +8,7 @@ use Rattle.std.proofs.Math.Nat.{le-max_left, le-max_right, max-le}
 use Rattle.std.proofs.lemmas.Bool.Decides.{nat_tests}
 use Rattle.std.proofs.lemmas.List.FromFn.{length-map-range_with_len, get_or-map-range_with_len, map-range_with_len_more}
 use Rattle.std.proofs.lemmas.List.{get_or_past}
+use Rattle.std.proofs.lemmas.Bool.{both_ways, cases_lt, false_from_ne_true}
 use Rattle.image_elf.specs.Headers.{entry, header, header_count}
 use Rattle.image_elf.specs.FlatImage.{flat_byte, flat_image, flat_length, jump_length, jump_word, loaded_byte, loaded_length, range_byte}
 use Rattle.image_elf.specs.Faults.{elf_fault, first_header_fault, is_taken}
@@ -59,16 +60,6 @@ byte_is file address h =
 jump_at_most : (file : List ℕ) → jump_length file ≤ 4
 jump_at_most file = grind (arith, nat_tests)
 
-not_both : (b : Bool) → b ≡ false → b ≡ true → ⊥
-not_both b e k = cc
-
-order : (a b : ℕ) → (a < b) ⊎ (b ≤ a)
-order a b = grind arith
-
-not_true : (b : Bool) → (b ≡ true → ⊥) → b ≡ false
-not_true true no_way = absurd (no_way refl)
-not_true false no_way = refl
-
 -- one more byte
 pub map_range_more : {X : Type 0} (f : ℕ → X) (n : ℕ) → map f (range_with_len 0 (n + 1)) ≡ map f (range_with_len 0 n) ++ f n ∷ []
 map_range_more f n = map-range_with_len_more f 0 n n (zero-add n)
@@ -83,10 +74,10 @@ module _ (file : List ℕ) (words : ℕ) (ok : Passes file words) where
   past_jump : (number address : ℕ) → IsLoadedBy file number address → jump_length file ≤ address
   past_jump number address l = elim ok.start [
     | inl none ↦ let k = jump_none file none in omega arith
-    | inr untaken ↦ elim (order address 4) [
+    | inr untaken ↦ elim (cases_lt address 4) [
       | inl below ↦
           let there : IsTrue (is_some (loaded_byte file (header_count file) address)) = rw (loaded_there number address l) refl in
-          absurd (not_both _ untaken (taken file (header_count file) 0 4 address (omega arith) below there))
+          absurd (both_ways _ untaken (taken file (header_count file) 0 4 address (omega arith) below there))
       | inr above ↦ let k = jump_at_most file in omega arith
     ]
   ]
@@ -132,7 +123,7 @@ module _ (file : List ℕ) (words : ℕ) (ok : Passes file words) where
       → address < length (flat_image file) → get_or (flat_image file) address 0 ≡ 0
   empty_in_image address none past inside =
       let nothing = loads_none file (header_count file) address
-      (λ number h. not_true _ (λ e. none number record { there = h; has = e })) in
+      (λ number h. false_from_ne_true _ (λ e. none number record { there = h; has = e })) in
       byte_is file address inside ∙ other_byte file address past ∙ ap (λ (b : Option ℕ). unwrap_or b 0) nothing
 
   empty_byte_is : (address : ℕ) → ((number : ℕ) → IsLoadedBy file number address → ⊥) → (entry file ≢ 0 → 4 ≤ address)
@@ -142,7 +133,7 @@ module _ (file : List ℕ) (words : ℕ) (ok : Passes file words) where
         | inl e ↦ let k = jump_none file e in omega arith
         | inr begins ↦ let k = jump_at_most file in let l = past begins in omega arith
       ] in
-      elim (order address (length (flat_image file))) [
+      elim (cases_lt address (length (flat_image file))) [
         | inl inside ↦ empty_in_image address none after inside
         | inr outside ↦ get_or_past (flat_image file) address 0 outside
       ]

@@ -3,12 +3,13 @@ use Rattle.std.proofs.Common.{◌≡◌, ◌⊎◌, inl, inr, ℕ, zero, suc, �
 use Rattle.std.specs.Prelude.{Option, max}
 use Rattle.std.specs.Option.{option_or}
 use Rattle.std.proofs.Math.Nat.{le-max_right}
+use Rattle.std.proofs.lemmas.Bool.{or_left, or_right}
 use Rattle.image_elf.specs.declared.elf_fault.ElfFault.{ElfFault}
 use Rattle.image_elf.specs.declared.elf_fault.ElfFault.TheVariants.{OutOfMemory}
 use Rattle.image_elf.specs.Headers.{header, has, has_some}
 use Rattle.image_elf.specs.Faults.{first_header_fault, header_fault, is_taken}
 use Rattle.image_elf.specs.Laws.{HasAddress, TakenLaw, IsFirstFault, FirstFaultLaw}
-use Rattle.image_elf.proofs.RangeLemmas.{has_some_at, has_first, first_before, or_left, or_right}
+use Rattle.image_elf.proofs.RangeLemmas.{has_some_at, has_first, first_before}
 use Rattle.image_elf.proofs.CaseLemmas.{below_suc, no_fault_below}
 
 -- one more header

@@ -1,8 +1,9 @@
 -- Whether a loaded range has an address is whether something is loaded there.
 use Rattle.std.proofs.Common.{◌≡◌, ℕ, zero, suc, ◌<◌, ◌≤◌, Bool, true, false, IsTrue, List, refl, arith, None}
-use Rattle.std.specs.Prelude.{max, ◌||◌, is_some}
+use Rattle.std.specs.Prelude.{max, is_some}
 use Rattle.std.proofs.Math.Nat.{le-max_right}
 use Rattle.std.proofs.lemmas.Bool.Decides.{nat_tests}
+use Rattle.std.proofs.lemmas.Bool.{or_left, or_right}
 use Rattle.image_elf.specs.declared.program_header.ProgramHeader.{ProgramHeader}
 use Rattle.image_elf.specs.Headers.{header, has, has_some}
 use Rattle.image_elf.specs.FlatImage.{loaded_byte}
@@ -18,12 +19,6 @@ has_first h first end t = grind (arith, nat_tests)
 
 pub first_before : (h : ProgramHeader) (first end : ℕ) → has_some h first end ≡ true → max h.vaddr first < end
 first_before h first end t = grind (arith, nat_tests)
-
-pub or_left : (a b : Bool) → a ≡ true → (a || b) ≡ true
-or_left a b t = grind arith
-
-pub or_right : (a b : Bool) → b ≡ true → (a || b) ≡ true
-or_right a b t = grind arith
 
 taken_by : (file : List ℕ) (n first end address : ℕ) → first ≤ address → address < end
     → (IsTrue (is_some (loaded_byte file n address)) → is_taken file n first end ≡ true)

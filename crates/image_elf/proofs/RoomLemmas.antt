@@ -6,7 +6,7 @@ use Rattle.image_elf.specs.Headers.{entry, has, header, header_count, is_loaded}
 use Rattle.image_elf.specs.FlatImage.{flat_image}
 use Rattle.image_elf.specs.Faults.{elf_fault, header_fault, is_within_memory}
 use Rattle.image_elf.specs.Cases.{EndsBy}
-use Rattle.image_elf.proofs.CaseLemmas.{no_fault_below}
+use Rattle.image_elf.proofs.CaseLemmas.{no_fault_below, has_loaded}
 use Rattle.image_elf.proofs.FlatLemmas.{is_flat_image, passes}
 
 -- an address of a range that ends within the memory
@@ -17,14 +17,11 @@ outside_fault : (file : List ℕ) (words n : ℕ) → is_loaded (header file n) 
     → header_fault file words n ≡ None → ⊥
 outside_fault file words n loaded outside none = grind (arith, nat_tests)
 
-range_loaded : (h : ProgramHeader) (address : ℕ) → has h address ≡ true → is_loaded h ≡ true
-range_loaded h address e = grind (arith, nat_tests)
-
 ends_by : (file : List ℕ) (words n address : ℕ) → header_fault file words n ≡ None → has (header file n) address ≡ true
     → (b : Bool) → is_within_memory words (header file n) ≡ b → address < 4 * words
 ends_by file words n address none e true within = has_within words (header file n) address within e
 ends_by file words n address none e false outside =
-    absurd (outside_fault file words n (range_loaded (header file n) address e) outside none)
+    absurd (outside_fault file words n (has_loaded (header file n) address e) outside none)
 
 entry_within : (file : List ℕ) (words : ℕ) → elf_fault file words ≡ None → entry file < 4 * words
 unfolding elf_fault

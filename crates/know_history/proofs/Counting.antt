@@ -2,13 +2,15 @@
 use Rattle.std.proofs.Common.{◌≡◌, ◌≢◌, ◌∙◌, ap, refl, sym, ℕ, zero, suc, ◌+◌, ◌<◌, ◌≤◌, ◌==◌, ◌⊎◌, inl, inr, Bool, true, false, Option, Some, None, get_or}
 use Rattle.std.proofs.Common.{max, arith}
 use Rattle.std.specs.Prelude.{if◌then◌else◌, replicate}
-use Rattle.std.proofs.lemmas.Bool.{cases_eq}
+use Rattle.std.proofs.lemmas.Bool.{cases_eq, cases_order}
 use Rattle.std.proofs.lemmas.Bool.Decides.{nat_tests}
 use Rattle.std.proofs.lemmas.List.{length-replicate}
+use Rattle.std.proofs.Math.Nat.{le-suc_iff}
 use Rattle.rtr_types.specs.declared.TheConstants.{CORES_MAX}
 use Rattle.rtr_types.specs.declared.instr.Instr.{Instr}
 use Rattle.clock_core.proofs.Merging.{get_or-merged, length-merged}
 use Rattle.clock_core.proofs.Paths.{instr_eq}
+use Rattle.clock_core.proofs.Reach.{reached_by}
 use Rattle.know_history.specs.declared.known.Known.{Known}
 use Rattle.know_history.specs.Knowledge.{count_in, known_carrying, known_joined}
 use Rattle.know_history.specs.Happenings.{Happening}
@@ -35,14 +37,11 @@ counts_none event P none =
       at = λ x core pos. (λ le. absurd (let e = zero_at CORES_MAX x.core in omega arith), λ r. absurd (none r.0 r.2));
     }
 
-either : (n x y : ℕ) → n ≤ max x y → (n ≤ x) ⊎ (n ≤ y)
-either n x y h = grind arith
-
 at_most : (n m x y : ℕ) → m ≡ max x y → (n ≤ x) ⊎ (n ≤ y) → n ≤ m
 at_most n m x y e (inl h) = grind arith
 at_most n m x y e (inr h) = grind arith
 
--- two carries joined count what either counts
+-- two carries joined count what reached_by counts
 pub counts_joined : (event : ℕ → Happening) (P Q : ℕ → Type 0) (p q : Known) → Counts event P p → Counts event Q q →
     Counts event (λ t. P t ⊎ Q t) (known_joined p q)
 counts_joined event P Q p q hp hq =
@@ -55,7 +54,7 @@ counts_joined event P Q p q hp hq =
     greater i = get_or-merged p.counts q.counts i
 
     to : (x : Instr) → x.core < CORES_MAX → 1 ≤ x.count → x.count ≤ count_in (known_joined p q) x.core → RetiresIn event (λ t. P t ⊎ Q t) x
-    to x core pos le = by (either x.count (count_in p x.core) (count_in q x.core) (let e = greater x.core in omega arith))
+    to x core pos le = by (reached_by x.count (count_in p x.core) (count_in q x.core) (let e = greater x.core in omega arith))
       where
         by : (x.count ≤ count_in p x.core) ⊎ (x.count ≤ count_in q x.core) → RetiresIn event (λ t. P t ⊎ Q t) x
         by (inl h) = let r = (hp.at x core pos).0 h in (r.0, r.1, inl r.2)
@@ -76,16 +75,13 @@ one_more event t core = by (is_of core (event t).retires)
     by true = omega arith
     by false = omega arith
 
-le_cases : (m n : ℕ) → m ≤ suc n → (m ≡ suc n) ⊎ (m ≤ n)
-le_cases m n h = grind arith
-
 pub retired_rises : (event : ℕ → Happening) (m n core : ℕ) → m ≤ n → retired_in event m core ≤ retired_in event n core
 retired_rises event m zero core le = let e : m ≡ 0 = omega arith in rw e (omega arith)
-retired_rises event m (suc n) core le = by (le_cases m n le) (λ h. retired_rises event m n core h)
+retired_rises event m (suc n) core le = by ((le-suc_iff {m = m} {n = n}).0 le) (λ h. retired_rises event m n core h)
   where
-    by : (m ≡ suc n) ⊎ (m ≤ n) → (m ≤ n → retired_in event m core ≤ retired_in event n core) → retired_in event m core ≤ retired_in event (suc n) core
-    by (inl e) f = rw e (omega arith)
-    by (inr h) f = let first = f h in let second = one_more event n core in omega arith
+    by : (m ≤ n) ⊎ (m ≡ suc n) → (m ≤ n → retired_in event m core ≤ retired_in event n core) → retired_in event m core ≤ retired_in event (suc n) core
+    by (inr e) f = rw e (omega arith)
+    by (inl h) f = let first = f h in let second = one_more event n core in omega arith
 
 -- an instruction is the one of its count
 pub is_counted : (event : ℕ → Happening) (t : ℕ) (x : Instr) → (event t).retires ≡ Some x → IsNext event t x → retired_in event (suc t) x.core ≡ x.count
@@ -100,11 +96,8 @@ retired_below event u n x is next lt = let e = is_counted event u x is next in l
 -- an instruction retires once
 pub retires_once : (event : ℕ → Happening) (u t : ℕ) (x : Instr) → (event u).retires ≡ Some x → (event t).retires ≡ Some x → IsNext event u x →
     IsNext event t x → u ≡ t
-retires_once event u t x one other next_one next_other = by (order u t)
+retires_once event u t x one other next_one next_other = by (cases_order u t)
   where
-    order : (m n : ℕ) → (m ≡ n) ⊎ ((m < n) ⊎ (n < m))
-    order m n = grind arith
-
     by : (u ≡ t) ⊎ ((u < t) ⊎ (t < u)) → u ≡ t
     by (inl e) = e
     by (inr (inl lt)) = absurd (let below = retired_below event u t x one next_one lt in let e = next_other.count in omega arith)

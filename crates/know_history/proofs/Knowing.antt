@@ -5,6 +5,7 @@ use Rattle.std.specs.Prelude.{if◌then◌else◌, slice_set}
 use Rattle.std.proofs.lemmas.Bool.{cases_eq}
 use Rattle.std.proofs.lemmas.Bool.Decides.{nat_tests}
 use Rattle.std.proofs.lemmas.List.{get_or-set_same, get_or-set_other, length-set}
+use Rattle.std.proofs.lemmas.Option.{same_Some}
 use Rattle.rtr_types.specs.declared.TheConstants.{CORES_MAX}
 use Rattle.rtr_types.specs.declared.instr.Instr.{Instr}
 use Rattle.clock_core.proofs.Paths.{instr_eq}
@@ -13,7 +14,7 @@ use Rattle.know_history.specs.Knowledge.{count_in, known_carrying, known_joined,
 use Rattle.know_history.specs.Happenings.{Actor, AtCore, AtHome, Channel, Happening, Leads, is_channel, left_on, on_link, with_sent}
 use Rattle.know_history.specs.Knowing.{AllCount, AllKnow, Carries, CarriesFollow, Counts, CountsTo, HasReached, IsNext, IsOrderly, IsOrLeads, RetiresIn}
 use Rattle.know_history.specs.Knowing.{carry_left, carry_retired, carry_taken, retired_in}
-use Rattle.know_history.proofs.Leading.{IsBrought, brought_leads, leads_before, leads_cases, none_some, reached_leads, some_same}
+use Rattle.know_history.proofs.Leading.{IsBrought, brought_leads, leads_before, leads_cases, none_some, reached_leads}
 use Rattle.know_history.proofs.Counting.{counts_joined, counts_same, retired_below, retired_there}
 
 -- an actor's carry once it took a message counts what had reached it or comes with the message
@@ -142,7 +143,7 @@ counts_retired event n k orderly h (Some y) is =
         let same : count_in (known_retired k y) x.core ≡ count_in (known_retired k y) y.core = ap (count_in (known_retired k y)) e in let f = own in omega arith
       where
         by : IsOrLeads event r.0 n → x.count ≤ y.count
-        by (inl f) = let same : x ≡ y = some_same x y (sym r.1 ∙ (ap (λ (u : ℕ). (event u).retires) f ∙ is)) in
+        by (inl f) = let same : x ≡ y = same_Some x y (sym r.1 ∙ (ap (λ (u : ℕ). (event u).retires) f ∙ is)) in
             let g : x.count ≡ y.count = ap (λ (z : Instr). z.count) same in omega arith
         by (inr p) =
             let lt = leads_before event r.0 n p in
@@ -162,7 +163,7 @@ counts_retired event n k orderly h (Some y) is =
     back_other x core pos other r = let le = (h.at x core pos).1 (by r.2) in let same = other_count k y x.core other in omega arith
       where
         by : IsOrLeads event r.0 n → RetiresIn event (λ t. Leads event t n) x
-        by (inl f) = absurd (other (ap (λ (z : Instr). z.core) (some_same x y (sym r.1 ∙ (ap (λ (u : ℕ). (event u).retires) f ∙ is)))))
+        by (inl f) = absurd (other (ap (λ (z : Instr). z.core) (same_Some x y (sym r.1 ∙ (ap (λ (u : ℕ). (event u).retires) f ∙ is)))))
         by (inr p) = (r.0, r.1, p)
 
 -- so what the actor carries after its event counts what is the event or leads to it
@@ -204,9 +205,6 @@ all_know_more event n actor c d own orderly follows h =
     left : CountsTo event n (d.own actor)
     left = rw follows.acting (counts_left event n actor c own orderly h)
 
-    nat_which : (a b : ℕ) → (a ≡ b) ⊎ (a ≡ b → ⊥)
-    nat_which a b = cases_eq a b
-
     same_core : (a b : ℕ) → (a ≡ b) ⊎ (a ≡ b → ⊥) → (AtCore a ≡ AtCore b) ⊎ (AtCore a ≡ AtCore b → ⊥)
     same_core a b (inl e) = inl (ap AtCore e)
     same_core a b (inr f) = inr (λ e. f (cc))
@@ -215,7 +213,7 @@ all_know_more event n actor c d own orderly follows h =
     which AtHome AtHome = inl refl
     which AtHome (AtCore b) = inr (λ e. cc)
     which (AtCore a) AtHome = inr (λ e. cc)
-    which (AtCore a) (AtCore b) = same_core a b (nat_which a b)
+    which (AtCore a) (AtCore b) = same_core a b (cases_eq a b)
 
     to_actor : (t : ℕ) → IsOrLeads event t n → HasReached event (suc n) actor t
     to_actor t r = record { last = n; within = omega arith; of_it = own; reaches = r }
@@ -237,7 +235,7 @@ all_know_more event n actor c d own orderly follows h =
     back_other other apart t r = at (last_cases r.last r.within)
       where
         at : (r.last ≡ n) ⊎ (r.last < n) → HasReached event n other t
-        at (inl e) = absurd (apart (some_same other actor (sym r.of_it ∙ (ap (λ (u : ℕ). (event u).actor) e ∙ own))))
+        at (inl e) = absurd (apart (same_Some other actor (sym r.of_it ∙ (ap (λ (u : ℕ). (event u).actor) e ∙ own))))
         at (inr lt) = record { last = r.last; within = lt; of_it = r.of_it; reaches = r.reaches }
 
     by : (other : Actor) → (other ≡ actor) ⊎ (other ≡ actor → ⊥) → Counts event (HasReached event (suc n) other) (d.own other)

@@ -1,5 +1,7 @@
 -- What is known at an instruction.
 use Rattle.std.proofs.Common.{◌≡◌, ◌≢◌, ◌∙◌, ap, refl, sym, subst, ℕ, ◌+◌, ◌<◌, ◌≤◌, ◌⊎◌, inl, inr, Some, arith}
+use Rattle.std.proofs.lemmas.Option.{same_Some}
+use Rattle.std.proofs.lemmas.Bool.{cases_order}
 use Rattle.rtr_types.specs.declared.instr.Instr.{Instr}
 use Rattle.clock_core.proofs.Paths.{instr_eq}
 use Rattle.know_history.specs.declared.known.Known.{Known}
@@ -7,7 +9,7 @@ use Rattle.know_history.specs.Knowledge.{count_in, known_carrying}
 use Rattle.know_history.specs.Happenings.{AtCore, Happening, IsKnownAt, Leads}
 use Rattle.know_history.specs.Knowing.{CountsTo, IsNext, IsOrLeads, RetiresIn, carry_left, retired_in}
 use Rattle.know_history.specs.Laws.{AreOrderly, CarriesKnowLaw, IsKnownCount, KnownCountLaw, KnownEarlierLaw, KnownStaysLaw}
-use Rattle.know_history.proofs.Leading.{leads_before, leads_joined, some_same}
+use Rattle.know_history.proofs.Leading.{leads_before, leads_joined}
 use Rattle.know_history.proofs.Counting.{retired_below, retires_once}
 use Rattle.know_history.proofs.Knowing.{all_know_more, counts_left}
 
@@ -30,7 +32,7 @@ known_count event t k y orderly is h =
     next_pos = let e = next.count in omega arith
 
     known : (x : Instr) → x.core ≢ y.core → (u : ℕ) → (event u).retires ≡ Some x → IsOrLeads event u t → IsKnownAt event x y
-    known x apart u at (inl e) = absurd (apart (ap (λ (z : Instr). z.core) (some_same x y (sym at ∙ (ap (λ (v : ℕ). (event v).retires) e ∙ is)))))
+    known x apart u at (inl e) = absurd (apart (ap (λ (z : Instr). z.core) (same_Some x y (sym at ∙ (ap (λ (v : ℕ). (event v).retires) e ∙ is)))))
     known x apart u at (inr p) = record { there = u; here = t; retired = at; retires = is; leads = p }
 
     counted : (x : Instr) → IsKnownAt event x y → RetiresIn event (λ u. IsOrLeads event u t) x
@@ -47,7 +49,7 @@ known_count event t k y orderly is h =
     below n pos le = let r = (h.at (of_core n) next.core pos).0 le in by r.0 r.1 r.2
       where
         by : (u : ℕ) → (event u).retires ≡ Some (of_core n) → IsOrLeads event u t → n ≤ y.count
-        by u at (inl e) = let same_one : of_core n ≡ y = some_same (of_core n) y (sym at ∙ (ap (λ (v : ℕ). (event v).retires) e ∙ is)) in
+        by u at (inl e) = let same_one : of_core n ≡ y = same_Some (of_core n) y (sym at ∙ (ap (λ (v : ℕ). (event v).retires) e ∙ is)) in
             let f : n ≡ y.count = ap (λ (z : Instr). z.count) same_one in omega arith
         by u at (inr p) =
             let lt = leads_before event u t p in
@@ -81,7 +83,7 @@ known_stays_law event x y z t orderly k core later is =
           actor = AtCore y.core;
           of_it = first.own;
           and_of_it = second.own ∙ ap (λ (c : ℕ). Some (AtCore c)) core;
-          before = before (order k.here t);
+          before = before (cases_order k.here t);
         }),
       );
     }
@@ -92,13 +94,10 @@ known_stays_law event x y z t orderly k core later is =
     second : IsNext event t z
     second = orderly t z is
 
-    order : (m n : ℕ) → (m < n) ⊎ ((m ≡ n) ⊎ (n < m))
-    order m n = grind arith
-
-    before : (k.here < t) ⊎ ((k.here ≡ t) ⊎ (t < k.here)) → k.here < t
-    before (inl lt) = lt
-    before (inr (inl e)) =
-        absurd (let same_one : y ≡ z = some_same y z (sym k.retires ∙ (ap (λ (u : ℕ). (event u).retires) e ∙ is)) in
+    before : (k.here ≡ t) ⊎ ((k.here < t) ⊎ (t < k.here)) → k.here < t
+    before (inr (inl lt)) = lt
+    before (inl e) =
+        absurd (let same_one : y ≡ z = same_Some y z (sym k.retires ∙ (ap (λ (u : ℕ). (event u).retires) e ∙ is)) in
         let f : y.count ≡ z.count = ap (λ (i : Instr). i.count) same_one in omega arith)
     before (inr (inr lt)) =
         absurd (let below = retired_below event t k.here z is second lt in let f : y.count ≡ retired_in event k.here z.core + 1 = first.count

@@ -1,14 +1,15 @@
 -- What a history's lists say of its notes, before and after a retirement is noted.
-use Rattle.std.proofs.Common.{◌≡◌, ◌≢◌, ◌∙◌, ap, refl, sym, subst, ℕ, zero, suc, ◌+◌, ◌-◌, ◌*◌, ◌<◌, ◌≤◌, ◌⊎◌, inl, inr, Bool, true, false, List, [], ◌∷◌}
-use Rattle.std.proofs.Common.{length, get_or, max, IsTrue, nat_lt, arith}
-use Rattle.std.specs.Prelude.{◌&&◌, not, nat_eq, map, replicate, slice_index, slice_index_or, slice_set, if◌then◌else◌}
+use Rattle.std.proofs.Common.{◌≡◌, ◌≢◌, ◌∙◌, ap, refl, sym, subst, ℕ, zero, suc, ◌+◌, ◌-◌, ◌*◌, ◌<◌, ◌≤◌, ◌⊎◌, inl, inr, true, false, List, [], ◌∷◌}
+use Rattle.std.proofs.Common.{length, get_or, max, arith}
+use Rattle.std.specs.Prelude.{map, replicate, slice_index, slice_index_or, slice_set}
 use Rattle.std.specs.List.{range_with_len}
-use Rattle.std.proofs.lemmas.Bool.{cases_Bool, cases_eq, cond-true, cond-false}
+use Rattle.std.proofs.lemmas.Bool.{cases_Bool, cases_eq, cond-true, cond-false, cases_lt}
 use Rattle.std.proofs.lemmas.Bool.Decides.{nat_tests}
 use Rattle.std.proofs.lemmas.List.{get_or_default, get_or_past, get_or-replicate, get_or-set_other, get_or-set_same, length-replicate, length-set}
 use Rattle.std.proofs.lemmas.List.FromFn.{fill_by_all, get_or-map-range_with_len, length-map-range_with_len}
 use Rattle.rtr_types.specs.declared.TheConstants.{CORES_MAX}
 use Rattle.rtr_types.specs.declared.instr.Instr.{Instr}
+use Rattle.rtr_types.proofs.Ranges.{replicate_at}
 use Rattle.clock_core.specs.Counts.{no_counts}
 use Rattle.clock_core.specs.declared.clock.Clock.{Clock}
 use Rattle.know_history.specs.declared.changes.Change.{Change}
@@ -21,9 +22,6 @@ use Rattle.know_history.specs.Notes.{IsNoted, Notes, change_count, core_count, k
 use Rattle.roomy_lists.specs.Lists.{Listed, items_in}
 use Rattle.know_history.proofs.Places.{length-items, place_within}
 use Rattle.know_history.proofs.OneList.{Noted, known_none, noted_more, noted_same, rises_few, rises_same, with_change}
-
-below : (m n : ℕ) → (m < n) ⊎ (n ≤ m)
-below m n = grind arith
 
 -- ---- what the lists say
 
@@ -92,11 +90,6 @@ list_within newest all core «of» holds within place = let a = holds.places in 
     let d = place_within (length newest) core «of» within place in omega arith
 
 -- ---- none is noted
-
-replicate_at : {A : Type 0} (n i : ℕ) (a : A) → get_or (replicate n a) i a ≡ a
-replicate_at zero i a = refl
-replicate_at (suc n) zero a = refl
-replicate_at (suc n) (suc i) a = replicate_at n i a
 
 none_at : (newest : List Newest) (cores core : ℕ) → newest ≡ replicate cores no_newest → newest_at newest core ≡ no_newest
 none_at newest cores core is = ap (λ (all : List Newest). newest_at all core) is ∙ replicate_at cores core no_newest
@@ -237,9 +230,9 @@ module _ (at : Instr) (known : Known) (newest : List Newest) (lists : List (List
       record {
         cores = cores_are more new ∙ as_many ∙ sym (cores_are newest lists);
         count = count_is more new at.core within_more ∙ ap (λ (n : Newest). n.count) here;
-        others = λ core apart. others core apart (below core (length newest));
-        greater = λ «of» other. greater «of» other (below «of» CORES_MAX);
-        kept = λ core count «of» other le. kept core count «of» le (below core (length newest)) (below «of» CORES_MAX);
+        others = λ core apart. others core apart (cases_lt core (length newest));
+        greater = λ «of» other. greater «of» other (cases_lt «of» CORES_MAX);
+        kept = λ core count «of» other le. kept core count «of» le (cases_lt core (length newest)) (cases_lt «of» CORES_MAX);
       }
     where
       within_more : at.core < length more

@@ -6,23 +6,18 @@ use Rattle.std.specs.List.{Contains}
 use Rattle.std.proofs.Math.Seq.{take-suc}
 use Rattle.std.proofs.lemmas.List.{get_or_default, get_or_past}
 use Rattle.std.proofs.lemmas.Bool.Decides.{nat_tests}
+use Rattle.std.proofs.lemmas.Bool.{cases_eq, cases_lt}
 use Rattle.rtr_types.specs.declared.instr.Instr.{Instr}
 use Rattle.rtr_types.specs.declared.access.Access.{Access}
 use Rattle.clock_core.specs.Order.{Before, Among}
 use Rattle.clock_core.proofs.Paths.{joined, one, instr_eq}
 use Rattle.conflict_edge.specs.Conflicts.{StandsIn, Conflicts, ConflictPair, CountsRise}
 use Rattle.conflict_edge.specs.Least.{Suffices}
-use Rattle.replay_audit.proofs.Pairs.{either}
+use Rattle.conflict_edge.proofs.Standing.{one_first}
+use Rattle.conflict_edge.proofs.Steps.{stands_at}
 use Rattle.rtr_types.specs.declared.instr.Edge.{Edge}
 use Rattle.log_codec.proofs.Looked.{Rising, one_place}
 use Rattle.min_certificate.specs.Conflicting.{of_core, AreByCore, AreCoresBelow, BothConflict, AreRising, AreIndexed, IsAccessAt}
-
-cases : (b : Bool) → (b ≡ true) ⊎ (b ≡ false)
-cases true = inl refl
-cases false = inr refl
-
-same_or_not : (m n : ℕ) → (m ≡ n) ⊎ (m ≢ n)
-same_or_not m n = grind arith
 
 -- ---- the list of a core
 
@@ -34,7 +29,7 @@ other_more c a list ne = let t : nat_eq a.at.core c ≡ false = grind (arith, na
 
 own_end : (c : ℕ) (a : Access) (list : List Access) → a.at.core ≡ c → of_core c (list ++ a ∷ []) ≡ of_core c list ++ a ∷ []
 own_end c a [] e = own_more c a [] e
-own_end c a (b ∷ list) e = by (same_or_not b.at.core c) (own_end c a list e)
+own_end c a (b ∷ list) e = by (cases_eq b.at.core c) (own_end c a list e)
   where
     by : (b.at.core ≡ c) ⊎ (b.at.core ≢ c) → of_core c (list ++ a ∷ []) ≡ of_core c list ++ a ∷ [] → of_core c (b ∷ list ++ a ∷ []) ≡ of_core c (b ∷ list)
         ++ a ∷ []
@@ -43,7 +38,7 @@ own_end c a (b ∷ list) e = by (same_or_not b.at.core c) (own_end c a list e)
 
 other_end : (c : ℕ) (a : Access) (list : List Access) → a.at.core ≢ c → of_core c (list ++ a ∷ []) ≡ of_core c list
 other_end c a [] ne = other_more c a [] ne
-other_end c a (b ∷ list) ne = by (same_or_not b.at.core c) (other_end c a list ne)
+other_end c a (b ∷ list) ne = by (cases_eq b.at.core c) (other_end c a list ne)
   where
     by : (b.at.core ≡ c) ⊎ (b.at.core ≢ c) → of_core c (list ++ a ∷ []) ≡ of_core c list → of_core c (b ∷ list ++ a ∷ []) ≡ of_core c (b ∷ list)
     by (inl p) h = own_more c b (list ++ a ∷ []) p ∙ ap (λ (l : List Access). b ∷ l) h ∙ sym (own_more c b list p)
@@ -51,7 +46,7 @@ other_end c a (b ∷ list) ne = by (same_or_not b.at.core c) (other_end c a list
 
 pub stands_own : (c : ℕ) (list : List Access) (a : Access) → StandsIn (of_core c list) a → StandsIn list a × (a.at.core ≡ c)
 stands_own c [] a s = absurd s
-stands_own c (b ∷ list) a s = by (same_or_not b.at.core c) (stands_own c list a)
+stands_own c (b ∷ list) a s = by (cases_eq b.at.core c) (stands_own c list a)
   where
     on : b.at.core ≡ c → StandsIn (b ∷ of_core c list) a → (StandsIn (of_core c list) a → StandsIn list a × (a.at.core ≡ c)) → StandsIn (b ∷ list) a
         × (a.at.core ≡ c)
@@ -65,16 +60,11 @@ stands_own c (b ∷ list) a s = by (same_or_not b.at.core c) (stands_own c list 
 pub own_stands : (c : ℕ) (list : List Access) (a : Access) → StandsIn list a → a.at.core ≡ c → StandsIn (of_core c list) a
 own_stands c [] a s e = absurd s
 own_stands c (b ∷ list) a (inl p) e = subst (λ (l : List Access). StandsIn l a) (sym (own_more c b list (ap (λ (x : Access). x.at.core) p ∙ e))) (inl p)
-own_stands c (b ∷ list) a (inr s) e = by (same_or_not b.at.core c) (own_stands c list a s e)
+own_stands c (b ∷ list) a (inr s) e = by (cases_eq b.at.core c) (own_stands c list a s e)
   where
     by : (b.at.core ≡ c) ⊎ (b.at.core ≢ c) → StandsIn (of_core c list) a → StandsIn (of_core c (b ∷ list)) a
     by (inl p) h = subst (λ (l : List Access). StandsIn l a) (sym (own_more c b list p)) (inr h)
     by (inr n) h = subst (λ (l : List Access). StandsIn l a) (sym (other_more c b list n)) h
-
-stands_at : (list : List Access) (i : ℕ) (d : Access) → i < length list → StandsIn list (get_or list i d)
-stands_at [] i d lt = absurd (omega arith)
-stands_at (a ∷ list) zero d lt = inl refl
-stands_at (a ∷ list) (suc i) d lt = inr (stands_at list i d (omega arith))
 
 contains_stands : (list : List Access) (a : Access) → Contains list a → StandsIn list a
 contains_stands list a (k, lt, e) = subst (λ (x : Access). StandsIn list x) e (stands_at list k a lt)
@@ -87,7 +77,7 @@ stands_contains (b ∷ list) a (inr s) = let h = stands_contains list a s in (su
 -- their counts rise
 pub own_rises : (c : ℕ) (list : List Access) → CountsRise list → AreRising (of_core c list)
 own_rises c [] h = record { each = λ i j d lt below. absurd (omega arith) }
-own_rises c (a ∷ list) h = by (same_or_not a.at.core c) (own_rises c list h.2)
+own_rises c (a ∷ list) h = by (cases_eq a.at.core c) (own_rises c list h.2)
   where
     on : a.at.core ≡ c → AreRising (of_core c list) → (i j : ℕ) (d : Access) → i < j → j < length (a ∷ of_core c list) →
         (get_or (a ∷ of_core c list) i d).at.count < (get_or (a ∷ of_core c list) j d).at.count
@@ -124,7 +114,7 @@ pub by_core_more : (cores i : ℕ) (accesses : List Access) (d : Access) (lists 
 by_core_more cores i accesses d lists new item below lt h item_is new_is =
     subst (λ (l : List Access). AreByCore cores l (slice_set lists c new)) (sym longer) (record {
       all = length-set lists c new ∙ h.all;
-      each = λ k k_lt. by k k_lt (same_or_not c k);
+      each = λ k k_lt. by k k_lt (cases_eq c k);
     })
   where
     a : Access
@@ -206,12 +196,9 @@ pub are_indexed : (cores : ℕ) (list : List Access) (lists : List (List Access)
 are_indexed cores list lists below rise h = record {
   by_core = subst (λ (n : ℕ). AreByCore n list lists) (sym h.all) h;
   below = subst (λ (n : ℕ). AreCoresBelow n list) (sym h.all) below;
-  rising = λ c. by c (in_list c (length lists));
+  rising = λ c. by c (cases_lt c (length lists));
 }
   where
-    in_list : (i n : ℕ) → (i < n) ⊎ (n ≤ i)
-    in_list i n = grind arith
-
     by : (c : ℕ) → (c < length lists) ⊎ (length lists ≤ c) → AreRising (get_or lists c [])
     by c (inl lt) = subst AreRising (sym (h.each c (let e = h.all in omega arith))) (own_rises c list rise)
     by c (inr past) = subst AreRising (sym (get_or_past lists c [] past)) (record { each = λ i j d lt below. absurd (omega arith) })
@@ -249,7 +236,7 @@ pub conflict_is_pair : (list : List Access) (edges : List Edge) (x y : Instr) �
 conflict_is_pair list edges x y suffices acyclic edge = (to, pair_both list x y)
   where
     to : BothConflict list x y → ConflictPair list x y
-    to (a, b, s, t, e, f, k) = by (either list a b s t k)
+    to (a, b, s, t, e, f, k) = by (one_first list a b s t k)
       where
         by : ConflictPair list a.at b.at ⊎ ConflictPair list b.at a.at → ConflictPair list x y
         by (inl p) = subst (λ (z : Instr). ConflictPair list z y) e (subst (λ (z : Instr). ConflictPair list a.at z) f p)

@@ -1,28 +1,26 @@
 -- Exact clocks at edge ends make a certificate.
-use Rattle.std.proofs.Common.{inl, inr, ◌≡◌, ◌⊎◌, ◌↔◌, ℕ, zero, suc, ◌+◌, ◌<◌, ◌≤◌, List, [], ◌∷◌, ◌++◌, length, get_or, refl, sym, ap, ◌∙◌, subst, arith}
+use Rattle.std.proofs.Common.{inl, inr, ◌≡◌, ◌⊎◌, ◌↔◌, ℕ, suc, ◌+◌, ◌<◌, ◌≤◌, List, [], ◌∷◌, ◌++◌, length, get_or, refl, sym, ap, ◌∙◌, subst, arith}
 use Rattle.std.specs.Prelude.{slice_index}
 use Rattle.std.proofs.lemmas.List.{get_or_past, get_or_default, get_or_append_left, get_or_push}
+use Rattle.std.proofs.lemmas.Bool.{cases_lt}
+use Rattle.std.proofs.Math.Nat.{eq-zero-or-pos}
 use Rattle.rtr_types.specs.declared.instr.Instr.{Instr}
 use Rattle.rtr_types.specs.declared.pairs.Which.TheVariants.{Reduced}
 use Rattle.clock_core.specs.Order.{Among, IsOrLeads}
 use Rattle.clock_core.specs.Reach.{IsClock}
 use Rattle.log_codec.specs.declared.recording.Recording.{Recording}
-use Rattle.log_codec.specs.Turns.{StandInTurn, stay, count_up}
 use Rattle.log_codec.specs.Validity.{Valid}
 use Rattle.log_codec.proofs.InTurn.{places-stand, all-stand}
-use Rattle.clock_entries.specs.Ends.{Clocks, instr, IsEnd, ends_to, entry_at}
+use Rattle.clock_entries.specs.Ends.{Clocks, instr, ends_to, entry_at}
 use Rattle.clock_entries.proofs.Ends.{end_counts}
 use Rattle.replay_audit.proofs.Logs.{recorded_log, leads_back}
 use Rattle.certificate_codec.specs.declared.certificate.Certificate.{Certificate}
 use Rattle.certificate_codec.specs.Ends.{reduced_edges, IsWithin}
-use Rattle.certificate_codec.specs.Validity.{CountStands, IsEntry, EntryStands, AreEntries, IsCertificate}
+use Rattle.certificate_codec.specs.Validity.{CountStands, IsEntry, AreEntries, IsCertificate}
 use Rattle.min_certificate.specs.Clocks.{end_of, IsEntryOf, AreClocksOf, HasClocks}
-use Rattle.min_certificate.specs.Places.{entry_in, AreExactIn}
+use Rattle.min_certificate.specs.Places.{AreExactIn}
 use Rattle.min_certificate.proofs.First.{Placed, place_of, IsListed, end_in_list}
 use Rattle.min_certificate.proofs.Shown.{end_within, totals_closed}
-
-in_list : (i n : ℕ) → (i < n) ⊎ (n ≤ i)
-in_list i n = grind arith
 
 -- ---- the counts of a clock
 
@@ -31,7 +29,7 @@ pub front_exact : (r : Recording) (y : Instr) (clock counts : List ℕ) → Vali
     IsClock (Among (reduced_edges r)) y (λ i. slice_index clock i) → length counts ≡ r.params.cores →
     ((i : ℕ) → i < r.params.cores → slice_index counts i ≡ slice_index clock i) →
     IsClock (Among (reduced_edges r)) y (λ i. slice_index counts i)
-front_exact r y clock counts valid within exact all each x pos = by (in_list x.core r.params.cores)
+front_exact r y clock counts valid within exact all each x pos = by (cases_lt x.core r.params.cores)
   where
     leads_within : IsOrLeads (Among (reduced_edges r)) x y → x.count ≤ slice_index r.totals x.core
     leads_within l = leads_back (reduced_edges r) (λ k. slice_index r.totals k) x y (totals_closed r valid) l within.count
@@ -76,13 +74,10 @@ exact_in c valid h x end =
 
 -- ---- they have a spelling
 
-some_or_none : (n : ℕ) → (n ≡ 0) ⊎ (1 ≤ n)
-some_or_none n = grind arith
-
 -- an exact count is at most its core's total
 count_fits : (r : Recording) (y : Instr) (entry : List ℕ) (i : ℕ) → Valid r → IsWithin r y → IsClock (Among (reduced_edges r)) y (λ k. slice_index entry k) →
     slice_index entry i ≤ slice_index r.totals i
-count_fits r y entry i valid w exact = by (some_or_none (slice_index entry i))
+count_fits r y entry i valid w exact = by (eq-zero-or-pos (slice_index entry i))
   where
     by : (slice_index entry i ≡ 0) ⊎ (1 ≤ slice_index entry i) → slice_index entry i ≤ slice_index r.totals i
     by (inl e) = omega arith

@@ -2,12 +2,14 @@
 use Rattle.std.proofs.Common.{inl, inr, ◌≡◌, ◌⊎◌, ℕ, zero, suc, ◌+◌, ◌<◌, ◌≤◌, ◌^◌, List, [], ◌∷◌, ◌++◌, length, get_or, refl, sym, ap, ◌∙◌, subst, arith, take}
 use Rattle.std.proofs.Common.{drop, true}
 use Rattle.std.specs.Prelude.{slice_index}
-use Rattle.std.proofs.Math.Seq.{take-suc, split_at}
-use Rattle.std.proofs.lemmas.List.{take_all, get_or_push}
+use Rattle.std.proofs.Math.Seq.{split_at}
+use Rattle.std.proofs.lemmas.List.{take_all, get_or_push, length_push}
+use Rattle.std.proofs.lemmas.Bool.{cases_order}
 use Rattle.rtr_types.specs.declared.instr.Instr.{Instr}
 use Rattle.rtr_types.specs.declared.instr.Edge.{Edge}
 use Rattle.rtr_types.specs.declared.pairs.Which.TheVariants.{Reduced}
 use Rattle.clock_core.specs.Order.{Among}
+use Rattle.clock_core.proofs.Listed.{place_among}
 use Rattle.log_codec.specs.declared.recording.Recording.{Recording}
 use Rattle.log_codec.specs.Validity.{Valid}
 use Rattle.clock_entries.specs.Ends.{instr, is_end, IsEnd, ends_to}
@@ -16,6 +18,7 @@ use Rattle.clock_entries.proofs.Numbers.{few, at_low, ends_rise, fronted, longer
 use Rattle.replay_audit.proofs.Logs.{edge_within, recorded_log}
 use Rattle.certificate_codec.specs.declared.certificate.Certificate.{Certificate}
 use Rattle.certificate_codec.specs.Ends.{reduced_edges, IsWithin}
+use Rattle.certificate_codec.proofs.Marks.{one_more}
 use Rattle.min_certificate.specs.Places.{IsGoodIn}
 use Rattle.min_certificate.specs.Firsts.{FailsFirst, IsFirstBadOf, AreGoodOf}
 use Rattle.min_certificate.proofs.Shown.{end_within}
@@ -24,11 +27,6 @@ use Rattle.min_certificate.proofs.Shown.{end_within}
 
 abbrev pub no_edge : Edge
 no_edge = record { from = record { core = 0; count = 0 }; to = record { core = 0; count = 0 } }
-
-among_at : (edges : List Edge) (i : ℕ) (d : Edge) → i < length edges → Among edges (get_or edges i d).from (get_or edges i d).to
-among_at [] i d lt = absurd (omega arith)
-among_at (e ∷ edges) zero d lt = inl (refl, refl)
-among_at (e ∷ edges) (suc i) d lt = inr (among_at edges i d (omega arith))
 
 -- the target of an edge of the log
 pub record IsTarget (r : Recording) (y : Instr) : Type 0 where
@@ -39,12 +37,9 @@ pub target_within : (r : Recording) (edges : List Edge) (i : ℕ) (d : Edge) →
     IsTarget r (get_or edges i d).to
 target_within r edges i d valid is lt =
     let a : Among (reduced_edges r) (get_or edges i d).from (get_or edges i d).to =
-    subst (λ (l : List Edge). Among l (get_or edges i d).from (get_or edges i d).to) is (among_at edges i d lt) in
+    subst (λ (l : List Edge). Among l (get_or edges i d).from (get_or edges i d).to) is (place_among edges i d lt) in
     let w = edge_within Reduced r (get_or edges i d).from (get_or edges i d).to valid a in
     record { within = record { core = w.pair.target; count = w.target_most }; some = w.some_target }
-
-one_more : (edges : List Edge) (i : ℕ) (d : Edge) → i < length edges → take (i + 1) edges ≡ take i edges ++ get_or edges i d ∷ []
-one_more edges i d lt = let e : i + 1 ≡ suc i = omega arith in ap (λ (k : ℕ). take k edges) e ∙ take-suc edges i d lt
 
 among_end : (front : List Edge) (e : Edge) (x y : Instr) → Among (front ++ e ∷ []) x y → Among front x y ⊎ ((e.from ≡ x) × (e.to ≡ y))
 among_end [] e x y (inl p) = inr p
@@ -85,10 +80,6 @@ pub record Placed (edges : List Edge) (c n m : ℕ) : Type 0 where
   pub at : get_or (ends_to edges c n) place 0 ≡ m
   pub number : length (ends_to edges c m) ≡ place + 1
 
-len_push : (l : List ℕ) (k : ℕ) → length (l ++ k ∷ []) ≡ length l + 1
-len_push [] k = refl
-len_push (x ∷ l) k = let e = len_push l k in omega arith
-
 place_next : (edges : List Edge) (c n m : ℕ) → suc m ≤ n → is_end edges (instr c (suc m)) ≡ true → Placed edges c n (suc m)
 place_next edges c n m le end = record {
   place = length (ends_to edges c m);
@@ -102,7 +93,7 @@ place_next edges c n m le end = record {
     list = ends_more edges c m end
 
     number : length (ends_to edges c (suc m)) ≡ length (ends_to edges c m) + 1
-    number = ap (λ (l : List ℕ). length l) list ∙ len_push (ends_to edges c m) (suc m)
+    number = ap (λ (l : List ℕ). length l) list ∙ length_push (ends_to edges c m) (suc m)
 
 pub place_of : (edges : List Edge) (c n m : ℕ) → m ≤ n → 1 ≤ m → is_end edges (instr c m) ≡ true → Placed edges c n m
 place_of edges c n zero le pos end = absurd (omega arith)
@@ -115,16 +106,13 @@ placed edges c n k lt = by (place_of edges c n (get_or (ends_to edges c n) k 0) 
     low : (1 ≤ get_or (ends_to edges c n) k 0) × (get_or (ends_to edges c n) k 0 ≤ n) × (is_end edges (instr c (get_or (ends_to edges c n) k 0)) ≡ true)
     low = at_low edges c n k lt
 
-    which : (i j : ℕ) → (i < j) ⊎ ((j < i) ⊎ (i ≡ j))
-    which i j = grind arith
-
     by : Placed edges c n (get_or (ends_to edges c n) k 0) → length (ends_to edges c (get_or (ends_to edges c n) k 0)) ≡ k + 1
-    by p = on (which k p.place)
+    by p = on (cases_order k p.place)
       where
-        on : (k < p.place) ⊎ ((p.place < k) ⊎ (k ≡ p.place)) → length (ends_to edges c (get_or (ends_to edges c n) k 0)) ≡ k + 1
-        on (inl a) = let h = ends_rise edges c n k p.place a p.within in let e = p.at in absurd (omega arith)
-        on (inr (inl a)) = let h = ends_rise edges c n p.place k a lt in let e = p.at in absurd (omega arith)
-        on (inr (inr e)) = let q = p.number in omega arith
+        on : (k ≡ p.place) ⊎ ((k < p.place) ⊎ (p.place < k)) → length (ends_to edges c (get_or (ends_to edges c n) k 0)) ≡ k + 1
+        on (inr (inl a)) = let h = ends_rise edges c n k p.place a p.within in let e = p.at in absurd (omega arith)
+        on (inr (inr a)) = let h = ends_rise edges c n p.place k a lt in let e = p.at in absurd (omega arith)
+        on (inl e) = let q = p.number in omega arith
 
 pub place_low : (r : Recording) (c k : ℕ) (list : List ℕ) → list ≡ ends_to (reduced_edges r) c (slice_index r.totals c) → k < length list →
     k + 1 ≤ get_or list k 0
@@ -184,20 +172,17 @@ bad_at c core k number list h num good bad = record {
     there : k < length (ends_to (reduced_edges c.recording) core (slice_index c.recording.totals core))
     there = subst (λ (l : List ℕ). k < length l) h.is h.lt
 
-    which : (i j : ℕ) → (i < j) ⊎ ((j < i) ⊎ (i ≡ j))
-    which i j = grind arith
-
     rise : (i j : ℕ) → i < j → j < length list → get_or list i 0 < get_or list j 0
     rise = subst (λ (l : List ℕ). (i j : ℕ) → i < j → j < length l → get_or l i 0 < get_or l j 0) (sym h.is)
         (ends_rise (reduced_edges c.recording) core (slice_index c.recording.totals core))
 
     earlier : (n j : ℕ) → n < get_or list k 0 → j < length list → get_or list j 0 ≡ n → j < k
-    earlier n j less below at = by (which j k)
+    earlier n j less below at = by (cases_order j k)
       where
-        by : (j < k) ⊎ ((k < j) ⊎ (j ≡ k)) → j < k
-        by (inl a) = a
-        by (inr (inl a)) = let g = rise k j a below in absurd (omega arith)
-        by (inr (inr s)) = let g = ap (λ (i : ℕ). get_or list i 0) s in absurd (omega arith)
+        by : (j ≡ k) ⊎ ((j < k) ⊎ (k < j)) → j < k
+        by (inr (inl a)) = a
+        by (inr (inr a)) = let g = rise k j a below in absurd (omega arith)
+        by (inl s) = let g = ap (λ (i : ℕ). get_or list i 0) s in absurd (omega arith)
 
 pub all_good : (c : Certificate) (core k : ℕ) (list : List ℕ) → Valid c.recording →
     list ≡ ends_to (reduced_edges c.recording) core (slice_index c.recording.totals core) → length list ≤ k →

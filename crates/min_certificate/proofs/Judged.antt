@@ -7,6 +7,7 @@ use Rattle.rtr_types.specs.declared.access.Access.{Access}
 use Rattle.rtr_types.specs.declared.pairs.Which.{Which}
 use Rattle.rtr_types.specs.declared.pairs.Which.TheVariants.{Reduced}
 use Rattle.clock_core.specs.Order.{Among, previous}
+use Rattle.clock_core.proofs.Listed.{among_left}
 use Rattle.conflict_edge.specs.Conflicts.{CountsRise}
 use Rattle.conflict_edge.proofs.Independent.{cases_instr}
 use Rattle.conflict_edge.proofs.TwoForms.{least_independent}
@@ -81,11 +82,6 @@ known_decided edges entry x y = by (at_least_decided x.count (entry (previous y)
 
 -- ---- edges that are sound, and amiss
 
-among_front : (front rest : List Edge) (x y : Instr) → Among front x y → Among (front ++ rest) x y
-among_front [] rest x y a = absurd a
-among_front (e ∷ front) rest x y (inl p) = inl p
-among_front (e ∷ front) rest x y (inr a) = inr (among_front front rest x y a)
-
 among_mid : (front : List Edge) (e : Edge) (rest : List Edge) → Among (front ++ e ∷ rest) e.from e.to
 among_mid [] e rest = inl (refl, refl)
 among_mid (f ∷ front) e rest = inr (among_mid front e rest)
@@ -97,7 +93,7 @@ first_for P Q R S edges e before here f = record {
   front = f.front;
   rest = f.rest;
   split = f.split;
-  before = λ x y a. before x y (subst (λ (l : List Edge). Among l x y) (sym f.split) (among_front f.front (e ∷ f.rest) x y a)) (f.before x y a);
+  before = λ x y a. before x y (subst (λ (l : List Edge). Among l x y) (sym f.split) (among_left f.front (e ∷ f.rest) x y a)) (f.before x y a);
   here = here e.from e.to (subst (λ (l : List Edge). Among l e.from e.to) (sym f.split) (among_mid f.front e f.rest)) f.here;
 }
 

@@ -1,17 +1,15 @@
 -- The low order of a determinate recording, and any whole replay order in its place.
-use Rattle.std.proofs.Common.{List, ℕ, length, arith, subst, ◌<◌, ◌≡◌}
-use Rattle.rtr_types.specs.declared.instr.Instr.{Instr}
+use Rattle.std.proofs.Common.{List, arith}
 use Rattle.rtr_types.specs.declared.access.Access.{Access}
 use Rattle.rtr_types.specs.declared.pairs.Which.TheVariants.{Reduced}
 use Rattle.clock_core.specs.Order.{Within, Among}
-use Rattle.conflict_edge.specs.Conflicts.{ConflictPair, CountsRise, StandsIn}
+use Rattle.conflict_edge.specs.Conflicts.{ConflictPair, CountsRise}
 use Rattle.conflict_edge.specs.Least.{Suffices, IsLeast}
 use Rattle.rtr_types.specs.declared.instr.Edge.{Edge}
 use Rattle.log_codec.specs.declared.recording.Recording.{Recording}
 use Rattle.log_codec.specs.Validity.{Valid}
 use Rattle.replay_core.specs.Plans.{plan_of}
 use Rattle.replay_core.specs.Play.{accesses_of}
-use Rattle.replay_core.specs.Orders.{IsReplayOrder, IsWhole, low_order}
 use Rattle.clock_entries.specs.Laws.{IsAcyclic}
 use Rattle.replay_audit.specs.Determinate.{Decides, IsDeterminate, low_accesses, low_order_of}
 use Rattle.replay_audit.proofs.Agreed.{low_ordered, every_order_law, any_whole_law}
@@ -19,7 +17,7 @@ use Rattle.replay_audit.proofs.Logs.{acyclic_law}
 use Rattle.replay_audit.proofs.Rise.{accesses_rise, accesses_within}
 use Rattle.certificate_codec.specs.Ends.{reduced_edges}
 use Rattle.min_certificate.specs.Conflicting.{AreCoresBelow}
-use Rattle.min_certificate.specs.Laws.{IsLeastIn, EveryOrderIsLeastLaw, AnyOrderIsLeastLaw}
+use Rattle.min_certificate.specs.Laws.{EveryOrderIsLeastLaw, AnyOrderIsLeastLaw}
 
 pub low_rise : (r : Recording) → CountsRise (low_accesses Reduced r)
 low_rise r = accesses_rise Reduced r (low_order_of Reduced r) (low_ordered (plan_of Reduced r))

@@ -1,19 +1,18 @@
 -- What certificates of determinate recordings show.
-use Rattle.std.proofs.Common.{inl, inr, ◌⊎◌, ◌≡◌, ℕ, ◌≤◌, arith}
+use Rattle.std.proofs.Common.{inl, inr, ◌⊎◌, ◌≡◌, ◌≤◌, arith}
 use Rattle.std.specs.Prelude.{slice_index}
+use Rattle.std.proofs.Math.Nat.{eq-zero-or-pos}
 use Rattle.rtr_types.specs.declared.instr.Instr.{Instr}
 use Rattle.rtr_types.specs.declared.pairs.Which.TheVariants.{Reduced}
 use Rattle.clock_core.specs.Order.{Among}
 use Rattle.log_codec.specs.declared.recording.Recording.{Recording}
 use Rattle.log_codec.specs.Validity.{Valid}
 use Rattle.clock_entries.specs.Ends.{instr, IsEnd}
-use Rattle.clock_entries.specs.Laws.{IsLog, IsAcyclic}
 use Rattle.clock_entries.proofs.Ends.{last_entry_law, end_edge}
 use Rattle.clock_entries.proofs.Exact.{exact_is_good, implied_law}
 use Rattle.clock_entries.proofs.Least.{good_shows_least, least_is_needed, amiss_law}
 use Rattle.replay_audit.specs.Determinate.{low_accesses}
 use Rattle.replay_audit.proofs.Logs.{recorded_log, edge_within, leads_back}
-use Rattle.certificate_codec.specs.declared.certificate.Certificate.{Certificate}
 use Rattle.certificate_codec.specs.Ends.{reduced_edges, IsWithin}
 use Rattle.min_certificate.specs.Places.{entry_in, IsKnownOtherwiseIn}
 use Rattle.min_certificate.specs.Laws.{IsConflictIn, IsAmissIn, PassedIsLeastLaw, LeastPassesLaw, NotLeastLaw, AmissByEntriesLaw, ExactFitsLaw}
@@ -65,11 +64,8 @@ pub totals_closed : (r : Recording) → Valid r → (x y : Instr) → Among (red
 totals_closed r valid x y a le = (edge_within Reduced r x y valid a).source_most
 
 pub exact_fits : ExactFitsLaw
-exact_fits c x i valid exact end = by (some_or_none (entry_in c x i))
+exact_fits c x i valid exact end = by (eq-zero-or-pos (entry_in c x i))
   where
-    some_or_none : (n : ℕ) → (n ≡ 0) ⊎ (1 ≤ n)
-    some_or_none n = grind arith
-
     by : (entry_in c x i ≡ 0) ⊎ (1 ≤ entry_in c x i) → entry_in c x i ≤ slice_index c.recording.totals i
     by (inl e) = omega arith
     by (inr pos) =

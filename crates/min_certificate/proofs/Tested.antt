@@ -1,7 +1,7 @@
 -- The tests of a certificate tell its good and exact entries and its needed edges.
-use Rattle.std.proofs.Common.{inl, inr, ◌≡◌, ◌≢◌, ◌⊎◌, ℕ, zero, suc, ◌+◌, ◌<◌, ◌≤◌, List, [], ◌∷◌, length, get_or, true, refl, sym, ap, ◌∙◌, subst, arith}
+use Rattle.std.proofs.Common.{inl, inr, ◌≡◌, ◌≢◌, ◌⊎◌, ℕ, zero, suc, ◌+◌, ◌<◌, ◌≤◌, List, [], ◌∷◌, length, get_or, true, sym, ap, ◌∙◌, subst, arith}
 use Rattle.std.specs.Prelude.{slice_index}
-use Rattle.std.proofs.lemmas.Bool.{cases_lt}
+use Rattle.std.proofs.lemmas.Bool.{cases_lt, cases_eq}
 use Rattle.std.proofs.lemmas.List.{get_or_past}
 use Rattle.std.proofs.lemmas.List.Elements.{All-get_or}
 use Rattle.rtr_types.specs.declared.instr.Instr.{Instr}
@@ -12,14 +12,13 @@ use Rattle.log_codec.specs.declared.recording.Recording.{Recording}
 use Rattle.log_codec.specs.Validity.{Valid}
 use Rattle.log_codec.proofs.InTurn.{stand-all, stand-places}
 use Rattle.replay_core.specs.Orders.{bump, counts, nought, Ordered, Ready}
-use Rattle.replay_core.specs.Plans.{Plan, plan_of}
+use Rattle.replay_core.specs.Plans.{plan_of}
 use Rattle.replay_core.proofs.Counts.{bump_same, bump_else}
 use Rattle.replay_audit.specs.Determinate.{IsDeterminate, low_order_of}
-use Rattle.replay_audit.proofs.Logs.{edge_within, recorded_log, sourced_among}
+use Rattle.replay_audit.proofs.Logs.{edge_within, recorded_log, sourced_among, next_or_before}
 use Rattle.clock_entries.specs.Ends.{entry_at, ends_to, IsEnd}
 use Rattle.clock_entries.specs.Tests.{HasPlaces, is_exact_at}
 use Rattle.clock_entries.proofs.Ends.{end_counts, end_edge, end_source, last_entry_law}
-use Rattle.clock_entries.proofs.Good.{same_or_not}
 use Rattle.clock_entries.proofs.Measured.{exact_passes, next_exact}
 use Rattle.clock_entries.proofs.Tested.{each-end, good_test, needed_test}
 use Rattle.certificate_codec.specs.declared.certificate.Certificate.{Certificate}
@@ -69,12 +68,9 @@ needed_in_test c x y = needed_test (reduced_edges c.recording) (entry_in c) x y
 abbrev AreExactTo : Certificate → (ℕ → ℕ) → Type 0
 AreExactTo c f = (x : Instr) → IsEnd (reduced_edges c.recording) x → x.count ≤ f x.core → IsClock (Among (reduced_edges c.recording)) x (entry_in c x)
 
-next_or_before : (m n : ℕ) → m ≤ n + 1 → (m ≡ n + 1) ⊎ (m ≤ n)
-next_or_before m n le = grind arith
-
 exact_next : (c : Certificate) (f : ℕ → ℕ) (core : ℕ) → IsCertificate c → IsDeterminate Reduced c.recording → are_exact_in c ≡ true →
     Ready (plan_of Reduced c.recording) f core → AreExactTo c f → AreExactTo c (bump f core)
-exact_next c f core v d test ready so_far x end le = by (same_or_not x.core core)
+exact_next c f core v d test ready so_far x end le = by (cases_eq x.core core)
   where
     here : x.core ≡ core → x.count ≡ f core + 1 → IsClock (Among (reduced_edges c.recording)) x (entry_in c x)
     here e n =
@@ -101,7 +97,8 @@ exact_along c f (core ∷ cores) v d test ordered so_far =
     exact_along c (bump f core) cores v d test ordered.1 (exact_next c f core v d test ordered.0 so_far)
 
 -- an edge end is one of its core's instructions
-end_within : (r : Recording) (x : Instr) → Valid r → IsDeterminate Reduced r → IsEnd (reduced_edges r) x → x.count ≤ counts nought (low_order_of Reduced r) x.core
+end_within : (r : Recording) (x : Instr) → Valid r → IsDeterminate Reduced r → IsEnd (reduced_edges r) x →
+    x.count ≤ counts nought (low_order_of Reduced r) x.core
 end_within r x valid d end = by (end_edge (reduced_edges r) x end)
   where
     full : x.core < r.params.cores → x.count ≤ slice_index r.totals x.core → x.count ≤ counts nought (low_order_of Reduced r) x.core

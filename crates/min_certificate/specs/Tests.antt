@@ -1,5 +1,5 @@
 -- A certificate's good and exact entries and its needed edges as tests, over as many places as there are cores.
-use Rattle.std.specs.Prelude.{ℕ, ◌↔◌, IsTrue, Bool}
+use Rattle.std.specs.Prelude.{◌↔◌, IsTrue, Bool}
 use Rattle.rtr_types.specs.declared.instr.Instr.{Instr}
 use Rattle.rtr_types.specs.declared.pairs.Which.TheVariants.{Reduced}
 use Rattle.clock_entries.specs.Tests.{are_exact, are_good, is_needed}

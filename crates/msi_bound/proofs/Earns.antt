@@ -31,6 +31,7 @@ use Rattle.msi_directory.specs.Blocks.{entry_at}
 use Rattle.msi_protocol.specs.Block.{View, HomeStep, request_step, response_step}
 use Rattle.msi_protocol.specs.Controllers.{kind_sent}
 use Rattle.msi_protocol.specs.Phases.{Phase, picture, Out, role, role_in, StageFits}
+use Rattle.msi_protocol.proofs.Quiet.{few_requests}
 use Rattle.msi_state.specs.declared.node.Mail.{Mail}
 use Rattle.msi_state.specs.declared.node.Node.{Node}
 use Rattle.msi_state.specs.States.{State, node_at, no_node}
@@ -145,9 +146,6 @@ asked_base stage c a p same cores free asked is lc within here fits = by_put (is
 pub response_debt : (stage : Stage) (c : ℕ) (a : Reply) (cores : ℕ) → step_debt (response_step stage c a) cores ≡ 0
 response_debt stage c a cores = grind (arith, nat_tests, no_members cores)
 
-phase_ask_once : (p : Phase) → length (picture p).requests ≤ 1
-phase_ask_once p = grind arith
-
 module _ {R K : Type 0} where
   -- what no message changes
   pub sum_delivered : (f : Node R K → ℕ) → ((n : Node R K) (m : FromHome R) (k : K) → f (node_sent n m k) ≡ f n) →
@@ -208,7 +206,7 @@ module _ {R K : Type 0} where
       let two : 2 ≤ length (node_view riding b n).requests =
       subst (λ (q : List (Mail (Request R) K)). 2 ≤ length (asks_of b q)) (sym is) (both_here same (asks_of b rest)) in
       let st = (h.blocks b).stands c (let g = h.cores in omega arith) in
-      let once : length (node_view riding b n).requests ≤ 1 = subst (λ (v : View). length v.requests ≤ 1) st.view_is (phase_ask_once st.phase) in
+      let once : length (node_view riding b n).requests ≤ 1 = subst (λ (v : View). length v.requests ≤ 1) st.view_is (few_requests st.phase) in
       absurd (omega arith)
     where
       some_next : (t : Bool) (a : Ask) (q : List Ask) →

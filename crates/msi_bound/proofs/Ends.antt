@@ -1,10 +1,10 @@
 -- A run ends, and the instructions that retired in it have paid for its steps.
-use Rattle.std.proofs.Common.{◌≡◌, ◌∙◌, ap, refl, sym, ℕ, ◌+◌, ◌*◌, ◌<◌, ◌≤◌, ◌^◌, Bool, true, false, ◌&&◌, List, [], ◌∷◌, length, Option, Some, None, zero}
+use Rattle.std.proofs.Common.{◌≡◌, ◌∙◌, ap, refl, sym, ℕ, ◌+◌, ◌*◌, ◌<◌, ◌≤◌, ◌^◌, Bool, true, false, List, [], ◌∷◌, length, Option, Some, None, zero}
 use Rattle.std.proofs.Common.{suc, arith, inl, inr}
 use Rattle.std.specs.Prelude.{if◌then◌else◌, map}
 use Rattle.std.specs.List.{sum_by, list_all, range_with_len}
 use Rattle.std.proofs.Math.Nat.{mul-add}
-use Rattle.std.proofs.lemmas.Bool.{cases_eq}
+use Rattle.std.proofs.lemmas.Bool.{cases_eq, and_parts}
 use Rattle.std.proofs.lemmas.Nat.{mul-le}
 use Rattle.std.proofs.lemmas.List.FromFn.{length-map-range_with_len, length-range_with_len}
 use Rattle.std.proofs.lemmas.List.Sums.{sum_by-cons}
@@ -80,16 +80,12 @@ module _ {R K : Type 0} where
       ≡ true → sum_by (earned image riding cores) ns ≡ (2 * cores + 4) * sum_by (λ (n : Node R K). n.core.count) ns
   done_earned image riding cores [] is = omega arith
   done_earned image riding cores (n ∷ ns) is =
-      let here = both (is_done (need image n.core)) (list_all (λ (n : Node R K). is_done (need image n.core)) ns) is in
+      let here = and_parts (is_done (need image n.core)) (list_all (λ (n : Node R K). is_done (need image n.core)) ns) is in
       let base = done_base (need image n.core) riding cores n here.0 in
       let first : earned image riding cores n ≡ (2 * cores + 4) * n.core.count = omega arith in
       let rest = done_earned image riding cores ns here.1 in
       rw (sum_by-cons (earned image riding cores) n ns, sum_by-cons (λ (n : Node R K). n.core.count) n ns, first, rest)
       (sym (mul-add (2 * cores + 4) n.core.count (sum_by (λ (n : Node R K). n.core.count) ns)))
-    where
-      both : (a b : Bool) → (a && b) ≡ true → (a ≡ true) × (b ≡ true)
-      both true b e = (refl, e)
-      both false b e = absurd (cc)
 
 -- ---- along a run
 
@@ -131,7 +127,7 @@ steps_paid image params choices (suc t) fits more =
     stepped (Some m) e more paid = let pays = earns none_riding none_carrying s m tt (chosen_enabled s (choices t) m e) h in omega arith
 
 -- no step changes the number of cores, nor what all instructions can pay for
-run_cores : (image : Contents) (params : Params) (choices : ℕ → ℕ) (t : ℕ) → length (run image params choices t).nodes ≡ params.cores
+pub run_cores : (image : Contents) (params : Params) (choices : ℕ → ℕ) (t : ℕ) → length (run image params choices t).nodes ≡ params.cores
 run_cores image params choices zero = length-map-range_with_len (node_start none_riding none_carrying params.limit) 0 params.cores
 run_cores image params choices (suc t) = stepped (chosen (run image params choices t) (choices t)) (run_cores image params choices t)
   where

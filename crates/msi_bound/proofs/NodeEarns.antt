@@ -20,9 +20,10 @@ use Rattle.msi_cache.specs.declared.line.State.{State as LineState}
 use Rattle.msi_cache.specs.declared.line.TheConstants.{LINES}
 use Rattle.msi_cache.specs.declared.messages.FromHome.{FromHome}
 use Rattle.msi_cache.specs.declared.messages.Response.{Response}
-use Rattle.msi_cache.specs.Table.{Row, row, is_transient}
+use Rattle.msi_cache.specs.Table.{row, is_transient}
 use Rattle.msi_cache.specs.Messages.{block_of, signal}
-use Rattle.msi_cache.specs.Lines.{line_for, line_asking, line_after, line_by, is_allowed, empty_line, answer_by}
+use Rattle.msi_cache.specs.Lines.{line_for, line_asking, line_after, is_allowed, empty_line, answer_by}
+use Rattle.msi_cache.proofs.Stays.{after_block}
 use Rattle.msi_directory.specs.declared.entry.Stage.{Stage}
 use Rattle.msi_protocol.specs.Phases.{Stands}
 use Rattle.msi_state.specs.declared.node.Mail.{Mail}
@@ -173,13 +174,6 @@ message_debt_or l m d e = by_test (is_transient l.state) refl
     by_test : (t : Bool) → is_transient l.state ≡ t → (answers (answer_by (row (signal m) l.state) l) + 1 ≤ debt m) ⊎ (is_transient l.state ≡ true)
     by_test true is = inr is
     by_test false is = inl (message_debt l m d e is)
-
-after_block : {R : Type 0} (absorbed : R → R → R) (l : Line R) (m : FromHome R) → (line_after absorbed l m).block ≡ l.block
-after_block absorbed l m = by_row (row (signal m) l.state)
-  where
-    by_row : (o : Option Row) → (line_by absorbed o m l).block ≡ l.block
-    by_row None = refl
-    by_row (Some r) = refl
 
 -- no line waits at a core that needs no access
 pub no_wait : (used : Option (Kind × ℕ)) (s : LineState) (l i : ℕ) → used ≡ None → fits_need used s l i ≡ true → is_transient s ≡ false

@@ -16,9 +16,10 @@ use Rattle.msi_cache.specs.declared.line.State.TheVariants.{I, M, MiA}
 use Rattle.msi_cache.specs.declared.messages.FromHome.{FromHome}
 use Rattle.msi_cache.specs.declared.messages.Response.{Response}
 use Rattle.msi_cache.specs.declared.messages.Request.{Request}
-use Rattle.msi_cache.specs.Table.{Signal, Row, row}
+use Rattle.msi_cache.specs.Table.{Signal, row}
 use Rattle.msi_cache.specs.Messages.{signal, block_of, request_block, response_block}
-use Rattle.msi_cache.specs.Lines.{line_for, empty_line, is_allowed, line_asking, line_after, line_by, asks, answer_by}
+use Rattle.msi_cache.specs.Lines.{line_for, empty_line, is_allowed, line_asking, line_after, asks, answer_by}
+use Rattle.msi_cache.proofs.Stays.{after_block}
 use Rattle.msi_directory.specs.declared.entry.Stage.{Stage}
 use Rattle.msi_directory.specs.Blocks.{entry_at}
 use Rattle.msi_protocol.specs.Block.{View}
@@ -125,13 +126,6 @@ ack_last p g ms is e = grind arith
 fewer_acks : (s : LineState) (t : Bool) (g : Signal) (ms : List Signal) → t ≡ false → line_current s ms ≡ true → line_current s (cons_if t g ms) ≡ true
 fewer_acks s true g ms e f = absurd (cc)
 fewer_acks s false g ms e f = f
-
-after_block : {R : Type 0} (absorbed : R → R → R) (l : Line R) (m : FromHome R) → (line_after absorbed l m).block ≡ l.block
-after_block absorbed l m = by_row (row (signal m) l.state)
-  where
-    by_row : (o : Option Row) → (line_by absorbed o m l).block ≡ l.block
-    by_row None = refl
-    by_row (Some r) = refl
 
 module _ {R K : Type 0} where
   head_shown : (b : ℕ) (n : Node R K) (mail : Mail (FromHome R) K) (rest : List (Mail (FromHome R) K)) → n.messages.items ≡ mail ∷ rest →

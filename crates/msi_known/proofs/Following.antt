@@ -2,7 +2,7 @@
 use Rattle.std.proofs.Common.{◌≡◌, ◌≢◌, ◌∙◌, ap, refl, sym, subst, ℕ, ◌<◌, ◌≤◌, ◌==◌, ◌⊎◌, inl, inr, Bool, true, false, nat_lt, ◌&&◌, IsTrue, Option, Some}
 use Rattle.std.proofs.Common.{None, List, [], ◌∷◌, ◌++◌, drop, length, arith}
 use Rattle.std.specs.Prelude.{if◌then◌else◌, map, slice_set}
-use Rattle.std.proofs.lemmas.Bool.{cases_eq}
+use Rattle.std.proofs.lemmas.Bool.{cases_eq, and_parts, ltb-true}
 use Rattle.std.proofs.lemmas.Bool.Decides.{nat_tests}
 use Rattle.std.proofs.lemmas.List.{length-map, map-append, set_past}
 use Rattle.access_times.specs.Riding.{Riding, Carrying}
@@ -33,20 +33,10 @@ use Rattle.msi_state.specs.Steps.{node_sent, nodes_sent, request_moved, request_
 use Rattle.msi_plain.proofs.Plains.{plain_node_at}
 use Rattle.msi_plain.proofs.Forgetting as forgetting
 use Rattle.msi_sound.proofs.Views.{node_at-sent, node_at-set, node_at-told}
+use Rattle.msi_sound.proofs.Blocks.{le_or_lt}
 use Rattle.msi_known.specs.Events.{actor_of, carries_at, carries_of, core_at, count_at, happening_of, own_carry, taken_from, under_way}
 use Rattle.msi_known.proofs.Growing.{Goes, goes_sent}
 use Rattle.msi_known.proofs.Acting.{NodeActs, received_acts, worked_acts}
-
-pub both : (a b : Bool) → (a && b) ≡ true → (a ≡ true) × (b ≡ true)
-both true true e = (refl, refl)
-both true false e = grind arith
-both false b e = grind arith
-
-pub there_lt : (c n : ℕ) → nat_lt c n ≡ true → c < n
-there_lt c n e = grind (arith, nat_tests)
-
-pub le_or_lt : (m n : ℕ) → (m ≤ n) ⊎ (n < m)
-le_or_lt m n = grind arith
 
 goes_left : {K : Type 0} (b : Bool) (before : List K) (k : K) → Goes b before k (if b then drop 1 before else before)
 goes_left true before k = refl
@@ -168,7 +158,7 @@ module _ {R K : Type 0} where
       n = node_at carrying s.nodes c
 
       enabled_parts : (nat_lt c (length s.nodes) ≡ true) × (enabled_at s.image riding s.home n (MessageMove c) ≡ true)
-      enabled_parts = both (nat_lt c (length s.nodes)) (enabled_at s.image riding s.home n (MessageMove c)) e
+      enabled_parts = and_parts (nat_lt c (length s.nodes)) (enabled_at s.image riding s.home n (MessageMove c)) e
 
       elsewhere : (link : Channel) → core_at link ≢ c → is_channel (Some (Messages c)) link ≡ false
       elsewhere (Requests d) apart = refl
@@ -181,7 +171,7 @@ module _ {R K : Type 0} where
       by_items [] is = absurd (let f = enabled_parts.1 in grind arith)
       by_items (mail ∷ rest) is =
           node_moved carrying s c (Some (Messages c)) (instr_of (event_receiving_in (mail ∷ rest) s.image riding carrying n))
-          (node_receiving_mail s.image riding carrying rider n mail rest) (there_lt c (length s.nodes) enabled_parts.0) refl elsewhere
+          (node_receiving_mail s.image riding carrying rider n mail rest) (ltb-true c (length s.nodes) enabled_parts.0) refl elsewhere
           (received_acts s.image riding carrying c rider n mail rest is)
 
   -- the home's answer leaves each node as it was, or with one message more
@@ -288,7 +278,7 @@ module _ {R K : Type 0} where
       n = node_at carrying s.nodes c
 
       enabled_parts : (nat_lt c (length s.nodes) ≡ true) × (enabled_at s.image riding s.home n (RequestMove c) ≡ true)
-      enabled_parts = both (nat_lt c (length s.nodes)) (enabled_at s.image riding s.home n (RequestMove c)) e
+      enabled_parts = and_parts (nat_lt c (length s.nodes)) (enabled_at s.image riding s.home n (RequestMove c)) e
 
       elsewhere : (link : Channel) → core_at link ≢ c → is_channel (Some (Requests c)) link ≡ false
       elsewhere (Requests d) apart = grind (arith, nat_tests)
@@ -315,7 +305,7 @@ module _ {R K : Type 0} where
       by_items (mail ∷ rest) is free =
           home_moved carrying s c (Some (Requests c)) (node_requested n rest)
           (answer_to_request riding.absorbed (entry_at riding.fresh s.home (request_block mail.item)) c mail.item) (request_block mail.item)
-          (request_moved_in (mail ∷ rest) riding carrying s c).home (carrying.joined s.carry mail.carry) (there_lt c (length s.nodes) enabled_parts.0)
+          (request_moved_in (mail ∷ rest) riding carrying s c).home (carrying.joined s.carry mail.carry) (ltb-true c (length s.nodes) enabled_parts.0)
           (ap (λ (q : List (Mail (Request R) K)). joined_oldest carrying (map (λ (x : Mail (Request R) K). x.carry) q) s.carry) (sym is)) refl
           (left mail rest is) elsewhere (λ d. refl)
 
@@ -327,7 +317,7 @@ module _ {R K : Type 0} where
       n = node_at carrying s.nodes c
 
       enabled_parts : (nat_lt c (length s.nodes) ≡ true) × (enabled_at s.image riding s.home n (ResponseMove c) ≡ true)
-      enabled_parts = both (nat_lt c (length s.nodes)) (enabled_at s.image riding s.home n (ResponseMove c)) e
+      enabled_parts = and_parts (nat_lt c (length s.nodes)) (enabled_at s.image riding s.home n (ResponseMove c)) e
 
       elsewhere : (link : Channel) → core_at link ≢ c → is_channel (Some (Responses c)) link ≡ false
       elsewhere (Requests d) apart = refl
@@ -351,7 +341,7 @@ module _ {R K : Type 0} where
       by_items (mail ∷ rest) is =
           home_moved carrying s c (Some (Responses c)) (node_responded n rest)
           (answer_to_response riding.absorbed (entry_at riding.fresh s.home (response_block mail.item)) c mail.item) (response_block mail.item)
-          (response_moved_in (mail ∷ rest) riding carrying s c).home (carrying.joined s.carry mail.carry) (there_lt c (length s.nodes) enabled_parts.0)
+          (response_moved_in (mail ∷ rest) riding carrying s c).home (carrying.joined s.carry mail.carry) (ltb-true c (length s.nodes) enabled_parts.0)
           (ap (λ (q : List (Mail (Response R) K)). joined_oldest carrying (map (λ (x : Mail (Response R) K). x.carry) q) s.carry) (sym is)) refl
           (left mail rest is) elsewhere (λ d. refl)
 
@@ -359,7 +349,7 @@ module _ {R K : Type 0} where
       StateActs carrying (taken_from m) (instr_of (event riding carrying s m)) (actor_of m) s (step riding carrying rider s m)
   state_acts riding carrying s (CoreMove c) rider e =
       core_acts riding carrying s c rider
-      (there_lt c (length s.nodes) (both (nat_lt c (length s.nodes)) (enabled_at s.image riding s.home (node_at carrying s.nodes c) (CoreMove c)) e).0)
+      (ltb-true c (length s.nodes) (and_parts (nat_lt c (length s.nodes)) (enabled_at s.image riding s.home (node_at carrying s.nodes c) (CoreMove c)) e).0)
   state_acts riding carrying s (RequestMove c) rider e = request_acts riding carrying s c e
   state_acts riding carrying s (ResponseMove c) rider e = response_acts riding carrying s c e
   state_acts riding carrying s (MessageMove c) rider e = message_acts riding carrying s c rider e

@@ -2,9 +2,10 @@
 use Rattle.std.proofs.Common.{◌≡◌, ◌≢◌, ◌∙◌, ap, refl, sym, subst, ℕ, suc, ◌+◌, ◌<◌, ◌==◌, ◌⊎◌, inl, inr, Bool, true, false, nat_lt, IsTrue, Option, Some, None}
 use Rattle.std.proofs.Common.{List, [], ◌∷◌, length, arith}
 use Rattle.std.specs.Prelude.{if◌then◌else◌, map, slice_set}
-use Rattle.std.proofs.lemmas.Bool.{cases_eq}
+use Rattle.std.proofs.lemmas.Bool.{cases_eq, and_parts, ltb-true}
 use Rattle.std.proofs.lemmas.Bool.Decides.{nat_tests}
 use Rattle.std.proofs.lemmas.List.{length-set}
+use Rattle.std.proofs.lemmas.Option.{same_Some}
 use Rattle.access_times.specs.Riding.{Riding, Carrying}
 use Rattle.rtr_types.specs.declared.instr.Instr.{Instr}
 use Rattle.rv_core.specs.declared.core_state.Core.{Core}
@@ -18,7 +19,7 @@ use Rattle.msi_directory.specs.declared.entry.Entry.{Entry}
 use Rattle.msi_directory.specs.declared.entry.HomeAnswer.{HomeAnswer}
 use Rattle.know_history.specs.Happenings.{Actor, AtCore, Happening, Messages}
 use Rattle.know_history.specs.Knowing.{IsOrderly, carry_left, carry_retired, carry_taken, is_of, joined_oldest, retired_in}
-use Rattle.know_history.proofs.Leading.{none_some, some_same}
+use Rattle.know_history.proofs.Leading.{none_some}
 use Rattle.msi_state.specs.declared.node.Mail.{Mail}
 use Rattle.msi_state.specs.declared.node.Node.{Node}
 use Rattle.msi_state.specs.declared.moves.Move.{Move}
@@ -35,7 +36,7 @@ use Rattle.msi_sound.proofs.Views.{node_at-set}
 use Rattle.msi_known.specs.Events.{actor_of, carries_of, happening_of, own_carry, taken_from}
 use Rattle.msi_known.specs.Known.{CountsRetired}
 use Rattle.msi_known.proofs.Acting.{NodeCounts, received_counts, worked_counts}
-use Rattle.msi_known.proofs.Following.{IsTold, both, delivered_tells, there_lt}
+use Rattle.msi_known.proofs.Following.{IsTold, delivered_tells}
 
 -- a state before and after a move at core c
 pub record StateCounts {R K : Type 0} (carrying : Carrying K) (o : Option Instr) (c : ℕ) (s t : State R K) : Type 0 where
@@ -86,8 +87,8 @@ module _ {R K : Type 0} where
 
   pub at_core : (riding : Riding R) (carrying : Carrying K) (s : State R K) (m : Move) → IsTrue (enabled riding carrying s m) → core_of m < length s.nodes
   at_core riding carrying s m e =
-      there_lt (core_of m) (length s.nodes)
-      (both (nat_lt (core_of m) (length s.nodes)) (enabled_at s.image riding s.home (node_at carrying s.nodes (core_of m)) m) e).0
+      ltb-true (core_of m) (length s.nodes)
+      (and_parts (nat_lt (core_of m) (length s.nodes)) (enabled_at s.image riding s.home (node_at carrying s.nodes (core_of m)) m) e).0
 
   unmoved : (carrying : Carrying K) (s : State R K) (c : ℕ) → StateCounts carrying None c s s
   unmoved carrying s c = record { long = refl; here = record { number = refl; count = inl (refl, refl) }; there = λ d apart. refl }
@@ -134,7 +135,7 @@ module _ {R K : Type 0} where
     where
       by : ((o ≡ None) × (m.core.count ≡ n.core.count)) ⊎ ((o ≡ Some (next_instr n.core)) × (m.core.count ≡ n.core.count + 1)) → next_instr n.core ≡ x
       by (inl f) = none_some o x f.0 is
-      by (inr f) = some_same (next_instr n.core) x (sym f.0 ∙ is)
+      by (inr f) = same_Some (next_instr n.core) x (sym f.0 ∙ is)
 
   own_event : (riding : Riding R) (carrying : Carrying K) (s : State R K) (m : Move) (x : Instr) → instr_of (event riding carrying s m) ≡ Some x →
       actor_of m ≡ AtCore (core_of m)

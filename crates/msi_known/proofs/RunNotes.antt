@@ -1,5 +1,5 @@
 -- The history of a run goes on as the run does.
-use Rattle.std.proofs.Common.{◌≡◌, ◌∙◌, ap, refl, sym, subst, ℕ, zero, suc, ◌+◌, ◌<◌, ◌≤◌, Option, Some, None, length, arith}
+use Rattle.std.proofs.Common.{◌≡◌, ◌∙◌, ap, refl, sym, ℕ, suc, ◌+◌, ◌≤◌, Option, Some, None, arith}
 use Rattle.std.specs.Prelude.{IsTrue}
 use Rattle.access_times.specs.Riding.{none_riding}
 use Rattle.image_mem.specs.Contents.{Contents}
@@ -9,7 +9,7 @@ use Rattle.rtr_types.specs.declared.params.Params.{Params}
 use Rattle.know_history.specs.declared.known.Known.{Known}
 use Rattle.know_history.specs.Happenings.{Happening}
 use Rattle.know_history.specs.Knowledge.{known_carrying}
-use Rattle.know_history.specs.Notes.{IsNoted, Notes, no_notes}
+use Rattle.know_history.specs.Notes.{IsNoted, no_notes}
 use Rattle.know_history.specs.Rows.{with_note}
 use Rattle.know_history.proofs.Noting.{is_noted}
 use Rattle.msi_state.specs.Nodes.{Accesses, Event, Nothing, Retires, carry_after, instr_of}

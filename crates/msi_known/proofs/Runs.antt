@@ -33,10 +33,11 @@ use Rattle.msi_plain.proofs.Forgetting as forgetting
 use Rattle.msi_plain.proofs.SameMoves.{plain_moves as same_moves}
 use Rattle.msi_plain.proofs.Shows.{plain_start}
 use Rattle.msi_sound.proofs.Begins.{chosen_at}
+use Rattle.msi_sound.proofs.Blocks.{le_or_lt}
 use Rattle.msi_known.specs.Events.{actor_of, carries_at, carries_of, core_at, happening_at, happening_by, nothing_happens, own_carry, under_way}
 use Rattle.msi_known.specs.Known.{CountsRetired, KnownRunLaw, KnownStartLaw, KnownStepLaw, RunEarlierLaw, RunLinksLaw, RunOrderlyLaw, RunRetiresLaw, known_run}
 use Rattle.msi_known.specs.Known.{known_stepped}
-use Rattle.msi_known.proofs.Following.{carries_follow, counted, le_or_lt}
+use Rattle.msi_known.proofs.Following.{carries_follow, counted}
 use Rattle.msi_known.proofs.Retiring.{carry_told, counts_step, orderly_step}
 
 module _ {R : Type 0} where

@@ -2,6 +2,7 @@
 use Rattle.std.proofs.Common.{◌≡◌, ◌∙◌, ap, refl, sym, subst, ℕ, ◌<◌, ◌≤◌, ◌==◌, Bool, true, false, nat_lt, length, arith}
 use Rattle.std.specs.Prelude.{◌&&◌, if◌then◌else◌}
 use Rattle.std.proofs.lemmas.Bool.Decides.{nat_tests}
+use Rattle.std.proofs.lemmas.Bool.{and_from, lt-ltb}
 use Rattle.access_times.specs.Riding.{Riding, Carrying}
 use Rattle.rtr_types.specs.declared.TheConstants.{CORES_MAX}
 use Rattle.msi_cache.specs.declared.line.Line.{Line}
@@ -54,12 +55,6 @@ module _ {R K : Type 0} where
       at_hand riding carrying s b ≡ true
   ends_at_hand riding carrying s h done b = by_stage (entry_at riding.fresh s.home b).stage refl
     where
-      both : (x y : Bool) → x ≡ true → y ≡ true → (x && y) ≡ true
-      both x y e f = grind arith
-
-      below_test : (c n : ℕ) → c < n → nat_lt c n ≡ true
-      below_test c n lt = grind (arith, nat_tests)
-
       owner_role : (o : ℕ) → role (Owned o) o ≡ Owner
       owner_role o = grind (arith, nat_tests)
 
@@ -77,5 +72,5 @@ module _ {R K : Type 0} where
           let line : line_state b (line_for riding.fresh (node_at carrying s.nodes o).cache b) ≡ M =
           (quiet_agrees (block_in riding carrying s b) (h.blocks b) (λ d ld. all_quiet riding carrying s b d (links_left riding carrying s h done))).lines
           o known ∙ ap settled named in
-          both (nat_lt o (length s.nodes)) (can_read (line_for riding.fresh (node_at carrying s.nodes o).cache b) b) (below_test o (length s.nodes) lo)
+          and_from (nat_lt o (length s.nodes)) (can_read (line_for riding.fresh (node_at carrying s.nodes o).cache b) b) (lt-ltb o (length s.nodes) lo)
           (readable_seen b (line_for riding.fresh (node_at carrying s.nodes o).cache b) ∙ ap is_readable line)

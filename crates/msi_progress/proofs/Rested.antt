@@ -5,8 +5,10 @@ use Rattle.std.proofs.Common.{arith, rules, IsTrue}
 use Rattle.std.specs.Prelude.{slice_index_or, is_some}
 use Rattle.std.proofs.lemmas.List.{get_or_default}
 use Rattle.std.proofs.lemmas.Bool.Decides.{nat_tests}
+use Rattle.std.proofs.lemmas.Bool.{lt-ltb, and_from}
 use Rattle.access_times.specs.Riding.{Riding, Carrying}
 use Rattle.rtr_types.specs.declared.TheConstants.{CORES_MAX}
+use Rattle.rtr_types.proofs.Truths.{is_true}
 use Rattle.rv_core.specs.Steps.{need, access_of as need_access}
 use Rattle.link_order.specs.Queue.{is_nil}
 use Rattle.msi_cache.specs.declared.line.TheConstants.{LINES}
@@ -41,27 +43,18 @@ use Rattle.msi_sound.proofs.Blocks.{eqb_same, there}
 use Rattle.msi_sound.proofs.Others.{response_asked}
 use Rattle.msi_sound.proofs.Held.{asks_line, response_within}
 
-lt_true : (a b : ℕ) → a < b → nat_lt a b ≡ true
-lt_true a b lt = grind (arith, nat_tests)
-
-is_true : (b : Bool) → b ≡ true → IsTrue b
-is_true b e = grind arith
-
-and_true : (a b : Bool) → a ≡ true → b ≡ true → IsTrue (a && b)
-and_true a b e f = grind arith
-
 -- each core that a stage names singly has a role
 names_named : (stage : Stage) (n : ℕ) → StageFits stage → ((d : ℕ) → d < CORES_MAX → role stage d ≢ Out → d < n) → names_below stage n ≡ true
 names_named Unshared n fits here = refl
 names_named (Shared by) n fits here = refl
-names_named (Owned o) n fits here = lt_true o n (here o fits (λ (e : role (Owned o) o ≡ Out). absurd (grind (arith, nat_tests))))
+names_named (Owned o) n fits here = lt-ltb o n (here o fits (λ (e : role (Owned o) o ≡ Out). absurd (grind (arith, nat_tests))))
 names_named (Acks awaited r) n fits here =
-    lt_true r n (here r fits.1 (λ (e : role (Acks awaited r) r ≡ Out). absurd (let f = fits.0 in grind (arith, nat_tests))))
+    lt-ltb r n (here r fits.1 (λ (e : role (Acks awaited r) r ≡ Out). absurd (let f = fits.0 in grind (arith, nat_tests))))
 names_named (Data giver r share) n fits here =
     let first : nat_lt giver n ≡ true =
-    lt_true giver n (here giver fits.2 (λ (e : role (Data giver r share) giver ≡ Out). absurd (grind (arith, nat_tests)))) in
+    lt-ltb giver n (here giver fits.2 (λ (e : role (Data giver r share) giver ≡ Out). absurd (grind (arith, nat_tests)))) in
     let second : nat_lt r n ≡ true =
-    lt_true r n (here r fits.1 (λ (e : role (Data giver r share) r ≡ Out). absurd (let f = fits.0 in grind (arith, nat_tests)))) in
+    lt-ltb r n (here r fits.1 (λ (e : role (Data giver r share) r ≡ Out). absurd (let f = fits.0 in grind (arith, nat_tests)))) in
     rw (first, second)
 
 some_there : {X : Type 0} (q : List X) → not (is_nil q) ≡ true → is_nil q ≡ false
@@ -87,7 +80,7 @@ module _ {R K : Type 0} where
       let b : ℕ = request_block mail.item in
       let at = asks_line riding (entry_at riding.fresh s.home b).stage c (node_at carrying s.nodes c) mail rest is
       ((h.blocks b).stands c (core_below riding carrying s c h lc)) in
-      lt_true b (length s.home) (rw (← at.0) (((h.nodes c lc).lines (b % LINES)).within at.1))
+      lt-ltb b (length s.home) (rw (← at.0) (((h.nodes c lc).lines (b % LINES)).within at.1))
 
   pub heads_fit : (riding : Riding R) (carrying : Carrying K) (s : State R K) → Sound riding carrying s → HeadsFit s
   heads_fit riding carrying s h c d lc =
@@ -115,18 +108,18 @@ module _ {R K : Type 0} where
       let b : ℕ = request_block mail.item in
       let asked : (node_view riding b (node_at carrying s.nodes c)).requests ≡ ask_of mail.item ∷ asks_of b rest =
       ap (asks_of b) is ∙ ap (λ (t : Bool). cons_if t (ask_of mail.item) (asks_of b rest)) (eqb_same b) in
-      and_true (nat_lt b (length s.home)) (has_request_row (entry_at riding.fresh s.home b).stage c mail.item)
+      is_true _ (and_from (nat_lt b (length s.home)) (has_request_row (entry_at riding.fresh s.home b).stage c mail.item)
       (request_within riding carrying s c mail rest h lc is)
-      ((rows_of riding carrying s b h).request c (core_below riding carrying s c h lc) free (ask_of mail.item) (asks_of b rest) asked)
+      ((rows_of riding carrying s b h).request c (core_below riding carrying s c h lc) free (ask_of mail.item) (asks_of b rest) asked))
 
   response_rows : (riding : Riding R) (carrying : Carrying K) (s : State R K) (c : ℕ) → Sound riding carrying s → c < length s.nodes →
       (q : List (Mail (Response R) K)) → (node_at carrying s.nodes c).responses.items ≡ q → is_nil q ≡ false → IsTrue (can_respond_in q riding s c)
   response_rows riding carrying s c h lc [] is some = absurd (cc)
   response_rows riding carrying s c h lc (mail ∷ rest) is some =
       let b : ℕ = response_block mail.item in
-      and_true (nat_lt b (length s.home)) (has_response_row (entry_at riding.fresh s.home b).stage c mail.item)
-      (lt_true b (length s.home) (response_within riding carrying s c mail rest h.cores lc is (h.blocks b)))
-      (response_asked riding carrying s c mail rest h.cores lc is (h.blocks b))
+      is_true _ (and_from (nat_lt b (length s.home)) (has_response_row (entry_at riding.fresh s.home b).stage c mail.item)
+      (lt-ltb b (length s.home) (response_within riding carrying s c mail rest h.cores lc is (h.blocks b)))
+      (response_asked riding carrying s c mail rest h.cores lc is (h.blocks b)))
 
   message_rows : (riding : Riding R) (carrying : Carrying K) (s : State R K) (c : ℕ) → Sound riding carrying s → c < length s.nodes →
       (q : List (Mail (FromHome R) K)) → (node_at carrying s.nodes c).messages.items ≡ q → is_nil q ≡ false →
@@ -142,9 +135,9 @@ module _ {R K : Type 0} where
       let at : l.block ≡ b = row_place (signal mail.item) b l seen in
       let row_it : is_some (row (signal mail.item) l.state) ≡ true = row_there (signal mail.item) b l seen in
       let same : (l.block == b) ≡ true = rw at (eqb_same b) in
-      and_true (has_row l mail.item)
+      is_true _ (and_from (has_row l mail.item)
       (not (is_data mail.item) || may_access (need_access (need s.image n.core)) riding (node_taking riding carrying n mail rest)) (rw (same, row_it))
-      (by_data (is_data mail.item) refl at row_it)
+      (by_data (is_data mail.item) refl at row_it))
     where
       by_data : (t : Bool) → is_data mail.item ≡ t → (line_for riding.fresh (node_at carrying s.nodes c).cache (block_of mail.item)).block
           ≡ block_of mail.item → is_some (row (signal mail.item) (line_for riding.fresh (node_at carrying s.nodes c).cache (block_of mail.item)).state)

@@ -19,6 +19,7 @@ use Rattle.msi_directory.specs.Blocks.{entry_at}
 use Rattle.msi_protocol.specs.Block.{View}
 use Rattle.msi_protocol.specs.Phases.{Stands, StageFits, Phase, picture, role, role_in, Role, Out, AckWaiter, GiveWaiter}
 use Rattle.msi_protocol.specs.NextPhases.{owes}
+use Rattle.msi_protocol.proofs.Quiet.{few_responses}
 use Rattle.msi_state.specs.declared.node.Mail.{Mail}
 use Rattle.msi_state.specs.declared.node.Node.{Node}
 use Rattle.msi_state.specs.States.{State, node_at}
@@ -63,9 +64,6 @@ phase_own_once p = grind arith
 
 pub phase_other_once : (p : Phase) → other_count (picture p).messages ≤ 1
 phase_other_once p = grind arith
-
-pub phase_reply_once : (p : Phase) → length (picture p).responses ≤ 1
-phase_reply_once p = grind arith
 
 pub phase_own : (p : Phase) → 1 ≤ own_count (picture p).messages → is_transient (picture p).line ≡ true
 phase_own p e = grind arith
@@ -280,7 +278,7 @@ module _ {R K : Type 0} where
       record {
         once_own = λ b. let z = owns_answers b n.responses.items in omega arith;
         once_other = λ b. let st = stands_at riding carrying s d b ld h in
-            rw (others_answers b n.responses.items) (subst (λ (v : View). length v.responses ≤ 1) st.view_is (phase_reply_once st.phase));
+            rw (others_answers b n.responses.items) (subst (λ (v : View). length v.responses ≤ 1) st.view_is (few_responses st.phase));
         own = λ b e. absurd (let z = owns_answers b n.responses.items in omega arith);
         other = λ b e. (owed_to riding carrying s d b h (answer_owes riding carrying s d b ld h e)).0;
         not_own = λ b e. (owed_to riding carrying s d b h (answer_owes riding carrying s d b ld h e)).1;

@@ -1,13 +1,13 @@
 -- Each move keeps each core where the home takes it to be.
 use Rattle.std.proofs.Common.{◌≡◌, ◌≢◌, ◌∙◌, ap, refl, sym, subst, ℕ, ◌<◌, ◌==◌, Bool, true, false, nat_lt, inl, inr, List, [], ◌∷◌, arith, IsTrue}
 use Rattle.std.specs.Prelude.{if◌then◌else◌, is_some}
-use Rattle.std.proofs.lemmas.Bool.{cases_eq}
+use Rattle.std.proofs.lemmas.Bool.{cases_eq, ltb-true}
 use Rattle.std.proofs.lemmas.Bool.Decides.{nat_tests}
 use Rattle.rtr_types.specs.declared.TheConstants.{CORES_MAX}
 use Rattle.rtr_types.specs.declared.core_set.CoreSet.{CoreSet}
 use Rattle.rtr_types.specs.CoreSets.{has, without_core, is_none}
 use Rattle.rtr_types.proofs.Members.{has-with_same, has-with_other, has-without_same, has-without_other, has-none, has-some, has-no_cores, with_nonempty}
-use Rattle.rtr_types.proofs.Members.{with_below, without_below, no_cores_below}
+use Rattle.rtr_types.proofs.Members.{with_below, without_below}
 use Rattle.msi_cache.specs.declared.line.State.{State}
 use Rattle.msi_cache.specs.declared.line.State.TheVariants.{M}
 use Rattle.msi_cache.specs.Table.{Signal, Ask, Reply, row, is_readable, is_writable}
@@ -230,9 +230,6 @@ keeps_message b c (m ∷ rest) is h =
           (h.stands d ld);
     }
 
-below : (c : ℕ) → nat_lt c CORES_MAX ≡ true → c < CORES_MAX
-below c e = grind (arith, nat_tests)
-
 if_keeps : (here : Bool) (a b : Block) → (here ≡ true → BlockHolds a) → BlockHolds b → BlockHolds (if here then a else b)
 if_keeps true a b f g = f refl
 if_keeps false a b f g = g
@@ -253,7 +250,7 @@ keeps_moved (Wishes c w) b lc h = keeps_wish b c w h
 
 pub keeps_move : (m : BlockMove) (b : Block) → BlockHolds b → BlockHolds (block_move m b)
 keeps_move m b h = if_keeps (nat_lt (core_of m) CORES_MAX) (moved m b) b (λ (e : nat_lt (core_of m) CORES_MAX ≡ true).
-    keeps_moved m b (below (core_of m) e) h) h
+    keeps_moved m b (ltb-true (core_of m) CORES_MAX e) h) h
 
 pub keeps_run : (ms : List BlockMove) (b : Block) → BlockHolds b → BlockHolds (block_run ms b)
 keeps_run [] b h = h

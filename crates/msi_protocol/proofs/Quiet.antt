@@ -1,7 +1,8 @@
 -- What else follows where each core is where the home takes it to be.
 use Rattle.std.proofs.Common.{◌≡◌, ◌≢◌, ◌∙◌, ap, refl, sym, subst, ℕ, ◌<◌, ◌≤◌, ◌==◌, Bool, true, false, nat_lt, List, [], ◌∷◌, length, arith}
-use Rattle.std.specs.Prelude.{◌&&◌, if◌then◌else◌}
+use Rattle.std.specs.Prelude.{if◌then◌else◌}
 use Rattle.std.proofs.lemmas.Bool.Decides.{nat_tests}
+use Rattle.std.proofs.lemmas.Bool.{ltb-true, and_parts}
 use Rattle.rtr_types.specs.declared.TheConstants.{CORES_MAX}
 use Rattle.msi_cache.specs.declared.line.State.TheVariants.{I}
 use Rattle.msi_cache.specs.Table.{Signal, Ask, Reply, is_transient}
@@ -30,10 +31,10 @@ none_forgotten_in_runs ms = none_forgotten (block_run ms block_start) (holds_in_
 
 -- ---- few under way
 
-few_requests : (p : Phase) → length (picture p).requests ≤ 1
+pub few_requests : (p : Phase) → length (picture p).requests ≤ 1
 few_requests p = grind arith
 
-few_responses : (p : Phase) → length (picture p).responses ≤ 1
+pub few_responses : (p : Phase) → length (picture p).responses ≤ 1
 few_responses p = grind arith
 
 few_messages : (p : Phase) → length (picture p).messages ≤ 2
@@ -132,32 +133,23 @@ out_moved (TakesResponse c) b d h lc ld other is = out_response b (b.views c).re
 out_moved (TakesMessage c) b d h lc ld other is = out_message b (b.views c).messages c d other ∙ is
 out_moved (Wishes c w) b d h lc ld other is = out_wish b w c d other ∙ is
 
-below_max : (c : ℕ) → nat_lt c CORES_MAX ≡ true → c < CORES_MAX
-below_max c e = grind (arith, nat_tests)
-
 out_move : (m : BlockMove) (b : Block) (d : ℕ) → BlockHolds b → d < CORES_MAX → d ≢ core_of m → b.views d ≡ view I [] [] [] → (block_move m b).views d
     ≡ view I [] [] []
 out_move m b d h ld other is = by_core (nat_lt (core_of m) CORES_MAX) refl
   where
     by_core : (here : Bool) → nat_lt (core_of m) CORES_MAX ≡ here → (if here then moved m b else b).views d ≡ view I [] [] []
-    by_core true e = out_moved m b d h (below_max (core_of m) e) ld other is
+    by_core true e = out_moved m b d h (ltb-true (core_of m) CORES_MAX e) ld other is
     by_core false e = is
 
 apart : (cores c d : ℕ) → nat_lt c cores ≡ true → cores ≤ d → d ≢ c
 apart cores c d e above = grind (arith, nat_tests)
 
-first_below : (x y : Bool) → (x && y) ≡ true → x ≡ true
-first_below x y e = grind arith
-
-rest_below : (x y : Bool) → (x && y) ≡ true → y ≡ true
-rest_below x y e = grind arith
-
 only_below_run : (cores : ℕ) (ms : List BlockMove) (b : Block) → BlockHolds b → moves_below cores ms ≡ true → OnlyBelow cores b →
     OnlyBelow cores (block_run ms b)
 only_below_run cores [] b h below only = only
 only_below_run cores (m ∷ ms) b h below only =
-    let mine : nat_lt (core_of m) cores ≡ true = first_below (nat_lt (core_of m) cores) (moves_below cores ms) below in
-    only_below_run cores ms (block_move m b) (keeps_move m b h) (rest_below (nat_lt (core_of m) cores) (moves_below cores ms) below)
+    let mine : nat_lt (core_of m) cores ≡ true = (and_parts (nat_lt (core_of m) cores) (moves_below cores ms) below).0 in
+    only_below_run cores ms (block_move m b) (keeps_move m b h) (and_parts (nat_lt (core_of m) cores) (moves_below cores ms) below).1
     (λ d above ld. out_move m b d h ld (apart cores (core_of m) d mine above) (only d above ld))
 
 pub only_below_in_runs : (cores : ℕ) (ms : List BlockMove) → moves_below cores ms ≡ true → OnlyBelow cores (block_run ms block_start)

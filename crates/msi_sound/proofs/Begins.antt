@@ -1,8 +1,8 @@
 -- The start keeps what each state of a run keeps, and so each state of a run does.
-use Rattle.std.proofs.Common.{◌≡◌, ◌∙◌, ap, refl, sym, subst, ℕ, ◌*◌, ◌<◌, ◌≤◌, ◌==◌, ◌%◌, ◌^◌, Bool, true, false, List, [], ◌∷◌, length, get_or, replicate}
+use Rattle.std.proofs.Common.{◌≡◌, ◌∙◌, ap, refl, sym, subst, ℕ, ◌*◌, ◌<◌, ◌≤◌, ◌==◌, ◌%◌, ◌^◌, Bool, true, false, List, [], ◌∷◌, length, get_or}
 use Rattle.std.proofs.Common.{Option, Some, None, zero, suc, arith, inl, inr, ◌⊎◌, zero-add}
 use Rattle.std.specs.Prelude.{if◌then◌else◌}
-use Rattle.std.proofs.lemmas.List.{get_or_past, get_or-replicate, length-replicate}
+use Rattle.std.proofs.lemmas.List.{get_or_past, length-replicate}
 use Rattle.std.proofs.lemmas.List.Elements.{filter_passes}
 use Rattle.std.proofs.lemmas.List.FromFn.{length-map-range_with_len, get_or-map-range_with_len}
 use Rattle.std.proofs.lemmas.Nat.{mod_below}
@@ -10,6 +10,7 @@ use Rattle.access_times.specs.Riding.{Riding, Carrying, none_riding, none_carryi
 use Rattle.image_mem.specs.Contents.{Contents}
 use Rattle.rtr_types.specs.declared.TheConstants.{CORES_MAX}
 use Rattle.rtr_types.specs.declared.params.Params.{Params}
+use Rattle.rtr_types.proofs.Ranges.{replicate_at}
 use Rattle.rv_core.specs.Steps.{need, access_of as need_access}
 use Rattle.rv_core.proofs.LawLemmas.{start_law}
 use Rattle.msi_cache.specs.declared.line.Line.{Line}
@@ -36,10 +37,6 @@ use Rattle.msi_sound.specs.Walks.{MoveTaken, taking, walked}
 use Rattle.msi_sound.proofs.Lines.{still_fits_need}
 use Rattle.msi_sound.proofs.Blocks.{past_view, block_shows, le_or_lt}
 use Rattle.msi_sound.proofs.Kept.{sound_kept}
-
-replicate_at : {X : Type 0} (n i : ℕ) (a : X) → get_or (replicate n a) i a ≡ a
-replicate_at n i a =
-    elim (le_or_lt n i) [ inl past ↦ get_or_past (replicate n a) i a (rw length-replicate past) | inr within ↦ get_or-replicate n i a a within ]
 
 module _ {R K : Type 0} where
   empty_fits : (image : Contents) (riding : Riding R) (carrying : Carrying K) (blocks limit c i : ℕ) →

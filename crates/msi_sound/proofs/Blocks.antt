@@ -22,7 +22,7 @@ use Rattle.msi_directory.specs.Entries.{entry_after_request, answer_to_request}
 use Rattle.msi_directory.specs.Blocks.{entry_at, no_entry}
 use Rattle.msi_protocol.specs.Block.{HomeStep, View, view, told_if, sent_to, request_step, request_taken, after_request, after_step}
 use Rattle.msi_protocol.specs.Controllers.{MakesStep}
-use Rattle.msi_protocol.specs.Phases.{Phase, picture, role_in, role, Out, StageFits, Stands, BlockHolds}
+use Rattle.msi_protocol.specs.Phases.{Phase, picture, role, Out, StageFits, Stands, BlockHolds}
 use Rattle.msi_protocol.specs.NextPhases.{after_other}
 use Rattle.msi_protocol.proofs.Controllers.{request_makes_step}
 use Rattle.msi_protocol.proofs.Keeps.{request_stands_own, request_stands_other, other_view, fits_request}

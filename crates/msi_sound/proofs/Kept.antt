@@ -3,7 +3,7 @@ use Rattle.std.proofs.Common.{◌≡◌, ◌∙◌, refl, sym, subst, ℕ, ◌<�
 use Rattle.std.proofs.Common.{inr, IsTrue}
 use Rattle.std.specs.Prelude.{if◌then◌else◌, slice_set}
 use Rattle.std.proofs.lemmas.List.{length-set}
-use Rattle.std.proofs.lemmas.Bool.{cases_eq}
+use Rattle.std.proofs.lemmas.Bool.{cases_eq, ltb-true, not-true}
 use Rattle.std.proofs.lemmas.Bool.Decides.{nat_tests}
 use Rattle.access_times.specs.Riding.{Riding, Carrying}
 use Rattle.image_mem.specs.Contents.{Contents}
@@ -45,13 +45,6 @@ both true true e = (refl, refl)
 both true false e = grind arith
 both false b e = grind arith
 
-there_lt : (c n : ℕ) → nat_lt c n ≡ true → c < n
-there_lt c n e = grind (arith, nat_tests)
-
-not_true : (a : Bool) → not a ≡ true → a ≡ false
-not_true true e = absurd (cc)
-not_true false e = refl
-
 module _ {R K : Type 0} where
   -- a fact of each node stays where a node is set of which it holds
   set_keeps : (P : ℕ → Node R K → Type 0) (carrying : Carrying K) (ns : List (Node R K)) (c : ℕ) (m : Node R K) → c < length ns → P c m → (d : ℕ) →
@@ -83,11 +76,11 @@ module _ {R K : Type 0} where
       let n : Node R K = node_at carrying s.nodes c in
       let p = both (nat_lt c (length s.nodes)) (enabled_at s.image riding s.home n (CoreMove c)) e in
       let q = both (not (is_done (need s.image n.core))) (not (waits n.cache)) p.1 in
-      let lc = there_lt c (length s.nodes) p.0 in
+      let lc = ltb-true c (length s.nodes) p.0 in
       moved_sound riding carrying s c (node_working s.image riding carrying rider n) lc
       (working_moved s.image riding carrying rider (length s.home) n (need_access (need s.image n.core))
       (is_done (need s.image n.core)) refl refl h.blocks_there
-      (fits_still s.image riding (length s.home) n (not_true (waits n.cache) q.1) (h.nodes c lc))) h
+      (fits_still s.image riding (length s.home) n (not-true (waits n.cache) q.1) (h.nodes c lc))) h
 
   message_kept : (riding : Riding R) (carrying : Carrying K) (s : State R K) (c : ℕ) (rider : R) → IsTrue (enabled riding carrying s (MessageMove c)) →
       Sound riding carrying s → Sound riding carrying (message_moved riding carrying rider s c)
@@ -97,7 +90,7 @@ module _ {R K : Type 0} where
       n = node_at carrying s.nodes c
 
       lc : c < length s.nodes
-      lc = there_lt c (length s.nodes) (both (nat_lt c (length s.nodes)) (enabled_at s.image riding s.home n (MessageMove c)) e).0
+      lc = ltb-true c (length s.nodes) (both (nat_lt c (length s.nodes)) (enabled_at s.image riding s.home n (MessageMove c)) e).0
 
       by_items : (q : List (Mail (FromHome R) K)) → n.messages.items ≡ q →
           Sound riding carrying (record s { nodes = slice_set s.nodes c (node_receiving_in q s.image riding carrying rider n) })
@@ -173,7 +166,7 @@ module _ {R K : Type 0} where
       n = node_at carrying s.nodes c
 
       lc : c < length s.nodes
-      lc = there_lt c (length s.nodes) (both (nat_lt c (length s.nodes)) (enabled_at s.image riding s.home n (RequestMove c)) e).0
+      lc = ltb-true c (length s.nodes) (both (nat_lt c (length s.nodes)) (enabled_at s.image riding s.home n (RequestMove c)) e).0
 
       by_items : (q : List (Mail (Request R) K)) → n.requests.items ≡ q → head_free q riding s.home ≡ true →
           Sound riding carrying (request_moved_in q riding carrying s c)
@@ -204,7 +197,7 @@ module _ {R K : Type 0} where
       n = node_at carrying s.nodes c
 
       lc : c < length s.nodes
-      lc = there_lt c (length s.nodes) (both (nat_lt c (length s.nodes)) (enabled_at s.image riding s.home n (ResponseMove c)) e).0
+      lc = ltb-true c (length s.nodes) (both (nat_lt c (length s.nodes)) (enabled_at s.image riding s.home n (ResponseMove c)) e).0
 
       by_items : (q : List (Mail (Response R) K)) → n.responses.items ≡ q → Sound riding carrying (response_moved_in q riding carrying s c)
       by_items [] is = h

@@ -10,8 +10,9 @@ use Rattle.rtr_types.specs.declared.instr.Instr.{Instr}
 use Rattle.rtr_types.specs.declared.access.Access.{Access}
 use Rattle.rtr_types.specs.declared.pairs.Which.{Which}
 use Rattle.clock_core.specs.Order.{Within, Among}
-use Rattle.conflict_edge.specs.Conflicts.{ConflictPair, CountsRise, StandsIn}
+use Rattle.conflict_edge.specs.Conflicts.{ConflictPair, StandsIn}
 use Rattle.conflict_edge.specs.Least.{Suffices}
+use Rattle.conflict_edge.proofs.Standing.{one_access}
 use Rattle.rv_core.specs.declared.outcome.LoadNote.{LoadNote}
 use Rattle.rv_core.specs.declared.outcome.Outcome.{Outcome}
 use Rattle.log_codec.specs.declared.recording.Recording.{Recording}
@@ -142,24 +143,9 @@ every_order_law which r whole order valid d ord = record {
 
 -- ---- one access for each instruction
 
-once : (list : List Access) (a b : Access) → CountsRise list → StandsIn list a → StandsIn list b → a.at ≡ b.at → a ≡ b
-once [] a b rise s t e = absurd s
-once (h ∷ list) a b rise (inl s) (inl t) e = sym s ∙ t
-once (h ∷ list) a b rise (inl s) (inr t) e =
-    let at : h.at ≡ b.at = ap (λ (z : Access). z.at) s ∙ e in
-    let lt = rise.1 b t (ap (λ (z : Instr). z.core) at) in
-    let same = ap (λ (z : Instr). z.count) at in
-    absurd (omega arith)
-once (h ∷ list) a b rise (inr s) (inl t) e =
-    let at : h.at ≡ a.at = ap (λ (z : Access). z.at) t ∙ sym e in
-    let lt = rise.1 a s (ap (λ (z : Instr). z.core) at) in
-    let same = ap (λ (z : Instr). z.count) at in
-    absurd (omega arith)
-once (h ∷ list) a b rise (inr s) (inr t) e = once list a b rise.2 s t e
-
 pub one_access_law : OneAccessLaw
 one_access_law which r whole order other a b h s t e =
-    once (accesses_of (plan_of which r) whole) a b (accesses_rise which r whole h.decides.ordered)
+    one_access (accesses_of (plan_of which r) whole) a b (accesses_rise which r whole h.decides.ordered)
     ((every_order_law which r whole order h.valid h.decides h.ordered).accesses a s)
     ((every_order_law which r whole other h.valid h.decides h.others).accesses b t) e
 

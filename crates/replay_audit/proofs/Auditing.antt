@@ -1,5 +1,5 @@
 -- An audit along the low order.
-use Rattle.std.proofs.Common.{inl, inr, ◌≡◌, ◌∙◌, ℕ, ◌+◌, ◌<◌, ◌≤◌, true, List, [], ◌∷◌, ◌++◌, length, refl, sym, ap, subst, arith, append-nil}
+use Rattle.std.proofs.Common.{inl, ◌≡◌, ◌∙◌, ℕ, ◌+◌, ◌<◌, true, List, [], ◌∷◌, ◌++◌, length, refl, sym, ap, subst, arith, append-nil}
 use Rattle.std.specs.Prelude.{slice_index, slice_set, Option, Some, None, IfSome}
 use Rattle.rtr_types.specs.declared.TheConstants.{CORES_MAX}
 use Rattle.rtr_types.specs.declared.cut.Cut.{Cut}
@@ -13,7 +13,7 @@ use Rattle.log_codec.specs.Sources.{log_edges}
 use Rattle.log_codec.specs.Validity.{Valid}
 use Rattle.replay_core.specs.Plans.{Plan, plan_of}
 use Rattle.replay_core.specs.Play.{instr, touched, start, played, accesses_of, core_at}
-use Rattle.replay_core.specs.Orders.{counts, nought, counts_in, Full, is_ready, lowest_ready, low_order}
+use Rattle.replay_core.specs.Orders.{counts, nought, counts_in, Full, is_ready, lowest_ready}
 use Rattle.replay_core.specs.Answers.{UnderWay, Stays, Retires, told, Replays, EndsAt, cut_of}
 use Rattle.replay_core.proofs.Lists.{accesses_on, short_law}
 use Rattle.replay_core.proofs.Fronts.{Going, Chosen, going_start, tally, going_on, front_ordered}

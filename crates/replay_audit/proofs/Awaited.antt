@@ -1,5 +1,6 @@
 -- What is known of the edges into a core, as its instructions go on.
-use Rattle.std.proofs.Common.{inl, inr, ◌≡◌, ◌≢◌, ◌⊎◌, ℕ, zero, suc, ◌+◌, ◌-◌, ◌^◌, ◌<◌, ◌≤◌, List, [], ◌∷◌, ◌++◌, length, get_or, replicate, Option, Some, None}
+use Rattle.std.proofs.Common.{inl, inr, ◌≡◌, ◌≢◌, ◌⊎◌, ℕ, zero, suc, ◌+◌, ◌-◌, ◌^◌, ◌<◌, ◌≤◌, List, [], ◌∷◌, ◌++◌, length, get_or}
+use Rattle.std.proofs.Common.{replicate, Option, Some, None}
 use Rattle.std.proofs.Common.{refl, sym, ap, subst, ◌∙◌, arith, length-set, get_or-set_same, get_or-set_other}
 use Rattle.std.specs.Prelude.{slice_index, slice_set, IfSome}
 use Rattle.std.proofs.lemmas.Bool.{cases_lt}
@@ -9,8 +10,8 @@ use Rattle.rtr_types.specs.declared.TheConstants.{CORES_MAX}
 use Rattle.rtr_types.specs.declared.instr.Instr.{Instr}
 use Rattle.rtr_types.specs.declared.instr.Edge.{Edge}
 use Rattle.rtr_types.specs.declared.pairs.Which.{Which}
+use Rattle.rtr_types.proofs.Ranges.{zero_at}
 use Rattle.clock_core.specs.Counts.{no_counts}
-use Rattle.clock_core.specs.Order.{Among}
 use Rattle.clock_core.proofs.Listed.{among_contains}
 use Rattle.log_codec.specs.declared.recording.Recording.{Recording}
 use Rattle.log_codec.specs.Sources.{log_edges}
@@ -20,16 +21,12 @@ use Rattle.replay_core.specs.Plans.{Plan, plan_of}
 use Rattle.replay_core.specs.Play.{instr}
 use Rattle.replay_audit.specs.declared.coming.Coming.{Coming}
 use Rattle.replay_audit.specs.Clocks.{AreSources, listed}
-use Rattle.replay_audit.specs.Coming.{IsFirstInto, IsNextInto, IsSource, IsSourceIn, IsStillNext, Leads, IsComing, AreComing, edge_of, coming_at, no_coming}
+use Rattle.replay_audit.specs.Coming.{IsFirstInto, IsNextInto, IsSource, IsSourceIn, IsStillNext, Leads, IsComing, AreComing, edge_of}
+use Rattle.replay_audit.specs.Coming.{coming_at, no_coming}
 use Rattle.replay_audit.proofs.Sourcing.{SourcedTo, sourced_some, sourced_none, sourced_own, sourced_all, listed_none}
 
 abbrev no_known : Option (ℕ × ℕ)
 no_known = None
-
-pub none_of : (n i : ℕ) → slice_index (replicate n 0) i ≡ 0
-none_of zero i = refl
-none_of (suc n) zero = refl
-none_of (suc n) (suc i) = none_of n i
 
 -- an array of none has none
 pub none_there : (n i : ℕ) → get_or (replicate n no_known) i None ≡ None
@@ -42,7 +39,7 @@ pub listed_nothing : (n : ℕ) → listed no_counts n ≡ []
 listed_nothing zero = refl
 listed_nothing (suc n) =
     let one : suc n ≡ n + 1 = omega arith in
-    ap (listed no_counts) one ∙ listed_none no_counts n (none_of CORES_MAX n) ∙ listed_nothing n
+    ap (listed no_counts) one ∙ listed_none no_counts n (zero_at CORES_MAX n) ∙ listed_nothing n
 
 module _ (which : Which) (r : Recording) (valid : Valid r) where
   -- each edge's counts lie below every count that isn't in the ranges
@@ -75,7 +72,7 @@ module _ (which : Which) (r : Recording) (valid : Valid r) where
   no_sources k at h from due = record {
     each = λ z m. absurd (let has : Leads (log_edges which r) z.core z.count at.core at.count = among_contains (log_edges which r) z at m in
         let le = h.due z.core z.count at.count (source_core z.core z.count at.core at.count has) has from in omega arith);
-    only = λ c some. absurd (let none = none_of CORES_MAX c in omega arith);
+    only = λ c some. absurd (let none = zero_at CORES_MAX c in omega arith);
   }
 
   -- ---- one core
@@ -90,7 +87,8 @@ module _ (which : Which) (r : Recording) (valid : Valid r) where
   pub known_some : (k : Coming) (of : ℕ) (at : Instr) (e : ℕ × ℕ) → IsComing (log_edges which r) at.core r.params.cores k → of < r.params.cores → of ≢ at.core →
       k.from ≤ at.count → edge_of k of ≡ Some e → at.count ≤ e.1 → IsNextInto (log_edges which r) of at (Some e)
   known_some k of at e h lt ne from is le =
-      let known : IsFirstInto (log_edges which r) of (instr at.core k.from) e = subst (IsNextInto (log_edges which r) of (instr at.core k.from)) is (h.each of lt ne) in
+      let known : IsFirstInto (log_edges which r) of (instr at.core k.from) e =
+      subst (IsNextInto (log_edges which r) of (instr at.core k.from)) is (h.each of lt ne) in
       record { there = known.there; least = le; first = λ a b has up. known.first a b has (omega arith) }
 
   pub known_next : (k : Coming) (of : ℕ) (at : Instr) (o : Option (ℕ × ℕ)) → IsComing (log_edges which r) at.core r.params.cores k → of < r.params.cores →
@@ -311,7 +309,7 @@ look_start edges y s k none from = record {
 }
   where
     nothing : (c : ℕ) → slice_index s c ≡ 0
-    nothing c = ap (λ (l : List ℕ). slice_index l c) none ∙ none_of CORES_MAX c
+    nothing c = ap (λ (l : List ℕ). slice_index l c) none ∙ zero_at CORES_MAX c
 
 pub taken_some : (source : Option ℕ) (a n : ℕ) (s t : List ℕ) → source ≡ Some a → slice_index t n ≡ a → ((i : ℕ) → i ≢ n → slice_index t i ≡ slice_index s i) →
     IsTaken source n s t

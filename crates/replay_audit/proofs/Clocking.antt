@@ -1,18 +1,19 @@
 -- Clocks go on by one instruction.
-use Rattle.std.proofs.Common.{inl, inr, ◌≡◌, ◌≢◌, ◌⊎◌, ℕ, zero, suc, ◌+◌, ◌-◌, ◌<◌, ◌≤◌, true, false, cond, nat_eq, List, [], ◌∷◌, ◌++◌, length, replicate}
+use Rattle.std.proofs.Common.{inl, inr, ◌≡◌, ◌≢◌, ◌⊎◌, ℕ, zero, suc, ◌+◌, ◌-◌, ◌<◌, ◌≤◌, List, [], ◌∷◌, ◌++◌, length, replicate}
 use Rattle.std.proofs.Common.{refl, sym, ap, ◌∙◌, subst, arith, length-set, get_or-set_same, get_or-set_other}
 use Rattle.std.specs.Prelude.{slice_index, slice_index_or}
-use Rattle.std.proofs.lemmas.Bool.Decides.{nat_tests}
 use Rattle.std.proofs.lemmas.List.{length-replicate}
+use Rattle.std.proofs.lemmas.Bool.{cases_lt}
 use native.Mathlib.Decide.{ℕ_discrete}
 use Rattle.rtr_types.specs.declared.TheConstants.{CORES_MAX}
 use Rattle.rtr_types.specs.declared.instr.Instr.{Instr}
 use Rattle.rtr_types.specs.declared.instr.Edge.{Edge}
 use Rattle.rtr_types.specs.declared.pairs.Which.{Which}
+use Rattle.rtr_types.proofs.Ranges.{zero_at}
 use Rattle.clock_core.specs.Counts.{no_counts}
-use Rattle.clock_core.specs.Order.{Relation, Step, Path, IsOrLeads, Among, previous}
+use Rattle.clock_core.specs.Order.{Step, Path, IsOrLeads, Among, previous}
 use Rattle.clock_core.specs.Reach.{IsClock, IsOneOf, merged_over, with_own}
-use Rattle.clock_core.proofs.Reach.{merge_law}
+use Rattle.clock_core.proofs.Reach.{merge_law, own_same, own_other, clock_same}
 use Rattle.log_codec.specs.declared.recording.Recording.{Recording}
 use Rattle.log_codec.specs.Sources.{log_edges}
 use Rattle.log_codec.specs.Validity.{Valid}
@@ -27,12 +28,6 @@ use Rattle.replay_audit.proofs.Sourcing.{listed_are}
 
 -- ---- clocks by their places
 
-own_same : (y : Instr) (p : ℕ → ℕ) (i : ℕ) → i ≡ y.core → with_own y p i ≡ y.count
-own_same y p i e = let t : nat_eq i y.core ≡ true = grind (arith, nat_tests) in ap (λ b. cond b y.count (p i)) t
-
-own_other : (y : Instr) (p : ℕ → ℕ) (i : ℕ) → i ≢ y.core → with_own y p i ≡ p i
-own_other y p i e = let t : nat_eq i y.core ≡ false = grind (arith, nat_tests) in ap (λ b. cond b y.count (p i)) t
-
 -- with the own count, two clocks that agree at the other places are the same
 own_eq : (y : Instr) (p q : ℕ → ℕ) → ((i : ℕ) → i ≢ y.core → p i ≡ q i) → (i : ℕ) → with_own y p i ≡ with_own y q i
 own_eq y p q h i = by (ℕ_discrete i y.core)
@@ -40,9 +35,6 @@ own_eq y p q h i = by (ℕ_discrete i y.core)
     by : Dec (i ≡ y.core) → with_own y p i ≡ with_own y q i
     by (yes e) = own_same y p i e ∙ sym (own_same y q i e)
     by (no ne) = own_other y p i ne ∙ h i ne ∙ sym (own_other y q i ne)
-
-pub clock_same : (E : Relation) (y : Instr) (p q : ℕ → ℕ) → ((i : ℕ) → p i ≡ q i) → IsClock E y p → IsClock E y q
-clock_same E y p q h k x pos = (λ le. (k x pos).0 (let e = h x.core in omega arith), λ u. let le = (k x pos).1 u in let e = h x.core in omega arith)
 
 -- ---- nothing leads to the place before a core's first instruction
 
@@ -55,16 +47,11 @@ none_at edges zero x y log z p = none_step edges x y log z p
 none_at edges (suc n) x y log z p = none_at edges n p.0 y log z p.2
 
 clock_none : (edges : List Edge) (y : Instr) (clock : ℕ → ℕ) → IsLog edges → y.count ≡ 0 → ((i : ℕ) → clock i ≡ 0) → IsClock (Among edges) y clock
-clock_none edges y clock log z zeros x pos = (λ le. let e = zeros x.core in absurd (omega arith), by)
+clock_none edges y clock log z zero_at x pos = (λ le. let e = zero_at x.core in absurd (omega arith), by)
   where
     by : IsOrLeads (Among edges) x y → x.count ≤ clock x.core
     by (inl e) = let f : x.count ≡ y.count = ap (λ (v : Instr). v.count) e in absurd (omega arith)
     by (inr p) = absurd (none_at edges p.0 x y log z p.1)
-
-zeros : (n i : ℕ) → slice_index (replicate n 0) i ≡ 0
-zeros zero i = refl
-zeros (suc n) zero = refl
-zeros (suc n) (suc i) = zeros n i
 
 -- ---- lists with one more
 
@@ -87,9 +74,6 @@ beyond [] d m le = refl
 beyond (y ∷ l) d zero le = absurd (omega arith)
 beyond (y ∷ l) d (suc m) le = beyond l d m (omega arith)
 
-split : (m n : ℕ) → (m < n) ⊎ (n ≤ m)
-split m n = grind arith
-
 either : (n m : ℕ) → n ≤ m + 1 → (n ≤ m) ⊎ (n ≡ m + 1)
 either n m le = grind arith
 
@@ -108,7 +92,7 @@ module _ (which : Which) (r : Recording) (valid : Valid r) (f : ℕ → ℕ) (k 
         where
           by : Dec (i ≡ c) → clock_at k (instr c 0) i ≡ 0
           by (yes e) = own_same (instr c 0) (λ j. slice_index (numbered k c 0) j) i e
-          by (no ne) = own_other (instr c 0) (λ j. slice_index (numbered k c 0) j) i ne ∙ zeros CORES_MAX i
+          by (no ne) = own_other (instr c 0) (λ j. slice_index (numbered k c 0) j) i ne ∙ zero_at CORES_MAX i
   clock_any acyclic c (suc n) lt le = clocked.exact acyclic c (suc n) lt (omega arith) le
 
   pub next_is : (c : ℕ) (sources : List ℕ) → Ready (plan_of which r) f c → IsAcyclic (log_edges which r) →
@@ -310,19 +294,16 @@ module _ (which : Which) (r : Recording) (valid : Valid r) (f : ℕ → ℕ) (k 
             subst (λ (x : ℕ). length (numbers_of new x) ≡ bump f c x) (sym e) (omega arith)
         counted d lt (no ne) = ap (λ (l : List ℕ). length l) (numbers_else d ne) ∙ clocked.counted d lt ∙ sym (bump_else f c d ne)
 
-        own_numbers : (n : ℕ) → (n ≤ f c) ⊎ (f c < n) → number_of new c n ≤ length (clocks_of new c)
-        own_numbers n (inl le) = let e = number_stays n le in let was = clocked.numbers c n in let m = more_clocks in omega arith
-        own_numbers n (inr gt) = by (ℕ_discrete n (f c + 1))
+        own_numbers : (n : ℕ) → (f c < n) ⊎ (n ≤ f c) → number_of new c n ≤ length (clocks_of new c)
+        own_numbers n (inr le) = let e = number_stays n le in let was = clocked.numbers c n in let m = more_clocks in omega arith
+        own_numbers n (inl gt) = by (ℕ_discrete n (f c + 1))
           where
             by : Dec (n ≡ f c + 1) → number_of new c n ≤ length (clocks_of new c)
             by (yes e) = let q : number_of new c n ≡ number_of new c (f c + 1) = ap (number_of new c) e in let m = number_next in omega arith
             by (no ne) = let z = number_past n (omega arith) in omega arith
 
-        le_or : (m n : ℕ) → (m ≤ n) ⊎ (n < m)
-        le_or m n = grind arith
-
         numbers : (d n : ℕ) → Dec (d ≡ c) → number_of new d n ≤ length (clocks_of new d)
-        numbers d n (yes e) = subst (λ (x : ℕ). number_of new x n ≤ length (clocks_of new x)) (sym e) (own_numbers n (le_or n (f c)))
+        numbers d n (yes e) = subst (λ (x : ℕ). number_of new x n ≤ length (clocks_of new x)) (sym e) (own_numbers n (cases_lt (f c) n))
         numbers d n (no ne) = let e = ap (λ (l : List (List ℕ)). length l) (clocks_else d ne) in let was = clocked.numbers d n in let same = same_number n in
             omega arith
           where

@@ -6,6 +6,7 @@ use Rattle.rtr_types.specs.declared.instr.Instr.{Instr}
 use Rattle.rtr_types.specs.declared.access.Access.{Access}
 use Rattle.rtr_types.specs.declared.pairs.Which.{Which}
 use Rattle.conflict_edge.specs.Conflicts.{CountsRise, StandsIn}
+use Rattle.conflict_edge.proofs.Standing.{stands_which}
 use Rattle.log_codec.specs.declared.recording.Recording.{Recording}
 use Rattle.log_codec.specs.Sources.{log_edges}
 use Rattle.log_codec.specs.Validity.{Valid}
@@ -19,7 +20,6 @@ use Rattle.replay_audit.specs.Marks.{first_mark, mark_at}
 use Rattle.replay_audit.specs.Tallies.{Tallied, count_of}
 use Rattle.replay_audit.specs.Trails.{Trailed, Trails, IsTrailOf}
 use Rattle.replay_audit.proofs.Marking.{write_core}
-use Rattle.replay_audit.proofs.Pairs.{stands_which}
 use Rattle.replay_audit.proofs.Tallying.{Counted, counted_start, counted_on, ready_there}
 use Rattle.replay_audit.proofs.Trailing.{trail_start, trail_on}
 

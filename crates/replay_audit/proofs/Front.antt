@@ -104,7 +104,7 @@ same_after p s f d xs ys ready go h = record {
   parts = parts_after (touched p s d) (accesses_from p (place p s d) ys) (accesses_from p (place p s d) xs) h.parts;
 }
 
--- where the log orders the conflicts, the next accesses_from of two cores that are ready don't conflict
+-- where the log orders the conflicts, the next accesses of two cores that are ready don't conflict
 pub no_clash : (p : Plan) (s : Outcome) (f : ℕ → ℕ) (c d : ℕ) (zs : List ℕ) → Tame p s f → c ≢ d → Ready p f c → Ready p f d →
     Suffices (accesses_from p s (d ∷ c ∷ zs)) (Among p.edges) → Clash (use_at p s d) (use_at p s c) → ⊥
 no_clash p s f c d zs t ne rc rd suf clash =

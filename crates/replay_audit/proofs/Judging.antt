@@ -9,12 +9,13 @@ use Rattle.rtr_types.specs.declared.access.Kind.{Kind}
 use Rattle.clock_core.specs.Order.{Before, Among}
 use Rattle.conflict_edge.specs.Conflicts.{Conflicts, ConflictPair, StandsIn}
 use Rattle.conflict_edge.specs.Least.{Suffices}
+use Rattle.conflict_edge.proofs.Standing.{one_first}
 use Rattle.log_codec.specs.Sources.{log_edges}
 use Rattle.replay_core.specs.Plans.{plan_of}
 use Rattle.replay_core.specs.Play.{accesses_of}
 use Rattle.replay_audit.specs.Laws.{IsSettled}
 use Rattle.replay_audit.specs.Judges.{IsAlike, JudgeLaw}
-use Rattle.replay_audit.proofs.Pairs.{either, ends}
+use Rattle.replay_audit.proofs.Pairs.{ends}
 use Rattle.replay_audit.proofs.Settled.{settled_law}
 
 conflicts_alike : (a b c d : Access) → IsAlike a c → IsAlike b d → Conflicts a b → Conflicts c d
@@ -57,7 +58,7 @@ abbrev pub NeverBack : List Edge → List Access → Type 0
 NeverBack edges list = (x y : Instr) → ConflictPair list x y → Before (Among edges) y x → ⊥
 
 pub suffices_settled : (edges : List Edge) (list : List Access) → Suffices list (Among edges) → IsSettled edges list
-suffices_settled edges list suf a b s t k = by (either list a b s t k)
+suffices_settled edges list suf a b s t k = by (one_first list a b s t k)
   where
     by : ConflictPair list a.at b.at ⊎ ConflictPair list b.at a.at → Ordered edges a.at b.at
     by (inl q) = inl (suf a.at b.at q)

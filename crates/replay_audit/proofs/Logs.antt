@@ -1,6 +1,6 @@
 -- Logs that have a whole replay order don't go round.
 use Rattle.std.proofs.Common.{inl, inr, ◌≡◌, ◌≢◌, ◌⊎◌, ℕ, zero, suc, ◌+◌, ◌<◌, ◌≤◌, List, [], ◌∷◌, length, refl, sym, ap, ◌∙◌, subst, arith}
-use Rattle.std.specs.List.{Contains}
+use Rattle.std.proofs.lemmas.Bool.{cases_eq}
 use Rattle.rtr_types.specs.declared.instr.Instr.{Instr}
 use Rattle.rtr_types.specs.declared.instr.Edge.{Edge}
 use Rattle.rtr_types.specs.declared.pairs.Which.{Which}
@@ -42,14 +42,11 @@ sourced_among (e ∷ edges) f c n x y s (inl a) p q =
     subst (λ (z : Instr). z.count ≤ f z.core) a.0 le
 sourced_among (e ∷ edges) f c n x y s (inr a) p q = sourced_among edges f c n x y s.1 a p q
 
-same_or_not : (m n : ℕ) → (m ≡ n) ⊎ (m ≢ n)
-same_or_not m n = grind arith
-
-next_or_before : (m n : ℕ) → m ≤ n + 1 → (m ≡ n + 1) ⊎ (m ≤ n)
+pub next_or_before : (m n : ℕ) → m ≤ n + 1 → (m ≡ n + 1) ⊎ (m ≤ n)
 next_or_before m n le = grind arith
 
 pub closed_bump : (p : Plan) (f : ℕ → ℕ) (c : ℕ) → Ready p f c → Closed p.edges f → Closed p.edges (bump f c)
-closed_bump p f c ready closed x y a le = by (same_or_not y.core c)
+closed_bump p f c ready closed x y a le = by (cases_eq y.core c)
   where
     up : x.count ≤ f x.core → x.count ≤ bump f c x.core
     up le = let m = bump_more f c x.core in omega arith
@@ -88,7 +85,7 @@ ready_before p f c x y closed ready e n b = let l = last_at (Among p.edges) b.0 
 no_cycle : (p : Plan) (f : ℕ → ℕ) (order : List ℕ) (y : Instr) → Closed p.edges f → Ordered p f order → f y.core < y.count → y.count ≤ counts f order y.core →
     Before (Among p.edges) y y → ⊥
 no_cycle p f [] y closed ordered lt le b = omega arith
-no_cycle p f (c ∷ cs) y closed ordered lt le b = by (same_or_not y.core c)
+no_cycle p f (c ∷ cs) y closed ordered lt le b = by (cases_eq y.core c)
     (λ above. no_cycle p (bump f c) cs y (closed_bump p f c ordered.0 closed) ordered.1 above le b)
   where
     later : (y.count ≡ f c + 1) ⊎ (y.count ≢ f c + 1) → y.core ≡ c → (bump f c y.core < y.count → ⊥) → ⊥
@@ -96,7 +93,7 @@ no_cycle p f (c ∷ cs) y closed ordered lt le b = by (same_or_not y.core c)
     later (inr ne) e go = go (let s = bump_same f c y.core e in let g : f y.core ≡ f c = ap f e in omega arith)
 
     by : (y.core ≡ c) ⊎ (y.core ≢ c) → (bump f c y.core < y.count → ⊥) → ⊥
-    by (inl e) go = later (same_or_not y.count (f c + 1)) e go
+    by (inl e) go = later (cases_eq y.count (f c + 1)) e go
     by (inr ne) go = go (let s = bump_else f c y.core ne in omega arith)
 
 -- a path has an edge, or goes along one core

@@ -1,5 +1,6 @@
 -- What a look-up finds is the next edge.
-use Rattle.std.proofs.Common.{inl, inr, ◌≡◌, ◌≢◌, ℕ, zero, suc, ◌+◌, ◌-◌, ◌*◌, ◌/◌, ◌%◌, ◌<◌, ◌≤◌, true, false, leb, ltb, List, [], ◌∷◌, length, get_or, Option, Some, None}
+use Rattle.std.proofs.Common.{inl, inr, ◌≡◌, ℕ, zero, suc, ◌+◌, ◌-◌, ◌*◌, ◌/◌, ◌%◌, ◌<◌, ◌≤◌, true, false, leb, ltb, List, [], ◌∷◌}
+use Rattle.std.proofs.Common.{length, get_or, Option, Some, None}
 use Rattle.std.proofs.Common.{refl, sym, ap, subst, ◌∙◌, arith}
 use Rattle.std.specs.Prelude.{min, slice_get}
 use Rattle.std.specs.List.{Contains, flat_map}
@@ -14,12 +15,12 @@ use Rattle.rtr_types.specs.Pairs.{IsPair, pair_place}
 use Rattle.stride_vector.specs.declared.StrideVector.{StrideVector}
 use Rattle.stride_vector.specs.Vectors.{IsVector, position_of, edges_of, last_of}
 use Rattle.log_codec.specs.declared.recording.Recording.{Recording}
-use Rattle.log_codec.specs.Sources.{AreApart, edges_of_pair, log_edges, HasEdge}
+use Rattle.log_codec.specs.Sources.{AreApart, edges_of_pair, log_edges}
 use Rattle.log_codec.proofs.Rises.{no_edge, no_vector, position_between, PositionAt, position_at, at_position}
 use Rattle.log_codec.proofs.SourceLaws.{edges-are-paired}
 use Rattle.log_codec.proofs.Looked.{Rising}
 use Rattle.replay_core.specs.Play.{instr}
-use Rattle.replay_audit.specs.Coming.{IsBeginning, IsFirstEdge, IsNextEdge, IsFirstPosition, IsNextPosition, IsFirstInto, IsNextInto, Leads}
+use Rattle.replay_audit.specs.Coming.{IsBeginning, IsFirstEdge, IsNextEdge, IsFirstPosition, IsNextPosition, IsNextInto, Leads}
 
 -- ---- edges
 

@@ -1,4 +1,4 @@
--- The loads that a play notes are its accesses_from.
+-- The loads that a play notes are its accesses.
 use Rattle.std.proofs.Common.{inl, inr, ◌≡◌, ◌⊎◌, ℕ, zero, suc, ◌+◌, ◌<◌, ◌≤◌, true, false, Bool, cond, List, [], ◌∷◌, ◌++◌, length, replicate, sym, refl, ap}
 use Rattle.std.proofs.Common.{◌∙◌, subst, arith, get_or-set_same}
 use Rattle.std.specs.Prelude.{slice_index_or, slice_set, Some, None}

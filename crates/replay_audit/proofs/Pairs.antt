@@ -1,9 +1,10 @@
 -- Accesses and conflict pairs of lists that were put together.
-use Rattle.std.proofs.Common.{inl, inr, ◌≡◌, ◌⊎◌, List, [], ◌∷◌, ◌++◌, sym, refl, ap, ◌∙◌, subst}
+use Rattle.std.proofs.Common.{inl, inr, ◌≡◌, ◌⊎◌, List, [], ◌∷◌, ◌++◌, sym, refl, ap, subst}
 use Rattle.rtr_types.specs.declared.instr.Instr.{Instr}
 use Rattle.rtr_types.specs.declared.access.Access.{Access}
 use Rattle.clock_core.specs.Order.{Within}
 use Rattle.conflict_edge.specs.Conflicts.{Conflicts, ConflictPair, StandsIn}
+use Rattle.conflict_edge.proofs.Standing.{stands_which}
 
 pub stands_left : (xs ys : List Access) (a : Access) → StandsIn xs a → StandsIn (xs ++ ys) a
 stands_left [] ys a s = absurd s
@@ -13,15 +14,6 @@ stands_left (x ∷ xs) ys a (inr s) = inr (stands_left xs ys a s)
 pub stands_right : (xs ys : List Access) (a : Access) → StandsIn ys a → StandsIn (xs ++ ys) a
 stands_right [] ys a s = s
 stands_right (x ∷ xs) ys a s = inr (stands_right xs ys a s)
-
-pub stands_which : (xs ys : List Access) (a : Access) → StandsIn (xs ++ ys) a → StandsIn xs a ⊎ StandsIn ys a
-stands_which [] ys a s = inr s
-stands_which (x ∷ xs) ys a (inl e) = inl (inl e)
-stands_which (x ∷ xs) ys a (inr s) = on (stands_which xs ys a s)
-  where
-    on : StandsIn xs a ⊎ StandsIn ys a → StandsIn (x ∷ xs) a ⊎ StandsIn ys a
-    on (inl t) = inl (inr t)
-    on (inr t) = inr t
 
 -- each access of the one list stands in the other
 abbrev pub Parts : List Access → List Access → Type 0
@@ -106,31 +98,6 @@ pairs_swap one two rest free x y p = first (pairs_which two (one ++ rest) x y p)
     first (across a b s t e f k) = crossing a b s (stands_which one rest b t) e f k
 
 -- ---- two in conflict
-
-pub conflicts_back : (a b : Access) → Conflicts a b → Conflicts b a
-conflicts_back a b k = (λ e. k.0 (sym e), sym k.1, kinds k.2)
-  where
-    kinds : {P Q : Type 0} → P ⊎ Q → Q ⊎ P
-    kinds (inl p) = inr p
-    kinds (inr p) = inl p
-
--- one of them stands first
-pub either : (list : List Access) (a b : Access) → StandsIn list a → StandsIn list b → Conflicts a b → ConflictPair list a.at b.at ⊎ ConflictPair list b.at a.at
-either [] a b s t k = absurd s
-either (h ∷ list) a b (inl e) (inl g) k = absurd (k.0 (ap (λ (z : Access). z.at.core) (sym e ∙ g)))
-either (h ∷ list) a b (inl e) (inr t) k = inl (inl (ap (λ (z : Access). z.at) e, b, t, refl, subst (λ (z : Access). Conflicts z b) (sym e) k))
-either (h ∷ list) a b (inr s) (inl g) k = inr (inl (
-  ap (λ (z : Access). z.at) g,
-  a,
-  s,
-  refl,
-  subst (λ (z : Access). Conflicts z a) (sym g) (conflicts_back a b k),
-))
-either (h ∷ list) a b (inr s) (inr t) k = on (either list a b s t k)
-  where
-    on : ConflictPair list a.at b.at ⊎ ConflictPair list b.at a.at → ConflictPair (h ∷ list) a.at b.at ⊎ ConflictPair (h ∷ list) b.at a.at
-    on (inl p) = inl (inr p)
-    on (inr p) = inr (inr p)
 
 -- the two accesses of a pair
 pub record Ends (list : List Access) (x y : Instr) : Type 0 where

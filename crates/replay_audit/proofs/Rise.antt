@@ -1,4 +1,4 @@
--- The counts of a replay order's accesses_from rise.
+-- The counts of a replay order's accesses rise.
 use Rattle.std.proofs.Common.{inl, inr, ◌≡◌, ℕ, ◌+◌, ◌<◌, List, [], ◌∷◌, ◌++◌, length, refl, sym, ap, ◌∙◌, subst, arith}
 use Rattle.std.specs.Prelude.{Some, None}
 use Rattle.rtr_types.specs.declared.access.Access.{Access}
@@ -14,7 +14,7 @@ use Rattle.replay_core.proofs.Counts.{bump_same, bump_more}
 use Rattle.replay_core.proofs.Places.{start_known, place_known}
 use Rattle.replay_audit.specs.Laws.{AccessesRiseLaw}
 
--- accesses_from above the counts, rising
+-- accesses above the counts, rising
 pub record RiseAbove (n : ℕ) (f : ℕ → ℕ) (list : List Access) : Type 0 where
   pub inside : (b : Access) → StandsIn list b → b.at.core < n
   pub rise : CountsRise list

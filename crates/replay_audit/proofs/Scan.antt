@@ -1,17 +1,12 @@
 -- The scan for the latest open access.
-use Rattle.std.proofs.Common.{inl, inr, ◌≡◌, ◌⊎◌, ℕ, zero, suc, ◌<◌, List, [], ◌∷◌, ◌++◌, length, get_or, refl, ap, ◌∙◌, subst, arith, true, false}
+use Rattle.std.proofs.Common.{inl, inr, ◌≡◌, ◌⊎◌, ℕ, List, [], ◌∷◌, ◌++◌, refl, ap, ◌∙◌, subst, true, false}
 use Rattle.std.proofs.Common.{append_assoc}
 use Rattle.std.specs.Prelude.{Option, Some, None}
 use Rattle.rtr_types.specs.declared.instr.Instr.{Instr}
 use Rattle.rtr_types.specs.declared.access.Access.{Access}
 use Rattle.conflict_edge.specs.Conflicts.{StandsIn}
+use Rattle.conflict_edge.proofs.Standing.{stands_which}
 use Rattle.replay_audit.specs.Unordered.{is_open, AreCovered, IsLatest}
-use Rattle.replay_audit.proofs.Pairs.{stands_which}
-
-pub stands_at : (l : List Access) (i : ℕ) (d : Access) → i < length l → StandsIn l (get_or l i d)
-stands_at [] i d lt = absurd (omega arith)
-stands_at (a ∷ l) zero d lt = inl refl
-stands_at (a ∷ l) (suc i) d lt = inr (stands_at l i d (omega arith))
 
 covered_snoc : (l : List Access) (a x : Access) (k : List ℕ) → AreCovered l a k → is_open x a k ≡ false → AreCovered (l ++ x ∷ []) a k
 covered_snoc l a x k h t b s = by (stands_which l (x ∷ []) b s)

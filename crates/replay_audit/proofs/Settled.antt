@@ -1,10 +1,11 @@
--- Determinacy by each two accesses_from in conflict, whichever comes first.
+-- Determinacy by each two accesses in conflict, whichever comes first.
 use Rattle.std.proofs.Common.{inl, inr, ◌≡◌, ◌⊎◌, ℕ, ◌+◌, ◌<◌, ◌≤◌, List, [], ◌∷◌, sym, ap, ◌∙◌, subst, arith}
 use Rattle.rtr_types.specs.declared.instr.Instr.{Instr}
 use Rattle.rtr_types.specs.declared.access.Access.{Access}
 use Rattle.clock_core.specs.Order.{Before, Among}
 use Rattle.conflict_edge.specs.Conflicts.{ConflictPair}
 use Rattle.conflict_edge.specs.Least.{Suffices}
+use Rattle.conflict_edge.proofs.Standing.{one_first}
 use Rattle.rv_core.specs.declared.outcome.Outcome.{Outcome}
 use Rattle.std.specs.Prelude.{Some, None}
 use Rattle.replay_core.specs.Plans.{Plan, plan_of}
@@ -13,7 +14,7 @@ use Rattle.replay_core.specs.Orders.{bump, nought, Ordered}
 use Rattle.replay_core.proofs.Counts.{bump_more}
 use Rattle.replay_audit.specs.Determinate.{IsDeterminate}
 use Rattle.replay_audit.specs.Laws.{IsSettled, SettledLaw}
-use Rattle.replay_audit.proofs.Pairs.{Apart, both_left, both_right, across, pairs_which, either, ends}
+use Rattle.replay_audit.proofs.Pairs.{Apart, both_left, both_right, across, pairs_which, ends}
 use Rattle.replay_audit.proofs.Logs.{ready_before}
 use Rattle.replay_audit.proofs.Rise.{rises, touched_is}
 use Rattle.replay_audit.proofs.Swaps.{use_at}
@@ -54,7 +55,7 @@ settled_law which r order valid play = (forth, back)
     p = plan_of which r
 
     forth : IsDeterminate which r → IsSettled p.edges (accesses_of p order)
-    forth det a b s t k = by (either (accesses_of p order) a b s t k)
+    forth det a b s t k = by (one_first (accesses_of p order) a b s t k)
       where
         by : ConflictPair (accesses_of p order) a.at b.at ⊎ ConflictPair (accesses_of p order) b.at a.at → Before (Among p.edges) a.at b.at
             ⊎ Before (Among p.edges) b.at a.at

@@ -1,5 +1,5 @@
 -- Counts along the low order.
-use Rattle.std.proofs.Common.{◌≡◌, ℕ, zero, suc, ◌+◌, ◌<◌, ◌≤◌, true, false, List, [], ◌∷◌, ◌++◌, length, get_or, replicate, refl, sym, ap, ◌∙◌, subst, arith}
+use Rattle.std.proofs.Common.{◌≡◌, ℕ, ◌+◌, ◌<◌, ◌≤◌, true, false, List, [], ◌∷◌, ◌++◌, length, get_or, replicate, sym, ap, ◌∙◌, subst, arith}
 use Rattle.std.proofs.Common.{length-set, get_or-set_same, get_or-set_other}
 use Rattle.std.specs.Prelude.{slice_index, slice_set, Option, Some, None}
 use Rattle.std.proofs.Math.Path.{fun_ext}
@@ -7,6 +7,7 @@ use Rattle.std.proofs.lemmas.List.{length-replicate, get_or_default}
 use native.Mathlib.Decide.{ℕ_discrete}
 use Rattle.rtr_types.specs.declared.instr.Edge.{Edge}
 use Rattle.rtr_types.specs.declared.pairs.Which.{Which}
+use Rattle.rtr_types.proofs.Ranges.{zero_at}
 use Rattle.log_codec.specs.declared.recording.Recording.{Recording}
 use Rattle.log_codec.specs.Sources.{log_edges}
 use Rattle.log_codec.specs.Validity.{Valid}
@@ -22,11 +23,6 @@ use Rattle.replay_audit.specs.Clocks.{AreSources, sources_in}
 use Rattle.replay_audit.specs.Tallies.{Tallied, AreWanted, IsTally, count_of, wanted_at}
 use Rattle.clock_core.proofs.Listed.{among_contains, contains_among}
 
-zeros : (n i : ℕ) → slice_index (replicate n 0) i ≡ 0
-zeros zero i = refl
-zeros (suc n) zero = refl
-zeros (suc n) (suc i) = zeros n i
-
 pub counts_start : (which : Which) (r : Recording) (plan : Plan) (list : List ℕ) (wanted : List (Option (List ℕ))) → Valid r → plan ≡ plan_of which r →
     list ≡ replicate r.params.cores 0 →
     AreWanted (log_edges which r) r.params.cores wanted → IsTally which r plan list wanted
@@ -41,7 +37,7 @@ counts_start which r plan list wanted valid plan_is is w = record {
 }
   where
     none : (c : ℕ) → count_of list c ≡ 0
-    none c = ap (λ (l : List ℕ). count_of l c) is ∙ zeros r.params.cores c
+    none c = ap (λ (l : List ℕ). count_of l c) is ∙ zero_at r.params.cores c
 
 module _ (which : Which) (r : Recording) (plan : Plan) (list : List ℕ) (wanted : List (Option (List ℕ))) (h : IsTally which r plan list wanted) (c count : ℕ)
     (inside : c < length r.totals) (below : count_of list c < slice_index r.totals c) (count_is : count ≡ count_of list c + 1) where
@@ -86,7 +82,8 @@ module _ (which : Which) (r : Recording) (plan : Plan) (list : List ℕ) (wanted
 
 -- the sources of a core's next instruction are those that are wanted
 pub wanted_here : (which : Which) (r : Recording) (plan : Plan) (list : List ℕ) (wanted : List (Option (List ℕ))) (c : ℕ) (o d : Option (List ℕ)) →
-    IsTally which r plan list wanted → c < r.params.cores → o ≡ get_or wanted c d → AreSources (log_edges which r) (instr c (count_of list c + 1)) (sources_in o)
+    IsTally which r plan list wanted → c < r.params.cores → o ≡ get_or wanted c d →
+    AreSources (log_edges which r) (instr c (count_of list c + 1)) (sources_in o)
 wanted_here which r plan list wanted c o d h lt is =
     subst (λ (x : Option (List ℕ)). AreSources (log_edges which r) (instr c (count_of list c + 1)) (sources_in x))
     (sym (is ∙ get_or_default wanted c d None (let a = h.all_wanted in omega arith))) (h.each c lt)
@@ -119,7 +116,7 @@ counted_start p t plan_is is = record {
   plan_is = plan_is;
   low = tt;
   all = ap (λ (l : List ℕ). length l) is ∙ length-replicate (length p.totals) 0;
-  tally = fun_ext (λ i. ap (λ (l : List ℕ). count_of l i) is ∙ zeros (length p.totals) i);
+  tally = fun_ext (λ i. ap (λ (l : List ℕ). count_of l i) is ∙ zero_at (length p.totals) i);
 }
 
 module _ (p : Plan) (order : List ℕ) (t : Tallied) (h : Counted p order t) where

@@ -1,11 +1,10 @@
 -- A judgement along the low order.
-use Rattle.std.proofs.Common.{inl, inr, ◌≡◌, ◌⊎◌, ℕ, ◌+◌, ◌<◌, ◌≤◌, List, [], ◌∷◌, ◌++◌, length, replicate, get_or, refl, sym, ap, ◌∙◌, subst, arith}
+use Rattle.std.proofs.Common.{inl, inr, ◌≡◌, ◌⊎◌, ℕ, ◌+◌, ◌<◌, ◌≤◌, List, [], ◌∷◌, ◌++◌, length, get_or, refl, sym, ap, ◌∙◌, subst, arith}
 use Rattle.std.proofs.Common.{append-nil}
 use Rattle.std.specs.Prelude.{slice_index, slice_set, Option, Some, None, IfSome}
 use Rattle.std.specs.List.{Contains}
 use Rattle.std.proofs.lemmas.List.{get_or_default}
 use native.Mathlib.Decide.{ℕ_discrete}
-use Rattle.rtr_types.specs.declared.TheConstants.{CORES_MAX}
 use Rattle.rtr_types.specs.declared.instr.Instr.{Instr}
 use Rattle.rtr_types.specs.declared.access.Access.{Access}
 use Rattle.rtr_types.specs.declared.pairs.Which.{Which}
@@ -13,6 +12,7 @@ use Rattle.clock_core.specs.Order.{Before, Among}
 use Rattle.clock_core.proofs.Paths.{instr_eq}
 use Rattle.conflict_edge.specs.Conflicts.{ConflictPair, CountsRise, StandsIn}
 use Rattle.conflict_edge.specs.Least.{Suffices}
+use Rattle.conflict_edge.proofs.Standing.{stands_which}
 use Rattle.log_codec.specs.declared.recording.Recording.{Recording}
 use Rattle.log_codec.specs.Sources.{log_edges}
 use Rattle.log_codec.specs.Validity.{Valid}
@@ -23,21 +23,20 @@ use Rattle.replay_core.specs.Play.{instr, core_at, place, touched, accesses_from
 use Rattle.replay_core.specs.Orders.{bump, counts, nought, Ready, Ordered, IsWhole, lowest_ready, low_order}
 use Rattle.replay_core.specs.Answers.{told}
 use Rattle.replay_core.specs.Laws.{PlayKnown}
-use Rattle.replay_core.proofs.Counts.{bump_here, bump_same, bump_else, bump_more, counts_on}
+use Rattle.replay_core.proofs.Counts.{bump_here, bump_same, bump_else, bump_more, counts_on, counts_more}
 use Rattle.replay_core.proofs.Places.{start_known, place_known}
 use Rattle.replay_audit.specs.Determinate.{IsDeterminate}
 use Rattle.replay_audit.specs.Judges.{IsAlike, AreAlike}
 use Rattle.replay_audit.specs.declared.touch.Touch.{Touch}
 use Rattle.replay_audit.specs.declared.unordered.Unordered.{Unordered}
 use Rattle.replay_audit.specs.Clocks.{AreSources}
-use Rattle.replay_audit.specs.Marks.{first_mark, mark_at}
 use Rattle.replay_audit.specs.Tallies.{Tallied, count_of}
 use Rattle.replay_audit.specs.Touches.{IsAccessOf, touches_of, as_touch, as_access, AreRising, ArePlayed}
-use Rattle.replay_audit.specs.Trails.{Trailed, Trails, IsFinding, IsTrailOf}
+use Rattle.replay_audit.specs.Trails.{Trailed, Trails, IsFinding}
 use Rattle.replay_audit.proofs.Agreed.{low_ordered, touched_at}
 use Rattle.replay_audit.proofs.Judging.{NeverBack, judge_law, suffices_settled, settled_suffices}
 use Rattle.replay_audit.proofs.Logs.{Closed, closed_none, closed_bump, leads_back, acyclic_law}
-use Rattle.replay_audit.proofs.Pairs.{Apart, both_left, both_right, across, pairs_which, stands_left, stands_right, stands_which}
+use Rattle.replay_audit.proofs.Pairs.{Apart, both_left, both_right, across, pairs_which, stands_left, stands_right}
 use Rattle.replay_audit.proofs.Refused.{unordered_pair}
 use Rattle.replay_audit.proofs.Rise.{accesses_within, rises}
 use Rattle.replay_audit.proofs.Following.{Followed, IsFresh, followed_start, followed_on, at_next, ready_next}
@@ -61,10 +60,6 @@ own_list touched item slice c lt item_is slice_is = slice_is ∙ item_is ∙ get
 
 -- ---- no access is past the counts
 
-counts_more : (f : ℕ → ℕ) (order : List ℕ) (i : ℕ) → f i ≤ counts f order i
-counts_more f [] i = omega arith
-counts_more f (c ∷ cs) i = let a = bump_more f c i in let b = counts_more (bump f c) cs i in omega arith
-
 pub accesses_below : (p : Plan) (f : ℕ → ℕ) (s : Outcome) (order : List ℕ) (a : Access) → PlayKnown p f s → Ordered p f order →
     StandsIn (accesses_from p s order) a → a.at.count ≤ counts f order a.at.core
 accesses_below p f s [] a known o q = absurd q
@@ -84,7 +79,7 @@ accesses_below p f s (c ∷ cs) a known o q = by (stands_which (touched p s c) (
         let m = counts_more (bump f c) cs a.at.core in
         omega arith
 
--- ---- the accesses_from that were laid along the low order so far
+-- ---- the accesses that were laid along the low order so far
 
 pub record Laid (which : Which) (r : Recording) (touched : List (List Touch)) (order : List ℕ) (list : List Access) : Type 0 where
   pub below : (a : Access) → StandsIn list a → a.at.count ≤ counts nought order a.at.core
@@ -93,7 +88,7 @@ pub record Laid (which : Which) (r : Recording) (touched : List (List Touch)) (o
   pub never : NeverBack (log_edges which r) list
   pub closed : Closed (log_edges which r) (counts nought order)
 
--- the tally and the trail have come along a front of the low order, at which these accesses_from were laid
+-- the tally and the trail have come along a front of the low order, at which these accesses were laid
 pub record Judged (which : Which) (r : Recording) (touched : List (List Touch)) (order : List ℕ) (t : Tallied) (s : Trailed) : Type 0 where
   pub list : List Access
   pub followed : Followed which r order list t s

@@ -3,6 +3,7 @@ use Rattle.std.proofs.Common.{inl, inr, ◌≡◌, ◌≢◌, ◌⊎◌, ℕ, �
 use Rattle.std.proofs.Common.{◌∙◌, subst, arith, append_assoc, append-nil}
 use Rattle.std.specs.Prelude.{slice_index, nat_le, Option, Some, None}
 use Rattle.std.proofs.lemmas.Bool.Decides.{nat_tests}
+use Rattle.std.proofs.lemmas.Bool.{not-true, and_parts}
 use Rattle.rtr_types.specs.declared.TheConstants.{CORES_MAX}
 use Rattle.rtr_types.specs.declared.instr.Instr.{Instr}
 use Rattle.rtr_types.specs.declared.instr.Edge.{Edge}
@@ -10,6 +11,7 @@ use Rattle.rtr_types.specs.declared.access.Access.{Access}
 use Rattle.rtr_types.specs.declared.pairs.Which.{Which}
 use Rattle.clock_core.specs.Order.{Before, IsOrLeads, Among}
 use Rattle.clock_core.specs.Reach.{IsClock}
+use Rattle.clock_core.proofs.Reach.{clock_same}
 use Rattle.conflict_edge.specs.Clocks.{Candidate}
 use Rattle.conflict_edge.specs.Conflicts.{Conflicts, ConflictPair, CountsRise, StandsIn, do_conflict}
 use Rattle.conflict_edge.specs.Least.{Suffices}
@@ -17,6 +19,7 @@ use Rattle.conflict_edge.proofs.Candidates.{candidates_law}
 use Rattle.conflict_edge.proofs.History.{do_conflict-true, do_conflict-yes}
 use Rattle.conflict_edge.proofs.Online.{candidate_source, last_read-is}
 use Rattle.conflict_edge.proofs.Reversed.{stands_back, reverse-next}
+use Rattle.conflict_edge.proofs.Standing.{positive}
 use Rattle.log_codec.specs.declared.recording.Recording.{Recording}
 use Rattle.log_codec.specs.Sources.{log_edges}
 use Rattle.log_codec.specs.Validity.{Valid}
@@ -32,18 +35,10 @@ use Rattle.replay_audit.specs.Marks.{first_mark, AreMarksCovered, AreMarked}
 use Rattle.replay_audit.specs.Unordered.{IsLatestBefore, IsUnordered, is_open, AreCovered, IsLatestAt}
 use Rattle.replay_audit.specs.Trails.{Trailed, FoundNext, with_kept, Trails, IsFinding, IsTrailOf}
 use Rattle.replay_audit.proofs.Pairs.{Apart, both_left, both_right, across, pairs_which}
-use Rattle.replay_audit.proofs.Clocking.{clock_same, clocked_on, clock_found, clocked_start}
+use Rattle.replay_audit.proofs.Clocking.{clocked_on, clock_found, clocked_start}
 use Rattle.replay_audit.proofs.Marking.{AreCandidatesCovered, covered_marks, marked_next, marked_start}
 
 -- ---- what a clock says of an earlier access
-
-and_parts : (a b : Bool) → a && b ≡ true → (a ≡ true) × (b ≡ true)
-and_parts true b e = (refl, e)
-and_parts false b e = absurd (cc)
-
-not_true : (b : Bool) → not b ≡ true → b ≡ false
-not_true true e = absurd (cc)
-not_true false e = refl
 
 and_false : (a b : Bool) → a && not b ≡ false → a ≡ true → b ≡ true
 and_false true true e t = refl
@@ -53,7 +48,7 @@ and_false false b e t = absurd (cc)
 open_conflict : (b a : Access) (k : List ℕ) → is_open b a k ≡ true → Conflicts b a × (slice_index k b.at.core < b.at.count)
 open_conflict b a k t =
     let p = and_parts (do_conflict b a) (not (nat_le b.at.count (slice_index k b.at.core))) t in
-    let q : nat_le b.at.count (slice_index k b.at.core) ≡ false = not_true (nat_le b.at.count (slice_index k b.at.core)) p.1 in
+    let q : nat_le b.at.count (slice_index k b.at.core) ≡ false = not-true (nat_le b.at.count (slice_index k b.at.core)) p.1 in
     (do_conflict-true b a p.0, grind (arith, nat_tests))
 
 closed_covers : (b a : Access) (k : List ℕ) → is_open b a k ≡ false → Conflicts b a → b.at.count ≤ slice_index k b.at.core
@@ -85,11 +80,6 @@ open_loose edges b a k h pos t p =
     let le = (covered edges a.at b.at (λ i. slice_index k i) h pos o.0.0).1 p in
     let lt = o.1 in omega arith
 
-rise_pos : (l : List Access) (b : Access) → CountsRise l → StandsIn l b → 1 ≤ b.at.count
-rise_pos [] b r s = absurd s
-rise_pos (x ∷ l) b r (inl e) = subst (λ (z : Access). 1 ≤ z.at.count) e r.0
-rise_pos (x ∷ l) b r (inr s) = rise_pos l b r.2 s
-
 stands_mid : (xs : List Access) (e : Access) (ys : List Access) (b : Access) → (e ≡ b) ⊎ StandsIn ys b → StandsIn (xs ++ e ∷ ys) b
 stands_mid [] e ys b (inl q) = inl q
 stands_mid [] e ys b (inr s) = inr s
@@ -106,7 +96,7 @@ covered_suffice edges list a k h rise suf all x y p = by (pairs_which list (a �
   where
     last : (b d : Access) → StandsIn list b → StandsIn (a ∷ []) d → b.at ≡ x → d.at ≡ y → Conflicts b d → Before (Among edges) x y
     last b d s (inl e) bx dy c =
-        let go : Before (Among edges) b.at a.at = covered_before edges b a k h (rise_pos list b rise s) (all b s)
+        let go : Before (Among edges) b.at a.at = covered_before edges b a k h (positive list b rise s) (all b s)
         (subst (λ (z : Access). Conflicts b z) (sym e) c) in
         subst (λ (z : Instr). Before (Among edges) z y) bx (subst (λ (z : Instr). Before (Among edges) b.at z) (ap (λ (z : Access). z.at) e ∙ dy) go)
     last b d s (inr e) bx dy c = absurd e
@@ -130,7 +120,7 @@ latest_before edges list a k x h rise l = record {
 }
   where
     pos : (b : Access) → (l.earlier ≡ b) ⊎ StandsIn l.newer b → 1 ≤ b.at.count
-    pos b s = rise_pos list b rise (subst (λ (z : List Access). StandsIn z b) (sym l.split) (stands_mid l.older l.earlier l.newer b s))
+    pos b s = positive list b rise (subst (λ (z : List Access). StandsIn z b) (sym l.split) (stands_mid l.older l.earlier l.newer b s))
 
 finding_more : (edges : List Edge) (list : List Access) (a : Access) (x y : Instr) → IsUnordered edges list x y → IsUnordered edges (list ++ a ∷ []) x y
 finding_more edges list a x y h = record {
@@ -151,7 +141,7 @@ checked_suffice edges list a k h now rise suf ch = candidates_law list a edges n
     ordered : (z : Instr) → Candidate (reverse list) a z → Before (Among edges) z a.at
     ordered z c =
         let src = candidate_source (reverse list) a z c in
-        let pos : 1 ≤ z.count = subst (λ (x : Instr). 1 ≤ x.count) src.2 (rise_pos list src.0 rise (stands_back list src.0 src.1)) in
+        let pos : 1 ≤ z.count = subst (λ (x : Instr). 1 ≤ x.count) src.2 (positive list src.0 rise (stands_back list src.0 src.1)) in
         let ne : z.core ≢ a.at.core = λ e. src.3.0 (ap (λ (x : Instr). x.core) src.2 ∙ e) in
         (covered edges a.at z (λ i. slice_index k i) h pos ne).0 (ch z c)
 

@@ -4,8 +4,9 @@ ghost use Rattle.std.specs.List.{flat_map};
 ghost use Rattle.rtr_types.specs.Pairs.{IsPair};
 ghost use Rattle.stride_vector.specs.Vectors.{IsVector, edges_of};
 ghost use Rattle.log_codec.specs.Sources.{AreApart, log_edges};
-ghost use Rattle.log_codec.specs.Turns.{StandInTurn, follow};
-ghost use Rattle.log_codec.specs.Validity.{EdgeRises, Valid};
+ghost use Rattle.rtr_types.specs.Turns.{StandInTurn, follow};
+ghost use Rattle.rtr_types.specs.PairEdges.{EdgeRises};
+ghost use Rattle.log_codec.specs.Validity.{Valid};
 ghost use Rattle.replay_audit.specs.Coming.{IsBeginning, IsNextEdge, IsNextInto, IsNextPosition};
 
 use log_codec::Recording;

@@ -1,14 +1,13 @@
 -- Cores that are ahead by local instructions.
 use Rattle.std.proofs.Common.{◌≡◌, ℕ, subst, zero, suc, ◌+◌, ◌≤◌, List, [], ◌∷◌, set, sym, refl, ap, ◌∙◌, arith}
 use Rattle.std.specs.Prelude.{slice_index}
-use Rattle.rtr_types.specs.declared.instr.Edge.{Edge}
 use Rattle.rv_core.specs.declared.core_state.Core.{Core}
 use Rattle.rv_core.specs.declared.core_state.Need.TheVariants.{Local}
 use Rattle.rv_core.specs.Steps.{need, after}
 use Rattle.rv_core.proofs.LawLemmas.{count_law, number_law}
 use Rattle.replay_core.specs.Plans.{Plan}
-use Rattle.replay_core.specs.Orders.{Sourced}
 use Rattle.replay_audit.specs.Laws.{IsAhead}
+use Rattle.replay_audit.proofs.Front.{sourced_more}
 use Rattle.replay_table.specs.declared.view.Own.{Own}
 use Rattle.replay_table.specs.declared.view.View.{View}
 use Rattle.replay_table.specs.Aheads.{Due, Ahead}
@@ -63,10 +62,6 @@ ahead_between p f (suc n) zero k a b h l nb = absurd (nb (ap (λ (x : Core). nee
 ahead_between p f (suc n) (suc m) k a b h l nb = ahead_between p f n m (after p.image k 0) a b (ahead_rest p f n k a h) (ahead_rest p f m k b l) nb
 
 -- ---- by more that was seen
-
-pub sourced_more : (edges : List Edge) (f g : ℕ → ℕ) (c n : ℕ) → ((i : ℕ) → f i ≤ g i) → Sourced edges f c n → Sourced edges g c n
-sourced_more [] f g c n le s = tt
-sourced_more (e ∷ edges) f g c n le s = (λ core count. let a = s.0 core count in let b = le e.from.core in omega arith, sourced_more edges f g c n le s.1)
 
 pub due_more : (p : Plan) (f g : ℕ → ℕ) (k : Core) → ((i : ℕ) → f i ≤ g i) → Due p f k → Due p g k
 due_more p f g k le d = record { below = d.below; sourced = sourced_more p.edges f g k.id (k.count + 1) le d.sourced }

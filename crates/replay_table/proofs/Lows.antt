@@ -3,6 +3,7 @@ use Rattle.std.proofs.Common.{◌≡◌, ℕ, ◌+◌, true, false, Bool, cond, 
 use Rattle.std.specs.Prelude.{Option, Some, None}
 use Rattle.std.specs.List.{Contains}
 use Rattle.std.proofs.lemmas.List.Elements.{Contains-push, Contains-append_left}
+use Rattle.std.proofs.lemmas.Option.{same_Some}
 use Rattle.rtr_types.specs.declared.pairs.Which.{Which}
 use Rattle.rtr_types.specs.Accesses.{is_read}
 use Rattle.rv_core.specs.declared.core_state.Core.{Core}
@@ -65,9 +66,6 @@ loaded_low which r past sees holds v w word found valid t step ask =
     let same = at_same p past sees holds v step.own step.at word false false false false (word_of n) t step.next step.access (load_is n ask) in
     low_value which r (seen_of v) step.own step.at past.core found valid step.reached same.1 (load_reads n ask)
 
-some-same : (a b : ℕ) → Some a ≡ Some b → a ≡ b
-some-same a b e = cc
-
 -- what was held for an atomic memory operation
 pub exchanged_low : (which : Which) (r : Recording) (past : Past) (sees : List ℕ) (holds : Option ℕ) (v w : View) (word held new found : ℕ) → Valid r
     → Tied (plan_of which r) past sees holds v
@@ -78,6 +76,6 @@ exchanged_low which r past sees holds v w word held new found valid t step ask r
     let p : Plan = plan_of which r in
     let n : Need = need p.image past.core in
     let same = at_same p past sees holds v step.own step.at word true false true false (word_of n) t step.next step.access (change_is n ask) in
-    let is : held ≡ u = some-same held u (sym step.held ∙ e) in
+    let is : held ≡ u = same_Some held u (sym step.held ∙ e) in
     subst (λ (x : ℕ). IsLowValue which r past.core x) is (low_value which r (seen_of v) step.own step.at past.core held valid
     (step.reached (step.sure determinate)) same.1 reads) determinate

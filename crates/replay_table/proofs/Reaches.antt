@@ -17,11 +17,12 @@ use Rattle.replay_core.proofs.Lists.{play_on, accesses_on, plays_join, ordered_j
 use Rattle.replay_core.proofs.Places.{place_law, play_law}
 use Rattle.replay_table.specs.declared.view.Own.{Own}
 use Rattle.replay_audit.specs.declared.touch.Touch.{Touch}
+use Rattle.replay_audit.proofs.Front.{sourced_more}
 use Rattle.replay_table.specs.Accesses.{touched_after, touches_by}
 use Rattle.replay_table.specs.Aheads.{Due, Ahead}
 use Rattle.replay_table.specs.Kinds.{retired}
 use Rattle.replay_table.proofs.Uses.{touches_on, touches_here, touches_else}
-use Rattle.replay_table.proofs.Aheads.{ahead_rest, sourced_more}
+use Rattle.replay_table.proofs.Aheads.{ahead_rest}
 
 -- what the play of an order leaves of a core
 pub record Leaves (p : Plan) (order : List ℕ) (i : ℕ) (k : Core) (notes : List LoadNote) (ts : List Touch) : Type 0 where

@@ -1,13 +1,11 @@
 -- What follows from a plan's being that of a valid recording.
-use Rattle.std.proofs.Common.{inl, ◌≡◌, ◌≢◌, ℕ, ◌^◌, ◌<◌, ◌≤◌, Bool, true, List, length, sym, refl, subst, arith}
+use Rattle.std.proofs.Common.{inl, ◌≡◌, ◌≢◌, ℕ, ◌^◌, ◌<◌, ◌≤◌, Bool, true, List, length, sym, refl, subst}
 use Rattle.std.specs.Prelude.{slice_index, Some}
-use native.Mathlib.Decide.{dec_lt}
 use Rattle.rtr_types.specs.declared.access.Kind.{Kind}
 use Rattle.rtr_types.specs.Accesses.{is_write}
 use Rattle.rv_core.specs.declared.core_state.Core.{Core}
 use Rattle.rv_core.specs.Steps.{need}
-use Rattle.log_codec.specs.declared.recording.Recording.{Recording}
-use Rattle.log_codec.specs.Validity.{Valid}
+use Rattle.log_codec.proofs.Counted.{totals_small}
 use Rattle.replay_core.specs.Plans.{Plan, plan_of}
 use Rattle.replay_core.specs.Play.{Use, use_of}
 use Rattle.replay_core.specs.Orders.{counts, nought, IsReplayOrder, low_order}
@@ -18,19 +16,12 @@ use Rattle.replay_table.specs.declared.view.View.{View}
 use Rattle.replay_table.specs.Accesses.{Accesses}
 use Rattle.replay_table.specs.Rule.{seen_of, Agrees, IsRecorded, LowDecides, Next}
 use Rattle.replay_table.proofs.Aheads.{ahead_id}
-use Rattle.replay_table.proofs.Words.{beyond}
 
 -- ---- totals
 
-totals-fit : (r : Recording) → Valid r → (c : ℕ) → slice_index r.totals c < 2 ^ 32
-totals-fit r valid c = elim (dec_lt c (length r.totals)) [
-  | yes lt ↦ let small = valid.totals c 0 lt in let most = valid.params.limit in omega arith
-  | no ge ↦ let none = beyond r.totals c (omega arith) in omega arith
-]
-
 -- a core's total is below 2^32
 pub total_fits : (p : Plan) → IsRecorded p → (c : ℕ) → slice_index p.totals c < 2 ^ 32
-total_fits p rec c = subst (λ (q : Plan). slice_index q.totals c < 2 ^ 32) (sym rec.plan_is) (totals-fit rec.recording rec.valid c)
+total_fits p rec c = subst (λ (q : Plan). slice_index q.totals c < 2 ^ 32) (sym rec.plan_is) (totals_small rec.recording rec.valid c)
 
 -- ---- two views whose next accesses conflict
 

@@ -4,6 +4,7 @@ use Rattle.std.proofs.Common.{◌∷◌, ◌++◌, length, take, drop, replicate
 use Rattle.std.proofs.lemmas.List.{length-replicate}
 use Rattle.std.specs.Prelude.{Some, None, slice_get, slice_index}
 use Rattle.std.proofs.lemmas.List.FromFn.{length-map-range_with_len}
+use Rattle.std.proofs.lemmas.Option.{none-some}
 use mathlib.Core.Option.{some, some-injective, some-ne-none}
 use lib.ListN.{get_elem?}
 use Rattle.image_mem.specs.Contents.{opening_word, opening_words}
@@ -18,11 +19,7 @@ use Rattle.replay_table.specs.declared.view.View.{View}
 use Rattle.replay_table.specs.Rule.{Owns, Agrees, seen_of, IsRecorded, TableRule}
 use Rattle.replay_table.specs.Seats.{Opening, Past, Tied}
 use Rattle.replay_table.specs.Kinds.{without_first, first_alone, own_from, first_own, first_view, rest_view, SplitsView}
-
-zeros : (n i : ℕ) → slice_index (replicate n 0) i ≡ 0
-zeros zero i = refl
-zeros (suc n) zero = refl
-zeros (suc n) (suc i) = zeros n i
+use Rattle.rtr_types.proofs.Ranges.{zero_at}
 
 first-id : (p : Plan) (c : ℕ) → (first_own p c).core.id ≡ c
 first-id p c = (start_law c p.limit).0
@@ -59,14 +56,11 @@ owns-first p zero k x ow =
 owns-first p (suc j) k x ow = absurd (some-ne-none ow.0 (sym ow.1))
 
 first-seen : (p : Plan) (j : ℕ) (x : View) → get_elem? (one-view p) j ≡ some x → (i : ℕ) → seen_of x i ≡ 0
-first-seen p zero x e i = ap (λ (y : View). seen_of y i) (sym (some-injective _ x e)) ∙ zeros (length p.totals) i
+first-seen p zero x e i = ap (λ (y : View). seen_of y i) (sym (some-injective _ x e)) ∙ zero_at (length p.totals) i
 first-seen p (suc j) x e i = absurd (some-ne-none x (sym e))
 
-no-hold : (u : ℕ) → None ≡ Some u → ⊥
-no-hold u e = cc
-
 first-free : (p : Plan) (j : ℕ) (x : View) (u : ℕ) → get_elem? (one-view p) j ≡ some x → x.held ≡ Some u → ⊥
-first-free p zero x u e q = no-hold u (ap (λ (y : View). y.held) (some-injective _ x e) ∙ q)
+first-free p zero x u e q = none-some u (ap (λ (y : View). y.held) (some-injective _ x e) ∙ q)
 first-free p (suc j) x u e q = absurd (some-ne-none x (sym e))
 
 pub first_rule : (p : Plan) (words : List ℕ) (homes : List _) → IsRecorded p → Opening (opening_words p.image) (length p.totals) words
@@ -118,7 +112,7 @@ first_tied p c past sees v is inside core loads touched seen = record {
   inside = let a = ap (λ (x : Core). x.id) core in let b = first-id p c in omega arith;
   within = let a = ap (λ (x : Core). x.count) core in let b = (start_law c p.limit).2 in omega arith;
   all_polls = ap (λ (x : View). length x.polls) is ∙ length-replicate (length p.totals) 0;
-  holding = λ value e. absurd (no-hold value e);
+  holding = λ value e. absurd (none-some value e);
 }
 
 -- what is left when c cores have gone may be split: nothing is held, and no core has executed an instruction

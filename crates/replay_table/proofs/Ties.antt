@@ -1,6 +1,8 @@
 -- What ties a seat to its view, step by step.
 use Rattle.std.proofs.Common.{◌≡◌, ◌≢◌, ℕ, subst, suc, ◌+◌, ◌<◌, ◌≤◌, true, false, Bool, List, [], ◌∷◌, length, set, sym, refl, ap, ◌∙◌, arith, length-set}
 use Rattle.std.specs.Prelude.{Option, Some, None, slice_index}
+use Rattle.std.proofs.lemmas.Option.{none-some}
+use Rattle.std.proofs.lemmas.Bool.{true≢false}
 use Rattle.rv_core.specs.declared.core_state.Core.{Core}
 use Rattle.rv_core.specs.declared.core_state.Need.{Need}
 use Rattle.rv_core.specs.declared.core_state.Need.TheVariants.{Local, Load, Store, Amo, Done}
@@ -52,18 +54,12 @@ change_is n t = let c = change_parts n t in write_is n false c.0 c.1
 
 -- ---- what a seat holds
 
-true-false : true ≡ false → ⊥
-true-false e = cc
-
-none-some : (u : ℕ) → None ≡ Some u → ⊥
-none-some u e = cc
-
 -- a seat at an access that doesn't go by a held word holds none
 load-free : (p : Plan) (f : ℕ → ℕ) (k : Core) (word : ℕ) → Loads (need p.image k) word → AwaitsChange p f k → ⊥
-load-free p f k word a h = true-false (one_access (need p.image k) h.word word true false false false h.access a).writes_is
+load-free p f k word a h = true≢false (one_access (need p.image k) h.word word true false false false h.access a).writes_is
 
 store-free : (p : Plan) (f : ℕ → ℕ) (k : Core) (word : ℕ) → Stores (need p.image k) word → AwaitsChange p f k → ⊥
-store-free p f k word a h = true-false (sym (one_access (need p.image k) h.word word true true false true h.access a).whole_is)
+store-free p f k word a h = true≢false (sym (one_access (need p.image k) h.word word true true false true h.access a).whole_is)
 
 awaits-by : (p : Plan) (k : Core) (v w : View) → w.seen ≡ v.seen → AwaitsChange p (seen_of v) k → AwaitsChange p (seen_of w) k
 awaits-by p k v w seen h = subst (λ (l : List ℕ). AwaitsChange p (λ i. slice_index l i) k) (sym seen) h

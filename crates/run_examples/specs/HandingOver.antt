@@ -4,7 +4,6 @@ use Rattle.image_mem.specs.Contents.{opening_words}
 use Rattle.rtr_types.specs.declared.access.Access.{Access}
 use Rattle.rtr_types.specs.declared.access.Kind.TheVariants.{Load, Store}
 use Rattle.rtr_types.specs.declared.params.Params.{Params}
-use Rattle.rv_core.specs.declared.outcome.Outcome.{Outcome}
 use Rattle.schedule_pick.specs.Choices.{Choices, choices_of}
 use Rattle.run_outcome.specs.Outcomes.{outcome_of}
 use Rattle.msi_examples.specs.Examples.{instr, load, two_cores}

@@ -1,20 +1,16 @@
 -- What the accesses of a run are.
-use Rattle.std.proofs.Common.{◌≡◌, refl, ap, ℕ, zero, suc, ◌<◌, ◌≤◌, ◌^◌, List, [], ◌∷◌, ◌++◌, Some, arith, inl, inr, ◌⊎◌}
+use Rattle.std.proofs.Common.{◌≡◌, refl, ap, ℕ, zero, suc, ◌<◌, ◌≤◌, ◌^◌, List, [], ◌∷◌, ◌++◌, Some, arith, inl, inr}
 use Rattle.image_mem.specs.Contents.{Contents}
 use Rattle.rtr_types.specs.declared.TheConstants.{CORES_MAX}
 use Rattle.rtr_types.specs.declared.access.Access.{Access}
 use Rattle.rtr_types.specs.declared.params.Params.{Params}
 use Rattle.conflict_edge.specs.Conflicts.{CountsRise, StandsIn}
+use Rattle.conflict_edge.proofs.Standing.{stands_which}
 use Rattle.msi_data.proofs.Remembers.{each_within}
 use Rattle.msi_state.specs.Nodes.{Event, Nothing, Retires, Accesses, instr_of}
 use Rattle.msi_state.specs.Runs.{accesses, accesses_in, event_at}
 use Rattle.run_laws.specs.Retirement.{AccessesLaw, retired_count}
 use Rattle.run_laws.proofs.Retiring.{IsNextOf, Tells, run_tells}
-
-pub stands_cases : (xs ys : List Access) (a : Access) → StandsIn (xs ++ ys) a → StandsIn xs a ⊎ StandsIn ys a
-stands_cases [] ys a s = inr s
-stands_cases (x ∷ xs) ys a (inl same) = inl (inl same)
-stands_cases (x ∷ xs) ys a (inr s) = elim (stands_cases xs ys a s) [ inl there ↦ inl (inr there) | inr there ↦ inr there ]
 
 -- an event retires its access's instruction
 pub accessed : (e : Event) (a : Access) → StandsIn (accesses_in e) a → instr_of e ≡ Some a.at
@@ -35,7 +31,7 @@ rise_more : (xs ys : List Access) → CountsRise xs → CountsRise ys
 rise_more [] ys front back apart = back
 rise_more (x ∷ xs) ys front back apart = (
   front.0,
-  λ b stands same. elim (stands_cases xs ys b stands) [
+  λ b stands same. elim (stands_which xs ys b stands) [
     | inl there ↦ front.1 b there same
     | inr there ↦ apart x b (inl refl) there same
   ],
@@ -55,11 +51,11 @@ retired_more cores f g list e told h = record {
   rise = rise_more list (accesses_in e) h.rise (one_rises cores f e next)
       (λ a b one other same.
       let now = (next b other).count in let before = h.retired a one in let at = ap f same in omega (arith, now, before, at));
-  cores_are = λ a stands. elim (stands_cases list (accesses_in e) a stands) [
+  cores_are = λ a stands. elim (stands_which list (accesses_in e) a stands) [
     | inl there ↦ h.cores_are a there
     | inr there ↦ (next a there).core
   ];
-  retired = λ a stands. elim (stands_cases list (accesses_in e) a stands) [
+  retired = λ a stands. elim (stands_which list (accesses_in e) a stands) [
     | inl there ↦ let before = h.retired a there in let up = told.more a.at.core in omega (arith, before, up)
     | inr there ↦ let now = told.reached a.at (accessed e a there) in omega (arith, now)
   ];

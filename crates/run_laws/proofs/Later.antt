@@ -8,10 +8,11 @@ use Rattle.rtr_types.specs.declared.access.Access.{Access}
 use Rattle.rtr_types.specs.declared.instr.Instr.{Instr}
 use Rattle.rtr_types.specs.declared.params.Params.{Params}
 use Rattle.conflict_edge.specs.Conflicts.{StandsIn}
+use Rattle.conflict_edge.proofs.Standing.{stands_which}
 use Rattle.msi_state.specs.Nodes.{Event}
 use Rattle.msi_state.specs.Runs.{accesses, accesses_in, event_at}
 use Rattle.run_laws.specs.Retirement.{EarlierLaw, NextRetiresLaw, RetiresAt, RetiresOnceLaw, StaysRetiredLaw, retired_count}
-use Rattle.run_laws.proofs.Accessing.{accessed, stands_cases}
+use Rattle.run_laws.proofs.Accessing.{accessed}
 use Rattle.run_laws.proofs.Retiring.{run_tells}
 
 -- from t choices on to u: the counts don't fall, and each access that is added hasn't retired before
@@ -40,7 +41,7 @@ goes_on image params choices t u few small h =
       is =
           ap (λ (l : List Access). l ++ accesses_in e) h.is
           ∙ append_assoc (accesses image params choices t) h.rest (accesses_in e);
-      above = λ a stands. elim (stands_cases h.rest (accesses_in e) a stands) [
+      above = λ a stands. elim (stands_which h.rest (accesses_in e) a stands) [
         | inl there ↦ h.above a there
         | inr there ↦
             let now = (told.next a.at (accessed e a there)).count in let before = h.more a.at.core in

@@ -12,7 +12,8 @@ use Rattle.msi_state.specs.declared.moves.Move.{Move}
 use Rattle.msi_state.specs.Runs.{chosen, event_at, event_by, run, stepped_by}
 use Rattle.msi_state.specs.States.{PlainState}
 use Rattle.msi_state.specs.Steps.{enabled}
-use Rattle.run_outcome.proofs.Fitting.{run_cores as run_nodes, run_image}
+use Rattle.msi_bound.proofs.Ends.{run_cores as run_nodes}
+use Rattle.run_outcome.proofs.Fitting.{run_image}
 use Rattle.run_laws.proofs.NodeCores.{node_cores}
 use Rattle.run_laws.proofs.StepCores.{step_cores}
 use Rattle.run_laws.proofs.Working.{CoresAfter}

@@ -1,5 +1,5 @@
 -- What a core's work does to the cores, and what is told of it.
-use Rattle.std.proofs.Common.{◌≡◌, ◌∙◌, refl, sym, ap, subst, ℕ, ◌+◌, ◌/◌, ◌<◌, Bool, true, false, List, length, Option, Some, None, arith}
+use Rattle.std.proofs.Common.{◌≡◌, ◌∙◌, refl, sym, ap, subst, ℕ, ◌+◌, ◌/◌, ◌<◌, Bool, true, false, List, length, Option, Some, None}
 use Rattle.std.specs.Prelude.{slice_set, if◌then◌else◌}
 use Rattle.std.proofs.lemmas.List.{length-map, map-set}
 use Rattle.access_times.specs.Riding.{Riding, Carrying}

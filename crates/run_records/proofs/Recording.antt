@@ -1,5 +1,5 @@
 -- Until its end each run is recorded.
-use Rattle.std.proofs.Common.{◌≡◌, ◌∙◌, refl, sym, ap, subst, ℕ, zero, suc, ◌+◌, ◌*◌, ◌<◌, ◌≤◌, ◌^◌, true, false, List, [], ◌∷◌, length, Option, Some, None}
+use Rattle.std.proofs.Common.{◌≡◌, ◌∙◌, refl, sym, ap, subst, ℕ, zero, suc, ◌+◌, ◌*◌, ◌<◌, ◌≤◌, ◌^◌, true, false, List, [], length, Option, Some, None}
 use Rattle.std.proofs.Common.{arith}
 use Rattle.std.specs.Prelude.{reverse}
 use Rattle.std.proofs.lemmas.List.{length-map}
@@ -9,7 +9,6 @@ use Rattle.access_times.specs.Times.{times_riding}
 use Rattle.access_times.specs.declared.times.Times.{Times}
 use Rattle.image_mem.specs.Contents.{Contents}
 use Rattle.rtr_types.specs.Parameters.{Fits}
-use Rattle.rtr_types.specs.declared.access.Access.{Access}
 use Rattle.rtr_types.specs.declared.instr.Instr.{Instr}
 use Rattle.rtr_types.specs.declared.params.Params.{Params}
 use Rattle.schedule_pick.specs.Choices.{Choices, choice_at, choices_after}

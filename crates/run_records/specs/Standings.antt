@@ -63,7 +63,8 @@ next_move w = chosen (plain w.state) (choice_at w.rest 0)
 abbrev pub found_by : Standing → Option Move → Times
 found_by w None = fresh_times
 found_by w (Some m) =
-    rider_of_event times_riding (event times_riding known_carrying w.state m) (retiring times_riding known_carrying w.state m)
+    rider_of_event times_riding (event times_riding known_carrying w.state m)
+    (retiring times_riding known_carrying w.state m)
 
 -- what stands after a move of which the clerk was told
 abbrev pub moved_by : Standing → Option Move → Standing

@@ -1,5 +1,5 @@
 -- The order of retirement decides by logs that cover the run.
-use Rattle.std.proofs.Common.{◌≡◌, subst, List, inr}
+use Rattle.std.proofs.Common.{subst, List, inr}
 use Rattle.rtr_types.specs.declared.access.Access.{Access}
 use Rattle.rtr_types.specs.declared.pairs.Which.TheVariants.{Reduced}
 use Rattle.clock_core.specs.Order.{Among, Relation}

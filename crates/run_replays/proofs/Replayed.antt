@@ -6,7 +6,6 @@ use Rattle.rtr_types.specs.declared.access.Access.{Access}
 use Rattle.rtr_types.specs.declared.pairs.Which.{Which}
 use Rattle.rtr_types.specs.declared.pairs.Which.TheVariants.{Reduced}
 use Rattle.rtr_types.specs.declared.params.Params.{Params}
-use Rattle.rv_core.specs.declared.outcome.LoadNote.{LoadNote}
 use Rattle.rv_core.specs.declared.outcome.Outcome.{Outcome}
 use Rattle.schedule_pick.specs.Choices.{Choices}
 use Rattle.conflict_edge.specs.Conflicts.{StandsIn}
@@ -20,8 +19,7 @@ use Rattle.replay_core.specs.declared.answers.ReplayFault.{ReplayFault}
 use Rattle.replay_core.specs.declared.answers.ReplayFault.TheVariants as replaying
 use Rattle.replay_core.specs.Orders.{IsReplayOrder}
 use Rattle.replay_core.specs.Plans.{Plan, recorded_image, plan_of}
-use Rattle.replay_core.specs.Play.{first_short, loads_at, played, start}
-use Rattle.replay_core.specs.Play as replays
+use Rattle.replay_core.specs.Play.{first_short, loads_at, start}
 use Rattle.replay_audit.proofs.Agreed.{any_whole_law, every_order_law}
 use Rattle.replay_audit.specs.Audits.{AuditRefuses, Findings, IsAuditOf, Passed}
 use Rattle.replay_audit.specs.Determinate.{Decides, IsDeterminate, low_accesses, low_order_of, low_outcome}

@@ -1,5 +1,5 @@
 pub mod Bits
-mod BuiltFields
+pub mod BuiltFields
 pub mod DecodedFits
 pub mod Joins
 pub mod RoundTrip

@@ -82,7 +82,7 @@ amo_known amo.Max = refl
 amo_known amo.Minu = refl
 amo_known amo.Maxu = refl
 
-condition_small : (cond : Cond) → condition_code cond < 8
+pub condition_small : (cond : Cond) → condition_code cond < 8
 condition_small Eq = lit< tt
 condition_small Ne = lit< tt
 condition_small Lt = lit< tt
@@ -90,14 +90,14 @@ condition_small Ge = lit< tt
 condition_small Ltu = lit< tt
 condition_small Geu = lit< tt
 
-width_small : (width : Width) → width_code width < 8
+pub width_small : (width : Width) → width_code width < 8
 width_small Byte = lit< tt
 width_small Half = lit< tt
 width_small Word = lit< tt
 width_small ByteU = lit< tt
 width_small HalfU = lit< tt
 
-alu_small : (alu : Alu) → (alu_code alu < 8) × (alu_variant alu < 128)
+pub alu_small : (alu : Alu) → (alu_code alu < 8) × (alu_variant alu < 128)
 alu_small Add = (lit< tt, lit< tt)
 alu_small Sub = (lit< tt, lit< tt)
 alu_small Sll = (lit< tt, lit< tt)
@@ -110,7 +110,7 @@ alu_small Or = (lit< tt, lit< tt)
 alu_small And = (lit< tt, lit< tt)
 
 -- with aq and rl as 0 the number fills funct7
-amo_small : (op : AmoOp) → amo_code op * 4 < 128
+pub amo_small : (op : AmoOp) → amo_code op * 4 < 128
 amo_small amo.Swap = lit< tt
 amo_small amo.Add = lit< tt
 amo_small amo.Xor = lit< tt

@@ -1,14 +1,6 @@
 -- The word of an instruction that fits has 32 bits.
-use Rattle.std.proofs.Common.{ℕ, ◌*◌, ◌/◌, ◌^◌, ◌<◌, ℤ, arith, mod-lt, lit<, Bool, true, false, cond}
-use Rattle.std.proofs.lemmas.Nat.{pow_pos}
-use Rattle.rv_decode.specs.declared.op.Cond.{Cond}
-use Rattle.rv_decode.specs.declared.op.Cond.TheVariants.{Eq, Ne, Lt, Ge, Ltu, Geu}
-use Rattle.rv_decode.specs.declared.op.Width.{Width}
-use Rattle.rv_decode.specs.declared.op.Width.TheVariants.{Byte, Half, Word, ByteU, HalfU}
+use Rattle.std.proofs.Common.{ℕ, ◌*◌, ◌^◌, ◌<◌, ℤ, arith, lit<, Bool, true, false, cond}
 use Rattle.rv_decode.specs.declared.op.Alu.{Alu}
-use Rattle.rv_decode.specs.declared.op.Alu.TheVariants.{Add, Sub, Sll, Slt, Sltu, Xor, Srl, Sra, Or, And}
-use Rattle.rv_decode.specs.declared.op.AmoOp.{AmoOp}
-use Rattle.rv_decode.specs.declared.op.AmoOp.TheVariants as amo
 use Rattle.rv_decode.specs.declared.op.Op.{Op}
 use Rattle.rv_decode.specs.declared.op.Op.TheVariants.{Lui, Auipc, Jal, Jalr, Branch, Load, Store, AluImm, AluReg, Amo, Fence, Ecall, Ebreak}
 use Rattle.rv_decode.specs.Atomics.{amo_code}
@@ -16,48 +8,8 @@ use Rattle.rv_decode.specs.Fields.{field}
 use Rattle.rv_decode.specs.Ranges.{Fits, IsRegister, IsUpper}
 use Rattle.rv_decode.specs.Words.{encoding, bits_of, word_r, word_i, word_s, word_b, word_u}
 use Rattle.rv_decode.specs.Words.{word_j, condition_code, width_code, alu_code, alu_variant, is_shift, alu_immediate_word}
-
-field_below : (word low width : ℕ) → field word low width < 2 ^ width
-unfolding field
-field_below word low width = mod-lt (word / 2 ^ low) (pow_pos width)
-
-condition_small : (cond : Cond) → condition_code cond < 8
-condition_small Eq = lit< tt
-condition_small Ne = lit< tt
-condition_small Lt = lit< tt
-condition_small Ge = lit< tt
-condition_small Ltu = lit< tt
-condition_small Geu = lit< tt
-
-width_small : (width : Width) → width_code width < 8
-width_small Byte = lit< tt
-width_small Half = lit< tt
-width_small Word = lit< tt
-width_small ByteU = lit< tt
-width_small HalfU = lit< tt
-
-alu_small : (alu : Alu) → (alu_code alu < 8) × (alu_variant alu < 128)
-alu_small Add = (lit< tt, lit< tt)
-alu_small Sub = (lit< tt, lit< tt)
-alu_small Sll = (lit< tt, lit< tt)
-alu_small Slt = (lit< tt, lit< tt)
-alu_small Sltu = (lit< tt, lit< tt)
-alu_small Xor = (lit< tt, lit< tt)
-alu_small Srl = (lit< tt, lit< tt)
-alu_small Sra = (lit< tt, lit< tt)
-alu_small Or = (lit< tt, lit< tt)
-alu_small And = (lit< tt, lit< tt)
-
-amo_small : (op : AmoOp) → amo_code op * 4 < 128
-amo_small amo.Swap = lit< tt
-amo_small amo.Add = lit< tt
-amo_small amo.Xor = lit< tt
-amo_small amo.And = lit< tt
-amo_small amo.Or = lit< tt
-amo_small amo.Min = lit< tt
-amo_small amo.Max = lit< tt
-amo_small amo.Minu = lit< tt
-amo_small amo.Maxu = lit< tt
+use Rattle.rv_decode.proofs.RoundTrip.{alu_small, amo_small, condition_small, width_small}
+use Rattle.rv_decode.proofs.BuiltFields.{field_below}
 
 r_below : (o f g d a b : ℕ) → o < 128 → f < 8 → g < 128 → IsRegister d → IsRegister a → b < 32 → word_r o f g d a b < 2 ^ 32
 unfolding word_r

@@ -3,13 +3,12 @@ use Rattle.std.proofs.Common.{◌≡◌, ◌≢◌, ℕ, zero, suc, ◌+◌, ◌
 use Rattle.std.proofs.Common.{true, false, nat_lt, nat_eq, ◌&&◌, cond, Option, Some, None, Result, Err, append_assoc}
 use Rattle.std.specs.Prelude.{if◌then◌else◌}
 use Rattle.std.specs.Option.{option_map}
-use Rattle.std.proofs.lemmas.Bool.{cases_lt}
+use Rattle.std.proofs.lemmas.Bool.{cases_lt, lt-ltb, le-ltb}
 use Rattle.std.proofs.lemmas.Bool.Decides.{nat_tests}
 use Rattle.std.proofs.lemmas.List.{length-append, append-nil, drop_more, drop_all}
 use Rattle.varint_core.specs.declared.Varint.{Varint}
 use Rattle.varint_core.specs.declared.Varint.TheVariants.{Short, Over}
 use Rattle.varint_core.specs.Leb128.{group, value, last, is_padded, judged, reading, end}
-use Rattle.varint_core.proofs.Spelled.{lt-yes, lt-no}
 
 -- the number by a walk: i bytes before, the scale of the next, the value so far
 abbrev pub read_on : ℕ → ℕ → ℕ → List ℕ → Result (ℕ × ℕ) Varint
@@ -45,8 +44,8 @@ last-push c (d ∷ p) b = last-push d p b
 padded-push : (p : List ℕ) (b i : ℕ) → length p ≡ i → is_padded (p ++ (b ∷ [])) ≡ nat_lt 0 i && nat_eq b 0
 padded-push [] b i l = rw (← l) refl
 padded-push (c ∷ p) b i l =
-    let one : nat_lt 0 (length (p ++ (b ∷ []))) ≡ true = lt-yes _ _ (omega (arith, length-append p (b ∷ []))) in
-    let two : nat_lt 0 i ≡ true = lt-yes _ _ (omega arith) in
+    let one : nat_lt 0 (length (p ++ (b ∷ []))) ≡ true = lt-ltb _ _ (omega (arith, length-append p (b ∷ []))) in
+    let two : nat_lt 0 i ≡ true = lt-ltb _ _ (omega arith) in
     rw (one, two, last-push c p b) refl
 
 fused : (p bytes : List ℕ) (b : ℕ) (o : Option (List ℕ)) → judged ((p ++ (b ∷ [])) ++ bytes) (option_map (λ g. (p ++ (b ∷ [])) ++ g) o)
@@ -61,18 +60,18 @@ read-group zero i s v p [] five l sc va = rw append-nil (rw l refl)
 read-group (suc k) i s v p [] five l sc va = rw append-nil (rw l refl)
 read-group zero i s v p (b ∷ bytes) five l sc va =
     let one : nat_eq i 5 ≡ true = grind (arith, nat_tests) in
-    let two : nat_lt (length (p ++ (b ∷ bytes))) 5 ≡ false = lt-no _ _ (omega (arith, length-append p (b ∷ bytes))) in
+    let two : nat_lt (length (p ++ (b ∷ bytes))) 5 ≡ false = le-ltb _ _ (omega (arith, length-append p (b ∷ bytes))) in
     rw (one, two) refl
 read-group (suc k) i s v p (b ∷ bytes) five l sc va =
     let one : nat_eq i 5 ≡ false = grind (arith, nat_tests) in
     let v' : v + (b % 128) * s ≡ value (p ++ (b ∷ [])) = rw (sc, va) (sym (value-push p b)) in
     elim (cases_lt b 128) [
       | inl small ↦
-          let t = lt-yes b 128 small in
+          let t = lt-ltb b 128 small in
           let len : length (p ++ (b ∷ [])) ≡ i + 1 = omega (arith, length-append p (b ∷ [])) in
           rw (one, t, v', ← padded-push p b i l, ← len) refl
       | inr big ↦
-          let t = lt-no b 128 big in
+          let t = le-ltb b 128 big in
           let sc' : s * 128 ≡ scale (p ++ (b ∷ [])) = ap (λ (m : ℕ). m * 128) sc ∙ sym (scale-push p b) in
           let ih = read-group k (i + 1) (s * 128) (v + (b % 128) * s) (p ++ (b ∷ [])) bytes (omega arith) (omega (arith, length-append p (b ∷ []))) sc' v' in
           rw (one, t) (ih ∙ fused p bytes b (group k bytes))
@@ -100,7 +99,7 @@ pub at_small : (bytes : List ℕ) (i s v : ℕ) (r : Result (ℕ × ℕ) Varint)
 at_small bytes i s v r other lt small e =
     let d = drop_more bytes i 0 lt in
     let one : nat_eq i 5 ≡ false = grind (arith, nat_tests) in
-    let two = lt-yes (get_or bytes i 0) 128 small in
+    let two = lt-ltb (get_or bytes i 0) 128 small in
     let f : read_on i s v (get_or bytes i 0 ∷ drop (i + 1) bytes) ≡ r = rw d at e in
     rw (one, two) at f
 

@@ -4,26 +4,20 @@ use Rattle.std.proofs.Common.{arith, true, false, Bool, nat_lt, nat_le, cond, Op
 use Rattle.std.specs.Prelude.{OnOk, is_ok}
 use Rattle.std.specs.Option.{option_map}
 use Rattle.std.specs.List.{AllByRecursion}
-use Rattle.std.proofs.lemmas.Bool.{cases_lt}
+use Rattle.std.proofs.lemmas.Bool.{cases_lt, lt-ltb, le-ltb}
 use Rattle.std.proofs.lemmas.Bool.Decides.{nat_tests}
 use Rattle.std.proofs.lemmas.List.{take_at, length-append, append_cancel_left}
 use Rattle.varint_core.specs.declared.Varint.{Varint}
 use Rattle.varint_core.specs.declared.Varint.TheVariants.{Short, Over, NotShortest}
 use Rattle.varint_core.specs.Leb128.{spelling_within, spelling, group, value, last, is_padded, judged, reading, RoundTrip, OneSpelling, PrefixFree}
 
-pub lt-yes : (a b : ℕ) → a < b → nat_lt a b ≡ true
-lt-yes a b h = grind (arith, nat_tests)
-
-pub lt-no : (a b : ℕ) → b ≤ a → nat_lt a b ≡ false
-lt-no a b h = grind (arith, nat_tests)
-
 pub spelling-small : (k n : ℕ) → n < 128 → spelling_within (suc k) n ≡ n ∷ []
 unfolding spelling_within
-spelling-small k n h = rw (lt-yes n 128 h) refl
+spelling-small k n h = rw (lt-ltb n 128 h) refl
 
 pub spelling-more : (k n : ℕ) → 128 ≤ n → spelling_within (suc k) n ≡ (n % 128 + 128) ∷ spelling_within k (n / 128)
 unfolding spelling_within
-spelling-more k n h = rw (lt-no n 128 h) refl
+spelling-more k n h = rw (le-ltb n 128 h) refl
 
 -- what is left of a number that isn't small
 pub left : (k n : ℕ) → 128 ≤ n → n < 128 * 128 ^ k → (j : ℕ) × (k ≡ suc j) × (n / 128 < 128 * 128 ^ j)
@@ -38,11 +32,11 @@ IsGroup (b ∷ c ∷ bytes) = (128 ≤ b) × (b < 256) × IsGroup (c ∷ bytes)
 
 group-small : (k b : ℕ) (bytes : List ℕ) → b < 128 → group (suc k) (b ∷ bytes) ≡ Some (b ∷ [])
 unfolding group
-group-small k b bytes h = rw (lt-yes b 128 h) refl
+group-small k b bytes h = rw (lt-ltb b 128 h) refl
 
 group-more : (k b : ℕ) (bytes : List ℕ) → 128 ≤ b → group (suc k) (b ∷ bytes) ≡ option_map (λ g. b ∷ g) (group k bytes)
 unfolding group
-group-more k b bytes h = rw (lt-no b 128 h) refl
+group-more k b bytes h = rw (le-ltb b 128 h) refl
 
 -- the spelling is a group of its own, whatever follows
 pub group-spelling : (k n : ℕ) (rest : List ℕ) → n < 128 * 128 ^ k → group (suc k) (spelling_within (suc k) n ++ rest) ≡ Some (spelling_within (suc k) n)

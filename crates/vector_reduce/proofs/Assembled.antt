@@ -13,7 +13,7 @@ use Rattle.clock_core.specs.Order.{Among, Before}
 use Rattle.clock_core.proofs.Listed.{among_contains}
 use Rattle.log_codec.specs.declared.recording.Recording.{Recording}
 use Rattle.log_codec.specs.Sources.{EdgeWithin}
-use Rattle.log_codec.specs.Turns.{StandInTurn, stay}
+use Rattle.rtr_types.specs.Turns.{StandInTurn, stay}
 use Rattle.log_codec.specs.Validity.{Valid}
 use Rattle.log_codec.proofs.InTurn.{places-stand}
 use Rattle.log_codec.proofs.SourceLaws.{edges-within}

@@ -2,8 +2,9 @@
 use Rattle.std.proofs.Common.{◌≡◌, ◌≢◌, ℕ, zero, suc, ◌+◌, ◌-◌, ◌*◌, ◌<◌, ◌≤◌, ◌^◌, ◌⊎◌, inl, inr, List, [], length, get_or, max, refl, sym, ap, subst, ◌∙◌}
 use Rattle.std.proofs.Common.{true, false, arith}
 use Rattle.std.specs.Prelude.{Bool, Option, Some, None}
-use Rattle.std.proofs.Math.Nat.{mul-le-mul_left}
+use Rattle.std.proofs.Math.Nat.{mul-le-mul_left, eq-zero-or-pos}
 use Rattle.std.proofs.lemmas.List.{get_or_default}
+use Rattle.std.proofs.lemmas.Bool.{cases_lt, cases_eq}
 use Rattle.rtr_types.specs.declared.TheConstants.{CORES_MAX}
 use Rattle.rtr_types.specs.declared.instr.Instr.{Instr}
 use Rattle.rtr_types.specs.declared.instr.Edge.{Edge}
@@ -26,15 +27,6 @@ use Rattle.vector_reduce.proofs.Edges.{among_beside, beside_among, edge_among}
 
 abbrev at : ℕ → ℕ → Instr
 at core count = record { core = core; count = count }
-
-same_or_not : (m n : ℕ) → (m ≡ n) ⊎ (m ≢ n)
-same_or_not m n = grind arith
-
-below_or_not : (m n : ℕ) → (m < n) ⊎ (n ≤ m)
-below_or_not m n = grind arith
-
-some_or_none : (n : ℕ) → (n ≡ 0) ⊎ (1 ≤ n)
-some_or_none n = grind arith
 
 -- ---- what lies in the cut
 
@@ -85,7 +77,7 @@ pub raised_holds : (s t : Closing) (z : Instr) → Raises s z t → Holds (count
 raised_holds s t z r = let e = r.at_core in omega (arith, e)
 
 pub raised_keeps : (s t : Closing) (z x : Instr) → Raises s z t → Holds (counts_of s) x → Holds (counts_of t) x
-raised_keeps s t z x r h = by (same_or_not x.core z.core)
+raised_keeps s t z x r h = by (cases_eq x.core z.core)
   where
     by : (x.core ≡ z.core) ⊎ (x.core ≢ z.core) → Holds (counts_of t) x
     by (inl e) =
@@ -97,7 +89,7 @@ raised_keeps s t z x r h = by (same_or_not x.core z.core)
 
 raised_leads : (edges : List Edge) (y : Instr) (s t : Closing) (z : Instr) → Raises s z t → IsOrLeads (Among edges) z y → Leads edges y (counts_of s) →
     Leads edges y (counts_of t)
-raised_leads edges y s t z r zy leads x some held = by (same_or_not x.core z.core)
+raised_leads edges y s t z r zy leads x some held = by (cases_eq x.core z.core)
   where
     split : (c m n k : ℕ) → c ≤ k → k ≡ max m n → (c ≤ m) ⊎ (c ≤ n)
     split c m n k le e = grind arith
@@ -207,7 +199,7 @@ goes_on a stays y s t u core d r inside due took passes g = record {
 
     sources : (other i : ℕ) → other < length a.lists → i < passed_of u other → i < length (list_at a.lists other) →
         is_beside stays (arrival_at (list_at a.lists other) i).vector ≡ true → Holds (counts_of u) (arrival_at (list_at a.lists other) i).from
-    sources other i among lt there is = by (same_or_not other core)
+    sources other i among lt there is = by (cases_eq other core)
       where
         old : i < passed_of s other → Holds (counts_of u) (arrival_at (list_at a.lists other) i).from
         old less = held (arrival_at (list_at a.lists other) i).from (g.closing.passed.sources other i among less there is)
@@ -227,7 +219,7 @@ goes_on a stays y s t u core d r inside due took passes g = record {
             new e (omega (arith, lt, up, one_more, was, ge))
 
         by : (other ≡ core) ⊎ (other ≢ core) → Holds (counts_of u) (arrival_at (list_at a.lists other) i).from
-        by (inl e) = own e (below_or_not i (passed_of s core))
+        by (inl e) = own e (cases_lt i (passed_of s core))
         by (inr ne) = let same = passes.elsewhere other ne in let was = passed_is other in old (omega (arith, lt, same, was))
 
 -- ---- how many arrivals are to come
@@ -248,7 +240,7 @@ to_go_less : (lists : List (List Arrival)) (s u : Closing) (core n : ℕ) → co
     passed_of u core ≡ suc (passed_of s core) → ((other : ℕ) → other ≢ core → passed_of u other ≡ passed_of s other) →
     to_go lists u n < to_go lists s n
 to_go_less lists s u core zero lt within up same = absurd (omega (arith, lt))
-to_go_less lists s u core (suc n) lt within up same = by (λ below. to_go_less lists s u core n below within up same) (same_or_not core n)
+to_go_less lists s u core (suc n) lt within up same = by (λ below. to_go_less lists s u core n below within up same) (cases_eq core n)
   where
     by : (core < n → to_go lists u n < to_go lists s n) → (core ≡ n) ⊎ (core ≢ n) → to_go lists u (suc n) < to_go lists s (suc n)
     by shorter (inl e) =
@@ -286,7 +278,7 @@ closed_at_end a stays y s r none g = record { closing = g.closing; closed = clos
         let has = (r.each z.core inside).all m.0 x z m.1 m.3 refl in
         let list = list_at a.lists z.core in
         let is : arrival_at list has.0 ≡ arrival x z.count m.0 = get_or_default list has.0 no_arrival (arrival x z.count m.0) has.1 ∙ has.2 in
-        by has.0 has.1 is m.2 inside (below_or_not has.0 (passed_of s z.core))
+        by has.0 has.1 is m.2 inside (cases_lt has.0 (passed_of s z.core))
       where
         by : (i : ℕ) → i < length (list_at a.lists z.core) → {j : ℕ} → arrival_at (list_at a.lists z.core) i ≡ arrival x z.count j → is_beside stays j ≡ true →
             z.core < length a.lists → (i < passed_of s z.core) ⊎ (passed_of s z.core ≤ i) → Holds (counts_of s) x
@@ -353,7 +345,7 @@ least_cut a stays y s c = record { holds = c.holds; closed = c.closed; least = l
     es = edges_beside a.vectors stays
 
     least : (other : ℕ → ℕ) → Holds other y → IsClosed es other → (core : ℕ) → counts_of s core ≤ other core
-    least other has closed core = by (some_or_none (counts_of s core))
+    least other has closed core = by (eq-zero-or-pos (counts_of s core))
       where
         x : Instr
         x = at core (counts_of s core)

@@ -11,7 +11,7 @@ use Rattle.rtr_types.specs.declared.instr.Edge.{Edge}
 use Rattle.rtr_types.specs.declared.pairs.Which.TheVariants.{Regulated}
 use Rattle.rtr_types.specs.Pairs.{pair_count, source_at, target_at}
 use Rattle.clock_core.specs.Order.{Among}
-use Rattle.clock_core.proofs.Listed.{among_contains, contains_among}
+use Rattle.clock_core.proofs.Listed.{among_contains, contains_among, among_cases, among_left, among_right}
 use Rattle.stride_vector.specs.declared.StrideVector.{StrideVector}
 use Rattle.stride_vector.specs.Vectors.{edges_of, position_of}
 use Rattle.stride_vector.proofs.Sources.{edges-placed}
@@ -24,23 +24,6 @@ use Rattle.vector_reduce.specs.Vectors.{edge_at, edges_in, edges_of_all, led_bet
 
 -- ---- joined lists
 
-pub append_among : (xs ys : List Edge) (x y : Instr) → Among (xs ++ ys) x y → Among xs x y ⊎ Among ys x y
-append_among [] ys x y a = inr a
-append_among (e ∷ xs) ys x y (inl s) = inl (inl s)
-append_among (e ∷ xs) ys x y (inr a) = elim (append_among xs ys x y a) [
-  | inl b ↦ inl (inr b)
-  | inr b ↦ inr b
-]
-
-pub among_left : (xs ys : List Edge) (x y : Instr) → Among xs x y → Among (xs ++ ys) x y
-among_left [] ys x y a = absurd a
-among_left (e ∷ xs) ys x y (inl s) = inl s
-among_left (e ∷ xs) ys x y (inr a) = inr (among_left xs ys x y a)
-
-pub among_right : (xs ys : List Edge) (x y : Instr) → Among ys x y → Among (xs ++ ys) x y
-among_right [] ys x y a = a
-among_right (e ∷ xs) ys x y a = inr (among_right xs ys x y a)
-
 pub joined_all : (vs ws : List PairVector) → edges_of_all (vs ++ ws) ≡ edges_of_all vs ++ edges_of_all ws
 joined_all vs ws = flat_map-append edges_in vs ws
 
@@ -51,13 +34,13 @@ pub all_right : (vs ws : List PairVector) (x y : Instr) → Among (edges_of_all 
 all_right vs ws x y a = subst (λ (es : List Edge). Among es x y) (sym (joined_all vs ws)) (among_right (edges_of_all vs) (edges_of_all ws) x y a)
 
 pub all_cases : (vs ws : List PairVector) (x y : Instr) → Among (edges_of_all (vs ++ ws)) x y → Among (edges_of_all vs) x y ⊎ Among (edges_of_all ws) x y
-all_cases vs ws x y a = append_among (edges_of_all vs) (edges_of_all ws) x y (subst (λ (es : List Edge). Among es x y) (joined_all vs ws) a)
+all_cases vs ws x y a = among_cases (edges_of_all vs) (edges_of_all ws) x y (subst (λ (es : List Edge). Among es x y) (joined_all vs ws) a)
 
 -- ---- one of the vectors has the edge
 
 pub all_among : (vs : List PairVector) (x y : Instr) → Among (edges_of_all vs) x y → (j : ℕ) × (j < length vs) × Among (edges_in (vector_at vs j)) x y
 all_among [] x y a = absurd a
-all_among (v ∷ vs) x y a = elim (append_among (edges_in v) (edges_of_all vs) x y a) [
+all_among (v ∷ vs) x y a = elim (among_cases (edges_in v) (edges_of_all vs) x y a) [
   | inl b ↦ (0, omega arith, b)
   | inr b ↦ let r = all_among vs x y b in (suc r.0, omega (arith, r.1), r.2)
 ]
@@ -74,7 +57,7 @@ pub others_among : (vs : List PairVector) (k : ℕ) (x y : Instr) → Among (edg
 others_among [] zero x y a = absurd a
 others_among [] (suc k) x y a = absurd a
 others_among (v ∷ vs) zero x y a = let r = all_among vs x y a in (suc r.0, omega (arith, r.1), (λ e. absurd (omega (arith, e))), r.2)
-others_among (v ∷ vs) (suc k) x y a = elim (append_among (edges_in v) (edges_of_all (others_of vs k)) x y a) [
+others_among (v ∷ vs) (suc k) x y a = elim (among_cases (edges_in v) (edges_of_all (others_of vs k)) x y a) [
   | inl b ↦ (0, omega arith, (λ e. absurd (omega (arith, e))), b)
   | inr b ↦ let r = others_among vs k x y b in (suc r.0, omega (arith, r.1), (λ e. r.2 (omega (arith, e))), r.3)
 ]
@@ -95,7 +78,7 @@ pub beside_among : (vs : List PairVector) (stays : List Bool) (x y : Instr) → 
 beside_among [] [] x y a = absurd a
 beside_among [] (b ∷ stays) x y a = absurd a
 beside_among (v ∷ vs) [] x y a = let r = all_among vs x y a in (suc r.0, omega (arith, r.1), refl, r.2)
-beside_among (v ∷ vs) (true ∷ stays) x y a = elim (append_among (edges_in v) (edges_of_all (beside vs stays)) x y a) [
+beside_among (v ∷ vs) (true ∷ stays) x y a = elim (among_cases (edges_in v) (edges_of_all (beside vs stays)) x y a) [
   | inl b ↦ (0, omega arith, refl, b)
   | inr b ↦ let r = beside_among vs stays x y b in (suc r.0, omega (arith, r.1), r.2, r.3)
 ]

@@ -4,13 +4,12 @@ use Rattle.std.proofs.Common.{sym, ap, subst, ◌∙◌, true, false}
 use Rattle.std.proofs.Common.{append-nil, arith}
 use Rattle.std.specs.Prelude.{All, Bool, map, sum_by}
 use Rattle.std.specs.List.{Contains, flat_map, range_with_len}
-use Rattle.std.proofs.lemmas.List.{get_or_default, length-append, length-map, map-id}
+use Rattle.std.proofs.lemmas.List.{get_or_default, length-append, length-map}
 use Rattle.std.proofs.lemmas.List.Elements.{Contains-get_or}
-use Rattle.std.proofs.lemmas.List.FromFn.{get_or-range_with_len, length-range_with_len, map-range_with_len_more}
+use Rattle.std.proofs.lemmas.List.FromFn.{get_or-range_with_len, length-range_with_len}
 use Rattle.std.proofs.Math.Nat.{mul-le-mul_left}
 use Rattle.std.proofs.lemmas.Grind.{flat_map-append}
 use Rattle.std.proofs.lemmas.List.Sums.{sum_by-cons, sum_by-le}
-use Rattle.rtr_types.specs.declared.TheConstants.{CORES_MAX}
 use Rattle.rtr_types.specs.declared.params.Params.{Params}
 use Rattle.rtr_types.specs.Pairs.{IsPair, pair_count, source_at, target_at}
 use Rattle.rtr_types.specs.Parameters.{Fits}
@@ -18,11 +17,14 @@ use Rattle.rtr_types.proofs.PairPlaces.{places-paired}
 use Rattle.stride_vector.specs.declared.StrideVector.{StrideVector}
 use Rattle.stride_vector.specs.Vectors.{last_of}
 use Rattle.log_codec.specs.declared.recording.Recording.{Recording}
-use Rattle.log_codec.specs.Turns.{StandInTurn}
-use Rattle.log_codec.specs.Validity.{AreEdges, AreVectors, Valid, VectorStands, bound_at, end_of}
+use Rattle.rtr_types.specs.Turns.{StandInTurn}
+use Rattle.rtr_types.specs.PairEdges.{AreEdges}
+use Rattle.rtr_types.proofs.Ranges.{range_more}
+use Rattle.log_codec.specs.Validity.{AreVectors, Valid, VectorStands, bound_at, end_of}
 use Rattle.log_codec.proofs.Logs.{few_vectors, vector_small}
 use Rattle.log_codec.proofs.Looked.{contains-flat, map-contains}
 use Rattle.log_codec.proofs.Whole as whole
+use Rattle.log_codec.proofs.Counted.{few-pairs}
 use Rattle.vector_reduce.specs.declared.pair_vector.PairVector.{PairVector}
 use Rattle.vector_reduce.specs.Arrivals.{AreBetween, IsBetween}
 use Rattle.vector_reduce.specs.Kept.{IsKeptOf, kept, kept_lists}
@@ -260,10 +262,6 @@ between_more cores most vs le b k lt =
 
 -- ---- the list of all vectors, pair by pair
 
-range_more : (n : ℕ) → range_with_len 0 (n + 1) ≡ range_with_len 0 n ++ n ∷ []
-range_more n = sym (map-id (range_with_len 0 (n + 1))) ∙ map-range_with_len_more (λ (i : ℕ). i) 0 n n (omega arith)
-    ∙ ap (λ (l : List ℕ). l ++ n ∷ []) (map-id (range_with_len 0 n))
-
 pub vectors_more : (r : Recording) (place : ℕ) (old new : List PairVector) → old ≡ flat_map (pair_vectors r) (range_with_len 0 place) →
     new ≡ old ++ pair_vectors r place → new ≡ flat_map (pair_vectors r) (range_with_len 0 (place + 1))
 vectors_more r place old new old_is new_is =
@@ -299,19 +297,13 @@ sum_small r v = sum_by-le (λ (vs : List StrideVector). length vs) r.params.limi
     let most = whole.bound-most r place v in
     subst (λ (vs : List StrideVector). length vs ≤ r.params.limit) (get_or_default r.regulated place [] d lt) (omega (arith, count, most)))
 
-few_pairs : (cores : ℕ) → cores ≤ CORES_MAX → pair_count cores ≤ CORES_MAX * CORES_MAX
-few_pairs cores few =
-    let one = mul-le-mul_left {m = cores - 1} {n = CORES_MAX} cores (omega (arith, few)) in
-    let two = mul-le-mul_left {m = cores} {n = CORES_MAX} CORES_MAX few in
-    omega (arith, one, two)
-
 pub vectors_fit : (r : Recording) → Valid r → sum_by (λ (vs : List StrideVector). length vs) r.regulated < 2 ^ 32 - 1
 vectors_fit r v =
     let sum = sum_small r v in
     let params = v.params.cores in
     let limit = v.params.limit in
     let each = v.each_regulated in
-    let few = few_pairs r.params.cores params in
+    let few = few-pairs r.params.cores params in
     let pairs : length r.regulated ≤ 256 = omega (arith, few, each) in
     let one = mul-le-mul_left {m = r.params.limit} {n = 1000000} (length r.regulated) limit in
     let two = mul-le-mul_left {m = length r.regulated} {n = 256} 1000000 pairs in

@@ -5,13 +5,14 @@ use Rattle.std.proofs.lemmas.List.{take-append-le, drop-append-le, length-append
 use Rattle.rtr_types.specs.declared.instr.Instr.{Instr}
 use Rattle.clock_core.specs.Order.{Before, Among, Within}
 use Rattle.clock_core.proofs.Paths.{one, mapped, more}
+use Rattle.clock_core.proofs.Listed.{among_cases}
 use Rattle.vector_reduce.specs.declared.pair_vector.PairVector.{PairVector}
 use Rattle.vector_reduce.specs.Laws.{NeededStaysLaw, OneThinningLaw, ShownIsNeededLaw, ThinnedIsNeededLaw, ThinnedIsSameLaw}
 use Rattle.vector_reduce.specs.Thinning.{EachNeeded, IsImplied, IsNeeded, Thins}
 use Rattle.vector_reduce.specs.Vectors.{edge_at, edges_in, edges_of_all, others_of, vector_at}
 use Rattle.vector_reduce.specs.Cuts.{counts_in}
 use Rattle.vector_reduce.proofs.Cutting.{cut_shows}
-use Rattle.vector_reduce.proofs.Edges.{all_cases, all_left, all_right, append_among, among_edge}
+use Rattle.vector_reduce.proofs.Edges.{all_cases, all_left, all_right, among_edge}
 
 abbrev E : List PairVector → Instr → Instr → Type 0
 E vs x y = Among (edges_of_all vs) x y
@@ -32,7 +33,7 @@ without_implied : (stayed vs : List PairVector) (v : PairVector) → IsImplied (
     Before (E (stayed ++ vs)) x y
 without_implied stayed vs v implied x y a = elim (all_cases stayed (v ∷ vs) x y a) [
   | inl b ↦ one (E (stayed ++ vs)) x y (inr (all_left stayed vs x y b))
-  | inr b ↦ elim (append_among (edges_in v) (edges_of_all vs) x y b) [
+  | inr b ↦ elim (among_cases (edges_in v) (edges_of_all vs) x y b) [
     | inl d ↦ implied x y d
     | inr d ↦ one (E (stayed ++ vs)) x y (inr (all_right stayed vs x y d))
   ]

@@ -1,9 +1,7 @@
 -- Logs by which the same is before have the same replay orders, and are determinate alike.
-use Rattle.std.proofs.Common.{◌≡◌, ◌≢◌, ℕ, ◌+◌, ◌<◌, ◌≤◌, inr, List, [], ◌∷◌, ◌++◌, length, refl, sym, ap, subst, ◌∙◌, arith, true, false}
-use Rattle.std.proofs.Common.{nat_eq}
+use Rattle.std.proofs.Common.{◌≡◌, ℕ, ◌+◌, ◌<◌, ◌≤◌, inr, List, [], ◌∷◌, ◌++◌, length, refl, sym, ap, subst, ◌∙◌, arith}
 use Rattle.std.specs.Prelude.{slice_index}
 use Rattle.std.specs.List.{Contains}
-use Rattle.std.proofs.lemmas.Bool.Decides.{nat_tests}
 use Rattle.rtr_types.specs.declared.access.Access.{Access}
 use Rattle.rtr_types.specs.declared.instr.Instr.{Instr}
 use Rattle.rtr_types.specs.declared.params.Params.{Params}
@@ -20,7 +18,7 @@ use Rattle.replay_core.specs.Laws.{PlaceOf}
 use Rattle.replay_core.specs.Orders.{bump, counts, nought, IsReplayOrder, IsWhole, Ready}
 use Rattle.replay_core.specs.Plans.{Plan, plan_of}
 use Rattle.replay_core.specs.Play.{instr, start, Plays, accesses_of, accesses_from}
-use Rattle.replay_core.proofs.Counts.{counts_more, counts_on, place_of}
+use Rattle.replay_core.proofs.Counts.{counts_more, counts_on, place_of, bump_same, bump_else}
 use Rattle.replay_core.proofs.Images.{by_image, same_start}
 use Rattle.replay_core.proofs.Lists.{one_more, ordered_on, places_law}
 use Rattle.replay_core.proofs.Ready.{sourced_law}
@@ -49,12 +47,6 @@ counts_closed p order log o x y a h = by (place_of order nought y.core y.count (
         ap (λ (l : List ℕ). counts nought l x.core) w.split ∙ ap (λ (g : ℕ → ℕ). g x.core) (counts_on nought w.front (y.core ∷ w.rest)) in
         let up = counts_more f (y.core ∷ w.rest) x.core in
         omega (arith, le, on, up)
-
-bump_other : (f : ℕ → ℕ) (c i : ℕ) → i ≢ c → bump f c i ≡ f i
-bump_other f c i ne = let t : nat_eq i c ≡ false = grind (arith, nat_tests) in rw t refl
-
-bump_own : (f : ℕ → ℕ) (c i : ℕ) → i ≡ c → bump f c i ≡ f i + 1
-bump_own f c i e = let t : nat_eq i c ≡ true = grind (arith, nat_tests) in rw t refl
 
 -- what is ready by the one log is ready by the other
 ready_too : (r s : Recording) → Valid r → Valid s → IsSameButLog r s →
@@ -90,10 +82,10 @@ ready_too r s vr vs same before front c o ready = record {
     from_source from has =
         let a : Among q.edges from y = contains_among q.edges from y has in
         let path : Before (Among p.edges) from y = before from y (one (Among q.edges) from y (inr a)) in
-        let own : bump f c c ≡ f c + 1 = bump_own f c c refl in
+        let own : bump f c c ≡ f c + 1 = bump_same f c c refl in
         let held : Holds (bump f c) from = closed_holds p.edges (bump f c) from y closed (omega (arith, own)) path in
         let apart = (recorded_log Regulated s vs).apart from y a in
-        let other : bump f c from.core ≡ f from.core = bump_other f c from.core apart in
+        let other : bump f c from.core ≡ f from.core = bump_else f c from.core apart in
         omega (arith, held, other)
 
 one_way : (r s : Recording) → Valid r → Valid s → IsSameButLog r s →

@@ -1,5 +1,5 @@
 -- The sixth part: what is read is spelled so, and what is spelled is read again.
-use Rattle.std.proofs.Common.{inl, inr, ◌≡◌, ◌⊎◌, ℕ, ◌^◌, ◌<◌, ◌≤◌, true, cond, nat_le, zero, suc, List, [], ◌∷◌, ◌++◌, length, get_or, Ok, Err}
+use Rattle.std.proofs.Common.{inl, inr, ◌≡◌, ℕ, ◌^◌, ◌<◌, ◌≤◌, true, cond, nat_le, zero, suc, List, [], ◌∷◌, ◌++◌, length, get_or, Ok, Err}
 use Rattle.std.proofs.Common.{refl}
 use Rattle.std.proofs.Common.{sym, ap, subst, ◌∙◌, append_assoc, arith}
 use Rattle.std.specs.Prelude.{Result, slice_index}
@@ -14,24 +14,26 @@ use Rattle.log_codec.specs.Faults.{◌>>=◌}
 use Rattle.log_codec.specs.Laws.{IsBytes}
 use Rattle.log_codec.specs.Reading.{number_at}
 use Rattle.log_codec.specs.Spelling.{number}
-use Rattle.log_codec.specs.Turns.{read_in_turn, spelled_in_turn, StandInTurn, stay, count_up}
+use Rattle.rtr_types.specs.Turns.{StandInTurn, stay, count_up}
+use Rattle.log_codec.specs.Turns.{read_in_turn, spelled_in_turn, alike}
 use Rattle.log_codec.specs.Validity.{Valid}
 use Rattle.log_codec.proofs.Steps.{bind_ok, guard_ok, ok_is, Takes, Takes-then}
 use Rattle.log_codec.proofs.FieldLaws.{number_again, number_takes}
 use Rattle.log_codec.proofs.InTurn.{turns_take, turns_again}
+use Rattle.log_codec.proofs.Counted.{totals_small}
 use Rattle.vector_reduce.specs.declared.thinned.Shown.{Shown}
 use Rattle.vector_reduce.specs.declared.thinned.TheConstants.{SHOWN}
 use Rattle.vector_reduce.specs.declared.thinned.Thinned.{Thinned}
 use Rattle.vector_reduce.specs.Showing.{no_shown}
 use Rattle.vector_reduce.specs.Reading.{count_at, counts_at, one_at, shown_in}
-use Rattle.vector_reduce.specs.Spelling.{count_text, counts_text, one_text, shown_text}
+use Rattle.vector_reduce.specs.Spelling.{counts_text, one_text, shown_text}
 use Rattle.vector_reduce.specs.Validity.{CountStands, IsThin, ShownStands, counts_of, cut_of}
 use Rattle.vector_reduce.specs.Vectors.{vectors_of}
 
 -- ---- a count
 
 count_takes : (totals : List ℕ) (core : ℕ) (bytes : List ℕ) (n : ℕ) (rest : List ℕ) → IsBytes bytes → count_at totals core bytes ≡ Ok (n, rest) →
-    Takes bytes (count_text core n) rest × CountStands totals core n
+    Takes bytes (number n) rest × CountStands totals core n
 unfolding count_at
 count_takes totals core bytes n rest are e =
     let p = bind_ok (number_at SHOWN bytes) (λ m. cond (nat_le m.0 (slice_index totals core)) (Ok m) (Err SHOWN)) (n, rest) e in
@@ -41,7 +43,7 @@ count_takes totals core bytes n rest are e =
     subst (λ (y : ℕ × List ℕ). Takes bytes (number y.0) y.1 × CountStands totals core y.0) g.1 (t.0, le)
 
 count_again : (totals : List ℕ) (core n : ℕ) (rest : List ℕ) → slice_index totals core < 2 ^ 32 → CountStands totals core n →
-    count_at totals core (count_text core n ++ rest) ≡ Ok (n, rest)
+    count_at totals core (number n ++ rest) ≡ Ok (n, rest)
 unfolding count_at
 count_again totals core n rest small le =
     let test : nat_le n (slice_index totals core) ≡ true = grind (arith, nat_tests) in
@@ -58,13 +60,13 @@ counts_back counts few =
 counts_take : (totals bytes counts rest : List ℕ) → IsBytes bytes → counts_at totals bytes ≡ Ok (counts, rest) →
     Takes bytes (counts_text counts) rest × (length counts ≡ length totals) × StandInTurn (CountStands totals) count_up 0 counts
 counts_take totals bytes counts rest are e =
-    turns_take (count_at totals) count_up count_text (CountStands totals) (λ c b n r. count_takes totals c b n r) (length totals) 0 bytes counts rest are e
+    turns_take (count_at totals) count_up (alike number) (CountStands totals) (λ c b n r. count_takes totals c b n r) (length totals) 0 bytes counts rest are e
 
 counts_again : (totals counts rest : List ℕ) → ((c : ℕ) → slice_index totals c < 2 ^ 32) → length counts ≡ length totals →
     StandInTurn (CountStands totals) count_up 0 counts → counts_at totals (counts_text counts ++ rest) ≡ Ok (counts, rest)
 counts_again totals counts rest small each h =
-    ap (λ (n : ℕ). read_in_turn (count_at totals) count_up n 0 (spelled_in_turn count_text count_up 0 counts ++ rest)) (sym each)
-    ∙ turns_again (count_at totals) count_up count_text (CountStands totals) (λ c n r stands. count_again totals c n r (small c) stands) 0 counts rest h
+    ap (λ (n : ℕ). read_in_turn (count_at totals) count_up n 0 (spelled_in_turn (alike number) count_up 0 counts ++ rest)) (sym each)
+    ∙ turns_again (count_at totals) count_up (alike number) (CountStands totals) (λ c n r stands. count_again totals c n r (small c) stands) 0 counts rest h
 
 -- ---- a number and a cut
 
@@ -72,7 +74,7 @@ abbrev shown_of : ℕ → List ℕ → Shown
 shown_of edge counts = record { edge = edge; cut = cut_of counts }
 
 one_takes : (totals : List ℕ) → length totals ≤ CORES_MAX → (s : Unit {0}) (bytes : List ℕ) (x : Shown) (rest : List ℕ) → IsBytes bytes →
-    one_at totals s bytes ≡ Ok (x, rest) → Takes bytes (one_text s x) rest × ShownStands totals s x
+    one_at totals s bytes ≡ Ok (x, rest) → Takes bytes (one_text x) rest × ShownStands totals s x
 unfolding one_at
 one_takes totals few s bytes x rest are e =
     let p = bind_ok (number_at SHOWN bytes) (λ edge. counts_at totals edge.1 >>= λ counts. Ok (shown_of edge.0 counts.0, counts.1)) (x, rest) e in
@@ -81,7 +83,7 @@ one_takes totals few s bytes x rest are e =
     let c = counts_take totals p.0.1 q.0.0 q.0.1 t.0.rest_fits q.1 in
     let back : counts_of (cut_of q.0.0) ≡ q.0.0 = counts_back q.0.0 (let same = c.1 in omega arith) in
     let both = Takes-then bytes (number p.0.0) p.0.1 (counts_text q.0.0) q.0.1 t.0 c.0 in
-    let text : Takes bytes (one_text s (shown_of p.0.0 q.0.0)) q.0.1 =
+    let text : Takes bytes (one_text (shown_of p.0.0 q.0.0)) q.0.1 =
     subst (λ (counts : List ℕ). Takes bytes (number p.0.0 ++ counts_text counts) q.0.1) (sym back) both in
     let stands : ShownStands totals s (shown_of p.0.0 q.0.0) = record {
       edge = t.1;
@@ -89,7 +91,7 @@ one_takes totals few s bytes x rest are e =
       each_core = ap length back ∙ c.1;
       most = subst (λ (counts : List ℕ). StandInTurn (CountStands totals) count_up 0 counts) (sym back) c.2;
     } in
-    subst (λ (y : Shown × List ℕ). Takes bytes (one_text s y.0) y.1 × ShownStands totals s y.0) (ok_is (shown_of p.0.0 q.0.0, q.0.1) (x, rest) q.2)
+    subst (λ (y : Shown × List ℕ). Takes bytes (one_text y.0) y.1 × ShownStands totals s y.0) (ok_is (shown_of p.0.0 q.0.0, q.0.1) (x, rest) q.2)
     (text, stands)
 
 shown_again_is : (x : Shown) → x.cut ≡ cut_of (counts_of x.cut) → shown_of x.edge (counts_of x.cut) ≡ x
@@ -99,7 +101,7 @@ shown_again_is x is = ap (λ (cut : Cut). made x.edge cut) (sym is)
     made edge cut = record { edge = edge; cut = cut }
 
 one_again : (totals : List ℕ) (s : Unit {0}) (x : Shown) (rest : List ℕ) → ((c : ℕ) → slice_index totals c < 2 ^ 32) → ShownStands totals s x →
-    one_at totals s (one_text s x ++ rest) ≡ Ok (x, rest)
+    one_at totals s (one_text x ++ rest) ≡ Ok (x, rest)
 unfolding one_at
 one_again totals s x rest small h =
     let counts = counts_of x.cut in
@@ -113,19 +115,9 @@ pub shown_take : (r : Recording) (bytes : List ℕ) (shown : List Shown) (rest :
     shown_in r bytes ≡ Ok (shown, rest) →
     Takes bytes (shown_text shown) rest × (length shown ≡ length (vectors_of r)) × StandInTurn (ShownStands r.totals) stay tt shown
 shown_take r bytes shown rest few are e =
-    turns_take (one_at r.totals) stay one_text (ShownStands r.totals) (λ s b x d. one_takes r.totals few s b x d) (length (vectors_of r)) tt bytes shown rest
+    turns_take (one_at r.totals) stay (alike one_text) (ShownStands r.totals) (λ s b x d. one_takes r.totals few s b x d)
+    (length (vectors_of r)) tt bytes shown rest
     are e
-
--- totals can be spelled
-pub totals_small : (r : Recording) → Valid r → (c : ℕ) → slice_index r.totals c < 2 ^ 32
-totals_small r valid c = by (in_list c (length r.totals))
-  where
-    in_list : (i n : ℕ) → (i < n) ⊎ (n ≤ i)
-    in_list i n = grind arith
-
-    by : (c < length r.totals) ⊎ (length r.totals ≤ c) → slice_index r.totals c < 2 ^ 32
-    by (inl lt) = let a = valid.totals c 0 lt in let b = valid.params.limit in omega arith
-    by (inr past) = let e = get_or_past r.totals c 0 past in omega arith
 
 pub few_totals : (r : Recording) → Valid r → length r.totals ≤ CORES_MAX
 few_totals r valid = let a = valid.each_core in let b = valid.params.cores in omega arith
@@ -133,8 +125,8 @@ few_totals r valid = let a = valid.each_core in let b = valid.params.cores in om
 pub shown_again : (r : Recording) (shown : List Shown) (rest : List ℕ) → Valid r → length shown ≡ length (vectors_of r) →
     StandInTurn (ShownStands r.totals) stay tt shown → shown_in r (shown_text shown ++ rest) ≡ Ok (shown, rest)
 shown_again r shown rest valid each h =
-    ap (λ (n : ℕ). read_in_turn (one_at r.totals) stay n tt (spelled_in_turn one_text stay tt shown ++ rest)) (sym each)
-    ∙ turns_again (one_at r.totals) stay one_text (ShownStands r.totals) (λ s x d stands. one_again r.totals s x d (totals_small r valid) stands) tt
+    ap (λ (n : ℕ). read_in_turn (one_at r.totals) stay n tt (spelled_in_turn (alike one_text) stay (tt {0}) shown ++ rest)) (sym each)
+    ∙ turns_again (one_at r.totals) stay (alike one_text) (ShownStands r.totals) (λ s x d stands. one_again r.totals s x d (totals_small r valid) stands) tt
     shown rest h
 
 -- ---- loops

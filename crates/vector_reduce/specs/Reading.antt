@@ -6,7 +6,8 @@ use Rattle.log_codec.specs.declared.recording.Recording.{Recording}
 use Rattle.log_codec.specs.declared.version.Version.TheVariants.{Two}
 use Rattle.log_codec.specs.Faults.{◌>>=◌}
 use Rattle.log_codec.specs.Reading.{number_at, front_at}
-use Rattle.log_codec.specs.Turns.{read_in_turn, stay, count_up}
+use Rattle.rtr_types.specs.Turns.{stay, count_up}
+use Rattle.log_codec.specs.Turns.{read_in_turn}
 use Rattle.log_codec.specs.Versions.{magic}
 use Rattle.vector_reduce.specs.declared.thinned.Shown.{Shown}
 use Rattle.vector_reduce.specs.declared.thinned.Thinned.{Thinned}

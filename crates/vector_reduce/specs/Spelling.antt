@@ -3,25 +3,23 @@
 use Rattle.std.specs.Prelude.{◌≡◌, ℕ, List, ◌++◌}
 use Rattle.log_codec.specs.Spelling as recordings
 use Rattle.log_codec.specs.Spelling.{number}
-use Rattle.log_codec.specs.Turns.{spelled_in_turn, stay, count_up}
+use Rattle.rtr_types.specs.Turns.{stay, count_up}
+use Rattle.log_codec.specs.Turns.{alike, spelled_in_turn}
 use Rattle.vector_reduce.specs.declared.thinned.Shown.{Shown}
 use Rattle.vector_reduce.specs.declared.thinned.Thinned.{Thinned}
 use Rattle.vector_reduce.specs.Validity.{counts_of}
 
-abbrev pub count_text : ℕ → ℕ → List ℕ
-count_text core n = number n
-
 -- a number for each core
 abbrev pub counts_text : List ℕ → List ℕ
-counts_text counts = spelled_in_turn count_text count_up 0 counts
+counts_text counts = spelled_in_turn (alike number) count_up 0 counts
 
 -- the number of an edge, and the counts of a cut
-abbrev pub one_text : Unit {0} → Shown → List ℕ
-one_text s x = number x.edge ++ counts_text (counts_of x.cut)
+abbrev pub one_text : Shown → List ℕ
+one_text x = number x.edge ++ counts_text (counts_of x.cut)
 
 -- the sixth part: one for each vector
 abbrev pub shown_text : List Shown → List ℕ
-shown_text shown = spelled_in_turn one_text stay tt shown
+shown_text shown = spelled_in_turn (alike one_text) stay (tt {0}) shown
 
 -- the one spelling
 unfoldable pub spelling : Thinned → List ℕ

@@ -3,7 +3,7 @@ use Rattle.std.specs.Prelude.{◌≡◌, ℕ, ◌<◌, ◌≤◌, ◌^◌, List,
 use Rattle.std.specs.List.{range_with_len}
 use Rattle.rtr_types.specs.declared.TheConstants.{CORES_MAX}
 use Rattle.rtr_types.specs.declared.cut.Cut.{Cut}
-use Rattle.log_codec.specs.Turns.{StandInTurn, stay, count_up}
+use Rattle.rtr_types.specs.Turns.{StandInTurn, stay, count_up}
 use Rattle.log_codec.specs.Validity.{Valid}
 use Rattle.vector_reduce.specs.declared.thinned.Shown.{Shown}
 use Rattle.vector_reduce.specs.declared.thinned.Thinned.{Thinned}

@@ -3,7 +3,8 @@ ghost use Rattle.std.specs.Prelude.{◌≡◌, ◌<◌, ◌≤◌, length, IfOk,
 ghost use Rattle.rtr_types.specs.declared.TheConstants.{CORES_MAX};
 ghost use Rattle.log_codec.specs.Faults.{Gives};
 ghost use Rattle.log_codec.specs.Reading.{number_at};
-ghost use Rattle.log_codec.specs.Turns.{read_in_turn, stay};
+ghost use Rattle.rtr_types.specs.Turns.{stay};
+ghost use Rattle.log_codec.specs.Turns.{read_in_turn};
 ghost use Rattle.log_codec.specs.Validity.{Valid};
 ghost use Rattle.vector_reduce.specs.Reading.{count_at, counts_at, front_two_at, one_at, parts_at, thinned_at};
 ghost use Rattle.vector_reduce.specs.Spelling.{Spells};

@@ -23,7 +23,7 @@ fn put_counts(out: &mut Vec<u8>, counts: &[u32]) -> Result<(), AllocError>
 /// The number of an edge, and the counts of a cut.
 fn put_one(out: &mut Vec<u8>, one: &Shown) -> Result<(), AllocError>
     requires { one.now.cut.cores ≤ CORES_MAX }
-    ensures { OnOk result (out.new.items ≡ out.old.items ++ one_text tt one.now) }
+    ensures { OnOk result (out.new.items ≡ out.old.items ++ one_text one.now) }
 {
     put_u32(out, one.edge)?;
     put_counts(out, &one.cut.counts[..one.cut.cores as usize])

@@ -1,7 +1,7 @@
 use Rattle.std.proofs.Common.{arith, ◌∙◌, ◌≡◌, Err, Result, ℕ}
+use Rattle.std.proofs.lemmas.Bool.{lt-ltb, le-ltb}
 use Rattle.varint_core.specs.declared.Varint.{Varint}
 use Rattle.varint_core.specs.declared.Varint.TheVariants.{Short, Over}
-use Rattle.varint_core.proofs.Spelled.{lt-yes, lt-no}
 use Rattle.varint_core.proofs.Read.{at_five, at_small, at_end, reading_is, read_on}
 use Rattle.varint_core.proofs.take_u32.Goals as goal
 
@@ -19,13 +19,13 @@ returns-then-b-lt128-clause-value c =
 pub returns-then-bytes-lt-BYTES_MAX-clause-value : goal.returns-then-bytes-lt-BYTES_MAX-clause-value
 returns-then-bytes-lt-BYTES_MAX-clause-value c =
     let e = at_end c.args.bytes.now c.loop-i.i c.loop-i.scale c.loop-i.value _ c.loop-i-test.false c.loop-i.invariant.rest in
-    let t = lt-yes c.loop-i.i 5 (omega arith) in
+    let t = lt-ltb c.loop-i.i 5 (omega arith) in
     let f : ◌≡◌ {A = Result (ℕ × ℕ) Varint} (Err Short) (read_on 0 1 0 c.args.bytes.now) = rw t at e in
     f ∙ reading_is c.args.bytes.now
 
 pub returns-else-bytes-lt-BYTES_MAX-clause-value : goal.returns-else-bytes-lt-BYTES_MAX-clause-value
 returns-else-bytes-lt-BYTES_MAX-clause-value c =
     let e = at_end c.args.bytes.now c.loop-i.i c.loop-i.scale c.loop-i.value _ c.loop-i-test.false c.loop-i.invariant.rest in
-    let t = lt-no c.loop-i.i 5 (omega arith) in
+    let t = le-ltb c.loop-i.i 5 (omega arith) in
     let f : ◌≡◌ {A = Result (ℕ × ℕ) Varint} (Err Over) (read_on 0 1 0 c.args.bytes.now) = rw t at e in
     f ∙ reading_is c.args.bytes.now

@@ -9,12 +9,13 @@ use Rattle.conflict_edge.specs.Times.{IsExactClock}
 use Rattle.conflict_edge.proofs.Once.{Noted, noted_push, noted_skip}
 use Rattle.conflict_edge.proofs.Reversed.{stands_forth}
 use Rattle.conflict_edge.proofs.Scan.{Direct, Reached, FoundFrom, stands-left, stands-right}
-use Rattle.conflict_edge.proofs.Steps.{At, at, test_no, fact_no, not_direct, stands_at, rising, skip_reached, merge_reached, no_conflict, covered, end_clock}
+use Rattle.conflict_edge.proofs.Steps.{At, at, test_no, fact_no, not_direct, stands_at, skip_reached, merge_reached, no_conflict, covered, end_clock}
 use Rattle.conflict_edge.proofs.Steps.{end_found}
 use Rattle.conflict_edge.proofs.least_set.push_covering.Goals as goal
 use Rattle.conflict_edge.proofs.least_set.push_covering.Goals.{then-conflict+then-not-covers+in_ok-push, else-conflict}
 use Rattle.conflict_edge.proofs.least_set.push_covering.Goals.{else-conflict-via-then-conflict+else-not-covers, else-conflict-via-else-conflict}
 use Rattle.conflict_edge.proofs.least_set.push_covering.Goals.{then-conflict-2-via-then-conflict-2, then-conflict-2-via-else-conflict-2+then-source-access}
+use Rattle.conflict_edge.proofs.Reach.{rising_next}
 
 -- what stands at an index past the end
 abbrev nothing : Access
@@ -32,7 +33,7 @@ covers-requires c = c.requires.cores _
 pub loop-place-preserved-in-loop-place : goal.loop-place-preserved-in-loop-place
 loop-place-preserved-in-loop-place c =
     let b : Access = slice_index_or c.args.earlier.now (c.loop-place.place - 1) nothing in
-    let rise = rising c.args.earlier.now c.args.access.now c.requires.rise in
+    let rise = rising_next c.args.earlier.now c.args.access.now c.requires.rise in
     let lt : c.loop-place.place - 1 < length c.args.earlier.now = omega arith in
     let at_b = stands_at c.args.earlier.now (c.loop-place.place - 1) nothing lt in
     let around : At c.args.earlier.now c.loop-place.place b = at c.args.earlier.now c.loop-place.place nothing c.loop-place-test.true c.loop-place.auto.place in
@@ -73,7 +74,7 @@ loop-place-preserved-in-loop-place c =
 pub loop-place-preserved : goal.loop-place-preserved
 loop-place-preserved c =
     let b : Access = slice_index_or c.args.earlier.now (c.loop-place.place - 1) nothing in
-    let rise = rising c.args.earlier.now c.args.access.now c.requires.rise in
+    let rise = rising_next c.args.earlier.now c.args.access.now c.requires.rise in
     let lt : c.loop-place.place - 1 < length c.args.earlier.now = omega arith in
     let at_b = stands_at c.args.earlier.now (c.loop-place.place - 1) nothing lt in
     let around : At c.args.earlier.now c.loop-place.place b = at c.args.earlier.now c.loop-place.place nothing c.loop-place-test.true c.loop-place.auto.place in
@@ -116,7 +117,7 @@ at_zero P e (suc s) le p = absurd (omega arith)
 
 pub returns-clause-clock : goal.returns-clause-clock
 returns-clause-clock c =
-    let rise = rising c.args.earlier.now c.args.access.now c.requires.rise in
+    let rise = rising_next c.args.earlier.now c.args.access.now c.requires.rise in
     end_clock c.args.earlier.now c.args.access.now c.loop-place.known c.set.new.self rise
     (at_zero (λ g. Reached (reverse c.args.earlier.now) g c.args.access.now (λ i. slice_index c.loop-place.known i)) c.args.earlier.now c.loop-place.place
     (omega arith) c.loop-place.invariant.reached)

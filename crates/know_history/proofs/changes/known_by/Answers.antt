@@ -1,9 +1,8 @@
-use Rattle.std.proofs.Common.{◌≡◌, ◌<◌, ◌∙◌, sym, rules, true, false, arith, nat_lt, get_or}
+use Rattle.std.proofs.Common.{◌≡◌, ◌∙◌, sym, rules, true, false, arith, nat_lt}
 use Rattle.std.specs.Prelude.{nat_le}
 use Rattle.std.proofs.lemmas.Bool.{cond-true, cond-false}
 use Rattle.std.proofs.lemmas.Bool.Decides.{nat_tests}
 use Rattle.std.proofs.lemmas.List.Sorted.{IsPartitionPoint-from_clause, IsPartitionedBy-leb}
-use Rattle.std.specs.List.Sorted.{IsPartitionPoint}
 use Rattle.know_history.specs.declared.changes.Change.{Change}
 use Rattle.know_history.proofs.OneList.{searched}
 use Rattle.know_history.proofs.changes.known_by.Goals as goal

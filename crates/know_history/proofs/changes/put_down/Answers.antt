@@ -1,4 +1,4 @@
-use Rattle.std.proofs.Common.{◌≡◌, ◌≢◌, ◌∙◌, ap, sym, subst, arith, length, ℕ}
+use Rattle.std.proofs.Common.{◌≡◌, ◌≢◌, ◌∙◌, ap, sym, subst, arith, ℕ}
 use Rattle.std.specs.Prelude.{slice_index}
 use Rattle.roomy_lists.specs.Lists.{is_ready_at, items_in, with_item}
 use Rattle.know_history.specs.Changes.{is_news}

@@ -1,4 +1,4 @@
-use Rattle.std.proofs.Common.{◌≡◌, ◌∙◌, List, ap, sym, subst}
+use Rattle.std.proofs.Common.{◌≡◌, List, ap, sym, subst}
 use Rattle.rtr_types.specs.declared.access.Access.{Access}
 use Rattle.log_codec.specs.declared.recording.Recording.{Recording}
 use Rattle.clock_entries.specs.Ends.{Clocks}

@@ -1,4 +1,4 @@
-use Rattle.std.proofs.Common.{◌≡◌, ◌∷◌, [], length, arith}
+use Rattle.std.proofs.Common.{◌∷◌, [], arith}
 use Rattle.std.proofs.lemmas.List.{length-append}
 use Rattle.min_certificate.proofs.Exactly.{cores_more}
 use Rattle.min_certificate.proofs.exact_clocks.exact_clocks.Goals as goal

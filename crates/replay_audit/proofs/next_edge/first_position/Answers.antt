@@ -1,13 +1,8 @@
-use Rattle.std.proofs.Common.{◌≡◌, ℕ, ◌+◌, ◌-◌, get_or, subst, sym, ap, ◌∙◌, arith, rules, leb, Some, None, length}
+use Rattle.std.proofs.Common.{ℕ, ◌-◌, subst, arith, rules, leb}
 use Rattle.std.proofs.lemmas.List.Sorted.{IsPartitionPoint-from_clause, IsPartitionedBy-leb}
-use Rattle.std.proofs.lemmas.List.{get_or_default}
-use Rattle.stride_vector.specs.Vectors.{IsVector}
 use Rattle.stride_vector.specs.declared.StrideVector.{StrideVector}
-use Rattle.log_codec.proofs.Rises.{no_vector}
 use Rattle.log_codec.proofs.SourceLaws.{begins-rise}
-use Rattle.log_codec.specs.Sources.{AreApart}
-use Rattle.replay_audit.specs.Coming.{IsNextPosition}
-use Rattle.replay_audit.proofs.NextEdges.{Begun, Ended, ended_none, from_last, from_next, from_beginning, begins_before}
+use Rattle.replay_audit.proofs.NextEdges.{Begun, ended_none, from_last, from_next, from_beginning, begins_before}
 use Rattle.replay_audit.proofs.next_edge.first_position.Goals as goal
 
 pub returns-then-begun-eq0 : goal.returns-then-begun-eq0

@@ -4,8 +4,8 @@ use Rattle.rtr_types.specs.declared.pairs.Which.{Which}
 use Rattle.rtr_types.specs.Pairs.{pair_place}
 use Rattle.stride_vector.specs.declared.StrideVector.{StrideVector}
 use Rattle.stride_vector.specs.Vectors.{edges_of}
-use Rattle.log_codec.specs.Turns.{StandInTurn, follow}
-use Rattle.log_codec.specs.Validity.{EdgeRises}
+use Rattle.rtr_types.specs.Turns.{StandInTurn, follow}
+use Rattle.rtr_types.specs.PairEdges.{EdgeRises}
 use Rattle.log_codec.specs.Sources.{AreApart, edges_of_pair}
 use Rattle.log_codec.proofs.Whole.{edges_listed}
 use Rattle.log_codec.proofs.SourceLaws.{list_at, vectors_apart}

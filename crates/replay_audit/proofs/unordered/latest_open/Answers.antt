@@ -5,9 +5,10 @@ use Rattle.rtr_types.specs.declared.instr.Instr.{Instr}
 use Rattle.rtr_types.specs.declared.access.Access.{Access}
 use Rattle.rtr_types.specs.declared.access.Kind.TheVariants as kinds
 use Rattle.replay_audit.specs.Unordered.{IsLatest}
-use Rattle.replay_audit.proofs.Scan.{stands_at, latest_skip, latest_found}
+use Rattle.replay_audit.proofs.Scan.{latest_skip, latest_found}
 use Rattle.replay_audit.proofs.unordered.latest_open.Goals as goal
 use Rattle.replay_audit.proofs.unordered.latest_open.Goals.{then-is_open, else-is_open}
+use Rattle.conflict_edge.proofs.Steps.{stands_at}
 
 abbrev nothing : Access
 nothing = record { at = record { core = 0; count = 0 }; word = 0; kind = kinds.Load; before = 0; after = 0 }

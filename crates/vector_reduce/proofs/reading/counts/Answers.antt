@@ -1,6 +1,7 @@
 use Rattle.std.proofs.Common.{length}
 use Rattle.std.proofs.lemmas.Result.{err_from_is_err_and}
-use Rattle.log_codec.specs.Turns.{read_in_turn, count_up}
+use Rattle.rtr_types.specs.Turns.{count_up}
+use Rattle.log_codec.specs.Turns.{read_in_turn}
 use Rattle.log_codec.proofs.InTurn.{begins, goes_on, ends, is_done}
 use Rattle.vector_reduce.specs.Reading.{count_at}
 use Rattle.vector_reduce.proofs.reading.counts.Goals as goal

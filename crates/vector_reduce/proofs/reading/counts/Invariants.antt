@@ -1,5 +1,6 @@
 use Rattle.std.proofs.Common.{◌≡◌, ◌-◌, length}
-use Rattle.log_codec.specs.Turns.{read_in_turn, count_up}
+use Rattle.rtr_types.specs.Turns.{count_up}
+use Rattle.log_codec.specs.Turns.{read_in_turn}
 use Rattle.log_codec.proofs.InTurn.{with_front}
 use Rattle.vector_reduce.specs.Reading.{count_at}
 use Rattle.vector_reduce.proofs.reading.counts.Given as goal

@@ -1,5 +1,6 @@
 use Rattle.std.proofs.lemmas.Result.{err_from_is_err_and}
-use Rattle.log_codec.specs.Turns.{read_in_turn, stay}
+use Rattle.rtr_types.specs.Turns.{stay}
+use Rattle.log_codec.specs.Turns.{read_in_turn}
 use Rattle.log_codec.proofs.InTurn.{begins, goes_on, ends, is_done}
 use Rattle.vector_reduce.specs.Reading.{one_at}
 use Rattle.vector_reduce.proofs.reading.shown.Goals as goal

@@ -1,5 +1,6 @@
 use Rattle.std.proofs.Common.{◌≡◌, ◌-◌}
-use Rattle.log_codec.specs.Turns.{read_in_turn, stay}
+use Rattle.rtr_types.specs.Turns.{stay}
+use Rattle.log_codec.specs.Turns.{read_in_turn}
 use Rattle.log_codec.proofs.InTurn.{with_front}
 use Rattle.vector_reduce.specs.Reading.{one_at}
 use Rattle.vector_reduce.proofs.reading.shown.Given as goal

@@ -1,7 +1,9 @@
 use Rattle.std.proofs.Common.{◌++◌, refl}
-use Rattle.log_codec.specs.Turns.{count_up}
+use Rattle.rtr_types.specs.Turns.{count_up}
 use Rattle.log_codec.proofs.InTurn.{puts_on, puts_done}
-use Rattle.vector_reduce.specs.Spelling.{count_text, counts_text}
+use Rattle.log_codec.specs.Turns.{alike}
+use Rattle.log_codec.specs.Spelling.{number}
+use Rattle.vector_reduce.specs.Spelling.{counts_text}
 use Rattle.vector_reduce.proofs.writing.put_counts.Goals as goal
 
 pub loop-count-init : goal.loop-count-init
@@ -9,11 +11,11 @@ loop-count-init c = refl
 
 pub loop-count-preserved : goal.loop-count-preserved
 loop-count-preserved c =
-    puts_on count_text count_up c.loop-count.out.items c.put_u32.new.out.items
+    puts_on (alike number) count_up c.loop-count.out.items c.put_u32.new.out.items
     (c.args.out.now.items ++ counts_text c.args.counts.now) c.loop-count.count-index c.args.counts.now c.loop-count.count-index 0 c.loop-count-test.true
     c.in_ok-put_u32.ensures.ok c.loop-count.invariant
 
 pub returns : goal.returns
-returns c = puts_done count_text count_up c.loop-count.out.items
+returns c = puts_done (alike number) count_up c.loop-count.out.items
     (c.args.out.now.items ++ counts_text c.args.counts.now) c.loop-count.count-index c.args.counts.now c.loop-count.count-index c.loop-count-test.false
     c.loop-count.invariant

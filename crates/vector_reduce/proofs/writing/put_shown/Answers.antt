@@ -1,6 +1,7 @@
 use Rattle.std.proofs.Common.{◌++◌, refl}
-use Rattle.log_codec.specs.Turns.{stay}
+use Rattle.rtr_types.specs.Turns.{stay}
 use Rattle.log_codec.proofs.InTurn.{puts_on, puts_done}
+use Rattle.log_codec.specs.Turns.{alike}
 use Rattle.vector_reduce.specs.Showing.{no_shown}
 use Rattle.vector_reduce.specs.Spelling.{one_text, shown_text}
 use Rattle.vector_reduce.proofs.writing.put_shown.Goals as goal
@@ -13,9 +14,9 @@ put_one-requires c = c.requires c.loop-one.one-index c.loop-one-test.true
 
 pub loop-one-preserved : goal.loop-one-preserved
 loop-one-preserved c =
-    puts_on one_text stay c.loop-one.out.items c.put_one.new.out.items (c.args.out.now.items ++ shown_text c.args.shown.now) tt c.args.shown.now
+    puts_on (alike one_text) stay c.loop-one.out.items c.put_one.new.out.items (c.args.out.now.items ++ shown_text c.args.shown.now) (tt {0}) c.args.shown.now
     c.loop-one.one-index no_shown c.loop-one-test.true c.in_ok-put_one.ensures c.loop-one.invariant
 
 pub returns : goal.returns
-returns c = puts_done one_text stay c.loop-one.out.items
-    (c.args.out.now.items ++ shown_text c.args.shown.now) tt c.args.shown.now c.loop-one.one-index c.loop-one-test.false c.loop-one.invariant
+returns c = puts_done (alike one_text) stay c.loop-one.out.items
+    (c.args.out.now.items ++ shown_text c.args.shown.now) (tt {0}) c.args.shown.now c.loop-one.one-index c.loop-one-test.false c.loop-one.invariant

@@ -1,8 +1,8 @@
-use Rattle.std.proofs.Common.{◌≡◌, ◌∙◌, ℕ, ap, arith, length, sym}
+use Rattle.std.proofs.Common.{◌∙◌, ℕ, ap, arith, length}
 use Rattle.std.proofs.lemmas.List.{get_or_default}
 use Rattle.roomy_lists.specs.Lists.{items_at, items_in}
 use Rattle.know_history.specs.declared.history.Newest.{Newest}
-use Rattle.know_history.specs.Changes.{changes_at, newest_at, no_newest}
+use Rattle.know_history.specs.Changes.{no_newest}
 use Rattle.know_history.specs.Notes.{Notes, change_count}
 use Rattle.know_history.proofs.Noted.{changes_are, changes_few, core_within, list_within}
 use Rattle.know_history.proofs.history.History.changes.Goals as goal

@@ -1,4 +1,4 @@
-use Rattle.std.proofs.Common.{◌≡◌, ◌∙◌, ap, arith}
+use Rattle.std.proofs.Common.{ap, arith}
 use Rattle.roomy_lists.specs.Lists.{items_in}
 use Rattle.know_history.proofs.Places.{length-items}
 use Rattle.know_history.proofs.Noted.{core_within, holds_more, is_noted_as, one_more}

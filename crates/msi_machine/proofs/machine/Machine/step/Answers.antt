@@ -1,6 +1,4 @@
-use Rattle.std.proofs.Common.{◌≡◌, ◌∙◌, ap, sym, subst, false, IsTrue, ◌<◌, length}
-use Rattle.msi_state.specs.Bound.{Earns, left}
-use Rattle.msi_state.specs.Coherent.{Coherent, memory_after}
+use Rattle.std.proofs.Common.{◌∙◌, ap, sym, subst, ◌<◌, length}
 use Rattle.msi_state.specs.Nodes.{Event}
 use Rattle.msi_state.specs.Plain.{plain}
 use Rattle.msi_state.specs.States.{Machinery, State, all_done}

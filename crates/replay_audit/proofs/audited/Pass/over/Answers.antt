@@ -1,5 +1,4 @@
 use Rattle.std.proofs.Common.{◌++◌, ◌∷◌, [], ◌∙◌, sym}
-use Rattle.replay_core.specs.Plans.{plan_of}
 use Rattle.replay_audit.proofs.Auditing.{along_start, all_told, along_on, in_plan, leaves_open, passes, ready_here, short_here, stuck, told_at}
 use Rattle.replay_audit.proofs.Following.{access_core, each_core, each_write, few, in_clocks, in_numbers, some_count}
 use Rattle.replay_audit.proofs.Tallying.{below_plan, inside_plan, less_to_go}

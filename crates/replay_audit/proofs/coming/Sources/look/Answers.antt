@@ -1,7 +1,6 @@
-use Rattle.std.proofs.Common.{◌≡◌, ◌+◌, ℕ, List, length, ap, sym, subst, arith, Some}
+use Rattle.std.proofs.Common.{◌≡◌, ◌+◌, ℕ, List, ap, sym, subst, arith}
 use Rattle.replay_core.specs.Plans.{Plan}
 use Rattle.replay_audit.specs.declared.coming.Coming.{Coming}
-use Rattle.replay_audit.specs.Coming.{IsComing}
 use Rattle.replay_audit.proofs.Awaited.{IsPut, LookedTo, look_own, look_more, look_start, looked_sources, taken_none, taken_some}
 use Rattle.replay_audit.proofs.coming.Sources.look.Goals as goal
 use Rattle.replay_audit.proofs.coming.Sources.look.Goals.{then-of-at+in-Some, then-of-at+in-None, else-of-at}

@@ -1,4 +1,4 @@
-use Rattle.std.proofs.Common.{◌≡◌, arith}
+use Rattle.std.proofs.Common.{arith}
 use Rattle.replay_audit.proofs.Awaited.{unknown_coming}
 use Rattle.replay_audit.proofs.coming.Sources.new.Goals as goal
 

@@ -1,8 +1,8 @@
-use Rattle.std.proofs.Common.{◌≡◌, ◌+◌, ℕ, length, ap, sym, subst, refl, arith, Some, None}
+use Rattle.std.proofs.Common.{◌+◌, ℕ, length, ap, sym, subst, refl, arith, Some, None}
 use Rattle.replay_core.specs.Plans.{Plan}
 use Rattle.replay_core.specs.Play.{instr}
 use Rattle.std.specs.Prelude.{Option}
-use Rattle.replay_audit.specs.Coming.{IsNextInto, IsSource, IsSourceIn}
+use Rattle.replay_audit.specs.Coming.{IsNextInto, IsSource}
 use Rattle.replay_audit.proofs.Awaited.{source_by, still_next}
 use Rattle.replay_audit.proofs.coming.Sources.step.Goals as goal
 

@@ -1,6 +1,4 @@
-use Rattle.std.proofs.Common.{◌≡◌, List, [], inl, refl, sym, subst}
-use Rattle.std.specs.Prelude.{Option}
-use Rattle.rtr_types.specs.declared.instr.Instr.{Instr}
+use Rattle.std.proofs.Common.{◌≡◌, [], inl, refl, sym, subst}
 use Rattle.replay_audit.specs.Clocks.{listed, sources_in}
 use Rattle.replay_audit.proofs.Awaited.{listed_nothing}
 use Rattle.replay_audit.proofs.log_clocks.LogClocks.keep.Goals as goal

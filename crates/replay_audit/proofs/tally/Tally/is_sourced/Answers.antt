@@ -1,12 +1,12 @@
-use Rattle.std.proofs.Common.{◌≡◌, ◌+◌, ◌<◌, ℕ, List, None, length, sym, ap, subst, arith}
+use Rattle.std.proofs.Common.{◌+◌, ℕ, List, length, sym, ap, subst, arith}
 use Rattle.std.specs.Prelude.{Option}
 use Rattle.rtr_types.specs.declared.TheConstants.{CORES_MAX}
+use Rattle.rtr_types.proofs.Ranges.{zero_at}
 use Rattle.clock_core.specs.Counts.{no_counts}
 use Rattle.log_codec.specs.Sources.{log_edges}
 use Rattle.replay_core.specs.Play.{instr}
 use Rattle.replay_audit.specs.Clocks.{AreSources, sources_in}
 use Rattle.replay_audit.specs.Tallies.{Tallied, count_of, next_of}
-use Rattle.replay_audit.proofs.Awaited.{none_of}
 use Rattle.replay_audit.proofs.Tallying.{sourced_in, wanted_here}
 use Rattle.replay_audit.proofs.tally.Tally.is_sourced.Goals as goal
 
@@ -27,4 +27,4 @@ returns-in-None c =
     sourced_in which r u.plan (count_of u.counts) c.args.core (count_of u.counts c.args.core + 1) no_counts h.valid
     (ap (λ (t : Tallied). t.plan) (sym c.self.view_is))
     (subst (λ (t : Tallied). AreSources t.plan.edges (next_of t.counts c.args.core) no_counts) c.self.view_is none)
-    (λ i lt. let zero = none_of CORES_MAX i in omega arith)
+    (λ i lt. let zero = zero_at CORES_MAX i in omega arith)

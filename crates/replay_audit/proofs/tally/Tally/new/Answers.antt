@@ -1,4 +1,4 @@
-use Rattle.std.proofs.Common.{◌≡◌, ◌∙◌, subst}
+use Rattle.std.proofs.Common.{◌∙◌, subst}
 use Rattle.replay_core.specs.Plans.{Plan}
 use Rattle.replay_audit.specs.Tallies.{AreWanted}
 use Rattle.replay_audit.proofs.Tallying.{counts_start}
