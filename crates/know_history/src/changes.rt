@@ -1,10 +1,11 @@
 //! When more is known of a core.
-ghost use Rattle.std.specs.Prelude.{◌≡◌, ◌≢◌, ◌<◌, ◌≤◌, ◌+◌, ◌*◌, IsTrue, length};
+ghost use Rattle.std.specs.Prelude.{◌≡◌, ◌≢◌, ◌<◌, ◌≤◌, ◌+◌, ◌*◌, ℕ, IsTrue, false, length, slice_index};
 ghost use Rattle.std.specs.List.Sorted.{IsNonDecreasingBy};
 ghost use Rattle.rtr_types.specs.declared.TheConstants.{CORES_MAX};
 ghost use Rattle.roomy_lists.specs.Lists.{are_ready, items_in};
 ghost use Rattle.know_history.specs.Changes.{AreChanged, is_news, known_by, list_place};
 
+use crate::known::Known;
 use clock_core::Clock;
 use roomy_lists::RoomyLists;
 use rtr_types::{CORES_MAX, Instr};
@@ -45,13 +46,39 @@ fn is_news(at: Instr, of: u8, known: u32, newest: u32) -> bool
     of != at.core && newest < known
 }
 
-/// Puts down each count of another core that is above the newest one.
+/// Whether something is known beside the newest counts and the retired instruction.
+fn brings_news(at: Instr, counts: Clock, newest: &Clock) -> bool
+    ensures { result ≡ false → (of : ℕ) → of < CORES_MAX →
+        is_news at of (slice_index counts of) (slice_index newest.now of) ≡ false }
+{
+    let mut others = counts;
+    if at.core < CORES_MAX {
+        others.set(at.core, newest.get(at.core));
+    }
+    others != *newest
+}
+
+/// Puts down each count of another core that is above the newest one. Most instructions bring no news, so that
+/// is asked first.
 pub(crate) fn put_down(
     changes: &mut RoomyLists<Change>,
     newest: &mut Clock,
     at: Instr,
-    counts: &[u32],
+    known: Known,
 )
+    requires lists { list_place at.core CORES_MAX ≤ length changes.old }
+    requires ready { IsTrue (are_ready changes.old) }
+    ensures places { length known.counts ≡ CORES_MAX }
+    ensures changed { AreChanged at known.counts (items_in changes.old) newest.old (items_in changes.new) newest.new }
+{
+    let counts = known.counts();
+    if brings_news(at, known.clock(), newest) {
+        put_news(changes, newest, at, counts);
+    }
+}
+
+/// Puts down each count of another core that is above the newest one.
+fn put_news(changes: &mut RoomyLists<Change>, newest: &mut Clock, at: Instr, counts: &[u32])
     requires places { length counts.now ≡ CORES_MAX }
     requires lists { list_place at.core CORES_MAX ≤ length changes.old }
     requires ready { IsTrue (are_ready changes.old) }

@@ -94,7 +94,7 @@ impl History {
     {
         let newest = &mut self.newest[at.core as usize];
         newest.count = at.count;
-        put_down(&mut self.changes, &mut newest.known, at, known.counts());
+        put_down(&mut self.changes, &mut newest.known, at, known);
     }
 
     /// How many instructions of core `of` were known at the core's retirement with this count.

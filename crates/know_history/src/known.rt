@@ -21,6 +21,13 @@ impl Known {
         self.counts.get(core)
     }
 
+    /// How many of each core's instructions are known, as a clock.
+    pub(crate) fn clock(&self) -> Clock
+        ensures { result ≡ self.now.counts }
+    {
+        self.counts
+    }
+
     /// How many of each core's instructions are known, core 0 first.
     pub fn counts(&self) -> &[u32]
         ensures value { result.now ≡ self.now.counts }

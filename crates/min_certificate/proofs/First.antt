@@ -1,5 +1,6 @@
 -- The first that fails.
-use Rattle.std.proofs.Common.{inl, inr, ◌≡◌, ◌⊎◌, ℕ, zero, suc, ◌+◌, ◌<◌, ◌≤◌, ◌^◌, List, [], ◌∷◌, ◌++◌, length, get_or, refl, sym, ap, ◌∙◌, subst, arith, take}
+use Rattle.std.proofs.Common.{inl, inr, ◌≡◌, ◌⊎◌, ℕ, zero, suc, ◌+◌, ◌-◌, ◌<◌, ◌≤◌, ◌^◌, List, [], ◌∷◌, ◌++◌, length, get_or, refl, sym, ap, ◌∙◌}
+use Rattle.std.proofs.Common.{subst, arith, take}
 use Rattle.std.proofs.Common.{drop, true}
 use Rattle.std.specs.Prelude.{slice_index}
 use Rattle.std.proofs.Math.Seq.{split_at}
@@ -128,6 +129,29 @@ pub record IsListed (r : Recording) (c k : ℕ) (list : List ℕ) : Type 0 where
   pub core : c < r.params.cores
   pub is : list ≡ ends_to (reduced_edges r) c (slice_index r.totals c)
   pub lt : k < length list
+
+-- an end's number, and the number before it
+pub end_number : (r : Recording) (c k : ℕ) (list : List ℕ) → IsListed r c k list → length (ends_to (reduced_edges r) c (get_or list k 0)) ≡ k + 1
+end_number r c k list h =
+    ap (λ (l : List ℕ). length (ends_to (reduced_edges r) c (get_or l k 0))) h.is
+    ∙ placed (reduced_edges r) c (slice_index r.totals c) k (subst (λ (l : List ℕ). k < length l) h.is h.lt)
+
+pub number_before : (r : Recording) (c k : ℕ) (list : List ℕ) → IsListed r c k list → length (ends_to (reduced_edges r) c (get_or list k 0 - 1)) ≡ k
+number_before r c k list h = by (get_or list k 0) low.0 low.2 (end_number r c k list h)
+  where
+    low : (1 ≤ get_or list k 0) × (get_or list k 0 ≤ slice_index r.totals c) × (is_end (reduced_edges r) (instr c (get_or list k 0)) ≡ true)
+    low = subst (λ (l : List ℕ). (1 ≤ get_or l k 0) × (get_or l k 0 ≤ slice_index r.totals c) × (is_end (reduced_edges r) (instr c (get_or l k 0)) ≡ true))
+        (sym h.is) (at_low (reduced_edges r) c (slice_index r.totals c) k (subst (λ (l : List ℕ). k < length l) h.is h.lt))
+
+    by : (n : ℕ) → 1 ≤ n → is_end (reduced_edges r) (instr c n) ≡ true → length (ends_to (reduced_edges r) c n) ≡ k + 1 →
+        length (ends_to (reduced_edges r) c (n - 1)) ≡ k
+    by zero pos t e = absurd (omega arith)
+    by (suc m) pos t e =
+        let more = ap (λ (l : List ℕ). length l) (ends_more (reduced_edges r) c m t) in
+        let one = length_push (ends_to (reduced_edges r) c m) (suc m) in
+        let q : suc m - 1 ≡ m = omega arith in
+        let same = ap (λ (j : ℕ). length (ends_to (reduced_edges r) c j)) q in
+        omega arith
 
 pub end_in_list : (r : Recording) (c k : ℕ) (list : List ℕ) → IsListed r c k list → IsWithin r (instr c (get_or list k 0)) × (1 ≤ get_or list k 0)
 end_in_list r c k list h =

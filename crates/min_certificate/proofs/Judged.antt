@@ -35,7 +35,7 @@ use Rattle.min_certificate.specs.Firsts.{IsFirst, FailsFirst, FirstWithout}
 use Rattle.min_certificate.specs.Laws.{IsConflictIn, AllConflict, IsLeastIn, IsAmissIn, Passes}
 use Rattle.min_certificate.specs.Places.{entry_in, AreExactIn, IsNeededIn, IsKnownOtherwiseIn}
 use Rattle.min_certificate.specs.Sound.{IsSound}
-use Rattle.min_certificate.proofs.ByCore.{conflict_is_pair}
+use Rattle.min_certificate.proofs.Indexed.{conflict_is_pair}
 use Rattle.min_certificate.proofs.Exactly.{exact_in, is_certificate}
 use Rattle.min_certificate.proofs.Lows.{low_acyclic, low_cores, low_rise, every_order_is_least}
 use Rattle.min_certificate.proofs.Shown.{not_least, amiss_by_entries, least_passes, passed_is_least}

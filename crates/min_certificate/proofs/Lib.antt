@@ -1,6 +1,6 @@
 pub mod Lows
 pub mod Shown
-pub mod ByCore
+pub mod Indexed
 pub mod Looked
 pub mod First
 pub mod Exactly

@@ -1,9 +1,9 @@
-//! Accesses by core, so that those of an instruction are found.
-ghost use Rattle.std.specs.Prelude.{◌≡◌, ◌↔◌, ℕ, IfOk, IfSome, IsTrue, Some, [], replicate};
-ghost use Rattle.std.specs.List.{Contains};
-ghost use Rattle.rtr_types.specs.declared.access.Access.{Access as SomeAccess};
+//! Accesses by their instructions.
+ghost use Rattle.std.specs.Prelude.{◌≡◌, ◌<◌, ◌≤◌, ◌+◌, ◌-◌, ◌↔◌, ℕ, IfOk, IsTrue, OnOk, [], length, replicate};
+ghost use Rattle.std.specs.Prelude.{slice_get};
 ghost use Rattle.conflict_edge.specs.Conflicts.{CountsRise};
-ghost use Rattle.min_certificate.specs.Conflicting.{AreByCore, AreCoresBelow, AreRising, BothConflict, IsAccessAt};
+ghost use Rattle.min_certificate.specs.Conflicting.{AreCoresBelow, AreIndexed, BothConflict, IsAccessAt, IsPut};
+ghost use Rattle.min_certificate.specs.Conflicting.{place_in};
 ghost use Rattle.min_certificate.specs.Firsts.{FirstWithout};
 
 use conflict_edge::conflicts;
@@ -11,11 +11,13 @@ use rtr_types::{Access, Edge, Instr, Items};
 use std::alloc::{AllocError, Global};
 use std::marker::Model;
 
-/// The accesses of an order, of which each core has its own list. Contracts see it as the accesses.
+/// The accesses of an order. For each core and each of its counts up to that of its last access there is
+/// the place of the access with this count, from 1, or 0 where there is none. Contracts see it as the
+/// accesses.
 #[derive(Drop)]
 pub struct CoreAccesses<'a> {
     accesses: &'a [Access],
-    lists: Vec<Items<Access>>,
+    places: Vec<Items<usize>>,
 }
 
 impl<'a> Model for CoreAccesses<'a> {
@@ -27,7 +29,7 @@ impl<'a> Model for CoreAccesses<'a> {
 
     ghost view = { λ a. a.accesses.now };
 
-    ghost invariant = { λ a. AreIndexed a.accesses.now a.lists.items };
+    ghost invariant = { λ a. AreIndexed a.accesses.now a.places.items };
 }
 
 impl<'a> CoreAccesses<'a> {
@@ -43,7 +45,7 @@ impl<'a> CoreAccesses<'a> {
     {
         Ok(CoreAccesses {
             accesses,
-            lists: by_core(alloc, cores, accesses)?,
+            places: places_of(alloc, cores, accesses)?,
         })
     }
 
@@ -51,10 +53,11 @@ impl<'a> CoreAccesses<'a> {
     fn find(&self, at: Instr) -> Option<Access>
         ensures { IsAccessAt self.now at result }
     {
-        match self.lists.get(at.core as usize) {
-            Some(list) => access_at(list.as_slice(), at.count),
-            None => None,
+        let place = place_in(&self.places, at);
+        if place == 0 {
+            return None;
         }
+        access_at(self.accesses, place - 1)
     }
 
     /// Whether the accesses at the two ends of an edge conflict.
@@ -83,36 +86,62 @@ impl<'a> CoreAccesses<'a> {
     }
 }
 
-fn no_accesses(alloc: Global, cores: u8) -> Result<Vec<Items<Access>>, AllocError>
-    ensures { IfOk result (λ lists. lists.items ≡ replicate cores []) }
+/// The access at a place of the list, if there is one.
+fn access_at(accesses: &[Access], place: usize) -> Option<Access>
+    ensures { result ≡ slice_get accesses.now place }
 {
-    let mut lists = Vec::new(alloc);
+    accesses.get(place).copied()
+}
+
+/// The place of an instruction's access, from 1, or 0 where it has none.
+fn place_in(places: &[Items<usize>], at: Instr) -> usize
+    ensures { result ≡ place_in places.now at.core at.count }
+{
+    if at.count == 0 {
+        return 0;
+    }
+    match places.get(at.core as usize) {
+        Some(list) => match list.as_slice().get(at.count as usize - 1) {
+            Some(place) => *place,
+            None => 0,
+        },
+        None => 0,
+    }
+}
+
+/// No places of any of so many cores.
+fn no_places(alloc: Global, cores: u8) -> Result<Vec<Items<usize>>, AllocError>
+    ensures { IfOk result (λ places. places.items ≡ replicate cores []) }
+{
+    let mut places = Vec::new(alloc);
     for core in 0..cores {
-        lists.push(Items::new(alloc))?;
+        places.push(Items::new(alloc))?;
     }
-    Ok(lists)
+    Ok(places)
 }
 
-/// The accesses of each core, in their order.
-fn by_core(alloc: Global, cores: u8, accesses: &[Access]) -> Result<Vec<Items<Access>>, AllocError>
-    requires { AreCoresBelow cores accesses.now }
-    ensures { IfOk result (λ lists. AreByCore cores accesses.now lists.items) }
+/// The place of each instruction's access.
+fn places_of(alloc: Global, cores: u8, accesses: &[Access]) -> Result<Vec<Items<usize>>, AllocError>
+    requires cores { AreCoresBelow cores accesses.now }
+    requires rise { CountsRise accesses.now }
+    ensures { IfOk result (λ places. AreIndexed accesses.now places.items) }
 {
-    let mut lists = no_accesses(alloc, cores)?;
-    for &access in accesses {
-        lists[access.at.core as usize].push(access)?;
+    let mut places = no_places(alloc, cores)?;
+    for index in 0..accesses.len() {
+        let at = accesses[index].at;
+        put_place(&mut places[at.core as usize], at.count, index + 1)?;
     }
-    Ok(lists)
+    Ok(places)
 }
 
-/// The access with this count, of a core's accesses.
-fn access_at(list: &[Access], count: u32) -> Option<Access>
-    requires { AreRising list.now }
-    ensures found { IfSome result (λ a. Contains list.now a × (a.at.count ≡ count)) }
-    ensures only { (a : SomeAccess) → Contains list.now a → a.at.count ≡ count → result ≡ Some a }
+/// Puts a place at a count that is past all that have one.
+fn put_place(list: &mut Items<usize>, count: u32, place: usize) -> Result<(), AllocError>
+    requires { length list.old < count }
+    ensures { OnOk result (IsPut list.old count place list.new) }
 {
-    match list.binary_search_by_key(&count, |access| access.at.count) {
-        Ok(k) => Some(list[k]),
-        Err(_) => None,
+    for before in list.len()..count as usize - 1 {
+        list.push(0)?;
     }
+    list.push(place)?;
+    Ok(())
 }

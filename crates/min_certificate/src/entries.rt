@@ -1,10 +1,10 @@
 //! The clocks of a certificate, looked up at the edge ends of its recording, and tested there.
-ghost use Rattle.std.specs.Prelude.{◌≡◌, ◌≤◌, ◌<◌, ◌↔◌, IfSome, IsTrue, Some, slice_index};
+ghost use Rattle.std.specs.Prelude.{◌≡◌, ◌≤◌, ◌<◌, ◌-◌, ◌↔◌, IfSome, IsTrue, Some, slice_index};
 ghost use Rattle.rtr_types.specs.Pairs.{IsPair};
 ghost use Rattle.rtr_types.specs.declared.instr.Instr.{Instr as SomeInstr};
 ghost use Rattle.log_codec.specs.Validity.{Valid};
 ghost use Rattle.clock_core.specs.Order.{Among};
-ghost use Rattle.clock_entries.specs.Ends.{ends_to, last_entry};
+ghost use Rattle.clock_entries.specs.Ends.{ends_to, instr, last_entry};
 ghost use Rattle.certificate_codec.specs.Ends.{reduced_edges, IsWithin};
 ghost use Rattle.min_certificate.specs.Places.{IsSourceBelow, AreSourcesBelow, IsUnknownThere, IsUnknownByOthers};
 ghost use Rattle.min_certificate.specs.Places.{IsGoodIn, IsNeededIn};
@@ -120,18 +120,16 @@ impl<'a> Entries<'a> {
     /// Whether the entry of an edge end is good: it has its own count at its own place, at each other
     /// place at least what its core's previous entry has, and at each place at least what each logged
     /// source's has.
-    fn is_good_at(&self, at: Instr) -> bool
+    fn is_good_at(&self, at: Instr, here: &[u32], before: &[u32]) -> bool
         requires within { IsWithin self.now.recording at }
         requires some { 1 ≤ at.count }
+        requires here { here.now ≡ last_entry (reduced_edges self.now.recording) self.now.clocks at }
+        requires before { before.now
+            ≡ last_entry (reduced_edges self.now.recording) self.now.clocks (instr at.core (at.count - 1)) }
         ensures { IsTrue result ↔ IsGoodIn self.now at }
     {
-        let here = self.entry(at);
-        let before = Instr {
-            core: at.core,
-            count: at.count - 1,
-        };
         place(here, at.core as usize) == at.count
-            && is_below_but(at.core, self.entry(before), here)
+            && is_below_but(at.core, before, here)
             && self.are_sources_below(at, here)
     }
 
@@ -146,7 +144,9 @@ impl<'a> Entries<'a> {
                 core,
                 count: ends[before],
             };
-            if !self.is_good_at(at) {
+            let here = entry_at(self.clocks, core, before + 1);
+            let earlier = entry_at(self.clocks, core, before);
+            if !self.is_good_at(at, here, earlier) {
                 return Some(before as u32 + 1);
             }
         }

@@ -78,23 +78,23 @@ module _ (which : Which) (r : Recording) (valid : Valid r) where
   -- ---- one core
 
   -- what is known is still to come
-  pub known_none : (k : Coming) (of : ℕ) (at : Instr) → IsComing (log_edges which r) at.core r.params.cores k → of < r.params.cores → of ≢ at.core →
+  pub known_none : (k : Coming) (of : ℕ) (at : Instr) → IsNextInto (log_edges which r) of (instr at.core k.from) (edge_of k of) →
       k.from ≤ at.count → edge_of k of ≡ None → IsNextInto (log_edges which r) of at None
-  known_none k of at h lt ne from is =
-      let known = subst (IsNextInto (log_edges which r) of (instr at.core k.from)) is (h.each of lt ne) in
+  known_none k of at h from is =
+      let known = subst (IsNextInto (log_edges which r) of (instr at.core k.from)) is h in
       λ a b has. let low = known a b has in omega arith
 
-  pub known_some : (k : Coming) (of : ℕ) (at : Instr) (e : ℕ × ℕ) → IsComing (log_edges which r) at.core r.params.cores k → of < r.params.cores → of ≢ at.core →
+  pub known_some : (k : Coming) (of : ℕ) (at : Instr) (e : ℕ × ℕ) → IsNextInto (log_edges which r) of (instr at.core k.from) (edge_of k of) →
       k.from ≤ at.count → edge_of k of ≡ Some e → at.count ≤ e.1 → IsNextInto (log_edges which r) of at (Some e)
-  known_some k of at e h lt ne from is le =
+  known_some k of at e h from is le =
       let known : IsFirstInto (log_edges which r) of (instr at.core k.from) e =
-      subst (IsNextInto (log_edges which r) of (instr at.core k.from)) is (h.each of lt ne) in
+      subst (IsNextInto (log_edges which r) of (instr at.core k.from)) is h in
       record { there = known.there; least = le; first = λ a b has up. known.first a b has (omega arith) }
 
-  pub known_next : (k : Coming) (of : ℕ) (at : Instr) (o : Option (ℕ × ℕ)) → IsComing (log_edges which r) at.core r.params.cores k → of < r.params.cores →
-      of ≢ at.core → IsStillNext k of at.count o → IsNextInto (log_edges which r) of at o
-  known_next k of at None h lt ne s = known_none k of at h lt ne s.known (sym s.edge_is)
-  known_next k of at (Some e) h lt ne s = known_some k of at e h lt ne s.known (sym s.edge_is) s.still
+  pub known_next : (k : Coming) (of : ℕ) (at : Instr) (o : Option (ℕ × ℕ)) → IsNextInto (log_edges which r) of (instr at.core k.from) (edge_of k of) →
+      IsStillNext k of at.count o → IsNextInto (log_edges which r) of at o
+  known_next k of at None h s = known_none k of at h s.known (sym s.edge_is)
+  known_next k of at (Some e) h s = known_some k of at e h s.known (sym s.edge_is) s.still
 
   -- the next edge leads to the instruction itself
   pub source_here : (of : ℕ) (at : Instr) (e : ℕ × ℕ) → IsFirstInto (log_edges which r) of at e → e.1 ≡ at.count → IsSource (log_edges which r) of at (Some e.0)
@@ -243,6 +243,16 @@ pub record LookedTo (edges : List Edge) (y : Instr) (n : ℕ) (s : List ℕ) (k 
   pub sourced : SourcedTo edges y n s
   pub next : IsComing edges y.core n k
 
+-- k with another count to begin from
+abbrev pub with_from : ℕ → Coming → Coming
+with_from n k = record { from = n; due = k.due; edges = k.edges }
+
+-- the same of edges that are changed in place, which begin from the old count until all are
+pub record PassedTo (edges : List Edge) (y : Instr) (n : ℕ) (s : List ℕ) (old k : Coming) : Type 0 where
+  pub from : k.from ≡ old.from
+  pub rest : (i : ℕ) → n ≤ i → edge_of k i ≡ edge_of old i
+  pub looked : LookedTo edges y n s (with_from (y.count + 1) k)
+
 -- core n's source is put in, if it has one
 abbrev pub IsTaken : Option ℕ → ℕ → (s t : List ℕ) → Type 0
 IsTaken None n s t = t ≡ s
@@ -285,17 +295,34 @@ module _ (which : Which) (r : Recording) (valid : Valid r) where
         (subst (λ (x : ℕ). IsNextInto (log_edges which r) n (instr y.core x) e) (sym h.from) next) put.from put.at put.others put.before put.due;
   }
 
-  module _ (edges : List Edge) (same : log_edges which r ≡ edges) where
-    pub look_own : LooksOwn edges
-    look_own = subst LooksOwn same own_looked
+  -- in place: of the cores from n on nothing has changed yet
+  module _ (y : Instr) (n : ℕ) (s : List ℕ) (old k : Coming) (h : PassedTo (log_edges which r) y n s old k) where
+    pub pass_own : n ≡ y.core → PassedTo (log_edges which r) y (n + 1) s old k
+    pass_own own =
+        record { from = h.from; rest = λ i le. h.rest i (omega arith); looked = own_looked y n s (with_from (y.count + 1) k) h.looked own }
 
-    pub look_more : LooksMore edges
-    look_more = subst LooksMore same more_looked
+    pub pass_more : (t : List ℕ) (m : Coming) (source : Option ℕ) (e : Option (ℕ × ℕ)) → IsSource (log_edges which r) n y source →
+        IsNextInto (log_edges which r) n (instr y.core (y.count + 1)) e → IsTaken source n s t → IsPut k n e m →
+        PassedTo (log_edges which r) y (n + 1) t old m
+    pass_more t m source e is next took put = record {
+      from = put.from ∙ h.from;
+      rest = λ i le. put.others i (λ e. omega arith) ∙ h.rest i (omega arith);
+      looked = more_looked y n s t (with_from (y.count + 1) k) (with_from (y.count + 1) m) source e h.looked is next took
+          (record { from = refl; at = put.at; others = put.others; before = put.before; due = put.due });
+    }
 
-    pub looked_sources : (y : Instr) (n : ℕ) (s : List ℕ) (k : Coming) → r.params.cores ≤ n → LookedTo edges y n s k → AreSources edges y s
-    looked_sources y n s k all h =
-        subst (λ (es : List Edge). AreSources es y s) same
-        (sourced_all which r y n s valid all (subst (λ (es : List Edge). SourcedTo es y n s) (sym same) h.sourced))
+    -- the next edge from core n is as it was known before
+    pub pass_known : IsComing (log_edges which r) y.core r.params.cores old → n < r.params.cores → n ≢ y.core →
+        IsNextInto (log_edges which r) n (instr y.core k.from) (edge_of k n)
+    pass_known was lt ne =
+        subst (λ (c : ℕ). IsNextInto (log_edges which r) n (instr y.core c) (edge_of k n)) (sym h.from)
+        (subst (IsNextInto (log_edges which r) n (instr y.core old.from)) (sym (h.rest n (omega arith))) (was.each n lt ne))
+
+    pub passed_sources : r.params.cores ≤ n → AreSources (log_edges which r) y s
+    passed_sources all = sourced_all which r y n s valid all h.looked.sourced
+
+    pub passed_coming : r.params.cores ≡ n → IsComing (log_edges which r) y.core r.params.cores (with_from (y.count + 1) k)
+    passed_coming all = subst (λ (c : ℕ). IsComing (log_edges which r) y.core c (with_from (y.count + 1) k)) (sym all) h.looked.next
 
 pub look_start : (edges : List Edge) (y : Instr) (s : List ℕ) (k : Coming) → s ≡ no_counts → k.from ≡ y.count + 1 → LookedTo edges y 0 s k
 look_start edges y s k none from = record {
@@ -310,6 +337,15 @@ look_start edges y s k none from = record {
   where
     nothing : (c : ℕ) → slice_index s c ≡ 0
     nothing c = ap (λ (l : List ℕ). slice_index l c) none ∙ zero_at CORES_MAX c
+
+pub pass_start : (edges : List Edge) (y : Instr) (s : List ℕ) (old k : Coming) → s ≡ no_counts → k.from ≡ old.from → k.edges ≡ old.edges →
+    PassedTo edges y 0 s old k
+pass_start edges y s old k none from same =
+    record {
+      from = from;
+      rest = λ i le. ap (λ (l : List (Option (ℕ × ℕ))). get_or l i None) same;
+      looked = look_start edges y s (with_from (y.count + 1) k) none refl;
+    }
 
 pub taken_some : (source : Option ℕ) (a n : ℕ) (s t : List ℕ) → source ≡ Some a → slice_index t n ≡ a → ((i : ℕ) → i ≢ n → slice_index t i ≡ slice_index s i) →
     IsTaken source n s t

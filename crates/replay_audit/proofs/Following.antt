@@ -16,10 +16,10 @@ use Rattle.replay_core.specs.Orders.{counts, nought, Ready, lowest_ready}
 use Rattle.replay_core.specs.Answers.{told}
 use Rattle.replay_core.proofs.Counts.{counts_on}
 use Rattle.replay_audit.specs.Clocks.{AreSources}
-use Rattle.replay_audit.specs.Marks.{first_mark, mark_at}
+use Rattle.replay_audit.specs.Marks.{first_mark, mark_at, IsMark}
 use Rattle.replay_audit.specs.Tallies.{Tallied, count_of}
 use Rattle.replay_audit.specs.Trails.{Trailed, Trails, IsTrailOf}
-use Rattle.replay_audit.proofs.Marking.{write_core}
+use Rattle.replay_audit.proofs.Marking.{marked_at}
 use Rattle.replay_audit.proofs.Tallying.{Counted, counted_start, counted_on, ready_there}
 use Rattle.replay_audit.proofs.Trailing.{trail_start, trail_on}
 
@@ -61,8 +61,8 @@ module _ {which : Which} {r : Recording} (valid : Valid r) {order : List ℕ} {l
       let m = valid.params.cores in
       omega arith
 
-  pub each_write : (w : ℕ) → (mark_at s.marks w).write.core < CORES_MAX
-  each_write w = write_core _ s.marks w f.trail.marked
+  pub each_marked : (w : ℕ) → IsMark (mark_at s.marks w)
+  each_marked w = marked_at _ s.marks w f.trail.marked
 
   -- the next instruction, of the lowest core that is ready
   module _ {c : ℕ} (some : lowest_ready t.plan (count_of t.counts) ≡ Some c) {at : Instr} (at_is : at ≡ instr c (count_of t.counts c + 1)) where

@@ -17,6 +17,7 @@ pub mod Clocking
 pub mod Marking
 pub mod Trailing
 pub mod Tallying
+pub mod Lowering
 pub mod Following
 pub mod Auditing
 pub mod Refused

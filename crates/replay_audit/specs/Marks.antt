@@ -1,6 +1,6 @@
 -- The last write of each word, and the last reads since.
-use Rattle.std.specs.Prelude.{◌≡◌, ℕ, ◌<◌, ◌≤◌, IsTrue, List, length, slice_index, slice_index_or, slice_set, Some}
-use Rattle.std.specs.Prelude.{if◌then◌else◌}
+use Rattle.std.specs.Prelude.{◌≡◌, ℕ, ◌+◌, ◌<◌, ◌≤◌, IsTrue, List, length, max, slice_index, slice_index_or, slice_set}
+use Rattle.std.specs.Prelude.{Some, if◌then◌else◌}
 use Rattle.rtr_types.specs.Accesses.{is_write}
 use Rattle.rtr_types.specs.declared.TheConstants.{CORES_MAX}
 use Rattle.rtr_types.specs.declared.access.Access.{Access}
@@ -10,7 +10,7 @@ use Rattle.replay_audit.specs.declared.marks.Mark.{Mark}
 
 -- no access yet
 abbrev pub first_mark : Mark
-first_mark = record { write = record { core = 0; count = 0 }; reads = no_counts }
+first_mark = record { write = record { core = 0; count = 0 }; reads = no_counts; readers = 0 }
 
 -- the mark of a word
 abbrev pub mark_at : List Mark → ℕ → Mark
@@ -20,8 +20,19 @@ mark_at marks w = slice_index_or marks w first_mark
 abbrev pub next_mark : Mark → Access → Mark
 next_mark m a =
     if is_write a.kind
-    then record { write = a.at; reads = no_counts }
-    else record { write = m.write; reads = slice_set m.reads a.at.core a.at.count }
+    then record { write = a.at; reads = no_counts; readers = 0 }
+    else
+    record {
+      write = m.write;
+      reads = slice_set m.reads a.at.core a.at.count;
+      readers = max m.readers (a.at.core + 1);
+    }
+
+-- the last write is of some core, and no core from `readers` on has read since
+pub record IsMark (m : Mark) : Type 0 where
+  pub core : m.write.core < CORES_MAX
+  pub readers : m.readers ≤ CORES_MAX
+  pub past : (i : ℕ) → m.readers ≤ i → slice_index m.reads i ≡ 0
 
 -- the clock covers the last write of the access's word and, where the access writes, the last reads since
 pub record AreMarksCovered (marks : List Mark) (a : Access) (clock : List ℕ) : Type 0 where
@@ -32,7 +43,7 @@ pub record AreMarksCovered (marks : List Mark) (a : Access) (clock : List ℕ) :
 
 -- the mark holds the last write and the last reads of the word; the newest access comes first
 pub record IsMarkOf (earlier : List Access) (w : ℕ) (m : Mark) : Type 0 where
-  pub core : m.write.core < CORES_MAX
+  pub is_mark : IsMark m
   pub wide : length m.reads ≡ CORES_MAX
   pub write : (b : Access) → last_write earlier w ≡ Some b → m.write ≡ b.at
   pub reads : (i : ℕ) (b : Access) → i < CORES_MAX → last_read earlier w i ≡ Some b →

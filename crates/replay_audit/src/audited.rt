@@ -8,7 +8,7 @@ ghost use Rattle.replay_audit.specs.Audits.{AuditRefuses, HasPassed, IsAuditOf, 
 
 use crate::audit_fault::AuditFault;
 use crate::log_clocks::LogClocks;
-use crate::tally::Tally;
+use crate::low_order::LowOrder;
 use crate::trail::Trail;
 use clock_core::Clock;
 use log_codec::Recording;
@@ -80,7 +80,7 @@ impl Audited {
         requires { IsInstrOf self.now.recording at }
         ensures { IsClock (Among (log_edges self.now.which self.now.recording)) at (λ i. slice_index result i) }
     {
-        self.pass.clocks.of(at)
+        self.pass.clocks.of(at).to_clock()
     }
 
     /// The recording, and the outcome of the low order. It takes no memory.
@@ -134,7 +134,7 @@ impl Pass {
             (λ pass. HasPassed which recording.now pass.outcome pass.accesses pass.clocks)
             (AuditRefuses which recording.now) }
     {
-        let mut tally = Tally::new(alloc, recording, which)?;
+        let mut tally = LowOrder::new(alloc, recording, which)?;
         let mut replay = Replay::new(alloc, recording, which)?;
         let mut trail = Trail::new(alloc, tally.cores(), recording.params.words)?;
         while let Some(core) = tally.lowest() {
@@ -145,8 +145,9 @@ impl Pass {
                     return Err(AuditFault::Short { core, count });
                 }
                 Advanced::Retired { access } => {
-                    let next = tally.advance(core);
+                    let next = tally.next(core);
                     trail.note(&next, tally.cores(), access)?;
+                    tally.advance(core);
                 }
             }
         }

@@ -4,6 +4,8 @@ ghost use Rattle.std.specs.Prelude.{None as NoneThere};
 ghost use Rattle.rtr_types.specs.declared.TheConstants.{CORES_MAX};
 ghost use Rattle.replay_core.specs.Plans.{plan_of};
 ghost use Rattle.replay_core.specs.Play.{instr};
+ghost use Rattle.rtr_types.specs.Pairs.{IsPair};
+ghost use Rattle.log_codec.specs.Sources.{log_edges};
 ghost use Rattle.log_codec.specs.Validity.{Valid};
 ghost use Rattle.replay_audit.specs.Clocks.{AreSources, sources_in};
 ghost use Rattle.replay_audit.specs.Coming.{IsComing, IsNextInto, IsSource, IsSourceIn, IsStillNext, edge_of};
@@ -81,6 +83,74 @@ impl Coming {
         }
         self.edges[of as usize] = edge;
     }
+
+    /// Finds the sources of the instruction, each core's in turn. The edges go on to those to later ones.
+    #[inline(never)]
+    fn pass(&mut self, recording: &Recording, which: Which, at: Instr, sources: &mut Option<Clock>)
+        requires valid { Valid recording.now }
+        requires core { at.core < recording.now.params.cores }
+        requires count { at.count < 2 ^ 32 - 1 }
+        requires coming { IsComing (log_edges which recording.now) at.core recording.now.params.cores self.old }
+        ensures sources { AreSources (log_edges which recording.now) at (sources_in sources.new) }
+        ensures coming { IsComing (log_edges which recording.now) at.core recording.now.params.cores self.new }
+    {
+        let mut found = Clock::zero();
+        self.due = u32::MAX;
+        for of in 0..recording.params.cores {
+            if of != at.core {
+                let Step { source, next } = self.step(recording, which, of, at);
+                self.put(of, next);
+                match source {
+                    Some(count) => found.set(of, count),
+                    None => {}
+                }
+            }
+        }
+        self.from = at.count + 1;
+        *sources = Some(found);
+    }
+
+    /// The instruction's source on a core, and the core's next edge to a later instruction.
+    fn step(&self, recording: &Recording, which: Which, of: u8, at: Instr) -> Step
+        requires valid { Valid recording.now }
+        requires pair { IsPair recording.now.params.cores of at.core }
+        requires count { at.count < 2 ^ 32 - 1 }
+        requires coming { IsNextInto (log_edges which recording.now) of (instr at.core self.now.from)
+            (edge_of self.now of) }
+        ensures source { IsSource (log_edges which recording.now) of at result.source }
+        ensures next { IsNextInto (log_edges which recording.now) of (instr at.core (at.count + 1)) result.next }
+    {
+        let next = self.next(recording, which, of, at);
+        match source_in(next, at.count) {
+            Some(count) => {
+                let later = Instr {
+                    core: at.core,
+                    count: at.count + 1,
+                };
+                let next = next_edge(recording, which, of, later);
+                Step {
+                    source: Some(count),
+                    next,
+                }
+            }
+            None => Step { source: None, next },
+        }
+    }
+
+    /// The first edge from a core to the instruction or a later one: the one that is known, if it is still
+    /// to come.
+    fn next(&self, recording: &Recording, which: Which, of: u8, at: Instr) -> Option<(u32, u32)>
+        requires valid { Valid recording.now }
+        requires pair { IsPair recording.now.params.cores of at.core }
+        requires coming { IsNextInto (log_edges which recording.now) of (instr at.core self.now.from)
+            (edge_of self.now of) }
+        ensures { IsNextInto (log_edges which recording.now) of at result }
+    {
+        match self.known(of, at.count) {
+            Some(edge) => edge,
+            None => next_edge(recording, which, of, at),
+        }
+    }
 }
 
 /// The source of an instruction on a core, and the core's next edge to a later instruction.
@@ -88,13 +158,6 @@ impl Coming {
 struct Step {
     source: Option<u32>,
     next: Option<(u32, u32)>,
-}
-
-/// The sources of an instruction, and the edges to later ones.
-#[derive(Clone, Copy)]
-struct Found {
-    sources: Clock,
-    coming: Coming,
 }
 
 /// The logged sources of a recording's instructions. Where each core's instructions are asked for in their
@@ -138,82 +201,30 @@ impl<'a> Sources<'a> {
         })
     }
 
-    /// The sources of the instruction: none where no edge leads to it.
-    pub fn find(&mut self, at: Instr) -> Option<Clock>
+    /// Finds the sources of the instruction: none where no edge leads to it.
+    #[inline(always)]
+    pub fn find(&mut self, at: Instr, sources: &mut Option<Clock>)
         requires core { at.core < length self.old.totals }
         requires count { at.count < 2 ^ 32 - 1 }
         ensures plan { self.new ≡ self.old }
-        ensures sources { AreSources self.old.edges at (sources_in result) }
+        ensures sources { AreSources self.old.edges at (sources_in sources.new) }
     {
         if self.coming[at.core as usize].is_early(at.count) {
-            return None;
+            clear(sources);
+            return;
         }
-        let found = self.look(at);
-        self.coming[at.core as usize] = found.coming;
-        Some(found.sources)
+        let coming = &mut self.coming[at.core as usize];
+        coming.pass(self.recording, self.which, at, sources);
     }
+}
 
-    /// The sources of the instruction, and the edges to later ones of its core, each core's in turn.
-    fn look(&self, at: Instr) -> Found
-        requires core { at.core < length self.now.totals }
-        requires count { at.count < 2 ^ 32 - 1 }
-        ensures from { result.coming.from ≡ at.count + 1 }
-        ensures sources { AreSources self.now.edges at result.sources }
-        ensures coming { IsComing self.now.edges at.core (length self.now.totals) result.coming }
-    {
-        let mut sources = Clock::zero();
-        let mut coming = Coming::none(at.count + 1);
-        for of in 0..self.recording.params.cores {
-            if of != at.core {
-                let Step { source, next } = self.step(of, at);
-                coming.put(of, next);
-                match source {
-                    Some(count) => sources.set(of, count),
-                    None => {}
-                }
-            }
-        }
-        Found { sources, coming }
-    }
-
-    /// The instruction's source on a core, and the core's next edge to a later instruction.
-    fn step(&self, of: u8, at: Instr) -> Step
-        requires of { of < length self.now.totals }
-        requires core { at.core < length self.now.totals }
-        requires differ { of ≢ at.core }
-        requires count { at.count < 2 ^ 32 - 1 }
-        ensures source { IsSource self.now.edges of at result.source }
-        ensures next { IsNextInto self.now.edges of (instr at.core (at.count + 1)) result.next }
-    {
-        let next = self.next(of, at);
-        match source_in(next, at.count) {
-            Some(count) => {
-                let later = Instr {
-                    core: at.core,
-                    count: at.count + 1,
-                };
-                let next = next_edge(self.recording, self.which, of, later);
-                Step {
-                    source: Some(count),
-                    next,
-                }
-            }
-            None => Step { source: None, next },
-        }
-    }
-
-    /// The first edge from a core to the instruction or a later one: the one that is known, if it is still
-    /// to come.
-    fn next(&self, of: u8, at: Instr) -> Option<(u32, u32)>
-        requires of { of < length self.now.totals }
-        requires core { at.core < length self.now.totals }
-        requires differ { of ≢ at.core }
-        ensures { IsNextInto self.now.edges of at result }
-    {
-        match self.coming[at.core as usize].known(of, at.count) {
-            Some(edge) => edge,
-            None => next_edge(self.recording, self.which, of, at),
-        }
+/// Leaves no sources. Where there are none, nothing is written.
+#[inline(always)]
+fn clear(sources: &mut Option<Clock>)
+    ensures { sources.new ≡ NoneThere }
+{
+    if sources.is_some() {
+        *sources = None;
     }
 }
 

@@ -8,7 +8,7 @@ ghost use Rattle.replay_audit.specs.Determinate.{IsDeterminate, low_order_of};
 ghost use Rattle.replay_audit.specs.declared.touch.Touch.{Touch as SomeTouch};
 ghost use Rattle.replay_audit.specs.Touches.{AreRising, IsAccessOf, touches_of, as_access, ArePlayed};
 
-use crate::tally::Tally;
+use crate::low_order::LowOrder;
 use crate::touch::Touch;
 use crate::trail::Trail;
 use log_codec::Recording;
@@ -28,12 +28,13 @@ pub fn judge(
     requires touched { ArePlayed which recording.now touched.now }
     ensures { IfOk result (λ verdict. IsTrue verdict ↔ IsDeterminate which recording.now) }
 {
-    let mut tally = Tally::new(alloc, recording, which)?;
+    let mut tally = LowOrder::new(alloc, recording, which)?;
     let mut trail = Trail::new(alloc, tally.cores(), recording.params.words)?;
     while let Some(core) = tally.lowest() {
-        let next = tally.advance(core);
+        let next = tally.next(core);
         let access = access_at(touched, next.at);
         trail.note(&next, tally.cores(), access)?;
+        tally.advance(core);
     }
     match trail.unordered() {
         Some(_) => Ok(false),

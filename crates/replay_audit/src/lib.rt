@@ -4,10 +4,12 @@
 
 mod audit_fault;
 mod audited;
+mod clock_of;
 mod coming;
 mod judgement;
 pub mod laws;
 mod log_clocks;
+mod low_order;
 mod marks;
 mod next_edge;
 mod sourced;
@@ -21,5 +23,5 @@ mod unordered;
 pub use audit_fault::AuditFault;
 pub use audited::{Audited, audit};
 pub use judgement::judge;
-pub use tally::ordered;
+pub use low_order::ordered;
 pub use touch::Touch;

@@ -3,6 +3,7 @@ ghost use Rattle.std.specs.Prelude.{◌≡◌, ◌<◌, ◌≤◌, ℕ, IfOk, On
 ghost use Rattle.rtr_types.specs.declared.TheConstants.{CORES_MAX};
 ghost use Rattle.replay_audit.specs.Clocks.{clock_at, next_at, number_of, numbered, sources_in, IsKept, IsNoted};
 
+use crate::clock_of::ClockOf;
 use crate::sourced::Sourced;
 use clock_core::Clock;
 use rtr_types::{CORES_MAX, Instr, Items};
@@ -13,16 +14,21 @@ use std::marker::Model;
 /// how many of these clocks there are up to it.
 #[derive(Drop)]
 pub struct LogClocks {
+    nothing: Clock,
     numbers: Vec<Items<usize>>,
     clocks: Vec<Items<Clock>>,
 }
 
 impl Model for LogClocks {
+    ghost use Rattle.std.specs.Prelude.{◌≡◌};
+    ghost use Rattle.clock_core.specs.Counts.{no_counts};
     ghost use Rattle.replay_audit.specs.Clocks.{Kept};
 
     ghost Value = { Kept };
 
     ghost view = { λ a. record { numbers = a.numbers.items; clocks = a.clocks.items } };
+
+    ghost invariant = { λ a. a.nothing ≡ no_counts };
 }
 
 impl LogClocks {
@@ -37,28 +43,31 @@ impl LogClocks {
             numbers.push(Items::new(alloc))?;
             clocks.push(Items::new(alloc))?;
         }
-        Ok(LogClocks { numbers, clocks })
+        Ok(LogClocks {
+            nothing: Clock::zero(),
+            numbers,
+            clocks,
+        })
     }
 
     /// The clock of an instruction that was noted, or of none, before the first: the last clock that is
     /// kept of its core up to it, with its own count.
-    pub fn of(&self, at: Instr) -> Clock
+    pub fn of(&self, at: Instr) -> ClockOf<'_>
         requires { at.core < CORES_MAX }
         ensures { (i : ℕ) → slice_index result i ≡ clock_at self.now at i }
     {
-        let mut clock = self.numbered(at.core, self.number(at));
-        clock.set(at.core, at.count);
-        clock
+        ClockOf::new(at, self.numbered(at.core, self.number(at)))
     }
 
     /// Notes the next instruction of its core, of so many cores.
+    #[inline(always)]
     pub fn note(&mut self, next: &Sourced, cores: u8) -> Result<(), AllocError>
         requires core { next.now.at.core < CORES_MAX }
         requires numbers { next.now.at.core < length self.old.numbers }
         requires kept { next.now.at.core < length self.old.clocks }
         requires some { 1 ≤ next.now.at.count }
         requires few { cores ≤ CORES_MAX }
-        ensures { OnOk result (IsNoted self.old next.now.at (sources_in next.now.sources) cores self.new) }
+        ensures { OnOk result (IsNoted self.old next.now.at (sources_in next.now.sources.now) cores self.new) }
     {
         self.keep(next, cores)?;
         let core = next.at.core as usize;
@@ -86,20 +95,20 @@ impl LogClocks {
     }
 
     /// The core's clock with this number, counted from 1; number 0 is the clock that knows of nothing.
-    fn numbered(&self, core: u8, number: usize) -> Clock
-        ensures { result ≡ numbered self.now core number }
+    fn numbered(&self, core: u8, number: usize) -> &Clock
+        ensures { result.now ≡ numbered self.now core number }
     {
         if number == 0 {
-            return Clock::zero();
+            return &self.nothing;
         }
         match self.clocks.get(core as usize) {
             Some(list) => {
                 match list.as_slice().get(number - 1) {
-                    Some(clock) => *clock,
-                    None => Clock::zero(),
+                    Some(clock) => clock,
+                    None => &self.nothing,
                 }
             }
-            None => Clock::zero(),
+            None => &self.nothing,
         }
     }
 
@@ -112,17 +121,21 @@ impl LogClocks {
         ensures { (i : ℕ) → slice_index result i ≡ next_at self.now at sources.now cores i }
     {
         let Instr { core, count } = at;
-        let mut clock = self.of(Instr {
+        let before = Instr {
             core,
             count: count - 1,
-        });
+        };
+        let mut clock = self.of(before).to_clock();
         for of in 0..cores {
             let source = sources.get(of);
             if source != 0 {
-                clock = clock.merge(self.of(Instr {
-                    core: of,
-                    count: source,
-                }));
+                clock = clock.merge(
+                    self.of(Instr {
+                        core: of,
+                        count: source,
+                    })
+                    .to_clock(),
+                );
             }
         }
         clock.set(core, count);
@@ -130,21 +143,34 @@ impl LogClocks {
     }
 
     /// Keeps the clock of an instruction that has sources.
+    #[inline(always)]
     fn keep(&mut self, next: &Sourced, cores: u8) -> Result<(), AllocError>
         requires core { next.now.at.core < CORES_MAX }
         requires kept { next.now.at.core < length self.old.clocks }
         requires some { 1 ≤ next.now.at.count }
         requires few { cores ≤ CORES_MAX }
         ensures numbers { OnOk result (self.new.numbers ≡ self.old.numbers) }
-        ensures clocks { OnOk result (IsKept self.old next.now.at (sources_in next.now.sources) cores self.new.clocks) }
+        ensures clocks { OnOk result (IsKept self.old next.now.at (sources_in next.now.sources.now)
+            cores self.new.clocks) }
     {
-        match &next.sources {
-            Some(sources) => {
-                let clock = self.next(next.at, sources, cores);
-                self.clocks[next.at.core as usize].push(clock)?;
-                Ok(())
-            }
+        match next.sources {
+            Some(sources) => self.keep_next(next.at, sources, cores),
             None => Ok(()),
         }
+    }
+
+    /// Keeps the clock of an instruction that has these sources.
+    #[inline(never)]
+    fn keep_next(&mut self, at: Instr, sources: &Clock, cores: u8) -> Result<(), AllocError>
+        requires core { at.core < CORES_MAX }
+        requires kept { at.core < length self.old.clocks }
+        requires some { 1 ≤ at.count }
+        requires few { cores ≤ CORES_MAX }
+        ensures numbers { OnOk result (self.new.numbers ≡ self.old.numbers) }
+        ensures clocks { OnOk result (IsKept self.old at sources.now cores self.new.clocks) }
+    {
+        let clock = self.next(at, sources, cores);
+        self.clocks[at.core as usize].push(clock)?;
+        Ok(())
     }
 }

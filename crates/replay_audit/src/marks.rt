@@ -1,19 +1,21 @@
 //! The last write of each word, and the last reads since.
 ghost use Rattle.std.specs.Prelude.{◌≡◌, ◌<◌, ◌≤◌, ℕ, IsTrue, IfOk, replicate, slice_index, slice_set};
 ghost use Rattle.rtr_types.specs.declared.TheConstants.{CORES_MAX};
-ghost use Rattle.replay_audit.specs.Marks.{AreMarksCovered, first_mark, mark_at, next_mark};
+ghost use Rattle.replay_audit.specs.Marks.{AreMarksCovered, IsMark, first_mark, mark_at, next_mark};
 
+use crate::clock_of::ClockOf;
 use clock_core::Clock;
 use rtr_types::{Access, CORES_MAX, Instr};
 use std::alloc::{AllocError, Global};
 use std::marker::Model;
 
 /// The last write of a word, and for each core the count of its last read since then. A count of 0
-/// means that there is none.
+/// means that there is none; so it is for each core from `readers` on.
 #[derive(Clone, Copy)]
 struct Mark {
     write: Instr,
     reads: Clock,
+    readers: u8,
 }
 
 impl Mark {
@@ -24,18 +26,22 @@ impl Mark {
         Mark {
             write: Instr { core: 0, count: 0 },
             reads: Clock::zero(),
+            readers: 0,
         }
     }
 
     /// Whether the clock covers the last read of each core.
-    fn are_reads_covered(&self, clock: &Clock) -> bool
+    fn are_reads_covered(&self, clock: &ClockOf) -> bool
+        requires readers { self.now.readers ≤ CORES_MAX }
+        requires past { (i : ℕ) → self.now.readers ≤ i → slice_index self.now.reads i ≡ 0 }
         ensures { IsTrue result → (i : ℕ) → i < CORES_MAX → slice_index self.now.reads i ≤ slice_index clock.now i }
     {
-        let mut covered = true;
-        for core in 0..CORES_MAX {
-            covered = covered && self.reads.get(core) <= clock.get(core);
+        for core in 0..self.readers {
+            if self.reads.get(core) > clock.get(core) {
+                return false;
+            }
         }
-        covered
+        true
     }
 
     /// Notes an access more.
@@ -46,8 +52,10 @@ impl Mark {
         if access.kind.is_write() {
             self.write = access.at;
             self.reads = Clock::zero();
+            self.readers = 0;
         } else {
             self.reads.set(access.at.core, access.at.count);
+            self.readers = self.readers.max(access.at.core + 1);
         }
     }
 }
@@ -81,8 +89,8 @@ impl Marks {
 
     /// Whether the clock covers the last write of the access's word and, where the access writes, the last
     /// reads since.
-    pub fn are_covered(&self, access: &Access, clock: &Clock) -> bool
-        requires { (mark_at self.now access.now.word).write.core < CORES_MAX }
+    pub fn are_covered(&self, access: &Access, clock: &ClockOf) -> bool
+        requires { IsMark (mark_at self.now access.now.word) }
         ensures { IsTrue result → AreMarksCovered self.now access.now clock.now }
     {
         match self.marks.get(access.word as usize) {

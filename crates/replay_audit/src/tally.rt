@@ -1,11 +1,13 @@
-//! The places of the low order, by counts, without a play.
-ghost use Rattle.std.specs.Prelude.{◌≡◌, ◌<◌, ◌≤◌, ◌+◌, ◌↔◌, length, slice_index, slice_set, replicate, IfOk, IsTrue};
+//! How far cores have come along an order, and what their next instructions wait for.
+ghost use Rattle.std.specs.Prelude.{◌≡◌, ◌<◌, ◌≤◌, ◌+◌, ◌↔◌, ℕ, length, slice_index, slice_set, replicate, IfOk};
+ghost use Rattle.std.specs.Prelude.{IsTrue};
 ghost use Rattle.rtr_types.specs.declared.TheConstants.{CORES_MAX};
+ghost use Rattle.clock_core.specs.Order.{Among};
 ghost use Rattle.log_codec.specs.Validity.{Valid};
 ghost use Rattle.replay_core.specs.Plans.{plan_of};
-ghost use Rattle.replay_core.specs.Orders.{Full, is_ready, is_sourced, lowest_ready, IsWhole};
+ghost use Rattle.replay_core.specs.Play.{instr};
+ghost use Rattle.replay_core.specs.Orders.{Full, is_ready, is_sourced};
 ghost use Rattle.replay_audit.specs.Clocks.{AreSources, sources_in};
-ghost use Rattle.replay_audit.specs.Determinate.{low_order_of};
 ghost use Rattle.replay_audit.specs.Tallies.{AreWanted, count_of, next_of};
 
 use crate::coming::Sources;
@@ -15,6 +17,9 @@ use log_codec::Recording;
 use rtr_types::{CORES_MAX, Instr, Which};
 use std::alloc::{AllocError, Global};
 use std::marker::Model;
+
+/// A place for each core, as the length of an array.
+const PLACES: usize = CORES_MAX as usize;
 
 /// How far each core has come along an order that obeys the log, and the logged sources of its next
 /// instruction, which are looked up once.
@@ -69,39 +74,48 @@ impl<'a> Tally<'a> {
         self.recording.params.cores
     }
 
-    /// The lowest-numbered core that is ready.
-    pub fn lowest(&self) -> Option<u8>
-        ensures { result ≡ lowest_ready self.now.plan (count_of self.now.counts) }
+    /// How many instructions of the core were counted.
+    pub fn count(&self, core: u8) -> u32
+        requires { core < length self.now.plan.totals }
+        ensures count { result ≡ count_of self.now.counts core }
+        ensures few { core < CORES_MAX }
     {
-        for core in 0..self.cores() {
-            if self.is_ready(core) {
-                return Some(core);
-            }
-        }
-        None
+        let _ = &self.recording;
+        self.counts[core as usize]
     }
 
-    /// One place more, of a core below its total. Answers the core's instruction there.
-    pub fn advance(&mut self, core: u8) -> Sourced
+    /// The next instruction of a core below its total, with its logged sources.
+    pub fn next(&self, core: u8) -> Sourced<'_>
+        requires inside { core < length self.now.plan.totals }
+        requires below { count_of self.now.counts core < slice_index self.now.plan.totals core }
+        ensures at { result.at ≡ next_of self.now.counts core }
+        ensures sources { AreSources self.now.plan.edges (next_of self.now.counts core)
+            (sources_in result.sources.now) }
+    {
+        let _ = &self.recording;
+        let count = self.counts[core as usize] + 1;
+        Sourced {
+            at: Instr { core, count },
+            sources: &self.wanted[core as usize],
+        }
+    }
+
+    /// One place more, of a core below its total.
+    #[inline(always)]
+    pub fn advance(&mut self, core: u8)
         requires inside { core < length self.old.plan.totals }
         requires below { count_of self.old.counts core < slice_index self.old.plan.totals core }
         ensures plan { self.new.plan ≡ self.old.plan }
         ensures counts { self.new.counts ≡ slice_set self.old.counts core (count_of self.old.counts core + 1) }
-        ensures at { result.at ≡ next_of self.old.counts core }
-        ensures sources { AreSources self.old.plan.edges (next_of self.old.counts core) (sources_in result.sources) }
+        ensures one_more { count_of self.new.counts core ≡ count_of self.old.counts core + 1 }
     {
-        let sources = self.wanted[core as usize];
         let count = self.counts[core as usize] + 1;
         let next = Instr {
             core,
             count: count + 1,
         };
         self.counts[core as usize] = count;
-        self.wanted[core as usize] = self.sources.find(next);
-        Sourced {
-            at: Instr { core, count },
-            sources,
-        }
+        self.sources.find(next, &mut self.wanted[core as usize]);
     }
 
     /// Whether each core is at its total.
@@ -118,7 +132,8 @@ impl<'a> Tally<'a> {
     }
 
     /// Whether the core is below its total and each source of its next instruction was counted.
-    fn is_ready(&self, core: u8) -> bool
+    #[inline(always)]
+    pub fn is_ready(&self, core: u8) -> bool
         requires { core < length self.now.plan.totals }
         ensures { result ≡ is_ready self.now.plan (count_of self.now.counts) core }
     {
@@ -141,6 +156,7 @@ impl<'a> Tally<'a> {
     }
 
     /// Whether each of these sources of the core's next instruction was counted.
+    #[inline(never)]
     fn are_met(&self, core: u8, wanted: &Clock) -> bool
         requires core { core < length self.now.plan.totals }
         requires sources { AreSources self.now.plan.edges (next_of self.now.counts core) wanted.now }
@@ -154,19 +170,35 @@ impl<'a> Tally<'a> {
         }
         true
     }
-}
 
-/// Whether the log's low order is whole.
-pub fn ordered(alloc: Global, recording: &Recording, which: Which) -> Result<bool, AllocError>
-    requires { Valid recording.now }
-    ensures { IfOk result (λ whole.
-        IsTrue whole ↔ IsWhole (plan_of which recording.now) (low_order_of which recording.now)) }
-{
-    let mut tally = Tally::new(alloc, recording, which)?;
-    while let Some(core) = tally.lowest() {
-        tally.advance(core);
+    /// Lowers the counts where the core's next instruction waits for less.
+    pub fn lower(&self, core: u8, until: &mut [u32; PLACES])
+        requires { core < length self.now.plan.totals }
+        ensures below { (i : ℕ) → slice_index until.new i ≤ slice_index until.old i }
+        ensures waits { (i a : ℕ) → Among self.now.plan.edges (instr i a) (next_of self.now.counts core) →
+            count_of self.now.counts i < a → slice_index until.new i ≤ a }
+    {
+        let _ = &self.recording;
+        if let Some(wanted) = &self.wanted[core as usize] {
+            self.lower_to(core, wanted, until);
+        }
     }
-    Ok(tally.whole())
+
+    /// Lowers the counts where these sources of the core's next instruction are still to come.
+    fn lower_to(&self, core: u8, wanted: &Clock, until: &mut [u32; PLACES])
+        requires core { core < length self.now.plan.totals }
+        requires sources { AreSources self.now.plan.edges (next_of self.now.counts core) wanted.now }
+        ensures below { (i : ℕ) → slice_index until.new i ≤ slice_index until.old i }
+        ensures waits { (i a : ℕ) → Among self.now.plan.edges (instr i a) (next_of self.now.counts core) →
+            count_of self.now.counts i < a → slice_index until.new i ≤ a }
+    {
+        for of in 0..self.recording.params.cores {
+            let count = wanted.get(of);
+            if count > self.counts[of as usize] && count < until[of as usize] {
+                until[of as usize] = count;
+            }
+        }
+    }
 }
 
 /// No count of any of so many cores.
@@ -192,7 +224,9 @@ fn first_wanted(
 {
     let mut list = Vec::new(alloc);
     for core in 0..cores {
-        list.push(sources.find(Instr { core, count: 1 }))?;
+        let mut wanted = None;
+        sources.find(Instr { core, count: 1 }, &mut wanted);
+        list.push(wanted)?;
     }
     Ok(list)
 }

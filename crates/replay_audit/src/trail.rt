@@ -5,14 +5,14 @@ ghost use Rattle.rtr_types.specs.declared.TheConstants.{CORES_MAX};
 ghost use Rattle.rtr_types.specs.declared.access.Access.{Access as SomeAccess};
 ghost use Rattle.conflict_edge.specs.Conflicts.{StandsIn};
 ghost use Rattle.replay_audit.specs.Clocks.{sources_in};
-ghost use Rattle.replay_audit.specs.Marks.{mark_at, first_mark};
+ghost use Rattle.replay_audit.specs.Marks.{IsMark, mark_at, first_mark};
 ghost use Rattle.replay_audit.specs.Trails.{FoundNext, Watches, Trails};
 
+use crate::clock_of::ClockOf;
 use crate::log_clocks::LogClocks;
 use crate::marks::Marks;
 use crate::sourced::Sourced;
 use crate::unordered::{Unordered, latest_open};
-use clock_core::Clock;
 use rtr_types::{Access, CORES_MAX, Items};
 use std::alloc::{AllocError, Global};
 use std::marker::Model;
@@ -52,6 +52,7 @@ impl Trail {
     }
 
     /// Notes the next instruction of its core, of so many cores, with its access.
+    #[inline(always)]
     pub fn note(
         &mut self,
         next: &Sourced,
@@ -65,8 +66,8 @@ impl Trail {
         requires few { cores ≤ CORES_MAX }
         requires access { IfSome access (λ a. a.at.core < CORES_MAX) }
         requires each { (b : SomeAccess) → StandsIn self.old.accesses b → b.at.core < CORES_MAX }
-        requires write { (w : ℕ) → (mark_at self.old.marks w).write.core < CORES_MAX }
-        ensures { OnOk result (Trails self.old next.now.at (sources_in next.now.sources) cores access self.new) }
+        requires marked { (w : ℕ) → IsMark (mark_at self.old.marks w) }
+        ensures { OnOk result (Trails self.old next.now.at (sources_in next.now.sources.now) cores access self.new) }
     {
         self.clocks.note(next, cores)?;
         match access {
@@ -96,10 +97,11 @@ impl Trail {
     }
 
     /// Looks at an access, whose instruction was noted, and keeps it.
+    #[inline(always)]
     fn watch(&mut self, access: Access) -> Result<(), AllocError>
         requires core { access.at.core < CORES_MAX }
         requires each { (b : SomeAccess) → StandsIn self.old.accesses b → b.at.core < CORES_MAX }
-        requires write { (mark_at self.old.marks access.word).write.core < CORES_MAX }
+        requires marked { IsMark (mark_at self.old.marks access.word) }
         ensures { OnOk result (Watches self.old access self.new) }
     {
         let clock = self.clocks.of(access.at);
@@ -123,10 +125,10 @@ fn find(
     marks: &Marks,
     accesses: &[Access],
     access: &Access,
-    clock: &Clock,
+    clock: &ClockOf,
 ) -> Option<Unordered>
     requires each { (b : SomeAccess) → StandsIn accesses.now b → b.at.core < CORES_MAX }
-    requires write { (mark_at marks.now access.now.word).write.core < CORES_MAX }
+    requires marked { IsMark (mark_at marks.now access.now.word) }
     ensures { FoundNext found marks.now accesses.now access.now clock.now result }
 {
     match found {
@@ -135,7 +137,7 @@ fn find(
             if marks.are_covered(access, clock) {
                 return None;
             }
-            match latest_open(accesses, access, clock) {
+            match latest_open(accesses, access, &clock.to_clock()) {
                 Some(first) => {
                     Some(Unordered {
                         first,

@@ -25,6 +25,8 @@ fn is_open(earlier: &Access, later: &Access, clock: &Clock) -> bool
 }
 
 /// The latest of the accesses that is open before the later one, if one is.
+#[cold]
+#[inline(never)]
 pub fn latest_open(accesses: &[Access], later: &Access, clock: &Clock) -> Option<Instr>
     requires { (b : SomeAccess) → StandsIn accesses.now b → b.at.core < CORES_MAX }
     ensures { IsLatest accesses.now later.now clock.now result }

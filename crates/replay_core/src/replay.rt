@@ -17,7 +17,7 @@ use image_mem::{Image, Memory};
 use load_lists::LoadLists;
 use log_codec::Recording;
 use rtr_types::{CORES_MAX, Cut, Instr, Items, Which};
-use rv_core::{Core, Outcome};
+use rv_core::{Core, Outcome, Program};
 use std::alloc::{AllocError, Global};
 use std::marker::Model;
 
@@ -30,7 +30,7 @@ const PLACES: usize = CORES_MAX as usize;
 pub struct Replay<'a> {
     recording: &'a Recording,
     which: Which,
-    image: Image,
+    program: Program,
     cores: Vec<Core>,
     memory: Memory,
     loads: LoadLists,
@@ -44,7 +44,7 @@ impl<'a> Model for Replay<'a> {
 
     ghost view = { λ a. under_way (plan_of a.which a.recording.now) a.cores.items a.memory a.loads };
 
-    ghost invariant = { λ a. HoldsTogether a.recording.now a.image a.cores.items a.memory a.loads.lists };
+    ghost invariant = { λ a. HoldsTogether a.recording.now a.program a.cores.items a.memory a.loads.lists };
 }
 
 impl<'a> Replay<'a> {
@@ -66,10 +66,11 @@ impl<'a> Replay<'a> {
         let cores = cores_of(alloc, params.cores, params.limit)?;
         let memory = Memory::new(alloc, &image)?;
         let loads = LoadLists::new(alloc, params.cores)?;
+        let program = Program::new(alloc, image)?;
         Ok(Replay {
             recording,
             which,
-            image,
+            program,
             cores,
             memory,
             loads,
@@ -118,14 +119,15 @@ impl<'a> Replay<'a> {
         ensures plan { self.new.plan ≡ self.old.plan }
         ensures place { Advances self.old.plan self.old.state core result self.new.state }
     {
-        let op = self.cores[core as usize].next_op(&self.image);
-        let need = self.cores[core as usize].need_by_op(&self.image, op);
+        let op = self.program.op(self.cores[core as usize].pc());
+        let image = self.program.image();
+        let need = self.cores[core as usize].need_by_op(image, op);
         if need.is_done() {
             return Advanced::Short;
         }
         let used = need.access();
         let old = old_value(&self.memory, used);
-        let value = self.cores[core as usize].finish_op(&self.image, op, old);
+        let value = self.cores[core as usize].finish_op(image, op, old);
         let count = self.cores[core as usize].count();
         note(&mut self.loads, core, used, count, old);
         leave(&mut self.memory, used, value);
@@ -188,7 +190,7 @@ impl<'a> Replay<'a> {
         ensures { IfOk result (λ outcome. outcome ≡ self.entry.state) }
     {
         let Replay {
-            image,
+            program,
             cores,
             memory,
             loads,
@@ -196,7 +198,7 @@ impl<'a> Replay<'a> {
         } = self;
         Ok(Outcome {
             cores: Items::from_vec(cores),
-            words: words_of(alloc, &memory, image.words())?,
+            words: words_of(alloc, &memory, program.image().words())?,
             loads: loads.into_items(),
         })
     }

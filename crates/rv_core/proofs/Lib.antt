@@ -1,3 +1,4 @@
+pub mod Programs
 pub mod LawLemmas
 pub mod OpLemmas
 pub mod StepLemmas

@@ -4,3 +4,4 @@ pub mod Needs
 pub mod Operations
 pub mod States
 pub mod Steps
+pub mod Programs

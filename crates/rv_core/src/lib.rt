@@ -12,8 +12,10 @@ mod lane_access;
 pub mod laws;
 mod operations;
 mod outcome;
+mod program;
 #[cfg(test)]
 mod tests;
 
 pub use core_state::{Core, Halt, Need, REGISTERS, Stop};
 pub use outcome::{LoadNote, Outcome};
+pub use program::Program;

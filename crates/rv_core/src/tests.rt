@@ -3,9 +3,9 @@
 //! hand from the standard's text.
 use crate::atomics::exchanged;
 use crate::operations::compute;
-use crate::{Core, Need, Stop};
+use crate::{Core, Need, Program, Stop};
 use image_mem::Image;
-use rv_decode::{Alu, AmoOp};
+use rv_decode::{Alu, AmoOp, Op};
 use std::alloc::Global;
 use std::process::Abort;
 use std::test::Fail;
@@ -186,6 +186,18 @@ fn results_are(rt: &impl Abort, alu: Alu, results: &[[u32; 5]; 5]) {
             );
         }
     }
+}
+
+// ECALL and then a word that is no instruction.
+#[test]
+fn a_program_has_the_instructions_of_its_image(rt: HostRuntime) -> Result<(), Fail> {
+    let program = Program::new(rt.alloc(), image_of(rt.alloc(), &[0x73, 0], 2)?)?;
+    assert_eq!(rt; program.op(0), Some(Op::Ecall));
+    assert_eq!(rt; program.op(2), None);
+    assert_eq!(rt; program.op(4), None);
+    assert_eq!(rt; program.op(8), None);
+    assert_eq!(rt; program.into_image().words(), 2);
+    Ok(())
 }
 
 #[test]

@@ -27,6 +27,19 @@ pub fn put_u32(out: &mut Vec<u8>, value: u32) -> Result<(), AllocError>
     ensures ok { OnOk result (out.new.items ≡ out.old.items ++ spelling value) }
     ensures err { OnErr result (out.new.items ≡ out.old.items) }
 {
+    // most numbers of a log have one byte
+    if value < 128 {
+        out.push(value as u8)?;
+        return Ok(());
+    }
+    put_groups(out, value)
+}
+
+/// Appends the spelling, group by group.
+fn put_groups(out: &mut Vec<u8>, value: u32) -> Result<(), AllocError>
+    ensures ok { OnOk result (out.new.items ≡ out.old.items ++ spelling value) }
+    ensures err { OnErr result (out.new.items ≡ out.old.items) }
+{
     let mut groups = [0u8; BYTES_MAX];
     let mut count = 0;
     let mut rest = value;

@@ -1,4 +1,4 @@
-use Rattle.std.proofs.Common.{ap, arith}
+use Rattle.std.proofs.Common.{ap, refl, arith}
 use Rattle.roomy_lists.specs.Lists.{items_in}
 use Rattle.know_history.proofs.Places.{length-items}
 use Rattle.know_history.proofs.Noted.{core_within, holds_more, is_noted_as, one_more}
@@ -24,9 +24,9 @@ invariant_of-self c =
     let lists = items_in c.self.inside.changes in
     let new = items_in c.put_down.new.changes in
     holds_more c.args.at c.args.known newest lists _ new
-    (one_more c.args.at c.args.known newest lists new c.args.self.now.notes c.index_mut-newest.result.now c.counts.result.now c.put_down.new.newest
+    (one_more c.args.at c.args.known newest lists new c.args.self.now.notes c.index_mut-newest.result.now c.args.known.counts c.put_down.new.newest
     (ap (λ v. v.notes) c.self.view_is) c.self.invariant c.requires.core c.requires.next
-    c.counts.ensures.places c.counts.ensures.value c.index_mut-newest.ensures.value c.put_down.ensures)
+    c.put_down.ensures.places refl c.index_mut-newest.ensures.value c.put_down.ensures.changed)
 
 pub returns : goal.returns
 returns c =
@@ -34,6 +34,6 @@ returns c =
     let lists = items_in c.self.inside.changes in
     let new = items_in c.put_down.new.changes in
     is_noted_as c.args.at c.args.known newest lists _ new c.args.self.now.notes (ap (λ v. v.notes) c.self.view_is)
-    (one_more c.args.at c.args.known newest lists new c.args.self.now.notes c.index_mut-newest.result.now c.counts.result.now c.put_down.new.newest
+    (one_more c.args.at c.args.known newest lists new c.args.self.now.notes c.index_mut-newest.result.now c.args.known.counts c.put_down.new.newest
     (ap (λ v. v.notes) c.self.view_is) c.self.invariant c.requires.core c.requires.next
-    c.counts.ensures.places c.counts.ensures.value c.index_mut-newest.ensures.value c.put_down.ensures)
+    c.put_down.ensures.places refl c.index_mut-newest.ensures.value c.put_down.ensures.changed)

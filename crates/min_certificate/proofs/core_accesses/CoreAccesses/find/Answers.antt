@@ -1,18 +1,24 @@
-use Rattle.std.proofs.Common.{◌≡◌, ◌∙◌, ◌<◌, List, [], ap, subst, sym, get_or, length}
-use Rattle.std.proofs.lemmas.Bool.{ltb-true}
+use Rattle.std.proofs.Common.{◌≡◌, ◌∙◌, List, None, ap, sym, subst}
 use Rattle.rtr_types.specs.declared.access.Access.{Access}
-use Rattle.min_certificate.specs.Conflicting.{IsAccessAt}
-use Rattle.min_certificate.proofs.ByCore.{found_in}
+use Rattle.min_certificate.specs.Conflicting.{IsAccessAt, IsPlaceOf, place_in}
+use Rattle.min_certificate.proofs.Indexed.{access_got, access_none, placed_in}
 use Rattle.min_certificate.proofs.core_accesses.CoreAccesses.find.Goals as goal
 
-pub returns-in-Some : goal.returns-in-Some
-returns-in-Some c =
-    let lists = c.self.inside.lists.items in
-    let slice = c.as_slice.result.now in
-    let lt : c.args.at.core < length c.self.inside.lists.items =
-    subst (λ (l : List (List Access)). c.args.at.core < length l) c.deref.ensures.value
-    (ltb-true c.args.at.core (length c.deref.result.now) (sym c.in-Some.ensures.lookup.0)) in
-    let at : c.as_slice.result.now ≡ get_or c.self.inside.lists.items c.args.at.core [] = c.as_slice.ensures ∙ c.in-Some.ensures.lookup.3.1 []
-    ∙ ap (λ (l : List (List Access)). get_or l c.args.at.core []) c.deref.ensures.value in
+pub returns-then-place-eq0 : goal.returns-then-place-eq0
+returns-then-place-eq0 c =
+    let list = c.self.inside.accesses.now in
+    let there : IsPlaceOf list c.args.at c.place_in-place.result =
+    subst (λ k. IsPlaceOf list c.args.at k)
+    (sym (c.place_in-place.ensures ∙ ap (λ l. place_in l c.args.at.core c.args.at.count) c.deref.ensures.value))
+    (placed_in list c.self.inside.places.items c.args.at c.self.invariant) in
+    subst (λ (l : List Access). IsAccessAt l c.args.at None) c.self.view_is (access_none list c.args.at c.place_in-place.result there c.if-place-eq0.true)
+
+pub returns : goal.returns
+returns c =
+    let list = c.self.inside.accesses.now in
+    let there : IsPlaceOf list c.args.at c.place_in-place.result =
+    subst (λ k. IsPlaceOf list c.args.at k)
+    (sym (c.place_in-place.ensures ∙ ap (λ l. place_in l c.args.at.core c.args.at.count) c.deref.ensures.value))
+    (placed_in list c.self.inside.places.items c.args.at c.self.invariant) in
     subst (λ (l : List Access). IsAccessAt l c.args.at c.access_at.result) c.self.view_is
-    (found_in c.self.inside.accesses.now lists slice c.args.at c.access_at.result c.self.invariant lt at c.access_at.ensures.found c.access_at.ensures.only)
+    (access_got list c.args.at c.place_in-place.result c.access_at.result there c.if-place-eq0.false c.access_at.ensures)

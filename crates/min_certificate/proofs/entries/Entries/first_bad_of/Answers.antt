@@ -1,5 +1,7 @@
-use Rattle.std.proofs.Common.{refl, arith, ◌+◌}
-use Rattle.min_certificate.proofs.First.{IsListed, end_in_list, bad_at, all_good, number_fits}
+use Rattle.std.proofs.Common.{refl, sym, ap, arith, ◌+◌, ◌∙◌, ℕ}
+use Rattle.clock_entries.specs.Ends.{entry_at}
+use Rattle.certificate_codec.specs.declared.certificate.Certificate.{Certificate}
+use Rattle.min_certificate.proofs.First.{IsListed, end_in_list, end_number, number_before, bad_at, all_good, number_fits}
 use Rattle.min_certificate.proofs.entries.Entries.first_bad_of.Goals as goal
 
 pub is_good_at-requires-clause-within : goal.is_good_at-requires-clause-within
@@ -13,6 +15,24 @@ is_good_at-requires-clause-some c =
     let h : IsListed c.args.self.now.recording c.args.core c.loop-before.before c.ends_of-ends.result.now =
     record { valid = c.ends_of-ends.ensures.valid; core = c.requires; is = c.ends_of-ends.ensures.ends; lt = c.loop-before-test.true } in
     (end_in_list c.args.self.now.recording c.args.core c.loop-before.before c.ends_of-ends.result.now h).1
+
+pub is_good_at-requires-clause-here : goal.is_good_at-requires-clause-here
+is_good_at-requires-clause-here c =
+    let h : IsListed c.args.self.now.recording c.args.core c.loop-before.before c.ends_of-ends.result.now =
+    record { valid = c.ends_of-ends.ensures.valid; core = c.requires; is = c.ends_of-ends.ensures.ends; lt = c.loop-before-test.true } in
+    c.entry_at-here.ensures
+    ∙ ap (λ (d : Certificate). entry_at d.clocks c.args.core (c.loop-before.before + 1)) c.self.view_is
+    ∙ ap (λ (k : ℕ). entry_at c.args.self.now.clocks c.args.core k)
+    (sym (end_number c.args.self.now.recording c.args.core c.loop-before.before c.ends_of-ends.result.now h))
+
+pub is_good_at-requires-clause-before : goal.is_good_at-requires-clause-before
+is_good_at-requires-clause-before c =
+    let h : IsListed c.args.self.now.recording c.args.core c.loop-before.before c.ends_of-ends.result.now =
+    record { valid = c.ends_of-ends.ensures.valid; core = c.requires; is = c.ends_of-ends.ensures.ends; lt = c.loop-before-test.true } in
+    c.entry_at-earlier.ensures
+    ∙ ap (λ (d : Certificate). entry_at d.clocks c.args.core c.loop-before.before) c.self.view_is
+    ∙ ap (λ (k : ℕ). entry_at c.args.self.now.clocks c.args.core k)
+    (sym (number_before c.args.self.now.recording c.args.core c.loop-before.before c.ends_of-ends.result.now h))
 
 pub overflow_cast-result : goal.overflow_cast-result
 overflow_cast-result c =

@@ -5,6 +5,6 @@ use Rattle.replay_audit.proofs.log_clocks.LogClocks.keep.Goals as goal
 
 pub returns-in-None-clause-clocks : goal.returns-in-None-clause-clocks
 returns-in-None-clause-clocks c =
-    let none : listed (sources_in c.args.next.now.sources) c.args.cores ≡ [] =
+    let none : listed (sources_in c.args.next.now.sources.now) c.args.cores ≡ [] =
     subst (λ o. listed (sources_in o) c.args.cores ≡ []) (sym c.in-None.is) (listed_nothing c.args.cores) in
     inl (none, refl)

@@ -15,12 +15,13 @@ use Rattle.replay_core.proofs.replay.Replay.advance.Goals as goal
 
 pub old_value-old-requires : goal.old_value-old-requires
 old_value-old-requires c =
-    used_within c.self.inside.image c.index-2.result.now c.access-used.result _ (c.access-used.ensures ∙ ap access_of c.need_by_op-need.ensures)
-    (c.self.invariant.all_words ∙ sym (ap (λ (i : Contents). i.words) c.self.invariant.image_is))
+    used_within c.image-image.result.now c.index-2.result.now c.access-used.result _ (c.access-used.ensures ∙ ap access_of c.need_by_op-need.ensures)
+    (c.self.invariant.all_words ∙ sym (ap (λ (i : Contents). i.words) (c.image-image.ensures ∙ c.self.invariant.image_is)))
 
 pub leave-requires : goal.leave-requires
-leave-requires c = used_within c.self.inside.image c.index-2.result.now c.access-used.result _ (c.access-used.ensures ∙ ap access_of c.need_by_op-need.ensures)
-    (c.self.invariant.all_words ∙ sym (ap (λ (i : Contents). i.words) c.self.invariant.image_is))
+leave-requires c =
+    used_within c.image-image.result.now c.index-2.result.now c.access-used.result _ (c.access-used.ensures ∙ ap access_of c.need_by_op-need.ensures)
+    (c.self.invariant.all_words ∙ sym (ap (λ (i : Contents). i.words) (c.image-image.ensures ∙ c.self.invariant.image_is)))
 
 pub returns-clause-place : goal.returns-clause-place
 returns-clause-place c =
@@ -37,10 +38,10 @@ returns-clause-place c =
       words = c.leave.new.memory;
       loads = c.note.new.loads.lists;
     } in
-    let by = retires_by c.self.inside.image
+    let by = retires_by c.image-image.result.now
     (plan_of c.self.inside.which r) s c.args.core c.index-2.result.now c.index_mut.result.now c.finish_op-value.new.self c.access-used.result
     c.old_value-old.result c.finish_op-value.result c.count-count.result
-    c.leave.new.memory c.note.new.loads.lists c.access.result all.image_is
+    c.leave.new.memory c.note.new.loads.lists c.access.result (c.image-image.ensures ∙ all.image_is)
     (c.index-2.ensures ∙ get_or_default s.cores c.args.core c.index-2.result.now (starting 0 0) below) (c.index_mut.ensures.value
     ∙ get_or_default s.cores c.args.core c.index_mut.result.now (starting 0 0) below)
     (sym (ap is_done c.need_by_op-need.ensures) ∙ sym c.is_done.ensures ∙ c.if-is_done.false) (c.access-used.ensures
