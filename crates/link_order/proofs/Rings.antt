@@ -1,5 +1,6 @@
 -- What a ring of places holds, as items are written behind the newest and dropped at the oldest.
-use Rattle.std.proofs.Common.{rules, arith, ◌≡◌, ◌≢◌, ◌∙◌, refl, sym, ap, ℕ, zero, suc, nat_eq, ◌+◌, ◌-◌, ◌<◌, ◌≤◌, ◌⊎◌, inl, inr, List, [], ◌∷◌, ◌++◌, length}
+use Rattle.std.proofs.Common.{rules, arith, ◌≡◌, ◌≢◌, ◌∙◌, refl, sym, subst, ap, ℕ, zero, suc, nat_eq, ◌+◌, ◌-◌, ◌<◌, ◌≤◌, ◌⊎◌, inl, inr}
+use Rattle.std.proofs.Common.{List, [], ◌∷◌, ◌++◌, length}
 use Rattle.std.proofs.Common.{get_or, set, take, drop, length-append, length-drop}
 use Rattle.std.proofs.lemmas.List.{length-take-le, length-take, length-set, get_or-take, get_or-drop, get_or_default, same_lists}
 use Rattle.std.proofs.Math.ListN.{get_or-append}
@@ -184,6 +185,19 @@ module _ {X : Type 0} where
       (λ k d h. taken_at list first (count - 1) next k y d (omega arith) starts (record { within = within; round = round }) (rw left at h)) in
       around_next list first count next x some fits starts within round ∙ ap (λ rest. get_or list first x ∷ rest) (sym same)
 
+  -- an item that is written where the oldest lay is the oldest
+  pub around_renewed : (list : List X) (first count : ℕ) (y : X) → 0 < count → count ≤ length list → first < length list →
+      around (set list first y) first count ≡ y ∷ drop 1 (around list first count)
+  around_renewed list first count y some fits starts =
+      let whole : length (set list first y) ≡ length list = length-set list first y in
+      let p : (p : ℕ) × IsPlace first 1 (length list) p = a_place first 1 (length list) starts (omega arith) in
+      let written : around (set list first y) first count ≡ get_or (set list first y) first y ∷ around (set list first y) p.0 (count - 1) =
+      around_next (set list first y) first count p.0 y some (rw whole fits) (rw whole starts)
+      (subst (λ n. p.0 < n) (sym whole) p.1.within) (subst (λ n. (p.0 ≡ first + 1) ⊎ (p.0 + n ≡ first + 1)) (sym whole) p.1.round) in
+      let others : drop 1 (around list first count) ≡ around (set list first y) p.0 (count - 1) =
+      ap (drop 1) (around_taken list first count p.0 y y some fits starts p.1.within p.1.round) in
+      rw (written, get_or-set_same list first y y starts, others)
+
   -- what is left where the oldest item is dropped
   pub around_dropped : (list : List X) (first count next : ℕ) → 0 < count → count ≤ length list → first < length list → next < length list →
       (next ≡ first + 1) ⊎ (next + length list ≡ first + 1) → around list next (count - 1) ≡ drop 1 (around list first count)
@@ -223,3 +237,30 @@ module _ {X : Type 0} where
       let items : length (around list first count) ≡ length queue.items = ap (λ (q : Queue X). length q.items) view in
       let held : length (around list first count) ≡ count = length_around list first count (omega (arith, whole)) in
       (length-set list place w ∙ whole, omega (arith, rooms, items, held), starts)
+
+  -- a link that holds something has a count of its own
+  some_held : (queue : Queue X) (list : List X) (room first count : ℕ) → record { room = room; items = around list first count } ≡ queue →
+      length list ≡ room → count ≤ room → 0 < length queue.items → 0 < count
+  some_held queue list room first count view whole fits some =
+      let items : length (around list first count) ≡ length queue.items = ap (λ (q : Queue X). length q.items) view in
+      let held : length (around list first count) ≡ count = length_around list first count (omega (arith, whole)) in
+      omega (arith, items, held)
+
+  -- whatever is left where the oldest item lay is the oldest
+  pub head_lent : (queue : Queue X) (list : List X) (room first count : ℕ) → record { room = room; items = around list first count } ≡ queue →
+      length list ≡ room → count ≤ room → first ≤ room - 1 → 0 < length queue.items → (w : X) →
+      ◌≡◌ {A = Queue X} (record { room = room; items = around (set list first w) first count }) (record { room = queue.room; items = w ∷ drop 1 queue.items })
+  head_lent queue list room first count view whole fits starts some w =
+      let held : 0 < count = some_held queue list room first count view whole fits some in
+      let renewed : around (set list first w) first count ≡ w ∷ drop 1 (around list first count) =
+      around_renewed list first count w held (omega (arith, whole)) (omega (arith, whole)) in
+      let written : Queue X = record { room = room; items = around (set list first w) first count } in
+      subst (λ (q : Queue X). written ≡ record { room = q.room; items = w ∷ drop 1 q.items }) view
+      (ap (λ (xs : List X). record { room = room; items = xs }) renewed)
+
+  -- and it is the oldest that is lent
+  pub head_read : (queue : Queue X) (list : List X) (room first count : ℕ) (x : X) → record { room = room; items = around list first count } ≡ queue →
+      length list ≡ room → count ≤ room → first ≤ room - 1 → 0 < length queue.items → x ≡ get_or list first x → queue.items ≡ x ∷ drop 1 queue.items
+  head_read queue list room first count x view whole fits starts some read =
+      let held : 0 < count = some_held queue list room first count view whole fits some in
+      all_but_oldest queue list room first count x view whole fits starts (omega (arith, held)) read

@@ -5,7 +5,7 @@ ghost use Rattle.std.specs.Prelude.{◌≡◌, ◌≤◌, ◌↔◌, ◌++◌, �
 ghost use Rattle.std.specs.Prelude.{IfSome, OnOk, IsErr, MatchOption};
 ghost use Rattle.std.specs.Borrow.{sem};
 ghost use Rattle.link_order.specs.Queue.{is_nil};
-ghost use Rattle.link_order.specs.Lent.{LendsPlace};
+ghost use Rattle.link_order.specs.Lent.{LendsHead, LendsPlace};
 
 use std::alloc::{AllocError, Global};
 use std::marker::Model;
@@ -17,6 +17,12 @@ mod tests;
 /// The link had no room. It has the item that was to be pushed.
 #[derive(Debug, Drop, PartialEq, Eq)]
 pub struct Full<T>(pub T);
+
+/// What can lie in a place of a link to which no item came yet.
+pub trait Blank {
+    /// Such a value, with the memory that it takes.
+    fn blank(alloc: Global) -> Result<Self, AllocError>;
+}
 
 /// A queue with a capacity, oldest item first. All its room is taken when it is made.
 ///
@@ -112,6 +118,26 @@ impl<T: Drop + Default> Link<T> {
     }
 }
 
+impl<T: Drop + Blank> Link<T> {
+    /// An empty link with room for `capacity` items, as `new` makes it. Until the first item comes to a place, the
+    /// place holds a blank.
+    #[tactic(auto, using(crate::proofs::Rings::around_none))]
+    pub fn of_blanks(alloc: Global, capacity: u32) -> Result<Link<T>, AllocError>
+        ensures { IfOk result (λ link. link ≡ record { room = capacity; items = [] }) }
+    {
+        let mut slots = Vec::with_capacity(alloc, capacity as usize)?;
+        for blank in 0..capacity {
+            slots.push(T::blank(alloc)?)?;
+        }
+        Ok(Link {
+            capacity,
+            slots,
+            first: 0,
+            count: 0,
+        })
+    }
+}
+
 // What moves no item.
 impl<T> Link<T> {
     /// Puts a place behind all others and lends it: what is left in it is the newest item. Until then
@@ -124,6 +150,16 @@ impl<T> Link<T> {
         let place = place(self.first, self.count, self.capacity as usize);
         self.count += 1;
         &mut self.slots[place]
+    }
+
+    /// Lends the oldest item where it lies: what is left behind the loan is the oldest item from then on.
+    #[tactic(auto, using(crate::proofs::Rings::length_around))]
+    pub fn head_place(&mut self) -> &mut T
+        requires { 0 < length self.old.items }
+        ensures* lends { sem 𝓛 (LendsHead T.row self.entry result) }
+        ensures item { self.old.items ≡ result.now ∷ drop 1 self.old.items }
+    {
+        &mut self.slots[self.first]
     }
 
     /// Drops the oldest item, where there is one.

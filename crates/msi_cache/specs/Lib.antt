@@ -3,3 +3,5 @@ pub mod Messages
 pub mod Lines
 pub mod Lent
 pub mod PlainPart
+pub mod Held
+pub mod Handing

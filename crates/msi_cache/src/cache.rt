@@ -13,6 +13,7 @@ ghost use Rattle.rtr_types.specs.declared.access.Kind.{Kind};
 
 use crate::line::{LINES, Line};
 use crate::messages::{FromHome, Request, Response};
+use crate::slots::FromHomeSlot;
 
 #[cfg(test)]
 mod tests;
@@ -48,7 +49,7 @@ impl<R: Rider> Cache<R> {
     {
         let mut lines = Vec::with_capacity(alloc, LINES)?;
         for made in 0..LINES {
-            lines.push(Line::empty())?;
+            lines.push(Line::empty(alloc)?)?;
         }
         Ok(Cache { lines })
     }
@@ -115,7 +116,7 @@ impl<R: Rider> Cache<R> {
         ensures* lends { sem 𝓛 (LendsRider R.row R.riding.fresh self.entry block result) }
         ensures value { result.now ≡ (line_for R.riding.fresh self.old block).rider }
     {
-        &mut self.lines[block as usize % LINES].rider
+        self.lines[block as usize % LINES].rider.lend()
     }
 
     /// What to ask of home for an access that isn't allowed yet, while no line waits: the block, or
@@ -195,6 +196,16 @@ impl<R: Rider> Cache<R> {
         ensures elsewhere { SameElsewhere R.riding.fresh self.old self.new (block_of (message_seen message.entry)) }
     {
         self.lines[message.block() as usize % LINES].hear(message);
+    }
+
+    /// Takes the message that lies here as `hear` does. What is left here means nothing: a rider that the line takes
+    /// is handed over, not copied.
+    pub fn take(&mut self, slot: &mut FromHomeSlot<R>)
+        requires { IsTrue (has_row (line_for R.riding.fresh self.old (block_of slot.old)) slot.old) }
+        ensures { self.new ≡ lines_after R.riding self.old slot.old }
+    {
+        let block = slot.block();
+        self.lines[block as usize % LINES].take(slot);
     }
 }
 

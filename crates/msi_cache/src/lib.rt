@@ -5,11 +5,13 @@
 #![tactic(auto)]
 
 mod cache;
+mod held;
 mod line;
 mod messages;
 mod slots;
 
 pub use cache::{Cache, riders_change_no_plain_part};
+pub use held::Held;
 pub use line::{LINES, Line, State};
 pub use messages::{FromHome, Request, Response};
 pub use slots::{FromHomeSlot, RequestSlot, ResponseSlot};

@@ -1,5 +1,5 @@
 //! One line of a cache: a block's copy and the state that it is in.
-ghost use Rattle.std.specs.Prelude.{◌≡◌, IsTrue, false, true, is_some};
+ghost use Rattle.std.specs.Prelude.{◌≡◌, IfOk, IsTrue, false, true, is_some};
 ghost use Rattle.msi_cache.specs.Lines.{answer, asks, can_read, can_write, empty_line, has_row, is_allowed, line_after};
 ghost use Rattle.msi_cache.specs.Lines.{line_asking, wanted};
 ghost use Rattle.msi_cache.specs.Messages.{answer_seen, message_seen, request_seen};
@@ -8,9 +8,12 @@ ghost use Rattle.msi_cache.specs.declared.line.State.{State};
 ghost use Rattle.msi_cache.specs.declared.messages.FromHome.{FromHome};
 ghost use Rattle.msi_cache.specs.declared.messages.Response.{Response};
 
+use crate::held::Held;
 use crate::messages::{FromHome, Request, Response};
+use crate::slots::FromHomeSlot;
 use access_times::Rider;
 use rtr_types::{BLOCK_WORDS, Kind};
+use std::alloc::{AllocError, Global};
 
 /// How many lines a cache has. It is direct-mapped: block `b` goes to line `b % LINES`.
 pub const LINES: usize = 16;
@@ -42,25 +45,26 @@ impl State {
 }
 
 /// A line: its state, and the copy of the block that it is for. In `I` the copy means nothing.
-#[derive(Clone, Debug, Drop, PartialEq, Eq)]
+#[derive(Drop)]
 pub struct Line<R> {
     pub state: State,
     pub block: u32,
     pub words: [u32; BLOCK_WORDS],
-    pub rider: R,
+    pub rider: Held<R>,
 }
 
 impl<R: Rider> Line<R> {
     /// A line that holds nothing.
-    pub(crate) fn empty() -> Self
-        ensures { result ≡ empty_line R.riding.fresh }
+    pub(crate) fn empty(alloc: Global) -> Result<Line<R>, AllocError>
+        ensures { IfOk result (λ line. line ≡ empty_line R.riding.fresh) }
     {
-        Line {
+        let rider = Held::fresh(alloc)?;
+        Ok(Line {
             state: State::I,
             block: 0,
             words: [0; BLOCK_WORDS],
-            rider: R::fresh(),
-        }
+            rider,
+        })
     }
 
     /// Whether the line has the block's copy and it may be read.
@@ -115,7 +119,7 @@ impl<R: Rider> Line<R> {
         ensures row { IsTrue (is_some (wanted self.now block kind)) }
         ensures asks { request_seen result ≡ asks self.now block kind }
     {
-        let rider = &self.rider;
+        let rider = self.rider.get();
         match self.state {
             State::S if self.block == block => Request::GetM { block },
             State::S => Request::PutS {
@@ -160,7 +164,7 @@ impl<R: Rider> Line<R> {
         requires { IsTrue (has_row self.now (message_seen message)) }
         ensures { answer_seen result ≡ answer self.now (message_seen message.entry) }
     {
-        let (block, rider) = (self.block, &self.rider);
+        let (block, rider) = (self.block, self.rider.get());
         match message {
             FromHome::BlockData { .. } | FromHome::PutAck { .. } => None,
             FromHome::Inv { .. } => Some(Response::InvAck { block, rider }),
@@ -199,6 +203,25 @@ impl<R: Rider> Line<R> {
                     _ => State::I,
                 };
             }
+        }
+    }
+
+    /// Takes the message that lies here, about this line's block. Where the table has its rider replaced, the rider
+    /// is handed over.
+    pub(crate) fn take(&mut self, slot: &mut FromHomeSlot<R>)
+        requires { IsTrue (has_row self.old slot.old) }
+        ensures { self.new ≡ line_after R.riding.absorbed self.old slot.old }
+    {
+        match self.state {
+            State::IsD => {
+                slot.hand_over(&mut self.words, &mut self.rider);
+                self.state = State::S;
+            }
+            State::ImD => {
+                slot.hand_over(&mut self.words, &mut self.rider);
+                self.state = State::M;
+            }
+            _ => self.hear(slot.open()),
         }
     }
 

@@ -1,17 +1,24 @@
 //! The places in which messages lie while they are under way. A message is written where it is to lie, and
 //! read where it lies: only a rider that it really has is copied.
 ghost use Rattle.std.specs.Prelude.{◌≡◌};
-ghost use Rattle.msi_cache.specs.Messages.{message_seen, request_block, request_seen, response_block, response_seen};
+ghost use Rattle.msi_cache.specs.Handing.{owner_rider, owner_words};
+ghost use Rattle.msi_cache.specs.Lines.{rider_of, words_of};
+ghost use Rattle.msi_cache.specs.Messages.{block_of, message_seen, request_block, request_seen, response_block};
+ghost use Rattle.msi_cache.specs.Messages.{response_seen};
 
+use crate::held::Held;
 use crate::messages::{FromHome, Request, Response};
 use access_times::Rider;
+use rtr_types::BLOCK_WORDS;
+use std::alloc::{AllocError, Global};
 use std::marker::Model;
+use std::mem;
 
 /// A place for a request.
 #[derive(Drop)]
 pub struct RequestSlot<R> {
     bare: Request<()>,
-    rider: R,
+    rider: Held<R>,
 }
 
 impl<R> Model for RequestSlot<R> {
@@ -23,17 +30,14 @@ impl<R> Model for RequestSlot<R> {
     ghost view = { λ a. request_with (λ u. a.rider) a.bare };
 }
 
-/// A place that was never written: contracts see some request in it, which nobody sent.
-impl<R: Rider> Default for RequestSlot<R> {
-    fn default() -> Self {
-        RequestSlot {
-            bare: Request::GetS { block: 0 },
-            rider: R::fresh(),
-        }
-    }
-}
-
 impl<R: Rider> RequestSlot<R> {
+    /// A place that was never written: contracts see some request in it, which nobody sent.
+    pub fn blank(alloc: Global) -> Result<RequestSlot<R>, AllocError> {
+        let rider = Held::fresh(alloc)?;
+        let bare = Request::GetS { block: 0 };
+        Ok(RequestSlot { bare, rider })
+    }
+
     /// Puts the request here.
     pub fn put(&mut self, request: Request<&R>)
         ensures { self.new ≡ request_seen request.entry }
@@ -71,7 +75,7 @@ impl<R: Rider> RequestSlot<R> {
     pub fn open(&self) -> Request<&R>
         ensures { request_seen result ≡ self.now }
     {
-        let rider = &self.rider;
+        let rider = self.rider.get();
         match self.bare {
             Request::GetS { block } => Request::GetS { block },
             Request::GetM { block } => Request::GetM { block },
@@ -89,7 +93,7 @@ impl<R: Rider> RequestSlot<R> {
 #[derive(Drop)]
 pub struct ResponseSlot<R> {
     bare: Response<()>,
-    rider: R,
+    rider: Held<R>,
 }
 
 impl<R> Model for ResponseSlot<R> {
@@ -101,20 +105,17 @@ impl<R> Model for ResponseSlot<R> {
     ghost view = { λ a. response_with (λ u. a.rider) a.bare };
 }
 
-/// A place that was never written: contracts see some response in it, which nobody sent.
-impl<R: Rider> Default for ResponseSlot<R> {
-    fn default() -> Self {
-        ResponseSlot {
-            bare: Response::InvAck {
-                block: 0,
-                rider: (),
-            },
-            rider: R::fresh(),
-        }
-    }
-}
-
 impl<R: Rider> ResponseSlot<R> {
+    /// A place that was never written: contracts see some response in it, which nobody sent.
+    pub fn blank(alloc: Global) -> Result<ResponseSlot<R>, AllocError> {
+        let rider = Held::fresh(alloc)?;
+        let bare = Response::InvAck {
+            block: 0,
+            rider: (),
+        };
+        Ok(ResponseSlot { bare, rider })
+    }
+
     /// Puts the response here.
     pub fn put(&mut self, response: Response<&R>)
         ensures { self.new ≡ response_seen response.entry }
@@ -150,7 +151,7 @@ impl<R: Rider> ResponseSlot<R> {
     pub fn open(&self) -> Response<&R>
         ensures { response_seen result ≡ self.now }
     {
-        let rider = &self.rider;
+        let rider = self.rider.get();
         match self.bare {
             Response::InvAck { block, .. } => Response::InvAck { block, rider },
             Response::OwnerData { block, words, .. } => Response::OwnerData {
@@ -160,13 +161,25 @@ impl<R: Rider> ResponseSlot<R> {
             },
         }
     }
+
+    /// Hands an owner's words and rider over, where the response has them. The place is to be dropped: contracts see
+    /// some response in it afterwards.
+    pub fn hand_over(&mut self, words: &mut [u32; BLOCK_WORDS], rider: &mut Held<R>)
+        ensures words { words.new ≡ owner_words self.old words.old }
+        ensures rider { rider.new ≡ owner_rider self.old rider.old }
+    {
+        if let Response::OwnerData { words: given, .. } = self.bare {
+            *words = given;
+            mem::swap(&mut self.rider, rider);
+        }
+    }
 }
 
 /// A place for a message from home.
 #[derive(Drop)]
 pub struct FromHomeSlot<R> {
     bare: FromHome<()>,
-    rider: R,
+    rider: Held<R>,
 }
 
 impl<R> Model for FromHomeSlot<R> {
@@ -178,17 +191,14 @@ impl<R> Model for FromHomeSlot<R> {
     ghost view = { λ a. message_with (λ u. a.rider) a.bare };
 }
 
-/// A place that was never written: contracts see some message in it, which nobody sent.
-impl<R: Rider> Default for FromHomeSlot<R> {
-    fn default() -> Self {
-        FromHomeSlot {
-            bare: FromHome::PutAck { block: 0 },
-            rider: R::fresh(),
-        }
-    }
-}
-
 impl<R: Rider> FromHomeSlot<R> {
+    /// A place that was never written: contracts see some message in it, which nobody sent.
+    pub fn blank(alloc: Global) -> Result<FromHomeSlot<R>, AllocError> {
+        let rider = Held::fresh(alloc)?;
+        let bare = FromHome::PutAck { block: 0 };
+        Ok(FromHomeSlot { bare, rider })
+    }
+
     /// Puts the message here.
     pub fn put(&mut self, message: FromHome<&R>)
         ensures { self.new ≡ message_seen message.entry }
@@ -203,6 +213,24 @@ impl<R: Rider> FromHomeSlot<R> {
     pub fn open(&self) -> FromHome<&R>
         ensures { message_seen result ≡ self.now }
     {
-        self.bare.riding(&self.rider)
+        self.bare.riding(self.rider.get())
+    }
+    /// The block that the message is about.
+    pub fn block(&self) -> u32
+        ensures { result ≡ block_of self.now }
+    {
+        self.bare.block()
+    }
+
+    /// Hands the message's words and its rider over, where it has data. The place is to be dropped: contracts see
+    /// some message in it afterwards.
+    pub fn hand_over(&mut self, words: &mut [u32; BLOCK_WORDS], rider: &mut Held<R>)
+        ensures words { words.new ≡ words_of self.old words.old }
+        ensures rider { rider.new ≡ rider_of self.old rider.old }
+    {
+        if let FromHome::BlockData { words: sent, .. } = self.bare {
+            *words = sent;
+            mem::swap(&mut self.rider, rider);
+        }
     }
 }

@@ -1,11 +1,12 @@
 -- A row of the table on an entry that a sparse home keeps, as contracts see it.
 use Rattle.std.proofs.Common.{◌≡◌, ◌∙◌, ℕ, ◌<◌, IsTrue, Option, Some, ap, sym}
 use Rattle.std.specs.Prelude.{All, IfSome, length, slice_index_or, slice_set}
-use Rattle.std.proofs.lemmas.List.{get_or-set_other, length-set}
+use Rattle.std.proofs.lemmas.List.{get_or-set_other, get_or-set_same, length-set}
 use Rattle.msi_directory.specs.Blocks.{Blocks, opening_entry}
 use Rattle.msi_directory.specs.Fitting.{stage_fits}
 use Rattle.msi_directory.specs.Kept.{HomeFits, Kept, Sparse, blocks_in, copy_of, kept_at, kept_with, place_of}
 use Rattle.msi_directory.specs.declared.entry.Entry.{Entry}
+use Rattle.msi_directory.specs.declared.entry.Stage.{Stage}
 use Rattle.msi_directory.specs.declared.home_copies.HomeCopy.{HomeCopy}
 use Rattle.msi_directory.proofs.Sparse.{entries_counted, entries_with, fits_with, reads_kept}
 
@@ -55,6 +56,17 @@ module _ {R : Type 0} (home : Sparse R) (block place : ℕ) (found : IsFound hom
 
   pub copy_after : place < length after.copies
   copy_after = rw (row_is, length-set home.kept.copies place (copy_of (row entry_before))) found.copy
+
+  pub place_after : place < length after.stages
+  place_after = rw (row_is, length-set home.kept.stages place (row entry_before).stage) found.stage
+
+  -- a stage that is read where the block's is by now is the one after the row
+  pub stage_after : (stage : Stage) → ((d : Stage) → stage ≡ slice_index_or after.stages place d) → stage ≡ (row entry_before).stage
+  stage_after stage reads =
+      let next : Stage = (row entry_before).stage in
+      reads next
+      ∙ ap (λ (k : Kept R). slice_index_or k.stages place next) row_is
+      ∙ get_or-set_same home.kept.stages place next next found.stage
 
   pub rider_after : (copy : HomeCopy R) → ReadsAfter copy → copy.rider ≡ (slice_index_or (blocks_in home_after).entries block past).rider
   rider_after copy reads =

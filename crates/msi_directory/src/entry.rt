@@ -135,9 +135,10 @@ pub struct Entry<R> {
 }
 
 /// What the home answers to a message whose rider was lent, and beside it, lent too, the rider of the message's
-/// block as the home has it by then: data are sent with it.
+/// block as the home has it by then: data are sent with it. The block is free where it isn't busy by then.
 #[derive(Drop)]
 pub struct Served<'a, R> {
     pub answer: HomeAnswer<()>,
     pub rider: &'a R,
+    pub free: bool,
 }

@@ -22,7 +22,7 @@ mod tests;
 
 use access_times::{Rider, copied};
 use image_mem::Image;
-use msi_cache::{Request, Response};
+use msi_cache::{Request, Response, ResponseSlot};
 use rtr_types::{BLOCK_WORDS, CORES_MAX};
 use std::alloc::{AllocError, Global};
 use std::marker::Model;
@@ -160,7 +160,7 @@ impl<R: Rider> Home<R> {
         ensures answer { result ≡ answer_to_request R.riding.absorbed
             (entry_at R.riding.fresh self.old.entries (request_block request)) from request }
     {
-        let Served { answer, rider } = self.serve(from, request.lent());
+        let Served { answer, rider, .. } = self.serve(from, request.lent());
         answer.riding(copied(rider))
     }
 
@@ -178,11 +178,19 @@ impl<R: Rider> Home<R> {
         ensures answer { answer_riding result.rider.now result.answer ≡ answer_to_request R.riding.absorbed
             (entry_at R.riding.fresh self.old.entries (request_block (request_seen request.entry))) from
             (request_seen request.entry) }
+        ensures free { let seen = request_seen request.entry in
+            let old = entry_at R.riding.fresh self.old.entries (request_block seen) in
+            result.free ≡ is_free (entry_after_request R.riding.absorbed old from seen).stage }
     {
         let place = self.kept.place(request.block()).unwrap();
         let answer = self.kept.serve(place, from, request);
-        let rider = &self.kept.copy(place).rider;
-        Served { answer, rider }
+        let free = self.kept.stage(place).is_free();
+        let rider = self.kept.copy(place).rider.get();
+        Served {
+            answer,
+            rider,
+            free,
+        }
     }
 
     /// Takes a response from core `from`, about a block at which the table has a row for it. Only that
@@ -200,7 +208,7 @@ impl<R: Rider> Home<R> {
         ensures answer { result ≡ answer_to_response R.riding.absorbed
             (entry_at R.riding.fresh self.old.entries (response_block response)) from response }
     {
-        let Served { answer, rider } = self.collect(from, response.lent());
+        let Served { answer, rider, .. } = self.collect(from, response.lent());
         answer.riding(copied(rider))
     }
 
@@ -217,11 +225,44 @@ impl<R: Rider> Home<R> {
         ensures answer { answer_riding result.rider.now result.answer ≡ answer_to_response R.riding.absorbed
             (entry_at R.riding.fresh self.old.entries (response_block (response_seen response.entry))) from
             (response_seen response.entry) }
+        ensures free { let seen = response_seen response.entry in
+            let old = entry_at R.riding.fresh self.old.entries (response_block seen) in
+            result.free ≡ is_free (entry_after_response R.riding.absorbed old from seen).stage }
     {
         let place = self.kept.place(response.block()).unwrap();
         let answer = self.kept.collect(place, from, response);
-        let rider = &self.kept.copy(place).rider;
-        Served { answer, rider }
+        let free = self.kept.stage(place).is_free();
+        let rider = self.kept.copy(place).rider.get();
+        Served {
+            answer,
+            rider,
+            free,
+        }
+    }
+
+    /// Takes the response that lies here, as `collect` does. What is left here means nothing: an owner's rider is
+    /// handed over, not copied.
+    pub fn receive<'a>(&'a mut self, from: u8, response: &mut ResponseSlot<R>) -> Served<'a, R>
+        requires from { from < CORES_MAX }
+        requires within { response_block response.old < length self.old.entries }
+        requires row { IsTrue (has_response_row
+            (entry_at R.riding.fresh self.old.entries (response_block response.old)).stage from response.old) }
+        ensures* home { sem 𝓛 (EndsAs R.row self.entry
+            (TookResponse R.riding self.old from response.old result.rider.now)) }
+        ensures answer { answer_riding result.rider.now result.answer ≡ answer_to_response R.riding.absorbed
+            (entry_at R.riding.fresh self.old.entries (response_block response.old)) from response.old }
+        ensures free { let old = entry_at R.riding.fresh self.old.entries (response_block response.old) in
+            result.free ≡ is_free (entry_after_response R.riding.absorbed old from response.old).stage }
+    {
+        let place = self.kept.place(response.block()).unwrap();
+        let answer = self.kept.receive(place, from, response);
+        let free = self.kept.stage(place).is_free();
+        let rider = self.kept.copy(place).rider.get();
+        Served {
+            answer,
+            rider,
+            free,
+        }
     }
 
     /// The rider on the home's copy of the block, one of the memory's.
@@ -230,7 +271,7 @@ impl<R: Rider> Home<R> {
         ensures { result.now ≡ (entry_at R.riding.fresh self.now.entries block).rider }
     {
         match self.kept.place(block) {
-            Some(place) => &self.kept.copy(place).rider,
+            Some(place) => self.kept.copy(place).rider.get(),
             None => &self.fresh,
         }
     }

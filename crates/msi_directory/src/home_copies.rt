@@ -14,7 +14,7 @@ ghost use Rattle.rtr_types.specs.CoreSets.{no_cores};
 
 use crate::entry::{HomeAnswer, Stage};
 use access_times::Rider;
-use msi_cache::{FromHome, Request, Response};
+use msi_cache::{FromHome, Held, Request, Response, ResponseSlot};
 use rtr_types::{BLOCK_WORDS, CORES_MAX, CoreSet};
 
 /// The home's own copy of a block: its words, and what rides on it. While a cache owns the block the copy is
@@ -22,7 +22,7 @@ use rtr_types::{BLOCK_WORDS, CORES_MAX, CoreSet};
 #[derive(Drop)]
 pub(crate) struct HomeCopy<R> {
     pub(crate) words: [u32; BLOCK_WORDS],
-    pub(crate) rider: R,
+    pub(crate) rider: Held<R>,
 }
 
 // Each row of the table, on a block's stage and copy. An answer has no rider: data are sent with the copy's own, as
@@ -88,6 +88,36 @@ impl<R: Rider> HomeCopy<R> {
             } => {
                 self.words = words;
                 self.rider.copy_from(rider);
+                self.hand_over(stage, from, block)
+            }
+        }
+    }
+
+    /// Takes the response that lies here, as `collect` does. An owner's rider is handed over.
+    pub(crate) fn receive(
+        &mut self,
+        stage: &mut Stage,
+        from: u8,
+        response: &mut ResponseSlot<R>,
+    ) -> HomeAnswer<()>
+        requires from { from < CORES_MAX }
+        requires fits { IsTrue (stage_fits stage.old) }
+        requires row { IsTrue (has_response_row stage.old from response.old) }
+        ensures entry { entry_of stage.new self.new
+            ≡ entry_after_response R.riding.absorbed (entry_of stage.old self.old) from response.old }
+        ensures answer { answer_riding self.new.rider result
+            ≡ answer_to_response R.riding.absorbed (entry_of stage.old self.old) from response.old }
+    {
+        match response.open() {
+            Response::InvAck {
+                block,
+                rider: reads,
+            } => {
+                self.rider.absorb(reads);
+                self.acknowledge(stage, from, block)
+            }
+            Response::OwnerData { block, .. } => {
+                response.hand_over(&mut self.words, &mut self.rider);
                 self.hand_over(stage, from, block)
             }
         }

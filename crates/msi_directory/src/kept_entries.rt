@@ -15,7 +15,7 @@ use crate::entry::{Entry, HomeAnswer, Stage};
 use crate::home_copies::HomeCopy;
 use access_times::Rider;
 use indexmap::IndexMap;
-use msi_cache::{Request, Response};
+use msi_cache::{Held, Request, Response, ResponseSlot};
 use rtr_types::CORES_MAX;
 use std::alloc::{AllocError, Global};
 use std::marker::Model;
@@ -112,6 +112,7 @@ impl<R> KeptEntries<R> {
             words,
             rider,
         } = entry;
+        let rider = Held::new(*self.copies.allocator(), rider)?;
         self.copies.reserve(1)?;
         self.stages.insert(block, stage)?;
         self.shortcuts[block as usize % SHORTCUTS] = place;
@@ -158,5 +159,25 @@ impl<R: Rider> KeptEntries<R> {
     {
         let stage = &mut self.stages[place];
         self.copies[place].collect(stage, from, response)
+    }
+    /// Takes the response that lies here, as `collect` does. An owner's rider is handed over.
+    pub(crate) fn receive(
+        &mut self,
+        place: usize,
+        from: u8,
+        response: &mut ResponseSlot<R>,
+    ) -> HomeAnswer<()>
+        requires from { from < CORES_MAX }
+        requires stage { place < length self.old.stages }
+        requires copy { place < length self.old.copies }
+        requires fits { IsTrue (stage_fits (slice_index_or self.old.stages place Unshared)) }
+        requires row { IsTrue (has_response_row (slice_index_or self.old.stages place Unshared) from response.old) }
+        ensures kept { (past : Entry R) → self.new ≡ kept_with self.old place
+            (entry_after_response R.riding.absorbed (kept_at self.old place past) from response.old) }
+        ensures answer { (past : Entry R) → answer_riding (kept_at self.new place past).rider result
+            ≡ answer_to_response R.riding.absorbed (kept_at self.old place past) from response.old }
+    {
+        let stage = &mut self.stages[place];
+        self.copies[place].receive(stage, from, response)
     }
 }

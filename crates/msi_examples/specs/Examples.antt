@@ -9,7 +9,7 @@ use Rattle.rv_core.specs.declared.core_state.Stop.TheVariants.{Exit, Limit}
 use Rattle.rv_core.specs.declared.outcome.LoadNote.{LoadNote}
 use Rattle.msi_state.specs.declared.moves.Move.{Move}
 use Rattle.msi_state.specs.declared.moves.Move.TheVariants.{Core, Request, Response, FromHome}
-use Rattle.msi_state.specs.Nodes.{Nothing, Retires, Accesses}
+use Rattle.msi_state.specs.Events.{Nothing, Retires, Accesses}
 use Rattle.msi_state.specs.Runs.{opening_state, run}
 use Rattle.msi_examples.specs.Followed.{StepTaken, Seen, followed, then_zeros, ends_at, seen, loads_by}
 use Rattle.msi_examples.specs.Images.{scaled_words, handed_over, bytes_of_a_word, one_word, reader_evicts}

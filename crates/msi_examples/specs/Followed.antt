@@ -9,7 +9,7 @@ use Rattle.rv_core.specs.declared.outcome.LoadNote.{LoadNote}
 use Rattle.rv_core.specs.Steps.{need, stop_of}
 use Rattle.msi_state.specs.declared.moves.Move.{Move}
 use Rattle.msi_state.specs.States.{PlainState, all_done}
-use Rattle.msi_state.specs.Nodes.{Event}
+use Rattle.msi_state.specs.Events.{Event}
 use Rattle.msi_state.specs.FinalMemory.{final_memory}
 use Rattle.msi_state.specs.Runs.{chosen, stepped_by, event_by, run, totals, accesses, loads_of}
 
@@ -59,10 +59,10 @@ pub record Seen : Type 0 where
 abbrev pub seen : PlainState → Seen
 seen s =
     record {
-      stops = map (λ n. stop_of (need s.image n.core)) s.nodes;
+      stops = map (λ core. stop_of (need s.image core)) s.cores;
       retired = totals s;
-      pcs = map (λ n. n.core.pc) s.nodes;
-      registers = map (λ n. nonzero 0 n.core.registers) s.nodes;
+      pcs = map (λ core. core.pc) s.cores;
+      registers = map (λ core. nonzero 0 core.registers) s.cores;
       memory = changed 0 (final_memory none_riding none_carrying s) (opening_words s.image);
     }
 

@@ -8,7 +8,6 @@ ghost use Rattle.msi_examples.specs.Examples.{ForwardMeetsPut, ForwardToOwnMeets
 
 /// A word goes from core 0 to core 1 and back: what each of sixteen choices does, and what the run
 /// leaves.
-#[tactic(auto, using(crate::proofs::HandingOver::one_hands_over, crate::proofs::HandingOver::handed_over_so))]
 pub fn a_word_is_handed_over()
     ensures steps { OneHandsOver }
     ensures left { HandedOver }
@@ -16,14 +15,12 @@ pub fn a_word_is_handed_over()
 
 /// Two cores use words of their own in one block, and bytes of their own in one word. The second of
 /// these runs takes exactly twelve steps.
-#[tactic(auto, using(crate::proofs::Sharing::share_falsely, crate::proofs::Sharing::store_bytes))]
 pub fn a_block_and_a_word_are_shared()
     ensures block { ShareFalsely }
     ensures word { StoreBytes }
 {}
 
 /// Two cores add to one word by an atomic memory operation.
-#[tactic(auto, using(crate::proofs::Sharing::sum_in_turn))]
 pub fn a_word_is_added_to()
     ensures { SumInTurn }
 {}

@@ -1,4 +1,12 @@
 pub mod AtHand
+pub mod Beginning
+pub mod Bits
 pub mod Choosing
-pub mod Paid
-pub mod Timely
+pub mod Counting
+pub mod Delivered
+pub mod Elsewhere
+pub mod Moves
+pub mod Renewed
+pub mod Standings
+pub mod Touched
+pub mod Turns

@@ -1,2 +1,5 @@
 pub mod Writers
 pub mod Steppings
+pub mod Marks
+pub mod Standings
+pub mod Workings

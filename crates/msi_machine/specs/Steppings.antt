@@ -1,12 +1,12 @@
 -- What a step of the machine promises, whatever its riders and carries are and whoever is told of it.
 use Rattle.std.specs.Prelude.{◌≡◌, ◌<◌, ℕ, List, Some, IsTrue, length}
 use Rattle.access_times.specs.Riding.{Riding, Carrying}
-use Rattle.msi_state.specs.Bound.{Earns, left}
-use Rattle.msi_state.specs.Coherent.{Coherent, Finds, memory_after}
+use Rattle.machine_bound.specs.Bound.{Earns, left}
+use Rattle.machine_data.specs.Coherent.{Coherent, Finds, memory_after}
 use Rattle.msi_state.specs.Moves.{IsNumbered}
-use Rattle.msi_state.specs.Nodes.{Event}
-use Rattle.msi_state.specs.Plain.{plain}
-use Rattle.msi_state.specs.Ready.{HasRoomFor, has_row_for}
+use Rattle.msi_state.specs.Events.{Event}
+use Rattle.machine_plain.specs.Plain.{plain}
+use Rattle.msi_state.specs.Rests.{HasRoomFor, has_row_for}
 use Rattle.msi_state.specs.Runs.{chosen, plain_event, plain_step}
 use Rattle.msi_state.specs.States.{Machinery, State}
 use Rattle.msi_state.specs.Steps.{StepsTo, event, moves}
@@ -32,7 +32,7 @@ pub record HasMoved {R K : Type 0} (riding : Riding R) (carrying : Carrying K) (
   pub plainly : plain new.state ≡ plain_step (plain old.state) m
   pub tells : event riding carrying old.state m ≡ plain_event (plain old.state) m
   pub image : new.state.image ≡ old.state.image
-  pub cores : length new.state.nodes ≡ length old.state.nodes
+  pub cores : length new.state.cores ≡ length old.state.cores
   pub rooms : new.rooms ≡ old.rooms
 
 -- What a step that tells of this event keeps. It is paid for, and fewer are left. Whatever memory is coherent

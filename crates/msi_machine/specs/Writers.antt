@@ -2,11 +2,12 @@
 use Rattle.std.specs.Prelude.{◌≡◌, ◌≢◌, ◌<◌, ℕ, true, false, length}
 use Rattle.access_times.specs.Riding.{Riding, Carrying}
 use Rattle.msi_cache.specs.Lines.{line_for, can_read, can_write}
-use Rattle.msi_state.specs.States.{State, node_at}
+use Rattle.msi_memory.specs.Memories.{port_at}
+use Rattle.msi_state.specs.States.{State}
 
 -- of each block: where one core's cache may write it, no other core's cache may read it, let alone write it
 abbrev pub OneWriterEach : {R K : Type 0} → Riding R → Carrying K → State R K → Type 0
 OneWriterEach riding carrying s =
-    (b c d : ℕ) → c < length s.nodes → d < length s.nodes → c ≢ d
-    → can_write (line_for riding.fresh (node_at carrying s.nodes c).cache b) b ≡ true
-    → can_read (line_for riding.fresh (node_at carrying s.nodes d).cache b) b ≡ false
+    (b c d : ℕ) → c < length s.cores → d < length s.cores → c ≢ d
+    → can_write (line_for riding.fresh (port_at carrying s.memory.ports c).cache b) b ≡ true
+    → can_read (line_for riding.fresh (port_at carrying s.memory.ports d).cache b) b ≡ false

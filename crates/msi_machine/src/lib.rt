@@ -9,11 +9,16 @@
 #![tactic(auto)]
 
 mod machine;
+mod marking;
+mod marks;
+mod moving;
+mod parts;
+mod standing;
 #[cfg(test)]
 mod tests;
 mod timed;
 #[cfg(test)]
 mod timed_tests;
 
-pub use machine::Machine;
-pub use msi_state::{Move, Stepped};
+pub use machine::{Machine, Stepped};
+pub use msi_state::Move;

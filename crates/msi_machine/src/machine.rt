@@ -3,43 +3,64 @@ ghost use Rattle.std.specs.Prelude.{◌≡◌, ◌<◌, ◌≤◌, ◌+◌, ◌*
 ghost use Rattle.access_times.specs.Riding.{none_carrying, none_riding};
 ghost use Rattle.rtr_types.specs.Parameters.{Fits};
 ghost use Rattle.rtr_types.specs.declared.TheConstants.{CORES_MAX};
+ghost use Rattle.msi_machine.specs.Marks.{AllMarked, marked};
 ghost use Rattle.msi_machine.specs.Steppings.{HasMoved, IsTaken, KeepsPromises};
 ghost use Rattle.msi_directory.specs.Blocks.{touched};
 ghost use Rattle.msi_machine.specs.Writers.{OneWriterEach};
-ghost use Rattle.msi_state.specs.Bound.{links_empty, total_earned, total_owed, total_retired};
-ghost use Rattle.msi_state.specs.Coherent.{Coherent, opening_memory, word_of};
+ghost use Rattle.machine_bound.specs.Bound.{total_earned, total_owed, total_retired};
+ghost use Rattle.machine_data.specs.Coherent.{Coherent, opening_memory, word_of};
 ghost use Rattle.msi_state.specs.FinalMemory.{final_word, final_words};
-ghost use Rattle.msi_state.specs.Nodes.{instr_of};
-ghost use Rattle.msi_state.specs.Plain.{plain};
-ghost use Rattle.msi_state.specs.Ready.{RoomsMade, heads_roomy};
+ghost use Rattle.msi_state.specs.Events.{instr_of};
+ghost use Rattle.machine_plain.specs.Plain.{plain};
+ghost use Rattle.msi_state.specs.Rests.{heads_roomy};
+ghost use Rattle.memory_laws.specs.Moving.{links_empty};
+ghost use Rattle.msi_memory.specs.Rests.{RoomsMade};
 ghost use Rattle.msi_state.specs.Runs.{opening_state};
-ghost use Rattle.msi_state.specs.States.{all_done, node_at, state_start};
-ghost use Rattle.msi_state.specs.Steps.{AcceptsNext, TellsOf, event};
+ghost use Rattle.msi_state.specs.States.{all_done, core_at, state_start};
+ghost use Rattle.msi_state.specs.Steps.{AcceptsNext, TellsOf, event, moves};
 
+use crate::marks::Marks;
+use crate::parts::Parts;
+use crate::standing::{Standing, are_done, first_marks, first_standings};
 use access_times::{Carry, Clerk, Rider};
 use image_mem::Image;
-use msi_state::{Parts, Stepped};
-use rtr_types::Params;
+use msi_state::Move;
+use rtr_types::{Instr, Params};
 use rv_core::Core;
 use std::alloc::{AllocError, Global};
 use std::marker::Model;
 
+/// What a step did: the move that was made, and the instruction that retired in it. There is none exactly
+/// where no instruction retired.
+#[derive(Clone, Copy, Debug, PartialEq, Eq)]
+pub struct Stepped {
+    pub taken: Move,
+    pub retired: Option<Instr>,
+}
+
 /// A machine of some cores in a state of a run. Contracts see that state, and which of the home's blocks
 /// have room for a request.
+///
+/// Beside the state it keeps what each core stands at, which moves can be made, and which core moved last.
+/// Room is made before each step, so that only that core may have a request for whose block there is none;
+/// and the home is asked only then whether that block is free.
 #[derive(Drop)]
 pub struct Machine<R: Rider, K: Carry> {
     pub(crate) parts: Parts<R, K>,
+    standings: Vec<Standing>,
+    marks: Marks,
+    mover: u8,
 }
 
 impl<R: Rider, K: Carry> Model for Machine<R, K> {
-    ghost use Rattle.msi_sound.specs.Sound.{Sound};
+    ghost use Rattle.msi_machine.specs.Standings.{NotesFit};
     ghost use Rattle.msi_state.specs.States.{Machinery};
 
     ghost Value = { Machinery R K };
 
     ghost view = { λ a. a.parts };
 
-    ghost invariant = { λ a. Sound R.riding K.carrying a.parts.state };
+    ghost invariant = { λ a. NotesFit R.riding K.carrying a.parts a.standings.items a.marks a.mover };
 }
 
 impl<R: Rider, K: Carry> Machine<R, K> {
@@ -58,7 +79,14 @@ impl<R: Rider, K: Carry> Machine<R, K> {
         let words = image.words();
         prove!(words == params.words);
         let parts = Parts::new(alloc, image, params.cores, params.limit)?;
-        Ok(Machine { parts })
+        let standings = first_standings(alloc, &parts.program, parts.cores.as_slice())?;
+        let marks = first_marks(standings.as_slice());
+        Ok(Machine {
+            parts,
+            standings,
+            marks,
+            mover: 0,
+        })
     }
 
     /// Whether each core's program is done. Then nothing is under way any more, the steps of the run are
@@ -67,13 +95,13 @@ impl<R: Rider, K: Carry> Machine<R, K> {
     pub fn done(&self) -> bool
         ensures done { result ≡ all_done self.now.state }
         ensures plain { result ≡ all_done (plain self.now.state) }
-        ensures links { IsTrue result → links_empty self.now.state ≡ true }
+        ensures links { IsTrue result → links_empty self.now.state.memory ≡ true }
         ensures paid { IsTrue result → total_earned R.riding self.now.state
-            ≡ (2 * length self.now.state.nodes + 4) * total_retired self.now.state }
+            ≡ (2 * length self.now.state.cores + 4) * total_retired self.now.state }
         ensures last { (memory : ℕ → List ℕ) → IsTrue result → Coherent R.riding K.carrying self.now.state memory
             → (block : ℕ) → final_words R.riding K.carrying self.now.state block ≡ memory block }
     {
-        self.parts.done()
+        are_done(self.standings.as_slice())
     }
 
     /// How many blocks the home made room for: it keeps so many entries, and the others are as the image has
@@ -81,24 +109,26 @@ impl<R: Rider, K: Carry> Machine<R, K> {
     pub fn touched(&self) -> u32
         ensures { result ≡ touched self.now.rooms }
     {
-        self.parts.touched()
+        self.parts.memory.touched()
     }
 
     /// Makes room in the home for the block of each request link's head, so that a step needs no memory.
     /// After want of memory some of these blocks may have got room, and all else is unchanged.
     pub fn make_room(&mut self) -> Result<(), AllocError>
         ensures state { self.new.state ≡ self.old.state }
-        ensures rooms { RoomsMade self.old.state.nodes self.old.rooms self.new.rooms }
+        ensures rooms { RoomsMade self.old.state.memory.ports self.old.rooms self.new.rooms }
         ensures ok { OnOk result (heads_roomy self.new ≡ true) }
     {
-        self.parts.make_room()
+        let parts = &mut self.parts;
+        parts.memory.make_room(self.mover)
     }
 
     /// Whether the home has room for the block of each request link's head.
     pub fn has_room(&self) -> bool
         ensures { result ≡ heads_roomy self.now }
     {
-        self.parts.has_room()
+        let parts = &self.parts;
+        parts.memory.has_room()
     }
 
     /// One step: of the moves that can be made, of which there is always one, that which the choice
@@ -121,7 +151,28 @@ impl<R: Rider, K: Carry> Machine<R, K> {
         ensures keeps { KeepsPromises R.riding K.carrying self.old.state self.new.state
             (event R.riding K.carrying self.old.state result.taken) }
     {
-        self.parts.step(choice, clerk)
+        let mut marks = self.all_marks();
+        let taken = marks.pick(choice % marks.count());
+        let standings = self.standings.as_mut_slice();
+        let retired = self.parts.make_move(taken, standings, &mut marks, clerk);
+        self.marks = marks;
+        self.mover = taken.core();
+        Stepped { taken, retired }
+    }
+
+    /// The marks of the moves that can be made.
+    fn all_marks(&self) -> Marks
+        ensures all { AllMarked R.riding K.carrying self.now.state result }
+        ensures moves { marked result ≡ moves R.riding K.carrying self.now.state }
+    {
+        let mut marks = self.marks;
+        // no move asked the home about the block of the mover's oldest request yet
+        if (self.mover as u32) < marks.cores {
+            let parts = &self.parts;
+            let can = parts.memory.has_free_head(self.mover);
+            marks.set(Move::Request(self.mover), can);
+        }
+        marks
     }
 
     /// A word of the memory at the end, by its index: the owner's where a cache owns its block, else the
@@ -134,33 +185,35 @@ impl<R: Rider, K: Carry> Machine<R, K> {
         ensures last { (memory : ℕ → List ℕ) → Coherent R.riding K.carrying self.now.state memory
             → result ≡ word_of memory word }
     {
-        self.parts.final_word(word)
+        let parts = &self.parts;
+        parts.memory.final_word(word)
     }
 
     /// The image that the machine runs.
     pub fn into_image(self) -> Image
         ensures { result ≡ self.state.image }
     {
-        let Machine { parts } = self;
-        parts.into_image()
+        let Machine { parts, .. } = self;
+        let Parts { program, .. } = parts;
+        program.into_image()
     }
 
     /// A core.
     pub fn core(&self, core: u8) -> &Core
-        requires { core < length self.now.state.nodes }
-        ensures value { result.now ≡ (node_at K.carrying self.now.state.nodes core).core }
+        requires { core < length self.now.state.cores }
+        ensures value { result.now ≡ (core_at self.now.state.cores core) }
         ensures number { result.now.id ≡ core }
         ensures within { result.now.count ≤ result.now.limit }
     {
-        self.parts.core(core)
+        &self.parts.cores[core as usize]
     }
 
     /// Each core's number is its place, and below the greatest number of cores: a law for clerks that keep
     /// something for each core.
     pub fn cores_are_numbered(&self)
-        ensures few { length self.now.state.nodes ≤ CORES_MAX }
-        ensures numbers { (core : ℕ) → core < length self.now.state.nodes
-            → (node_at K.carrying self.now.state.nodes core).core.id ≡ core }
+        ensures few { length self.now.state.cores ≤ CORES_MAX }
+        ensures numbers { (core : ℕ) → core < length self.now.state.cores
+            → (core_at self.now.state.cores core).id ≡ core }
     {
         let _ = &self.parts;
     }

@@ -1,7 +1,7 @@
 //! Cores that write one word, over any choices.
 ghost use Rattle.std.specs.Prelude.{◌≡◌, length};
 
-use crate::Machine;
+use crate::{Machine, Move, Stepped};
 use access_times::{Carry, Clerk, NoCarry, NoRider, Rider};
 use image_mem::Image;
 use rtr_types::{Access, CORES_MAX, Instr, Params};
@@ -173,5 +173,30 @@ fn one_store_touches_one_block_of_the_largest_memory(rt: HostRuntime) -> Result<
     }
     assert_eq!(rt; (machine.done(), clerk.told), (true, 3));
     assert_eq!(rt; machine.touched(), 1);
+    Ok(())
+}
+
+// Of two moves the fourth choice takes the second.
+#[test]
+fn the_first_step_is_the_chosen_cores(rt: HostRuntime) -> Result<(), Fail> {
+    // ecall
+    let image = Image::flat([0x73, 0, 0, 0].to_vec(rt.alloc())?, 4)?;
+    let params = Params {
+        cores: 2,
+        limit: 10,
+        words: 4,
+    };
+    let mut machine = Machine::<NoRider, NoCarry>::new(rt.alloc(), image, params)?;
+    let mut clerk = Counter { told: 0 };
+    machine.make_room()?;
+    assert!(rt; !machine.done() && machine.has_room());
+    let stepped = machine.step(3, &mut clerk);
+    let at = Instr { core: 1, count: 1 };
+    let wanted = Stepped {
+        taken: Move::Core(1),
+        retired: Some(at),
+    };
+    assert_eq!(rt; stepped, wanted);
+    assert_eq!(rt; clerk.told, 1);
     Ok(())
 }

@@ -3,17 +3,16 @@ ghost use Rattle.std.specs.Prelude.{◌≡◌, ℕ, IsTrue, List, [], false};
 ghost use Rattle.access_times.specs.Times.{times_riding};
 ghost use Rattle.image_mem.specs.Contents.{Contents};
 ghost use Rattle.msi_machine.specs.Steppings.{HasMoved, IsTaken, KeepsPromises};
-ghost use Rattle.msi_state.specs.Nodes.{instr_of};
-ghost use Rattle.msi_state.specs.Ready.{heads_roomy};
+ghost use Rattle.msi_state.specs.Events.{instr_of};
+ghost use Rattle.msi_state.specs.Rests.{heads_roomy};
 ghost use Rattle.msi_state.specs.States.{all_done, state_start};
 ghost use Rattle.msi_state.specs.Steps.{AcceptsNext, TellsOf, event};
-ghost use Rattle.msi_times.specs.Absorbing.{MeetsAlike};
-ghost use Rattle.msi_times.specs.Retirements.{MachineStandsFor, Retirement};
-ghost use Rattle.msi_times.specs.TimedSteps.{AreLastClocks, StepFinds, times_parts, with_step};
+ghost use Rattle.machine_times.specs.Absorbing.{MeetsAlike};
+ghost use Rattle.machine_times.specs.Retirements.{MachineStandsFor, Retirement};
+ghost use Rattle.machine_times.specs.TimedSteps.{AreLastClocks, StepFinds, times_parts, with_step};
 
-use crate::machine::Machine;
+use crate::machine::{Machine, Stepped};
 use access_times::{Carry, Times, TimesClerk};
-use msi_state::Stepped;
 
 impl<K: Carry> Machine<Times, K> {
     /// A machine at the start of an image stands for the empty list of retirements: a law for who has made

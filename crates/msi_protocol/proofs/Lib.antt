@@ -2,3 +2,11 @@ pub mod Keeps
 pub mod Quiet
 pub mod Controllers
 pub mod Followed
+pub mod Holders
+pub mod Newest
+pub mod Found
+pub mod Moves
+pub mod Shown
+pub mod Shows
+pub mod Relined
+pub mod Keeping

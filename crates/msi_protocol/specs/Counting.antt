@@ -1,10 +1,18 @@
--- Which copies of a block count: where a core's line has one, where BlockData under way to it brings one,
+-- Which copies of a block count: the home's, where a core's line has one, where BlockData under way to it brings one,
 -- and where its response under way has one with it. Other copies are old, and nobody looks at them.
 use Rattle.std.specs.Prelude.{Bool, true, false}
+use Rattle.msi_directory.specs.declared.entry.Stage.{Stage}
+use Rattle.msi_directory.specs.declared.entry.Stage.TheVariants.{Owned, Data}
 use Rattle.msi_protocol.specs.Phases.{Phase, Holds, Fills, Upgrades, Puts, Owns, FillsM, UpgradeFills, PutsM, HoldsTold}
 use Rattle.msi_protocol.specs.Phases.{FillsTold, UpgradesTold, PutsTold, Acked, AckedAsksS, AckedAsksM, AckedPuts}
 use Rattle.msi_protocol.specs.Phases.{UpgradeAwaitsAcks, OwnsTold, FillsMTold, UpgradeFillsTold, PutsMTold, GaveHolds}
 use Rattle.msi_protocol.specs.Phases.{GaveUpgrades, GavePuts, GaveAll, GaveAllAsksS, GaveAllAsksM, GaveAllPuts}
+
+-- the home's copy counts: no cache owns the block or is to give it
+abbrev pub home_counts : Stage → Bool
+home_counts (Owned owner) = false
+home_counts (Data «of» requester share) = false
+home_counts _ = true
 
 -- the line's copy counts
 abbrev pub line_counts : Phase → Bool

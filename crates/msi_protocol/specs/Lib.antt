@@ -5,3 +5,6 @@ pub mod Promises
 pub mod Controllers
 pub mod Counting
 pub mod Example
+pub mod Seats
+pub mod Shown
+pub mod Showing

@@ -1,13 +1,7 @@
-pub mod Moves
 pub mod States
-pub mod Nodes
+pub mod Moves
+pub mod Events
 pub mod Steps
-pub mod Ready
-pub mod Plain
+pub mod Rests
 pub mod FinalMemory
 pub mod Runs
-pub mod Bound
-pub mod Sights
-pub mod Coherent
-pub mod Standings
-pub mod Marks

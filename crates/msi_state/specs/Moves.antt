@@ -1,5 +1,5 @@
 -- The moves that a machine of some cores can have, in their order.
-use Rattle.std.specs.Prelude.{◌≡◌, ℕ, ◌*◌, ◌-◌, ◌%◌, List, length, map, slice_index_or, if◌then◌else◌, nat_lt}
+use Rattle.std.specs.Prelude.{◌≡◌, ℕ, ◌+◌, ◌*◌, ◌-◌, ◌%◌, List, length, map, slice_index_or, if◌then◌else◌, nat_lt}
 use Rattle.std.specs.List.{range_with_len}
 use Rattle.msi_state.specs.declared.moves.Move.{Move}
 use Rattle.msi_state.specs.declared.moves.Move.TheVariants.{Core, Request, Response, FromHome}
@@ -26,3 +26,10 @@ core_of (Core c) = c
 core_of (Request c) = c
 core_of (Response c) = c
 core_of (FromHome c) = c
+
+-- the number of a move among all that a machine of so many cores can have
+abbrev pub number_of : (cores : ℕ) → Move → ℕ
+number_of cores (Core c) = c
+number_of cores (Request c) = cores + c
+number_of cores (Response c) = 2 * cores + c
+number_of cores (FromHome c) = 3 * cores + c

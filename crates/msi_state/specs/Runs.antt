@@ -13,7 +13,7 @@ use Rattle.rv_core.specs.declared.outcome.LoadNote.{LoadNote}
 use Rattle.rv_core.specs.declared.outcome.Outcome.{Outcome}
 use Rattle.msi_state.specs.declared.moves.Move.{Move}
 use Rattle.msi_state.specs.States.{PlainState, state_start, all_done}
-use Rattle.msi_state.specs.Nodes.{Event, Nothing, Retires, Accesses}
+use Rattle.msi_state.specs.Events.{Event, Nothing, Retires, Accesses}
 use Rattle.msi_state.specs.Steps.{moves, step, event}
 use Rattle.msi_state.specs.FinalMemory.{final_memory}
 
@@ -97,14 +97,14 @@ loads_of core (a ∷ later) =
 
 -- how many instructions each core has retired
 abbrev pub totals : PlainState → List ℕ
-totals s = map (λ n. n.core.count) s.nodes
+totals s = map (λ core. core.count) s.cores
 
 -- what the run leaves after t choices: its cores, its memory, and each core's loads
 abbrev pub outcome_at : Contents → Params → (choices : ℕ → ℕ) → (t : ℕ) → Outcome
 outcome_at image params choices t =
     let s = run image params choices t in
     record {
-      cores = map (λ n. n.core) s.nodes;
+      cores = s.cores;
       words = final_memory none_riding none_carrying s;
       loads = map (λ c. loads_of c (accesses image params choices t)) (range_with_len 0 params.cores);
     }

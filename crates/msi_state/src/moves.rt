@@ -1,7 +1,6 @@
 //! The moves of the machine.
 ghost use Rattle.std.specs.Prelude.{◌≡◌, ◌≤◌, ◌<◌, ◌*◌};
-ghost use Rattle.msi_state.specs.Marks.{number_of};
-ghost use Rattle.msi_state.specs.Moves.{candidate, core_of};
+ghost use Rattle.msi_state.specs.Moves.{candidate, core_of, number_of};
 ghost use Rattle.rtr_types.specs.declared.TheConstants.{CORES_MAX};
 
 use rtr_types::CORES_MAX;
@@ -28,7 +27,7 @@ impl Move {
     }
 
     /// Its number among all moves that a machine of so many cores can have.
-    pub(crate) fn number(self, cores: u32) -> u32
+    pub fn number(self, cores: u32) -> u32
         requires { cores ≤ CORES_MAX }
         ensures { result ≡ number_of cores self }
     {
@@ -41,7 +40,7 @@ impl Move {
     }
 
     /// The move numbered `k` of all that a machine of so many cores can have.
-    pub(crate) fn candidate(cores: u32, k: u32) -> Move
+    pub fn candidate(cores: u32, k: u32) -> Move
         requires within { k < 4 * cores }
         requires cores { cores ≤ CORES_MAX }
         ensures { result ≡ candidate cores k }

@@ -1,7 +1,6 @@
 -- What is known in a run, as its own history holds it.
 use Rattle.std.proofs.Common.{◌≡◌, ◌∙◌, refl, sym, ap, subst, ℕ, zero, suc, ◌<◌, ◌≤◌, ◌^◌, ◌↔◌, false, ◌⊎◌, inl, inr, List, [], ◌∷◌}
 use Rattle.std.proofs.Common.{length, Option, Some, None, arith}
-use Rattle.std.proofs.lemmas.List.{length-map}
 use Rattle.std.proofs.lemmas.Bool.{cases_lt}
 use Rattle.access_times.specs.Riding.{none_carrying, none_riding}
 use Rattle.image_mem.specs.Contents.{Contents}
@@ -15,15 +14,14 @@ use Rattle.know_history.specs.Knowing.{retired_in}
 use Rattle.know_history.specs.Notes.{Notes, known_at}
 use Rattle.know_history.proofs.Histories.{none_before}
 use Rattle.edge_regulate.specs.Regulated.{Knowledge}
-use Rattle.msi_bound.proofs.Ends.{run_ends, run_cores}
-use Rattle.msi_bound.specs.Ends.{end_of}
-use Rattle.msi_known.specs.Events.{happening_at}
-use Rattle.msi_known.specs.RunHistory.{IsHistoryOf, carrying_at}
-use Rattle.msi_known.proofs.RunNotes.{KnowsRun, run_known_next, run_known_start}
-use Rattle.msi_known.proofs.Runs.{run_orderly_law, run_plain}
-use Rattle.msi_progress.proofs.Stuck.{some_move}
-use Rattle.msi_sound.proofs.Begins.{sound_run}
-use Rattle.msi_state.specs.Plain.{plain_node}
+use Rattle.machine_bound.proofs.Ends.{run_ends, run_cores}
+use Rattle.machine_bound.specs.Ends.{end_of}
+use Rattle.machine_known.specs.Events.{happening_at}
+use Rattle.machine_known.specs.RunHistory.{IsHistoryOf, carrying_at}
+use Rattle.machine_known.proofs.RunNotes.{KnowsRun, run_known_next, run_known_start}
+use Rattle.machine_known.proofs.Runs.{run_orderly_law, run_plain}
+use Rattle.machine_progress.proofs.Stuck.{some_move}
+use Rattle.machine_invariant.proofs.Begins.{holds_run}
 use Rattle.msi_state.specs.Runs.{chosen, chosen_of, plain_moves, run}
 use Rattle.msi_state.specs.States.{PlainState, all_done}
 use Rattle.msi_state.specs.declared.moves.Move.{Move}
@@ -60,17 +58,15 @@ module _ (image : Contents) (params : Params) (schedule : Choices) (fits : Fits 
       going = (run_ends image params choices (record { cores = fits.cores; limit = small })).first t (omega (arith, le))
 
       some : 0 < length (plain_moves (run image params choices t))
-      some = some_move none_riding none_carrying (run image params choices t) (sound_run image params choices t fits.cores small) going
+      some = some_move none_riding none_carrying (run image params choices t) (holds_run image params choices t fits.cores small) going
 
       by : (o : Option Move) → chosen (run image params choices t) (choices t) ≡ o → KnowsRun image params choices fits.cores t →
           KnowsRun image params choices fits.cores (suc t)
       by None is h = absurd (none_chosen (plain_moves (run image params choices t)) (choices t) is some)
       by (Some m) is h = run_known_next image params choices fits.cores t m is h
 
-  pub long : (t : ℕ) → length (carrying_at image params choices t).nodes ≡ params.cores
-  long t =
-      sym (length-map (carrying_at image params choices t).nodes plain_node)
-      ∙ ap (λ (u : PlainState). length u.nodes) (run_plain none_riding image params choices (λ u. tt) t) ∙ run_cores image params choices t
+  pub long : (t : ℕ) → length (carrying_at image params choices t).cores ≡ params.cores
+  long t = ap (λ (u : PlainState). length u.cores) (run_plain none_riding image params choices (λ u. tt) t) ∙ run_cores image params choices t
 
   -- the notes of the whole run hold each retirement, with what is known at it
   pub run_history : IsHistoryOf image params (choice_at schedule) (end_of image params (choice_at schedule)) (run_notes image params schedule)

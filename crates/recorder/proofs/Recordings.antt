@@ -14,6 +14,7 @@ use Rattle.rtr_types.specs.declared.instr.Edge.{Edge}
 use Rattle.rtr_types.specs.declared.instr.Instr.{Instr}
 use Rattle.rtr_types.specs.declared.pairs.Which.TheVariants.{Reduced as ReducedLog}
 use Rattle.rtr_types.specs.declared.params.Params.{Params}
+use Rattle.rv_core.specs.States.{starting}
 use Rattle.rv_core.specs.declared.core_state.Core.{Core}
 use Rattle.rv_core.specs.declared.outcome.Outcome.{Outcome}
 use Rattle.schedule_pick.specs.Choices.{Choices, choice_at}
@@ -28,20 +29,18 @@ use Rattle.rtr_types.specs.PairEdges.{AreEdges}
 use Rattle.log_codec.specs.Validity.{AreVectors, Valid, bound_at}
 use Rattle.log_codec.specs.declared.recording.Recording.{Recording}
 use Rattle.stride_vector.specs.declared.StrideVector.{StrideVector}
-use Rattle.msi_bound.proofs.Ends.{one_end}
-use Rattle.msi_bound.specs.Ends.{end_of}
-use Rattle.msi_plain.proofs.Shows.{plain_done}
-use Rattle.msi_state.specs.Plain.{plain, plain_node}
+use Rattle.machine_bound.proofs.Ends.{one_end}
+use Rattle.machine_bound.specs.Ends.{end_of}
+use Rattle.machine_plain.proofs.Shows.{plain_done}
+use Rattle.machine_plain.specs.Plain.{plain}
 use Rattle.msi_state.specs.Runs.{accesses}
-use Rattle.msi_state.specs.States.{State, all_done, no_node}
-use Rattle.msi_state.specs.declared.node.Node.{Node}
-use Rattle.know_history.specs.Knowledge.{known_carrying}
+use Rattle.msi_state.specs.States.{State, all_done}
 use Rattle.know_history.specs.Notes.{known_at, noted_count}
 use Rattle.know_history.specs.declared.known.Known.{Known}
 use Rattle.edge_regulate.specs.Regulated.{Knowledge, regulated}
 use Rattle.edge_regulate.proofs.Regulations.{end_law, up_to_law}
-use Rattle.msi_known.specs.Events.{happening_at}
-use Rattle.msi_known.specs.RunHistory.{IsHistoryOf}
+use Rattle.machine_known.specs.Events.{happening_at}
+use Rattle.machine_known.specs.RunHistory.{IsHistoryOf}
 use Rattle.online_reduce.proofs.ByPair.{length-by_pair}
 use Rattle.online_reduce.specs.Exact.{IsReduction}
 use Rattle.online_reduce.specs.Reduced.{Reduced, count_of}
@@ -143,14 +142,11 @@ valid_from params image outcome list r edges fits room run cores counts h = reco
 -- the counts of the cores are the reduction's
 counts_are : (image : Contents) (params : Params) (schedule : Choices) (t : ℕ) (s : State Times Known) (c : Noted) (rest : Choices) →
     NotesAt image params schedule t s c rest → (core : ℕ) → core < params.cores →
-    slice_index (map (λ (k : Core). k.count) (map (λ (n : Node Times Known). n.core) s.nodes)) core ≡ count_of c.reduction.state core
+    slice_index (map (λ (k : Core). k.count) s.cores) core ≡ count_of c.reduction.state core
 counts_are image params schedule t s c rest h core lt =
-    let few : length s.nodes ≡ params.cores = sym (length-map s.nodes plain_node) ∙ h.run.cores in
-    let none : Node Times Known = no_node known_carrying in
-    let within : core < length s.nodes = omega (arith, lt, few) in
-    get_or-map (λ (k : Core). k.count) (map (λ (n : Node Times Known). n.core) s.nodes) core none.core 0
-    (omega (arith, within, length-map s.nodes (λ (n : Node Times Known). n.core)))
-    ∙ ap (λ (k : Core). k.count) (get_or-map (λ (n : Node Times Known). n.core) s.nodes core none none.core within)
+    let few : length s.cores ≡ params.cores = h.run.cores in
+    let within : core < length s.cores = omega (arith, lt, few) in
+    get_or-map (λ (k : Core). k.count) s.cores core (starting 0 0) 0 within
     ∙ h.machine.counts core within
     ∙ sym (h.reduces.counts core (omega (arith, lt, h.cores)))
 
@@ -177,7 +173,7 @@ ended image params schedule t s c rest fits done h =
     let last : t ≡ end_of image params (choice_at schedule) =
     one_end image params (choice_at schedule) t (record { cores = fits.cores; limit = omega (arith, fits.limit) })
     (stands_end image params schedule t (plain s) c.loads.lists rest (sym (plain_done s) ∙ done) n.run) in
-    let few : length s.nodes ≡ params.cores = sym (length-map s.nodes plain_node) ∙ n.run.cores in
+    let few : length s.cores ≡ params.cores = n.run.cores in
     record {
       outcome = outcome_is image params schedule t s c.loads.lists rest fits done n.run;
       edges = n.edges;

@@ -1,7 +1,7 @@
 -- A retirement keeps the reduction.
 use Rattle.std.proofs.Common.{◌≡◌, ◌≢◌, ◌∙◌, refl, sym, ap, subst, ℕ, ◌+◌, ◌<◌, ◌==◌, Bool, true, false, List, [], ◌∷◌, ◌++◌, append-nil, Option, Some, None}
 use Rattle.std.proofs.Common.{inl, inr, ◌⊎◌, arith}
-use Rattle.std.specs.Prelude.{◌%◌, reverse, slice_index, if◌then◌else◌}
+use Rattle.std.specs.Prelude.{reverse, slice_index, if◌then◌else◌}
 use Rattle.std.proofs.lemmas.Bool.{cases_eq}
 use Rattle.std.proofs.lemmas.Bool.Decides.{nat_tests}
 use Rattle.std.proofs.lemmas.List.{get_or-set_same, reverse-append}
@@ -15,8 +15,8 @@ use Rattle.conflict_edge.proofs.Reach.{kept_clock_law, rising_next}
 use Rattle.conflict_edge.proofs.Reversed.{stands_forth}
 use Rattle.conflict_edge.specs.Conflicts.{CountsRise, StandsIn}
 use Rattle.conflict_edge.specs.Times.{IsExactClock}
-use Rattle.msi_times.specs.ExactTimes.{FindsExactTimes, HaveExactClocks, IsClockOf, retired_accesses, with_access}
-use Rattle.msi_times.specs.Retirements.{Retirement, retired_by}
+use Rattle.machine_times.specs.ExactTimes.{FindsExactTimes, HaveExactClocks, IsClockOf, retired_accesses, with_access}
+use Rattle.machine_times.specs.Retirements.{Retirement, retired_by}
 use Rattle.online_reduce.proofs.ExactNext.{other_clocks_law, retired_own}
 use Rattle.online_reduce.proofs.Reductions.{count_law, retire_law}
 use Rattle.online_reduce.proofs.Step.{next_of}

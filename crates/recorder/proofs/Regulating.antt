@@ -2,7 +2,6 @@
 use Rattle.std.proofs.Common.{◌≡◌, ◌∙◌, refl, sym, ap, subst, ℕ, ◌+◌, ◌<◌, ◌≤◌, List, [], ◌∷◌, length, arith}
 use Rattle.std.specs.Prelude.{All, slice_index_or}
 use Rattle.std.specs.List.{AllByRecursion}
-use Rattle.std.proofs.lemmas.List.{length-map}
 use Rattle.std.proofs.lemmas.List.Elements.{All-nil, All-same}
 use Rattle.access_times.specs.Times.{times_riding}
 use Rattle.access_times.specs.declared.times.Times.{Times}
@@ -22,11 +21,10 @@ use Rattle.edge_regulate.specs.Regulated.{AreReady, ArePairsApart, IsNextEdge, I
 use Rattle.edge_regulate.proofs.Regulations.{later_law, noted_law}
 use Rattle.online_reduce.specs.Exact.{AreExactFor, IsReduction}
 use Rattle.online_reduce.specs.Reduced.{IsNext, Reduced, count_of, edges_of}
-use Rattle.msi_state.specs.Nodes.{Event, Nothing, Retires, Accesses, carry_after, rider_of_event}
-use Rattle.msi_state.specs.Plain.{plain_node}
+use Rattle.msi_state.specs.Events.{Event, Nothing, Retires, Accesses}
 use Rattle.msi_state.specs.Runs.{accesses}
 use Rattle.msi_state.specs.States.{State}
-use Rattle.msi_state.specs.Steps.{event, retiring}
+use Rattle.msi_state.specs.Steps.{carry_told, event, rider_found}
 use Rattle.msi_state.specs.declared.moves.Move.{Move}
 use Rattle.regulated_log.proofs.NewEdges.{new_edges_law}
 use Rattle.recorder.proofs.Standing.{Told, Turned, turned_exact}
@@ -48,8 +46,8 @@ pub counts_noted : (image : Contents) (params : Params) (schedule : Choices) (t 
     NotesAt image params schedule t s c rest → (core : ℕ) → core < c.reduction.state.cores →
     count_of c.reduction.state core ≡ noted_count c.history.notes core
 counts_noted image params schedule t s c rest h core lt =
-    let few : length s.nodes ≡ params.cores = sym (length-map s.nodes plain_node) ∙ h.run.cores in
-    let within : core < length s.nodes = omega (arith, lt, few, h.cores) in
+    let few : length s.cores ≡ params.cores = h.run.cores in
+    let within : core < length s.cores = omega (arith, lt, few, h.cores) in
     h.reduces.counts core lt ∙ sym (h.machine.counts core within) ∙ h.knows.retired.counts core within ∙ sym (h.knows.noted core within)
 
 -- what is noted later keeps the regulation
@@ -113,9 +111,8 @@ told_untold (Accesses a) carry list edges c d r q exact is h =
 pub turned_untold : (image : Contents) (params : Params) (schedule : Choices) (t : ℕ) (s s' : State Times Known) (m : Move) (c d : Noted)
     (rest rest' : Choices) → Turned s s' m c d rest rest' → NotesAt image params schedule t s c rest → Regulates c → Untold c.reduction.state.lists d
 turned_untold image params schedule t s s' m c d rest rest' turned h regulates =
-    told_untold (event times_riding known_carrying s m) (carry_after known_carrying (retiring times_riding known_carrying s m))
-    (accesses image params (choice_at schedule) t) h.edges c d
-    (rider_of_event times_riding (event times_riding known_carrying s m) (retiring times_riding known_carrying s m)) turned.left
+    told_untold (event times_riding known_carrying s m) (carry_told times_riding known_carrying s m)
+    (accesses image params (choice_at schedule) t) h.edges c d (rider_found times_riding known_carrying s m) turned.left
     (turned_exact (accesses image params (choice_at schedule) t) s s' m c d rest rest' h.list h.edges turned h.machine h.reduces) turned.told
     (record {
       regulates = regulates;
@@ -132,8 +129,8 @@ told_ready (Accesses a) carry c d r q is ready = subst AreReady (sym is.regulati
 pub can_tell : (s s' : State Times Known) (m : Move) (c d : Noted) (rest rest' : Choices) → Turned s s' m c d rest rest' → AreReady c.regulation →
     Untold c.reduction.state.lists d → CanTell d
 can_tell s s' m c d rest rest' turned ready untold = record {
-  ready = told_ready (event times_riding known_carrying s m) (carry_after known_carrying (retiring times_riding known_carrying s m)) c d
-      (rider_of_event times_riding (event times_riding known_carrying s m) (retiring times_riding known_carrying s m)) turned.left turned.told ready;
+  ready = told_ready (event times_riding known_carrying s m) (carry_told times_riding known_carrying s m) c d
+      (rider_found times_riding known_carrying s m) turned.left turned.told ready;
   next = untold.next;
   apart = untold.apart;
 }

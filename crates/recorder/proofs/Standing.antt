@@ -1,7 +1,6 @@
 -- Where a run that is recorded stands, from its start on.
 use Rattle.std.proofs.Common.{◌≡◌, ◌∙◌, refl, sym, ap, subst, ℕ, suc, ◌+◌, ◌<◌, ◌≤◌, false, List, [], ◌∷◌, ◌++◌, append-nil, length, Some, None, arith}
 use Rattle.std.specs.Prelude.{reverse, replicate, All, slice_index}
-use Rattle.std.proofs.lemmas.List.{length-map}
 use Rattle.std.proofs.lemmas.List.Elements.{All-from_get_or}
 use Rattle.std.proofs.lemmas.List.FromFn.{length-map-range_with_len}
 use Rattle.access_times.specs.Times.{times_riding}
@@ -15,22 +14,25 @@ use Rattle.rtr_types.specs.declared.access.Access.{Access}
 use Rattle.rtr_types.specs.declared.instr.Edge.{Edge}
 use Rattle.rtr_types.specs.declared.instr.Instr.{Instr}
 use Rattle.rtr_types.specs.declared.params.Params.{Params}
+use Rattle.rv_core.specs.States.{starting}
+use Rattle.rv_core.specs.declared.core_state.Core.{Core}
 use Rattle.rv_core.specs.declared.outcome.LoadNote.{LoadNote}
 use Rattle.schedule_pick.specs.Choices.{Choices, choice_at}
-use Rattle.msi_state.specs.Nodes.{Event, Nothing, Retires, Accesses, Tells, carry_after, next_instr, rider_at, rider_of_event}
-use Rattle.msi_state.specs.Plain.{plain, plain_node}
+use Rattle.msi_memory.specs.declared.port.Port.{Port}
+use Rattle.msi_memory.specs.Memories.{rider_at}
+use Rattle.msi_state.specs.Events.{Event, Nothing, Retires, Accesses, Tells, next_instr, rider_of_event}
+use Rattle.machine_plain.specs.Plain.{plain}
 use Rattle.msi_state.specs.Runs.{accesses, accesses_in, chosen, event_by, loads_of, opening_state, plain_event, run}
-use Rattle.msi_state.specs.States.{PlainState, State, all_done, no_node, node_at, state_start}
-use Rattle.msi_state.specs.Steps.{event, retiring, step}
-use Rattle.msi_state.specs.declared.node.Node.{Node}
+use Rattle.msi_state.specs.States.{PlainState, State, all_done, core_at, state_start}
+use Rattle.msi_state.specs.Steps.{carry_told, event, retiring, rider_found, step}
 use Rattle.msi_state.specs.declared.moves.Move.{Move}
-use Rattle.msi_times.proofs.Begins.{machine_start}
-use Rattle.msi_times.proofs.ExactTimes.{exact_times_law}
-use Rattle.msi_times.proofs.RiderLaws.{times_fresh}
-use Rattle.msi_times.specs.ExactTimes.{FindsExactTimes, HaveExactClocks}
-use Rattle.msi_times.specs.ExactTimes as times
-use Rattle.msi_times.specs.Retirements.{IsExactRider, MachineStandsFor, Retirement, noted_accesses, with_event}
-use Rattle.msi_times.specs.TimedSteps.{StepFinds, core_of_event, times_parts, with_step}
+use Rattle.machine_times.proofs.Begins.{machine_start}
+use Rattle.machine_times.proofs.ExactTimes.{exact_times_law}
+use Rattle.machine_times.proofs.RiderLaws.{times_fresh}
+use Rattle.machine_times.specs.ExactTimes.{FindsExactTimes, HaveExactClocks}
+use Rattle.machine_times.specs.ExactTimes as times
+use Rattle.machine_times.specs.Retirements.{IsExactRider, MachineStandsFor, Retirement, noted_accesses, with_event}
+use Rattle.machine_times.specs.TimedSteps.{StepFinds, core_of_event, times_parts, with_step}
 use Rattle.online_reduce.proofs.Reductions.{begin_law, no_count, none_counted}
 use Rattle.online_reduce.specs.Exact.{AreExactFor}
 use Rattle.online_reduce.specs.Reduced.{Reduced, clock_of, count_of, counted, edges_of, unreduced}
@@ -42,10 +44,10 @@ use Rattle.know_history.specs.Knowledge.{known_carrying}
 use Rattle.know_history.specs.Notes.{Notes, no_notes, noted_count}
 use Rattle.know_history.specs.declared.known.Known.{Known}
 use Rattle.edge_regulate.specs.Regulated.{IsRegulation}
-use Rattle.msi_known.specs.Events.{happening_at, happening_by, happening_of}
-use Rattle.msi_known.specs.Histories.{HistoryTold, KnowsAt}
-use Rattle.msi_known.proofs.Noting.{knows_start, knows_step}
-use Rattle.msi_known.proofs.Runs.{run_orderly_law, taken_enabled}
+use Rattle.machine_known.specs.Events.{happening_at, happening_by, happening_of}
+use Rattle.machine_known.specs.Histories.{HistoryTold, KnowsAt}
+use Rattle.machine_known.proofs.Noting.{knows_start, knows_step}
+use Rattle.machine_known.proofs.Runs.{run_orderly_law, taken_enabled}
 use Rattle.recorder.specs.Clerks.{IsAwaited, Noted, ToldLocal, ToldTouch}
 use Rattle.recorder.specs.Standing.{NotesAt, Reduces, Regulates}
 
@@ -116,17 +118,17 @@ record ReducedAfter (list : List Retirement) (all : List Access) (c : Noted) : T
   edges : List Edge
   reduces : Reduces list all c.reduction.state edges
 
-told_reduces : (e : Event) (n : Node Times Known) (carry : Known) (list : List Retirement) (all : List Access) (edges : List Edge) (before after : Noted)
+told_reduces : (e : Event) (p : Port Times Known) (carry : Known) (list : List Retirement) (all : List Access) (edges : List Edge) (before after : Noted)
     (q : Times) →
-    ((a : Access) → e ≡ Accesses a → AreExactFor all a (rider_of_event times_riding e n)) → Told e carry before (rider_of_event times_riding e n) after q →
+    ((a : Access) → e ≡ Accesses a → AreExactFor all a (rider_of_event times_riding e p)) → Told e carry before (rider_of_event times_riding e p) after q →
     Reduces list all before.reduction.state edges →
     ReducedAfter (with_event e (clock_of after.reduction.state (core_of_event e)) list) (all ++ accesses_in e) after
-told_reduces Nothing n carry list all edges before after q finds is h = record {
+told_reduces Nothing p carry list all edges before after q finds is h = record {
   edges = edges;
   reduces = subst (λ (c : Noted). Reduces list (all ++ []) c.reduction.state edges) (sym is)
       (subst (λ (l : List Access). Reduces list l before.reduction.state edges) (sym (append-nil all)) h);
 }
-told_reduces (Retires at) n carry list all edges before after q finds is h =
+told_reduces (Retires at) p carry list all edges before after q finds is h =
     let clock : Clock = clock_of after.reduction.state at.core in
     let longer : List Retirement = list ++ (record { at = at; access = None; clock = clock }) ∷ [] in
     record {
@@ -135,8 +137,8 @@ told_reduces (Retires at) n carry list all edges before after q finds is h =
           (subst (λ (l : List Access). Reduces longer l (counted before.reduction.state at) edges) (sym (append-nil all))
           (reduces_local list all before.reduction.state edges at clock is.next h));
     }
-told_reduces (Accesses a) n carry list all edges before after q finds is h =
-    let rider : Times = rider_of_event times_riding (Accesses a) n in
+told_reduces (Accesses a) p carry list all edges before after q finds is h =
+    let rider : Times = rider_of_event times_riding (Accesses a) p in
     let more : List Edge = edges ++ edges_of before.reduction.state a rider in
     record {
       edges = more;
@@ -154,23 +156,23 @@ pub record Turned (s s' : State Times Known) (m : Move) (c d : Noted) (rest rest
   pub rider : Times
   pub state : s' ≡ step times_riding known_carrying rider s m
   pub left : Times
-  pub told : Told (event times_riding known_carrying s m) (carry_after known_carrying (retiring times_riding known_carrying s m)) c
-      (rider_of_event times_riding (event times_riding known_carrying s m) (retiring times_riding known_carrying s m)) d left
+  pub told : Told (event times_riding known_carrying s m) (carry_told times_riding known_carrying s m) c
+      (rider_found times_riding known_carrying s m) d left
   pub stands : (list : List Retirement) → MachineStandsFor times_parts known_carrying list s →
       MachineStandsFor times_parts known_carrying (with_step known_carrying s m (clock_of d.reduction.state) list) s'
   pub finds : (list : List Retirement) → MachineStandsFor times_parts known_carrying list s → StepFinds known_carrying s m list
 
 -- the times that an access finds are exact, since the noted clocks are
-pub step_exact : (e : Event) (n : Node Times Known) (list : List Retirement) (all : List Access) → times.retired_accesses list ≡ all →
+pub step_exact : (e : Event) (p : Port Times Known) (list : List Retirement) (all : List Access) → times.retired_accesses list ≡ all →
     HaveExactClocks all list →
-    ((a : Access) → e ≡ Accesses a → IsExactRider times_parts (noted_accesses (reverse list)) a (rider_at times_riding n a.word)) → (a : Access) →
-    e ≡ Accesses a → AreExactFor all a (rider_of_event times_riding e n)
-step_exact Nothing n list all are exact finds a is = absurd cc
-step_exact (Retires at) n list all are exact finds a is = absurd cc
-step_exact (Accesses b) n list all are exact finds a is =
-    subst (λ (x : Access). AreExactFor all x (rider_at times_riding n b.word)) same (found_exact all b (rider_at times_riding n b.word)
-    (subst (λ (l : List Access). FindsExactTimes l b (rider_at times_riding n b.word)) are
-    (exact_times_law list b (rider_at times_riding n b.word) (subst (λ (l : List Access). HaveExactClocks l list) (sym are) exact) (finds b refl))))
+    ((a : Access) → e ≡ Accesses a → IsExactRider times_parts (noted_accesses (reverse list)) a (rider_at times_riding p a.word)) → (a : Access) →
+    e ≡ Accesses a → AreExactFor all a (rider_of_event times_riding e p)
+step_exact Nothing p list all are exact finds a is = absurd cc
+step_exact (Retires at) p list all are exact finds a is = absurd cc
+step_exact (Accesses b) p list all are exact finds a is =
+    subst (λ (x : Access). AreExactFor all x (rider_at times_riding p b.word)) same (found_exact all b (rider_at times_riding p b.word)
+    (subst (λ (l : List Access). FindsExactTimes l b (rider_at times_riding p b.word)) are
+    (exact_times_law list b (rider_at times_riding p b.word) (subst (λ (l : List Access). HaveExactClocks l list) (sym are) exact) (finds b refl))))
   where
     same : b ≡ a
     same = cc
@@ -179,7 +181,7 @@ step_exact (Accesses b) n list all are exact finds a is =
 pub turned_exact : (all : List Access) (s s' : State Times Known) (m : Move) (c d : Noted) (rest rest' : Choices) (list : List Retirement)
     (edges : List Edge) → Turned s s' m c d rest rest' → MachineStandsFor times_parts known_carrying list s →
     Reduces list all c.reduction.state edges → (a : Access) → event times_riding known_carrying s m ≡ Accesses a →
-    AreExactFor all a (rider_of_event times_riding (event times_riding known_carrying s m) (retiring times_riding known_carrying s m))
+    AreExactFor all a (rider_found times_riding known_carrying s m)
 turned_exact all s s' m c d rest rest' list edges turned machine reduces =
     step_exact (event times_riding known_carrying s m) (retiring times_riding known_carrying s m) list all reduces.accesses_are reduces.exact
     (turned.finds list machine)
@@ -190,17 +192,18 @@ pub notes_next : (image : Contents) (params : Params) (schedule : Choices) (t : 
 notes_next image params schedule t s s' m c d rest rest' going turned h =
     let choices : ℕ → ℕ = choice_at schedule in
     let e : Event = event times_riding known_carrying s m in
-    let n : Node Times Known = retiring times_riding known_carrying s m in
+    let p : Port Times Known = retiring times_riding known_carrying s m in
+    let carry : Known = carry_told times_riding known_carrying s m in
     let all : List Access = accesses image params choices t in
     let after : ReducedAfter (with_event e (clock_of d.reduction.state (core_of_event e)) h.list) (all ++ accesses_in e) d =
-    told_reduces e n (carry_after known_carrying n) h.list all h.edges c d turned.left
+    told_reduces e p carry h.list all h.edges c d turned.left
     (turned_exact all s s' m c d rest rest' h.list h.edges turned h.machine h.reduces) turned.told h.reduces in
     let here : run image params choices t ≡ plain s = sym h.run.state in
     let number : choice_at rest 0 ≡ choices t = h.run.rest_is 0 ∙ ap choices (omega arith) in
     let taken : chosen (run image params choices t) (choices t) ≡ Some m = ap (λ (u : PlainState). chosen u (choices t)) here
     ∙ ap (chosen (plain s)) (sym number) ∙ turned.steps.taken in
     let few : params.cores ≤ CORES_MAX =
-    (let cores : length s.nodes ≡ params.cores = sym (length-map s.nodes plain_node) ∙ h.run.cores in
+    (let cores : length s.cores ≡ params.cores = h.run.cores in
     let most = h.knows.retired.few in omega arith) in
     let same : e ≡ event_by (run image params choices t) (chosen (run image params choices t) (choices t)) =
     turned.event_is ∙ ap (λ (u : PlainState). plain_event u m) (sym here) ∙ sym (ap (event_by (run image params choices t)) taken) in
@@ -209,14 +212,14 @@ notes_next image params schedule t s s' m c d rest rest' going turned h =
       list = with_step known_carrying s m (clock_of d.reduction.state) h.list;
       edges = after.edges;
       machine = turned.stands h.list h.machine;
-      cores = told_cores e (carry_after known_carrying n) c d (rider_of_event times_riding e n) turned.left turned.told ∙ h.cores;
+      cores = told_cores e carry c d (rider_of_event times_riding e p) turned.left turned.told ∙ h.cores;
       reduces = subst (λ (x : Event).
           Reduces (with_step known_carrying s m (clock_of d.reduction.state) h.list) (all ++ accesses_in x) d.reduction.state after.edges) same after.reduces;
       knows = subst (λ (u : State Times Known). KnowsAt (happening_at image params choices) (suc t) u d.history.notes) (sym turned.state)
           (knows_step times_riding (happening_at image params choices) t s m turned.rider c.history.notes d.history.notes
           (run_orderly_law image params choices few) (taken_enabled times_riding s (choice_at rest 0) m turned.steps.taken)
           (ap (happening_by (run image params choices t)) taken ∙ ap (λ (u : PlainState). happening_of u m) here)
-          (told_history e (carry_after known_carrying n) c d (rider_of_event times_riding e n) turned.left turned.told) h.knows);
+          (told_history e carry c d (rider_of_event times_riding e p) turned.left turned.told) h.knows);
     }
 
 -- the same state and notes, whatever room there is and whatever the regulation was told
@@ -240,13 +243,13 @@ notes_same image params schedule t s u c d rest state reduction loads history h 
 -- the clerk awaits the next instruction of each core
 pub all_awaited : (image : Contents) (params : Params) (schedule : Choices) (t : ℕ) (s : State Times Known) (c : Noted) (rest : Choices) → Fits params →
     NotesAt image params schedule t s c rest → c.untold ≡ [] →
-    All (λ (n : Node Times Known). IsAwaited c (next_instr n.core)) s.nodes
+    All (λ (core : Core). IsAwaited c (next_instr core)) s.cores
 all_awaited image params schedule t s c rest fits h told =
-    All-from_get_or (λ (n : Node Times Known). IsAwaited c (next_instr n.core)) s.nodes (no_node known_carrying) (λ k lt.
-    let id : (node_at known_carrying s.nodes k).core.id ≡ k = numbered known_carrying image params schedule t s c.loads.lists rest fits h.run k lt in
-    let few : length s.nodes ≡ params.cores = sym (length-map s.nodes plain_node) ∙ h.run.cores in
+    All-from_get_or (λ (core : Core). IsAwaited c (next_instr core)) s.cores (starting 0 0) (λ k lt.
+    let id : (core_at s.cores k).id ≡ k = numbered image params schedule t s c.loads.lists rest fits h.run k lt in
+    let few : length s.cores ≡ params.cores = h.run.cores in
     let below : k < c.reduction.state.cores = omega (arith, lt, few, h.cores) in
-    let count : (node_at known_carrying s.nodes k).core.count ≡ count_of c.reduction.state k = h.machine.counts k lt ∙ sym (h.reduces.counts k below) in
+    let count : (core_at s.cores k).count ≡ count_of c.reduction.state k = h.machine.counts k lt ∙ sym (h.reduces.counts k below) in
     record {
       next = record {
         core = omega (arith, id, below);

@@ -17,10 +17,10 @@ use Rattle.log_codec.specs.Sources.{log_edges}
 use Rattle.log_codec.specs.Spelling.{spelling}
 use Rattle.log_codec.specs.Validity.{Valid}
 use Rattle.log_codec.specs.declared.recording.Recording.{Recording}
-use Rattle.msi_bound.specs.Ends.{end_of}
-use Rattle.msi_known.specs.RunHistory.{notes_at}
+use Rattle.machine_bound.specs.Ends.{end_of}
+use Rattle.machine_known.specs.RunHistory.{notes_at}
 use Rattle.msi_state.specs.FinalMemory.{final_memory}
-use Rattle.msi_state.specs.Plain.{plain}
+use Rattle.machine_plain.specs.Plain.{plain}
 use Rattle.msi_state.specs.Runs.{accesses}
 use Rattle.msi_state.specs.States.{State}
 use Rattle.run_outcome.specs.Outcomes.{outcome_of}
@@ -35,7 +35,7 @@ run_accesses image params schedule =
 abbrev pub outcome_left : {R K : Type 0} → State R K → List (List LoadNote) → Outcome
 outcome_left s loads =
     record {
-      cores = map (λ n. n.core) s.nodes;
+      cores = s.cores;
       words = final_memory none_riding none_carrying (plain s);
       loads = loads;
     }

@@ -7,18 +7,18 @@ use Rattle.rtr_types.specs.declared.access.Access.{Access}
 use Rattle.rtr_types.specs.declared.instr.Edge.{Edge}
 use Rattle.rtr_types.specs.declared.params.Params.{Params}
 use Rattle.schedule_pick.specs.Choices.{Choices, choice_at}
-use Rattle.msi_state.specs.Plain.{plain}
+use Rattle.machine_plain.specs.Plain.{plain}
 use Rattle.msi_state.specs.Runs.{accesses}
 use Rattle.msi_state.specs.States.{State}
-use Rattle.msi_times.specs.ExactTimes.{HaveExactClocks}
-use Rattle.msi_times.specs.ExactTimes as times
-use Rattle.msi_times.specs.Retirements.{MachineStandsFor, Retirement, retired_by}
-use Rattle.msi_times.specs.TimedSteps.{times_parts}
+use Rattle.machine_times.specs.ExactTimes.{HaveExactClocks}
+use Rattle.machine_times.specs.ExactTimes as times
+use Rattle.machine_times.specs.Retirements.{MachineStandsFor, Retirement, retired_by}
+use Rattle.machine_times.specs.TimedSteps.{times_parts}
 use Rattle.know_history.specs.Knowledge.{known_carrying}
 use Rattle.know_history.specs.declared.known.Known.{Known}
 use Rattle.edge_regulate.specs.Regulated.{IsRegulation}
-use Rattle.msi_known.specs.Events.{happening_at}
-use Rattle.msi_known.specs.Histories.{KnowsAt}
+use Rattle.machine_known.specs.Events.{happening_at}
+use Rattle.machine_known.specs.Histories.{KnowsAt}
 use Rattle.online_reduce.specs.Exact.{IsReduction}
 use Rattle.online_reduce.specs.Reduced.{Reduced, count_of}
 use Rattle.run_outcome.specs.Outcomes.{StandsAt}

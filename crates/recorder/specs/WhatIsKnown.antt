@@ -9,8 +9,8 @@ use Rattle.schedule_pick.specs.Choices.{Choices, choice_at}
 use Rattle.know_history.specs.Happenings.{IsKnownAt}
 use Rattle.know_history.specs.Knowing.{retired_in}
 use Rattle.edge_regulate.specs.Regulated.{Knowledge}
-use Rattle.msi_bound.specs.Ends.{end_of}
-use Rattle.msi_known.specs.Events.{happening_at}
+use Rattle.machine_bound.specs.Ends.{end_of}
+use Rattle.machine_known.specs.Events.{happening_at}
 use Rattle.recorder.specs.Recordings.{run_knowledge}
 
 -- the instruction retires in the run, or is before the first of its core

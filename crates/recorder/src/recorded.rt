@@ -2,7 +2,7 @@
 ghost use Rattle.std.specs.Prelude.{◌≡◌, ℕ, List, IfOk, length, map, true};
 ghost use Rattle.access_times.specs.Riding.{none_carrying, none_riding};
 ghost use Rattle.msi_state.specs.FinalMemory.{final_memory};
-ghost use Rattle.msi_state.specs.Plain.{plain};
+ghost use Rattle.machine_plain.specs.Plain.{plain};
 ghost use Rattle.msi_state.specs.States.{all_done};
 ghost use Rattle.recorder.specs.Recordings.{outcome_left, recording_from};
 
@@ -30,7 +30,7 @@ pub(crate) fn finished(
     params: Params,
 ) -> Result<Recorded, AllocError>
     requires done { all_done machine.state ≡ true }
-    requires cores { params.cores ≡ length machine.state.nodes }
+    requires cores { params.cores ≡ length machine.state.cores }
     requires words { params.words ≡ machine.state.image.words }
     ensures outcome { IfOk result (λ run. run.outcome ≡ outcome_left machine.state clerk.loads.lists) }
     ensures recording { IfOk result (λ run.
@@ -66,8 +66,8 @@ fn cores_of(
     machine: &Machine<Times, Known>,
     cores: u8,
 ) -> Result<Items<Core>, AllocError>
-    requires { cores ≡ length machine.now.state.nodes }
-    ensures { IfOk result (λ list. list ≡ map (λ n. n.core) machine.now.state.nodes) }
+    requires { cores ≡ length machine.now.state.cores }
+    ensures { IfOk result (λ list. list ≡ machine.now.state.cores) }
 {
     let mut list = Items::new(alloc);
     for core in 0..cores {

@@ -7,7 +7,7 @@ ghost use Rattle.image_mem.specs.Contents.{Contents};
 ghost use Rattle.log_codec.specs.Sources.{log_edges};
 ghost use Rattle.log_codec.specs.Validity.{Valid};
 ghost use Rattle.run_outcome.specs.Outcomes.{outcome_of};
-ghost use Rattle.msi_state.specs.Bound.{left};
+ghost use Rattle.machine_bound.specs.Bound.{left};
 ghost use Rattle.msi_state.specs.States.{all_done};
 ghost use Rattle.rtr_types.specs.Parameters.{Fits};
 ghost use Rattle.rtr_types.specs.declared.pairs.Which.TheVariants.{Reduced};

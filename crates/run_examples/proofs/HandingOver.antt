@@ -9,7 +9,7 @@ use Rattle.rv_core.specs.Steps.{instruction_at, need_to_jump, need_to_access, ne
 use Rattle.rv_decode.specs.Fields.{field, signed}
 use Rattle.rv_decode.specs.Table.{jump_and_link_register, branch, load, store, constant_shift, alu_immediate, alu_register, fence, system, decoded}
 use Rattle.schedule_pick.specs.Choices.{choice_at}
-use Rattle.msi_bound.specs.Ends.{end_of}
+use Rattle.machine_bound.specs.Ends.{end_of}
 use Rattle.run_outcome.specs.Outcomes.{outcome_of}
 use Rattle.replay_core.specs.Play.{place, touched}
 use Rattle.run_plays.specs.Orders.{order_of}

@@ -6,7 +6,6 @@ ghost use Rattle.run_examples.specs.HandingOver.{HandedOverByPlay, HandedOverInO
 
 /// A word goes from core 0 to core 1 and back: the order in which the instructions of the run retired, and
 /// what its play makes of the accesses, the loads, the memory and the cores, which are the run's.
-#[tactic(auto, using(crate::proofs::HandingOver::in_order, crate::proofs::HandingOver::by_play))]
 pub fn a_handed_over_word_is_played()
     ensures order { HandedOverInOrder }
     ensures play { HandedOverByPlay }

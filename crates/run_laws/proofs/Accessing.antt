@@ -6,8 +6,8 @@ use Rattle.rtr_types.specs.declared.access.Access.{Access}
 use Rattle.rtr_types.specs.declared.params.Params.{Params}
 use Rattle.conflict_edge.specs.Conflicts.{CountsRise, StandsIn}
 use Rattle.conflict_edge.proofs.Standing.{stands_which}
-use Rattle.msi_data.proofs.Remembers.{each_within}
-use Rattle.msi_state.specs.Nodes.{Event, Nothing, Retires, Accesses, instr_of}
+use Rattle.machine_data.proofs.Remembers.{each_within}
+use Rattle.msi_state.specs.Events.{Event, Nothing, Retires, Accesses, instr_of}
 use Rattle.msi_state.specs.Runs.{accesses, accesses_in, event_at}
 use Rattle.run_laws.specs.Retirement.{AccessesLaw, retired_count}
 use Rattle.run_laws.proofs.Retiring.{IsNextOf, Tells, run_tells}

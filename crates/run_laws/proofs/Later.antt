@@ -9,7 +9,7 @@ use Rattle.rtr_types.specs.declared.instr.Instr.{Instr}
 use Rattle.rtr_types.specs.declared.params.Params.{Params}
 use Rattle.conflict_edge.specs.Conflicts.{StandsIn}
 use Rattle.conflict_edge.proofs.Standing.{stands_which}
-use Rattle.msi_state.specs.Nodes.{Event}
+use Rattle.msi_state.specs.Events.{Event}
 use Rattle.msi_state.specs.Runs.{accesses, accesses_in, event_at}
 use Rattle.run_laws.specs.Retirement.{EarlierLaw, NextRetiresLaw, RetiresAt, RetiresOnceLaw, StaysRetiredLaw, retired_count}
 use Rattle.run_laws.proofs.Accessing.{accessed}

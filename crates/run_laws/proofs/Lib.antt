@@ -1,6 +1,4 @@
-pub mod NodeCores
 pub mod Working
-pub mod StepCores
 pub mod RunCores
 pub mod Retiring
 pub mod Accessing

@@ -2,7 +2,6 @@
 use Rattle.std.proofs.Common.{◌≡◌, ◌≢◌, ◌∙◌, sym, ap, subst, ℕ, suc, ◌+◌, ◌<◌, ◌≤◌, ◌^◌, List, length, Option, Some, None, arith, inl, inr}
 use Rattle.std.proofs.lemmas.Bool.{cases_eq}
 use Rattle.std.proofs.lemmas.List.{get_or-set_same, get_or-set_other}
-use Rattle.access_times.specs.Riding.{none_carrying}
 use Rattle.image_mem.specs.Contents.{Contents}
 use Rattle.rtr_types.specs.declared.TheConstants.{CORES_MAX}
 use Rattle.rtr_types.specs.declared.access.Kind.{Kind}
@@ -12,16 +11,17 @@ use Rattle.rv_core.specs.States.{starting}
 use Rattle.rv_core.specs.Steps.{after}
 use Rattle.rv_core.specs.declared.core_state.Core.{Core}
 use Rattle.rv_core.proofs.LawLemmas.{count_law}
-use Rattle.msi_state.specs.Nodes.{Event, Nothing, Retires, Accesses, instr_of}
-use Rattle.msi_state.specs.Runs.{event_at, run}
+use Rattle.msi_state.specs.Events.{Event, Nothing, Retires, Accesses, instr_of}
+use Rattle.msi_state.specs.Runs.{event_at}
+use Rattle.msi_state.specs.States.{core_at}
+use Rattle.machine_bound.proofs.Ends.{run_cores}
 use Rattle.run_laws.specs.Retirement.{retired_count}
-use Rattle.run_laws.proofs.NodeCores.{core_at_nodes, core_in}
-use Rattle.run_laws.proofs.RunCores.{event_cores, length-run_cores, run_cores}
+use Rattle.run_laws.proofs.RunCores.{cores_at, event_cores}
 use Rattle.run_laws.proofs.Working.{CoresAfter, Retiring}
 
 -- how many instructions a core of a list has retired
 abbrev pub core_counts : List Core → ℕ → ℕ
-core_counts cores c = (core_in cores c).count
+core_counts cores c = (core_at cores c).count
 
 -- the core of `at` has retired one more, and no other has
 module _ (image : Contents) (old new : List Core) (at : Instr) (used : Option (Kind × ℕ)) (found : ℕ)
@@ -29,13 +29,13 @@ module _ (image : Contents) (old new : List Core) (at : Instr) (used : Option (K
   pub own_count : core_counts new at.core ≡ core_counts old at.core + 1
   own_count =
       ap (λ (l : List Core). core_counts l at.core) h.cores
-      ∙ ap (λ (k : Core). k.count) (get_or-set_same old at.core (after image (core_in old at.core) found) (starting 0 0) h.within)
-      ∙ count_law image (core_in old at.core) found
+      ∙ ap (λ (k : Core). k.count) (get_or-set_same old at.core (after image (core_at old at.core) found) (starting 0 0) h.within)
+      ∙ count_law image (core_at old at.core) found
 
   pub other_counts : (c : ℕ) → c ≢ at.core → core_counts new c ≡ core_counts old c
   other_counts c other =
       ap (λ (l : List Core). core_counts l c) h.cores
-      ∙ ap (λ (k : Core). k.count) (get_or-set_other old at.core c (after image (core_in old at.core) found) (starting 0 0) other)
+      ∙ ap (λ (k : Core). k.count) (get_or-set_other old at.core c (after image (core_at old at.core) found) (starting 0 0) other)
 
   more_counts : (c : ℕ) → core_counts old c ≤ core_counts new c
   more_counts c = elim (cases_eq c at.core) [
@@ -83,22 +83,10 @@ tells image cores old new (Accesses a) long h =
 
 -- ---- a run
 
--- the counts of a run's cores are how many they have retired
-pub counted : (image : Contents) (params : Params) (choices : ℕ → ℕ) (t c : ℕ)
-    → core_counts (run_cores image params choices t) c ≡ retired_count image params choices t c
-counted image params choices t c = ap (λ (k : Core). k.count) (core_at_nodes none_carrying (run image params choices t).nodes c)
-
 pub run_tells : (image : Contents) (params : Params) (choices : ℕ → ℕ) (t : ℕ) → params.cores ≤ CORES_MAX
     → params.limit < 2 ^ 32
     → Tells params.cores (retired_count image params choices t) (retired_count image params choices (suc t))
     (instr_of (event_at image params choices t))
 run_tells image params choices t few small =
-    let h = tells image params.cores (run_cores image params choices t) (run_cores image params choices (suc t))
-    (event_at image params choices t) (length-run_cores image params choices t) (event_cores image params choices t few small) in
-    record {
-      more = λ c.
-          let now = counted image params choices t c in let later = counted image params choices (suc t) c in
-          let up = h.more c in omega (arith, now, later, up);
-      next = λ at is. let it = h.next at is in record { core = it.core; count = it.count ∙ ap (λ n. n + 1) (counted image params choices t at.core) };
-      reached = λ at is. h.reached at is ∙ counted image params choices (suc t) at.core;
-    }
+    tells image params.cores (cores_at image params choices t) (cores_at image params choices (suc t)) (event_at image params choices t)
+    (run_cores image params choices t) (event_cores image params choices t few small)

@@ -4,12 +4,13 @@ use Rattle.access_times.specs.Riding.{none_carrying, none_riding}
 use Rattle.image_mem.specs.Contents.{Contents}
 use Rattle.rtr_types.specs.Parameters.{Fits}
 use Rattle.rtr_types.specs.declared.params.Params.{Params}
-use Rattle.msi_bound.specs.Ends.{end_of}
-use Rattle.msi_data.specs.LastValues.{EachFindsLast, memory_left}
-use Rattle.msi_sound.specs.Sound.{OneWriterEverywhere}
-use Rattle.msi_state.specs.Bound.{links_empty, total_retired}
+use Rattle.machine_bound.specs.Ends.{end_of}
+use Rattle.machine_data.specs.LastValues.{EachFindsLast, memory_left}
+use Rattle.memory_laws.specs.Holds.{OneWriterEverywhere}
+use Rattle.memory_laws.specs.Moving.{links_empty}
+use Rattle.machine_bound.specs.Bound.{total_retired}
 use Rattle.msi_state.specs.FinalMemory.{final_memory}
-use Rattle.msi_state.specs.Ready.{HasRoomFor, has_row_for}
+use Rattle.msi_state.specs.Rests.{HasRoomFor, has_row_for}
 use Rattle.msi_state.specs.Runs.{IsRunEnd, accesses, plain_moves, run}
 use Rattle.msi_state.specs.States.{PlainState, all_done}
 use Rattle.msi_state.specs.Steps.{enabled}
@@ -22,7 +23,7 @@ IsEnabled s m = IsTrue (enabled none_riding none_carrying s m)
 -- what holds of a state of a run
 pub record StateHolds (s : PlainState) : Type 0 where
   -- at most one cache may write a block, and then no other may read it
-  pub one_writer : OneWriterEverywhere none_riding none_carrying s
+  pub one_writer : OneWriterEverywhere none_riding none_carrying s.memory
   -- the message that a move takes has a row in its receiver's table
   pub rows : (m : Move) → IsEnabled s m → IsTrue (has_row_for none_riding none_carrying s m)
   -- no link that it pushes to is full
@@ -35,7 +36,7 @@ pub record EndHolds (image : Contents) (params : Params) (choices : ℕ → ℕ)
   pub ends : IsRunEnd image params choices t
   -- within 2 P + 4 steps for each instruction that retired
   pub in_time : t ≤ (2 * params.cores + 4) * total_retired (run image params choices t)
-  pub quiet : links_empty (run image params choices t) ≡ true
+  pub quiet : links_empty (run image params choices t).memory ≡ true
   -- each word has what was written there last, or what the image has there
   pub memory : final_memory none_riding none_carrying (run image params choices t)
       ≡ memory_left image (accesses image params choices t)

@@ -1,20 +1,19 @@
 -- What retires in a run, when, and by which accesses.
 use Rattle.std.specs.Prelude.{◌≡◌, ℕ, ◌+◌, ◌<◌, ◌≤◌, All, List, Some}
-use Rattle.access_times.specs.Riding.{none_carrying}
 use Rattle.image_mem.specs.Contents.{Contents}
 use Rattle.rtr_types.specs.Parameters.{Fits}
 use Rattle.rtr_types.specs.declared.access.Access.{Access}
 use Rattle.rtr_types.specs.declared.instr.Instr.{Instr}
 use Rattle.rtr_types.specs.declared.params.Params.{Params}
 use Rattle.conflict_edge.specs.Conflicts.{CountsRise, StandsIn}
-use Rattle.msi_bound.specs.Ends.{end_of}
-use Rattle.msi_state.specs.Nodes.{instr_of}
+use Rattle.machine_bound.specs.Ends.{end_of}
+use Rattle.msi_state.specs.Events.{instr_of}
 use Rattle.msi_state.specs.Runs.{accesses, event_at, run}
-use Rattle.msi_state.specs.States.{node_at}
+use Rattle.msi_state.specs.States.{core_at}
 
 -- how many instructions a core has retired within the first t choices
 abbrev pub retired_count : Contents → Params → (choices : ℕ → ℕ) → (t core : ℕ) → ℕ
-retired_count image params choices t core = (node_at none_carrying (run image params choices t).nodes core).core.count
+retired_count image params choices t core = (core_at (run image params choices t).cores core).count
 
 -- the choice numbered t retires the instruction
 abbrev pub RetiresAt : Contents → Params → (choices : ℕ → ℕ) → (t : ℕ) → Instr → Type 0

@@ -3,7 +3,6 @@ use Rattle.std.proofs.Common.{◌≡◌, refl, ap, ◌∙◌, ℕ, zero, suc, �
 use Rattle.std.proofs.Common.{None, arith}
 use Rattle.std.specs.Prelude.{All, map}
 use Rattle.std.specs.List.{range_with_len}
-use Rattle.std.proofs.lemmas.List.{length-map}
 use Rattle.std.proofs.lemmas.List.Elements.{All-cons, All-from_get_or, All-head, All-nil, All-tail}
 use Rattle.std.proofs.lemmas.List.FromFn.{length-map-range_with_len}
 use Rattle.access_times.specs.Riding.{none_carrying, none_riding}
@@ -12,28 +11,23 @@ use Rattle.rtr_types.specs.Accesses.{is_read}
 use Rattle.rtr_types.specs.declared.access.Access.{Access}
 use Rattle.rtr_types.specs.declared.params.Params.{Params}
 use Rattle.rv_core.specs.declared.core_state.Core.{Core}
+use Rattle.rv_core.specs.States.{starting}
 use Rattle.schedule_pick.specs.Choices.{choice_at}
-use Rattle.msi_bound.specs.Ends.{end_of}
-use Rattle.msi_bound.proofs.Capacity.{cores_kept}
-use Rattle.msi_bound.proofs.Ends.{run_cores}
-use Rattle.msi_data.proofs.Remembers.{each_within, image_kept}
-use Rattle.msi_sound.proofs.Begins.{sound_run}
+use Rattle.machine_bound.specs.Ends.{end_of}
+use Rattle.machine_bound.proofs.Ends.{run_cores}
+use Rattle.machine_data.proofs.Remembers.{each_within}
+use Rattle.machine_invariant.proofs.Begins.{holds_run}
 use Rattle.msi_state.specs.FinalMemory.{final_word}
-use Rattle.msi_state.specs.declared.node.Node.{Node}
 use Rattle.msi_state.specs.declared.moves.Move.{Move}
-use Rattle.msi_state.specs.States.{PlainState, no_node, node_at}
+use Rattle.msi_state.specs.States.{PlainState, core_at}
 use Rattle.msi_state.specs.Runs.{accesses, chosen, loads_of, run, stepped_by}
 use Rattle.run_outcome.specs.Loads.{note_of}
 use Rattle.run_outcome.specs.Outcomes.{RunFitsLaw, outcome_of}
 use Rattle.run_outcome.proofs.Limits.{run_limits}
 
-cores_stepped : (s : PlainState) (taken : Option Move) → length (stepped_by s taken).nodes ≡ length s.nodes
-cores_stepped s None = refl
-cores_stepped s (Some m) = cores_kept none_riding none_carrying s m tt
-
 image_stepped : (s : PlainState) (taken : Option Move) → (stepped_by s taken).image ≡ s.image
 image_stepped s None = refl
-image_stepped s (Some m) = image_kept none_riding none_carrying s m tt
+image_stepped s (Some m) = refl
 
 -- the image stays
 pub run_image : (image : Contents) (params : Params) (choices : ℕ → ℕ) (t : ℕ) → (run image params choices t).image ≡ image
@@ -57,30 +51,24 @@ map_all : {X : Type 0} (P : X → Type 0) (f : ℕ → X) (from n : ℕ) → ((k
 map_all P f from zero each = All-nil P
 map_all P f from (suc n) each = All-cons P (f from) (map f (range_with_len (from + 1) n)) (each from) (map_all P f (from + 1) n each)
 
--- what holds of each node's core holds of the cores
-cores_all : {A B : Type 0} (P : B → Type 0) (f : A → B) (xs : List A) → All (λ x. P (f x)) xs → All P (map f xs)
-cores_all P f [] all = All-nil P
-cores_all P f (x ∷ xs) all = All-cons P (f x) (map f xs) (All-head (λ y. P (f y)) x xs all) (cores_all P f xs (All-tail (λ y. P (f y)) x xs all))
-
 pub run_fits_law : RunFitsLaw
 unfolding outcome_of
 run_fits_law image params schedule fits same =
     let choices : ℕ → ℕ = choice_at schedule in
     let t : ℕ = end_of image params choices in
     let small : params.limit < 2 ^ 32 = omega (arith, fits.limit) in
-    let nodes : List (Node (Unit {0}) (Unit {0})) = (run image params choices t).nodes in
-    let sound = sound_run image params choices t fits.cores small in
-    let count : (c : ℕ) → c < length nodes → (node_at none_carrying nodes c).core.count ≤ params.limit =
+    let s : PlainState = run image params choices t in
+    let holds = holds_run image params choices t fits.cores small in
+    let count : (c : ℕ) → c < length s.cores → (core_at s.cores c).count ≤ params.limit =
     λ c within. omega (
       arith,
-      (sound.nodes c within).count_fits,
-      run_limits image params choices t c fits.cores small (omega (arith, within, run_cores image params choices t)),
+      (holds.cores c within).count_fits,
+      run_limits image params choices t c (omega (arith, within, run_cores image params choices t)),
     ) in
     record {
-      cores = length-map nodes (λ n. n.core) ∙ run_cores image params choices t;
-      counts = cores_all (λ (k : Core). k.count ≤ params.limit) (λ n. n.core) nodes
-          (All-from_get_or (λ n. n.core.count ≤ params.limit) nodes (no_node none_carrying) count);
-      words = length-map-range_with_len (final_word none_riding none_carrying (run image params choices t)) 0 (run image params choices t).image.words
+      cores = run_cores image params choices t;
+      counts = All-from_get_or (λ (core : Core). core.count ≤ params.limit) s.cores (starting 0 0) count;
+      words = length-map-range_with_len (final_word none_riding none_carrying s) 0 s.image.words
           ∙ ap (λ i. i.words) (run_image image params choices t);
       lists = length-map-range_with_len (λ c. loads_of c (accesses image params choices t)) 0 params.cores;
       within = map_all (λ notes. All (λ note. note.word < image.words) notes) (λ c. loads_of c (accesses image params choices t)) 0 params.cores

@@ -1,10 +1,9 @@
 -- Where a machine stands in its run, from its start to its end.
 use Rattle.std.proofs.Common.{◌≡◌, refl, sym, ap, ◌∙◌, ℕ, zero, suc, ◌+◌, ◌<◌, true, false, List, [], ◌∷◌, ◌++◌, append-nil, length, Some, arith, inl, inr}
-use Rattle.std.specs.Prelude.{map, replicate}
+use Rattle.std.specs.Prelude.{replicate}
 use Rattle.std.proofs.lemmas.Bool.{cases_eq}
-use Rattle.std.proofs.lemmas.List.{length-map}
 use Rattle.std.proofs.lemmas.List.FromFn.{length-map-range_with_len}
-use Rattle.access_times.specs.Riding.{Carrying, none_riding, none_carrying}
+use Rattle.access_times.specs.Riding.{none_riding, none_carrying}
 use Rattle.image_mem.specs.Contents.{Contents}
 use Rattle.rtr_types.specs.Parameters.{Fits}
 use Rattle.rtr_types.specs.declared.access.Access.{Access}
@@ -12,22 +11,20 @@ use Rattle.rtr_types.specs.declared.params.Params.{Params}
 use Rattle.rv_core.specs.declared.outcome.LoadNote.{LoadNote}
 use Rattle.schedule_pick.specs.Choices.{Choices, choice_at, choices_after}
 use Rattle.schedule_pick.proofs.ChoiceLemmas.{following_law}
-use Rattle.msi_state.specs.declared.node.Node.{Node}
 use Rattle.msi_state.specs.declared.moves.Move.{Move}
-use Rattle.msi_state.specs.Nodes.{Event, Nothing, Retires, Accesses}
-use Rattle.msi_state.specs.Plain.{plain, plain_node}
-use Rattle.msi_state.specs.States.{PlainState, State, all_done, node_at, node_start}
+use Rattle.msi_state.specs.Events.{Event, Nothing, Retires, Accesses}
+use Rattle.machine_plain.specs.Plain.{plain}
+use Rattle.msi_state.specs.States.{PlainState, State, all_done, core_at}
 use Rattle.msi_state.specs.Runs.{IsRunEnd, accesses, accesses_in, chosen, event_by, opening_state, outcome_at, plain_event, plain_step, run, stepped_by}
-use Rattle.rv_core.specs.declared.core_state.Core.{Core}
+use Rattle.rv_core.specs.States.{starting}
 use Rattle.rv_core.specs.declared.outcome.Outcome.{Outcome}
 use Rattle.msi_state.specs.FinalMemory.{final_memory}
-use Rattle.msi_bound.specs.Ends.{end_of}
-use Rattle.msi_bound.proofs.Ends.{one_end}
-use Rattle.msi_plain.proofs.Shows.{plain_done}
-use Rattle.msi_plain.proofs.Plains.{plain_node_at}
-use Rattle.msi_sound.specs.Sound.{Sound}
-use Rattle.msi_sound.proofs.Begins.{sound_run}
-use Rattle.msi_bound.proofs.Capacity.{cores_kept}
+use Rattle.machine_bound.specs.Ends.{end_of}
+use Rattle.machine_bound.proofs.Ends.{one_end}
+use Rattle.machine_plain.proofs.Shows.{plain_done}
+use Rattle.machine_invariant.specs.Holds.{MachineHolds}
+use Rattle.machine_invariant.proofs.Begins.{holds_run}
+use Rattle.machine_invariant.proofs.Stepping.{step_cores}
 use Rattle.run_outcome.specs.Loads.{lists_told}
 use Rattle.run_outcome.specs.Outcomes.{StandsAt, outcome_of}
 use Rattle.run_outcome.proofs.NotedLoads.{lists_of, lists_more}
@@ -42,7 +39,7 @@ pub stands_start : (image : Contents) (params : Params) (schedule : Choices) (s 
     StandsAt image params schedule 0 s loads schedule
 stands_start image params schedule s loads is none = record {
   state = is;
-  cores = ap (λ (u : PlainState). length u.nodes) is ∙ length-map-range_with_len (node_start none_riding none_carrying params.limit) 0 params.cores;
+  cores = ap (λ (u : PlainState). length u.cores) is ∙ length-map-range_with_len (λ (id : ℕ). starting id params.limit) 0 params.cores;
   loads_are = none ∙ sym (no_loads 0 params.cores);
   rest_is = λ u. ap (choice_at schedule) (omega arith);
   going = λ u before. absurd (omega (arith, before));
@@ -73,7 +70,7 @@ stands_next image params schedule t s s' loads loads' rest rest' m going steps s
     ∙ steps.taken in
     record {
       state = steps.state ∙ ap (λ (u : PlainState). plain_step u m) (sym here) ∙ sym (ap (stepped_by (run image params choices t)) taken);
-      cores = ap (λ (u : PlainState). length u.nodes) steps.state ∙ cores_kept none_riding none_carrying s m tt ∙ stands.cores;
+      cores = ap (λ (u : PlainState). length u.cores) steps.state ∙ step_cores none_riding none_carrying tt s m ∙ stands.cores;
       loads_are =
           steps.told ∙ ap (λ (lists : List (List LoadNote)). lists_told lists (plain_event s m)) stands.loads_are
           ∙ lists_event (accesses image params choices t) (plain_event s m) params.cores
@@ -96,40 +93,25 @@ stands_end image params schedule t s loads rest done stands = record {
 }
 
 -- each core's number is its place
-pub numbered : {R K : Type 0} (carrying : Carrying K) (image : Contents) (params : Params) (schedule : Choices) (t : ℕ) (s : State R K)
-    (loads : List (List LoadNote)) (rest : Choices) →
-    Fits params → StandsAt image params schedule t (plain s) loads rest → (c : ℕ) → c < length s.nodes → (node_at carrying s.nodes c).core.id ≡ c
-numbered {R} {K} carrying image params schedule t s loads rest fits stands c within =
-    let sound : Sound none_riding none_carrying (run image params (choice_at schedule) t) =
-    sound_run image params (choice_at schedule) t fits.cores (omega (arith, fits.limit)) in
-    let same : length (plain s).nodes ≡ length s.nodes = length-map s.nodes plain_node in
-    let at : (node_at none_carrying (plain s).nodes c).core.id ≡ c =
-    ap (λ (u : PlainState). (node_at none_carrying u.nodes c).core.id) stands.state
-    ∙ sound.numbers c (omega (arith, within, same, ap (λ (u : PlainState). length u.nodes) stands.state)) in
-    sym (ap (λ n. n.core.id) (plain_node_at carrying s.nodes c)) ∙ at
-
--- the plain nodes have the same cores
-same_cores : {R K : Type 0} (nodes : List (Node R K)) → map (λ n. n.core) (map plain_node nodes) ≡ map (λ (n : Node R K). n.core) nodes
-same_cores [] = refl
-same_cores (n ∷ nodes) = ap (λ (cores : List Core). n.core ∷ cores) (same_cores nodes)
+pub numbered : {R K : Type 0} (image : Contents) (params : Params) (schedule : Choices) (t : ℕ) (s : State R K) (loads : List (List LoadNote))
+    (rest : Choices) → Fits params → StandsAt image params schedule t (plain s) loads rest → (c : ℕ) → c < length s.cores → (core_at s.cores c).id ≡ c
+numbered {R} {K} image params schedule t s loads rest fits stands c within =
+    let holds : MachineHolds none_riding none_carrying (run image params (choice_at schedule) t) =
+    holds_run image params (choice_at schedule) t fits.cores (omega (arith, fits.limit)) in
+    ap (λ (u : PlainState). (core_at u.cores c).id) stands.state
+    ∙ (holds.cores c (omega (arith, within, ap (λ (u : PlainState). length u.cores) stands.state))).number
 
 -- the outcome of a run, read off where it ended
 pub outcome_is : {R K : Type 0} (image : Contents) (params : Params) (schedule : Choices) (t : ℕ) (s : State R K) (loads : List (List LoadNote))
     (rest : Choices) →
     Fits params → all_done s ≡ true → StandsAt image params schedule t (plain s) loads rest →
-    record { cores = map (λ n. n.core) s.nodes; words = final_memory none_riding none_carrying (plain s); loads = loads } ≡ outcome_of image params schedule
+    record { cores = s.cores; words = final_memory none_riding none_carrying (plain s); loads = loads } ≡ outcome_of image params schedule
 unfolding outcome_of
 outcome_is {R} {K} image params schedule t s loads rest fits done stands =
     let choices : ℕ → ℕ = choice_at schedule in
     let ends : IsRunEnd image params choices t = stands_end image params schedule t (plain s) loads rest (sym (plain_done s) ∙ done) stands in
     let last : t ≡ end_of image params choices = one_end image params choices t (record { cores = fits.cores; limit = omega (arith, fits.limit) }) ends in
-    let cores : map (λ (n : Node R K). n.core) s.nodes ≡ map (λ n. n.core) (run image params choices t).nodes =
-    sym (same_cores s.nodes) ∙ ap (λ (u : PlainState). map (λ n. n.core) u.nodes) stands.state in
-    let words : final_memory none_riding none_carrying (plain s) ≡ final_memory none_riding none_carrying (run image params choices t) =
-    ap (λ (u : PlainState). final_memory none_riding none_carrying u) stands.state in
-    let made : List Core → List ℕ → List (List LoadNote) → Outcome = λ cs ws ls. record { cores = cs; words = ws; loads = ls } in
-    ap (λ cs. made cs (final_memory none_riding none_carrying (plain s)) loads) cores
-    ∙ ap (λ ws. made (map (λ n. n.core) (run image params choices t).nodes) ws loads) words
-    ∙ ap (λ ls. made (map (λ n. n.core) (run image params choices t).nodes) (final_memory none_riding none_carrying (run image params choices t)) ls)
-    stands.loads_are
+    let left : PlainState → List (List LoadNote) → Outcome =
+    λ u ls. record { cores = u.cores; words = final_memory none_riding none_carrying u; loads = ls } in
+    ap (λ (u : PlainState). left u loads) stands.state ∙ ap (left (run image params choices t)) stands.loads_are
     ∙ ap (λ u. outcome_at image params choices u) last

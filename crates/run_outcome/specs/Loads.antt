@@ -4,7 +4,7 @@ use Rattle.rtr_types.specs.Accesses.{is_read}
 use Rattle.rtr_types.specs.declared.access.Access.{Access}
 use Rattle.rv_core.specs.declared.outcome.LoadNote.{LoadNote}
 use Rattle.roomy_lists.specs.Lists.{with_item}
-use Rattle.msi_state.specs.Nodes.{Event, Accesses}
+use Rattle.msi_state.specs.Events.{Event, Accesses}
 
 -- what an access got
 abbrev pub note_of : Access → LoadNote

@@ -7,7 +7,7 @@ use Rattle.rtr_types.specs.declared.params.Params.{Params}
 use Rattle.rv_core.specs.declared.outcome.LoadNote.{LoadNote}
 use Rattle.rv_core.specs.declared.outcome.Outcome.{Outcome}
 use Rattle.schedule_pick.specs.Choices.{Choices, choice_at}
-use Rattle.msi_bound.specs.Ends.{end_of}
+use Rattle.machine_bound.specs.Ends.{end_of}
 use Rattle.msi_state.specs.States.{PlainState, all_done}
 use Rattle.msi_state.specs.Runs.{accesses, loads_of, outcome_at, run}
 
@@ -35,7 +35,7 @@ RunFitsLaw =
 pub record StandsAt (image : Contents) (params : Params) (schedule : Choices) (t : ℕ) (s : PlainState)
     (loads : List (List LoadNote)) (rest : Choices) : Type 0 where
   pub state : s ≡ run image params (choice_at schedule) t
-  pub cores : length s.nodes ≡ params.cores
+  pub cores : length s.cores ≡ params.cores
   pub loads_are : loads
       ≡ map (λ c. loads_of c (accesses image params (choice_at schedule) t)) (range_with_len 0 params.cores)
   pub rest_is : (u : ℕ) → choice_at rest u ≡ choice_at schedule (t + u)

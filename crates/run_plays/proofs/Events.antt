@@ -11,15 +11,15 @@ use Rattle.rv_core.specs.declared.core_state.Core.{Core}
 use Rattle.rv_core.specs.declared.outcome.LoadNote.{LoadNote}
 use Rattle.rv_core.specs.declared.outcome.Outcome.{Outcome}
 use Rattle.rv_core.specs.Steps.{after, wrote}
-use Rattle.msi_state.specs.Nodes.{Event, Nothing, Retires, Accesses}
+use Rattle.msi_state.specs.Events.{Event, Nothing, Retires, Accesses}
 use Rattle.msi_state.specs.Runs.{accesses_in, retired_in}
-use Rattle.msi_data.specs.LastValues.{last_value, memory_left}
+use Rattle.machine_data.specs.LastValues.{last_value, memory_left}
 use Rattle.run_outcome.specs.Loads.{note_of}
 use Rattle.replay_core.specs.Plans.{Plan}
 use Rattle.replay_core.specs.Play.{Use, use_of, old_for, words_after, loads_after, accesses_by, core_at, loads_at, instr, need_at, place, touched, play}
 use Rattle.replay_core.specs.Play.{accesses_from, Plays}
 use Rattle.replay_core.proofs.Steps.{used_within}
-use Rattle.run_laws.proofs.NodeCores.{core_in}
+use Rattle.msi_state.specs.States.{core_at as machine_core}
 use Rattle.run_laws.proofs.Working.{Retiring, Accessing, CoresAfter}
 use Rattle.run_plays.specs.Loads.{loads_by_core}
 use Rattle.run_plays.specs.Orders.{cores_of}
@@ -144,7 +144,7 @@ module _ (p : Plan) (cores : ℕ) (old new : List Core) (list : List Access) (a 
 
   within : a.word < p.image.words
   within =
-      used_within p.image (core_in old a.at.core) (Some (a.kind, a.word)) p.image.words (sym h.retires.uses) refl
+      used_within p.image (machine_core old a.at.core) (Some (a.kind, a.word)) p.image.words (sym h.retires.uses) refl
 
   finds : slice_index (memory_left p.image list) a.word ≡ a.before
   finds =

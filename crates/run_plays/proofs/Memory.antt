@@ -5,8 +5,8 @@ use Rattle.std.specs.List.{range_with_len}
 use Rattle.std.proofs.lemmas.Bool.Decides.{nat_tests}
 use Rattle.image_mem.specs.Contents.{Contents, opening_word}
 use Rattle.rtr_types.specs.declared.access.Access.{Access}
-use Rattle.msi_data.specs.LastValues.{last_value, memory_left}
-use Rattle.msi_data.proofs.Values.{last_value-snoc}
+use Rattle.machine_data.specs.LastValues.{last_value, memory_left}
+use Rattle.machine_data.proofs.Values.{last_value-snoc}
 
 -- ---- values over a range
 

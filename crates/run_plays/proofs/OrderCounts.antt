@@ -4,22 +4,21 @@ use Rattle.std.specs.Prelude.{map, if◌then◌else◌}
 use Rattle.std.specs.List.{range_with_len}
 use Rattle.std.proofs.lemmas.Bool.{cases_eq}
 use Rattle.std.proofs.lemmas.List.{map-append}
-use Rattle.access_times.specs.Riding.{none_riding, none_carrying}
 use Rattle.image_mem.specs.Contents.{Contents}
 use Rattle.rtr_types.specs.declared.TheConstants.{CORES_MAX}
 use Rattle.rtr_types.specs.declared.access.Kind.{Kind}
 use Rattle.rtr_types.specs.declared.instr.Instr.{Instr}
 use Rattle.rtr_types.specs.declared.params.Params.{Params}
 use Rattle.rv_core.specs.declared.core_state.Core.{Core}
+use Rattle.rv_core.specs.States.{starting}
 use Rattle.rv_core.proofs.LawLemmas.{start_law}
-use Rattle.msi_state.specs.Nodes.{Event, Nothing, Retires, Accesses}
+use Rattle.msi_state.specs.Events.{Event, Nothing, Retires, Accesses}
 use Rattle.msi_state.specs.Runs.{event_at, retired_in, retirements}
-use Rattle.msi_state.specs.States.{node_start}
 use Rattle.replay_core.specs.Orders.{bump, counts, nought}
 use Rattle.replay_core.proofs.Counts.{bump_same, bump_else, counts_on}
 use Rattle.run_laws.specs.Retirement.{retired_count}
-use Rattle.run_laws.proofs.Retiring.{core_counts, counted, other_counts, own_count}
-use Rattle.run_laws.proofs.RunCores.{event_cores, run_cores}
+use Rattle.run_laws.proofs.Retiring.{core_counts, other_counts, own_count}
+use Rattle.run_laws.proofs.RunCores.{cores_at, event_cores}
 use Rattle.run_laws.proofs.Working.{CoresAfter, Retiring}
 use Rattle.run_plays.specs.Orders.{cores_of}
 use Rattle.run_plays.proofs.Played.{order_at}
@@ -48,27 +47,21 @@ counts_same f g (x ∷ xs) same c =
     counts_same (bump f x) (bump g x) xs (λ d. ap (λ n. if d == x then n + 1 else n) (same d)) c
 
 start_counts : (limit : ℕ) (ids : List ℕ) (c : ℕ)
-    → core_counts (map (λ n. n.core) (map (node_start none_riding none_carrying limit) ids)) c ≡ 0
+    → core_counts (map (λ id. starting id limit) ids) c ≡ 0
 start_counts limit [] c = (start_law 0 0).2
 start_counts limit (id ∷ ids) zero = (start_law id limit).2
 start_counts limit (id ∷ ids) (suc c) = start_counts limit ids c
 
-places_counted : (image : Contents) (params : Params) (choices : ℕ → ℕ) (t : ℕ) → params.cores ≤ CORES_MAX
-    → params.limit < 2 ^ 32 → (c : ℕ)
-    → core_counts (run_cores image params choices t) c ≡ counts nought (order_at image params choices t) c
-places_counted image params choices zero few small c = start_counts params.limit (range_with_len 0 params.cores) c
-places_counted image params choices (suc t) few small c =
-    let e : Event = event_at image params choices t in
-    let now : List Core = run_cores image params choices t in
-    event_counts image now (run_cores image params choices (suc t)) e (event_cores image params choices t few small) c
-    ∙ counts_same (core_counts now) (counts nought (order_at image params choices t)) (cores_of (retired_in e))
-    (places_counted image params choices t few small) c
-    ∙ ap (λ (f : ℕ → ℕ). f c) (sym (counts_on nought (order_at image params choices t) (cores_of (retired_in e))))
-    ∙ ap (λ (order : List ℕ). counts nought order c)
-    (sym (map-append (λ (at : Instr). at.core) (retirements image params choices t) (retired_in e)))
-
 pub order_counts : (image : Contents) (params : Params) (choices : ℕ → ℕ) (t : ℕ) → params.cores ≤ CORES_MAX
     → params.limit < 2 ^ 32 → (c : ℕ)
     → retired_count image params choices t c ≡ counts nought (order_at image params choices t) c
-order_counts image params choices t few small c =
-    sym (counted image params choices t c) ∙ places_counted image params choices t few small c
+order_counts image params choices zero few small c = start_counts params.limit (range_with_len 0 params.cores) c
+order_counts image params choices (suc t) few small c =
+    let e : Event = event_at image params choices t in
+    let now : List Core = cores_at image params choices t in
+    event_counts image now (cores_at image params choices (suc t)) e (event_cores image params choices t few small) c
+    ∙ counts_same (core_counts now) (counts nought (order_at image params choices t)) (cores_of (retired_in e))
+    (order_counts image params choices t few small) c
+    ∙ ap (λ (f : ℕ → ℕ). f c) (sym (counts_on nought (order_at image params choices t) (cores_of (retired_in e))))
+    ∙ ap (λ (order : List ℕ). counts nought order c)
+    (sym (map-append (λ (at : Instr). at.core) (retirements image params choices t) (retired_in e)))

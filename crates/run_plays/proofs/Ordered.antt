@@ -13,7 +13,8 @@ use Rattle.rv_core.specs.States.{starting}
 use Rattle.rv_core.specs.declared.core_state.Core.{Core}
 use Rattle.conflict_edge.specs.Conflicts.{ConflictPair, StandsIn}
 use Rattle.conflict_edge.proofs.Standing.{stands_which}
-use Rattle.msi_state.specs.Nodes.{Event, Nothing, Retires, Accesses, instr_of}
+use Rattle.machine_bound.proofs.Ends.{run_cores}
+use Rattle.msi_state.specs.Events.{Event, Nothing, Retires, Accesses, instr_of}
 use Rattle.msi_state.specs.Runs.{accesses, accesses_in, event_at, retired_in, retirements}
 use Rattle.replay_core.specs.Plans.{Plan}
 use Rattle.replay_core.specs.Play.{instr}
@@ -23,8 +24,8 @@ use Rattle.replay_core.proofs.Ready.{within_sourced}
 use Rattle.run_laws.specs.Retirement.{RetiresAt, retired_count}
 use Rattle.run_laws.proofs.Accessing.{run_retired}
 use Rattle.run_laws.proofs.Later.{goes}
-use Rattle.run_laws.proofs.Retiring.{counted, run_tells}
-use Rattle.run_laws.proofs.RunCores.{length-run_cores, run_cores}
+use Rattle.run_laws.proofs.Retiring.{run_tells}
+use Rattle.run_laws.proofs.RunCores.{cores_at}
 use Rattle.run_plays.specs.Orders.{cores_of}
 use Rattle.run_plays.proofs.OrderCounts.{order_counts}
 use Rattle.run_plays.proofs.Played.{order_at, run_plan}
@@ -87,20 +88,19 @@ conflicts_forward image params choices t u few small lt x y pair retires =
 -- ---- whole
 
 abbrev pub totals_at : Contents → Params → (ℕ → ℕ) → ℕ → List ℕ
-totals_at image params choices t = map (λ k. k.count) (run_cores image params choices t)
+totals_at image params choices t = map (λ k. k.count) (cores_at image params choices t)
 
 pub totals_long : (image : Contents) (params : Params) (choices : ℕ → ℕ) (t : ℕ)
     → length (totals_at image params choices t) ≡ params.cores
 totals_long image params choices t =
-    length-map (run_cores image params choices t) (λ k. k.count) ∙ length-run_cores image params choices t
+    length-map (cores_at image params choices t) (λ k. k.count) ∙ run_cores image params choices t
 
 -- each core's total
 total_is : (image : Contents) (params : Params) (choices : ℕ → ℕ) (t c : ℕ) → c < params.cores
     → slice_index (totals_at image params choices t) c ≡ retired_count image params choices t c
 total_is image params choices t c within =
-    get_or-map (λ (k : Core). k.count) (run_cores image params choices t) c (starting 0 0) 0
-    (let long = length-run_cores image params choices t in omega (arith, within, long))
-    ∙ counted image params choices t c
+    get_or-map (λ (k : Core). k.count) (cores_at image params choices t) c (starting 0 0) 0
+    (let long = run_cores image params choices t in omega (arith, within, long))
 
 pub order_full : (image : Contents) (params : Params) (choices : ℕ → ℕ) (t : ℕ) (edges : List Edge)
     → params.cores ≤ CORES_MAX → params.limit < 2 ^ 32

@@ -3,8 +3,6 @@ use Rattle.std.proofs.Common.{◌≡◌, ◌∙◌, refl, sym, ap, subst, ℕ, z
 use Rattle.std.specs.Prelude.{map, replicate}
 use Rattle.std.specs.List.{range_with_len}
 use Rattle.std.proofs.lemmas.List.{map-append}
-use Rattle.std.proofs.lemmas.Simd.{map-map}
-use Rattle.access_times.specs.Riding.{none_riding, none_carrying}
 use Rattle.image_mem.specs.Contents.{Contents, opening_words}
 use Rattle.rtr_types.specs.declared.TheConstants.{CORES_MAX}
 use Rattle.rtr_types.specs.declared.access.Access.{Access}
@@ -15,17 +13,16 @@ use Rattle.rv_core.specs.States.{starting}
 use Rattle.rv_core.specs.declared.core_state.Core.{Core}
 use Rattle.rv_core.specs.declared.outcome.LoadNote.{LoadNote}
 use Rattle.rv_core.specs.declared.outcome.Outcome.{Outcome}
-use Rattle.msi_state.specs.Nodes.{Event, Nothing, Retires, Accesses}
+use Rattle.msi_state.specs.Events.{Event, Nothing, Retires, Accesses}
 use Rattle.msi_state.specs.Runs.{accesses_in, retired_in, event_at, retirements}
 use Rattle.msi_state.specs.Runs as runs
-use Rattle.msi_state.specs.States.{node_start}
-use Rattle.msi_data.specs.LastValues.{EachFindsLast}
-use Rattle.msi_data.proofs.Remembers.{each_finds_last}
+use Rattle.machine_data.specs.LastValues.{EachFindsLast}
+use Rattle.machine_data.proofs.Remembers.{each_finds_last}
 use Rattle.run_outcome.proofs.Turns.{no_loads}
 use Rattle.replay_core.specs.Plans.{Plan}
 use Rattle.replay_core.specs.Play.{play, accesses_from, Plays, start}
 use Rattle.replay_core.proofs.Lists.{play_on, accesses_on, plays_join}
-use Rattle.run_laws.proofs.RunCores.{event_cores, run_cores}
+use Rattle.run_laws.proofs.RunCores.{cores_at, event_cores}
 use Rattle.run_plays.specs.Orders.{cores_of}
 use Rattle.run_plays.proofs.Events.{EventPlays, FoundIn, event_plays, outcome_with}
 
@@ -60,15 +57,13 @@ order_at image params choices t = cores_of (retirements image params choices t)
 -- what the first t choices leave
 abbrev pub left_at : Contents → Params → (ℕ → ℕ) → ℕ → Outcome
 left_at image params choices t =
-    outcome_with image params.cores (run_cores image params choices t) (runs.accesses image params choices t)
+    outcome_with image params.cores (cores_at image params choices t) (runs.accesses image params choices t)
 
 start_is : (image : Contents) (params : Params) (choices : ℕ → ℕ) (totals : List ℕ) (edges : List Edge)
     → length totals ≡ params.cores → start (run_plan image params totals edges) ≡ left_at image params choices 0
 start_is image params choices totals edges long =
     ap (λ n. made (map (λ c. starting c params.limit) (range_with_len 0 n)) (replicate n [])) long
-    ∙ ap (λ (cores : List Core). made cores (replicate params.cores []))
-    (sym (map-map (λ n. n.core) (node_start none_riding none_carrying params.limit) (range_with_len 0 params.cores)))
-    ∙ ap (λ (loads : List (List LoadNote)). made (run_cores image params choices 0) loads) (sym (no_loads 0 params.cores))
+    ∙ ap (λ (loads : List (List LoadNote)). made (cores_at image params choices 0) loads) (sym (no_loads 0 params.cores))
   where
     made : List Core → List (List LoadNote) → Outcome
     made cores loads = record { cores = cores; words = opening_words image; loads = loads }
@@ -93,7 +88,7 @@ played_to image params choices totals edges (suc t) few small long =
     let e : Event = event_at image params choices t in
     let list : List Access = runs.accesses image params choices t in
     let later : Outcome = left_at image params choices (suc t) in
-    let plays = event_plays p params.cores (run_cores image params choices t) (run_cores image params choices (suc t)) list e
+    let plays = event_plays p params.cores (cores_at image params choices t) (cores_at image params choices (suc t)) list e
     (event_cores image params choices t few small)
     (found_at image list e (each_finds_last image params choices (suc t) few small)) in
     subst (λ (order : List ℕ). PlayedTo p order later (runs.accesses image params choices (suc t)))

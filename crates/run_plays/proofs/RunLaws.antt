@@ -12,9 +12,9 @@ use Rattle.schedule_pick.specs.Choices.{Choices, choice_at}
 use Rattle.clock_core.proofs.Listed.{contains_among}
 use Rattle.log_codec.specs.Sources.{log_edges}
 use Rattle.log_codec.specs.declared.recording.Recording.{Recording}
-use Rattle.msi_bound.specs.Ends.{end_of}
-use Rattle.msi_bound.proofs.Ends.{run_ends}
-use Rattle.msi_data.proofs.Remembers.{final_values}
+use Rattle.machine_bound.specs.Ends.{end_of}
+use Rattle.machine_bound.proofs.Ends.{run_ends}
+use Rattle.machine_data.proofs.Remembers.{final_values}
 use Rattle.msi_state.specs.Runs.{outcome_at}
 use Rattle.run_outcome.specs.Outcomes.{outcome_of}
 use Rattle.recorder.specs.Recordings.{run_accesses, recording_of}

@@ -4,7 +4,7 @@ use Rattle.image_mem.specs.Contents.{Contents}
 use Rattle.rtr_types.specs.declared.instr.Instr.{Instr}
 use Rattle.rtr_types.specs.declared.params.Params.{Params}
 use Rattle.schedule_pick.specs.Choices.{Choices, choice_at}
-use Rattle.msi_bound.specs.Ends.{end_of}
+use Rattle.machine_bound.specs.Ends.{end_of}
 use Rattle.msi_state.specs.Runs.{retirements}
 
 -- the cores of instructions, in their order

@@ -9,18 +9,18 @@ use Rattle.rtr_types.specs.declared.access.Access.{Access}
 use Rattle.rtr_types.specs.declared.params.Params.{Params}
 use Rattle.schedule_pick.specs.Choices.{Choices, choice_at}
 use Rattle.conflict_edge.specs.Times.{IsExactClock}
-use Rattle.msi_bound.specs.Ends.{end_of}
-use Rattle.msi_plain.proofs.Forgetting.{plain_event as forgets_event}
-use Rattle.msi_state.specs.Nodes.{Event, Accesses}
-use Rattle.msi_state.specs.Plain.{plain}
+use Rattle.machine_bound.specs.Ends.{end_of}
+use Rattle.machine_plain.proofs.Forgetting.{plain_event as forgets_event}
+use Rattle.msi_memory.specs.declared.port.Port.{Port}
+use Rattle.msi_state.specs.Events.{Event, Accesses}
+use Rattle.machine_plain.specs.Plain.{plain}
 use Rattle.msi_state.specs.Runs.{accesses, chosen, event_at, event_by, plain_event, run}
 use Rattle.msi_state.specs.States.{PlainState, State}
 use Rattle.msi_state.specs.Steps.{event, retiring}
-use Rattle.msi_state.specs.declared.node.Node.{Node}
 use Rattle.msi_state.specs.declared.moves.Move.{Move}
-use Rattle.msi_times.proofs.RiderLaws.{times_absorb}
-use Rattle.msi_times.proofs.Timed.{finds_exact}
-use Rattle.msi_times.specs.TimedSteps.{times_parts}
+use Rattle.machine_times.proofs.RiderLaws.{times_absorb}
+use Rattle.machine_times.proofs.Timed.{finds_exact}
+use Rattle.machine_times.specs.TimedSteps.{times_parts}
 use Rattle.online_reduce.specs.Exact.{AreExactFor}
 use Rattle.online_reduce.specs.Reduced.{clock_of, count_of}
 use Rattle.recorder.proofs.Standing.{step_exact}
@@ -78,15 +78,15 @@ module _ (image : Contents) (params : Params) (schedule : Choices) (t : ℕ) (a 
       let w : Standing = standing_at image params schedule t in
       let s : State Times Known = w.state in
       let e : Event = event times_riding known_carrying s m in
-      let n : Node Times Known = retiring times_riding known_carrying s m in
+      let p : Port Times Known = retiring times_riding known_carrying s m in
       let accessed : e ≡ Accesses a =
       forgets_event times_riding known_carrying s m
       ∙ ap (λ (u : PlainState). plain_event u m) h.records.notes.run.state
       ∙ sym (ap (event_by (run image params choices t)) (sym here ∙ some))
       ∙ is in
       let can = enabled_here s (choice_at w.rest 0) m some in
-      step_exact e n h.records.notes.list (accesses image params choices t) h.records.notes.reduces.accesses_are h.records.notes.reduces.exact
-      (λ b is_b. finds_exact times_parts known_carrying times_absorb (reverse h.records.notes.list) s m b h.sound can is_b h.records.notes.machine)
+      step_exact e p h.records.notes.list (accesses image params choices t) h.records.notes.reduces.accesses_are h.records.notes.reduces.exact
+      (λ b is_b. finds_exact times_parts known_carrying times_absorb (reverse h.records.notes.list) s m b h.holds can is_b h.records.notes.machine)
       a accessed
 
 pub found_times : FoundTimesLaw

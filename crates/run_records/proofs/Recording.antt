@@ -2,7 +2,6 @@
 use Rattle.std.proofs.Common.{◌≡◌, ◌∙◌, refl, sym, ap, subst, ℕ, zero, suc, ◌+◌, ◌*◌, ◌<◌, ◌≤◌, ◌^◌, true, false, List, [], length, Option, Some, None}
 use Rattle.std.proofs.Common.{arith}
 use Rattle.std.specs.Prelude.{reverse}
-use Rattle.std.proofs.lemmas.List.{length-map}
 use Rattle.std.proofs.lemmas.List.Elements.{filter_passes}
 use Rattle.access_times.specs.Riding.{none_riding, none_carrying}
 use Rattle.access_times.specs.Times.{times_riding}
@@ -12,28 +11,27 @@ use Rattle.rtr_types.specs.Parameters.{Fits}
 use Rattle.rtr_types.specs.declared.instr.Instr.{Instr}
 use Rattle.rtr_types.specs.declared.params.Params.{Params}
 use Rattle.schedule_pick.specs.Choices.{Choices, choice_at, choices_after}
-use Rattle.msi_bound.specs.Ends.{end_of}
-use Rattle.msi_bound.proofs.Ends.{run_ends}
-use Rattle.msi_plain.proofs.Forgetting.{plain_event as forgets_event, plain_step as forgets_step}
-use Rattle.msi_plain.proofs.Plains.{plain_node_at}
-use Rattle.msi_plain.proofs.SameMoves.{plain_moves as same_moves}
-use Rattle.msi_plain.proofs.Shows.{plain_start}
-use Rattle.msi_progress.proofs.Stuck.{some_move}
-use Rattle.msi_sound.specs.Sound.{Sound}
-use Rattle.msi_sound.proofs.Begins.{chosen_at, sound_run, sound_start}
-use Rattle.msi_sound.proofs.Kept.{sound_kept}
+use Rattle.machine_bound.specs.Ends.{end_of}
+use Rattle.machine_bound.proofs.Ends.{run_ends}
+use Rattle.machine_plain.proofs.Forgetting.{plain_event as forgets_event, plain_step as forgets_step}
+use Rattle.machine_plain.proofs.SameMoves.{plain_moves as same_moves}
+use Rattle.machine_plain.proofs.Shows.{plain_start}
+use Rattle.machine_progress.proofs.Stuck.{some_move}
+use Rattle.machine_invariant.specs.Holds.{MachineHolds}
+use Rattle.machine_invariant.proofs.Begins.{chosen_at, holds_run, holds_start}
+use Rattle.machine_invariant.proofs.Kept.{holds_kept}
 use Rattle.msi_state.specs.Moves.{candidates}
-use Rattle.msi_state.specs.Nodes.{Event, Nothing, Retires, Accesses, carry_after, instr_of, rider_of_event}
-use Rattle.msi_state.specs.Plain.{plain, plain_node}
+use Rattle.msi_memory.specs.declared.port.Port.{Port}
+use Rattle.msi_state.specs.Events.{Event, Nothing, Retires, Accesses, instr_of, rider_of_event}
+use Rattle.machine_plain.specs.Plain.{plain}
 use Rattle.msi_state.specs.Runs.{chosen, chosen_of, event_at, event_by, plain_event, plain_moves, run}
-use Rattle.msi_state.specs.States.{PlainState, State, all_done, node_at}
-use Rattle.msi_state.specs.Steps.{enabled, event, moves, retiring, step}
-use Rattle.msi_state.specs.declared.node.Node.{Node}
+use Rattle.msi_state.specs.States.{PlainState, State, all_done, core_at}
+use Rattle.msi_state.specs.Steps.{carry_told, enabled, event, moves, retiring, rider_found, step}
 use Rattle.msi_state.specs.declared.moves.Move.{Move}
-use Rattle.msi_times.proofs.RiderLaws.{times_absorb}
-use Rattle.msi_times.proofs.Timed.{finds_exact}
-use Rattle.msi_times.proofs.Told.{timed_told}
-use Rattle.msi_times.specs.TimedSteps.{times_parts}
+use Rattle.machine_times.proofs.RiderLaws.{times_absorb}
+use Rattle.machine_times.proofs.Timed.{finds_exact}
+use Rattle.machine_times.proofs.Told.{timed_told}
+use Rattle.machine_times.specs.TimedSteps.{times_parts}
 use Rattle.online_reduce.proofs.ByPair.{length-by_pair}
 use Rattle.online_reduce.specs.Reduced.{IsNext, Reduced, clock_of, count_of, counted, edges_of, retired}
 use Rattle.run_outcome.specs.Loads.{lists_after, lists_told}
@@ -54,9 +52,9 @@ use Rattle.run_laws.proofs.Retiring.{IsNextOf, run_tells}
 use Rattle.run_records.specs.Recorded.{RecordsLaw}
 use Rattle.run_records.specs.Standings.{Standing, clerk_after, moved_by, next_move, regulation_of, standing_at, standing_start, times_after}
 
--- the machine is sound and is recorded so far
+-- the machine holds its invariant and is recorded so far
 pub record StandsWell (image : Contents) (params : Params) (schedule : Choices) (t : ℕ) (w : Standing) : Type 0 where
-  pub sound : Sound times_riding known_carrying w.state
+  pub holds : MachineHolds times_riding known_carrying w.state
   pub records : RecordsAt image params schedule t w.state w.clerk w.rest
 
 -- ---- what a choice takes
@@ -66,7 +64,7 @@ pub enabled_here : (s : State Times Known) (choice : ℕ) (m : Move) → chosen 
     → enabled times_riding known_carrying s m ≡ true
 enabled_here s choice m is =
     chosen_at (moves times_riding known_carrying s) (λ (x : Move). enabled times_riding known_carrying s x ≡ true) choice m
-    (filter_passes (enabled times_riding known_carrying s) (candidates (length s.nodes) (4 * length s.nodes)))
+    (filter_passes (enabled times_riding known_carrying s) (candidates (length s.cores) (4 * length s.cores)))
     (ap (λ (ms : List Move). chosen_of ms choice) (same_moves times_riding known_carrying s) ∙ is)
 
 -- ---- where the clerk stands
@@ -76,11 +74,10 @@ pub clerk_counts : (image : Contents) (params : Params) (schedule : Choices) (t 
     (rest : Choices) → NotesAt image params schedule t s c rest → (core : ℕ) → core < params.cores
     → count_of c.reduction.state core ≡ retired_count image params (choice_at schedule) t core
 clerk_counts image params schedule t s c rest h core lt =
-    let few : length s.nodes ≡ params.cores = sym (length-map s.nodes plain_node) ∙ h.run.cores in
+    let few : length s.cores ≡ params.cores = h.run.cores in
     h.reduces.counts core (omega (arith, lt, h.cores))
     ∙ sym (h.machine.counts core (omega (arith, lt, few)))
-    ∙ sym (ap (λ n. n.core.count) (plain_node_at known_carrying s.nodes core))
-    ∙ ap (λ (u : PlainState). (node_at none_carrying u.nodes core).core.count) h.run.state
+    ∙ ap (λ (u : PlainState). (core_at u.cores core).count) h.run.state
 
 -- what the clerk holds after an event, before the regulation is told its edges
 with_untold : Noted → Event → Known → (found : Times) → Noted
@@ -101,17 +98,17 @@ with_untold c (Accesses a) known found = record {
 }
 
 -- it is told of an event as it is to be
-told_of : (e : Event) (n : Node Times Known) (k : Known) (c : Noted) → c.untold ≡ []
+told_of : (e : Event) (p : Port Times Known) (k : Known) (c : Noted) → c.untold ≡ []
     → ((at : Instr) → instr_of e ≡ Some at → IsNext c.reduction.state at)
     → ((at : Instr) → instr_of e ≡ Some at → IsNoted c.history.notes at k (with_note c.history.notes at k))
-    → let found : Times = rider_of_event times_riding e n in
+    → let found : Times = rider_of_event times_riding e p in
     let d : Noted = with_untold c e k found in
     Told e k c found d (times_after d.reduction.state e found)
 unfolding with_untold
-told_of Nothing n k c none next noted = refl
-told_of (Retires at) n k c none next noted =
+told_of Nothing p k c none next noted = refl
+told_of (Retires at) p k c none next noted =
     record { next = next at refl; loads = refl; reduction = refl; history = noted at refl; untold = refl; regulation = refl }
-told_of (Accesses a) n k c none next noted =
+told_of (Accesses a) p k c none next noted =
     record { next = next a.at refl; loads = refl; reduction = refl; history = noted a.at refl; untold = refl; regulation = refl; times = refl }
 
 lists_are : (c : Noted) (e : Event) (k : Known) (found : Times) → (with_untold c e k found).loads.lists ≡ lists_told c.loads.lists e
@@ -169,9 +166,9 @@ module _ (image : Contents) (params : Params) (schedule : Choices) (fits : Fits 
       let s : State Times Known = w.state in
       let c : Noted = w.clerk in
       let e : Event = event times_riding known_carrying s m in
-      let n : Node Times Known = retiring times_riding known_carrying s m in
-      let found : Times = rider_of_event times_riding e n in
-      let k : Known = carry_after known_carrying n in
+      let p : Port Times Known = retiring times_riding known_carrying s m in
+      let found : Times = rider_found times_riding known_carrying s m in
+      let k : Known = carry_told times_riding known_carrying s m in
       let d : Noted = with_untold c e k found in
       let x : Noted = clerk_after c e k found in
       let left : Times = times_after d.reduction.state e found in
@@ -194,10 +191,10 @@ module _ (image : Contents) (params : Params) (schedule : Choices) (fits : Fits 
       } in
       let noted : (at : Instr) → instr_of e ≡ Some at → IsNoted c.history.notes at k (with_note c.history.notes at k) = λ at retires.
       let here : IsNext c.reduction.state at = next at retires in
-      let few : length s.nodes ≡ params.cores = sym (length-map s.nodes plain_node) ∙ notes.run.cores in
+      let few : length s.cores ≡ params.cores = notes.run.cores in
       is_noted c.history.notes at k (with_note c.history.notes at k) (omega (arith, here.core, notes.cores, few, notes.knows.cores))
       (here.count ∙ ap (λ i. i + 1) (counts_noted image params schedule t s c w.rest notes at.core here.core)) refl in
-      let told : Told e k c found d left = told_of e n k c h.records.regulates.all_told next noted in
+      let told : Told e k c found d left = told_of e p k c h.records.regulates.all_told next noted in
       let turned : Turned s after m c d w.rest (choices_after w.rest) = record {
         steps = record {
           taken = is;
@@ -215,8 +212,8 @@ module _ (image : Contents) (params : Params) (schedule : Choices) (fits : Fits 
         stands = λ list f.
             timed_told (λ c at k d. ToldLocal c at k d) (λ c r a k d q. ToldTouch c r a k d q)
             (λ (c : Noted) core. clock_of c.reduction.state core) (λ c d before after a k told. told.times) known_carrying list s m
-            c d left k h.sound can told f;
-        finds = λ list f a is_a. finds_exact times_parts known_carrying times_absorb (reverse list) s m a h.sound can is_a f;
+            c d left k h.holds can told f;
+        finds = λ list f a is_a. finds_exact times_parts known_carrying times_absorb (reverse list) s m a h.holds can is_a f;
       } in
       let kept : SameNotes d x = same_notes c e k found in
       let state : (moved_by w (Some m)).state ≡ after =
@@ -226,8 +223,8 @@ module _ (image : Contents) (params : Params) (schedule : Choices) (fits : Fits 
       kept.history
       (notes_next image params schedule t s after m c d w.rest (choices_after w.rest) (ap all_done notes.run.state ∙ going) turned notes) in
       record {
-        sound = subst (λ (u : State Times Known). Sound times_riding known_carrying u) (sym state)
-            (sound_kept times_riding known_carrying s m left can h.sound);
+        holds = subst (λ (u : State Times Known). MachineHolds times_riding known_carrying u) (sym state)
+            (holds_kept times_riding known_carrying s m left can h.holds);
         records = record {
           notes = there;
           regulates = regulates_after image params schedule (suc t) (moved_by w (Some m)).state c (choices_after w.rest) e k found
@@ -243,7 +240,7 @@ module _ (image : Contents) (params : Params) (schedule : Choices) (fits : Fits 
       s = run image params (choice_at schedule) t
 
       some : 0 < length (plain_moves (run image params (choice_at schedule) t))
-      some = some_move none_riding none_carrying s (sound_run image params (choice_at schedule) t fits.cores small) going
+      some = some_move none_riding none_carrying s (holds_run image params (choice_at schedule) t fits.cores small) going
 
       by : (o : Option Move) → next_move w ≡ o → StandsWell image params schedule (suc t) (moved_by w o)
       by None is = absurd (none_chosen (plain_moves (plain w.state)) (choice_at w.rest 0) is
@@ -258,7 +255,7 @@ module _ (image : Contents) (params : Params) (schedule : Choices) (fits : Fits 
       notes_start image params schedule w.state w.clerk fits refl (plain_start times_riding known_carrying image params.cores params.limit)
       refl refl refl in
       record {
-        sound = sound_start times_riding known_carrying image params.cores params.limit fits.cores small;
+        holds = holds_start times_riding known_carrying image params.cores params.limit fits.cores small;
         records = record { notes = notes; regulates = regulates_of image params schedule 0 w.state w.clerk w.rest notes refl refl };
       }
   stands_at (suc t) le =

@@ -14,9 +14,9 @@ use Rattle.edge_regulate.specs.Regulated.{Knowledge, regulated}
 use Rattle.log_codec.specs.Sources.{log_edges}
 use Rattle.log_codec.specs.declared.recording.Recording.{Recording}
 use Rattle.log_codec.specs.Validity.{Valid}
-use Rattle.msi_bound.specs.Ends.{end_of}
-use Rattle.msi_bound.proofs.Ends.{run_ends}
-use Rattle.msi_plain.proofs.Shows.{plain_done}
+use Rattle.machine_bound.specs.Ends.{end_of}
+use Rattle.machine_bound.proofs.Ends.{run_ends}
+use Rattle.machine_plain.proofs.Shows.{plain_done}
 use Rattle.msi_state.specs.States.{PlainState, all_done}
 use Rattle.run_outcome.proofs.Fitting.{run_image}
 use Rattle.recorder.proofs.Recordings.{Ended, ended, least_log, recording_is, recording_left, recording_valid, vectors_by}

@@ -7,8 +7,8 @@ use Rattle.rtr_types.specs.declared.instr.Instr.{Instr}
 use Rattle.rtr_types.specs.declared.params.Params.{Params}
 use Rattle.schedule_pick.specs.Choices.{Choices, choice_at}
 use Rattle.conflict_edge.specs.Times.{IsExactClock}
-use Rattle.msi_bound.specs.Ends.{end_of}
-use Rattle.msi_state.specs.Nodes.{Accesses}
+use Rattle.machine_bound.specs.Ends.{end_of}
+use Rattle.msi_state.specs.Events.{Accesses}
 use Rattle.msi_state.specs.Runs.{accesses, event_at}
 use Rattle.online_reduce.specs.Exact.{AreExactFor, last_of}
 use Rattle.online_reduce.specs.Reduced.{Reduced, clock_of, count_of}

@@ -12,7 +12,7 @@ use Rattle.clock_core.specs.Order.{Among, Before}
 use Rattle.conflict_edge.specs.Least.{IsLeast, Others}
 use Rattle.edge_regulate.specs.Regulated.{Knowledge, regulated}
 use Rattle.log_codec.specs.Sources.{log_edges}
-use Rattle.msi_bound.specs.Ends.{end_of}
+use Rattle.machine_bound.specs.Ends.{end_of}
 use Rattle.recorder.specs.Recordings.{IsRecorded, run_accesses, recording_of}
 use Rattle.recorder.specs.Standing.{RecordsAt}
 use Rattle.recorder.specs.WhatIsKnown.{CountsKnown}

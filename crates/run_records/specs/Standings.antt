@@ -12,11 +12,11 @@ use Rattle.know_history.specs.Notes.{Notes, known_at, no_notes}
 use Rattle.know_history.specs.Rows.{with_note}
 use Rattle.know_history.specs.declared.known.Known.{Known}
 use Rattle.edge_regulate.specs.Regulated.{Regulation, regulated}
-use Rattle.msi_state.specs.Nodes.{Event, Nothing, Retires, Accesses, carry_after, rider_of_event}
-use Rattle.msi_state.specs.Plain.{plain}
+use Rattle.msi_state.specs.Events.{Event, Nothing, Retires, Accesses}
+use Rattle.machine_plain.specs.Plain.{plain}
 use Rattle.msi_state.specs.Runs.{chosen}
 use Rattle.msi_state.specs.States.{State, state_start}
-use Rattle.msi_state.specs.Steps.{event, retiring, step}
+use Rattle.msi_state.specs.Steps.{carry_told, event, rider_found, step}
 use Rattle.msi_state.specs.declared.moves.Move.{Move}
 use Rattle.run_outcome.specs.Loads.{lists_after}
 use Rattle.online_reduce.specs.Reduced.{Reduced, clock_of, counted, retired, unreduced}
@@ -62,16 +62,14 @@ next_move w = chosen (plain w.state) (choice_at w.rest 0)
 -- the times that a move's access finds
 abbrev pub found_by : Standing → Option Move → Times
 found_by w None = fresh_times
-found_by w (Some m) =
-    rider_of_event times_riding (event times_riding known_carrying w.state m)
-    (retiring times_riding known_carrying w.state m)
+found_by w (Some m) = rider_found times_riding known_carrying w.state m
 
 -- what stands after a move of which the clerk was told
 abbrev pub moved_by : Standing → Option Move → Standing
 moved_by w None = w
 moved_by w (Some m) =
     let e = event times_riding known_carrying w.state m in
-    let known = carry_after known_carrying (retiring times_riding known_carrying w.state m) in
+    let known = carry_told times_riding known_carrying w.state m in
     let clerk = clerk_after w.clerk e known (found_by w (Some m)) in
     record {
       state = step times_riding known_carrying (times_after clerk.reduction.state e (found_by w (Some m))) w.state m;

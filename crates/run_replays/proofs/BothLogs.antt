@@ -13,21 +13,17 @@ use Rattle.clock_core.specs.Order.{Among, Before}
 use Rattle.clock_core.proofs.Listed.{among_contains}
 use Rattle.know_history.specs.Happenings.{Happening}
 use Rattle.know_history.specs.Knowing.{retired_in}
-use Rattle.know_history.specs.Knowledge.{known_carrying}
 use Rattle.edge_regulate.specs.Regulated.{Knowledge}
 use Rattle.log_codec.specs.Sources.{HasEdge, log_edges}
 use Rattle.log_codec.specs.Validity.{Valid}
 use Rattle.log_codec.specs.declared.recording.Recording.{Recording}
 use Rattle.log_codec.proofs.SourceLaws.{edges-within}
-use Rattle.msi_bound.specs.Ends.{end_of}
-use Rattle.msi_known.specs.Events.{happening_at}
-use Rattle.msi_known.specs.RunHistory.{carrying_at}
-use Rattle.msi_known.proofs.Runs.{run_orderly_law, run_plain, run_retires_law}
-use Rattle.msi_plain.proofs.Plains.{plain_node_at}
-use Rattle.msi_state.specs.Nodes.{Event, Nothing, Retires, Accesses, instr_of}
+use Rattle.machine_bound.specs.Ends.{end_of}
+use Rattle.machine_known.specs.Events.{happening_at}
+use Rattle.machine_known.proofs.Runs.{run_orderly_law, run_plain, run_retires_law}
+use Rattle.msi_state.specs.Events.{Event, Nothing, Retires, Accesses, instr_of}
 use Rattle.msi_state.specs.Runs.{event_at, retired_in as retired_by, retirements}
-use Rattle.msi_state.specs.States.{PlainState, node_at}
-use Rattle.access_times.specs.Riding.{none_carrying}
+use Rattle.msi_state.specs.States.{PlainState, core_at}
 use Rattle.replay_core.specs.Orders.{counts, nought}
 use Rattle.replay_core.specs.Plans.{plan_of}
 use Rattle.replay_audit.specs.Determinate.{Decides}
@@ -95,8 +91,7 @@ module _ (image : Contents) (params : Params) (schedule : Choices) (fits : Fits 
       let h = knows_run image params schedule fits t le in
       let within = long image params schedule fits t in
       sym (h.retired.counts core (omega (arith, lt, within)))
-      ∙ sym (ap (λ n. n.core.count) (plain_node_at known_carrying (carrying_at image params choices t).nodes core))
-      ∙ ap (λ (u : PlainState). (node_at none_carrying u.nodes core).core.count) (run_plain none_riding image params choices (λ u. tt) t)
+      ∙ ap (λ (u : PlainState). (core_at u.cores core).count) (run_plain none_riding image params choices (λ u. tt) t)
 
   -- what retires before in the order of retirement has retired whenever the other retires
   before_is : (x y : Instr) → x.core < params.cores → ordered.RetiresBefore (order_of image params schedule) x y

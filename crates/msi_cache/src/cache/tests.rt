@@ -110,7 +110,7 @@ fn row(
     assert_eq!(rt; take(rt, &mut cache, step), said, "{step:?}");
     let line = &cache.lines[4];
     assert_eq!(rt;
-        (line.state, line.words[0], line.rider.digits),
+        (line.state, line.words[0], line.rider.get().digits),
         left,
         "{step:?}"
     );
@@ -347,28 +347,36 @@ fn writes_a_word_and_lends_the_rider(rt: HostRuntime) -> Result<(), Fail> {
 }
 
 #[test]
-fn messages_lie_in_their_places(rt: HostRuntime) {
+fn messages_lie_in_their_places(rt: HostRuntime) -> Result<(), Fail> {
     let rider = Trail { digits: 7 };
     let put = Request::PutM {
         block: 4,
         words: [1, 2, 3, 4],
         rider,
     };
-    let mut request = RequestSlot::<Trail>::default();
+    let mut request = RequestSlot::<Trail>::blank(rt.alloc())?;
     request.put(put.lent());
     assert_eq!(rt; (request.block(), request.open().owned()), (4, put));
     request.put(Request::GetS { block: 5 });
     assert_eq!(rt; request.open().owned(), Request::GetS { block: 5 });
     let ack = Response::InvAck { block: 4, rider };
-    let mut response = ResponseSlot::<Trail>::default();
+    let mut response = ResponseSlot::<Trail>::blank(rt.alloc())?;
     response.put(ack.lent());
     assert_eq!(rt; (response.block(), response.open().owned()), (4, ack));
-    let data = FromHome::<()>::BlockData {
+    let data = FromHome::BlockData {
         block: 4,
         words: [1, 2, 3, 4],
-        rider: (),
+        rider,
     };
-    let mut message = FromHomeSlot::<Trail>::default();
-    message.put(data.riding(&rider));
-    assert_eq!(rt; message.open(), data.riding(&rider));
+    let mut message = FromHomeSlot::<Trail>::blank(rt.alloc())?;
+    message.put(data.lent());
+    assert_eq!(rt; (message.block(), message.open()), (4, data.lent()));
+    let mut cache = Cache::<Trail>::new(rt.alloc())?;
+    take(&rt, &mut cache, Step::Load(4));
+    assert!(rt; cache.expects(&data));
+    cache.take(&mut message);
+    assert!(rt; cache.can_read(4));
+    assert_eq!(rt; cache.word(4, 1), 2);
+    assert_eq!(rt; *cache.rider(4), rider);
+    Ok(())
 }

@@ -3,7 +3,7 @@ use Rattle.std.specs.List.{range_with_len}
 use Rattle.std.proofs.lemmas.List.FromFn.{map-range_with_len_more}
 use Rattle.access_times.specs.Riding.{none_carrying, none_riding}
 use Rattle.msi_state.specs.FinalMemory.{final_word}
-use Rattle.msi_state.specs.Plain.{plain}
+use Rattle.machine_plain.specs.Plain.{plain}
 use Rattle.recorder.proofs.recorded.words_of.Goals as goal
 
 pub loop-word-preserved : goal.loop-word-preserved

@@ -2,7 +2,7 @@ use Rattle.std.proofs.Common.{◌≡◌, map}
 use Rattle.std.specs.List.{range_with_len}
 use Rattle.access_times.specs.Riding.{none_carrying, none_riding}
 use Rattle.msi_state.specs.FinalMemory.{final_word}
-use Rattle.msi_state.specs.Plain.{plain}
+use Rattle.machine_plain.specs.Plain.{plain}
 use Rattle.recorder.proofs.recorded.words_of.Given as goal
 
 -- the words so far

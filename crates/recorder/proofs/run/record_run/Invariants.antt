@@ -1,6 +1,6 @@
 use Rattle.std.proofs.Common.{◌≡◌, ℕ}
 use Rattle.access_times.specs.Times.{times_riding}
-use Rattle.msi_state.specs.Bound.{left}
+use Rattle.machine_bound.specs.Bound.{left}
 use Rattle.recorder.specs.Standing.{RecordsAt}
 use Rattle.recorder.proofs.run.record_run.Given as goal
 

@@ -2,14 +2,14 @@ use Rattle.std.proofs.Common.{◌≡◌, refl, ap, sym, ◌∙◌, suc, false}
 use Rattle.std.proofs.lemmas.List.Elements.{All-weaker}
 use Rattle.access_times.specs.declared.times.Times.{Times}
 use Rattle.know_history.specs.declared.known.Known.{Known}
-use Rattle.msi_plain.proofs.Shows.{plain_done}
-use Rattle.msi_state.specs.Nodes.{Event, next_instr}
-use Rattle.msi_state.specs.Plain.{plain}
+use Rattle.machine_plain.proofs.Shows.{plain_done}
+use Rattle.msi_state.specs.Events.{Event, next_instr}
+use Rattle.machine_plain.specs.Plain.{plain}
 use Rattle.msi_state.specs.Runs.{chosen}
 use Rattle.msi_state.specs.States.{State, all_done}
-use Rattle.msi_state.specs.declared.node.Node.{Node}
 use Rattle.recorder.specs.Clerks.{Accepts, IsAwaited}
 use Rattle.rv_core.specs.Steps.{is_done, need}
+use Rattle.rv_core.specs.declared.core_state.Core.{Core}
 use Rattle.run_outcome.specs.Loads.{lists_told}
 use Rattle.recorder.proofs.Regulating.{can_tell, regulates_same, told_regulates, turned_untold}
 use Rattle.recorder.proofs.Standing.{Turned, all_awaited, notes_next, notes_same, told_lists}
@@ -20,14 +20,14 @@ step_timed-requires-clause-accepts c =
     let r = c.requires.recording in
     let notes = notes_same r.image r.params r.schedule r.t c.args.machine.now.state c.make_room.new.self.state c.args.clerk.now c.ready.new.self
     c.args.choices.now c.make_room.ensures.state c.ready.ensures.reduction c.ready.ensures.loads c.ready.ensures.history r.records.notes in
-    All-weaker (λ (n : Node Times Known). IsAwaited c.ready.new.self (next_instr n.core))
-    (λ (n : Node Times Known). is_done (need c.make_room.new.self.state.image n.core) ≡ false → Accepts c.ready.new.self (next_instr n.core))
-    (λ n awaited going. record {
+    All-weaker (λ (core : Core). IsAwaited c.ready.new.self (next_instr core))
+    (λ (core : Core). is_done (need c.make_room.new.self.state.image core) ≡ false → Accepts c.ready.new.self (next_instr core))
+    (λ core awaited going. record {
       awaited = awaited;
       ready = c.in_ok-ready.ensures.ready;
       roomy = c.in_ok-ready.ensures.roomy;
       history = c.in_ok-ready.ensures.history_ready;
-    }) c.make_room.new.self.state.nodes
+    }) c.make_room.new.self.state.cores
     (all_awaited r.image r.params r.schedule r.t c.make_room.new.self.state c.ready.new.self c.args.choices.now r.fits notes
     (c.ready.ensures.untold ∙ r.records.regulates.all_told))
 

@@ -1,14 +1,15 @@
-use Rattle.std.proofs.Common.{◌∙◌, refl}
+use Rattle.std.proofs.Common.{◌∙◌, ap, refl}
 use Rattle.std.specs.Prelude.{slice_index_or}
 use Rattle.std.proofs.lemmas.List.{get_or_default}
 use Rattle.msi_cache.specs.Messages.{response_block, response_seen}
 use Rattle.msi_directory.specs.Blocks.{no_entry}
 use Rattle.msi_directory.specs.Entries.{answer_riding, answer_to_response, entry_after_response, has_response_row}
 use Rattle.msi_directory.specs.Kept.{blocks_in, home_of}
+use Rattle.msi_directory.specs.Table.{is_free}
 use Rattle.msi_directory.specs.declared.entry.Entry.{Entry}
 use Rattle.msi_directory.specs.declared.entry.Stage.{Stage}
 use Rattle.msi_directory.proofs.Fits.{response_keeps_all}
-use Rattle.msi_directory.proofs.Rows.{blocks_after, copy_after, fits_after, is_found, rider_after, row_answers, same_elsewhere}
+use Rattle.msi_directory.proofs.Rows.{blocks_after, copy_after, fits_after, is_found, place_after, rider_after, row_answers, same_elsewhere, stage_after}
 use Rattle.msi_directory.proofs.Seen.{seen_response_block}
 use Rattle.msi_directory.proofs.Sparse.{reads_kept, stage_kept}
 use Rattle.msi_directory.proofs.home.Home.collect.Goals as goal
@@ -62,6 +63,18 @@ invariant_of-self g c =
     (get_or_default entries block past old within) c.requires.from refl in
     fits_after home block c.unwrap-place.result found within past row c.collect-answer.new.self c.collect-answer.ensures.kept stages c.self.invariant
 
+pub stage-requires : goal.stage-requires
+stage-requires g c =
+    let home = home_of c.self.inside.opening c.self.inside.fresh c.self.inside.kept in
+    let block = response_block (response_seen c.args.response) in
+    let within = rw (← c.self.view_is) at c.requires.within in
+    let found =
+    is_found home c.block.result block c.unwrap-place.result c.place.result (c.block.ensures ∙ seen_response_block c.args.response)
+    c.place.ensures.place c.place.ensures.stage c.place.ensures.copy c.unwrap-place.ensures in
+    let past = no_entry g.R.Rider.riding.fresh in
+    let row = λ (e : Entry _). entry_after_response g.R.Rider.riding.absorbed e c.args.from (response_seen c.args.response) in
+    place_after home block c.unwrap-place.result found within past row c.collect-answer.new.self c.collect-answer.ensures.kept
+
 pub copy-requires : goal.copy-requires
 copy-requires g c =
     let home = home_of c.self.inside.opening c.self.inside.fresh c.self.inside.kept in
@@ -95,12 +108,14 @@ returns g c =
         record {
           blocks = blocks_after home block place found within past row after changes;
           elsewhere = same_elsewhere home block place found within past row after changes;
-          rider = rider_after home block place found within past row after changes c.copy.result.now c.copy.ensures;
+          rider = c.get-rider.ensures ∙ rider_after home block place found within past row after changes c.copy.result.now c.copy.ensures;
         },
       ),
       record {
         home = tt;
-        answer = row_answers home block place found within past row after changes _ (λ rider. answer_riding rider c.collect-answer.result) wanted
+        answer = ap (λ rider. answer_riding rider c.collect-answer.result) c.get-rider.ensures
+            ∙ row_answers home block place found within past row after changes _ (λ rider. answer_riding rider c.collect-answer.result) wanted
             c.copy.result.now c.copy.ensures c.collect-answer.ensures.answer;
+        free = c.is_free-free.ensures ∙ ap is_free (stage_after home block place found within past row after changes c.stage.result c.stage.ensures);
       },
     )

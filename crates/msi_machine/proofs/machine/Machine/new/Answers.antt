@@ -1,20 +1,52 @@
-use Rattle.std.proofs.Common.{◌≡◌, ◌∙◌, ap, sym, subst, arith}
-use Rattle.msi_state.specs.Bound.{total_owed}
-use Rattle.msi_state.specs.Coherent.{Coherent, opening_memory}
-use Rattle.msi_state.specs.Plain.{plain}
-use Rattle.msi_state.specs.States.{State}
-use Rattle.msi_sound.specs.Sound.{Sound}
-use Rattle.msi_sound.proofs.Begins.{sound_start}
-use Rattle.msi_plain.proofs.Shows.{plain_start}
-use Rattle.msi_data.proofs.Opening.{start_coherent}
+use Rattle.std.proofs.Common.{◌≡◌, ◌∙◌, ap, sym, subst, false, length, ℕ, arith, List}
+use Rattle.std.specs.Prelude.{map}
+use Rattle.std.proofs.lemmas.List.{length-map}
+use Rattle.std.proofs.lemmas.List.FromFn.{length-map-range_with_len}
+use Rattle.image_mem.specs.Contents.{Contents}
+use Rattle.rv_core.specs.declared.core_state.Core.{Core}
+use Rattle.rv_core.specs.States.{starting}
+use Rattle.machine_bound.specs.Bound.{total_owed}
+use Rattle.machine_bound.proofs.Ends.{owed_start}
+use Rattle.machine_data.specs.Coherent.{Coherent, opening_memory}
+use Rattle.machine_data.proofs.Opening.{start_coherent}
+use Rattle.machine_invariant.specs.Holds.{MachineHolds}
+use Rattle.machine_invariant.proofs.Begins.{holds_start}
+use Rattle.machine_plain.specs.Plain.{plain}
+use Rattle.machine_plain.proofs.Shows.{plain_start}
+use Rattle.msi_state.specs.States.{Machinery, State}
+use Rattle.msi_machine.specs.declared.standing.Standing.{Standing}
+use Rattle.msi_machine.specs.Standings.{may_begin, standing_with}
 use Rattle.msi_machine.proofs.AtHand.{one_writer}
-use Rattle.msi_machine.proofs.Paid.{start_owes}
+use Rattle.msi_machine.proofs.Beginning.{notes_begin}
 use Rattle.msi_machine.proofs.machine.Machine.new.Goals as goal
+
+pub first_marks-marks-requires : goal.first_marks-marks-requires
+first_marks-marks-requires g c =
+    let long : length c.as_slice-2.result.now ≡ c.args.params.cores =
+    ap (λ (xs : List Standing). length xs) (c.as_slice-2.ensures.value ∙ c.in_ok-standings.ensures)
+    ∙ length-map c.as_slice.result.now (λ (core : Core). standing_with c.parts.inside.program core false)
+    ∙ ap (λ (xs : List Core). length xs) c.as_slice.ensures.value
+    ∙ ap (λ (m : Machinery g.row.R.Denot g.row.K.Denot). length m.state.cores) c.parts.view_is
+    ∙ ap (λ (s : State g.row.R.Denot g.row.K.Denot). length s.cores) c.in_ok-parts.ensures.state
+    ∙ length-map-range_with_len (λ (id : ℕ). starting id c.args.params.limit) 0 c.args.params.cores in
+    record { few = rw long c.requires.fits.cores }
 
 pub invariant_of-result : goal.invariant_of-result
 invariant_of-result g c =
-    subst (λ (s : State g.row.R.Denot g.row.K.Denot). Sound g.R.Rider.riding g.K.Carry.carrying s) (sym c.in_ok-parts.ensures.state)
-    (sound_start g.R.Rider.riding g.K.Carry.carrying c.args.image c.args.params.cores c.args.params.limit c.requires.fits.cores (omega arith))
+    let image : c.parts.inside.program ≡ c.args.image =
+    ap (λ (m : Machinery g.row.R.Denot g.row.K.Denot). m.state.image) c.parts.view_is
+    ∙ ap (λ (s : State g.row.R.Denot g.row.K.Denot). s.image) c.in_ok-parts.ensures.state in
+    let cores : c.as_slice.result.now ≡ c.in_ok-parts.parts.state.cores =
+    c.as_slice.ensures.value ∙ ap (λ (m : Machinery g.row.R.Denot g.row.K.Denot). m.state.cores) c.parts.view_is in
+    notes_begin g.R.Rider.riding g.K.Carry.carrying c.args.image c.args.params.cores c.args.params.limit c.in_ok-parts.parts
+    c.in_ok-standings.standings.items c.first_marks-marks.result c.in_ok-parts.ensures.state
+    (subst (λ (s : State g.row.R.Denot g.row.K.Denot). MachineHolds g.R.Rider.riding g.K.Carry.carrying s) (sym c.in_ok-parts.ensures.state)
+    (holds_start g.R.Rider.riding g.K.Carry.carrying c.args.image c.args.params.cores c.args.params.limit c.requires.fits.cores (omega arith)))
+    (c.in_ok-standings.ensures
+    ∙ ap (λ (x : Contents). map (λ (core : Core). standing_with x core false) c.as_slice.result.now) image
+    ∙ ap (map (λ (core : Core). standing_with c.args.image core false)) cores)
+    (c.first_marks-marks.ensures.cores ∙ ap (λ (xs : List Standing). length xs) c.as_slice-2.ensures.value) c.first_marks-marks.ensures.within
+    (λ m. c.first_marks-marks.ensures.marked m ∙ ap (λ (xs : List Standing). may_begin xs m) c.as_slice-2.ensures.value)
 
 pub returns-clause-plain : goal.returns-clause-plain
 returns-clause-plain g c =
@@ -30,10 +62,10 @@ returns-clause-coherent g c =
 pub returns-clause-idle : goal.returns-clause-idle
 returns-clause-idle g c =
     subst (λ (s : State g.row.R.Denot g.row.K.Denot). total_owed s ≡ 0) (sym c.in_ok-parts.ensures.state)
-    (start_owes g.R.Rider.riding g.K.Carry.carrying c.args.image c.args.params.cores c.args.params.limit)
+    (owed_start g.R.Rider.riding g.K.Carry.carrying c.args.params.cores)
 
 pub returns-clause-one_writer : goal.returns-clause-one_writer
 returns-clause-one_writer g c =
     one_writer g.R.Rider.riding g.K.Carry.carrying c.in_ok-parts.parts.state
-    (subst (λ (s : State g.row.R.Denot g.row.K.Denot). Sound g.R.Rider.riding g.K.Carry.carrying s) (sym c.in_ok-parts.ensures.state)
-    (sound_start g.R.Rider.riding g.K.Carry.carrying c.args.image c.args.params.cores c.args.params.limit c.requires.fits.cores (omega arith)))
+    (subst (λ (s : State g.row.R.Denot g.row.K.Denot). MachineHolds g.R.Rider.riding g.K.Carry.carrying s) (sym c.in_ok-parts.ensures.state)
+    (holds_start g.R.Rider.riding g.K.Carry.carrying c.args.image c.args.params.cores c.args.params.limit c.requires.fits.cores (omega arith)))

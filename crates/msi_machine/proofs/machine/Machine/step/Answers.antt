@@ -1,86 +1,118 @@
-use Rattle.std.proofs.Common.{◌∙◌, ap, sym, subst, ◌<◌, length}
-use Rattle.msi_state.specs.Nodes.{Event}
-use Rattle.msi_state.specs.Plain.{plain}
-use Rattle.msi_state.specs.States.{Machinery, State, all_done}
-use Rattle.msi_state.specs.Steps.{event, moves, rider_left, step}
-use Rattle.msi_sound.specs.Sound.{Sound}
-use Rattle.msi_sound.proofs.Kept.{sound_kept}
-use Rattle.msi_plain.proofs.Forgetting.{plain_step, plain_event}
-use Rattle.msi_progress.proofs.Spaces.{ready}
-use Rattle.msi_progress.proofs.Stuck.{some_move}
-use Rattle.msi_machine.specs.Steppings.{IsTaken, HasMoved, KeepsPromises}
+use Rattle.std.proofs.Common.{◌≡◌, ◌∙◌, ap, sym, subst, ◌<◌, ◌%◌, List, length, true, ℕ}
+use Rattle.std.proofs.lemmas.List.{with_items_is}
+use Rattle.std.proofs.lemmas.Nat.{mod_below}
+use Rattle.machine_bound.proofs.Capacity.{nearer}
+use Rattle.machine_bound.proofs.Payments.{earns}
+use Rattle.machine_data.proofs.Steps.{step_works}
+use Rattle.machine_invariant.specs.Holds.{MachineHolds}
+use Rattle.machine_invariant.proofs.Kept.{holds_kept}
+use Rattle.machine_invariant.proofs.Stepping.{step_cores}
+use Rattle.machine_plain.specs.Plain.{plain}
+use Rattle.machine_plain.proofs.Forgetting.{plain_event, plain_step}
+use Rattle.machine_progress.proofs.Rested.{rooms_there, rows_there}
+use Rattle.machine_progress.proofs.Stuck.{some_move}
+use Rattle.msi_state.specs.Events.{Event}
+use Rattle.msi_state.specs.Moves.{IsNumbered}
+use Rattle.msi_state.specs.States.{Machinery, State}
+use Rattle.msi_state.specs.Steps.{enabled, event, moves, rider_left, step}
+use Rattle.msi_machine.specs.declared.standing.Standing.{Standing}
+use Rattle.msi_machine.specs.Steppings.{HasMoved, KeepsPromises}
 use Rattle.msi_machine.proofs.AtHand.{one_writer}
-use Rattle.msi_machine.proofs.Choosing.{plainly_chosen}
-use Rattle.msi_data.proofs.Remembers.{image_kept}
-use Rattle.msi_bound.proofs.Payments.{earns}
-use Rattle.msi_bound.proofs.Capacity.{cores_kept, nearer}
-use Rattle.msi_data.proofs.Steps.{step_works}
+use Rattle.msi_machine.proofs.Choosing.{found_enabled, numbered, plainly_chosen, taken_enabled}
+use Rattle.msi_machine.proofs.Moves.{notes_kept}
+use Rattle.msi_machine.proofs.Standings.{standings_long}
 use Rattle.msi_machine.proofs.machine.Machine.step.Goals as goal
 
-pub step-requires-clause-some : goal.step-requires-clause-some
-step-requires-clause-some g c =
-    some_move g.R.Rider.riding g.K.Carry.carrying c.self.inside.parts.state c.self.invariant
-    (ap (λ (m : Machinery g.row.R.Denot g.row.K.Denot). all_done m.state) c.self.view_is ∙ c.requires.more)
+pub nonzero_rem-choice : goal.nonzero_rem-choice
+nonzero_rem-choice g c =
+    let holds : MachineHolds g.R.Rider.riding g.K.Carry.carrying c.args.self.now.state =
+    subst (λ (m : Machinery g.row.R.Denot g.row.K.Denot). MachineHolds g.R.Rider.riding g.K.Carry.carrying m.state) c.self.view_is c.self.invariant.holds in
+    subst (λ (n : ℕ). 0 < n) (sym (c.count.ensures ∙ ap length c.all_marks-marks.ensures.moves))
+    (some_move g.R.Rider.riding g.K.Carry.carrying c.args.self.now.state holds c.requires.more)
 
-pub step-requires-clause-ready : goal.step-requires-clause-ready
-step-requires-clause-ready g c = ready g.R.Rider.riding g.K.Carry.carrying c.self.inside.parts.state c.self.invariant
+pub pick-taken-requires-clause-some : goal.pick-taken-requires-clause-some
+pick-taken-requires-clause-some g c =
+    subst (λ (n : ℕ). c.args.choice % c.count.result < n) c.count.ensures (mod_below c.args.choice c.count.result (nonzero_rem-choice g c))
+
+pub make_move-retired-requires-clause-enabled : goal.make_move-retired-requires-clause-enabled
+make_move-retired-requires-clause-enabled g c =
+    found_enabled g.R.Rider.riding g.K.Carry.carrying c.self.inside.parts c.args.self.now c.args.choice c.count.result c.pick-taken.result c.self.view_is
+    c.self.invariant.holds c.requires.more c.all_marks-marks.ensures.moves c.count.ensures c.pick-taken.ensures
 
 pub invariant_of-self : goal.invariant_of-self
 invariant_of-self g c =
-    subst (λ (s : State g.row.R.Denot g.row.K.Denot). Sound g.R.Rider.riding g.K.Carry.carrying s) (sym c.step.ensures.state)
-    (sound_kept g.R.Rider.riding g.K.Carry.carrying c.self.inside.parts.state c.step.result.taken
-    (rider_left g.R.Rider.riding g.K.Carry.carrying c.self.inside.parts.state c.step.new.self.state c.step.result.taken) c.step.ensures.enabled
-    c.self.invariant)
+    let s : State g.row.R.Denot g.row.K.Denot = c.self.inside.parts.state in
+    let t : State g.row.R.Denot g.row.K.Denot = c.make_move-retired.new.self.state in
+    let can_be : enabled g.R.Rider.riding g.K.Carry.carrying s c.pick-taken.result ≡ true =
+    found_enabled g.R.Rider.riding g.K.Carry.carrying c.self.inside.parts c.args.self.now c.args.choice c.count.result c.pick-taken.result c.self.view_is
+    c.self.invariant.holds c.requires.more c.all_marks-marks.ensures.moves c.count.ensures c.pick-taken.ensures in
+    let roomy = rw (← c.self.view_is) at c.requires.roomy in
+    let long : length c.make_move-retired.new.standings ≡ c.self.inside.standings.len =
+    standings_long t c.make_move-retired.new.standings c.make_move-retired.ensures.stands
+    ∙ ap (λ (x : State g.row.R.Denot g.row.K.Denot). length x.cores) c.make_move-retired.ensures.state
+    ∙ step_cores g.R.Rider.riding g.K.Carry.carrying (rider_left g.R.Rider.riding g.K.Carry.carrying s t c.pick-taken.result) s c.pick-taken.result
+    ∙ sym (standings_long s c.self.inside.standings.items c.self.invariant.stands)
+    ∙ ap (λ (xs : List Standing). length xs) (sym c.as_mut_slice-standings.ensures.value)
+    ∙ c.as_mut_slice-standings.ensures.len in
+    notes_kept g.R.Rider.riding g.K.Carry.carrying c.self.inside.parts c.make_move-retired.new.self c.pick-taken.result _ c.make_move-retired.new.standings
+    c.make_move-retired.new.marks c.core-self-inside.result roomy c.self.invariant.holds can_be c.make_move-retired.ensures.state
+    c.make_move-retired.ensures.rooms c.make_move-retired.ensures.stands
+    (with_items_is c.self.inside.standings c.make_move-retired.new.standings long) c.make_move-retired.ensures.marked c.core-self-inside.ensures
 
 pub returns-clause-taken : goal.returns-clause-taken
 returns-clause-taken g c =
-    let some : 0 < length (moves g.R.Rider.riding g.K.Carry.carrying c.self.inside.parts.state) =
-    some_move g.R.Rider.riding g.K.Carry.carrying c.self.inside.parts.state c.self.invariant
-    (ap (λ (m : Machinery g.row.R.Denot g.row.K.Denot). all_done m.state) c.self.view_is ∙ c.requires.more) in
-    let well = ready g.R.Rider.riding g.K.Carry.carrying c.self.inside.parts.state c.self.invariant in
-    subst (λ (m : Machinery g.row.R.Denot g.row.K.Denot). IsTaken g.R.Rider.riding g.K.Carry.carrying m.state c.args.choice c.step.result.taken) c.self.view_is
-    (record {
+    let s : State g.row.R.Denot g.row.K.Denot = c.args.self.now.state in
+    let holds : MachineHolds g.R.Rider.riding g.K.Carry.carrying s =
+    subst (λ (m : Machinery g.row.R.Denot g.row.K.Denot). MachineHolds g.R.Rider.riding g.K.Carry.carrying m.state) c.self.view_is c.self.invariant.holds in
+    let some : 0 < length (moves g.R.Rider.riding g.K.Carry.carrying s) = some_move g.R.Rider.riding g.K.Carry.carrying s holds c.requires.more in
+    let is : IsNumbered (moves g.R.Rider.riding g.K.Carry.carrying s) c.args.choice c.pick-taken.result =
+    numbered c.args.choice c.count.result c.pick-taken.result c.all_marks-marks.ensures.moves c.count.ensures c.pick-taken.ensures in
+    let can_be = taken_enabled g.R.Rider.riding g.K.Carry.carrying s c.args.choice c.pick-taken.result some is in
+    record {
       some = some;
-      numbered = c.step.ensures.taken;
-      plainly = plainly_chosen g.R.Rider.riding g.K.Carry.carrying c.self.inside.parts.state c.args.choice c.step.result.taken some c.step.ensures.taken;
-      row = well.rows c.step.result.taken c.step.ensures.enabled;
-      room = well.rooms c.step.result.taken c.step.ensures.enabled;
-    })
+      numbered = is;
+      plainly = plainly_chosen g.R.Rider.riding g.K.Carry.carrying s c.args.choice c.pick-taken.result some is;
+      row = rows_there g.R.Rider.riding g.K.Carry.carrying s c.pick-taken.result holds can_be;
+      room = rooms_there g.R.Rider.riding g.K.Carry.carrying s c.pick-taken.result holds can_be;
+    }
 
 pub returns-clause-moved : goal.returns-clause-moved
 returns-clause-moved g c =
-    let rider = rider_left g.R.Rider.riding g.K.Carry.carrying c.self.inside.parts.state c.step.new.self.state c.step.result.taken in
-    subst (λ (m : Machinery g.row.R.Denot g.row.K.Denot). HasMoved g.R.Rider.riding g.K.Carry.carrying m c.step.new.self c.step.result.taken) c.self.view_is
+    let s : State g.row.R.Denot g.row.K.Denot = c.self.inside.parts.state in
+    let rider = rider_left g.R.Rider.riding g.K.Carry.carrying s c.make_move-retired.new.self.state c.pick-taken.result in
+    subst (λ (m : Machinery g.row.R.Denot g.row.K.Denot). HasMoved g.R.Rider.riding g.K.Carry.carrying m c.make_move-retired.new.self c.pick-taken.result)
+    c.self.view_is
     (record {
-      state = c.step.ensures.state;
-      plainly = ap (plain {R = g.row.R.Denot} {K = g.row.K.Denot}) c.step.ensures.state
-          ∙ plain_step g.R.Rider.riding g.K.Carry.carrying rider c.self.inside.parts.state c.step.result.taken;
-      tells = plain_event g.R.Rider.riding g.K.Carry.carrying c.self.inside.parts.state c.step.result.taken;
-      image = ap (λ (s : State g.row.R.Denot g.row.K.Denot). s.image) c.step.ensures.state
-          ∙ image_kept g.R.Rider.riding g.K.Carry.carrying c.self.inside.parts.state c.step.result.taken rider;
-      cores = ap (λ (s : State g.row.R.Denot g.row.K.Denot). length s.nodes) c.step.ensures.state
-          ∙ cores_kept g.R.Rider.riding g.K.Carry.carrying c.self.inside.parts.state c.step.result.taken rider;
-      rooms = c.step.ensures.rooms;
+      state = c.make_move-retired.ensures.state;
+      plainly = ap (plain {R = g.row.R.Denot} {K = g.row.K.Denot}) c.make_move-retired.ensures.state
+          ∙ plain_step g.R.Rider.riding g.K.Carry.carrying rider s c.pick-taken.result;
+      tells = plain_event g.R.Rider.riding g.K.Carry.carrying s c.pick-taken.result;
+      image = ap (λ (x : State g.row.R.Denot g.row.K.Denot). x.image) c.make_move-retired.ensures.state;
+      cores = ap (λ (x : State g.row.R.Denot g.row.K.Denot). length x.cores) c.make_move-retired.ensures.state
+          ∙ step_cores g.R.Rider.riding g.K.Carry.carrying rider s c.pick-taken.result;
+      rooms = c.make_move-retired.ensures.rooms;
     })
 
 pub returns-clause-keeps : goal.returns-clause-keeps
 returns-clause-keeps g c =
-    let rider = rider_left g.R.Rider.riding g.K.Carry.carrying c.self.inside.parts.state c.step.new.self.state c.step.result.taken in
-    let e : Event = event g.R.Rider.riding g.K.Carry.carrying c.self.inside.parts.state c.step.result.taken in
-    let sound : Sound g.R.Rider.riding g.K.Carry.carrying (step g.R.Rider.riding g.K.Carry.carrying rider c.self.inside.parts.state c.step.result.taken) =
-    sound_kept g.R.Rider.riding g.K.Carry.carrying c.self.inside.parts.state c.step.result.taken rider c.step.ensures.enabled c.self.invariant in
-    subst (λ (m : Machinery g.row.R.Denot g.row.K.Denot). KeepsPromises g.R.Rider.riding g.K.Carry.carrying m.state c.step.new.self.state
-    (event g.R.Rider.riding g.K.Carry.carrying m.state c.step.result.taken)) c.self.view_is
-    (subst (λ (t : State g.row.R.Denot g.row.K.Denot). KeepsPromises g.R.Rider.riding g.K.Carry.carrying c.self.inside.parts.state t e)
-    (sym c.step.ensures.state)
+    let s : State g.row.R.Denot g.row.K.Denot = c.self.inside.parts.state in
+    let can_be : enabled g.R.Rider.riding g.K.Carry.carrying s c.pick-taken.result ≡ true =
+    found_enabled g.R.Rider.riding g.K.Carry.carrying c.self.inside.parts c.args.self.now c.args.choice c.count.result c.pick-taken.result c.self.view_is
+    c.self.invariant.holds c.requires.more c.all_marks-marks.ensures.moves c.count.ensures c.pick-taken.ensures in
+    let rider = rider_left g.R.Rider.riding g.K.Carry.carrying s c.make_move-retired.new.self.state c.pick-taken.result in
+    let e : Event = event g.R.Rider.riding g.K.Carry.carrying s c.pick-taken.result in
+    let after : MachineHolds g.R.Rider.riding g.K.Carry.carrying (step g.R.Rider.riding g.K.Carry.carrying rider s c.pick-taken.result) =
+    holds_kept g.R.Rider.riding g.K.Carry.carrying s c.pick-taken.result rider can_be c.self.invariant.holds in
+    subst (λ (m : Machinery g.row.R.Denot g.row.K.Denot). KeepsPromises g.R.Rider.riding g.K.Carry.carrying m.state c.make_move-retired.new.self.state
+    (event g.R.Rider.riding g.K.Carry.carrying m.state c.pick-taken.result)) c.self.view_is
+    (subst (λ (t : State g.row.R.Denot g.row.K.Denot). KeepsPromises g.R.Rider.riding g.K.Carry.carrying s t e)
+    (sym c.make_move-retired.ensures.state)
     (record {
-      earns = earns g.R.Rider.riding g.K.Carry.carrying c.self.inside.parts.state c.step.result.taken rider c.step.ensures.enabled c.self.invariant;
-      nearer = nearer g.R.Rider.riding g.K.Carry.carrying c.self.inside.parts.state c.step.result.taken rider c.step.ensures.enabled c.self.invariant sound;
+      earns = earns g.R.Rider.riding g.K.Carry.carrying s c.pick-taken.result rider can_be c.self.invariant.holds;
+      nearer = nearer g.R.Rider.riding g.K.Carry.carrying s c.pick-taken.result rider can_be c.self.invariant.holds after;
       coherent = λ memory k.
-          (step_works g.R.Rider.riding g.K.Carry.carrying c.self.inside.parts.state c.step.result.taken rider memory c.step.ensures.enabled c.self.invariant
-          k).coherent;
-      finds = λ memory k. (step_works g.R.Rider.riding g.K.Carry.carrying c.self.inside.parts.state c.step.result.taken rider memory c.step.ensures.enabled
-          c.self.invariant k).finds;
+          (step_works g.R.Rider.riding g.K.Carry.carrying s c.pick-taken.result rider memory can_be c.self.invariant.holds k).coherent;
+      finds = λ memory k. (step_works g.R.Rider.riding g.K.Carry.carrying s c.pick-taken.result rider memory can_be c.self.invariant.holds k).finds;
       one_writer = one_writer g.R.Rider.riding g.K.Carry.carrying
-          (step g.R.Rider.riding g.K.Carry.carrying rider c.self.inside.parts.state c.step.result.taken) sound;
+          (step g.R.Rider.riding g.K.Carry.carrying rider s c.pick-taken.result) after;
     }))

@@ -1,10 +1,10 @@
 use Rattle.std.proofs.Common.{sym, subst, []}
 use Rattle.access_times.specs.declared.times.Times.{Times}
 use Rattle.msi_state.specs.States.{State}
-use Rattle.msi_times.proofs.Begins.{machine_start}
-use Rattle.msi_times.proofs.RiderLaws.{times_fresh}
-use Rattle.msi_times.specs.Retirements.{MachineStandsFor}
-use Rattle.msi_times.specs.TimedSteps.{times_parts}
+use Rattle.machine_times.proofs.Begins.{machine_start}
+use Rattle.machine_times.proofs.RiderLaws.{times_fresh}
+use Rattle.machine_times.specs.Retirements.{MachineStandsFor}
+use Rattle.machine_times.specs.TimedSteps.{times_parts}
 use Rattle.msi_machine.proofs.timed.Machine+Times+K.a_new_machine_stands_for_nothing_retired.Goals as goal
 
 pub returns : goal.returns

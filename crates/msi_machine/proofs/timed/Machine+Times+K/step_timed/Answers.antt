@@ -1,47 +1,46 @@
 use Rattle.std.proofs.Common.{sym, subst}
 use Rattle.access_times.specs.Times.{times_riding}
 use Rattle.access_times.specs.declared.times.Times.{Times}
-use Rattle.msi_sound.specs.Sound.{Sound}
-use Rattle.msi_state.specs.Nodes.{carry_after}
+use Rattle.machine_invariant.specs.Holds.{MachineHolds}
 use Rattle.msi_state.specs.States.{Machinery, State}
-use Rattle.msi_state.specs.Steps.{event, retiring, rider_left}
-use Rattle.msi_times.proofs.Absorbing.{meet_alike}
-use Rattle.msi_times.proofs.RiderLaws.{times_absorb}
-use Rattle.msi_times.proofs.Timed.{finds_exact}
-use Rattle.msi_times.proofs.Told.{timed_told, clocks_told}
-use Rattle.msi_times.specs.Retirements.{MachineStandsFor}
-use Rattle.msi_times.specs.TimedSteps.{times_parts, with_step}
+use Rattle.msi_state.specs.Steps.{carry_told, event, rider_left}
+use Rattle.machine_times.proofs.Absorbing.{meet_alike}
+use Rattle.machine_times.proofs.RiderLaws.{times_absorb}
+use Rattle.machine_times.proofs.Timed.{finds_exact}
+use Rattle.machine_times.proofs.Told.{timed_told, clocks_told}
+use Rattle.machine_times.specs.Retirements.{MachineStandsFor}
+use Rattle.machine_times.specs.TimedSteps.{times_parts, with_step}
 use Rattle.std.specs.Prelude.{reverse}
-use Rattle.msi_machine.proofs.Timely.{taken_enabled}
+use Rattle.msi_machine.proofs.Choosing.{taken_enabled}
 use Rattle.msi_machine.proofs.timed.Machine+Times+K.step_timed.Goals as goal
 
 pub returns-clause-stands : goal.returns-clause-stands
 returns-clause-stands g c = λ list f.
-    let sound : Sound times_riding g.K.Carry.carrying c.args.self.now.state =
-    subst (λ (m : Machinery Times g.row.K.Denot). Sound times_riding g.K.Carry.carrying m.state) c.self.view_is c.self.invariant in
+    let holds : MachineHolds times_riding g.K.Carry.carrying c.args.self.now.state =
+    subst (λ (m : Machinery Times g.row.K.Denot). MachineHolds times_riding g.K.Carry.carrying m.state) c.self.view_is c.self.invariant.holds in
     subst (λ (s : State Times g.row.K.Denot). MachineStandsFor times_parts g.K.Carry.carrying
     (with_step g.K.Carry.carrying c.args.self.now.state c.step.result.taken (g.C.TimesClerk.clock c.step.new.clerk) list) s)
     (sym c.step.ensures.moved.state)
     (timed_told g.C.Clerk.told_local g.C.Clerk.told_touch g.C.TimesClerk.clock g.met.C.TimesClerk.touch_notes g.K.Carry.carrying list c.args.self.now.state
     c.step.result.taken c.args.clerk.now c.step.new.clerk
     (rider_left times_riding g.K.Carry.carrying c.args.self.now.state c.step.new.self.state c.step.result.taken)
-    (carry_after g.K.Carry.carrying (retiring times_riding g.K.Carry.carrying c.args.self.now.state c.step.result.taken))
-    sound (taken_enabled times_riding g.K.Carry.carrying c.args.self.now.state c.args.choice c.step.result.taken c.step.ensures.taken.some
+    (carry_told times_riding g.K.Carry.carrying c.args.self.now.state c.step.result.taken)
+    holds (taken_enabled times_riding g.K.Carry.carrying c.args.self.now.state c.args.choice c.step.result.taken c.step.ensures.taken.some
     c.step.ensures.taken.numbered) c.step.ensures.told f)
 
 pub returns-clause-times : goal.returns-clause-times
 returns-clause-times g c = λ list f a is.
-    let sound : Sound times_riding g.K.Carry.carrying c.args.self.now.state =
-    subst (λ (m : Machinery Times g.row.K.Denot). Sound times_riding g.K.Carry.carrying m.state) c.self.view_is c.self.invariant in
-    finds_exact times_parts g.K.Carry.carrying times_absorb (reverse list) c.args.self.now.state c.step.result.taken a sound
+    let holds : MachineHolds times_riding g.K.Carry.carrying c.args.self.now.state =
+    subst (λ (m : Machinery Times g.row.K.Denot). MachineHolds times_riding g.K.Carry.carrying m.state) c.self.view_is c.self.invariant.holds in
+    finds_exact times_parts g.K.Carry.carrying times_absorb (reverse list) c.args.self.now.state c.step.result.taken a holds
     (taken_enabled times_riding g.K.Carry.carrying c.args.self.now.state c.args.choice c.step.result.taken c.step.ensures.taken.some
     c.step.ensures.taken.numbered) is f
 
 pub returns-clause-alike : goal.returns-clause-alike
 returns-clause-alike g c = λ list f.
-    let sound : Sound times_riding g.K.Carry.carrying c.args.self.now.state =
-    subst (λ (m : Machinery Times g.row.K.Denot). Sound times_riding g.K.Carry.carrying m.state) c.self.view_is c.self.invariant in
-    meet_alike times_parts g.K.Carry.carrying list c.args.self.now.state c.step.result.taken sound
+    let holds : MachineHolds times_riding g.K.Carry.carrying c.args.self.now.state =
+    subst (λ (m : Machinery Times g.row.K.Denot). MachineHolds times_riding g.K.Carry.carrying m.state) c.self.view_is c.self.invariant.holds in
+    meet_alike times_parts g.K.Carry.carrying list c.args.self.now.state c.step.result.taken holds
     (taken_enabled times_riding g.K.Carry.carrying c.args.self.now.state c.args.choice c.step.result.taken c.step.ensures.taken.some
     c.step.ensures.taken.numbered) f
 

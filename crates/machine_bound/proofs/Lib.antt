@@ -1,0 +1,7 @@
+pub mod Sums
+pub mod Owed
+pub mod PortEarns
+pub mod Requests
+pub mod Payments
+pub mod Capacity
+pub mod Ends

@@ -1,0 +1,6 @@
+pub mod Memory
+pub mod Opening
+pub mod Values
+pub mod Steps
+pub mod Final
+pub mod Remembers

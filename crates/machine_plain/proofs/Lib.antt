@@ -1,0 +1,5 @@
+pub mod Plains
+pub mod PlainActs
+pub mod Forgetting
+pub mod SameMoves
+pub mod Shows

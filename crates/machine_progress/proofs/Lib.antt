@@ -1,0 +1,3 @@
+pub mod Rested
+pub mod Stuck
+pub mod Ending

@@ -1,0 +1,7 @@
+//! The machine never stops short. In each state that has its invariant what a move rests on is there, some
+//! move is enabled until each core's program is done, and then nothing is under way. The crate has laws alone.
+#![tactic(auto)]
+
+mod laws;
+
+pub use laws::{moves_are_ready, never_stuck, nothing_is_left_at_the_end};

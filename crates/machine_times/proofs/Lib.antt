@@ -1,0 +1,12 @@
+pub mod Past
+pub mod Relined
+pub mod Exact
+pub mod Times
+pub mod RiderLaws
+pub mod Counting
+pub mod Timed
+pub mod Begins
+pub mod Told
+pub mod Absorbing
+pub mod ExactTimes
+pub mod TimedRuns

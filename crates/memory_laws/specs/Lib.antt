@@ -1,0 +1,7 @@
+pub mod Sights
+pub mod Links
+pub mod Holds
+pub mod Words
+pub mod Waits
+pub mod Ready
+pub mod Moving

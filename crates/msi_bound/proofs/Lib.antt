@@ -1,6 +1,0 @@
-pub mod Bound
-pub mod NodeEarns
-pub mod Earns
-pub mod Payments
-pub mod Capacity
-pub mod Ends

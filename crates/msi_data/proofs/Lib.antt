@@ -1,9 +1,0 @@
-pub mod Memory
-pub mod Current
-pub mod Stores
-pub mod Coheres
-pub mod Steps
-pub mod Final
-pub mod Opening
-pub mod Values
-pub mod Remembers

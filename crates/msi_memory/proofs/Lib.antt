@@ -1,0 +1,7 @@
+pub mod Asking
+pub mod FirstActs
+pub mod LinkRooms
+pub mod Roomy
+pub mod Served
+pub mod Turns
+pub mod Waiting

@@ -1,0 +1,129 @@
+//! A core's side of the memory system.
+ghost use Rattle.std.specs.Prelude.{◌≡◌, ◌<◌, IfOk, IsTrue, length};
+ghost use Rattle.msi_cache.specs.Lines.{has_row, line_for, lines_after, waits};
+ghost use Rattle.msi_cache.specs.Messages.{block_of, signal};
+ghost use Rattle.msi_memory.specs.Acts.{data_next, port_taking};
+ghost use Rattle.msi_memory.specs.Memories.{port_start};
+ghost use Rattle.msi_memory.specs.Waiting.{ends_wait};
+ghost use Rattle.msi_memory.specs.Rests.{can_hear_in};
+
+use access_times::{Carry, Rider};
+use link_order::{Blank, Link};
+use msi_cache::{Cache, FromHome, FromHomeSlot, RequestSlot, ResponseSlot};
+use rtr_types::CORES_MAX;
+use std::alloc::{AllocError, Global};
+
+/// What is on a link: a message, and its sender's carry as it was once the sender had done all else.
+#[derive(Drop)]
+pub struct Mail<T, K> {
+    pub item: T,
+    pub carry: K,
+}
+
+// Places on links to which no message came yet.
+impl<R: Rider, K: Carry> Blank for Mail<RequestSlot<R>, K> {
+    fn blank(alloc: Global) -> Result<Self, AllocError> {
+        let item = RequestSlot::blank(alloc)?;
+        let carry = K::none();
+        Ok(Mail { item, carry })
+    }
+}
+
+impl<R: Rider, K: Carry> Blank for Mail<ResponseSlot<R>, K> {
+    fn blank(alloc: Global) -> Result<Self, AllocError> {
+        let item = ResponseSlot::blank(alloc)?;
+        let carry = K::none();
+        Ok(Mail { item, carry })
+    }
+}
+
+impl<R: Rider, K: Carry> Blank for Mail<FromHomeSlot<R>, K> {
+    fn blank(alloc: Global) -> Result<Self, AllocError> {
+        let item = FromHomeSlot::blank(alloc)?;
+        let carry = K::none();
+        Ok(Mail { item, carry })
+    }
+}
+
+/// A core's side of the memory system: its carry, its cache, and its three links: requests to home,
+/// responses to home and messages from home.
+#[derive(Drop)]
+pub struct Port<R, K> {
+    pub carry: K,
+    pub cache: Cache<R>,
+    pub requests: Link<Mail<RequestSlot<R>, K>>,
+    pub responses: Link<Mail<ResponseSlot<R>, K>>,
+    pub messages: Link<Mail<FromHomeSlot<R>, K>>,
+}
+
+impl<R: Rider, K: Carry> Port<R, K> {
+    /// A port at the start.
+    pub(crate) fn new(alloc: Global) -> Result<Port<R, K>, AllocError>
+        ensures { IfOk result (λ p. p ≡ port_start R.riding K.carrying) }
+    {
+        let cache = Cache::new(alloc)?;
+        let requests = Link::of_blanks(alloc, 1)?;
+        let responses = Link::of_blanks(alloc, CORES_MAX as u32)?;
+        let messages = Link::of_blanks(alloc, CORES_MAX as u32)?;
+        Ok(Port {
+            carry: K::none(),
+            cache,
+            requests,
+            responses,
+            messages,
+        })
+    }
+
+    /// Takes the oldest message from home, and answers it where the cache's table has an answer. Whether some
+    /// line waits is kept beside the port and renewed. The answer is whether the message had a block's data.
+    pub(crate) fn take(&mut self, waiting: &mut bool) -> bool
+        requires row { IsTrue (can_hear_in self.old.messages.items R.riding self.old) }
+        requires room { length self.old.responses.items < self.old.responses.room }
+        requires waits { waiting.old ≡ waits self.old.cache }
+        ensures port { self.new ≡ port_taking R.riding K.carrying self.old self.old.messages.items }
+        ensures data { result ≡ data_next self.old.messages.items }
+        ensures waits { waiting.new ≡ waits self.new.cache }
+    {
+        if self.messages.is_empty() {
+            return false;
+        }
+        let mail = self.messages.head_place();
+        self.carry = self.carry.join(mail.carry);
+        let message = mail.item.open();
+        if let Some(response) = self.cache.answer(message) {
+            let reply = self.responses.push_place();
+            reply.item.put(response);
+            reply.carry = self.carry;
+        }
+        let is_data = matches!(message, FromHome::BlockData { .. });
+        hear(&mut self.cache, &mut mail.item, waiting);
+        self.messages.drop_head();
+        is_data
+    }
+}
+
+// Whether such a message ends the wait of a line that expects it.
+fn ends_wait<R>(message: FromHome<&R>) -> bool
+    ensures { result ≡ ends_wait (signal message.entry) }
+{
+    matches!(
+        message,
+        FromHome::BlockData { .. } | FromHome::PutAck { .. }
+    )
+}
+
+/// The cache takes the message from home that lies here, and what was kept of its waiting is renewed.
+#[tactic(auto, using(crate::proofs::Waiting::waits_kept))]
+fn hear<R: Rider>(cache: &mut Cache<R>, message: &mut FromHomeSlot<R>, waiting: &mut bool)
+    requires row { IsTrue (has_row (line_for R.riding.fresh cache.old (block_of message.old)) message.old) }
+    requires waits { waiting.old ≡ waits cache.old }
+    ensures lines { cache.new ≡ lines_after R.riding cache.old message.old }
+    ensures waits { waiting.new ≡ waits cache.new }
+{
+    let ends = ends_wait(message.open());
+    cache.take(message);
+    // no other message changes whether a line waits
+    if ends {
+        *waiting = cache.waits();
+    }
+}

@@ -1,4 +1,0 @@
-pub mod Plains
-pub mod Forgetting
-pub mod SameMoves
-pub mod Shows

@@ -1,6 +1,0 @@
-use Rattle.std.proofs.Common.{arith}
-use Rattle.msi_state.proofs.Bits.{count_is}
-use Rattle.msi_state.proofs.marks.Marks.count.Goals as goal
-
-pub returns : goal.returns
-returns c = count_is c.args.self.now (omega arith) c.requires.few c.requires.within

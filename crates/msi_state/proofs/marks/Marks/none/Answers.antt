@@ -1,5 +1,0 @@
-use Rattle.msi_state.proofs.Bits.{none_marked}
-use Rattle.msi_state.proofs.marks.Marks.none.Goals as goal
-
-pub returns-clause-none : goal.returns-clause-none
-returns-clause-none c = λ m. none_marked c.args.cores m

@@ -1,5 +1,0 @@
-use Rattle.msi_times.proofs.ExactTimes.{ordered_law}
-use Rattle.msi_times.proofs.laws.accesses_are_ordered.Goals as goal
-
-pub returns : goal.returns
-returns c = ordered_law

@@ -1,5 +1,0 @@
-use Rattle.msi_times.proofs.ExactTimes.{exact_times_law}
-use Rattle.msi_times.proofs.laws.noted_times_are_exact.Goals as goal
-
-pub returns : goal.returns
-returns c = exact_times_law

@@ -1,6 +1,0 @@
-use Rattle.msi_times.specs.TimedSteps.{times_parts}
-use Rattle.msi_times.proofs.Absorbing.{meet_alike}
-use Rattle.msi_times.proofs.laws.riders_meet_alike.Goals as goal
-
-pub returns : goal.returns
-returns g c = meet_alike times_parts g.K.Carry.carrying
