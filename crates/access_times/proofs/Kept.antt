@@ -1,10 +1,14 @@
 -- What the kept reads of a word are to contracts, and what the writes and loops over their places leave.
-use Rattle.std.proofs.Common.{◌≡◌, ◌≢◌, ◌∙◌, refl, sym, ap, subst, ◌+◌, ℕ, ◌<◌, ◌≤◌, length, List, Option, Some, None, Bool, true, false, arith}
+use Rattle.std.proofs.Common.{◌≡◌, ◌≢◌, ◌∙◌, refl, sym, ap, subst, ℕ, ◌<◌, ◌≤◌, length, List, Option, Some, None, Bool, true, false, arith, ◌*◌, ◌%◌, ◌^◌}
 use Rattle.std.specs.Prelude.{◌==◌, if◌then◌else◌, slice_index_or, slice_set}
 use Rattle.std.proofs.lemmas.Bool.Decides.{nat_tests}
+use Rattle.std.specs.Int.{bit_not, trailing_zeros}
+use Rattle.std.proofs.lemmas.Nat.Bits.{bit_at-trailing_zeros}
+use Rattle.std.specs.Option.{is_some}
+use Rattle.std.proofs.lemmas.Nat.{and_le_l}
 use Rattle.std.proofs.lemmas.List.{get_or-set_same, get_or-set_other, length-set, get_or-replicate, length-replicate, get_or_default}
 use Rattle.std.proofs.lemmas.List.FromFn.{fill_by_all, get_or-map-range_with_len, length-map-range_with_len}
-use Rattle.rtr_types.specs.CoreSets.{has, with_core, without_core, is_none, no_cores}
+use Rattle.rtr_types.specs.CoreSets.{has, with_core, without_core, is_none, no_cores, set_width}
 use Rattle.rtr_types.specs.declared.TheConstants.{CORES_MAX}
 use Rattle.rtr_types.specs.declared.core_set.CoreSet.{CoreSet}
 use Rattle.rtr_types.proofs.Members.{has-with_same, has-with_other, has-without_same, has-without_other, has-none, has-no_cores}
@@ -79,42 +83,27 @@ abbrev pub read_of : Inside → ℕ → Option (ℕ × Clock)
 read_of a core = read_kept a.readers a.places core
 
 -- While the reads of the cores that are left are still to be looked at, `is_done` holds of each other core, and
--- `is_left` of these. No core below this one is left.
-pub record Filling (left : CoreSet) (core : ℕ) (is_done is_left : ℕ → Type 0) : Type 0 where
-  pub passed : (k : ℕ) → k < core → has left k ≡ false
+-- `is_left` of these.
+pub record Filling (left : CoreSet) (is_done is_left : ℕ → Type 0) : Type 0 where
   pub done : (k : ℕ) → k < CORES_MAX → has left k ≡ false → is_done k
   pub rest : (k : ℕ) → k < CORES_MAX → has left k ≡ true → is_left k
 
-module _ {left : CoreSet} {core : ℕ} {is_done is_left : ℕ → Type 0} where
-  -- this core is not left
-  pub passed_by : Filling left core is_done is_left → has left core ≡ false → Filling left (core + 1) is_done is_left
-  passed_by f isnt = record { passed = λ k lt. by k lt (k == core) refl; done = f.done; rest = f.rest }
-    where
-      by : (k : ℕ) → k < core + 1 → (b : Bool) → (k == core) ≡ b → has left k ≡ false
-      by k lt true e = let same : k ≡ core = grind (arith, nat_tests) in ap (has left) same ∙ isnt
-      by k lt false e = let below : k < core = grind (arith, nat_tests) in f.passed k below
-
+module _ {left : CoreSet} {is_done is_left : ℕ → Type 0} where
   -- this core's read was looked at
-  pub looked_at : (done_now left_now : ℕ → Type 0) → Filling left core is_done is_left → core < CORES_MAX → done_now core →
+  pub looked_at : (core : ℕ) (done_now left_now : ℕ → Type 0) → Filling left is_done is_left → core < CORES_MAX → done_now core →
       ((k : ℕ) → k ≢ core → is_done k → done_now k) → ((k : ℕ) → k ≢ core → is_left k → left_now k) →
-      Filling (without_core left core) (core + 1) done_now left_now
-  looked_at done_now left_now f lt here keeps_done keeps_left =
+      Filling (without_core left core) done_now left_now
+  looked_at core done_now left_now f lt here keeps_done keeps_left =
       record {
-        passed = λ k below. passed k below (k == core) refl;
         done = λ k lk isnt. done k lk isnt (k == core) refl;
         rest = λ k lk is. rest k lk is (k == core) refl;
       }
     where
-      passed : (k : ℕ) → k < core + 1 → (b : Bool) → (k == core) ≡ b → has (without_core left core) k ≡ false
-      passed k below true e = let same : k ≡ core = grind (arith, nat_tests) in ap (has (without_core left core)) same ∙ has-without_same left core lt
-      passed k below false e =
-          let other : k ≢ core = grind (arith, nat_tests) in
-          has-without_other left core k lt (let n = other in grind (arith, nat_tests)) other ∙ f.passed k (grind (arith, nat_tests))
-
       done : (k : ℕ) → k < CORES_MAX → has (without_core left core) k ≡ false → (b : Bool) → (k == core) ≡ b → done_now k
       done k lk isnt true e = let same : core ≡ k = grind (arith, nat_tests) in subst done_now same here
       done k lk isnt false e =
-          let other : k ≢ core = grind (arith, nat_tests) in keeps_done k other (f.done k lk (sym (has-without_other left core k lt lk other) ∙ isnt))
+          let other : k ≢ core = grind (arith, nat_tests) in
+          keeps_done k other (f.done k lk (sym (has-without_other left core k lt lk other) ∙ isnt))
 
       rest : (k : ℕ) → k < CORES_MAX → has (without_core left core) k ≡ true → (b : Bool) → (k == core) ≡ b → left_now k
       rest k lk is true e =
@@ -122,13 +111,36 @@ module _ {left : CoreSet} {core : ℕ} {is_done is_left : ℕ → Type 0} where
           let isnt : has (without_core left core) k ≡ false = ap (has (without_core left core)) same ∙ has-without_same left core lt in
           absurd (grind (arith, nat_tests))
       rest k lk is false e =
-          let other : k ≢ core = grind (arith, nat_tests) in keeps_left k other (f.rest k lk (sym (has-without_other left core k lt lk other) ∙ is))
+          let other : k ≢ core = grind (arith, nat_tests) in
+          keeps_left k other (f.rest k lk (sym (has-without_other left core k lt lk other) ∙ is))
 
-  pub all_seen : Filling left core is_done is_left → is_none left ≡ true → (k : ℕ) → k < CORES_MAX → is_done k
+  pub all_seen : Filling left is_done is_left → is_none left ≡ true → (k : ℕ) → k < CORES_MAX → is_done k
   all_seen f none k lk = f.done k lk (has-none left k none)
 
-  pub all_passed : Filling left core is_done is_left → CORES_MAX ≤ core → (k : ℕ) → k < CORES_MAX → is_done k
-  all_passed f end k lk = f.done k lk (f.passed k (omega arith))
+at_most : (s : CoreSet) (c : ℕ) → (without_core s c).bits ≤ s.bits
+unfolding without_core
+at_most s c = and_le_l s.bits (bit_not set_width (1 * 2 ^ c % 2 ^ CORES_MAX))
+
+-- the core of the lowest bit is in a set that is not empty
+pub first_there : (s : CoreSet) → s.bits < 2 ^ CORES_MAX → is_none s ≡ false → has s (trailing_zeros set_width s.bits) ≡ true
+unfolding has
+first_there s within some =
+    let more : 0 < s.bits = grind (arith, nat_tests) in
+    rw ((bit_at-trailing_zeros set_width s.bits more within).1) refl
+
+-- a set gets smaller as a number where a core of it is taken out
+pub fewer : (s : CoreSet) (c : ℕ) → c < CORES_MAX → has s c ≡ true → (without_core s c).bits < s.bits
+fewer s c lt is = by (◌==◌ (without_core s c).bits s.bits) refl
+  where
+    by : (b : Bool) → ◌==◌ (without_core s c).bits s.bits ≡ b → (without_core s c).bits < s.bits
+    by true e =
+        let same : (without_core s c).bits ≡ s.bits = grind (arith, nat_tests) in
+        let out : has (without_core s c) c ≡ false = has-without_same s c lt in
+        let in_it : has (without_core s c) c ≡ true = ap (λ (n : ℕ). has (record { bits = n }) c) same ∙ is in
+        absurd (grind (arith, nat_tests))
+    by false e =
+        let other : (without_core s c).bits ≢ s.bits = grind (arith, nat_tests) in
+        let most = at_most s c in omega (arith, other, most)
 
 pub view_by_places : (own : Inside) (reads : List (Option (ℕ × Clock))) → length reads ≡ CORES_MAX →
     ((k : ℕ) → k < CORES_MAX → read_of own k ≡ read_in reads k) → reads_kept own.readers own.places ≡ reads
@@ -173,27 +185,27 @@ with_there a core k read lt other = set_there a.readers a.places core k read lt 
 -- a core's read was taken over from the others, and it is what the core ends with
 pub taken : (old own other : Inside) (ends : ℕ → Option (ℕ × Clock)) (left : CoreSet) (core : ℕ) (read : ℕ × Clock) → length own.places ≡ CORES_MAX →
     core < CORES_MAX → Some read ≡ ends core →
-    Filling left core (λ k. read_of own k ≡ ends k) (λ k. (has other.readers k ≡ true) × (read_of own k ≡ read_of old k)) →
-    Filling (without_core left core) (core + 1) (λ k. read_of (inside_with own core read) k ≡ ends k)
+    Filling left (λ k. read_of own k ≡ ends k) (λ k. (has other.readers k ≡ true) × (read_of own k ≡ read_of old k)) →
+    Filling (without_core left core) (λ k. read_of (inside_with own core read) k ≡ ends k)
     (λ k. (has other.readers k ≡ true) × (read_of (inside_with own core read) k ≡ read_of old k))
 taken old own other ends left core read long lt e f =
-    looked_at (λ k. read_of (inside_with own core read) k ≡ ends k)
+    looked_at core (λ k. read_of (inside_with own core read) k ≡ ends k)
     (λ k. (has other.readers k ≡ true) × (read_of (inside_with own core read) k ≡ read_of old k)) f lt (with_here own core read long lt ∙ e)
     (λ k n d. with_there own core k read lt n ∙ d) (λ k n l. (l.0, with_there own core k read lt n ∙ l.1))
 
 -- a core's read stays, and it is what the core ends with
-pub stays : (is_done is_left : ℕ → Type 0) (left : CoreSet) (core : ℕ) → core < CORES_MAX → is_done core → Filling left core is_done is_left →
-    Filling (without_core left core) (core + 1) is_done is_left
-stays is_done is_left left core lt here f = looked_at is_done is_left f lt here (λ k n d. d) (λ k n l. l)
+pub stays : (is_done is_left : ℕ → Type 0) (left : CoreSet) (core : ℕ) → core < CORES_MAX → is_done core → Filling left is_done is_left →
+    Filling (without_core left core) is_done is_left
+stays is_done is_left left core lt here f = looked_at core is_done is_left f lt here (λ k n d. d) (λ k n l. l)
 
 -- a core's read was copied
 pub copied : (own other : Inside) (left : CoreSet) (core : ℕ) (d : ℕ × Clock) → length own.places ≡ CORES_MAX → length other.places ≡ CORES_MAX →
-    core < CORES_MAX → own.readers ≡ other.readers → Filling left core (λ k. read_of own k ≡ read_of other k) (λ k. k ≡ k) →
-    Filling (without_core left core) (core + 1)
+    core < CORES_MAX → own.readers ≡ other.readers → Filling left (λ k. read_of own k ≡ read_of other k) (λ k. k ≡ k) →
+    Filling (without_core left core)
     (λ k. read_kept own.readers (slice_set own.places core (slice_index_or other.places core d)) k ≡ read_of other k) (λ k. k ≡ k)
 copied own other left core d long other_long lt same f =
     let read = slice_index_or other.places core d in
-    looked_at (λ k. read_kept own.readers (slice_set own.places core read) k ≡ read_of other k) (λ k. k ≡ k) f lt
+    looked_at core (λ k. read_kept own.readers (slice_set own.places core read) k ≡ read_of other k) (λ k. k ≡ k) f lt
     (ap (read_if (has own.readers core)) (get_or-set_same own.places core read (0, no_counts) (let e = long in omega arith)
     ∙ get_or_default other.places core d (0, no_counts) (let e = other_long in omega arith))
     ∙ ap (λ (r : CoreSet). read_kept r other.places core) same)
@@ -236,3 +248,24 @@ if_true b x y e = rw e refl
 
 pub if_false : (b : Bool) (x y : Option (ℕ × Clock)) → b ≡ false → (if b then x else y) ≡ y
 if_false b x y e = rw e refl
+
+-- a core's read is there exactly where the set has the core
+pub reader_of : (readers : CoreSet) (places : List (ℕ × Clock)) (core : ℕ) → core < CORES_MAX →
+    has readers core ≡ is_some (read_in (reads_kept readers places) core)
+reader_of readers places core lt = sym (ap (λ (r : Option (ℕ × Clock)). is_some r) (read_in-kept readers places core lt) ∙ by (has readers core))
+  where
+    by : (b : Bool) → is_some (read_if b (slice_index_or places core (0, no_counts))) ≡ b
+    by true = refl
+    by false = refl
+
+-- nothing is taken over from none
+pub absorbs_none : (own other : Inside) → is_none other.readers ≡ true →
+    reads_absorbed (reads_kept own.readers own.places) (reads_kept other.readers other.places) ≡ reads_kept own.readers own.places
+absorbs_none own other none =
+    sym (view_absorbed own own other
+    (λ k lk. sym (ap (newer_read (read_of own k)) (ap (λ (b : Bool). read_if b (slice_index_or other.places k (0, no_counts))) (has-none other.readers k none))
+    ∙ newer_none (read_of own k))))
+  where
+    newer_none : (r : Option (ℕ × Clock)) → newer_read r None ≡ r
+    newer_none None = refl
+    newer_none (Some a) = refl

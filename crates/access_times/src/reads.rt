@@ -1,5 +1,6 @@
 //! Each core's last read of a word.
-ghost use Rattle.std.specs.Prelude.{◌≡◌, ◌<◌, Some, if◌then◌else◌, length, slice_set};
+ghost use Rattle.std.specs.Prelude.{◌≡◌, ℕ, ◌<◌, IsTrue, Some, false, true, if◌then◌else◌, is_some, length, slice_set};
+ghost use Rattle.rtr_types.specs.CoreSets.{has, is_none};
 ghost use Rattle.rtr_types.specs.declared.TheConstants.{CORES_MAX};
 ghost use Rattle.access_times.specs.Reads.{read_if, read_seen};
 ghost use Rattle.access_times.specs.Times.{newer_read, no_reads, read_in, reads_absorbed};
@@ -51,6 +52,15 @@ fn is_no_older(other: &(u32, Clock), has_own: bool, own: &(u32, Clock)) -> bool
     !has_own || own.0 <= other.0
 }
 
+/// A core of the set, which has one.
+fn first_of(readers: CoreSet) -> u8
+    requires { is_none readers ≡ false }
+    ensures within { result < CORES_MAX }
+    ensures there { has readers result ≡ true }
+{
+    readers.bits.trailing_zeros() as u8
+}
+
 impl Reads {
     /// No core's read.
     pub(crate) fn none() -> Reads
@@ -84,6 +94,22 @@ impl Reads {
         self.places[core as usize] = (count, clock);
     }
 
+    /// The cores whose read is there.
+    pub(crate) fn readers(&self) -> CoreSet
+        ensures { (core : ℕ) → core < CORES_MAX → has result core ≡ is_some (read_in self.now core) }
+    {
+        self.readers
+    }
+
+    /// Whether nothing is taken over from the other, since it has no reads.
+    pub(crate) fn learn_nothing_from(&self, other: &Reads) -> bool
+        ensures { IsTrue result → reads_absorbed self.now other.now ≡ self.now }
+    {
+        // The own places are known of only where a field is used.
+        let _own = &self.readers;
+        other.readers.is_empty()
+    }
+
     /// Forgets all reads.
     pub(crate) fn clear(&mut self)
         ensures { self.new ≡ no_reads }
@@ -96,17 +122,13 @@ impl Reads {
         ensures { self.new ≡ reads_absorbed self.old other.now }
     {
         let mut left = other.readers;
-        for core in 0..CORES_MAX {
-            if left.is_empty() {
-                return;
-            }
-            if left.has(core) {
-                left = left.without(core);
-                let newer = &other.places[core as usize];
-                if is_newer(newer, self.readers.has(core), &self.places[core as usize]) {
-                    self.readers = self.readers.with(core);
-                    self.places[core as usize] = *newer;
-                }
+        while !left.is_empty() {
+            let core = first_of(left);
+            left = left.without(core);
+            let newer = &other.places[core as usize];
+            if is_newer(newer, self.readers.has(core), &self.places[core as usize]) {
+                self.readers = self.readers.with(core);
+                self.places[core as usize] = *newer;
             }
         }
     }
@@ -115,16 +137,12 @@ impl Reads {
     pub(crate) fn copy_from(&mut self, other: &Reads)
         ensures { self.new ≡ other.now }
     {
-        self.readers = other.readers;
         let mut left = other.readers;
-        for core in 0..CORES_MAX {
-            if left.is_empty() {
-                return;
-            }
-            if left.has(core) {
-                left = left.without(core);
-                self.places[core as usize] = other.places[core as usize];
-            }
+        self.readers = left;
+        while !left.is_empty() {
+            let core = first_of(left);
+            left = left.without(core);
+            self.places[core as usize] = other.places[core as usize];
         }
     }
 
@@ -133,17 +151,13 @@ impl Reads {
         ensures { self.new ≡ reads_absorbed other.now self.old }
     {
         let mut left = other.readers;
-        for core in 0..CORES_MAX {
-            if left.is_empty() {
-                return;
-            }
-            if left.has(core) {
-                left = left.without(core);
-                let newer = &other.places[core as usize];
-                if is_no_older(newer, self.readers.has(core), &self.places[core as usize]) {
-                    self.readers = self.readers.with(core);
-                    self.places[core as usize] = *newer;
-                }
+        while !left.is_empty() {
+            let core = first_of(left);
+            left = left.without(core);
+            let newer = &other.places[core as usize];
+            if is_no_older(newer, self.readers.has(core), &self.places[core as usize]) {
+                self.readers = self.readers.with(core);
+                self.places[core as usize] = *newer;
             }
         }
     }

@@ -1,5 +1,6 @@
 //! The rider that records when the words of its block were accessed.
-ghost use Rattle.std.specs.Prelude.{◌≡◌, ℕ, ◌<◌};
+ghost use Rattle.std.specs.Prelude.{◌≡◌, ℕ, ◌<◌, is_some};
+ghost use Rattle.rtr_types.specs.CoreSets.{has};
 ghost use Rattle.rtr_types.specs.declared.TheConstants.{BLOCK_WORDS, CORES_MAX};
 ghost use Rattle.access_times.specs.Reads.{read_seen};
 ghost use Rattle.access_times.specs.Times.{is_same_write, no_times, read_at, slot_absorbed, slot_loaded, slot_stored};
@@ -8,7 +9,7 @@ ghost use Rattle.access_times.specs.Times.{times_loaded, times_stored, write_at}
 use crate::reads::Reads;
 use crate::rider::Rider;
 use clock_core::Clock;
-use rtr_types::{BLOCK_WORDS, CORES_MAX, Instr};
+use rtr_types::{BLOCK_WORDS, CORES_MAX, CoreSet, Instr};
 
 /// The times of one word: its last write, and each core's last read since that write, each with the
 /// clock that was noted for it. An access that reads and writes is a write here.
@@ -49,10 +50,14 @@ impl SlotTimes {
         }
     }
 
-    /// Takes over the other's newer reads, where the last writes are the same.
+    /// Takes over the other's newer reads, where the last writes are the same. Most often the other has
+    /// no reads, which is cheaper to see.
     fn absorb(&mut self, other: &SlotTimes)
         ensures { self.new ≡ slot_absorbed self.old other.now }
     {
+        if self.reads.learn_nothing_from(&other.reads) {
+            return;
+        }
         if is_same_write(&self.write, &other.write) {
             self.reads.absorb(&other.reads);
         }
@@ -74,7 +79,9 @@ impl SlotTimes {
     fn renew(&mut self, other: &SlotTimes)
         ensures { self.new ≡ slot_absorbed other.now self.old }
     {
-        if is_same_write(&other.write, &self.write) {
+        if other.reads.learn_nothing_from(&self.reads) {
+            self.copy_from(other);
+        } else if is_same_write(&other.write, &self.write) {
             self.reads.renew(&other.reads);
         } else {
             self.copy_from(other);
@@ -168,6 +175,14 @@ impl Times {
         ensures { read_seen result ≡ read_at self.now slot core }
     {
         self.slots[slot as usize].reads.get(core)
+    }
+
+    /// The cores with a noted read of the slot's word.
+    pub fn readers(&self, slot: u8) -> CoreSet
+        requires { slot < BLOCK_WORDS }
+        ensures { (core : ℕ) → core < CORES_MAX → has result core ≡ is_some (read_at self.now slot core) }
+    {
+        self.slots[slot as usize].reads.readers()
     }
 
     /// Notes the read, which doesn't write.

@@ -3,7 +3,10 @@ use Rattle.std.proofs.Common.{◌≡◌, ◌≢◌, ℕ, zero, suc, ◌+◌, ◌
 use Rattle.std.proofs.Common.{false, Bool, not, ◌&&◌, nat_eq, nat_lt, Option, Some, None, get_or}
 use Rattle.std.proofs.lemmas.Bool.{and_parts}
 use Rattle.std.specs.Prelude.{All, ⊤, if◌then◌else◌}
-use Rattle.std.specs.Option.{option_to_list}
+use Rattle.std.specs.Option.{is_some, option_to_list}
+use Rattle.rtr_types.specs.CoreSets.{has, is_none, without_core}
+use Rattle.rtr_types.specs.declared.core_set.CoreSet.{CoreSet}
+use Rattle.rtr_types.proofs.Members.{has-none, has-without_other}
 use Rattle.std.proofs.lemmas.List.{length-append}
 use Rattle.std.proofs.lemmas.List.Elements.{All-nil, All-cons}
 use Rattle.std.proofs.lemmas.Bool.Decides.{nat_tests}
@@ -257,6 +260,33 @@ reads_none (suc n) before a t none =
 -- a load has no read as a candidate
 pub load_reads : (n : ℕ) (before : Clock) (a : Access) (t : Times) → is_write a.kind ≡ false → reads_from n before a t ≡ []
 load_reads n before a t loads = reads_none n before a t (λ k lt. loads_none before a k (read_at t (a.word % BLOCK_WORDS) k) loads)
+
+not_both : (b : Bool) (v : Option Source) → (if b && false then v else None) ≡ None
+not_both true v = refl
+not_both false v = refl
+
+own_none : (before : Clock) (a : Access) (core : ℕ) (r : Option (ℕ × Clock)) → core ≡ a.at.core → read_from before a core r ≡ None
+own_none before a core None same = refl
+own_none before a core (Some r) same =
+    let own : not (nat_eq core a.at.core) ≡ false = grind (arith, nat_tests) in rw own (not_both (is_write a.kind) _)
+
+none_where : (r : Option (ℕ × Clock)) → is_some r ≡ false → r ≡ None
+none_where None e = refl
+none_where (Some r) e = absurd cc
+
+-- where no core but the access's own has a noted read, there is no read among the candidates
+pub unread : (cores : ℕ) (a : Access) (t : Times) (readers : CoreSet) → cores ≤ CORES_MAX → a.at.core < CORES_MAX →
+    ((core : ℕ) → core < CORES_MAX → has readers core ≡ is_some (read_at t (a.word % BLOCK_WORDS) core)) →
+    is_none (without_core readers a.at.core) ≡ true → (before : Clock) → reads_from cores before a t ≡ []
+unread cores a t readers most own read none before = reads_none cores before a t (λ k lt. by k (omega (arith, lt, most)) (nat_eq k a.at.core) refl)
+  where
+    by : (k : ℕ) → k < CORES_MAX → (b : Bool) → nat_eq k a.at.core ≡ b → read_from before a k (read_at t (a.word % BLOCK_WORDS) k) ≡ None
+    by k lt true e = own_none before a k (read_at t (a.word % BLOCK_WORDS) k) (grind (arith, nat_tests))
+    by k lt false e =
+        let other : k ≢ a.at.core = grind (arith, nat_tests) in
+        let isnt : has readers k ≡ false =
+        sym (has-without_other readers a.at.core k own lt other) ∙ has-none (without_core readers a.at.core) k none in
+        ap (read_from before a k) (none_where (read_at t (a.word % BLOCK_WORDS) k) (sym (read k lt) ∙ isnt))
 
 -- ---- the reads, or the write
 

@@ -1,5 +1,5 @@
 -- What the online reduction keeps while the times handed in are exact.
-use Rattle.std.specs.Prelude.{◌≡◌, ℕ, ◌+◌, ◌%◌, ◌<◌, ◌≤◌, ◌↔◌, List, [], ◌∷◌, ◌++◌, ⊤, reverse, length, Option, Some}
+use Rattle.std.specs.Prelude.{◌≡◌, ℕ, ◌+◌, ◌%◌, ◌<◌, ◌≤◌, ◌↔◌, List, [], ◌∷◌, ◌++◌, ⊤, reverse, length, Some}
 use Rattle.std.specs.Prelude.{false, IsTrue, slice_index_or}
 use Rattle.std.specs.List.{Contains}
 use Rattle.rtr_types.specs.Accesses.{is_write}

@@ -139,11 +139,6 @@ pub fn is_unread(cores: u8, access: &Access, times: &Times) -> bool
     if !access.kind.is_write() {
         return true;
     }
-    let slot = slot_of(access.word);
-    for core in 0..cores {
-        if core != access.at.core && times.last_read(slot, core).is_some() {
-            return false;
-        }
-    }
-    true
+    let readers = times.readers(slot_of(access.word));
+    access.at.core < cores && readers.without(access.at.core).is_empty()
 }

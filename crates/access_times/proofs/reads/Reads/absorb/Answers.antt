@@ -1,53 +1,58 @@
-use Rattle.std.proofs.Common.{◌≡◌, ◌∙◌, sym, ap, ℕ, List, Option, None, true}
+use Rattle.std.proofs.Common.{◌≡◌, ◌∙◌, sym, ap, subst, ℕ, ◌<◌, List, Option, None, true}
 use Rattle.clock_core.specs.Counts.{no_counts}
 use Rattle.clock_core.specs.declared.clock.Clock.{Clock}
 use Rattle.access_times.specs.Times.{newer_read, reads_absorbed}
 use Rattle.access_times.specs.Reads.{reads_kept}
 use Rattle.std.proofs.lemmas.List.{length-set}
 use Rattle.rtr_types.specs.CoreSets.{has}
-use Rattle.access_times.proofs.Kept.{passed_by, all_seen, all_passed, view_absorbed, read_of, taken, stays, is_mine, if_true, if_false, ends_absorbing}
-use Rattle.access_times.proofs.reads.Reads.absorb.Goals.{then-has+then-is_newer, then-has+else-is_newer, else-has}
+use Rattle.rtr_types.specs.declared.core_set.CoreSet.{CoreSet}
+use Rattle.access_times.proofs.Kept.{all_seen, fewer, view_absorbed, read_of, taken, stays, is_mine, if_true, if_false, ends_absorbing}
 use Rattle.access_times.proofs.reads.Reads.absorb.Goals as goal
-
-pub returns-then-is_empty : goal.returns-then-is_empty
-returns-then-is_empty c =
-    view_absorbed c.loop-core.self-inside c.self.inside c.other.inside
-    (all_seen c.loop-core.invariant.1 (sym c.is_empty.ensures ∙ c.if-is_empty.true))
-    ∙ ap (λ (a : List (Option (ℕ × Clock))). reads_absorbed a (reads_kept c.other.inside.readers c.other.inside.places)) c.self.view_is
-    ∙ ap (reads_absorbed c.args.self.now) c.other.view_is
 
 pub returns : goal.returns
 returns c =
-    view_absorbed c.loop-core.self-inside c.self.inside c.other.inside (all_passed c.loop-core.invariant.1 c.loop-core-test.false)
+    view_absorbed c.loop-other.self-inside c.self.inside c.other.inside
+    (all_seen c.loop-other.invariant.1 (sym c.is_empty.ensures ∙ c.loop-other-test.false))
     ∙ ap (λ (a : List (Option (ℕ × Clock))). reads_absorbed a (reads_kept c.other.inside.readers c.other.inside.places)) c.self.view_is
     ∙ ap (reads_absorbed c.args.self.now) c.other.view_is
 
-pub loop-core-preserved : goal.loop-core-preserved
-loop-core-preserved c = elim c.if-has.branch [
-  | then-has+then-is_newer w ↦
-      let rest = c.loop-core.invariant.1.rest c.loop-core.core c.loop-core-test.true (sym c.has.ensures ∙ w.if-has.true) in
-      rw (w.self-inside-is, w.left-is, w.without-left.ensures, w.with-self-inside.ensures) (
-        length-set c.loop-core.self-inside.places c.loop-core.core _ ∙ c.loop-core.invariant.0,
-        taken c.self.inside c.loop-core.self-inside c.other.inside (λ k. newer_read (read_of c.self.inside k) (read_of c.other.inside k)) c.loop-core.left
-            c.loop-core.core _ c.loop-core.invariant.0 c.loop-core-test.true
-            (ends_absorbing c.self.inside c.loop-core.self-inside c.other.inside c.loop-core.core _ _ w.has-then-has.result _ c.loop-core.invariant.0
-            c.other.invariant c.loop-core-test.true w.has-then-has.ensures rest (w.is_newer.ensures ∙ if_true w.is_newer.result _ _ w.if-is_newer.true))
-            c.loop-core.invariant.1,
-      )
-  | then-has+else-is_newer w ↦
-      let rest = c.loop-core.invariant.1.rest c.loop-core.core c.loop-core-test.true (sym c.has.ensures ∙ w.if-has.true) in
-      rw (w.self-inside-is, w.left-is, w.without-left.ensures) (
-        c.loop-core.invariant.0,
-        stays (λ k. read_of c.loop-core.self-inside k ≡ newer_read (read_of c.self.inside k) (read_of c.other.inside k))
-            (λ k. (has c.other.inside.readers k ≡ true) × (read_of c.loop-core.self-inside k ≡ read_of c.self.inside k)) c.loop-core.left
-            c.loop-core.core c.loop-core-test.true
-            (rest.1 ∙ sym (is_mine c.self.inside c.loop-core.self-inside c.other.inside c.loop-core.core _ (0, no_counts) w.has-then-has.result None
-            c.loop-core.invariant.0 c.loop-core-test.true w.has-then-has.ensures rest.1)
-            ∙ ends_absorbing c.self.inside c.loop-core.self-inside c.other.inside c.loop-core.core _ _ w.has-then-has.result _ c.loop-core.invariant.0
-            c.other.invariant c.loop-core-test.true w.has-then-has.ensures rest (w.is_newer.ensures ∙ if_false w.is_newer.result _ _ w.if-is_newer.false))
-            c.loop-core.invariant.1,
-      )
-  | else-has w ↦
-      rw (w.self-inside-is, w.left-is)
-      (c.loop-core.invariant.0, passed_by c.loop-core.invariant.1 (sym c.has.ensures ∙ w.if-has.false))
-]
+pub loop-other-preserved-then-is_newer : goal.loop-other-preserved-then-is_newer
+loop-other-preserved-then-is_newer c =
+    let core = c.first_of-core.result in
+    let within = c.first_of-core.ensures.within in
+    let rest = c.loop-other.invariant.1.rest core within c.first_of-core.ensures.there in
+    rw (c.without-left.ensures, c.with-self-inside.ensures) (
+      length-set c.loop-other.self-inside.places core _ ∙ c.loop-other.invariant.0,
+      taken c.self.inside c.loop-other.self-inside c.other.inside (λ k. newer_read (read_of c.self.inside k) (read_of c.other.inside k))
+          c.loop-other.left core _
+          c.loop-other.invariant.0 within
+          (ends_absorbing c.self.inside c.loop-other.self-inside c.other.inside core _ _ c.has.result _ c.loop-other.invariant.0
+          c.other.invariant within c.has.ensures rest (c.is_newer.ensures ∙ if_true c.is_newer.result _ _ c.if-is_newer.true))
+          c.loop-other.invariant.1,
+    )
+
+pub loop-other-preserved : goal.loop-other-preserved
+loop-other-preserved c =
+    let core = c.first_of-core.result in
+    let within = c.first_of-core.ensures.within in
+    let rest = c.loop-other.invariant.1.rest core within c.first_of-core.ensures.there in
+    rw (c.without-left.ensures) (
+      c.loop-other.invariant.0,
+      stays (λ k. read_of c.loop-other.self-inside k ≡ newer_read (read_of c.self.inside k) (read_of c.other.inside k))
+          (λ k. (has c.other.inside.readers k ≡ true) × (read_of c.loop-other.self-inside k ≡ read_of c.self.inside k)) c.loop-other.left core within
+          (rest.1 ∙ sym (is_mine c.self.inside c.loop-other.self-inside c.other.inside core _ (0, no_counts) c.has.result None
+          c.loop-other.invariant.0 within c.has.ensures rest.1)
+          ∙ (ends_absorbing c.self.inside c.loop-other.self-inside c.other.inside core _ _ c.has.result _ c.loop-other.invariant.0
+          c.other.invariant within c.has.ensures rest (c.is_newer.ensures ∙ if_false c.is_newer.result _ _ c.if-is_newer.false)))
+          c.loop-other.invariant.1,
+    )
+
+pub loop-other-smaller-then-is_newer : goal.loop-other-smaller-then-is_newer
+loop-other-smaller-then-is_newer c =
+    subst (λ (s : CoreSet). s.bits < c.loop-other.left.bits) (sym c.without-left.ensures)
+    (fewer c.loop-other.left c.first_of-core.result c.first_of-core.ensures.within c.first_of-core.ensures.there)
+
+pub loop-other-smaller : goal.loop-other-smaller
+loop-other-smaller c =
+    subst (λ (s : CoreSet). s.bits < c.loop-other.left.bits) (sym c.without-left.ensures)
+    (fewer c.loop-other.left c.first_of-core.result c.first_of-core.ensures.within c.first_of-core.ensures.there)

@@ -1,26 +1,24 @@
-use Rattle.std.proofs.Common.{◌∙◌, sym}
+use Rattle.std.proofs.Common.{◌∙◌, sym, subst, ◌<◌}
 use Rattle.std.proofs.lemmas.List.{length-set}
-use Rattle.access_times.proofs.Kept.{passed_by, copied, all_seen, all_passed, view_same}
-use Rattle.access_times.proofs.reads.Reads.copy_from.Goals.{then-has, else-has}
+use Rattle.rtr_types.specs.declared.core_set.CoreSet.{CoreSet}
+use Rattle.access_times.proofs.Kept.{copied, all_seen, fewer, view_same}
 use Rattle.access_times.proofs.reads.Reads.copy_from.Goals as goal
 
-pub returns-then-is_empty : goal.returns-then-is_empty
-returns-then-is_empty c =
-    view_same c.loop-core.self-inside c.other.inside (all_seen c.loop-core.invariant.2 (sym c.is_empty.ensures ∙ c.if-is_empty.true)) ∙ c.other.view_is
-
 pub returns : goal.returns
-returns c = view_same c.loop-core.self-inside c.other.inside (all_passed c.loop-core.invariant.2 c.loop-core-test.false) ∙ c.other.view_is
+returns c =
+    view_same c.loop-other.self-inside c.other.inside (all_seen c.loop-other.invariant.2 (sym c.is_empty.ensures ∙ c.loop-other-test.false))
+    ∙ c.other.view_is
 
-pub loop-core-preserved : goal.loop-core-preserved
-loop-core-preserved c = elim c.if-has.branch [
-  | then-has w ↦
-      rw (w.self-inside-is, w.left-is, w.without-left.ensures) (
-        length-set c.loop-core.self-inside.places c.loop-core.core _ ∙ c.loop-core.invariant.0,
-        c.loop-core.invariant.1,
-        copied c.loop-core.self-inside c.other.inside c.loop-core.left c.loop-core.core _ c.loop-core.invariant.0 c.other.invariant c.loop-core-test.true
-            c.loop-core.invariant.1 c.loop-core.invariant.2,
-      )
-  | else-has w ↦
-      rw (w.self-inside-is, w.left-is)
-      (c.loop-core.invariant.0, c.loop-core.invariant.1, passed_by c.loop-core.invariant.2 (sym c.has.ensures ∙ w.if-has.false))
-]
+pub loop-other-preserved : goal.loop-other-preserved
+loop-other-preserved c =
+    rw (c.without-left.ensures) (
+      length-set c.loop-other.self-inside.places c.first_of-core.result _ ∙ c.loop-other.invariant.0,
+      c.loop-other.invariant.1,
+      copied c.loop-other.self-inside c.other.inside c.loop-other.left c.first_of-core.result _ c.loop-other.invariant.0 c.other.invariant
+          c.first_of-core.ensures.within c.loop-other.invariant.1 c.loop-other.invariant.2,
+    )
+
+pub loop-other-smaller : goal.loop-other-smaller
+loop-other-smaller c =
+    subst (λ (s : CoreSet). s.bits < c.loop-other.left.bits) (sym c.without-left.ensures)
+    (fewer c.loop-other.left c.first_of-core.result c.first_of-core.ensures.within c.first_of-core.ensures.there)
