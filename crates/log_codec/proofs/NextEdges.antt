@@ -1,47 +1,32 @@
 -- The next edge in order is the first of those that the cores have next, and what is left is merged_edges the same way.
-use Rattle.std.proofs.Common.{◌≡◌, ◌≢◌, ℕ, zero, suc, ◌+◌, ◌<◌, ◌≤◌, inl, inr, Bool, true, false, cond, ◌==◌, List, [], ◌∷◌, ◌++◌, length, map}
+use Rattle.std.proofs.Common.{◌≡◌, ◌≢◌, ℕ, zero, suc, ◌+◌, ◌<◌, ◌≤◌, inl, inr, true, false, ◌==◌, List, [], ◌∷◌, ◌++◌, length, map}
 use Rattle.std.proofs.Common.{drop, set, Option, Some, None, refl, sym, ap, subst, ◌∙◌, arith}
-use Rattle.std.specs.Prelude.{IfNone, IfSome, slice_get, slice_index}
+use Rattle.std.specs.Prelude.{slice_get, slice_index}
 use Rattle.std.specs.List.{AllByRecursion, flat_map, range_with_len}
 use Rattle.std.proofs.lemmas.Bool.{cases_eq, cases_lt}
 use Rattle.std.proofs.lemmas.Bool.Decides.{nat_tests}
-use Rattle.std.proofs.lemmas.List.{drop-drop, length-append, length-map, get_or-set_same, get_or-set_other}
+use Rattle.std.proofs.lemmas.List.{drop-drop, length-append, length-map, length-set, get_or-set_same, get_or-set_other}
 use Rattle.rtr_types.specs.declared.TheConstants.{CORES_MAX}
 use Rattle.log_codec.specs.declared.incoming.Incoming.{Incoming}
-use Rattle.log_codec.specs.Incoming.{Follows, IsFirst, Keeps, earlier_of, edges_out_of, from_source, incoming, is_earlier}
+use Rattle.log_codec.specs.declared.merging.TheConstants.{PAST}
+use Rattle.log_codec.specs.Incoming.{AreFronts, Follows, IsFirst, IsFront, IsLeast, Keeps, edges_out_of, from_source, incoming, is_earlier}
 use Rattle.log_codec.specs.Incoming.{last_target, left, merged_edges, newest, target_of}
-use Rattle.log_codec.proofs.Merges.{Merges, Reaches, Rises, Sorted, all-map, else-reaches, earlier-reaches, from_same, from_other, merge-is, merged-merges}
-use Rattle.log_codec.proofs.Merges.{reaches-then}
+use Rattle.log_codec.proofs.Merges.{Merges, Reaches, Rises, Sorted, all-map, else-reaches, from_same, from_other, merge-is, merged-merges}
 use Rattle.log_codec.proofs.Ordered.{all-from}
 
 -- ---- the first of the next ones
 
--- what is known of the first among so many cores
-unfoldable pub FirstAmong : ℕ → (ℕ → List (ℕ × ℕ)) → Option Incoming → Type 0
-FirstAmong n lists None = (source : ℕ) → source < n → slice_get (lists source) 0 ≡ None
-FirstAmong n lists (Some e) = IsFirst n lists e
+-- what is known of the fronts of so many cores: the least of them, and the first core that has it
+pub record LeastAmong (n : ℕ) (fronts : List ℕ) (least first : ℕ) : Type 0 where
+  pub most : least ≤ PAST
+  pub all : (other : ℕ) → other < n → least ≤ slice_index fronts other
+  pub inside : least < PAST → first < n
+  pub is : least < PAST → slice_index fronts first ≡ least
+  pub before : least < PAST → (other : ℕ) → other < first → least < slice_index fronts other
 
-pub among-none : (lists : ℕ → List (ℕ × ℕ)) → FirstAmong 0 lists None
-unfolding FirstAmong
-among-none lists = λ source lt. absurd (omega arith)
-
--- one more core, which has no edge left
-pub among-without : (n : ℕ) (lists : ℕ → List (ℕ × ℕ)) (first : Option Incoming) → FirstAmong n lists first → slice_get (lists n) 0 ≡ None →
-    FirstAmong (n + 1) lists first
-unfolding FirstAmong
-among-without n lists None h none = λ source lt. elim (cases_eq source n) [
-  | inl is ↦ subst (λ (k : ℕ). slice_get (lists k) 0 ≡ None) (sym is) none
-  | inr not ↦ h source (omega arith)
-]
-among-without n lists (Some e) h none = record {
-  inside = let lt = h.inside in omega arith;
-  own = h.own;
-  first = λ source counts lt is. elim (cases_eq source n) [
-    | inl same ↦ let there : slice_get (lists n) 0 ≡ Some counts = subst (λ (k : ℕ). slice_get (lists k) 0 ≡ Some counts) same is in
-        absurd (let bad : None ≡ Some counts = sym none ∙ there in cc)
-    | inr not ↦ h.first source counts (omega arith) is
-  ];
-}
+-- the front of a list that has an edge left
+front-some : (next : Option (ℕ × ℕ)) (counts : ℕ × ℕ) (front : ℕ) → IsFront next front → next ≡ Some counts → (front ≡ counts.1) × (front < PAST)
+front-some next counts front h is = subst (λ (o : Option (ℕ × ℕ)). IsFront o front) is h
 
 never-earlier : (d e : Incoming) → Reaches e d → is_earlier d e ≡ false
 never-earlier d e r = let rc = r.count in let core = r.core in elim (cases_eq d.counts.1 e.counts.1) [
@@ -49,52 +34,24 @@ never-earlier d e r = let rc = r.count in let core = r.core in elim (cases_eq d.
   | inr not ↦ grind (arith, nat_tests)
 ]
 
--- one more core, with its next edge
-pub among-with : (n : ℕ) (lists : ℕ → List (ℕ × ℕ)) (first : Option Incoming) (counts : ℕ × ℕ) → FirstAmong n lists first →
-    slice_get (lists n) 0 ≡ Some counts → FirstAmong (n + 1) lists (Some (earlier_of first (incoming n counts)))
-unfolding FirstAmong
-among-with n lists None counts h is = record {
-  inside = omega arith;
-  own = is;
-  first = λ source others lt there. elim (cases_eq source n) [
-    | inl same ↦
-        let own : Some others ≡ Some counts = sym there ∙ subst (λ (k : ℕ). slice_get (lists k) 0 ≡ Some counts) (sym same) is in
-        let counts_are : others ≡ counts = cc in
-        never-earlier (incoming source others) (incoming n counts)
-        (record { count = let c = ap (λ (p : ℕ × ℕ). p.1) counts_are in omega arith; core = λ _. omega arith })
-    | inr not ↦ let none = h source (omega arith) in absurd (let bad : None ≡ Some others = sym none ∙ there in cc)
-  ];
+-- the next edge of the first core whose front is the least
+pub first-is : (cores : ℕ) (lists : ℕ → List (ℕ × ℕ)) (fronts : List ℕ) (source : ℕ) (counts : ℕ × ℕ) → AreFronts cores lists fronts →
+    IsLeast cores fronts source → slice_get (lists source) 0 ≡ Some counts → IsFirst cores lists (incoming source counts)
+first-is cores lists fronts source counts f l own = record {
+  inside = l.inside;
+  own = own;
+  first = λ other others lt is.
+      let mine = front-some (slice_get (lists source) 0) counts (slice_index fronts source) (f.each source l.inside) own in
+      let theirs = front-some (slice_get (lists other) 0) others (slice_index fronts other) (f.each other lt) is in
+      let le = l.least other lt in
+      never-earlier (incoming other others) (incoming source counts) (record {
+        count = omega (arith, mine.0, theirs.0, le);
+        core = λ same. elim (cases_lt other source) [
+          | inl lower ↦ let up = l.first other lower in absurd (omega (arith, mine.0, theirs.0, up, same))
+          | inr reached ↦ reached
+        ];
+      });
 }
-among-with n lists (Some e) counts h is = by (is_earlier (incoming n counts) e) refl
-  where
-    own-counts : (source : ℕ) (others : ℕ × ℕ) → slice_get (lists source) 0 ≡ Some others → source ≡ n → others ≡ counts
-    own-counts source others there same = let both : Some others ≡ Some counts = sym there
-        ∙ subst (λ (k : ℕ). slice_get (lists k) 0 ≡ Some counts) (sym same) is in cc
-
-    incoming-is : (i k : ℕ) (c d : ℕ × ℕ) → i ≡ k → c ≡ d → incoming i c ≡ incoming k d
-    incoming-is i k c d p q = cc
-
-    by : (t : Bool) → is_earlier (incoming n counts) e ≡ t → IsFirst (n + 1) lists (cond t (incoming n counts) e)
-    by true before = record {
-      inside = omega arith;
-      own = is;
-      first = λ source others lt there. elim (cases_eq source n) [
-        | inl same ↦ let c = ap (λ (p : ℕ × ℕ). p.1) (own-counts source others there same) in
-            never-earlier (incoming source others) (incoming n counts) (record { count = omega arith; core = λ _. omega arith })
-        | inr not ↦ never-earlier (incoming source others) (incoming n counts)
-            (reaches-then (incoming n counts) e (incoming source others) (earlier-reaches (incoming n counts) e before)
-            (else-reaches (incoming source others) e (h.first source others (omega arith) there)))
-      ];
-    }
-    by false after = record {
-      inside = let lt = h.inside in omega arith;
-      own = h.own;
-      first = λ source others lt there. elim (cases_eq source n) [
-        | inl same ↦ subst (λ (d : Incoming). is_earlier d e ≡ false)
-            (sym (incoming-is source n others counts same (own-counts source others there same))) after
-        | inr not ↦ h.first source others (omega arith) there
-      ];
-    }
 
 -- ---- the merge of what is left
 
@@ -199,6 +156,31 @@ pub left-other : (cores : ℕ) (reduced : List (List (ℕ × ℕ))) (target : �
     ≡ left cores reduced target next k
 left-other cores reduced target next i n k not = ap (λ (m : ℕ). drop m (edges_out_of cores reduced target k)) (get_or-set_other next i k n 0 not)
 
+-- ---- the fronts
+
+-- the front at a place of a list is that of what is left from there on
+pub front-left : (counts : List (ℕ × ℕ)) (n front : ℕ) → IsFront (slice_get counts n) front → IsFront (slice_get (drop n counts) 0) front
+front-left counts n front h = subst (λ (o : Option (ℕ × ℕ)). IsFront o front) (sym (next-at counts n)) h
+
+-- the fronts where a core's next edge is at another place
+pub fronts-step : (cores : ℕ) (reduced : List (List (ℕ × ℕ))) (target : ℕ) (next fronts : List ℕ) (i n front : ℕ) → cores ≤ CORES_MAX → i < cores →
+    AreFronts cores (left cores reduced target next) fronts → IsFront (slice_get (edges_out_of cores reduced target i) (slice_index (set next i n) i)) front
+    → AreFronts cores (left cores reduced target (set next i n)) (set fronts i front)
+fronts-step cores reduced target next fronts i n front few inside h is = record {
+  places = length-set fronts i front ∙ h.places;
+  each = λ source lt. elim (cases_eq source i) [
+    | inl same ↦
+        let own : slice_index (set fronts i front) i ≡ front = get_or-set_same fronts i front 0 (let places = h.places in omega arith) in
+        subst (λ (k : ℕ). IsFront (slice_get (left cores reduced target (set next i n) k) 0) (slice_index (set fronts i front) k)) (sym same)
+        (subst (IsFront (slice_get (left cores reduced target (set next i n) i) 0)) (sym own)
+        (front-left (edges_out_of cores reduced target i) (slice_index (set next i n) i) front is))
+    | inr not ↦
+        subst (IsFront (slice_get (left cores reduced target (set next i n) source) 0)) (sym (get_or-set_other fronts i source front 0 not))
+        (subst (λ (l : List (ℕ × ℕ)). IsFront (slice_get l 0) (slice_index fronts source)) (sym (left-other cores reduced target next i n source not))
+        (h.each source lt))
+  ];
+}
+
 -- ---- what is kept
 
 pub keeps-none : (counts : List ℕ) → length counts ≡ CORES_MAX → ((k : ℕ) → k < CORES_MAX → slice_index counts k ≡ 0) → Keeps None counts []
@@ -264,16 +246,3 @@ length-within lists s n (suc m) =
     ap (λ (k : ℕ). length (joined_from lists s k)) (omega arith) in
     let rest = length-within lists s n m in
     omega arith
-
--- what the first of all cores is
-pub found-first : (n cores : ℕ) (lists : ℕ → List (ℕ × ℕ)) (first : Option Incoming) → n ≡ cores → FirstAmong n lists first →
-    IfSome first (λ e. IsFirst cores lists e)
-unfolding FirstAmong
-found-first n cores lists None is h = tt
-found-first n cores lists (Some e) is h = subst (λ (k : ℕ). IsFirst k lists e) is h
-
-pub found-none : (n cores : ℕ) (lists : ℕ → List (ℕ × ℕ)) (first : Option Incoming) → n ≡ cores → FirstAmong n lists first →
-    IfNone first ((source : ℕ) → source < cores → slice_get (lists source) 0 ≡ None)
-unfolding FirstAmong
-found-none n cores lists None is h = subst (λ (k : ℕ). (source : ℕ) → source < k → slice_get (lists source) 0 ≡ None) is h
-found-none n cores lists (Some e) is h = tt

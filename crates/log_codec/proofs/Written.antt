@@ -5,7 +5,7 @@ use Rattle.std.specs.Prelude.{slice_get, slice_index}
 use Rattle.std.proofs.lemmas.List.{append-nil, length-replicate, length-set, nil_from_length}
 use Rattle.rtr_types.specs.declared.TheConstants.{CORES_MAX}
 use Rattle.log_codec.specs.declared.incoming.Incoming.{Incoming}
-use Rattle.log_codec.specs.Incoming.{IncomingRises, IsFirst, Keeps, edges_out_of, incoming_edges, last_source, last_target, left, merged_edges, remember}
+use Rattle.log_codec.specs.Incoming.{AreFronts, IncomingRises, IsFirst, IsFront, Keeps, edges_out_of, incoming_edges, last_source, last_target, left, merged_edges, remember}
 use Rattle.log_codec.specs.Incoming.{target_of}
 use Rattle.log_codec.specs.Spelling.{incoming_text, number}
 use Rattle.log_codec.specs.Validity.{IsLog}
@@ -30,6 +30,15 @@ pub record Writes (cores target many : ℕ) (reduced : List (List (ℕ × ℕ)))
 -- at the start all are left
 all-left : (cores : ℕ) (reduced : List (List (ℕ × ℕ))) (target n i : ℕ) → left cores reduced target (replicate n 0) i ≡ edges_out_of cores reduced target i
 all-left cores reduced target n i = ap (λ (k : ℕ). drop k (edges_out_of cores reduced target i)) (zero_at n i)
+
+-- so the lists' fronts are those of what is left
+pub fronts-start : (cores : ℕ) (reduced : List (List (ℕ × ℕ))) (target : ℕ) (fronts : List ℕ) → AreFronts cores (edges_out_of cores reduced target) fronts →
+    AreFronts cores (left cores reduced target (replicate CORES_MAX 0)) fronts
+fronts-start cores reduced target fronts h = record {
+  places = h.places;
+  each = λ source lt. subst (λ (l : List (ℕ × ℕ)). IsFront (slice_get l 0) (slice_index fronts source))
+      (sym (all-left cores reduced target CORES_MAX source)) (h.each source lt);
+}
 
 left-rises : (cores : ℕ) (reduced : List (List (ℕ × ℕ))) (target : ℕ) (next : List ℕ) → target < cores → AllRise cores reduced → (i : ℕ) → i < cores →
     Rises (left cores reduced target next i)

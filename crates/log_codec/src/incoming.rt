@@ -1,6 +1,6 @@
 //! An edge into a core, with its source core.
 ghost use Rattle.std.specs.Prelude.{◌≡◌};
-ghost use Rattle.log_codec.specs.Incoming.{comes_after, earlier_of, is_earlier, target_of};
+ghost use Rattle.log_codec.specs.Incoming.{comes_after, is_earlier, target_of};
 
 use rtr_types::CORES_MAX;
 
@@ -42,15 +42,5 @@ pub(crate) fn target_of(last: Option<Incoming>) -> u32
     match last {
         None => 0,
         Some(last) => last.counts.1,
-    }
-}
-
-/// The earlier of two edges, of which the first may be none.
-pub(crate) fn earlier_of(first: Option<Incoming>, edge: Incoming) -> Incoming
-    ensures { result ≡ earlier_of first edge }
-{
-    match first {
-        Some(other) if !edge.is_earlier(other) => other,
-        _ => edge,
     }
 }

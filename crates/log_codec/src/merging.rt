@@ -3,15 +3,19 @@ ghost use Rattle.std.specs.Prelude.{◌≡◌, ℕ, ◌-◌, ◌<◌, ◌≤◌,
 ghost use Rattle.std.specs.Prelude.{OnOk};
 ghost use Rattle.rtr_types.specs.Pairs.{pair_count};
 ghost use Rattle.rtr_types.specs.declared.TheConstants.{CORES_MAX};
-ghost use Rattle.log_codec.specs.Incoming.{IsFirst, edges_out_of, incoming_edges, left, target_of};
+ghost use Rattle.log_codec.specs.Incoming.{AreFronts, IsFirst, IsFront, IsLeast, edges_out_of, incoming_edges, left};
+ghost use Rattle.log_codec.specs.Incoming.{target_of};
 ghost use Rattle.log_codec.specs.Spelling.{into_text, number, targets_text};
 ghost use Rattle.log_codec.specs.Validity.{IsLog};
 
-use crate::incoming::{Incoming, PLACES, earlier_of, target_of};
+use crate::incoming::{Incoming, PLACES, target_of};
 use crate::targets::target_count;
 use rtr_types::{CORES_MAX, Items, pair_at};
 use std::alloc::AllocError;
 use varint_core::put_u32;
+
+/// Above each count of an instruction.
+const PAST: u64 = 1 << 32;
 
 /// The edge at a place of the list of two cores; none from a core to itself, or past the list's end.
 fn edge_at(
@@ -35,29 +39,72 @@ fn edge_at(
         .copied()
 }
 
+/// The front of a list, which is the target's count of the edge at its place; `PAST` at the list's end.
+fn front_at(reduced: &[Items<(u32, u32)>], cores: u8, target: u8, source: u8, place: usize) -> u64
+    requires pairs { length reduced.now ≡ pair_count cores }
+    requires source { source < cores }
+    requires target { target < cores }
+    ensures { IsFront (slice_get (edges_out_of cores reduced.now target source) place) result }
+{
+    match edge_at(reduced, cores, target, source, place) {
+        Some((_, count)) => count as u64,
+        None => PAST,
+    }
+}
+
+/// The front of each source core's list.
+fn first_fronts(reduced: &[Items<(u32, u32)>], cores: u8, target: u8) -> [u64; PLACES]
+    requires few { cores ≤ CORES_MAX }
+    requires pairs { length reduced.now ≡ pair_count cores }
+    requires target { target < cores }
+    ensures { AreFronts cores (edges_out_of cores reduced.now target) result }
+{
+    let mut fronts = [PAST; PLACES];
+    for source in 0..cores {
+        fronts[source as usize] = front_at(reduced, cores, target, source, 0);
+    }
+    fronts
+}
+
+/// The first core of those whose fronts are the least; none where all lists are at their ends.
+fn least(cores: u8, fronts: &[u64; PLACES]) -> Option<u8>
+    requires few { cores ≤ CORES_MAX }
+    ensures least { IfSome result (λ source. IsLeast cores fronts.now source) }
+    ensures none { IfNone result ((source : ℕ) → source < cores → PAST ≤ slice_index fronts.now source) }
+{
+    let mut least = PAST;
+    let mut first = 0;
+    for source in 0..cores {
+        let front = fronts[source as usize];
+        if front < least {
+            least = front;
+            first = source;
+        }
+    }
+    if least < PAST { Some(first) } else { None }
+}
+
 /// The first in order of the edges that are left, where `next` has the place of each source core's
-/// next edge.
+/// next edge, and `fronts` the target's count of it.
 fn first_left(
     reduced: &[Items<(u32, u32)>],
     cores: u8,
     target: u8,
     next: &[usize; PLACES],
+    fronts: &[u64; PLACES],
 ) -> Option<Incoming>
     requires few { cores ≤ CORES_MAX }
     requires pairs { length reduced.now ≡ pair_count cores }
     requires target { target < cores }
+    requires fronts { AreFronts cores (left cores reduced.now target next.now) fronts.now }
     ensures first { IfSome result (λ e. IsFirst cores (left cores reduced.now target next.now) e) }
     ensures none { IfNone result ((source : ℕ) → source < cores →
         slice_get (left cores reduced.now target next.now source) 0
         ≡ None) }
 {
-    let mut first = None;
-    for source in 0..cores {
-        if let Some(counts) = edge_at(reduced, cores, target, source, next[source as usize]) {
-            first = Some(earlier_of(first, Incoming { source, counts }));
-        }
-    }
-    first
+    let source = least(cores, fronts)?;
+    let counts = edge_at(reduced, cores, target, source, next[source as usize])?;
+    Some(Incoming { source, counts })
 }
 
 /// How many edges lead into the core.
@@ -109,13 +156,16 @@ fn put_into(
     let count = count_into(reduced, cores, target);
     put_u32(out, count)?;
     let mut next = [0; PLACES];
+    let mut fronts = first_fronts(reduced, cores, target);
     let mut counts = [0; PLACES];
     let mut last = None;
     for _ in 0..count {
-        if let Some(edge) = first_left(reduced, cores, target, &next) {
+        if let Some(edge) = first_left(reduced, cores, target, &next, &fronts) {
             put_incoming(out, last, &counts, edge)?;
-            next[edge.source as usize] += 1;
-            counts[edge.source as usize] = edge.counts.0;
+            let source = edge.source as usize;
+            next[source] += 1;
+            fronts[source] = front_at(reduced, cores, target, edge.source, next[source]);
+            counts[source] = edge.counts.0;
             last = Some(edge);
         }
     }
