@@ -4,3 +4,4 @@ pub mod Edges
 pub mod Marks
 pub mod Ends
 pub mod Named
+pub mod Numbered

@@ -1,5 +1,5 @@
 -- The ends of a recording's reduced edges.
-use Rattle.std.specs.Prelude.{◌≡◌, ℕ, ◌<◌, ◌≤◌, List, length, map, slice_index}
+use Rattle.std.specs.Prelude.{◌≡◌, ℕ, ◌-◌, ◌<◌, ◌≤◌, List, length, map, slice_index}
 use Rattle.std.specs.List.{range_with_len}
 use Rattle.rtr_types.specs.declared.instr.Instr.{Instr}
 use Rattle.rtr_types.specs.declared.instr.Edge.{Edge}
@@ -30,3 +30,9 @@ pub record HasEnds (r : Recording) (edges : List Edge) (ends : List (List ℕ)) 
 pub record IsWithin (r : Recording) (x : Instr) : Type 0 where
   pub core : x.core < r.params.cores
   pub count : x.count ≤ slice_index r.totals x.core
+
+-- so many of the rising ends, and not all, are at most the count
+pub record IsNumber (ends : List ℕ) (count number : ℕ) : Type 0 where
+  pub within : number < length ends
+  pub above : count < slice_index ends number
+  pub below : 1 ≤ number → slice_index ends (number - 1) ≤ count

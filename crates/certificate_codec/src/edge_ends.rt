@@ -1,14 +1,18 @@
 //! The instructions at which reduced edges begin or end.
-ghost use Rattle.std.specs.Prelude.{◌≡◌, ◌+◌, ◌<◌, ◌||◌, ℕ, IfOk, false, length, slice_index, slice_index_or};
+ghost use Rattle.std.specs.Prelude.{◌≡◌, ◌+◌, ◌<◌, ◌||◌, ℕ, IfOk, IfSome, IsTrue, false, length};
+ghost use Rattle.std.specs.Prelude.{slice_index, slice_index_or};
 ghost use Rattle.log_codec.specs.Validity.{Valid};
 ghost use Rattle.clock_entries.specs.Ends.{instr, is_same, is_end, ends_to};
-ghost use Rattle.certificate_codec.specs.Ends.{reduced_edges, ends_in, IsWithin};
+ghost use Rattle.certificate_codec.specs.Ends.{reduced_edges, ends_in, IsWithin, IsNumber};
 
 use crate::edge_lists::edges_of;
 use log_codec::Recording;
 use rtr_types::{Edge, Instr, Items};
 use std::alloc::{AllocError, Global};
 use std::marker::Model;
+
+/// How many numbers are tried from a guess on.
+const TRIED: usize = 8;
 
 /// A recording with its reduced edges and their ends. Contracts see it as the recording.
 #[derive(Drop)]
@@ -76,6 +80,36 @@ impl<'a> EdgeEnds<'a> {
         self.of_core(at.core)
             .partition_point(|&end| end <= at.count)
     }
+
+    /// The same, found the sooner the less it is above the guess.
+    pub fn number_near(&self, at: Instr, guess: usize) -> usize
+        requires { IsWithin self.now at }
+        ensures { result ≡ length (ends_to (reduced_edges self.now) at.core at.count) }
+    {
+        match tried(self.of_core(at.core), at.count, guess) {
+            Some(number) => number,
+            None => self.number(at),
+        }
+    }
+}
+
+/// Whether so many of the rising ends, and not all, are at most this count.
+fn is_number(ends: &[u32], count: u32, number: usize) -> bool
+    ensures { IsTrue result → IsNumber ends.now count number }
+{
+    number < ends.len() && ends[number] > count && (number == 0 || ends[number - 1] <= count)
+}
+
+/// How many of the rising ends are at most this count, where it is the guess or little more.
+fn tried(ends: &[u32], count: u32, guess: usize) -> Option<usize>
+    ensures { IfSome result (λ number. IsNumber ends.now count number) }
+{
+    for number in guess..guess.saturating_add(TRIED) {
+        if is_number(ends, count, number) {
+            return Some(number);
+        }
+    }
+    None
 }
 
 /// Marks the instruction, where it is one of the core's.

@@ -17,6 +17,7 @@ fn push_edges(
 ) -> Result<(), AllocError>
     ensures { OnOk result (list.new.items ≡ list.old.items ++ map (edge_between from to) counts.now) }
 {
+    list.reserve(counts.len())?;
     for &(a, b) in counts {
         list.push(Edge {
             from: Instr {

@@ -49,7 +49,7 @@ fn entry<'a>(
 ) -> Result<(Items<u32>, &'a [u8]), CodecFault>
     ensures { Gives (λ x. (x.0, x.1.now)) result (entry_at totals.now tt bytes.now) }
 {
-    let mut found = Items::new(alloc);
+    let mut found = Items::from_vec(Vec::with_capacity(alloc, totals.len())?);
     let mut rest = bytes;
     for core in 0..totals.len() {
         let (next, after) = count(totals, core, rest)?;
@@ -68,7 +68,7 @@ fn entries_from<'a>(
 ) -> Result<(Items<Items<u32>>, &'a [u8]), CodecFault>
     ensures { Gives (λ x. (x.0, x.1.now)) result (read_in_turn (entry_at totals.now) stay number tt bytes.now) }
 {
-    let mut found = Items::new(alloc);
+    let mut found = Items::from_vec(Vec::with_capacity(alloc, number as usize)?);
     let mut rest = bytes;
     for _ in 0..number {
         let (next, after) = entry(alloc, totals, rest)?;

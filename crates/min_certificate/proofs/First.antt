@@ -29,18 +29,25 @@ use Rattle.min_certificate.proofs.Shown.{end_within}
 abbrev pub no_edge : Edge
 no_edge = record { from = record { core = 0; count = 0 }; to = record { core = 0; count = 0 } }
 
--- the target of an edge of the log
-pub record IsTarget (r : Recording) (y : Instr) : Type 0 where
+-- an edge of the log, with what its ends are
+pub record IsEdge (r : Recording) (x y : Instr) : Type 0 where
+  pub edge : Among (reduced_edges r) x y
+  pub source_within : IsWithin r x
   pub within : IsWithin r y
   pub some : 1 ≤ y.count
 
-pub target_within : (r : Recording) (edges : List Edge) (i : ℕ) (d : Edge) → Valid r → edges ≡ reduced_edges r → i < length edges →
-    IsTarget r (get_or edges i d).to
-target_within r edges i d valid is lt =
+pub edge_at : (r : Recording) (edges : List Edge) (i : ℕ) (d : Edge) → Valid r → edges ≡ reduced_edges r → i < length edges →
+    IsEdge r (get_or edges i d).from (get_or edges i d).to
+edge_at r edges i d valid is lt =
     let a : Among (reduced_edges r) (get_or edges i d).from (get_or edges i d).to =
     subst (λ (l : List Edge). Among l (get_or edges i d).from (get_or edges i d).to) is (place_among edges i d lt) in
     let w = edge_within Reduced r (get_or edges i d).from (get_or edges i d).to valid a in
-    record { within = record { core = w.pair.target; count = w.target_most }; some = w.some_target }
+    record {
+      edge = a;
+      source_within = record { core = w.pair.source; count = w.source_most };
+      within = record { core = w.pair.target; count = w.target_most };
+      some = w.some_target;
+    }
 
 among_end : (front : List Edge) (e : Edge) (x y : Instr) → Among (front ++ e ∷ []) x y → Among front x y ⊎ ((e.from ≡ x) × (e.to ≡ y))
 among_end [] e x y (inl p) = inr p

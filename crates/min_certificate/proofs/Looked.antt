@@ -1,7 +1,7 @@
 -- Entries and logged sources, looked up.
 use Rattle.std.proofs.Common.{◌≡◌, ◌≢◌, ◌↔◌, ℕ, zero, suc, ◌-◌, ◌<◌, ◌≤◌, List, [], get_or, refl, sym, ap, ◌∙◌, subst, arith, Some, None}
-use Rattle.std.proofs.Common.{true, false, Bool, IsTrue}
-use Rattle.std.specs.Prelude.{slice_index, Option, nat_eq, nat_lt, ◌&&◌}
+use Rattle.std.proofs.Common.{Bool, IsTrue}
+use Rattle.std.specs.Prelude.{slice_index, Option, nat_lt}
 use Rattle.std.proofs.lemmas.Bool.Decides.{nat_tests}
 use Rattle.rtr_types.specs.declared.instr.Instr.{Instr}
 use Rattle.rtr_types.specs.declared.pairs.Which.TheVariants.{Reduced}
@@ -11,12 +11,12 @@ use Rattle.clock_core.proofs.Paths.{instr_eq}
 use Rattle.log_codec.specs.declared.recording.Recording.{Recording}
 use Rattle.log_codec.specs.Sources.{HasEdge}
 use Rattle.log_codec.specs.Validity.{Valid}
-use Rattle.log_codec.proofs.SourceLaws.{edges-within}
+use Rattle.log_codec.proofs.SourceLaws.{edges-within, one-source}
 use Rattle.clock_entries.specs.Ends.{instr, Clocks, entry_at, last_entry}
 use Rattle.replay_audit.proofs.Logs.{edge_within}
 use Rattle.certificate_codec.specs.declared.certificate.Certificate.{Certificate}
 use Rattle.certificate_codec.specs.Ends.{reduced_edges, IsWithin}
-use Rattle.min_certificate.specs.Places.{entry_in, IsBelow, IsSourceBelow, IsUnknownThere}
+use Rattle.min_certificate.specs.Places.{entry_in, IsBelow, IsSourceBelow, AreSourcesBelow, AreAllBelow, IsUnknownThere}
 
 pub entry_none : (clocks : Clocks) (c k : ℕ) → k ≡ 0 → [] ≡ entry_at clocks c k
 entry_none clocks c k e = ap (λ (j : ℕ). entry_at clocks c j) (sym e)
@@ -78,28 +78,27 @@ some_below c of y x entry here b h is test = (to, back)
     back : IsSourceBelow c y of here → IsTrue b
     back f = test.1 (λ i. subst (λ (l : List ℕ). slice_index l i ≤ slice_index here i) (sym is) (f x h.edge h.core i))
 
--- two instructions that are compared
-pub named : (x y : Instr) (b : Bool) → b ≡ (nat_eq x.core y.core && nat_eq x.count y.count) → b ≡ true → x ≡ y
-named x y b e t =
-    let both : (nat_eq x.core y.core && nat_eq x.count y.count) ≡ true = sym e ∙ t in
-    let p : x.core ≡ y.core = grind (arith, nat_tests) in
-    let q : x.count ≡ y.count = grind (arith, nat_tests) in
-    instr_eq x y p q
+-- two entries that were found
+pub is_below_in : (c : Certificate) (x y : Instr) (there here : List ℕ) → there ≡ last_entry (reduced_edges c.recording) c.clocks x →
+    here ≡ last_entry (reduced_edges c.recording) c.clocks y → IsBelow there here → (i : ℕ) → entry_in c x i ≤ entry_in c y i
+is_below_in c x y there here p q below i =
+    subst (λ (l : List ℕ). entry_in c x i ≤ slice_index l i) q (subst (λ (l : List ℕ). slice_index l i ≤ slice_index here i) p (below i))
 
-pub not_named : (x y : Instr) (b : Bool) → b ≡ (nat_eq x.core y.core && nat_eq x.count y.count) → b ≡ false → x ≢ y
-not_named x y b e f same =
-    let p : x.core ≡ y.core = ap (λ (z : Instr). z.core) same in
-    let q : x.count ≡ y.count = ap (λ (z : Instr). z.count) same in
-    let t : (nat_eq x.core y.core && nat_eq x.count y.count) ≡ true = grind (arith, nat_tests) in
-    absurd (cc)
+-- no entry of a source is above that of its target
+pub sources_below : (c : Certificate) (y : Instr) (here : List ℕ) → here ≡ last_entry (reduced_edges c.recording) c.clocks y → AreAllBelow c →
+    AreSourcesBelow c y here
+sources_below c y here q all z a i = subst (λ (l : List ℕ). entry_in c z i ≤ slice_index l i) (sym q) (all z y a i)
 
--- the source is the edge's own
-pub own_unknown : (c : Certificate) (of : ℕ) (x y own : Instr) (b : Bool) → IsSourceOf c.recording of y own → own ≡ x → b ≡ true → IsTrue b
-    ↔ IsUnknownThere c x y of
-own_unknown c of x y own b h same t = ((λ _. of_one c.recording of y own (λ z. z ≢ x → entry_in c z x.core < x.count) h.only (λ ne. absurd (ne same))), λ _. t)
+-- a logged source of y on the core of x is x
+pub own_only : (r : Recording) (x y z : Instr) → Valid r → Among (reduced_edges r) x y → Among (reduced_edges r) z y → z.core ≡ x.core → z ≡ x
+own_only r x y z valid a b same = one-source Reduced r z x y valid (among_contains (reduced_edges r) z y b) (among_contains (reduced_edges r) x y a) same
 
--- it is another
-pub other_unknown : (c : Certificate) (of : ℕ) (x y other : Instr) (entry : List ℕ) (count : ℕ) → IsSourceOf c.recording of y other → other ≢ x →
+-- so no other one knows it
+pub own_known : (c : Certificate) (x y : Instr) (of : ℕ) → Valid c.recording → Among (reduced_edges c.recording) x y → of ≡ x.core → IsUnknownThere c x y of
+own_known c x y of valid a same z b core ne = absurd (ne (own_only c.recording x y z valid a b (core ∙ same)))
+
+-- it is on another core than x
+pub other_unknown : (c : Certificate) (of : ℕ) (x y other : Instr) (entry : List ℕ) (count : ℕ) → IsSourceOf c.recording of y other → of ≢ x.core →
     entry ≡ last_entry (reduced_edges c.recording) c.clocks other → count ≡ slice_index entry x.core →
     IsTrue (nat_lt count x.count) ↔ IsUnknownThere c x y of
 other_unknown c of x y other entry count h ne is count_is = (to, back)
@@ -112,4 +111,4 @@ other_unknown c of x y other entry count h ne is count_is = (to, back)
         let s = same in omega arith)
 
     back : IsUnknownThere c x y of → IsTrue (nat_lt count x.count)
-    back f = let lt = f other h.edge h.core ne in let s = same in let less : count < x.count = omega arith in grind (arith, nat_tests)
+    back f = let lt = f other h.edge h.core (λ e. ne (sym h.core ∙ ap (λ (z : Instr). z.core) e)) in let s = same in let less : count < x.count = omega arith in grind (arith, nat_tests)

@@ -45,6 +45,10 @@ abbrev pub AreSourcesBelow : Certificate → Instr → List ℕ → Type 0
 AreSourcesBelow c y here =
     (z : Instr) → Among (reduced_edges c.recording) z y → (i : ℕ) → entry_in c z i ≤ slice_index here i
 
+-- the entry of no edge's source is above that of its target
+abbrev pub AreAllBelow : Certificate → Type 0
+AreAllBelow c = (x y : Instr) → Among (reduced_edges c.recording) x y → (i : ℕ) → entry_in c x i ≤ entry_in c y i
+
 -- the entry of another logged source of y on this core doesn't know x
 abbrev pub IsUnknownThere : Certificate → Instr → Instr → (core : ℕ) → Type 0
 IsUnknownThere c x y core =

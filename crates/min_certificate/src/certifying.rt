@@ -30,7 +30,8 @@ fn first_amiss(
     ensures { IfOk result (λ amiss. MatchOption amiss (IsLeastIn ends.entry) (IsFirstAmiss ends.entry)) }
 {
     let cores = ends.recording().params.cores;
-    let accesses = CoreAccesses::new(alloc, cores, accesses)?;
+    let totals = ends.recording().totals.as_slice();
+    let accesses = CoreAccesses::new(alloc, cores, accesses, totals)?;
     let entries = Entries::new(ends, clocks);
     Ok(entries.first_amiss(&accesses))
 }

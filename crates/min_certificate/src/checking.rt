@@ -48,7 +48,8 @@ fn first_failure(
     ensures { IfOk result (λ failure. MatchOption failure (Passes certificate.now) (CheckFails certificate.now)) }
 {
     let cores = certificate.recording.params.cores;
-    let accesses = CoreAccesses::new(alloc, cores, audited.accesses())?;
+    let totals = certificate.recording.totals.as_slice();
+    let accesses = CoreAccesses::new(alloc, cores, audited.accesses(), totals)?;
     let ends = EdgeEnds::new(alloc, &certificate.recording)?;
     let entries = Entries::new(ends, certificate.clocks.as_slice());
     Ok(failure_of(&entries, &accesses))

@@ -33,11 +33,12 @@ impl<'a> Model for CoreAccesses<'a> {
 }
 
 impl<'a> CoreAccesses<'a> {
-    /// The accesses of so many cores, whose counts rise.
+    /// The accesses of so many cores, whose counts rise. There is room for places up to the cores' totals.
     pub fn new(
         alloc: Global,
         cores: u8,
         accesses: &'a [Access],
+        totals: &[u32],
     ) -> Result<CoreAccesses<'a>, AllocError>
         requires cores { AreCoresBelow cores accesses.now }
         requires rise { CountsRise accesses.now }
@@ -45,7 +46,7 @@ impl<'a> CoreAccesses<'a> {
     {
         Ok(CoreAccesses {
             accesses,
-            places: places_of(alloc, cores, accesses)?,
+            places: places_of(alloc, cores, accesses, totals)?,
         })
     }
 
@@ -109,24 +110,40 @@ fn place_in(places: &[Items<usize>], at: Instr) -> usize
     }
 }
 
+/// No places of a core, with room for those up to its total.
+fn no_places_of(alloc: Global, core: u8, totals: &[u32]) -> Result<Items<usize>, AllocError>
+    ensures { IfOk result (λ places. places ≡ []) }
+{
+    let room = match totals.get(core as usize) {
+        Some(total) => *total as usize,
+        None => 0,
+    };
+    Ok(Items::from_vec(Vec::with_capacity(alloc, room)?))
+}
+
 /// No places of any of so many cores.
-fn no_places(alloc: Global, cores: u8) -> Result<Vec<Items<usize>>, AllocError>
+fn no_places(alloc: Global, cores: u8, totals: &[u32]) -> Result<Vec<Items<usize>>, AllocError>
     ensures { IfOk result (λ places. places.items ≡ replicate cores []) }
 {
     let mut places = Vec::new(alloc);
     for core in 0..cores {
-        places.push(Items::new(alloc))?;
+        places.push(no_places_of(alloc, core, totals)?)?;
     }
     Ok(places)
 }
 
 /// The place of each instruction's access.
-fn places_of(alloc: Global, cores: u8, accesses: &[Access]) -> Result<Vec<Items<usize>>, AllocError>
+fn places_of(
+    alloc: Global,
+    cores: u8,
+    accesses: &[Access],
+    totals: &[u32],
+) -> Result<Vec<Items<usize>>, AllocError>
     requires cores { AreCoresBelow cores accesses.now }
     requires rise { CountsRise accesses.now }
     ensures { IfOk result (λ places. AreIndexed accesses.now places.items) }
 {
-    let mut places = no_places(alloc, cores)?;
+    let mut places = no_places(alloc, cores, totals)?;
     for index in 0..accesses.len() {
         let at = accesses[index].at;
         put_place(&mut places[at.core as usize], at.count, index + 1)?;

@@ -1,5 +1,5 @@
 //! The clocks of a certificate, looked up at the edge ends of its recording, and tested there.
-ghost use Rattle.std.specs.Prelude.{◌≡◌, ◌≤◌, ◌<◌, ◌-◌, ◌↔◌, IfSome, IsTrue, Some, slice_index};
+ghost use Rattle.std.specs.Prelude.{◌≡◌, ◌≢◌, ◌≤◌, ◌<◌, ◌-◌, ◌↔◌, IfSome, IsTrue, Some, slice_index};
 ghost use Rattle.rtr_types.specs.Pairs.{IsPair};
 ghost use Rattle.rtr_types.specs.declared.instr.Instr.{Instr as SomeInstr};
 ghost use Rattle.log_codec.specs.Validity.{Valid};
@@ -7,7 +7,7 @@ ghost use Rattle.clock_core.specs.Order.{Among};
 ghost use Rattle.clock_entries.specs.Ends.{ends_to, instr, last_entry};
 ghost use Rattle.certificate_codec.specs.Ends.{reduced_edges, IsWithin};
 ghost use Rattle.min_certificate.specs.Places.{IsSourceBelow, AreSourcesBelow, IsUnknownThere, IsUnknownByOthers};
-ghost use Rattle.min_certificate.specs.Places.{IsGoodIn, IsNeededIn};
+ghost use Rattle.min_certificate.specs.Places.{IsGoodIn, IsNeededIn, AreAllBelow};
 ghost use Rattle.min_certificate.specs.Firsts.{FirstWithout, FirstBadOf, FirstBad};
 ghost use Rattle.min_certificate.specs.Sound.{IsSound};
 
@@ -88,6 +88,15 @@ impl<'a> Entries<'a> {
     {
         entry_at(self.clocks, at.core, self.ends.number(at))
     }
+
+    /// The same entry, whose number is looked for from the one that was found last.
+    fn entry_near(&self, at: Instr, number: &mut usize) -> &'a [u32]
+        requires { IsWithin self.now.recording at }
+        ensures { result.now ≡ last_entry (reduced_edges self.now.recording) self.now.clocks at }
+    {
+        *number = self.ends.number_near(at, *number);
+        entry_at(self.clocks, at.core, *number)
+    }
 }
 
 // Which entries are good.
@@ -104,11 +113,32 @@ impl<'a> Entries<'a> {
         }
     }
 
-    /// The same for all its logged sources.
-    fn are_sources_below(&self, at: Instr, here: &[u32]) -> bool
-        requires { IsWithin self.now.recording at }
+    /// Whether the entry of each edge's source is nowhere above that of its target. The edges of a pair
+    /// rise, so that an entry is found near the last one.
+    fn are_all_below(&self) -> bool
+        ensures { IsTrue result → AreAllBelow self.now }
+    {
+        let mut from = 0;
+        let mut to = 0;
+        for &edge in self.edges() {
+            let there = self.entry_near(edge.from, &mut from);
+            let here = self.entry_near(edge.to, &mut to);
+            if !is_below(there, here) {
+                return false;
+            }
+        }
+        true
+    }
+
+    /// The same for all its logged sources, if it isn't known already.
+    fn are_sources_below(&self, at: Instr, here: &[u32], known: bool) -> bool
+        requires within { IsWithin self.now.recording at }
+        requires known { IsTrue known → AreSourcesBelow self.now at here.now }
         ensures { IsTrue result ↔ AreSourcesBelow self.now at here.now }
     {
+        if known {
+            return true;
+        }
         for of in 0..self.cores() {
             if of != at.core && !self.is_source_below(at, of, here) {
                 return false;
@@ -119,23 +149,26 @@ impl<'a> Entries<'a> {
 
     /// Whether the entry of an edge end is good: it has its own count at its own place, at each other
     /// place at least what its core's previous entry has, and at each place at least what each logged
-    /// source's has.
-    fn is_good_at(&self, at: Instr, here: &[u32], before: &[u32]) -> bool
+    /// source's has, which may be known already.
+    fn is_good_at(&self, at: Instr, here: &[u32], before: &[u32], known: bool) -> bool
         requires within { IsWithin self.now.recording at }
         requires some { 1 ≤ at.count }
         requires here { here.now ≡ last_entry (reduced_edges self.now.recording) self.now.clocks at }
         requires before { before.now
             ≡ last_entry (reduced_edges self.now.recording) self.now.clocks (instr at.core (at.count - 1)) }
+        requires known { IsTrue known → AreSourcesBelow self.now at here.now }
         ensures { IsTrue result ↔ IsGoodIn self.now at }
     {
         place(here, at.core as usize) == at.count
             && is_below_but(at.core, before, here)
-            && self.are_sources_below(at, here)
+            && self.are_sources_below(at, here, known)
     }
 
-    /// The number, from 1, of the core's first entry that isn't good.
-    fn first_bad_of(&self, core: u8) -> Option<u32>
-        requires { core < self.now.recording.params.cores }
+    /// The number, from 1, of the core's first entry that isn't good. It may be known already that no entry
+    /// of a source is above that of a target.
+    fn first_bad_of(&self, core: u8, known: bool) -> Option<u32>
+        requires core { core < self.now.recording.params.cores }
+        requires known { IsTrue known → AreAllBelow self.now }
         ensures { FirstBadOf self.now core result }
     {
         let ends = self.ends_of(core);
@@ -146,7 +179,7 @@ impl<'a> Entries<'a> {
             };
             let here = entry_at(self.clocks, core, before + 1);
             let earlier = entry_at(self.clocks, core, before);
-            if !self.is_good_at(at, here, earlier) {
+            if !self.is_good_at(at, here, earlier, known) {
                 return Some(before as u32 + 1);
             }
         }
@@ -157,8 +190,9 @@ impl<'a> Entries<'a> {
     pub fn first_bad(&self) -> Option<(u8, u32)>
         ensures { FirstBad self.now result }
     {
+        let known = self.are_all_below();
         for core in 0..self.cores() {
-            if let Some(number) = self.first_bad_of(core) {
+            if let Some(number) = self.first_bad_of(core, known) {
                 return Some((core, number));
             }
         }
@@ -168,28 +202,27 @@ impl<'a> Entries<'a> {
 
 // Which edges are needed.
 impl<'a> Entries<'a> {
-    /// Whether the entry of another logged source of the edge's target than the edge's own, if there is one
-    /// on this core, doesn't know the edge's source.
+    /// Whether the entry of the logged source of the edge's target on another core than that of the edge's
+    /// own, if there is one, doesn't know the edge's source.
     fn is_unknown_there(&self, edge: Edge, of: u8) -> bool
-        requires { IsPair self.now.recording.params.cores of edge.to.core }
+        requires pair { IsPair self.now.recording.params.cores of edge.to.core }
+        requires other { of ≢ edge.from.core }
         ensures { IsTrue result ↔ IsUnknownThere self.now edge.from edge.to of }
     {
         match self.source(of, edge.to) {
-            Some(source) => {
-                source == edge.from
-                    || place(self.entry(source), edge.from.core as usize) < edge.from.count
-            }
+            Some(source) => { place(self.entry(source), edge.from.core as usize) < edge.from.count }
             None => true,
         }
     }
 
-    /// The same for all other logged sources.
+    /// The same for all other logged sources. On the core of the edge's source there is no other.
     fn is_unknown_by_others(&self, edge: Edge) -> bool
-        requires { IsWithin self.now.recording edge.to }
+        requires within { IsWithin self.now.recording edge.to }
+        requires edge { Among (reduced_edges self.now.recording) edge.from edge.to }
         ensures { IsTrue result ↔ IsUnknownByOthers self.now edge.from edge.to }
     {
         for of in 0..self.cores() {
-            if of != edge.to.core && !self.is_unknown_there(edge, of) {
+            if of != edge.to.core && of != edge.from.core && !self.is_unknown_there(edge, of) {
                 return false;
             }
         }
@@ -197,9 +230,11 @@ impl<'a> Entries<'a> {
     }
 
     /// Whether an edge is needed: neither the entry before its target on the target's core nor that of
-    /// another logged source of the target knows its source.
-    fn is_needed(&self, edge: Edge) -> bool
+    /// another logged source of the target knows its source. The number of that entry is looked for from
+    /// the one that was found last.
+    fn is_needed(&self, edge: Edge, number: &mut usize) -> bool
         requires within { IsWithin self.now.recording edge.to }
+        requires edge { Among (reduced_edges self.now.recording) edge.from edge.to }
         requires some { 1 ≤ edge.to.count }
         ensures { IsTrue result ↔ IsNeededIn self.now edge.from edge.to }
     {
@@ -207,7 +242,7 @@ impl<'a> Entries<'a> {
             core: edge.to.core,
             count: edge.to.count - 1,
         };
-        place(self.entry(before), edge.from.core as usize) < edge.from.count
+        place(self.entry_near(before, number), edge.from.core as usize) < edge.from.count
             && self.is_unknown_by_others(edge)
     }
 
@@ -215,8 +250,9 @@ impl<'a> Entries<'a> {
     pub fn first_not_needed(&self) -> Option<Edge>
         ensures { FirstWithout (IsNeededIn self.now) (reduced_edges self.now.recording) result }
     {
+        let mut number = 0;
         for &edge in self.edges() {
-            if !self.is_needed(edge) {
+            if !self.is_needed(edge, &mut number) {
                 return Some(edge);
             }
         }
@@ -227,8 +263,9 @@ impl<'a> Entries<'a> {
     pub fn first_amiss(&self, accesses: &CoreAccesses) -> Option<Edge>
         ensures { FirstWithout (IsSound self.now accesses.now) (reduced_edges self.now.recording) result }
     {
+        let mut number = 0;
         for &edge in self.edges() {
-            if !accesses.is_conflict(edge) || !self.is_needed(edge) {
+            if !accesses.is_conflict(edge) || !self.is_needed(edge, &mut number) {
                 return Some(edge);
             }
         }

@@ -18,7 +18,7 @@ fn counts_of(alloc: Global, clock: &Clock, cores: u8) -> Result<Items<u32>, Allo
     ensures all { IfOk result (λ counts. length counts ≡ cores) }
     ensures each { IfOk result (λ counts. (i : ℕ) → i < cores → slice_index counts i ≡ slice_index clock.now i) }
 {
-    let mut counts = Items::new(alloc);
+    let mut counts = Items::from_vec(Vec::with_capacity(alloc, cores as usize)?);
     for core in 0..cores {
         counts.push(clock.get(core))?;
     }
@@ -39,7 +39,7 @@ fn clocks_of_core(
     ensures { IfOk result (AreClocksOf audited.now.recording core) }
 {
     let cores = audited.recording().params.cores;
-    let mut clocks = Items::new(alloc);
+    let mut clocks = Items::from_vec(Vec::with_capacity(alloc, ends.len())?);
     for &count in ends {
         let clock = audited.clock(Instr { core, count });
         clocks.push(counts_of(alloc, &clock, cores)?)?;

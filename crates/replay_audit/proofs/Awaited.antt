@@ -245,7 +245,7 @@ pub record LookedTo (edges : List Edge) (y : Instr) (n : ℕ) (s : List ℕ) (k 
 
 -- k with another count to begin from
 abbrev pub with_from : ℕ → Coming → Coming
-with_from n k = record { from = n; due = k.due; edges = k.edges }
+with_from n k = record { from = n; due = k.due; edges = k.edges; places = k.places }
 
 -- the same of edges that are changed in place, which begin from the old count until all are
 pub record PassedTo (edges : List Edge) (y : Instr) (n : ℕ) (s : List ℕ) (old k : Coming) : Type 0 where

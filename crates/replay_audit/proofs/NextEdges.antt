@@ -20,7 +20,7 @@ use Rattle.log_codec.proofs.Rises.{no_edge, no_vector, position_between, Positio
 use Rattle.log_codec.proofs.SourceLaws.{edges-are-paired}
 use Rattle.log_codec.proofs.Looked.{Rising}
 use Rattle.replay_core.specs.Play.{instr}
-use Rattle.replay_audit.specs.Coming.{IsBeginning, IsFirstEdge, IsNextEdge, IsFirstPosition, IsNextPosition, IsNextInto, Leads}
+use Rattle.replay_audit.specs.Coming.{IsBeginning, IsFirstEdge, IsFirstPlace, IsNextEdge, IsFirstPosition, IsNextPosition, IsNextInto, Leads}
 
 -- ---- edges
 
@@ -56,6 +56,16 @@ next_none edges n k parted past a b (j, inside, is_j) =
     let low = ltb-true (get_or edges j no_edge).1 n (parted.0 j no_edge (omega arith) (omega arith)) in
     omega arith
 
+slice_get_inside : (xs : List (ℕ × ℕ)) (i : ℕ) (d : ℕ × ℕ) → i < length xs → slice_get xs i ≡ Some (get_or xs i d)
+slice_get_inside [] i d lt = absurd (omega arith)
+slice_get_inside (x ∷ xs) zero d lt = refl
+slice_get_inside (x ∷ xs) (suc i) d lt = slice_get_inside xs i d (omega arith)
+
+slice_get_past : (xs : List (ℕ × ℕ)) (i : ℕ) → length xs ≤ i → slice_get xs i ≡ None
+slice_get_past [] i le = refl
+slice_get_past (x ∷ xs) zero le = absurd (omega arith)
+slice_get_past (x ∷ xs) (suc i) le = slice_get_past xs i (omega arith)
+
 -- so the edge at that place, if there is one
 pub next_at : (edges : List (ℕ × ℕ)) (n k : ℕ) (o : Option (ℕ × ℕ)) → Rising (λ (x : ℕ × ℕ). x.1) edges no_edge → Below edges n k → o ≡ slice_get edges k →
     IsNextEdge edges n o
@@ -64,16 +74,42 @@ next_at edges n k o rising parted is = elim (cases_lt k (length edges)) [
       (next_found edges n k (get_or edges k no_edge) rising parted within refl)
   | inr past ↦ subst (IsNextEdge edges n) (sym (is ∙ slice_get_past edges k past)) (next_none edges n k parted past)
 ]
-  where
-    slice_get_inside : (xs : List (ℕ × ℕ)) (i : ℕ) (d : ℕ × ℕ) → i < length xs → slice_get xs i ≡ Some (get_or xs i d)
-    slice_get_inside [] i d lt = absurd (omega arith)
-    slice_get_inside (x ∷ xs) zero d lt = refl
-    slice_get_inside (x ∷ xs) (suc i) d lt = slice_get_inside xs i d (omega arith)
 
-    slice_get_past : (xs : List (ℕ × ℕ)) (i : ℕ) → length xs ≤ i → slice_get xs i ≡ None
-    slice_get_past [] i le = refl
-    slice_get_past (x ∷ xs) zero le = absurd (omega arith)
-    slice_get_past (x ∷ xs) (suc i) le = slice_get_past xs i (omega arith)
+-- the edge at a place, where the one before it leads below the count
+pub next_there : (edges : List (ℕ × ℕ)) (n k : ℕ) (e : ℕ × ℕ) → Rising (λ (x : ℕ × ℕ). x.1) edges no_edge → k < length edges → get_or edges k no_edge ≡ e →
+    n ≤ e.1 → (1 ≤ k → (get_or edges (k - 1) no_edge).1 < n) → IsFirstEdge edges n e
+next_there edges n k e rising within is least before = record {
+  there = (k, within, get_or_default edges k e no_edge within ∙ is);
+  least = least;
+  first = λ a b has le. first a b has le;
+}
+  where
+    early : (j b : ℕ) → j < k → (get_or edges j no_edge).1 ≡ b → n ≤ b → ⊥
+    early j b lt b_is le =
+        let low = before (omega arith) in
+        elim (cases_lt j (k - 1)) [
+          | inl up ↦ let more = rising j (k - 1) up (omega arith) in omega arith
+          | inr not_up ↦ let same : j ≡ k - 1 = omega arith in let both = ap (λ (i : ℕ). (get_or edges i no_edge).1) same in omega arith
+        ]
+
+    first : (a b : ℕ) → Contains edges (a, b) → n ≤ b → e.1 ≤ b
+    first a b (j, inside, is_j) le =
+        let at : get_or edges j no_edge ≡ (a, b) = get_or_default edges j no_edge (a, b) inside ∙ is_j in
+        let b_is = ap (λ (x : ℕ × ℕ). x.1) at in
+        let e_is = ap (λ (x : ℕ × ℕ). x.1) is in
+        elim (cases_lt j k) [
+          | inl lt ↦ absurd (early j b lt b_is le)
+          | inr late ↦ elim (cases_lt k j) [
+            | inl after ↦ let up = rising k j after inside in omega arith
+            | inr not_after ↦ let same : j ≡ k = omega arith in let both = ap (λ (i : ℕ). (get_or edges i no_edge).1) same in omega arith
+          ]
+        ]
+
+pub next_first : (edges : List (ℕ × ℕ)) (n k : ℕ) (o : Option (ℕ × ℕ)) → Rising (λ (x : ℕ × ℕ). x.1) edges no_edge → IsFirstPlace edges n k →
+    o ≡ slice_get edges k → IsNextEdge edges n o
+next_first edges n k o rising h is =
+    subst (IsNextEdge edges n) (sym (is ∙ slice_get_inside edges k no_edge h.within))
+    (next_there edges n k (get_or edges k no_edge) rising h.within refl h.least h.before)
 
 -- ---- positions of a vector
 

@@ -1,5 +1,5 @@
 -- Which edges of a log come next.
-use Rattle.std.specs.Prelude.{◌≡◌, ◌≢◌, ℕ, ◌<◌, ◌≤◌, List, [], length, slice_index_or, Option, Some, None, IfSome}
+use Rattle.std.specs.Prelude.{◌≡◌, ◌≢◌, ℕ, ◌-◌, ◌<◌, ◌≤◌, List, [], length, slice_index_or, Option, Some, None, IfSome}
 use Rattle.std.specs.List.{Contains}
 use Rattle.rtr_types.specs.declared.instr.Instr.{Instr}
 use Rattle.rtr_types.specs.declared.instr.Edge.{Edge}
@@ -19,6 +19,12 @@ pub record IsFirstEdge (edges : List (ℕ × ℕ)) (n : ℕ) (e : ℕ × ℕ) : 
   pub there : Contains edges e
   pub least : n ≤ e.1
   pub first : (a b : ℕ) → Contains edges (a, b) → n ≤ b → e.1 ≤ b
+
+-- the place of the first edge whose target's count isn't below n, where counts rise
+pub record IsFirstPlace (edges : List (ℕ × ℕ)) (n k : ℕ) : Type 0 where
+  pub within : k < length edges
+  pub least : n ≤ (slice_index_or edges k (0, 0)).1
+  pub before : 1 ≤ k → (slice_index_or edges (k - 1) (0, 0)).1 < n
 
 -- that edge, or none where each edge's target is below n
 abbrev pub IsNextEdge : List (ℕ × ℕ) → (n : ℕ) → Option (ℕ × ℕ) → Type 0
@@ -88,7 +94,7 @@ pub record IsSourceIn (edge : Option (ℕ × ℕ)) (count : ℕ) (source : Optio
   pub none : source ≡ None → IfSome edge (λ e. e.1 ≢ count)
 
 abbrev pub no_coming : Coming
-no_coming = record { from = 0; due = 0; edges = [] }
+no_coming = record { from = 0; due = 0; edges = []; places = [] }
 
 abbrev pub coming_at : List Coming → ℕ → Coming
 coming_at list c = slice_index_or list c no_coming

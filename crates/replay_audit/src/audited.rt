@@ -136,7 +136,8 @@ impl Pass {
     {
         let mut tally = LowOrder::new(alloc, recording, which)?;
         let mut replay = Replay::new(alloc, recording, which)?;
-        let mut trail = Trail::new(alloc, tally.cores(), recording.params.words)?;
+        let totals = recording.totals.as_slice();
+        let mut trail = Trail::new(alloc, tally.cores(), recording.params.words, totals)?;
         while let Some(core) = tally.lowest() {
             replay.make_room()?;
             match replay.advance(core) {

@@ -21,12 +21,14 @@ use std::marker::Model;
 const PLACES: usize = CORES_MAX as usize;
 
 /// The next edges into one core: from each other core the first one to the instruction with the count
-/// `from` or to a later one. None of these leads to a count below `due`.
+/// `from` or to a later one. None of these leads to a count below `due`. `places` has a guess of where the
+/// edge after each stands in its pair's list.
 #[derive(Clone, Copy)]
 struct Coming {
     from: u32,
     due: u32,
     edges: [Option<(u32, u32)>; PLACES],
+    places: [usize; PLACES],
 }
 
 impl Coming {
@@ -40,6 +42,7 @@ impl Coming {
             from,
             due: u32::MAX,
             edges: [None; PLACES],
+            places: [0; PLACES],
         }
     }
 
@@ -69,8 +72,8 @@ impl Coming {
         }
     }
 
-    /// Puts the next edge from a core.
-    fn put(&mut self, of: u8, edge: Option<(u32, u32)>)
+    /// Puts the next edge from a core, and the guess.
+    fn put(&mut self, of: u8, edge: Option<(u32, u32)>, place: usize)
         requires { of < CORES_MAX }
         ensures from { self.new.from ≡ self.old.from }
         ensures at { edge_of self.new of ≡ edge }
@@ -82,6 +85,7 @@ impl Coming {
             self.due = self.due.min(target);
         }
         self.edges[of as usize] = edge;
+        self.places[of as usize] = place;
     }
 
     /// Finds the sources of the instruction, each core's in turn. The edges go on to those to later ones.
@@ -98,8 +102,9 @@ impl Coming {
         self.due = u32::MAX;
         for of in 0..recording.params.cores {
             if of != at.core {
-                let Step { source, next } = self.step(recording, which, of, at);
-                self.put(of, next);
+                let mut place = self.places[of as usize];
+                let Step { source, next } = self.step(recording, which, of, at, &mut place);
+                self.put(of, next, place);
                 match source {
                     Some(count) => found.set(of, count),
                     None => {}
@@ -110,8 +115,15 @@ impl Coming {
         *sources = Some(found);
     }
 
-    /// The instruction's source on a core, and the core's next edge to a later instruction.
-    fn step(&self, recording: &Recording, which: Which, of: u8, at: Instr) -> Step
+    /// The instruction's source on a core, and the core's next edge to a later instruction, with the guess.
+    fn step(
+        &self,
+        recording: &Recording,
+        which: Which,
+        of: u8,
+        at: Instr,
+        place: &mut usize,
+    ) -> Step
         requires valid { Valid recording.now }
         requires pair { IsPair recording.now.params.cores of at.core }
         requires count { at.count < 2 ^ 32 - 1 }
@@ -120,14 +132,14 @@ impl Coming {
         ensures source { IsSource (log_edges which recording.now) of at result.source }
         ensures next { IsNextInto (log_edges which recording.now) of (instr at.core (at.count + 1)) result.next }
     {
-        let next = self.next(recording, which, of, at);
+        let next = self.next(recording, which, of, at, place);
         match source_in(next, at.count) {
             Some(count) => {
                 let later = Instr {
                     core: at.core,
                     count: at.count + 1,
                 };
-                let next = next_edge(recording, which, of, later);
+                let next = next_edge(recording, which, of, later, place);
                 Step {
                     source: Some(count),
                     next,
@@ -139,7 +151,14 @@ impl Coming {
 
     /// The first edge from a core to the instruction or a later one: the one that is known, if it is still
     /// to come.
-    fn next(&self, recording: &Recording, which: Which, of: u8, at: Instr) -> Option<(u32, u32)>
+    fn next(
+        &self,
+        recording: &Recording,
+        which: Which,
+        of: u8,
+        at: Instr,
+        place: &mut usize,
+    ) -> Option<(u32, u32)>
         requires valid { Valid recording.now }
         requires pair { IsPair recording.now.params.cores of at.core }
         requires coming { IsNextInto (log_edges which recording.now) of (instr at.core self.now.from)
@@ -148,7 +167,7 @@ impl Coming {
     {
         match self.known(of, at.count) {
             Some(edge) => edge,
-            None => next_edge(recording, which, of, at),
+            None => next_edge(recording, which, of, at, place),
         }
     }
 }

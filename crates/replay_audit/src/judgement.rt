@@ -29,7 +29,8 @@ pub fn judge(
     ensures { IfOk result (λ verdict. IsTrue verdict ↔ IsDeterminate which recording.now) }
 {
     let mut tally = LowOrder::new(alloc, recording, which)?;
-    let mut trail = Trail::new(alloc, tally.cores(), recording.params.words)?;
+    let totals = recording.totals.as_slice();
+    let mut trail = Trail::new(alloc, tally.cores(), recording.params.words, totals)?;
     while let Some(core) = tally.lowest() {
         let next = tally.next(core);
         let access = access_at(touched, next.at);

@@ -10,6 +10,9 @@ use rtr_types::{CORES_MAX, Instr, Items};
 use std::alloc::{AllocError, Global};
 use std::marker::Model;
 
+/// How many numbers there is room for beforehand, at most: totals may say anything.
+const ROOM: usize = 1 << 16;
+
 /// For each core the clocks of its instructions to which an edge leads, and for each of its instructions
 /// how many of these clocks there are up to it.
 #[derive(Drop)]
@@ -32,15 +35,15 @@ impl Model for LogClocks {
 }
 
 impl LogClocks {
-    /// No instruction yet.
-    pub fn new(alloc: Global, cores: u8) -> Result<LogClocks, AllocError>
+    /// No instruction yet, with room for as many as the cores' totals say.
+    pub fn new(alloc: Global, cores: u8, totals: &[u32]) -> Result<LogClocks, AllocError>
         ensures numbers { IfOk result (λ kept. kept.numbers ≡ replicate cores []) }
         ensures clocks { IfOk result (λ kept. kept.clocks ≡ replicate cores []) }
     {
         let mut numbers = Vec::new(alloc);
         let mut clocks = Vec::new(alloc);
         for core in 0..cores {
-            numbers.push(Items::new(alloc))?;
+            numbers.push(no_numbers(alloc, totals, core)?)?;
             clocks.push(Items::new(alloc))?;
         }
         Ok(LogClocks {
@@ -173,4 +176,15 @@ impl LogClocks {
         self.clocks[at.core as usize].push(clock)?;
         Ok(())
     }
+}
+
+/// No numbers, with room for as many as the core's total says.
+fn no_numbers(alloc: Global, totals: &[u32], core: u8) -> Result<Items<usize>, AllocError>
+    ensures { IfOk result (λ numbers. numbers ≡ []) }
+{
+    let room = match totals.get(core as usize) {
+        Some(total) => (*total as usize).min(ROOM),
+        None => 0,
+    };
+    Ok(Items::from_vec(Vec::with_capacity(alloc, room)?))
 }

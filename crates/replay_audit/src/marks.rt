@@ -80,7 +80,7 @@ impl Marks {
     pub fn new(alloc: Global, words: u32) -> Result<Marks, AllocError>
         ensures { IfOk result (λ marks. marks ≡ replicate words first_mark) }
     {
-        let mut marks = Vec::new(alloc);
+        let mut marks = Vec::with_capacity(alloc, words as usize)?;
         for word in 0..words {
             marks.push(Mark::first())?;
         }

@@ -1,5 +1,5 @@
 //! The first edge from a core to an instruction or a later one of its core.
-ghost use Rattle.std.specs.Prelude.{◌≡◌, ◌≤◌, slice_get};
+ghost use Rattle.std.specs.Prelude.{◌≡◌, ◌≤◌, IsTrue, slice_get};
 ghost use Rattle.std.specs.List.{flat_map};
 ghost use Rattle.rtr_types.specs.Pairs.{IsPair};
 ghost use Rattle.stride_vector.specs.Vectors.{IsVector, edges_of};
@@ -7,35 +7,62 @@ ghost use Rattle.log_codec.specs.Sources.{AreApart, log_edges};
 ghost use Rattle.rtr_types.specs.Turns.{StandInTurn, follow};
 ghost use Rattle.rtr_types.specs.PairEdges.{EdgeRises};
 ghost use Rattle.log_codec.specs.Validity.{Valid};
-ghost use Rattle.replay_audit.specs.Coming.{IsBeginning, IsNextEdge, IsNextInto, IsNextPosition};
+ghost use Rattle.replay_audit.specs.Coming.{IsBeginning, IsFirstPlace, IsNextEdge, IsNextInto, IsNextPosition};
 
 use log_codec::Recording;
 use rtr_types::{Instr, Which, pair_at};
 use stride_vector::StrideVector;
 
 /// The first edge of the log from core `of` to `at` or a later instruction of its core: the source's count
-/// and the target's. It is looked up in the pair's list, whose counts rise.
-pub fn next_edge(recording: &Recording, which: Which, of: u8, at: Instr) -> Option<(u32, u32)>
+/// and the target's. It is looked up in the pair's list, whose counts rise. An edge of the reduced log is
+/// looked for at a guess first, which becomes the place after it.
+pub fn next_edge(
+    recording: &Recording,
+    which: Which,
+    of: u8,
+    at: Instr,
+    guess: &mut usize,
+) -> Option<(u32, u32)>
     requires valid { Valid recording.now }
     requires pair { IsPair recording.now.params.cores of at.core }
     ensures { IsNextInto (log_edges which recording.now) of at result }
 {
     let place = pair_at(recording.params.cores, of, at.core);
     match which {
-        Which::Reduced => { first_edge(recording.reduced.as_slice()[place].as_slice(), at.count) }
+        Which::Reduced => {
+            first_edge(
+                recording.reduced.as_slice()[place].as_slice(),
+                at.count,
+                guess,
+            )
+        }
         Which::Regulated => {
             first_position(recording.regulated.as_slice()[place].as_slice(), at.count)
         }
     }
 }
 
-/// The first of the pair's edges whose target's count isn't below `least`.
-fn first_edge(edges: &[(u32, u32)], least: u32) -> Option<(u32, u32)>
+/// The first of the pair's edges whose target's count isn't below `least`. The guess of its place becomes
+/// the place after it.
+fn first_edge(edges: &[(u32, u32)], least: u32, guess: &mut usize) -> Option<(u32, u32)>
     requires { StandInTurn EdgeRises follow (0, 0) edges.now }
     ensures { IsNextEdge edges.now least result }
 {
+    let here = *guess;
+    if is_first(edges, least, here) {
+        *guess = here.saturating_add(1);
+        return edge_at(edges, here);
+    }
     let below = edges.partition_point(|&(_, b)| b < least);
+    *guess = below.saturating_add(1);
     edge_at(edges, below)
+}
+
+/// Whether the edge at a place is the first whose target's count isn't below `least`.
+fn is_first(edges: &[(u32, u32)], least: u32, place: usize) -> bool
+    ensures { IsTrue result → IsFirstPlace edges.now least place }
+{
+    place < edges.len() && edges[place].1 >= least && (place == 0 || edges[place - 1].1 < least)
 }
 
 /// The edge at a place, if there is one.

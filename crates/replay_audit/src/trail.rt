@@ -17,6 +17,9 @@ use rtr_types::{Access, CORES_MAX, Items};
 use std::alloc::{AllocError, Global};
 use std::marker::Model;
 
+/// How many accesses there is room for beforehand, at most: totals may say anything.
+const ROOM: usize = 1 << 16;
+
 /// What is kept of the instructions and accesses so far.
 #[derive(Drop)]
 pub struct Trail {
@@ -35,8 +38,8 @@ impl Model for Trail {
 }
 
 impl Trail {
-    /// No instruction yet.
-    pub fn new(alloc: Global, cores: u8, words: u32) -> Result<Trail, AllocError>
+    /// No instruction yet, with room for as many as the cores' totals say.
+    pub fn new(alloc: Global, cores: u8, words: u32, totals: &[u32]) -> Result<Trail, AllocError>
         ensures numbers { IfOk result (λ trail. trail.kept.numbers ≡ replicate cores []) }
         ensures clocks { IfOk result (λ trail. trail.kept.clocks ≡ replicate cores []) }
         ensures marks { IfOk result (λ trail. trail.marks ≡ replicate words first_mark) }
@@ -44,9 +47,9 @@ impl Trail {
         ensures found { IfOk result (λ trail. trail.found ≡ NoneFound) }
     {
         Ok(Trail {
-            clocks: LogClocks::new(alloc, cores)?,
+            clocks: LogClocks::new(alloc, cores, totals)?,
             marks: Marks::new(alloc, words)?,
-            accesses: Items::new(alloc),
+            accesses: Items::from_vec(Vec::with_capacity(alloc, room_for(totals))?),
             found: None,
         })
     }
@@ -148,4 +151,13 @@ fn find(
             }
         }
     }
+}
+
+/// Room for an access of each instruction, as far as it is taken beforehand.
+fn room_for(totals: &[u32]) -> usize {
+    let mut room: usize = 0;
+    for &total in totals {
+        room = room.saturating_add(total as usize);
+    }
+    room.min(ROOM)
 }

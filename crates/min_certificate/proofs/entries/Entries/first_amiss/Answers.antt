@@ -3,19 +3,24 @@ use Rattle.rtr_types.specs.declared.instr.Edge.{Edge}
 use Rattle.min_certificate.specs.Firsts.{FailsFirst, FirstWithout}
 use Rattle.min_certificate.specs.Sound.{IsSound}
 use Rattle.std.proofs.Common.{None}
-use Rattle.min_certificate.proofs.First.{no_edge, target_within, fails_first, holds_more, holds_all}
+use Rattle.min_certificate.proofs.First.{no_edge, edge_at, fails_first, holds_more, holds_all}
 use Rattle.min_certificate.proofs.entries.Entries.first_amiss.Goals as goal
 use Rattle.min_certificate.proofs.entries.Entries.first_amiss.Goals.{then-not-is_conflict-via-then-not-is_conflict}
 use Rattle.min_certificate.proofs.entries.Entries.first_amiss.Goals.{then-not-is_conflict-via-else-not-is_conflict+then-not-is_needed}
 
 pub is_needed-requires-clause-within : goal.is_needed-requires-clause-within
 is_needed-requires-clause-within c =
-    (target_within c.args.self.now.recording c.edges-edge-items.result.now c.loop-edge.edge-index _ c.edges-edge-items.ensures.valid
+    (edge_at c.args.self.now.recording c.edges-edge-items.result.now c.loop-edge.edge-index _ c.edges-edge-items.ensures.valid
     c.edges-edge-items.ensures.edges c.loop-edge-test.true).within
+
+pub is_needed-requires-clause-edge : goal.is_needed-requires-clause-edge
+is_needed-requires-clause-edge c =
+    (edge_at c.args.self.now.recording c.edges-edge-items.result.now c.loop-edge.edge-index _ c.edges-edge-items.ensures.valid
+    c.edges-edge-items.ensures.edges c.loop-edge-test.true).edge
 
 pub is_needed-requires-clause-some : goal.is_needed-requires-clause-some
 is_needed-requires-clause-some c =
-    (target_within c.args.self.now.recording c.edges-edge-items.result.now c.loop-edge.edge-index _ c.edges-edge-items.ensures.valid
+    (edge_at c.args.self.now.recording c.edges-edge-items.result.now c.loop-edge.edge-index _ c.edges-edge-items.ensures.valid
     c.edges-edge-items.ensures.edges c.loop-edge-test.true).some
 
 pub returns-then-not-is_conflict : goal.returns-then-not-is_conflict
