@@ -14,13 +14,13 @@ pub trait Carry: Copy {
     fn none() -> Self
         ensures { result ≡ carrying.none };
 
-    /// What either of the two holds.
-    fn join(self, other: Self) -> Self
-        ensures { result ≡ carrying.joined self other };
+    /// Becomes what either of the two holds.
+    fn join(&mut self, other: &Self)
+        ensures { self.new ≡ carrying.joined self.old other.now };
 
-    /// The carry of a core once it has retired the instruction.
-    fn retire(self, at: Instr) -> Self
-        ensures { result ≡ carrying.retired self at };
+    /// Becomes the carry of a core once it has retired the instruction.
+    fn retire(&mut self, at: Instr)
+        ensures { self.new ≡ carrying.retired self.old at };
 }
 
 /// The carry that holds nothing.
@@ -34,11 +34,7 @@ impl Carry for NoCarry {
         NoCarry
     }
 
-    fn join(self, _other: Self) -> Self {
-        self
-    }
+    fn join(&mut self, _other: &Self) {}
 
-    fn retire(self, _at: Instr) -> Self {
-        self
-    }
+    fn retire(&mut self, _at: Instr) {}
 }

@@ -20,13 +20,13 @@ pub trait Clerk<R: Rider, K: Carry> {
     ghost told_touch: { Self → R → Access → K → Self → R → Type 0 };
 
     /// An instruction retired that touches no data. `carry` is its core's, once it has retired.
-    fn local(&mut self, at: Instr, carry: K)
+    fn local(&mut self, at: Instr, carry: &K)
         requires { accepts self.old at }
-        ensures { told_local self.old at carry self.new };
+        ensures { told_local self.old at carry.now self.new };
 
     /// An instruction retired with the access. `rider` is that of the block's copy in the core's
     /// cache, and `carry` is the core's, once it has retired.
-    fn touched(&mut self, access: Access, rider: &mut R, carry: K)
+    fn touched(&mut self, access: Access, rider: &mut R, carry: &K)
         requires { accepts self.old access.at }
-        ensures { told_touch self.old rider.old access carry self.new rider.new };
+        ensures { told_touch self.old rider.old access carry.now self.new rider.new };
 }

@@ -26,11 +26,11 @@ impl<K: Carry> Clerk<Times, K> for Noter {
         (d ≡ record { counts = slice_set c.counts a.at.core a.at.count })
         × (after ≡ times_noted a before (slice_set no_counts a.at.core (slice_index d.counts a.at.core))) };
 
-    fn local(&mut self, at: Instr, _carry: K) {
+    fn local(&mut self, at: Instr, _carry: &K) {
         self.counts[at.core as usize] = at.count;
     }
 
-    fn touched(&mut self, access: Access, rider: &mut Times, _carry: K) {
+    fn touched(&mut self, access: Access, rider: &mut Times, _carry: &K) {
         let at = access.at;
         self.counts[at.core as usize] = at.count;
         let mut clock = Clock::zero();
@@ -63,7 +63,7 @@ impl<K: Carry> TimesClerk<K> for Noter {
 }
 
 /// Tells of one retirement with an access, as a machine with times does.
-fn tell<K: Carry, C: TimesClerk<K>>(clerk: &mut C, rider: &mut Times, carry: K, access: Access)
+fn tell<K: Carry, C: TimesClerk<K>>(clerk: &mut C, rider: &mut Times, carry: &K, access: Access)
     requires { C.accepts clerk.old access.at }
     ensures rider { rider.new ≡ times_noted access rider.old (C.clock clerk.new access.at.core) }
     ensures others { (core : ℕ) → core ≢ access.at.core → C.clock clerk.new core ≡ C.clock clerk.old core }
@@ -85,7 +85,7 @@ fn a_clerk_notes_through_its_bound(rt: HostRuntime) {
         counts: [0; CORES_MAX as usize],
     };
     let mut rider = Times::fresh();
-    tell(&mut clerk, &mut rider, NoCarry, access);
+    tell(&mut clerk, &mut rider, &NoCarry, access);
     let mut clock = Clock::zero();
     clock.set(1, 7);
     assert_eq!(rt; rider.write(2), Some((at, clock)));

@@ -48,11 +48,11 @@ impl<R: Rider, K: Carry> Clerk<R, K> for Counter {
 
     ghost told_touch = { λ c r a k d q. (d.locals ≡ c.locals) × (d.touches ≡ c.touches + 1) × (q ≡ r) };
 
-    fn local(&mut self, _at: Instr, _carry: K) {
+    fn local(&mut self, _at: Instr, _carry: &K) {
         self.locals += 1;
     }
 
-    fn touched(&mut self, _access: Access, _rider: &mut R, _carry: K) {
+    fn touched(&mut self, _access: Access, _rider: &mut R, _carry: &K) {
         self.touches += 1;
     }
 }
@@ -68,8 +68,9 @@ fn tell<R: Rider, K: Carry, C: Clerk<R, K>>(
     ensures carry { result ≡ K.carrying.retired carry access.at }
     ensures told { C.told_touch clerk.old rider.old access (K.carrying.retired carry access.at) clerk.new rider.new }
 {
-    let after = carry.retire(access.at);
-    clerk.touched(access, rider, after);
+    let mut after = carry;
+    after.retire(access.at);
+    clerk.touched(access, rider, &after);
     after
 }
 
@@ -100,7 +101,9 @@ fn counts_through_the_bounds(rt: HostRuntime) {
     let mut rider = twice_absorbed(&Absorbed { riders: 5 });
     assert_eq!(rt; rider.riders, 12);
     let carry = tell(&mut clerk, &mut rider, NoCarry::none(), access);
-    assert_eq!(rt; carry, NoCarry.join(NoCarry));
+    let mut both = NoCarry;
+    both.join(&NoCarry);
+    assert_eq!(rt; carry, both);
     assert_eq!(rt; (clerk.locals, clerk.touches, rider.riders), (0, 1, 12));
     let mut idle = twice_absorbed(&NoRider);
     idle.absorb(&NoRider);

@@ -76,10 +76,20 @@ impl Clock {
         ensures places { (i : ℕ) → slice_index result i ≡ max (slice_index self i) (slice_index other i) }
     {
         let mut greater = self;
-        for core in 0..PLACES {
-            greater.counts[core] = greater.counts[core].max(other.counts[core]);
-        }
+        greater.join(&other);
         greater
+    }
+
+    /// Takes over each greater count of the other.
+    pub fn join(&mut self, other: &Clock)
+        ensures value { self.new ≡ merged self.old other.now }
+        ensures places { (i : ℕ) → slice_index self.new i ≡ max (slice_index self.old i) (slice_index other.now i) }
+    {
+        let mut counts = self.counts;
+        for core in 0..PLACES {
+            counts[core] = counts[core].max(other.counts[core]);
+        }
+        self.counts = counts;
     }
 
     /// Whether the clock knows of the instruction: its count is at most the one at its core's place.
@@ -110,6 +120,8 @@ mod tests {
         assert!(rt; both.covers(Instr { core: 1, count: 5 }));
         assert!(rt; !both.covers(Instr { core: 0, count: 4 }));
         assert_ne!(rt; both, first);
+        first.join(&second);
+        assert_eq!(rt; first, both);
         assert_eq!(rt; both.as_slice().get(1).copied(), Some(5));
     }
 }

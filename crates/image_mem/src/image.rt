@@ -64,6 +64,10 @@ impl Image {
     {
         let bytes = self.bytes();
         let start = word as usize * 4;
+        // most words of a memory lie past the image
+        if start >= bytes.len() {
+            return 0;
+        }
         let lanes = [
             byte(bytes, start),
             byte(bytes, start + 1),

@@ -47,11 +47,11 @@ fn is_news(at: Instr, of: u8, known: u32, newest: u32) -> bool
 }
 
 /// Whether something is known beside the newest counts and the retired instruction.
-fn brings_news(at: Instr, counts: Clock, newest: &Clock) -> bool
+fn brings_news(at: Instr, counts: &Clock, newest: &Clock) -> bool
     ensures { result ≡ false → (of : ℕ) → of < CORES_MAX →
-        is_news at of (slice_index counts of) (slice_index newest.now of) ≡ false }
+        is_news at of (slice_index counts.now of) (slice_index newest.now of) ≡ false }
 {
-    let mut others = counts;
+    let mut others = *counts;
     if at.core < CORES_MAX {
         others.set(at.core, newest.get(at.core));
     }
@@ -64,12 +64,13 @@ pub(crate) fn put_down(
     changes: &mut RoomyLists<Change>,
     newest: &mut Clock,
     at: Instr,
-    known: Known,
+    known: &Known,
 )
     requires lists { list_place at.core CORES_MAX ≤ length changes.old }
     requires ready { IsTrue (are_ready changes.old) }
-    ensures places { length known.counts ≡ CORES_MAX }
-    ensures changed { AreChanged at known.counts (items_in changes.old) newest.old (items_in changes.new) newest.new }
+    ensures places { length known.now.counts ≡ CORES_MAX }
+    ensures changed { AreChanged at known.now.counts (items_in changes.old) newest.old
+        (items_in changes.new) newest.new }
 {
     let counts = known.counts();
     if brings_news(at, known.clock(), newest) {

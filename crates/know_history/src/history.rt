@@ -86,11 +86,11 @@ impl History {
 
     /// Notes a core's next retirement: of each core the greater of the count that is known and the one noted
     /// last.
-    pub fn note(&mut self, at: Instr, known: Known)
+    pub fn note(&mut self, at: Instr, known: &Known)
         requires core { at.core < core_count self.old.notes }
         requires next { at.count ≡ noted_count self.old.notes at.core + 1 }
         requires ready { IsTrue self.old.ready }
-        ensures { IsNoted self.old.notes at known self.new.notes }
+        ensures { IsNoted self.old.notes at known.now self.new.notes }
     {
         let newest = &mut self.newest[at.core as usize];
         newest.count = at.count;

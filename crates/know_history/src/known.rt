@@ -22,10 +22,10 @@ impl Known {
     }
 
     /// How many of each core's instructions are known, as a clock.
-    pub(crate) fn clock(&self) -> Clock
-        ensures { result ≡ self.now.counts }
+    pub(crate) fn clock(&self) -> &Clock
+        ensures { result.now ≡ self.now.counts }
     {
-        self.counts
+        &self.counts
     }
 
     /// How many of each core's instructions are known, core 0 first.
@@ -48,17 +48,13 @@ impl Carry for Known {
         }
     }
 
-    fn join(self, other: Self) -> Self {
-        Known {
-            counts: self.counts.merge(other.counts),
-        }
+    fn join(&mut self, other: &Self) {
+        self.counts.join(&other.counts);
     }
 
-    fn retire(self, at: Instr) -> Self {
-        let mut counts = self.counts;
+    fn retire(&mut self, at: Instr) {
         if at.core < CORES_MAX {
-            counts.set(at.core, at.count);
+            self.counts.set(at.core, at.count);
         }
-        Known { counts }
     }
 }

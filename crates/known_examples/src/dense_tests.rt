@@ -107,7 +107,7 @@ fn note_all(alloc: Global, rows: &[(Instr, Known)]) -> Result<Noted, AllocError>
         if at.core < CORES {
             if is_next(counts[at.core as usize], at.count) {
                 history.ready()?;
-                history.note(*at, *known);
+                history.note(*at, known);
                 counts[at.core as usize] = at.count;
             }
         }

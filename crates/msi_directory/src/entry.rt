@@ -134,6 +134,14 @@ pub struct Entry<R> {
     pub rider: R,
 }
 
+/// The home's copy of a block's words, and the core whose cache owns the block: none exactly where no cache does.
+/// Where a cache owns it the words are old ones.
+#[derive(Clone, Copy, Debug, PartialEq, Eq)]
+pub struct HomeWords {
+    pub words: [u32; BLOCK_WORDS],
+    pub owner: Option<u8>,
+}
+
 /// What the home answers to a message whose rider was lent, and beside it, lent too, the rider of the message's
 /// block as the home has it by then: data are sent with it. The block is free where it isn't busy by then.
 #[derive(Drop)]

@@ -14,7 +14,7 @@ ghost use Rattle.msi_directory.specs.PlainPart.{PlainRequest, PlainResponse};
 ghost use Rattle.msi_directory.specs.Table.{is_free, owner_of};
 ghost use Rattle.msi_directory.specs.declared.entry.Entry.{Entry};
 
-use crate::entry::{Entry, HomeAnswer, Served, Stage};
+use crate::entry::{Entry, HomeAnswer, HomeWords, Served, Stage};
 use crate::kept_entries::KeptEntries;
 
 #[cfg(test)]
@@ -82,22 +82,23 @@ impl<R: Rider> Home<R> {
     }
 
     /// Makes room for the block, one of the memory's: once it answers Ok, a request for the block needs
-    /// no memory. No block's entry changes, and no other block's room. After want of memory nothing has
-    /// changed.
-    pub fn make_room(&mut self, block: u32) -> Result<(), AllocError>
+    /// no memory. The answer is whether a request for it can be taken now. No block's entry changes, and no
+    /// other block's room. After want of memory nothing has changed.
+    pub fn make_room(&mut self, block: u32) -> Result<bool, AllocError>
         requires { block < length self.old.entries }
         ensures ok { OnOk result (self.new ≡ record self.old { rooms = slice_set self.old.rooms block true }) }
         ensures room { OnOk result (has_room self.new.rooms block ≡ true) }
         ensures touched { OnOk result (touched self.new.rooms
             ≡ touched self.old.rooms + (if has_room self.old.rooms block then 0 else 1)) }
+        ensures free { IfOk result (λ free. free ≡ is_free (entry_at R.riding.fresh self.old.entries block).stage) }
         ensures err { OnErr result (self.new ≡ self.old) }
     {
-        if self.kept.place(block).is_some() {
-            return Ok(());
+        if let Some(place) = self.kept.place(block) {
+            return Ok(self.kept.stage(place).is_free());
         }
         let entry = opening_entry(&self.opening, block, copied(&self.fresh));
         self.kept.add(block, entry)?;
-        Ok(())
+        Ok(true)
     }
 
     /// Whether a request for the block, one of the memory's, needs no memory.
@@ -276,26 +277,24 @@ impl<R: Rider> Home<R> {
         }
     }
 
-    /// The home's copy of a memory word, by the word's index. Where a cache owns the block it is an old
-    /// one.
-    pub fn word(&self, word: u32) -> u32
-        requires { word / BLOCK_WORDS < length self.now.entries }
-        ensures { result ≡ slice_index (entry_at R.riding.fresh self.now.entries (word / BLOCK_WORDS)).words
-            (word % BLOCK_WORDS) }
-    {
-        let block = word / BLOCK_WORDS as u32;
-        match self.kept.place(block) {
-            Some(place) => self.kept.copy(place).words[word as usize % BLOCK_WORDS],
-            None => self.opening.word(word),
-        }
-    }
-
-    /// The core whose cache owns the block: none exactly where no cache does.
-    pub fn owner(&self, block: u32) -> Option<u8>
+    /// The home's copy of the words of the block, one of the memory's, and the core whose cache owns it. So the
+    /// block is looked up once.
+    pub fn words(&self, block: u32) -> HomeWords
         requires { block < length self.now.entries }
-        ensures { result ≡ owner_of (entry_at R.riding.fresh self.now.entries block).stage }
+        ensures words { result.words ≡ (entry_at R.riding.fresh self.now.entries block).words }
+        ensures owner { result.owner ≡ owner_of (entry_at R.riding.fresh self.now.entries block).stage }
     {
-        self.stage(block).owner()
+        match self.kept.place(block) {
+            Some(place) => {
+                let words = self.kept.copy(place).words;
+                let owner = self.kept.stage(place).owner();
+                HomeWords { words, owner }
+            }
+            None => {
+                let words = opening_entry(&self.opening, block, ()).words;
+                HomeWords { words, owner: None }
+            }
+        }
     }
 
     /// The block's stage.

@@ -9,5 +9,5 @@ mod home;
 mod home_copies;
 mod kept_entries;
 
-pub use entry::{Entry, HomeAnswer, Served, Stage};
+pub use entry::{Entry, HomeAnswer, HomeWords, Served, Stage};
 pub use home::{Home, home_rows_fit, riders_change_no_plain_part};

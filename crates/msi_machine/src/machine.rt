@@ -2,18 +2,19 @@
 ghost use Rattle.std.specs.Prelude.{◌≡◌, ◌<◌, ◌≤◌, ◌+◌, ◌*◌, ℕ, IfOk, IsTrue, List, OnOk, false, length, true};
 ghost use Rattle.access_times.specs.Riding.{none_carrying, none_riding};
 ghost use Rattle.rtr_types.specs.Parameters.{Fits};
-ghost use Rattle.rtr_types.specs.declared.TheConstants.{CORES_MAX};
+ghost use Rattle.rtr_types.specs.declared.TheConstants.{BLOCK_WORDS, CORES_MAX};
 ghost use Rattle.msi_machine.specs.Marks.{AllMarked, marked};
 ghost use Rattle.msi_machine.specs.Steppings.{HasMoved, IsTaken, KeepsPromises};
 ghost use Rattle.msi_directory.specs.Blocks.{touched};
 ghost use Rattle.msi_machine.specs.Writers.{OneWriterEach};
 ghost use Rattle.machine_bound.specs.Bound.{total_earned, total_owed, total_retired};
-ghost use Rattle.machine_data.specs.Coherent.{Coherent, opening_memory, word_of};
-ghost use Rattle.msi_state.specs.FinalMemory.{final_word, final_words};
+ghost use Rattle.machine_data.specs.Coherent.{Coherent, opening_memory};
+ghost use Rattle.msi_state.specs.FinalMemory.{final_words};
 ghost use Rattle.msi_state.specs.Events.{instr_of};
 ghost use Rattle.machine_plain.specs.Plain.{plain};
 ghost use Rattle.msi_state.specs.Rests.{heads_roomy};
 ghost use Rattle.memory_laws.specs.Moving.{links_empty};
+ghost use Rattle.msi_memory.specs.Finals.{SameWords};
 ghost use Rattle.msi_memory.specs.Rests.{RoomsMade};
 ghost use Rattle.msi_state.specs.Runs.{opening_state};
 ghost use Rattle.msi_state.specs.States.{all_done, core_at, state_start};
@@ -25,7 +26,7 @@ use crate::standing::{Standing, are_done, first_marks, first_standings};
 use access_times::{Carry, Clerk, Rider};
 use image_mem::Image;
 use msi_state::Move;
-use rtr_types::{Instr, Params};
+use rtr_types::{BLOCK_WORDS, CORES_MAX, Instr, Params};
 use rv_core::Core;
 use std::alloc::{AllocError, Global};
 use std::marker::Model;
@@ -41,9 +42,9 @@ pub struct Stepped {
 /// A machine of some cores in a state of a run. Contracts see that state, and which of the home's blocks
 /// have room for a request.
 ///
-/// Beside the state it keeps what each core stands at, which moves can be made, and which core moved last.
-/// Room is made before each step, so that only that core may have a request for whose block there is none;
-/// and the home is asked only then whether that block is free.
+/// Beside the state it keeps what each core stands at, which moves can be made, and which core moved last, or
+/// none once room was made. Room is made before each step, so that only that core may have a request for whose
+/// block there is none; and the home is asked only then whether that block is free.
 #[derive(Drop)]
 pub struct Machine<R: Rider, K: Carry> {
     pub(crate) parts: Parts<R, K>,
@@ -119,8 +120,14 @@ impl<R: Rider, K: Carry> Machine<R, K> {
         ensures rooms { RoomsMade self.old.state.memory.ports self.old.rooms self.new.rooms }
         ensures ok { OnOk result (heads_roomy self.new ≡ true) }
     {
-        let parts = &mut self.parts;
-        parts.memory.make_room(self.mover)
+        let mover = self.mover;
+        if (mover as u32) < self.marks.cores {
+            let parts = &mut self.parts;
+            let can = parts.memory.make_room(mover)?;
+            self.marks.set(Move::Request(mover), can);
+            self.mover = CORES_MAX;
+        }
+        Ok(())
     }
 
     /// Whether the home has room for the block of each request link's head.
@@ -175,18 +182,18 @@ impl<R: Rider, K: Carry> Machine<R, K> {
         marks
     }
 
-    /// A word of the memory at the end, by its index: the owner's where a cache owns its block, else the
-    /// home's. It is what the last write to it left.
-    pub fn final_word(&self, word: u32) -> u32
+    /// The words of a block of the memory at the end: the owner's where a cache owns the block, else the home's.
+    /// Each is what the last write to it left.
+    pub fn final_words(&self, block: u32) -> [u32; BLOCK_WORDS]
         requires done { all_done self.now.state ≡ true }
-        requires within { word < self.now.state.image.words }
-        ensures value { result ≡ final_word R.riding K.carrying self.now.state word }
-        ensures plain { result ≡ final_word none_riding none_carrying (plain self.now.state) word }
+        requires within { block * BLOCK_WORDS < self.now.state.image.words }
+        ensures value { SameWords result (final_words R.riding K.carrying self.now.state block) }
+        ensures plain { SameWords result (final_words none_riding none_carrying (plain self.now.state) block) }
         ensures last { (memory : ℕ → List ℕ) → Coherent R.riding K.carrying self.now.state memory
-            → result ≡ word_of memory word }
+            → SameWords result (memory block) }
     {
         let parts = &self.parts;
-        parts.memory.final_word(word)
+        parts.memory.final_words(block)
     }
 
     /// The image that the machine runs.

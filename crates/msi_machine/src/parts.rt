@@ -166,8 +166,8 @@ impl<R: Rider, K: Carry> Parts<R, K> {
         let core = &mut self.cores[c as usize];
         let _value = core.finish_op(self.program.image(), standing.op, 0);
         standing.look_ahead(&self.program, core);
-        let carry = self.memory.retire(c, at);
-        clerk.local(at, carry);
+        self.memory.retire(c, at);
+        clerk.local(at, self.memory.carry(c));
         at
     }
 
@@ -200,7 +200,7 @@ impl<R: Rider, K: Carry> Parts<R, K> {
         let core = &mut self.cores[c as usize];
         let after = core.finish_op(self.program.image(), standing.op, before);
         standing.look_ahead(&self.program, core);
-        let carry = self.memory.retire(c, at);
+        self.memory.retire(c, at);
         let access = Access {
             at,
             word,
@@ -208,7 +208,7 @@ impl<R: Rider, K: Carry> Parts<R, K> {
             before,
             after,
         };
-        self.memory.touch(c, access, carry, clerk);
+        self.memory.touch(c, access, clerk);
         at
     }
 

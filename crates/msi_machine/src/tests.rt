@@ -21,11 +21,11 @@ impl<R: Rider, K: Carry> Clerk<R, K> for Counter {
 
     ghost told_touch = { λ c r a k d q. q ≡ r };
 
-    fn local(&mut self, _at: Instr, _carry: K) {
+    fn local(&mut self, _at: Instr, _carry: &K) {
         self.told = self.told.saturating_add(1);
     }
 
-    fn touched(&mut self, _access: Access, _rider: &mut R, _carry: K) {
+    fn touched(&mut self, _access: Access, _rider: &mut R, _carry: &K) {
         self.told = self.told.saturating_add(1);
     }
 }
@@ -110,7 +110,7 @@ fn written(alloc: Global, run: &Run) -> Result<(u32, u32, u32), Fail> {
     if !machine.done() || machine.core(1).count() != run.retired / 2 {
         return Ok((steps, clerk.told, 0));
     }
-    Ok((steps, clerk.told, machine.final_word(8)))
+    Ok((steps, clerk.told, machine.final_words(2)[0]))
 }
 
 // Each core retires all but one instruction by itself and one with its data, after a request was sent and
@@ -146,7 +146,7 @@ fn every_core_that_there_may_be_adds_to_one_word(rt: HostRuntime) -> Result<(), 
     assert!(rt; machine.done());
     let cores = CORES_MAX as u32;
     assert_eq!(rt; clerk.told, 4 * cores);
-    assert_eq!(rt; machine.final_word(8), cores * (cores + 1) / 2);
+    assert_eq!(rt; machine.final_words(2), [cores * (cores + 1) / 2, 0, 0, 0]);
     Ok(())
 }
 

@@ -81,11 +81,11 @@ impl<K: Carry> Clerk<Times, K> for Keeper {
         (d.counts ≡ slice_set c.counts a.at.core a.at.count)
         × (after ≡ times_noted a before (slice_set no_counts a.at.core (slice_index d.counts a.at.core))) };
 
-    fn local(&mut self, at: Instr, _carry: K) {
+    fn local(&mut self, at: Instr, _carry: &K) {
         self.counts[at.core as usize] = at.count;
     }
 
-    fn touched(&mut self, access: Access, rider: &mut Times, _carry: K) {
+    fn touched(&mut self, access: Access, rider: &mut Times, _carry: &K) {
         self.keep(access, rider);
         let at = access.at;
         self.counts[at.core as usize] = at.count;

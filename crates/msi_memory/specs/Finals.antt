@@ -1,6 +1,6 @@
 -- The memory that the memory system has: for each block the owner's words where a cache owns it, and the home's
 -- elsewhere.
-use Rattle.std.specs.Prelude.{ℕ, ◌/◌, ◌%◌, Bool, true, ◌&&◌, nat_lt, List, length, slice_index}
+use Rattle.std.specs.Prelude.{◌≡◌, ℕ, ◌<◌, ◌/◌, ◌%◌, Bool, true, ◌&&◌, nat_lt, List, length, slice_index}
 use Rattle.access_times.specs.Riding.{Riding, Carrying}
 use Rattle.rtr_types.specs.declared.TheConstants.{BLOCK_WORDS}
 use Rattle.msi_cache.specs.Lines.{line_for, can_read}
@@ -8,6 +8,10 @@ use Rattle.msi_directory.specs.declared.entry.Stage.{Stage}
 use Rattle.msi_directory.specs.declared.entry.Stage.TheVariants.{Owned}
 use Rattle.msi_directory.specs.Blocks.{entry_at}
 use Rattle.msi_memory.specs.Memories.{Memory, port_at}
+
+-- the same word in each slot of a block
+abbrev pub SameWords : List ℕ → List ℕ → Type 0
+SameWords words others = (slot : ℕ) → slot < BLOCK_WORDS → slice_index words slot ≡ slice_index others slot
 
 module _ {R K : Type 0} where
   -- a block's words, by its stage at the home

@@ -8,7 +8,7 @@ ghost use Rattle.msi_directory.specs.Blocks.{entry_at, touched};
 ghost use Rattle.msi_directory.specs.Table.{is_free};
 ghost use Rattle.msi_memory.specs.Acts.{TakeMessage, TakeRequest, TakeResponse, allows, can, data_next, head_free};
 ghost use Rattle.msi_memory.specs.Acts.{retire, take_message, take_request, take_response, touch, want};
-ghost use Rattle.msi_memory.specs.Finals.{at_hand, memory_word};
+ghost use Rattle.msi_memory.specs.Finals.{SameWords, at_hand, block_words};
 ghost use Rattle.msi_memory.specs.Memories.{memory_start, port_at, rider_at, word_at};
 ghost use Rattle.msi_memory.specs.Rests.{HasRoomFor, HeadsFit, NamesFit, OthersRoomy, RoomsMade, are_heads_roomy};
 ghost use Rattle.msi_memory.specs.Rests.{has_row_for, head_is, head_roomy, requests_at};
@@ -21,6 +21,7 @@ use crate::sending::deliver;
 use crate::turn::Turn;
 use access_times::{Carry, Clerk, Rider};
 use image_mem::Image;
+use msi_cache::Cache;
 use msi_directory::{Home, Served};
 use rtr_types::{Access, BLOCK_WORDS, CORES_MAX, CoreSet, Instr, Kind};
 use std::alloc::{AllocError, Global};
@@ -124,18 +125,25 @@ impl<R: Rider, K: Carry> MemorySystem<R, K> {
         askers(self.ports.as_slice(), block)
     }
 
-    /// A word of the memory, by its index, once its block's words are at hand: the owner's where a cache
-    /// owns the block, else the home's.
-    pub fn final_word(&self, word: u32) -> u32
-        requires within { word / BLOCK_WORDS < length self.now.memory.home }
-        requires at_hand { IsTrue (at_hand R.riding K.carrying self.now.memory (word / BLOCK_WORDS)) }
-        ensures { result ≡ memory_word R.riding K.carrying self.now.memory word }
+    /// The core's carry.
+    pub fn carry(&self, core: u8) -> &K
+        requires { core < length self.now.memory.ports }
+        ensures { result.now ≡ (port_at K.carrying self.now.memory.ports core).carry }
     {
-        let block = word / BLOCK_WORDS as u32;
-        let slot = (word % BLOCK_WORDS as u32) as u8;
-        match self.home.owner(block) {
-            Some(owner) => self.ports[owner as usize].cache.word(block, slot),
-            None => self.home.word(word),
+        &self.ports[core as usize].carry
+    }
+
+    /// The words of a block of the memory, once they are at hand: the owner's where a cache owns the block, else
+    /// the home's.
+    pub fn final_words(&self, block: u32) -> [u32; BLOCK_WORDS]
+        requires within { block < length self.now.memory.home }
+        requires at_hand { IsTrue (at_hand R.riding K.carrying self.now.memory block) }
+        ensures { SameWords result (block_words R.riding K.carrying self.now.memory block) }
+    {
+        let home = self.home.words(block);
+        match home.owner {
+            Some(owner) => words_in(&self.ports[owner as usize].cache, block),
+            None => home.words,
         }
     }
 
@@ -146,15 +154,18 @@ impl<R: Rider, K: Carry> MemorySystem<R, K> {
         self.home.touched()
     }
 
-    /// Makes room in the home for the block of the core's oldest request, if there is one. The blocks of the
-    /// other cores' oldest requests have room. After want of memory nothing has changed.
-    pub fn make_room(&mut self, core: u8) -> Result<(), AllocError>
+    /// Makes room in the home for the block of the core's oldest request, if there is one. The answer is whether
+    /// there is one and the home can take it. The blocks of the other cores' oldest requests have room. After
+    /// want of memory nothing has changed.
+    pub fn make_room(&mut self, core: u8) -> Result<bool, AllocError>
         requires heads { HeadsFit self.old.memory }
         requires others { OthersRoomy self.old.memory.ports core self.old.rooms }
         ensures memory { self.new.memory ≡ self.old.memory }
         ensures rooms { RoomsMade self.old.memory.ports self.old.rooms self.new.rooms }
         ensures others { OthersRoomy self.old.memory.ports core self.new.rooms }
         ensures ok { OnOk result (are_heads_roomy self.new.memory.ports self.new.rooms ≡ true) }
+        ensures free { IfOk result (λ free. free
+            ≡ head_free (requests_at self.old.memory.ports core) R.riding self.old.memory.home) }
     {
         make_room_for_head(&mut self.home, self.ports.as_slice(), core)
     }
@@ -189,21 +200,21 @@ impl<R: Rider, K: Carry> MemorySystem<R, K> {
         port.cache.ask(block, kind);
     }
 
-    /// The core retires an instruction. The answer is its carry, once it has.
-    pub fn retire(&mut self, core: u8, at: Instr) -> K
+    /// The core retires an instruction.
+    pub fn retire(&mut self, core: u8, at: Instr)
         requires here { core < length self.old.memory.ports }
         ensures memory { self.new.memory ≡ retire K.carrying self.old.memory core at }
         ensures rooms { self.new.rooms ≡ self.old.rooms }
-        ensures carry { result ≡ K.carrying.retired (port_at K.carrying self.old.memory.ports core).carry at }
+        ensures carry { (port_at K.carrying self.new.memory.ports core).carry
+            ≡ K.carrying.retired (port_at K.carrying self.old.memory.ports core).carry at }
     {
-        let port = &mut self.ports[core as usize];
-        port.carry = port.carry.retire(at);
-        port.carry
+        self.ports[core as usize].carry.retire(at);
     }
 
     /// The core makes an access that its cache allows, which leaves its value in the core's copy of the block
-    /// if it writes. The clerk is told of it, with the copy's rider, which it may change, and with this carry.
-    pub fn touch<C: Clerk<R, K>>(&mut self, core: u8, access: Access, carry: K, clerk: &mut C)
+    /// if it writes. The clerk is told of it, with the copy's rider, which it may change, and with the core's
+    /// carry.
+    pub fn touch<C: Clerk<R, K>>(&mut self, core: u8, access: Access, clerk: &mut C)
         requires here { core < length self.old.memory.ports }
         requires allowed { IsTrue (allows R.riding (port_at K.carrying self.old.memory.ports core)
             (access.word / BLOCK_WORDS) access.kind) }
@@ -213,16 +224,17 @@ impl<R: Rider, K: Carry> MemorySystem<R, K> {
             (rider_at R.riding (port_at K.carrying self.new.memory.ports core) access.word) }
         ensures rooms { self.new.rooms ≡ self.old.rooms }
         ensures told { C.told_touch clerk.old
-            (rider_at R.riding (port_at K.carrying self.old.memory.ports core) access.word) access carry clerk.new
+            (rider_at R.riding (port_at K.carrying self.old.memory.ports core) access.word) access
+            (port_at K.carrying self.old.memory.ports core).carry clerk.new
             (rider_at R.riding (port_at K.carrying self.new.memory.ports core) access.word) }
     {
         let block = access.word / BLOCK_WORDS as u32;
         let slot = (access.word % BLOCK_WORDS as u32) as u8;
-        let cache = &mut self.ports[core as usize].cache;
+        let port = &mut self.ports[core as usize];
         if access.kind.is_write() {
-            cache.put_word(block, slot, access.after);
+            port.cache.put_word(block, slot, access.after);
         }
-        clerk.touched(access, cache.rider(block), carry);
+        clerk.touched(access, port.cache.rider(block), &port.carry);
     }
 
     /// The core takes the oldest message that the home sent it, and answers it where the cache's table has an
@@ -261,14 +273,14 @@ impl<R: Rider, K: Carry> MemorySystem<R, K> {
             return Turn::none();
         };
         let block = mail.item.block();
-        self.carry = self.carry.join(mail.carry);
+        self.carry.join(&mail.carry);
         let Served {
             answer,
             rider,
             free,
         } = serve(&mut self.home, core, &mail.item);
         self.ports[core as usize].requests.drop_head();
-        deliver(self.ports.as_mut_slice(), answer, block, rider, self.carry);
+        deliver(self.ports.as_mut_slice(), answer, block, rider, &self.carry);
         Turn {
             block,
             answer,
@@ -293,7 +305,7 @@ impl<R: Rider, K: Carry> MemorySystem<R, K> {
             return Turn::none();
         };
         let block = mail.item.block();
-        self.carry = self.carry.join(mail.carry);
+        self.carry.join(&mail.carry);
         let Served {
             answer,
             rider,
@@ -303,13 +315,26 @@ impl<R: Rider, K: Carry> MemorySystem<R, K> {
             core,
             &mut self.ports[core as usize].responses,
         );
-        deliver(self.ports.as_mut_slice(), answer, block, rider, self.carry);
+        deliver(self.ports.as_mut_slice(), answer, block, rider, &self.carry);
         Turn {
             block,
             answer,
             free,
         }
     }
+}
+
+/// The words that a cache's copy of the block has, where it may be read.
+fn words_in<R: Rider>(cache: &Cache<R>, block: u32) -> [u32; BLOCK_WORDS]
+    requires { IsTrue (can_read (line_for R.riding.fresh cache.now block) block) }
+    ensures { SameWords result (line_for R.riding.fresh cache.now block).words }
+{
+    [
+        cache.word(block, 0),
+        cache.word(block, 1),
+        cache.word(block, 2),
+        cache.word(block, 3),
+    ]
 }
 
 /// The cores whose oldest request is for the block.

@@ -88,7 +88,7 @@ impl<R: Rider, K: Carry> Port<R, K> {
             return false;
         }
         let mail = self.messages.head_place();
-        self.carry = self.carry.join(mail.carry);
+        self.carry.join(&mail.carry);
         let message = mail.item.open();
         if let Some(response) = self.cache.answer(message) {
             let reply = self.responses.push_place();

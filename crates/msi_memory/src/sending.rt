@@ -17,21 +17,27 @@ use rtr_types::{CORES_MAX, CoreSet};
 fn send<R: Rider, K: Carry>(
     link: &mut Link<Mail<FromHomeSlot<R>, K>>,
     message: FromHome<&R>,
-    carry: K,
+    carry: &K,
 )
     requires { length link.old.items < link.old.room }
-    ensures { link.new ≡ pushed link.old (message_seen message.entry) carry }
+    ensures { link.new ≡ pushed link.old (message_seen message.entry) carry.now }
 {
     let mail = link.push_place();
     mail.item.put(message);
-    mail.carry = carry;
+    mail.carry = *carry;
 }
 
 /// Each core of the set gets the message.
-fn tell<R: Rider, K: Carry>(ports: &mut [Port<R, K>], set: CoreSet, message: FromHome<&R>, carry: K)
+fn tell<R: Rider, K: Carry>(
+    ports: &mut [Port<R, K>],
+    set: CoreSet,
+    message: FromHome<&R>,
+    carry: &K,
+)
     requires cores { length ports.old ≤ CORES_MAX }
     requires room { HasRoomIn set ports.old }
-    ensures { ports.new ≡ ports_told K.carrying set (message_seen message.entry) carry (length ports.old) ports.old }
+    ensures { ports.new
+        ≡ ports_told K.carrying set (message_seen message.entry) carry.now (length ports.old) ports.old }
 {
     for n in 0..ports.len() {
         if set.has(n as u8) {
@@ -47,12 +53,12 @@ pub(crate) fn deliver<R: Rider, K: Carry>(
     answer: HomeAnswer<()>,
     block: u32,
     rider: &R,
-    carry: K,
+    carry: &K,
 )
     requires cores { length ports.old ≤ CORES_MAX }
     requires room { HasRoomTo K.carrying (answer_riding rider.now answer) ports.old }
     requires to { IfSome (answer_riding rider.now answer).send (λ s. s.0 < length ports.old) }
-    ensures { ports.new ≡ delivered K.carrying (answer_riding rider.now answer) block carry ports.old }
+    ensures { ports.new ≡ delivered K.carrying (answer_riding rider.now answer) block carry.now ports.old }
 {
     match answer.send {
         Some((to, message)) => {

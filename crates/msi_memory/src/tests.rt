@@ -20,11 +20,11 @@ impl<R: Rider, K: Carry> Clerk<R, K> for Counter {
 
     ghost told_touch = { λ c r a k d q. (d.told ≡ c.told + 1) × (q ≡ r) };
 
-    fn local(&mut self, _at: Instr, _carry: K) {
+    fn local(&mut self, _at: Instr, _carry: &K) {
         self.told += 1;
     }
 
-    fn touched(&mut self, _access: Access, _rider: &mut R, _carry: K) {
+    fn touched(&mut self, _access: Access, _rider: &mut R, _carry: &K) {
         self.told += 1;
     }
 }
@@ -50,9 +50,10 @@ fn a_core_writes_to_the_block_that_it_asked_for(rt: HostRuntime) -> Result<(), F
         after: 9,
     };
     let mut clerk = Counter { told: 0 };
-    let carry = system.retire(0, at);
-    system.touch(0, access, carry, &mut clerk);
+    system.retire(0, at);
+    assert_eq!(rt; system.carry(0), &NoCarry);
+    system.touch(0, access, &mut clerk);
     assert_eq!(rt; clerk.told, 1);
-    assert_eq!(rt; system.final_word(1), 9);
+    assert_eq!(rt; system.final_words(0), [7, 9, 0, 0]);
     Ok(())
 }

@@ -7,3 +7,4 @@ pub mod SortedPairs
 pub mod PairLists
 pub mod LeastLists
 pub mod Recordings
+pub mod BlockWords

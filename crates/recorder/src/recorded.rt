@@ -1,9 +1,10 @@
 //! What a run came to.
-ghost use Rattle.std.specs.Prelude.{◌≡◌, ℕ, List, IfOk, length, map, true};
+ghost use Rattle.std.specs.Prelude.{◌≡◌, ◌%◌, ℕ, List, IfOk, length, map, true};
 ghost use Rattle.access_times.specs.Riding.{none_carrying, none_riding};
 ghost use Rattle.msi_state.specs.FinalMemory.{final_memory};
 ghost use Rattle.machine_plain.specs.Plain.{plain};
 ghost use Rattle.msi_state.specs.States.{all_done};
+ghost use Rattle.rtr_types.specs.declared.TheConstants.{BLOCK_WORDS};
 ghost use Rattle.recorder.specs.Recordings.{outcome_left, recording_from};
 
 use crate::run_clerk::{RunClerk, RunNotes};
@@ -11,7 +12,7 @@ use access_times::Times;
 use know_history::Known;
 use log_codec::Recording;
 use msi_machine::Machine;
-use rtr_types::{Items, Params};
+use rtr_types::{BLOCK_WORDS, Items, Params};
 use rv_core::{Core, Outcome};
 use std::alloc::{AllocError, Global};
 
@@ -32,6 +33,7 @@ pub(crate) fn finished(
     requires done { all_done machine.state ≡ true }
     requires cores { params.cores ≡ length machine.state.cores }
     requires words { params.words ≡ machine.state.image.words }
+    requires whole { params.words % BLOCK_WORDS ≡ 0 }
     ensures outcome { IfOk result (λ run. run.outcome ≡ outcome_left machine.state clerk.loads.lists) }
     ensures recording { IfOk result (λ run.
         run.recording ≡ recording_from params machine.state.image
@@ -84,13 +86,14 @@ fn words_of(
 ) -> Result<Items<u32>, AllocError>
     requires done { all_done machine.now.state ≡ true }
     requires words { words ≡ machine.now.state.image.words }
+    requires whole { words % BLOCK_WORDS ≡ 0 }
     ensures { IfOk result (λ list. list ≡ final_memory none_riding none_carrying (plain machine.now.state)) }
 {
-    let mut list = Items::new(alloc);
-    for word in 0..words {
-        list.push(machine.final_word(word))?;
+    let mut list = Vec::with_capacity(alloc, words as usize)?;
+    for block in 0..words / BLOCK_WORDS as u32 {
+        list.extend_from_slice(&machine.final_words(block))?;
     }
-    Ok(list)
+    Ok(Items::from_vec(list))
 }
 
 /// How many instructions each core retired.

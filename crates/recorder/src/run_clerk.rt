@@ -145,12 +145,12 @@ impl Clerk<Times, Known> for RunClerk {
 
     ghost told_touch = { λ c r a k d q. ToldTouch c r a k d q };
 
-    fn local(&mut self, at: Instr, carry: Known) {
+    fn local(&mut self, at: Instr, carry: &Known) {
         self.history.note(at, carry);
         self.reducer.local(at);
     }
 
-    fn touched(&mut self, access: Access, rider: &mut Times, carry: Known) {
+    fn touched(&mut self, access: Access, rider: &mut Times, carry: &Known) {
         self.history.note(access.at, carry);
         if access.kind.is_read() {
             let note = LoadNote {

@@ -65,9 +65,9 @@ impl<R: Rider, K: Carry> Clerk<R, K> for Keeper {
 
     ghost told_touch = { λ c r a k d q. q ≡ r };
 
-    fn local(&mut self, _at: Instr, _carry: K) {}
+    fn local(&mut self, _at: Instr, _carry: &K) {}
 
-    fn touched(&mut self, access: Access, _rider: &mut R, _carry: K) {
+    fn touched(&mut self, access: Access, _rider: &mut R, _carry: &K) {
         self.told = Some(access);
     }
 }

@@ -26,12 +26,12 @@ impl<R: Rider> Clerk<R, Known> for Keeper {
 
     ghost told_touch = { λ c r a k d q. q ≡ r };
 
-    fn local(&mut self, at: Instr, carry: Known) {
-        self.told = Some((at, carry));
+    fn local(&mut self, at: Instr, carry: &Known) {
+        self.told = Some((at, *carry));
     }
 
-    fn touched(&mut self, access: Access, _rider: &mut R, carry: Known) {
-        self.told = Some((access.at, carry));
+    fn touched(&mut self, access: Access, _rider: &mut R, carry: &Known) {
+        self.told = Some((access.at, *carry));
     }
 }
 

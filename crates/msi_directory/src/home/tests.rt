@@ -126,7 +126,7 @@ fn row(
     assert_eq!(rt; take(rt, &mut home, step), answer, "{step:?}");
     assert!(rt; home.blocks() == 4);
     assert_eq!(rt;
-        (home.stage(2), home.word(8), home.rider(2).digits),
+        (home.stage(2), home.words(2).words[0], home.rider(2).digits),
         left,
         "{step:?}"
     );
@@ -392,10 +392,10 @@ fn hands_a_shared_block_to_one_owner(rt: HostRuntime) -> Result<(), Fail> {
     assert!(rt; home.blocks() == 4);
     assert_eq!(rt; home.can_take(&Request::GetS { block: 2 }), false);
     assert_eq!(rt; home.is_free(2), false);
-    assert_eq!(rt; home.owner(2), None);
+    assert_eq!(rt; home.words(2).owner, None);
     assert_eq!(rt; take(&rt, &mut home, Step::InvAck(0, 7)), data(1, 0, 7));
     assert!(rt; home.blocks() == 4);
-    assert_eq!(rt; home.owner(2), Some(1));
+    assert_eq!(rt; home.words(2).owner, Some(1));
     assert_eq!(rt; home.is_free(2), true);
     assert_eq!(rt; *home.rider(2), Trail { digits: 7 });
     assert_eq!(rt; *home.rider(3), Trail { digits: 0 });
@@ -412,9 +412,11 @@ fn reads_the_opening_words(rt: HostRuntime) -> Result<(), Fail> {
     for touched in 0..2 {
         assert!(rt; home.blocks() == 2);
         assert_eq!(rt; home.touched(), touched);
-        let words = [home.word(0), home.word(1), home.word(2), home.word(3)];
-        assert_eq!(rt; words, [1, 2, 259, 0]);
-        assert_eq!(rt; home.word(4), 0);
+        let owner = None;
+        let words = [1, 2, 259, 0];
+        assert_eq!(rt; home.words(0), HomeWords { words, owner });
+        let words = [0; 4];
+        assert_eq!(rt; home.words(1), HomeWords { words, owner });
         home.make_room(0)?;
     }
     Ok(())

@@ -18,8 +18,8 @@ returns-clause-rooms g c =
     let made =
     one_made c.args.ports.now c.args.core c.in-Some.port.now c.in-Some-head.mail.now c.in-Some-head.ensures.item.0 c.args.home.now c.make_room.new.self
     c.block.result c.requires.others c.in-Some.ensures.lookup.3.0
-    (sym c.in-Some.ensures.lookup.1) c.in-Some-head.ensures.item.1 c.block.ensures c.in_ok-make_room.ensures.ok
-    c.in_ok-make_room.ensures.room in
+    (sym c.in-Some.ensures.lookup.1) c.in-Some-head.ensures.item.1 c.block.ensures c.in_ok-free.ensures.ok
+    c.in_ok-free.ensures.room in
     made.made
 
 pub returns-clause-others : goal.returns-clause-others
@@ -27,8 +27,8 @@ returns-clause-others g c =
     let made =
     one_made c.args.ports.now c.args.core c.in-Some.port.now c.in-Some-head.mail.now c.in-Some-head.ensures.item.0 c.args.home.now c.make_room.new.self
     c.block.result c.requires.others c.in-Some.ensures.lookup.3.0
-    (sym c.in-Some.ensures.lookup.1) c.in-Some-head.ensures.item.1 c.block.ensures c.in_ok-make_room.ensures.ok
-    c.in_ok-make_room.ensures.room in
+    (sym c.in-Some.ensures.lookup.1) c.in-Some-head.ensures.item.1 c.block.ensures c.in_ok-free.ensures.ok
+    c.in_ok-free.ensures.room in
     made.others
 
 pub returns-clause-ok : goal.returns-clause-ok
@@ -36,6 +36,6 @@ returns-clause-ok g c =
     let made =
     one_made c.args.ports.now c.args.core c.in-Some.port.now c.in-Some-head.mail.now c.in-Some-head.ensures.item.0 c.args.home.now c.make_room.new.self
     c.block.result c.requires.others c.in-Some.ensures.lookup.3.0
-    (sym c.in-Some.ensures.lookup.1) c.in-Some-head.ensures.item.1 c.block.ensures c.in_ok-make_room.ensures.ok
-    c.in_ok-make_room.ensures.room in
+    (sym c.in-Some.ensures.lookup.1) c.in-Some-head.ensures.item.1 c.block.ensures c.in_ok-free.ensures.ok
+    c.in_ok-free.ensures.room in
     made.all

@@ -104,7 +104,7 @@ allows-requires g c =
 pub touch-requires-clause-here : goal.touch-requires-clause-here
 touch-requires-clause-here g c =
     subst (λ (m : Tried). 0 < length m.ports)
-    (sym (c.retire-carry.ensures.memory
+    (sym (c.retire.ensures.memory
     ∙ ap (λ (m : Tried). retire carrying m 0 (record { core = 0; count = 1 }))
     (c.take_message.ensures.memory
     ∙ ap (λ (m : Tried). take_message riding carrying m 0)
@@ -117,7 +117,7 @@ touch-requires-clause-here g c =
 pub touch-requires-clause-allowed : goal.touch-requires-clause-allowed
 touch-requires-clause-allowed g c =
     subst (λ (m : Tried). IsTrue (allows riding (port_at carrying m.ports 0) 0 Store))
-    (sym (c.retire-carry.ensures.memory
+    (sym (c.retire.ensures.memory
     ∙ ap (λ (m : Tried). retire carrying m 0 (record { core = 0; count = 1 }))
     (c.take_message.ensures.memory
     ∙ ap (λ (m : Tried). take_message riding carrying m 0)
@@ -127,12 +127,12 @@ touch-requires-clause-allowed g c =
     c.make_room.ensures.memory c.want.ensures.memory c.in_ok-system.ensures.memory c.in_ok-image.ensures.image)))))
     (allowed_retired riding carrying c.in_ok-to_vec.field-0.items (record { core = 0; count = 1 }))
 
-pub final_word-requires-clause-within : goal.final_word-requires-clause-within
-final_word-requires-clause-within g c =
+pub final_words-requires-clause-within : goal.final_words-requires-clause-within
+final_words-requires-clause-within g c =
     subst (λ (m : Tried). 0 < length m.home)
     (sym (c.touch.ensures.memory
     ∙ ap (λ (m : Tried). touch riding carrying m 0 0 1 Store 9 (rider_at riding (port_at carrying c.touch.new.self.memory.ports 0) 1))
-    (c.retire-carry.ensures.memory
+    (c.retire.ensures.memory
     ∙ ap (λ (m : Tried). retire carrying m 0 (record { core = 0; count = 1 }))
     (c.take_message.ensures.memory
     ∙ ap (λ (m : Tried). take_message riding carrying m 0)
@@ -143,12 +143,12 @@ final_word-requires-clause-within g c =
     (within_written riding carrying c.in_ok-to_vec.field-0.items (record { core = 0; count = 1 })
     (rider_at riding (port_at carrying c.touch.new.self.memory.ports 0) 1))
 
-pub final_word-requires-clause-at_hand : goal.final_word-requires-clause-at_hand
-final_word-requires-clause-at_hand g c =
+pub final_words-requires-clause-at_hand : goal.final_words-requires-clause-at_hand
+final_words-requires-clause-at_hand g c =
     subst (λ (m : Tried). IsTrue (at_hand riding carrying m 0))
     (sym (c.touch.ensures.memory
     ∙ ap (λ (m : Tried). touch riding carrying m 0 0 1 Store 9 (rider_at riding (port_at carrying c.touch.new.self.memory.ports 0) 1))
-    (c.retire-carry.ensures.memory
+    (c.retire.ensures.memory
     ∙ ap (λ (m : Tried). retire carrying m 0 (record { core = 0; count = 1 }))
     (c.take_message.ensures.memory
     ∙ ap (λ (m : Tried). take_message riding carrying m 0)

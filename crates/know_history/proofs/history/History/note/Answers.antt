@@ -23,8 +23,8 @@ invariant_of-self c =
     let newest = c.self.inside.newest.items in
     let lists = items_in c.self.inside.changes in
     let new = items_in c.put_down.new.changes in
-    holds_more c.args.at c.args.known newest lists _ new
-    (one_more c.args.at c.args.known newest lists new c.args.self.now.notes c.index_mut-newest.result.now c.args.known.counts c.put_down.new.newest
+    holds_more c.args.at c.args.known.now newest lists _ new
+    (one_more c.args.at c.args.known.now newest lists new c.args.self.now.notes c.index_mut-newest.result.now c.args.known.now.counts c.put_down.new.newest
     (ap (λ v. v.notes) c.self.view_is) c.self.invariant c.requires.core c.requires.next
     c.put_down.ensures.places refl c.index_mut-newest.ensures.value c.put_down.ensures.changed)
 
@@ -33,7 +33,7 @@ returns c =
     let newest = c.self.inside.newest.items in
     let lists = items_in c.self.inside.changes in
     let new = items_in c.put_down.new.changes in
-    is_noted_as c.args.at c.args.known newest lists _ new c.args.self.now.notes (ap (λ v. v.notes) c.self.view_is)
-    (one_more c.args.at c.args.known newest lists new c.args.self.now.notes c.index_mut-newest.result.now c.args.known.counts c.put_down.new.newest
+    is_noted_as c.args.at c.args.known.now newest lists _ new c.args.self.now.notes (ap (λ v. v.notes) c.self.view_is)
+    (one_more c.args.at c.args.known.now newest lists new c.args.self.now.notes c.index_mut-newest.result.now c.args.known.now.counts c.put_down.new.newest
     (ap (λ v. v.notes) c.self.view_is) c.self.invariant c.requires.core c.requires.next
     c.put_down.ensures.places refl c.index_mut-newest.ensures.value c.put_down.ensures.changed)

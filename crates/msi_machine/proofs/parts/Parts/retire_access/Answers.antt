@@ -23,8 +23,8 @@ returns-clause-renewed g c =
     ap (λ (x : Standing). x.waits) c.requires.stands
     ∙ ap (λ (m : Machinery g.row.R.Denot g.row.K.Denot). waits (port_at g.K.Carry.carrying m.state.memory.ports c.args.c).cache) (sym c.self.view_is) in
     let waiting : c.args.standing.now.waits ≡ waits (port_at g.K.Carry.carrying c.touch.new.self.memory.ports c.args.c).cache =
-    before ∙ sym (retired_waits g.R.Rider.riding g.K.Carry.carrying c.self.inside.memory.memory c.retire-carry.new.self.memory
-    c.touch.new.self.memory c.args.c _ _ _ _ _ _ port c.retire-carry.ensures.memory c.touch.ensures.memory) in
+    before ∙ sym (retired_waits g.R.Rider.riding g.K.Carry.carrying c.self.inside.memory.memory c.retire.new.self.memory
+    c.touch.new.self.memory c.args.c _ _ _ _ _ _ port c.retire.ensures.memory c.touch.ensures.memory) in
     c.look_ahead.ensures
     ∙ ap (λ (x : Core). standing_with c.self.inside.program x c.args.standing.now.waits) core
     ∙ ap (λ (w : Bool). standing_with c.self.inside.program (core_at (slice_set c.self.inside.cores.items c.args.c c.finish_op-after.new.self) c.args.c) w)

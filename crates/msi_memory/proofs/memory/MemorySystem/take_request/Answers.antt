@@ -103,11 +103,11 @@ returns-clause-memory g c =
     ap (λ (ns : List (Port g.row.R.Denot g.row.K.Denot)). record {
       ports = ns;
       home = c.serve.follows.lender-at-none.entries;
-      carry = c.join-self-inside.result;
+      carry = c.join.new.self;
     }) (ports ∙ c.deliver.ensures)
     ∙ request_delivered g.R.Rider.riding g.K.Carry.carrying before_it c.args.core c.block-block.result c.in-Some.mail.now (drop 1 old.requests.items)
-    (answer_riding c.serve.result.rider.now c.serve.result.answer) c.join-self-inside.result c.as_mut_slice.result.now c.serve.follows.lender-at-none.entries
-    head c.block-block.ensures c.join-self-inside.ensures whole before kept
+    (answer_riding c.serve.result.rider.now c.serve.result.answer) c.join.new.self c.as_mut_slice.result.now c.serve.follows.lender-at-none.entries
+    head c.block-block.ensures c.join.ensures whole before kept
     ∙ ap (λ (m : System g.row.R.Denot g.row.K.Denot). take_request g.R.Rider.riding g.K.Carry.carrying m.memory c.args.core) c.self.view_is
 
 pub returns-clause-turn : goal.returns-clause-turn

@@ -174,12 +174,12 @@ returns-clause-memory g c =
     ap (λ (ns : List (Port g.row.R.Denot g.row.K.Denot)). record {
       ports = ns;
       home = c.collect.follows.lender-at-none.entries;
-      carry = c.join-self-inside.result;
+      carry = c.join.new.self;
     }) (ports ∙ c.deliver.ensures)
     ∙ response_delivered g.R.Rider.riding g.K.Carry.carrying before_it c.args.core c.block-block.result c.in-Some.mail.now (drop 1 old.responses.items)
-    (answer_riding c.collect.result.rider.now c.collect.result.answer) c.join-self-inside.result c.as_mut_slice.result.now
+    (answer_riding c.collect.result.rider.now c.collect.result.answer) c.join.new.self c.as_mut_slice.result.now
     c.collect.follows.lender-at-none.entries
-    head c.block-block.ensures c.join-self-inside.ensures whole before kept
+    head c.block-block.ensures c.join.ensures whole before kept
     ∙ ap (λ (m : System g.row.R.Denot g.row.K.Denot). take_response g.R.Rider.riding g.K.Carry.carrying m.memory c.args.core) c.self.view_is
 
 pub returns-clause-turn : goal.returns-clause-turn
