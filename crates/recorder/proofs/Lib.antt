@@ -7,4 +7,3 @@ pub mod SortedPairs
 pub mod PairLists
 pub mod LeastLists
 pub mod Recordings
-pub mod BlockWords

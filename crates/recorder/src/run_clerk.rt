@@ -13,6 +13,7 @@ use access_times::{Clerk, Times, TimesClerk};
 use edge_regulate::Regulator;
 use know_history::{History, Known};
 use load_lists::LoadLists;
+use machine_run::note_read;
 use online_reduce::{EdgePlaces, Reducer};
 use rtr_types::{Access, Instr, Items};
 use rv_core::LoadNote;
@@ -152,14 +153,7 @@ impl Clerk<Times, Known> for RunClerk {
 
     fn touched(&mut self, access: Access, rider: &mut Times, carry: &Known) {
         self.history.note(access.at, carry);
-        if access.kind.is_read() {
-            let note = LoadNote {
-                count: access.at.count,
-                word: access.word,
-                value: access.before,
-            };
-            self.loads.note(access.at.core, note);
-        }
+        note_read(&mut self.loads, &access);
         self.reducer.retire_into(&access, rider, &mut self.untold);
     }
 }

@@ -29,11 +29,6 @@ use Rattle.rtr_cli.specs.Commands.{AuditEnds, KeepsRun, Promised, SpellsSome, im
 use Rattle.rtr_cli.specs.Completeness.{IsOfRecord}
 use Rattle.rtr_cli.proofs.AcceptedLemmas.{accepted_is_not_refused}
 
-pub recorded_image : (image : Contents) (params : Params) (schedule : Choices)
-    → (recording_of image params schedule).image ≡ image.bytes
-unfolding recording_of
-recorded_image image params schedule = refl
-
 -- ---- what every recording keeps of its run
 
 -- what is said of the recording that was read

@@ -28,8 +28,9 @@ use certificate_codec::{Certificate, read_certificate, spell_certificate};
 use image_elf::{ElfFault, flatten};
 use image_mem::Image;
 use log_codec::{Recording, read, spell};
+use machine_run::run_image;
 use min_certificate::{CertFault, CheckFailure, CheckFault, certify, check};
-use recorder::{Recorded, record_run};
+use recorder::record_run;
 use replay_audit::laws::replays_fit_their_plan;
 use replay_audit::{AuditFault, Audited, audit};
 use rtr_types::{Params, Which};
@@ -166,7 +167,7 @@ fn run_input(alloc: Global, run: RunWords, loads: bool, input: Vec<u8>) -> Resul
         ..
     } = run;
     let schedule = Schedule::new(choices.into_vec(), seed);
-    Ok(run_image(alloc, params, schedule, loads, bytes)?)
+    Ok(run_text(alloc, params, schedule, loads, bytes)?)
 }
 
 /// The bytes of the image that a run begins with: the input, or the flat image of the ELF file that it is.
@@ -204,7 +205,7 @@ fn record(
 }
 
 /// The text of how a run of the image ended.
-fn run_image(
+fn run_text(
     alloc: Global,
     params: Params,
     schedule: Schedule,
@@ -218,10 +219,8 @@ fn run_image(
 {
     a_run_fits_its_image();
     let opening = image(bytes, params.words);
-    let Recorded { recording, outcome } = record_run(alloc, opening, params, schedule)?;
-    let Recording { image: bytes, .. } = recording;
-    let image = image(bytes.into_vec(), params.words);
-    state_text(alloc, &outcome, &image, loads)
+    let ran = run_image(alloc, opening, params, schedule)?;
+    state_text(alloc, &ran.outcome, &ran.image, loads)
 }
 
 /// The text of how the low order of the recording's log ends, where the recording is determinate by it.

@@ -1,11 +1,11 @@
 use Rattle.std.proofs.Common.{◌≡◌, ◌∙◌, ◌++◌, ap, arith, length, List, ℕ}
 use Rattle.access_times.specs.Riding.{none_carrying, none_riding}
 use Rattle.machine_plain.specs.Plain.{plain}
-use Rattle.recorder.proofs.BlockWords.{block_more}
-use Rattle.recorder.proofs.recorded.words_of.Goals as goal
+use Rattle.machine_run.proofs.BlockWords.{block_more}
+use Rattle.machine_run.proofs.ends.words_of.Goals as goal
 
 pub loop-block-preserved : goal.loop-block-preserved
-loop-block-preserved c =
+loop-block-preserved g c =
     let four : length c.final_words.result ≡ 4 = grind arith in
     c.in_ok-extend_from_slice.ensures.items
     ∙ ap (λ (list : List ℕ). list ++ c.final_words.result) c.loop-block.invariant

@@ -1,0 +1,13 @@
+//! Runs of the machine from their start to their end that keep no record but each core's loads, and what
+//! whoever runs the machine needs at its end.
+#![tactic(auto)]
+
+mod ends;
+mod load_clerk;
+mod run;
+#[cfg(test)]
+mod tests;
+
+pub use ends::{cores_of, words_of};
+pub use load_clerk::note_read;
+pub use run::{Ran, run_image};
