@@ -1,5 +1,6 @@
 pub mod Accesses
 pub mod CoreSets
+pub mod Nodes
 pub mod PairEdges
 pub mod Pairs
 pub mod Parameters

@@ -24,3 +24,7 @@ words_max = 262144
 -- the words of a block, of which a memory has whole ones
 abbrev pub block_words : ℕ
 block_words = 4
+
+-- the lines of a cache, each of which holds a block at a time
+abbrev pub cache_lines : ℕ
+cache_lines = 16

@@ -25,3 +25,6 @@ pub const CORES_MAX: u8 = 16;
 /// How many words a block has: what caches, home and messages hold and move at once. A word's block is
 /// `word / BLOCK_WORDS`, its slot in the block is `word % BLOCK_WORDS`.
 pub const BLOCK_WORDS: usize = 4;
+
+/// How many lines a cache has. It is direct-mapped: block `b` goes to line `b % LINES`.
+pub const LINES: usize = 16;

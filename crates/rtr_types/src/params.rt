@@ -1,9 +1,10 @@
 //! The parameters of a run.
 ghost use Rattle.std.specs.Prelude.{◌≡◌, ◌↔◌, IsTrue};
 ghost use Rattle.rtr_types.specs.Parameters.{Fits};
-ghost use Rattle.rtr_types.specs.Sizes.{block_words, cores_max, instructions_max, limit_max, words_max, words_min};
+ghost use Rattle.rtr_types.specs.Sizes.{block_words, cache_lines, cores_max, instructions_max, limit_max, words_max};
+ghost use Rattle.rtr_types.specs.Sizes.{words_min};
 
-use crate::{BLOCK_WORDS, CORES_MAX};
+use crate::{BLOCK_WORDS, CORES_MAX, LINES};
 
 /// The greatest number of instructions that one core may be given.
 pub const LIMIT_MAX: u32 = 1_000_000;
@@ -50,4 +51,5 @@ pub fn sizes_law()
     ensures words { WORDS_MIN ≡ words_min }
     ensures most_words { WORDS_MAX ≡ words_max }
     ensures block { BLOCK_WORDS ≡ block_words }
+    ensures lines { LINES ≡ cache_lines }
 {}
