@@ -11,11 +11,8 @@ use std::alloc::{AllocError, Global};
 use std::marker::Model;
 use std::mem;
 
-#[cfg(test)]
-mod tests;
-
 /// The link had no room. It has the item that was to be pushed.
-#[derive(Debug, Drop, PartialEq, Eq)]
+#[derive(Drop)]
 pub struct Full<T>(pub T);
 
 /// What can lie in a place of a link to which no item came yet.

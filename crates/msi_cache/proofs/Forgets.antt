@@ -9,7 +9,7 @@ use Rattle.msi_cache.specs.Messages.{block_of}
 use Rattle.msi_cache.specs.Lines.{has_row, line_after, line_asking, answer, asks, line_for, empty_line, waits, lines_with}
 use Rattle.msi_cache.specs.PlainPart.{plain_line, plain_lines, plain_message, plain_answer, plain_request, PlainOnHome, PlainWant, PlainPut, PlainRider}
 use Rattle.msi_cache.specs.declared.line.Line.{Line}
-use Rattle.msi_cache.specs.declared.line.TheConstants.{LINES}
+use Rattle.rtr_types.specs.declared.TheConstants.{LINES}
 use Rattle.msi_cache.specs.declared.messages.FromHome.{FromHome}
 
 module _ {R : Type 0} where

@@ -8,7 +8,7 @@ use Rattle.rtr_types.specs.declared.access.Kind.{Kind}
 use Rattle.msi_cache.specs.Table.{Effect, Keep, Take, TakeAbsorbing, Row, row, Reply, Ask, WantRow, want_row}
 use Rattle.msi_cache.specs.Table.{is_readable, is_writable, is_transient}
 use Rattle.msi_cache.specs.Messages.{signal, block_of}
-use Rattle.msi_cache.specs.declared.line.TheConstants.{LINES}
+use Rattle.rtr_types.specs.declared.TheConstants.{LINES}
 use Rattle.msi_cache.specs.declared.line.State.TheVariants.{I}
 use Rattle.msi_cache.specs.declared.line.Line.{Line}
 use Rattle.msi_cache.specs.declared.messages.FromHome.{FromHome}

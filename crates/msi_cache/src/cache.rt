@@ -11,15 +11,11 @@ ghost use Rattle.msi_cache.specs.declared.line.Line.{Line};
 ghost use Rattle.msi_cache.specs.declared.messages.FromHome.{FromHome};
 ghost use Rattle.rtr_types.specs.declared.access.Kind.{Kind};
 
-use crate::line::{LINES, Line};
+use crate::line::Line;
 use crate::messages::{FromHome, Request, Response};
 use crate::slots::FromHomeSlot;
-
-#[cfg(test)]
-mod tests;
-
 use access_times::Rider;
-use rtr_types::{BLOCK_WORDS, Kind};
+use rtr_types::{BLOCK_WORDS, Kind, LINES};
 use std::alloc::{AllocError, Global};
 use std::marker::Model;
 
@@ -33,7 +29,7 @@ pub struct Cache<R> {
 impl<R> Model for Cache<R> {
     ghost use Rattle.std.specs.Prelude.{◌≡◌, List, length};
     ghost use Rattle.msi_cache.specs.declared.line.Line.{Line};
-    ghost use Rattle.msi_cache.specs.declared.line.TheConstants.{LINES};
+    ghost use Rattle.rtr_types.specs.declared.TheConstants.{LINES};
 
     ghost Value = { List (Line R) };
 
@@ -88,6 +84,13 @@ impl<R: Rider> Cache<R> {
         ensures { result ≡ waits self.now }
     {
         self.lines.iter().any(|line| line.state.is_transient())
+    }
+
+    /// The line where the block goes.
+    pub fn line(&self, block: u32) -> &Line<R>
+        ensures { result.now ≡ line_for R.riding.fresh self.now block }
+    {
+        &self.lines[block as usize % LINES]
     }
 
     /// A word of a block that may be read. `slot` is its place in the block.

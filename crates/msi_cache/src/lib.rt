@@ -12,6 +12,7 @@ mod slots;
 
 pub use cache::{Cache, riders_change_no_plain_part};
 pub use held::Held;
-pub use line::{LINES, Line, State};
+pub use line::{Line, State};
 pub use messages::{FromHome, Request, Response};
+pub use rtr_types::LINES;
 pub use slots::{FromHomeSlot, RequestSlot, ResponseSlot};

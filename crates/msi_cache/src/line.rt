@@ -15,14 +15,11 @@ use access_times::Rider;
 use rtr_types::{BLOCK_WORDS, Kind};
 use std::alloc::{AllocError, Global};
 
-/// How many lines a cache has. It is direct-mapped: block `b` goes to line `b % LINES`.
-pub const LINES: usize = 16;
-
 /// The state of a line, by the Primer's names: the stable `I` (invalid), `S` (shared) and `M`
 /// (modified), and the transient ones, in which the line waits for a message. `IsD`, `ImD` and `SmD`
 /// wait for data on their way from the first state to the second; `MiA`, `SiA` and `IiA` wait for the
 /// acknowledgement of a Put.
-#[derive(Clone, Copy, Debug, PartialEq, Eq)]
+#[derive(Clone, Copy, PartialEq, Eq)]
 pub enum State {
     I,
     S,

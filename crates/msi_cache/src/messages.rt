@@ -9,7 +9,7 @@ use rtr_types::BLOCK_WORDS;
 
 /// What a cache asks of the home: to share a block, to own it, or to give a shared or an owned copy
 /// back.
-#[derive(Clone, Copy, Debug, Drop, PartialEq, Eq)]
+#[derive(Clone, Copy, Drop, PartialEq, Eq)]
 pub enum Request<R> {
     GetS {
         block: u32,
@@ -91,7 +91,7 @@ impl<'a, R: Rider> Request<&'a R> {
 }
 
 /// What a cache answers to the home: that it has given up its shared copy, or the copy that it owns.
-#[derive(Clone, Copy, Debug, Drop, PartialEq, Eq)]
+#[derive(Clone, Copy, Drop, PartialEq, Eq)]
 pub enum Response<R> {
     InvAck {
         block: u32,
@@ -161,7 +161,7 @@ impl<'a, R: Rider> Response<&'a R> {
 
 /// What the home sends to a cache: that the owned copy is to be shared or given up, that a shared copy
 /// is to be given up, that a Put was taken, or the block's data, which end a miss.
-#[derive(Clone, Copy, Debug, Drop, PartialEq, Eq)]
+#[derive(Clone, Copy, Drop, PartialEq, Eq)]
 pub enum FromHome<R> {
     FwdGetS {
         block: u32,

@@ -20,7 +20,7 @@ use rtr_types::{BLOCK_WORDS, CORES_MAX, CoreSet};
 /// in M. In `Acks` and `Data` the block is busy: the home waits for the acknowledgements of the cores
 /// `of`, or for the data of the owner `of`, and then sends the block to the requester, who is to share
 /// it or to own it alone.
-#[derive(Clone, Copy, Debug, PartialEq, Eq)]
+#[derive(Clone, Copy, PartialEq, Eq)]
 pub enum Stage {
     Unshared,
     Shared { by: CoreSet },
@@ -83,7 +83,7 @@ impl Stage {
 
 /// What the home answers: the cores to which it sends Inv, and the one other message that it sends,
 /// with the core to which it goes. There is none exactly where the table's row sends no single message.
-#[derive(Clone, Copy, Debug, Drop, PartialEq, Eq)]
+#[derive(Clone, Copy, Drop, PartialEq, Eq)]
 pub struct HomeAnswer<R> {
     pub invalidate: CoreSet,
     pub send: Option<(u8, FromHome<R>)>,
@@ -127,7 +127,7 @@ impl HomeAnswer<()> {
 
 /// A block at the home: who holds it, and the home's own copy. While a cache owns the block the copy
 /// is an old one.
-#[derive(Clone, Debug, Drop, PartialEq, Eq)]
+#[derive(Drop)]
 pub struct Entry<R> {
     pub stage: Stage,
     pub words: [u32; BLOCK_WORDS],
@@ -136,7 +136,7 @@ pub struct Entry<R> {
 
 /// The home's copy of a block's words, and the core whose cache owns the block: none exactly where no cache does.
 /// Where a cache owns it the words are old ones.
-#[derive(Clone, Copy, Debug, PartialEq, Eq)]
+#[derive(Clone, Copy, PartialEq, Eq)]
 pub struct HomeWords {
     pub words: [u32; BLOCK_WORDS],
     pub owner: Option<u8>,

@@ -16,10 +16,6 @@ ghost use Rattle.msi_directory.specs.declared.entry.Entry.{Entry};
 
 use crate::entry::{Entry, HomeAnswer, HomeWords, Served, Stage};
 use crate::kept_entries::KeptEntries;
-
-#[cfg(test)]
-mod tests;
-
 use access_times::{Rider, copied};
 use image_mem::Image;
 use msi_cache::{Request, Response, ResponseSlot};
@@ -30,11 +26,20 @@ use std::marker::Model;
 /// The home: an entry for each block that room was made for. A block without one is held by no cache, and has
 /// its opening words and a fresh rider. Contracts see the entries of all blocks, and which blocks have room, so
 /// that a request for them needs no memory.
-#[derive(Drop)]
 pub struct Home<R> {
     opening: Image,
     fresh: R,
     kept: KeptEntries<R>,
+}
+
+impl<R: Drop> Drop for Home<R> {
+    fn drop(self) {
+        let Home {
+            opening: _opening,
+            fresh: _fresh,
+            kept: _kept,
+        } = self;
+    }
 }
 
 impl<R> Model for Home<R> {
@@ -297,8 +302,27 @@ impl<R: Rider> Home<R> {
         }
     }
 
-    /// The block's stage.
-    fn stage(&self, block: u32) -> Stage
+    /// A word of the memory as the home's copy of its block has it, by the word's index, in one of the memory's
+    /// blocks. Where a cache owns the block it is an old one.
+    pub fn word(&self, word: u32) -> u32
+        requires { word / BLOCK_WORDS < length self.now.entries }
+        ensures { result ≡ slice_index (entry_at R.riding.fresh self.now.entries (word / BLOCK_WORDS)).words
+            (word % BLOCK_WORDS) }
+    {
+        let found = self.words(word / BLOCK_WORDS as u32);
+        found.words[word as usize % BLOCK_WORDS]
+    }
+
+    /// The core whose cache owns the block, one of the memory's: none exactly where no cache does.
+    pub fn owner(&self, block: u32) -> Option<u8>
+        requires { block < length self.now.entries }
+        ensures { result ≡ owner_of (entry_at R.riding.fresh self.now.entries block).stage }
+    {
+        self.stage(block).owner()
+    }
+
+    /// Who holds the block, one of the memory's, as the home knows it.
+    pub fn stage(&self, block: u32) -> Stage
         requires { block < length self.now.entries }
         ensures { result ≡ (entry_at R.riding.fresh self.now.entries block).stage }
     {
