@@ -1,5 +1,4 @@
 pub mod Asking
-pub mod FirstActs
 pub mod LinkRooms
 pub mod Roomy
 pub mod Served

@@ -1,4 +1,4 @@
--- What is told of the home's act: the block that it was about, and which cores hear its answer.
+-- What is told of the home's act: the block that it was about, and its answer.
 use Rattle.std.specs.Prelude.{◌≡◌, ℕ, List, [], ◌∷◌}
 use Rattle.access_times.specs.Riding.{Riding}
 use Rattle.msi_cache.specs.declared.messages.Request.{Request}
@@ -6,16 +6,16 @@ use Rattle.msi_cache.specs.declared.messages.Response.{Response}
 use Rattle.msi_cache.specs.Messages.{request_block, response_block}
 use Rattle.msi_directory.specs.Blocks.{entry_at}
 use Rattle.msi_directory.specs.Entries.{answer_to_request, answer_to_response}
+use Rattle.msi_directory.specs.PlainPart.{plain_home_answer}
 use Rattle.msi_directory.specs.declared.entry.HomeAnswer.{HomeAnswer}
 use Rattle.msi_memory.specs.declared.port.Mail.{Mail}
 use Rattle.msi_memory.specs.declared.turn.Turn.{Turn}
 use Rattle.msi_memory.specs.Memories.{Memory}
-use Rattle.msi_memory.specs.Rests.{hears}
 
--- the home's turn was about this block, and the cores that hear its answer are those that hear this one
+-- the home's turn was about this block, and its answer is this one without the riders
 pub record IsTurn {R : Type 0} (about : ℕ) (told : HomeAnswer R) (turn : Turn) : Type 0 where
   pub block : turn.block ≡ about
-  pub heard : (d : ℕ) → hears turn.answer d ≡ hears told d
+  pub answer : turn.answer ≡ plain_home_answer told
 
 module _ {R K : Type 0} where
   -- the home's turn with the oldest of these requests, and of these responses, of core c

@@ -12,8 +12,6 @@ mod memory;
 mod port;
 mod rooms;
 mod sending;
-#[cfg(test)]
-mod tests;
 mod turn;
 
 pub use memory::MemorySystem;

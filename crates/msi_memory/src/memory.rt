@@ -1,5 +1,6 @@
 //! The memory system and its acts.
-ghost use Rattle.std.specs.Prelude.{◌≡◌, ◌<◌, ◌≤◌, ◌/◌, ◌%◌, ℕ, IfOk, IsTrue, OnOk, false, length, not, true};
+ghost use Rattle.std.specs.Prelude.{◌≡◌, ◌<◌, ◌≤◌, ◌/◌, ◌%◌, ℕ, IfOk, IsTrue, OnErr, OnOk, false, length, not};
+ghost use Rattle.std.specs.Prelude.{replicate, true};
 ghost use Rattle.link_order.specs.Queue.{is_nil};
 ghost use Rattle.rtr_types.specs.CoreSets.{has};
 ghost use Rattle.rtr_types.specs.declared.TheConstants.{BLOCK_WORDS, CORES_MAX};
@@ -9,7 +10,7 @@ ghost use Rattle.msi_directory.specs.Table.{is_free};
 ghost use Rattle.msi_memory.specs.Acts.{TakeMessage, TakeRequest, TakeResponse, allows, can, data_next, head_free};
 ghost use Rattle.msi_memory.specs.Acts.{retire, take_message, take_request, take_response, touch, want};
 ghost use Rattle.msi_memory.specs.Finals.{SameWords, at_hand, block_words};
-ghost use Rattle.msi_memory.specs.Memories.{memory_start, port_at, rider_at, word_at};
+ghost use Rattle.msi_memory.specs.Memories.{memory_start, port_at, port_start, rider_at, word_at};
 ghost use Rattle.msi_memory.specs.Rests.{HasRoomFor, HeadsFit, NamesFit, OthersRoomy, RoomsMade, are_heads_roomy};
 ghost use Rattle.msi_memory.specs.Rests.{has_row_for, head_is, head_roomy, requests_at};
 ghost use Rattle.msi_memory.specs.Turns.{IsRequestTurn, IsResponseTurn};
@@ -32,11 +33,20 @@ use std::marker::Model;
 ///
 /// It has no invariant: what an act needs is a clause of its call, and holds in each state that acts lead to
 /// from the start.
-#[derive(Drop)]
 pub struct MemorySystem<R, K> {
     ports: Vec<Port<R, K>>,
     home: Home<R>,
     carry: K,
+}
+
+impl<R: Drop, K: Drop> Drop for MemorySystem<R, K> {
+    fn drop(self) {
+        let MemorySystem {
+            ports: _ports,
+            home: _home,
+            carry: _carry,
+        } = self;
+    }
 }
 
 impl<R, K> Model for MemorySystem<R, K> {
@@ -57,11 +67,8 @@ impl<R: Rider, K: Carry> MemorySystem<R, K> {
         ensures memory { IfOk result (λ system. system.memory ≡ memory_start R.riding K.carrying image.now cores) }
         ensures untouched { IfOk result (λ system. touched system.rooms ≡ 0) }
     {
+        let ports = first_ports(alloc, cores)?;
         let home = Home::new(alloc, image)?;
-        let mut ports = Vec::with_capacity(alloc, cores as usize)?;
-        for core in 0..cores {
-            ports.push(Port::new(alloc)?)?;
-        }
         Ok(MemorySystem {
             ports,
             home,
@@ -166,6 +173,7 @@ impl<R: Rider, K: Carry> MemorySystem<R, K> {
         ensures ok { OnOk result (are_heads_roomy self.new.memory.ports self.new.rooms ≡ true) }
         ensures free { IfOk result (λ free. free
             ≡ head_free (requests_at self.old.memory.ports core) R.riding self.old.memory.home) }
+        ensures err { OnErr result (self.new ≡ self.old) }
     {
         make_room_for_head(&mut self.home, self.ports.as_slice(), core)
     }
@@ -322,6 +330,17 @@ impl<R: Rider, K: Carry> MemorySystem<R, K> {
             free,
         }
     }
+}
+
+/// So many ports at the start.
+fn first_ports<R: Rider, K: Carry>(alloc: Global, cores: u8) -> Result<Vec<Port<R, K>>, AllocError>
+    ensures { IfOk result (λ made. made.items ≡ replicate cores (port_start R.riding K.carrying)) }
+{
+    let mut made = Vec::with_capacity(alloc, cores as usize)?;
+    for core in 0..cores {
+        made.push(Port::new(alloc)?)?;
+    }
+    Ok(made)
 }
 
 /// The words that a cache's copy of the block has, where it may be read.

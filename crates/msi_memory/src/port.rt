@@ -47,13 +47,24 @@ impl<R: Rider, K: Carry> Blank for Mail<FromHomeSlot<R>, K> {
 
 /// A core's side of the memory system: its carry, its cache, and its three links: requests to home,
 /// responses to home and messages from home.
-#[derive(Drop)]
 pub struct Port<R, K> {
     pub carry: K,
     pub cache: Cache<R>,
     pub requests: Link<Mail<RequestSlot<R>, K>>,
     pub responses: Link<Mail<ResponseSlot<R>, K>>,
     pub messages: Link<Mail<FromHomeSlot<R>, K>>,
+}
+
+impl<R: Drop, K: Drop> Drop for Port<R, K> {
+    fn drop(self) {
+        let Port {
+            carry: _carry,
+            cache: _cache,
+            requests: _requests,
+            responses: _responses,
+            messages: _messages,
+        } = self;
+    }
 }
 
 impl<R: Rider, K: Carry> Port<R, K> {

@@ -1,5 +1,5 @@
 //! Room in the home for the blocks that are asked for.
-ghost use Rattle.std.specs.Prelude.{◌≡◌, All, IfOk, IsTrue, OnOk, length, true};
+ghost use Rattle.std.specs.Prelude.{◌≡◌, All, IfOk, IsTrue, OnErr, OnOk, length, true};
 ghost use Rattle.msi_memory.specs.Acts.{head_free};
 ghost use Rattle.msi_memory.specs.Rests.{OthersRoomy, RoomsMade, are_heads_roomy, head_within, requests_at};
 
@@ -22,6 +22,7 @@ pub(crate) fn make_room_for_head<R: Rider, K: Carry>(
     ensures others { OthersRoomy ports.now core home.new.rooms }
     ensures ok { OnOk result (are_heads_roomy ports.now home.new.rooms ≡ true) }
     ensures free { IfOk result (λ free. free ≡ head_free (requests_at ports.now core) R.riding home.old.entries) }
+    ensures err { OnErr result (home.new ≡ home.old) }
 {
     let Some(port) = ports.get(core as usize) else {
         return Ok(false);
