@@ -2,3 +2,4 @@ pub mod HandingOver
 pub mod Sharing
 pub mod Choosing
 pub mod Stalling
+pub mod Holding

@@ -13,7 +13,7 @@ use Rattle.msi_state.specs.Events.{Nothing, Retires, Accesses}
 use Rattle.msi_state.specs.Runs.{opening_state, run}
 use Rattle.msi_examples.specs.Followed.{StepTaken, Seen, followed, then_zeros, ends_at, seen, loads_by}
 use Rattle.msi_examples.specs.Images.{scaled_words, handed_over, bytes_of_a_word, one_word, reader_evicts}
-use Rattle.msi_examples.specs.Images.{writer_evicts, writers_evict, endless, sum}
+use Rattle.msi_examples.specs.Images.{writer_evicts, writers_evict, eight_apart, endless, sum}
 
 -- two cores over an image, each of at most so many instructions
 abbrev pub two_cores : (limit : ℕ) → Contents → Params
@@ -198,6 +198,44 @@ ForwardToOwnMeetsPut =
       memory = (16, 10) ∷ [];
     })
     ((load 4 80 0 ∷ []) ∷ [] ∷ [])
+
+-- a cache holds two blocks whose numbers differ by 8 beside each other: each core's third load, of the first block
+-- again, retires in the core's own move
+abbrev pub zeros : List ℕ
+zeros = 0 ∷ 0 ∷ 0 ∷ 0 ∷ 0 ∷ 0 ∷ 0 ∷ 0 ∷ 0 ∷ 0 ∷ 0 ∷ 0 ∷ 0 ∷ 0 ∷ 0 ∷ 0 ∷ []
+
+abbrev pub BothBlocksAreHeld : Type 0
+BothBlocksAreHeld =
+    followed (opening_state eight_apart (two_cores 10000 eight_apart)) zeros
+    ≡ quiet (Core 0)
+    ∷ quiet (Core 1)
+    ∷ quiet (Request 0)
+    ∷ quiet (Request 1)
+    ∷ loads (FromHome 0) (instr 0 1) 16 0
+    ∷ quiet (Core 0)
+    ∷ quiet (Request 0)
+    ∷ loads (FromHome 0) (instr 0 2) 48 0
+    ∷ loads (Core 0) (instr 0 3) 16 0
+    ∷ local (Core 0) (instr 0 4)
+    ∷ loads (FromHome 1) (instr 1 1) 16 0
+    ∷ quiet (Core 1)
+    ∷ quiet (Request 1)
+    ∷ loads (FromHome 1) (instr 1 2) 48 0
+    ∷ loads (Core 1) (instr 1 3) 16 0
+    ∷ local (Core 1) (instr 1 4)
+    ∷ []
+
+abbrev pub ReadEightApart : Type 0
+ReadEightApart =
+    EndsSo eight_apart 10000 zeros 16
+    (record {
+      stops = Exit ∷ Exit ∷ [];
+      retired = 4 ∷ 4 ∷ [];
+      pcs = 0x10 ∷ 0x10 ∷ [];
+      registers = [] ∷ ((10, 1) ∷ []) ∷ [];
+      memory = [];
+    })
+    ((load 1 16 0 ∷ load 2 48 0 ∷ load 3 16 0 ∷ []) ∷ (load 1 16 0 ∷ load 2 48 0 ∷ load 3 16 0 ∷ []) ∷ [])
 
 -- one core ends by ECALL as it reaches its limit, and the other at its limit
 abbrev pub LimitReached : Type 0

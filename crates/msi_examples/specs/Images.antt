@@ -59,6 +59,11 @@ writers_evict = record {
   words = 96;
 }
 
+-- lw x5,64(x0); lw x6,192(x0); lw x7,64(x0); ecall: each core reads a word, one whose block has a number greater by
+-- 8, and the first again
+abbrev pub eight_apart : Contents
+eight_apart = record { bytes = bytes_of (0x04002283 ∷ 0x0c002303 ∷ 0x04002383 ∷ 0x00000073 ∷ []); words = 64 }
+
 -- bne x10,x0,+12; lw x6,64(x0); ecall; jal x0,+0: core 0 ends, every other core jumps to itself for ever
 abbrev pub endless : Contents
 endless = record { bytes = bytes_of (0x00051663 ∷ 0x04002303 ∷ 0x00000073 ∷ 0x0000006f ∷ []); words = 32 }

@@ -4,7 +4,8 @@
 
 ghost use Rattle.msi_examples.specs.Examples.{OneHandsOver, HandedOver, ShareFalsely, StoreBytes, SumInTurn};
 ghost use Rattle.msi_examples.specs.Examples.{SecondStoresLast, FirstStoresLast, ReadBetweenWrites, InvMeetsPut};
-ghost use Rattle.msi_examples.specs.Examples.{ForwardMeetsPut, ForwardToOwnMeetsPut, LimitReached};
+ghost use Rattle.msi_examples.specs.Examples.{BothBlocksAreHeld, ForwardMeetsPut, ForwardToOwnMeetsPut, LimitReached};
+ghost use Rattle.msi_examples.specs.Examples.{ReadEightApart};
 
 /// A word goes from core 0 to core 1 and back: what each of sixteen choices does, and what the run
 /// leaves.
@@ -39,6 +40,13 @@ pub fn a_put_is_stalled()
     ensures invalidated { InvMeetsPut }
     ensures shared { ForwardMeetsPut }
     ensures given_up { ForwardToOwnMeetsPut }
+{}
+
+/// Two cores read words of two blocks whose numbers differ by 8, and then the first again: neither block is taken
+/// back for the other, so each run of a core takes eight steps.
+pub fn blocks_stay_beside_each_other()
+    ensures steps { BothBlocksAreHeld }
+    ensures left { ReadEightApart }
 {}
 
 /// A core is stopped at its limit, unless its ECALL retires there.
