@@ -6,7 +6,7 @@ use Rattle.std.proofs.lemmas.List.{get_or_past}
 use Rattle.std.proofs.lemmas.Bool.{cases_lt, eq-eqb}
 use Rattle.std.proofs.lemmas.Bool.Decides.{nat_tests}
 use Rattle.access_times.specs.Riding.{Riding, Carrying}
-use Rattle.rtr_types.specs.declared.TheConstants.{BLOCK_WORDS, CORES_MAX}
+use Rattle.rtr_types.specs.declared.TheConstants.{BLOCK_WORDS, CORES_MAX, LINES}
 use Rattle.rtr_types.specs.declared.access.Kind.{Kind}
 use Rattle.rtr_types.specs.declared.core_set.CoreSet.{CoreSet}
 use Rattle.rtr_types.specs.Accesses.{is_write}
@@ -16,7 +16,6 @@ use Rattle.rtr_types.proofs.Truths.{true_is}
 use Rattle.msi_cache.specs.declared.line.Line.{Line}
 use Rattle.msi_cache.specs.declared.line.State.{State as LineState}
 use Rattle.msi_cache.specs.declared.line.State.TheVariants.{I}
-use Rattle.msi_cache.specs.declared.line.TheConstants.{LINES}
 use Rattle.msi_cache.specs.declared.messages.FromHome.{FromHome}
 use Rattle.msi_cache.specs.declared.messages.Request.{Request}
 use Rattle.msi_cache.specs.Table.{Signal, Ask, Reply, is_transient}

@@ -8,7 +8,7 @@ use Rattle.msi_cache.proofs.Forgets.{plain_line_for}
 use Rattle.msi_cache.specs.Lines.{line_for, empty_line}
 use Rattle.msi_cache.specs.PlainPart.{plain_line}
 use Rattle.msi_cache.specs.declared.line.Line.{Line}
-use Rattle.msi_cache.specs.declared.line.TheConstants.{LINES}
+use Rattle.rtr_types.specs.declared.TheConstants.{LINES}
 use Rattle.msi_cache.specs.declared.messages.Request.TheVariants.{GetS}
 use Rattle.msi_directory.proofs.Forgets.{plain_on_request}
 use Rattle.msi_directory.specs.Blocks.{entry_at, opening_entry, opening_entries, block_count}

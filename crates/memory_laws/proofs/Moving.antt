@@ -7,7 +7,7 @@ use Rattle.std.proofs.lemmas.List.Sums.{list_all-from_AllPass}
 use Rattle.std.proofs.lemmas.Bool.{cases_lt, eq-eqb, lt-ltb, and_from}
 use Rattle.access_times.specs.Riding.{Riding, Carrying}
 use Rattle.link_order.specs.Queue.{is_nil}
-use Rattle.msi_cache.specs.declared.line.TheConstants.{LINES}
+use Rattle.rtr_types.specs.declared.TheConstants.{LINES}
 use Rattle.msi_cache.specs.declared.line.Line.{Line}
 use Rattle.msi_cache.specs.declared.line.State.TheVariants.{I}
 use Rattle.msi_cache.specs.declared.messages.Request.{Request}

@@ -1,7 +1,7 @@
 -- What a port's own acts show at each block.
 use Rattle.std.proofs.Common.{◌≡◌, ◌≢◌, ◌∙◌, ap, refl, sym, subst, ℕ, ◌<◌, ◌==◌, ◌%◌, Bool, true, false, List, [], ◌∷◌, ◌++◌, length, Option, Some, None, arith}
 use Rattle.std.proofs.Common.{inl, inr, ◌⊎◌}
-use Rattle.msi_cache.specs.declared.line.TheConstants.{LINES}
+use Rattle.rtr_types.specs.declared.TheConstants.{LINES}
 use Rattle.std.specs.Prelude.{if◌then◌else◌, slice_index_or, slice_set}
 use Rattle.std.proofs.lemmas.List.{get_or-set_same, get_or-set_other, append-nil}
 use Rattle.std.proofs.lemmas.Bool.{cases_eq}

@@ -9,7 +9,7 @@ use Rattle.access_times.specs.Riding.{Riding, Carrying}
 use Rattle.image_mem.specs.Contents.{Contents}
 use Rattle.msi_cache.specs.declared.line.Line.{Line}
 use Rattle.msi_cache.specs.declared.line.State.TheVariants.{I}
-use Rattle.msi_cache.specs.declared.line.TheConstants.{LINES}
+use Rattle.rtr_types.specs.declared.TheConstants.{LINES}
 use Rattle.msi_cache.specs.Table.{is_transient}
 use Rattle.msi_cache.specs.Lines.{line_for, empty_line}
 use Rattle.msi_directory.proofs.Openings.{openings_counted}
