@@ -8,8 +8,9 @@ use Rattle.stride_vector.specs.declared.StrideVector.{StrideVector}
 use Rattle.log_codec.specs.declared.codec_fault.TheConstants.{HEADER, IMAGE, TOTALS, REDUCED, REGULATED, END}
 use Rattle.log_codec.specs.declared.recording.Recording.{Recording}
 use Rattle.log_codec.specs.declared.version.Version.{Version}
-use Rattle.log_codec.specs.BadParts.{BadPart, FrontNames, IsHeader, IsImage, IsReduced, IsRegulated, IsTotals, UpToHeader, UpToImage, UpToReduced}
-use Rattle.log_codec.specs.BadParts.{UpToRegulated, UpToTotals, WholeNames}
+use Rattle.log_codec.specs.BadParts.{BadPart, FrontNames, IsHeader, IsImage, IsReduced, IsRegulated, IsTotals, NoHeader, NoImage}
+use Rattle.log_codec.specs.BadParts.{NoReduced, NoRegulated, NoTotals, UpToHeader, UpToImage, UpToReduced, UpToRegulated, UpToTotals}
+use Rattle.log_codec.specs.BadParts.{WholeNames}
 use Rattle.log_codec.specs.Faults.{◌>>=◌}
 use Rattle.log_codec.specs.Laws.{IsBytes}
 use Rattle.log_codec.specs.Reading.{front_at, header_at, image_at, reduced_at, regulated_at, totals_at, whole_at}
@@ -30,7 +31,7 @@ bytes-after : (a b : List ℕ) → IsBytes (a ++ b) → IsBytes b
 bytes-after [] b h = h
 bytes-after (x ∷ a) b h = bytes-after a b h.1
 
-rest-bytes : (bytes text rest : List ℕ) → IsBytes bytes → bytes ≡ text ++ rest → IsBytes rest
+pub rest-bytes : (bytes text rest : List ℕ) → IsBytes bytes → bytes ≡ text ++ rest → IsBytes rest
 rest-bytes bytes text rest are is = bytes-after text rest (subst IsBytes is are)
 
 pub no-reading : {A : Type 0} (k : ℕ) (r : Result A ℕ) → Names k r → ((x : A) → r ≡ Ok x → ⊥) → r ≡ Err k
@@ -56,14 +57,14 @@ read-header : (bytes : List ℕ) (v : Version) (p : Params) (len : ℕ) (rest : 
     IsHeader bytes v p len rest
 read-header bytes v p len rest are e = let t = header_takes bytes v p len rest are e in record { limits = t.1.params; room = t.1.image; spelled = t.0.parts }
 
-image-read : (len : ℕ) (bytes image rest : List ℕ) → IsImage len bytes image rest → image_at len bytes ≡ Ok (image, rest)
+pub image-read : (len : ℕ) (bytes image rest : List ℕ) → IsImage len bytes image rest → image_at len bytes ≡ Ok (image, rest)
 image-read len bytes image rest h =
     subst (λ (n : ℕ). image_at n bytes ≡ Ok (image, rest)) h.long (ap (image_at (length image)) h.spelled ∙ image_again image rest)
 
-read-image : (len : ℕ) (bytes image rest : List ℕ) → IsBytes bytes → image_at len bytes ≡ Ok (image, rest) → IsImage len bytes image rest
+pub read-image : (len : ℕ) (bytes image rest : List ℕ) → IsBytes bytes → image_at len bytes ≡ Ok (image, rest) → IsImage len bytes image rest
 read-image len bytes image rest are e = let t = image_takes len bytes image rest are e in record { long = t.1; spelled = t.0.parts }
 
-totals-read : (v : Version) (p : Params) (bytes totals rest : List ℕ) → FitsIn v p → IsTotals p bytes totals rest → totals_at p.limit p.cores bytes
+pub totals-read : (v : Version) (p : Params) (bytes totals rest : List ℕ) → FitsIn v p → IsTotals p bytes totals rest → totals_at p.limit p.cores bytes
     ≡ Ok (totals, rest)
 totals-read v p bytes totals rest fits h =
     let small = small-params v p fits in
@@ -71,11 +72,11 @@ totals-read v p bytes totals rest fits h =
     ∙ subst (λ (n : ℕ). totals_at p.limit n (totals_text totals ++ rest) ≡ Ok (totals, rest)) h.each_core
     (totals_again p.limit totals rest small.limit h.most)
 
-read-totals : (p : Params) (bytes totals rest : List ℕ) → IsBytes bytes → totals_at p.limit p.cores bytes ≡ Ok (totals, rest) → IsTotals p bytes totals rest
+pub read-totals : (p : Params) (bytes totals rest : List ℕ) → IsBytes bytes → totals_at p.limit p.cores bytes ≡ Ok (totals, rest) → IsTotals p bytes totals rest
 read-totals p bytes totals rest are e = let t = totals_take p.limit p.cores bytes totals rest are e in
     record { each_core = t.1; most = t.2; spelled = t.0.parts }
 
-reduced-read : (v : Version) (p : Params) (before totals bytes : List ℕ) (reduced : List (List (ℕ × ℕ))) (rest : List ℕ) → FitsIn v p →
+pub reduced-read : (v : Version) (p : Params) (before totals bytes : List ℕ) (reduced : List (List (ℕ × ℕ))) (rest : List ℕ) → FitsIn v p →
     IsTotals p before totals bytes → IsReduced v totals bytes reduced rest → reduced_at v totals bytes ≡ Ok (reduced, rest)
 reduced-read v p before totals bytes reduced rest fits t h =
     let small = small-params v p fits in
@@ -83,7 +84,7 @@ reduced-read v p before totals bytes reduced rest fits t h =
     let few : length totals < 2 ^ 32 = subst (λ (n : ℕ). n < 2 ^ 32) (sym t.each_core) small.cores in
     ap (reduced_at v totals) h.spelled ∙ reduced_again v p.limit totals reduced rest small.limit together few t.most h.pairs h.edges
 
-read-reduced : (v : Version) (totals bytes : List ℕ) (reduced : List (List (ℕ × ℕ))) (rest : List ℕ) → IsBytes bytes → reduced_at v totals bytes
+pub read-reduced : (v : Version) (totals bytes : List ℕ) (reduced : List (List (ℕ × ℕ))) (rest : List ℕ) → IsBytes bytes → reduced_at v totals bytes
     ≡ Ok (reduced, rest) → IsReduced v totals bytes reduced rest
 read-reduced v totals bytes reduced rest are e = let t = reduced_takes v totals bytes reduced rest are e in
     record { pairs = t.1; edges = t.2; spelled = t.0.parts }
@@ -144,23 +145,6 @@ after-5 bytes rest u =
     (regulated-read f.version f.params t.before t.totals r.before u.before u.regulated rest f.header.limits t.third u.fifth)
 
 -- ---- no valid part
-
-abbrev NoHeader : List ℕ → Type 0
-NoHeader bytes = (v : Version) (p : Params) (len : ℕ) (rest : List ℕ) → IsHeader bytes v p len rest → ⊥
-
-abbrev NoImage : List ℕ → Type 0
-NoImage bytes = (rest : List ℕ) × (u : UpToHeader bytes rest) × ((image after : List ℕ) → IsImage u.len rest image after → ⊥)
-
-abbrev NoTotals : List ℕ → Type 0
-NoTotals bytes = (rest : List ℕ) × (u : UpToImage bytes rest) × ((totals after : List ℕ) → IsTotals u.first.params rest totals after → ⊥)
-
-abbrev NoReduced : List ℕ → Type 0
-NoReduced bytes = (rest : List ℕ) × (u : UpToTotals bytes rest)
-    × ((reduced : List (List (ℕ × ℕ))) (after : List ℕ) → IsReduced u.two.first.version u.totals rest reduced after → ⊥)
-
-abbrev NoRegulated : List ℕ → Type 0
-NoRegulated bytes = (rest : List ℕ) × (u : UpToReduced bytes rest)
-    × ((regulated : List (List StrideVector)) (after : List ℕ) → IsRegulated u.three.totals rest regulated after → ⊥)
 
 header-bytes : (bytes rest : List ℕ) → IsBytes bytes → UpToHeader bytes rest → IsBytes rest
 header-bytes bytes rest are u = rest-bytes bytes (header_text u.version u.params u.len) rest are u.header.spelled
@@ -411,8 +395,14 @@ unfolding whole_at
 whole_names bytes are = record {
   below = λ part not. (λ e. below part not e, λ e. ap (λ r. r >>= at_end END) e);
   end = (λ e. forth (bind-err (front_at bytes) (at_end END) END e), λ x. ap (λ r. r >>= at_end END) (after-5 bytes x.0 x.1) ∙ back x.0 x.1 x.2);
+  no_other = λ part e. within part (bind-err (front_at bytes) (at_end END) part e);
 }
   where
+    within : (part : ℕ) → (front_at bytes ≡ Err part) ⊎ ((x : Recording × List ℕ) × (front_at bytes ≡ Ok x) × (at_end END x ≡ Err part)) →
+        (1 ≤ part) × (part ≤ 6)
+    within part (inl bad) = let range = (front_names bytes are).no_other part bad in let a = range.0 in let b = range.1 in (omega arith, omega arith)
+    within part (inr more) = let is = end-names END more.0 part more.2 in (omega arith, omega arith)
+
     below : (part : ℕ) → part ≢ END → whole_at bytes ≡ Err part → front_at bytes ≡ Err part
     below part not e = elim (bind-err (front_at bytes) (at_end END) part e) [
       | inl bad ↦ bad

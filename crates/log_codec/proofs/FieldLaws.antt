@@ -17,8 +17,8 @@ use Rattle.log_codec.specs.Laws.{IsBytes}
 use Rattle.log_codec.specs.declared.version.Version.{Version}
 use Rattle.log_codec.specs.declared.version.Version.TheVariants.{One, Two}
 use Rattle.log_codec.specs.Versions.{magic, FitsIn, fits_in}
-use Rattle.log_codec.specs.Spelling.{number, header_text}
-use Rattle.log_codec.specs.Reading.{after_number, number_at, version_at, params_of, header_at, image_at, total_at}
+use Rattle.log_codec.specs.Spelling.{number, sizes_text, header_text}
+use Rattle.log_codec.specs.Reading.{after_number, number_at, version_at, params_of, sizes_at, header_at, image_at, total_at}
 use Rattle.log_codec.proofs.Limits.{fits-true, true-fits}
 use Rattle.log_codec.proofs.Steps.{bind_ok, guard_ok, refuse_ok, ok_is, bytes-drop, Takes, Takes-then}
 
@@ -101,44 +101,57 @@ params_again v p len h =
 abbrev pub Headed : Type 0
 Headed = Version × Params × ℕ × List ℕ
 
-abbrev after_len : Version → ℕ → ℕ → ℕ → ℕ × List ℕ → Result Headed ℕ
-after_len v cores limit words len = params_of v cores limit words len.0 >>= λ params. Ok (v, params, len.0, len.1)
+-- parameters, a length, and bytes
+abbrev pub Sized : Type 0
+Sized = Params × ℕ × List ℕ
 
-abbrev after_words : Version → ℕ → ℕ → ℕ × List ℕ → Result Headed ℕ
+abbrev after_len : Version → ℕ → ℕ → ℕ → ℕ × List ℕ → Result Sized ℕ
+after_len v cores limit words len = params_of v cores limit words len.0 >>= λ params. Ok (params, len.0, len.1)
+
+abbrev after_words : Version → ℕ → ℕ → ℕ × List ℕ → Result Sized ℕ
 after_words v cores limit words = number_at HEADER words.1 >>= λ len. after_len v cores limit words.0 len
 
-abbrev after_limit : Version → ℕ → ℕ × List ℕ → Result Headed ℕ
+abbrev after_limit : Version → ℕ → ℕ × List ℕ → Result Sized ℕ
 after_limit v cores limit = number_at HEADER limit.1 >>= λ words. after_words v cores limit.0 words
 
-abbrev after_cores : Version → ℕ × List ℕ → Result Headed ℕ
+abbrev after_cores : Version → ℕ × List ℕ → Result Sized ℕ
 after_cores v cores = number_at HEADER cores.1 >>= λ limit. after_limit v cores.0 limit
 
 abbrev after_version : Version × List ℕ → Result Headed ℕ
-after_version version = number_at HEADER version.1 >>= λ cores. after_cores version.0 cores
+after_version version = sizes_at version.0 version.1 >>= λ sizes. Ok (version.0, sizes.0, sizes.1, sizes.2)
+
+pub sizes_take : (v : Version) (bytes : List ℕ) (p : Params) (len : ℕ) (rest : List ℕ) → IsBytes bytes → sizes_at v bytes ≡ Ok (p, len, rest) →
+    Takes bytes (sizes_text p len) rest × HeaderFits v p len
+unfolding sizes_at
+sizes_take v bytes p len rest are e =
+    let c = bind_ok (number_at HEADER bytes) (after_cores v) (p, len, rest) e in
+    let l = bind_ok (number_at HEADER c.0.1) (after_limit v c.0.0) (p, len, rest) c.2 in
+    let w = bind_ok (number_at HEADER l.0.1) (after_words v c.0.0 l.0.0) (p, len, rest) l.2 in
+    let i = bind_ok (number_at HEADER w.0.1) (after_len v c.0.0 l.0.0 w.0.0) (p, len, rest) w.2 in
+    let q = bind_ok (params_of v c.0.0 l.0.0 w.0.0 i.0.0) (λ params. Ok (params, i.0.0, i.0.1)) (p, len, rest) i.2 in
+    let tc = number_takes HEADER bytes c.0.0 c.0.1 are c.1 in
+    let tl = number_takes HEADER c.0.1 l.0.0 l.0.1 tc.0.rest_fits l.1 in
+    let tw = number_takes HEADER l.0.1 w.0.0 w.0.1 tl.0.rest_fits w.1 in
+    let ti = number_takes HEADER w.0.1 i.0.0 i.0.1 tw.0.rest_fits i.1 in
+    let f = params_fit v c.0.0 l.0.0 w.0.0 i.0.0 q.0 q.1 in
+    let t1 = Takes-then l.0.1 (number w.0.0) w.0.1 (number i.0.0) i.0.1 tw.0 ti.0 in
+    let t2 = Takes-then c.0.1 (number l.0.0) l.0.1 (number w.0.0 ++ number i.0.0) i.0.1 tl.0 t1 in
+    let t3 = Takes-then bytes (number c.0.0) c.0.1 (number l.0.0 ++ (number w.0.0 ++ number i.0.0)) i.0.1 tc.0 t2 in
+    let made : Sized = (q.0, i.0.0, i.0.1) in
+    let named : Takes bytes (sizes_text q.0 i.0.0) i.0.1 = rw (← f.1, ← f.2, ← f.3) t3 in
+    subst (λ (y : Sized). Takes bytes (sizes_text y.0 y.1) y.2 × HeaderFits v y.0 y.1) (ok_is made (p, len, rest) q.2) (named, f.0)
 
 pub header_takes : (bytes : List ℕ) (v : Version) (p : Params) (len : ℕ) (rest : List ℕ) → IsBytes bytes → header_at bytes ≡ Ok (v, p, len, rest) →
     Takes bytes (header_text v p len) rest × HeaderFits v p len
 unfolding header_at
 header_takes bytes v p len rest are e =
     let m = bind_ok (version_at bytes) after_version (v, p, len, rest) e in
-    let c = bind_ok (number_at HEADER m.0.1) (after_cores m.0.0) (v, p, len, rest) m.2 in
-    let l = bind_ok (number_at HEADER c.0.1) (after_limit m.0.0 c.0.0) (v, p, len, rest) c.2 in
-    let w = bind_ok (number_at HEADER l.0.1) (after_words m.0.0 c.0.0 l.0.0) (v, p, len, rest) l.2 in
-    let i = bind_ok (number_at HEADER w.0.1) (after_len m.0.0 c.0.0 l.0.0 w.0.0) (v, p, len, rest) w.2 in
-    let q = bind_ok (params_of m.0.0 c.0.0 l.0.0 w.0.0 i.0.0) (λ params. Ok (m.0.0, params, i.0.0, i.0.1)) (v, p, len, rest) i.2 in
+    let q = bind_ok (sizes_at m.0.0 m.0.1) (λ sizes. Ok (m.0.0, sizes.0, sizes.1, sizes.2)) (v, p, len, rest) m.2 in
     let tm = version_takes bytes m.0.0 m.0.1 are m.1 in
-    let tc = number_takes HEADER m.0.1 c.0.0 c.0.1 tm.rest_fits c.1 in
-    let tl = number_takes HEADER c.0.1 l.0.0 l.0.1 tc.0.rest_fits l.1 in
-    let tw = number_takes HEADER l.0.1 w.0.0 w.0.1 tl.0.rest_fits w.1 in
-    let ti = number_takes HEADER w.0.1 i.0.0 i.0.1 tw.0.rest_fits i.1 in
-    let f = params_fit m.0.0 c.0.0 l.0.0 w.0.0 i.0.0 q.0 q.1 in
-    let t1 = Takes-then l.0.1 (number w.0.0) w.0.1 (number i.0.0) i.0.1 tw.0 ti.0 in
-    let t2 = Takes-then c.0.1 (number l.0.0) l.0.1 (number w.0.0 ++ number i.0.0) i.0.1 tl.0 t1 in
-    let t3 = Takes-then m.0.1 (number c.0.0) c.0.1 (number l.0.0 ++ (number w.0.0 ++ number i.0.0)) i.0.1 tc.0 t2 in
-    let t4 = Takes-then bytes (magic m.0.0) m.0.1 (number c.0.0 ++ (number l.0.0 ++ (number w.0.0 ++ number i.0.0))) i.0.1 tm t3 in
-    let made : Headed = (m.0.0, q.0, i.0.0, i.0.1) in
-    let named : Takes bytes (header_text m.0.0 q.0 i.0.0) i.0.1 = rw (← f.1, ← f.2, ← f.3) t4 in
-    subst (λ (y : Headed). Takes bytes (header_text y.0 y.1 y.2) y.3 × HeaderFits y.0 y.1 y.2) (ok_is made (v, p, len, rest) q.2) (named, f.0)
+    let ts = sizes_take m.0.0 m.0.1 q.0.0 q.0.1 q.0.2 tm.rest_fits q.1 in
+    let made : Headed = (m.0.0, q.0.0, q.0.1, q.0.2) in
+    let named : Takes bytes (header_text m.0.0 q.0.0 q.0.1) q.0.2 = Takes-then bytes (magic m.0.0) m.0.1 (sizes_text q.0.0 q.0.1) q.0.2 tm ts.0 in
+    subst (λ (y : Headed). Takes bytes (header_text y.0 y.1 y.2) y.3 × HeaderFits y.0 y.1 y.2) (ok_is made (v, p, len, rest) q.2) (named, ts.1)
 
 -- the numbers of a header can be spelled
 record HeaderSmall (p : Params) (len : ℕ) : Type 0 where
@@ -151,18 +164,21 @@ header-small : (v : Version) (p : Params) (len : ℕ) → HeaderFits v p len →
 header-small One p len h = let f = h.params in record { cores = omega arith; limit = omega arith; words = omega arith; image = omega arith }
 header-small Two p len h = let f = h.params in record { cores = omega arith; limit = omega arith; words = omega arith; image = omega arith }
 
-pub header_again : (v : Version) (p : Params) (len : ℕ) (rest : List ℕ) → HeaderFits v p len → header_at (header_text v p len ++ rest) ≡ Ok (v, p, len, rest)
-unfolding header_at
-header_again v p len rest h =
-    let regrouped : header_text v p len ++ rest ≡ magic v ++ (number p.cores ++ (number p.limit ++ (number p.words ++ (number len ++ rest)))) =
-    simp append_assoc in
+pub sizes_again : (v : Version) (p : Params) (len : ℕ) (rest : List ℕ) → HeaderFits v p len → sizes_at v (sizes_text p len ++ rest) ≡ Ok (p, len, rest)
+unfolding sizes_at
+sizes_again v p len rest h =
+    let regrouped : sizes_text p len ++ rest ≡ number p.cores ++ (number p.limit ++ (number p.words ++ (number len ++ rest))) = simp append_assoc in
     let small = header-small v p len h in
-    let m = version_again v (number p.cores ++ (number p.limit ++ (number p.words ++ (number len ++ rest)))) in
     let c = number_again HEADER p.cores (number p.limit ++ (number p.words ++ (number len ++ rest))) small.cores in
     let l = number_again HEADER p.limit (number p.words ++ (number len ++ rest)) small.limit in
     let w = number_again HEADER p.words (number len ++ rest) small.words in
     let i = number_again HEADER len rest small.image in
-    ap header_at regrouped ∙ rw (m, c, l, w, i, params_again v p len h) refl
+    ap (sizes_at v) regrouped ∙ rw (c, l, w, i, params_again v p len h) refl
+
+pub header_again : (v : Version) (p : Params) (len : ℕ) (rest : List ℕ) → HeaderFits v p len → header_at (header_text v p len ++ rest) ≡ Ok (v, p, len, rest)
+unfolding header_at
+header_again v p len rest h =
+    ap header_at (append_assoc (magic v) (sizes_text p len) rest) ∙ rw (version_again v (sizes_text p len ++ rest), sizes_again v p len rest h) refl
 
 -- ---- the image
 

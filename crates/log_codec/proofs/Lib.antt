@@ -12,6 +12,7 @@ pub mod Received
 pub mod Whole
 pub mod Named
 pub mod BadPartLaws
+pub mod CoreCountLaws
 pub mod Tested
 pub mod Counted
 pub mod Looked

@@ -14,7 +14,8 @@ use Rattle.log_codec.specs.declared.version.Version.{Version}
 use Rattle.log_codec.specs.declared.version.Version.TheVariants.{One, Two}
 use Rattle.log_codec.specs.Faults.{◌>>=◌}
 use Rattle.log_codec.specs.Incoming.{incoming_stands, last_source, last_target, remember, target_count}
-use Rattle.log_codec.specs.Reading.{after_number, number_at, version_at, params_of, header_at, image_at, total_at, totals_at, edge_at, edges_at}
+use Rattle.log_codec.specs.Reading.{after_number, number_at, version_at, params_of, sizes_at, header_at, image_at, total_at, totals_at, edge_at}
+use Rattle.log_codec.specs.Reading.{edges_at}
 use Rattle.log_codec.specs.Reading.{incoming_at, into_at, targets_at, reduced_at, two_strides, strides_at, vector_at, vectors_at}
 use Rattle.log_codec.specs.Reading.{regulated_at}
 use Rattle.rtr_types.specs.Turns.{stay, follow, count_up}
@@ -72,15 +73,20 @@ unfolding params_of
 params-names v cores limit words len = let made : Params = record { cores = cores; limit = limit; words = words } in
     guard-names HEADER (fits_in v made && nat_le len (4 * words)) made
 
+pub sizes-name : (v : Version) (bytes : List ℕ) → Names HEADER (sizes_at v bytes)
+unfolding sizes_at
+sizes-name v bytes =
+    bind-names HEADER (number_at HEADER bytes) _ (number-names HEADER bytes) (λ cores.
+    bind-names HEADER (number_at HEADER cores.1) _ (number-names HEADER cores.1) (λ limit.
+    bind-names HEADER (number_at HEADER limit.1) _ (number-names HEADER limit.1) (λ words.
+    bind-names HEADER (number_at HEADER words.1) _ (number-names HEADER words.1) (λ len.
+    bind-names HEADER (params_of v cores.0 limit.0 words.0 len.0) _ (params-names v cores.0 limit.0 words.0 len.0) (λ params p e. absurd cc)))))
+
 pub header-names : (bytes : List ℕ) → Names HEADER (header_at bytes)
 unfolding header_at
 header-names bytes =
     bind-names HEADER (version_at bytes) _ (version-names bytes) (λ v.
-    bind-names HEADER (number_at HEADER v.1) _ (number-names HEADER v.1) (λ cores.
-    bind-names HEADER (number_at HEADER cores.1) _ (number-names HEADER cores.1) (λ limit.
-    bind-names HEADER (number_at HEADER limit.1) _ (number-names HEADER limit.1) (λ words.
-    bind-names HEADER (number_at HEADER words.1) _ (number-names HEADER words.1) (λ len.
-    bind-names HEADER (params_of v.0 cores.0 limit.0 words.0 len.0) _ (params-names v.0 cores.0 limit.0 words.0 len.0) (λ params p e. absurd cc))))))
+    bind-names HEADER (sizes_at v.0 v.1) _ (sizes-name v.0 v.1) (λ sizes p e. absurd cc))
 
 pub image-names : (len : ℕ) (bytes : List ℕ) → Names IMAGE (image_at len bytes)
 unfolding image_at

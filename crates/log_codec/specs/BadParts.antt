@@ -4,7 +4,7 @@ use Rattle.std.specs.Prelude.{◌≡◌, ◌≢◌, ℕ, ◌*◌, ◌<◌, ◌�
 use Rattle.rtr_types.specs.declared.params.Params.{Params}
 use Rattle.rtr_types.specs.Pairs.{pair_count}
 use Rattle.stride_vector.specs.declared.StrideVector.{StrideVector}
-use Rattle.log_codec.specs.declared.codec_fault.TheConstants.{HEADER, IMAGE, TOTALS, REDUCED, REGULATED, END}
+use Rattle.log_codec.specs.declared.recording.Recording.{Recording}
 use Rattle.log_codec.specs.declared.version.Version.{Version}
 use Rattle.log_codec.specs.Laws.{IsBytes}
 use Rattle.log_codec.specs.Reading.{front_at, whole_at}
@@ -74,31 +74,59 @@ pub record UpToRegulated (bytes rest : List ℕ) : Type 0 where
   pub regulated : List (List StrideVector)
   pub fifth : IsRegulated four.three.totals before regulated rest
 
--- ---- which part is named
+-- the recording of five valid parts
+abbrev pub recording_up_to : (bytes rest : List ℕ) → UpToRegulated bytes rest → Recording
+recording_up_to bytes rest u = record {
+  params = u.four.three.two.first.params;
+  image = u.four.three.two.image;
+  totals = u.four.three.totals;
+  reduced = u.four.reduced;
+  regulated = u.regulated;
+}
+
+-- ---- a part that isn't there, after those below it
+
+-- no header, in either version
+abbrev pub NoHeader : (bytes : List ℕ) → Type 0
+NoHeader bytes = (v : Version) (p : Params) (len : ℕ) (rest : List ℕ) → IsHeader bytes v p len rest → ⊥
+
+-- a header, and no image after it
+abbrev pub NoImage : (bytes : List ℕ) → Type 0
+NoImage bytes = (rest : List ℕ) × (u : UpToHeader bytes rest)
+    × ((image after : List ℕ) → IsImage u.len rest image after → ⊥)
+
+-- an image, and no totals after it
+abbrev pub NoTotals : (bytes : List ℕ) → Type 0
+NoTotals bytes = (rest : List ℕ) × (u : UpToImage bytes rest)
+    × ((totals after : List ℕ) → IsTotals u.first.params rest totals after → ⊥)
+
+-- totals, and no reduced log after them
+abbrev pub NoReduced : (bytes : List ℕ) → Type 0
+NoReduced bytes = (rest : List ℕ) × (u : UpToTotals bytes rest)
+    × ((reduced : List (List (ℕ × ℕ))) (after : List ℕ) →
+    IsReduced u.two.first.version u.totals rest reduced after → ⊥)
+
+-- a reduced log, and no regulated log after it
+abbrev pub NoRegulated : (bytes : List ℕ) → Type 0
+NoRegulated bytes = (rest : List ℕ) × (u : UpToReduced bytes rest)
+    × ((regulated : List (List StrideVector)) (after : List ℕ) → IsRegulated u.three.totals rest regulated after → ⊥)
+
+-- ---- which part is named, by its number
 
 -- by a reading of a front of the bytes
 pub record FrontNames (bytes : List ℕ) : Type 0 where
-  pub header : (front_at bytes ≡ Err HEADER)
-      ↔ ((v : Version) (p : Params) (len : ℕ) (rest : List ℕ) → IsHeader bytes v p len rest → ⊥)
-  pub image : (front_at bytes ≡ Err IMAGE)
-      ↔ ((rest : List ℕ) × (u : UpToHeader bytes rest) × ((image after : List ℕ) → IsImage u.len rest image after → ⊥))
-  pub totals : (front_at bytes ≡ Err TOTALS)
-      ↔ ((rest : List ℕ) × (u : UpToImage bytes rest)
-      × ((totals after : List ℕ) → IsTotals u.first.params rest totals after → ⊥))
-  pub reduced : (front_at bytes ≡ Err REDUCED) ↔
-      ((rest : List ℕ) × (u : UpToTotals bytes rest)
-      × ((reduced : List (List (ℕ × ℕ))) (after : List ℕ) →
-      IsReduced u.two.first.version u.totals rest reduced after → ⊥))
-  pub regulated : (front_at bytes ≡ Err REGULATED) ↔
-      ((rest : List ℕ) × (u : UpToReduced bytes rest)
-      × ((regulated : List (List StrideVector)) (after : List ℕ) →
-      IsRegulated u.three.totals rest regulated after → ⊥))
-  pub no_other : (part : ℕ) → front_at bytes ≡ Err part → (HEADER ≤ part) × (part ≤ REGULATED)
+  pub header : (front_at bytes ≡ Err 1) ↔ NoHeader bytes
+  pub image : (front_at bytes ≡ Err 2) ↔ NoImage bytes
+  pub totals : (front_at bytes ≡ Err 3) ↔ NoTotals bytes
+  pub reduced : (front_at bytes ≡ Err 4) ↔ NoReduced bytes
+  pub regulated : (front_at bytes ≡ Err 5) ↔ NoRegulated bytes
+  pub no_other : (part : ℕ) → front_at bytes ≡ Err part → (1 ≤ part) × (part ≤ 5)
 
 -- by a reading of all bytes: the same, or the end, where bytes follow the other parts
 pub record WholeNames (bytes : List ℕ) : Type 0 where
-  pub below : (part : ℕ) → part ≢ END → (whole_at bytes ≡ Err part) ↔ (front_at bytes ≡ Err part)
-  pub end : (whole_at bytes ≡ Err END) ↔ ((rest : List ℕ) × UpToRegulated bytes rest × (rest ≢ []))
+  pub below : (part : ℕ) → part ≢ 6 → (whole_at bytes ≡ Err part) ↔ (front_at bytes ≡ Err part)
+  pub end : (whole_at bytes ≡ Err 6) ↔ ((rest : List ℕ) × UpToRegulated bytes rest × (rest ≢ []))
+  pub no_other : (part : ℕ) → whole_at bytes ≡ Err part → (1 ≤ part) × (part ≤ 6)
 
 abbrev pub BadPart : Type 0
 BadPart = (bytes : List ℕ) → IsBytes bytes → FrontNames bytes × WholeNames bytes

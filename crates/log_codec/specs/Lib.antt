@@ -5,6 +5,7 @@ pub mod Validity
 pub mod Incoming
 pub mod Spelling
 pub mod Reading
+pub mod CoreCounts
 pub mod Counts
 pub mod Laws
 pub mod Sources

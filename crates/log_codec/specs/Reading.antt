@@ -41,16 +41,22 @@ params_of v cores limit words len =
     if fits_in v (record { cores = cores; limit = limit; words = words })
     && nat_le len (4 * words) then Ok (record { cores = cores; limit = limit; words = words }) else Err HEADER
 
+-- the parameters, the length of the image, and the bytes after them
+unfoldable pub sizes_at : Version → List ℕ → Result (Params × ℕ × List ℕ) ℕ
+sizes_at v bytes = do
+  cores ← number_at HEADER bytes
+  limit ← number_at HEADER cores.1
+  words ← number_at HEADER limit.1
+  len ← number_at HEADER words.1
+  params ← params_of v cores.0 limit.0 words.0 len.0
+  Ok (params, len.0, len.1)
+
 -- the version, the parameters, the length of the image, and the bytes after them
 unfoldable pub header_at : List ℕ → Result (Version × Params × ℕ × List ℕ) ℕ
 header_at bytes = do
   version ← version_at bytes
-  cores ← number_at HEADER version.1
-  limit ← number_at HEADER cores.1
-  words ← number_at HEADER limit.1
-  len ← number_at HEADER words.1
-  params ← params_of version.0 cores.0 limit.0 words.0 len.0
-  Ok (version.0, params, len.0, len.1)
+  sizes ← sizes_at version.0 version.1
+  Ok (version.0, sizes.0, sizes.1, sizes.2)
 
 unfoldable pub image_at : ℕ → List ℕ → Result (List ℕ × List ℕ) ℕ
 image_at len bytes = if nat_lt (length bytes) len then Err IMAGE else Ok (take len bytes, drop len bytes)

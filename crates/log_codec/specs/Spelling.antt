@@ -19,9 +19,13 @@ use Rattle.log_codec.specs.Versions.{magic, FitsIn}
 abbrev pub number : ℕ → List ℕ
 number n = leb128.spelling n
 
+-- the parameters and the length of the image
+abbrev pub sizes_text : Params → ℕ → List ℕ
+sizes_text p len = number p.cores ++ (number p.limit ++ (number p.words ++ number len))
+
 -- the first part: the version, the parameters and the length of the image
 abbrev pub header_text : Version → Params → ℕ → List ℕ
-header_text v p len = magic v ++ (number p.cores ++ (number p.limit ++ (number p.words ++ number len)))
+header_text v p len = magic v ++ sizes_text p len
 
 -- the third part: a number for each core
 abbrev pub totals_text : List ℕ → List ℕ

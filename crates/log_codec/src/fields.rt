@@ -1,7 +1,8 @@
 //! Reading numbers, the header, the image and the totals.
 ghost use Rattle.std.specs.Prelude.{◌≡◌, ◌≤◌, length, IfOk};
 ghost use Rattle.log_codec.specs.Faults.{Gives};
-ghost use Rattle.log_codec.specs.Reading.{number_at, version_at, params_of, header_at, image_at, total_at, totals_at};
+ghost use Rattle.log_codec.specs.Reading.{number_at, version_at, params_of, header_at, image_at, sizes_at, total_at};
+ghost use Rattle.log_codec.specs.Reading.{totals_at};
 
 use crate::codec_fault::{CodecFault, HEADER, IMAGE, TOTALS};
 use crate::version::Version;
@@ -61,6 +62,21 @@ fn params(
     }
 }
 
+/// The parameters, which lie within the version's limits, the length of the image, and the bytes after
+/// them.
+#[tactic(auto, unfolding(crate::specs::Reading::sizes_at))]
+pub fn sizes(version: Version, bytes: &[u8]) -> Result<(Params, u32, &[u8]), CodecFault>
+    ensures read { Gives (λ x. (x.0, x.1, x.2.now)) result (sizes_at version bytes.now) }
+    ensures few { IfOk result (λ x. x.0.cores ≤ CORES_MAX) }
+{
+    let (cores, rest) = number(HEADER, bytes)?;
+    let (limit, rest) = number(HEADER, rest)?;
+    let (words, rest) = number(HEADER, rest)?;
+    let (len, rest) = number(HEADER, rest)?;
+    let params = params(version, cores, limit, words, len)?;
+    Ok((params, len, rest))
+}
+
 /// The version, the parameters, the length of the image, and the bytes after them.
 #[tactic(auto, unfolding(crate::specs::Reading::header_at))]
 pub(crate) fn header(bytes: &[u8]) -> Result<(Version, Params, u32, &[u8]), CodecFault>
@@ -68,11 +84,7 @@ pub(crate) fn header(bytes: &[u8]) -> Result<(Version, Params, u32, &[u8]), Code
     ensures few { IfOk result (λ x. x.1.cores ≤ CORES_MAX) }
 {
     let (version, rest) = version(bytes)?;
-    let (cores, rest) = number(HEADER, rest)?;
-    let (limit, rest) = number(HEADER, rest)?;
-    let (words, rest) = number(HEADER, rest)?;
-    let (len, rest) = number(HEADER, rest)?;
-    let params = params(version, cores, limit, words, len)?;
+    let (params, len, rest) = sizes(version, rest)?;
     Ok((version, params, len, rest))
 }
 

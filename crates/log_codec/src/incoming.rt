@@ -8,7 +8,7 @@ use rtr_types::CORES_MAX;
 pub(crate) const PLACES: usize = CORES_MAX as usize;
 
 /// An edge into a core: the core that it comes from, and its two counts, the source's first.
-#[derive(Clone, Copy, Debug, PartialEq, Eq)]
+#[derive(Clone, Copy)]
 pub(crate) struct Incoming {
     pub(crate) source: u8,
     pub(crate) counts: (u32, u32),

@@ -3,6 +3,8 @@
 #![tactic(auto)]
 
 mod codec_fault;
+mod copies;
+mod core_counts;
 mod fields;
 mod incoming;
 mod laws;
@@ -17,13 +19,14 @@ mod version;
 mod writing;
 
 pub use codec_fault::{CodecFault, END, HEADER, IMAGE, REDUCED, REGULATED, TOTALS};
+pub use core_counts::{counts, put_counts};
+pub use fields::{image, number, sizes, totals};
 pub use laws::{
     bad_part_law, prefix_free, source_laws, spelling_laws, validity_laws, version_laws,
 };
+pub use merging::put_targets;
 pub use reading::{read, read_front};
 pub use recording::Recording;
+pub use targets::by_targets;
 pub use version::{Version, fits_old};
-pub use writing::{spell, spell_v1};
-
-#[cfg(test)]
-mod tests;
+pub use writing::{put_sizes, put_totals, spell, spell_v1};

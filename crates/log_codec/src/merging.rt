@@ -173,7 +173,7 @@ fn put_into(
 }
 
 /// The edges into each core.
-pub(crate) fn put_targets(
+pub fn put_targets(
     out: &mut Vec<u8>,
     reduced: &[Items<(u32, u32)>],
     cores: u8,

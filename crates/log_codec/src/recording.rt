@@ -7,7 +7,6 @@ use stride_vector::StrideVector;
 
 /// What `record` writes: all that a replay needs. The lists of the two logs stand by pair of cores,
 /// in the order of `pair_at`.
-#[derive(Drop)]
 pub struct Recording {
     /// The parameters of the run.
     pub params: Params,
@@ -19,6 +18,19 @@ pub struct Recording {
     pub reduced: Items<Items<(u32, u32)>>,
     /// For each pair its strided vectors, each above the last position of the one before it.
     pub regulated: Items<Items<StrideVector>>,
+}
+
+// All parts at once, so that a function that lets a recording go at several ends is short to check.
+impl Drop for Recording {
+    fn drop(self) {
+        let Recording {
+            params: _params,
+            image: _image,
+            totals: _totals,
+            reduced: _reduced,
+            regulated: _regulated,
+        } = self;
+    }
 }
 
 impl Recording {
@@ -36,6 +48,20 @@ impl Recording {
             Which::Reduced => edges_of_all(self.reduced.as_slice()),
             Which::Regulated => positions_of_all(self.regulated.as_slice()),
         }
+    }
+
+    /// The image; the rest is let go.
+    pub fn into_image(self) -> Items<u8>
+        ensures { result ≡ self.image }
+    {
+        let Recording {
+            params: _params,
+            image,
+            totals: _totals,
+            reduced: _reduced,
+            regulated: _regulated,
+        } = self;
+        image
     }
 }
 

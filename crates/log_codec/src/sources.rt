@@ -16,8 +16,22 @@ impl Recording {
     ghost use Rattle.log_codec.specs.Sources.{HasEdge};
 
     /// The count of core `of` from which the chosen log has an edge to `at`, of which it has at most
-    /// one. It is looked up in the pair's list, whose counts rise.
+    /// one; None where it has none, so also where the two cores are one, or not both the recording's.
     pub fn source(&self, which: Which, of: u8, at: Instr) -> Option<u32>
+        requires { Valid self.now }
+        ensures found { IfSome result (λ a. HasEdge which self.now (record { core = of; count = a }) at) }
+        ensures only { (a : ℕ) → HasEdge which self.now (record { core = of; count = a }) at → result ≡ Some a }
+    {
+        let cores = self.params.cores;
+        if of < cores && at.core < cores && of != at.core {
+            self.pair_source(which, of, at)
+        } else {
+            None
+        }
+    }
+
+    /// The same of a pair of different cores, in whose list it is looked up: its counts rise.
+    fn pair_source(&self, which: Which, of: u8, at: Instr) -> Option<u32>
         requires valid { Valid self.now }
         requires pair { IsPair self.now.params.cores of at.core }
         ensures found { IfSome result (λ a. HasEdge which self.now (record { core = of; count = a }) at) }

@@ -150,7 +150,7 @@ pub(crate) fn target_count(cores: u8) -> u8
 }
 
 /// The edges into each core, as those of each pair.
-pub(crate) fn by_targets<'a>(
+pub fn by_targets<'a>(
     alloc: Global,
     totals: &[u32],
     bytes: &'a [u8],

@@ -11,7 +11,7 @@ const OLD_CORES_MAX: u8 = 8;
 const OLD_LIMIT_MAX: u32 = 100_000;
 
 /// The versions of a recording's bytes. They differ in the header and in the fourth part.
-#[derive(Clone, Copy, Debug, PartialEq, Eq)]
+#[derive(Clone, Copy)]
 pub enum Version {
     /// Narrower limits of its own; the reduced log stands pair by pair.
     One,

@@ -8,7 +8,7 @@ ghost use Rattle.log_codec.specs.Versions.{FitsOld};
 ghost use Rattle.log_codec.specs.declared.version.Version.TheVariants.{One};
 ghost use Rattle.log_codec.specs.Spelling.{header_text, totals_text, edges_text, pairs_text, reduced_text};
 ghost use Rattle.log_codec.specs.Spelling.{strides_text, vector_text, vectors_text, regulated_text, spelling};
-ghost use Rattle.log_codec.specs.Spelling.{spelling_in};
+ghost use Rattle.log_codec.specs.Spelling.{sizes_text, spelling_in};
 
 use crate::merging::put_targets;
 use crate::recording::Recording;
@@ -17,6 +17,16 @@ use rtr_types::{Items, Params};
 use std::alloc::{AllocError, Global};
 use stride_vector::StrideVector;
 use varint_core::put_u32;
+
+/// The parameters and the length of the image.
+pub fn put_sizes(out: &mut Vec<u8>, params: &Params, len: u32) -> Result<(), AllocError>
+    ensures { OnOk result (out.new.items ≡ out.old.items ++ sizes_text params.now len) }
+{
+    put_u32(out, params.cores as u32)?;
+    put_u32(out, params.limit)?;
+    put_u32(out, params.words)?;
+    put_u32(out, len)
+}
 
 /// The header: the format and its version, the parameters, and the length of the image.
 fn put_header(
@@ -28,14 +38,11 @@ fn put_header(
     ensures { OnOk result (out.new.items ≡ out.old.items ++ header_text version params.now len) }
 {
     out.extend_from_slice(&version.magic())?;
-    put_u32(out, params.cores as u32)?;
-    put_u32(out, params.limit)?;
-    put_u32(out, params.words)?;
-    put_u32(out, len)
+    put_sizes(out, params, len)
 }
 
 /// The totals of all cores.
-fn put_totals(out: &mut Vec<u8>, totals: &[u32]) -> Result<(), AllocError>
+pub fn put_totals(out: &mut Vec<u8>, totals: &[u32]) -> Result<(), AllocError>
     ensures { OnOk result (out.new.items ≡ out.old.items ++ totals_text totals.now) }
 {
     for total in totals {

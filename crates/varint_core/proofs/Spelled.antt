@@ -1,7 +1,6 @@
 -- The shortest spelling, and the groups that are one.
 use Rattle.std.proofs.Common.{◌≡◌, ℕ, zero, suc, ◌+◌, ◌*◌, ◌/◌, ◌%◌, ◌^◌, ◌<◌, ◌≤◌, ◌⊎◌, List, [], ◌∷◌, ◌++◌, length, take, refl, sym, ◌∙◌, ap, subst, inl, inr}
 use Rattle.std.proofs.Common.{arith, true, false, Bool, nat_lt, nat_le, cond, Option, Some, None, Result, Ok, Err, append_assoc}
-use Rattle.std.specs.Prelude.{OnOk, is_ok}
 use Rattle.std.specs.Option.{option_map}
 use Rattle.std.specs.List.{AllByRecursion}
 use Rattle.std.proofs.lemmas.Bool.{cases_lt, lt-ltb, le-ltb}
@@ -230,9 +229,3 @@ push_more k rest items next whole fits e big is = by (left k rest big fits)
 pub push_last : (k rest : ℕ) (items next whole : List ℕ) → items ++ spelling_within (suc k) rest ≡ whole → rest < 128 → next ≡ items ++ (rest ∷ []) →
     next ≡ whole
 push_last k rest items next whole e small is = is ∙ ap (λ (t : List ℕ). items ++ t) (sym (spelling-small k rest small)) ∙ e
-
--- what was appended, where something was
-pub on_ok : {E : Type 0} (r : Result (Unit {0}) E) (old new more whole : List ℕ) → new ≡ cond (is_ok r) (old ++ more) old → more ≡ whole →
-    OnOk r (new ≡ old ++ whole)
-on_ok (Ok u) old new more whole is same = is ∙ ap (λ (t : List ℕ). old ++ t) same
-on_ok (Err e) old new more whole is same = tt

@@ -41,16 +41,14 @@ fn put_groups(out: &mut Vec<u8>, value: u32) -> Result<(), AllocError>
     ensures ok { OnOk result (out.new.items ≡ out.old.items ++ spelling value) }
     ensures err { OnErr result (out.new.items ≡ out.old.items) }
 {
-    let mut groups = [0u8; BYTES_MAX];
-    let mut count = 0;
+    out.reserve(BYTES_MAX)?;
     let mut rest = value;
     while rest >= 128 {
-        groups[count] = (rest % 128) as u8 + 128;
-        count += 1;
+        out.push_reserved((rest % 128) as u8 + 128);
         rest /= 128;
     }
-    groups[count] = rest as u8;
-    out.extend_from_slice(&groups[..count + 1])
+    out.push_reserved(rest as u8);
+    Ok(())
 }
 
 /// The number that the bytes begin with, and the length of its spelling. Other bytes may follow.
