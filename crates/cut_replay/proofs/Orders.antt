@@ -74,10 +74,12 @@ module _ (p : Plan) (cut : Cut) where
   start_in = same_start p (cut_plan p cut) refl refl (sym all)
 
   pub played_in : (order : List ℕ) → played p order ≡ played (cut_plan p cut) order
-  played_in order = (by_image p (cut_plan p cut) (start p) order refl).outcome ∙ ap (λ (s : Outcome). play (cut_plan p cut) s order) start_in
+  played_in order = (by_image p (cut_plan p cut) (start p) order refl).outcome
+      ∙ ap (λ (s : Outcome). play (cut_plan p cut) s order) start_in
 
   plays_in : (order : List ℕ) → Plays p (start p) order → Plays (cut_plan p cut) (start (cut_plan p cut)) order
-  plays_in order h = subst (λ (s : Outcome). Plays (cut_plan p cut) s order) start_in ((by_image p (cut_plan p cut) (start p) order refl).plays.0 h)
+  plays_in order h = subst (λ (s : Outcome). Plays (cut_plan p cut) s order) start_in
+      ((by_image p (cut_plan p cut) (start p) order refl).plays.0 h)
 
   accesses_in : (order : List ℕ) → accesses_of p order ≡ accesses_of (cut_plan p cut) order
   accesses_in order = (by_image p (cut_plan p cut) (start p) order refl).accesses_from
@@ -85,7 +87,8 @@ module _ (p : Plan) (cut : Cut) where
 
 -- ---- one state
 
-module _ (which : Which) (r : Recording) (valid : Valid r) (whole : List ℕ) (decides : Decides (plan_of which r) whole) (cut : Cut) where
+module _ (which : Which) (r : Recording) (valid : Valid r) (whole : List ℕ) (decides : Decides (plan_of which r) whole)
+    (cut : Cut) where
   abbrev p : Plan
   p = plan_of which r
 
@@ -106,12 +109,14 @@ module _ (which : Which) (r : Recording) (valid : Valid r) (whole : List ℕ) (d
       Fronts (cut_plan (plan_of which r) cut) (start (cut_plan (plan_of which r) cut)) nought order other
   fronts_in order other h k =
       let a : Agrees p whole order = agrees order h.ordered in
-      fronts q other (start q) nought order tame (ordered_in p cut nought order h.ordered (within order h)) (full_in p cut (counts nought order) h.counts_are)
+      fronts q other (start q) nought order tame (ordered_in p cut nought order h.ordered (within order h))
+      (full_in p cut (counts nought order) h.counts_are)
       (plays_in p cut order a.plays)
       (λ x y c. a.suffices x y (subst (λ (l : List Access). ConflictPair l x y) (sym (accesses_in p cut order)) c))
       (ordered_in p cut nought other k.ordered (within other k))
 
-  last : (order other rest : List ℕ) → Reaches which r cut other → Ordered (cut_plan (plan_of which r) cut) nought (other ++ rest) →
+  last : (order other rest : List ℕ) → Reaches which r cut other →
+      Ordered (cut_plan (plan_of which r) cut) nought (other ++ rest) →
       played (cut_plan (plan_of which r) cut) (other ++ rest) ≡ played (cut_plan (plan_of which r) cut) order →
       played (cut_plan (plan_of which r) cut) other ≡ played (cut_plan (plan_of which r) cut) order
   last order other [] k o e = ap (λ (l : List ℕ). played q l) (sym (append-nil other)) ∙ e
@@ -127,15 +132,18 @@ module _ (which : Which) (r : Recording) (valid : Valid r) (whole : List ℕ) (d
       let f = fronts_in order other h k in
       played_in p cut order ∙ sym (last order other f.rest k f.same.ordered f.same.ends) ∙ sym (played_in p cut other)
 
-  pub plays_to : (order other : List ℕ) (outcome : Outcome) → Reaches which r cut order → outcome ≡ played (plan_of which r) order →
+  pub plays_to : (order other : List ℕ) (outcome : Outcome) → Reaches which r cut order →
+      outcome ≡ played (plan_of which r) order →
       Reaches which r cut other → PlaysTo which r other outcome
-  plays_to order other outcome h is k = record { plays = (agrees other k.ordered).plays; outcome_is = is ∙ one_state order other h k }
+  plays_to order other outcome h is k =
+      record { plays = (agrees other k.ordered).plays; outcome_is = is ∙ one_state order other h k }
 
 -- ---- some core can go on within a closed cut, until it is reached
 
 module _ (p : Plan) (cut : Cut) (f : ℕ → ℕ)
     -- each edge into the cut comes from it
-    (closed : (x y : Instr) → Contains p.edges (record { from = x; to = y }) → y.count ≤ count_in cut y.core → x.count ≤ count_in cut x.core)
+    (closed : (x y : Instr) → Contains p.edges (record { from = x; to = y }) → y.count ≤ count_in cut y.core →
+    x.count ≤ count_in cut x.core)
     -- and no core that has not come so far is ready
     (none : (c : ℕ) → f c < count_in cut c → Ready p f c → ⊥) where
   -- what a front of the order has of the cut, the counts have
@@ -146,7 +154,8 @@ module _ (p : Plan) (cut : Cut) (f : ℕ → ℕ)
   next_in : (g : ℕ → ℕ) (c : ℕ) → HasFront g → Ready p g c → g c + 1 ≤ count_in cut c → g c + 1 ≤ f c
   next_in g c has ready le = by (cases_lt (f c) (g c + 1))
     where
-      sources : f c ≡ g c → (from : Instr) → Contains p.edges (record { from = from; to = instr c (f c + 1) }) → from.count ≤ f from.core
+      sources : f c ≡ g c → (from : Instr) → Contains p.edges (record { from = from; to = instr c (f c + 1) }) →
+          from.count ≤ f from.core
       sources e from there =
           let in_front = source_within p.edges g c (g c + 1) ready.sourced from
           (subst (λ (n : ℕ). Contains p.edges (record { from = from; to = instr c (n + 1) })) e there) in
@@ -160,7 +169,13 @@ module _ (p : Plan) (cut : Cut) (f : ℕ → ℕ)
           let same : f c ≡ g c = omega arith in
           let lt = ready.below in
           let here : f c < slice_index p.totals c = omega arith in
-          absurd (none c (omega arith) (record { inside = ready.inside; below = here; sourced = within_sourced p.edges f c (f c + 1) (sources same) }))
+          absurd (none c (omega arith)
+          (record {
+            inside = ready.inside;
+            below = here;
+            sourced =
+                within_sourced p.edges f c (f c + 1) (sources same);
+          }))
 
   front_on : (g : ℕ → ℕ) (c : ℕ) → HasFront g → Ready p g c → HasFront (bump g c)
   front_on g c has ready d n le in_cut = elim (ℕ_discrete d c) [

@@ -10,11 +10,13 @@ abbrev cut_of : ℕ → List ℕ → Cut
 cut_of cores counts = record { cores = cores; counts = counts }
 
 -- cuts that are contained in each other
-pub one_cut : (r : Recording) (cut other : Cut) → IsCutOf r cut → IsCutOf r other → IsContained cut other → IsContained other cut → cut ≡ other
+pub one_cut : (r : Recording) (cut other : Cut) → IsCutOf r cut → IsCutOf r other → IsContained cut other →
+    IsContained other cut → cut ≡ other
 one_cut r cut other h k up down =
     ap (λ (n : ℕ). cut_of n cut.counts) (h.cores ∙ sym k.cores)
     ∙ ap (λ (l : List ℕ). cut_of other.cores l)
-    (ext_get_or 0 cut.counts other.counts (h.places ∙ sym k.places) (λ i lt. let a = up i in let b = down i in omega arith))
+    (ext_get_or 0 cut.counts other.counts (h.places ∙ sym k.places)
+    (λ i lt. let a = up i in let b = down i in omega arith))
 
 pub one_least : OneLeastCutLaw
 one_least which r at cut other h k =
@@ -22,7 +24,8 @@ one_least which r at cut other h k =
 
 pub one_greatest : OneGreatestCutLaw
 one_greatest which r at cut other h k =
-    one_cut r cut other h.closed.is_cut k.closed.is_cut (k.greatest cut h.closed h.without) (h.greatest other k.closed k.without)
+    one_cut r cut other h.closed.is_cut k.closed.is_cut (k.greatest cut h.closed h.without)
+    (h.greatest other k.closed k.without)
 
 -- ---- and one state
 

@@ -41,7 +41,8 @@ use Rattle.cut_replay.specs.Dues.{IsDue, IsOnTheWay, IsWaitedFor, NoneIsDue}
 use Rattle.cut_replay.proofs.Cuts.{has_within}
 use Rattle.cut_replay.proofs.Orders.{all_there, plays_to}
 
-pub way_start : (which : Which) (r : Recording) (cut : Cut) (u : UnderWay) → IsClosed which r cut → u.plan ≡ plan_of which r →
+pub way_start : (which : Which) (r : Recording) (cut : Cut) (u : UnderWay) → IsClosed which r cut →
+    u.plan ≡ plan_of which r →
     u.state ≡ start (plan_of which r) → Valid r → IsOnTheWay which r cut u
 way_start which r cut u closed plan_is state_is valid = record {
   valid = valid;
@@ -99,14 +100,16 @@ module _ {which : Which} {r : Recording} {cut : Cut} {u : UnderWay} (way : IsOnT
       here : count ≡ counts nought way.order c
       here = count_is ∙ count_at c
 
-      source_there : IsWaitedFor u c clock → (from : Instr) → Contains (log_edges which r) (record { from = from; to = instr c (count + 1) }) →
+      source_there : IsWaitedFor u c clock → (from : Instr) →
+          Contains (log_edges which r) (record { from = from; to = instr c (count + 1) }) →
           from.count ≤ counts nought way.order from.core
       source_there waited from there =
           let w : EdgeWithin r from next = has_within which r from next valid there in
           let leads : IsOrLeads (Among (log_edges which r)) from next =
           inr (one (Among (log_edges which r)) from next (inr (contains_among (log_edges which r) from next there))) in
           let known = (is from w.some_source).1 leads in
-          let le = waited from.core (let a = all_cores in let b = valid.each_core in let s = w.pair.source in omega arith) w.pair.differ in
+          let le = waited from.core
+          (let a = all_cores in let b = valid.each_core in let s = w.pair.source in omega arith) w.pair.differ in
           let same = count_at from.core in
           omega arith
 
@@ -125,7 +128,8 @@ module _ {which : Which} {r : Recording} {cut : Cut} {u : UnderWay} (way : IsOnT
               slice_index clock of ≤ counts_in u.state of
           leads (inl e) = absurd (ne (ap (λ (x : Instr). x.core) e))
           leads (inr before) =
-              let le = ready_before p f c (instr of (slice_index clock of)) next closed_so_far ready refl (let e = here in omega arith) before in
+              let le = ready_before p f c (instr of (slice_index clock of)) next closed_so_far ready refl
+              (let e = here in omega arith) before in
               let same = count_at of in
               omega arith
 
@@ -135,13 +139,15 @@ module _ {which : Which} {r : Recording} {cut : Cut} {u : UnderWay} (way : IsOnT
 
       due_ready : IsDue cut u c → Ready (plan_of which r) (counts nought way.order) c
       due_ready due = subst (λ (g : ℕ → ℕ). Ready p g c) counts_are
-          (subst (λ (q : Plan). Ready q (counts_in u.state) c) way.plan_is (ready_true u.plan (counts_in u.state) c due.ready))
+          (subst (λ (q : Plan). Ready q (counts_in u.state) c) way.plan_is
+          (ready_true u.plan (counts_in u.state) c due.ready))
 
       ready_due : Ready (plan_of which r) (counts nought way.order) c → IsDue cut u c
       ready_due ready = record {
         inside = inside;
         below = omega arith;
-        ready = ready_is u.plan (counts_in u.state) c (subst (λ (q : Plan). Ready q (counts_in u.state) c) (sym way.plan_is)
+        ready = ready_is u.plan (counts_in u.state) c
+            (subst (λ (q : Plan). Ready q (counts_in u.state) c) (sym way.plan_is)
             (subst (λ (g : ℕ → ℕ). Ready p g c) (sym counts_are) ready));
       }
 
@@ -154,18 +160,21 @@ module _ {which : Which} {r : Recording} {cut : Cut} {u : UnderWay} (way : IsOnT
   module _ (whole : List ℕ) (decides : Decides (plan_of which r) whole) (c : ℕ) (due : IsDue cut u c) where
     next_ready : Ready (plan_of which r) (counts nought way.order) c
     next_ready = subst (λ (g : ℕ → ℕ). Ready p g c) counts_are
-        (subst (λ (q : Plan). Ready q (counts_in u.state) c) way.plan_is (ready_true u.plan (counts_in u.state) c due.ready))
+        (subst (λ (q : Plan). Ready q (counts_in u.state) c) way.plan_is
+        (ready_true u.plan (counts_in u.state) c due.ready))
 
     longer : IsReplayOrder (plan_of which r) (way.order ++ c ∷ [])
     longer = (one_more p way.order c way.ordered).1 next_ready
 
     goes_on : is_done (need_at (plan_of which r) (played (plan_of which r) way.order) c) ≡ false
-    goes_on = ((plays_on p (start p) way.order (c ∷ [])).0 (every_order_law which r whole (way.order ++ c ∷ []) valid decides longer).plays).1.0
+    goes_on = ((plays_on p (start p) way.order (c ∷ [])).0
+        (every_order_law which r whole (way.order ++ c ∷ []) valid decides longer).plays).1.0
 
     within_on : (i : ℕ) → counts nought (way.order ++ c ∷ []) i ≤ count_in cut i
     within_on i = elim (ℕ_discrete i c) [
       | yes e ↦
-          let on : counts nought (way.order ++ c ∷ []) i ≡ bump f c i = ap (λ (g : ℕ → ℕ). g i) (counts_on nought way.order (c ∷ [])) in
+          let on : counts nought (way.order ++ c ∷ []) i ≡ bump f c i =
+          ap (λ (g : ℕ → ℕ). g i) (counts_on nought way.order (c ∷ [])) in
           let more = bump_same f c i e in
           let s : f i ≡ f c = ap f e in
           let t : count_in cut i ≡ count_in cut c = ap (λ (k : ℕ). count_in cut k) e in
@@ -173,7 +182,8 @@ module _ {which : Which} {r : Recording} {cut : Cut} {u : UnderWay} (way : IsOnT
           let same = count_at c in
           omega arith
       | no ne ↦
-          let on : counts nought (way.order ++ c ∷ []) i ≡ bump f c i = ap (λ (g : ℕ → ℕ). g i) (counts_on nought way.order (c ∷ [])) in
+          let on : counts nought (way.order ++ c ∷ []) i ≡ bump f c i =
+          ap (λ (g : ℕ → ℕ). g i) (counts_on nought way.order (c ∷ [])) in
           let same = bump_else f c i ne in
           let le = way.within i in
           omega arith
@@ -200,9 +210,11 @@ module _ {which : Which} {r : Recording} {cut : Cut} {u : UnderWay} (way : IsOnT
           let go = goes_on in
           cc
 
-      module _ (w : UnderWay) (kept : w.plan ≡ v.plan) (access : Option Access) (h : Retires v.plan v.state c access w.state) where
+      module _ (w : UnderWay) (kept : w.plan ≡ v.plan) (access : Option Access)
+          (h : Retires v.plan v.state c access w.state) where
         placed : w.state ≡ place (plan_of which r) (played (plan_of which r) way.order) c
-        placed = let retires : Retires p (played p way.order) c access w.state = advances (advanced.Retired access) w.state h in retires.state
+        placed = let retires : Retires p (played p way.order) c access w.state =
+            advances (advanced.Retired access) w.state h in retires.state
 
         state_on : w.state ≡ played (plan_of which r) (way.order ++ c ∷ [])
         state_on = placed ∙ sym (play_on p (start p) way.order (c ∷ []))
@@ -236,16 +248,19 @@ module _ {which : Which} {r : Recording} {cut : Cut} {u : UnderWay} (way : IsOnT
   -- ---- no core does
 
   module _ (whole : List ℕ) (decides : Decides (plan_of which r) whole) (none : NoneIsDue cut u) where
-    not_ready : (c : ℕ) → counts nought way.order c < count_in cut c → Ready (plan_of which r) (counts nought way.order) c → ⊥
+    not_ready : (c : ℕ) → counts nought way.order c < count_in cut c →
+        Ready (plan_of which r) (counts nought way.order) c → ⊥
     not_ready c lt ready = none c (record {
       inside = let i = ready.inside in let a = all_cores in omega arith;
       below = let e = count_at c in omega arith;
-      ready = ready_is u.plan (counts_in u.state) c (subst (λ (q : Plan). Ready q (counts_in u.state) c) (sym way.plan_is)
+      ready = ready_is u.plan (counts_in u.state) c
+          (subst (λ (q : Plan). Ready q (counts_in u.state) c) (sym way.plan_is)
           (subst (λ (g : ℕ → ℕ). Ready p g c) (sym counts_are) ready));
     })
 
     cut_there : (c : ℕ) → (c < length r.totals) ⊎ (length r.totals ≤ c) → count_in cut c ≤ counts nought way.order c
-    cut_there c (inl lt) = all_there p cut f (λ x y has le. way.closed.sources x y has le) not_ready whole decides.ordered decides.whole
+    cut_there c (inl lt) = all_there p cut f (λ x y has le. way.closed.sources x y has le) not_ready whole
+        decides.ordered decides.whole
         (λ i below. in_total i (let a = all_cores in omega arith)) c lt
     cut_there c (inr past) = let z = way.closed.is_cut.rest c (let e = valid.each_core in omega arith) in omega arith
 
@@ -258,5 +273,6 @@ module _ {which : Which} {r : Recording} {cut : Cut} {u : UnderWay} (way : IsOnT
     pub state_at : (outcome : Outcome) → outcome ≡ u.state → IsStateAt which r cut outcome
     state_at outcome is = record {
       some_order = (way.order, reaches);
-      every_order = λ order h. plays_to which r valid whole decides cut way.order order outcome reaches (is ∙ way.state_is) h;
+      every_order = λ order h. plays_to which r valid whole decides cut way.order order outcome reaches
+          (is ∙ way.state_is) h;
     }

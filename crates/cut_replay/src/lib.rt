@@ -5,8 +5,6 @@
 mod closed_cuts;
 mod cut_states;
 pub mod laws;
-#[cfg(test)]
-mod tests;
 
 pub use closed_cuts::{cut_with, cut_without, has_instr};
 pub use cut_states::state_of;

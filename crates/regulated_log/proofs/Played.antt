@@ -8,7 +8,8 @@ use Rattle.image_mem.specs.Contents.{Contents}
 use Rattle.log_codec.specs.Sources.{log_edges}
 use Rattle.rv_core.specs.declared.outcome.Outcome.{Outcome}
 use Rattle.replay_core.specs.Plans.{Plan, plan_of}
-use Rattle.replay_core.specs.Play.{place, touched, play, accesses_from, Plays, start, accesses_of}
+use Rattle.replay_core.specs.Play.{place_given, touched_given, place, touched, play, accesses_from, Plays, start}
+use Rattle.replay_core.specs.Play.{accesses_of}
 use Rattle.regulated_log.specs.Logs.{with_regulated}
 use Rattle.regulated_log.specs.Decides.{DecidesLaw}
 use Rattle.regulated_log.proofs.AllPairs.{implies_law}
@@ -19,11 +20,11 @@ abbrev of : Contents → Plan
 of image = record { image = image; limit = 0; totals = []; edges = [] }
 
 place_of_image : (p : Plan) (s : Outcome) (c : ℕ) → place p s c ≡ place (of p.image) s c
-unfolding place
+unfolding place_given
 place_of_image p s c = refl
 
 touched_of_image : (p : Plan) (s : Outcome) (c : ℕ) → touched p s c ≡ touched (of p.image) s c
-unfolding touched
+unfolding touched_given
 touched_of_image p s c = refl
 
 play_of_image : (p : Plan) (s : Outcome) (order : List ℕ) → play p s order ≡ play (of p.image) s order

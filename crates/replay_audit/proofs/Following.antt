@@ -1,5 +1,6 @@
 -- A tally and a trail go along an order together.
-use Rattle.std.proofs.Common.{inl, inr, ◌≡◌, ◌∙◌, ◌⊎◌, ℕ, ◌+◌, ◌<◌, ◌≤◌, List, [], ◌∷◌, ◌++◌, length, replicate, sym, ap, subst, arith}
+use Rattle.std.proofs.Common.{inl, inr, ◌≡◌, ◌∙◌, ◌⊎◌, ℕ, ◌+◌, ◌<◌, ◌≤◌, List, [], ◌∷◌, ◌++◌, length, replicate, sym}
+use Rattle.std.proofs.Common.{ap, subst, arith}
 use Rattle.std.specs.Prelude.{slice_set, Option, Some, None}
 use Rattle.rtr_types.specs.declared.TheConstants.{CORES_MAX}
 use Rattle.rtr_types.specs.declared.instr.Instr.{Instr}
@@ -24,7 +25,8 @@ use Rattle.replay_audit.proofs.Tallying.{Counted, counted_start, counted_on, rea
 use Rattle.replay_audit.proofs.Trailing.{trail_start, trail_on}
 
 -- the tally is at the end of the order, which is a front of the low order, and the trail has these accesses
-pub record Followed (which : Which) (r : Recording) (order : List ℕ) (list : List Access) (t : Tallied) (s : Trailed) : Type 0 where
+pub record Followed (which : Which) (r : Recording) (order : List ℕ) (list : List Access) (t : Tallied) (s : Trailed)
+    : Type 0 where
   pub counted : Counted (plan_of which r) order t
   pub trail : IsTrailOf (log_edges which r) r.params.cores (counts nought order) list s
   pub rise : CountsRise list
@@ -47,12 +49,14 @@ followed_start which r cores t s valid fresh = record {
   counted = counted_start (plan_of which r) t fresh.plan_is fresh.counts_is;
   trail = subst (λ (n : ℕ). IsTrailOf (log_edges which r) n nought [] s)
       (fresh.cores_is ∙ ap (λ (q : Plan). length q.totals) fresh.plan_is ∙ valid.each_core)
-      (trail_start (log_edges which r) cores r.params.words s fresh.numbers fresh.clocks fresh.marks fresh.accesses fresh.found);
+      (trail_start (log_edges which r) cores r.params.words s fresh.numbers fresh.clocks fresh.marks fresh.accesses
+      fresh.found);
   rise = tt;
   inside = λ b q. absurd q;
 }
 
-module _ {which : Which} {r : Recording} (valid : Valid r) {order : List ℕ} {list : List Access} {t : Tallied} {s : Trailed}
+module _ {which : Which} {r : Recording} (valid : Valid r) {order : List ℕ} {list : List Access} {t : Tallied}
+    {s : Trailed}
     (f : Followed which r order list t s) where
   pub each_core : (b : Access) → StandsIn s.accesses b → b.at.core < CORES_MAX
   each_core b q =
@@ -65,7 +69,8 @@ module _ {which : Which} {r : Recording} (valid : Valid r) {order : List ℕ} {l
   each_marked w = marked_at _ s.marks w f.trail.marked
 
   -- the next instruction, of the lowest core that is ready
-  module _ {c : ℕ} (some : lowest_ready t.plan (count_of t.counts) ≡ Some c) {at : Instr} (at_is : at ≡ instr c (count_of t.counts c + 1)) where
+  module _ {c : ℕ} (some : lowest_ready t.plan (count_of t.counts) ≡ Some c) {at : Instr}
+      (at_is : at ≡ instr c (count_of t.counts c + 1)) where
     pub ready_next : Ready (plan_of which r) (counts nought order) c
     ready_next = ready_there (plan_of which r) order t f.counted c some
 
@@ -108,14 +113,17 @@ module _ {which : Which} {r : Recording} (valid : Valid r) {order : List ℕ} {l
       access_core a q = subst (λ (x : Instr). x.core < CORES_MAX) (sym (told_at a q)) few
 
       -- both are noted
-      pub followed_on : (rise : CountsRise (list ++ told access)) (u : Tallied) (sources : List ℕ) (cores : ℕ) (v : Trailed) →
+      pub followed_on : (rise : CountsRise (list ++ told access)) (u : Tallied) (sources : List ℕ) (cores : ℕ)
+          (v : Trailed) →
           u.plan ≡ t.plan → u.counts ≡ slice_set t.counts c (count_of t.counts c + 1) →
           AreSources t.plan.edges (instr c (count_of t.counts c + 1)) sources → cores ≡ length u.plan.totals →
           Trails s at sources cores access v → Followed which r (order ++ c ∷ []) (list ++ told access) u v
       followed_on rise u sources cores v kept counts_is are cores_is trails = record {
         counted = counted_on (plan_of which r) order t f.counted c some u kept counts_is;
-        trail = subst (λ (g : ℕ → ℕ). IsTrailOf (log_edges which r) r.params.cores g (list ++ told access) v) (sym (counts_on nought order (c ∷ [])))
-            (trail_on which r valid (counts nought order) c ready_next list s f.trail sources sources_there access v trails_there
+        trail = subst (λ (g : ℕ → ℕ). IsTrailOf (log_edges which r) r.params.cores g (list ++ told access) v)
+            (sym (counts_on nought order (c ∷ [])))
+            (trail_on which r valid (counts nought order) c ready_next list s f.trail sources sources_there access v
+            trails_there
             (λ a q. told_at a q ∙ at_next) f.rise rise each few_there);
         rise = rise;
         inside = λ a q. in_either a (stands_which list (told access) a q);
@@ -123,7 +131,8 @@ module _ {which : Which} {r : Recording} (valid : Valid r) {order : List ℕ} {l
         where
           sources_there : AreSources (log_edges which r) (instr c (counts nought order c + 1)) sources
           sources_there = subst (λ (x : Instr). AreSources (log_edges which r) x sources) (sym at_is ∙ at_next)
-              (subst (λ (q : Plan). AreSources q.edges (instr c (count_of t.counts c + 1)) sources) f.counted.plan_is are)
+              (subst (λ (q : Plan). AreSources q.edges (instr c (count_of t.counts c + 1)) sources) f.counted.plan_is
+              are)
 
           cores_there : cores ≡ r.params.cores
           cores_there = cores_is ∙ ap (λ (q : Plan). length q.totals) (kept ∙ f.counted.plan_is) ∙ valid.each_core

@@ -38,17 +38,21 @@ Ordered edges x y = Before (Among edges) x y ⊎ Before (Among edges) y x
 moved : (edges : List Edge) (u v x y : Instr) → u ≡ x → v ≡ y → Ordered edges u v → Ordered edges x y
 moved edges u v x y e g b = subst (λ (z : Instr). Ordered edges z y) e (subst (λ (z : Instr). Ordered edges u z) g b)
 
-pub settled_alike : (edges : List Edge) (xs ys : List Access) → ((b : Access) → StandsIn ys b → (a : Access) × StandsIn xs a × IsAlike a b) →
+pub settled_alike : (edges : List Edge) (xs ys : List Access) →
+    ((b : Access) → StandsIn ys b → (a : Access) × StandsIn xs a × IsAlike a b) →
     IsSettled edges xs → IsSettled edges ys
 settled_alike edges xs ys back h c d s t k =
     let a = back c s in
     let b = back d t in
-    moved edges a.0.at b.0.at c.at d.at a.2.at b.2.at (h a.0 b.0 a.1 b.1 (conflicts_alike c d a.0 b.0 (alike_back a.0 c a.2) (alike_back b.0 d b.2) k))
+    moved edges a.0.at b.0.at c.at d.at a.2.at b.2.at
+    (h a.0 b.0 a.1 b.1 (conflicts_alike c d a.0 b.0 (alike_back a.0 c a.2) (alike_back b.0 d b.2) k))
 
 pub judge_law : JudgeLaw
 judge_law which r order list valid play alike = (
-  λ det. settled_alike (log_edges which r) (accesses_of (plan_of which r) order) list alike.back ((settled_law which r order valid play).0 det),
-  λ h. (settled_law which r order valid play).1 (settled_alike (log_edges which r) list (accesses_of (plan_of which r) order)
+  λ det. settled_alike (log_edges which r) (accesses_of (plan_of which r) order) list alike.back
+      ((settled_law which r order valid play).0 det),
+  λ h. (settled_law which r order valid play).1
+      (settled_alike (log_edges which r) list (accesses_of (plan_of which r) order)
       (λ a s. let b = alike.forth a s in (b.0, b.1, alike_back a b.0 b.2)) h),
 )
 
@@ -64,10 +68,12 @@ suffices_settled edges list suf a b s t k = by (one_first list a b s t k)
     by (inl q) = inl (suf a.at b.at q)
     by (inr q) = inr (suf b.at a.at q)
 
-pub settled_suffices : (edges : List Edge) (list : List Access) → NeverBack edges list → IsSettled edges list → Suffices list (Among edges)
+pub settled_suffices : (edges : List Edge) (list : List Access) → NeverBack edges list → IsSettled edges list →
+    Suffices list (Among edges)
 settled_suffices edges list never settled x y q =
     let e = ends list x y q in
-    by (moved edges e.first.at e.second.at x y e.first_at e.second_at (settled e.first e.second e.first_stands e.second_stands e.conflict))
+    by (moved edges e.first.at e.second.at x y e.first_at e.second_at
+    (settled e.first e.second e.first_stands e.second_stands e.conflict))
   where
     by : Ordered edges x y → Before (Among edges) x y
     by (inl b) = b

@@ -1,5 +1,6 @@
 -- The lowest core that is ready, as the counts go on.
-use Rattle.std.proofs.Common.{inl, inr, ◌≡◌, ◌≢◌, ◌⊎◌, ℕ, zero, suc, ◌+◌, ◌-◌, ◌<◌, ◌≤◌, Bool, true, false, List, length, refl, sym, ap, ◌∙◌, subst, arith}
+use Rattle.std.proofs.Common.{inl, inr, ◌≡◌, ◌≢◌, ◌⊎◌, ℕ, zero, suc, ◌+◌, ◌-◌, ◌<◌, ◌≤◌, Bool, true, false, List}
+use Rattle.std.proofs.Common.{length, refl, sym, ap, ◌∙◌, subst, arith}
 use Rattle.std.proofs.Common.{get_or-set_same, get_or-set_other}
 use Rattle.std.specs.Prelude.{nat_eq, slice_index, slice_set, Option, Some, None}
 use Rattle.std.specs.List.{Contains}
@@ -32,8 +33,10 @@ pub record LoweredTo (n : ℕ) (counts wanted old until : List ℕ) : Type 0 whe
   pub below : (i : ℕ) → slice_index until i ≤ slice_index old i
   pub waits : (i : ℕ) → i < n → slice_index counts i < slice_index wanted i → slice_index until i ≤ slice_index wanted i
 
-pub lowered_here : (n count : ℕ) (counts wanted old until : List ℕ) → n < length until → LoweredTo n counts wanted old until →
-    count ≡ slice_index wanted n → count < slice_index until n → LoweredTo (n + 1) counts wanted old (slice_set until n count)
+pub lowered_here : (n count : ℕ) (counts wanted old until : List ℕ) → n < length until →
+    LoweredTo n counts wanted old until →
+    count ≡ slice_index wanted n → count < slice_index until n →
+    LoweredTo (n + 1) counts wanted old (slice_set until n count)
 lowered_here n count counts wanted old until inside h is less =
     record { below = λ i. below i (ℕ_discrete i n); waits = λ i lt up. waits i lt up (ℕ_discrete i n) }
   where
@@ -45,27 +48,36 @@ lowered_here n count counts wanted old until inside h is less =
         (let b = h.below n in let k = here in omega arith)
     below i (no ne) = let k = get_or-set_other until n i count 0 ne in let b = h.below i in omega arith
 
-    waits : (i : ℕ) → i < n + 1 → slice_index counts i < slice_index wanted i → Dec (i ≡ n) → slice_index (slice_set until n count) i ≤ slice_index wanted i
-    waits i lt up (yes e) = subst (λ (j : ℕ). slice_index (slice_set until n count) j ≤ slice_index wanted j) (sym e) (let k = here in omega arith)
-    waits i lt up (no ne) = let k = get_or-set_other until n i count 0 ne in let w = h.waits i (let e = ne in grind arith) up in omega arith
+    waits : (i : ℕ) → i < n + 1 → slice_index counts i < slice_index wanted i → Dec (i ≡ n) →
+        slice_index (slice_set until n count) i ≤ slice_index wanted i
+    waits i lt up (yes e) = subst (λ (j : ℕ). slice_index (slice_set until n count) j ≤ slice_index wanted j) (sym e)
+        (let k = here in omega arith)
+    waits i lt up (no ne) = let k = get_or-set_other until n i count 0 ne in let w =
+        h.waits i (let e = ne in grind arith) up in omega arith
 
-pub lowered_not : (n count : ℕ) (counts wanted old until : List ℕ) → LoweredTo n counts wanted old until → count ≡ slice_index wanted n →
+pub lowered_not : (n count : ℕ) (counts wanted old until : List ℕ) → LoweredTo n counts wanted old until →
+    count ≡ slice_index wanted n →
     (slice_index counts n < count → slice_index until n ≤ count) → LoweredTo (n + 1) counts wanted old until
-lowered_not n count counts wanted old until h is least = record { below = h.below; waits = λ i lt up. waits i lt up (ℕ_discrete i n) }
+lowered_not n count counts wanted old until h is least =
+    record { below = h.below; waits = λ i lt up. waits i lt up (ℕ_discrete i n) }
   where
-    waits : (i : ℕ) → i < n + 1 → slice_index counts i < slice_index wanted i → Dec (i ≡ n) → slice_index until i ≤ slice_index wanted i
+    waits : (i : ℕ) → i < n + 1 → slice_index counts i < slice_index wanted i → Dec (i ≡ n) →
+        slice_index until i ≤ slice_index wanted i
     waits i lt up (yes e) =
         subst (λ (j : ℕ). slice_index until j ≤ slice_index wanted j) (sym e)
-        (let u : slice_index counts n < slice_index wanted n = subst (λ (j : ℕ). slice_index counts j < slice_index wanted j) e up in
+        (let u : slice_index counts n < slice_index wanted n =
+        subst (λ (j : ℕ). slice_index counts j < slice_index wanted j) e up in
         let le = least (omega arith) in omega arith)
     waits i lt up (no ne) = h.waits i (let e = ne in grind arith) up
 
 -- the counts of all cores are
-pub lowered_all : (which : Which) (r : Recording) (p : Plan) (n c count : ℕ) (counts wanted old until : List ℕ) → Valid r → p ≡ plan_of which r →
+pub lowered_all : (which : Which) (r : Recording) (p : Plan) (n c count : ℕ) (counts wanted old until : List ℕ) →
+    Valid r → p ≡ plan_of which r →
     r.params.cores ≤ n → AreSources p.edges (instr c count) wanted → LoweredTo n counts wanted old until → (i a : ℕ) →
     Among p.edges (instr i a) (instr c count) → slice_index counts i < a → slice_index until i ≤ a
 lowered_all which r p n c count counts wanted old until valid is all are h i a m up =
-    let there : Among (log_edges which r) (instr i a) (instr c count) = subst (λ (q : Plan). Among q.edges (instr i a) (instr c count)) is m in
+    let there : Among (log_edges which r) (instr i a) (instr c count) =
+    subst (λ (q : Plan). Among q.edges (instr i a) (instr c count)) is m in
     let w = edge_within which r (instr i a) (instr c count) valid there in
     let e : slice_index wanted i ≡ a = are.each (instr i a) m in
     let le = h.waits i (let lt = w.pair.source in omega arith) (omega arith) in
@@ -74,19 +86,24 @@ lowered_all which r p n c count counts wanted old until valid is all are h i a m
 -- ---- cores in turn
 
 -- one core more waits
-pub awaited_more : (t : Tallied) (c : ℕ) (old until : List ℕ) → AreAwaited t c old → ((i : ℕ) → slice_index until i ≤ slice_index old i) →
-    ((i a : ℕ) → Among t.plan.edges (instr i a) (next_of t.counts c) → count_of t.counts i < a → slice_index until i ≤ a) → AreAwaited t (c + 1) until
+pub awaited_more : (t : Tallied) (c : ℕ) (old until : List ℕ) → AreAwaited t c old →
+    ((i : ℕ) → slice_index until i ≤ slice_index old i) →
+    ((i a : ℕ) → Among t.plan.edges (instr i a) (next_of t.counts c) → count_of t.counts i < a →
+    slice_index until i ≤ a) → AreAwaited t (c + 1) until
 awaited_more t c old until h below waits = record { each = λ d i a lt m up. each d i a lt m up (ℕ_discrete d c) }
   where
-    each : (d i a : ℕ) → d < c + 1 → Among t.plan.edges (instr i a) (next_of t.counts d) → count_of t.counts i < a → Dec (d ≡ c) → slice_index until i ≤ a
-    each d i a lt m up (yes e) = waits i a (subst (λ (j : ℕ). Among t.plan.edges (instr i a) (next_of t.counts j)) e m) up
+    each : (d i a : ℕ) → d < c + 1 → Among t.plan.edges (instr i a) (next_of t.counts d) → count_of t.counts i < a →
+        Dec (d ≡ c) → slice_index until i ≤ a
+    each d i a lt m up (yes e) =
+        waits i a (subst (λ (j : ℕ). Among t.plan.edges (instr i a) (next_of t.counts j)) e m) up
     each d i a lt m up (no ne) = let w = h.each d i a (let e = ne in grind arith) m up in let b = below i in omega arith
 
 pub awaited_none : (t : Tallied) (until : List ℕ) → AreAwaited t 0 until
 awaited_none t until = record { each = λ d i a lt m up. absurd (omega arith) }
 
 -- the one that is found
-pub awaited_at : (t : Tallied) (c d : ℕ) (until : List ℕ) → ◌≡◌ {A = Option ℕ} (Some c) (Some d) → AreAwaited t c until → AreAwaited t d until
+pub awaited_at : (t : Tallied) (c d : ℕ) (until : List ℕ) → ◌≡◌ {A = Option ℕ} (Some c) (Some d) →
+    AreAwaited t c until → AreAwaited t d until
 awaited_at t c d until e h = let same : c ≡ d = cc in subst (λ (j : ℕ). AreAwaited t j until) same h
 
 -- a core that is ready is the lowest of those from it on
@@ -99,7 +116,8 @@ pub lowest_past : (p : Plan) (f : ℕ → ℕ) (c n : ℕ) → n ≡ 0 → ◌�
 lowest_past p f c n e = rw e refl
 
 -- cores that aren't ready are passed over
-pub lowest_skip : (p : Plan) (f : ℕ → ℕ) (k c n : ℕ) → ((d : ℕ) → c ≤ d → d < c + k → is_ready p f d ≡ false) → lowest p f (c + k) n ≡ lowest p f c (k + n)
+pub lowest_skip : (p : Plan) (f : ℕ → ℕ) (k c n : ℕ) → ((d : ℕ) → c ≤ d → d < c + k → is_ready p f d ≡ false) →
+    lowest p f (c + k) n ≡ lowest p f c (k + n)
 lowest_skip p f zero c n h =
     let a : c + 0 ≡ c = omega arith in
     let b : 0 + n ≡ n = omega arith in
@@ -117,11 +135,13 @@ pub low_is : (low : Option ℕ) (c : ℕ) → true ≡ option_eq nat_eq low (Som
 low_is None c e = absurd (cc)
 low_is (Some d) c e = let same : d ≡ c = grind (arith, nat_tests) in ap (λ (k : ℕ). Some k) same
 
-module _ (t u : Tallied) (c : ℕ) (until : List ℕ) (plan_is : u.plan ≡ t.plan) (counts_is : u.counts ≡ slice_set t.counts c (count_of t.counts c + 1))
+module _ (t u : Tallied) (c : ℕ) (until : List ℕ) (plan_is : u.plan ≡ t.plan)
+    (counts_is : u.counts ≡ slice_set t.counts c (count_of t.counts c + 1))
     (here : count_of u.counts c ≡ count_of t.counts c + 1) (all : c ≤ length t.plan.totals)
     (low : lowest_ready t.plan (count_of t.counts) ≡ Some c) (h : AreAwaited t c until) where
   else_is : (i : ℕ) → i ≢ c → count_of u.counts i ≡ count_of t.counts i
-  else_is i ne = ap (λ (l : List ℕ). count_of l i) counts_is ∙ get_or-set_other t.counts c i (count_of t.counts c + 1) 0 ne
+  else_is i ne = ap (λ (l : List ℕ). count_of l i) counts_is
+      ∙ get_or-set_other t.counts c i (count_of t.counts c + 1) 0 ne
 
   more : (i : ℕ) → count_of t.counts i ≤ count_of u.counts i
   more i = by (ℕ_discrete i c)
@@ -154,21 +174,25 @@ module _ (t u : Tallied) (c : ℕ) (until : List ℕ) (plan_is : u.plan ≡ t.pl
         same : count_of u.counts d ≡ count_of t.counts d
         same = else_is d (λ e. omega arith)
 
-        within : (from : Instr) → Contains t.plan.edges (record { from = from; to = instr d (count_of t.counts d + 1) }) →
+        within : (from : Instr) →
+            Contains t.plan.edges (record { from = from; to = instr d (count_of t.counts d + 1) }) →
             from.count ≤ count_of t.counts from.core
         within from has = by (cases_lt (count_of t.counts from.core) from.count) (ℕ_discrete from.core c)
           where
             there : Contains u.plan.edges (record { from = from; to = instr d (count_of u.counts d + 1) })
-            there = subst (λ (q : Plan). Contains q.edges (record { from = from; to = instr d (count_of u.counts d + 1) })) (sym plan_is)
+            there = subst (λ (q : Plan). Contains q.edges
+                (record { from = from; to = instr d (count_of u.counts d + 1) })) (sym plan_is)
                 (subst (λ (n : ℕ). Contains t.plan.edges (record { from = from; to = instr d (n + 1) })) (sym same) has)
 
             now : from.count ≤ count_of u.counts from.core
             now = source_within u.plan.edges (count_of u.counts) d (count_of u.counts d + 1) ready.sourced from there
 
             waits : count_of t.counts from.core < from.count → slice_index until from.core ≤ from.count
-            waits up = h.each d from.core from.count less (contains_among t.plan.edges from (instr d (count_of t.counts d + 1)) has) up
+            waits up = h.each d from.core from.count less
+                (contains_among t.plan.edges from (instr d (count_of t.counts d + 1)) has) up
 
-            by : (count_of t.counts from.core < from.count) ⊎ (from.count ≤ count_of t.counts from.core) → Dec (from.core ≡ c) →
+            by : (count_of t.counts from.core < from.count) ⊎ (from.count ≤ count_of t.counts from.core) →
+                Dec (from.core ≡ c) →
                 from.count ≤ count_of t.counts from.core
             by (inr le) e = le
             by (inl up) (no ne) = let k = else_is from.core ne in let n = now in omega arith
@@ -186,12 +210,15 @@ module _ (t u : Tallied) (c : ℕ) (until : List ℕ) (plan_is : u.plan ≡ t.pl
         found = subst (λ (o : Option ℕ). IsLowest t.plan (count_of t.counts) 0 (length t.plan.totals) o) low
             (lowest_is t.plan (count_of t.counts) 0 (length t.plan.totals))
 
-        by : (is_ready u.plan (count_of u.counts) d ≡ true) ⊎ (is_ready u.plan (count_of u.counts) d ≡ false) → is_ready u.plan (count_of u.counts) d ≡ false
+        by : (is_ready u.plan (count_of u.counts) d ≡ true) ⊎ (is_ready u.plan (count_of u.counts) d ≡ false) →
+            is_ready u.plan (count_of u.counts) d ≡ false
         by (inr f) = f
-        by (inl y) = absurd (found.1 d (omega arith) less (ready_was d less (ready_true u.plan (count_of u.counts) d y)))
+        by (inl y) = absurd (found.1 d (omega arith) less
+            (ready_was d less (ready_true u.plan (count_of u.counts) d y)))
 
     -- so the lowest is found from the core on
-    pub lowest_still : lowest u.plan (count_of u.counts) c (length u.plan.totals - c) ≡ lowest_ready u.plan (count_of u.counts)
+    pub lowest_still : lowest u.plan (count_of u.counts) c (length u.plan.totals - c)
+        ≡ lowest_ready u.plan (count_of u.counts)
     lowest_still =
         let e = ap (λ (q : Plan). length q.totals) plan_is in
         let a : 0 + c ≡ c = omega arith in

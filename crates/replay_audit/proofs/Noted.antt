@@ -1,5 +1,6 @@
 -- The loads that a play notes are its accesses.
-use Rattle.std.proofs.Common.{inl, inr, ◌≡◌, ◌⊎◌, ℕ, zero, suc, ◌+◌, ◌<◌, ◌≤◌, true, false, Bool, cond, List, [], ◌∷◌, ◌++◌, length, replicate, sym, refl, ap}
+use Rattle.std.proofs.Common.{inl, inr, ◌≡◌, ◌⊎◌, ℕ, zero, suc, ◌+◌, ◌<◌, ◌≤◌, true, false, Bool, cond, List, [], ◌∷◌}
+use Rattle.std.proofs.Common.{◌++◌, length, replicate, sym, refl, ap}
 use Rattle.std.proofs.Common.{◌∙◌, subst, arith, get_or-set_same}
 use Rattle.std.specs.Prelude.{slice_index_or, slice_set, Some, None}
 use Rattle.std.specs.List.{Contains}
@@ -13,7 +14,8 @@ use Rattle.conflict_edge.specs.Conflicts.{StandsIn}
 use Rattle.rv_core.specs.declared.outcome.LoadNote.{LoadNote}
 use Rattle.rv_core.specs.declared.outcome.Outcome.{Outcome}
 use Rattle.replay_core.specs.Plans.{Plan, plan_of}
-use Rattle.replay_core.specs.Play.{Use, loads_after, accesses_by, core_at, loads_at, instr, old_at, new_at, place, touched, start, play, accesses_from, played}
+use Rattle.replay_core.specs.Play.{Use, loads_after, accesses_by, core_at, loads_at, instr, old_at, new_at, place}
+use Rattle.replay_core.specs.Play.{touched, start, play, accesses_from, played}
 use Rattle.replay_core.specs.Play.{accesses_of}
 use Rattle.replay_core.proofs.Places.{place_law}
 use Rattle.replay_audit.specs.Laws.{OneLoadLaw}
@@ -37,7 +39,8 @@ only m n (suc k, below, is) = absurd (omega arith)
 none-in : (n : LoadNote) → Contains [] n → ⊥
 none-in n (k, below, is) = absurd (omega arith)
 
-told_of : (used : Use) (i count value after : ℕ) (old : List LoadNote) (n : LoadNote) → Contains (loads_after used old count value) n → Contains old n
+told_of : (used : Use) (i count value after : ℕ) (old : List LoadNote) (n : LoadNote) →
+    Contains (loads_after used old count value) n → Contains old n
     ⊎ TellsOf (accesses_by used (instr i count) value after) i n
 told_of None i count value after old n c = inl c
 told_of (Some used) i count value after old n c = by (is_read used.0) c
@@ -64,7 +67,8 @@ told_of (Some used) i count value after old n c = by (is_read used.0) c
     by true h = new (Contains-append_cases old (note ∷ []) n h)
     by false h = inl h
 
-one_place : (p : Plan) (s : Outcome) (c i : ℕ) (n : LoadNote) → Contains (loads_at (place p s c) i) n → Contains (loads_at s i) n ⊎ TellsOf (touched p s c) i n
+one_place : (p : Plan) (s : Outcome) (c i : ℕ) (n : LoadNote) → Contains (loads_at (place p s c) i) n →
+    Contains (loads_at s i) n ⊎ TellsOf (touched p s c) i n
 one_place p s c i n h = elim (ℕ_discrete i c) [
   | yes e ↦
       let g = here (subst (λ (x : ℕ). Contains (loads_at (place p s c) x) n) e h) (cases_lt c (length s.loads)) in
@@ -82,13 +86,16 @@ one_place p s c i n h = elim (ℕ_discrete i c) [
     there h = subst (λ (l : List Access). Contains (loads_at s c) n ⊎ TellsOf l c n) (sym (touched_is p s c))
         (told_of (use_at p s c) c ((core_at s c).count + 1) (old_at p s c) (new_at p s c) (loads_at s c) n h)
 
-    here : Contains (loads_at (place p s c) c) n → (c < length s.loads) ⊎ (length s.loads ≤ c) → Contains (loads_at s c) n ⊎ TellsOf (touched p s c) c n
+    here : Contains (loads_at (place p s c) c) n → (c < length s.loads) ⊎ (length s.loads ≤ c) →
+        Contains (loads_at s c) n ⊎ TellsOf (touched p s c) c n
     here h (inl lt) = there (subst (λ (l : List LoadNote). Contains l n) (is ∙ get_or-set_same s.loads c new [] lt) h)
     here h (inr le) =
         let all = (place_law p s c).all_loads in
-        absurd (none-in n (subst (λ (l : List LoadNote). Contains l n) (get_or_past (place p s c).loads c [] (omega arith)) h))
+        absurd (none-in n (subst (λ (l : List LoadNote). Contains l n)
+        (get_or_past (place p s c).loads c [] (omega arith)) h))
 
-pub notes_tell : (p : Plan) (s : Outcome) (order : List ℕ) (i : ℕ) (n : LoadNote) → Contains (loads_at (play p s order) i) n → Contains (loads_at s i) n
+pub notes_tell : (p : Plan) (s : Outcome) (order : List ℕ) (i : ℕ) (n : LoadNote) →
+    Contains (loads_at (play p s order) i) n → Contains (loads_at s i) n
     ⊎ TellsOf (accesses_from p s order) i n
 notes_tell p s [] i n h = inl h
 notes_tell p s (c ∷ cs) i n h = by (notes_tell p (place p s c) cs i n h)
@@ -104,7 +111,8 @@ notes_tell p s (c ∷ cs) i n h = by (notes_tell p (place p s c) cs i n h)
       value = t.value;
     })
 
-    by : Contains (loads_at (place p s c) i) n ⊎ TellsOf (accesses_from p (place p s c) cs) i n → Contains (loads_at s i) n
+    by : Contains (loads_at (place p s c) i) n ⊎ TellsOf (accesses_from p (place p s c) cs) i n →
+        Contains (loads_at s i) n
         ⊎ TellsOf (touched p s c ++ accesses_from p (place p s c) cs) i n
     by (inl q) = first (one_place p s c i n q)
     by (inr t) = inr (record {
@@ -124,7 +132,8 @@ empties (suc n) zero = refl
 empties (suc n) (suc i) = empties n i
 
 -- from the start each note tells of an access
-pub note_tells : (p : Plan) (order : List ℕ) (i : ℕ) (n : LoadNote) → Contains (loads_at (played p order) i) n → TellsOf (accesses_of p order) i n
+pub note_tells : (p : Plan) (order : List ℕ) (i : ℕ) (n : LoadNote) → Contains (loads_at (played p order) i) n →
+    TellsOf (accesses_of p order) i n
 note_tells p order i n h = by (notes_tell p (start p) order i n h)
   where
     by : Contains (loads_at (start p) i) n ⊎ TellsOf (accesses_of p order) i n → TellsOf (accesses_of p order) i n
@@ -142,4 +151,5 @@ one_load_law which r whole order other c m n h hm hn e =
     (a.at ∙ ap (λ (k : ℕ). instr c k) e ∙ sym b.at) in
     let word : m.word ≡ n.word = sym a.word ∙ ap (λ (x : Access). x.word) same ∙ b.word in
     let value : m.value ≡ n.value = sym a.value ∙ ap (λ (x : Access). x.before) same ∙ b.value in
-    ap (λ (k : ℕ). note_of k m.word m.value) e ∙ ap (λ (k : ℕ). note_of n.count k m.value) word ∙ ap (λ (k : ℕ). note_of n.count n.word k) value
+    ap (λ (k : ℕ). note_of k m.word m.value) e ∙ ap (λ (k : ℕ). note_of n.count k m.value) word
+    ∙ ap (λ (k : ℕ). note_of n.count n.word k) value

@@ -40,9 +40,11 @@ pairs_left (a ∷ xs) ys x y (inl p) = inl (p.0, p.1, stands_left xs ys p.1 p.2,
 pairs_left (a ∷ xs) ys x y (inr p) = inr (pairs_left xs ys x y p)
 
 -- one of the first list and one of the second, in conflict
-pub pairs_across : (xs ys : List Access) (a b : Access) → StandsIn xs a → StandsIn ys b → Conflicts a b → ConflictPair (xs ++ ys) a.at b.at
+pub pairs_across : (xs ys : List Access) (a b : Access) → StandsIn xs a → StandsIn ys b → Conflicts a b →
+    ConflictPair (xs ++ ys) a.at b.at
 pairs_across [] ys a b s t k = absurd s
-pairs_across (x ∷ xs) ys a b (inl e) t k = inl (ap (λ (z : Access). z.at) e, b, stands_right xs ys b t, refl, subst (λ (z : Access). Conflicts z b) (sym e) k)
+pairs_across (x ∷ xs) ys a b (inl e) t k =
+    inl (ap (λ (z : Access). z.at) e, b, stands_right xs ys b t, refl, subst (λ (z : Access). Conflicts z b) (sym e) k)
 pairs_across (x ∷ xs) ys a b (inr s) t k = inr (pairs_across xs ys a b s t k)
 
 pub parts_swap : (one two rest : List Access) → Parts (two ++ (one ++ rest)) (one ++ (two ++ rest))
@@ -72,7 +74,8 @@ pairs_which (a ∷ xs) ys x y (inr p) = by (pairs_which xs ys x y p)
     by (both_right q) = both_right q
     by (across b c s t e f k) = across b c (inr s) t e f k
 
-pub pairs_across_at : (xs ys : List Access) (a b : Access) (x y : Instr) → StandsIn xs a → StandsIn ys b → a.at ≡ x → b.at ≡ y → Conflicts a b →
+pub pairs_across_at : (xs ys : List Access) (a b : Access) (x y : Instr) → StandsIn xs a → StandsIn ys b → a.at ≡ x →
+    b.at ≡ y → Conflicts a b →
     ConflictPair (xs ++ ys) x y
 pairs_across_at xs ys a b x y s t e f k = subst (λ (z : Instr). ConflictPair (xs ++ ys) z y) e
     (subst (λ (z : Instr). ConflictPair (xs ++ ys) a.at z) f (pairs_across xs ys a b s t k))
@@ -87,7 +90,8 @@ pairs_swap one two rest free x y p = first (pairs_which two (one ++ rest) x y p)
     second (both_right q) = pairs_right one (two ++ rest) x y (pairs_right two rest x y q)
     second (across a b s t e f k) = pairs_across_at one (two ++ rest) a b x y s (stands_right two rest b t) e f k
 
-    crossing : (a b : Access) → StandsIn two a → StandsIn one b ⊎ StandsIn rest b → a.at ≡ x → b.at ≡ y → Conflicts a b →
+    crossing : (a b : Access) → StandsIn two a → StandsIn one b ⊎ StandsIn rest b → a.at ≡ x → b.at ≡ y →
+        Conflicts a b →
         ConflictPair (one ++ (two ++ rest)) x y
     crossing a b s (inl t) e f k = absurd (free b a t s k)
     crossing a b s (inr t) e f k = pairs_right one (two ++ rest) x y (pairs_across_at two rest a b x y s t e f k)

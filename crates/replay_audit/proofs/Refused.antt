@@ -20,13 +20,17 @@ stands_in_mid : (xs : List Access) (e : Access) (ys : List Access) → StandsIn 
 stands_in_mid [] e ys = inl refl
 stands_in_mid (x ∷ xs) e ys = inr (stands_in_mid xs e ys)
 
-pub unordered_pair : (edges : List Edge) (list : List Access) (x y : Instr) → IsUnordered edges list x y → Suffices list (Among edges) → ⊥
+pub unordered_pair : (edges : List Edge) (list : List Access) (x y : Instr) → IsUnordered edges list x y →
+    Suffices list (Among edges) → ⊥
 unordered_pair edges list x y h suf =
     let f = h.partner in
-    let earlier : StandsIn h.front f.earlier = subst (λ (l : List Access). StandsIn l f.earlier) (sym f.split) (stands_in_mid f.older f.earlier f.newer) in
-    let pair : ConflictPair (h.front ++ h.later ∷ h.rest) f.earlier.at h.later.at = pairs_across h.front (h.later ∷ h.rest) f.earlier h.later earlier
+    let earlier : StandsIn h.front f.earlier =
+    subst (λ (l : List Access). StandsIn l f.earlier) (sym f.split) (stands_in_mid f.older f.earlier f.newer) in
+    let pair : ConflictPair (h.front ++ h.later ∷ h.rest) f.earlier.at h.later.at =
+    pairs_across h.front (h.later ∷ h.rest) f.earlier h.later earlier
     (inl refl) f.conflict in
-    f.unordered (suf f.earlier.at h.later.at (subst (λ (l : List Access). ConflictPair l f.earlier.at h.later.at) (sym h.split) pair))
+    f.unordered (suf f.earlier.at h.later.at
+    (subst (λ (l : List Access). ConflictPair l f.earlier.at h.later.at) (sym h.split) pair))
 
 none_some : (o : Option (ℕ × ℕ)) (x : ℕ × ℕ) → o ≡ None → o ≡ Some x → ⊥
 none_some o x e f = cc

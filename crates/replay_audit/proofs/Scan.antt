@@ -8,7 +8,8 @@ use Rattle.conflict_edge.specs.Conflicts.{StandsIn}
 use Rattle.conflict_edge.proofs.Standing.{stands_which}
 use Rattle.replay_audit.specs.Unordered.{is_open, AreCovered, IsLatest}
 
-covered_snoc : (l : List Access) (a x : Access) (k : List ℕ) → AreCovered l a k → is_open x a k ≡ false → AreCovered (l ++ x ∷ []) a k
+covered_snoc : (l : List Access) (a x : Access) (k : List ℕ) → AreCovered l a k → is_open x a k ≡ false →
+    AreCovered (l ++ x ∷ []) a k
 covered_snoc l a x k h t b s = by (stands_which l (x ∷ []) b s)
   where
     by : StandsIn l b ⊎ StandsIn (x ∷ []) b → is_open b a k ≡ false
@@ -16,7 +17,8 @@ covered_snoc l a x k h t b s = by (stands_which l (x ∷ []) b s)
     by (inr (inl e)) = subst (λ (z : Access). is_open z a k ≡ false) e t
     by (inr (inr q)) = absurd q
 
-pub latest_skip : (l : List Access) (a x : Access) (k : List ℕ) (found : Option Instr) → IsLatest l a k found → is_open x a k ≡ false →
+pub latest_skip : (l : List Access) (a x : Access) (k : List ℕ) (found : Option Instr) → IsLatest l a k found →
+    is_open x a k ≡ false →
     IsLatest (l ++ x ∷ []) a k found
 latest_skip l a x k None h t = covered_snoc l a x k h t
 latest_skip l a x k (Some y) h t = record {
@@ -29,5 +31,15 @@ latest_skip l a x k (Some y) h t = record {
   latest = covered_snoc h.newer a x k h.latest t;
 }
 
-pub latest_found : (l : List Access) (a x : Access) (k : List ℕ) → is_open x a k ≡ true → IsLatest (l ++ x ∷ []) a k (Some x.at)
-latest_found l a x k t = record { older = l; earlier = x; newer = []; split = refl; at = refl; is_left = t; latest = λ b s. absurd s }
+pub latest_found : (l : List Access) (a x : Access) (k : List ℕ) → is_open x a k ≡ true →
+    IsLatest (l ++ x ∷ []) a k (Some x.at)
+latest_found l a x k t = record {
+  older = l;
+  earlier = x;
+  newer = [];
+  split = refl;
+  at = refl;
+  is_left = t;
+  latest =
+      λ b s. absurd s;
+}

@@ -9,7 +9,8 @@ use Rattle.conflict_edge.proofs.Standing.{one_first}
 use Rattle.rv_core.specs.declared.outcome.Outcome.{Outcome}
 use Rattle.std.specs.Prelude.{Some, None}
 use Rattle.replay_core.specs.Plans.{Plan, plan_of}
-use Rattle.replay_core.specs.Play.{Use, instr, core_at, old_at, new_at, accesses_by, place, touched, start, accesses_from, accesses_of}
+use Rattle.replay_core.specs.Play.{Use, instr, core_at, old_at, new_at, accesses_by, place, touched, start}
+use Rattle.replay_core.specs.Play.{accesses_from, accesses_of}
 use Rattle.replay_core.specs.Orders.{bump, nought, Ordered}
 use Rattle.replay_core.proofs.Counts.{bump_more}
 use Rattle.replay_audit.specs.Determinate.{IsDeterminate}
@@ -43,7 +44,8 @@ no_way_back p (c ∷ cs) s f x y t o q b = by (pairs_which (touched p s c) (acce
         let at_core : x.core ≡ c = ap (λ (z : Instr). z.core) n in
         let at_count : x.count ≡ f c + 1 = ap (λ (z : Instr). z.count) n ∙ ap (λ (m : ℕ). m + 1) (counted p s f c t) in
         let le : y.count ≤ f y.core = ready_before p f c y x t.closed o.0 at_core at_count b in
-        let up : bump f c d.at.core < d.at.count = (rises p (bump f c) (place p s c) cs (tame_place p s f c t o.0).known o.1).above d u in
+        let up : bump f c d.at.core < d.at.count =
+        (rises p (bump f c) (place p s c) cs (tame_place p s f c t o.0).known o.1).above d u in
         let there : bump f c y.core < y.count = subst (λ (z : Instr). bump f c z.core < z.count) g up in
         let more = bump_more f c y.core in
         omega arith
@@ -57,7 +59,8 @@ settled_law which r order valid play = (forth, back)
     forth : IsDeterminate which r → IsSettled p.edges (accesses_of p order)
     forth det a b s t k = by (one_first (accesses_of p order) a b s t k)
       where
-        by : ConflictPair (accesses_of p order) a.at b.at ⊎ ConflictPair (accesses_of p order) b.at a.at → Before (Among p.edges) a.at b.at
+        by : ConflictPair (accesses_of p order) a.at b.at ⊎ ConflictPair (accesses_of p order) b.at a.at →
+            Before (Among p.edges) a.at b.at
             ⊎ Before (Among p.edges) b.at a.at
         by (inl q) = inl (((any_whole_law which r order valid play.ordered play.whole).0 det).suffices a.at b.at q)
         by (inr q) = inr (((any_whole_law which r order valid play.ordered play.whole).0 det).suffices b.at a.at q)
@@ -65,12 +68,16 @@ settled_law which r order valid play = (forth, back)
     suffices : IsSettled p.edges (accesses_of p order) → Suffices (accesses_of p order) (Among p.edges)
     suffices settled x y q =
         let e = ends (accesses_of p order) x y q in
-        by e.first.at e.second.at e.first_at e.second_at (settled e.first e.second e.first_stands e.second_stands e.conflict)
+        by e.first.at e.second.at e.first_at e.second_at
+        (settled e.first e.second e.first_stands e.second_stands e.conflict)
       where
-        by : (u v : Instr) → u ≡ x → v ≡ y → Before (Among p.edges) u v ⊎ Before (Among p.edges) v u → Before (Among p.edges) x y
-        by u v e g (inl b) = subst (λ (z : Instr). Before (Among p.edges) z y) e (subst (λ (z : Instr). Before (Among p.edges) u z) g b)
+        by : (u v : Instr) → u ≡ x → v ≡ y → Before (Among p.edges) u v ⊎ Before (Among p.edges) v u →
+            Before (Among p.edges) x y
+        by u v e g (inl b) = subst (λ (z : Instr). Before (Among p.edges) z y) e
+            (subst (λ (z : Instr). Before (Among p.edges) u z) g b)
         by u v e g (inr b) = absurd (no_way_back p order (start p) nought x y (tame_start which r valid) play.ordered q
-            (subst (λ (z : Instr). Before (Among p.edges) z x) g (subst (λ (z : Instr). Before (Among p.edges) v z) e b)))
+            (subst (λ (z : Instr). Before (Among p.edges) z x) g
+            (subst (λ (z : Instr). Before (Among p.edges) v z) e b)))
 
     back : IsSettled p.edges (accesses_of p order) → IsDeterminate which r
     back settled = (any_whole_law which r order valid play.ordered play.whole).1

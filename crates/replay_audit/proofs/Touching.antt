@@ -1,5 +1,6 @@
 -- A judgement along the low order.
-use Rattle.std.proofs.Common.{inl, inr, ◌≡◌, ◌⊎◌, ℕ, ◌+◌, ◌<◌, ◌≤◌, List, [], ◌∷◌, ◌++◌, length, get_or, refl, sym, ap, ◌∙◌, subst, arith}
+use Rattle.std.proofs.Common.{inl, inr, ◌≡◌, ◌⊎◌, ℕ, ◌+◌, ◌<◌, ◌≤◌, List, [], ◌∷◌, ◌++◌, length, get_or, refl, sym, ap}
+use Rattle.std.proofs.Common.{◌∙◌, subst, arith}
 use Rattle.std.proofs.Common.{append-nil}
 use Rattle.std.specs.Prelude.{slice_index, slice_set, Option, Some, None, IfSome}
 use Rattle.std.specs.List.{Contains}
@@ -47,27 +48,32 @@ use Rattle.replay_audit.proofs.Tallying.{low_is}
 pub rising_at : (list : List Touch) (d : Touch) → AreRising list → Rising (λ (t : Touch). t.at.count) list d
 rising_at list d h i j lt below = h.each i j d lt below
 
-pub one_at : (list : List Touch) (k count : ℕ) (d t : Touch) → AreRising list → k < length list → (get_or list k d).at.count ≡ count → Contains list t →
+pub one_at : (list : List Touch) (k count : ℕ) (d t : Touch) → AreRising list → k < length list →
+    (get_or list k d).at.count ≡ count → Contains list t →
     t.at.count ≡ count → get_or list k d ≡ t
 one_at list k count d t h lt is (j, below, at) same =
     let there : get_or list j d ≡ t = get_or_default list j d t below ∙ at in
-    let place = one_place (λ (x : Touch). x.at.count) list d (rising_at list d h) k j lt below (is ∙ sym same ∙ ap (λ (x : Touch). x.at.count) (sym there)) in
+    let place = one_place (λ (x : Touch). x.at.count) list d (rising_at list d h) k j lt below
+    (is ∙ sym same ∙ ap (λ (x : Touch). x.at.count) (sym there)) in
     ap (λ (i : ℕ). get_or list i d) place ∙ there
 
-pub own_list : (touched : List (List Touch)) (item slice : List Touch) (c : ℕ) → c < length touched → item ≡ get_or touched c item → slice ≡ item →
+pub own_list : (touched : List (List Touch)) (item slice : List Touch) (c : ℕ) → c < length touched →
+    item ≡ get_or touched c item → slice ≡ item →
     slice ≡ touches_of touched c
 own_list touched item slice c lt item_is slice_is = slice_is ∙ item_is ∙ get_or_default touched c item [] lt
 
 -- ---- no access is past the counts
 
-pub accesses_below : (p : Plan) (f : ℕ → ℕ) (s : Outcome) (order : List ℕ) (a : Access) → PlayKnown p f s → Ordered p f order →
+pub accesses_below : (p : Plan) (f : ℕ → ℕ) (s : Outcome) (order : List ℕ) (a : Access) → PlayKnown p f s →
+    Ordered p f order →
     StandsIn (accesses_from p s order) a → a.at.count ≤ counts f order a.at.core
 accesses_below p f s [] a known o q = absurd q
 accesses_below p f s (c ∷ cs) a known o q = by (stands_which (touched p s c) (accesses_from p (place p s c) cs) a q)
     (accesses_below p (bump f c) (place p s c) cs a (place_known p f s c known o.0) o.1)
   where
     by : StandsIn (touched p s c) a ⊎ StandsIn (accesses_from p (place p s c) cs) a →
-        (StandsIn (accesses_from p (place p s c) cs) a → a.at.count ≤ counts (bump f c) cs a.at.core) → a.at.count ≤ counts (bump f c) cs a.at.core
+        (StandsIn (accesses_from p (place p s c) cs) a → a.at.count ≤ counts (bump f c) cs a.at.core) →
+        a.at.count ≤ counts (bump f c) cs a.at.core
     by (inr t) go = go t
     by (inl t) go =
         let at = touched_at p s c a t in
@@ -81,20 +87,25 @@ accesses_below p f s (c ∷ cs) a known o q = by (stands_which (touched p s c) (
 
 -- ---- the accesses that were laid along the low order so far
 
-pub record Laid (which : Which) (r : Recording) (touched : List (List Touch)) (order : List ℕ) (list : List Access) : Type 0 where
+pub record Laid (which : Which) (r : Recording) (touched : List (List Touch)) (order : List ℕ) (list : List Access)
+    : Type 0 where
   pub below : (a : Access) → StandsIn list a → a.at.count ≤ counts nought order a.at.core
-  pub from : (a : Access) → StandsIn list a → (t : Touch) × Contains (touches_of touched a.at.core) t × (a ≡ as_access t)
-  pub has : (c : ℕ) (t : Touch) → 1 ≤ t.at.count → t.at.count ≤ counts nought order c → Contains (touches_of touched c) t → StandsIn list (as_access t)
+  pub from : (a : Access) → StandsIn list a → (t : Touch) × Contains (touches_of touched a.at.core) t ×
+      (a ≡ as_access t)
+  pub has : (c : ℕ) (t : Touch) → 1 ≤ t.at.count → t.at.count ≤ counts nought order c →
+      Contains (touches_of touched c) t → StandsIn list (as_access t)
   pub never : NeverBack (log_edges which r) list
   pub closed : Closed (log_edges which r) (counts nought order)
 
 -- the tally and the trail have come along a front of the low order, at which these accesses were laid
-pub record Judged (which : Which) (r : Recording) (touched : List (List Touch)) (order : List ℕ) (t : Tallied) (s : Trailed) : Type 0 where
+pub record Judged (which : Which) (r : Recording) (touched : List (List Touch)) (order : List ℕ) (t : Tallied)
+    (s : Trailed) : Type 0 where
   pub list : List Access
   pub followed : Followed which r order list t s
   pub laid : Laid which r touched order list
 
-pub judged_start : (which : Which) (r : Recording) (touched : List (List Touch)) (cores : ℕ) (t : Tallied) (s : Trailed) → Valid r →
+pub judged_start : (which : Which) (r : Recording) (touched : List (List Touch)) (cores : ℕ) (t : Tallied)
+    (s : Trailed) → Valid r →
     IsFresh r (plan_of which r) cores t s → Judged which r touched [] t s
 judged_start which r touched cores t s valid fresh = record {
   list = [];
@@ -118,7 +129,8 @@ rise_more (x ∷ list) a rise pos lt = (rise.0, later, rise_more list a rise.2 p
       where
         by : StandsIn list b ⊎ StandsIn (a ∷ []) b → x.at.count < b.at.count
         by (inl s) = rise.1 b s e
-        by (inr (inl s)) = subst (λ (z : Access). x.at.count < z.at.count) s (lt x (inl refl) (e ∙ ap (λ (z : Access). z.at.core) (sym s)))
+        by (inr (inl s)) = subst (λ (z : Access). x.at.count < z.at.count) s
+            (lt x (inl refl) (e ∙ ap (λ (z : Access). z.at.core) (sym s)))
         by (inr (inr s)) = absurd s
 
 -- what is found at the next place
@@ -126,12 +138,15 @@ pub record IsFoundAt (touched : List (List Touch)) (c n : ℕ) (access : Option 
   pub found : IfSome access (IsAccessOf (touches_of touched c) n)
   pub only : (t : Touch) → Contains (touches_of touched c) t → t.at.count ≡ n → access ≡ Some (as_access t)
 
-module _ (which : Which) (r : Recording) (valid : Valid r) (touched : List (List Touch)) (played : ArePlayed which r touched) (order : List ℕ)
-    (list : List Access) (laid : Laid which r touched order list) (c : ℕ) (ready : Ready (plan_of which r) (counts nought order) c) where
+module _ (which : Which) (r : Recording) (valid : Valid r) (touched : List (List Touch))
+    (played : ArePlayed which r touched) (order : List ℕ)
+    (list : List Access) (laid : Laid which r touched order list) (c : ℕ)
+    (ready : Ready (plan_of which r) (counts nought order) c) where
   at_core : (t : Touch) → Contains (touches_of touched c) t → t.at.core ≡ c
   at_core t h = let a = played.touches.back c t h in ap (λ (x : Touch). x.at.core) (sym a.2) ∙ a.3
 
-  pub told_at : (access : Option Access) (n : ℕ) → n ≡ counts nought order c + 1 → IsFoundAt touched c n access → (a : Access) → StandsIn (told access) a →
+  pub told_at : (access : Option Access) (n : ℕ) → n ≡ counts nought order c + 1 → IsFoundAt touched c n access →
+      (a : Access) → StandsIn (told access) a →
       a.at ≡ instr c (counts nought order c + 1)
   told_at None n n_is h a q = absurd q
   told_at (Some b) n n_is h a (inr q) = absurd q
@@ -150,23 +165,27 @@ module _ (which : Which) (r : Recording) (valid : Valid r) (touched : List (List
   next_count = ap (λ (g : ℕ → ℕ). g c) bumped ∙ bump_here (counts nought order) c
 
   closed_on : Closed (log_edges which r) (counts nought (order ++ c ∷ []))
-  closed_on = subst (λ (g : ℕ → ℕ). Closed (log_edges which r) g) (sym bumped) (closed_bump (plan_of which r) (counts nought order) c ready laid.closed)
+  closed_on = subst (λ (g : ℕ → ℕ). Closed (log_edges which r) g) (sym bumped)
+      (closed_bump (plan_of which r) (counts nought order) c ready laid.closed)
 
   -- the touches of core c within the counts were laid before, or are the next
-  next_or : (t : Touch) → t.at.count ≤ counts nought (order ++ c ∷ []) c → (t.at.count ≤ counts nought order c) ⊎ (t.at.count ≡ counts nought order c + 1)
+  next_or : (t : Touch) → t.at.count ≤ counts nought (order ++ c ∷ []) c →
+      (t.at.count ≤ counts nought order c) ⊎ (t.at.count ≡ counts nought order c + 1)
   next_or t le = by t.at.count (counts nought order c) (let e = next_count in omega arith)
     where
       by : (m n : ℕ) → m ≤ n + 1 → (m ≤ n) ⊎ (m ≡ n + 1)
       by m n h = grind arith
 
-  pub rise_told : (access : Option Access) → CountsRise list → ((a : Access) → StandsIn (told access) a → a.at ≡ instr c (counts nought order c + 1)) →
+  pub rise_told : (access : Option Access) → CountsRise list →
+      ((a : Access) → StandsIn (told access) a → a.at ≡ instr c (counts nought order c + 1)) →
       CountsRise (list ++ told access)
   rise_told None rise at = subst CountsRise (sym (append-nil list)) rise
   rise_told (Some a) rise at =
       let here : a.at ≡ instr c (counts nought order c + 1) = at a (inl refl) in
       let core : a.at.core ≡ c = ap (λ (x : Instr). x.core) here in
       let count : a.at.count ≡ counts nought order c + 1 = ap (λ (x : Instr). x.count) here in
-      rise_more list a rise (omega arith) (λ b q e. let le = laid.below b q in let g = ap (counts nought order) (e ∙ core) in omega arith)
+      rise_more list a rise (omega arith)
+      (λ b q e. let le = laid.below b q in let g = ap (counts nought order) (e ∙ core) in omega arith)
 
   pub laid_on : (access : Option Access) (n : ℕ) → n ≡ counts nought order c + 1 → IsFoundAt touched c n access →
       Laid which r touched (order ++ c ∷ []) (list ++ told access)
@@ -181,34 +200,43 @@ module _ (which : Which) (r : Recording) (valid : Valid r) (touched : List (List
       at : (a : Access) → StandsIn (told access) a → a.at ≡ instr c (counts nought order c + 1)
       at = told_at access n n_is h
 
-      below : (a : Access) → StandsIn list a ⊎ StandsIn (told access) a → a.at.count ≤ counts nought (order ++ c ∷ []) a.at.core
+      below : (a : Access) → StandsIn list a ⊎ StandsIn (told access) a →
+          a.at.count ≤ counts nought (order ++ c ∷ []) a.at.core
       below a (inl q) = let le = laid.below a q in let m = more a.at.core in omega arith
-      below a (inr q) = subst (λ (x : Instr). x.count ≤ counts nought (order ++ c ∷ []) x.core) (sym (at a q)) (let e = next_count in omega arith)
+      below a (inr q) = subst (λ (x : Instr). x.count ≤ counts nought (order ++ c ∷ []) x.core) (sym (at a q))
+          (let e = next_count in omega arith)
 
-      of_told : (access : Option Access) → IfSome access (IsAccessOf (touches_of touched c) n) → (a : Access) → StandsIn (told access) a → a.at.core ≡ c →
+      of_told : (access : Option Access) → IfSome access (IsAccessOf (touches_of touched c) n) → (a : Access) →
+          StandsIn (told access) a → a.at.core ≡ c →
           (t : Touch) × Contains (touches_of touched a.at.core) t × (a ≡ as_access t)
       of_told None f a q core = absurd q
       of_told (Some b) f a (inr q) core = absurd q
-      of_told (Some b) f a (inl e) core = (f.0, subst (λ (x : ℕ). Contains (touches_of touched x) f.0) (sym core) f.1, sym e ∙ f.3)
+      of_told (Some b) f a (inl e) core =
+          (f.0, subst (λ (x : ℕ). Contains (touches_of touched x) f.0) (sym core) f.1, sym e ∙ f.3)
 
-      from : (a : Access) → StandsIn list a ⊎ StandsIn (told access) a → (t : Touch) × Contains (touches_of touched a.at.core) t × (a ≡ as_access t)
+      from : (a : Access) → StandsIn list a ⊎ StandsIn (told access) a → (t : Touch) ×
+          Contains (touches_of touched a.at.core) t × (a ≡ as_access t)
       from a (inl q) = laid.from a q
       from a (inr q) = of_told access h.found a q (ap (λ (x : Instr). x.core) (at a q))
 
-      has : (d : ℕ) (t : Touch) → 1 ≤ t.at.count → t.at.count ≤ counts nought (order ++ c ∷ []) d → Contains (touches_of touched d) t → Dec (d ≡ c) →
+      has : (d : ℕ) (t : Touch) → 1 ≤ t.at.count → t.at.count ≤ counts nought (order ++ c ∷ []) d →
+          Contains (touches_of touched d) t → Dec (d ≡ c) →
           StandsIn (list ++ told access) (as_access t)
       has d t pos le there (no ne) =
           let e = ap (λ (g : ℕ → ℕ). g d) bumped in let b = bump_else (counts nought order) c d ne in
           stands_left list (told access) (as_access t) (laid.has d t pos (omega arith) there)
-      has d t pos le there (yes e) = by (next_or t (subst (λ (x : ℕ). t.at.count ≤ counts nought (order ++ c ∷ []) x) e le))
+      has d t pos le there (yes e) =
+          by (next_or t (subst (λ (x : ℕ). t.at.count ≤ counts nought (order ++ c ∷ []) x) e le))
         where
           here : Contains (touches_of touched c) t
           here = subst (λ (x : ℕ). Contains (touches_of touched x) t) e there
 
-          by : (t.at.count ≤ counts nought order c) ⊎ (t.at.count ≡ counts nought order c + 1) → StandsIn (list ++ told access) (as_access t)
+          by : (t.at.count ≤ counts nought order c) ⊎ (t.at.count ≡ counts nought order c + 1) →
+              StandsIn (list ++ told access) (as_access t)
           by (inl old) = stands_left list (told access) (as_access t) (laid.has c t pos old here)
           by (inr next) = stands_right list (told access) (as_access t)
-              (subst (λ (o : Option Access). StandsIn (told o) (as_access t)) (sym (h.only t here (next ∙ sym n_is))) (inl refl))
+              (subst (λ (o : Option Access). StandsIn (told o) (as_access t)) (sym (h.only t here (next ∙ sym n_is)))
+              (inl refl))
 
       single : (access : Option Access) (x y : Instr) → ConflictPair (told access) x y → ⊥
       single None x y q = q
@@ -220,16 +248,21 @@ module _ (which : Which) (r : Recording) (valid : Valid r) (touched : List (List
       never x y (both_right q) b = single access x y q
       never x y (across a d s u e g k) b =
           let y_is : y ≡ instr c (counts nought order c + 1) = sym g ∙ at d u in
-          let within : x.count ≤ counts nought order x.core = subst (λ (z : Instr). z.count ≤ counts nought order z.core) e (laid.below a s) in
-          let le : y.count ≤ counts nought order y.core = leads_back (log_edges which r) (counts nought order) y x laid.closed (inr b) within in
-          let bad : counts nought order c + 1 ≤ counts nought order c = subst (λ (z : Instr). z.count ≤ counts nought order z.core) y_is le in
+          let within : x.count ≤ counts nought order x.core =
+          subst (λ (z : Instr). z.count ≤ counts nought order z.core) e (laid.below a s) in
+          let le : y.count ≤ counts nought order y.core =
+          leads_back (log_edges which r) (counts nought order) y x laid.closed (inr b) within in
+          let bad : counts nought order c + 1 ≤ counts nought order c =
+          subst (λ (z : Instr). z.count ≤ counts nought order z.core) y_is le in
           omega arith
 
 -- ---- one place more
 
-module _ {which : Which} {r : Recording} (valid : Valid r) {touched : List (List Touch)} (played : ArePlayed which r touched) {order : List ℕ} {t : Tallied}
+module _ {which : Which} {r : Recording} (valid : Valid r) {touched : List (List Touch)}
+    (played : ArePlayed which r touched) {order : List ℕ} {t : Tallied}
     {s : Trailed} (j : Judged which r touched order t s) where
-  module _ {c : ℕ} (some : lowest_ready t.plan (count_of t.counts) ≡ Some c) {at : Instr} (at_is : at ≡ instr c (count_of t.counts c + 1)) where
+  module _ {c : ℕ} (some : lowest_ready t.plan (count_of t.counts) ≡ Some c) {at : Instr}
+      (at_is : at ≡ instr c (count_of t.counts c + 1)) where
     ready : Ready (plan_of which r) (counts nought order) c
     ready = ready_next valid j.followed some at_is
 
@@ -256,8 +289,10 @@ module _ {which : Which} {r : Recording} (valid : Valid r) {touched : List (List
       told_there a q = told_next a q ∙ sym next_is
 
       pub judged_on : (u : Tallied) (sources : List ℕ) (cores : ℕ) (v : Trailed) → u.plan ≡ t.plan →
-          u.counts ≡ slice_set t.counts c (count_of t.counts c + 1) → AreSources t.plan.edges (instr c (count_of t.counts c + 1)) sources →
-          cores ≡ length u.plan.totals → Trails s at sources cores access v → Judged which r touched (order ++ c ∷ []) u v
+          u.counts ≡ slice_set t.counts c (count_of t.counts c + 1) →
+          AreSources t.plan.edges (instr c (count_of t.counts c + 1)) sources →
+          cores ≡ length u.plan.totals → Trails s at sources cores access v →
+          Judged which r touched (order ++ c ∷ []) u v
       judged_on u sources cores v kept counts_is are cores_is trails = record {
         list = j.list ++ told access;
         followed = followed_on valid j.followed some at_is access told_there
@@ -267,17 +302,21 @@ module _ {which : Which} {r : Recording} (valid : Valid r) {touched : List (List
       }
 
   -- ---- the verdict
-  module _ (none : lowest_ready t.plan (count_of t.counts) ≡ None) (whole : IsWhole (plan_of which r) (low_order (plan_of which r))) where
+  module _ (none : lowest_ready t.plan (count_of t.counts) ≡ None)
+      (whole : IsWhole (plan_of which r) (low_order (plan_of which r))) where
     full : (c : ℕ) → c < length r.totals → counts nought order c ≡ slice_index r.totals c
-    full c lt = ap (λ (l : List ℕ). counts nought l c) (sym (low_is (plan_of which r) order t j.followed.counted none)) ∙ whole.each c lt
+    full c lt = ap (λ (l : List ℕ). counts nought l c) (sym (low_is (plan_of which r) order t j.followed.counted none))
+        ∙ whole.each c lt
 
     alike : AreAlike (accesses_of (plan_of which r) played.order) j.list
     alike = record { forth = forth; back = back }
       where
-        forth : (a : Access) → StandsIn (accesses_of (plan_of which r) played.order) a → (b : Access) × StandsIn j.list b × IsAlike a b
+        forth : (a : Access) → StandsIn (accesses_of (plan_of which r) played.order) a → (b : Access) ×
+            StandsIn j.list b × IsAlike a b
         forth a q =
             let inside = accesses_within which r played.order played.play.ordered a q in
-            let known = rises (plan_of which r) nought (start (plan_of which r)) played.order (start_known (plan_of which r)) played.play.ordered in
+            let known = rises (plan_of which r) nought (start (plan_of which r)) played.order
+            (start_known (plan_of which r)) played.play.ordered in
             let above = known.above a q in
             let below = accesses_below (plan_of which r) nought (start (plan_of which r)) played.order a
             (start_known (plan_of which r)) played.play.ordered q in
@@ -288,25 +327,44 @@ module _ {which : Which} {r : Recording} (valid : Valid r) {touched : List (List
               record { at = refl; word = refl; kind = refl },
             )
 
-        back : (b : Access) → StandsIn j.list b → (a : Access) × StandsIn (accesses_of (plan_of which r) played.order) a × IsAlike a b
+        back : (b : Access) → StandsIn j.list b → (a : Access) ×
+            StandsIn (accesses_of (plan_of which r) played.order) a × IsAlike a b
         back b q =
             let f = j.laid.from b q in
             let a = played.touches.back b.at.core f.0 f.1 in
-            let same : as_access (as_touch a.0) ≡ b = ap as_access a.2 ∙ sym f.2 in
-            (a.0, a.1, record { at = ap (λ (x : Access). x.at) same; word = ap (λ (x : Access). x.word) same; kind = ap (λ (x : Access). x.kind) same })
+            let same : as_access (as_touch a.0) ≡ b = ap as_access a.2 ∙ sym f.2 in (
+              a.0,
+              a.1,
+              record {
+                at = ap (λ (x : Access). x.at) same;
+                word = ap (λ (x : Access). x.word) same;
+                kind =
+                    ap (λ (x : Access). x.kind) same;
+              },
+            )
 
     finding : IsFinding (log_edges which r) j.list s.found
-    finding = j.followed.trail.finding (acyclic_law which r (low_order (plan_of which r)) valid (low_ordered (plan_of which r)) whole)
+    finding = j.followed.trail.finding
+        (acyclic_law which r (low_order (plan_of which r)) valid (low_ordered (plan_of which r)) whole)
 
-    decides : (IsDeterminate which r → Suffices j.list (Among (log_edges which r))) × (Suffices j.list (Among (log_edges which r)) → IsDeterminate which r)
+    decides : (IsDeterminate which r → Suffices j.list (Among (log_edges which r))) ×
+        (Suffices j.list (Among (log_edges which r)) → IsDeterminate which r)
     decides =
-        let law = judge_law which r played.order j.list valid played.play alike in
-        (λ det. settled_suffices (log_edges which r) j.list j.laid.never (law.0 det), λ suf. law.1 (suffices_settled (log_edges which r) j.list suf))
+        let law = judge_law which r played.order j.list valid played.play alike in (
+          λ det. settled_suffices (log_edges which r) j.list j.laid.never (law.0 det),
+          λ suf. law.1 (suffices_settled (log_edges which r) j.list suf),
+        )
 
-    pub verdict : (found : Option Unordered) → found ≡ s.found → (found ≡ None → IsDeterminate which r) × (IsDeterminate which r → found ≡ None)
-    verdict found is = by found (subst (λ (o : Option Unordered). IsFinding (log_edges which r) j.list o) (sym is) finding)
+    pub verdict : (found : Option Unordered) → found ≡ s.found → (found ≡ None → IsDeterminate which r) ×
+        (IsDeterminate which r → found ≡ None)
+    verdict found is = by found
+        (subst (λ (o : Option Unordered). IsFinding (log_edges which r) j.list o) (sym is) finding)
       where
-        by : (found : Option Unordered) → IsFinding (log_edges which r) j.list found → (found ≡ None → IsDeterminate which r)
+        by : (found : Option Unordered) → IsFinding (log_edges which r) j.list found →
+            (found ≡ None → IsDeterminate which r)
             × (IsDeterminate which r → found ≡ None)
         by None f = (λ e. decides.1 f, λ det. refl)
-        by (Some pair) f = (λ e. absurd (cc), λ det. absurd (unordered_pair (log_edges which r) j.list pair.first pair.second f (decides.0 det)))
+        by (Some pair) f = (
+          λ e. absurd (cc),
+          λ det. absurd (unordered_pair (log_edges which r) j.list pair.first pair.second f (decides.0 det)),
+        )

@@ -1,5 +1,9 @@
 -- What an audit answers.
-use Rattle.std.specs.Prelude.{◌≡◌, ℕ, ◌<◌, ◌≤◌, List, length, slice_index, Option, Some, None}
+use Rattle.std.specs.Prelude.{◌≡◌, ℕ, ◌<◌, ◌≤◌, List, [], length, slice_index, replicate, Option, Some, None}
+use Rattle.replay_core.specs.Answers.{UnderWay}
+use Rattle.replay_audit.specs.Marks.{first_mark}
+use Rattle.replay_audit.specs.Tallies.{Tallied}
+use Rattle.replay_audit.specs.Trails.{Trailed}
 use Rattle.rtr_types.specs.declared.instr.Instr.{Instr}
 use Rattle.rtr_types.specs.declared.access.Access.{Access}
 use Rattle.rtr_types.specs.declared.pairs.Which.{Which}
@@ -68,6 +72,18 @@ pub record HasPassed (which : Which) (r : Recording) (outcome : Outcome) (list :
   pub valid : Valid r
   pub passed : Passed which r outcome list
   pub clocks : AreClocksOf which r kept
+
+-- a tally, a replay and a trail at the start of the low order
+pub record Begins (which : Which) (r : Recording) (t : Tallied) (u : UnderWay) (s : Trailed) : Type 0 where
+  pub tally_plan : t.plan ≡ plan_of which r
+  pub counts : t.counts ≡ replicate (length r.totals) 0
+  pub replay_plan : u.plan ≡ plan_of which r
+  pub state : u.state ≡ start (plan_of which r)
+  pub numbers : s.kept.numbers ≡ replicate (length t.plan.totals) []
+  pub clocks : s.kept.clocks ≡ replicate (length t.plan.totals) []
+  pub marks : s.marks ≡ replicate r.params.words first_mark
+  pub accesses : s.accesses ≡ []
+  pub found : s.found ≡ None
 
 -- ---- what is refused
 

@@ -7,15 +7,20 @@ use Rattle.conflict_edge.specs.Least.{Suffices}
 use Rattle.rv_core.specs.declared.outcome.Outcome.{Outcome}
 use Rattle.log_codec.specs.declared.recording.Recording.{Recording}
 use Rattle.replay_core.specs.Plans.{Plan, plan_of}
-use Rattle.replay_core.specs.Play.{Plays, start, played, accesses_of}
+use Rattle.replay_core.specs.Play.{Given, no_values, ValuedPlays, start, played, accesses_of, valued_accesses}
 use Rattle.replay_core.specs.Orders.{IsReplayOrder, IsWhole, low_order}
 
--- the replay order is whole, its play falls short nowhere, and the log orders each two of its accesses that conflict
-pub record Decides (p : Plan) (order : List ℕ) : Type 0 where
+-- the replay order is whole, its play with the given values falls short nowhere, and the log orders each two of its
+-- accesses that conflict
+pub record DecidesValued (given : Given) (p : Plan) (order : List ℕ) : Type 0 where
   pub ordered : IsReplayOrder p order
   pub whole : IsWhole p order
-  pub plays : Plays p (start p) order
-  pub suffices : Suffices (accesses_of p order) (Among p.edges)
+  pub plays : ValuedPlays given p (start p) order
+  pub suffices : Suffices (valued_accesses given p order) (Among p.edges)
+
+-- so without given values
+abbrev pub Decides : Plan → List ℕ → Type 0
+Decides p order = DecidesValued no_values p order
 
 -- the low order of the recording's log
 abbrev pub low_order_of : Which → Recording → List ℕ

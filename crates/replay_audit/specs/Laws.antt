@@ -18,10 +18,12 @@ use Rattle.log_codec.specs.declared.recording.Recording.{Recording}
 use Rattle.log_codec.specs.Sources.{log_edges}
 use Rattle.log_codec.specs.Validity.{Valid}
 use Rattle.replay_core.specs.Plans.{Plan, recorded_image, plan_of}
-use Rattle.replay_core.specs.Play.{Use, use_of, core_at, need_at, loads_at, touched, start, Plays, played, accesses_of}
+use Rattle.replay_core.specs.Play.{Given, no_values, Use, use_of, core_at, need_at, loads_at, touched, start, Plays}
+use Rattle.replay_core.specs.Play.{ValuedPlays}
+use Rattle.replay_core.specs.Play.{played, valued_played, accesses_of, valued_accesses}
 use Rattle.replay_core.specs.Orders.{counts, nought, Sourced, Ready, IsReplayOrder, IsWhole}
 use Rattle.clock_entries.specs.Laws.{IsLog, IsAcyclic}
-use Rattle.replay_audit.specs.Determinate.{Decides, IsDeterminate}
+use Rattle.replay_audit.specs.Determinate.{Decides, DecidesValued, IsDeterminate}
 
 -- ---- logs of recordings
 
@@ -56,20 +58,33 @@ ReplayFitsLaw = (p : Plan) (order : List ℕ) → IsReplayOrder p order → Outc
 -- ---- every order
 
 -- a core can be added, and the longer order plays
+abbrev pub GoesOnValued : Given → Plan → List ℕ → Type 0
+GoesOnValued given p order =
+    (c : ℕ) × Ready p (counts nought order) c × (is_done (need_at p (valued_played given p order) c) ≡ false)
+
 abbrev pub GoesOn : Plan → List ℕ → Type 0
-GoesOn p order = (c : ℕ) × Ready p (counts nought order) c × (is_done (need_at p (played p order) c) ≡ false)
+GoesOn p order = GoesOnValued no_values p order
 
 -- the order agrees with the whole one as far as it goes: it plays, the log orders its conflicts, its accesses are among
 -- those of the whole one, with their values and in the same order where they conflict, each core's loads are a front of
 -- the core's loads there; and it goes on until it is whole, where it ends in the same outcome
-pub record Agrees (p : Plan) (whole order : List ℕ) : Type 0 where
-  pub plays : Plays p (start p) order
-  pub suffices : Suffices (accesses_of p order) (Among p.edges)
-  pub accesses : (a : Access) → StandsIn (accesses_of p order) a → StandsIn (accesses_of p whole) a
-  pub pairs : Within (ConflictPair (accesses_of p order)) (ConflictPair (accesses_of p whole))
-  pub loads : (c : ℕ) → (later : List LoadNote) × (loads_at (played p whole) c ≡ loads_at (played p order) c ++ later)
-  pub further : IsWhole p order ⊎ GoesOn p order
-  pub outcome : IsWhole p order → played p order ≡ played p whole
+pub record AgreesValued (given : Given) (p : Plan) (whole order : List ℕ) : Type 0 where
+  pub plays : ValuedPlays given p (start p) order
+  pub suffices : Suffices (valued_accesses given p order) (Among p.edges)
+  pub accesses : (a : Access) → StandsIn (valued_accesses given p order) a → StandsIn (valued_accesses given p whole) a
+  pub pairs : Within (ConflictPair (valued_accesses given p order)) (ConflictPair (valued_accesses given p whole))
+  pub loads : (c : ℕ) → (later : List LoadNote)
+      × (loads_at (valued_played given p whole) c ≡ loads_at (valued_played given p order) c ++ later)
+  pub further : IsWhole p order ⊎ GoesOnValued given p order
+  pub outcome : IsWhole p order → valued_played given p order ≡ valued_played given p whole
+
+abbrev pub Agrees : Plan → (whole order : List ℕ) → Type 0
+Agrees p whole order = AgreesValued no_values p whole order
+
+-- where some whole order decides with the values that each order is given, every replay order agrees with it
+abbrev pub EveryValuedLaw : Type 0
+EveryValuedLaw = (given : Given) (p : Plan) (whole order : List ℕ) → IsLog p.edges →
+    DecidesValued given p whole → IsReplayOrder p order → AgreesValued given p whole order
 
 -- where some whole order decides, every replay order agrees with it
 abbrev pub EveryOrderLaw : Type 0

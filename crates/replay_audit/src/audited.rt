@@ -1,10 +1,12 @@
 //! The audit of a recording by one of its logs.
-ghost use Rattle.std.specs.Prelude.{◌≡◌, ℕ, MatchResult, slice_index};
+ghost use Rattle.std.specs.Prelude.{◌≡◌, ℕ, MatchResult, length, replicate, slice_index};
 ghost use Rattle.clock_core.specs.Order.{Among};
 ghost use Rattle.clock_core.specs.Reach.{IsClock};
 ghost use Rattle.log_codec.specs.Sources.{log_edges};
 ghost use Rattle.log_codec.specs.Validity.{Valid};
-ghost use Rattle.replay_audit.specs.Audits.{AuditRefuses, HasPassed, IsAuditOf, IsInstrOf, PassesOf};
+ghost use Rattle.replay_core.specs.Plans.{plan_of};
+ghost use Rattle.replay_core.specs.Play.{start};
+ghost use Rattle.replay_audit.specs.Audits.{AuditRefuses, Begins, HasPassed, IsAuditOf, IsInstrOf, PassesOf};
 
 use crate::audit_fault::AuditFault;
 use crate::log_clocks::LogClocks;
@@ -20,11 +22,20 @@ use std::marker::Model;
 
 /// A recording that is determinate by one of its logs, with the outcome and the accesses of the low order,
 /// and with the clocks of its instructions by the log.
-#[derive(Drop)]
 pub struct Audited {
     recording: Recording,
     which: Which,
     pass: Pass,
+}
+
+impl Drop for Audited {
+    fn drop(self) {
+        let Audited {
+            recording: _recording,
+            which: _which,
+            pass: _pass,
+        } = self;
+    }
 }
 
 impl Model for Audited {
@@ -92,8 +103,8 @@ impl Audited {
     {
         let Audited {
             recording,
+            which: _which,
             pass,
-            ..
         } = self;
         let Pass { outcome, .. } = pass;
         (recording, outcome)
@@ -135,32 +146,31 @@ impl Pass {
             (AuditRefuses which recording.now) }
     {
         let mut tally = LowOrder::new(alloc, recording, which)?;
-        let mut replay = Replay::new(alloc, recording, which)?;
+        let replay = Replay::new(alloc, recording, which)?;
+        Pass::along(alloc, recording, which, &mut tally, replay)
+    }
+
+    /// The pass, by a count of the cores and a replay at the start.
+    fn along(
+        alloc: Global,
+        recording: &Recording,
+        which: Which,
+        tally: &mut LowOrder,
+        replay: Replay,
+    ) -> Result<Pass, AuditFault>
+        requires valid { Valid recording.now }
+        requires tally_plan { tally.old.plan ≡ plan_of which recording.now }
+        requires counts { tally.old.counts ≡ replicate (length recording.now.totals) 0 }
+        requires replay_plan { replay.plan ≡ plan_of which recording.now }
+        requires state { replay.state ≡ start (plan_of which recording.now) }
+        ensures { MatchResult result
+            (λ pass. HasPassed which recording.now pass.outcome pass.accesses pass.clocks)
+            (AuditRefuses which recording.now) }
+    {
+        let mut replay = replay;
         let totals = recording.totals.as_slice();
         let mut trail = Trail::new(alloc, tally.cores(), recording.params.words, totals)?;
-        while let Some(core) = tally.lowest() {
-            replay.make_room()?;
-            match replay.advance(core) {
-                Advanced::Short => {
-                    let count = replay.count(core);
-                    return Err(AuditFault::Short { core, count });
-                }
-                Advanced::Retired { access } => {
-                    let next = tally.next(core);
-                    trail.note(&next, tally.cores(), access)?;
-                    tally.advance(core);
-                }
-            }
-        }
-        if !replay.whole() {
-            return Err(AuditFault::Stuck { cut: replay.cut() });
-        }
-        if let Some(pair) = trail.unordered() {
-            return Err(AuditFault::Undetermined {
-                first: pair.first,
-                second: pair.second,
-            });
-        }
+        follow(recording, which, tally, &mut replay, &mut trail)?;
         let (accesses, clocks) = trail.into_parts();
         Ok(Pass {
             outcome: replay.into_outcome(alloc)?,
@@ -168,4 +178,44 @@ impl Pass {
             clocks,
         })
     }
+}
+
+/// Follows the low order from its start as far as it goes, and notes each instruction of it.
+fn follow(
+    recording: &Recording,
+    which: Which,
+    tally: &mut LowOrder,
+    replay: &mut Replay,
+    trail: &mut Trail,
+) -> Result<(), AuditFault>
+    requires valid { Valid recording.now }
+    requires begins { Begins which recording.now tally.old replay.old trail.old }
+    ensures { MatchResult result
+        (λ _. HasPassed which recording.now replay.new.state trail.new.accesses trail.new.kept)
+        (AuditRefuses which recording.now) }
+{
+    while let Some(core) = tally.lowest() {
+        replay.make_room()?;
+        match replay.advance(core) {
+            Advanced::Short => {
+                let count = replay.count(core);
+                return Err(AuditFault::Short { core, count });
+            }
+            Advanced::Retired { access } => {
+                let next = tally.next(core);
+                trail.note(&next, tally.cores(), access)?;
+                tally.advance(core);
+            }
+        }
+    }
+    if !replay.whole() {
+        return Err(AuditFault::Stuck { cut: replay.cut() });
+    }
+    if let Some(pair) = trail.unordered() {
+        return Err(AuditFault::Undetermined {
+            first: pair.first,
+            second: pair.second,
+        });
+    }
+    Ok(())
 }

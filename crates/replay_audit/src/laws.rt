@@ -1,9 +1,9 @@
 //! What holds of every replay order of a recording that is determinate by its log.
 ghost use Rattle.replay_audit.specs.Audits.{RefusedLaw};
 ghost use Rattle.replay_audit.specs.Judges.{JudgeLaw};
-ghost use Rattle.replay_audit.specs.Laws.{AccessesRiseLaw, AcyclicLaw, AnyWholeLaw, EveryOrderLaw, NeverBothLaw};
-ghost use Rattle.replay_audit.specs.Laws.{NeverDueLaw, OneAccessLaw, OneLoadLaw, RecordedLogLaw, ReplayFitsLaw};
-ghost use Rattle.replay_audit.specs.Laws.{SettledLaw};
+ghost use Rattle.replay_audit.specs.Laws.{AccessesRiseLaw, AcyclicLaw, AnyWholeLaw, EveryOrderLaw, EveryValuedLaw};
+ghost use Rattle.replay_audit.specs.Laws.{NeverBothLaw, NeverDueLaw, OneAccessLaw, OneLoadLaw, RecordedLogLaw};
+ghost use Rattle.replay_audit.specs.Laws.{ReplayFitsLaw, SettledLaw};
 
 /// A recording's edges lead between instructions of different cores, and where the log has a whole replay
 /// order it doesn't go round. The counts of a replay order's accesses rise.
@@ -19,9 +19,11 @@ pub fn replays_fit_their_plan()
 {}
 
 /// Where some whole order decides, every replay order plays, has the accesses of that order, and goes on
-/// until it is whole and ends in the same outcome.
+/// until it is whole and ends in the same outcome. So it is too where loads are given values, the same by
+/// each order.
 pub fn every_order_agrees()
     ensures agrees { EveryOrderLaw }
+    ensures valued { EveryValuedLaw }
     ensures one_access { OneAccessLaw }
     ensures one_load { OneLoadLaw }
 {}

@@ -14,8 +14,6 @@ mod marks;
 mod next_edge;
 mod sourced;
 mod tally;
-#[cfg(test)]
-mod tests;
 mod touch;
 mod trail;
 mod unordered;

@@ -21,12 +21,22 @@ use std::marker::Model;
 const ROOM: usize = 1 << 16;
 
 /// What is kept of the instructions and accesses so far.
-#[derive(Drop)]
 pub struct Trail {
     clocks: LogClocks,
     marks: Marks,
     accesses: Items<Access>,
     found: Option<Unordered>,
+}
+
+impl Drop for Trail {
+    fn drop(self) {
+        let Trail {
+            clocks: _clocks,
+            marks: _marks,
+            accesses: _accesses,
+            found: _found,
+        } = self;
+    }
 }
 
 impl Model for Trail {
@@ -92,9 +102,10 @@ impl Trail {
         ensures clocks { result.1 ≡ self.kept }
     {
         let Trail {
-            accesses,
             clocks,
-            ..
+            marks: _marks,
+            accesses,
+            found: _found,
         } = self;
         (accesses, clocks)
     }

@@ -1,5 +1,6 @@
 -- Counts with one more of a core.
-use Rattle.std.proofs.Common.{◌≡◌, ◌≢◌, ℕ, ◌+◌, ◌<◌, ◌≤◌, List, [], ◌∷◌, ◌++◌, eq-eqb, ne_eqb, refl, sym, ap, ◌∙◌, subst, arith}
+use Rattle.std.proofs.Common.{◌≡◌, ◌≢◌, ℕ, ◌+◌, ◌<◌, ◌≤◌, List, [], ◌∷◌, ◌++◌, eq-eqb, ne_eqb, refl, sym, ap, ◌∙◌}
+use Rattle.std.proofs.Common.{subst, arith}
 use native.Mathlib.Decide.{ℕ_discrete}
 use Rattle.replay_core.specs.Orders.{bump, counts}
 use Rattle.replay_core.specs.Laws.{CountsOnLaw, CountsMoreLaw, PlaceOf, PlaceOfLaw, OnePlaceLaw}
@@ -34,7 +35,13 @@ place_of [] f core count above most = absurd (omega arith)
 place_of (c ∷ order) f core count above most = by (λ below. place_of order (bump f c) core count below most)
   where
     later : PlaceOf order (bump f c) core count → PlaceOf (c ∷ order) f core count
-    later p = record { front = c ∷ p.front; rest = p.rest; split = ap (λ (l : List ℕ). c ∷ l) p.split; before = p.before }
+    later p = record {
+      front = c ∷ p.front;
+      rest = p.rest;
+      split = ap (λ (l : List ℕ). c ∷ l) p.split;
+      before =
+          p.before;
+    }
 
     by : (bump f c core < count → PlaceOf order (bump f c) core count) → PlaceOf (c ∷ order) f core count
     by on = elim (ℕ_discrete core c) [
@@ -47,7 +54,8 @@ place_of (c ∷ order) f core count above most = by (λ below. place_of order (b
 
 -- one of two lists can't come to the core's count again after its place
 again : (f : ℕ → ℕ) (c core : ℕ) (other : List ℕ) → core ≡ c → f core ≡ counts (bump f c) other core → ⊥
-again f c core other is same = let one = bump_same f c core is in let up = counts_more (bump f c) other core in omega arith
+again f c core other is same = let one = bump_same f c core is in let up = counts_more (bump f c) other core in
+    omega arith
 
 pub one_place : OnePlaceLaw
 one_place order f core [] rest [] more p q same = refl
@@ -63,6 +71,7 @@ one_place order f core (c ∷ front) rest (d ∷ other) more p q same =
     let heads : c ∷ (front ++ core ∷ rest) ≡ d ∷ (other ++ core ∷ more) = sym p ∙ q in
     let head : c ≡ d = cc in
     let tail : front ++ core ∷ rest ≡ other ++ core ∷ more = cc in
-    let from : counts (bump f c) front core ≡ counts (bump f c) other core = same ∙ ap (λ (i : ℕ). counts (bump f i) other core) (sym head) in
+    let from : counts (bump f c) front core ≡ counts (bump f c) other core =
+    same ∙ ap (λ (i : ℕ). counts (bump f i) other core) (sym head) in
     let fronts = one_place (front ++ core ∷ rest) (bump f c) core front rest other more refl tail from in
     ap (λ (l : List ℕ). c ∷ l) fronts ∙ ap (λ (i : ℕ). i ∷ other) head

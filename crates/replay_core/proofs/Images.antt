@@ -8,7 +8,7 @@ use Rattle.rv_core.specs.declared.outcome.Outcome.{Outcome}
 use Rattle.rv_core.specs.States.{starting}
 use Rattle.rv_core.specs.Steps.{need, is_done}
 use Rattle.replay_core.specs.Plans.{Plan}
-use Rattle.replay_core.specs.Play.{core_at, place, touched, play, accesses_from, Plays}
+use Rattle.replay_core.specs.Play.{core_at, place_given, touched_given, place, touched, play, accesses_from, Plays}
 use Rattle.replay_core.specs.Laws.{ByImageLaw, SameStartLaw}
 
 -- a plan of an image, without a log
@@ -17,16 +17,17 @@ of image limit totals = record { image = image; limit = limit; totals = totals; 
 
 -- what holds of the plans without a log holds of all
 place_alike : (p q : Plan) (s : Outcome) (c : ℕ) → p.image ≡ q.image → place p s c ≡ place q s c
-unfolding place
+unfolding place_given
 place_alike p q s c image = ap (λ (i : Contents). place (of i 0 []) s c) image
 
 touched_alike : (p q : Plan) (s : Outcome) (c : ℕ) → p.image ≡ q.image → touched p s c ≡ touched q s c
-unfolding touched
+unfolding touched_given
 touched_alike p q s c image = ap (λ (i : Contents). touched (of i 0 []) s c) image
 
 -- along a list, from outcomes that are equal
 alike : (p q : Plan) (s : Outcome) (order : List ℕ) → p.image ≡ q.image →
-    (Plays p s order → Plays q s order) × (play p s order ≡ play q s order) × (accesses_from p s order ≡ accesses_from q s order)
+    (Plays p s order → Plays q s order) × (play p s order ≡ play q s order) ×
+    (accesses_from p s order ≡ accesses_from q s order)
 alike p q s [] image = (λ plays. tt, refl, refl)
 alike p q s (c ∷ cs) image =
     let one : place p s c ≡ place q s c = place_alike p q s c image in

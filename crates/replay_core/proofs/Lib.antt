@@ -8,4 +8,5 @@ pub mod Images
 pub mod Sources
 pub mod Wanting
 pub mod Steps
+pub mod Values
 pub mod Runs

@@ -1,5 +1,6 @@
 -- The low order takes the lowest ready core at each place, until there is none.
-use Rattle.std.proofs.Common.{inl, inr, ◌≡◌, ◌⊎◌, ℕ, subst, zero, suc, ◌+◌, ◌-◌, ◌<◌, ◌≤◌, List, [], ◌∷◌, length, sym, refl, ap, arith, true, false}
+use Rattle.std.proofs.Common.{inl, inr, ◌≡◌, ◌⊎◌, ℕ, subst, zero, suc, ◌+◌, ◌-◌, ◌<◌, ◌≤◌, List, [], ◌∷◌, length, sym}
+use Rattle.std.proofs.Common.{refl, ap, arith, true, false}
 use Rattle.std.specs.Prelude.{slice_index, sum, Option, Some, None, cond}
 use Rattle.std.proofs.lemmas.Bool.{cases_Bool}
 use Rattle.std.proofs.lemmas.List.Sums.{sum_by-cons}
@@ -24,10 +25,15 @@ lowest_is p f c (suc n) = by (cases_Bool (is_ready p f c)) (lowest_is p f (c + 1
   where
     over : (o : Option ℕ) → is_ready p f c ≡ false → IsLowest p f (c + 1) n o → IsLowest p f c (suc n) o
     over None t h = λ d from to s.
-        elim (ℕ_discrete c d) [ yes e ↦ not_ready p f c t (subst (λ (x : ℕ). Ready p f x) (sym e) s) | no ne ↦ h d (omega arith) (omega arith) s ]
+        elim (ℕ_discrete c d) [
+          | yes e ↦ not_ready p f c t (subst (λ (x : ℕ). Ready p f x) (sym e) s)
+          | no ne ↦ h d
+              (omega arith) (omega arith) s
+        ]
     over (Some e) t h = (
       h.0,
-      λ d from to s. elim (ℕ_discrete c d) [ yes z ↦ not_ready p f c t (subst (λ (x : ℕ). Ready p f x) (sym z) s) | no ne ↦ h.1 d (omega arith) to s ],
+      λ d from to s. elim (ℕ_discrete c d)
+          [ yes z ↦ not_ready p f c t (subst (λ (x : ℕ). Ready p f x) (sym z) s) | no ne ↦ h.1 d (omega arith) to s ],
     )
 
     by : (is_ready p f c ≡ true) ⊎ (is_ready p f c ≡ false) → IsLowest p f (c + 1) n (lowest p f (c + 1) n) →
@@ -42,14 +48,17 @@ left (t ∷ ts) f i = (t - f i) + left ts f (i + 1)
 
 left_nought : (ts : List ℕ) (i : ℕ) → left ts nought i ≡ sum ts
 left_nought [] i = refl
-left_nought (t ∷ ts) i = let a = left_nought ts (i + 1) in let b : sum (t ∷ ts) ≡ t + sum ts = sum_by-cons (λ (x : ℕ). x) t ts in omega arith
+left_nought (t ∷ ts) i = let a = left_nought ts (i + 1) in let b : sum (t ∷ ts) ≡ t + sum ts =
+    sum_by-cons (λ (x : ℕ). x) t ts in omega arith
 
 left_else : (ts : List ℕ) (f : ℕ → ℕ) (i j : ℕ) → j < i → left ts (bump f j) i ≡ left ts f i
 left_else [] f i j lt = refl
-left_else (t ∷ ts) f i j lt = let a = left_else ts f (i + 1) j (omega arith) in let b = bump_else f j i (λ e. omega arith) in omega arith
+left_else (t ∷ ts) f i j lt = let a = left_else ts f (i + 1) j (omega arith) in let b =
+    bump_else f j i (λ e. omega arith) in omega arith
 
 -- one less after a place of a core below its total
-pub left_step : (ts : List ℕ) (f : ℕ → ℕ) (i k c : ℕ) → c ≡ i + k → k < length ts → f c < slice_index ts k → left ts (bump f c) i + 1 ≡ left ts f i
+pub left_step : (ts : List ℕ) (f : ℕ → ℕ) (i k c : ℕ) → c ≡ i + k → k < length ts → f c < slice_index ts k →
+    left ts (bump f c) i + 1 ≡ left ts f i
 left_step [] f i k c e h lt = absurd (omega arith)
 left_step (t ∷ ts) f i zero c e h lt =
     let q : i ≡ c = omega arith in
@@ -69,10 +78,15 @@ pub low_is : (p : Plan) (n : ℕ) (f : ℕ → ℕ) → left p.totals f 0 ≤ n 
 low_is p zero f le = λ c h. let a = left_some p.totals f 0 c c (omega arith) h.inside h.below in omega arith
 low_is p (suc n) f le = by (lowest_ready p f) (lowest_is p f 0 (length p.totals)) (λ c. low_is p n (bump f c))
   where
-    by : (o : Option ℕ) → IsLowest p f 0 (length p.totals) o → ((c : ℕ) → left p.totals (bump f c) 0 ≤ n → Lowest p (bump f c) (low_from p n (bump f c)))
+    by : (o : Option ℕ) → IsLowest p f 0 (length p.totals) o →
+        ((c : ℕ) → left p.totals (bump f c) 0 ≤ n → Lowest p (bump f c) (low_from p n (bump f c)))
         → Lowest p f (low_next o (λ c. low_from p n (bump f c)))
     by None h go = λ c s. h c (omega arith) (let i = s.inside in omega arith) s
-    by (Some c) h go = (h.0, (λ d lt s. h.1 d (omega arith) lt s), go c (let a = left_step p.totals f 0 c c (omega arith) h.0.inside h.0.below in omega arith))
+    by (Some c) h go = (
+      h.0,
+      (λ d lt s. h.1 d (omega arith) lt s),
+      go c (let a = left_step p.totals f 0 c c (omega arith) h.0.inside h.0.below in omega arith),
+    )
 
 pub low_order_law : LowOrderLaw
 unfolding low_order

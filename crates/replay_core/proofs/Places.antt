@@ -1,7 +1,8 @@
 -- What is known after a place, and after the places of a replay order.
-use Rattle.std.proofs.Common.{inl, inr, ◌≡◌, ℕ, subst, ◌+◌, ◌<◌, ◌≤◌, Bool, true, false, cond, List, [], ◌∷◌, length, sym, refl, ap, ◌∙◌, arith, length-set}
+use Rattle.std.proofs.Common.{inl, inr, ◌≡◌, ◌≢◌, ℕ, subst, ◌+◌, ◌<◌, ◌≤◌, Bool, true, false, cond, List, [], ◌∷◌}
+use Rattle.std.proofs.Common.{length, sym, refl, ap, ◌∙◌, arith, length-set}
 use Rattle.std.proofs.Common.{get_or-set_same, get_or-set_other}
-use Rattle.std.specs.Prelude.{slice_index, slice_index_or, slice_set, replicate, Some, None}
+use Rattle.std.specs.Prelude.{slice_index, slice_index_or, slice_set, replicate, Option, Some, None}
 use Rattle.std.proofs.Math.Path.{fun_ext}
 use Rattle.std.proofs.lemmas.Bool.{cases_lt}
 use Rattle.std.proofs.lemmas.List.{get_or_past, get_or-replicate, length-replicate}
@@ -16,24 +17,45 @@ use Rattle.rv_core.specs.States.{starting}
 use Rattle.rv_core.specs.Steps.{after}
 use Rattle.rv_core.proofs.LawLemmas.{start_law, count_law, number_law, limit_law}
 use Rattle.replay_core.specs.Plans.{Plan}
-use Rattle.replay_core.specs.Play.{Use, use_of, words_after, core_at, need_at, old_at, new_at, place, touched, start, play}
-use Rattle.replay_core.specs.Orders.{bump, counts, nought, counts_in, Ready, Ordered}
+use Rattle.replay_core.specs.Play.{Given, no_values, Use, words_after, core_at, loads_at, need_at, use_of, uses}
+use Rattle.replay_core.specs.Play.{old_given, new_given, place_given, touched_given}
+use Rattle.replay_core.specs.Play.{loads_after, accesses_by, instr, given_next, place, valued_place, start, play}
+use Rattle.replay_core.specs.Play.{valued_play, valued_played}
+use Rattle.replay_core.specs.Orders.{bump, counts, nought, counts_in, Ready, Ordered, IsReplayOrder}
 use Rattle.replay_core.specs.Laws.{PlayStartLaw, PlaceLaw, PlayKnown, PlayLaw}
 use Rattle.replay_core.proofs.Counts.{bump_same, bump_else}
 
 -- ---- one place
 
-length-written : (writes : Bool) (words : List ℕ) (word value : ℕ) → length (cond writes (slice_set words word value) words) ≡ length words
+length-written : (writes : Bool) (words : List ℕ) (word value : ℕ) →
+    length (cond writes (slice_set words word value) words) ≡ length words
 length-written true words word value = length-set words word value
 length-written false words word value = refl
 
-pub length-words_after : (used : Use) (words : List ℕ) (value : ℕ) → length (words_after used words value) ≡ length words
+pub length-words_after : (used : Use) (words : List ℕ) (value : ℕ) →
+    length (words_after used words value) ≡ length words
 length-words_after None words value = refl
 length-words_after (Some used) words value = length-written (is_write used.0) words used.1 value
 
-pub place_law : PlaceLaw
-unfolding place touched
-place_law p s c = record {
+-- what a place does to the cores, the words and the loads, and its access, where a value is given or none
+pub record PlaceGiven (p : Plan) (s : Outcome) (c : ℕ) (given : Option ℕ) : Type 0 where
+  pub core : c < length s.cores →
+      core_at (place_given p s c given) c ≡ after p.image (core_at s c) (old_given p s c given)
+  pub words : (place_given p s c given).words ≡ words_after (uses p s c given) s.words (new_given p s c given)
+  pub loads : c < length s.loads → loads_at (place_given p s c given) c
+      ≡ loads_after (use_of (need_at p s c)) (loads_at s c) ((core_at s c).count + 1) (old_given p s c given)
+  pub access : touched_given p s c given
+      ≡ accesses_by (uses p s c given) (instr c ((core_at s c).count + 1)) (old_given p s c given)
+      (new_given p s c given)
+  pub other_cores : (i : ℕ) → i ≢ c → core_at (place_given p s c given) i ≡ core_at s i
+  pub other_loads : (i : ℕ) → i ≢ c → loads_at (place_given p s c given) i ≡ loads_at s i
+  pub all_cores : length (place_given p s c given).cores ≡ length s.cores
+  pub all_words : length (place_given p s c given).words ≡ length s.words
+  pub all_loads : length (place_given p s c given).loads ≡ length s.loads
+
+pub place_given_law : (p : Plan) (s : Outcome) (c : ℕ) (given : Option ℕ) → PlaceGiven p s c given
+unfolding place_given touched_given
+place_given_law p s c given = record {
   core = λ below. get_or-set_same s.cores c _ (starting 0 0) below;
   words = refl;
   loads = λ below. get_or-set_same s.loads c _ [] below;
@@ -41,14 +63,30 @@ place_law p s c = record {
   other_cores = λ i ne. get_or-set_other s.cores c i _ (starting 0 0) ne;
   other_loads = λ i ne. get_or-set_other s.loads c i _ [] ne;
   all_cores = length-set s.cores c _;
-  all_words = length-words_after (use_of (need_at p s c)) s.words (new_at p s c);
+  all_words = length-words_after (uses p s c given) s.words (new_given p s c given);
   all_loads = length-set s.loads c _;
 }
+
+pub place_law : PlaceLaw
+place_law p s c =
+    let law = place_given_law p s c None in
+    record {
+      core = law.core;
+      words = law.words;
+      loads = law.loads;
+      access = law.access;
+      other_cores = law.other_cores;
+      other_loads = law.other_loads;
+      all_cores = law.all_cores;
+      all_words = law.all_words;
+      all_loads = law.all_loads;
+    }
 
 -- ---- the start
 
 start-core : (p : Plan) (c : ℕ) → c < length p.totals → core_at (start p) c ≡ starting c p.limit
-start-core p c below = get_or-map-range_with_len (λ i. starting i p.limit) 0 (length p.totals) c c (starting 0 0) below (omega arith)
+start-core p c below = get_or-map-range_with_len (λ i. starting i p.limit) 0 (length p.totals) c c (starting 0 0) below
+    (omega arith)
 
 -- each list is empty, and so is one past the last
 nothing : (n c : ℕ) → ◌≡◌ {A = List LoadNote} (slice_index_or (replicate n []) c []) []
@@ -85,28 +123,34 @@ start_known p = record {
 -- ---- a place more
 
 -- what a step keeps of a core holds of all cores after a place
-kept-core : (p : Plan) (s : Outcome) (c i : ℕ) (of : Core → ℕ) → ((k : Core) (old : ℕ) → of (after p.image k old) ≡ of k) → c < length s.cores →
-    of (core_at (place p s c) i) ≡ of (core_at s i)
-kept-core p s c i of keeps below = elim (ℕ_discrete i c) [
+kept-core : (given : Option ℕ) (p : Plan) (s : Outcome) (c i : ℕ) (of : Core → ℕ) →
+    ((k : Core) (old : ℕ) → of (after p.image k old) ≡ of k) → c < length s.cores →
+    of (core_at (place_given p s c given) i) ≡ of (core_at s i)
+kept-core given p s c i of keeps below = elim (ℕ_discrete i c) [
   | yes e ↦
-      let here : of (core_at (place p s c) c) ≡ of (core_at s c) = ap of ((place_law p s c).core below) ∙ keeps (core_at s c) (old_at p s c) in
-      subst (λ (x : ℕ). of (core_at (place p s c) x) ≡ of (core_at s x)) (sym e) here
-  | no ne ↦ ap of ((place_law p s c).other_cores i ne)
+      let here : of (core_at (place_given p s c given) c) ≡ of (core_at s c) =
+      ap of ((place_given_law p s c given).core below) ∙ keeps (core_at s c) (old_given p s c given) in
+      subst (λ (x : ℕ). of (core_at (place_given p s c given) x) ≡ of (core_at s x)) (sym e) here
+  | no ne ↦ ap of ((place_given_law p s c given).other_cores i ne)
 ]
 
-bumped : (p : Plan) (f : ℕ → ℕ) (s : Outcome) (c : ℕ) → counts_in s ≡ f → c < length s.cores → (i : ℕ) → counts_in (place p s c) i ≡ bump f c i
-bumped p f s c is below i = elim (ℕ_discrete i c) [
+bumped : (given : Option ℕ) (p : Plan) (f : ℕ → ℕ) (s : Outcome) (c : ℕ) → counts_in s ≡ f → c < length s.cores →
+    (i : ℕ) → counts_in (place_given p s c given) i ≡ bump f c i
+bumped given p f s c is below i = elim (ℕ_discrete i c) [
   | yes e ↦
-      let here : counts_in (place p s c) c ≡ counts_in s c + 1 = ap (λ (k : Core). k.count) ((place_law p s c).core below)
-      ∙ count_law p.image (core_at s c) (old_at p s c) in
-      let there = subst (λ (x : ℕ). counts_in (place p s c) x ≡ counts_in s x + 1) (sym e) here in
+      let here : counts_in (place_given p s c given) c ≡ counts_in s c + 1 =
+      ap (λ (k : Core). k.count) ((place_given_law p s c given).core below)
+      ∙ count_law p.image (core_at s c) (old_given p s c given) in
+      let there = subst (λ (x : ℕ). counts_in (place_given p s c given) x ≡ counts_in s x + 1) (sym e) here in
       let more = bump_same f c i e in
       let same = ap (λ (g : ℕ → ℕ). g i) is in
       omega arith
-  | no ne ↦ ap (λ (k : Core). k.count) ((place_law p s c).other_cores i ne) ∙ ap (λ (g : ℕ → ℕ). g i) is ∙ sym (bump_else f c i ne)
+  | no ne ↦ ap (λ (k : Core). k.count) ((place_given_law p s c given).other_cores i ne) ∙ ap (λ (g : ℕ → ℕ). g i) is
+      ∙ sym (bump_else f c i ne)
 ]
 
-within-more : (p : Plan) (f : ℕ → ℕ) (c : ℕ) → Ready p f c → ((i : ℕ) → f i ≤ slice_index p.totals i) → (i : ℕ) → bump f c i ≤ slice_index p.totals i
+within-more : (p : Plan) (f : ℕ → ℕ) (c : ℕ) → Ready p f c → ((i : ℕ) → f i ≤ slice_index p.totals i) → (i : ℕ) →
+    bump f c i ≤ slice_index p.totals i
 within-more p f c ready within i = elim (ℕ_discrete i c) [
   | yes e ↦
       let more = bump_same f c i e in
@@ -115,23 +159,40 @@ within-more p f c ready within i = elim (ℕ_discrete i c) [
   | no ne ↦ let same = bump_else f c i ne in let le = within i in omega arith
 ]
 
-pub place_known : (p : Plan) (f : ℕ → ℕ) (s : Outcome) (c : ℕ) → PlayKnown p f s → Ready p f c → PlayKnown p (bump f c) (place p s c)
-place_known p f s c known ready =
-    let law = place_law p s c in
+pub given_known : (given : Option ℕ) (p : Plan) (f : ℕ → ℕ) (s : Outcome) (c : ℕ) → PlayKnown p f s → Ready p f c →
+    PlayKnown p (bump f c) (place_given p s c given)
+given_known given p f s c known ready =
+    let law = place_given_law p s c given in
     let below : c < length s.cores = let all = known.all_cores in let inside = ready.inside in omega arith in
     record {
       all_cores = law.all_cores ∙ known.all_cores;
       all_words = law.all_words ∙ known.all_words;
       all_loads = law.all_loads ∙ known.all_loads;
-      counts = fun_ext (bumped p f s c known.counts below);
-      numbers = λ i lt. kept-core p s c i (λ k. k.id) (number_law p.image) below ∙ known.numbers i lt;
-      limits = λ i lt. kept-core p s c i (λ k. k.limit) (limit_law p.image) below ∙ known.limits i lt;
+      counts = fun_ext (bumped given p f s c known.counts below);
+      numbers = λ i lt. kept-core given p s c i (λ k. k.id) (number_law p.image) below ∙ known.numbers i lt;
+      limits = λ i lt. kept-core given p s c i (λ k. k.limit) (limit_law p.image) below ∙ known.limits i lt;
       within = within-more p f c ready known.within;
     }
 
-pub play_known : (p : Plan) (f : ℕ → ℕ) (s : Outcome) (order : List ℕ) → PlayKnown p f s → Ordered p f order → PlayKnown p (counts f order) (play p s order)
-play_known p f s [] known ordered = known
-play_known p f s (c ∷ cs) known ordered = play_known p (bump f c) (place p s c) cs (place_known p f s c known ordered.0) ordered.1
+pub place_known : (p : Plan) (f : ℕ → ℕ) (s : Outcome) (c : ℕ) → PlayKnown p f s → Ready p f c →
+    PlayKnown p (bump f c) (place p s c)
+place_known p f s c known ready = given_known None p f s c known ready
+
+pub valued_known : (given : Given) (p : Plan) (f : ℕ → ℕ) (s : Outcome) (order : List ℕ) → PlayKnown p f s →
+    Ordered p f order →
+    PlayKnown p (counts f order) (valued_play given p s order)
+valued_known given p f s [] known ordered = known
+valued_known given p f s (c ∷ cs) known ordered =
+    valued_known given p (bump f c) (valued_place given p s c) cs
+    (given_known (given_next given s c) p f s c known ordered.0) ordered.1
+
+pub play_known : (p : Plan) (f : ℕ → ℕ) (s : Outcome) (order : List ℕ) → PlayKnown p f s → Ordered p f order →
+    PlayKnown p (counts f order) (play p s order)
+play_known p f s order known ordered = valued_known no_values p f s order known ordered
+
+pub valued_play_law : (given : Given) (p : Plan) (order : List ℕ) → IsReplayOrder p order →
+    PlayKnown p (counts nought order) (valued_played given p order)
+valued_play_law given p order ordered = valued_known given p nought (start p) order (start_known p) ordered
 
 pub play_law : PlayLaw
-play_law p order ordered = play_known p nought (start p) order (start_known p) ordered
+play_law p order ordered = valued_play_law no_values p order ordered

@@ -20,7 +20,9 @@ use Rattle.replay_core.specs.declared.answers.Advanced.TheVariants as advanced
 use Rattle.replay_core.specs.declared.answers.ReplayFault.{ReplayFault}
 use Rattle.replay_core.specs.declared.answers.ReplayFault.TheVariants as faults
 use Rattle.replay_core.specs.Plans.{Plan, recorded_image}
-use Rattle.replay_core.specs.Play.{Use, loads_after, instr, need_at, place, touched, start, first_short, played}
+use Rattle.replay_core.specs.Play.{Given, no_values, Use, loads_after, instr, need_at, place_given, touched_given}
+use Rattle.replay_core.specs.Play.{start}
+use Rattle.replay_core.specs.Play.{valued_short, valued_played}
 use Rattle.replay_core.specs.Orders.{counts, nought, IsReplayOrder, IsWhole, low_order}
 
 -- what contracts see of a replay under way: what it plays, what it has come to, and whether each core's loads have
@@ -37,7 +39,8 @@ under_way plan cores words loads =
 
 -- whether a core's place can be added to the order that was played
 abbrev pub TellsOrders : Plan → Outcome → (core : ℕ) → Bool → Type 0
-TellsOrders p s core answer = (order : List ℕ) → IsReplayOrder p order → s ≡ played p order →
+TellsOrders p s core answer = (given : Given) (order : List ℕ) → IsReplayOrder p order →
+    s ≡ valued_played given p order →
     IsTrue answer ↔ IsReplayOrder p (order ++ core ∷ [])
 
 -- at most one access, as a list
@@ -45,11 +48,15 @@ abbrev pub told : Option Access → List Access
 told None = []
 told (Some access) = access ∷ []
 
--- core c has retired one instruction more, with this access
-pub record Retires (p : Plan) (s : Outcome) (c : ℕ) (access : Option Access) (t : Outcome) : Type 0 where
+-- core c, given a value or none, has retired one instruction more, with this access
+pub record RetiresGiven (p : Plan) (s : Outcome) (c : ℕ) (given : Option ℕ) (access : Option Access) (t : Outcome)
+    : Type 0 where
   pub going : is_done (need_at p s c) ≡ false
-  pub state : t ≡ place p s c
-  pub access_is : told access ≡ touched p s c
+  pub state : t ≡ place_given p s c given
+  pub access_is : told access ≡ touched_given p s c given
+
+abbrev pub Retires : Plan → Outcome → ℕ → Option Access → Outcome → Type 0
+Retires p s c access t = RetiresGiven p s c None access t
 
 -- core c's program is done, and nothing changed
 pub record Stays (p : Plan) (s : Outcome) (c : ℕ) (t : Outcome) : Type 0 where
@@ -57,9 +64,12 @@ pub record Stays (p : Plan) (s : Outcome) (c : ℕ) (t : Outcome) : Type 0 where
   pub state : t ≡ s
 
 -- one place of the play, or none where it falls short
+abbrev pub AdvancesGiven : Plan → Outcome → ℕ → (given : Option ℕ) → Advanced → Outcome → Type 0
+AdvancesGiven p s c given (advanced.Retired access) t = RetiresGiven p s c given access t
+AdvancesGiven p s c given advanced.Short t = Stays p s c t
+
 abbrev pub Advances : Plan → Outcome → ℕ → Advanced → Outcome → Type 0
-Advances p s c (advanced.Retired access) t = Retires p s c access t
-Advances p s c advanced.Short t = Stays p s c t
+Advances p s c answer t = AdvancesGiven p s c None answer t
 
 -- the counts of so many cores, and 0 at the other places
 abbrev pub cut_counts : (cores : ℕ) → (ℕ → ℕ) → List ℕ
@@ -68,23 +78,33 @@ cut_counts cores f = map (λ c. if nat_lt c cores then f c else 0) (range_with_l
 abbrev pub cut_of : Plan → (ℕ → ℕ) → Cut
 cut_of p f = record { cores = length p.totals; counts = cut_counts (length p.totals) f }
 
--- the low order is whole and plays to this outcome
-pub record Replays (p : Plan) (outcome : Outcome) : Type 0 where
-  pub plays : first_short p (start p) (low_order p) ≡ None
+-- the low order is whole and plays, with the given values, to this outcome
+pub record ReplaysValued (given : Given) (p : Plan) (outcome : Outcome) : Type 0 where
+  pub plays : valued_short given p (start p) (low_order p) ≡ None
   pub whole : IsWhole p (low_order p)
-  pub outcome_is : outcome ≡ played p (low_order p)
+  pub outcome_is : outcome ≡ valued_played given p (low_order p)
 
 -- it plays, and ends at this cut before it is whole
-pub record EndsAt (p : Plan) (cut : Cut) : Type 0 where
-  pub plays : first_short p (start p) (low_order p) ≡ None
+pub record EndsAtValued (given : Given) (p : Plan) (cut : Cut) : Type 0 where
+  pub plays : valued_short given p (start p) (low_order p) ≡ None
   pub not_whole : IsWhole p (low_order p) → ⊥
   pub cut_is : cut ≡ cut_of p (counts nought (low_order p))
 
 -- why there is no outcome. Want of memory says nothing
+abbrev pub RefusesValued : Given → Plan → ReplayFault → Type 0
+RefusesValued given p (faults.Stuck cut) = EndsAtValued given p cut
+RefusesValued given p (faults.Short core count) = valued_short given p (start p) (low_order p) ≡ Some (core, count)
+RefusesValued given p faults.OutOfMemory = Unit {0}
+
+-- the same without given values
+abbrev pub Replays : Plan → Outcome → Type 0
+Replays p outcome = ReplaysValued no_values p outcome
+
+abbrev pub EndsAt : Plan → Cut → Type 0
+EndsAt p cut = EndsAtValued no_values p cut
+
 abbrev pub Refuses : Plan → ReplayFault → Type 0
-Refuses p (faults.Stuck cut) = EndsAt p cut
-Refuses p (faults.Short core count) = first_short p (start p) (low_order p) ≡ Some (core, count)
-Refuses p faults.OutOfMemory = Unit {0}
+Refuses p fault = RefusesValued no_values p fault
 
 -- ---- what the parts of the code ask and tell
 

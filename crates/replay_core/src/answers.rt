@@ -6,7 +6,7 @@ use rtr_types::{Access, Cut};
 use std::alloc::AllocError;
 
 /// What came of a core's next place.
-#[derive(Clone, Copy, Debug, PartialEq, Eq)]
+#[derive(Clone, Copy, PartialEq, Eq)]
 pub enum Advanced {
     /// The core has retired one instruction more. An access is told with its word's value before and
     /// after.

@@ -7,8 +7,6 @@ mod answers;
 pub mod laws;
 mod one_place;
 mod replay;
-#[cfg(test)]
-mod tests;
 
 pub use answers::{Advanced, ReplayFault};
 pub use replay::Replay;

@@ -1,7 +1,7 @@
 //! What one instruction reads, writes and leaves to be told, by what it uses.
 ghost use Rattle.std.specs.Prelude.{◌≡◌, ◌<◌, length, IsTrue};
 ghost use Rattle.load_lists.specs.Lists.{LoadRooms};
-ghost use Rattle.replay_core.specs.Play.{old_for, words_after, loads_after, accesses_by};
+ghost use Rattle.replay_core.specs.Play.{old_for, words_after, loads_after, accesses_by, heeded, shared, found_for};
 ghost use Rattle.replay_core.specs.Answers.{told, UsesWithin, AreNoted};
 
 use image_mem::Memory;
@@ -17,6 +17,38 @@ pub(crate) fn old_value(memory: &Memory, used: Option<(Kind, u32)>) -> u32
     match used {
         Some((_, word)) => memory.get(word),
         None => 0,
+    }
+}
+
+/// The given value, where the instruction heeds it: a load does.
+pub(crate) fn heeded(given: Option<u32>, used: Option<(Kind, u32)>) -> Option<u32>
+    ensures { result ≡ heeded given used }
+{
+    let value = given?;
+    if used?.0.is_write() {
+        return None;
+    }
+    Some(value)
+}
+
+/// What the instruction uses of the memory: nothing, where its value is given.
+pub(crate) fn shared(given: Option<u32>, used: Option<(Kind, u32)>) -> Option<(Kind, u32)>
+    ensures { result ≡ shared given used }
+{
+    match given {
+        Some(_) => None,
+        None => used,
+    }
+}
+
+/// The value that the instruction finds: the given one, or that of its word.
+pub(crate) fn found(given: Option<u32>, memory: &Memory, used: Option<(Kind, u32)>) -> u32
+    requires { UsesWithin used (length memory.now) }
+    ensures { result ≡ found_for given used memory.now }
+{
+    match given {
+        Some(value) => value,
+        None => old_value(memory, used),
     }
 }
 

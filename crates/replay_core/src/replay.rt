@@ -6,13 +6,14 @@ ghost use Rattle.rtr_types.specs.declared.TheConstants.{CORES_MAX};
 ghost use Rattle.rv_core.specs.States.{starting};
 ghost use Rattle.log_codec.specs.Validity.{Valid};
 ghost use Rattle.replay_core.specs.Plans.{plan_of};
-ghost use Rattle.replay_core.specs.Play.{instr, start};
+ghost use Rattle.replay_core.specs.Play.{AreRising, EachRising, given_by, given_next, instr, start, value_at};
 ghost use Rattle.replay_core.specs.Orders.{counts_in, Full, is_ready, is_sourced, lowest_ready};
-ghost use Rattle.replay_core.specs.Answers.{TellsOrders, Advances, Replays, Refuses, cut_of};
+ghost use Rattle.replay_core.specs.Answers.{TellsOrders, Advances, AdvancesGiven, Replays, ReplaysValued, Refuses};
+ghost use Rattle.replay_core.specs.Answers.{RefusesValued, cut_of};
 ghost use Rattle.replay_core.specs.Wanted.{IsWanted, AreWanted, AreWantedBy, AreWantedByEach};
 
 use crate::answers::{Advanced, ReplayFault};
-use crate::one_place::{access, leave, note, old_value};
+use crate::one_place::{access, found, heeded, leave, note, shared};
 use image_mem::{Image, Memory};
 use load_lists::LoadLists;
 use log_codec::Recording;
@@ -26,7 +27,6 @@ const PLACES: usize = CORES_MAX as usize;
 
 /// A recording that is played by one of its logs, and how far the play has come. Each place of the play
 /// is a core, which retires its next instruction over one flat memory.
-#[derive(Drop)]
 pub struct Replay<'a> {
     recording: &'a Recording,
     which: Which,
@@ -34,6 +34,19 @@ pub struct Replay<'a> {
     cores: Vec<Core>,
     memory: Memory,
     loads: LoadLists,
+}
+
+impl Drop for Replay<'_> {
+    fn drop(self) {
+        let Replay {
+            recording: _recording,
+            which: _which,
+            program: _program,
+            cores: _cores,
+            memory: _memory,
+            loads: _loads,
+        } = self;
+    }
 }
 
 impl<'a> Model for Replay<'a> {
@@ -119,6 +132,18 @@ impl<'a> Replay<'a> {
         ensures plan { self.new.plan ≡ self.old.plan }
         ensures place { Advances self.old.plan self.old.state core result self.new.state }
     {
+        self.advance_given(core, None)
+    }
+
+    /// One place of the play, in which a load takes the given value in place of its word's, if one is given.
+    /// It then makes no access. Any other instruction ignores the value.
+    #[inline(always)]
+    pub fn advance_given(&mut self, core: u8, given: Option<u32>) -> Advanced
+        requires ready { is_ready self.old.plan (counts_in self.old.state) core ≡ true }
+        requires room { IsTrue self.old.roomy }
+        ensures plan { self.new.plan ≡ self.old.plan }
+        ensures place { AdvancesGiven self.old.plan self.old.state core given result self.new.state }
+    {
         let op = self.program.op(self.cores[core as usize].pc());
         let image = self.program.image();
         let need = self.cores[core as usize].need_by_op(image, op);
@@ -126,14 +151,16 @@ impl<'a> Replay<'a> {
             return Advanced::Short;
         }
         let used = need.access();
-        let old = old_value(&self.memory, used);
+        let given = heeded(given, used);
+        let mine = shared(given, used);
+        let old = found(given, &self.memory, used);
         let value = self.cores[core as usize].finish_op(image, op, old);
         let count = self.cores[core as usize].count();
         note(&mut self.loads, core, used, count, old);
-        leave(&mut self.memory, used, value);
+        leave(&mut self.memory, mine, value);
         let at = Instr { core, count };
         Advanced::Retired {
-            access: access(used, at, old, value),
+            access: access(mine, at, old, value),
         }
     }
 
@@ -190,11 +217,12 @@ impl<'a> Replay<'a> {
         ensures { IfOk result (λ outcome. outcome ≡ self.entry.state) }
     {
         let Replay {
+            recording: _recording,
+            which: _which,
             program,
             cores,
             memory,
             loads,
-            ..
         } = self;
         Ok(Outcome {
             cores: Items::from_vec(cores),
@@ -209,11 +237,28 @@ impl<'a> Replay<'a> {
         requires { Valid recording.now }
         ensures { MatchResult result (Replays (plan_of which recording.now)) (Refuses (plan_of which recording.now)) }
     {
+        Replay::run_given(alloc, recording, which, &[])
+    }
+
+    /// Plays the low order, in which a load takes the value that its core's list has at its count, if there
+    /// is one, in place of its word's. `values` has for each core a list of counts, which rise, and values.
+    pub fn run_given(
+        alloc: Global,
+        recording: &Recording,
+        which: Which,
+        values: &[Items<(u32, u32)>],
+    ) -> Result<Outcome, ReplayFault>
+        requires valid { Valid recording.now }
+        requires values { EachRising values.now }
+        ensures { MatchResult result (ReplaysValued (given_by values.now) (plan_of which recording.now))
+            (RefusesValued (given_by values.now) (plan_of which recording.now)) }
+    {
         let mut replay = Replay::new(alloc, recording, which)?;
         let mut wanted = replay.all_wanted();
         while let Some(core) = replay.lowest_by(&wanted) {
             replay.make_room()?;
-            if let Advanced::Short = replay.advance(core) {
+            let given = replay.given(values, core);
+            if let Advanced::Short = replay.advance_given(core, given) {
                 let count = replay.count(core);
                 return Err(ReplayFault::Short { core, count });
             }
@@ -226,8 +271,18 @@ impl<'a> Replay<'a> {
     }
 }
 
-// What the next instruction of each core waits for.
+// What the next instruction of each core is given, and what it waits for.
 impl<'a> Replay<'a> {
+    /// The value that the core's next instruction is given.
+    fn given(&self, values: &[Items<(u32, u32)>], core: u8) -> Option<u32>
+        requires core { core < length self.now.plan.totals }
+        requires values { EachRising values.now }
+        ensures { result ≡ given_next (given_by values.now) self.now.state core }
+    {
+        let list = values.get(core as usize)?;
+        value_at(list.as_slice(), self.count(core) as u64 + 1)
+    }
+
     /// The lowest-numbered core that is ready, by what each core's next instruction waits for.
     fn lowest_by(&self, wanted: &[Wanted; PLACES]) -> Option<u8>
         requires { AreWantedByEach self.now.plan (counts_in self.now.state) (length self.now.plan.totals) wanted.now }
@@ -319,6 +374,17 @@ impl<'a> Replay<'a> {
             Some(count) => count,
             None => 0,
         }
+    }
+}
+
+/// The value at a count in a list of counts and values.
+fn value_at(values: &[(u32, u32)], count: u64) -> Option<u32>
+    requires { AreRising values.now }
+    ensures { result ≡ value_at values.now count }
+{
+    match values.binary_search_by_key(&count, |&(at, _)| at as u64) {
+        Ok(k) => Some(values[k].1),
+        Err(_) => None,
     }
 }
 

@@ -16,7 +16,8 @@ use Rattle.msi_state.specs.Runs.{accesses_in, retired_in}
 use Rattle.machine_data.specs.LastValues.{last_value, memory_left}
 use Rattle.run_outcome.specs.Loads.{note_of}
 use Rattle.replay_core.specs.Plans.{Plan}
-use Rattle.replay_core.specs.Play.{Use, use_of, old_for, words_after, loads_after, accesses_by, core_at, loads_at, instr, need_at, place, touched, play}
+use Rattle.replay_core.specs.Play.{place_given, touched_given, Use, use_of, old_for, words_after, loads_after}
+use Rattle.replay_core.specs.Play.{accesses_by, core_at, loads_at, instr, need_at, place, touched, play}
 use Rattle.replay_core.specs.Play.{accesses_from, Plays}
 use Rattle.replay_core.proofs.Steps.{used_within}
 use Rattle.msi_state.specs.States.{core_at as machine_core}
@@ -40,11 +41,11 @@ told_of p s c used =
     accesses_by used (instr c ((core_at s c).count + 1)) (old_for used s.words) (wrote p.image (core_at s c) (old_for used s.words))
 
 place_by : (p : Plan) (s : Outcome) (c : ℕ) (used : Use) → use_of (need_at p s c) ≡ used → place p s c ≡ placed p s c used
-unfolding place
+unfolding place_given
 place_by p s c used is = ap (placed p s c) is
 
 touched_by : (p : Plan) (s : Outcome) (c : ℕ) (used : Use) → use_of (need_at p s c) ≡ used → touched p s c ≡ told_of p s c used
-unfolding touched
+unfolding touched_given
 touched_by p s c used is = ap (told_of p s c) is
 
 -- ---- what accesses leave

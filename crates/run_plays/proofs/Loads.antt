@@ -13,7 +13,8 @@ use Rattle.run_outcome.proofs.NotedLoads.{lists_more}
 use Rattle.run_outcome.proofs.Turns.{no_loads}
 use Rattle.recorder.specs.Recordings.{run_accesses}
 use Rattle.replay_core.specs.Plans.{Plan}
-use Rattle.replay_core.specs.Play.{Use, accesses_from, accesses_by, core_at, instr, loads_after, need_at, new_at, old_at, place, play, start, touched, use_of}
+use Rattle.replay_core.specs.Play.{place_given, touched_given, Use, accesses_from, accesses_by, core_at, instr}
+use Rattle.replay_core.specs.Play.{loads_after, need_at, new_at, old_at, place, play, start, touched, use_of}
 use Rattle.run_plays.specs.Loads.{OutcomeLoadsLaw, PlayLoadsLaw, loads_by_core}
 
 -- the core's list with the access noted, if it reads, in place of what it was
@@ -51,7 +52,7 @@ used_loads (Some used) c count old new n list =
 
 place_loads : (p : Plan) (s : Outcome) (c n : ℕ) (list : List Access) → s.loads ≡ loads_by_core n list
     → (place p s c).loads ≡ loads_by_core n (list ++ touched p s c)
-unfolding place touched
+unfolding place_given touched_given
 place_loads p s c n list is =
     ap (λ (loads : List (List LoadNote)). slice_set loads c
     (loads_after (use_of (need_at p s c)) (slice_index_or loads c []) ((core_at s c).count + 1) (old_at p s c))) is

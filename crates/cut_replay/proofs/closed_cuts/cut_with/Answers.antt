@@ -11,5 +11,12 @@ returns c =
     let cores = ap (λ (r : Recording). r.params.cores) c.recording.ensures.recording in
     let end = c.loop-core-test.false in
     let up = c.loop-core.auto.core-end in
-    least_with a.which a.recording c.recording.ensures.valid c.args.at c.requires (λ i. slice_index c.clock-clock.result i) c.clock-clock.ensures _
-    (record { cores = cores; places = l.wide; done = λ core lt. l.done core (omega arith); rest = λ core le. l.rest core (omega arith) })
+    least_with a.which a.recording c.recording.ensures.valid c.args.at c.requires
+    (λ i. slice_index c.clock-clock.result i) c.clock-clock.ensures _
+    (record {
+      cores = cores;
+      places = l.wide;
+      done = λ core lt. l.done core (omega arith);
+      rest =
+          λ core le. l.rest core (omega arith);
+    })

@@ -17,7 +17,8 @@ loop-core-preserved c =
     let inside : c.loop-core.core < length c.loop-core.counts = omega arith in
     record {
       wide = length-set c.loop-core.counts c.loop-core.core c.free_of.result ∙ l.wide;
-      done = filled (λ core n. AreFree a.which a.recording c.args.at core n) c.loop-core.counts c.loop-core.core c.free_of.result inside l.done
+      done = filled (λ core n. AreFree a.which a.recording c.args.at core n) c.loop-core.counts c.loop-core.core
+          c.free_of.result inside l.done
           c.free_of.ensures;
       rest = unfilled c.loop-core.counts c.loop-core.core c.free_of.result l.rest;
     }
@@ -29,6 +30,7 @@ returns c =
     let cores = ap (λ (r : Recording). r.params.cores) c.recording.ensures.recording in
     let end = c.loop-core-test.false in
     let up = c.loop-core.auto.core-end in
-    greatest_without a.which a.recording c.recording.ensures.valid c.args.at c.requires (λ core. slice_index c.loop-core.counts core)
+    greatest_without a.which a.recording c.recording.ensures.valid c.args.at c.requires
+    (λ core. slice_index c.loop-core.counts core)
     (λ core lt. l.done core (omega arith)) _
     (record { cores = cores; places = l.wide; done = λ core lt. refl; rest = λ core le. l.rest core (omega arith) })

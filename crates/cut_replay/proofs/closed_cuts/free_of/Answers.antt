@@ -12,7 +12,8 @@ loop-free-preserved-then-covers c =
     let need = (c.clock.ensures c.args.at c.requires.at.some).0 (c.covers.ensures.0 c.if-covers.true) in
     let within = l.within in
     record {
-      between = between_need a.which a.recording c.args.at c.args.core c.loop-free.free c.loop-free.least m l.between some (omega arith) (m - 1)
+      between = between_need a.which a.recording c.args.at c.args.core c.loop-free.free c.loop-free.least m l.between
+          some (omega arith) (m - 1)
           (omega arith) need;
       within = omega arith;
     }
@@ -26,8 +27,10 @@ loop-free-preserved c =
     let some : 1 ≤ m = omega arith in
     let within = l.within in
     record {
-      between = between_free a.which a.recording c.args.at c.args.core c.loop-free.free c.loop-free.least m l.between some (omega arith)
-          (λ need. let covered = c.covers.ensures.1 ((c.clock.ensures c.args.at c.requires.at.some).1 need) in let not = c.if-covers.false in cc);
+      between = between_free a.which a.recording c.args.at c.args.core c.loop-free.free c.loop-free.least m l.between
+          some (omega arith)
+          (λ need. let covered = c.covers.ensures.1 ((c.clock.ensures c.args.at c.requires.at.some).1 need) in let not =
+          c.if-covers.false in cc);
       within = l.within;
     }
 
@@ -35,4 +38,5 @@ pub returns : goal.returns
 returns c =
     let a = c.args.audited.now in
     let end = c.loop-free-test.false in
-    between_end a.which a.recording c.args.at c.args.core c.loop-free.free c.loop-free.least c.loop-free.invariant.between (omega arith)
+    between_end a.which a.recording c.args.at c.args.core c.loop-free.free c.loop-free.least
+    c.loop-free.invariant.between (omega arith)

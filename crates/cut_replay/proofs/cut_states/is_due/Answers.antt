@@ -7,6 +7,7 @@ bounds-cut-core c = few_cores c.requires.way c.args.core c.requires.core
 
 pub returns : goal.returns
 returns c =
-    due_is c.requires.way c.args.core c.requires.core c.count-count.result c.count-count.ensures (omega (arith, c.if-count-cut.false))
+    due_is c.requires.way c.args.core c.requires.core c.count-count.result c.count-count.ensures
+    (omega (arith, c.if-count-cut.false))
     c.clock.result c.clock.ensures
     c.is_waited_for.result c.is_waited_for.ensures

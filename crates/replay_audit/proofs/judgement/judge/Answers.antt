@@ -24,14 +24,17 @@ loop-core-init c =
     )
 
 pub next-next-requires-clause-inside : goal.next-next-requires-clause-inside
-next-next-requires-clause-inside c = let i = c.loop-core.invariant.1.followed.counted in inside_plan _ _ _ i _ (sym c.lowest.ensures ∙ c.in-Some.is)
+next-next-requires-clause-inside c = let i = c.loop-core.invariant.1.followed.counted in
+    inside_plan _ _ _ i _ (sym c.lowest.ensures ∙ c.in-Some.is)
 
 pub next-next-requires-clause-below : goal.next-next-requires-clause-below
-next-next-requires-clause-below c = let i = c.loop-core.invariant.1.followed.counted in below_plan _ _ _ i _ (sym c.lowest.ensures ∙ c.in-Some.is)
+next-next-requires-clause-below c = let i = c.loop-core.invariant.1.followed.counted in
+    below_plan _ _ _ i _ (sym c.lowest.ensures ∙ c.in-Some.is)
 
 pub access_at-access-requires-clause-core : goal.access_at-access-requires-clause-core
 access_at-access-requires-clause-core c =
-    touched_there c.requires.valid c.requires.touched c.loop-core.invariant.1 (sym c.lowest.ensures ∙ c.in-Some.is) c.next-next.ensures.at
+    touched_there c.requires.valid c.requires.touched c.loop-core.invariant.1 (sym c.lowest.ensures ∙ c.in-Some.is)
+    c.next-next.ensures.at
 
 pub note-requires-clause-core : goal.note-requires-clause-core
 note-requires-clause-core c =
@@ -39,23 +42,28 @@ note-requires-clause-core c =
 
 pub note-requires-clause-numbers : goal.note-requires-clause-numbers
 note-requires-clause-numbers c =
-    in_numbers c.requires.valid c.loop-core.invariant.1.followed (sym c.lowest.ensures ∙ c.in-Some.is) c.next-next.ensures.at
+    in_numbers c.requires.valid c.loop-core.invariant.1.followed (sym c.lowest.ensures ∙ c.in-Some.is)
+    c.next-next.ensures.at
 
 pub note-requires-clause-kept : goal.note-requires-clause-kept
 note-requires-clause-kept c =
-    in_clocks c.requires.valid c.loop-core.invariant.1.followed (sym c.lowest.ensures ∙ c.in-Some.is) c.next-next.ensures.at
+    in_clocks c.requires.valid c.loop-core.invariant.1.followed (sym c.lowest.ensures ∙ c.in-Some.is)
+    c.next-next.ensures.at
 
 pub note-requires-clause-some : goal.note-requires-clause-some
 note-requires-clause-some c =
-    some_count c.requires.valid c.loop-core.invariant.1.followed (sym c.lowest.ensures ∙ c.in-Some.is) c.next-next.ensures.at
+    some_count c.requires.valid c.loop-core.invariant.1.followed (sym c.lowest.ensures ∙ c.in-Some.is)
+    c.next-next.ensures.at
 
 pub note-requires-clause-access : goal.note-requires-clause-access
 note-requires-clause-access c =
     let some = sym c.lowest.ensures ∙ c.in-Some.is in
     let at = c.next-next.ensures.at in
-    let found : IsFoundAt c.args.touched.now c.next-next.result.at.core c.next-next.result.at.count c.access_at-access.result =
+    let found : IsFoundAt c.args.touched.now c.next-next.result.at.core c.next-next.result.at.count
+    c.access_at-access.result =
     record { found = c.access_at-access.ensures.found; only = c.access_at-access.ensures.only } in
-    all_told c.access_at-access.result (access_core c.requires.valid c.loop-core.invariant.1.followed some at c.access_at-access.result
+    all_told c.access_at-access.result
+    (access_core c.requires.valid c.loop-core.invariant.1.followed some at c.access_at-access.result
     (told_there c.requires.valid c.requires.touched c.loop-core.invariant.1 some at found))
 
 pub note-requires-clause-each : goal.note-requires-clause-each
@@ -65,10 +73,12 @@ pub note-requires-clause-marked : goal.note-requires-clause-marked
 note-requires-clause-marked c = each_marked c.requires.valid c.loop-core.invariant.1.followed
 
 pub advance-requires-clause-inside : goal.advance-requires-clause-inside
-advance-requires-clause-inside c = let i = c.loop-core.invariant.1.followed.counted in inside_plan _ _ _ i _ (sym c.lowest.ensures ∙ c.in-Some.is)
+advance-requires-clause-inside c = let i = c.loop-core.invariant.1.followed.counted in
+    inside_plan _ _ _ i _ (sym c.lowest.ensures ∙ c.in-Some.is)
 
 pub advance-requires-clause-below : goal.advance-requires-clause-below
-advance-requires-clause-below c = let i = c.loop-core.invariant.1.followed.counted in below_plan _ _ _ i _ (sym c.lowest.ensures ∙ c.in-Some.is)
+advance-requires-clause-below c = let i = c.loop-core.invariant.1.followed.counted in
+    below_plan _ _ _ i _ (sym c.lowest.ensures ∙ c.in-Some.is)
 
 pub loop-core-smaller : goal.loop-core-smaller
 loop-core-smaller c =
@@ -80,10 +90,12 @@ loop-core-preserved c =
     let i = c.loop-core.invariant in
     let next = c.next-next.ensures in
     let more = c.advance.ensures in
-    let found : IsFoundAt c.args.touched.now c.next-next.result.at.core c.next-next.result.at.count c.access_at-access.result =
+    let found : IsFoundAt c.args.touched.now c.next-next.result.at.core c.next-next.result.at.count
+    c.access_at-access.result =
     record { found = c.access_at-access.ensures.found; only = c.access_at-access.ensures.only } in (
       i.0 ++ c.in-Some.core ∷ [],
-      judged_on c.requires.valid c.requires.touched i.1 (sym c.lowest.ensures ∙ c.in-Some.is) next.at found _ _ _ _ more.plan more.counts next.sources
+      judged_on c.requires.valid c.requires.touched i.1 (sym c.lowest.ensures ∙ c.in-Some.is) next.at found _ _ _ _
+          more.plan more.counts next.sources
           (c.cores-in-Some.ensures.all ∙ ap (λ (q : Plan). length q.totals) (sym more.plan)) c.in_ok-note.ensures,
     )
 

@@ -9,9 +9,12 @@ pub returns-then-begun-eq0 : goal.returns-then-begun-eq0
 returns-then-begun-eq0 c =
     let vectors = c.args.vectors.now in
     let parted : Begun vectors c.args.least c.partition_point-begun.result =
-    IsPartitionPoint-from_clause (λ v. leb v.b0 c.args.least) vectors c.partition_point-begun.result c.partition_point-begun.ensures.partitioned
-    (IsPartitionedBy-leb (λ (v : StrideVector). v.b0) vectors c.args.least (begins-rise vectors c.requires)) (λ a r g called. search rules) in
-    from_beginning vectors c.args.least 0 c.beginning.result c.requires (subst (λ (n : ℕ). Begun vectors c.args.least n) c.if-begun-eq0.true parted)
+    IsPartitionPoint-from_clause (λ v. leb v.b0 c.args.least) vectors c.partition_point-begun.result
+    c.partition_point-begun.ensures.partitioned
+    (IsPartitionedBy-leb (λ (v : StrideVector). v.b0) vectors c.args.least (begins-rise vectors c.requires))
+    (λ a r g called. search rules) in
+    from_beginning vectors c.args.least 0 c.beginning.result c.requires
+    (subst (λ (n : ℕ). Begun vectors c.args.least n) c.if-begun-eq0.true parted)
     (ended_none vectors c.args.least) c.beginning.ensures
 
 pub position_from-requires-clause-vector : goal.position_from-requires-clause-vector
@@ -24,8 +27,10 @@ pub position_from-requires-clause-begun : goal.position_from-requires-clause-beg
 position_from-requires-clause-begun c =
     let vectors = c.args.vectors.now in
     let parted : Begun vectors c.args.least c.partition_point-begun.result =
-    IsPartitionPoint-from_clause (λ v. leb v.b0 c.args.least) vectors c.partition_point-begun.result c.partition_point-begun.ensures.partitioned
-    (IsPartitionedBy-leb (λ (v : StrideVector). v.b0) vectors c.args.least (begins-rise vectors c.requires)) (λ a r g called. search rules) in
+    IsPartitionPoint-from_clause (λ v. leb v.b0 c.args.least) vectors c.partition_point-begun.result
+    c.partition_point-begun.ensures.partitioned
+    (IsPartitionedBy-leb (λ (v : StrideVector). v.b0) vectors c.args.least (begins-rise vectors c.requires))
+    (λ a r g called. search rules) in
     let bound = c.partition_point-begun.ensures.bound in
     let some = c.if-begun-eq0.false in
     begins_before vectors c.args.least c.partition_point-begun.result _ parted (omega arith) (omega arith)
@@ -34,19 +39,25 @@ pub returns-in-Some : goal.returns-in-Some
 returns-in-Some c =
     let vectors = c.args.vectors.now in
     let parted : Begun vectors c.args.least c.partition_point-begun.result =
-    IsPartitionPoint-from_clause (λ v. leb v.b0 c.args.least) vectors c.partition_point-begun.result c.partition_point-begun.ensures.partitioned
-    (IsPartitionedBy-leb (λ (v : StrideVector). v.b0) vectors c.args.least (begins-rise vectors c.requires)) (λ a r g called. search rules) in
+    IsPartitionPoint-from_clause (λ v. leb v.b0 c.args.least) vectors c.partition_point-begun.result
+    c.partition_point-begun.ensures.partitioned
+    (IsPartitionedBy-leb (λ (v : StrideVector). v.b0) vectors c.args.least (begins-rise vectors c.requires))
+    (λ a r g called. search rules) in
     let bound = c.partition_point-begun.ensures.bound in
     let some = c.if-begun-eq0.false in
-    from_last vectors c.args.least c.partition_point-begun.result _ _ c.requires parted (omega arith) (omega arith) c.in-Some.ensures
+    from_last vectors c.args.least c.partition_point-begun.result _ _ c.requires parted (omega arith) (omega arith)
+    c.in-Some.ensures
 
 pub returns-in-None : goal.returns-in-None
 returns-in-None c =
     let vectors = c.args.vectors.now in
     let parted : Begun vectors c.args.least c.partition_point-begun.result =
-    IsPartitionPoint-from_clause (λ v. leb v.b0 c.args.least) vectors c.partition_point-begun.result c.partition_point-begun.ensures.partitioned
-    (IsPartitionedBy-leb (λ (v : StrideVector). v.b0) vectors c.args.least (begins-rise vectors c.requires)) (λ a r g called. search rules) in
+    IsPartitionPoint-from_clause (λ v. leb v.b0 c.args.least) vectors c.partition_point-begun.result
+    c.partition_point-begun.ensures.partitioned
+    (IsPartitionedBy-leb (λ (v : StrideVector). v.b0) vectors c.args.least (begins-rise vectors c.requires))
+    (λ a r g called. search rules) in
     let bound = c.partition_point-begun.ensures.bound in
     let some = c.if-begun-eq0.false in
-    from_next vectors c.args.least c.partition_point-begun.result _ c.beginning-in-None.result c.requires parted (omega arith) (omega arith) c.in-None.ensures
+    from_next vectors c.args.least c.partition_point-begun.result _ c.beginning-in-None.result c.requires parted
+    (omega arith) (omega arith) c.in-None.ensures
     c.beginning-in-None.ensures

@@ -23,14 +23,17 @@ loop-earlier-preserved c =
     let e = take_more c.args.accesses.now c.loop-earlier.earlier-index nothing c.loop-earlier-test.true in
     elim c.if-is_open.branch [
       | then-is_open w ↦ subst (λ (o : Option Instr). IsLatest
-          (take (c.loop-earlier.earlier-index + 1) c.args.accesses.now) c.args.later.now c.args.clock.now o) (sym w.found-is)
+          (take (c.loop-earlier.earlier-index + 1) c.args.accesses.now) c.args.later.now c.args.clock.now o)
+          (sym w.found-is)
           (subst (λ (l : List Access). IsLatest l c.args.later.now c.args.clock.now (Some b.at)) (sym e)
           (latest_found (take c.loop-earlier.earlier-index c.args.accesses.now) c.args.later.now b c.args.clock.now
           (sym c.is_open.ensures ∙ w.if-is_open.true)))
       | else-is_open w ↦ subst (λ (o : Option Instr). IsLatest
-          (take (c.loop-earlier.earlier-index + 1) c.args.accesses.now) c.args.later.now c.args.clock.now o) (sym w.found-is)
+          (take (c.loop-earlier.earlier-index + 1) c.args.accesses.now) c.args.later.now c.args.clock.now o)
+          (sym w.found-is)
           (subst (λ (l : List Access). IsLatest l c.args.later.now c.args.clock.now c.loop-earlier.found) (sym e)
           (latest_skip
-          (take c.loop-earlier.earlier-index c.args.accesses.now) c.args.later.now b c.args.clock.now c.loop-earlier.found c.loop-earlier.invariant
+          (take c.loop-earlier.earlier-index c.args.accesses.now) c.args.later.now b c.args.clock.now
+          c.loop-earlier.found c.loop-earlier.invariant
           (sym c.is_open.ensures ∙ w.if-is_open.false)))
     ]

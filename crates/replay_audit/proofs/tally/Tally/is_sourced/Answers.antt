@@ -19,11 +19,14 @@ returns-in-None c =
     let counts = c.self.inside.counts.items in
     let all = ap (λ (t : Tallied). length t.plan.totals) c.self.view_is in
     let cores = h.valid.each_core in
-    let found : AreSources (log_edges which r) (instr c.args.core (count_of counts c.args.core + 1)) (sources_in c.index.result.now) =
-    wanted_here which r c.self.inside.sources counts c.self.inside.wanted.items c.args.core c.index.result.now c.index.result.now h
+    let found : AreSources (log_edges which r) (instr c.args.core (count_of counts c.args.core + 1))
+    (sources_in c.index.result.now) =
+    wanted_here which r c.self.inside.sources counts c.self.inside.wanted.items c.args.core c.index.result.now
+    c.index.result.now h
     (omega (arith, c.requires)) c.index.ensures in
     let none : AreSources (log_edges which r) (instr c.args.core (count_of counts c.args.core + 1)) no_counts =
-    subst (λ (o : Option (List ℕ)). AreSources (log_edges which r) (instr c.args.core (count_of counts c.args.core + 1)) (sources_in o)) c.in-None.is found in
+    subst (λ (o : Option (List ℕ)). AreSources (log_edges which r) (instr c.args.core (count_of counts c.args.core + 1))
+    (sources_in o)) c.in-None.is found in
     sourced_in which r u.plan (count_of u.counts) c.args.core (count_of u.counts c.args.core + 1) no_counts h.valid
     (ap (λ (t : Tallied). t.plan) (sym c.self.view_is))
     (subst (λ (t : Tallied). AreSources t.plan.edges (next_of t.counts c.args.core) no_counts) c.self.view_is none)

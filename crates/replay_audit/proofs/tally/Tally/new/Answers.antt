@@ -9,4 +9,5 @@ invariant_of-result c =
     let r = c.args.recording.now in
     counts_start c.args.which r _ c.in_ok-counts.counts.items c.in_ok-wanted.wanted.items c.requires
     (c.in_ok-wanted.ensures.plan ∙ c.in_ok-sources.ensures) c.in_ok-counts.ensures
-    (subst (λ (q : Plan). AreWanted q.edges r.params.cores c.in_ok-wanted.wanted.items) c.in_ok-sources.ensures c.in_ok-wanted.ensures.wanted)
+    (subst (λ (q : Plan). AreWanted q.edges r.params.cores c.in_ok-wanted.wanted.items) c.in_ok-sources.ensures
+    c.in_ok-wanted.ensures.wanted)

@@ -14,6 +14,7 @@ returns-then-wanted-of c =
 pub returns : goal.returns
 returns c =
     let u = c.args.self.now in
-    met_by c.self.inside.which c.self.inside.recording.now u.plan c.self.invariant.valid (ap (λ (v : UnderWay). v.plan) c.self.view_is) (counts_in u.state)
+    met_by c.self.inside.which c.self.inside.recording.now u.plan c.self.invariant.valid
+    (ap (λ (v : UnderWay). v.plan) c.self.view_is) (counts_in u.state)
     c.args.core (counts_in u.state c.args.core + 1) c.args.wanted.now c.requires.wanted
     (λ i below. c.loop-of.invariant i (omega (arith, c.cores-of-end.ensures.all, c.loop-of-test.false)))

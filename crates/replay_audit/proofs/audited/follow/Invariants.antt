@@ -3,7 +3,7 @@ use Rattle.std.proofs.Common.{ℕ, List}
 use Rattle.replay_core.proofs.Low.{left}
 use Rattle.replay_audit.specs.Tallies.{count_of}
 use Rattle.replay_audit.proofs.Auditing.{Along}
-use Rattle.replay_audit.proofs.audited.Pass.over.Given as goal
+use Rattle.replay_audit.proofs.audited.follow.Given as goal
 
 abbrev pub invariant-loop-core : goal.invariant-loop-core
 invariant-loop-core l = (order : List ℕ) × Along l.fn.which l.recording order l.tally l.replay l.trail

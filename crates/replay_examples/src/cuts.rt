@@ -1,8 +1,9 @@
-//! Recordings whose logs were written by hand.
-use crate::{cut_with, cut_without, has_instr, state_of};
+//! Cuts and the states at them, of recordings of two and of three cores.
+use crate::slow_cuts::{Counts, numbered, slow_with, slow_without};
+use cut_replay::{cut_with, cut_without, has_instr, state_of};
 use log_codec::read;
 use replay_audit::{Audited, audit};
-use rtr_types::{Cut, Edge, Instr, Which};
+use rtr_types::{Instr, Which};
 use rv_core::{LoadNote, Outcome};
 use std::alloc::{AllocError, Global};
 use std::test::Fail;
@@ -23,130 +24,6 @@ const THREE: [u8; 86] = [
     4, 4, 1, 2, 3, 1, 2, 3, 0, 1, 3, 3, 1, 4, 3, 1, 3, 2, 1, 1, 3, 2, 1, 1, 3, 2, 1, 1, 4, 5, 1, 1,
     3, 3, 1, 2, 3, 4, 1, 1, 1, 1, 2, 3,
 ];
-
-/// The edges of the reduced log of the three cores.
-const EDGES: [Edge; 5] = [
-    Edge {
-        from: Instr { core: 0, count: 3 },
-        to: Instr { core: 1, count: 2 },
-    },
-    Edge {
-        from: Instr { core: 0, count: 3 },
-        to: Instr { core: 2, count: 2 },
-    },
-    Edge {
-        from: Instr { core: 1, count: 3 },
-        to: Instr { core: 2, count: 3 },
-    },
-    Edge {
-        from: Instr { core: 2, count: 2 },
-        to: Instr { core: 1, count: 3 },
-    },
-    Edge {
-        from: Instr { core: 2, count: 3 },
-        to: Instr { core: 0, count: 4 },
-    },
-];
-
-/// A cut of three cores, without its other places.
-#[derive(Clone, Copy, PartialEq, Eq)]
-struct Counts {
-    first: u32,
-    second: u32,
-    third: u32,
-}
-
-impl Counts {
-    /// The cut with this number, of 150 within the totals 5, 4 and 4.
-    fn numbered(number: u32) -> Counts {
-        Counts {
-            first: number % 6,
-            second: number / 6 % 5,
-            third: number / 30,
-        }
-    }
-
-    /// The cut's counts.
-    fn of(cut: &Cut) -> Counts {
-        Counts {
-            first: cut.counts[0],
-            second: cut.counts[1],
-            third: cut.counts[2],
-        }
-    }
-
-    /// Whether the cut holds the instruction.
-    fn holds(self, at: Instr) -> bool {
-        let count = match at.core {
-            0 => self.first,
-            1 => self.second,
-            _ => self.third,
-        };
-        at.count <= count
-    }
-
-    /// Whether the cut holds each source of what it holds.
-    fn is_closed(self) -> bool {
-        for edge in &EDGES {
-            if self.holds(edge.to) && !self.holds(edge.from) {
-                return false;
-            }
-        }
-        true
-    }
-}
-
-/// The instruction with this number, of 13.
-fn numbered(number: u32) -> Instr {
-    if number < 5 {
-        return Instr {
-            core: 0,
-            count: number + 1,
-        };
-    }
-    if number < 9 {
-        return Instr {
-            core: 1,
-            count: number - 4,
-        };
-    }
-    Instr {
-        core: 2,
-        count: number - 8,
-    }
-}
-
-/// The least counts of all closed cuts with the instruction.
-fn slow_with(at: Instr) -> Counts {
-    let mut least = Counts::numbered(149);
-    for number in 0..150 {
-        let cut = Counts::numbered(number);
-        if cut.holds(at) && cut.is_closed() {
-            least = Counts {
-                first: cut.first.min(least.first),
-                second: cut.second.min(least.second),
-                third: cut.third.min(least.third),
-            };
-        }
-    }
-    least
-}
-
-/// The greatest counts of all closed cuts without it.
-fn slow_without(at: Instr) -> Counts {
-    let mut greatest = Counts::numbered(0);
-    for number in 0..150 {
-        let cut = Counts::numbered(number);
-        if !cut.holds(at) && cut.is_closed() {
-            greatest = Counts {
-                first: cut.first.max(greatest.first),
-                second: cut.second.max(greatest.second),
-                third: cut.third.max(greatest.third),
-            };
-        }
-    }
-    greatest
-}
 
 /// Whether the two cuts of the instruction are those that the slow search finds.
 fn is_found(audited: &Audited, at: Instr) -> Result<bool, AllocError> {

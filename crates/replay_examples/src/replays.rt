@@ -1,36 +1,36 @@
-//! Recordings whose logs were worked out by hand.
+//! Replays by either log, in the low order and in another one.
 ghost use Rattle.std.specs.Prelude.{IfOk};
 ghost use Rattle.log_codec.specs.Validity.{Valid};
 
-use crate::{Advanced, Replay, ReplayFault};
 use log_codec::{Recording, read};
+use replay_core::{Advanced, Replay, ReplayFault};
 use rtr_types::{CORES_MAX, Cut, Which};
 use rv_core::{LoadNote, Outcome};
-use std::alloc::Global;
+use std::alloc::{AllocError, Global};
 use std::test::Fail;
 
-// Two cores, each of which stores its number and 5 to word 8: the header and the image. The totals and
-// the logs follow.
+/// Two cores, each of which stores its number and 5 to word 8: the header and the image. The totals and
+/// the logs follow.
 const TWO_STORES: [u8; 21] = [
     0x52, 0x54, 0x52, 1, 2, 0x90, 0x4e, 0x10, 0x0c, 0x93, 2, 0x55, 0, 0x23, 0x20, 0x50, 2, 0x73, 0,
     0, 0,
 ];
 
-// Two cores that store to word 16 and load it in turn, with the totals and the logs: 0:3 before 1:2,
-// and 1:3 before 0:4.
+/// Two cores that store to word 16 and load it in turn, with the totals and the logs: 0:3 before 1:2,
+/// and 1:3 before 0:4.
 const IN_TURN: [u8; 57] = [
     0x52, 0x54, 0x52, 1, 2, 0x90, 0x4e, 0x20, 0x20, 0x63, 0x1a, 5, 0, 0x93, 2, 0x70, 0, 0x23, 0x20,
     0x50, 4, 3, 0x23, 0, 4, 0x73, 0, 0, 0, 0x83, 0x23, 0, 4, 0x23, 0x20, 0xa0, 4, 0x73, 0, 0, 0, 5,
     4, 1, 2, 3, 1, 4, 3, 1, 1, 3, 2, 1, 1, 3, 4,
 ];
 
-// Two cores, each of which adds its number and 1 to word 8 by AMOADD.W, core 0 first: 0:3 before 1:3.
+/// Two cores, each of which adds its number and 1 to word 8 by AMOADD.W, core 0 first: 0:3 before 1:3.
 const ADDED_UP: [u8; 36] = [
     0x52, 0x54, 0x52, 1, 2, 0x90, 0x4e, 0x10, 0x10, 0x93, 3, 0, 2, 0x93, 2, 0x15, 0, 0x2f, 0xa3,
     0x53, 0, 0x73, 0, 0, 0, 4, 4, 1, 3, 3, 0, 1, 1, 3, 3, 0,
 ];
 
-// The recording of two stores with these totals and logs.
+/// The recording of two stores with these totals and logs.
 fn two_stores(alloc: Global, rest: &[u8]) -> Result<Recording, Fail>
     ensures { IfOk result (λ recording. Valid recording) }
 {
@@ -39,13 +39,13 @@ fn two_stores(alloc: Global, rest: &[u8]) -> Result<Recording, Fail>
     Ok(read(alloc, &bytes)?)
 }
 
-// How the replay is refused, if it is.
+/// How the replay is refused, if it is.
 fn refused(alloc: Global, rest: &[u8], which: Which) -> Result<Option<ReplayFault>, Fail> {
     let recording = two_stores(alloc, rest)?;
     Ok(Replay::run(alloc, &recording, which).err())
 }
 
-// A cut of two cores.
+/// A cut of two cores.
 fn cut(first: u32, second: u32) -> Cut {
     let mut counts = [0; CORES_MAX as usize];
     counts[0] = first;
@@ -58,12 +58,12 @@ fn cut(first: u32, second: u32) -> Cut {
 fn logs_by_hand(rt: HostRuntime) -> Result<(), Fail> {
     let round = [3, 3, 1, 2, 2, 1, 2, 2, 0, 0];
     let stuck = Some(ReplayFault::Stuck { cut: cut(1, 1) });
-    assert_eq!(rt; refused(rt.alloc(), &round, Which::Reduced)?, stuck);
+    assert!(rt; refused(rt.alloc(), &round, Which::Reduced)? == stuck);
     let past = [4, 3, 1, 2, 2, 0, 0, 0];
     let short = Some(ReplayFault::Short { core: 0, count: 3 });
-    assert_eq!(rt; refused(rt.alloc(), &past, Which::Reduced)?, short);
+    assert!(rt; refused(rt.alloc(), &past, Which::Reduced)? == short);
     let open = [3, 3, 0, 0, 0, 0];
-    assert_eq!(rt; refused(rt.alloc(), &open, Which::Reduced)?, None);
+    assert!(rt; refused(rt.alloc(), &open, Which::Reduced)?.is_none());
     Ok(())
 }
 
@@ -72,12 +72,12 @@ fn logs_by_hand(rt: HostRuntime) -> Result<(), Fail> {
 fn stuck_by_one_log(rt: HostRuntime) -> Result<(), Fail> {
     let rest = [3, 3, 1, 2, 2, 0, 1, 1, 2, 2, 1, 1, 2, 2];
     let stuck = Some(ReplayFault::Stuck { cut: cut(1, 1) });
-    assert_eq!(rt; refused(rt.alloc(), &rest, Which::Reduced)?, None);
-    assert_eq!(rt; refused(rt.alloc(), &rest, Which::Regulated)?, stuck);
+    assert!(rt; refused(rt.alloc(), &rest, Which::Reduced)?.is_none());
+    assert!(rt; refused(rt.alloc(), &rest, Which::Regulated)? == stuck);
     Ok(())
 }
 
-// What each of the two cores in turn leaves.
+/// Whether the outcome is what each of the two cores in turn leaves.
 fn is_left(outcome: &Outcome) -> bool {
     let [first, second] = outcome.cores.as_slice() else {
         return false;
@@ -103,7 +103,7 @@ fn is_left(outcome: &Outcome) -> bool {
         && others.as_slice() == [other].as_slice()
 }
 
-// What each core's AMO found, and what the two leave.
+/// Whether the outcome has what each core's AMO found, and what the two leave.
 fn is_added_up(outcome: &Outcome) -> bool {
     let [ones, others] = outcome.loads.as_slice() else {
         return false;
@@ -118,34 +118,60 @@ fn is_added_up(outcome: &Outcome) -> bool {
         && others.as_slice() == [note(1)].as_slice()
 }
 
+/// The outcome of the low order of the log of these bytes.
+fn replayed(alloc: Global, bytes: &[u8], which: Which) -> Result<Outcome, Fail> {
+    let recording = read(alloc, bytes)?;
+    Ok(Replay::run(alloc, &recording, which)?)
+}
+
+// Two AMOs of one word, by either log.
 #[test]
 fn added_up(rt: HostRuntime) -> Result<(), Fail> {
-    let recording = read(rt.alloc(), &ADDED_UP)?;
     for which in [Which::Reduced, Which::Regulated] {
-        let outcome = Replay::run(rt.alloc(), &recording, which)?;
-        assert!(rt; is_added_up(&outcome));
+        assert!(rt; is_added_up(&replayed(rt.alloc(), &ADDED_UP, which)?));
     }
     Ok(())
 }
 
-// The low order of each log, and another whole order, leave the same.
+// What the low order of each log leaves.
 #[test]
 fn in_turn(rt: HostRuntime) -> Result<(), Fail> {
+    for which in [Which::Reduced, Which::Regulated] {
+        assert!(rt; is_left(&replayed(rt.alloc(), &IN_TURN, which)?));
+    }
+    Ok(())
+}
+
+/// Whether the core, which is ready, retires its next instruction.
+fn retires(replay: &mut Replay, core: u8) -> Result<bool, AllocError> {
+    if core >= replay.cores() {
+        return Ok(false);
+    }
+    replay.make_room()?;
+    if !replay.has_room() || !replay.ready(core) {
+        return Ok(false);
+    }
+    Ok(replay.advance(core) != Advanced::Short)
+}
+
+/// Whether the cores retire their next instructions in this order, and then all have their totals.
+fn is_whole_order(replay: &mut Replay, order: &[u8]) -> Result<bool, AllocError> {
+    for &core in order {
+        if replay.whole() || !retires(replay, core)? {
+            return Ok(false);
+        }
+    }
+    Ok(replay.whole() && replay.lowest().is_none())
+}
+
+// Another whole order than the low one leaves the same.
+#[test]
+fn another_order(rt: HostRuntime) -> Result<(), Fail> {
     let recording = read(rt.alloc(), &IN_TURN)?;
     for which in [Which::Reduced, Which::Regulated] {
-        let outcome = Replay::run(rt.alloc(), &recording, which)?;
-        assert!(rt; is_left(&outcome));
         let mut replay = Replay::new(rt.alloc(), &recording, which)?;
-        for core in [1, 0, 0, 0, 1, 1, 1, 0, 0] {
-            assert!(rt; !replay.whole());
-            replay.make_room()?;
-            assert!(rt; replay.has_room());
-            assert!(rt; core < replay.cores() && replay.ready(core));
-            assert!(rt; replay.advance(core) != Advanced::Short);
-        }
-        assert!(rt; replay.whole());
-        assert_eq!(rt; replay.cut(), cut(5, 4));
-        assert_eq!(rt; replay.lowest(), None);
+        assert!(rt; is_whole_order(&mut replay, &[1, 0, 0, 0, 1, 1, 1, 0, 0])?);
+        assert!(rt; replay.cut() == cut(5, 4));
         assert!(rt; is_left(&replay.into_outcome(rt.alloc())?));
     }
     Ok(())

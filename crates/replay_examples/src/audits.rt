@@ -1,10 +1,10 @@
-//! Recordings whose logs were written by hand.
+//! Audits by either log, and judgements by what an audit's low order touched.
 ghost use Rattle.std.specs.Prelude.{◌≡◌, [], ◌∷◌, IfOk};
 ghost use Rattle.log_codec.specs.Validity.{Valid};
 ghost use Rattle.replay_audit.specs.Touches.{AreTouches, as_touch};
 
-use crate::{AuditFault, Audited, Touch, audit, judge, ordered};
 use log_codec::{Recording, read};
+use replay_audit::{AuditFault, Audited, Touch, audit, judge, ordered};
 use rtr_types::{Access, CORES_MAX, Cut, Instr, Items, Which};
 use std::alloc::{AllocError, Global};
 use std::test::Fail;
@@ -48,6 +48,12 @@ fn refused(
     Ok(audit(alloc, recording, which).err())
 }
 
+/// Whether the reduced log of two stores has a whole low order.
+fn is_ordered(alloc: Global, logs: &[u8]) -> Result<bool, Fail> {
+    let recording = stores(alloc, 2, logs)?;
+    Ok(ordered(alloc, &recording, Which::Reduced)?)
+}
+
 /// That the second instruction of one core and that of another are unordered.
 fn unordered(first: u8, second: u8) -> Option<AuditFault> {
     Some(AuditFault::Undetermined {
@@ -62,22 +68,27 @@ fn unordered(first: u8, second: u8) -> Option<AuditFault> {
     })
 }
 
-// A log that goes round, and a total past the program's end.
+// A log that goes round.
 #[test]
-fn orders_that_end(rt: HostRuntime) -> Result<(), Fail> {
-    let alloc = rt.alloc();
+fn a_log_that_goes_round(rt: HostRuntime) -> Result<(), Fail> {
     let mut counts = [0; PLACES];
     counts[0] = 1;
     counts[1] = 1;
     let cut = Cut { cores: 2, counts };
     let round = [3, 3, 1, 2, 2, 1, 2, 2, 0, 0];
     let stuck = Some(AuditFault::Stuck { cut });
-    assert_eq!(rt; refused(alloc, 2, &round, Which::Reduced)?, stuck);
-    assert!(rt; !ordered(alloc, &stores(alloc, 2, &round)?, Which::Reduced)?);
+    assert!(rt; refused(rt.alloc(), 2, &round, Which::Reduced)? == stuck);
+    assert!(rt; !is_ordered(rt.alloc(), &round)?);
+    Ok(())
+}
+
+// A total past the program's end.
+#[test]
+fn a_total_too_great(rt: HostRuntime) -> Result<(), Fail> {
     let past = [4, 3, 1, 2, 2, 0, 0, 0];
     let short = Some(AuditFault::Short { core: 0, count: 3 });
-    assert_eq!(rt; refused(alloc, 2, &past, Which::Reduced)?, short);
-    assert!(rt; ordered(alloc, &stores(alloc, 2, &past)?, Which::Reduced)?);
+    assert!(rt; refused(rt.alloc(), 2, &past, Which::Reduced)? == short);
+    assert!(rt; is_ordered(rt.alloc(), &past)?);
     Ok(())
 }
 
@@ -86,10 +97,10 @@ fn orders_that_end(rt: HostRuntime) -> Result<(), Fail> {
 fn stores_that_are_left_open(rt: HostRuntime) -> Result<(), Fail> {
     let alloc = rt.alloc();
     let two = [3, 3, 1, 2, 2, 0, 0, 0];
-    assert_eq!(rt; refused(alloc, 2, &two, Which::Reduced)?, None);
-    assert_eq!(rt; refused(alloc, 2, &two, Which::Regulated)?, unordered(0, 1));
+    assert!(rt; refused(alloc, 2, &two, Which::Reduced)?.is_none());
+    assert!(rt; refused(alloc, 2, &two, Which::Regulated)? == unordered(0, 1));
     let three = [3, 3, 3, 1, 2, 2, 0, 0, 0, 0, 0, 0, 0, 0, 0, 0, 0];
-    assert_eq!(rt; refused(alloc, 3, &three, Which::Reduced)?, unordered(1, 2));
+    assert!(rt; refused(alloc, 3, &three, Which::Reduced)? == unordered(1, 2));
     Ok(())
 }
 
@@ -140,26 +151,32 @@ fn judged(alloc: Global, audited: &Audited) -> Result<Option<bool>, AllocError> 
 fn stores_that_are_judged(rt: HostRuntime) -> Result<(), Fail> {
     let two = [3, 3, 1, 2, 2, 0, 0, 0];
     let audited = audit(rt.alloc(), stores(rt.alloc(), 2, &two)?, Which::Reduced)?;
-    assert_eq!(rt; judged(rt.alloc(), &audited)?, Some(true));
+    assert!(rt; judged(rt.alloc(), &audited)? == Some(true));
     Ok(())
 }
 
-// What an audit hands on: four accesses, the outcome, and the clocks by the log.
+/// Whether the log is this one, and the audit has four accesses, the whole memory, and a clock by which 1:3
+/// leads to 0:4.
+fn is_handed_over(audited: &Audited, which: Which) -> bool {
+    let totals = audited.recording().totals.as_slice();
+    if totals.is_empty() || totals[0] < 4 {
+        return false;
+    }
+    let clock = audited.clock(Instr { core: 0, count: 4 });
+    audited.which() == which
+        && audited.accesses().len() == 4
+        && audited.outcome().words.len() == 32
+        && (clock.get(0), clock.get(1)) == (4, 3)
+}
+
+// What an audit hands on.
 #[test]
 fn a_word_handed_over(rt: HostRuntime) -> Result<(), Fail> {
     for which in [Which::Reduced, Which::Regulated] {
         let audited = audit(rt.alloc(), read(rt.alloc(), &HANDED_OVER)?, which)?;
-        assert!(rt; audited.which() == which);
-        assert_eq!(rt; audited.accesses().len(), 4);
-        assert_eq!(rt; audited.outcome().words.len(), 32);
-        let totals = audited.recording().totals.as_slice();
-        assert!(rt; !totals.is_empty() && totals[0] >= 4);
-        let clock = audited.clock(Instr { core: 0, count: 4 });
-        assert_eq!(rt; clock.get(0), 4);
-        assert_eq!(rt; clock.get(1), 3);
+        assert!(rt; is_handed_over(&audited, which));
         let (recording, outcome) = audited.into_parts();
-        assert_eq!(rt; recording.image.len(), 32);
-        assert_eq!(rt; outcome.cores.len(), 2);
+        assert!(rt; (recording.image.len(), outcome.cores.len()) == (32, 2));
     }
     Ok(())
 }

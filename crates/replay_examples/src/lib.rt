@@ -1,0 +1,12 @@
+//! Recordings whose logs were written by hand: their replays, their audits, and the cuts of their runs. It
+//! has tests alone, and stands apart so that the crates above replays and audits don't wait for it.
+#![tactic(auto)]
+
+#[cfg(test)]
+mod audits;
+#[cfg(test)]
+mod cuts;
+#[cfg(test)]
+mod replays;
+#[cfg(test)]
+mod slow_cuts;
