@@ -10,14 +10,8 @@ trap 'rm -rf "$place"' EXIT
 # A word as four bytes, the least first.
 word() { printf "\\x$(printf %02x $(($1 & 255)))\\x$(printf %02x $(($1 >> 8 & 255)))\\x$(printf %02x $(($1 >> 16 & 255)))\\x$(printf %02x $(($1 >> 24 & 255)))"; }
 
-# The lock for so many rounds: ADDI x5, x0, rounds, and then the loop.
-lock() {
-  word $(($1 << 20 | 0x293))
-  for w in 0x00451313 0x00154393 0x00439413 0x00100493 0x10932023 0x12702023 0x10042583 0x00058663 0x12002603 \
-    0xfe760ae3 0x13002683 0x00168693 0x12d02823 0x10032023 0xfff28293 0xfc029ae3 0x00000073; do
-    word $w
-  done
-}
+# The lock for so many rounds, 1 to 2047.
+lock() { "$tool" gen --shape lock --number "$1"; }
 
 # Cores that each count up a word of their own, and every eighth time a word of all: LUI and ADDI x5, a million rounds,
 # so that the limit stops each core; x6 is the core's own block; the loop, and ECALL.

@@ -14,48 +14,56 @@ pub fn field(word: u32, low: u32, width: u32) -> u32
     (word >> low) & ((1 << width) - 1)
 }
 
+/// The opcode, bits 0 to 6: which format and group of instructions the word is of.
 pub fn opcode(word: u32) -> u32
     ensures { result ≡ opcode word }
 {
     field(word, 0, 7)
 }
 
+/// The destination register, bits 7 to 11: 0 to 31.
 pub fn rd(word: u32) -> u8
     ensures { result ≡ rd word }
 {
     field(word, 7, 5) as u8
 }
 
+/// Bits 12 to 14: which instruction of its group.
 pub fn funct3(word: u32) -> u32
     ensures { result ≡ funct3 word }
 {
     field(word, 12, 3)
 }
 
+/// The first source register, bits 15 to 19: 0 to 31.
 pub fn rs1(word: u32) -> u8
     ensures { result ≡ rs1 word }
 {
     field(word, 15, 5) as u8
 }
 
+/// The second source register, bits 20 to 24: 0 to 31. Of a shift by a constant, the amount.
 pub fn rs2(word: u32) -> u8
     ensures { result ≡ rs2 word }
 {
     field(word, 20, 5) as u8
 }
 
+/// Bits 25 to 31: with `funct3`, which instruction of its group.
 pub fn funct7(word: u32) -> u32
     ensures { result ≡ funct7 word }
 {
     field(word, 25, 7)
 }
 
+/// Bits 27 to 31: which atomic memory operation. The two bits below are aq and rl.
 pub fn funct5(word: u32) -> u32
     ensures { result ≡ funct5 word }
 {
     field(word, 27, 5)
 }
 
+/// Bits 12 to 31, the bare twenty bits of LUI and AUIPC.
 pub fn upper(word: u32) -> u32
     ensures { result ≡ upper word }
 {
@@ -76,18 +84,21 @@ fn sign_extended(bits: u32, width: u32) -> i32
     }
 }
 
+/// The immediate of format I, from -2048 to 2047: bits 20 to 31, the topmost the sign.
 pub fn immediate_i(word: u32) -> i32
     ensures { result ≡ immediate_i word }
 {
     sign_extended(field(word, 20, 12), 12)
 }
 
+/// The immediate of format S, from -2048 to 2047: the low five bits from bit 7, the rest from bit 25.
 pub fn immediate_s(word: u32) -> i32
     ensures { result ≡ immediate_s word }
 {
     sign_extended(field(word, 7, 5) + field(word, 25, 7) * (1 << 5), 12)
 }
 
+/// The offset of a branch, format B, even and from -4096 to 4094, from the branch's own address.
 pub fn immediate_b(word: u32) -> i32
     ensures { result ≡ immediate_b word }
 {
@@ -98,6 +109,7 @@ pub fn immediate_b(word: u32) -> i32
     sign_extended(bits, 13)
 }
 
+/// The offset of JAL, format J, even and from -1048576 to 1048574, from the jump's own address.
 pub fn immediate_j(word: u32) -> i32
     ensures { result ≡ immediate_j word }
 {

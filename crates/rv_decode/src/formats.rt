@@ -5,6 +5,7 @@ ghost use Rattle.rv_decode.specs.Words.{word_r, word_i, word_s, word_b, word_u, 
 
 use crate::fields::field;
 
+/// A word of format R: two source registers and a destination.
 #[tactic(auto, using(crate::proofs::Joins::join_r), unfolding(crate::specs::Words::word_r))]
 pub fn word_r(opcode: u32, funct3: u32, funct7: u32, rd: u8, rs1: u8, rs2: u8) -> u32
     requires opcode { opcode < 2 ^ 7 }
@@ -23,6 +24,7 @@ pub fn word_r(opcode: u32, funct3: u32, funct7: u32, rd: u8, rs1: u8, rs2: u8) -
         | funct7 << 25
 }
 
+/// A word of format I: a source register, a destination and twelve bits of immediate, the low ones of `imm`.
 #[tactic(auto, using(crate::proofs::Joins::join_i), unfolding(crate::specs::Words::word_i))]
 pub fn word_i(opcode: u32, funct3: u32, rd: u8, rs1: u8, imm: i32) -> u32
     requires opcode { opcode < 2 ^ 7 }
@@ -35,6 +37,7 @@ pub fn word_i(opcode: u32, funct3: u32, rd: u8, rs1: u8, imm: i32) -> u32
     opcode | (rd as u32) << 7 | funct3 << 12 | (rs1 as u32) << 15 | field(bits, 0, 12) << 20
 }
 
+/// A word of format S: a store of `rs2` at `rs1` and twelve bits of offset, the low ones of `imm`.
 #[tactic(auto, using(crate::proofs::Joins::join_s), unfolding(crate::specs::Words::word_s))]
 pub fn word_s(opcode: u32, funct3: u32, rs1: u8, rs2: u8, imm: i32) -> u32
     requires opcode { opcode < 2 ^ 7 }
@@ -52,6 +55,7 @@ pub fn word_s(opcode: u32, funct3: u32, rs1: u8, rs2: u8, imm: i32) -> u32
         | field(bits, 5, 7) << 25
 }
 
+/// A word of format B: a branch that compares two registers, by the low thirteen bits of `offset` but for the lowest.
 #[tactic(auto, using(crate::proofs::Joins::join_b), unfolding(crate::specs::Words::word_b))]
 pub fn word_b(opcode: u32, funct3: u32, rs1: u8, rs2: u8, offset: i32) -> u32
     requires opcode { opcode < 2 ^ 7 }
@@ -71,6 +75,7 @@ pub fn word_b(opcode: u32, funct3: u32, rs1: u8, rs2: u8, offset: i32) -> u32
         | field(bits, 12, 1) << 31
 }
 
+/// A word of format U: a destination and the twenty bits of LUI and AUIPC.
 #[tactic(auto, using(crate::proofs::Joins::join_u), unfolding(crate::specs::Words::word_u))]
 pub fn word_u(opcode: u32, rd: u8, upper: u32) -> u32
     requires opcode { opcode < 2 ^ 7 }
@@ -81,6 +86,7 @@ pub fn word_u(opcode: u32, rd: u8, upper: u32) -> u32
     opcode | (rd as u32) << 7 | upper << 12
 }
 
+/// A word of format J: a jump with a destination, by the low twenty-one bits of `offset` but for the lowest.
 #[tactic(auto, using(crate::proofs::Joins::join_j), unfolding(crate::specs::Words::word_j))]
 pub fn word_j(opcode: u32, rd: u8, offset: i32) -> u32
     requires opcode { opcode < 2 ^ 7 }

@@ -4,26 +4,37 @@ ghost use Rattle.trace_gen.specs.Assembly as spec;
 
 use rv_decode::{Alu, Cond, Op, Width};
 
+/// Register x0, which reads 0 always.
 pub const X0: u8 = 0;
 
+/// Register x5.
 pub const X5: u8 = 5;
 
+/// Register x6.
 pub const X6: u8 = 6;
 
+/// Register x7.
 pub const X7: u8 = 7;
 
+/// Register x8.
 pub const X8: u8 = 8;
 
+/// Register x9.
 pub const X9: u8 = 9;
 
+/// Register x10, in which a core's number stands at the start.
 pub const X10: u8 = 10;
 
+/// Register x11.
 pub const X11: u8 = 11;
 
+/// Register x12.
 pub const X12: u8 = 12;
 
+/// Register x13.
 pub const X13: u8 = 13;
 
+/// ADDI: `rd` becomes `rs1` plus `imm`, -2048 to 2047.
 pub fn addi(rd: u8, rs1: u8, imm: i32) -> Op
     ensures { result ≡ spec.addi rd rs1 imm }
 {
@@ -35,6 +46,7 @@ pub fn addi(rd: u8, rs1: u8, imm: i32) -> Op
     }
 }
 
+/// XORI: `rd` becomes `rs1` combined with `imm`, -2048 to 2047, by exclusive or.
 pub fn xori(rd: u8, rs1: u8, imm: i32) -> Op
     ensures { result ≡ spec.xori rd rs1 imm }
 {
@@ -46,6 +58,7 @@ pub fn xori(rd: u8, rs1: u8, imm: i32) -> Op
     }
 }
 
+/// SLLI: `rd` becomes `rs1` shifted left by `imm`, 0 to 31.
 pub fn slli(rd: u8, rs1: u8, imm: i32) -> Op
     ensures { result ≡ spec.slli rd rs1 imm }
 {
@@ -57,6 +70,7 @@ pub fn slli(rd: u8, rs1: u8, imm: i32) -> Op
     }
 }
 
+/// LW: `rd` becomes the word at `rs1` plus `imm`.
 pub fn lw(rd: u8, imm: i32, rs1: u8) -> Op
     ensures { result ≡ spec.lw rd imm rs1 }
 {
@@ -68,6 +82,7 @@ pub fn lw(rd: u8, imm: i32, rs1: u8) -> Op
     }
 }
 
+/// SW: the word at `rs1` plus `imm` becomes `rs2`.
 pub fn sw(rs2: u8, imm: i32, rs1: u8) -> Op
     ensures { result ≡ spec.sw rs2 imm rs1 }
 {
@@ -79,6 +94,7 @@ pub fn sw(rs2: u8, imm: i32, rs1: u8) -> Op
     }
 }
 
+/// SB: the byte at `rs1` plus `imm` becomes the lowest of `rs2`.
 pub fn sb(rs2: u8, imm: i32, rs1: u8) -> Op
     ensures { result ≡ spec.sb rs2 imm rs1 }
 {
@@ -90,6 +106,7 @@ pub fn sb(rs2: u8, imm: i32, rs1: u8) -> Op
     }
 }
 
+/// BEQ: to the instruction `offset` bytes on where the two registers are equal.
 pub fn beq(rs1: u8, rs2: u8, offset: i32) -> Op
     ensures { result ≡ spec.beq rs1 rs2 offset }
 {
@@ -101,6 +118,7 @@ pub fn beq(rs1: u8, rs2: u8, offset: i32) -> Op
     }
 }
 
+/// BNE: to the instruction `offset` bytes on where the two registers differ.
 pub fn bne(rs1: u8, rs2: u8, offset: i32) -> Op
     ensures { result ≡ spec.bne rs1 rs2 offset }
 {

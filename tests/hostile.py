@@ -1,12 +1,12 @@
 #!/usr/bin/env python3
 """Tries the tool on hostile inputs and on refused memory.
 
-  bench/hostile.py bytes [INPUTS [SEED]]   damaged recordings, certificates, ELF files and images (10,000 of them where no number is
+  tests/hostile.py bytes [INPUTS [SEED]]   damaged recordings, certificates, ELF files and images (10,000 of them where no number is
                                            given), each to every command that reads one
-  bench/hostile.py large [MEBIBYTES]       recordings of so many MiB (64) with the worst counts: seconds and peak memory
-  bench/hostile.py growth                  the same at 4, 8, 16 and 32 MiB: the time of each is to be about twice that before
-  bench/hostile.py memory                  a short run, its replay, certificate and check, each with every allocation failing in turn
-  bench/hostile.py try [CALLS]             the same by `rt try --fail-alloc`, for the allocations of these numbers (1 2 4 8)
+  tests/hostile.py large [MEBIBYTES]       recordings of so many MiB (64) with the worst counts: seconds and peak memory
+  tests/hostile.py growth                  the same at 4, 8, 16 and 32 MiB: the time of each is to be about twice that before
+  tests/hostile.py memory                  a short run, its replay, certificate and check, each with every allocation failing in turn
+  tests/hostile.py try [CALLS]             the same by `rt try --fail-alloc`, for the allocations of these numbers (1 2 4 8)
 
 It needs the built tool (crates/rtr/out/rtr, or the one that $RTR names), a C compiler for `memory`, and Debian's time for `large` and
 `growth`. It ends with status 1 where a
