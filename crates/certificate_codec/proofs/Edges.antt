@@ -14,11 +14,13 @@ use Rattle.log_codec.specs.Validity.{Valid}
 use Rattle.certificate_codec.specs.Ends.{reduced_edges}
 
 -- the edges of one pair more
-pub edges_more : (r : Recording) (place : ℕ) (old new : List Edge) → old ≡ flat_map (edges_at Reduced r) (range_with_len 0 place) →
+pub edges_more : (r : Recording) (place : ℕ) (old new : List Edge) →
+    old ≡ flat_map (edges_at Reduced r) (range_with_len 0 place) →
     new ≡ old ++ edges_at Reduced r place → new ≡ flat_map (edges_at Reduced r) (range_with_len 0 (place + 1))
 edges_more r place old new old_is new_is =
     new_is ∙ ap (λ (l : List Edge). l ++ edges_at Reduced r place) old_is
-    ∙ ap (λ (l : List Edge). flat_map (edges_at Reduced r) (range_with_len 0 place) ++ l) (sym (append-nil (edges_at Reduced r place)))
+    ∙ ap (λ (l : List Edge). flat_map (edges_at Reduced r) (range_with_len 0 place) ++ l)
+    (sym (append-nil (edges_at Reduced r place)))
     ∙ sym (flat_map-append (edges_at Reduced r) (range_with_len 0 place) (place ∷ []))
     ∙ ap (λ (l : List ℕ). flat_map (edges_at Reduced r) l) (sym (range_more place))
 
@@ -28,9 +30,11 @@ unfolding log_edges
 edges_done r place list e is = is ∙ ap (λ (n : ℕ). flat_map (edges_at Reduced r) (range_with_len 0 n)) e
 
 -- what is put at the end for the pair at a place
-pub pair_edges_are : (r : Recording) (place : ℕ) (pair : ℕ × ℕ) (lists : List (List (ℕ × ℕ))) (item counts : List (ℕ × ℕ)) (old new : List Edge) → Valid r →
+pub pair_edges_are : (r : Recording) (place : ℕ) (pair : ℕ × ℕ) (lists : List (List (ℕ × ℕ)))
+    (item counts : List (ℕ × ℕ)) (old new : List Edge) → Valid r →
     place < pair_count r.params.cores →
-    pair ≡ (source_at r.params.cores place, target_at r.params.cores place) → lists ≡ r.reduced → item ≡ get_or lists place item → counts ≡ item →
+    pair ≡ (source_at r.params.cores place, target_at r.params.cores place) → lists ≡ r.reduced →
+    item ≡ get_or lists place item → counts ≡ item →
     new ≡ old ++ map (edge_between pair.0 pair.1) counts → new ≡ old ++ edges_at Reduced r place
 pair_edges_are r place pair lists item counts old new valid lt p l i k is =
     is ∙ ap (λ (m : List (ℕ × ℕ)). old ++ map (edge_between pair.0 pair.1) m) list

@@ -8,8 +8,11 @@ use Rattle.certificate_codec.specs.Ends.{reduced_edges, ends_in}
 use Rattle.std.proofs.Common.{arith}
 
 -- the list of a core's ends
-pub ends_of_one : (r : Recording) (c : ℕ) (d : List ℕ) → c < r.params.cores → get_or (ends_in r) c d ≡ ends_to (reduced_edges r) c (slice_index r.totals c)
-ends_of_one r c d lt = get_or-map-range_with_len (λ i. ends_to (reduced_edges r) i (slice_index r.totals i)) 0 r.params.cores c c d lt (omega arith)
+pub ends_of_one : (r : Recording) (c : ℕ) (d : List ℕ) → c < r.params.cores →
+    get_or (ends_in r) c d ≡ ends_to (reduced_edges r) c (slice_index r.totals c)
+ends_of_one r c d lt = get_or-map-range_with_len (λ i. ends_to (reduced_edges r) i (slice_index r.totals i)) 0
+    r.params.cores c c d lt (omega arith)
 
 pub length-ends_in : (r : Recording) → length (ends_in r) ≡ r.params.cores
-length-ends_in r = length-map-range_with_len (λ i. ends_to (reduced_edges r) i (slice_index r.totals i)) 0 r.params.cores
+length-ends_in r = length-map-range_with_len (λ i. ends_to (reduced_edges r) i (slice_index r.totals i)) 0
+    r.params.cores

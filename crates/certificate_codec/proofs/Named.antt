@@ -1,41 +1,36 @@
 -- A part is named exactly where the parts below are spelled by a front of the bytes and no valid one follows.
-use Rattle.std.proofs.Common.{◌≡◌, ◌≢◌, ℕ, ◌≤◌, inl, inr, ◌⊎◌, nat_le, nat_eq, List, [], length, Result, Ok, Err, sym, ap, subst, ◌∙◌, arith}
-use Rattle.std.specs.Prelude.{slice_index}
+use Rattle.std.proofs.Common.{◌≡◌, ◌≢◌, ℕ, ◌≤◌, inl, inr, ◌⊎◌, nat_eq, List, [], length, Result, Ok, Err, sym, ap}
+use Rattle.std.proofs.Common.{subst, ◌∙◌, arith}
 use Rattle.log_codec.specs.declared.codec_fault.TheConstants.{HEADER, REGULATED}
 use Rattle.log_codec.specs.declared.recording.Recording.{Recording}
-use Rattle.log_codec.specs.BadParts.{UpToRegulated}
+use Rattle.log_codec.specs.BadParts.{UpToRegulated, recording_up_to}
 use Rattle.log_codec.specs.Faults.{◌>>=◌}
 use Rattle.log_codec.specs.Laws.{IsBytes}
 use Rattle.log_codec.specs.Reading.{number_at, front_at}
 use Rattle.rtr_types.specs.Turns.{stay, count_up}
-use Rattle.log_codec.proofs.BadPartLaws.{after-5, at_end, bad_part, end-names, end-some, never-both, no-reading, read-all, some-end}
+use Rattle.log_codec.proofs.BadPartLaws.{after-5, at_end, bad_part, end-names, end-some, never-both, no-reading}
+use Rattle.log_codec.proofs.BadPartLaws.{read-all, some-end}
+use Rattle.log_codec.proofs.CoreCountLaws.{counts-name}
 use Rattle.log_codec.proofs.Named.{Names, bind-err, bind-names, guard-names, number-names, turns-name}
 use Rattle.log_codec.proofs.Steps.{bind_ok, ok_is}
 use Rattle.log_codec.proofs.Whole.{front_takes}
 use Rattle.certificate_codec.specs.declared.certificate.Certificate.{Certificate}
 use Rattle.certificate_codec.specs.declared.certificate.TheConstants.{CLOCKS, END}
-use Rattle.certificate_codec.specs.BadParts.{AreClocks, BadPart, CertificateNames, UpToClocks, recording_up_to}
+use Rattle.certificate_codec.specs.BadParts.{AreClocks, BadPart, CertificateNames, NoClocks, UpToClocks}
 use Rattle.certificate_codec.specs.Ends.{end_count}
-use Rattle.certificate_codec.specs.Reading.{certificate_at, clocks_at, count_at, entries_at, entry_at, parts_at, true_number}
+use Rattle.certificate_codec.specs.Reading.{certificate_at, clocks_at, entries_at, entry_at, parts_at, true_number}
 use Rattle.certificate_codec.proofs.Parts.{clocks_again, clocks_take}
 use Rattle.certificate_codec.proofs.Whole.{made_of}
 
 -- ---- the sixth part's reader names that part alone
 
-count-names : (totals : List ℕ) (core : ℕ) (bytes : List ℕ) → Names CLOCKS (count_at totals core bytes)
-unfolding count_at
-count-names totals core bytes =
-    bind-names CLOCKS (number_at CLOCKS bytes) _ (number-names CLOCKS bytes) (λ n. guard-names CLOCKS (nat_le n.0 (slice_index totals core)) n)
-
-entry-names : (totals : List ℕ) (s : Unit {0}) (bytes : List ℕ) → Names CLOCKS (entry_at totals s bytes)
-entry-names totals s bytes = turns-name CLOCKS (count_at totals) count_up (λ c b. count-names totals c b) (length totals) 0 bytes
-
 entries-name : (r : Recording) (core : ℕ) (bytes : List ℕ) → Names CLOCKS (entries_at r core bytes)
 unfolding entries_at
 entries-name r core bytes =
     bind-names CLOCKS (number_at CLOCKS bytes) _ (number-names CLOCKS bytes) (λ n.
-    bind-names CLOCKS (true_number r core n.0 n.1) _ (guard-names CLOCKS (nat_eq n.0 (end_count r core)) (n.0, n.1)) (λ count.
-    turns-name CLOCKS (entry_at r.totals) stay (λ s b. entry-names r.totals s b) count.0 tt count.1))
+    bind-names CLOCKS (true_number r core n.0 n.1) _ (guard-names CLOCKS (nat_eq n.0 (end_count r core)) (n.0, n.1))
+    (λ count.
+    turns-name CLOCKS (entry_at r.totals) stay (λ s b. counts-name CLOCKS r.totals b) count.0 tt count.1))
 
 clocks-name : (r : Recording) (bytes : List ℕ) → Names CLOCKS (clocks_at r bytes)
 clocks-name r bytes = turns-name CLOCKS (entries_at r) count_up (λ c b. entries-name r c b) r.params.cores 0 bytes
@@ -48,28 +43,31 @@ with_clocks r clocks = Ok (made_of r clocks.0, clocks.1)
 abbrev after_front : Recording × List ℕ → Result (Certificate × List ℕ) ℕ
 after_front front = clocks_at front.0 front.1 >>= with_clocks front.0
 
-parts-after : (bytes rest : List ℕ) (u : UpToRegulated bytes rest) → parts_at bytes ≡ after_front (recording_up_to bytes rest u, rest)
+parts-after : (bytes rest : List ℕ) (u : UpToRegulated bytes rest) →
+    parts_at bytes ≡ after_front (recording_up_to bytes rest u, rest)
 unfolding parts_at
 parts-after bytes rest u = ap (λ r. r >>= after_front) (after-5 bytes rest u)
 
-clocks-read : (bytes rest : List ℕ) → IsBytes bytes → (u : UpToRegulated bytes rest) (clocks : List (List (List ℕ))) (after : List ℕ) →
-    AreClocks (recording_up_to bytes rest u) rest clocks after → clocks_at (recording_up_to bytes rest u) rest ≡ Ok (clocks, after)
+clocks-read : (bytes rest : List ℕ) → IsBytes bytes →
+    (u : UpToRegulated bytes rest) (clocks : List (List (List ℕ))) (after : List ℕ) →
+    AreClocks (recording_up_to bytes rest u) rest clocks after →
+    clocks_at (recording_up_to bytes rest u) rest ≡ Ok (clocks, after)
 clocks-read bytes rest are u clocks after is =
     let r = recording_up_to bytes rest u in
-    ap (clocks_at r) is.spelled ∙ clocks_again r clocks after (front_takes bytes r rest are (after-5 bytes rest u)).valid is.each_core is.entries
+    ap (clocks_at r) is.spelled
+    ∙ clocks_again r clocks after (front_takes bytes r rest are (after-5 bytes rest u)).valid is.each_core
+    is.entries
 
-read-clocks : (bytes rest : List ℕ) → IsBytes bytes → (u : UpToRegulated bytes rest) (clocks : List (List (List ℕ))) (after : List ℕ) →
-    clocks_at (recording_up_to bytes rest u) rest ≡ Ok (clocks, after) → AreClocks (recording_up_to bytes rest u) rest clocks after
+read-clocks : (bytes rest : List ℕ) → IsBytes bytes →
+    (u : UpToRegulated bytes rest) (clocks : List (List (List ℕ))) (after : List ℕ) →
+    clocks_at (recording_up_to bytes rest u) rest ≡ Ok (clocks, after) →
+    AreClocks (recording_up_to bytes rest u) rest clocks after
 read-clocks bytes rest are u clocks after e =
     let r = recording_up_to bytes rest u in
     let t = clocks_take r rest clocks after (front_takes bytes r rest are (after-5 bytes rest u)).taken.rest_fits e in
     record { each_core = t.1; entries = t.2; spelled = t.0.parts }
 
 -- ---- which part is named
-
-abbrev NoClocks : List ℕ → Type 0
-NoClocks bytes = (rest : List ℕ) × (u : UpToRegulated bytes rest)
-    × ((clocks : List (List (List ℕ))) (after : List ℕ) → AreClocks (recording_up_to bytes rest u) rest clocks after → ⊥)
 
 abbrev BytesAfter : List ℕ → Type 0
 BytesAfter bytes = (rest : List ℕ) × UpToClocks bytes rest × (rest ≢ [])
@@ -78,7 +76,8 @@ name-clocks : (bytes : List ℕ) → IsBytes bytes → NoClocks bytes → certif
 unfolding certificate_at
 name-clocks bytes are (rest, u, none) =
     let r = recording_up_to bytes rest u in
-    let bad = no-reading CLOCKS (clocks_at r rest) (clocks-name r rest) (λ x e. none x.0 x.1 (read-clocks bytes rest are u x.0 x.1 e)) in
+    let bad = no-reading CLOCKS (clocks_at r rest) (clocks-name r rest)
+    (λ x e. none x.0 x.1 (read-clocks bytes rest are u x.0 x.1 e)) in
     ap (λ p. p >>= at_end END) (parts-after bytes rest u ∙ ap (λ x. x >>= with_clocks r) bad)
 
 name-end : (bytes : List ℕ) → IsBytes bytes → BytesAfter bytes → certificate_at bytes ≡ Err END
@@ -86,45 +85,61 @@ unfolding certificate_at
 name-end bytes are (rest, u, some) =
     let r = recording_up_to bytes u.before u.five in
     let read = clocks-read bytes u.before are u.five u.clocks rest u.sixth in
-    ap (λ p. p >>= at_end END) (parts-after bytes u.before u.five ∙ ap (λ x. x >>= with_clocks r) read) ∙ some-end END (made_of r u.clocks, rest) some
+    ap (λ p. p >>= at_end END) (parts-after bytes u.before u.five ∙ ap (λ x. x >>= with_clocks r) read)
+    ∙ some-end END (made_of r u.clocks, rest) some
 
 -- where a reading ends
 abbrev Stops : List ℕ → ℕ → Type 0
 Stops bytes p = (front_at bytes ≡ Err p) ⊎ (((p ≡ CLOCKS) × NoClocks bytes) ⊎ ((p ≡ END) × BytesAfter bytes))
 
-stops-after : (bytes : List ℕ) (p : ℕ) → IsBytes bytes → (r : Recording) (rest : List ℕ) → front_at bytes ≡ Ok (r, rest) →
+stops-after : (bytes : List ℕ) (p : ℕ) → IsBytes bytes → (r : Recording) (rest : List ℕ) →
+    front_at bytes ≡ Ok (r, rest) →
     (after_front (r, rest) >>= at_end END) ≡ Err p → Stops bytes p
 stops-after bytes p are r rest front e =
     let u = read-all bytes r rest are front in
     let same : r ≡ recording_up_to bytes rest u =
-    ap (λ (x : Recording × List ℕ). x.0) (ok_is (r, rest) (recording_up_to bytes rest u, rest) (sym front ∙ after-5 bytes rest u)) in
+    ap (λ (x : Recording × List ℕ). x.0)
+    (ok_is (r, rest) (recording_up_to bytes rest u, rest) (sym front ∙ after-5 bytes rest u)) in
     by u (subst (λ (q : Recording). (after_front (q, rest) >>= at_end END) ≡ Err p) same e)
   where
-    at_clocks : (u : UpToRegulated bytes rest) → clocks_at (recording_up_to bytes rest u) rest ≡ Err p → (p ≡ CLOCKS) × NoClocks bytes
+    at_clocks : (u : UpToRegulated bytes rest) → clocks_at (recording_up_to bytes rest u) rest ≡ Err p → (p ≡ CLOCKS) ×
+        NoClocks bytes
     at_clocks u bad = let q = recording_up_to bytes rest u in (
       clocks-name q rest p bad,
-      (rest, u, λ clocks after is. never-both p (clocks_at q rest) (clocks, after) bad (clocks-read bytes rest are u clocks after is)),
+      (
+        rest,
+        u,
+        λ clocks after is. never-both p (clocks_at q rest) (clocks, after) bad
+            (clocks-read bytes rest are u clocks after is),
+      ),
     )
 
     at_bytes : (u : UpToRegulated bytes rest) (clocks : List (List (List ℕ))) (after : List ℕ) →
-        clocks_at (recording_up_to bytes rest u) rest ≡ Ok (clocks, after) → at_end END (made_of (recording_up_to bytes rest u) clocks, after) ≡ Err p →
+        clocks_at (recording_up_to bytes rest u) rest ≡ Ok (clocks, after) →
+        at_end END (made_of (recording_up_to bytes rest u) clocks, after) ≡ Err p →
         (p ≡ END) × BytesAfter bytes
     at_bytes u clocks after read f =
         let c = made_of (recording_up_to bytes rest u) clocks in
         let named = end-names END (c, after) p f in
-        let all : UpToClocks bytes after = record { before = rest; five = u; clocks = clocks; sixth = read-clocks bytes rest are u clocks after read } in
+        let all : UpToClocks bytes after =
+        record { before = rest; five = u; clocks = clocks; sixth = read-clocks bytes rest are u clocks after read }
+        in
         (named, (after, all, end-some END (c, after) (subst (λ (k : ℕ). at_end END (c, after) ≡ Err k) named f)))
 
-    by : (u : UpToRegulated bytes rest) → (after_front (recording_up_to bytes rest u, rest) >>= at_end END) ≡ Err p → Stops bytes p
+    by : (u : UpToRegulated bytes rest) → (after_front (recording_up_to bytes rest u, rest) >>= at_end END) ≡ Err p →
+        Stops bytes p
     by u f = elim (bind-err (after_front (recording_up_to bytes rest u, rest)) (at_end END) p f) [
-      | inl bad ↦ elim (bind-err (clocks_at (recording_up_to bytes rest u) rest) (with_clocks (recording_up_to bytes rest u)) p bad) [
-        | inl none ↦ inr (inl (at_clocks u none))
-        | inr more ↦ absurd (let g = more.2 in cc)
-      ]
+      | inl bad ↦ elim (bind-err (clocks_at (recording_up_to bytes rest u) rest)
+          (with_clocks (recording_up_to bytes rest u)) p bad) [
+            | inl none ↦ inr (inl (at_clocks u none))
+            | inr more ↦ absurd (let g = more.2 in cc)
+          ]
       | inr more ↦
-          let k = bind_ok (clocks_at (recording_up_to bytes rest u) rest) (with_clocks (recording_up_to bytes rest u)) more.0 more.1 in
+          let k = bind_ok (clocks_at (recording_up_to bytes rest u) rest) (with_clocks (recording_up_to bytes rest u))
+          more.0 more.1 in
           let is = ok_is (made_of (recording_up_to bytes rest u) k.0.0, k.0.1) more.0 k.2 in
-          inr (inr (at_bytes u k.0.0 k.0.1 k.1 (subst (λ (x : Certificate × List ℕ). at_end END x ≡ Err p) (sym is) more.2)))
+          inr (inr (at_bytes u k.0.0 k.0.1 k.1
+          (subst (λ (x : Certificate × List ℕ). at_end END x ≡ Err p) (sym is) more.2)))
     ]
 
 stops : (bytes : List ℕ) (p : ℕ) → IsBytes bytes → certificate_at bytes ≡ Err p → Stops bytes p

@@ -23,10 +23,12 @@ between edges c m n k le h = by (cases_order k (length (ends_to edges c m)))
         let low = h.below (omega arith) in
         omega arith
 
-    by : (k ≡ length (ends_to edges c m)) ⊎ ((k < length (ends_to edges c m)) ⊎ (length (ends_to edges c m) < k)) → k ≡ length (ends_to edges c m)
+    by : (k ≡ length (ends_to edges c m)) ⊎ ((k < length (ends_to edges c m)) ⊎ (length (ends_to edges c m) < k)) →
+        k ≡ length (ends_to edges c m)
     by (inl same) = same
     by (inr (inl lt)) = absurd (less lt)
     by (inr (inr lt)) = absurd (more lt)
 
-pub number_is : (edges : List Edge) (c m n k : ℕ) (list : List ℕ) → list ≡ ends_to edges c n → m ≤ n → IsNumber list m k → k ≡ length (ends_to edges c m)
+pub number_is : (edges : List Edge) (c m n k : ℕ) (list : List ℕ) → list ≡ ends_to edges c n → m ≤ n →
+    IsNumber list m k → k ≡ length (ends_to edges c m)
 number_is edges c m n k list is le h = between edges c m n k le (subst (λ (l : List ℕ). IsNumber l m k) is h)

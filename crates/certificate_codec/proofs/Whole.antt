@@ -1,5 +1,6 @@
 -- Whole certificates: the laws.
-use Rattle.std.proofs.Common.{◌≡◌, ℕ, cond, List, [], ◌++◌, length, Result, Ok, Err, refl, sym, ap, subst, ◌∙◌, append_assoc, append-nil, eqb}
+use Rattle.std.proofs.Common.{◌≡◌, ℕ, cond, List, [], ◌++◌, length, Result, Ok, Err, refl, sym, ap, subst, ◌∙◌}
+use Rattle.std.proofs.Common.{append_assoc, append-nil, eqb}
 use Rattle.std.specs.Prelude.{IfOk}
 use Rattle.std.proofs.lemmas.Bool.{eqb-true}
 use Rattle.std.proofs.lemmas.List.{nil_from_length}
@@ -30,10 +31,12 @@ record PartsTaken (bytes : List ℕ) (c : Certificate) (rest : List ℕ) : Type 
   taken : Takes bytes text rest
   valid : IsCertificate c
 
-parts_taken : (bytes : List ℕ) (c : Certificate) (rest : List ℕ) → IsBytes bytes → parts_at bytes ≡ Ok (c, rest) → PartsTaken bytes c rest
+parts_taken : (bytes : List ℕ) (c : Certificate) (rest : List ℕ) → IsBytes bytes → parts_at bytes ≡ Ok (c, rest) →
+    PartsTaken bytes c rest
 unfolding parts_at
 parts_taken bytes c rest are e =
-    let f = bind_ok (front_at bytes) (λ front. clocks_at front.0 front.1 >>= λ clocks. Ok (made_of front.0 clocks.0, clocks.1)) (c, rest) e in
+    let f = bind_ok (front_at bytes)
+    (λ front. clocks_at front.0 front.1 >>= λ clocks. Ok (made_of front.0 clocks.0, clocks.1)) (c, rest) e in
     let k = bind_ok (clocks_at f.0.0 f.0.1) (λ clocks. Ok (made_of f.0.0 clocks.0, clocks.1)) (c, rest) f.2 in
     let tf = front_takes bytes f.0.0 f.0.1 are f.1 in
     let tk = clocks_take f.0.0 f.0.1 k.0.0 k.0.1 tf.taken.rest_fits k.1 in
@@ -44,16 +47,20 @@ parts_taken bytes c rest are e =
       taken = Takes-then bytes front f.0.1 (clocks_text k.0.0) k.0.1 tf.taken tk.0;
       valid = record { recording = tf.valid; each_core = tk.1; entries = tk.2 };
     } in
-    subst (λ (y : Certificate × List ℕ). PartsTaken bytes y.0 y.1) (ok_is (made_of f.0.0 k.0.0, k.0.1) (c, rest) k.2) made
+    subst (λ (y : Certificate × List ℕ). PartsTaken bytes y.0 y.1) (ok_is (made_of f.0.0 k.0.0, k.0.1) (c, rest) k.2)
+    made
 
-parts_again : (c : Certificate) (bytes rest : List ℕ) → IsCertificate c → Spells bytes c → parts_at (bytes ++ rest) ≡ Ok (c, rest)
+parts_again : (c : Certificate) (bytes rest : List ℕ) → IsCertificate c → Spells bytes c →
+    parts_at (bytes ++ rest) ≡ Ok (c, rest)
 unfolding parts_at
 parts_again c bytes rest v s =
     let after = clocks_text c.clocks ++ rest in
-    let f : front_at (s.front ++ after) ≡ Ok (c.recording, after) = ap (λ (b : List ℕ). front_at (b ++ after)) s.recording.2
+    let f : front_at (s.front ++ after) ≡ Ok (c.recording, after) =
+    ap (λ (b : List ℕ). front_at (b ++ after)) s.recording.2
     ∙ front_again s.recording.0 c.recording after v.recording s.recording.1 in
     let k = clocks_again c.recording c.clocks rest v.recording v.each_core v.entries in
-    ap (λ (b : List ℕ). parts_at (b ++ rest)) s.parts ∙ ap parts_at (append_assoc s.front (clocks_text c.clocks) rest) ∙ rw (f, k) refl
+    ap (λ (b : List ℕ). parts_at (b ++ rest)) s.parts ∙ ap parts_at (append_assoc s.front (clocks_text c.clocks) rest)
+    ∙ rw (f, k) refl
 
 pub read_is_spelled : ReadIsSpelled
 unfolding certificate_at
@@ -63,7 +70,8 @@ read_is_spelled bytes c are e =
     let t = parts_taken bytes p.0.0 p.0.1 are p.1 in
     let none : p.0.1 ≡ [] = nil_from_length p.0.1 (eqb-true _ _ g.0) in
     let all : t.text ≡ bytes = sym (t.taken.parts ∙ ap (λ (x : List ℕ). t.text ++ x) none ∙ append-nil t.text) in
-    subst (λ (d : Certificate). IsCertificate d × Spells bytes d) g.1 (t.valid, subst (λ (b : List ℕ). Spells b p.0.0) all t.spells)
+    subst (λ (d : Certificate). IsCertificate d × Spells bytes d) g.1
+    (t.valid, subst (λ (b : List ℕ). Spells b p.0.0) all t.spells)
 
 pub spelled_is_read : SpelledIsRead
 unfolding certificate_at
@@ -73,16 +81,22 @@ spelled_is_read c bytes v s =
 
 pub written_spells : WrittenSpells
 unfolding spelling
-written_spells c v = record { front = recordings.spelling c.recording; recording = (Two, v.recording.params, refl); parts = refl }
+written_spells c v = record {
+  front = recordings.spelling c.recording;
+  recording = (Two, v.recording.params, refl);
+  parts = refl;
+}
 
 pub prefix_free : PrefixFree
 prefix_free c d first second x y vc vd sc sd e =
-    let both : Ok (c, x) ≡ Ok (d, y) = sym (parts_again c first x vc sc) ∙ ap parts_at e ∙ parts_again d second y vd sd in
+    let both : Ok (c, x) ≡ Ok (d, y) =
+    sym (parts_again c first x vc sc) ∙ ap parts_at e ∙ parts_again d second y vd sd in
     let same = ok_is (c, x) (d, y) both in
     (ap (λ (p : Certificate × List ℕ). p.0) same, ap (λ (p : Certificate × List ℕ). p.1) same)
 
 -- what a reader answered
-pub is_found : (bytes : List ℕ) (result : Result Certificate CodecFault) → IsBytes bytes → Gives (λ x. x) result (certificate_at bytes) →
+pub is_found : (bytes : List ℕ) (result : Result Certificate CodecFault) → IsBytes bytes →
+    Gives (λ x. x) result (certificate_at bytes) →
     IfOk result (λ c. IsCertificate c × Spells bytes c)
 is_found bytes (Ok c) are e = read_is_spelled bytes c are e
 is_found bytes (Err f) are e = tt

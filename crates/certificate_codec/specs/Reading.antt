@@ -1,6 +1,7 @@
 -- Reading a certificate from left to right. A number that doesn't fit is a fault of the part in which it stands.
-use Rattle.std.specs.Prelude.{ℕ, List, length, slice_index, Result, Ok, Err, nat_le, nat_eq, ◌==◌, if◌then◌else◌}
+use Rattle.std.specs.Prelude.{ℕ, List, length, Result, Ok, Err, nat_eq, ◌==◌, if◌then◌else◌}
 use Rattle.log_codec.specs.declared.recording.Recording.{Recording}
+use Rattle.log_codec.specs.CoreCounts.{counts_at}
 use Rattle.log_codec.specs.Faults.{◌>>=◌}
 use Rattle.log_codec.specs.Reading.{number_at, front_at}
 use Rattle.rtr_types.specs.Turns.{stay, count_up}
@@ -9,15 +10,9 @@ use Rattle.certificate_codec.specs.declared.certificate.Certificate.{Certificate
 use Rattle.certificate_codec.specs.declared.certificate.TheConstants.{CLOCKS, END}
 use Rattle.certificate_codec.specs.Ends.{end_count}
 
--- a count of a core, at most its total
-unfoldable pub count_at : List ℕ → ℕ → List ℕ → Result (ℕ × List ℕ) ℕ
-count_at totals core bytes = do
-  n ← number_at CLOCKS bytes
-  if nat_le n.0 (slice_index totals core) then Ok n else Err CLOCKS
-
 -- an entry: a count of each core
 abbrev pub entry_at : List ℕ → Unit {0} → List ℕ → Result (List ℕ × List ℕ) ℕ
-entry_at totals s bytes = read_in_turn (count_at totals) count_up (length totals) 0 bytes
+entry_at totals s bytes = counts_at CLOCKS totals bytes
 
 -- the number is the true one
 abbrev pub true_number : Recording → ℕ → ℕ → List ℕ → Result (ℕ × List ℕ) ℕ

@@ -1,18 +1,15 @@
 -- The spellings of certificates: the first five parts of a recording in either version, then the clocks.
 use Rattle.std.specs.Prelude.{◌≡◌, ℕ, List, ◌++◌, length}
+use Rattle.log_codec.specs.CoreCounts.{counts_text}
 use Rattle.log_codec.specs.Spelling as recordings
 use Rattle.log_codec.specs.Spelling.{number}
 use Rattle.rtr_types.specs.Turns.{stay, count_up}
 use Rattle.log_codec.specs.Turns.{alike, spelled_in_turn}
 use Rattle.certificate_codec.specs.declared.certificate.Certificate.{Certificate}
 
--- an entry: a number for each core
-abbrev pub entry_text : List ℕ → List ℕ
-entry_text entry = spelled_in_turn (alike number) count_up 0 entry
-
--- the entries of a core: how many, and these
+-- the entries of a core: how many, and these, each a count of each core
 abbrev pub entries_text : List (List ℕ) → List ℕ
-entries_text entries = number (length entries) ++ spelled_in_turn (alike entry_text) stay (tt {0}) entries
+entries_text entries = number (length entries) ++ spelled_in_turn (alike counts_text) stay (tt {0}) entries
 
 -- the sixth part: the entries of each core
 abbrev pub clocks_text : List (List (List ℕ)) → List ℕ

@@ -1,22 +1,15 @@
 -- Which certificates have a spelling.
-use Rattle.std.specs.Prelude.{◌≡◌, ℕ, ◌≤◌, List, length, slice_index}
+use Rattle.std.specs.Prelude.{◌≡◌, ℕ, List, length}
 use Rattle.log_codec.specs.declared.recording.Recording.{Recording}
 use Rattle.rtr_types.specs.Turns.{StandInTurn, stay, count_up}
+use Rattle.log_codec.specs.CoreCounts.{AreCounts}
 use Rattle.log_codec.specs.Validity.{Valid}
 use Rattle.certificate_codec.specs.declared.certificate.Certificate.{Certificate}
 use Rattle.certificate_codec.specs.Ends.{end_count}
 
--- a count of a core is at most its total
-abbrev pub CountStands : List ℕ → ℕ → ℕ → Type 0
-CountStands totals core n = n ≤ slice_index totals core
-
 -- an entry has a count of each core
-pub record IsEntry (totals entry : List ℕ) : Type 0 where
-  pub each_core : length entry ≡ length totals
-  pub most : StandInTurn (CountStands totals) count_up 0 entry
-
 abbrev pub EntryStands : List ℕ → Unit {0} → List ℕ → Type 0
-EntryStands totals s entry = IsEntry totals entry
+EntryStands totals s entry = AreCounts totals entry
 
 -- a core has one entry for each of its edge ends
 pub record AreEntries (r : Recording) (core : ℕ) (entries : List (List ℕ)) : Type 0 where

@@ -13,6 +13,3 @@ pub use certificate::{CLOCKS, Certificate, END};
 pub use edge_ends::EdgeEnds;
 pub use reading::read_certificate;
 pub use writing::spell_certificate;
-
-#[cfg(test)]
-mod tests;

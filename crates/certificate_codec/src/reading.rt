@@ -1,63 +1,19 @@
 //! Reading certificates, with the first part that has no reading where there is one.
-ghost use Rattle.std.specs.Prelude.{◌≡◌, ◌<◌, length, IfOk, Ok};
+ghost use Rattle.std.specs.Prelude.{◌≡◌, ◌<◌, IfOk, Ok};
 ghost use Rattle.log_codec.specs.Faults.{Gives};
-ghost use Rattle.log_codec.specs.Reading.{number_at};
 ghost use Rattle.rtr_types.specs.Turns.{stay};
 ghost use Rattle.log_codec.specs.Turns.{read_in_turn};
 ghost use Rattle.log_codec.specs.Validity.{Valid};
-ghost use Rattle.certificate_codec.specs.Reading.{count_at, entry_at, entries_at, clocks_at, parts_at, certificate_at};
+ghost use Rattle.certificate_codec.specs.Reading.{entry_at, entries_at, clocks_at, parts_at, certificate_at};
 ghost use Rattle.certificate_codec.specs.Spelling.{Spells};
 ghost use Rattle.certificate_codec.specs.Validity.{IsCertificate};
 ghost use Rattle.certificate_codec.specs.declared.certificate.Certificate.{Certificate as SomeCertificate};
 
 use crate::certificate::{CLOCKS, Certificate, END};
 use crate::edge_ends::EdgeEnds;
-use log_codec::{CodecFault, Recording, read_front};
+use log_codec::{CodecFault, Recording, counts, number, read_front};
 use rtr_types::Items;
 use std::alloc::Global;
-use varint_core::take_u32;
-
-/// The number that the bytes begin with, and the bytes after it.
-#[tactic(auto, unfolding(log_codec::specs::Reading::number_at))]
-fn number(bytes: &[u8]) -> Result<(u32, &[u8]), CodecFault>
-    ensures { Gives (λ x. (x.0, x.1.now)) result (number_at CLOCKS bytes.now) }
-{
-    match take_u32(bytes) {
-        Ok((n, len)) => Ok((n, &bytes[len..])),
-        Err(_) => Err(CodecFault::Bad { part: CLOCKS }),
-    }
-}
-
-/// A count of a core, at most its total.
-#[tactic(auto, unfolding(crate::specs::Reading::count_at))]
-fn count<'a>(totals: &[u32], core: usize, bytes: &'a [u8]) -> Result<(u32, &'a [u8]), CodecFault>
-    requires { core < length totals.now }
-    ensures { Gives (λ x. (x.0, x.1.now)) result (count_at totals.now core bytes.now) }
-{
-    let (n, rest) = number(bytes)?;
-    if n > totals[core] {
-        return Err(CodecFault::Bad { part: CLOCKS });
-    }
-    Ok((n, rest))
-}
-
-/// An entry: a count of each core.
-fn entry<'a>(
-    alloc: Global,
-    totals: &[u32],
-    bytes: &'a [u8],
-) -> Result<(Items<u32>, &'a [u8]), CodecFault>
-    ensures { Gives (λ x. (x.0, x.1.now)) result (entry_at totals.now tt bytes.now) }
-{
-    let mut found = Items::from_vec(Vec::with_capacity(alloc, totals.len())?);
-    let mut rest = bytes;
-    for core in 0..totals.len() {
-        let (next, after) = count(totals, core, rest)?;
-        found.push(next)?;
-        rest = after;
-    }
-    Ok((found, rest))
-}
 
 /// As many entries as the number says.
 fn entries_from<'a>(
@@ -71,7 +27,7 @@ fn entries_from<'a>(
     let mut found = Items::from_vec(Vec::with_capacity(alloc, number as usize)?);
     let mut rest = bytes;
     for _ in 0..number {
-        let (next, after) = entry(alloc, totals, rest)?;
+        let (next, after) = counts(alloc, CLOCKS, totals, rest)?;
         found.push(next)?;
         rest = after;
     }
@@ -89,7 +45,7 @@ fn entries<'a>(
     requires { core < ends.now.params.cores }
     ensures { Gives (λ x. (x.0, x.1.now)) result (entries_at ends.now core bytes.now) }
 {
-    let (n, rest) = number(bytes)?;
+    let (n, rest) = number(CLOCKS, bytes)?;
     if n as usize != ends.of_core(core).len() {
         return Err(CodecFault::Bad { part: CLOCKS });
     }

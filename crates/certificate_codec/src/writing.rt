@@ -1,23 +1,13 @@
 //! Writing certificates.
 ghost use Rattle.std.specs.Prelude.{◌≡◌, ◌++◌, ◌<◌, ◌^◌, ℕ, [], length, slice_index_or, OnOk, IfOk};
-ghost use Rattle.certificate_codec.specs.Spelling.{entry_text, entries_text, clocks_text, spelling};
+ghost use Rattle.certificate_codec.specs.Spelling.{entries_text, clocks_text, spelling};
 ghost use Rattle.certificate_codec.specs.Validity.{IsCertificate};
 
 use crate::certificate::Certificate;
-use log_codec::spell;
+use log_codec::{put_counts, spell};
 use rtr_types::Items;
 use std::alloc::{AllocError, Global};
 use varint_core::put_u32;
-
-/// An entry: a number for each core.
-fn put_entry(out: &mut Vec<u8>, entry: &[u32]) -> Result<(), AllocError>
-    ensures { OnOk result (out.new.items ≡ out.old.items ++ entry_text entry.now) }
-{
-    for count in entry {
-        put_u32(out, *count)?;
-    }
-    Ok(())
-}
 
 /// The entries of a core: how many, and these.
 fn put_entries(out: &mut Vec<u8>, entries: &[Items<u32>]) -> Result<(), AllocError>
@@ -26,7 +16,7 @@ fn put_entries(out: &mut Vec<u8>, entries: &[Items<u32>]) -> Result<(), AllocErr
 {
     put_u32(out, entries.len() as u32)?;
     for entry in entries {
-        put_entry(out, entry.as_slice())?;
+        put_counts(out, entry.as_slice())?;
     }
     Ok(())
 }

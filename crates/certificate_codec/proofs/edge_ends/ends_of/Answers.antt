@@ -7,6 +7,7 @@ use Rattle.certificate_codec.proofs.edge_ends.ends_of.Goals as goal
 
 pub loop-core-preserved : goal.loop-core-preserved
 loop-core-preserved c =
-    let ends_at : ℕ → List ℕ = λ k. ends_to (reduced_edges c.args.recording.now) k (slice_index c.args.recording.now.totals k) in
+    let ends_at : ℕ → List ℕ =
+    λ k. ends_to (reduced_edges c.args.recording.now) k (slice_index c.args.recording.now.totals k) in
     let more = map-range_with_len_more ends_at 0 c.loop-core.core c.loop-core.core (omega arith) in
     search (rules, more)

@@ -16,13 +16,17 @@ loop-before-preserved c =
     let n = c.loop-before.before in
     let old : length c.as_mut_slice.result.now ≡ c.in_ok-marks.marks.len = c.as_mut_slice.ensures.len in
     let len : length marks ≡ c.in_ok-marks.marks.len = c.mark_edges.auto.marks ∙ old in
-    let lt : n < length c.as_mut_slice.result.now = omega (arith, c.loop-before-test.true, c.in_ok-marks.ensures.len, old) in
+    let lt : n < length c.as_mut_slice.result.now =
+    omega (arith, c.loop-before-test.true, c.in_ok-marks.ensures.len, old) in
     let here : c.index.result.now ≡ is_end edges (instr c.args.core (n + 1)) =
-    mark_at _ marks n c.index.result.now (with_items_is c.in_ok-marks.marks marks len) c.index.ensures (omega (arith, len, old))
+    mark_at _ marks n c.index.result.now (with_items_is c.in_ok-marks.marks marks len) c.index.ensures
+    (omega (arith, len, old))
     ∙ c.mark_edges.ensures n lt in
     elim c.if-index.branch [
       | then-index+in_ok-push w ↦
-          w.ends-is ∙ w.in_ok-push.ensures.ok ∙ ap (λ (l : List ℕ). l ++ (c.loop-before.before + 1) ∷ []) c.loop-before.invariant
+          w.ends-is ∙ w.in_ok-push.ensures.ok
+          ∙ ap (λ (l : List ℕ). l ++ (c.loop-before.before + 1) ∷ []) c.loop-before.invariant
           ∙ sym (ends_push edges c.args.core n (sym here ∙ w.if-index.true))
-      | else-index w ↦ w.ends-is ∙ c.loop-before.invariant ∙ sym (ends_keep edges c.args.core n (sym here ∙ w.if-index.false))
+      | else-index w ↦ w.ends-is ∙ c.loop-before.invariant
+          ∙ sym (ends_keep edges c.args.core n (sym here ∙ w.if-index.false))
     ]

@@ -11,6 +11,8 @@ pub loop-edge-preserved : goal.loop-edge-preserved
 loop-edge-preserved c n lt =
     let first : n < length c.loop-edge.marks = omega (arith, c.loop-edge.auto.marks) in
     let second : n < length c.mark.new.marks = omega (arith, c.loop-edge.auto.marks, c.mark.auto.marks) in
-    marked_more c.args.edges.now c.loop-edge.edge-index no_edge (instr c.args.core (n + 1)) (get_or c.loop-edge.marks n false)
-    (get_or c.mark.new.marks n false) (get_or c.mark-in-loop-edge.new.marks n false) c.loop-edge-test.true (c.loop-edge.invariant n lt)
+    marked_more c.args.edges.now c.loop-edge.edge-index no_edge (instr c.args.core (n + 1))
+    (get_or c.loop-edge.marks n false)
+    (get_or c.mark.new.marks n false) (get_or c.mark-in-loop-edge.new.marks n false) c.loop-edge-test.true
+    (c.loop-edge.invariant n lt)
     (c.mark.ensures n first) (c.mark-in-loop-edge.ensures n second)

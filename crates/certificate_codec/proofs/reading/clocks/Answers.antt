@@ -9,17 +9,21 @@ use Rattle.certificate_codec.specs.Reading.{entries_at}
 use Rattle.certificate_codec.proofs.reading.clocks.Goals as goal
 
 pub loop-core-init : goal.loop-core-init
-loop-core-init c = rw c.new-found.ensures (begins (entries_at c.args.recording.now) count_up c.args.recording.now.params.cores 0 c.args.bytes.now)
+loop-core-init c = rw c.new-found.ensures
+    (begins (entries_at c.args.recording.now) count_up c.args.recording.now.params.cores 0 c.args.bytes.now)
 
 pub returns-in_err-next : goal.returns-in_err-next
 returns-in_err-next c =
     let r = c.args.recording.now in
     let p = err_from_is_err_and c.from_residual-in_err-next.result c.from_residual-in_err-next.ensures.1 in
     let bad : Fails c.in_err-next.field-0.0 (entries_at r c.loop-core.core c.loop-core.rest.now) =
-    subst (λ (q : Recording). Fails c.in_err-next.field-0.0 (entries_at q c.loop-core.core c.loop-core.rest.now)) c.in_ok-ends.ensures
+    subst (λ (q : Recording). Fails c.in_err-next.field-0.0 (entries_at q c.loop-core.core c.loop-core.rest.now))
+    c.in_ok-ends.ensures
     c.in_err-next.ensures in
-    rw (p.1, p.2) (ends (entries_at r) count_up c.in_err-next.field-0.0 c.loop-core.found r.params.cores c.loop-core.core c.loop-core.core c.loop-core.rest.now
-    (read_in_turn (entries_at r) count_up r.params.cores 0 c.args.bytes.now) c.loop-core-test.true bad c.loop-core.invariant)
+    rw (p.1, p.2) (ends (entries_at r) count_up c.in_err-next.field-0.0 c.loop-core.found r.params.cores
+    c.loop-core.core c.loop-core.core c.loop-core.rest.now
+    (read_in_turn (entries_at r) count_up r.params.cores 0 c.args.bytes.now) c.loop-core-test.true bad
+    c.loop-core.invariant)
 
 pub loop-core-preserved : goal.loop-core-preserved
 loop-core-preserved c =
@@ -28,10 +32,14 @@ loop-core-preserved c =
     subst (λ (q : Recording). entries_at q c.loop-core.core c.loop-core.rest.now
     ≡ Ok (c.in_ok-next.next, c.in_ok-next.after.now)) c.in_ok-ends.ensures c.in_ok-next.ensures in
     rw c.in_ok-push.ensures.ok
-    (goes_on (entries_at r) count_up c.loop-core.found r.params.cores c.loop-core.core c.loop-core.core c.loop-core.rest.now c.in_ok-next.next
-    c.in_ok-next.after.now (read_in_turn (entries_at r) count_up r.params.cores 0 c.args.bytes.now) c.loop-core-test.true one c.loop-core.invariant)
+    (goes_on (entries_at r) count_up c.loop-core.found r.params.cores c.loop-core.core c.loop-core.core
+    c.loop-core.rest.now c.in_ok-next.next
+    c.in_ok-next.after.now (read_in_turn (entries_at r) count_up r.params.cores 0 c.args.bytes.now)
+    c.loop-core-test.true one c.loop-core.invariant)
 
 pub returns : goal.returns
-returns c = is_done (entries_at c.args.recording.now) count_up c.loop-core.found c.args.recording.now.params.cores c.loop-core.core c.loop-core.core
-    c.loop-core.rest.now (read_in_turn (entries_at c.args.recording.now) count_up c.args.recording.now.params.cores 0 c.args.bytes.now) c.loop-core-test.false
+returns c = is_done (entries_at c.args.recording.now) count_up c.loop-core.found c.args.recording.now.params.cores
+    c.loop-core.core c.loop-core.core
+    c.loop-core.rest.now (read_in_turn (entries_at c.args.recording.now) count_up c.args.recording.now.params.cores 0
+    c.args.bytes.now) c.loop-core-test.false
     c.loop-core.invariant

@@ -1,9 +1,10 @@
 use Rattle.std.proofs.Common.{◌≡◌, ◌++◌, drop}
 use Rattle.rtr_types.specs.Turns.{stay}
 use Rattle.log_codec.specs.Turns.{spelled_in_turn, alike}
-use Rattle.certificate_codec.specs.Spelling.{entry_text, entries_text}
+use Rattle.log_codec.specs.CoreCounts.{counts_text}
+use Rattle.certificate_codec.specs.Spelling.{entries_text}
 use Rattle.certificate_codec.proofs.writing.put_entries.Given as goal
 
 abbrev pub invariant-loop-entry : goal.invariant-loop-entry
-invariant-loop-entry l = l.out.items ++ spelled_in_turn (alike entry_text) stay (tt {0}) (drop l.entry-index l.entries)
+invariant-loop-entry l = l.out.items ++ spelled_in_turn (alike counts_text) stay (tt {0}) (drop l.entry-index l.entries)
     ≡ l.fn.out.items ++ entries_text l.entries

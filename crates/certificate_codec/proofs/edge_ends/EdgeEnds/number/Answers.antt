@@ -16,8 +16,10 @@ returns c =
     let f = c.partition_point.ensures in
     let rise : IsNonDecreasingBy (λ (x : ℕ). x) c.of_core.result.now =
     subst (λ (l : List ℕ). IsNonDecreasingBy (λ (x : ℕ). x) l) (sym is) (ends_fall_not (reduced_edges r) core total) in
-    let parted = IsPartitionPoint-from_clause (λ v. leb v most) c.of_core.result.now c.partition_point.result f.partitioned
+    let parted = IsPartitionPoint-from_clause (λ v. leb v most) c.of_core.result.now c.partition_point.result
+    f.partitioned
     (IsPartitionedBy-leb (λ (v : ℕ). v) c.of_core.result.now most rise) (λ a r g called. search rules) in
     let place = c.partition_point.result in
-    counted (reduced_edges r) core most total place c.requires.count (subst (λ (l : List ℕ). place ≤ length l) is f.bound)
+    counted (reduced_edges r) core most total place c.requires.count
+    (subst (λ (l : List ℕ). place ≤ length l) is f.bound)
     (subst (λ (l : List ℕ). IsPartitionPoint (λ v. leb v most ≡ true) (λ v. leb v most ≡ false) l place) is parted)

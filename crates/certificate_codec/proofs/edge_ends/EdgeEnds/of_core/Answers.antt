@@ -9,7 +9,8 @@ bounds-as_slice-core c =
     let r = c.args.self.now in
     let h : HasEnds r c.self.inside.edges c.self.inside.ends =
     subst (λ (q : Recording). HasEnds q c.self.inside.edges c.self.inside.ends) c.self.view_is c.self.invariant in
-    let len : length c.as_slice.result.now ≡ r.params.cores = ap (λ (l : List (List ℕ)). length l) (c.as_slice.ensures ∙ h.ends_is) ∙ length-ends_in r in
+    let len : length c.as_slice.result.now ≡ r.params.cores =
+    ap (λ (l : List (List ℕ)). length l) (c.as_slice.ensures ∙ h.ends_is) ∙ length-ends_in r in
     subst (λ (n : ℕ). c.args.core < n) (sym len) c.requires
 
 pub returns : goal.returns
