@@ -15,10 +15,19 @@ use stride_vector::StrideVector;
 /// Makes the regulated log of a run, one reduced edge after the other: it keeps the vectors so far, by pair of
 /// cores, of which each pair's last one may go on. Contracts see the vectors, and for each pair whether it has
 /// room for one more.
-#[derive(Drop)]
 pub struct Regulator {
     cores: u8,
     pairs: RoomyLists<StrideVector>,
+}
+
+// One call lets the whole regulator go, at each way out of the functions that own one.
+impl Drop for Regulator {
+    fn drop(self) {
+        let Regulator {
+            cores: _cores,
+            pairs: _pairs,
+        } = self;
+    }
 }
 
 impl Model for Regulator {
@@ -110,7 +119,10 @@ impl Regulator {
         ensures regulated { (notes : Notes) (edges : List (List (ℕ × ℕ))) → IsRegulation notes edges self →
             result ≡ regulated self.cores (known_at notes) edges }
     {
-        let Regulator { pairs, .. } = self;
+        let Regulator {
+            cores: _cores,
+            pairs,
+        } = self;
         pairs.into_items()
     }
 }

@@ -1,11 +1,12 @@
 //! The choices of a schedule, one after the other.
-ghost use Rattle.std.specs.Prelude.{◌≡◌, ℕ, ◌+◌};
+ghost use Rattle.std.specs.Prelude.{◌≡◌, ℕ, ◌+◌, IfOk};
 ghost use Rattle.rand_pcg.specs.Lcg.{increment_of, started};
 ghost use Rattle.rand_pcg.specs.Pcg.{multiplier_64};
 ghost use Rattle.schedule_pick.specs.Choices.{choice_at, choices_after, choices_of};
 
 use rand_core::utils::NextWord;
 use rand_pcg::Lcg64Xsh32;
+use std::alloc::{AllocError, Global};
 use std::marker::Model;
 
 /// The choices that are left: the bytes that weren't taken, and then the words of PCG's generator
@@ -38,6 +39,17 @@ impl Schedule {
             next: 0,
             words: Lcg64Xsh32::new(seed, 0),
         }
+    }
+
+    /// A schedule of the same choices. The only refusal is want of memory.
+    pub fn copied(&self, alloc: Global) -> Result<Schedule, AllocError>
+        ensures { IfOk result (λ copy. copy ≡ self.now) }
+    {
+        Ok(Schedule {
+            bytes: self.bytes[self.next..].to_vec(alloc)?,
+            next: 0,
+            words: self.words.clone()?,
+        })
     }
 
     /// The next choice: the next byte, or after the last one the next word.
