@@ -1,9 +1,9 @@
 //! Cores that write one word, over any choices.
 ghost use Rattle.std.specs.Prelude.{◌≡◌, length};
 
-use crate::{Machine, Move, Stepped};
 use access_times::{Carry, Clerk, NoCarry, NoRider, Rider};
 use image_mem::Image;
+use msi_machine::{Machine, Move};
 use rtr_types::{Access, CORES_MAX, Instr, Params};
 use std::alloc::Global;
 use std::test::Fail;
@@ -110,7 +110,7 @@ fn written(alloc: Global, run: &Run) -> Result<(u32, u32, u32), Fail> {
     if !machine.done() || machine.core(1).count() != run.retired / 2 {
         return Ok((steps, clerk.told, 0));
     }
-    Ok((steps, clerk.told, machine.final_words(2)[0]))
+    Ok((steps, clerk.told, machine.final_word(8)))
 }
 
 // Each core retires all but one instruction by itself and one with its data, after a request was sent and
@@ -192,11 +192,7 @@ fn the_first_step_is_the_chosen_cores(rt: HostRuntime) -> Result<(), Fail> {
     assert!(rt; !machine.done() && machine.has_room());
     let stepped = machine.step(3, &mut clerk);
     let at = Instr { core: 1, count: 1 };
-    let wanted = Stepped {
-        taken: Move::Core(1),
-        retired: Some(at),
-    };
-    assert_eq!(rt; stepped, wanted);
+    assert_eq!(rt; (stepped.taken, stepped.retired), (Move::Core(1), Some(at)));
     assert_eq!(rt; clerk.told, 1);
     Ok(())
 }

@@ -7,10 +7,10 @@ ghost use Rattle.access_times.specs.Times.{times_noted};
 ghost use Rattle.clock_core.specs.Counts.{no_counts};
 ghost use Rattle.rtr_types.specs.declared.TheConstants.{CORES_MAX};
 
-use crate::Machine;
 use access_times::{Carry, Clerk, NoCarry, Times, TimesClerk};
 use clock_core::Clock;
 use image_mem::Image;
+use msi_machine::Machine;
 use rtr_types::{Access, BLOCK_WORDS, CORES_MAX, Instr, Params};
 use std::alloc::Global;
 use std::test::Fail;

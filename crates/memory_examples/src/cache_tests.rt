@@ -2,9 +2,12 @@
 //! out by hand from the table of the protocol.
 ghost use Rattle.std.specs.Prelude.{◌*◌, ◌+◌, ◌%◌, ◌^◌};
 
-use super::*;
-use crate::line::State;
-use crate::slots::{FromHomeSlot, RequestSlot, ResponseSlot};
+use access_times::Rider;
+use msi_cache::{
+    Cache, FromHome, FromHomeSlot, Request, RequestSlot, Response, ResponseSlot, State,
+};
+use rtr_types::Kind;
+use std::alloc::Global;
 use std::process::Abort;
 use std::test::Fail;
 
@@ -52,7 +55,7 @@ enum Step {
 }
 
 /// What a step answers.
-#[derive(Debug, Drop, PartialEq, Eq)]
+#[derive(Drop, PartialEq, Eq)]
 enum Said {
     Asked(Request<Trail>),
     Replied(Option<Response<Trail>>),
@@ -107,11 +110,10 @@ fn row(
     for before in path {
         take(rt, &mut cache, *before);
     }
-    assert_eq!(rt; take(rt, &mut cache, step), said, "{step:?}");
-    let line = &cache.lines[4];
-    assert_eq!(rt;
-        (line.state, line.words[0], line.rider.get().digits),
-        left,
+    assert!(rt; take(rt, &mut cache, step) == said, "{step:?}");
+    let line = cache.line(4);
+    assert!(rt;
+        (line.state, line.words[0], line.rider.get().digits) == left,
         "{step:?}"
     );
     Ok(())
@@ -312,17 +314,17 @@ fn gives_copies_up(rt: HostRuntime) -> Result<(), Fail> {
 fn evicts_a_shared_block_for_another(rt: HostRuntime) -> Result<(), Fail> {
     let mut cache = Cache::<Trail>::new(rt.alloc())?;
     let get_s = asked(Request::GetS { block: 4 });
-    assert_eq!(rt; take(&rt, &mut cache, Step::Load(4)), get_s);
-    assert_eq!(rt; take(&rt, &mut cache, Step::Data(7)), silent());
+    assert!(rt; take(&rt, &mut cache, Step::Load(4)) == get_s);
+    assert!(rt; take(&rt, &mut cache, Step::Data(7)) == silent());
     let put_s = asked(Request::PutS {
         block: 4,
         rider: Trail { digits: 7 },
     });
-    assert_eq!(rt; take(&rt, &mut cache, Step::Load(20)), put_s);
-    assert_eq!(rt; take(&rt, &mut cache, Step::Inv), inv_ack(7));
-    assert_eq!(rt; take(&rt, &mut cache, Step::Ack), silent());
+    assert!(rt; take(&rt, &mut cache, Step::Load(20)) == put_s);
+    assert!(rt; take(&rt, &mut cache, Step::Inv) == inv_ack(7));
+    assert!(rt; take(&rt, &mut cache, Step::Ack) == silent());
     let get_s = asked(Request::GetS { block: 20 });
-    assert_eq!(rt; take(&rt, &mut cache, Step::Load(20)), get_s);
+    assert!(rt; take(&rt, &mut cache, Step::Load(20)) == get_s);
     Ok(())
 }
 
@@ -341,42 +343,58 @@ fn writes_a_word_and_lends_the_rider(rt: HostRuntime) -> Result<(), Fail> {
         words: [7, 7, 9, 7],
         rider: Trail { digits: 73 },
     }));
-    assert_eq!(rt; take(&rt, &mut cache, Step::FwdGetM), given);
+    assert!(rt; take(&rt, &mut cache, Step::FwdGetM) == given);
     assert!(rt; !cache.can_read(4));
     Ok(())
 }
 
 #[test]
-fn messages_lie_in_their_places(rt: HostRuntime) -> Result<(), Fail> {
-    let rider = Trail { digits: 7 };
+fn a_request_lies_in_its_place(rt: HostRuntime) -> Result<(), Fail> {
     let put = Request::PutM {
         block: 4,
         words: [1, 2, 3, 4],
-        rider,
+        rider: Trail { digits: 7 },
     };
     let mut request = RequestSlot::<Trail>::blank(rt.alloc())?;
     request.put(put.lent());
-    assert_eq!(rt; (request.block(), request.open().owned()), (4, put));
+    assert!(rt; (request.block(), request.open().owned()) == (4, put));
     request.put(Request::GetS { block: 5 });
-    assert_eq!(rt; request.open().owned(), Request::GetS { block: 5 });
+    assert!(rt; request.open().owned() == Request::GetS { block: 5 });
+    Ok(())
+}
+
+#[test]
+fn a_response_lies_in_its_place(rt: HostRuntime) -> Result<(), Fail> {
+    let rider = Trail { digits: 7 };
     let ack = Response::InvAck { block: 4, rider };
     let mut response = ResponseSlot::<Trail>::blank(rt.alloc())?;
     response.put(ack.lent());
-    assert_eq!(rt; (response.block(), response.open().owned()), (4, ack));
+    assert!(rt; (response.block(), response.open().owned()) == (4, ack));
+    Ok(())
+}
+
+/// The cache, which waits for block 4, takes its data where they lie.
+fn takes_data(rt: &impl Abort, cache: &mut Cache<Trail>, message: &mut FromHomeSlot<Trail>) {
+    let rider = Trail { digits: 7 };
     let data = FromHome::BlockData {
         block: 4,
         words: [1, 2, 3, 4],
         rider,
     };
-    let mut message = FromHomeSlot::<Trail>::blank(rt.alloc())?;
     message.put(data.lent());
-    assert_eq!(rt; (message.block(), message.open()), (4, data.lent()));
-    let mut cache = Cache::<Trail>::new(rt.alloc())?;
-    take(&rt, &mut cache, Step::Load(4));
+    assert!(rt; (message.block(), message.open()) == (4, data.lent()));
     assert!(rt; cache.expects(&data));
-    cache.take(&mut message);
+    cache.take(message);
     assert!(rt; cache.can_read(4));
     assert_eq!(rt; cache.word(4, 1), 2);
     assert_eq!(rt; *cache.rider(4), rider);
+}
+
+#[test]
+fn a_message_is_taken_where_it_lies(rt: HostRuntime) -> Result<(), Fail> {
+    let mut message = FromHomeSlot::<Trail>::blank(rt.alloc())?;
+    let mut cache = Cache::<Trail>::new(rt.alloc())?;
+    take(&rt, &mut cache, Step::Load(4));
+    takes_data(&rt, &mut cache, &mut message);
     Ok(())
 }

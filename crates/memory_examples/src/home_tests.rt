@@ -2,9 +2,12 @@
 //! out by hand from the table of the protocol.
 ghost use Rattle.std.specs.Prelude.{◌*◌, ◌+◌, ◌%◌, ◌^◌};
 
-use super::*;
-use msi_cache::FromHome;
-use rtr_types::CoreSet;
+use access_times::Rider;
+use image_mem::Image;
+use msi_cache::{FromHome, Request, Response};
+use msi_directory::{Home, HomeAnswer, HomeWords, Stage};
+use rtr_types::{CORES_MAX, CoreSet};
+use std::alloc::Global;
 use std::process::Abort;
 use std::test::Fail;
 
@@ -123,13 +126,10 @@ fn row(
     for before in path {
         take(rt, &mut home, *before);
     }
-    assert_eq!(rt; take(rt, &mut home, step), answer, "{step:?}");
+    assert!(rt; take(rt, &mut home, step) == answer, "{step:?}");
     assert!(rt; home.blocks() == 4);
-    assert_eq!(rt;
-        (home.stage(2), home.words(2).words[0], home.rider(2).digits),
-        left,
-        "{step:?}"
-    );
+    let now = (home.stage(2), home.word(8), home.rider(2).digits);
+    assert!(rt; now == left, "{step:?}");
     Ok(())
 }
 
@@ -374,33 +374,61 @@ fn takes_responses(rt: HostRuntime) -> Result<(), Fail> {
     )
 }
 
-#[test]
-fn hands_a_shared_block_to_one_owner(rt: HostRuntime) -> Result<(), Fail> {
-    let image = Image::flat(Vec::new(rt.alloc()), 16)?;
-    let mut home = Home::new(rt.alloc(), &image)?;
+/// Room is made for block 2, and cores 0 and 1 come to share it.
+fn shared_by_two(rt: &impl Abort, home: &mut Home<Trail>) -> Result<(), Fail> {
     assert!(rt; home.blocks() == 4);
     assert_eq!(rt; (home.touched(), home.has_room(2)), (0, false));
     home.make_room(2)?;
     assert_eq!(rt; (home.touched(), home.has_room(2)), (1, true));
-    assert_eq!(rt; take(&rt, &mut home, Step::GetS(0)), data(0, 0, 0));
+    assert!(rt; take(rt, home, Step::GetS(0)) == data(0, 0, 0));
     assert!(rt; home.blocks() == 4);
     home.make_room(2)?;
-    assert_eq!(rt; take(&rt, &mut home, Step::GetS(1)), data(1, 0, 0));
+    assert!(rt; take(rt, home, Step::GetS(1)) == data(1, 0, 0));
+    Ok(())
+}
+
+/// Core 1 asks to own it, and the home waits.
+fn waits_for_core_0(rt: &impl Abort, home: &mut Home<Trail>) -> Result<(), Fail> {
     assert!(rt; home.blocks() == 4);
     home.make_room(2)?;
-    assert_eq!(rt; take(&rt, &mut home, Step::GetM(1)), invalidates(1));
+    assert!(rt; take(rt, home, Step::GetM(1)) == invalidates(1));
     assert!(rt; home.blocks() == 4);
     assert_eq!(rt; home.can_take(&Request::GetS { block: 2 }), false);
     assert_eq!(rt; home.is_free(2), false);
-    assert_eq!(rt; home.words(2).owner, None);
-    assert_eq!(rt; take(&rt, &mut home, Step::InvAck(0, 7)), data(1, 0, 7));
+    assert_eq!(rt; home.owner(2), None);
+    Ok(())
+}
+
+/// Core 0 has let it go.
+fn owned_by_core_1(rt: &impl Abort, home: &mut Home<Trail>) {
+    assert!(rt; take(rt, home, Step::InvAck(0, 7)) == data(1, 0, 7));
     assert!(rt; home.blocks() == 4);
-    assert_eq!(rt; home.words(2).owner, Some(1));
-    assert_eq!(rt; home.is_free(2), true);
+    assert_eq!(rt; (home.owner(2), home.words(2).owner), (Some(1), Some(1)));
+    assert_eq!(rt; (home.is_free(2), home.touched()), (true, 1));
     assert_eq!(rt; *home.rider(2), Trail { digits: 7 });
     assert_eq!(rt; *home.rider(3), Trail { digits: 0 });
-    assert_eq!(rt; home.touched(), 1);
+}
+
+#[test]
+fn hands_a_shared_block_to_one_owner(rt: HostRuntime) -> Result<(), Fail> {
+    let image = Image::flat(Vec::new(rt.alloc()), 16)?;
+    let mut home = Home::new(rt.alloc(), &image)?;
+    shared_by_two(&rt, &mut home)?;
+    waits_for_core_0(&rt, &mut home)?;
+    owned_by_core_1(&rt, &mut home);
     Ok(())
+}
+
+/// The home of two blocks keeps so many entries, and has the image's words, the last three of which are none.
+fn has_opening_words(rt: &impl Abort, home: &Home<Trail>, touched: u32) {
+    assert!(rt; home.blocks() == 2);
+    assert_eq!(rt; home.touched(), touched);
+    let owner = None;
+    let words = [1, 2, 259, 0];
+    assert!(rt; home.words(0) == HomeWords { words, owner });
+    let words = [0; 4];
+    assert!(rt; home.words(1) == HomeWords { words, owner });
+    assert_eq!(rt; (home.word(1), home.word(2), home.word(7)), (2, 259, 0));
 }
 
 #[test]
@@ -408,16 +436,24 @@ fn reads_the_opening_words(rt: HostRuntime) -> Result<(), Fail> {
     let bytes = vec![in rt.alloc(); 1, 0, 0, 0, 2, 0, 0, 0, 3, 1]?;
     let image = Image::flat(bytes, 5)?;
     let mut home = Home::<Trail>::new(rt.alloc(), &image)?;
-    // without an entry, and with one
-    for touched in 0..2 {
-        assert!(rt; home.blocks() == 2);
-        assert_eq!(rt; home.touched(), touched);
-        let owner = None;
-        let words = [1, 2, 259, 0];
-        assert_eq!(rt; home.words(0), HomeWords { words, owner });
-        let words = [0; 4];
-        assert_eq!(rt; home.words(1), HomeWords { words, owner });
-        home.make_room(0)?;
-    }
+    has_opening_words(&rt, &home, 0);
+    assert!(rt; home.blocks() == 2);
+    home.make_room(0)?;
+    has_opening_words(&rt, &home, 1);
+    Ok(())
+}
+
+// Core 0 gives a copy back that it had written.
+#[test]
+fn has_the_words_of_a_put(rt: HostRuntime) -> Result<(), Fail> {
+    let image = Image::flat(Vec::new(rt.alloc()), 16)?;
+    let mut home = Home::new(rt.alloc(), &image)?;
+    assert!(rt; home.blocks() == 4);
+    home.make_room(2)?;
+    take(&rt, &mut home, Step::GetM(0));
+    take(&rt, &mut home, Step::PutM(0, 5));
+    assert!(rt; home.blocks() == 4);
+    assert_eq!(rt; (home.word(7), home.word(8), home.word(11)), (0, 5, 5));
+    assert_eq!(rt; home.owner(2), None);
     Ok(())
 }

@@ -7,6 +7,7 @@ pub mod Delivered
 pub mod Elsewhere
 pub mod Moves
 pub mod Renewed
+pub mod Retiring
 pub mod Roomed
 pub mod Standings
 pub mod Touched

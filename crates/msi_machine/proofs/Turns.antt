@@ -28,6 +28,7 @@ use Rattle.msi_memory.specs.Memories.{Memory, no_port, port_at}
 use Rattle.msi_memory.specs.Rests.{can_request_in, can_respond_in, head_is, hears, requests_at}
 use Rattle.memory_laws.proofs.Views.{length-delivered}
 use Rattle.msi_memory.specs.Turns.{IsRequestTurn, IsResponseTurn, IsTurn}
+use Rattle.msi_memory.proofs.Turns.{turn_heard}
 use Rattle.msi_state.specs.declared.moves.Move.{Move}
 use Rattle.msi_state.specs.declared.moves.Move.TheVariants.{Core as CoreMove, Request as RequestMove, Response as ResponseMove, FromHome as MessageMove}
 use Rattle.msi_state.specs.Moves.{core_of}
@@ -250,7 +251,8 @@ module _ {R K : Type 0} where
         count = turned.count;
         block = subst (λ (k : ℕ). turn.block < k) (sym turned.entries) (subst (λ (b : ℕ). b < length s.memory.home) (sym is.block) within);
         marked =
-            λ marks cores others own. turn_marked riding carrying s n c about (hears answer) turn was marks turned before is.block is.heard cores others own;
+            λ marks cores others own. turn_marked riding carrying s n c about (hears answer) turn was marks turned before is.block
+            (turn_heard about answer turn is) cores others own;
       }
 
   pub request_fits : (riding : Riding R) (carrying : Carrying K) (s : State R K) (c : ℕ) (turn : Turn) →

@@ -1,4 +1,5 @@
 pub mod Writers
+pub mod Delivering
 pub mod Steppings
 pub mod Marks
 pub mod Standings

@@ -14,11 +14,7 @@ mod marks;
 mod moving;
 mod parts;
 mod standing;
-#[cfg(test)]
-mod tests;
 mod timed;
-#[cfg(test)]
-mod timed_tests;
 
 pub use machine::{Machine, Stepped};
 pub use msi_state::Move;

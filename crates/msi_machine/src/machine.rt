@@ -1,15 +1,17 @@
 //! The machine and its calls.
-ghost use Rattle.std.specs.Prelude.{◌≡◌, ◌<◌, ◌≤◌, ◌+◌, ◌*◌, ℕ, IfOk, IsTrue, List, OnOk, false, length, true};
+ghost use Rattle.std.specs.Prelude.{◌≡◌, ◌<◌, ◌≤◌, ◌+◌, ◌*◌, ◌/◌, ◌%◌, ℕ, IfOk, IsTrue, List, OnOk, false, length};
+ghost use Rattle.std.specs.Prelude.{slice_index, true};
 ghost use Rattle.access_times.specs.Riding.{none_carrying, none_riding};
 ghost use Rattle.rtr_types.specs.Parameters.{Fits};
 ghost use Rattle.rtr_types.specs.declared.TheConstants.{BLOCK_WORDS, CORES_MAX};
+ghost use Rattle.msi_machine.specs.Delivering.{MessagesRetire};
 ghost use Rattle.msi_machine.specs.Marks.{AllMarked, marked};
 ghost use Rattle.msi_machine.specs.Steppings.{HasMoved, IsTaken, KeepsPromises};
 ghost use Rattle.msi_directory.specs.Blocks.{touched};
 ghost use Rattle.msi_machine.specs.Writers.{OneWriterEach};
 ghost use Rattle.machine_bound.specs.Bound.{total_earned, total_owed, total_retired};
 ghost use Rattle.machine_data.specs.Coherent.{Coherent, opening_memory};
-ghost use Rattle.msi_state.specs.FinalMemory.{final_words};
+ghost use Rattle.msi_state.specs.FinalMemory.{final_word, final_words};
 ghost use Rattle.msi_state.specs.Events.{instr_of};
 ghost use Rattle.machine_plain.specs.Plain.{plain};
 ghost use Rattle.msi_state.specs.Rests.{heads_roomy};
@@ -33,7 +35,7 @@ use std::marker::Model;
 
 /// What a step did: the move that was made, and the instruction that retired in it. There is none exactly
 /// where no instruction retired.
-#[derive(Clone, Copy, Debug, PartialEq, Eq)]
+#[derive(Clone, Copy)]
 pub struct Stepped {
     pub taken: Move,
     pub retired: Option<Instr>,
@@ -45,12 +47,22 @@ pub struct Stepped {
 /// Beside the state it keeps what each core stands at, which moves can be made, and which core moved last, or
 /// none once room was made. Room is made before each step, so that only that core may have a request for whose
 /// block there is none; and the home is asked only then whether that block is free.
-#[derive(Drop)]
 pub struct Machine<R: Rider, K: Carry> {
     pub(crate) parts: Parts<R, K>,
     standings: Vec<Standing>,
     marks: Marks,
     mover: u8,
+}
+
+impl<R: Rider, K: Carry> Drop for Machine<R, K> {
+    fn drop(self) {
+        let Machine {
+            parts: _parts,
+            standings: _standings,
+            marks: _marks,
+            mover: _mover,
+        } = self;
+    }
 }
 
 impl<R: Rider, K: Carry> Model for Machine<R, K> {
@@ -196,13 +208,31 @@ impl<R: Rider, K: Carry> Machine<R, K> {
         parts.memory.final_words(block)
     }
 
+    /// A word of the memory at the end, by its index: the owner's copy of it where a cache owns its block, else
+    /// the home's. It is what the last write to it left.
+    pub fn final_word(&self, word: u32) -> u32
+        requires done { all_done self.now.state ≡ true }
+        requires within { word < self.now.state.image.words }
+        ensures value { result ≡ final_word R.riding K.carrying self.now.state word }
+        ensures plain { result ≡ final_word none_riding none_carrying (plain self.now.state) word }
+        ensures last { (memory : ℕ → List ℕ) → Coherent R.riding K.carrying self.now.state memory
+            → result ≡ slice_index (memory (word / BLOCK_WORDS)) (word % BLOCK_WORDS) }
+    {
+        let words = self.final_words(word / BLOCK_WORDS as u32);
+        words[word as usize % BLOCK_WORDS]
+    }
+
     /// The image that the machine runs.
     pub fn into_image(self) -> Image
         ensures { result ≡ self.state.image }
     {
-        let Machine { parts, .. } = self;
-        let Parts { program, .. } = parts;
-        program.into_image()
+        let Machine {
+            parts,
+            standings: _standings,
+            marks: _marks,
+            mover: _mover,
+        } = self;
+        parts.into_image()
     }
 
     /// A core.
@@ -213,6 +243,15 @@ impl<R: Rider, K: Carry> Machine<R, K> {
         ensures within { result.now.count ≤ result.now.limit }
     {
         &self.parts.cores[core as usize]
+    }
+
+    /// What retires as a core takes the oldest message from home: after a block's data the instruction that
+    /// waited for them, and after any other message, such as the acknowledgement of a Put, none. A law for who
+    /// has a machine.
+    pub fn data_alone_retire(&self)
+        ensures { MessagesRetire R.riding K.carrying self.now.state }
+    {
+        let _ = &self.parts;
     }
 
     /// Each core's number is its place, and below the greatest number of cores: a law for clerks that keep

@@ -30,11 +30,20 @@ use std::marker::Model;
 /// and which of the home's blocks have room for a request.
 ///
 /// It has no invariant, so that each call owes only what it does.
-#[derive(Drop)]
 pub struct Parts<R, K> {
     pub(crate) program: Program,
     pub(crate) cores: Vec<Core>,
     pub(crate) memory: MemorySystem<R, K>,
+}
+
+impl<R: Drop, K: Drop> Drop for Parts<R, K> {
+    fn drop(self) {
+        let Parts {
+            program: _program,
+            cores: _cores,
+            memory: _memory,
+        } = self;
+    }
 }
 
 impl<R, K> Model for Parts<R, K> {
@@ -59,14 +68,26 @@ impl<R: Rider, K: Carry> Parts<R, K> {
         ensures state { IfOk result (λ parts. parts.state ≡ state_start R.riding K.carrying image cores limit) }
         ensures untouched { IfOk result (λ parts. touched parts.rooms ≡ 0) }
     {
-        let memory = MemorySystem::new(alloc, &image, cores)?;
-        let cores = first_cores(alloc, cores, limit)?;
         let program = Program::new(alloc, image)?;
+        let memory = MemorySystem::new(alloc, program.image(), cores)?;
+        let cores = first_cores(alloc, cores, limit)?;
         Ok(Parts {
             program,
             cores,
             memory,
         })
+    }
+
+    /// The image that the cores run.
+    pub(crate) fn into_image(self) -> Image
+        ensures { result ≡ self.state.image }
+    {
+        let Parts {
+            program,
+            cores: _cores,
+            memory: _memory,
+        } = self;
+        program.into_image()
     }
 
     /// Core `c` moves: its next instruction retires, or what that needs is asked for. What was kept of the

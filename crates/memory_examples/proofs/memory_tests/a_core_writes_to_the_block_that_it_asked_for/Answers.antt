@@ -8,10 +8,10 @@ use Rattle.rtr_types.specs.declared.access.Kind.TheVariants.{Store}
 use Rattle.msi_memory.specs.Acts.{TakeMessage, TakeRequest, allows, retire, take_message, take_request, touch, want}
 use Rattle.msi_memory.specs.Memories.{Memory, memory_start, port_at, rider_at}
 use Rattle.msi_memory.specs.Rests.{HasRoomFor, HeadsFit, NamesFit, has_row_for}
-use Rattle.msi_memory.proofs.FirstActs.{allowed_retired, asked, heads_asked, here_retired, here_served, here_taken, names_asked}
+use Rattle.memory_examples.proofs.FirstActs.{allowed_retired, asked, heads_asked, here_retired, here_served, here_taken, names_asked}
 use Rattle.msi_memory.specs.Finals.{at_hand}
-use Rattle.msi_memory.proofs.FirstActs.{at_hand_written, within_written, room_served, row_asked, row_served, waits_served}
-use Rattle.msi_memory.proofs.tests.a_core_writes_to_the_block_that_it_asked_for.Goals as goal
+use Rattle.memory_examples.proofs.FirstActs.{at_hand_written, within_written, room_served, row_asked, row_served, waits_served}
+use Rattle.memory_examples.proofs.memory_tests.a_core_writes_to_the_block_that_it_asked_for.Goals as goal
 
 abbrev riding : Riding NoRider
 riding = record { fresh = record {}; absorbed = λ a b. a }

@@ -1,0 +1,12 @@
+//! Links, caches, home and memory system, by calls: each row of the two tables, and what few words of a memory
+//! of one block go through. It has tests alone, and stands apart so that the crates above those don't wait for it.
+#![tactic(auto)]
+
+#[cfg(test)]
+mod cache_tests;
+#[cfg(test)]
+mod home_tests;
+#[cfg(test)]
+mod link_tests;
+#[cfg(test)]
+mod memory_tests;
