@@ -1,5 +1,6 @@
 -- The first that fails.
-use Rattle.std.proofs.Common.{inl, inr, ◌≡◌, ◌⊎◌, ℕ, zero, suc, ◌+◌, ◌-◌, ◌<◌, ◌≤◌, ◌^◌, List, [], ◌∷◌, ◌++◌, length, get_or, refl, sym, ap, ◌∙◌}
+use Rattle.std.proofs.Common.{inl, inr, ◌≡◌, ◌⊎◌, ℕ, zero, suc, ◌+◌, ◌-◌, ◌<◌, ◌≤◌, ◌^◌, List, [], ◌∷◌, ◌++◌, length}
+use Rattle.std.proofs.Common.{get_or, refl, sym, ap, ◌∙◌}
 use Rattle.std.proofs.Common.{subst, arith, take}
 use Rattle.std.proofs.Common.{drop, true}
 use Rattle.std.specs.Prelude.{slice_index}
@@ -36,7 +37,8 @@ pub record IsEdge (r : Recording) (x y : Instr) : Type 0 where
   pub within : IsWithin r y
   pub some : 1 ≤ y.count
 
-pub edge_at : (r : Recording) (edges : List Edge) (i : ℕ) (d : Edge) → Valid r → edges ≡ reduced_edges r → i < length edges →
+pub edge_at : (r : Recording) (edges : List Edge) (i : ℕ) (d : Edge) → Valid r → edges ≡ reduced_edges r →
+    i < length edges →
     IsEdge r (get_or edges i d).from (get_or edges i d).to
 edge_at r edges i d valid is lt =
     let a : Among (reduced_edges r) (get_or edges i d).from (get_or edges i d).to =
@@ -49,7 +51,8 @@ edge_at r edges i d valid is lt =
       some = w.some_target;
     }
 
-among_end : (front : List Edge) (e : Edge) (x y : Instr) → Among (front ++ e ∷ []) x y → Among front x y ⊎ ((e.from ≡ x) × (e.to ≡ y))
+among_end : (front : List Edge) (e : Edge) (x y : Instr) → Among (front ++ e ∷ []) x y →
+    Among front x y ⊎ ((e.from ≡ x) × (e.to ≡ y))
 among_end [] e x y (inl p) = inr p
 among_end [] e x y (inr a) = absurd a
 among_end (f ∷ front) e x y (inl p) = inl (inl p)
@@ -59,25 +62,37 @@ among_end (f ∷ front) e x y (inr a) = on (among_end front e x y a)
     on (inl b) = inl (inr b)
     on (inr p) = inr p
 
-pub holds_more : (P : Instr → Instr → Type 0) (edges : List Edge) (i : ℕ) (d : Edge) → i < length edges → ((x y : Instr) → Among (take i edges) x y → P x y) →
+pub holds_more : (P : Instr → Instr → Type 0) (edges : List Edge) (i : ℕ) (d : Edge) → i < length edges →
+    ((x y : Instr) → Among (take i edges) x y → P x y) →
     P (get_or edges i d).from (get_or edges i d).to →
     (x y : Instr) → Among (take (i + 1) edges) x y → P x y
 holds_more P edges i d lt before here x y a =
-    by (among_end (take i edges) (get_or edges i d) x y (subst (λ (l : List Edge). Among l x y) (one_more edges i d lt) a))
+    by (among_end (take i edges) (get_or edges i d) x y
+    (subst (λ (l : List Edge). Among l x y) (one_more edges i d lt) a))
   where
     by : Among (take i edges) x y ⊎ (((get_or edges i d).from ≡ x) × ((get_or edges i d).to ≡ y)) → P x y
     by (inl b) = before x y b
     by (inr p) = subst (λ (z : Instr). P z y) p.0 (subst (λ (z : Instr). P (get_or edges i d).from z) p.1 here)
 
-pub fails_first : (P : Instr → Instr → Type 0) (edges : List Edge) (i : ℕ) (d : Edge) → i < length edges → ((x y : Instr) → Among (take i edges) x y → P x y) →
+pub fails_first : (P : Instr → Instr → Type 0) (edges : List Edge) (i : ℕ) (d : Edge) → i < length edges →
+    ((x y : Instr) → Among (take i edges) x y → P x y) →
     (P (get_or edges i d).from (get_or edges i d).to → ⊥) →
     FailsFirst P edges (get_or edges i d)
 fails_first P edges i d lt before fails =
-    record { front = take i edges; rest = drop (suc i) edges; split = split_at edges i d lt; before = before; here = fails }
+    record {
+      front = take i edges;
+      rest = drop (suc i) edges;
+      split = split_at edges i d lt;
+      before = before;
+      here =
+          fails;
+    }
 
-pub holds_all : (P : Instr → Instr → Type 0) (edges : List Edge) (i : ℕ) → length edges ≤ i → ((x y : Instr) → Among (take i edges) x y → P x y) →
+pub holds_all : (P : Instr → Instr → Type 0) (edges : List Edge) (i : ℕ) → length edges ≤ i →
+    ((x y : Instr) → Among (take i edges) x y → P x y) →
     (x y : Instr) → Among edges x y → P x y
-holds_all P edges i past before x y a = before x y (subst (λ (l : List Edge). Among l x y) (sym (take_all i edges past)) a)
+holds_all P edges i past before x y a =
+    before x y (subst (λ (l : List Edge). Among l x y) (sym (take_all i edges past)) a)
 
 -- ---- entries
 
@@ -88,12 +103,14 @@ pub record Placed (edges : List Edge) (c n m : ℕ) : Type 0 where
   pub at : get_or (ends_to edges c n) place 0 ≡ m
   pub number : length (ends_to edges c m) ≡ place + 1
 
-place_next : (edges : List Edge) (c n m : ℕ) → suc m ≤ n → is_end edges (instr c (suc m)) ≡ true → Placed edges c n (suc m)
+place_next : (edges : List Edge) (c n m : ℕ) → suc m ≤ n → is_end edges (instr c (suc m)) ≡ true →
+    Placed edges c n (suc m)
 place_next edges c n m le end = record {
   place = length (ends_to edges c m);
   within = let l = longer edges c (suc m) n le in let k = number in omega arith;
   at = fronted edges c (suc m) n (length (ends_to edges c m)) le (let k = number in omega arith)
-      ∙ ap (λ (l : List ℕ). get_or l (length (ends_to edges c m)) 0) list ∙ get_or_push (ends_to edges c m) (suc m) 0 (length (ends_to edges c m)) refl;
+      ∙ ap (λ (l : List ℕ). get_or l (length (ends_to edges c m)) 0) list
+      ∙ get_or_push (ends_to edges c m) (suc m) 0 (length (ends_to edges c m)) refl;
   number = number;
 }
   where
@@ -108,26 +125,32 @@ place_of edges c n zero le pos end = absurd (omega arith)
 place_of edges c n (suc m) le pos end = place_next edges c n m le end
 
 -- an end's number is one more than its place
-placed : (edges : List Edge) (c n k : ℕ) → k < length (ends_to edges c n) → length (ends_to edges c (get_or (ends_to edges c n) k 0)) ≡ k + 1
+placed : (edges : List Edge) (c n k : ℕ) → k < length (ends_to edges c n) →
+    length (ends_to edges c (get_or (ends_to edges c n) k 0)) ≡ k + 1
 placed edges c n k lt = by (place_of edges c n (get_or (ends_to edges c n) k 0) low.1 low.0 low.2)
   where
-    low : (1 ≤ get_or (ends_to edges c n) k 0) × (get_or (ends_to edges c n) k 0 ≤ n) × (is_end edges (instr c (get_or (ends_to edges c n) k 0)) ≡ true)
+    low : (1 ≤ get_or (ends_to edges c n) k 0) × (get_or (ends_to edges c n) k 0 ≤ n) ×
+        (is_end edges (instr c (get_or (ends_to edges c n) k 0)) ≡ true)
     low = at_low edges c n k lt
 
-    by : Placed edges c n (get_or (ends_to edges c n) k 0) → length (ends_to edges c (get_or (ends_to edges c n) k 0)) ≡ k + 1
+    by : Placed edges c n (get_or (ends_to edges c n) k 0) →
+        length (ends_to edges c (get_or (ends_to edges c n) k 0)) ≡ k + 1
     by p = on (cases_order k p.place)
       where
-        on : (k ≡ p.place) ⊎ ((k < p.place) ⊎ (p.place < k)) → length (ends_to edges c (get_or (ends_to edges c n) k 0)) ≡ k + 1
+        on : (k ≡ p.place) ⊎ ((k < p.place) ⊎ (p.place < k)) →
+            length (ends_to edges c (get_or (ends_to edges c n) k 0)) ≡ k + 1
         on (inr (inl a)) = let h = ends_rise edges c n k p.place a p.within in let e = p.at in absurd (omega arith)
         on (inr (inr a)) = let h = ends_rise edges c n p.place k a lt in let e = p.at in absurd (omega arith)
         on (inl e) = let q = p.number in omega arith
 
-pub place_low : (r : Recording) (c k : ℕ) (list : List ℕ) → list ≡ ends_to (reduced_edges r) c (slice_index r.totals c) → k < length list →
+pub place_low : (r : Recording) (c k : ℕ) (list : List ℕ) →
+    list ≡ ends_to (reduced_edges r) c (slice_index r.totals c) → k < length list →
     k + 1 ≤ get_or list k 0
 place_low r c k list is lt =
     let p = placed (reduced_edges r) c (slice_index r.totals c) k (subst (λ (l : List ℕ). k < length l) is lt) in
     let m = few (reduced_edges r) c (get_or (ends_to (reduced_edges r) c (slice_index r.totals c)) k 0) in
-    let f : get_or list k 0 ≡ get_or (ends_to (reduced_edges r) c (slice_index r.totals c)) k 0 = ap (λ (l : List ℕ). get_or l k 0) is in
+    let f : get_or list k 0 ≡ get_or (ends_to (reduced_edges r) c (slice_index r.totals c)) k 0 =
+    ap (λ (l : List ℕ). get_or l k 0) is in
     omega arith
 
 -- an edge end of a core, of its list
@@ -138,19 +161,25 @@ pub record IsListed (r : Recording) (c k : ℕ) (list : List ℕ) : Type 0 where
   pub lt : k < length list
 
 -- an end's number, and the number before it
-pub end_number : (r : Recording) (c k : ℕ) (list : List ℕ) → IsListed r c k list → length (ends_to (reduced_edges r) c (get_or list k 0)) ≡ k + 1
+pub end_number : (r : Recording) (c k : ℕ) (list : List ℕ) → IsListed r c k list →
+    length (ends_to (reduced_edges r) c (get_or list k 0)) ≡ k + 1
 end_number r c k list h =
     ap (λ (l : List ℕ). length (ends_to (reduced_edges r) c (get_or l k 0))) h.is
     ∙ placed (reduced_edges r) c (slice_index r.totals c) k (subst (λ (l : List ℕ). k < length l) h.is h.lt)
 
-pub number_before : (r : Recording) (c k : ℕ) (list : List ℕ) → IsListed r c k list → length (ends_to (reduced_edges r) c (get_or list k 0 - 1)) ≡ k
+pub number_before : (r : Recording) (c k : ℕ) (list : List ℕ) → IsListed r c k list →
+    length (ends_to (reduced_edges r) c (get_or list k 0 - 1)) ≡ k
 number_before r c k list h = by (get_or list k 0) low.0 low.2 (end_number r c k list h)
   where
-    low : (1 ≤ get_or list k 0) × (get_or list k 0 ≤ slice_index r.totals c) × (is_end (reduced_edges r) (instr c (get_or list k 0)) ≡ true)
-    low = subst (λ (l : List ℕ). (1 ≤ get_or l k 0) × (get_or l k 0 ≤ slice_index r.totals c) × (is_end (reduced_edges r) (instr c (get_or l k 0)) ≡ true))
-        (sym h.is) (at_low (reduced_edges r) c (slice_index r.totals c) k (subst (λ (l : List ℕ). k < length l) h.is h.lt))
+    low : (1 ≤ get_or list k 0) × (get_or list k 0 ≤ slice_index r.totals c) ×
+        (is_end (reduced_edges r) (instr c (get_or list k 0)) ≡ true)
+    low = subst (λ (l : List ℕ). (1 ≤ get_or l k 0) × (get_or l k 0 ≤ slice_index r.totals c) ×
+        (is_end (reduced_edges r) (instr c (get_or l k 0)) ≡ true))
+        (sym h.is) (at_low (reduced_edges r) c (slice_index r.totals c) k
+        (subst (λ (l : List ℕ). k < length l) h.is h.lt))
 
-    by : (n : ℕ) → 1 ≤ n → is_end (reduced_edges r) (instr c n) ≡ true → length (ends_to (reduced_edges r) c n) ≡ k + 1 →
+    by : (n : ℕ) → 1 ≤ n → is_end (reduced_edges r) (instr c n) ≡ true →
+        length (ends_to (reduced_edges r) c n) ≡ k + 1 →
         length (ends_to (reduced_edges r) c (n - 1)) ≡ k
     by zero pos t e = absurd (omega arith)
     by (suc m) pos t e =
@@ -160,9 +189,11 @@ number_before r c k list h = by (get_or list k 0) low.0 low.2 (end_number r c k 
         let same = ap (λ (j : ℕ). length (ends_to (reduced_edges r) c j)) q in
         omega arith
 
-pub end_in_list : (r : Recording) (c k : ℕ) (list : List ℕ) → IsListed r c k list → IsWithin r (instr c (get_or list k 0)) × (1 ≤ get_or list k 0)
+pub end_in_list : (r : Recording) (c k : ℕ) (list : List ℕ) → IsListed r c k list →
+    IsWithin r (instr c (get_or list k 0)) × (1 ≤ get_or list k 0)
 end_in_list r c k list h =
-    let f : get_or list k 0 ≡ get_or (ends_to (reduced_edges r) c (slice_index r.totals c)) k 0 = ap (λ (l : List ℕ). get_or l k 0) h.is in
+    let f : get_or list k 0 ≡ get_or (ends_to (reduced_edges r) c (slice_index r.totals c)) k 0 =
+    ap (λ (l : List ℕ). get_or l k 0) h.is in
     let low = at_low (reduced_edges r) c (slice_index r.totals c) k (subst (λ (l : List ℕ). k < length l) h.is h.lt) in
     let one = low.0 in
     let most = low.1 in
@@ -170,7 +201,8 @@ end_in_list r c k list h =
 
 pub number_fits : (r : Recording) (c k : ℕ) (list : List ℕ) → IsListed r c k list → k + 1 < 2 ^ 32
 number_fits r c k list h =
-    let most : slice_index r.totals c ≤ r.params.limit = h.valid.totals c 0 (let n = h.valid.each_core in let lt = h.core in omega arith) in
+    let most : slice_index r.totals c ≤ r.params.limit =
+    h.valid.totals c 0 (let n = h.valid.each_core in let lt = h.core in omega arith) in
     let limit = h.valid.params.limit in
     let low = place_low r c k list h.is h.lt in
     let w = (end_in_list r c k list h).0.count in
@@ -178,8 +210,10 @@ number_fits r c k list h =
 
 -- what holds of the ends at all places before, of all ends before
 before_place : (c : Certificate) (core k : ℕ) (list : List ℕ) → Valid c.recording →
-    list ≡ ends_to (reduced_edges c.recording) core (slice_index c.recording.totals core) → ((j : ℕ) → j < k → IsGoodIn c (instr core (get_or list j 0))) →
-    (n : ℕ) → IsEnd (reduced_edges c.recording) (instr core n) → ((j : ℕ) → j < length list → get_or list j 0 ≡ n → j < k) → IsGoodIn c (instr core n)
+    list ≡ ends_to (reduced_edges c.recording) core (slice_index c.recording.totals core) →
+    ((j : ℕ) → j < k → IsGoodIn c (instr core (get_or list j 0))) →
+    (n : ℕ) → IsEnd (reduced_edges c.recording) (instr core n) →
+    ((j : ℕ) → j < length list → get_or list j 0 ≡ n → j < k) → IsGoodIn c (instr core n)
 before_place c core k list valid is good n end early =
     let w = end_within c.recording (instr core n) valid end in
     let p = place_of (reduced_edges c.recording) core (slice_index c.recording.totals core) n w.count
@@ -189,7 +223,8 @@ before_place c core k list valid is good n end early =
     subst (λ (j : ℕ). IsGoodIn c (instr core j)) at (good p.place (early p.place lt at))
 
 pub bad_at : (c : Certificate) (core k number : ℕ) (list : List ℕ) → IsListed c.recording core k list → number ≡ k + 1 →
-    ((j : ℕ) → j < k → IsGoodIn c (instr core (get_or list j 0))) → (IsGoodIn c (instr core (get_or list k 0)) → ⊥) → IsFirstBadOf c core number
+    ((j : ℕ) → j < k → IsGoodIn c (instr core (get_or list j 0))) → (IsGoodIn c (instr core (get_or list k 0)) → ⊥) →
+    IsFirstBadOf c core number
 bad_at c core k number list h num good bad = record {
   count = get_or list k 0;
   is_end = subst (λ (l : List ℕ). IsEnd (reduced_edges c.recording) (instr core (get_or l k 0))) (sym h.is)
@@ -218,8 +253,11 @@ bad_at c core k number list h num good bad = record {
 pub all_good : (c : Certificate) (core k : ℕ) (list : List ℕ) → Valid c.recording →
     list ≡ ends_to (reduced_edges c.recording) core (slice_index c.recording.totals core) → length list ≤ k →
     ((j : ℕ) → j < k → IsGoodIn c (instr core (get_or list j 0))) → AreGoodOf c core
-all_good c core k list valid is past good n end = before_place c core k list valid is good n end (λ j below at. omega arith)
+all_good c core k list valid is past good n end =
+    before_place c core k list valid is good n end (λ j below at. omega arith)
 
-pub good_of_all : (c : Certificate) (cores : ℕ) → Valid c.recording → c.recording.params.cores ≤ cores → ((k : ℕ) → k < cores → AreGoodOf c k) → (x : Instr) →
+pub good_of_all : (c : Certificate) (cores : ℕ) → Valid c.recording → c.recording.params.cores ≤ cores →
+    ((k : ℕ) → k < cores → AreGoodOf c k) → (x : Instr) →
     IsEnd (reduced_edges c.recording) x → IsGoodIn c x
-good_of_all c cores valid most each x end = each x.core (let w = end_within c.recording x valid end in let lt = w.core in omega arith) x.count end
+good_of_all c cores valid most each x end =
+    each x.core (let w = end_within c.recording x valid end in let lt = w.core in omega arith) x.count end

@@ -1,5 +1,6 @@
 -- Entries and logged sources, looked up.
-use Rattle.std.proofs.Common.{◌≡◌, ◌≢◌, ◌↔◌, ℕ, zero, suc, ◌-◌, ◌<◌, ◌≤◌, List, [], get_or, refl, sym, ap, ◌∙◌, subst, arith, Some, None}
+use Rattle.std.proofs.Common.{◌≡◌, ◌≢◌, ◌↔◌, ℕ, zero, suc, ◌-◌, ◌<◌, ◌≤◌, List, [], get_or, refl, sym, ap, ◌∙◌, subst}
+use Rattle.std.proofs.Common.{arith, Some, None}
 use Rattle.std.proofs.Common.{Bool, IsTrue}
 use Rattle.std.specs.Prelude.{slice_index, Option, nat_lt}
 use Rattle.std.proofs.lemmas.Bool.Decides.{nat_tests}
@@ -27,35 +28,43 @@ entry_some clocks c (suc k) ne = ap (λ (j : ℕ). get_or (get_or clocks c []) j
 
 -- ---- logged sources
 
-pub source_within : (r : Recording) (of n : ℕ) (at : Instr) → Valid r → HasEdge Reduced r (instr of n) at → IsWithin r (instr of n)
-source_within r of n at valid has = let w = edges-within Reduced r (instr of n) at valid has in record { core = w.pair.source; count = w.source_most }
+pub source_within : (r : Recording) (of n : ℕ) (at : Instr) → Valid r → HasEdge Reduced r (instr of n) at →
+    IsWithin r (instr of n)
+source_within r of n at valid has = let w = edges-within Reduced r (instr of n) at valid has in
+    record { core = w.pair.source; count = w.source_most }
 
 pub has_among : (r : Recording) (x y : Instr) → HasEdge Reduced r x y → Among (reduced_edges r) x y
 has_among r x y has = contains_among (reduced_edges r) x y has
 
 -- the one edge from a core, or none
-pub only_source : (r : Recording) (of : ℕ) (at : Instr) (found : Option ℕ) → ((a : ℕ) → HasEdge Reduced r (instr of a) at → found ≡ Some a) → (z : Instr) →
+pub only_source : (r : Recording) (of : ℕ) (at : Instr) (found : Option ℕ) →
+    ((a : ℕ) → HasEdge Reduced r (instr of a) at → found ≡ Some a) → (z : Instr) →
     Among (reduced_edges r) z at → z.core ≡ of → found ≡ Some z.count
-only_source r of at found only z a c = only z.count (subst (λ (i : ℕ). HasEdge Reduced r (instr i z.count) at) c (among_contains (reduced_edges r) z at a))
+only_source r of at found only z a c =
+    only z.count (subst (λ (i : ℕ). HasEdge Reduced r (instr i z.count) at) c (among_contains (reduced_edges r) z at a))
 
-pub some_source : (of n : ℕ) (z : Instr) → ◌≡◌ {A = Option ℕ} (Some n) (Some z.count) → z.core ≡ of → ◌≡◌ {A = Option Instr} (Some (instr of n)) (Some z)
+pub some_source : (of n : ℕ) (z : Instr) → ◌≡◌ {A = Option ℕ} (Some n) (Some z.count) → z.core ≡ of →
+    ◌≡◌ {A = Option Instr} (Some (instr of n)) (Some z)
 some_source of n z e c = let m : n ≡ z.count = cc in ap (λ (x : Instr). Some x) (instr_eq (instr of n) z (sym c) m)
 
 -- what holds of the sources on each other core holds of all
 pub all_sources : (r : Recording) (n : ℕ) (y : Instr) (P : Instr → Type 0) → Valid r → r.params.cores ≤ n →
-    ((i : ℕ) → i < n → i ≢ y.core → (z : Instr) → Among (reduced_edges r) z y → z.core ≡ i → P z) → (z : Instr) → Among (reduced_edges r) z y → P z
+    ((i : ℕ) → i < n → i ≢ y.core → (z : Instr) → Among (reduced_edges r) z y → z.core ≡ i → P z) → (z : Instr) →
+    Among (reduced_edges r) z y → P z
 all_sources r n y P valid most each z a =
     let w = edge_within Reduced r z y valid a in
     each z.core (let lt = w.pair.source in omega arith) w.pair.differ z a refl
 
 -- what holds of the one source on a core holds of all there
 pub of_one : (r : Recording) (of : ℕ) (y x : Instr) (P : Instr → Type 0) →
-    ((z : Instr) → Among (reduced_edges r) z y → z.core ≡ of → ◌≡◌ {A = Option Instr} (Some x) (Some z)) → P x → (z : Instr) → Among (reduced_edges r) z y →
+    ((z : Instr) → Among (reduced_edges r) z y → z.core ≡ of → ◌≡◌ {A = Option Instr} (Some x) (Some z)) → P x →
+    (z : Instr) → Among (reduced_edges r) z y →
     z.core ≡ of → P z
 of_one r of y x P only p z a c = let same : x ≡ z = let s = only z a c in cc in subst P same p
 
 pub of_none : (r : Recording) (of : ℕ) (y : Instr) (P : Instr → Type 0) →
-    ((z : Instr) → Among (reduced_edges r) z y → z.core ≡ of → ◌≡◌ {A = Option Instr} None (Some z)) → (z : Instr) → Among (reduced_edges r) z y →
+    ((z : Instr) → Among (reduced_edges r) z y → z.core ≡ of → ◌≡◌ {A = Option Instr} None (Some z)) → (z : Instr) →
+    Among (reduced_edges r) z y →
     z.core ≡ of → P z
 of_none r of y P only z a c = let s = only z a c in absurd (cc)
 
@@ -67,8 +76,10 @@ pub record IsSourceOf (r : Recording) (of : ℕ) (y x : Instr) : Type 0 where
   pub core : x.core ≡ of
   pub only : (z : Instr) → Among (reduced_edges r) z y → z.core ≡ of → ◌≡◌ {A = Option Instr} (Some x) (Some z)
 
-pub some_below : (c : Certificate) (of : ℕ) (y x : Instr) (entry here : List ℕ) (b : Bool) → IsSourceOf c.recording of y x →
-    entry ≡ last_entry (reduced_edges c.recording) c.clocks x → (IsTrue b ↔ IsBelow entry here) → IsTrue b ↔ IsSourceBelow c y of here
+pub some_below : (c : Certificate) (of : ℕ) (y x : Instr) (entry here : List ℕ) (b : Bool) →
+    IsSourceOf c.recording of y x →
+    entry ≡ last_entry (reduced_edges c.recording) c.clocks x → (IsTrue b ↔ IsBelow entry here) → IsTrue b ↔
+    IsSourceBelow c y of here
 some_below c of y x entry here b h is test = (to, back)
   where
     to : IsTrue b → IsSourceBelow c y of here
@@ -79,26 +90,35 @@ some_below c of y x entry here b h is test = (to, back)
     back f = test.1 (λ i. subst (λ (l : List ℕ). slice_index l i ≤ slice_index here i) (sym is) (f x h.edge h.core i))
 
 -- two entries that were found
-pub is_below_in : (c : Certificate) (x y : Instr) (there here : List ℕ) → there ≡ last_entry (reduced_edges c.recording) c.clocks x →
-    here ≡ last_entry (reduced_edges c.recording) c.clocks y → IsBelow there here → (i : ℕ) → entry_in c x i ≤ entry_in c y i
+pub is_below_in : (c : Certificate) (x y : Instr) (there here : List ℕ) →
+    there ≡ last_entry (reduced_edges c.recording) c.clocks x →
+    here ≡ last_entry (reduced_edges c.recording) c.clocks y → IsBelow there here → (i : ℕ) →
+    entry_in c x i ≤ entry_in c y i
 is_below_in c x y there here p q below i =
-    subst (λ (l : List ℕ). entry_in c x i ≤ slice_index l i) q (subst (λ (l : List ℕ). slice_index l i ≤ slice_index here i) p (below i))
+    subst (λ (l : List ℕ). entry_in c x i ≤ slice_index l i) q
+    (subst (λ (l : List ℕ). slice_index l i ≤ slice_index here i) p (below i))
 
 -- no entry of a source is above that of its target
-pub sources_below : (c : Certificate) (y : Instr) (here : List ℕ) → here ≡ last_entry (reduced_edges c.recording) c.clocks y → AreAllBelow c →
+pub sources_below : (c : Certificate) (y : Instr) (here : List ℕ) →
+    here ≡ last_entry (reduced_edges c.recording) c.clocks y → AreAllBelow c →
     AreSourcesBelow c y here
 sources_below c y here q all z a i = subst (λ (l : List ℕ). entry_in c z i ≤ slice_index l i) (sym q) (all z y a i)
 
 -- a logged source of y on the core of x is x
-pub own_only : (r : Recording) (x y z : Instr) → Valid r → Among (reduced_edges r) x y → Among (reduced_edges r) z y → z.core ≡ x.core → z ≡ x
-own_only r x y z valid a b same = one-source Reduced r z x y valid (among_contains (reduced_edges r) z y b) (among_contains (reduced_edges r) x y a) same
+pub own_only : (r : Recording) (x y z : Instr) → Valid r → Among (reduced_edges r) x y → Among (reduced_edges r) z y →
+    z.core ≡ x.core → z ≡ x
+own_only r x y z valid a b same =
+    one-source Reduced r z x y valid (among_contains (reduced_edges r) z y b) (among_contains (reduced_edges r) x y a)
+    same
 
 -- so no other one knows it
-pub own_known : (c : Certificate) (x y : Instr) (of : ℕ) → Valid c.recording → Among (reduced_edges c.recording) x y → of ≡ x.core → IsUnknownThere c x y of
+pub own_known : (c : Certificate) (x y : Instr) (of : ℕ) → Valid c.recording → Among (reduced_edges c.recording) x y →
+    of ≡ x.core → IsUnknownThere c x y of
 own_known c x y of valid a same z b core ne = absurd (ne (own_only c.recording x y z valid a b (core ∙ same)))
 
 -- it is on another core than x
-pub other_unknown : (c : Certificate) (of : ℕ) (x y other : Instr) (entry : List ℕ) (count : ℕ) → IsSourceOf c.recording of y other → of ≢ x.core →
+pub other_unknown : (c : Certificate) (of : ℕ) (x y other : Instr) (entry : List ℕ) (count : ℕ) →
+    IsSourceOf c.recording of y other → of ≢ x.core →
     entry ≡ last_entry (reduced_edges c.recording) c.clocks other → count ≡ slice_index entry x.core →
     IsTrue (nat_lt count x.count) ↔ IsUnknownThere c x y of
 other_unknown c of x y other entry count h ne is count_is = (to, back)
@@ -107,8 +127,10 @@ other_unknown c of x y other entry count h ne is count_is = (to, back)
     same = count_is ∙ ap (λ (l : List ℕ). slice_index l x.core) is
 
     to : IsTrue (nat_lt count x.count) → IsUnknownThere c x y of
-    to t = of_one c.recording of y other (λ z. z ≢ x → entry_in c z x.core < x.count) h.only (λ _. let lt : count < x.count = grind (arith, nat_tests) in
+    to t = of_one c.recording of y other (λ z. z ≢ x → entry_in c z x.core < x.count) h.only
+        (λ _. let lt : count < x.count = grind (arith, nat_tests) in
         let s = same in omega arith)
 
     back : IsUnknownThere c x y of → IsTrue (nat_lt count x.count)
-    back f = let lt = f other h.edge h.core (λ e. ne (sym h.core ∙ ap (λ (z : Instr). z.core) e)) in let s = same in let less : count < x.count = omega arith in grind (arith, nat_tests)
+    back f = let lt = f other h.edge h.core (λ e. ne (sym h.core ∙ ap (λ (z : Instr). z.core) e)) in let s = same in
+        let less : count < x.count = omega arith in grind (arith, nat_tests)

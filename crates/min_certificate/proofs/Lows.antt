@@ -26,16 +26,20 @@ pub low_acyclic : (r : Recording) → Valid r → IsDeterminate Reduced r → Is
 low_acyclic r valid d = acyclic_law Reduced r (low_order_of Reduced r) valid d.ordered d.whole
 
 pub low_cores : (r : Recording) → Valid r → AreCoresBelow r.params.cores (low_accesses Reduced r)
-low_cores r valid a s = let w = accesses_within Reduced r (low_order_of Reduced r) (low_ordered (plan_of Reduced r)) a s in let e = valid.each_core in
+low_cores r valid a s = let w =
+    accesses_within Reduced r (low_order_of Reduced r) (low_ordered (plan_of Reduced r)) a s in let e =
+    valid.each_core in
     omega arith
 
 -- a log that is least for one list is least for another with the same conflict pairs
-carried : (list other : List Access) (edges : List Edge) → Within (ConflictPair list) (ConflictPair other) → Within (ConflictPair other) (ConflictPair list) →
+carried : (list other : List Access) (edges : List Edge) → Within (ConflictPair list) (ConflictPair other) →
+    Within (ConflictPair other) (ConflictPair list) →
     Suffices other (Among edges) → IsLeast list edges → IsLeast other edges
 carried list other edges forth back suffices l = record {
   conflict = λ x y a. forth x y (l.conflict x y a);
   suffices = suffices;
-  least = λ others conflicts enough. l.least others (λ x y a. back x y (conflicts x y a)) (λ x y p. enough x y (forth x y p));
+  least = λ others conflicts enough. l.least others (λ x y a. back x y (conflicts x y a))
+      (λ x y p. enough x y (forth x y p));
 }
 
 pub every_order_is_least : EveryOrderIsLeastLaw

@@ -15,21 +15,26 @@ use Rattle.replay_audit.specs.Determinate.{low_accesses}
 use Rattle.replay_audit.proofs.Logs.{recorded_log, edge_within, leads_back}
 use Rattle.certificate_codec.specs.Ends.{reduced_edges, IsWithin}
 use Rattle.min_certificate.specs.Places.{entry_in, IsKnownOtherwiseIn}
-use Rattle.min_certificate.specs.Laws.{IsConflictIn, IsAmissIn, PassedIsLeastLaw, LeastPassesLaw, NotLeastLaw, AmissByEntriesLaw, ExactFitsLaw}
+use Rattle.min_certificate.specs.Laws.{IsConflictIn, IsAmissIn, PassedIsLeastLaw, LeastPassesLaw, NotLeastLaw}
+use Rattle.min_certificate.specs.Laws.{AmissByEntriesLaw, ExactFitsLaw}
 use Rattle.min_certificate.proofs.Lows.{low_rise, low_acyclic}
 
 pub passed_is_least : PassedIsLeastLaw
 passed_is_least c valid d p =
     good_shows_least (low_accesses Reduced c.recording) (reduced_edges c.recording) (entry_in c) (low_rise c.recording)
-    (recorded_log Reduced c.recording valid) (last_entry_law (reduced_edges c.recording) c.clocks) p.conflicts d.suffices p.good p.needed
+    (recorded_log Reduced c.recording valid) (last_entry_law (reduced_edges c.recording) c.clocks) p.conflicts
+    d.suffices p.good p.needed
 
 pub least_passes : LeastPassesLaw
 least_passes c valid d l exact = record {
   conflicts = l.conflict;
-  good = exact_is_good (reduced_edges c.recording) (entry_in c) (recorded_log Reduced c.recording valid) (low_acyclic c.recording valid d)
+  good = exact_is_good (reduced_edges c.recording) (entry_in c) (recorded_log Reduced c.recording valid)
+      (low_acyclic c.recording valid d)
       (last_entry_law (reduced_edges c.recording) c.clocks) exact;
-  needed = least_is_needed (low_accesses Reduced c.recording) (reduced_edges c.recording) (entry_in c) (low_rise c.recording)
-      (recorded_log Reduced c.recording valid) (low_acyclic c.recording valid d) (last_entry_law (reduced_edges c.recording) c.clocks) exact l;
+  needed = least_is_needed (low_accesses Reduced c.recording) (reduced_edges c.recording) (entry_in c)
+      (low_rise c.recording)
+      (recorded_log Reduced c.recording valid) (low_acyclic c.recording valid d)
+      (last_entry_law (reduced_edges c.recording) c.clocks) exact l;
 }
 
 pub not_least : NotLeastLaw
@@ -40,12 +45,14 @@ amiss_by_entries c x y valid d exact a = (to, back)
   where
     to : IsAmissIn c.recording x y → (IsConflictIn c.recording x y → ⊥) ⊎ IsKnownOtherwiseIn c x y
     to (inl f) = inl f
-    to (inr p) = inr ((implied_law (reduced_edges c.recording) (entry_in c) x y (recorded_log Reduced c.recording valid) (low_acyclic c.recording valid d)
+    to (inr p) = inr ((implied_law (reduced_edges c.recording) (entry_in c) x y (recorded_log Reduced c.recording valid)
+        (low_acyclic c.recording valid d)
         (last_entry_law (reduced_edges c.recording) c.clocks) exact a).0 p)
 
     back : (IsConflictIn c.recording x y → ⊥) ⊎ IsKnownOtherwiseIn c x y → IsAmissIn c.recording x y
     back (inl f) = inl f
-    back (inr k) = inr ((implied_law (reduced_edges c.recording) (entry_in c) x y (recorded_log Reduced c.recording valid) (low_acyclic c.recording valid d)
+    back (inr k) = inr ((implied_law (reduced_edges c.recording) (entry_in c) x y
+        (recorded_log Reduced c.recording valid) (low_acyclic c.recording valid d)
         (last_entry_law (reduced_edges c.recording) c.clocks) exact a).1 k)
 
 -- ---- exact entries fit
@@ -59,7 +66,8 @@ end_within r x valid end = by (end_edge (reduced_edges r) x end)
     by (y, inr a) = let w = edge_within Reduced r y x valid a in record { core = w.pair.target; count = w.target_most }
 
 -- what leads to an instruction within the totals is within them
-pub totals_closed : (r : Recording) → Valid r → (x y : Instr) → Among (reduced_edges r) x y → y.count ≤ slice_index r.totals y.core →
+pub totals_closed : (r : Recording) → Valid r → (x y : Instr) → Among (reduced_edges r) x y →
+    y.count ≤ slice_index r.totals y.core →
     x.count ≤ slice_index r.totals x.core
 totals_closed r valid x y a le = (edge_within Reduced r x y valid a).source_most
 
@@ -69,5 +77,6 @@ exact_fits c x i valid exact end = by (eq-zero-or-pos (entry_in c x i))
     by : (entry_in c x i ≡ 0) ⊎ (1 ≤ entry_in c x i) → entry_in c x i ≤ slice_index c.recording.totals i
     by (inl e) = omega arith
     by (inr pos) =
-        leads_back (reduced_edges c.recording) (λ k. slice_index c.recording.totals k) (instr i (entry_in c x i)) x (totals_closed c.recording valid)
+        leads_back (reduced_edges c.recording) (λ k. slice_index c.recording.totals k) (instr i (entry_in c x i)) x
+        (totals_closed c.recording valid)
         ((exact x end (instr i (entry_in c x i)) pos).0 (omega arith)) (end_within c.recording x valid end).count

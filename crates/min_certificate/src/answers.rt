@@ -40,7 +40,7 @@ pub enum CheckFailure {
 }
 
 /// Why a certificate isn't accepted.
-#[derive(Clone, Copy, Debug, PartialEq, Eq)]
+#[derive(Clone, Copy, PartialEq, Eq)]
 pub enum CheckFault {
     /// The recording isn't determinate by its reduced log. Want of memory is never told so.
     Audit(AuditFault),

@@ -7,7 +7,6 @@ ghost use Rattle.min_certificate.specs.Clocks.{HasClocks};
 ghost use Rattle.min_certificate.specs.Laws.{IsLeastIn};
 
 use crate::answers::CertFault;
-use crate::copies::copied;
 use crate::core_accesses::CoreAccesses;
 use crate::entries::Entries;
 use crate::exact_clocks::exact_clocks;
@@ -53,7 +52,7 @@ pub fn certify(alloc: Global, audited: &Audited) -> Result<Certificate, CertFaul
     match first_amiss(alloc, ends, clocks.as_slice(), audited.accesses())? {
         Some(edge) => Err(CertFault::NotLeast { edge }),
         None => {
-            let recording = copied(alloc, audited.recording())?;
+            let recording = audited.recording().copied(alloc)?;
             Ok(Certificate { recording, clocks })
         }
     }

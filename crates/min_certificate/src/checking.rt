@@ -9,7 +9,6 @@ ghost use Rattle.min_certificate.specs.Answers.{Checks, CheckRefuses, CheckFails
 ghost use Rattle.min_certificate.specs.Laws.{Passes};
 
 use crate::answers::{CheckFailure, CheckFault};
-use crate::copies::copied;
 use crate::core_accesses::CoreAccesses;
 use crate::entries::Entries;
 use certificate_codec::{Certificate, EdgeEnds};
@@ -68,7 +67,7 @@ pub fn check(alloc: Global, certificate: &Certificate) -> Result<(), CheckFault>
     ensures complete { IsDeterminate Reduced certificate.now.recording → Passes certificate.now →
         IsOkUnless result CheckFault.OutOfMemory }
 {
-    let recording = copied(alloc, &certificate.recording)?;
+    let recording = certificate.recording.copied(alloc)?;
     let audited = audit(alloc, recording, Which::Reduced)?;
     match first_failure(alloc, &audited, certificate)? {
         Some(failure) => Err(CheckFault::Failed(failure)),

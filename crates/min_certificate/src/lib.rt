@@ -5,7 +5,6 @@
 mod answers;
 mod certifying;
 mod checking;
-mod copies;
 mod core_accesses;
 mod entries;
 mod exact_clocks;
@@ -16,6 +15,3 @@ pub use answers::{CertFault, CheckFailure, CheckFault};
 pub use certificate_codec::{CLOCKS, Certificate, END, read_certificate, spell_certificate};
 pub use certifying::certify;
 pub use checking::check;
-
-#[cfg(test)]
-mod tests;

@@ -14,40 +14,51 @@ use Rattle.min_certificate.proofs.certifying.certify.Goals as goal
 
 pub first_amiss-requires-clause-determinate : goal.first_amiss-requires-clause-determinate
 first_amiss-requires-clause-determinate c =
-    let ends : c.in_ok-ends.ends ≡ c.args.audited.now.recording = c.in_ok-ends.ensures ∙ c.recording.ensures.recording in
-    subst (λ (r : Recording). IsDeterminate Reduced r) (sym ends) (audited_low c.args.audited.now c.requires c.accesses.ensures.passed).determinate
+    let ends : c.in_ok-ends.ends ≡ c.args.audited.now.recording =
+    c.in_ok-ends.ensures ∙ c.recording.ensures.recording in
+    subst (λ (r : Recording). IsDeterminate Reduced r) (sym ends)
+    (audited_low c.args.audited.now c.requires c.accesses.ensures.passed).determinate
 
 pub first_amiss-requires-clause-clocks : goal.first_amiss-requires-clause-clocks
 first_amiss-requires-clause-clocks c =
-    let ends : c.in_ok-ends.ends ≡ c.args.audited.now.recording = c.in_ok-ends.ensures ∙ c.recording.ensures.recording in
+    let ends : c.in_ok-ends.ends ≡ c.args.audited.now.recording =
+    c.in_ok-ends.ensures ∙ c.recording.ensures.recording in
     subst (λ (r : Recording). HasClocks r c.as_slice.result.now) (sym ends)
     (subst (λ (k : Clocks). HasClocks c.args.audited.now.recording k) (sym c.as_slice.ensures) c.in_ok-clocks.ensures)
 
 pub first_amiss-requires-clause-accesses : goal.first_amiss-requires-clause-accesses
 first_amiss-requires-clause-accesses c =
-    let ends : c.in_ok-ends.ends ≡ c.args.audited.now.recording = c.in_ok-ends.ensures ∙ c.recording.ensures.recording in
+    let ends : c.in_ok-ends.ends ≡ c.args.audited.now.recording =
+    c.in_ok-ends.ensures ∙ c.recording.ensures.recording in
     subst (λ (r : Recording). c.accesses.result.now ≡ low_accesses Reduced r) (sym ends) (c.accesses.ensures.accesses
     ∙ (audited_low c.args.audited.now c.requires c.accesses.ensures.passed).list_is)
 
 pub returns-in-Some-clause-answer : goal.returns-in-Some-clause-answer
 returns-in-Some-clause-answer c =
-    let ends : c.in_ok-ends.ends ≡ c.args.audited.now.recording = c.in_ok-ends.ensures ∙ c.recording.ensures.recording in
+    let ends : c.in_ok-ends.ends ≡ c.args.audited.now.recording =
+    c.in_ok-ends.ensures ∙ c.recording.ensures.recording in
     subst (λ (r : Recording). IsFirstAmiss r c.in-Some.edge) ends
-    (subst (λ (o : Option Edge). MatchOption o (IsLeastIn c.in_ok-ends.ends) (IsFirstAmiss c.in_ok-ends.ends)) c.in-Some.is c.in_ok-edge.ensures)
+    (subst (λ (o : Option Edge). MatchOption o (IsLeastIn c.in_ok-ends.ends) (IsFirstAmiss c.in_ok-ends.ends))
+    c.in-Some.is c.in_ok-edge.ensures)
 
 pub returns-in-Some-clause-complete : goal.returns-in-Some-clause-complete
 returns-in-Some-clause-complete c l =
-    let ends : c.in_ok-ends.ends ≡ c.args.audited.now.recording = c.in_ok-ends.ensures ∙ c.recording.ensures.recording in
+    let ends : c.in_ok-ends.ends ≡ c.args.audited.now.recording =
+    c.in_ok-ends.ensures ∙ c.recording.ensures.recording in
     let amiss : IsFirstAmiss c.in_ok-ends.ends c.in-Some.edge =
-    subst (λ (o : Option Edge). MatchOption o (IsLeastIn c.in_ok-ends.ends) (IsFirstAmiss c.in_ok-ends.ends)) c.in-Some.is c.in_ok-edge.ensures in
+    subst (λ (o : Option Edge). MatchOption o (IsLeastIn c.in_ok-ends.ends) (IsFirstAmiss c.in_ok-ends.ends))
+    c.in-Some.is c.in_ok-edge.ensures in
     least_is_certified c.in_ok-ends.ends (NotLeast c.in-Some.edge) (subst IsLeastIn (sym ends) l) amiss
 
 pub returns-in_ok-recording-in-None-clause-answer : goal.returns-in_ok-recording-in-None-clause-answer
 returns-in_ok-recording-in-None-clause-answer c =
     let r = c.args.audited.now.recording in
-    let ends : c.in_ok-ends.ends ≡ c.args.audited.now.recording = c.in_ok-ends.ensures ∙ c.recording.ensures.recording in
+    let ends : c.in_ok-ends.ends ≡ c.args.audited.now.recording =
+    c.in_ok-ends.ensures ∙ c.recording.ensures.recording in
     let least : IsLeastIn c.in_ok-ends.ends =
-    subst (λ (o : Option Edge). MatchOption o (IsLeastIn c.in_ok-ends.ends) (IsFirstAmiss c.in_ok-ends.ends)) c.in-None.is c.in_ok-edge.ensures in
-    certifies r (record { recording = c.in_ok-recording-in-None.recording; clocks = c.in_ok-clocks.clocks }) c.recording.ensures.valid
+    subst (λ (o : Option Edge). MatchOption o (IsLeastIn c.in_ok-ends.ends) (IsFirstAmiss c.in_ok-ends.ends))
+    c.in-None.is c.in_ok-edge.ensures in
+    certifies r (record { recording = c.in_ok-recording-in-None.recording; clocks = c.in_ok-clocks.clocks })
+    c.recording.ensures.valid
     (audited_low c.args.audited.now c.requires c.accesses.ensures.passed).determinate c.in_ok-clocks.ensures
     (c.in_ok-recording-in-None.ensures ∙ c.recording-in-None.ensures.recording) (subst IsLeastIn ends least)

@@ -16,7 +16,8 @@ returns-in_err-audited-clause-complete c d p =
     let k = c.args.certificate.now in
     let q = err_from_is_err_and c.from_residual-in_err-audited.result c.from_residual-in_err-audited.ensures.1 in
     let refused : AuditRefuses Reduced k.recording c.in_err-audited.field-0.0 =
-    subst (λ (r : Recording). AuditRefuses Reduced r c.in_err-audited.field-0.0) c.in_ok-recording.ensures c.in_err-audited.ensures in
+    subst (λ (r : Recording). AuditRefuses Reduced r c.in_err-audited.field-0.0) c.in_ok-recording.ensures
+    c.in_err-audited.ensures in
     rw q.1 (q.2 ∙ audit_complete k.recording c.in_err-audited.field-0.0 d refused)
 
 pub returns-in-Some-clause-complete : goal.returns-in-Some-clause-complete
@@ -29,7 +30,9 @@ returns-in-Some-clause-complete c d p =
 pub returns-clause-answer : goal.returns-clause-answer
 returns-clause-answer c =
     let k = c.args.certificate.now in
-    let passes : Passes k = subst (λ (o : Option CheckFailure). MatchOption o (Passes k) (CheckFails k)) c.in-None.is c.in_ok-failure.ensures in
+    let passes : Passes k = subst (λ (o : Option CheckFailure). MatchOption o (Passes k) (CheckFails k)) c.in-None.is
+    c.in_ok-failure.ensures in
     let audit : IsAuditOf Reduced k.recording c.in_ok-audited.audited =
-    subst (λ (q : Recording). IsAuditOf Reduced q c.in_ok-audited.audited) c.in_ok-recording.ensures c.in_ok-audited.ensures in
+    subst (λ (q : Recording). IsAuditOf Reduced q c.in_ok-audited.audited) c.in_ok-recording.ensures
+    c.in_ok-audited.ensures in
     checks_of k c.requires.recording (audit_low k.recording c.in_ok-audited.audited audit).determinate passes

@@ -3,4 +3,9 @@ use Rattle.min_certificate.proofs.Shown as shown
 use Rattle.min_certificate.proofs.laws.certified_is_accepted.Goals as goal
 
 pub returns : goal.returns
-returns c = record { fits = shown.exact_fits; certified = judged.least_is_certified; accepted = judged.passed_is_accepted }
+returns c = record {
+  fits = shown.exact_fits;
+  certified = judged.least_is_certified;
+  accepted =
+      judged.passed_is_accepted;
+}

@@ -11,7 +11,8 @@ returns-then-place-eq0 c =
     subst (λ k. IsPlaceOf list c.args.at k)
     (sym (c.place_in-place.ensures ∙ ap (λ l. place_in l c.args.at.core c.args.at.count) c.deref.ensures.value))
     (placed_in list c.self.inside.places.items c.args.at c.self.invariant) in
-    subst (λ (l : List Access). IsAccessAt l c.args.at None) c.self.view_is (access_none list c.args.at c.place_in-place.result there c.if-place-eq0.true)
+    subst (λ (l : List Access). IsAccessAt l c.args.at None) c.self.view_is
+    (access_none list c.args.at c.place_in-place.result there c.if-place-eq0.true)
 
 pub returns : goal.returns
 returns c =
@@ -21,4 +22,5 @@ returns c =
     (sym (c.place_in-place.ensures ∙ ap (λ l. place_in l c.args.at.core c.args.at.count) c.deref.ensures.value))
     (placed_in list c.self.inside.places.items c.args.at c.self.invariant) in
     subst (λ (l : List Access). IsAccessAt l c.args.at c.access_at.result) c.self.view_is
-    (access_got list c.args.at c.place_in-place.result c.access_at.result there c.if-place-eq0.false c.access_at.ensures)
+    (access_got list c.args.at c.place_in-place.result c.access_at.result there c.if-place-eq0.false
+    c.access_at.ensures)

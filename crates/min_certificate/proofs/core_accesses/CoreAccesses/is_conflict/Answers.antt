@@ -3,7 +3,8 @@ use Rattle.min_certificate.proofs.core_accesses.CoreAccesses.is_conflict.Goals a
 
 pub returns-in-Some-find : goal.returns-in-Some-find
 returns-in-Some-find c =
-    both_conflict c.args.self.now c.args.edge.from c.args.edge.to c.in-Some.first c.in-Some-find.second c.conflicts.result c.in-Some.ensures
+    both_conflict c.args.self.now c.args.edge.from c.args.edge.to c.in-Some.first c.in-Some-find.second
+    c.conflicts.result c.in-Some.ensures
     c.in-Some-find.ensures c.conflicts.ensures.fact
 
 pub returns-in-None-find : goal.returns-in-None-find

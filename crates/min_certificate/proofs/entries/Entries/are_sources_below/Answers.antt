@@ -8,7 +8,8 @@ pub returns : goal.returns
 returns c =
     let d = c.args.self.now in
     let here = c.args.here.now in
-    let most : d.recording.params.cores ≤ c.loop-of.of = omega (arith, c.loop-of-test.false, c.cores-of-end.ensures.cores) in (
+    let most : d.recording.params.cores ≤ c.loop-of.of =
+    omega (arith, c.loop-of-test.false, c.cores-of-end.ensures.cores) in (
       (λ _. all_sources d.recording c.loop-of.of c.args.at (λ z. (i : ℕ) →
           entry_in d z i ≤ slice_index here i) c.cores-of-end.ensures.valid most c.loop-of.invariant),
       λ _. refl,

@@ -10,39 +10,52 @@ use Rattle.min_certificate.proofs.entries.Entries.first_amiss.Goals.{then-not-is
 
 pub is_needed-requires-clause-within : goal.is_needed-requires-clause-within
 is_needed-requires-clause-within c =
-    (edge_at c.args.self.now.recording c.edges-edge-items.result.now c.loop-edge.edge-index _ c.edges-edge-items.ensures.valid
+    (edge_at c.args.self.now.recording c.edges-edge-items.result.now c.loop-edge.edge-index _
+    c.edges-edge-items.ensures.valid
     c.edges-edge-items.ensures.edges c.loop-edge-test.true).within
 
 pub is_needed-requires-clause-edge : goal.is_needed-requires-clause-edge
 is_needed-requires-clause-edge c =
-    (edge_at c.args.self.now.recording c.edges-edge-items.result.now c.loop-edge.edge-index _ c.edges-edge-items.ensures.valid
+    (edge_at c.args.self.now.recording c.edges-edge-items.result.now c.loop-edge.edge-index _
+    c.edges-edge-items.ensures.valid
     c.edges-edge-items.ensures.edges c.loop-edge-test.true).edge
 
 pub is_needed-requires-clause-some : goal.is_needed-requires-clause-some
 is_needed-requires-clause-some c =
-    (edge_at c.args.self.now.recording c.edges-edge-items.result.now c.loop-edge.edge-index _ c.edges-edge-items.ensures.valid
+    (edge_at c.args.self.now.recording c.edges-edge-items.result.now c.loop-edge.edge-index _
+    c.edges-edge-items.ensures.valid
     c.edges-edge-items.ensures.edges c.loop-edge-test.true).some
 
 pub returns-then-not-is_conflict : goal.returns-then-not-is_conflict
 returns-then-not-is_conflict c =
-    subst (λ (l : List Edge). FailsFirst (IsSound c.args.self.now c.args.accesses.now) l (get_or c.edges-edge-items.result.now c.loop-edge.edge-index no_edge))
+    subst (λ (l : List Edge). FailsFirst (IsSound c.args.self.now c.args.accesses.now) l
+    (get_or c.edges-edge-items.result.now c.loop-edge.edge-index no_edge))
     c.edges-edge-items.ensures.edges (elim c.then-not-is_conflict.branch [
       | then-not-is_conflict-via-then-not-is_conflict w ↦
-          fails_first (IsSound c.args.self.now c.args.accesses.now) c.edges-edge-items.result.now c.loop-edge.edge-index no_edge c.loop-edge-test.true
+          fails_first (IsSound c.args.self.now c.args.accesses.now) c.edges-edge-items.result.now c.loop-edge.edge-index
+          no_edge c.loop-edge-test.true
           c.loop-edge.invariant
           (λ s. let t = c.is_conflict.ensures.1 s.conflict in let f = w.if-not-is_conflict.true in absurd (cc))
       | then-not-is_conflict-via-else-not-is_conflict+then-not-is_needed w ↦
-          fails_first (IsSound c.args.self.now c.args.accesses.now) c.edges-edge-items.result.now c.loop-edge.edge-index no_edge c.loop-edge-test.true
+          fails_first (IsSound c.args.self.now c.args.accesses.now) c.edges-edge-items.result.now c.loop-edge.edge-index
+          no_edge c.loop-edge-test.true
           c.loop-edge.invariant
           (λ s. let t = w.is_needed.ensures.1 s.needed in let f = w.if-not-is_needed.true in absurd (cc))
     ])
 
 pub loop-edge-preserved : goal.loop-edge-preserved
 loop-edge-preserved c =
-    holds_more (IsSound c.args.self.now c.args.accesses.now) c.edges-edge-items.result.now c.loop-edge.edge-index _ c.loop-edge-test.true c.loop-edge.invariant
-    (record { conflict = c.is_conflict.ensures.0 c.if-not-is_conflict.false; needed = c.is_needed.ensures.0 c.if-not-is_needed.false })
+    holds_more (IsSound c.args.self.now c.args.accesses.now) c.edges-edge-items.result.now c.loop-edge.edge-index _
+    c.loop-edge-test.true c.loop-edge.invariant
+    (record {
+      conflict = c.is_conflict.ensures.0 c.if-not-is_conflict.false;
+      needed =
+          c.is_needed.ensures.0 c.if-not-is_needed.false;
+    })
 
 pub returns : goal.returns
 returns c =
-    subst (λ (l : List Edge). FirstWithout (IsSound c.args.self.now c.args.accesses.now) l None) c.edges-edge-items.ensures.edges
-    (holds_all (IsSound c.args.self.now c.args.accesses.now) c.edges-edge-items.result.now c.loop-edge.edge-index c.loop-edge-test.false c.loop-edge.invariant)
+    subst (λ (l : List Edge). FirstWithout (IsSound c.args.self.now c.args.accesses.now) l None)
+    c.edges-edge-items.ensures.edges
+    (holds_all (IsSound c.args.self.now c.args.accesses.now) c.edges-edge-items.result.now c.loop-edge.edge-index
+    c.loop-edge-test.false c.loop-edge.invariant)

@@ -13,9 +13,11 @@ loop-of-preserved c i lt ne = elim (cases_lt i c.loop-of.of) [
   | inr late ↦
       let here : c.loop-of.of ≡ i = omega arith in
       subst (IsUnknownThere c.args.self.now c.args.edge.from c.args.edge.to) here (elim c.else-of-edge.branch [
-        | else-of-edge-via-then-of-edge+then-of-edge-2+else-not-is_unknown_there w ↦ w.is_unknown_there.ensures.0 w.if-not-is_unknown_there.false
+        | else-of-edge-via-then-of-edge+then-of-edge-2+else-not-is_unknown_there w ↦ w.is_unknown_there.ensures.0
+            w.if-not-is_unknown_there.false
         | else-of-edge-via-then-of-edge+else-of-edge-2 w ↦
-            own_known c.args.self.now c.args.edge.from c.args.edge.to c.loop-of.of c.cores-of-end.ensures.valid c.requires.edge w.if-of-edge-2.false
+            own_known c.args.self.now c.args.edge.from c.args.edge.to c.loop-of.of c.cores-of-end.ensures.valid
+            c.requires.edge w.if-of-edge-2.false
         | else-of-edge-via-else-of-edge w ↦ absurd (let e = w.if-of-edge.false in omega arith)
       ])
 ]
@@ -24,7 +26,8 @@ pub returns : goal.returns
 returns c =
     let d = c.args.self.now in
     let x = c.args.edge.from in
-    let most : d.recording.params.cores ≤ c.loop-of.of = omega (arith, c.loop-of-test.false, c.cores-of-end.ensures.cores) in (
+    let most : d.recording.params.cores ≤ c.loop-of.of =
+    omega (arith, c.loop-of-test.false, c.cores-of-end.ensures.cores) in (
       (λ _. all_sources d.recording c.loop-of.of c.args.edge.to (λ z. z ≢ x →
           entry_in d z x.core < x.count) c.cores-of-end.ensures.valid most c.loop-of.invariant),
       λ _. refl,
