@@ -20,10 +20,11 @@ use Rattle.replay_core.proofs.Lists.{accesses_on, short_law}
 use Rattle.replay_core.proofs.Fronts.{Going, Chosen, going_start, tally, going_on, front_ordered}
 use Rattle.replay_core.proofs.Runs.{choice, ended, whole_at, stuck_at, ready_with_room, short_at}
 use Rattle.replay_audit.specs.declared.unordered.Unordered.{Unordered}
-use Rattle.replay_audit.specs.Clocks.{Kept, AreSources}
+use Rattle.replay_core.specs.Sources.{AreSources}
+use Rattle.replay_audit.specs.Clocks.{Kept}
 use Rattle.clock_entries.specs.Laws.{IsAcyclic}
 use Rattle.replay_audit.specs.Determinate.{IsDeterminate, low_order_of, low_accesses}
-use Rattle.replay_audit.specs.Tallies.{Tallied, count_of}
+use Rattle.replay_core.specs.Tallies.{Tallied, count_of}
 use Rattle.replay_audit.specs.Trails.{Trailed, Trails, IsFinding}
 use Rattle.replay_audit.specs.Audits.{AreClocksOf, HasPassed, LeavesOpen, low_short}
 use Rattle.replay_audit.proofs.Logs.{acyclic_law}

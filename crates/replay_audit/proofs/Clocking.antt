@@ -23,10 +23,12 @@ use Rattle.replay_core.specs.Play.{instr}
 use Rattle.replay_core.specs.Orders.{bump, nought, Ready}
 use Rattle.replay_core.proofs.Counts.{bump_here, bump_same, bump_else}
 use Rattle.clock_entries.specs.Laws.{IsLog, IsAcyclic}
-use Rattle.replay_audit.specs.Clocks.{Kept, numbers_of, clocks_of, number_of, numbered, clock_at, next_at, listed}
-use Rattle.replay_audit.specs.Clocks.{AreSources, IsKept, IsNoted, Clocked}
+use Rattle.replay_core.specs.Sources.{listed}
+use Rattle.replay_audit.specs.Clocks.{Kept, numbers_of, clocks_of, number_of, numbered, clock_at, next_at}
+use Rattle.replay_core.specs.Sources.{AreSources}
+use Rattle.replay_audit.specs.Clocks.{IsKept, IsNoted, Clocked}
 use Rattle.replay_audit.proofs.Logs.{recorded_log, edge_within, sourced_among}
-use Rattle.replay_audit.proofs.Sourcing.{listed_are}
+use Rattle.replay_core.proofs.Sourcing.{listed_are}
 
 -- ---- clocks by their places
 

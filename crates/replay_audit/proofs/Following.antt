@@ -16,12 +16,12 @@ use Rattle.replay_core.specs.Play.{instr}
 use Rattle.replay_core.specs.Orders.{counts, nought, Ready, lowest_ready}
 use Rattle.replay_core.specs.Answers.{told}
 use Rattle.replay_core.proofs.Counts.{counts_on}
-use Rattle.replay_audit.specs.Clocks.{AreSources}
+use Rattle.replay_core.specs.Sources.{AreSources}
 use Rattle.replay_audit.specs.Marks.{first_mark, mark_at, IsMark}
-use Rattle.replay_audit.specs.Tallies.{Tallied, count_of}
+use Rattle.replay_core.specs.Tallies.{Tallied, count_of}
 use Rattle.replay_audit.specs.Trails.{Trailed, Trails, IsTrailOf}
 use Rattle.replay_audit.proofs.Marking.{marked_at}
-use Rattle.replay_audit.proofs.Tallying.{Counted, counted_start, counted_on, ready_there}
+use Rattle.replay_core.proofs.Tallying.{Counted, counted_start, counted_on, ready_there}
 use Rattle.replay_audit.proofs.Trailing.{trail_start, trail_on}
 
 -- the tally is at the end of the order, which is a front of the low order, and the trail has these accesses

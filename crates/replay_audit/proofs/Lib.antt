@@ -8,16 +8,11 @@ pub mod Settled
 pub mod Noted
 pub mod Fitting
 pub mod Ahead
-pub mod Sourcing
-pub mod NextEdges
-pub mod Awaited
 pub mod Scan
 pub mod Merged
 pub mod Clocking
 pub mod Marking
 pub mod Trailing
-pub mod Tallying
-pub mod Lowering
 pub mod Following
 pub mod Auditing
 pub mod Refused

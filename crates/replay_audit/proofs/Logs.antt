@@ -6,14 +6,13 @@ use Rattle.rtr_types.specs.declared.instr.Instr.{Instr}
 use Rattle.rtr_types.specs.declared.instr.Edge.{Edge}
 use Rattle.rtr_types.specs.declared.pairs.Which.{Which}
 use Rattle.clock_core.specs.Order.{Relation, Step, Path, Before, IsOrLeads, Among}
-use Rattle.clock_core.proofs.Listed.{among_contains}
 use Rattle.clock_core.proofs.Paths.{joined, one, last_at}
 use Rattle.log_codec.specs.declared.recording.Recording.{Recording}
 use Rattle.log_codec.specs.Sources.{log_edges, EdgeWithin}
 use Rattle.log_codec.specs.Validity.{Valid}
-use Rattle.log_codec.proofs.SourceLaws.{edges-within}
 use Rattle.replay_core.specs.Plans.{Plan, plan_of}
 use Rattle.replay_core.specs.Orders.{bump, counts, nought, Sourced, Ready, Ordered}
+use Rattle.replay_core.proofs.Sources.{edge_within as core_edge_within}
 use Rattle.replay_core.proofs.Counts.{bump_same, bump_else, bump_more}
 use Rattle.clock_entries.specs.Laws.{IsLog}
 use Rattle.replay_audit.specs.Laws.{RecordedLogLaw, AcyclicLaw}
@@ -22,7 +21,7 @@ use Rattle.replay_audit.specs.Laws.{RecordedLogLaw, AcyclicLaw}
 
 pub edge_within : (which : Which) (r : Recording) (x y : Instr) → Valid r → Among (log_edges which r) x y →
     EdgeWithin r x y
-edge_within which r x y valid a = edges-within which r x y valid (among_contains (log_edges which r) x y a)
+edge_within which r x y valid a = core_edge_within which r x y valid a
 
 pub recorded_log : RecordedLogLaw
 recorded_log which r valid = record {

@@ -4,8 +4,9 @@ use Rattle.std.specs.Prelude.{slice_index}
 use Rattle.rtr_types.specs.declared.instr.Instr.{Instr}
 use Rattle.clock_core.specs.Reach.{merged_over}
 use Rattle.replay_core.specs.Play.{instr}
-use Rattle.replay_audit.specs.Clocks.{Kept, clock_at, listed}
-use Rattle.replay_audit.proofs.Sourcing.{listed_none, listed_some}
+use Rattle.replay_core.specs.Sources.{listed}
+use Rattle.replay_audit.specs.Clocks.{Kept, clock_at}
+use Rattle.replay_core.proofs.Sourcing.{listed_none, listed_some}
 
 max_other : (m n : ℕ) → max m n ≡ max n m
 max_other m n = grind arith

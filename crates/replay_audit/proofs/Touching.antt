@@ -30,8 +30,8 @@ use Rattle.replay_audit.specs.Determinate.{IsDeterminate}
 use Rattle.replay_audit.specs.Judges.{IsAlike, AreAlike}
 use Rattle.replay_audit.specs.declared.touch.Touch.{Touch}
 use Rattle.replay_audit.specs.declared.unordered.Unordered.{Unordered}
-use Rattle.replay_audit.specs.Clocks.{AreSources}
-use Rattle.replay_audit.specs.Tallies.{Tallied, count_of}
+use Rattle.replay_core.specs.Sources.{AreSources}
+use Rattle.replay_core.specs.Tallies.{Tallied, count_of}
 use Rattle.replay_audit.specs.Touches.{IsAccessOf, touches_of, as_touch, as_access, AreRising, ArePlayed}
 use Rattle.replay_audit.specs.Trails.{Trailed, Trails, IsFinding}
 use Rattle.replay_audit.proofs.Agreed.{low_ordered, touched_at}
@@ -41,7 +41,7 @@ use Rattle.replay_audit.proofs.Pairs.{Apart, both_left, both_right, across, pair
 use Rattle.replay_audit.proofs.Refused.{unordered_pair}
 use Rattle.replay_audit.proofs.Rise.{accesses_within, rises}
 use Rattle.replay_audit.proofs.Following.{Followed, IsFresh, followed_start, followed_on, at_next, ready_next}
-use Rattle.replay_audit.proofs.Tallying.{low_is}
+use Rattle.replay_core.proofs.Tallying.{low_is}
 
 -- ---- touches of one core
 

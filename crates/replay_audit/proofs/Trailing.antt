@@ -31,7 +31,8 @@ use Rattle.replay_core.specs.Answers.{told}
 use Rattle.clock_entries.specs.Laws.{IsAcyclic}
 use Rattle.replay_audit.specs.declared.marks.Mark.{Mark}
 use Rattle.replay_audit.specs.declared.unordered.Unordered.{Unordered}
-use Rattle.replay_audit.specs.Clocks.{Kept, clock_at, AreSources, Clocked}
+use Rattle.replay_core.specs.Sources.{AreSources}
+use Rattle.replay_audit.specs.Clocks.{Kept, clock_at, Clocked}
 use Rattle.replay_audit.specs.Marks.{first_mark, AreMarksCovered, AreMarked}
 use Rattle.replay_audit.specs.Unordered.{IsLatestBefore, IsUnordered, is_open, AreCovered, IsLatestAt}
 use Rattle.replay_audit.specs.Trails.{Trailed, FoundNext, with_kept, Trails, IsFinding, IsTrailOf}

@@ -2,7 +2,7 @@
 use Rattle.std.specs.Prelude.{◌≡◌, ℕ, ◌<◌, ◌≤◌, List, [], length, slice_index, replicate, Option, Some, None}
 use Rattle.replay_core.specs.Answers.{UnderWay}
 use Rattle.replay_audit.specs.Marks.{first_mark}
-use Rattle.replay_audit.specs.Tallies.{Tallied}
+use Rattle.replay_core.specs.Tallies.{Tallied}
 use Rattle.replay_audit.specs.Trails.{Trailed}
 use Rattle.rtr_types.specs.declared.instr.Instr.{Instr}
 use Rattle.rtr_types.specs.declared.access.Access.{Access}

@@ -7,29 +7,8 @@ use Rattle.clock_core.specs.Counts.{no_counts}
 use Rattle.clock_core.specs.Order.{Among, previous}
 use Rattle.clock_core.specs.Reach.{IsClock, merged_over, with_own}
 use Rattle.replay_core.specs.Play.{instr}
+use Rattle.replay_core.specs.Sources.{listed}
 use Rattle.clock_entries.specs.Laws.{IsAcyclic}
-
--- ---- sources
-
--- for each core the count from which an edge leads to y, and 0 where there is none
-pub record AreSources (edges : List Edge) (y : Instr) (sources : List ℕ) : Type 0 where
-  pub each : (z : Instr) → Among edges z y → slice_index sources z.core ≡ z.count
-  pub only : (c : ℕ) → 1 ≤ slice_index sources c → Among edges (instr c (slice_index sources c)) y
-
--- the sources that were found: where no edge leads to an instruction there are none
-abbrev pub sources_in : Option (List ℕ) → List ℕ
-sources_in None = no_counts
-sources_in (Some sources) = sources
-
--- the sources of so many cores, one by one, the last core first
-abbrev pub listed : List ℕ → (cores : ℕ) → List Instr
-listed sources zero = []
-listed sources (suc c) =
-    if nat_eq (slice_index sources c) 0
-    then listed sources c
-    else instr c (slice_index sources c) ∷ listed sources c
-
--- ---- clocks
 
 -- for each core its clocks that are kept, and for each of its instructions how many of them there are up to it
 pub record Kept : Type 0 where

@@ -1,11 +1,9 @@
 pub mod Audits
 pub mod Clocks
-pub mod Coming
 pub mod Determinate
 pub mod Judges
 pub mod Laws
 pub mod Marks
-pub mod Tallies
 pub mod Touches
 pub mod Trails
 pub mod Unordered

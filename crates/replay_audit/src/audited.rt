@@ -10,11 +10,10 @@ ghost use Rattle.replay_audit.specs.Audits.{AuditRefuses, Begins, HasPassed, IsA
 
 use crate::audit_fault::AuditFault;
 use crate::log_clocks::LogClocks;
-use crate::low_order::LowOrder;
 use crate::trail::Trail;
 use clock_core::Clock;
 use log_codec::Recording;
-use replay_core::{Advanced, Replay};
+use replay_core::{Advanced, LowOrder, Replay};
 use rtr_types::{Access, Instr, Items, Which};
 use rv_core::Outcome;
 use std::alloc::Global;

@@ -8,10 +8,10 @@ ghost use Rattle.replay_audit.specs.Determinate.{IsDeterminate, low_order_of};
 ghost use Rattle.replay_audit.specs.declared.touch.Touch.{Touch as SomeTouch};
 ghost use Rattle.replay_audit.specs.Touches.{AreRising, IsAccessOf, touches_of, as_access, ArePlayed};
 
-use crate::low_order::LowOrder;
 use crate::touch::Touch;
 use crate::trail::Trail;
 use log_codec::Recording;
+use replay_core::LowOrder;
 use rtr_types::{Access, Instr, Items, Which};
 use std::alloc::{AllocError, Global};
 

@@ -5,21 +5,17 @@
 mod audit_fault;
 mod audited;
 mod clock_of;
-mod coming;
 mod judgement;
 pub mod laws;
 mod log_clocks;
-mod low_order;
 mod marks;
-mod next_edge;
-mod sourced;
-mod tally;
 mod touch;
 mod trail;
 mod unordered;
+mod whole_order;
 
 pub use audit_fault::AuditFault;
 pub use audited::{Audited, audit};
 pub use judgement::judge;
-pub use low_order::ordered;
 pub use touch::Touch;
+pub use whole_order::ordered;

@@ -1,11 +1,12 @@
 //! The clocks of instructions by a log. They are kept only where an edge leads to.
 ghost use Rattle.std.specs.Prelude.{◌≡◌, ◌<◌, ◌≤◌, ℕ, IfOk, OnOk, [], length, replicate, slice_index};
 ghost use Rattle.rtr_types.specs.declared.TheConstants.{CORES_MAX};
-ghost use Rattle.replay_audit.specs.Clocks.{clock_at, next_at, number_of, numbered, sources_in, IsKept, IsNoted};
+ghost use Rattle.replay_core.specs.Sources.{sources_in};
+ghost use Rattle.replay_audit.specs.Clocks.{clock_at, next_at, number_of, numbered, IsKept, IsNoted};
 
 use crate::clock_of::ClockOf;
-use crate::sourced::Sourced;
 use clock_core::Clock;
+use replay_core::Sourced;
 use rtr_types::{CORES_MAX, Instr, Items};
 use std::alloc::{AllocError, Global};
 use std::marker::Model;

@@ -4,15 +4,15 @@ ghost use Rattle.std.specs.Prelude.{◌≡◌, ◌<◌, ◌≤◌, ℕ, IfOk, On
 ghost use Rattle.rtr_types.specs.declared.TheConstants.{CORES_MAX};
 ghost use Rattle.rtr_types.specs.declared.access.Access.{Access as SomeAccess};
 ghost use Rattle.conflict_edge.specs.Conflicts.{StandsIn};
-ghost use Rattle.replay_audit.specs.Clocks.{sources_in};
+ghost use Rattle.replay_core.specs.Sources.{sources_in};
 ghost use Rattle.replay_audit.specs.Marks.{IsMark, mark_at, first_mark};
 ghost use Rattle.replay_audit.specs.Trails.{FoundNext, Watches, Trails};
 
 use crate::clock_of::ClockOf;
 use crate::log_clocks::LogClocks;
 use crate::marks::Marks;
-use crate::sourced::Sourced;
 use crate::unordered::{Unordered, latest_open};
+use replay_core::Sourced;
 use rtr_types::{Access, CORES_MAX, Items};
 use std::alloc::{AllocError, Global};
 use std::marker::Model;

@@ -7,15 +7,15 @@ use Rattle.rtr_types.specs.declared.cut.Cut.{Cut}
 use Rattle.rv_core.specs.declared.outcome.Outcome.{Outcome}
 use Rattle.rv_core.specs.Steps.{is_done}
 use Rattle.replay_core.specs.Plans.{Plan}
-use Rattle.replay_core.specs.Play.{Given, no_values, need_at, start, given_next, valued_place, ValuedPlays}
+use Rattle.replay_core.specs.Play.{Given, no_values, need_at, start, valued_place, ValuedPlays}
 use Rattle.replay_core.specs.Play.{valued_short}
 use Rattle.replay_core.specs.Play.{valued_played}
 use Rattle.replay_core.specs.Orders.{bump, counts, nought, counts_in, Ready, Ordered, Full, lowest_ready, low_order}
 use Rattle.replay_core.specs.Answers.{cut_of, ReplaysValued, EndsAtValued}
 use Rattle.replay_core.specs.Laws.{Lowest, LowFront, LowFrontLaw, LowEndLaw}
 use Rattle.replay_core.proofs.Lists.{valued_on, valued_join, valued_short_on, valued_short_law}
-use Rattle.replay_core.proofs.Low.{IsLowest, lowest_is, left, left_step, low_order_law}
-use Rattle.replay_core.proofs.Places.{given_known, valued_play_law}
+use Rattle.replay_core.proofs.Low.{IsLowest, lowest_is, low_order_law}
+use Rattle.replay_core.proofs.Places.{valued_play_law}
 
 pub front_ordered : (p : Plan) (f : ℕ → ℕ) (xs : List ℕ) → LowFront p f xs → Ordered p f xs
 front_ordered p f [] h = tt
@@ -123,21 +123,6 @@ going_on given p order s t c going choice goes is =
       state = is ∙ ap (λ (o : Outcome). valued_place given p o c) going.state
           ∙ sym (valued_on given p (start p) order (c ∷ []));
     }
-
--- the run ends: each place leaves fewer
-pub less_left : (given : Given) (p : Plan) (order : List ℕ) (s t : Outcome) (c : ℕ) → ValuedGoing given p order s →
-    Chosen p order s c → t ≡ valued_place given p s c →
-    left p.totals (counts_in t) 0 < left p.totals (counts_in s) 0
-less_left given p order s t c going choice is =
-    let known = valued_play_law given p order (front_ordered p nought order going.low) in
-    let after = (given_known (given_next given (valued_played given p order) c) p (counts nought order)
-    (valued_played given p order) c known choice.next).counts in
-    let there : counts_in t ≡ bump (counts nought order) c =
-    ap (λ (o : Outcome). counts_in o) (is ∙ ap (λ (o : Outcome). valued_place given p o c) going.state) ∙ after in
-    let step = left_step p.totals (counts nought order) 0 c c (omega arith) choice.next.inside choice.next.below in
-    let one = ap (λ (f : ℕ → ℕ). left p.totals f 0) there in
-    let two = ap (λ (f : ℕ → ℕ). left p.totals f 0) (valued_tally given p order s going) in
-    omega arith
 
 -- ---- what the run answers
 

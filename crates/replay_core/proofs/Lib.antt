@@ -6,7 +6,11 @@ pub mod Places
 pub mod Fronts
 pub mod Images
 pub mod Sources
-pub mod Wanting
 pub mod Steps
 pub mod Values
+pub mod Sourcing
+pub mod NextEdges
+pub mod Awaited
+pub mod Tallying
+pub mod Lowering
 pub mod Runs

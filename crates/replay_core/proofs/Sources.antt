@@ -12,8 +12,10 @@ use Rattle.rtr_types.specs.declared.pairs.Which.{Which}
 use Rattle.rv_core.specs.declared.outcome.Outcome.{Outcome}
 use Rattle.log_codec.specs.declared.recording.Recording.{Recording}
 use Rattle.log_codec.specs.Validity.{Valid}
-use Rattle.log_codec.specs.Sources.{HasEdge}
+use Rattle.log_codec.specs.Sources.{log_edges, EdgeWithin, HasEdge}
 use Rattle.log_codec.proofs.SourceLaws.{edges-within}
+use Rattle.clock_core.specs.Order.{Among}
+use Rattle.clock_core.proofs.Listed.{among_contains}
 use Rattle.replay_core.specs.Plans.{Plan, plan_of}
 use Rattle.replay_core.specs.Play.{Given, instr, valued_played}
 use Rattle.replay_core.specs.Orders.{counts, nought, counts_in, Ready, IsReplayOrder, is_sourced, is_ready, lowest}
@@ -21,6 +23,10 @@ use Rattle.replay_core.specs.Answers.{IsMet}
 use Rattle.replay_core.proofs.Lists.{one_more}
 use Rattle.replay_core.proofs.Ready.{sourced_true, sourced_is, ready_true, ready_is, source_within, within_sourced}
 use Rattle.replay_core.proofs.Places.{valued_play_law}
+
+pub edge_within : (which : Which) (r : Recording) (x y : Instr) → Valid r → Among (log_edges which r) x y →
+    EdgeWithin r x y
+edge_within which r x y valid a = edges-within which r x y valid (among_contains (log_edges which r) x y a)
 
 -- an edge's source is another core of the recording
 pub apart : (which : Which) (r : Recording) (p : Plan) → Valid r → plan_of which r ≡ p → (from to : Instr) →

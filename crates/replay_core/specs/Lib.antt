@@ -1,6 +1,8 @@
 pub mod Plans
 pub mod Play
-pub mod Wanted
 pub mod Orders
 pub mod Answers
 pub mod Laws
+pub mod Sources
+pub mod Tallies
+pub mod Coming

@@ -4,9 +4,16 @@
 #![tactic(auto)]
 
 mod answers;
+mod coming;
 pub mod laws;
+mod low_order;
+mod next_edge;
 mod one_place;
 mod replay;
+mod sourced;
+mod tally;
 
 pub use answers::{Advanced, ReplayFault};
+pub use low_order::LowOrder;
 pub use replay::Replay;
+pub use sourced::Sourced;

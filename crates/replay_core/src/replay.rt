@@ -1,18 +1,18 @@
 //! A replay under way.
-ghost use Rattle.std.specs.Prelude.{◌≡◌, ◌+◌, ◌<◌, ◌≤◌, ◌↔◌, length, map, replicate, slice_index, true};
+ghost use Rattle.std.specs.Prelude.{◌≡◌, ◌≢◌, ◌<◌, ◌≤◌, ◌↔◌, length, map, slice_index, true};
 ghost use Rattle.std.specs.Prelude.{IfOk, OnOk, IsTrue, MatchResult};
 ghost use Rattle.std.specs.List.{range_with_len};
 ghost use Rattle.rtr_types.specs.declared.TheConstants.{CORES_MAX};
 ghost use Rattle.rv_core.specs.States.{starting};
 ghost use Rattle.log_codec.specs.Validity.{Valid};
 ghost use Rattle.replay_core.specs.Plans.{plan_of};
-ghost use Rattle.replay_core.specs.Play.{AreRising, EachRising, given_by, given_next, instr, start, value_at};
-ghost use Rattle.replay_core.specs.Orders.{counts_in, Full, is_ready, is_sourced, lowest_ready};
+ghost use Rattle.replay_core.specs.Play.{AreRising, EachRising, given_by, given_next, start, value_at};
+ghost use Rattle.replay_core.specs.Orders.{counts_in, Full, is_ready, is_sourced};
 ghost use Rattle.replay_core.specs.Answers.{TellsOrders, Advances, AdvancesGiven, Replays, ReplaysValued, Refuses};
-ghost use Rattle.replay_core.specs.Answers.{RefusesValued, cut_of};
-ghost use Rattle.replay_core.specs.Wanted.{IsWanted, AreWanted, AreWantedBy, AreWantedByEach};
+ghost use Rattle.replay_core.specs.Answers.{IsMet, RefusesValued, cut_of};
 
 use crate::answers::{Advanced, ReplayFault};
+use crate::low_order::LowOrder;
 use crate::one_place::{access, found, heeded, leave, note, shared};
 use image_mem::{Image, Memory};
 use load_lists::LoadLists;
@@ -97,14 +97,8 @@ impl<'a> Replay<'a> {
         ensures test { result ≡ is_ready self.now.plan (counts_in self.now.state) core }
         ensures order { TellsOrders self.now.plan self.now.state core result }
     {
-        self.is_ready(core, &self.wanted(core))
-    }
-
-    /// The lowest-numbered core that is ready.
-    pub fn lowest(&self) -> Option<u8>
-        ensures { result ≡ lowest_ready self.now.plan (counts_in self.now.state) }
-    {
-        self.lowest_by(&self.all_wanted())
+        let count = self.count(core);
+        count < self.total(core) && self.is_sourced(core, count + 1)
     }
 
     /// Makes room for what one more instruction of each core may read, so that `advance` takes no memory.
@@ -231,8 +225,7 @@ impl<'a> Replay<'a> {
         })
     }
 
-    /// Plays the low order: at each place the lowest-numbered core that is ready, until there is none. The
-    /// sources of each instruction are looked up once, also where its core waits.
+    /// Plays the low order: at each place the lowest-numbered core that is ready, until there is none.
     pub fn run(alloc: Global, recording: &Recording, which: Which) -> Result<Outcome, ReplayFault>
         requires { Valid recording.now }
         ensures { MatchResult result (Replays (plan_of which recording.now)) (Refuses (plan_of which recording.now)) }
@@ -253,16 +246,16 @@ impl<'a> Replay<'a> {
         ensures { MatchResult result (ReplaysValued (given_by values.now) (plan_of which recording.now))
             (RefusesValued (given_by values.now) (plan_of which recording.now)) }
     {
+        let mut order = LowOrder::new(alloc, recording, which)?;
         let mut replay = Replay::new(alloc, recording, which)?;
-        let mut wanted = replay.all_wanted();
-        while let Some(core) = replay.lowest_by(&wanted) {
+        while let Some(core) = order.lowest() {
             replay.make_room()?;
             let given = replay.given(values, core);
             if let Advanced::Short = replay.advance_given(core, given) {
                 let count = replay.count(core);
                 return Err(ReplayFault::Short { core, count });
             }
-            wanted[core as usize] = replay.wanted(core);
+            order.advance(core);
         }
         if !replay.whole() {
             return Err(ReplayFault::Stuck { cut: replay.cut() });
@@ -271,7 +264,7 @@ impl<'a> Replay<'a> {
     }
 }
 
-// What the next instruction of each core is given, and what it waits for.
+// What the next instruction of a core is given, and its sources.
 impl<'a> Replay<'a> {
     /// The value that the core's next instruction is given.
     fn given(&self, values: &[Items<(u32, u32)>], core: u8) -> Option<u32>
@@ -283,96 +276,31 @@ impl<'a> Replay<'a> {
         value_at(list.as_slice(), self.count(core) as u64 + 1)
     }
 
-    /// The lowest-numbered core that is ready, by what each core's next instruction waits for.
-    fn lowest_by(&self, wanted: &[Wanted; PLACES]) -> Option<u8>
-        requires { AreWantedByEach self.now.plan (counts_in self.now.state) (length self.now.plan.totals) wanted.now }
-        ensures { result ≡ lowest_ready self.now.plan (counts_in self.now.state) }
-    {
-        for core in 0..self.cores() {
-            if self.is_ready(core, &wanted[core as usize]) {
-                return Some(core);
-            }
-        }
-        None
-    }
-
-    /// Whether the core is below its total and what its next instruction waits for was played.
-    fn is_ready(&self, core: u8, wanted: &Wanted) -> bool
-        requires core { core < length self.now.plan.totals }
-        requires wanted { AreWantedBy self.now.plan (counts_in self.now.state) core wanted.now }
-        ensures { result ≡ is_ready self.now.plan (counts_in self.now.state) core }
-    {
-        self.count(core) < self.total(core) && self.are_met(core, wanted)
-    }
-
-    /// Whether each core has come as far as the core's next instruction waits for.
-    fn are_met(&self, core: u8, wanted: &Wanted) -> bool
-        requires core { core < length self.now.plan.totals }
-        requires wanted { AreWanted self.now.plan.edges (length self.now.plan.totals)
-            (instr core (counts_in self.now.state core + 1)) wanted.now }
-        ensures { result
-            ≡ is_sourced self.now.plan.edges (counts_in self.now.state) core (counts_in self.now.state core + 1) }
+    /// Whether each logged source of the core's instruction with this count was played.
+    fn is_sourced(&self, core: u8, count: u32) -> bool
+        requires { core < length self.now.plan.totals }
+        ensures { result ≡ is_sourced self.now.plan.edges (counts_in self.now.state) core count }
     {
         let _ = &self.recording;
+        let at = Instr { core, count };
         for of in 0..self.cores() {
-            if wanted.counts[of as usize] > self.count(of) {
+            if of != core && !self.is_met(of, at) {
                 return false;
             }
         }
         true
     }
 
-    /// What the next instruction of each core waits for.
-    fn all_wanted(&self) -> [Wanted; PLACES]
-        ensures { AreWantedByEach self.now.plan (counts_in self.now.state) (length self.now.plan.totals) result }
-    {
-        let mut list = [Wanted::nothing(); PLACES];
-        for core in 0..self.cores() {
-            list[core as usize] = self.wanted(core);
-        }
-        list
-    }
-
-    /// What the core's next instruction waits for: nothing, where none is to come.
-    fn wanted(&self, core: u8) -> Wanted
-        requires { core < length self.now.plan.totals }
-        ensures { AreWantedBy self.now.plan (counts_in self.now.state) core result }
-    {
-        let count = self.count(core);
-        if count < self.total(core) {
-            return self.wanted_at(Instr {
-                core,
-                count: count + 1,
-            });
-        }
-        Wanted::nothing()
-    }
-
-    /// What the instruction waits for.
-    fn wanted_at(&self, at: Instr) -> Wanted
-        requires { at.core < length self.now.plan.totals }
-        ensures { AreWanted self.now.plan.edges (length self.now.plan.totals) at result }
-    {
-        let mut wanted = Wanted::nothing();
-        for of in 0..self.cores() {
-            wanted.counts[of as usize] = self.wanted_of(of, at);
-        }
-        wanted
-    }
-
-    /// The count of core `of` that the instruction waits for, and 0 where no edge leads from that core.
-    fn wanted_of(&self, of: u8, at: Instr) -> u32
+    /// Whether the instruction's source on another core was played, if it has one there.
+    fn is_met(&self, of: u8, at: Instr) -> bool
         requires of { of < length self.now.plan.totals }
         requires at { at.core < length self.now.plan.totals }
-        ensures { IsWanted self.now.plan.edges of at result }
+        requires differ { of ≢ at.core }
+        ensures { IsTrue result ↔ IsMet self.now.plan.edges (counts_in self.now.state) of at }
     {
-        let _ = &self.recording;
-        if of == at.core {
-            return 0;
-        }
         match self.recording.source(self.which, of, at) {
-            Some(count) => count,
-            None => 0,
+            Some(count) => count <= self.count(of),
+            None => true,
         }
     }
 }
@@ -385,24 +313,6 @@ fn value_at(values: &[(u32, u32)], count: u64) -> Option<u32>
     match values.binary_search_by_key(&count, |&(at, _)| at as u64) {
         Ok(k) => Some(values[k].1),
         Err(_) => None,
-    }
-}
-
-/// What an instruction waits for: for each core the count that it has to have come to before, and 0 where
-/// no edge leads from it.
-#[derive(Clone, Copy)]
-struct Wanted {
-    counts: [u32; PLACES],
-}
-
-impl Wanted {
-    /// No core has to have come anywhere.
-    fn nothing() -> Wanted
-        ensures { result.counts ≡ replicate CORES_MAX 0 }
-    {
-        Wanted {
-            counts: [0; PLACES],
-        }
     }
 }
 

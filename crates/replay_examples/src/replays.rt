@@ -161,7 +161,7 @@ fn is_whole_order(replay: &mut Replay, order: &[u8]) -> Result<bool, AllocError>
             return Ok(false);
         }
     }
-    Ok(replay.whole() && replay.lowest().is_none())
+    Ok(replay.whole())
 }
 
 // Another whole order than the low one leaves the same.

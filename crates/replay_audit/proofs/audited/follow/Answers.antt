@@ -3,7 +3,7 @@ use Rattle.replay_core.specs.Plans.{Plan}
 use Rattle.replay_audit.proofs.Auditing.{along_start, all_told, along_on, in_plan, leaves_open, passes, ready_here}
 use Rattle.replay_audit.proofs.Auditing.{short_here, stuck, told_at}
 use Rattle.replay_audit.proofs.Following.{access_core, each_core, each_marked, few, in_clocks, in_numbers, some_count}
-use Rattle.replay_audit.proofs.Tallying.{below_plan, inside_plan, less_to_go}
+use Rattle.replay_core.proofs.Tallying.{below_plan, inside_plan, less_to_go}
 use Rattle.replay_audit.proofs.audited.follow.Goals as goal
 
 pub loop-core-init : goal.loop-core-init

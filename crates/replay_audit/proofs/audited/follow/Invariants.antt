@@ -1,7 +1,7 @@
 -- the pass has come along a front of the low order
 use Rattle.std.proofs.Common.{ℕ, List}
 use Rattle.replay_core.proofs.Low.{left}
-use Rattle.replay_audit.specs.Tallies.{count_of}
+use Rattle.replay_core.specs.Tallies.{count_of}
 use Rattle.replay_audit.proofs.Auditing.{Along}
 use Rattle.replay_audit.proofs.audited.follow.Given as goal
 

@@ -2,7 +2,7 @@ use Rattle.std.proofs.Common.{◌++◌, ◌∷◌, [], ◌∙◌, ap, length, sy
 use Rattle.replay_core.specs.Plans.{Plan}
 use Rattle.replay_audit.proofs.Auditing.{all_told}
 use Rattle.replay_audit.proofs.Following.{access_core, each_core, each_marked, few, in_clocks, in_numbers, some_count}
-use Rattle.replay_audit.proofs.Tallying.{below_plan, inside_plan, less_to_go}
+use Rattle.replay_core.proofs.Tallying.{below_plan, inside_plan, less_to_go}
 use Rattle.replay_audit.proofs.Touching.{IsFoundAt, judged_on, judged_start, told_there, touched_there, verdict}
 use Rattle.replay_audit.proofs.judgement.judge.Goals as goal
 

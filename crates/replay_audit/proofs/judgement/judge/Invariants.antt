@@ -1,7 +1,7 @@
 -- the accesses so far were laid along a front of the low order
 use Rattle.std.proofs.Common.{ℕ, List}
 use Rattle.replay_core.proofs.Low.{left}
-use Rattle.replay_audit.specs.Tallies.{count_of}
+use Rattle.replay_core.specs.Tallies.{count_of}
 use Rattle.replay_audit.proofs.Touching.{Judged}
 use Rattle.replay_audit.proofs.judgement.judge.Given as goal
 

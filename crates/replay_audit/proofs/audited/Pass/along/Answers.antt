@@ -1,4 +1,4 @@
-use Rattle.std.proofs.Common.{[], ◌∙◌, ℕ, List, ap, sym}
+use Rattle.std.proofs.Common.{[], ◌∙◌, ℕ, ap}
 use Rattle.std.specs.Prelude.{replicate}
 use Rattle.replay_audit.proofs.Auditing.{passed_same}
 use Rattle.replay_audit.proofs.audited.Pass.along.Goals as goal

@@ -2,7 +2,8 @@
 use Rattle.std.proofs.Common.{◌≡◌, ℕ, slice_index}
 use Rattle.clock_core.specs.Order.{previous}
 use Rattle.clock_core.specs.Reach.{merged_over}
-use Rattle.replay_audit.specs.Clocks.{clock_at, listed}
+use Rattle.replay_core.specs.Sources.{listed}
+use Rattle.replay_audit.specs.Clocks.{clock_at}
 use Rattle.replay_audit.proofs.log_clocks.LogClocks.next.Given as goal
 
 abbrev pub invariant-loop-of : goal.invariant-loop-of

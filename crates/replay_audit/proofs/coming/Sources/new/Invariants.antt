@@ -1,5 +1,0 @@
-use Rattle.replay_audit.proofs.Awaited.{AreUnknown}
-use Rattle.replay_audit.proofs.coming.Sources.new.Given as goal
-
-abbrev pub invariant-loop-core : goal.invariant-loop-core
-invariant-loop-core l = AreUnknown l.core l.coming.items

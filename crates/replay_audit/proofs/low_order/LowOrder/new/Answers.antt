@@ -1,5 +1,0 @@
-use Rattle.replay_audit.proofs.Lowering.{awaited_none}
-use Rattle.replay_audit.proofs.low_order.LowOrder.new.Goals as goal
-
-pub lowest_from-low-requires-clause-awaited : goal.lowest_from-low-requires-clause-awaited
-lowest_from-low-requires-clause-awaited c = awaited_none _ _

@@ -1,0 +1,37 @@
+use Rattle.std.proofs.Common.{◌≡◌, ◌+◌, ◌-◌, ◌∙◌, suc, length, refl, sym, arith}
+use Rattle.replay_core.proofs.Sources.{lowest_on}
+use Rattle.replay_core.specs.Tallies.{count_of}
+use Rattle.replay_core.proofs.Lowering.{awaited_at, awaited_more, lowest_here, lowest_past}
+use Rattle.replay_core.proofs.low_order.lowest_from.Goals as goal
+
+pub loop-core-preserved : goal.loop-core-preserved
+loop-core-preserved c =
+    let u = c.args.tally.now in
+    let n = length u.plan.totals in
+    let below = c.loop-core-test.true in
+    let one_more : n - c.loop-core.core ≡ suc (n - (c.loop-core.core + 1)) =
+    omega (arith, c.cores-core-end.ensures.all) in record {
+      lowest = lowest_on u.plan (count_of u.counts) c.loop-core.core (n - c.loop-core.core) (n - (c.loop-core.core + 1))
+          (c.loop-core.core + 1) one_more refl
+          (sym c.is_ready.ensures ∙ c.if-is_ready.false) ∙ c.loop-core.invariant.lowest;
+      awaited = awaited_more u c.loop-core.core c.loop-core.until _ c.loop-core.invariant.awaited c.lower.ensures.below
+          c.lower.ensures.waits;
+    }
+
+pub returns-then-is_ready-clause-lowest : goal.returns-then-is_ready-clause-lowest
+returns-then-is_ready-clause-lowest c =
+    let u = c.args.tally.now in
+    lowest_here u.plan (count_of u.counts) c.loop-core.core (length u.plan.totals - c.loop-core.core)
+    (let lt = c.loop-core-test.true in omega (arith, c.cores-core-end.ensures.all))
+    (sym c.is_ready.ensures ∙ c.if-is_ready.true)
+    ∙ c.loop-core.invariant.lowest
+
+pub returns-then-is_ready-clause-awaited : goal.returns-then-is_ready-clause-awaited
+returns-then-is_ready-clause-awaited c d e =
+    awaited_at c.args.tally.now c.loop-core.core d c.loop-core.until e c.loop-core.invariant.awaited
+
+pub returns-clause-lowest : goal.returns-clause-lowest
+returns-clause-lowest c =
+    let u = c.args.tally.now in
+    lowest_past u.plan (count_of u.counts) c.loop-core.core (length u.plan.totals - c.loop-core.core)
+    (let lt = c.loop-core-test.false in omega (arith, c.cores-core-end.ensures.all)) ∙ c.loop-core.invariant.lowest

@@ -1,0 +1,58 @@
+-- How far each core has come, and the sources of what comes next.
+use Rattle.std.specs.Prelude.{◌≡◌, ℕ, ◌+◌, ◌<◌, ◌≤◌, List, Option, Some, None, length, slice_index, slice_index_or}
+use Rattle.rtr_types.specs.declared.instr.Edge.{Edge}
+use Rattle.rtr_types.specs.declared.instr.Instr.{Instr}
+use Rattle.rtr_types.specs.declared.pairs.Which.{Which}
+use Rattle.clock_core.specs.Order.{Among}
+use Rattle.log_codec.specs.declared.recording.Recording.{Recording}
+use Rattle.log_codec.specs.Sources.{log_edges}
+use Rattle.log_codec.specs.Validity.{Valid}
+use Rattle.replay_core.specs.Plans.{Plan, plan_of}
+use Rattle.replay_core.specs.Play.{instr}
+use Rattle.replay_core.specs.Orders.{lowest_ready}
+use Rattle.replay_core.specs.Sources.{AreSources, sources_in}
+
+-- what contracts see of a tally: the plan, and the count of each core
+pub record Tallied : Type 0 where
+  pub plan : Plan
+  pub counts : List ℕ
+
+abbrev pub count_of : List ℕ → ℕ → ℕ
+count_of counts c = slice_index counts c
+
+-- core c's next instruction
+abbrev pub next_of : List ℕ → ℕ → Instr
+next_of counts c = instr c (count_of counts c + 1)
+
+-- the sources that are wanted before core c's next instruction
+abbrev pub wanted_at : List (Option (List ℕ)) → ℕ → List ℕ
+wanted_at wanted c = sources_in (slice_index_or wanted c None)
+
+-- they are those of the first instruction of each of so many cores
+pub record AreWanted (edges : List Edge) (cores : ℕ) (wanted : List (Option (List ℕ))) : Type 0 where
+  pub all : length wanted ≡ cores
+  pub each : (c : ℕ) → c < cores → AreSources edges (instr c 1) (wanted_at wanted c)
+
+-- each core is within its total, and the sources of its next instruction are wanted; later ones are looked for in the
+-- same log
+pub record IsTally (which : Which) (r : Recording) (sources : Plan) (counts : List ℕ) (wanted : List (Option (List ℕ)))
+    : Type 0 where
+  pub valid : Valid r
+  pub sources_is : sources ≡ plan_of which r
+  pub all_counts : length counts ≡ r.params.cores
+  pub all_wanted : length wanted ≡ r.params.cores
+  pub within : (c : ℕ) → count_of counts c ≤ slice_index r.totals c
+  pub each : (c : ℕ) → c < r.params.cores →
+      AreSources (log_edges which r) (next_of counts c) (wanted_at wanted c)
+
+-- ---- the lowest core that is ready
+
+-- a count of core i that the next instruction of a core below `low` still waits for is at least the one of `until`
+pub record AreAwaited (t : Tallied) (low : ℕ) (until : List ℕ) : Type 0 where
+  pub each : (d i a : ℕ) → d < low → Among t.plan.edges (instr i a) (next_of t.counts d) → count_of t.counts i < a →
+      slice_index until i ≤ a
+
+-- it is the lowest, and while the counts are below those of `until` no core below it becomes ready
+pub record IsLow (t : Tallied) (low : Option ℕ) (until : List ℕ) : Type 0 where
+  pub lowest_is : low ≡ lowest_ready t.plan (count_of t.counts)
+  pub awaited : (c : ℕ) → low ≡ Some c → AreAwaited t c until

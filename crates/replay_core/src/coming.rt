@@ -1,0 +1,263 @@
+//! The logged sources of instructions that are asked for one after the other.
+ghost use Rattle.std.specs.Prelude.{◌≡◌, ◌≢◌, ◌<◌, ◌≤◌, ◌+◌, ◌-◌, ◌^◌, ℕ, IfOk, IfSome, IsTrue, length};
+ghost use Rattle.std.specs.Prelude.{None as NoneThere};
+ghost use Rattle.rtr_types.specs.declared.TheConstants.{CORES_MAX};
+ghost use Rattle.replay_core.specs.Plans.{plan_of};
+ghost use Rattle.replay_core.specs.Play.{instr};
+ghost use Rattle.rtr_types.specs.Pairs.{IsPair};
+ghost use Rattle.log_codec.specs.Sources.{log_edges};
+ghost use Rattle.log_codec.specs.Validity.{Valid};
+ghost use Rattle.replay_core.specs.Sources.{AreSources, sources_in};
+ghost use Rattle.replay_core.specs.Coming.{IsComing, IsNextInto, IsSource, IsSourceIn, IsStillNext, edge_of};
+
+use crate::next_edge::next_edge;
+use clock_core::Clock;
+use log_codec::Recording;
+use rtr_types::{CORES_MAX, Instr, Which};
+use std::alloc::{AllocError, Global};
+use std::marker::Model;
+
+/// A place for each core, as the length of an array.
+const PLACES: usize = CORES_MAX as usize;
+
+/// The next edges into one core: from each other core the first one to the instruction with the count
+/// `from` or to a later one. None of these leads to a count below `due`. `places` has a guess of where the
+/// edge after each stands in its pair's list.
+#[derive(Clone, Copy)]
+struct Coming {
+    from: u32,
+    due: u32,
+    edges: [Option<(u32, u32)>; PLACES],
+    places: [usize; PLACES],
+}
+
+impl Coming {
+    /// No edge to this count or a later one.
+    fn none(from: u32) -> Coming
+        ensures from { result.from ≡ from }
+        ensures due { result.due ≡ 2 ^ 32 - 1 }
+        ensures edges { (i : ℕ) → edge_of result i ≡ NoneThere }
+    {
+        Coming {
+            from,
+            due: u32::MAX,
+            edges: [None; PLACES],
+            places: [0; PLACES],
+        }
+    }
+
+    /// Whether the count is known to be below each edge's target.
+    fn is_early(&self, count: u32) -> bool
+        ensures { IsTrue result → (self.now.from ≤ count) × (count < self.now.due) }
+    {
+        self.from <= count && count < self.due
+    }
+
+    /// The first edge from a core to this count or a later one, where it is known: there may be none.
+    fn known(&self, of: u8, count: u32) -> Option<Option<(u32, u32)>>
+        requires { of < CORES_MAX }
+        ensures { IfSome result (λ edge. IsStillNext self.now of count edge) }
+    {
+        if count < self.from {
+            return None;
+        }
+        match self.edges[of as usize] {
+            Some((source, target)) => {
+                if target < count {
+                    return None;
+                }
+                Some(Some((source, target)))
+            }
+            None => Some(None),
+        }
+    }
+
+    /// Puts the next edge from a core, and the guess.
+    fn put(&mut self, of: u8, edge: Option<(u32, u32)>, place: usize)
+        requires { of < CORES_MAX }
+        ensures from { self.new.from ≡ self.old.from }
+        ensures at { edge_of self.new of ≡ edge }
+        ensures others { (i : ℕ) → i ≢ of → edge_of self.new i ≡ edge_of self.old i }
+        ensures before { self.new.due ≤ self.old.due }
+        ensures due { IfSome edge (λ e. self.new.due ≤ e.1) }
+    {
+        if let Some((_, target)) = edge {
+            self.due = self.due.min(target);
+        }
+        self.edges[of as usize] = edge;
+        self.places[of as usize] = place;
+    }
+
+    /// Finds the sources of the instruction, each core's in turn. The edges go on to those to later ones.
+    #[inline(never)]
+    fn pass(&mut self, recording: &Recording, which: Which, at: Instr, sources: &mut Option<Clock>)
+        requires valid { Valid recording.now }
+        requires core { at.core < recording.now.params.cores }
+        requires count { at.count < 2 ^ 32 - 1 }
+        requires coming { IsComing (log_edges which recording.now) at.core recording.now.params.cores self.old }
+        ensures sources { AreSources (log_edges which recording.now) at (sources_in sources.new) }
+        ensures coming { IsComing (log_edges which recording.now) at.core recording.now.params.cores self.new }
+    {
+        let mut found = Clock::zero();
+        self.due = u32::MAX;
+        for of in 0..recording.params.cores {
+            if of != at.core {
+                let mut place = self.places[of as usize];
+                let Step { source, next } = self.step(recording, which, of, at, &mut place);
+                self.put(of, next, place);
+                match source {
+                    Some(count) => found.set(of, count),
+                    None => {}
+                }
+            }
+        }
+        self.from = at.count + 1;
+        *sources = Some(found);
+    }
+
+    /// The instruction's source on a core, and the core's next edge to a later instruction, with the guess.
+    fn step(
+        &self,
+        recording: &Recording,
+        which: Which,
+        of: u8,
+        at: Instr,
+        place: &mut usize,
+    ) -> Step
+        requires valid { Valid recording.now }
+        requires pair { IsPair recording.now.params.cores of at.core }
+        requires count { at.count < 2 ^ 32 - 1 }
+        requires coming { IsNextInto (log_edges which recording.now) of (instr at.core self.now.from)
+            (edge_of self.now of) }
+        ensures source { IsSource (log_edges which recording.now) of at result.source }
+        ensures next { IsNextInto (log_edges which recording.now) of (instr at.core (at.count + 1)) result.next }
+    {
+        let next = self.next(recording, which, of, at, place);
+        match source_in(next, at.count) {
+            Some(count) => {
+                let later = Instr {
+                    core: at.core,
+                    count: at.count + 1,
+                };
+                let next = next_edge(recording, which, of, later, place);
+                Step {
+                    source: Some(count),
+                    next,
+                }
+            }
+            None => Step { source: None, next },
+        }
+    }
+
+    /// The first edge from a core to the instruction or a later one: the one that is known, if it is still
+    /// to come.
+    fn next(
+        &self,
+        recording: &Recording,
+        which: Which,
+        of: u8,
+        at: Instr,
+        place: &mut usize,
+    ) -> Option<(u32, u32)>
+        requires valid { Valid recording.now }
+        requires pair { IsPair recording.now.params.cores of at.core }
+        requires coming { IsNextInto (log_edges which recording.now) of (instr at.core self.now.from)
+            (edge_of self.now of) }
+        ensures { IsNextInto (log_edges which recording.now) of at result }
+    {
+        match self.known(of, at.count) {
+            Some(edge) => edge,
+            None => next_edge(recording, which, of, at, place),
+        }
+    }
+}
+
+/// The source of an instruction on a core, and the core's next edge to a later instruction.
+#[derive(Clone, Copy)]
+struct Step {
+    source: Option<u32>,
+    next: Option<(u32, u32)>,
+}
+
+/// The logged sources of a recording's instructions. Where each core's instructions are asked for in their
+/// order, an edge is looked up once, and an instruction to which none leads takes no look-up.
+#[derive(Drop)]
+pub struct Sources<'a> {
+    recording: &'a Recording,
+    which: Which,
+    coming: Vec<Coming>,
+}
+
+impl<'a> Model for Sources<'a> {
+    ghost use Rattle.replay_core.specs.Plans.{Plan, plan_of};
+    ghost use Rattle.replay_core.specs.Coming.{AreComing};
+
+    ghost Value = { Plan };
+
+    ghost view = { λ a. plan_of a.which a.recording.now };
+
+    ghost invariant = { λ a. AreComing a.which a.recording.now a.coming.items };
+}
+
+impl<'a> Sources<'a> {
+    /// Nothing is looked up yet.
+    pub fn new(
+        alloc: Global,
+        recording: &'a Recording,
+        which: Which,
+    ) -> Result<Sources<'a>, AllocError>
+        requires { Valid recording.now }
+        ensures { IfOk result (λ sources. sources ≡ plan_of which recording.now) }
+    {
+        let mut coming = Vec::new(alloc);
+        for core in 0..recording.params.cores {
+            coming.push(Coming::none(u32::MAX))?;
+        }
+        Ok(Sources {
+            recording,
+            which,
+            coming,
+        })
+    }
+
+    /// Finds the sources of the instruction: none where no edge leads to it.
+    #[inline(always)]
+    pub fn find(&mut self, at: Instr, sources: &mut Option<Clock>)
+        requires core { at.core < length self.old.totals }
+        requires count { at.count < 2 ^ 32 - 1 }
+        ensures plan { self.new ≡ self.old }
+        ensures sources { AreSources self.old.edges at (sources_in sources.new) }
+    {
+        if self.coming[at.core as usize].is_early(at.count) {
+            clear(sources);
+            return;
+        }
+        let coming = &mut self.coming[at.core as usize];
+        coming.pass(self.recording, self.which, at, sources);
+    }
+}
+
+/// Leaves no sources. Where there are none, nothing is written.
+#[inline(always)]
+fn clear(sources: &mut Option<Clock>)
+    ensures { sources.new ≡ NoneThere }
+{
+    if sources.is_some() {
+        *sources = None;
+    }
+}
+
+/// The source of the edge, where it leads to this count.
+fn source_in(edge: Option<(u32, u32)>, count: u32) -> Option<u32>
+    ensures { IsSourceIn edge count result }
+{
+    match edge {
+        Some((source, target)) => {
+            if target == count {
+                return Some(source);
+            }
+            None
+        }
+        None => None,
+    }
+}

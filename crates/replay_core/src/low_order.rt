@@ -1,0 +1,139 @@
+//! The low order, place by place.
+ghost use Rattle.std.specs.Prelude.{◌≡◌, ◌<◌, ◌≤◌, ◌+◌, ◌-◌, ◌↔◌, ℕ, Some, length, slice_index, slice_set, replicate};
+ghost use Rattle.std.specs.Prelude.{IfOk, IsTrue};
+ghost use Rattle.rtr_types.specs.declared.TheConstants.{CORES_MAX};
+ghost use Rattle.log_codec.specs.Validity.{Valid};
+ghost use Rattle.replay_core.specs.Plans.{plan_of};
+ghost use Rattle.replay_core.specs.Orders.{Full, lowest, lowest_ready};
+ghost use Rattle.replay_core.specs.Sources.{AreSources, sources_in};
+ghost use Rattle.replay_core.specs.Tallies.{AreAwaited, count_of, next_of};
+
+use crate::sourced::Sourced;
+use crate::tally::Tally;
+use log_codec::Recording;
+use rtr_types::{CORES_MAX, Which};
+use std::alloc::{AllocError, Global};
+use std::marker::Model;
+
+/// A place for each core, as the length of an array.
+const PLACES: usize = CORES_MAX as usize;
+
+/// A tally along the low order, with the lowest core that is ready. Which cores below it are ready is looked
+/// at again only where a core comes as far as one of them waits for.
+pub struct LowOrder<'a> {
+    tally: Tally<'a>,
+    low: Option<u8>,
+    until: [u32; PLACES],
+}
+
+impl Drop for LowOrder<'_> {
+    fn drop(self) {
+        let LowOrder {
+            tally: _tally,
+            low: _low,
+            until: _until,
+        } = self;
+    }
+}
+
+impl<'a> Model for LowOrder<'a> {
+    ghost use Rattle.replay_core.specs.Tallies.{Tallied, IsLow};
+
+    ghost Value = { Tallied };
+
+    ghost view = { λ a. a.tally };
+
+    ghost invariant = { λ a. IsLow a.tally a.low a.until };
+}
+
+impl<'a> LowOrder<'a> {
+    /// Before the first place.
+    pub fn new(
+        alloc: Global,
+        recording: &'a Recording,
+        which: Which,
+    ) -> Result<LowOrder<'a>, AllocError>
+        requires { Valid recording.now }
+        ensures plan { IfOk result (λ order. order.plan ≡ plan_of which recording.now) }
+        ensures counts { IfOk result (λ order. order.counts ≡ replicate (length recording.now.totals) 0) }
+    {
+        let tally = Tally::new(alloc, recording, which)?;
+        let mut until = [u32::MAX; PLACES];
+        let low = lowest_from(&tally, 0, &mut until);
+        Ok(LowOrder { tally, low, until })
+    }
+
+    /// How many cores there are.
+    pub fn cores(&self) -> u8
+        ensures all { result ≡ length self.now.plan.totals }
+        ensures few { result ≤ CORES_MAX }
+    {
+        self.tally.cores()
+    }
+
+    /// The lowest-numbered core that is ready.
+    pub fn lowest(&self) -> Option<u8>
+        ensures { result ≡ lowest_ready self.now.plan (count_of self.now.counts) }
+    {
+        self.low
+    }
+
+    /// The next instruction of a core below its total, with its logged sources.
+    pub fn next(&self, core: u8) -> Sourced<'_>
+        requires inside { core < length self.now.plan.totals }
+        requires below { count_of self.now.counts core < slice_index self.now.plan.totals core }
+        ensures at { result.at ≡ next_of self.now.counts core }
+        ensures sources { AreSources self.now.plan.edges (next_of self.now.counts core)
+            (sources_in result.sources.now) }
+    {
+        self.tally.next(core)
+    }
+
+    /// One place more, of a core below its total.
+    #[inline(always)]
+    pub fn advance(&mut self, core: u8)
+        requires inside { core < length self.old.plan.totals }
+        requires below { count_of self.old.counts core < slice_index self.old.plan.totals core }
+        ensures plan { self.new.plan ≡ self.old.plan }
+        ensures counts { self.new.counts ≡ slice_set self.old.counts core (count_of self.old.counts core + 1) }
+    {
+        self.tally.advance(core);
+        if self.low == Some(core) {
+            if self.tally.count(core) < self.until[core as usize] {
+                if self.tally.is_ready(core) {
+                    return;
+                }
+                self.low = lowest_from(&self.tally, core, &mut self.until);
+                return;
+            }
+        }
+        self.until = [u32::MAX; PLACES];
+        self.low = lowest_from(&self.tally, 0, &mut self.until);
+    }
+
+    /// Whether each core is at its total.
+    pub fn whole(&self) -> bool
+        ensures { IsTrue result ↔ Full self.now.plan (count_of self.now.counts) }
+    {
+        self.tally.whole()
+    }
+}
+
+/// The lowest core from `from` on that is ready. `until` has for each core a count at most the one that it
+/// has yet to come to for a core below.
+#[inline(never)]
+fn lowest_from(tally: &Tally, from: u8, until: &mut [u32; PLACES]) -> Option<u8>
+    requires from { from ≤ length tally.now.plan.totals }
+    requires awaited { AreAwaited tally.now from until.old }
+    ensures lowest { result
+        ≡ lowest tally.now.plan (count_of tally.now.counts) from (length tally.now.plan.totals - from) }
+    ensures awaited { (c : ℕ) → result ≡ Some c → AreAwaited tally.now c until.new }
+{
+    for core in from..tally.cores() {
+        if tally.is_ready(core) {
+            return Some(core);
+        }
+        tally.lower(core, until);
+    }
+    None
+}

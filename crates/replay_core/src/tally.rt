@@ -1,0 +1,232 @@
+//! How far cores have come along an order, and what their next instructions wait for.
+ghost use Rattle.std.specs.Prelude.{◌≡◌, ◌<◌, ◌≤◌, ◌+◌, ◌↔◌, ℕ, length, slice_index, slice_set, replicate, IfOk};
+ghost use Rattle.std.specs.Prelude.{IsTrue};
+ghost use Rattle.rtr_types.specs.declared.TheConstants.{CORES_MAX};
+ghost use Rattle.clock_core.specs.Order.{Among};
+ghost use Rattle.log_codec.specs.Validity.{Valid};
+ghost use Rattle.replay_core.specs.Plans.{plan_of};
+ghost use Rattle.replay_core.specs.Play.{instr};
+ghost use Rattle.replay_core.specs.Orders.{Full, is_ready, is_sourced};
+ghost use Rattle.replay_core.specs.Sources.{AreSources, sources_in};
+ghost use Rattle.replay_core.specs.Tallies.{AreWanted, count_of, next_of};
+
+use crate::coming::Sources;
+use crate::sourced::Sourced;
+use clock_core::Clock;
+use log_codec::Recording;
+use rtr_types::{CORES_MAX, Instr, Which};
+use std::alloc::{AllocError, Global};
+use std::marker::Model;
+
+/// A place for each core, as the length of an array.
+const PLACES: usize = CORES_MAX as usize;
+
+/// How far each core has come along an order that obeys the log, and the logged sources of its next
+/// instruction, which are looked up once.
+#[derive(Drop)]
+pub struct Tally<'a> {
+    recording: &'a Recording,
+    which: Which,
+    counts: Vec<u32>,
+    wanted: Vec<Option<Clock>>,
+    sources: Sources<'a>,
+}
+
+impl<'a> Model for Tally<'a> {
+    ghost use Rattle.replay_core.specs.Plans.{plan_of};
+    ghost use Rattle.replay_core.specs.Tallies.{Tallied, IsTally};
+
+    ghost Value = { Tallied };
+
+    ghost view = { λ a. record { plan = plan_of a.which a.recording.now; counts = a.counts.items } };
+
+    ghost invariant = { λ a. IsTally a.which a.recording.now a.sources a.counts.items a.wanted.items };
+}
+
+impl<'a> Tally<'a> {
+    /// Before the first place.
+    pub fn new(
+        alloc: Global,
+        recording: &'a Recording,
+        which: Which,
+    ) -> Result<Tally<'a>, AllocError>
+        requires { Valid recording.now }
+        ensures plan { IfOk result (λ tally. tally.plan ≡ plan_of which recording.now) }
+        ensures counts { IfOk result (λ tally. tally.counts ≡ replicate (length recording.now.totals) 0) }
+    {
+        let mut sources = Sources::new(alloc, recording, which)?;
+        let counts = no_counts(alloc, recording.params.cores)?;
+        let wanted = first_wanted(alloc, &mut sources, recording.params.cores)?;
+        Ok(Tally {
+            recording,
+            which,
+            counts,
+            wanted,
+            sources,
+        })
+    }
+
+    /// How many cores there are.
+    pub fn cores(&self) -> u8
+        ensures all { result ≡ length self.now.plan.totals }
+        ensures few { result ≤ CORES_MAX }
+    {
+        self.recording.params.cores
+    }
+
+    /// How many instructions of the core were counted.
+    pub fn count(&self, core: u8) -> u32
+        requires { core < length self.now.plan.totals }
+        ensures count { result ≡ count_of self.now.counts core }
+        ensures few { core < CORES_MAX }
+    {
+        let _ = &self.recording;
+        self.counts[core as usize]
+    }
+
+    /// The next instruction of a core below its total, with its logged sources.
+    pub fn next(&self, core: u8) -> Sourced<'_>
+        requires inside { core < length self.now.plan.totals }
+        requires below { count_of self.now.counts core < slice_index self.now.plan.totals core }
+        ensures at { result.at ≡ next_of self.now.counts core }
+        ensures sources { AreSources self.now.plan.edges (next_of self.now.counts core)
+            (sources_in result.sources.now) }
+    {
+        let _ = &self.recording;
+        let count = self.counts[core as usize] + 1;
+        Sourced {
+            at: Instr { core, count },
+            sources: &self.wanted[core as usize],
+        }
+    }
+
+    /// One place more, of a core below its total.
+    #[inline(always)]
+    pub fn advance(&mut self, core: u8)
+        requires inside { core < length self.old.plan.totals }
+        requires below { count_of self.old.counts core < slice_index self.old.plan.totals core }
+        ensures plan { self.new.plan ≡ self.old.plan }
+        ensures counts { self.new.counts ≡ slice_set self.old.counts core (count_of self.old.counts core + 1) }
+        ensures one_more { count_of self.new.counts core ≡ count_of self.old.counts core + 1 }
+    {
+        let count = self.counts[core as usize] + 1;
+        let next = Instr {
+            core,
+            count: count + 1,
+        };
+        self.counts[core as usize] = count;
+        self.sources.find(next, &mut self.wanted[core as usize]);
+    }
+
+    /// Whether each core is at its total.
+    pub fn whole(&self) -> bool
+        ensures { IsTrue result ↔ Full self.now.plan (count_of self.now.counts) }
+    {
+        let _ = &self.recording;
+        for core in 0..self.recording.params.cores {
+            if self.counts[core as usize] != self.recording.totals.as_slice()[core as usize] {
+                return false;
+            }
+        }
+        true
+    }
+
+    /// Whether the core is below its total and each source of its next instruction was counted.
+    #[inline(always)]
+    pub fn is_ready(&self, core: u8) -> bool
+        requires { core < length self.now.plan.totals }
+        ensures { result ≡ is_ready self.now.plan (count_of self.now.counts) core }
+    {
+        let _ = &self.recording;
+        let count = self.counts[core as usize];
+        count < self.recording.totals.as_slice()[core as usize] && self.is_sourced(core)
+    }
+
+    /// Whether each source of the core's next instruction was counted.
+    fn is_sourced(&self, core: u8) -> bool
+        requires { core < length self.now.plan.totals }
+        ensures { result
+            ≡ is_sourced self.now.plan.edges (count_of self.now.counts) core (count_of self.now.counts core + 1) }
+    {
+        let _ = &self.recording;
+        match &self.wanted[core as usize] {
+            None => true,
+            Some(wanted) => self.are_met(core, wanted),
+        }
+    }
+
+    /// Whether each of these sources of the core's next instruction was counted.
+    #[inline(never)]
+    fn are_met(&self, core: u8, wanted: &Clock) -> bool
+        requires core { core < length self.now.plan.totals }
+        requires sources { AreSources self.now.plan.edges (next_of self.now.counts core) wanted.now }
+        ensures { result
+            ≡ is_sourced self.now.plan.edges (count_of self.now.counts) core (count_of self.now.counts core + 1) }
+    {
+        for of in 0..self.recording.params.cores {
+            if wanted.get(of) > self.counts[of as usize] {
+                return false;
+            }
+        }
+        true
+    }
+
+    /// Lowers the counts where the core's next instruction waits for less.
+    pub fn lower(&self, core: u8, until: &mut [u32; PLACES])
+        requires { core < length self.now.plan.totals }
+        ensures below { (i : ℕ) → slice_index until.new i ≤ slice_index until.old i }
+        ensures waits { (i a : ℕ) → Among self.now.plan.edges (instr i a) (next_of self.now.counts core) →
+            count_of self.now.counts i < a → slice_index until.new i ≤ a }
+    {
+        let _ = &self.recording;
+        if let Some(wanted) = &self.wanted[core as usize] {
+            self.lower_to(core, wanted, until);
+        }
+    }
+
+    /// Lowers the counts where these sources of the core's next instruction are still to come.
+    fn lower_to(&self, core: u8, wanted: &Clock, until: &mut [u32; PLACES])
+        requires core { core < length self.now.plan.totals }
+        requires sources { AreSources self.now.plan.edges (next_of self.now.counts core) wanted.now }
+        ensures below { (i : ℕ) → slice_index until.new i ≤ slice_index until.old i }
+        ensures waits { (i a : ℕ) → Among self.now.plan.edges (instr i a) (next_of self.now.counts core) →
+            count_of self.now.counts i < a → slice_index until.new i ≤ a }
+    {
+        for of in 0..self.recording.params.cores {
+            let count = wanted.get(of);
+            if count > self.counts[of as usize] && count < until[of as usize] {
+                until[of as usize] = count;
+            }
+        }
+    }
+}
+
+/// No count of any of so many cores.
+fn no_counts(alloc: Global, cores: u8) -> Result<Vec<u32>, AllocError>
+    ensures { IfOk result (λ list. list.items ≡ replicate cores 0) }
+{
+    let mut list = Vec::new(alloc);
+    for core in 0..cores {
+        list.push(0)?;
+    }
+    Ok(list)
+}
+
+/// The sources of the first instruction of each of so many cores.
+fn first_wanted(
+    alloc: Global,
+    sources: &mut Sources,
+    cores: u8,
+) -> Result<Vec<Option<Clock>>, AllocError>
+    requires { cores ≤ length sources.old.totals }
+    ensures plan { sources.new ≡ sources.old }
+    ensures wanted { IfOk result (λ list. AreWanted sources.old.edges cores list.items) }
+{
+    let mut list = Vec::new(alloc);
+    for core in 0..cores {
+        let mut wanted = None;
+        sources.find(Instr { core, count: 1 }, &mut wanted);
+        list.push(wanted)?;
+    }
+    Ok(list)
+}
