@@ -1,5 +1,6 @@
 -- What thinning gives.
-use Rattle.std.proofs.Common.{◌≡◌, ℕ, suc, ◌+◌, ◌<◌, ◌≤◌, inl, inr, List, [], ◌∷◌, length, get_or, refl, sym, ap, subst, ◌∙◌, arith}
+use Rattle.std.proofs.Common.{◌≡◌, ℕ, suc, ◌+◌, ◌<◌, ◌≤◌, inl, inr, List, [], ◌∷◌, length, get_or, refl, sym, ap, subst}
+use Rattle.std.proofs.Common.{◌∙◌, arith}
 use Rattle.std.specs.Prelude.{Bool, slice_index, slice_index_or, sum_by}
 use Rattle.std.proofs.lemmas.Bool.{cases_lt}
 use Rattle.std.proofs.lemmas.List.{get_or-take, get_or_past, length-take-le}
@@ -32,8 +33,10 @@ use Rattle.vector_reduce.specs.Cuts.{Holds, IsClosed, counts_in}
 use Rattle.vector_reduce.specs.Kept.{IsKeptOf, IsLeftOf, IsShownLeft, kept}
 use Rattle.vector_reduce.specs.Showing.{AreFormed, AreLeastShown, IsFormed, IsLeastShown, no_shown}
 use Rattle.vector_reduce.specs.Thinning.{EachNeeded, IsThinned}
-use Rattle.vector_reduce.specs.Validity.{CountStands, IsThin, ShownStands, counts_of, cut_of}
-use Rattle.vector_reduce.specs.Vectors.{edge_at, edges_in, edges_of_all, others_of, regulated_edges, vector_at, vectors_of}
+use Rattle.log_codec.specs.CoreCounts.{CountStands}
+use Rattle.vector_reduce.specs.Validity.{IsThin, ShownStands, counts_of, cut_of}
+use Rattle.vector_reduce.specs.Vectors.{edge_at, edges_in, edges_of_all, others_of, regulated_edges, vector_at}
+use Rattle.vector_reduce.specs.Vectors.{vectors_of}
 use Rattle.vector_reduce.proofs.Edges.{among_all, among_edge, others_among, vectors_are_the_log}
 use Rattle.vector_reduce.proofs.Keeping.{kept_valid, kept_vectors, positions_small, vectors_counted}
 use Rattle.vector_reduce.proofs.Leaving.{thinned_is_needed, thinned_is_same}
@@ -48,13 +51,16 @@ total_of r core = slice_index r.totals core
 edge_within : (r : Recording) (k : ℕ) (x y : Instr) → Valid r → k < length (vectors_of r) →
     Among (edges_in (vector_at (vectors_of r) k)) x y → EdgeWithin r x y
 edge_within r k x y valid lt a =
-    let all : Among (regulated_edges r) x y = subst (λ (es : List Edge). Among es x y) (vectors_are_the_log r) (among_all (vectors_of r) k x y lt a) in
+    let all : Among (regulated_edges r) x y =
+    subst (λ (es : List Edge). Among es x y) (vectors_are_the_log r) (among_all (vectors_of r) k x y lt a) in
     edges-within Regulated r x y valid (among_contains (regulated_edges r) x y all)
 
 totals_closed : (r : Recording) (k : ℕ) → Valid r → IsClosed (edges_of_all (others_of (vectors_of r) k)) (total_of r)
-totals_closed r k valid x y a h = let o = others_among (vectors_of r) k x y a in (edge_within r o.0 x y valid o.1 o.3).source_most
+totals_closed r k valid x y a h = let o = others_among (vectors_of r) k x y a in
+    (edge_within r o.0 x y valid o.1 o.3).source_most
 
-totals_hold : (r : Recording) (k i : ℕ) → Valid r → k < length (vectors_of r) → i < (vector_at (vectors_of r) k).vector.n →
+totals_hold : (r : Recording) (k i : ℕ) → Valid r → k < length (vectors_of r) →
+    i < (vector_at (vectors_of r) k).vector.n →
     Holds (total_of r) (edge_at (vector_at (vectors_of r) k) i).to
 totals_hold r k i valid lt within =
     let v = vector_at (vectors_of r) k in
@@ -62,19 +68,23 @@ totals_hold r k i valid lt within =
 
 -- so the least cut is at most the totals
 at_most_totals : (r : Recording) (k : ℕ) (s : Shown) → Valid r → k < length (vectors_of r) →
-    IsLeastShown (others_of (vectors_of r) k) (vector_at (vectors_of r) k) s → (core : ℕ) → counts_in s.cut core ≤ total_of r core
+    IsLeastShown (others_of (vectors_of r) k) (vector_at (vectors_of r) k) s → (core : ℕ) →
+    counts_in s.cut core ≤ total_of r core
 at_most_totals r k s valid lt least core =
     least.least.least (total_of r) (totals_hold r k s.edge valid lt least.shown.within) (totals_closed r k valid) core
 
 -- ---- it can be spelled
 
-shown_stands : (r : Recording) (k : ℕ) (s : Shown) → Valid r → k < length (vectors_of r) → IsFormed (length r.totals) s →
+shown_stands : (r : Recording) (k : ℕ) (s : Shown) → Valid r → k < length (vectors_of r) →
+    IsFormed (length r.totals) s →
     IsLeastShown (others_of (vectors_of r) k) (vector_at (vectors_of r) k) s → ShownStands r.totals tt s
 shown_stands r k s valid lt formed least = record {
   edge = let a = least.shown.within in let b = positions_small r k valid lt in omega (arith, a, b);
   cut = whole;
-  each_core = long ∙ formed.cores_is;
-  most = places-stand (CountStands r.totals) 0 (counts_of s.cut) 0 stands;
+  counts = record {
+    each_core = long ∙ formed.cores_is;
+    most = places-stand (CountStands r.totals) 0 (counts_of s.cut) 0 stands;
+  };
 }
   where
     counts : List ℕ
@@ -95,14 +105,16 @@ shown_stands r k s valid lt formed least = record {
     each : (core : ℕ) → core < CORES_MAX → get_or counts core 0 ≡ slice_index (counts_of s.cut) core
     each core inside = elim (cases_lt core s.cut.cores) [
       | inl less ↦ sym (get_or-take s.cut.cores counts core 0 less)
-      | inr more ↦ past core (let a = formed.cores_is in omega (arith, a, more)) ∙ sym (get_or_past (counts_of s.cut) core 0 (omega (arith, long, more)))
+      | inr more ↦ past core (let a = formed.cores_is in omega (arith, a, more))
+          ∙ sym (get_or_past (counts_of s.cut) core 0 (omega (arith, long, more)))
     ]
 
     filled : counts ≡ (cut_of (counts_of s.cut)).counts
     filled = fill_by_all (λ core. slice_index (counts_of s.cut) core) counts CORES_MAX 0 formed.places each
 
     whole : s.cut ≡ cut_of (counts_of s.cut)
-    whole = ap (λ (l : List ℕ). made s.cut.cores l) filled ∙ ap (λ (n : ℕ). made n (cut_of (counts_of s.cut)).counts) (sym long)
+    whole = ap (λ (l : List ℕ). made s.cut.cores l) filled
+        ∙ ap (λ (n : ℕ). made n (cut_of (counts_of s.cut)).counts) (sym long)
       where
         made : ℕ → List ℕ → Cut
         made n l = record { cores = n; counts = l }
@@ -114,12 +126,15 @@ shown_stands r k s valid lt formed least = record {
         let le = most i in
         subst (λ (c : ℕ). CountStands r.totals c (get_or (counts_of s.cut) i 0)) (sym here) (omega (arith, own, le))
 
-stand_all : (totals : List ℕ) (shown : List Shown) → ((k : ℕ) → k < length shown → ShownStands totals tt (slice_index_or shown k no_shown)) →
+stand_all : (totals : List ℕ) (shown : List Shown) →
+    ((k : ℕ) → k < length shown → ShownStands totals tt (slice_index_or shown k no_shown)) →
     StandInTurn (ShownStands totals) stay tt shown
 stand_all totals [] each = tt
-stand_all totals (s ∷ shown) each = (each 0 (omega arith), stand_all totals shown (λ k lt. each (suc k) (omega (arith, lt))))
+stand_all totals (s ∷ shown) each =
+    (each 0 (omega arith), stand_all totals shown (λ k lt. each (suc k) (omega (arith, lt))))
 
-pub thin_of : (t : Thinned) → Valid t.recording → AreLeastShown (vectors_of t.recording) t.shown → AreFormed (length t.recording.totals) t.shown → IsThin t
+pub thin_of : (t : Thinned) → Valid t.recording → AreLeastShown (vectors_of t.recording) t.shown →
+    AreFormed (length t.recording.totals) t.shown → IsThin t
 thin_of t valid least formed = record {
   recording = valid;
   each_vector = least.all;
@@ -130,7 +145,8 @@ thin_of t valid least formed = record {
 
 -- ---- it is a thinning
 
-pub left_of_kept : (r s : Recording) (stays : List Bool) → Valid r → IsKeptOf r stays s → IsThinned (vectors_of r) (kept (vectors_of r) stays) → IsLeftOf r s
+pub left_of_kept : (r s : Recording) (stays : List Bool) → Valid r → IsKeptOf r stays s →
+    IsThinned (vectors_of r) (kept (vectors_of r) stays) → IsLeftOf r s
 left_of_kept r s stays valid k t = record {
   valid = kept_valid r s stays valid k;
   rest = k.rest;
@@ -149,7 +165,8 @@ same_before r s l x y =
           (both.1 (subst (λ (es : List Edge). Before (Among es) x y) (sym (vectors_are_the_log s)) b)),
     )
 
-pub thinning_of : (r : Recording) (t : Thinned) → Valid r → AreFew r → IsDeterminate Regulated r → IsShownLeft r t → IsThinningOf r t
+pub thinning_of : (r : Recording) (t : Thinned) → Valid r → AreFew r → IsDeterminate Regulated r → IsShownLeft r t →
+    IsThinningOf r t
 thinning_of r t valid few d h =
     let before = same_before r t.recording h.left in
     record {
@@ -171,25 +188,36 @@ few_not_many r few (inr more) = let a = few.positions in omega (arith, a, more)
 
 pub determinate_of : (a : Findings) → a.which ≡ Regulated → PassesOf a → IsDeterminate Regulated a.recording
 determinate_of a which p =
-    let q : Passed Regulated a.recording a.outcome a.accesses = subst (λ (w : Which). Passed w a.recording a.outcome a.accesses) which p in
+    let q : Passed Regulated a.recording a.outcome a.accesses =
+    subst (λ (w : Which). Passed w a.recording a.outcome a.accesses) which p in
     q.determinate
 
 pub refused_is : (r : Recording) (fault : ThinFault) → IsRefusedFor r fault → ThinRefuses r fault
-refused_is r fault h = subst (λ (f : ThinFault). ThinRefuses r f) (sym h.1) (record { vectors_is = refl; edges_is = refl; too_many = h.0 })
+refused_is r fault h = subst (λ (f : ThinFault). ThinRefuses r f) (sym h.1)
+    (record { vectors_is = refl; edges_is = refl; too_many = h.0 })
 
 -- ---- the counts
 
-pub too_many_vectors : (r : Recording) (vectors edges : ℕ) → Valid r → vectors ≡ sum_by (λ (l : List StrideVector). length l) r.regulated →
+pub too_many_vectors : (r : Recording) (vectors edges : ℕ) → Valid r →
+    vectors ≡ sum_by (λ (l : List StrideVector). length l) r.regulated →
     edges ≡ length (regulated_edges r) → VECTORS_MAX < vectors → IsRefusedFor r (TooMany vectors edges)
-too_many_vectors r vectors edges valid v e more = let same = v ∙ sym (vectors_counted r valid) in
-    (inl (omega (arith, more, same)), ap (λ (n : ℕ). TooMany n edges) same ∙ ap (λ (n : ℕ). TooMany (length (vectors_of r)) n) e)
+too_many_vectors r vectors edges valid v e more = let same = v ∙ sym (vectors_counted r valid) in (
+  inl (omega (arith, more, same)),
+  ap (λ (n : ℕ). TooMany n edges) same
+      ∙ ap (λ (n : ℕ). TooMany (length (vectors_of r)) n) e,
+)
 
-pub too_many_positions : (r : Recording) (vectors edges : ℕ) → Valid r → vectors ≡ sum_by (λ (l : List StrideVector). length l) r.regulated →
+pub too_many_positions : (r : Recording) (vectors edges : ℕ) → Valid r →
+    vectors ≡ sum_by (λ (l : List StrideVector). length l) r.regulated →
     edges ≡ length (regulated_edges r) → POSITIONS_MAX < edges → IsRefusedFor r (TooMany vectors edges)
-too_many_positions r vectors edges valid v e more = let same = v ∙ sym (vectors_counted r valid) in
-    (inr (omega (arith, more, e)), ap (λ (n : ℕ). TooMany n edges) same ∙ ap (λ (n : ℕ). TooMany (length (vectors_of r)) n) e)
+too_many_positions r vectors edges valid v e more = let same = v ∙ sym (vectors_counted r valid) in (
+  inr (omega (arith, more, e)),
+  ap (λ (n : ℕ). TooMany n edges) same
+      ∙ ap (λ (n : ℕ). TooMany (length (vectors_of r)) n) e,
+)
 
-pub few_enough : (r : Recording) (vectors edges : ℕ) → Valid r → vectors ≡ sum_by (λ (l : List StrideVector). length l) r.regulated →
+pub few_enough : (r : Recording) (vectors edges : ℕ) → Valid r →
+    vectors ≡ sum_by (λ (l : List StrideVector). length l) r.regulated →
     edges ≡ length (regulated_edges r) → vectors ≤ VECTORS_MAX → edges ≤ POSITIONS_MAX → AreFew r
 few_enough r vectors edges valid v e few_v few_e = let same = v ∙ sym (vectors_counted r valid) in
     record { vectors = omega (arith, few_v, same); positions = omega (arith, few_e, e) }

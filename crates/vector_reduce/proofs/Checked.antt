@@ -1,5 +1,6 @@
 -- What a check of a cut looks at.
-use Rattle.std.proofs.Common.{◌≡◌, ◌≢◌, ℕ, ◌+◌, ◌-◌, ◌*◌, ◌/◌, ◌<◌, ◌≤◌, ◌⊎◌, ◌↔◌, inl, inr, List, length, min, sym, ap, subst, ◌∙◌, arith}
+use Rattle.std.proofs.Common.{◌≡◌, ◌≢◌, ℕ, ◌+◌, ◌-◌, ◌*◌, ◌/◌, ◌<◌, ◌≤◌, ◌⊎◌, ◌↔◌, inl, inr, List, length, min, sym, ap}
+use Rattle.std.proofs.Common.{subst, ◌∙◌, arith}
 use Rattle.std.proofs.Math.Nat.{mul-le-mul_left}
 use Rattle.std.proofs.lemmas.Nat.{div-add-mod', le-div}
 use Rattle.rtr_types.specs.declared.cut.Cut.{Cut}
@@ -32,7 +33,8 @@ pub last_of_more : (v : StrideVector) (most : ℕ) → IsVector v → v.b0 ≤ m
     IsLastWithin v most (min (v.n - 1) ((most - v.b0) / v.sb))
 last_of_more v most vector first more = record {
   within = omega (arith, some, least);
-  target = let b = below-div (min (v.n - 1) ((most - v.b0) / v.sb)) (most - v.b0) v.sb rises quotient in omega (arith, b, first);
+  target = let b = below-div (min (v.n - 1) ((most - v.b0) / v.sb)) (most - v.b0) v.sb rises quotient in
+      omega (arith, b, first);
   last = λ k lt le. last k lt le;
 }
   where
@@ -55,10 +57,12 @@ last_of_more v most vector first more = record {
     under k m n a b = grind arith
 
     last : (k : ℕ) → k < v.n → (position_of v k).1 ≤ most → k ≤ min (v.n - 1) ((most - v.b0) / v.sb)
-    last k lt le = under k (v.n - 1) ((most - v.b0) / v.sb) (omega (arith, lt)) (le-div k (most - v.b0) v.sb rises (omega (arith, le)))
+    last k lt le = under k (v.n - 1) ((most - v.b0) / v.sb) (omega (arith, lt))
+        (le-div k (most - v.b0) v.sb rises (omega (arith, le)))
 
 -- no target lies in the cut
-pub none_within : (v : PairVector) (cut : Cut) → counts_in cut v.to < v.vector.b0 → IsClosed (edges_in v) (counts_in cut)
+pub none_within : (v : PairVector) (cut : Cut) → counts_in cut v.to < v.vector.b0 →
+    IsClosed (edges_in v) (counts_in cut)
 none_within v cut less x y among held =
     let e = edge_among v x y among in
     let count : (edge_at v e.0).to.count ≡ y.count = ap (λ (i : Instr). i.count) e.3 in
@@ -68,7 +72,8 @@ none_within v cut less x y among held =
 -- the last one decides
 pub last_decides : (v : PairVector) (cut : Cut) (position : ℕ) → IsLastWithin v.vector (counts_in cut v.to) position →
     Holds (counts_in cut) (edge_at v position).from ↔ IsClosed (edges_in v) (counts_in cut)
-last_decides v cut position last = (closed, λ c. c (edge_at v position).from (edge_at v position).to (among_edge v position last.within) last.target)
+last_decides v cut position last =
+    (closed, λ c. c (edge_at v position).from (edge_at v position).to (among_edge v position last.within) last.target)
   where
     closed : Holds (counts_in cut) (edge_at v position).from → IsClosed (edges_in v) (counts_in cut)
     closed source x y among held =
@@ -88,7 +93,8 @@ closed_others vs number cut each x y among held =
     let o = others_among vs number x y among in
     each o.0 o.1 o.2 x y o.3 held
 
-pub others_closed : (vs : List PairVector) (number j : ℕ) (cut : Cut) → IsClosed (edges_of_all (others_of vs number)) (counts_in cut) →
+pub others_closed : (vs : List PairVector) (number j : ℕ) (cut : Cut) →
+    IsClosed (edges_of_all (others_of vs number)) (counts_in cut) →
     j < length vs → j ≢ number → IsClosed (edges_in (vector_at vs j)) (counts_in cut)
 others_closed vs number j cut closed lt ne x y among held = closed x y (among_others vs number j x y lt ne among) held
 
@@ -103,4 +109,5 @@ closed_more vs number other cut before here j less ne = by (split j other less)
 
     by : (j < other) ⊎ (j ≡ other) → IsClosed (edges_in (vector_at vs j)) (counts_in cut)
     by (inl lt) = before j lt ne
-    by (inr e) = subst (λ (i : ℕ). IsClosed (edges_in (vector_at vs i)) (counts_in cut)) (sym e) (here (λ f. ne (e ∙ f)))
+    by (inr e) = subst (λ (i : ℕ). IsClosed (edges_in (vector_at vs i)) (counts_in cut)) (sym e)
+        (here (λ f. ne (e ∙ f)))

@@ -1,5 +1,6 @@
 -- Which edges some vectors have.
-use Rattle.std.proofs.Common.{◌≡◌, ◌≢◌, ℕ, zero, suc, ◌<◌, ◌⊎◌, inl, inr, List, [], ◌∷◌, ◌++◌, length, refl, sym, ap, subst, ◌∙◌, true}
+use Rattle.std.proofs.Common.{◌≡◌, ◌≢◌, ℕ, zero, suc, ◌<◌, ◌⊎◌, inl, inr, List, [], ◌∷◌, ◌++◌, length, refl, sym, ap}
+use Rattle.std.proofs.Common.{subst, ◌∙◌, true}
 use Rattle.std.proofs.Common.{false}
 use Rattle.std.proofs.Common.{arith}
 use Rattle.std.specs.Prelude.{Bool, map, slice_index_or}
@@ -20,35 +21,45 @@ use Rattle.log_codec.specs.Sources.{edge_between, edges_at, log_edges}
 use Rattle.log_codec.proofs.Looked.{contains-map, map-contains}
 use Rattle.vector_reduce.specs.declared.pair_vector.PairVector.{PairVector}
 use Rattle.vector_reduce.specs.Kept.{beside, is_beside}
-use Rattle.vector_reduce.specs.Vectors.{edge_at, edges_in, edges_of_all, led_between, pair_vectors, vectors_of, vector_at, others_of, VectorsAreTheLog}
+use Rattle.vector_reduce.specs.Vectors.{edge_at, edges_in, edges_of_all, led_between, pair_vectors, vectors_of}
+use Rattle.vector_reduce.specs.Vectors.{vector_at, others_of, VectorsAreTheLog}
 
 -- ---- joined lists
 
 pub joined_all : (vs ws : List PairVector) → edges_of_all (vs ++ ws) ≡ edges_of_all vs ++ edges_of_all ws
 joined_all vs ws = flat_map-append edges_in vs ws
 
-pub all_left : (vs ws : List PairVector) (x y : Instr) → Among (edges_of_all vs) x y → Among (edges_of_all (vs ++ ws)) x y
-all_left vs ws x y a = subst (λ (es : List Edge). Among es x y) (sym (joined_all vs ws)) (among_left (edges_of_all vs) (edges_of_all ws) x y a)
+pub all_left : (vs ws : List PairVector) (x y : Instr) → Among (edges_of_all vs) x y →
+    Among (edges_of_all (vs ++ ws)) x y
+all_left vs ws x y a = subst (λ (es : List Edge). Among es x y) (sym (joined_all vs ws))
+    (among_left (edges_of_all vs) (edges_of_all ws) x y a)
 
-pub all_right : (vs ws : List PairVector) (x y : Instr) → Among (edges_of_all ws) x y → Among (edges_of_all (vs ++ ws)) x y
-all_right vs ws x y a = subst (λ (es : List Edge). Among es x y) (sym (joined_all vs ws)) (among_right (edges_of_all vs) (edges_of_all ws) x y a)
+pub all_right : (vs ws : List PairVector) (x y : Instr) → Among (edges_of_all ws) x y →
+    Among (edges_of_all (vs ++ ws)) x y
+all_right vs ws x y a = subst (λ (es : List Edge). Among es x y) (sym (joined_all vs ws))
+    (among_right (edges_of_all vs) (edges_of_all ws) x y a)
 
-pub all_cases : (vs ws : List PairVector) (x y : Instr) → Among (edges_of_all (vs ++ ws)) x y → Among (edges_of_all vs) x y ⊎ Among (edges_of_all ws) x y
-all_cases vs ws x y a = among_cases (edges_of_all vs) (edges_of_all ws) x y (subst (λ (es : List Edge). Among es x y) (joined_all vs ws) a)
+pub all_cases : (vs ws : List PairVector) (x y : Instr) → Among (edges_of_all (vs ++ ws)) x y →
+    Among (edges_of_all vs) x y ⊎ Among (edges_of_all ws) x y
+all_cases vs ws x y a = among_cases (edges_of_all vs) (edges_of_all ws) x y
+    (subst (λ (es : List Edge). Among es x y) (joined_all vs ws) a)
 
 -- ---- one of the vectors has the edge
 
-pub all_among : (vs : List PairVector) (x y : Instr) → Among (edges_of_all vs) x y → (j : ℕ) × (j < length vs) × Among (edges_in (vector_at vs j)) x y
+pub all_among : (vs : List PairVector) (x y : Instr) → Among (edges_of_all vs) x y → (j : ℕ) × (j < length vs) ×
+    Among (edges_in (vector_at vs j)) x y
 all_among [] x y a = absurd a
 all_among (v ∷ vs) x y a = elim (among_cases (edges_in v) (edges_of_all vs) x y a) [
   | inl b ↦ (0, omega arith, b)
   | inr b ↦ let r = all_among vs x y b in (suc r.0, omega (arith, r.1), r.2)
 ]
 
-pub among_all : (vs : List PairVector) (j : ℕ) (x y : Instr) → j < length vs → Among (edges_in (vector_at vs j)) x y → Among (edges_of_all vs) x y
+pub among_all : (vs : List PairVector) (j : ℕ) (x y : Instr) → j < length vs → Among (edges_in (vector_at vs j)) x y →
+    Among (edges_of_all vs) x y
 among_all [] j x y lt a = absurd (omega (arith, lt))
 among_all (v ∷ vs) zero x y lt a = among_left (edges_in v) (edges_of_all vs) x y a
-among_all (v ∷ vs) (suc j) x y lt a = among_right (edges_in v) (edges_of_all vs) x y (among_all vs j x y (omega (arith, lt)) a)
+among_all (v ∷ vs) (suc j) x y lt a =
+    among_right (edges_in v) (edges_of_all vs) x y (among_all vs j x y (omega (arith, lt)) a)
 
 -- ---- all vectors but one
 
@@ -56,24 +67,28 @@ pub others_among : (vs : List PairVector) (k : ℕ) (x y : Instr) → Among (edg
     (j : ℕ) × (j < length vs) × (j ≢ k) × Among (edges_in (vector_at vs j)) x y
 others_among [] zero x y a = absurd a
 others_among [] (suc k) x y a = absurd a
-others_among (v ∷ vs) zero x y a = let r = all_among vs x y a in (suc r.0, omega (arith, r.1), (λ e. absurd (omega (arith, e))), r.2)
+others_among (v ∷ vs) zero x y a = let r = all_among vs x y a in
+    (suc r.0, omega (arith, r.1), (λ e. absurd (omega (arith, e))), r.2)
 others_among (v ∷ vs) (suc k) x y a = elim (among_cases (edges_in v) (edges_of_all (others_of vs k)) x y a) [
   | inl b ↦ (0, omega arith, (λ e. absurd (omega (arith, e))), b)
   | inr b ↦ let r = others_among vs k x y b in (suc r.0, omega (arith, r.1), (λ e. r.2 (omega (arith, e))), r.3)
 ]
 
-pub among_others : (vs : List PairVector) (k j : ℕ) (x y : Instr) → j < length vs → j ≢ k → Among (edges_in (vector_at vs j)) x y →
+pub among_others : (vs : List PairVector) (k j : ℕ) (x y : Instr) → j < length vs → j ≢ k →
+    Among (edges_in (vector_at vs j)) x y →
     Among (edges_of_all (others_of vs k)) x y
 among_others [] k j x y lt ne a = absurd (omega (arith, lt))
 among_others (v ∷ vs) zero zero x y lt ne a = absurd (ne refl)
 among_others (v ∷ vs) zero (suc j) x y lt ne a = among_all vs j x y (omega (arith, lt)) a
 among_others (v ∷ vs) (suc k) zero x y lt ne a = among_left (edges_in v) (edges_of_all (others_of vs k)) x y a
 among_others (v ∷ vs) (suc k) (suc j) x y lt ne a =
-    among_right (edges_in v) (edges_of_all (others_of vs k)) x y (among_others vs k j x y (omega (arith, lt)) (λ e. ne (ap suc e)) a)
+    among_right (edges_in v) (edges_of_all (others_of vs k)) x y
+    (among_others vs k j x y (omega (arith, lt)) (λ e. ne (ap suc e)) a)
 
 -- ---- the others of the one that is tried
 
-pub beside_among : (vs : List PairVector) (stays : List Bool) (x y : Instr) → Among (edges_of_all (beside vs stays)) x y →
+pub beside_among : (vs : List PairVector) (stays : List Bool) (x y : Instr) →
+    Among (edges_of_all (beside vs stays)) x y →
     (j : ℕ) × (j < length vs) × (is_beside stays j ≡ true) × Among (edges_in (vector_at vs j)) x y
 beside_among [] [] x y a = absurd a
 beside_among [] (b ∷ stays) x y a = absurd a
@@ -82,9 +97,11 @@ beside_among (v ∷ vs) (true ∷ stays) x y a = elim (among_cases (edges_in v) 
   | inl b ↦ (0, omega arith, refl, b)
   | inr b ↦ let r = beside_among vs stays x y b in (suc r.0, omega (arith, r.1), r.2, r.3)
 ]
-beside_among (v ∷ vs) (false ∷ stays) x y a = let r = beside_among vs stays x y a in (suc r.0, omega (arith, r.1), r.2, r.3)
+beside_among (v ∷ vs) (false ∷ stays) x y a = let r = beside_among vs stays x y a in
+    (suc r.0, omega (arith, r.1), r.2, r.3)
 
-pub among_beside : (vs : List PairVector) (stays : List Bool) (j : ℕ) (x y : Instr) → j < length vs → is_beside stays j ≡ true →
+pub among_beside : (vs : List PairVector) (stays : List Bool) (j : ℕ) (x y : Instr) → j < length vs →
+    is_beside stays j ≡ true →
     Among (edges_in (vector_at vs j)) x y → Among (edges_of_all (beside vs stays)) x y
 among_beside [] stays j x y lt is a = absurd (omega (arith, lt))
 among_beside (v ∷ vs) [] zero x y lt is a = absurd cc
@@ -103,14 +120,16 @@ among_edge v k lt =
     let placed = edges-placed v.vector in
     let there : Contains (edges_of v.vector) (position_of v.vector k) =
     (k, subst (λ (n : ℕ). k < n) (sym placed.0) lt, placed.1 k (position_of v.vector k) lt) in
-    contains_among (edges_in v) (edge_at v k).from (edge_at v k).to (contains-map (edge_between v.from v.to) (edges_of v.vector) (position_of v.vector k) there)
+    contains_among (edges_in v) (edge_at v k).from (edge_at v k).to
+    (contains-map (edge_between v.from v.to) (edges_of v.vector) (position_of v.vector k) there)
 
 -- and no other
 pub edge_among : (v : PairVector) (x y : Instr) → Among (edges_in v) x y →
     (k : ℕ) × (k < v.vector.n) × ((edge_at v k).from ≡ x) × ((edge_at v k).to ≡ y)
 edge_among v x y a =
     let placed = edges-placed v.vector in
-    let m = map-contains (edge_between v.from v.to) (edges_of v.vector) (0, 0) (record { from = x; to = y }) (among_contains (edges_in v) x y a) in
+    let m = map-contains (edge_between v.from v.to) (edges_of v.vector) (0, 0) (record { from = x; to = y })
+    (among_contains (edges_in v) x y a) in
     let k = m.1.0 in
     let lt : k < v.vector.n = subst (λ (n : ℕ). k < n) placed.0 m.1.1 in
     let at : position_of v.vector k ≡ m.0 = sym (placed.1 k m.0 lt) ∙ m.1.2 in
@@ -119,13 +138,15 @@ edge_among v x y a =
 
 -- ---- the log
 
-pair_log : (from to : ℕ) (vs : List StrideVector) → edges_of_all (map (led_between from to) vs) ≡ map (edge_between from to) (flat_map edges_of vs)
+pair_log : (from to : ℕ) (vs : List StrideVector) →
+    edges_of_all (map (led_between from to) vs) ≡ map (edge_between from to) (flat_map edges_of vs)
 pair_log from to [] = refl
 pair_log from to (v ∷ vs) =
     ap (λ (l : List Edge). map (edge_between from to) (edges_of v) ++ l) (pair_log from to vs)
     ∙ sym (map-append (edge_between from to) (edges_of v) (flat_map edges_of vs))
 
-log_of_places : (r : Recording) (places : List ℕ) → edges_of_all (flat_map (pair_vectors r) places) ≡ flat_map (edges_at Regulated r) places
+log_of_places : (r : Recording) (places : List ℕ) →
+    edges_of_all (flat_map (pair_vectors r) places) ≡ flat_map (edges_at Regulated r) places
 log_of_places r [] = refl
 log_of_places r (p ∷ ps) =
     joined_all (pair_vectors r p) (flat_map (pair_vectors r) ps)

@@ -1,5 +1,6 @@
 -- The edges into a core, gathered vector by vector and then sorted.
-use Rattle.std.proofs.Common.{◌≡◌, ◌≢◌, ℕ, suc, ◌+◌, ◌<◌, ◌≤◌, ◌⊎◌, inl, inr, List, [], ◌++◌, length, get_or, sym, ap, subst, ◌∙◌}
+use Rattle.std.proofs.Common.{◌≡◌, ◌≢◌, ℕ, suc, ◌+◌, ◌<◌, ◌≤◌, ◌⊎◌, inl, inr, List, [], ◌++◌, length, get_or, sym, ap}
+use Rattle.std.proofs.Common.{subst, ◌∙◌}
 use Rattle.std.proofs.Common.{arith}
 use Rattle.std.specs.List.{Contains, range_with_len}
 use Rattle.std.specs.List.Sorted.{IsNonDecreasingBy, IsPermutation}
@@ -19,16 +20,22 @@ use Rattle.vector_reduce.proofs.Edges.{among_edge, edge_among}
 -- the edges of the first n vectors into the core
 pub record Gathers (vs : List PairVector) (core n : ℕ) (list : List Arrival) : Type 0 where
   pub each : (a : Arrival) → Contains list a → Arrives vs core a
-  pub all : (j : ℕ) (x y : Instr) → j < n → j < length vs → Among (edges_in (vector_at vs j)) x y → y.core ≡ core → Contains list (arrival x y.count j)
+  pub all : (j : ℕ) (x y : Instr) → j < n → j < length vs → Among (edges_in (vector_at vs j)) x y → y.core ≡ core →
+      Contains list (arrival x y.count j)
 
 pub gathers_none : (vs : List PairVector) (core : ℕ) → Gathers vs core 0 []
-gathers_none vs core = record { each = λ a has. absurd (let lt = has.1 in omega (arith, lt)); all = λ j x y lt. absurd (omega (arith, lt)) }
+gathers_none vs core = record {
+  each = λ a has. absurd (let lt = has.1 in omega (arith, lt));
+  all =
+      λ j x y lt. absurd (omega (arith, lt));
+}
 
 nothing_below : (a b : ℕ) → a < suc b → (a < b) ⊎ (a ≡ b)
 nothing_below a b h = grind arith
 
 -- the arrivals of one vector are its edges
-own_arrives : (vs : List PairVector) (core n : ℕ) (a : Arrival) → n < length vs → (vector_at vs n).to ≡ core → Contains (arrivals_in n (vector_at vs n)) a →
+own_arrives : (vs : List PairVector) (core n : ℕ) (a : Arrival) → n < length vs → (vector_at vs n).to ≡ core →
+    Contains (arrivals_in n (vector_at vs n)) a →
     Arrives vs core a
 own_arrives vs core n a lt into has =
     let v = vector_at vs n in
@@ -40,24 +47,31 @@ own_arrives vs core n a lt into has =
     let inside : m.0 < v.vector.n = omega (arith, within, is) in
     subst (λ (b : Arrival). Arrives vs core b) m.2 (record {
       vector = lt;
-      edge = subst (λ (c : ℕ). Among (edges_in v) (edge_at v m.0).from (record { core = c; count = (edge_at v m.0).to.count })) into (among_edge v m.0 inside);
+      edge = subst (λ (c : ℕ). Among (edges_in v) (edge_at v m.0).from
+          (record { core = c; count = (edge_at v m.0).to.count })) into (among_edge v m.0 inside);
     })
 
-own_all : (vs : List PairVector) (n : ℕ) (x y : Instr) → Among (edges_in (vector_at vs n)) x y → Contains (arrivals_in n (vector_at vs n)) (arrival x y.count n)
+own_all : (vs : List PairVector) (n : ℕ) (x y : Instr) → Among (edges_in (vector_at vs n)) x y →
+    Contains (arrivals_in n (vector_at vs n)) (arrival x y.count n)
 own_all vs n x y among =
     let v = vector_at vs n in
     let e = edge_among v x y among in
     let k = e.0 in
-    let there : k < length (range_with_len 0 v.vector.n) = subst (λ (i : ℕ). k < i) (sym (length-range_with_len 0 v.vector.n)) e.1 in
+    let there : k < length (range_with_len 0 v.vector.n) =
+    subst (λ (i : ℕ). k < i) (sym (length-range_with_len 0 v.vector.n)) e.1 in
     let plus : 0 + k ≡ k = omega arith in
-    let has : Contains (range_with_len 0 v.vector.n) k = (k, there, get_or-range_with_len 0 v.vector.n k k e.1 ∙ plus) in
+    let has : Contains (range_with_len 0 v.vector.n) k =
+    (k, there, get_or-range_with_len 0 v.vector.n k k e.1 ∙ plus) in
     let is : arrival_of n v k ≡ arrival x y.count n =
     ap (λ (i : Instr). arrival i (edge_at v k).to.count n) e.2 ∙ ap (λ (i : Instr). arrival x i.count n) e.3 in
-    subst (λ (b : Arrival). Contains (arrivals_in n v) b) is (contains-map (arrival_of n v) (range_with_len 0 v.vector.n) k has)
+    subst (λ (b : Arrival). Contains (arrivals_in n v) b) is
+    (contains-map (arrival_of n v) (range_with_len 0 v.vector.n) k has)
 
-pub gathers_more : (vs : List PairVector) (core n : ℕ) (list new : List Arrival) → n < length vs → (vector_at vs n).to ≡ core →
+pub gathers_more : (vs : List PairVector) (core n : ℕ) (list new : List Arrival) → n < length vs →
+    (vector_at vs n).to ≡ core →
     new ≡ list ++ arrivals_in n (vector_at vs n) → Gathers vs core n list → Gathers vs core (n + 1) new
-gathers_more vs core n list new lt into is g = subst (λ (l : List Arrival). Gathers vs core (n + 1) l) (sym is) (record { each = each; all = all })
+gathers_more vs core n list new lt into is g =
+    subst (λ (l : List Arrival). Gathers vs core (n + 1) l) (sym is) (record { each = each; all = all })
   where
     own : List Arrival
     own = arrivals_in n (vector_at vs n)
@@ -75,25 +89,32 @@ gathers_more vs core n list new lt into is g = subst (λ (l : List Arrival). Gat
         by : (j < n) ⊎ (j ≡ n) → Contains (list ++ own) (arrival x y.count j)
         by (inl before) = Contains-append_left list own (arrival x y.count j) (g.all j x y before inside among e)
         by (inr same) = subst (λ (i : ℕ). Contains (list ++ own) (arrival x y.count i)) (sym same)
-            (Contains-append_right list own (arrival x y.count n) (own_all vs n x y (subst (λ (i : ℕ). Among (edges_in (vector_at vs i)) x y) same among)))
+            (Contains-append_right list own (arrival x y.count n)
+            (own_all vs n x y (subst (λ (i : ℕ). Among (edges_in (vector_at vs i)) x y) same among)))
 
-pub gathers_past : (vs : List PairVector) (core n : ℕ) (list : List Arrival) → (vector_at vs n).to ≢ core → Gathers vs core n list →
+pub gathers_past : (vs : List PairVector) (core n : ℕ) (list : List Arrival) → (vector_at vs n).to ≢ core →
+    Gathers vs core n list →
     Gathers vs core (n + 1) list
 gathers_past vs core n list other g = record { each = g.each; all = all }
   where
-    all : (j : ℕ) (x y : Instr) → j < n + 1 → j < length vs → Among (edges_in (vector_at vs j)) x y → y.core ≡ core → Contains list (arrival x y.count j)
+    all : (j : ℕ) (x y : Instr) → j < n + 1 → j < length vs → Among (edges_in (vector_at vs j)) x y → y.core ≡ core →
+        Contains list (arrival x y.count j)
     all j x y less inside among e = by (nothing_below j n (omega (arith, less)))
       where
         by : (j < n) ⊎ (j ≡ n) → Contains list (arrival x y.count j)
         by (inl before) = g.all j x y before inside among e
         by (inr same) =
-            let edge = edge_among (vector_at vs n) x y (subst (λ (i : ℕ). Among (edges_in (vector_at vs i)) x y) same among) in
+            let edge = edge_among (vector_at vs n) x y
+            (subst (λ (i : ℕ). Among (edges_in (vector_at vs i)) x y) same among) in
             absurd (other (ap (λ (i : Instr). i.core) edge.3 ∙ e))
 
-pub are_into : (vs : List PairVector) (core n : ℕ) (list sorted : List Arrival) → length vs ≤ n → Gathers vs core n list → IsPermutation list sorted →
+pub are_into : (vs : List PairVector) (core n : ℕ) (list sorted : List Arrival) → length vs ≤ n →
+    Gathers vs core n list → IsPermutation list sorted →
     IsNonDecreasingBy (λ (a : Arrival). a.count) sorted → AreInto vs core sorted
 are_into vs core n list sorted past g p rise = record {
-  each = All-permutation (Arrives vs core) list sorted p (λ k d lt. g.each (get_or list k d) (k, lt, get_or_default list k (get_or list k d) d lt));
-  all = λ j x y lt among e. Contains-permutation list sorted (arrival x y.count j) p (g.all j x y (omega (arith, lt, past)) lt among e);
+  each = All-permutation (Arrives vs core) list sorted p
+      (λ k d lt. g.each (get_or list k d) (k, lt, get_or_default list k (get_or list k d) d lt));
+  all = λ j x y lt among e. Contains-permutation list sorted (arrival x y.count j) p
+      (g.all j x y (omega (arith, lt, past)) lt among e);
   rise = rise;
 }

@@ -18,7 +18,8 @@ use Rattle.vector_reduce.specs.declared.pair_vector.PairVector.{PairVector}
 use Rattle.vector_reduce.specs.declared.thinned.Shown.{Shown}
 use Rattle.rtr_types.specs.declared.pairs.Which.{Which}
 
-pub audit_refuses : (t : Thinned) (fault : AuditFault) → AuditRefuses Regulated t.recording fault → ThinCheckRefuses t (fault_of_audit fault)
+pub audit_refuses : (t : Thinned) (fault : AuditFault) → AuditRefuses Regulated t.recording fault →
+    ThinCheckRefuses t (fault_of_audit fault)
 audit_refuses t (audits.Stuck cut) h = record { refused = h; not_memory = λ e. absurd cc }
 audit_refuses t (audits.Short core count) h = record { refused = h; not_memory = λ e. absurd cc }
 audit_refuses t (audits.Undetermined first second) h = record { refused = h; not_memory = λ e. absurd cc }
@@ -27,30 +28,39 @@ audit_refuses t audits.OutOfMemory h = tt
 pub audit_complete : (r : Recording) (fault : AuditFault) → IsDeterminate Regulated r → AuditRefuses Regulated r fault →
     fault_of_audit fault ≡ checks.OutOfMemory
 audit_complete r (audits.Stuck cut) d h = absurd (refused_law Regulated r (audits.Stuck cut) h (λ e. absurd cc) d)
-audit_complete r (audits.Short core count) d h = absurd (refused_law Regulated r (audits.Short core count) h (λ e. absurd cc) d)
-audit_complete r (audits.Undetermined first second) d h = absurd (refused_law Regulated r (audits.Undetermined first second) h (λ e. absurd cc) d)
+audit_complete r (audits.Short core count) d h =
+    absurd (refused_law Regulated r (audits.Short core count) h (λ e. absurd cc) d)
+audit_complete r (audits.Undetermined first second) d h =
+    absurd (refused_law Regulated r (audits.Undetermined first second) h (λ e. absurd cc) d)
 audit_complete r audits.OutOfMemory d h = refl
 
 pub audited_is : (r : Recording) (a : Findings) → IsAuditOf Regulated r a → IsDeterminate Regulated r
 audited_is r a h =
-    let p : Passed Regulated a.recording a.outcome a.accesses = subst (λ (w : Which). Passed w a.recording a.outcome a.accesses) h.which_is h.passed in
+    let p : Passed Regulated a.recording a.outcome a.accesses =
+    subst (λ (w : Which). Passed w a.recording a.outcome a.accesses) h.which_is h.passed in
     subst (λ (q : Recording). IsDeterminate Regulated q) h.recording_is p.determinate
 
-pub accepted : (t : Thinned) → IsDeterminate Regulated t.recording → FirstNotShown (vectors_of t.recording) t.shown None → IsAccepted t
+pub accepted : (t : Thinned) → IsDeterminate Regulated t.recording →
+    FirstNotShown (vectors_of t.recording) t.shown None → IsAccepted t
 accepted t d all = record {
   determinate = d;
-  needed = λ k lt. shown_is_needed (others_of (vectors_of t.recording) k) (vector_at (vectors_of t.recording) k) (slice_index_or t.shown k no_shown) (all k lt);
+  needed = λ k lt. shown_is_needed (others_of (vectors_of t.recording) k) (vector_at (vectors_of t.recording) k)
+      (slice_index_or t.shown k no_shown) (all k lt);
   shown = all;
 }
 
-pub not_accepted : (t : Thinned) (number : ℕ) → IsDeterminate Regulated t.recording → FirstNotShown (vectors_of t.recording) t.shown (Some number) →
+pub not_accepted : (t : Thinned) (number : ℕ) → IsDeterminate Regulated t.recording →
+    FirstNotShown (vectors_of t.recording) t.shown (Some number) →
     ThinCheckRefuses t (checks.NotShown (number + 1))
-not_accepted t number d first = record { determinate = d; before = number; number = refl; within = first.0; not_shown = first.1; first = first.2 }
+not_accepted t number d first =
+    record { determinate = d; before = number; number = refl; within = first.0; not_shown = first.1; first = first.2 }
 
-pub shown_is_accepted : (t : Thinned) (number : ℕ) → EachShown t → FirstNotShown (vectors_of t.recording) t.shown (Some number) → ⊥
+pub shown_is_accepted : (t : Thinned) (number : ℕ) → EachShown t →
+    FirstNotShown (vectors_of t.recording) t.shown (Some number) → ⊥
 shown_is_accepted t number all first = first.1 (all number first.0)
 
-pub first_fits : (vs : List PairVector) (shown : List Shown) (o : Option ℕ) → FirstNotShown vs shown o → length vs < 2 ^ 32 - 1 →
+pub first_fits : (vs : List PairVector) (shown : List Shown) (o : Option ℕ) → FirstNotShown vs shown o →
+    length vs < 2 ^ 32 - 1 →
     IfSome o (λ number. number < 2 ^ 32 - 1)
 first_fits vs shown None first few = tt
 first_fits vs shown (Some number) first few = let lt = first.0 in omega (arith, lt, few)

@@ -1,5 +1,6 @@
 -- Vectors that are kept, and the recording with them.
-use Rattle.std.proofs.Common.{◌≡◌, ℕ, zero, suc, ◌+◌, ◌-◌, ◌*◌, ◌<◌, ◌≤◌, ◌^◌, List, [], ◌∷◌, ◌++◌, length, drop, get_or, cond, refl}
+use Rattle.std.proofs.Common.{◌≡◌, ℕ, zero, suc, ◌+◌, ◌-◌, ◌*◌, ◌<◌, ◌≤◌, ◌^◌, List, [], ◌∷◌, ◌++◌, length, drop}
+use Rattle.std.proofs.Common.{get_or, cond, refl}
 use Rattle.std.proofs.Common.{sym, ap, subst, ◌∙◌, true, false}
 use Rattle.std.proofs.Common.{append-nil, arith}
 use Rattle.std.specs.Prelude.{All, Bool, map, sum_by}
@@ -79,13 +80,15 @@ by_place : (cores from : ℕ) (lists : List (List StrideVector)) (g : ℕ → Li
 by_place cores from [] g same = refl
 by_place cores from (vs ∷ lists) g same =
     let none : from + 0 ≡ from = omega arith in
-    let first : g from ≡ map (led_at cores from) vs = subst (λ (p : ℕ). g p ≡ map (led_at cores p) vs) none (same 0 (omega arith)) in
+    let first : g from ≡ map (led_at cores from) vs =
+    subst (λ (p : ℕ). g p ≡ map (led_at cores p) vs) none (same 0 (omega arith)) in
     let others = by_place cores (from + 1) lists g (λ k lt. let place : from + suc k ≡ from + 1 + k = omega arith in
     subst (λ (p : ℕ). g p ≡ map (led_at cores p) (get_or lists k [])) place (same (suc k) (omega (arith, lt)))) in
     ap (λ (l : List PairVector). l ++ flat_map g (range_with_len (from + 1) (length lists))) first
     ∙ ap (λ (l : List PairVector). map (led_at cores from) vs ++ l) others
 
-pub vectors_are : (r : Recording) → length r.regulated ≡ pair_count r.params.cores → vectors_of r ≡ vectors_from r.params.cores 0 r.regulated
+pub vectors_are : (r : Recording) → length r.regulated ≡ pair_count r.params.cores →
+    vectors_of r ≡ vectors_from r.params.cores 0 r.regulated
 unfolding vectors_of
 vectors_are r all =
     ap (λ (n : ℕ). flat_map (pair_vectors r) (range_with_len 0 n)) (sym all)
@@ -96,10 +99,12 @@ kept_from : (cores place : ℕ) (lists : List (List StrideVector)) (stays : List
     vectors_from cores place (kept_lists lists stays) ≡ kept (vectors_from cores place lists) stays
 kept_from cores place [] stays = refl
 kept_from cores place (vs ∷ lists) stays =
-    ap (λ (l : List PairVector). map (led_at cores place) (kept vs stays) ++ l) (kept_from cores (place + 1) lists (drop (length vs) stays))
+    ap (λ (l : List PairVector). map (led_at cores place) (kept vs stays) ++ l)
+    (kept_from cores (place + 1) lists (drop (length vs) stays))
     ∙ sym (kept_joined (led_at cores place) vs (vectors_from cores (place + 1) lists) stays)
 
-count_from : (cores place : ℕ) (lists : List (List StrideVector)) → length (vectors_from cores place lists) ≡ sum_by (λ vs. length vs) lists
+count_from : (cores place : ℕ) (lists : List (List StrideVector)) →
+    length (vectors_from cores place lists) ≡ sum_by (λ vs. length vs) lists
 count_from cores place [] = refl
 count_from cores place (vs ∷ lists) =
     let both = length-append (map (led_at cores place) vs) (vectors_from cores (place + 1) lists) in
@@ -116,7 +121,8 @@ vectors_counted r valid = ap length (vectors_are r valid.each_regulated) ∙ cou
 abbrev Below : ℕ × ℕ → ℕ × ℕ → Type 0
 Below a b = (a.0 ≤ b.0) × (a.1 ≤ b.1)
 
-stands_lower : (most last lower : ℕ × ℕ) (v : StrideVector) → Below lower last → VectorStands most last v → VectorStands most lower v
+stands_lower : (most last lower : ℕ × ℕ) (v : StrideVector) → Below lower last → VectorStands most last v →
+    VectorStands most lower v
 stands_lower most last lower v below h = record {
   some = h.some;
   source_rises = let a = h.source_rises in let b = below.0 in omega (arith, a, b);
@@ -129,7 +135,8 @@ stands_lower most last lower v below h = record {
   target_most = h.target_most;
 }
 
-ends_higher : (most last lower : ℕ × ℕ) (v : StrideVector) → Below lower last → VectorStands most last v → Below lower (last_of v)
+ends_higher : (most last lower : ℕ × ℕ) (v : StrideVector) → Below lower last → VectorStands most last v →
+    Below lower (last_of v)
 ends_higher most last lower v below h =
     let a = h.source_rises in
     let b = h.target_rises in
@@ -144,9 +151,12 @@ kept_stand : (most last lower : ℕ × ℕ) (vs : List StrideVector) (stays : Li
     StandInTurn (VectorStands most) end_of last vs → StandInTurn (VectorStands most) end_of lower (kept vs stays)
 kept_stand most last lower [] stays below h = tt
 kept_stand most last lower (v ∷ vs) [] below h = tt
-kept_stand most last lower (v ∷ vs) (true ∷ stays) below h =
-    (stands_lower most last lower v below h.0, kept_stand most (last_of v) (last_of v) vs stays (same_below (last_of v)) h.1)
-kept_stand most last lower (v ∷ vs) (false ∷ stays) below h = kept_stand most (last_of v) lower vs stays (ends_higher most last lower v below h.0) h.1
+kept_stand most last lower (v ∷ vs) (true ∷ stays) below h = (
+  stands_lower most last lower v below h.0,
+  kept_stand most (last_of v) (last_of v) vs stays (same_below (last_of v)) h.1,
+)
+kept_stand most last lower (v ∷ vs) (false ∷ stays) below h =
+    kept_stand most (last_of v) lower vs stays (ends_higher most last lower v below h.0) h.1
 
 pub kept_valid : (r s : Recording) (stays : List Bool) → Valid r → IsKeptOf r stays s → Valid s
 kept_valid r s stays valid k = record {
@@ -156,22 +166,28 @@ kept_valid r s stays valid k = record {
   each_core = ap length k.rest.totals ∙ valid.each_core ∙ ap (λ (p : Params). p.cores) (sym k.rest.params);
   totals = subst (λ (t : List ℕ). All (λ n. n ≤ s.params.limit) t) (sym k.rest.totals)
       (subst (λ (p : Params). All (λ n. n ≤ p.limit) r.totals) (sym k.rest.params) valid.totals);
-  each_reduced = ap length k.rest.reduced ∙ valid.each_reduced ∙ ap (λ (p : Params). pair_count p.cores) (sym k.rest.params);
-  reduced = λ place lt. subst (λ (l : List (List (ℕ × ℕ))). AreEdges (bound_at s.totals place) (get_or l place [])) (sym k.rest.reduced)
-      (subst (λ (t : List ℕ). AreEdges (bound_at t place) (get_or r.reduced place [])) (sym k.rest.totals) (valid.reduced place (inside place lt)));
-  each_regulated = ap length k.regulated ∙ kept_length r.regulated stays ∙ valid.each_regulated ∙ ap (λ (p : Params). pair_count p.cores) (sym k.rest.params);
+  each_reduced = ap length k.rest.reduced ∙ valid.each_reduced
+      ∙ ap (λ (p : Params). pair_count p.cores) (sym k.rest.params);
+  reduced = λ place lt. subst (λ (l : List (List (ℕ × ℕ))). AreEdges (bound_at s.totals place) (get_or l place []))
+      (sym k.rest.reduced)
+      (subst (λ (t : List ℕ). AreEdges (bound_at t place) (get_or r.reduced place [])) (sym k.rest.totals)
+      (valid.reduced place (inside place lt)));
+  each_regulated = ap length k.regulated ∙ kept_length r.regulated stays ∙ valid.each_regulated
+      ∙ ap (λ (p : Params). pair_count p.cores) (sym k.rest.params);
   regulated = λ place lt.
       let own = kept_place r.regulated stays place in
       subst (λ (t : List ℕ). AreVectors (bound_at t place) (get_or s.regulated place [])) (sym k.rest.totals)
       (subst (λ (l : List StrideVector). AreVectors (bound_at r.totals place) l)
       (sym (ap (λ (l : List (List StrideVector)). get_or l place []) k.regulated ∙ own.1))
-      (kept_stand (bound_at r.totals place) (0, 0) (0, 0) (get_or r.regulated place []) own.0 (same_below (0, 0)) (valid.regulated place (inside place lt))));
+      (kept_stand (bound_at r.totals place) (0, 0) (0, 0) (get_or r.regulated place []) own.0 (same_below (0, 0))
+      (valid.regulated place (inside place lt))));
 }
   where
     inside : (place : ℕ) → place < pair_count s.params.cores → place < pair_count r.params.cores
     inside place lt = subst (λ (p : Params). place < pair_count p.cores) k.rest.params lt
 
-pub kept_vectors : (r s : Recording) (stays : List Bool) → Valid r → IsKeptOf r stays s → vectors_of s ≡ kept (vectors_of r) stays
+pub kept_vectors : (r s : Recording) (stays : List Bool) → Valid r → IsKeptOf r stays s →
+    vectors_of s ≡ kept (vectors_of r) stays
 kept_vectors r s stays valid k =
     vectors_are s (kept_valid r s stays valid k).each_regulated
     ∙ ap (λ (l : List (List StrideVector)). vectors_from s.params.cores 0 l) k.regulated
@@ -181,7 +197,8 @@ kept_vectors r s stays valid k =
 
 -- ---- the vectors of a valid recording
 
-stand_each : (most last : ℕ × ℕ) (vs : List StrideVector) → StandInTurn (VectorStands most) end_of last vs → (w : StrideVector) → Contains vs w →
+stand_each : (most last : ℕ × ℕ) (vs : List StrideVector) → StandInTurn (VectorStands most) end_of last vs →
+    (w : StrideVector) → Contains vs w →
     (before : ℕ × ℕ) × VectorStands most before w
 stand_each most last [] h w (k, lt, is) = absurd (omega (arith, lt))
 stand_each most last (v ∷ vs) h w (zero, lt, is) = (last, subst (λ (u : StrideVector). VectorStands most last u) is h.0)
@@ -204,7 +221,8 @@ placed r v valid has =
     let lt : f.0 < n = subst (λ (m : ℕ). f.0 < m) (length-range_with_len 0 n) f.1 in
     let is : get_or (range_with_len 0 n) f.0 0 ≡ f.0 = get_or-range_with_len 0 n f.0 0 lt ∙ plus f.0 in
     let at : Contains (pair_vectors r f.0) v = subst (λ (p : ℕ). Contains (pair_vectors r p) v) is f.2 in
-    let m = map-contains (led_between (source_at r.params.cores f.0) (target_at r.params.cores f.0)) (get_or r.regulated f.0 []) (no_vector.vector) v at in
+    let m = map-contains (led_between (source_at r.params.cores f.0) (target_at r.params.cores f.0))
+    (get_or r.regulated f.0 []) (no_vector.vector) v at in
     let s = stand_each (bound_at r.totals f.0) (0, 0) (get_or r.regulated f.0 []) (valid.regulated f.0 lt) m.0 m.1 in
     record {
       place = f.0;
@@ -228,7 +246,8 @@ between_placed r v valid p = record {
     target_fits = let a = p.stands.target_most in let b = small.1 in omega (arith, a, b);
   };
   pair = subst (λ (c : ℕ). IsPair r.params.cores c v.to) (sym p.from)
-      (subst (λ (c : ℕ). IsPair r.params.cores (source_at r.params.cores p.place) c) (sym p.to) (places-paired r.params.cores p.place p.within).0);
+      (subst (λ (c : ℕ). IsPair r.params.cores (source_at r.params.cores p.place) c) (sym p.to)
+      (places-paired r.params.cores p.place p.within).0);
   some_source = let a = p.stands.source_rises in omega (arith, a);
   some_target = let a = p.stands.target_rises in omega (arith, a);
 }
@@ -238,10 +257,12 @@ between_placed r v valid p = record {
 
 pub vectors_between : (r : Recording) → Valid r → AreBetween r.params.cores (vectors_of r)
 vectors_between r valid k lt =
-    between_placed r (vector_at (vectors_of r) k) valid (placed r (vector_at (vectors_of r) k) valid (Contains-get_or (vectors_of r) k no_vector lt))
+    between_placed r (vector_at (vectors_of r) k) valid
+    (placed r (vector_at (vectors_of r) k) valid (Contains-get_or (vectors_of r) k no_vector lt))
 
 -- a position's number can be spelled
-pub positions_small : (r : Recording) (k : ℕ) → Valid r → k < length (vectors_of r) → (vector_at (vectors_of r) k).vector.n < 2 ^ 32
+pub positions_small : (r : Recording) (k : ℕ) → Valid r → k < length (vectors_of r) →
+    (vector_at (vectors_of r) k).vector.n < 2 ^ 32
 positions_small r k valid lt =
     let v = vector_at (vectors_of r) k in
     let p = placed r v valid (Contains-get_or (vectors_of r) k no_vector lt) in
@@ -255,18 +276,21 @@ between_more cores most vs le b k lt =
     let h = b k lt in
     record {
       vector = h.vector;
-      pair = let a = h.pair.source in let c = h.pair.target in record { source = omega (arith, a, le); target = omega (arith, c, le); differ = h.pair.differ };
+      pair = let a = h.pair.source in let c = h.pair.target in
+          record { source = omega (arith, a, le); target = omega (arith, c, le); differ = h.pair.differ };
       some_source = h.some_source;
       some_target = h.some_target;
     }
 
 -- ---- the list of all vectors, pair by pair
 
-pub vectors_more : (r : Recording) (place : ℕ) (old new : List PairVector) → old ≡ flat_map (pair_vectors r) (range_with_len 0 place) →
+pub vectors_more : (r : Recording) (place : ℕ) (old new : List PairVector) →
+    old ≡ flat_map (pair_vectors r) (range_with_len 0 place) →
     new ≡ old ++ pair_vectors r place → new ≡ flat_map (pair_vectors r) (range_with_len 0 (place + 1))
 vectors_more r place old new old_is new_is =
     new_is ∙ ap (λ (l : List PairVector). l ++ pair_vectors r place) old_is
-    ∙ ap (λ (l : List PairVector). flat_map (pair_vectors r) (range_with_len 0 place) ++ l) (sym (append-nil (pair_vectors r place)))
+    ∙ ap (λ (l : List PairVector). flat_map (pair_vectors r) (range_with_len 0 place) ++ l)
+    (sym (append-nil (pair_vectors r place)))
     ∙ sym (flat_map-append (pair_vectors r) (range_with_len 0 place) (place ∷ []))
     ∙ ap (λ (l : List ℕ). flat_map (pair_vectors r) l) (sym (range_more place))
 
@@ -276,9 +300,11 @@ unfolding vectors_of
 vectors_done r place list e is = is ∙ ap (λ (n : ℕ). flat_map (pair_vectors r) (range_with_len 0 n)) e
 
 -- what is put at the end for the pair at a place
-pub pair_vectors_are : (r : Recording) (place : ℕ) (pair : ℕ × ℕ) (lists : List (List StrideVector)) (item vectors : List StrideVector)
+pub pair_vectors_are : (r : Recording) (place : ℕ) (pair : ℕ × ℕ) (lists : List (List StrideVector))
+    (item vectors : List StrideVector)
     (old new : List PairVector) → Valid r → place < pair_count r.params.cores →
-    pair ≡ (source_at r.params.cores place, target_at r.params.cores place) → lists ≡ r.regulated → item ≡ get_or lists place item → vectors ≡ item →
+    pair ≡ (source_at r.params.cores place, target_at r.params.cores place) → lists ≡ r.regulated →
+    item ≡ get_or lists place item → vectors ≡ item →
     new ≡ old ++ map (led_between pair.0 pair.1) vectors → new ≡ old ++ pair_vectors r place
 pair_vectors_are r place pair lists item vectors old new valid lt p l i k is =
     is ∙ ap (λ (m : List StrideVector). old ++ map (led_between pair.0 pair.1) m) list
@@ -290,12 +316,14 @@ pair_vectors_are r place pair lists item vectors old new valid lt p l i k is =
 
 -- ---- how many there may be
 
-sum_small : (r : Recording) → Valid r → sum_by (λ (vs : List StrideVector). length vs) r.regulated ≤ length r.regulated * r.params.limit
+sum_small : (r : Recording) → Valid r →
+    sum_by (λ (vs : List StrideVector). length vs) r.regulated ≤ length r.regulated * r.params.limit
 sum_small r v = sum_by-le (λ (vs : List StrideVector). length vs) r.params.limit r.regulated (λ place d lt.
     let are = v.regulated place (subst (λ (n : ℕ). place < n) v.each_regulated lt) in
     let count = few_vectors (bound_at r.totals place) (get_or r.regulated place []) are in
     let most = whole.bound-most r place v in
-    subst (λ (vs : List StrideVector). length vs ≤ r.params.limit) (get_or_default r.regulated place [] d lt) (omega (arith, count, most)))
+    subst (λ (vs : List StrideVector). length vs ≤ r.params.limit) (get_or_default r.regulated place [] d lt)
+    (omega (arith, count, most)))
 
 pub vectors_fit : (r : Recording) → Valid r → sum_by (λ (vs : List StrideVector). length vs) r.regulated < 2 ^ 32 - 1
 vectors_fit r v =

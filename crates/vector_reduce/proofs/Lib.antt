@@ -4,6 +4,7 @@ pub mod Leaving
 pub mod Orders
 pub mod Parts
 pub mod Whole
+pub mod Named
 pub mod Closed
 pub mod Keeping
 pub mod Checked

@@ -32,7 +32,8 @@ use Rattle.vector_reduce.specs.Vectors.{regulated_edges}
 use Rattle.vector_reduce.proofs.Cutting.{closed_holds}
 
 -- how far a replay order has come is a closed cut
-pub counts_closed : (p : Plan) (order : List ℕ) → IsLog p.edges → IsReplayOrder p order → IsClosed p.edges (counts nought order)
+pub counts_closed : (p : Plan) (order : List ℕ) → IsLog p.edges → IsReplayOrder p order →
+    IsClosed p.edges (counts nought order)
 counts_closed p order log o x y a h = by (place_of order nought y.core y.count (omega (arith, log.targets x y a)) h)
   where
     by : PlaceOf order nought y.core y.count → Holds (counts nought order) x
@@ -44,14 +45,16 @@ counts_closed p order log o x y a h = by (place_of order nought y.core y.count (
         subst (λ (t : Instr). Contains p.edges (record { from = x; to = t })) (sym is) (among_contains p.edges x y a) in
         let le : x.count ≤ f x.core = (sourced_law p.edges f y.core (f y.core + 1)).0 ready.sourced x there in
         let on : counts nought order x.core ≡ counts f (y.core ∷ w.rest) x.core =
-        ap (λ (l : List ℕ). counts nought l x.core) w.split ∙ ap (λ (g : ℕ → ℕ). g x.core) (counts_on nought w.front (y.core ∷ w.rest)) in
+        ap (λ (l : List ℕ). counts nought l x.core) w.split
+        ∙ ap (λ (g : ℕ → ℕ). g x.core) (counts_on nought w.front (y.core ∷ w.rest)) in
         let up = counts_more f (y.core ∷ w.rest) x.core in
         omega (arith, le, on, up)
 
 -- what is ready by the one log is ready by the other
 ready_too : (r s : Recording) → Valid r → Valid s → IsSameButLog r s →
     ((x y : Instr) → Before (Among (regulated_edges s)) x y → Before (Among (regulated_edges r)) x y) →
-    (front : List ℕ) (c : ℕ) → IsReplayOrder (plan_of Regulated r) front → Ready (plan_of Regulated r) (counts nought front) c →
+    (front : List ℕ) (c : ℕ) → IsReplayOrder (plan_of Regulated r) front →
+    Ready (plan_of Regulated r) (counts nought front) c →
     Ready (plan_of Regulated s) (counts nought front) c
 ready_too r s vr vs same before front c o ready = record {
   inside = subst (λ (t : List ℕ). c < length t) (sym same.totals) ready.inside;
@@ -93,11 +96,14 @@ one_way : (r s : Recording) → Valid r → Valid s → IsSameButLog r s →
     (order : List ℕ) → IsReplayOrder (plan_of Regulated r) order → IsReplayOrder (plan_of Regulated s) order
 one_way r s vr vs same before order o = (places_law (plan_of Regulated s) order).1 at
   where
-    at : (front : List ℕ) (c : ℕ) (rest : List ℕ) → order ≡ front ++ c ∷ rest → Ready (plan_of Regulated s) (counts nought front) c
+    at : (front : List ℕ) (c : ℕ) (rest : List ℕ) → order ≡ front ++ c ∷ rest →
+        Ready (plan_of Regulated s) (counts nought front) c
     at front c rest split =
-        let whole : IsReplayOrder (plan_of Regulated r) (front ++ c ∷ rest) = subst (IsReplayOrder (plan_of Regulated r)) split o in
+        let whole : IsReplayOrder (plan_of Regulated r) (front ++ c ∷ rest) =
+        subst (IsReplayOrder (plan_of Regulated r)) split o in
         let ordered = ((ordered_on (plan_of Regulated r) nought front (c ∷ rest)).0 whole).0 in
-        ready_too r s vr vs same before front c ordered ((places_law (plan_of Regulated r) order).0 o front c rest split)
+        ready_too r s vr vs same before front c ordered
+        ((places_law (plan_of Regulated r) order).0 o front c rest split)
 
 turned : (r s : Recording) → IsSameButLog r s → IsSameButLog s r
 turned r s e = record { params = sym e.params; image = sym e.image; totals = sym e.totals; reduced = sym e.reduced }
@@ -110,13 +116,15 @@ same_orders r s vr vs same before order = (
 
 -- ---- determinate by the one log, determinate by the other
 
-pub still_determinate : (r s : Recording) → Valid r → Valid s → IsSameButLog r s → HaveSameBefore r s → IsDeterminate Regulated r →
+pub still_determinate : (r s : Recording) → Valid r → Valid s → IsSameButLog r s → HaveSameBefore r s →
+    IsDeterminate Regulated r →
     IsDeterminate Regulated s
 still_determinate r s vr vs same before d = (any_whole_law Regulated s order vs ordered whole).1 (record {
   ordered = ordered;
   whole = whole;
   plays = subst (λ (o : Outcome). Plays q o order) begin ((by_image p q (start p) order image).plays.0 d.plays);
-  suffices = subst (λ (l : List Access). Suffices l (Among q.edges)) accesses (λ x y pair. (before x y).0 (d.suffices x y pair));
+  suffices = subst (λ (l : List Access). Suffices l (Among q.edges)) accesses
+      (λ x y pair. (before x y).0 (d.suffices x y pair));
 })
   where
     p : Plan
@@ -133,7 +141,8 @@ still_determinate r s vr vs same before d = (any_whole_law Regulated s order vs 
 
     whole : IsWhole q order
     whole = record {
-      each = λ c lt. d.whole.each c (subst (λ (t : List ℕ). c < length t) same.totals lt) ∙ ap (λ (t : List ℕ). slice_index t c) (sym same.totals);
+      each = λ c lt. d.whole.each c (subst (λ (t : List ℕ). c < length t) same.totals lt)
+          ∙ ap (λ (t : List ℕ). slice_index t c) (sym same.totals);
     }
 
     image : p.image ≡ q.image

@@ -1,15 +1,16 @@
 -- The sixth part: what is read is spelled so, and what is spelled is read again.
-use Rattle.std.proofs.Common.{inl, inr, ◌≡◌, ℕ, ◌^◌, ◌<◌, ◌≤◌, true, cond, nat_le, zero, suc, List, [], ◌∷◌, ◌++◌, length, get_or, Ok, Err}
+use Rattle.std.proofs.Common.{inl, inr, ◌≡◌, ℕ, ◌^◌, ◌<◌, ◌≤◌, zero, suc, List, [], ◌∷◌, ◌++◌}
+use Rattle.std.proofs.Common.{length, get_or, Ok}
 use Rattle.std.proofs.Common.{refl}
 use Rattle.std.proofs.Common.{sym, ap, subst, ◌∙◌, append_assoc, arith}
 use Rattle.std.specs.Prelude.{Result, slice_index}
 use Rattle.std.proofs.lemmas.Bool.{cases_lt}
-use Rattle.std.proofs.lemmas.Bool.Decides.{nat_tests}
 use Rattle.std.proofs.lemmas.List.{get_or_past}
 use Rattle.std.proofs.lemmas.List.FromFn.{fill_by_all, take-map-range_with_len}
 use Rattle.rtr_types.specs.declared.TheConstants.{CORES_MAX}
 use Rattle.rtr_types.specs.declared.cut.Cut.{Cut}
 use Rattle.log_codec.specs.declared.recording.Recording.{Recording}
+use Rattle.log_codec.specs.CoreCounts.{AreCounts, count_at, counts_at, counts_text}
 use Rattle.log_codec.specs.Faults.{◌>>=◌}
 use Rattle.log_codec.specs.Laws.{IsBytes}
 use Rattle.log_codec.specs.Reading.{number_at}
@@ -17,7 +18,8 @@ use Rattle.log_codec.specs.Spelling.{number}
 use Rattle.rtr_types.specs.Turns.{StandInTurn, stay, count_up}
 use Rattle.log_codec.specs.Turns.{read_in_turn, spelled_in_turn, alike}
 use Rattle.log_codec.specs.Validity.{Valid}
-use Rattle.log_codec.proofs.Steps.{bind_ok, guard_ok, ok_is, Takes, Takes-then}
+use Rattle.log_codec.proofs.Steps.{bind_ok, ok_is, Takes, Takes-then}
+use Rattle.log_codec.proofs.CoreCountLaws.{counts_again, counts_take}
 use Rattle.log_codec.proofs.FieldLaws.{number_again, number_takes}
 use Rattle.log_codec.proofs.InTurn.{turns_take, turns_again}
 use Rattle.log_codec.proofs.Counted.{totals_small}
@@ -25,29 +27,10 @@ use Rattle.vector_reduce.specs.declared.thinned.Shown.{Shown}
 use Rattle.vector_reduce.specs.declared.thinned.TheConstants.{SHOWN}
 use Rattle.vector_reduce.specs.declared.thinned.Thinned.{Thinned}
 use Rattle.vector_reduce.specs.Showing.{no_shown}
-use Rattle.vector_reduce.specs.Reading.{count_at, counts_at, one_at, shown_in}
-use Rattle.vector_reduce.specs.Spelling.{counts_text, one_text, shown_text}
-use Rattle.vector_reduce.specs.Validity.{CountStands, IsThin, ShownStands, counts_of, cut_of}
+use Rattle.vector_reduce.specs.Reading.{one_at, shown_in}
+use Rattle.vector_reduce.specs.Spelling.{one_text, shown_text}
+use Rattle.vector_reduce.specs.Validity.{IsThin, ShownStands, counts_of, cut_of}
 use Rattle.vector_reduce.specs.Vectors.{vectors_of}
-
--- ---- a count
-
-count_takes : (totals : List ℕ) (core : ℕ) (bytes : List ℕ) (n : ℕ) (rest : List ℕ) → IsBytes bytes → count_at totals core bytes ≡ Ok (n, rest) →
-    Takes bytes (number n) rest × CountStands totals core n
-unfolding count_at
-count_takes totals core bytes n rest are e =
-    let p = bind_ok (number_at SHOWN bytes) (λ m. cond (nat_le m.0 (slice_index totals core)) (Ok m) (Err SHOWN)) (n, rest) e in
-    let g = guard_ok (nat_le p.0.0 (slice_index totals core)) SHOWN p.0 (n, rest) p.2 in
-    let t = number_takes SHOWN bytes p.0.0 p.0.1 are p.1 in
-    let le : p.0.0 ≤ slice_index totals core = let k = g.0 in grind (arith, nat_tests) in
-    subst (λ (y : ℕ × List ℕ). Takes bytes (number y.0) y.1 × CountStands totals core y.0) g.1 (t.0, le)
-
-count_again : (totals : List ℕ) (core n : ℕ) (rest : List ℕ) → slice_index totals core < 2 ^ 32 → CountStands totals core n →
-    count_at totals core (number n ++ rest) ≡ Ok (n, rest)
-unfolding count_at
-count_again totals core n rest small le =
-    let test : nat_le n (slice_index totals core) ≡ true = grind (arith, nat_tests) in
-    rw (number_again SHOWN n rest (omega arith), test) refl
 
 -- ---- the counts of a cut
 
@@ -57,41 +40,32 @@ counts_back counts few =
     take-map-range_with_len (λ core. slice_index counts core) 0 CORES_MAX (length counts) few
     ∙ sym (fill_by_all (λ core. slice_index counts core) counts (length counts) 0 refl (λ k lt. refl))
 
-counts_take : (totals bytes counts rest : List ℕ) → IsBytes bytes → counts_at totals bytes ≡ Ok (counts, rest) →
-    Takes bytes (counts_text counts) rest × (length counts ≡ length totals) × StandInTurn (CountStands totals) count_up 0 counts
-counts_take totals bytes counts rest are e =
-    turns_take (count_at totals) count_up (alike number) (CountStands totals) (λ c b n r. count_takes totals c b n r) (length totals) 0 bytes counts rest are e
-
-counts_again : (totals counts rest : List ℕ) → ((c : ℕ) → slice_index totals c < 2 ^ 32) → length counts ≡ length totals →
-    StandInTurn (CountStands totals) count_up 0 counts → counts_at totals (counts_text counts ++ rest) ≡ Ok (counts, rest)
-counts_again totals counts rest small each h =
-    ap (λ (n : ℕ). read_in_turn (count_at totals) count_up n 0 (spelled_in_turn (alike number) count_up 0 counts ++ rest)) (sym each)
-    ∙ turns_again (count_at totals) count_up (alike number) (CountStands totals) (λ c n r stands. count_again totals c n r (small c) stands) 0 counts rest h
-
 -- ---- a number and a cut
 
 abbrev shown_of : ℕ → List ℕ → Shown
 shown_of edge counts = record { edge = edge; cut = cut_of counts }
 
-one_takes : (totals : List ℕ) → length totals ≤ CORES_MAX → (s : Unit {0}) (bytes : List ℕ) (x : Shown) (rest : List ℕ) → IsBytes bytes →
+one_takes : (totals : List ℕ) → length totals ≤ CORES_MAX →
+    (s : Unit {0}) (bytes : List ℕ) (x : Shown) (rest : List ℕ) → IsBytes bytes →
     one_at totals s bytes ≡ Ok (x, rest) → Takes bytes (one_text x) rest × ShownStands totals s x
 unfolding one_at
 one_takes totals few s bytes x rest are e =
-    let p = bind_ok (number_at SHOWN bytes) (λ edge. counts_at totals edge.1 >>= λ counts. Ok (shown_of edge.0 counts.0, counts.1)) (x, rest) e in
-    let q = bind_ok (counts_at totals p.0.1) (λ counts. Ok (shown_of p.0.0 counts.0, counts.1)) (x, rest) p.2 in
+    let p = bind_ok (number_at SHOWN bytes)
+    (λ edge. counts_at SHOWN totals edge.1 >>= λ counts. Ok (shown_of edge.0 counts.0, counts.1)) (x, rest) e in
+    let q = bind_ok (counts_at SHOWN totals p.0.1) (λ counts. Ok (shown_of p.0.0 counts.0, counts.1)) (x, rest) p.2 in
     let t = number_takes SHOWN bytes p.0.0 p.0.1 are p.1 in
-    let c = counts_take totals p.0.1 q.0.0 q.0.1 t.0.rest_fits q.1 in
-    let back : counts_of (cut_of q.0.0) ≡ q.0.0 = counts_back q.0.0 (let same = c.1 in omega arith) in
+    let c = counts_take SHOWN totals p.0.1 q.0.0 q.0.1 t.0.rest_fits q.1 in
+    let back : counts_of (cut_of q.0.0) ≡ q.0.0 = counts_back q.0.0 (let same = c.1.each_core in omega arith) in
     let both = Takes-then bytes (number p.0.0) p.0.1 (counts_text q.0.0) q.0.1 t.0 c.0 in
     let text : Takes bytes (one_text (shown_of p.0.0 q.0.0)) q.0.1 =
     subst (λ (counts : List ℕ). Takes bytes (number p.0.0 ++ counts_text counts) q.0.1) (sym back) both in
     let stands : ShownStands totals s (shown_of p.0.0 q.0.0) = record {
       edge = t.1;
       cut = ap cut_of (sym back);
-      each_core = ap length back ∙ c.1;
-      most = subst (λ (counts : List ℕ). StandInTurn (CountStands totals) count_up 0 counts) (sym back) c.2;
+      counts = subst (AreCounts totals) (sym back) c.1;
     } in
-    subst (λ (y : Shown × List ℕ). Takes bytes (one_text y.0) y.1 × ShownStands totals s y.0) (ok_is (shown_of p.0.0 q.0.0, q.0.1) (x, rest) q.2)
+    subst (λ (y : Shown × List ℕ). Takes bytes (one_text y.0) y.1 × ShownStands totals s y.0)
+    (ok_is (shown_of p.0.0 q.0.0, q.0.1) (x, rest) q.2)
     (text, stands)
 
 shown_again_is : (x : Shown) → x.cut ≡ cut_of (counts_of x.cut) → shown_of x.edge (counts_of x.cut) ≡ x
@@ -100,33 +74,41 @@ shown_again_is x is = ap (λ (cut : Cut). made x.edge cut) (sym is)
     made : ℕ → Cut → Shown
     made edge cut = record { edge = edge; cut = cut }
 
-one_again : (totals : List ℕ) (s : Unit {0}) (x : Shown) (rest : List ℕ) → ((c : ℕ) → slice_index totals c < 2 ^ 32) → ShownStands totals s x →
+one_again : (totals : List ℕ) (s : Unit {0}) (x : Shown) (rest : List ℕ) → ((c : ℕ) → slice_index totals c < 2 ^ 32) →
+    ShownStands totals s x →
     one_at totals s (one_text x ++ rest) ≡ Ok (x, rest)
 unfolding one_at
 one_again totals s x rest small h =
     let counts = counts_of x.cut in
-    let c = counts_again totals counts rest small h.each_core h.most in
+    let c = counts_again SHOWN totals counts rest small h.counts in
     ap (one_at totals s) (append_assoc (number x.edge) (counts_text counts) rest)
-    ∙ rw (number_again SHOWN x.edge (counts_text counts ++ rest) h.edge, c) (ap (λ (y : Shown). Ok (y, rest)) (shown_again_is x h.cut))
+    ∙ rw (number_again SHOWN x.edge (counts_text counts ++ rest) h.edge, c)
+    (ap (λ (y : Shown). Ok (y, rest)) (shown_again_is x h.cut))
 
 -- ---- one for each vector
 
-pub shown_take : (r : Recording) (bytes : List ℕ) (shown : List Shown) (rest : List ℕ) → length r.totals ≤ CORES_MAX → IsBytes bytes →
+pub shown_take : (r : Recording) (bytes : List ℕ) (shown : List Shown) (rest : List ℕ) → length r.totals ≤ CORES_MAX →
+    IsBytes bytes →
     shown_in r bytes ≡ Ok (shown, rest) →
-    Takes bytes (shown_text shown) rest × (length shown ≡ length (vectors_of r)) × StandInTurn (ShownStands r.totals) stay tt shown
+    Takes bytes (shown_text shown) rest × (length shown ≡ length (vectors_of r)) ×
+    StandInTurn (ShownStands r.totals) stay tt shown
 shown_take r bytes shown rest few are e =
-    turns_take (one_at r.totals) stay (alike one_text) (ShownStands r.totals) (λ s b x d. one_takes r.totals few s b x d)
+    turns_take (one_at r.totals) stay (alike one_text) (ShownStands r.totals)
+    (λ s b x d. one_takes r.totals few s b x d)
     (length (vectors_of r)) tt bytes shown rest
     are e
 
 pub few_totals : (r : Recording) → Valid r → length r.totals ≤ CORES_MAX
 few_totals r valid = let a = valid.each_core in let b = valid.params.cores in omega arith
 
-pub shown_again : (r : Recording) (shown : List Shown) (rest : List ℕ) → Valid r → length shown ≡ length (vectors_of r) →
+pub shown_again : (r : Recording) (shown : List Shown) (rest : List ℕ) → Valid r →
+    length shown ≡ length (vectors_of r) →
     StandInTurn (ShownStands r.totals) stay tt shown → shown_in r (shown_text shown ++ rest) ≡ Ok (shown, rest)
 shown_again r shown rest valid each h =
-    ap (λ (n : ℕ). read_in_turn (one_at r.totals) stay n tt (spelled_in_turn (alike one_text) stay (tt {0}) shown ++ rest)) (sym each)
-    ∙ turns_again (one_at r.totals) stay (alike one_text) (ShownStands r.totals) (λ s x d stands. one_again r.totals s x d (totals_small r valid) stands) tt
+    ap (λ (n : ℕ). read_in_turn (one_at r.totals) stay n tt
+    (spelled_in_turn (alike one_text) stay (tt {0}) shown ++ rest)) (sym each)
+    ∙ turns_again (one_at r.totals) stay (alike one_text) (ShownStands r.totals)
+    (λ s x d stands. one_again r.totals s x d (totals_small r valid) stands) tt
     shown rest h
 
 -- ---- loops
@@ -148,31 +130,41 @@ cut_made counts places last past wide done rest =
     ]
 
 -- cuts have few cores
-pub few_cores : (totals : List ℕ) (s : Unit {0}) (x : Shown) → length totals ≤ CORES_MAX → ShownStands totals s x → x.cut.cores ≤ CORES_MAX
+pub few_cores : (totals : List ℕ) (s : Unit {0}) (x : Shown) → length totals ≤ CORES_MAX → ShownStands totals s x →
+    x.cut.cores ≤ CORES_MAX
 few_cores totals s x few h =
     let cores : x.cut.cores ≡ length (counts_of x.cut) = ap (λ (c : Cut). c.cores) h.cut in
-    let each = h.each_core in
+    let each = h.counts.each_core in
     omega arith
 
 -- so many items are read
-turn_length : {S X : Type 0} (item : S → List ℕ → Result (X × List ℕ) ℕ) (next : S → X → S) (n : ℕ) (s : S) (bytes : List ℕ) (xs : List X) (rest : List ℕ) →
+turn_length : {S X : Type 0} (item : S → List ℕ → Result (X × List ℕ) ℕ) (next : S → X → S) (n : ℕ) (s : S)
+    (bytes : List ℕ) (xs : List X) (rest : List ℕ) →
     read_in_turn item next n s bytes ≡ Ok (xs, rest) → length xs ≡ n
 unfolding read_in_turn
-turn_length {S} {X} item next zero s bytes xs rest e = sym (ap (λ (y : List X × List ℕ). length y.0) (ok_is ([], bytes) (xs, rest) e))
+turn_length {S} {X} item next zero s bytes xs rest e =
+    sym (ap (λ (y : List X × List ℕ). length y.0) (ok_is ([], bytes) (xs, rest) e))
 turn_length {S} {X} item next (suc n) s bytes xs rest e =
-    let a = bind_ok (item s bytes) (λ first. read_in_turn item next n (next s first.0) first.1 >>= λ others. Ok (first.0 ∷ others.0, others.1)) (xs, rest) e in
-    let b = bind_ok (read_in_turn item next n (next s a.0.0) a.0.1) (λ others. Ok (a.0.0 ∷ others.0, others.1)) (xs, rest) a.2 in
+    let a = bind_ok (item s bytes)
+    (λ first. read_in_turn item next n (next s first.0) first.1 >>= λ others. Ok (first.0 ∷ others.0, others.1))
+    (xs, rest) e in
+    let b = bind_ok (read_in_turn item next n (next s a.0.0) a.0.1) (λ others. Ok (a.0.0 ∷ others.0, others.1))
+    (xs, rest) a.2 in
     let more = turn_length item next n (next s a.0.0) a.0.1 b.0.0 b.0.1 b.1 in
     sym (ap (λ (y : List X × List ℕ). length y.0) (ok_is (a.0.0 ∷ b.0.0, b.0.1) (xs, rest) b.2)) ∙ ap suc more
 
-pub few_counts : (totals bytes counts rest : List ℕ) → length totals ≤ CORES_MAX → counts_at totals bytes ≡ Ok (counts, rest) → length counts ≤ CORES_MAX
-few_counts totals bytes counts rest few e = let same = turn_length (count_at totals) count_up (length totals) 0 bytes counts rest e in omega (arith, few, same)
+pub few_counts : (totals bytes counts rest : List ℕ) → length totals ≤ CORES_MAX →
+    counts_at SHOWN totals bytes ≡ Ok (counts, rest) → length counts ≤ CORES_MAX
+few_counts totals bytes counts rest few e = let same =
+    turn_length (count_at SHOWN totals) count_up (length totals) 0 bytes counts rest e in omega (arith, few, same)
 
-stand_few : (totals : List ℕ) (shown : List Shown) → length totals ≤ CORES_MAX → StandInTurn (ShownStands totals) stay tt shown → (k : ℕ) → k < length shown →
+stand_few : (totals : List ℕ) (shown : List Shown) → length totals ≤ CORES_MAX →
+    StandInTurn (ShownStands totals) stay tt shown → (k : ℕ) → k < length shown →
     (get_or shown k no_shown).cut.cores ≤ CORES_MAX
 stand_few totals [] few h k lt = absurd (omega (arith, lt))
 stand_few totals (s ∷ shown) few h zero lt = few_cores totals tt s few h.0
 stand_few totals (s ∷ shown) few h (suc k) lt = stand_few totals shown few h.1 k (omega (arith, lt))
 
-pub shown_few : (t : Thinned) → IsThin t → (k : ℕ) → k < length t.shown → (get_or t.shown k no_shown).cut.cores ≤ CORES_MAX
+pub shown_few : (t : Thinned) → IsThin t → (k : ℕ) → k < length t.shown →
+    (get_or t.shown k no_shown).cut.cores ≤ CORES_MAX
 shown_few t thin = stand_few t.recording.totals t.shown (few_totals t.recording thin.recording) thin.shown

@@ -1,5 +1,6 @@
 -- Trials of vectors, one after the other.
-use Rattle.std.proofs.Common.{◌≡◌, ℕ, zero, suc, ◌+◌, ◌<◌, ◌⊎◌, inl, inr, List, [], ◌∷◌, ◌++◌, length, take, drop, get_or, cond, refl, sym, ap, subst}
+use Rattle.std.proofs.Common.{◌≡◌, ℕ, zero, suc, ◌+◌, ◌<◌, ◌⊎◌, inl, inr, List, [], ◌∷◌, ◌++◌, length, take, drop}
+use Rattle.std.proofs.Common.{get_or, cond, refl, sym, ap, subst}
 use Rattle.std.proofs.Common.{◌∙◌, true, false}
 use Rattle.std.proofs.Common.{append-nil, arith, nat_lt}
 use Rattle.std.specs.Prelude.{Bool}
@@ -24,9 +25,12 @@ SoFar vs stays = (left : List PairVector) → Thins (kept vs stays) (drop (lengt
 pub so_far_none : (vs : List PairVector) → SoFar vs []
 so_far_none vs left t = subst (λ (l : List PairVector). Thins l vs left) (kept_none vs) t
 
-pub so_far_more : (vs : List PairVector) (stays : List Bool) (s : Shown) (b : Bool) → length stays < length vs → SoFar vs stays →
-    Tries (beside vs stays) (vector_at vs (length stays)) s → b ≡ nat_lt s.edge (vector_at vs (length stays)).vector.n → SoFar vs (stays ++ b ∷ [])
-so_far_more vs stays s b lt before tries is left t = before left (subst (λ (l : List PairVector). Thins (kept vs stays) l left) (sym split) (by tries))
+pub so_far_more : (vs : List PairVector) (stays : List Bool) (s : Shown) (b : Bool) → length stays < length vs →
+    SoFar vs stays →
+    Tries (beside vs stays) (vector_at vs (length stays)) s → b ≡ nat_lt s.edge (vector_at vs (length stays)).vector.n →
+    SoFar vs (stays ++ b ∷ [])
+so_far_more vs stays s b lt before tries is left t =
+    before left (subst (λ (l : List PairVector). Thins (kept vs stays) l left) (sym split) (by tries))
   where
     k : ℕ
     k = length stays
@@ -67,8 +71,10 @@ so_far_more vs stays s b lt before tries is left t = before left (subst (λ (l :
               (subst (λ (c : Bool). Thins (kept vs stays ++ cond c (v ∷ []) []) (drop (suc k) vs) left) not further),
         )
 
-pub so_far_all : (vs : List PairVector) (stays : List Bool) → length stays ≡ length vs → SoFar vs stays → IsThinned vs (kept vs stays)
-so_far_all vs stays all before = before (kept vs stays) (subst (λ (l : List PairVector). Thins (kept vs stays) l (kept vs stays))
+pub so_far_all : (vs : List PairVector) (stays : List Bool) → length stays ≡ length vs → SoFar vs stays →
+    IsThinned vs (kept vs stays)
+so_far_all vs stays all before =
+    before (kept vs stays) (subst (λ (l : List PairVector). Thins (kept vs stays) l (kept vs stays))
     (sym (drop_all (length stays) vs (omega (arith, all)))) refl)
 
 -- ---- what shows that each is needed
@@ -81,7 +87,8 @@ pub record AllStay (vs : List PairVector) (stays : List Bool) (k : ℕ) : Type 0
 pub none_stay : (vs : List PairVector) → AllStay vs [] 0
 none_stay vs = record { number = refl; kept_is = kept_none vs }
 
-pub one_more_stays : (vs : List PairVector) (stays : List Bool) (k : ℕ) → k < length vs → AllStay vs stays k → AllStay vs (stays ++ true ∷ []) (k + 1)
+pub one_more_stays : (vs : List PairVector) (stays : List Bool) (k : ℕ) → k < length vs → AllStay vs stays k →
+    AllStay vs (stays ++ true ∷ []) (k + 1)
 one_more_stays vs stays k lt all = record {
   number = length_push stays true ∙ ap (λ (i : ℕ). i + 1) all.number;
   kept_is =
@@ -91,13 +98,16 @@ one_more_stays vs stays k lt all = record {
       ∙ sym (take_more vs k no_vector lt);
 }
 
-pub tried_is_shown : (vs : List PairVector) (stays : List Bool) (k : ℕ) (s : Shown) → k < length vs → AllStay vs stays k → EachNeeded vs →
+pub tried_is_shown : (vs : List PairVector) (stays : List Bool) (k : ℕ) (s : Shown) → k < length vs →
+    AllStay vs stays k → EachNeeded vs →
     Tries (beside vs stays) (vector_at vs (length stays)) s → IsLeastShown (others_of vs k) (vector_at vs k) s
-tried_is_shown vs stays k s lt all needed tries = by (subst (λ (i : ℕ). Tries (others_of vs k) (vector_at vs i) s) all.number
+tried_is_shown vs stays k s lt all needed tries =
+    by (subst (λ (i : ℕ). Tries (others_of vs k) (vector_at vs i) s) all.number
     (subst (λ (l : List PairVector). Tries l (vector_at vs (length stays)) s) others tries))
   where
     others : beside vs stays ≡ others_of vs k
-    others = ap (λ (l : List PairVector). l ++ drop (suc (length stays)) vs) all.kept_is ∙ ap (λ (i : ℕ). take k vs ++ drop (suc i) vs) all.number
+    others = ap (λ (l : List PairVector). l ++ drop (suc (length stays)) vs) all.kept_is
+        ∙ ap (λ (i : ℕ). take k vs ++ drop (suc i) vs) all.number
 
     by : Tries (others_of vs k) (vector_at vs k) s → IsLeastShown (others_of vs k) (vector_at vs k) s
     by (inl least) = least
@@ -105,9 +115,11 @@ tried_is_shown vs stays k s lt all needed tries = by (subst (λ (i : ℕ). Tries
 
 -- ---- a longer list
 
-pub more_at : (P : ℕ → Shown → Type 0) (shown new : List Shown) (k : ℕ) (s : Shown) → length shown ≡ k → new ≡ shown ++ s ∷ [] →
+pub more_at : (P : ℕ → Shown → Type 0) (shown new : List Shown) (k : ℕ) (s : Shown) → length shown ≡ k →
+    new ≡ shown ++ s ∷ [] →
     ((j : ℕ) → j < k → P j (get_or shown j no_shown)) → P k s → (j : ℕ) → j < k + 1 → P j (get_or new j no_shown)
-more_at P shown new k s all is before here j lt = subst (λ (l : List Shown). P j (get_or l j no_shown)) (sym is) (by (split j k lt))
+more_at P shown new k s all is before here j lt =
+    subst (λ (l : List Shown). P j (get_or l j no_shown)) (sym is) (by (split j k lt))
   where
     split : (i m : ℕ) → i < m + 1 → (i < m) ⊎ (i ≡ m)
     split i m h = grind arith
@@ -125,5 +137,6 @@ more_at P shown new k s all is before here j lt = subst (λ (l : List Shown). P 
     by (inl less) = subst (λ (x : Shown). P j x) (sym (front shown j (omega (arith, less, all)))) (before j less)
     by (inr e) =
         let place : j ≡ length shown = omega (arith, e, all) in
-        let own : get_or (shown ++ s ∷ []) j no_shown ≡ s = ap (λ (i : ℕ). get_or (shown ++ s ∷ []) i no_shown) place ∙ last shown in
+        let own : get_or (shown ++ s ∷ []) j no_shown ≡ s =
+        ap (λ (i : ℕ). get_or (shown ++ s ∷ []) i no_shown) place ∙ last shown in
         subst (λ (x : Shown). P j x) (sym own) (subst (λ (i : ℕ). P i s) (sym e) here)

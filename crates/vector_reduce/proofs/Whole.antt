@@ -1,5 +1,6 @@
 -- Whole thinned recordings: the laws.
-use Rattle.std.proofs.Common.{◌≡◌, ℕ, cond, true, false, Bool, List, [], ◌++◌, length, Result, Ok, Err, refl, sym, ap, subst, ◌∙◌, append_assoc, append-nil}
+use Rattle.std.proofs.Common.{◌≡◌, ℕ, cond, true, false, Bool, List, [], ◌++◌, length, Result, Ok, Err, refl, sym, ap}
+use Rattle.std.proofs.Common.{subst, ◌∙◌, append_assoc, append-nil}
 use Rattle.std.proofs.Common.{eqb, nat_eq}
 use Rattle.std.specs.Prelude.{IfOk}
 use Rattle.std.specs.List.{starts_with}
@@ -37,11 +38,13 @@ begins_two : (r : Recording) (rest : List ℕ) → starts_with nat_eq (recording
 unfolding recordings.spelling_in
 begins_two r rest = refl
 
-begins_one : (r : Recording) (rest : List ℕ) → starts_with nat_eq (recordings.spelling_in One r ++ rest) (magic Two) ≡ false
+begins_one : (r : Recording) (rest : List ℕ) →
+    starts_with nat_eq (recordings.spelling_in One r ++ rest) (magic Two) ≡ false
 unfolding recordings.spelling_in
 begins_one r rest = refl
 
-pub front_two_takes : (bytes : List ℕ) (r : Recording) (rest : List ℕ) → IsBytes bytes → front_two_at bytes ≡ Ok (r, rest) →
+pub front_two_takes : (bytes : List ℕ) (r : Recording) (rest : List ℕ) → IsBytes bytes →
+    front_two_at bytes ≡ Ok (r, rest) →
     Takes bytes (recordings.spelling r) rest × Valid r
 unfolding front_two_at
 front_two_takes bytes r rest are e =
@@ -49,12 +52,14 @@ front_two_takes bytes r rest are e =
     let t = front_takes bytes r rest are g.1 in
     (by g.0 t.version t.taken, t.valid)
   where
-    by : starts_with nat_eq bytes (magic Two) ≡ true → (v : Version) → Takes bytes (recordings.spelling_in v r) rest → Takes bytes (recordings.spelling r) rest
+    by : starts_with nat_eq bytes (magic Two) ≡ true → (v : Version) → Takes bytes (recordings.spelling_in v r) rest →
+        Takes bytes (recordings.spelling r) rest
     by two Two t = t
     by two One t = absurd (let not : starts_with nat_eq bytes (magic Two) ≡ false =
         ap (λ (b : List ℕ). starts_with nat_eq b (magic Two)) t.parts ∙ begins_one r rest in cc)
 
-front_two_again : (r : Recording) (rest : List ℕ) → Valid r → front_two_at (recordings.spelling r ++ rest) ≡ Ok (r, rest)
+front_two_again : (r : Recording) (rest : List ℕ) → Valid r →
+    front_two_at (recordings.spelling r ++ rest) ≡ Ok (r, rest)
 unfolding front_two_at
 front_two_again r rest valid = rw (begins_two r rest) (front_again Two r rest valid valid.params)
 
@@ -68,10 +73,12 @@ record PartsTaken (bytes : List ℕ) (t : Thinned) (rest : List ℕ) : Type 0 wh
   taken : Takes bytes (spelling t) rest
   valid : IsThin t
 
-parts_taken : (bytes : List ℕ) (t : Thinned) (rest : List ℕ) → IsBytes bytes → parts_at bytes ≡ Ok (t, rest) → PartsTaken bytes t rest
+parts_taken : (bytes : List ℕ) (t : Thinned) (rest : List ℕ) → IsBytes bytes → parts_at bytes ≡ Ok (t, rest) →
+    PartsTaken bytes t rest
 unfolding parts_at spelling
 parts_taken bytes t rest are e =
-    let f = bind_ok (front_two_at bytes) (λ front. shown_in front.0 front.1 >>= λ shown. Ok (made_of front.0 shown.0, shown.1)) (t, rest) e in
+    let f = bind_ok (front_two_at bytes)
+    (λ front. shown_in front.0 front.1 >>= λ shown. Ok (made_of front.0 shown.0, shown.1)) (t, rest) e in
     let k = bind_ok (shown_in f.0.0 f.0.1) (λ shown. Ok (made_of f.0.0 shown.0, shown.1)) (t, rest) f.2 in
     let tf = front_two_takes bytes f.0.0 f.0.1 are f.1 in
     let tk = shown_take f.0.0 f.0.1 k.0.0 k.0.1 (few_totals f.0.0 tf.1) tf.0.rest_fits k.1 in
@@ -85,7 +92,8 @@ parts_again : (t : Thinned) (rest : List ℕ) → IsThin t → parts_at (spellin
 unfolding parts_at spelling
 parts_again t rest v =
     let after = shown_text t.shown ++ rest in
-    let f : front_two_at (recordings.spelling t.recording ++ after) ≡ Ok (t.recording, after) = front_two_again t.recording after v.recording in
+    let f : front_two_at (recordings.spelling t.recording ++ after) ≡ Ok (t.recording, after) =
+    front_two_again t.recording after v.recording in
     let k = shown_again t.recording t.shown rest v.recording v.each_vector v.shown in
     ap parts_at (append_assoc (recordings.spelling t.recording) (shown_text t.shown) rest) ∙ rw (f, k) refl
 
@@ -96,7 +104,8 @@ read_is_spelled bytes t are e =
     let g = guard_ok (eqb (length p.0.1) 0) END p.0.0 t p.2 in
     let taken = parts_taken bytes p.0.0 p.0.1 are p.1 in
     let none : p.0.1 ≡ [] = nil_from_length p.0.1 (eqb-true _ _ g.0) in
-    let all : bytes ≡ spelling p.0.0 = taken.taken.parts ∙ ap (λ (x : List ℕ). spelling p.0.0 ++ x) none ∙ append-nil (spelling p.0.0) in
+    let all : bytes ≡ spelling p.0.0 =
+    taken.taken.parts ∙ ap (λ (x : List ℕ). spelling p.0.0 ++ x) none ∙ append-nil (spelling p.0.0) in
     subst (λ (u : Thinned). IsThin u × Spells bytes u) g.1 (taken.valid, all)
 
 pub spelled_is_read : SpelledIsRead
@@ -112,7 +121,8 @@ prefix_free t u x y vt vu e =
     (ap (λ (p : Thinned × List ℕ). p.0) same, ap (λ (p : Thinned × List ℕ). p.1) same)
 
 -- what a reader answered
-pub is_found : (bytes : List ℕ) (result : Result Thinned CodecFault) → IsBytes bytes → Gives (λ x. x) result (thinned_at bytes) →
+pub is_found : (bytes : List ℕ) (result : Result Thinned CodecFault) → IsBytes bytes →
+    Gives (λ x. x) result (thinned_at bytes) →
     IfOk result (λ t. IsThin t × Spells bytes t)
 is_found bytes (Ok t) are e = read_is_spelled bytes t are e
 is_found bytes (Err f) are e = tt

@@ -10,7 +10,6 @@ use Rattle.replay_audit.specs.declared.audit_fault.AuditFault.{AuditFault}
 use Rattle.replay_audit.specs.declared.audit_fault.AuditFault.TheVariants as audits
 use Rattle.replay_audit.specs.Audits.{AuditRefuses}
 use Rattle.replay_audit.specs.Determinate.{IsDeterminate}
-use Rattle.vector_reduce.specs.declared.answers.TheConstants.{VECTORS_MAX, POSITIONS_MAX}
 use Rattle.vector_reduce.specs.declared.answers.ThinFault.{ThinFault}
 use Rattle.vector_reduce.specs.declared.answers.ThinFault.TheVariants as thins
 use Rattle.vector_reduce.specs.declared.answers.ThinCheckFault.{ThinCheckFault}
@@ -23,13 +22,13 @@ use Rattle.vector_reduce.specs.Vectors.{regulated_edges, vectors_of}
 
 -- ---- thinning
 
--- more vectors, or more positions of all vectors, than are tried
+-- more than 4,096 vectors, or more than 65,536 positions of all vectors together: so many aren't tried
 abbrev pub AreTooMany : Recording → Type 0
-AreTooMany r = (VECTORS_MAX < length (vectors_of r)) ⊎ (POSITIONS_MAX < length (regulated_edges r))
+AreTooMany r = (4096 < length (vectors_of r)) ⊎ (65536 < length (regulated_edges r))
 
 pub record AreFew (r : Recording) : Type 0 where
-  pub vectors : length (vectors_of r) ≤ VECTORS_MAX
-  pub positions : length (regulated_edges r) ≤ POSITIONS_MAX
+  pub vectors : length (vectors_of r) ≤ 4096
+  pub positions : length (regulated_edges r) ≤ 65536
 
 -- all but the regulated log
 pub record IsSameButLog (r s : Recording) : Type 0 where

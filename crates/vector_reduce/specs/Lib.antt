@@ -7,5 +7,6 @@ pub mod Showing
 pub mod Validity
 pub mod Spelling
 pub mod Reading
+pub mod BadParts
 pub mod Answers
 pub mod Laws

@@ -1,12 +1,13 @@
 -- Reading a thinned recording from left to right. A number that doesn't fit is a fault of the part in which it stands.
-use Rattle.std.specs.Prelude.{ℕ, List, length, slice_index, Result, Ok, Err, nat_le, nat_eq, ◌==◌, if◌then◌else◌}
+use Rattle.std.specs.Prelude.{ℕ, List, length, Result, Ok, Err, nat_eq, ◌==◌, if◌then◌else◌}
 use Rattle.std.specs.List.{starts_with}
 use Rattle.log_codec.specs.declared.codec_fault.TheConstants.{HEADER}
 use Rattle.log_codec.specs.declared.recording.Recording.{Recording}
 use Rattle.log_codec.specs.declared.version.Version.TheVariants.{Two}
+use Rattle.log_codec.specs.CoreCounts.{counts_at}
 use Rattle.log_codec.specs.Faults.{◌>>=◌}
 use Rattle.log_codec.specs.Reading.{number_at, front_at}
-use Rattle.rtr_types.specs.Turns.{stay, count_up}
+use Rattle.rtr_types.specs.Turns.{stay}
 use Rattle.log_codec.specs.Turns.{read_in_turn}
 use Rattle.log_codec.specs.Versions.{magic}
 use Rattle.vector_reduce.specs.declared.thinned.Shown.{Shown}
@@ -19,21 +20,11 @@ use Rattle.vector_reduce.specs.Vectors.{vectors_of}
 unfoldable pub front_two_at : List ℕ → Result (Recording × List ℕ) ℕ
 front_two_at bytes = if starts_with nat_eq bytes (magic Two) then front_at bytes else Err HEADER
 
--- a count of a core, at most its total
-unfoldable pub count_at : List ℕ → ℕ → List ℕ → Result (ℕ × List ℕ) ℕ
-count_at totals core bytes = do
-  n ← number_at SHOWN bytes
-  if nat_le n.0 (slice_index totals core) then Ok n else Err SHOWN
-
--- a count of each core
-abbrev pub counts_at : List ℕ → List ℕ → Result (List ℕ × List ℕ) ℕ
-counts_at totals bytes = read_in_turn (count_at totals) count_up (length totals) 0 bytes
-
 -- the number of an edge, and a cut
 unfoldable pub one_at : List ℕ → Unit {0} → List ℕ → Result (Shown × List ℕ) ℕ
 one_at totals s bytes = do
   edge ← number_at SHOWN bytes
-  counts ← counts_at totals edge.1
+  counts ← counts_at SHOWN totals edge.1
   Ok (record { edge = edge.0; cut = cut_of counts.0 }, counts.1)
 
 -- one for each vector

@@ -1,17 +1,14 @@
 -- The spellings of thinned recordings: the first five parts of a recording in version 2, then what shows that each
 -- vector is needed.
 use Rattle.std.specs.Prelude.{◌≡◌, ℕ, List, ◌++◌}
+use Rattle.log_codec.specs.CoreCounts.{counts_text}
 use Rattle.log_codec.specs.Spelling as recordings
 use Rattle.log_codec.specs.Spelling.{number}
-use Rattle.rtr_types.specs.Turns.{stay, count_up}
+use Rattle.rtr_types.specs.Turns.{stay}
 use Rattle.log_codec.specs.Turns.{alike, spelled_in_turn}
 use Rattle.vector_reduce.specs.declared.thinned.Shown.{Shown}
 use Rattle.vector_reduce.specs.declared.thinned.Thinned.{Thinned}
 use Rattle.vector_reduce.specs.Validity.{counts_of}
-
--- a number for each core
-abbrev pub counts_text : List ℕ → List ℕ
-counts_text counts = spelled_in_turn (alike number) count_up 0 counts
 
 -- the number of an edge, and the counts of a cut
 abbrev pub one_text : Shown → List ℕ

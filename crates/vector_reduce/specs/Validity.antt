@@ -1,9 +1,10 @@
 -- Which thinned recordings have a spelling.
-use Rattle.std.specs.Prelude.{◌≡◌, ℕ, ◌<◌, ◌≤◌, ◌^◌, List, length, map, take, slice_index}
+use Rattle.std.specs.Prelude.{◌≡◌, ℕ, ◌<◌, ◌^◌, List, length, map, take, slice_index}
 use Rattle.std.specs.List.{range_with_len}
 use Rattle.rtr_types.specs.declared.TheConstants.{CORES_MAX}
 use Rattle.rtr_types.specs.declared.cut.Cut.{Cut}
-use Rattle.rtr_types.specs.Turns.{StandInTurn, stay, count_up}
+use Rattle.rtr_types.specs.Turns.{StandInTurn, stay}
+use Rattle.log_codec.specs.CoreCounts.{AreCounts}
 use Rattle.log_codec.specs.Validity.{Valid}
 use Rattle.vector_reduce.specs.declared.thinned.Shown.{Shown}
 use Rattle.vector_reduce.specs.declared.thinned.Thinned.{Thinned}
@@ -20,16 +21,11 @@ cut_of counts = record {
 abbrev pub counts_of : Cut → List ℕ
 counts_of cut = take cut.cores cut.counts
 
--- a count of a core is at most its total
-abbrev pub CountStands : List ℕ → ℕ → ℕ → Type 0
-CountStands totals core n = n ≤ slice_index totals core
-
 -- the edge's number is any that can be spelled, and the cut has a count of each core, at most its total
 pub record ShownStands (totals : List ℕ) (s : Unit {0}) (x : Shown) : Type 0 where
   pub edge : x.edge < 2 ^ 32
   pub cut : x.cut ≡ cut_of (counts_of x.cut)
-  pub each_core : length (counts_of x.cut) ≡ length totals
-  pub most : StandInTurn (CountStands totals) count_up 0 (counts_of x.cut)
+  pub counts : AreCounts totals (counts_of x.cut)
 
 -- the thinned recording has a spelling
 pub record IsThin (t : Thinned) : Type 0 where

@@ -31,7 +31,7 @@ impl From<AllocError> for ThinFault {
 }
 
 /// Why a thinned recording isn't accepted.
-#[derive(Clone, Copy, Debug, PartialEq, Eq)]
+#[derive(Clone, Copy, PartialEq, Eq)]
 pub enum ThinCheckFault {
     /// The recording isn't determinate by its regulated log. Want of memory is never told so.
     Audit(AuditFault),

@@ -13,7 +13,6 @@ ghost use Rattle.vector_reduce.specs.Validity.{IsThin};
 ghost use Rattle.vector_reduce.specs.Vectors.{edge_at, edges_in, edges_of_all, others_of, vector_at, vectors_of};
 
 use crate::answers::ThinCheckFault;
-use crate::copies::copied;
 use crate::pair_vector::{PairVector, vectors_of};
 use crate::thinned::{Shown, Thinned};
 use replay_audit::audit;
@@ -150,7 +149,7 @@ pub fn check_thin(alloc: Global, value: &Thinned) -> Result<(), ThinCheckFault>
     ensures complete { IsDeterminate Regulated value.now.recording → EachShown value.now →
         IsOkUnless result ThinCheckFault.OutOfMemory }
 {
-    let recording = copied(alloc, &value.recording)?;
+    let recording = value.recording.copied(alloc)?;
     audit(alloc, recording, Which::Regulated)?;
     match first_of(alloc, value)? {
         Some(before) => Err(ThinCheckFault::NotShown { vector: before + 1 }),

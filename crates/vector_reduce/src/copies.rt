@@ -1,4 +1,4 @@
-//! Copies of recordings, whole or without some of their vectors.
+//! Copies of recordings without some of their vectors.
 ghost use Rattle.std.specs.Prelude.{◌≡◌, ◌≤◌, length, sum_by, IfOk};
 ghost use Rattle.vector_reduce.specs.Kept.{IsKeptOf, kept, kept_lists};
 
@@ -6,19 +6,6 @@ use log_codec::Recording;
 use rtr_types::Items;
 use std::alloc::{AllocError, Global};
 use stride_vector::StrideVector;
-
-/// The same recording in memory of its own.
-pub fn copied(alloc: Global, recording: &Recording) -> Result<Recording, AllocError>
-    ensures { IfOk result (λ copy. copy ≡ recording.now) }
-{
-    Ok(Recording {
-        params: recording.params,
-        image: copy_of(alloc, recording.image.as_slice())?,
-        totals: copy_of(alloc, recording.totals.as_slice())?,
-        reduced: copies_of(alloc, recording.reduced.as_slice())?,
-        regulated: copies_of(alloc, recording.regulated.as_slice())?,
-    })
-}
 
 /// The recording with those of its vectors that stay, by the answer for each.
 pub fn kept_of(
@@ -29,31 +16,8 @@ pub fn kept_of(
     requires { length stays.now ≡ sum_by (λ vectors. length vectors) recording.now.regulated }
     ensures { IfOk result (IsKeptOf recording.now stays.now) }
 {
-    Ok(Recording {
-        params: recording.params,
-        image: copy_of(alloc, recording.image.as_slice())?,
-        totals: copy_of(alloc, recording.totals.as_slice())?,
-        reduced: copies_of(alloc, recording.reduced.as_slice())?,
-        regulated: kept_lists(alloc, recording.regulated.as_slice(), stays)?,
-    })
-}
-
-/// A copy of a list.
-fn copy_of<T: Copy>(alloc: Global, list: &[T]) -> Result<Items<T>, AllocError>
-    ensures { IfOk result (λ copy. copy ≡ list.now) }
-{
-    Ok(Items::from_vec(Vec::from_slice(alloc, list)?))
-}
-
-/// Copies of lists.
-fn copies_of<T: Copy>(alloc: Global, lists: &[Items<T>]) -> Result<Items<Items<T>>, AllocError>
-    ensures { IfOk result (λ copies. copies ≡ lists.now) }
-{
-    let mut copies = Items::new(alloc);
-    for list in lists {
-        copies.push(copy_of(alloc, list.as_slice())?)?;
-    }
-    Ok(copies)
+    let regulated = kept_lists(alloc, recording.regulated.as_slice(), stays)?;
+    recording.copied_with(alloc, regulated)
 }
 
 /// The vectors of a pair that stay, by the first answers.

@@ -1,4 +1,5 @@
 //! What thinning leaves, and that readings and spellings of it are the same.
+ghost use Rattle.vector_reduce.specs.BadParts.{BadPart};
 ghost use Rattle.vector_reduce.specs.Cuts.{ClosedHoldsLaw, CutShowsLaw};
 ghost use Rattle.vector_reduce.specs.Laws.{NeededStaysLaw, OneThinningLaw, PrefixFree, ReadIsSpelled, SameOrdersLaw};
 ghost use Rattle.vector_reduce.specs.Laws.{ShownIsNeededLaw, SpelledIsRead, ThinnedIsNeededLaw, ThinnedIsSameLaw};
@@ -33,4 +34,11 @@ pub fn thinned_spellings()
     ensures read { ReadIsSpelled }
     ensures spelled { SpelledIsRead }
     ensures prefix { PrefixFree }
+{}
+
+/// A refusal of bytes as a thinned recording names part k, from 1 to 7, exactly where the parts below k are spelled
+/// by a front of the bytes, in version 2, and no valid part k follows there. Parts 1 to 5 are a recording's, part 6
+/// shows the vectors needed, and part 7 is the end, where no byte stands.
+pub fn bad_part_law()
+    ensures { BadPart }
 {}

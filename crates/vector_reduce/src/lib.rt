@@ -20,6 +20,3 @@ pub use reading::read_thin;
 pub use thinned::{END, SHOWN, Shown, Thinned};
 pub use thinning::thin;
 pub use writing::spell_thin;
-
-#[cfg(test)]
-mod tests;

@@ -1,70 +1,26 @@
 //! Reading thinned recordings, with the first part that has no reading where there is one.
-ghost use Rattle.std.specs.Prelude.{◌≡◌, ◌<◌, ◌≤◌, length, IfOk, Ok};
+ghost use Rattle.std.specs.Prelude.{◌≡◌, ◌≤◌, length, IfOk, Ok};
 ghost use Rattle.rtr_types.specs.declared.TheConstants.{CORES_MAX};
 ghost use Rattle.log_codec.specs.Faults.{Gives};
-ghost use Rattle.log_codec.specs.Reading.{number_at};
 ghost use Rattle.rtr_types.specs.Turns.{stay};
 ghost use Rattle.log_codec.specs.Turns.{read_in_turn};
 ghost use Rattle.log_codec.specs.Validity.{Valid};
-ghost use Rattle.vector_reduce.specs.Reading.{count_at, counts_at, front_two_at, one_at, parts_at, thinned_at};
+ghost use Rattle.vector_reduce.specs.Reading.{front_two_at, one_at, parts_at, thinned_at};
 ghost use Rattle.vector_reduce.specs.Spelling.{Spells};
 ghost use Rattle.vector_reduce.specs.Validity.{IsThin, cut_of};
 ghost use Rattle.vector_reduce.specs.declared.thinned.Thinned.{Thinned as SomeThinned};
 
 use crate::pair_vector::vectors_of;
 use crate::thinned::{END, SHOWN, Shown, Thinned};
-use log_codec::{CodecFault, HEADER, Recording, read_front};
+use log_codec::{CodecFault, HEADER, Recording, counts, number, read_front};
 use rtr_types::{CORES_MAX, Cut, Items};
 use std::alloc::Global;
-use varint_core::take_u32;
 
 /// A place for each core, as the length of an array.
 const PLACES: usize = CORES_MAX as usize;
 
 /// The letters RTR, and version 2.
 const MAGIC: [u8; 4] = [0x52, 0x54, 0x52, 2];
-
-/// The number that the bytes begin with, and the bytes after it.
-#[tactic(auto, unfolding(log_codec::specs::Reading::number_at))]
-fn number(bytes: &[u8]) -> Result<(u32, &[u8]), CodecFault>
-    ensures { Gives (λ x. (x.0, x.1.now)) result (number_at SHOWN bytes.now) }
-{
-    match take_u32(bytes) {
-        Ok((n, len)) => Ok((n, &bytes[len..])),
-        Err(_) => Err(CodecFault::Bad { part: SHOWN }),
-    }
-}
-
-/// A count of a core, at most its total.
-#[tactic(auto, unfolding(crate::specs::Reading::count_at))]
-fn count<'a>(totals: &[u32], core: usize, bytes: &'a [u8]) -> Result<(u32, &'a [u8]), CodecFault>
-    requires { core < length totals.now }
-    ensures { Gives (λ x. (x.0, x.1.now)) result (count_at totals.now core bytes.now) }
-{
-    let (n, rest) = number(bytes)?;
-    if n > totals[core] {
-        return Err(CodecFault::Bad { part: SHOWN });
-    }
-    Ok((n, rest))
-}
-
-/// A count of each core.
-fn counts<'a>(
-    alloc: Global,
-    totals: &[u32],
-    bytes: &'a [u8],
-) -> Result<(Items<u32>, &'a [u8]), CodecFault>
-    ensures { Gives (λ x. (x.0, x.1.now)) result (counts_at totals.now bytes.now) }
-{
-    let mut found = Items::new(alloc);
-    let mut rest = bytes;
-    for core in 0..totals.len() {
-        let (next, after) = count(totals, core, rest)?;
-        found.push(next)?;
-        rest = after;
-    }
-    Ok((found, rest))
-}
 
 /// The cut with these counts.
 fn cut_of(counts: &[u32]) -> Cut
@@ -87,8 +43,8 @@ fn one<'a>(alloc: Global, totals: &[u32], bytes: &'a [u8]) -> Result<(Shown, &'a
     requires { length totals.now ≤ CORES_MAX }
     ensures { Gives (λ x. (x.0, x.1.now)) result (one_at totals.now tt bytes.now) }
 {
-    let (edge, rest) = number(bytes)?;
-    let (counts, rest) = counts(alloc, totals, rest)?;
+    let (edge, rest) = number(SHOWN, bytes)?;
+    let (counts, rest) = counts(alloc, SHOWN, totals, rest)?;
     let cut = cut_of(counts.as_slice());
     Ok((Shown { edge, cut }, rest))
 }

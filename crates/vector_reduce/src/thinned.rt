@@ -11,7 +11,7 @@ pub const END: u8 = 7;
 /// What shows that a vector is needed: one of its edges, and a cut that is closed under the other vectors
 /// and has the edge's target, but not its source. So no path of the others leads from the source to the
 /// target.
-#[derive(Clone, Copy, Debug, PartialEq, Eq)]
+#[derive(Clone, Copy)]
 pub struct Shown {
     /// The number of the edge's position in the vector, from 0.
     pub edge: u32,

@@ -96,14 +96,24 @@ fn without_implied(alloc: Global, recording: &Recording) -> Result<Recording, Al
     kept_of(alloc, recording, stays.as_slice())
 }
 
-/// That recording, and what shows that its vectors are needed.
+/// What shows that each vector of a valid recording is needed, where each is.
+fn shown_of(alloc: Global, recording: &Recording) -> Result<Items<Shown>, AllocError>
+    requires valid { Valid recording.now }
+    requires needed { EachNeeded (vectors_of recording.now) }
+    ensures least { IfOk result (AreLeastShown (vectors_of recording.now)) }
+    ensures formed { IfOk result (AreFormed (length recording.now.totals)) }
+{
+    let arrivals = arrivals_of(alloc, recording)?;
+    shown(alloc, &arrivals)
+}
+
+/// The recording without the vectors that the others imply, and what shows that those which are left are needed.
 fn left_of(alloc: Global, recording: &Recording) -> Result<Thinned, AllocError>
     requires { Valid recording.now }
     ensures { IfOk result (IsShownLeft recording.now) }
 {
     let left = without_implied(alloc, recording)?;
-    let arrivals = arrivals_of(alloc, &left)?;
-    let shown = shown(alloc, &arrivals)?;
+    let shown = shown_of(alloc, &left)?;
     Ok(Thinned {
         recording: left,
         shown,

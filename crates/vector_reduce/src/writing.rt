@@ -2,23 +2,13 @@
 ghost use Rattle.std.specs.Prelude.{◌≡◌, ◌++◌, ◌<◌, ◌≤◌, ℕ, length, slice_index_or, OnOk, IfOk};
 ghost use Rattle.rtr_types.specs.declared.TheConstants.{CORES_MAX};
 ghost use Rattle.vector_reduce.specs.Showing.{no_shown};
-ghost use Rattle.vector_reduce.specs.Spelling.{counts_text, one_text, shown_text, spelling};
+ghost use Rattle.vector_reduce.specs.Spelling.{one_text, shown_text, spelling};
 ghost use Rattle.vector_reduce.specs.Validity.{IsThin};
 
 use crate::thinned::{Shown, Thinned};
-use log_codec::spell;
+use log_codec::{put_counts, spell};
 use std::alloc::{AllocError, Global};
 use varint_core::put_u32;
-
-/// A number for each core.
-fn put_counts(out: &mut Vec<u8>, counts: &[u32]) -> Result<(), AllocError>
-    ensures { OnOk result (out.new.items ≡ out.old.items ++ counts_text counts.now) }
-{
-    for count in counts {
-        put_u32(out, *count)?;
-    }
-    Ok(())
-}
 
 /// The number of an edge, and the counts of a cut.
 fn put_one(out: &mut Vec<u8>, one: &Shown) -> Result<(), AllocError>

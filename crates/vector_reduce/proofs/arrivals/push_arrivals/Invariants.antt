@@ -5,4 +5,5 @@ use Rattle.vector_reduce.specs.Arrivals.{arrival_of}
 use Rattle.vector_reduce.proofs.arrivals.push_arrivals.Given as goal
 
 abbrev pub invariant-loop-position : goal.invariant-loop-position
-invariant-loop-position l = l.list.items ≡ l.initial.list.items ++ map (arrival_of l.number l.vector) (range_with_len 0 l.position)
+invariant-loop-position l =
+    l.list.items ≡ l.initial.list.items ++ map (arrival_of l.number l.vector) (range_with_len 0 l.position)

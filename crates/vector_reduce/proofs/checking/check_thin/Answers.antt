@@ -14,27 +14,33 @@ returns-in_err-audit-clause-complete c d p =
     let t = c.args.value.now in
     let q = err_from_is_err_and c.from_residual-in_err-audit.result c.from_residual-in_err-audit.ensures.1 in
     let refused : AuditRefuses Regulated t.recording c.in_err-audit.field-0.0 =
-    subst (λ (r : Recording). AuditRefuses Regulated r c.in_err-audit.field-0.0) c.in_ok-recording.ensures c.in_err-audit.ensures in
+    subst (λ (r : Recording). AuditRefuses Regulated r c.in_err-audit.field-0.0) c.in_ok-recording.ensures
+    c.in_err-audit.ensures in
     rw q.1 (q.2 ∙ audit_complete t.recording c.in_err-audit.field-0.0 d refused)
 
 pub returns-in-Some-clause-answer : goal.returns-in-Some-clause-answer
 returns-in-Some-clause-answer c =
     let t = c.args.value.now in
     let audit : IsAuditOf Regulated t.recording c.in_ok-audit.field-0 =
-    subst (λ (r : Recording). IsAuditOf Regulated r c.in_ok-audit.field-0) c.in_ok-recording.ensures c.in_ok-audit.ensures in
+    subst (λ (r : Recording). IsAuditOf Regulated r c.in_ok-audit.field-0) c.in_ok-recording.ensures
+    c.in_ok-audit.ensures in
     not_accepted t c.in-Some.before (audited_is t.recording c.in_ok-audit.field-0 audit)
-    (subst (λ (o : Option ℕ). FirstNotShown (vectors_of t.recording) t.shown o) c.in-Some.is c.in_ok-before.ensures.first)
+    (subst (λ (o : Option ℕ). FirstNotShown (vectors_of t.recording) t.shown o) c.in-Some.is
+    c.in_ok-before.ensures.first)
 
 pub returns-in-Some-clause-complete : goal.returns-in-Some-clause-complete
 returns-in-Some-clause-complete c d p =
     let t = c.args.value.now in
     absurd (shown_is_accepted t c.in-Some.before p
-    (subst (λ (o : Option ℕ). FirstNotShown (vectors_of t.recording) t.shown o) c.in-Some.is c.in_ok-before.ensures.first))
+    (subst (λ (o : Option ℕ). FirstNotShown (vectors_of t.recording) t.shown o) c.in-Some.is
+    c.in_ok-before.ensures.first))
 
 pub returns-in-None-clause-answer : goal.returns-in-None-clause-answer
 returns-in-None-clause-answer c =
     let t = c.args.value.now in
     let audit : IsAuditOf Regulated t.recording c.in_ok-audit.field-0 =
-    subst (λ (r : Recording). IsAuditOf Regulated r c.in_ok-audit.field-0) c.in_ok-recording.ensures c.in_ok-audit.ensures in
+    subst (λ (r : Recording). IsAuditOf Regulated r c.in_ok-audit.field-0) c.in_ok-recording.ensures
+    c.in_ok-audit.ensures in
     accepted t (audited_is t.recording c.in_ok-audit.field-0 audit)
-    (subst (λ (o : Option ℕ). FirstNotShown (vectors_of t.recording) t.shown o) c.in-None.is c.in_ok-before.ensures.first)
+    (subst (λ (o : Option ℕ). FirstNotShown (vectors_of t.recording) t.shown o) c.in-None.is
+    c.in_ok-before.ensures.first)

@@ -9,7 +9,9 @@ returns-then-most-vector c = (λ t. none_within c.args.vector.now c.args.cut.now
 
 pub returns : goal.returns
 returns c =
-    let d = last_decides c.args.vector.now c.args.cut.now c.last_within-position.result c.last_within-position.ensures in (
+    let d = last_decides c.args.vector.now c.args.cut.now c.last_within-position.result c.last_within-position.ensures
+    in (
       λ t. d.0 (subst (λ (e : Edge). Holds (counts_in c.args.cut.now) e.from) c.edge.ensures (c.holds.ensures.0 t)),
-      λ closed. c.holds.ensures.1 (subst (λ (e : Edge). Holds (counts_in c.args.cut.now) e.from) (sym c.edge.ensures) (d.1 closed)),
+      λ closed. c.holds.ensures.1
+          (subst (λ (e : Edge). Holds (counts_in c.args.cut.now) e.from) (sym c.edge.ensures) (d.1 closed)),
     )

@@ -6,22 +6,26 @@ use Rattle.vector_reduce.proofs.Keeping.{vectors_fit}
 use Rattle.vector_reduce.proofs.thinning.refused.Goals as goal
 
 pub vector_count-vectors-requires : goal.vector_count-vectors-requires
-vector_count-vectors-requires c = let fit = vectors_fit c.args.recording.now c.requires in rw c.as_slice.ensures (omega (arith, fit))
+vector_count-vectors-requires c = let fit = vectors_fit c.args.recording.now c.requires in
+    rw c.as_slice.ensures (omega (arith, fit))
 
 pub returns-then-vectors-gt-VECTORS_MAX : goal.returns-then-vectors-gt-VECTORS_MAX
 returns-then-vectors-gt-VECTORS_MAX c =
     too_many_vectors c.args.recording.now c.vector_count-vectors.result c.edge_count-edges.result c.requires
-    (c.vector_count-vectors.ensures ∙ ap (sum_by (λ (l : List StrideVector). length l)) c.as_slice.ensures) c.edge_count-edges.ensures.listed
+    (c.vector_count-vectors.ensures ∙ ap (sum_by (λ (l : List StrideVector). length l)) c.as_slice.ensures)
+    c.edge_count-edges.ensures.listed
     (omega (arith, c.if-vectors-gt-VECTORS_MAX.true))
 
 pub returns-then-edges-gt-POSITIONS_MAX : goal.returns-then-edges-gt-POSITIONS_MAX
 returns-then-edges-gt-POSITIONS_MAX c =
     too_many_positions c.args.recording.now c.vector_count-vectors.result c.edge_count-edges.result c.requires
-    (c.vector_count-vectors.ensures ∙ ap (sum_by (λ (l : List StrideVector). length l)) c.as_slice.ensures) c.edge_count-edges.ensures.listed
+    (c.vector_count-vectors.ensures ∙ ap (sum_by (λ (l : List StrideVector). length l)) c.as_slice.ensures)
+    c.edge_count-edges.ensures.listed
     (omega (arith, c.if-edges-gt-POSITIONS_MAX.true))
 
 pub returns : goal.returns
 returns c =
     few_enough c.args.recording.now c.vector_count-vectors.result c.edge_count-edges.result c.requires
-    (c.vector_count-vectors.ensures ∙ ap (sum_by (λ (l : List StrideVector). length l)) c.as_slice.ensures) c.edge_count-edges.ensures.listed
+    (c.vector_count-vectors.ensures ∙ ap (sum_by (λ (l : List StrideVector). length l)) c.as_slice.ensures)
+    c.edge_count-edges.ensures.listed
     (omega (arith, c.if-vectors-gt-VECTORS_MAX.false)) (omega (arith, c.if-edges-gt-POSITIONS_MAX.false))

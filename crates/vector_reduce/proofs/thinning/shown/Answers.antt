@@ -11,7 +11,8 @@ use Rattle.vector_reduce.proofs.thinning.shown.Goals as goal
 
 pub loop-number-init : goal.loop-number-init
 loop-number-init c = record {
-  stays = subst (λ (l : List Bool). AllStay c.args.arrivals.now.vectors l 0) (sym c.new-stays.ensures.items) (none_stay c.args.arrivals.now.vectors);
+  stays = subst (λ (l : List Bool). AllStay c.args.arrivals.now.vectors l 0) (sym c.new-stays.ensures.items)
+      (none_stay c.args.arrivals.now.vectors);
   number = ap length c.new-shown.ensures;
   least = λ k lt. absurd (omega (arith, lt));
   formed = λ k lt. absurd (omega (arith, lt));
@@ -25,14 +26,19 @@ loop-number-preserved c =
     let all = ap length c.vectors-number-end.ensures in
     let lt : c.loop-number.number < length c.args.arrivals.now.vectors = omega (arith, all, c.loop-number-test.true) in
     record {
-      stays = subst (λ (l : List Bool). AllStay c.args.arrivals.now.vectors l (c.loop-number.number + 1)) (sym c.in_ok-push-2.ensures.items)
+      stays = subst (λ (l : List Bool). AllStay c.args.arrivals.now.vectors l (c.loop-number.number + 1))
+          (sym c.in_ok-push-2.ensures.items)
           (one_more_stays vs c.loop-number.stays.items k lt i.stays);
-      number = ap length c.in_ok-push.ensures.ok ∙ length_push c.loop-number.shown c.trial.result ∙ ap (λ (n : ℕ). n + 1) i.number;
-      least = more_at (λ (j : ℕ) (s : Shown). IsLeastShown (others_of c.args.arrivals.now.vectors j) (vector_at c.args.arrivals.now.vectors j) s)
+      number = ap length c.in_ok-push.ensures.ok ∙ length_push c.loop-number.shown c.trial.result
+          ∙ ap (λ (n : ℕ). n + 1) i.number;
+      least = more_at (λ (j : ℕ) (s : Shown). IsLeastShown (others_of c.args.arrivals.now.vectors j)
+          (vector_at c.args.arrivals.now.vectors j) s)
           c.loop-number.shown c.push.new.self k c.trial.result i.number c.in_ok-push.ensures.ok i.least
           (tried_is_shown vs c.loop-number.stays.items k c.trial.result lt i.stays c.requires
-          (subst (λ (b : List Bool). Tries (beside c.args.arrivals.now.vectors b) (vector_at c.args.arrivals.now.vectors (length b)) c.trial.result)
+          (subst (λ (b : List Bool). Tries (beside c.args.arrivals.now.vectors b)
+          (vector_at c.args.arrivals.now.vectors (length b)) c.trial.result)
           c.as_slice.ensures.value c.trial.ensures.tried));
       formed = more_at (λ (j : ℕ) (s : Shown). IsFormed (length c.args.arrivals.now.lists) s)
-          c.loop-number.shown c.push.new.self k c.trial.result i.number c.in_ok-push.ensures.ok i.formed c.trial.ensures.formed;
+          c.loop-number.shown c.push.new.self k c.trial.result i.number c.in_ok-push.ensures.ok i.formed
+          c.trial.ensures.formed;
     }

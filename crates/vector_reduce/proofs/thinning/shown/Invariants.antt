@@ -8,6 +8,7 @@ abbrev pub invariant-loop-number : goal.invariant-loop-number
 invariant-loop-number l = record {
   stays : AllStay l.arrivals.vectors l.stays.items l.number;
   number : length l.shown ≡ l.number;
-  least : (k : ℕ) → k < l.number → IsLeastShown (others_of l.arrivals.vectors k) (vector_at l.arrivals.vectors k) (get_or l.shown k no_shown);
+  least : (k : ℕ) → k < l.number →
+      IsLeastShown (others_of l.arrivals.vectors k) (vector_at l.arrivals.vectors k) (get_or l.shown k no_shown);
   formed : (k : ℕ) → k < l.number → IsFormed (length l.arrivals.lists) (get_or l.shown k no_shown);
 }

@@ -8,37 +8,45 @@ use Rattle.vector_reduce.proofs.Assembled.{determinate_of, few_not_many, refused
 use Rattle.vector_reduce.proofs.thinning.thin.Goals as goal
 
 -- what the counts said
-is_refused : (q r : Recording) (o : Option ThinFault) (fault : ThinFault) → q ≡ r → MatchOption o (AreFew q) (IsRefusedFor q) → o ≡ Some fault →
+is_refused : (q r : Recording) (o : Option ThinFault) (fault : ThinFault) → q ≡ r →
+    MatchOption o (AreFew q) (IsRefusedFor q) → o ≡ Some fault →
     IsRefusedFor r fault
 is_refused q r o fault same h is =
-    subst (λ (s : Recording). IsRefusedFor s fault) same (subst (λ (p : Option ThinFault). MatchOption p (AreFew q) (IsRefusedFor q)) is h)
+    subst (λ (s : Recording). IsRefusedFor s fault) same
+    (subst (λ (p : Option ThinFault). MatchOption p (AreFew q) (IsRefusedFor q)) is h)
 
-is_few : (q r : Recording) (o : Option ThinFault) → q ≡ r → MatchOption o (AreFew q) (IsRefusedFor q) → o ≡ None → AreFew r
+is_few : (q r : Recording) (o : Option ThinFault) → q ≡ r → MatchOption o (AreFew q) (IsRefusedFor q) → o ≡ None →
+    AreFew r
 is_few q r o same h is =
-    subst (λ (s : Recording). AreFew s) same (subst (λ (p : Option ThinFault). MatchOption p (AreFew q) (IsRefusedFor q)) is h)
+    subst (λ (s : Recording). AreFew s) same
+    (subst (λ (p : Option ThinFault). MatchOption p (AreFew q) (IsRefusedFor q)) is h)
 
 pub returns-in-Some-clause-answer : goal.returns-in-Some-clause-answer
 returns-in-Some-clause-answer c =
     refused_is c.args.audited.now.recording c.in-Some.fault
-    (is_refused c.recording-recording.result.now c.args.audited.now.recording c.refused.result c.in-Some.fault c.recording-recording.ensures.recording
+    (is_refused c.recording-recording.result.now c.args.audited.now.recording c.refused.result c.in-Some.fault
+    c.recording-recording.ensures.recording
     c.refused.ensures c.in-Some.is)
 
 pub returns-in-Some-clause-complete : goal.returns-in-Some-clause-complete
 returns-in-Some-clause-complete c few =
     absurd (few_not_many c.args.audited.now.recording few
-    (is_refused c.recording-recording.result.now c.args.audited.now.recording c.refused.result c.in-Some.fault c.recording-recording.ensures.recording
+    (is_refused c.recording-recording.result.now c.args.audited.now.recording c.refused.result c.in-Some.fault
+    c.recording-recording.ensures.recording
     c.refused.ensures c.in-Some.is).0)
 
 pub returns-in-Some-clause-refused : goal.returns-in-Some-clause-refused
 returns-in-Some-clause-refused c many =
     ap (λ (f : ThinFault). Err f)
-    (is_refused c.recording-recording.result.now c.args.audited.now.recording c.refused.result c.in-Some.fault c.recording-recording.ensures.recording
+    (is_refused c.recording-recording.result.now c.args.audited.now.recording c.refused.result c.in-Some.fault
+    c.recording-recording.ensures.recording
     c.refused.ensures c.in-Some.is).1
 
 pub returns-in_err-left_of-clause-refused : goal.returns-in_err-left_of-clause-refused
 returns-in_err-left_of-clause-refused c many =
     absurd (few_not_many c.args.audited.now.recording
-    (is_few c.recording-recording.result.now c.args.audited.now.recording c.refused.result c.recording-recording.ensures.recording c.refused.ensures
+    (is_few c.recording-recording.result.now c.args.audited.now.recording c.refused.result
+    c.recording-recording.ensures.recording c.refused.ensures
     c.in_default.is) many)
 
 pub returns-clause-answer : goal.returns-clause-answer
@@ -53,5 +61,6 @@ returns-clause-answer c =
 pub returns-clause-refused : goal.returns-clause-refused
 returns-clause-refused c many =
     absurd (few_not_many c.args.audited.now.recording
-    (is_few c.recording-recording.result.now c.args.audited.now.recording c.refused.result c.recording-recording.ensures.recording c.refused.ensures
+    (is_few c.recording-recording.result.now c.args.audited.now.recording c.refused.result
+    c.recording-recording.ensures.recording c.refused.ensures
     c.in_default.is) many)

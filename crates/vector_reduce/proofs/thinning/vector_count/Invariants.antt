@@ -4,4 +4,5 @@ use Rattle.stride_vector.specs.declared.StrideVector.{StrideVector}
 use Rattle.vector_reduce.proofs.thinning.vector_count.Given as goal
 
 abbrev pub invariant-loop-vectors : goal.invariant-loop-vectors
-invariant-loop-vectors l = l.count ≡ sum_by (λ (vectors : List StrideVector). length vectors) (take l.vectors-index l.regulated)
+invariant-loop-vectors l =
+    l.count ≡ sum_by (λ (vectors : List StrideVector). length vectors) (take l.vectors-index l.regulated)

@@ -15,14 +15,18 @@ kept_of-requires c =
     ap length c.as_slice.ensures.value ∙ c.in_ok-stays.ensures.all ∙ ap length c.in_ok-arrivals.ensures.vectors
     ∙ vectors_counted c.args.recording.now c.requires
 
-left : {E : Type 0} (r : Recording) (stays : List Bool) (result : Result Recording E) → Valid r → IsThinned (vectors_of r) (kept (vectors_of r) stays) →
+left : {E : Type 0} (r : Recording) (stays : List Bool) (result : Result Recording E) → Valid r →
+    IsThinned (vectors_of r) (kept (vectors_of r) stays) →
     IfOk result (IsKeptOf r stays) → IfOk result (IsLeftOf r)
 left r stays (Ok s) valid t k = left_of_kept r s stays valid k t
 left r stays (Err e) valid t k = tt
 
 pub returns : goal.returns
 returns c =
-    let thinned : IsThinned (vectors_of c.args.recording.now) (kept (vectors_of c.args.recording.now) c.as_slice.result.now) =
-    subst (λ (b : List Bool). IsThinned (vectors_of c.args.recording.now) (kept (vectors_of c.args.recording.now) b)) (sym c.as_slice.ensures.value)
-    (subst (λ (l : List PairVector). IsThinned l (kept l c.in_ok-stays.stays.items)) c.in_ok-arrivals.ensures.vectors c.in_ok-stays.ensures.thinned) in
+    let thinned : IsThinned (vectors_of c.args.recording.now)
+    (kept (vectors_of c.args.recording.now) c.as_slice.result.now) =
+    subst (λ (b : List Bool). IsThinned (vectors_of c.args.recording.now) (kept (vectors_of c.args.recording.now) b))
+    (sym c.as_slice.ensures.value)
+    (subst (λ (l : List PairVector). IsThinned l (kept l c.in_ok-stays.stays.items)) c.in_ok-arrivals.ensures.vectors
+    c.in_ok-stays.ensures.thinned) in
     left c.args.recording.now c.as_slice.result.now c.kept_of.result c.requires thinned c.kept_of.ensures

@@ -14,9 +14,11 @@ put_one-requires c = c.requires c.loop-one.one-index c.loop-one-test.true
 
 pub loop-one-preserved : goal.loop-one-preserved
 loop-one-preserved c =
-    puts_on (alike one_text) stay c.loop-one.out.items c.put_one.new.out.items (c.args.out.now.items ++ shown_text c.args.shown.now) (tt {0}) c.args.shown.now
+    puts_on (alike one_text) stay c.loop-one.out.items c.put_one.new.out.items
+    (c.args.out.now.items ++ shown_text c.args.shown.now) (tt {0}) c.args.shown.now
     c.loop-one.one-index no_shown c.loop-one-test.true c.in_ok-put_one.ensures c.loop-one.invariant
 
 pub returns : goal.returns
 returns c = puts_done (alike one_text) stay c.loop-one.out.items
-    (c.args.out.now.items ++ shown_text c.args.shown.now) (tt {0}) c.args.shown.now c.loop-one.one-index c.loop-one-test.false c.loop-one.invariant
+    (c.args.out.now.items ++ shown_text c.args.shown.now) (tt {0}) c.args.shown.now c.loop-one.one-index
+    c.loop-one-test.false c.loop-one.invariant

@@ -9,7 +9,8 @@ use Rattle.vector_reduce.proofs.writing.spell_thin.Goals as goal
 
 pub put_shown-requires : goal.put_shown-requires
 put_shown-requires c =
-    subst (λ (l : List Shown). (k : ℕ) → k < length l → (get_or l k no_shown).cut.cores ≤ CORES_MAX) (sym c.as_slice.ensures)
+    subst (λ (l : List Shown). (k : ℕ) → k < length l → (get_or l k no_shown).cut.cores ≤ CORES_MAX)
+    (sym c.as_slice.ensures)
     (shown_few c.args.value.now c.requires)
 
 pub returns : goal.returns

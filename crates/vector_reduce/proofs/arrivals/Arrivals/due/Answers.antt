@@ -8,7 +8,8 @@ use Rattle.vector_reduce.proofs.arrivals.Arrivals.due.Goals as goal
 pub loop-core-preserved : goal.loop-core-preserved
 loop-core-preserved c =
     more_none c.args.self.now.lists c.args.closing.now c.loop-core.core c.loop-core.invariant
-    (subst (λ (o : Option Arrival). NextDue (list_at c.args.self.now.lists c.loop-core.core) c.args.closing.now c.loop-core.core o)
+    (subst (λ (o : Option Arrival). NextDue (list_at c.args.self.now.lists c.loop-core.core) c.args.closing.now
+    c.loop-core.core o)
     c.in_default.is c.next.ensures)
 
 pub returns : goal.returns

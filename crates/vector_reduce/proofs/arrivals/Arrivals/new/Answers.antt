@@ -8,11 +8,13 @@ use Rattle.vector_reduce.proofs.arrivals.Arrivals.new.Goals as goal
 pub loop-core-preserved : goal.loop-core-preserved
 loop-core-preserved c =
     let into : AreInto c.args.vectors c.loop-core.core c.in_ok-arrivals_into.field-0 =
-    subst (λ (l : List PairVector). AreInto l c.loop-core.core c.in_ok-arrivals_into.field-0) c.as_slice.ensures c.in_ok-arrivals_into.ensures in
+    subst (λ (l : List PairVector). AreInto l c.loop-core.core c.in_ok-arrivals_into.field-0) c.as_slice.ensures
+    c.in_ok-arrivals_into.ensures in
     record {
       number = ap length c.in_ok-push.ensures.items ∙ length_push c.loop-core.lists.items c.in_ok-arrivals_into.field-0
           ∙ ap (λ (n : ℕ). n + 1) c.loop-core.invariant.number;
-      each = more_into c.args.vectors c.loop-core.lists.items c.push.new.self.items c.loop-core.core c.in_ok-arrivals_into.field-0
+      each = more_into c.args.vectors c.loop-core.lists.items c.push.new.self.items c.loop-core.core
+          c.in_ok-arrivals_into.field-0
           c.loop-core.invariant.number c.in_ok-push.ensures.items c.loop-core.invariant.each into;
     }
 

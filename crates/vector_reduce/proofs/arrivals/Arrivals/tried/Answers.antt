@@ -9,7 +9,8 @@ use Rattle.vector_reduce.proofs.arrivals.Arrivals.tried.Goals as goal
 
 pub loop-position-init : goal.loop-position-init
 loop-position-init c =
-    tries_first c.args.self.now c.args.stays.now c.args.vector.now c.none-closing.result c.none-closing.ensures.counts c.none-closing.ensures.passed
+    tries_first c.args.self.now c.args.stays.now c.args.vector.now c.none-closing.result c.none-closing.ensures.counts
+    c.none-closing.ensures.passed
 
 pub close-requires-clause-core : goal.close-requires-clause-core
 close-requires-clause-core c =
@@ -17,7 +18,8 @@ close-requires-clause-core c =
 
 pub close-requires-clause-closing : goal.close-requires-clause-closing
 close-requires-clause-closing c =
-    subst (λ (e : Edge). IsClosing c.args.self.now c.args.stays.now e.to c.loop-position.closing) (sym c.edge-edge.ensures)
+    subst (λ (e : Edge). IsClosing c.args.self.now c.args.stays.now e.to c.loop-position.closing)
+    (sym c.edge-edge.ensures)
     (c.loop-position.invariant.closing (edge_at c.args.vector.now c.loop-position.position).to refl (omega arith))
 
 pub holds-requires : goal.holds-requires
@@ -29,30 +31,40 @@ holds-requires c =
 
 pub loop-position-preserved : goal.loop-position-preserved
 loop-position-preserved c =
-    let closed : IsClosedAt c.args.self.now c.args.stays.now (edge_at c.args.vector.now c.loop-position.position).to c.close.new.closing =
-    subst (λ (e : Edge). IsClosedAt c.args.self.now c.args.stays.now e.to c.close.new.closing) c.edge-edge.ensures c.close.ensures in
+    let closed : IsClosedAt c.args.self.now c.args.stays.now (edge_at c.args.vector.now c.loop-position.position).to
+    c.close.new.closing =
+    subst (λ (e : Edge). IsClosedAt c.args.self.now c.args.stays.now e.to c.close.new.closing) c.edge-edge.ensures
+    c.close.ensures in
     let held : Holds (counts_of c.close.new.closing) (edge_at c.args.vector.now c.loop-position.position).from =
-    subst (λ (e : Edge). Holds (counts_of c.close.new.closing) e.from) c.edge-edge.ensures (c.holds.ensures.0 c.if-not-holds.false) in
-    tries_next c.args.self.now c.args.stays.now c.args.vector.now c.loop-position.position c.loop-position.closing c.close.new.closing c.requires
+    subst (λ (e : Edge). Holds (counts_of c.close.new.closing) e.from) c.edge-edge.ensures
+    (c.holds.ensures.0 c.if-not-holds.false) in
+    tries_next c.args.self.now c.args.stays.now c.args.vector.now c.loop-position.position c.loop-position.closing
+    c.close.new.closing c.requires
     c.loop-position.invariant closed held
 
 pub returns-then-not-holds-clause-tried : goal.returns-then-not-holds-clause-tried
 returns-then-not-holds-clause-tried c =
-    let closed : IsClosedAt c.args.self.now c.args.stays.now (edge_at c.args.vector.now c.loop-position.position).to c.close.new.closing =
-    subst (λ (e : Edge). IsClosedAt c.args.self.now c.args.stays.now e.to c.close.new.closing) c.edge-edge.ensures c.close.ensures in
-    tries_shown c.args.self.now c.args.stays.now c.args.vector.now c.loop-position.position c.loop-position.closing c.close.new.closing _
+    let closed : IsClosedAt c.args.self.now c.args.stays.now (edge_at c.args.vector.now c.loop-position.position).to
+    c.close.new.closing =
+    subst (λ (e : Edge). IsClosedAt c.args.self.now c.args.stays.now e.to c.close.new.closing) c.edge-edge.ensures
+    c.close.ensures in
+    tries_shown c.args.self.now c.args.stays.now c.args.vector.now c.loop-position.position c.loop-position.closing
+    c.close.new.closing _
     c.loop-position-test.true c.loop-position.invariant closed
-    (λ held. let t = c.holds.ensures.1 (subst (λ (e : Edge). Holds (counts_of c.close.new.closing) e.from) (sym c.edge-edge.ensures) held) in
+    (λ held. let t = c.holds.ensures.1
+    (subst (λ (e : Edge). Holds (counts_of c.close.new.closing) e.from) (sym c.edge-edge.ensures) held) in
     let f = c.if-not-holds.true in absurd cc) refl c.cut-least.ensures.counts
 
 pub returns-clause-tried : goal.returns-clause-tried
 returns-clause-tried c =
-    tries_implied c.args.self.now c.args.stays.now c.args.vector.now c.loop-position.position c.loop-position.closing _ c.loop-position-test.false
+    tries_implied c.args.self.now c.args.stays.now c.args.vector.now c.loop-position.position c.loop-position.closing _
+    c.loop-position-test.false
     c.loop-position.invariant refl
 
 pub returns-then-not-holds-clause-formed : goal.returns-then-not-holds-clause-formed
 returns-then-not-holds-clause-formed c = record {
-  cores_is = c.cut-least.ensures.cores ∙ sym c.self.invariant.all ∙ ap (λ (a : Arranged). length a.lists) c.self.view_is;
+  cores_is = c.cut-least.ensures.cores ∙ sym c.self.invariant.all
+      ∙ ap (λ (a : Arranged). length a.lists) c.self.view_is;
   places = c.cut-least.ensures.places;
 }
 

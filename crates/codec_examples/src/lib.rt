@@ -1,0 +1,14 @@
+//! Recordings and certificates as bytes, worked out by hand, in both versions and damaged. It has tests alone, and
+//! stands apart so that the crates above the codecs don't wait for it.
+#![tactic(auto)]
+
+#[cfg(test)]
+mod bytes;
+#[cfg(test)]
+mod certificates;
+#[cfg(test)]
+mod damaged;
+#[cfg(test)]
+mod logs;
+#[cfg(test)]
+mod spellings;

@@ -1,0 +1,5 @@
+use Rattle.vector_reduce.proofs.Named as parts
+use Rattle.vector_reduce.proofs.laws.bad_part_law.Goals as goal
+
+pub returns : goal.returns
+returns c = parts.bad_part_is_named
