@@ -1,6 +1,6 @@
 -- Both logs of what a run records replay it.
 use Rattle.std.proofs.Common.{◌≡◌, ◌∙◌, refl, sym, ap, subst, ℕ, zero, suc, ◌*◌, ◌<◌, ◌≤◌, List, [], ◌++◌, length, Option, arith}
-use Rattle.std.specs.Prelude.{slice_index_or}
+use Rattle.std.specs.Prelude.{slice_index, slice_index_or}
 use Rattle.std.proofs.lemmas.List.{map-append}
 use Rattle.access_times.specs.Riding.{none_riding}
 use Rattle.image_mem.specs.Contents.{Contents}
@@ -13,6 +13,7 @@ use Rattle.clock_core.specs.Order.{Among, Before}
 use Rattle.clock_core.proofs.Listed.{among_contains}
 use Rattle.know_history.specs.Happenings.{Happening}
 use Rattle.know_history.specs.Knowing.{retired_in}
+use Rattle.know_history.proofs.Counting.{retired_there}
 use Rattle.edge_regulate.specs.Regulated.{Knowledge}
 use Rattle.log_codec.specs.Sources.{HasEdge, log_edges}
 use Rattle.log_codec.specs.Validity.{Valid}
@@ -20,6 +21,7 @@ use Rattle.log_codec.specs.declared.recording.Recording.{Recording}
 use Rattle.log_codec.proofs.SourceLaws.{edges-within}
 use Rattle.machine_bound.specs.Ends.{end_of}
 use Rattle.machine_known.specs.Events.{happening_at}
+use Rattle.machine_known.specs.Known.{RetiresEarlier}
 use Rattle.machine_known.proofs.Runs.{run_orderly_law, run_plain, run_retires_law}
 use Rattle.msi_state.specs.Events.{Event, Nothing, Retires, Accesses, instr_of}
 use Rattle.msi_state.specs.Runs.{event_at, retired_in as retired_by, retirements}
@@ -167,6 +169,40 @@ module _ (image : Contents) (params : Params) (schedule : Choices) (fits : Fits 
           (good.implies.each x y (among_contains (log_edges Reduced r) x y edge));
     }
 
+    -- as many of a core's instructions retire in the whole run as its total says
+    all_retire : (c : ℕ) → c < length (recording_of image params schedule).totals
+        → retired_in (happening_at image params (choice_at schedule)) (end_of image params (choice_at schedule)) c
+        ≡ slice_index (recording_of image params schedule).totals c
+    all_retire c within =
+        sym (counts_are events last c) ∙ ap (λ (l : List ℕ). counts nought l c) (order_is image params schedule)
+        ∙ by_reduced.whole.each c within
+
+    -- so an edge's target retires, and its source in an event before
+    earlier : (x y : Instr) → Among (log_edges Regulated (recording_of image params schedule)) x y
+        → RetiresEarlier image params (choice_at schedule) x y
+    earlier x y edge =
+        let lies = edges-within Regulated r x y valid (among_contains (log_edges Regulated r) x y edge) in
+        let source_core = lies.pair.source in
+        let target_core = lies.pair.target in
+        let whole = valid.each_core in
+        let all = all_retire y.core (omega arith) in
+        let most = lies.target_most in
+        let there = retired_there events last (λ u lt. run_orderly_law image params choices fits.cores u) y lies.some_target (omega arith) in
+        let t : ℕ = there.0 in
+        let within : t < last = there.1 in
+        let retires : RetiresAt image params choices t y = sym (run_retires_law image params choices t) ∙ there.2 in
+        let cores = cores_are in
+        let counted = retired_is t x.core (omega arith) (omega arith) in
+        let has = forward x y edge t within retires in
+        let before = retired_there events t (λ u lt. run_orderly_law image params choices fits.cores u) x lies.some_source (omega arith) in
+        record {
+          first = before.0;
+          second = t;
+          before = before.1;
+          retires_first = sym (run_retires_law image params choices before.0) ∙ before.2;
+          retires_second = retires;
+        }
+
     few : (place : ℕ) → length (slice_index_or (recording_of image params schedule).regulated place [])
         ≤ length (slice_index_or (recording_of image params schedule).reduced place [])
     few place =
@@ -177,6 +213,7 @@ pub run_regulated : RunRegulatedLaw
 run_regulated image params schedule fits words room = record {
   vectors = λ known counts. regulated_log_law image params schedule known fits counts;
   covers = covers_run image params schedule fits words room;
+  earlier = earlier image params schedule fits words room;
   few = few image params schedule fits words room;
 }
 

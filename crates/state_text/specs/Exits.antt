@@ -50,13 +50,17 @@ instr_text at = decimal at.core ++ codes ":" ++ decimal at.count
 abbrev pub edge_text : Edge → List ℕ
 edge_text edge = instr_text edge.from ++ codes " to " ++ instr_text edge.to
 
+-- an edge, and what is wrong with it
+abbrev pub edge_fault_line : Edge → (fault : List ℕ) → List ℕ
+edge_fault_line edge fault = line (codes "rtr: edge " ++ edge_text edge ++ fault)
+
 -- why a log isn't shown to be least
 abbrev pub failure_line : CheckFailure → List ℕ
-failure_line (NotConflict edge) = line (codes "rtr: edge " ++ edge_text edge ++ codes " is no conflict")
+failure_line (NotConflict edge) = edge_fault_line edge (codes " is no conflict")
 failure_line (BadClock core entry) =
     line (codes "rtr: clock " ++ decimal entry ++ codes " of core " ++ decimal core ++ codes " is wrong")
-failure_line (NotNeeded edge) = line (codes "rtr: edge " ++ edge_text edge ++ codes " is not needed")
-failure_line (NotLeast edge) = line (codes "rtr: edge " ++ edge_text edge ++ codes " is not in the least log")
+failure_line (NotNeeded edge) = edge_fault_line edge (codes " is not needed")
+failure_line (NotLeast edge) = edge_fault_line edge (codes " is not in the least log")
 
 -- a segment by its number, and what is wrong with it
 abbrev pub segment_line : (index : ℕ) → (wrong : List ℕ) → List ℕ

@@ -10,7 +10,7 @@ use rtr_types::{Cut, Instr};
 use std::alloc::AllocError;
 
 /// How a command of the tool ended.
-#[derive(Clone, Copy, Debug, PartialEq, Eq)]
+#[derive(Clone, Copy)]
 pub enum Exit {
     /// The command did what it was asked for.
     Done,

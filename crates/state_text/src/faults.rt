@@ -1,7 +1,7 @@
 //! The text that tells why a command gave up.
 ghost use Rattle.std.specs.Prelude.{◌≡◌, ◌+◌, ◌*◌, ◌≤◌, [], ◌++◌, length, decimal};
-ghost use Rattle.state_text.specs.Exits.{count_text, counts_text, edge_text, elf_line, failure_line, fault_line};
-ghost use Rattle.state_text.specs.Exits.{instr_text, segment_line};
+ghost use Rattle.state_text.specs.Exits.{count_text, counts_text, edge_fault_line, edge_text, elf_line, failure_line};
+ghost use Rattle.state_text.specs.Exits.{fault_line, instr_text, segment_line};
 
 use crate::exit::Exit;
 use image_elf::ElfFault;
@@ -53,6 +53,16 @@ impl FaultText {
             bytes: [0; FAULT_TEXT_MAX],
             used: 0,
         }
+    }
+
+    // The text of these bytes.
+    fn of(piece: &[u8]) -> FaultText
+        requires { length piece.now ≤ FAULT_TEXT_MAX }
+        ensures { result ≡ piece.now }
+    {
+        let mut text = FaultText::empty();
+        text.put(piece);
+        text
     }
 
     // Puts the bytes at the end.
@@ -107,18 +117,6 @@ impl FaultText {
         self.put_instr(edge.to);
     }
 
-    // Puts the line of a segment of an ELF file at the end: its number, and what is wrong with it.
-    fn put_segment(&mut self, index: u32, wrong: &[u8])
-        requires { length self.old + length wrong.now + DIGITS_MAX + 19 ≤ FAULT_TEXT_MAX }
-        ensures { self.new ≡ self.old ++ segment_line index wrong.now }
-    {
-        self.put(b"rtr: ELF segment ");
-        self.put_number(index);
-        self.put(b" ");
-        self.put(wrong);
-        self.put(b"\n");
-    }
-
     // Puts a space and a count at the end.
     fn put_count(&mut self, count: u32)
         requires { length self.old + DIGITS_MAX + 1 ≤ FAULT_TEXT_MAX }
@@ -142,35 +140,52 @@ impl FaultText {
     }
 }
 
+/// The line of an edge that has a fault.
+fn edge_fault_text(edge: Edge, fault: &[u8]) -> FaultText
+    requires { length fault.now ≤ 64 }
+    ensures { result ≡ edge_fault_line edge fault.now }
+{
+    let mut text = FaultText::of(b"rtr: edge ");
+    text.put_edge(edge);
+    text.put(fault);
+    text.put(b"\n");
+    text
+}
+
+/// The line of a clock of a certificate that is wrong.
+fn bad_clock_text(core: u8, entry: u32) -> FaultText
+    ensures { result ≡ failure_line (CheckFailure.BadClock core entry) }
+{
+    let mut text = FaultText::of(b"rtr: clock ");
+    text.put_number(entry);
+    text.put(b" of core ");
+    text.put_number(core.into());
+    text.put(b" is wrong\n");
+    text
+}
+
 /// The line that tells why a log isn't shown to be least.
 fn failure_text(failure: &CheckFailure) -> FaultText
     ensures { result ≡ failure_line failure.now }
 {
-    let mut text = FaultText::empty();
     match failure {
-        CheckFailure::NotConflict { edge } => {
-            text.put(b"rtr: edge ");
-            text.put_edge(*edge);
-            text.put(b" is no conflict\n");
-        }
-        CheckFailure::BadClock { core, entry } => {
-            text.put(b"rtr: clock ");
-            text.put_number(*entry);
-            text.put(b" of core ");
-            text.put_number((*core).into());
-            text.put(b" is wrong\n");
-        }
-        CheckFailure::NotNeeded { edge } => {
-            text.put(b"rtr: edge ");
-            text.put_edge(*edge);
-            text.put(b" is not needed\n");
-        }
-        CheckFailure::NotLeast { edge } => {
-            text.put(b"rtr: edge ");
-            text.put_edge(*edge);
-            text.put(b" is not in the least log\n");
-        }
+        CheckFailure::NotConflict { edge } => edge_fault_text(*edge, b" is no conflict"),
+        CheckFailure::BadClock { core, entry } => bad_clock_text(*core, *entry),
+        CheckFailure::NotNeeded { edge } => edge_fault_text(*edge, b" is not needed"),
+        CheckFailure::NotLeast { edge } => edge_fault_text(*edge, b" is not in the least log"),
     }
+}
+
+/// The line of a segment of an ELF file: its number, and what is wrong with it.
+fn segment_text(index: u32, wrong: &[u8]) -> FaultText
+    requires { length wrong.now + DIGITS_MAX + 19 ≤ FAULT_TEXT_MAX }
+    ensures { result ≡ segment_line index wrong.now }
+{
+    let mut text = FaultText::of(b"rtr: ELF segment ");
+    text.put_number(index);
+    text.put(b" ");
+    text.put(wrong);
+    text.put(b"\n");
     text
 }
 
@@ -178,16 +193,90 @@ fn failure_text(failure: &CheckFailure) -> FaultText
 fn elf_text(fault: ElfFault) -> FaultText
     ensures { result ≡ elf_line fault }
 {
-    let mut text = FaultText::empty();
     match fault {
-        ElfFault::NotElf => text.put(b"rtr: not an ELF file\n"),
-        ElfFault::Header => text.put(b"rtr: ELF header not accepted\n"),
-        ElfFault::Segment { index } => text.put_segment(index, b"not accepted"),
-        ElfFault::Outside { index } => text.put_segment(index, b"outside memory"),
-        ElfFault::Overlap { index } => text.put_segment(index, b"overlaps"),
-        ElfFault::Entry => text.put(b"rtr: ELF entry not accepted\n"),
-        ElfFault::OutOfMemory => {}
+        ElfFault::NotElf => FaultText::of(b"rtr: not an ELF file\n"),
+        ElfFault::Header => FaultText::of(b"rtr: ELF header not accepted\n"),
+        ElfFault::Segment { index } => segment_text(index, b"not accepted"),
+        ElfFault::Outside { index } => segment_text(index, b"outside memory"),
+        ElfFault::Overlap { index } => segment_text(index, b"overlaps"),
+        ElfFault::Entry => FaultText::of(b"rtr: ELF entry not accepted\n"),
+        ElfFault::OutOfMemory => FaultText::empty(),
     }
+}
+
+/// The line of an input that has no reading.
+fn bad_text(part: u8) -> FaultText
+    ensures { result ≡ fault_line (Exit.Bad part) }
+{
+    let mut text = FaultText::of(b"rtr: bad input, part ");
+    text.put_number(part.into());
+    text.put(b"\n");
+    text
+}
+
+/// The line of a replay that can't go on.
+fn stuck_text(cut: &Cut) -> FaultText
+    ensures { result ≡ fault_line (Exit.Stuck cut.now) }
+{
+    let mut text = FaultText::of(b"rtr: stuck at");
+    text.put_counts(cut);
+    text.put(b"\n");
+    text
+}
+
+/// The line of a core that is done before its total.
+fn short_text(core: u8, count: u32) -> FaultText
+    ensures { result ≡ fault_line (Exit.Short core count) }
+{
+    let mut text = FaultText::of(b"rtr: core ");
+    text.put_number(core.into());
+    text.put(b" stops at ");
+    text.put_number(count);
+    text.put(b"\n");
+    text
+}
+
+/// The line of two accesses that the log leaves open.
+fn undetermined_text(first: Instr, second: Instr) -> FaultText
+    ensures { result ≡ fault_line (Exit.Undetermined first second) }
+{
+    let mut text = FaultText::of(b"rtr: no order from ");
+    text.put_instr(first);
+    text.put(b" to ");
+    text.put_instr(second);
+    text.put(b"\n");
+    text
+}
+
+/// The line of an instruction that the recording doesn't have.
+fn no_instr_text(at: Instr) -> FaultText
+    ensures { result ≡ fault_line (Exit.NoInstr at) }
+{
+    let mut text = FaultText::of(b"rtr: no instruction ");
+    text.put_instr(at);
+    text.put(b"\n");
+    text
+}
+
+/// The line of a log with more vectors, or edges of them, than are tried.
+fn too_many_text(vectors: u64, edges: u64) -> FaultText
+    ensures { result ≡ fault_line (Exit.TooMany vectors edges) }
+{
+    let mut text = FaultText::of(b"rtr: ");
+    text.put_long(vectors);
+    text.put(b" vectors with ");
+    text.put_long(edges);
+    text.put(b" edges are too many\n");
+    text
+}
+
+/// The line of a vector that isn't shown to be needed.
+fn not_shown_text(vector: u32) -> FaultText
+    ensures { result ≡ fault_line (Exit.NotShown vector) }
+{
+    let mut text = FaultText::of(b"rtr: vector ");
+    text.put_number(vector);
+    text.put(b" is not shown needed\n");
     text
 }
 
@@ -196,57 +285,21 @@ fn elf_text(fault: ElfFault) -> FaultText
 pub fn fault_text(exit: &Exit) -> FaultText
     ensures { result ≡ fault_line exit.now }
 {
-    let mut text = FaultText::empty();
     match exit {
-        Exit::Done => {}
-        Exit::Usage => text.put(b"rtr: usage\n"),
-        Exit::TooLarge => text.put(b"rtr: input too large\n"),
-        Exit::Bad { part } => {
-            text.put(b"rtr: bad input, part ");
-            text.put_number((*part).into());
-            text.put(b"\n");
-        }
-        Exit::Stuck { cut } => {
-            text.put(b"rtr: stuck at");
-            text.put_counts(cut);
-            text.put(b"\n");
-        }
-        Exit::Short { core, count } => {
-            text.put(b"rtr: core ");
-            text.put_number((*core).into());
-            text.put(b" stops at ");
-            text.put_number(*count);
-            text.put(b"\n");
-        }
-        Exit::Undetermined { first, second } => {
-            text.put(b"rtr: no order from ");
-            text.put_instr(*first);
-            text.put(b" to ");
-            text.put_instr(*second);
-            text.put(b"\n");
-        }
-        Exit::CheckFailed { failure } => return failure_text(failure),
-        Exit::ReadFault => text.put(b"rtr: read fault\n"),
-        Exit::WriteFault => text.put(b"rtr: write fault\n"),
-        Exit::OutOfMemory => text.put(b"rtr: out of memory\n"),
-        Exit::Elf { fault } => return elf_text(*fault),
-        Exit::NoInstr { at } => {
-            text.put(b"rtr: no instruction ");
-            text.put_instr(*at);
-            text.put(b"\n");
-        }
-        Exit::TooMany { vectors, edges } => {
-            text.put(b"rtr: ");
-            text.put_long(*vectors);
-            text.put(b" vectors with ");
-            text.put_long(*edges);
-            text.put(b" edges are too many\n");
-        }
-        Exit::NotShown { vector } => {
-            text.put(b"rtr: vector ");
-            text.put_number(*vector);
-            text.put(b" is not shown needed\n");
-        }
+        Exit::Done => FaultText::empty(),
+        Exit::Usage => FaultText::of(b"rtr: usage\n"),
+        Exit::TooLarge => FaultText::of(b"rtr: input too large\n"),
+        Exit::Bad { part } => bad_text(*part),
+        Exit::Stuck { cut } => stuck_text(cut),
+        Exit::Short { core, count } => short_text(*core, *count),
+        Exit::Undetermined { first, second } => undetermined_text(*first, *second),
+        Exit::CheckFailed { failure } => failure_text(failure),
+        Exit::ReadFault => FaultText::of(b"rtr: read fault\n"),
+        Exit::WriteFault => FaultText::of(b"rtr: write fault\n"),
+        Exit::OutOfMemory => FaultText::of(b"rtr: out of memory\n"),
+        Exit::Elf { fault } => elf_text(*fault),
+        Exit::NoInstr { at } => no_instr_text(*at),
+        Exit::TooMany { vectors, edges } => too_many_text(*vectors, *edges),
+        Exit::NotShown { vector } => not_shown_text(*vector),
     }
-    text
 }

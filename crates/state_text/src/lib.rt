@@ -17,6 +17,3 @@ pub use exit::Exit;
 pub use faults::{FAULT_TEXT_MAX, FaultText, fault_text};
 pub use logs::logs_text;
 pub use states::state_text;
-
-#[cfg(test)]
-mod tests;

@@ -1,6 +1,6 @@
 -- Every setting that is put in is in its range, so the parameters fit.
 use Rattle.std.proofs.Common.{◌≡◌, ℕ, IsTrue, ◌<◌, ◌≤◌, ◌%◌, Bool, true, false, List, [], ◌∷◌, Option}
-use Rattle.std.proofs.Common.{Some, None, refl, sym, ap, arith, rules, ◌==◌, nat_le, ◌&&◌, ◌-◌, ◌^◌, ◌*◌, ◌∙◌}
+use Rattle.std.proofs.Common.{Some, None, refl, ap, arith, rules, ◌==◌, nat_le, ◌&&◌, ◌-◌, ◌^◌, ◌*◌, ◌∙◌}
 use Rattle.std.proofs.Common.{unwrap_or, cond, subst}
 use Rattle.std.specs.Option.{option_and_then, option_map}
 use Rattle.std.specs.Str.Parse.{digits_value}
@@ -17,14 +17,13 @@ use Rattle.tool_words.specs.declared.command.Command.TheVariants.{At as StateAt}
 use Rattle.tool_words.specs.declared.command.Verb.{Verb}
 use Rattle.tool_words.specs.declared.command.Verb.TheVariants.{Record, Run, Print, Replay, Migrate, Certify, Check, Gen, Soak, At, Thin, CheckThin}
 use Rattle.tool_words.specs.declared.options.Name.{Name}
-use Rattle.tool_words.specs.declared.options.TheConstants.{THREADS_MAX}
 use Rattle.tool_words.specs.declared.options.Name.TheVariants.{Cores, Limit, Words, Choices, Seed, Log, Loads, Elf, Shape, Number}
 use Rattle.tool_words.specs.declared.options.Name.TheVariants.{Core, Count, Latest, Certified, Threads}
 use Rattle.tool_words.specs.Settings.{Settings}
 use Rattle.tool_words.specs.Numerals.{is_numeral, number_between}
 use Rattle.tool_words.specs.Choices.{are_choices}
 use Rattle.tool_words.specs.Options.{are_together_few, is_set, log_named, no_settings, params_of, put}
-use Rattle.tool_words.specs.Options.{put_new, shape_named, which_of, whole_blocks, cores_default, limit_default, words_default}
+use Rattle.tool_words.specs.Options.{put_new, shape_named, which_of, whole_blocks, cores_default, limit_default, words_default, threads_max}
 use Rattle.tool_words.specs.Commands.{AreFewThreads, HasFittingParams, MayBe, command_of, instr, named_instr, shaped, verb_named}
 use Rattle.tool_words.specs.Reading.{Set, settings, settled, settled_by, few_together, FittingLaw}
 
@@ -189,7 +188,7 @@ put_new-fits s t Certified text h fit =
     let same : record s { certify = true } ≡ t = cc in
     alike (ranged s) (ranged t) (ap ranged same) fit
 put_new-fits s t Threads text h fit =
-    let made = map-some (λ n. record s { threads = Some n }) (number_between 1 THREADS_MAX text) t h in
+    let made = map-some (λ n. record s { threads = Some n }) (number_between 1 threads_max text) t h in
     alike (record (ranged s) { threads = Some made.0 }) (ranged t) (ap ranged made.2)
     (record {
       cores = fit.cores;
@@ -197,7 +196,7 @@ put_new-fits s t Threads text h fit =
       words = fit.words;
       core = fit.core;
       count = fit.count;
-      threads = number_between-range 1 THREADS_MAX made.0 text made.1;
+      threads = number_between-range 1 threads_max made.0 text made.1;
     })
 
 put-fits : (s t : Settings) (name : Name) (text : List ℕ) → put s name text ≡ Some t → AreFitting (ranged s) → AreFitting (ranged t)

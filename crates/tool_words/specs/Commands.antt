@@ -1,6 +1,6 @@
 -- The commands.
 use Rattle.std.specs.Prelude.{ℕ, ◌<◌, ◌≤◌, IsTrue, List, Option, Some, None, codes, unwrap_or, if◌then◌else◌}
-use Rattle.std.specs.Option.{option_and_then, option_map}
+use Rattle.std.specs.Option.{option_and_then, option_map, option_or}
 use Rattle.std.specs.Str.{bytes_eq}
 use Rattle.rtr_types.specs.Parameters.{Fits}
 use Rattle.rtr_types.specs.declared.TheConstants.{CORES_MAX}
@@ -22,26 +22,37 @@ use Rattle.tool_words.specs.declared.command.Verb.{Verb}
 use Rattle.tool_words.specs.declared.command.Verb.TheVariants.{Record, Run, Print, Replay, Migrate}
 use Rattle.tool_words.specs.declared.command.Verb.TheVariants.{Certify, Check, Gen, Soak, At}
 use Rattle.tool_words.specs.declared.command.Verb.TheVariants.{Thin, CheckThin}
-use Rattle.tool_words.specs.declared.options.TheConstants.{THREADS_MAX}
 use Rattle.tool_words.specs.Settings.{Settings}
 use Rattle.tool_words.specs.Choices.{bytes_of}
-use Rattle.tool_words.specs.Options.{params_of, which_of}
+use Rattle.tool_words.specs.Options.{params_of, threads_max, which_of}
 
--- the command that a word names, exactly
-abbrev pub verb_named : List ℕ → Option Verb
-verb_named word =
+-- a word for a command that makes an image or runs one, exactly
+abbrev pub run_verb : List ℕ → Option Verb
+run_verb word =
     if bytes_eq word (codes "record") then Some Record else
     if bytes_eq word (codes "run") then Some Run else
+    if bytes_eq word (codes "gen") then Some Gen else
+    if bytes_eq word (codes "soak") then Some Soak else None
+
+-- a word for a command that reads a recording, exactly
+abbrev pub recording_verb : List ℕ → Option Verb
+recording_verb word =
     if bytes_eq word (codes "print") then Some Print else
     if bytes_eq word (codes "replay") then Some Replay else
     if bytes_eq word (codes "migrate") then Some Migrate else
+    if bytes_eq word (codes "at") then Some At else None
+
+-- a word for a command that shows, or checks, that a log has no more than it needs, exactly
+abbrev pub need_verb : List ℕ → Option Verb
+need_verb word =
     if bytes_eq word (codes "certify") then Some Certify else
     if bytes_eq word (codes "check") then Some Check else
-    if bytes_eq word (codes "gen") then Some Gen else
-    if bytes_eq word (codes "soak") then Some Soak else
-    if bytes_eq word (codes "at") then Some At else
     if bytes_eq word (codes "thin") then Some Thin else
     if bytes_eq word (codes "checkthin") then Some CheckThin else None
+
+-- the command that a word names
+abbrev pub verb_named : List ℕ → Option Verb
+verb_named word = option_or (run_verb word) (option_or (recording_verb word) (need_verb word))
 
 -- the run with these settings
 abbrev pub run_of : Settings → RunWords
@@ -86,10 +97,10 @@ command_of CheckThin s = Some CheckThinned
 abbrev pub MayBe : Instr → Type 0
 MayBe at = (at.core < CORES_MAX) × (1 ≤ at.count) × (at.count ≤ LIMIT_MAX)
 
--- the threads of a replay, where their number is set: one at the least
+-- the threads of a replay, where their number is set: one at the least, and no more than a replay may have
 abbrev pub AreFewThreads : Option ℕ → Type 0
 AreFewThreads None = Unit {0}
-AreFewThreads (Some n) = (1 ≤ n) × (n ≤ THREADS_MAX)
+AreFewThreads (Some n) = (1 ≤ n) × (n ≤ threads_max)
 
 -- the parameters of a command, where it has some, lie in their ranges, a shape that it names has an image of its
 -- number, an instruction that it names may be, and so may its threads

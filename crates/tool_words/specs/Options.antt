@@ -2,7 +2,7 @@
 use Rattle.std.specs.Prelude.{ℕ, ◌*◌, ◌%◌, ◌-◌, ◌^◌, ◌==◌, nat_le, Bool}
 use Rattle.std.specs.Prelude.{true, false, List, Option, Some, None, is_some, codes}
 use Rattle.std.specs.Prelude.{unwrap_or, if◌then◌else◌}
-use Rattle.std.specs.Option.{option_and_then, option_map}
+use Rattle.std.specs.Option.{option_and_then, option_map, option_or}
 use Rattle.std.specs.Str.{bytes_eq}
 use Rattle.rtr_types.specs.declared.params.Params.{Params}
 use Rattle.rtr_types.specs.declared.pairs.Which.{Which}
@@ -14,7 +14,6 @@ use Rattle.trace_gen.specs.declared.shape.Shape.TheVariants.{Mix, Lock}
 use Rattle.tool_words.specs.declared.command.Verb.{Verb}
 use Rattle.tool_words.specs.declared.command.Verb.TheVariants.{Record, Run, Replay, Gen, Soak, At, Thin}
 use Rattle.tool_words.specs.declared.options.Name.{Name}
-use Rattle.tool_words.specs.declared.options.TheConstants.{THREADS_MAX}
 use Rattle.tool_words.specs.declared.options.Name.TheVariants.{Cores, Limit, Words, Choices, Seed}
 use Rattle.tool_words.specs.declared.options.Name.TheVariants.{Log, Loads, Elf, Shape, Number}
 use Rattle.tool_words.specs.declared.options.Name.TheVariants.{Core, Count, Latest, Certified, Threads}
@@ -22,24 +21,41 @@ use Rattle.tool_words.specs.Settings.{Settings}
 use Rattle.tool_words.specs.Choices.{are_choices}
 use Rattle.tool_words.specs.Numerals.{number_between}
 
--- the option that a word names, exactly
-abbrev pub option_named : List ℕ → Option Name
-option_named word =
+-- a word for an option of how an image is run, exactly
+abbrev pub run_option : List ℕ → Option Name
+run_option word =
     if bytes_eq word (codes "--cores") then Some Cores else
     if bytes_eq word (codes "--limit") then Some Limit else
     if bytes_eq word (codes "--words") then Some Words else
     if bytes_eq word (codes "--choices") then Some Choices else
-    if bytes_eq word (codes "--seed") then Some Seed else
-    if bytes_eq word (codes "--log") then Some Log else
-    if bytes_eq word (codes "--loads") then Some Loads else
+    if bytes_eq word (codes "--seed") then Some Seed else None
+
+-- a word for an option that says which image, exactly
+abbrev pub image_option : List ℕ → Option Name
+image_option word =
     if bytes_eq word (codes "--elf") then Some Elf else
     if bytes_eq word (codes "--shape") then Some Shape else
-    if bytes_eq word (codes "--number") then Some Number else
-    if bytes_eq word (codes "--core") then Some Core else
-    if bytes_eq word (codes "--count") then Some Count else
-    if bytes_eq word (codes "--latest") then Some Latest else
+    if bytes_eq word (codes "--number") then Some Number else None
+
+-- a word for an option of what is done by a log, exactly
+abbrev pub log_option : List ℕ → Option Name
+log_option word =
+    if bytes_eq word (codes "--log") then Some Log else
+    if bytes_eq word (codes "--loads") then Some Loads else
     if bytes_eq word (codes "--certify") then Some Certified else
     if bytes_eq word (codes "--threads") then Some Threads else None
+
+-- a word for an option that says at which instruction, exactly
+abbrev pub instr_option : List ℕ → Option Name
+instr_option word =
+    if bytes_eq word (codes "--core") then Some Core else
+    if bytes_eq word (codes "--count") then Some Count else
+    if bytes_eq word (codes "--latest") then Some Latest else None
+
+-- the option that a word names
+abbrev pub option_named : List ℕ → Option Name
+option_named word =
+    option_or (run_option word) (option_or (image_option word) (option_or (log_option word) (instr_option word)))
 
 -- the command takes the option, where it stands here
 abbrev pub takes : Verb → Name → Bool
@@ -106,6 +122,10 @@ limit_default = 10000
 
 abbrev pub words_default : ℕ
 words_default = 16384
+
+-- the most threads of a replay
+abbrev pub threads_max : ℕ
+threads_max = 8
 
 -- no option is set
 abbrev pub no_settings : Settings
@@ -178,7 +198,7 @@ put_new s Core text = option_map (λ n. record s { core = Some n }) (number_betw
 put_new s Count text = option_map (λ n. record s { count = Some n }) (number_between 1 LIMIT_MAX text)
 put_new s Latest text = Some (record s { latest = true })
 put_new s Certified text = Some (record s { certify = true })
-put_new s Threads text = option_map (λ n. record s { threads = Some n }) (number_between 1 THREADS_MAX text)
+put_new s Threads text = option_map (λ n. record s { threads = Some n }) (number_between 1 threads_max text)
 
 -- the settings with one more; none where that option was set before
 abbrev pub put : Settings → Name → List ℕ → Option Settings

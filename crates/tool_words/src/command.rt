@@ -1,7 +1,7 @@
 //! The commands, and which options each takes.
 ghost use Rattle.std.specs.Prelude.{◌≡◌, ◌≢◌, IfOk, None, OnErr};
 ghost use Rattle.tool_words.specs.Settings.{seen};
-ghost use Rattle.tool_words.specs.Commands.{command_of, run_of, verb_named};
+ghost use Rattle.tool_words.specs.Commands.{command_of, need_verb, recording_verb, run_of, run_verb, verb_named};
 
 use crate::choices::bytes_of;
 use crate::options::Settings;
@@ -79,7 +79,7 @@ pub enum Command {
 }
 
 /// The first word: a command without its options.
-#[derive(Clone, Copy, Debug, PartialEq, Eq)]
+#[derive(Clone, Copy)]
 pub(crate) enum Verb {
     Record,
     Run,
@@ -100,26 +100,51 @@ impl Verb {
     pub(crate) fn named(word: &str) -> Option<Verb>
         ensures { result ≡ verb_named word.now }
     {
+        Verb::of_runs(word).or(Verb::of_recordings(word).or(Verb::of_needs(word)))
+    }
+
+    /// The command that makes an image or runs one and is named by this word, exactly.
+    fn of_runs(word: &str) -> Option<Verb>
+        ensures { result ≡ run_verb word.now }
+    {
         if word == "record" {
             Some(Verb::Record)
         } else if word == "run" {
             Some(Verb::Run)
-        } else if word == "print" {
+        } else if word == "gen" {
+            Some(Verb::Gen)
+        } else if word == "soak" {
+            Some(Verb::Soak)
+        } else {
+            None
+        }
+    }
+
+    /// The command that reads a recording and is named by this word, exactly.
+    fn of_recordings(word: &str) -> Option<Verb>
+        ensures { result ≡ recording_verb word.now }
+    {
+        if word == "print" {
             Some(Verb::Print)
         } else if word == "replay" {
             Some(Verb::Replay)
         } else if word == "migrate" {
             Some(Verb::Migrate)
-        } else if word == "certify" {
+        } else if word == "at" {
+            Some(Verb::At)
+        } else {
+            None
+        }
+    }
+
+    /// The command that shows, or checks, that a log has no more than it needs and is named by this word, exactly.
+    fn of_needs(word: &str) -> Option<Verb>
+        ensures { result ≡ need_verb word.now }
+    {
+        if word == "certify" {
             Some(Verb::Certify)
         } else if word == "check" {
             Some(Verb::Check)
-        } else if word == "gen" {
-            Some(Verb::Gen)
-        } else if word == "soak" {
-            Some(Verb::Soak)
-        } else if word == "at" {
-            Some(Verb::At)
         } else if word == "thin" {
             Some(Verb::Thin)
         } else if word == "checkthin" {

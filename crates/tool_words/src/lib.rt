@@ -10,6 +10,3 @@ mod reading;
 pub use command::{Command, RunWords};
 pub use options::THREADS_MAX;
 pub use reading::{meaning, what_words_mean_fits};
-
-#[cfg(test)]
-mod tests;

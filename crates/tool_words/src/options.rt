@@ -5,7 +5,7 @@ ghost use Rattle.tool_words.specs.Settings.{seen};
 ghost use Rattle.tool_words.specs.Commands.{named_instr, shaped};
 ghost use Rattle.tool_words.specs.Options.{are_together_few, is_set, log_named, no_settings, option_named, option_of};
 ghost use Rattle.tool_words.specs.Options.{params_of, put, put_new, shape_named, takes, takes_value, which_of};
-ghost use Rattle.tool_words.specs.Options.{whole_blocks};
+ghost use Rattle.tool_words.specs.Options.{image_option, instr_option, log_option, run_option, whole_blocks};
 
 use crate::choices::are_choices;
 use crate::command::Verb;
@@ -28,7 +28,7 @@ pub(crate) const WORDS_DEFAULT: u32 = 16_384;
 pub const THREADS_MAX: u32 = 8;
 
 /// An option by its name.
-#[derive(Clone, Copy, Debug, PartialEq, Eq)]
+#[derive(Clone, Copy)]
 pub(crate) enum Name {
     Cores,
     Limit,
@@ -64,6 +64,15 @@ impl Name {
     fn named(word: &str) -> Option<Name>
         ensures { result ≡ option_named word.now }
     {
+        Name::of_runs(word).or(Name::of_images(word).or(Name::of_logs(word).or(Name::of_instrs(
+            word,
+        ))))
+    }
+
+    /// The option of how an image is run that this word names, exactly.
+    fn of_runs(word: &str) -> Option<Name>
+        ensures { result ≡ run_option word.now }
+    {
         if word == "--cores" {
             Some(Name::Cores)
         } else if word == "--limit" {
@@ -74,26 +83,53 @@ impl Name {
             Some(Name::Choices)
         } else if word == "--seed" {
             Some(Name::Seed)
-        } else if word == "--log" {
-            Some(Name::Log)
-        } else if word == "--loads" {
-            Some(Name::Loads)
-        } else if word == "--elf" {
+        } else {
+            None
+        }
+    }
+
+    /// The option that says which image, where this word names one, exactly.
+    fn of_images(word: &str) -> Option<Name>
+        ensures { result ≡ image_option word.now }
+    {
+        if word == "--elf" {
             Some(Name::Elf)
         } else if word == "--shape" {
             Some(Name::Shape)
         } else if word == "--number" {
             Some(Name::Number)
-        } else if word == "--core" {
+        } else {
+            None
+        }
+    }
+
+    /// The option of what is done by a log that this word names, exactly.
+    fn of_logs(word: &str) -> Option<Name>
+        ensures { result ≡ log_option word.now }
+    {
+        if word == "--log" {
+            Some(Name::Log)
+        } else if word == "--loads" {
+            Some(Name::Loads)
+        } else if word == "--certify" {
+            Some(Name::Certified)
+        } else if word == "--threads" {
+            Some(Name::Threads)
+        } else {
+            None
+        }
+    }
+
+    /// The option that says at which instruction, where this word names one, exactly.
+    fn of_instrs(word: &str) -> Option<Name>
+        ensures { result ≡ instr_option word.now }
+    {
+        if word == "--core" {
             Some(Name::Core)
         } else if word == "--count" {
             Some(Name::Count)
         } else if word == "--latest" {
             Some(Name::Latest)
-        } else if word == "--certify" {
-            Some(Name::Certified)
-        } else if word == "--threads" {
-            Some(Name::Threads)
         } else {
             None
         }
@@ -211,66 +247,28 @@ impl<'a> Settings<'a> {
     fn put_new(self, name: Name, text: &'a str) -> Option<Settings<'a>>
         ensures { option_map (λ s. seen s) result ≡ put_new (seen self.entry) name text.now }
     {
+        let mut next = self;
         match name {
-            Name::Cores => Some(Settings {
-                cores: Some(number_between(1, CORES_MAX as u64, text)? as u8),
-                ..self
-            }),
-            Name::Limit => Some(Settings {
-                limit: Some(number_between(1, LIMIT_MAX as u64, text)? as u32),
-                ..self
-            }),
-            Name::Words => Some(Settings {
-                words: Some(whole_blocks(text)?),
-                ..self
-            }),
-            Name::Choices if are_choices(text.as_bytes()) => Some(Settings {
-                choices: Some(text),
-                ..self
-            }),
-            Name::Choices => None,
-            Name::Seed => Some(Settings {
-                seed: Some(number_between(0, u64::MAX, text)?),
-                ..self
-            }),
-            Name::Log => Some(Settings {
-                log: Some(log_named(text)?),
-                ..self
-            }),
-            Name::Loads => Some(Settings {
-                loads: true,
-                ..self
-            }),
-            Name::Elf => Some(Settings { elf: true, ..self }),
-            Name::Shape => Some(Settings {
-                shape: Some(shape_named(text)?),
-                ..self
-            }),
-            Name::Number => Some(Settings {
-                number: Some(number_between(0, u64::MAX, text)?),
-                ..self
-            }),
-            Name::Core => Some(Settings {
-                core: Some(number_between(0, CORES_MAX as u64 - 1, text)? as u8),
-                ..self
-            }),
-            Name::Count => Some(Settings {
-                count: Some(number_between(1, LIMIT_MAX as u64, text)? as u32),
-                ..self
-            }),
-            Name::Latest => Some(Settings {
-                latest: true,
-                ..self
-            }),
-            Name::Certified => Some(Settings {
-                certify: true,
-                ..self
-            }),
-            Name::Threads => Some(Settings {
-                threads: Some(number_between(1, THREADS_MAX as u64, text)? as u32),
-                ..self
-            }),
+            Name::Cores => next.cores = Some(number_between(1, CORES_MAX as u64, text)? as u8),
+            Name::Limit => next.limit = Some(number_between(1, LIMIT_MAX as u64, text)? as u32),
+            Name::Words => next.words = Some(whole_blocks(text)?),
+            Name::Seed => next.seed = Some(number_between(0, u64::MAX, text)?),
+            Name::Log => next.log = Some(log_named(text)?),
+            Name::Loads => next.loads = true,
+            Name::Elf => next.elf = true,
+            Name::Shape => next.shape = Some(shape_named(text)?),
+            Name::Number => next.number = Some(number_between(0, u64::MAX, text)?),
+            Name::Core => next.core = Some(number_between(0, CORES_MAX as u64 - 1, text)? as u8),
+            Name::Count => next.count = Some(number_between(1, LIMIT_MAX as u64, text)? as u32),
+            Name::Latest => next.latest = true,
+            Name::Certified => next.certify = true,
+            Name::Threads => next.threads = Some(
+                number_between(1, THREADS_MAX as u64, text)? as u32,
+            ),
+            Name::Choices if are_choices(text.as_bytes()) => next.choices = Some(text),
+            Name::Choices => return None,
         }
+        Some(next)
     }
 
     /// The parameters of a run with these settings.

@@ -1,13 +1,15 @@
 //! Texts from the tool's written description.
 ghost use Rattle.std.specs.Prelude.{◌≡◌, ◌≤◌, ◌∷◌, [], IfOk, length};
 
-use crate::{Exit, check_text, cut_state_text, fault_text, logs_text, needed_text, state_text};
 use image_elf::ElfFault;
 use image_mem::Image;
 use log_codec::Recording;
 use min_certificate::CheckFailure;
 use rtr_types::{CORES_MAX, Cut, Edge, Instr, Items, Params, WORDS_MAX};
 use rv_core::{Core, Halt, LoadNote, Outcome};
+use state_text::{
+    Exit, check_text, cut_state_text, fault_text, logs_text, needed_text, state_text,
+};
 use std::alloc::{AllocError, Global};
 use std::test::Fail;
 use stride_vector::StrideVector;

@@ -1,7 +1,8 @@
-use crate::{Command, RunWords, meaning};
+//! Lines of words, and what they mean.
 use rtr_types::{Instr, Params, Which};
 use std::alloc::{AllocError, Global};
 use std::test::Fail;
+use tool_words::{Command, RunWords, meaning};
 use trace_gen::Shape;
 
 /// The words of a line, which are parted by single spaces.
@@ -13,6 +14,12 @@ fn words(alloc: Global, line: &str) -> Result<Vec<String>, AllocError> {
         }
     }
     Ok(words)
+}
+
+/// What the words of a line mean.
+fn meaning_of(alloc: Global, line: &str) -> Result<Option<Command>, AllocError> {
+    let words = words(alloc, line)?;
+    meaning(alloc, words.as_slice())
 }
 
 /// A line of words and the run that it means.
@@ -145,8 +152,7 @@ fn is_run(command: Option<Command>, row: &Row) -> bool {
 #[test]
 fn words_that_mean_a_run(rt: HostRuntime) -> Result<(), Fail> {
     for row in &ROWS {
-        let words = words(rt.alloc(), row.line)?;
-        let command = meaning(rt.alloc(), words.as_slice())?;
+        let command = meaning_of(rt.alloc(), row.line)?;
         assert!(rt; is_run(command, row), "{}", row.line);
     }
     Ok(())
@@ -208,8 +214,7 @@ static REPLAYS: [ReplayRow; 7] = [
 #[test]
 fn words_that_mean_a_replay(rt: HostRuntime) -> Result<(), Fail> {
     for row in &REPLAYS {
-        let words = words(rt.alloc(), row.line)?;
-        let meant = match meaning(rt.alloc(), words.as_slice())? {
+        let meant = match meaning_of(rt.alloc(), row.line)? {
             Some(
                 Command::Replay {
                     which,
@@ -324,26 +329,18 @@ static FAULTY: [&str; 94] = [
 #[test]
 fn words_that_mean_nothing(rt: HostRuntime) -> Result<(), Fail> {
     for line in FAULTY {
-        let words = words(rt.alloc(), line)?;
-        assert!(rt; meaning(rt.alloc(), words.as_slice())?.is_none(), "{line}");
+        assert!(rt; meaning_of(rt.alloc(), line)?.is_none(), "{line}");
     }
     Ok(())
 }
 
 #[test]
-fn words_that_mean_a_recording(rt: HostRuntime) -> Result<(), Fail> {
-    let print = words(rt.alloc(), "print")?;
-    let command = meaning(rt.alloc(), print.as_slice())?;
-    assert!(rt; matches!(command, Some(Command::Print)));
-    let migrate = words(rt.alloc(), "migrate")?;
-    let command = meaning(rt.alloc(), migrate.as_slice())?;
-    assert!(rt; matches!(command, Some(Command::Migrate)));
-    let certify = words(rt.alloc(), "certify")?;
-    let command = meaning(rt.alloc(), certify.as_slice())?;
-    assert!(rt; matches!(command, Some(Command::Certify)));
-    let check = words(rt.alloc(), "check")?;
-    let command = meaning(rt.alloc(), check.as_slice())?;
-    assert!(rt; matches!(command, Some(Command::Check)));
+fn words_without_options(rt: HostRuntime) -> Result<(), Fail> {
+    let alloc = rt.alloc();
+    assert!(rt; matches!(meaning_of(alloc, "print")?, Some(Command::Print)));
+    assert!(rt; matches!(meaning_of(alloc, "migrate")?, Some(Command::Migrate)));
+    assert!(rt; matches!(meaning_of(alloc, "certify")?, Some(Command::Certify)));
+    assert!(rt; matches!(meaning_of(alloc, "check")?, Some(Command::Check)));
     Ok(())
 }
 
@@ -357,8 +354,7 @@ fn is_record(command: Option<Command>, row: &Row) -> bool {
 
 #[test]
 fn words_that_mean_a_record(rt: HostRuntime) -> Result<(), Fail> {
-    let words = words(rt.alloc(), "record --elf --words 32 --choices=07")?;
-    let command = meaning(rt.alloc(), words.as_slice())?;
+    let command = meaning_of(rt.alloc(), "record --elf --words 32 --choices=07")?;
     assert!(rt; is_record(command, &ROWS[8]));
     Ok(())
 }
@@ -396,8 +392,7 @@ static IMAGES: [ImageRow; 4] = [
 #[test]
 fn words_that_mean_an_image(rt: HostRuntime) -> Result<(), Fail> {
     for row in &IMAGES {
-        let words = words(rt.alloc(), row.line)?;
-        let meant = match meaning(rt.alloc(), words.as_slice())? {
+        let meant = match meaning_of(rt.alloc(), row.line)? {
             Some(Command::Gen { shape, number }) => shape == row.shape && number == row.number,
             _ => false,
         };
@@ -459,8 +454,7 @@ fn is_soak(command: Option<Command>, row: &SoakRow) -> bool {
 #[test]
 fn words_that_mean_a_soak(rt: HostRuntime) -> Result<(), Fail> {
     for row in &SOAKS {
-        let words = words(rt.alloc(), row.line)?;
-        let command = meaning(rt.alloc(), words.as_slice())?;
+        let command = meaning_of(rt.alloc(), row.line)?;
         assert!(rt; is_soak(command, row), "{}", row.line);
     }
     Ok(())
@@ -528,17 +522,10 @@ fn is_at(command: Option<Command>, row: &AtRow) -> bool {
 #[test]
 fn words_that_mean_an_instruction(rt: HostRuntime) -> Result<(), Fail> {
     for row in &INSTRUCTIONS {
-        let words = words(rt.alloc(), row.line)?;
-        let command = meaning(rt.alloc(), words.as_slice())?;
+        let command = meaning_of(rt.alloc(), row.line)?;
         assert!(rt; is_at(command, row), "{}", row.line);
     }
     Ok(())
-}
-
-/// The words of a line, and what they mean.
-fn meaning_of(alloc: Global, line: &str) -> Result<Option<Command>, AllocError> {
-    let words = words(alloc, line)?;
-    meaning(alloc, words.as_slice())
 }
 
 #[test]

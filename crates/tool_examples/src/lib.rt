@@ -1,0 +1,8 @@
+//! Lines of words with what they mean, and the texts of the tool's written description. It has tests alone, and stands
+//! apart so that the crates of words and texts are proved without them.
+#![tactic(auto)]
+
+#[cfg(test)]
+mod text_tests;
+#[cfg(test)]
+mod word_tests;
