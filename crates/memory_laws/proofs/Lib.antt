@@ -18,3 +18,7 @@ pub mod Waiting
 pub mod Spaces
 pub mod Ready
 pub mod Moving
+pub mod Acting
+pub mod Awaits
+pub mod PortWaits
+pub mod Final

@@ -1,8 +1,10 @@
 -- What a port waits for. A waiting line says it by its own state: the data of its block, to read or to write them, or
 -- the end of a Put that makes place. Who uses the memory system keeps beside it which of its accesses that is for.
-use Rattle.std.specs.Prelude.{◌≡◌, ℕ, ◌%◌, ◌==◌, Bool, true, false, not, ◌&&◌, ◌<◌, length, IsTrue}
+use Rattle.std.specs.Prelude.{◌≡◌, ℕ, ◌/◌, ◌%◌, ◌==◌, Bool, true, false, not, ◌&&◌, ◌<◌, Option, Some, None, length}
+use Rattle.std.specs.Prelude.{IsTrue}
 use Rattle.access_times.specs.Riding.{Riding, Carrying}
 use Rattle.rtr_types.specs.Accesses.{is_write}
+use Rattle.rtr_types.specs.declared.TheConstants.{BLOCK_WORDS}
 use Rattle.rtr_types.specs.declared.access.Kind.{Kind}
 use Rattle.rtr_types.specs.declared.TheConstants.{LINES}
 use Rattle.msi_cache.specs.declared.line.State.{State as LineState}
@@ -28,6 +30,11 @@ serves _ writes l i b = true
 abbrev pub WaitsFor : {R K : Type 0} → Riding R → Port R K → (block : ℕ) → Kind → Type 0
 WaitsFor riding p block kind =
     (i : ℕ) → serves (place_at riding p i).state (is_write kind) (place_at riding p i).block i block ≡ true
+
+-- whatever waits at the port does so for this access, as a kind and a word; where it is none, nothing waits there
+abbrev pub Awaited : {R K : Type 0} → Option (Kind × ℕ) → Riding R → Port R K → Type 0
+Awaited None riding p = waits p.cache ≡ false
+Awaited (Some (kind, word)) riding p = WaitsFor riding p (word / BLOCK_WORDS) kind
 
 -- the act is that core d asks
 abbrev pub is_want : {R : Type 0} → Act R → (d : ℕ) → Bool

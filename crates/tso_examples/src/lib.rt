@@ -1,0 +1,28 @@
+//! Small runs of the machine with store buffers that its definitions are proved to give. Each is computed from the
+//! definitions of state, moves and step alone, and a plain program gave what is claimed.
+#![tactic(auto)]
+
+ghost use Rattle.tso_examples.specs.Examples.{BothLogged, BytesBuffered, MixedEnds};
+ghost use Rattle.tso_examples.specs.Examples.{OneLogged, OwnStoreSeen, SumsInTurn};
+
+/// Each core writes a word and reads the other's: both loads find the old words and are logged, or one alone.
+pub fn two_cores_buffer_their_stores()
+    ensures both { BothLogged }
+    ensures one { OneLogged }
+{}
+
+/// A core's load sees its own pending store.
+pub fn a_core_sees_its_own_store()
+    ensures { OwnStoreSeen }
+{}
+
+/// Bytes of one word, and sums in one word: none is lost.
+pub fn a_word_is_shared()
+    ensures bytes { BytesBuffered }
+    ensures sums { SumsInTurn }
+{}
+
+/// Accesses to two blocks with one line, with a fence and an atomic memory operation among them.
+pub fn two_blocks_share_a_line()
+    ensures { MixedEnds }
+{}
