@@ -1,5 +1,6 @@
-//! Recordings whose logs were written by hand: their replays, their audits, and the cuts of their runs. It
-//! has tests alone, and stands apart so that the crates above replays and audits don't wait for it.
+//! Recordings whose logs were written by hand: their replays, their audits, the cuts of their runs, and
+//! recordings of cores with store buffers. It has tests alone, and stands apart so that the crates above
+//! replays and audits don't wait for it.
 #![tactic(auto)]
 
 #[cfg(test)]
@@ -10,3 +11,7 @@ mod cuts;
 mod replays;
 #[cfg(test)]
 mod slow_cuts;
+#[cfg(test)]
+mod tso_files;
+#[cfg(test)]
+mod tso_replays;
