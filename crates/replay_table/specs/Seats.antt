@@ -19,7 +19,7 @@ use Rattle.log_codec.specs.Validity.{Valid}
 use Rattle.replay_core.specs.Plans.{Plan, recorded_image, plan_of}
 use Rattle.replay_core.specs.Play.{Use, instr, loads_at, loads_after, played, accesses_of}
 use Rattle.replay_audit.specs.declared.touch.Touch.{Touch}
-use Rattle.replay_audit.specs.Clocks.{AreSources}
+use Rattle.replay_core.specs.Sources.{AreSources}
 use Rattle.replay_audit.specs.Determinate.{IsDeterminate, low_outcome}
 use Rattle.replay_audit.specs.Laws.{IsWholePlay}
 use Rattle.replay_table.specs.declared.upcoming.Upcoming.{Upcoming}

@@ -2,7 +2,7 @@
 ghost use Rattle.std.specs.Prelude.{◌≡◌, ◌<◌, ◌≤◌, length, slice_index};
 ghost use Rattle.log_codec.specs.Sources.{log_edges};
 ghost use Rattle.log_codec.specs.Validity.{Valid};
-ghost use Rattle.replay_audit.specs.Clocks.{AreSources};
+ghost use Rattle.replay_core.specs.Sources.{AreSources};
 ghost use Rattle.replay_core.specs.Plans.{recorded_image};
 ghost use Rattle.replay_table.specs.Seats.{IsUpcoming};
 
