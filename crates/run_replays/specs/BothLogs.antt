@@ -8,8 +8,8 @@ use Rattle.rtr_types.specs.declared.params.Params.{Params}
 use Rattle.schedule_pick.specs.Choices.{Choices}
 use Rattle.log_codec.specs.declared.recording.Recording.{Recording}
 use Rattle.edge_regulate.specs.Regulated.{Knowledge, regulated}
-use Rattle.recorder.specs.Recordings.{recording_of}
-use Rattle.recorder.specs.WhatIsKnown.{CountsKnown}
+use Rattle.run_records.specs.Recordings.{recording_of}
+use Rattle.run_records.specs.WhatIsKnown.{CountsKnown}
 use Rattle.run_replays.specs.Deciding.{CoversRun}
 use Rattle.run_replays.specs.Replays.{ReplaysRun}
 
