@@ -40,9 +40,9 @@ pub all_numbered : {R K : Type 0} (image : Contents) (params : Params) (schedule
 all_numbered {R} {K} image params schedule t s loads rest fits stands =
     All-from_get_or (λ (core : Core). core.id < length loads) s.cores (starting 0 0) (λ k lt. omega (
       arith,
-      numbered image params schedule t s loads rest fits stands k lt,
+      numbered image params schedule t s rest fits stands.runs k lt,
       lt,
-      stands.cores,
+      stands.runs.cores,
       ap length stands.loads_are,
       length-map-range_with_len (λ (c : ℕ). loads_of c (accesses image params (choice_at schedule) t)) 0 params.cores,
     ))

@@ -42,19 +42,37 @@ pub fn run_image(
     ensures outcome { IfOk result (λ ran. ran.outcome ≡ outcome_of image params schedule) }
     ensures image { IfOk result (λ ran. ran.image ≡ image) }
 {
+    let clerk = LoadClerk::new(alloc, params.cores)?;
     let mut machine = Machine::<NoRider, NoCarry>::new(alloc, image, params)?;
-    let mut clerk = LoadClerk::new(alloc, params.cores)?;
-    let mut choices = schedule;
-    while !machine.done() {
-        turn(&mut machine, &mut clerk, &mut choices)?;
-    }
-    let outcome = Outcome {
-        cores: cores_of(alloc, &machine, params.cores)?,
-        words: words_of(alloc, &machine, params.words)?,
-        loads: clerk.into_loads(),
-    };
+    let outcome = run_on(alloc, &mut machine, clerk, schedule, params)?;
     let image = machine.into_image();
     Ok(Ran { outcome, image })
+}
+
+/// Runs a machine that stands at its start to the end.
+fn run_on(
+    alloc: Global,
+    machine: &mut Machine<NoRider, NoCarry>,
+    clerk: LoadClerk,
+    schedule: Schedule,
+    params: Params,
+) -> Result<Outcome, AllocError>
+    requires fits { Fits params }
+    requires words { machine.old.state.image.words ≡ params.words }
+    requires stands { StandsAt machine.old.state.image params schedule 0 (plain machine.old.state) clerk.lists schedule }
+    ensures outcome { IfOk result (λ outcome. outcome ≡ outcome_of machine.old.state.image params schedule) }
+    ensures image { OnOk result (machine.new.state.image ≡ machine.old.state.image) }
+{
+    let mut clerk = clerk;
+    let mut choices = schedule;
+    while !machine.done() {
+        turn(machine, &mut clerk, &mut choices)?;
+    }
+    Ok(Outcome {
+        cores: cores_of(alloc, machine, params.cores)?,
+        words: words_of(alloc, machine, params.words)?,
+        loads: clerk.into_loads(),
+    })
 }
 
 /// One step of the machine, after room was made for it.

@@ -1,5 +1,5 @@
 //! The run of an image, recorded.
-ghost use Rattle.std.specs.Prelude.{◌≡◌, ◌<◌, ℕ, suc, IfOk, OnOk, false};
+ghost use Rattle.std.specs.Prelude.{◌≡◌, ◌<◌, ℕ, suc, IfOk, OnOk, false, length};
 ghost use Rattle.access_times.specs.Times.{times_riding};
 ghost use Rattle.conflict_edge.specs.Least.{IsLeast};
 ghost use Rattle.edge_regulate.specs.Regulated.{Knowledge, regulated};
@@ -13,28 +13,78 @@ ghost use Rattle.rtr_types.specs.Parameters.{Fits};
 ghost use Rattle.rtr_types.specs.declared.pairs.Which.TheVariants.{Reduced};
 ghost use Rattle.rtr_types.specs.declared.params.Params.{Params};
 ghost use Rattle.schedule_pick.specs.Choices.{Choices};
-ghost use Rattle.recorder.specs.Recordings.{run_accesses, recording_of};
-ghost use Rattle.recorder.specs.WhatIsKnown.{CountsKnown};
-ghost use Rattle.recorder.specs.Standing.{IsRecording, RecordsAt};
+ghost use Rattle.run_records.specs.Recordings.{recording_of, reduced_of, regulated_of, run_accesses, totals_of};
+ghost use Rattle.run_records.specs.WhatIsKnown.{CountsKnown};
+ghost use Rattle.run_records.specs.Standing.{IsRecording, RecordsAt};
 
-use crate::recorded::{Recorded, finished};
-use crate::run_clerk::RunClerk;
+use crate::run_clerk::{RunClerk, RunLogs};
 use access_times::Times;
 use image_mem::Image;
 use know_history::Known;
+use log_codec::Recording;
+use machine_run::run_image;
 use msi_machine::Machine;
-use rtr_types::Params;
+use rtr_types::{Items, Params};
+use rv_core::Outcome;
 use schedule_pick::Schedule;
 use std::alloc::{AllocError, Global};
+
+/// The recording of a run, and what the run came to.
+#[derive(Drop)]
+pub struct Recorded {
+    pub recording: Recording,
+    pub outcome: Outcome,
+}
+
+/// What a run leaves that its recording is made of: how many instructions each core retired, and both logs.
+#[derive(Drop)]
+struct RunEnd {
+    totals: Items<u32>,
+    logs: RunLogs,
+}
 
 /// Runs the image on the machine to its end, under the schedule, and records the run. The only refusal
 /// is want of memory.
 ///
-/// The outcome and the recording are one function of image, parameters and schedule. The reduced log is
-/// the least set of the run's accesses: each of its edges is a conflict, they imply the order of every
-/// two accesses that conflict, and no set of conflicts that does lacks one of them. The regulated log has
-/// each pair's greedy vectors of these edges, by what is known in the run at each instruction: whatever
-/// counts the instructions that are known gives these vectors.
+/// The recording is one function of image, parameters and schedule. The reduced log is the least set of
+/// the run's accesses: each of its edges is a conflict, they imply the order of every two accesses that
+/// conflict, and no set of conflicts that does lacks one of them. The regulated log has each pair's greedy
+/// vectors of these edges, by what is known in the run at each instruction: whatever counts the
+/// instructions that are known gives these vectors.
+pub fn record_image(
+    alloc: Global,
+    image: Image,
+    params: Params,
+    schedule: Schedule,
+) -> Result<Recording, AllocError>
+    requires fits { Fits params }
+    requires words { image.words ≡ params.words }
+    ensures recording { IfOk result (λ recording. recording ≡ recording_of image params schedule) }
+    ensures valid { IfOk result (λ recording. Valid recording) }
+    ensures regulated { IfOk result (λ recording. (known : Knowledge) → CountsKnown image params schedule known →
+        recording.regulated ≡ regulated params.cores known recording.reduced) }
+    ensures least { IfOk result (λ recording. IsLeast (run_accesses image params schedule)
+        (log_edges Reduced recording)) }
+{
+    let words = image.words();
+    prove!(words == params.words);
+    let clerk = RunClerk::new(alloc, params.cores)?;
+    let mut machine = Machine::<Times, Known>::new(alloc, image, params)?;
+    let run_end = record_on(alloc, &mut machine, clerk, schedule, params)?;
+    Ok(Recording {
+        params,
+        image: Items::from_vec(machine.into_image().into_bytes()),
+        totals: run_end.totals,
+        reduced: run_end.logs.reduced,
+        regulated: run_end.logs.regulated,
+    })
+}
+
+/// Records the run, as `record_image` does, and tells what it came to. It makes the run twice, so that
+/// neither run keeps what the other is for. The only refusal is want of memory.
+///
+/// The outcome and the recording are one function of image, parameters and schedule; of the recording holds
+/// what `record_image` says.
 pub fn record_run(
     alloc: Global,
     image: Image,
@@ -51,15 +101,58 @@ pub fn record_run(
     ensures least { IfOk result (λ run. IsLeast (run_accesses image params schedule)
         (log_edges Reduced run.recording)) }
 {
-    let words = image.words();
-    prove!(words == params.words);
-    let mut machine = Machine::<Times, Known>::new(alloc, image, params)?;
-    let mut clerk = RunClerk::new(alloc, params.cores)?;
+    let again = schedule.copied(alloc)?;
+    let ran = run_image(alloc, image, params, schedule)?;
+    let recording = record_image(alloc, ran.image, params, again)?;
+    Ok(Recorded {
+        recording,
+        outcome: ran.outcome,
+    })
+}
+
+/// Runs a machine that stands at its start to the end.
+fn record_on(
+    alloc: Global,
+    machine: &mut Machine<Times, Known>,
+    clerk: RunClerk,
+    schedule: Schedule,
+    params: Params,
+) -> Result<RunEnd, AllocError>
+    requires fits { Fits params }
+    requires stands { RecordsAt machine.old.state.image params schedule 0 machine.old.state clerk schedule }
+    ensures totals { IfOk result (λ end.
+        end.totals ≡ totals_of (outcome_of machine.old.state.image params schedule).cores) }
+    ensures reduced { IfOk result (λ end. end.logs.reduced ≡ reduced_of machine.old.state.image params schedule) }
+    ensures regulated { IfOk result (λ end.
+        end.logs.regulated ≡ regulated_of machine.old.state.image params schedule) }
+    ensures image { OnOk result (machine.new.state.image ≡ machine.old.state.image) }
+{
+    let mut clerk = clerk;
     let mut choices = schedule;
     while !machine.done() {
-        turn(&mut machine, &mut clerk, &mut choices)?;
+        turn(machine, &mut clerk, &mut choices)?;
     }
-    finished(alloc, machine, clerk, params)
+    let totals = totals_of(alloc, machine, params.cores)?;
+    Ok(RunEnd {
+        totals,
+        logs: clerk.finish(),
+    })
+}
+
+/// How many instructions each core of the machine retired.
+fn totals_of(
+    alloc: Global,
+    machine: &Machine<Times, Known>,
+    cores: u8,
+) -> Result<Items<u32>, AllocError>
+    requires { cores ≡ length machine.now.state.cores }
+    ensures { IfOk result (λ totals. totals ≡ totals_of machine.now.state.cores) }
+{
+    let mut totals = Items::new(alloc);
+    for core in 0..cores {
+        totals.push(machine.core(core).count())?;
+    }
+    Ok(totals)
 }
 
 /// One step of the machine, after room was made for it, and what it adds to the regulated log.

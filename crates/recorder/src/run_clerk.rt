@@ -7,53 +7,57 @@ ghost use Rattle.know_history.specs.Notes.{Notes, known_at, no_notes};
 ghost use Rattle.edge_regulate.specs.Regulated.{AreReady, IsRegulation, regulated};
 ghost use Rattle.online_reduce.proofs.ExactNext.{other_clocks_law};
 ghost use Rattle.online_reduce.specs.Reduced.{clock_of, unreduced};
-ghost use Rattle.recorder.specs.Clerks.{CanTell, IsTold};
+ghost use Rattle.run_records.specs.Clerks.{CanTell, IsTold};
 
 use access_times::{Clerk, Times, TimesClerk};
 use edge_regulate::Regulator;
 use know_history::{History, Known};
-use load_lists::LoadLists;
-use machine_run::note_read;
 use online_reduce::{EdgePlaces, Reducer};
 use rtr_types::{Access, Instr, Items};
-use rv_core::LoadNote;
 use std::alloc::{AllocError, Global};
 use std::marker::Model;
 use stride_vector::StrideVector;
 
-/// Makes both logs of the run and keeps each core's loads, among which are its atomic memory operations.
-/// It keeps no other access. It accepts the next instruction of each core while one more retirement needs
-/// no memory.
+/// Makes both logs of the run. It keeps no access. It accepts the next instruction of each core while one
+/// more retirement needs no memory.
 ///
 /// The regulated log is made from what is known at the instructions up to an edge's target. So a
 /// retirement is noted first, and its edges are told to the regulator by `tell`, after the step in which
 /// it retired.
-#[derive(Drop)]
 pub(crate) struct RunClerk {
     reducer: Reducer,
-    loads: LoadLists,
     history: History,
     /// The edges of the last retirement, until the regulator is told of them.
     untold: EdgePlaces,
     regulator: Regulator,
 }
 
-/// What the clerk holds at the end of a run.
+// One call lets the whole clerk go, at each way out of the functions that own one.
+impl Drop for RunClerk {
+    fn drop(self) {
+        let RunClerk {
+            reducer: _reducer,
+            history: _history,
+            untold: _untold,
+            regulator: _regulator,
+        } = self;
+    }
+}
+
+/// Both logs of a run, by pair of cores.
 #[derive(Drop)]
-pub(crate) struct RunNotes {
+pub(crate) struct RunLogs {
     pub(crate) reduced: Items<Items<(u32, u32)>>,
     pub(crate) regulated: Items<Items<StrideVector>>,
-    pub(crate) loads: Items<Items<LoadNote>>,
 }
 
 impl Model for RunClerk {
-    ghost use Rattle.recorder.specs.Clerks.{Noted};
+    ghost use Rattle.run_records.specs.Clerks.{Noted};
 
     ghost Value = { Noted };
 
     ghost view = { λ a. record {
       reduction = a.reducer;
-      loads = a.loads;
       history = a.history;
       untold = a.untold;
       regulation = a.regulator;
@@ -65,7 +69,6 @@ impl RunClerk {
     pub(crate) fn new(alloc: Global, cores: u8) -> Result<RunClerk, AllocError>
         requires { cores ≤ CORES_MAX }
         ensures reduction { IfOk result (λ clerk. clerk.reduction.state ≡ unreduced cores) }
-        ensures loads { IfOk result (λ clerk. clerk.loads.lists ≡ replicate cores []) }
         ensures history { IfOk result (λ clerk. clerk.history.notes ≡ no_notes cores) }
         ensures untold { IfOk result (λ clerk. clerk.untold ≡ []) }
         ensures cores { IfOk result (λ clerk. clerk.regulation.cores ≡ cores) }
@@ -73,12 +76,10 @@ impl RunClerk {
             IsRegulation notes (replicate (pair_count cores) []) clerk.regulation) }
     {
         let reducer = Reducer::new(alloc, cores)?;
-        let loads = LoadLists::new(alloc, cores)?;
         let history = History::new(alloc, cores)?;
         let regulator = Regulator::new(alloc, cores)?;
         Ok(RunClerk {
             reducer,
-            loads,
             history,
             untold: EdgePlaces::new(),
             regulator,
@@ -88,21 +89,18 @@ impl RunClerk {
     /// Makes room for one more retirement.
     pub(crate) fn ready(&mut self) -> Result<(), AllocError>
         ensures reduction { self.new.reduction.state ≡ self.old.reduction.state }
-        ensures loads { self.new.loads.lists ≡ self.old.loads.lists }
         ensures history { self.new.history.notes ≡ self.old.history.notes }
         ensures untold { self.new.untold ≡ self.old.untold }
         ensures cores { self.new.regulation.cores ≡ self.old.regulation.cores }
         ensures regulation { (notes : Notes) (edges : List (List (ℕ × ℕ))) →
             IsRegulation notes edges self.old.regulation → IsRegulation notes edges self.new.regulation }
         ensures ready { OnOk result (IsTrue self.new.reduction.ready) }
-        ensures roomy { OnOk result (IsTrue self.new.loads.roomy) }
         ensures history_ready { OnOk result (IsTrue self.new.history.ready) }
         ensures regulation_ready { OnOk result (AreReady self.new.regulation) }
     {
         self.reducer.ready()?;
         self.history.ready()?;
-        self.regulator.ready()?;
-        self.loads.make_room()
+        self.regulator.ready()
     }
 
     /// Tells the regulator the edges of the last retirement.
@@ -114,31 +112,29 @@ impl RunClerk {
         self.untold.clear();
     }
 
-    /// Both logs, by pair of cores, and each core's loads.
-    pub(crate) fn finish(self) -> RunNotes
+    /// Both logs. It takes no memory.
+    pub(crate) fn finish(self) -> RunLogs
         ensures reduced { result.reduced ≡ self.reduction.state.lists }
         ensures regulated { (known : Notes) (edges : List (List (ℕ × ℕ))) →
             IsRegulation known edges self.regulation →
             result.regulated ≡ regulated self.regulation.cores (known_at known) edges }
         ensures vectors { result.regulated ≡ self.regulation.vectors }
-        ensures loads { result.loads ≡ self.loads.lists }
     {
         let RunClerk {
             reducer,
-            loads,
+            history: _history,
+            untold: _untold,
             regulator,
-            ..
         } = self;
-        RunNotes {
+        RunLogs {
             reduced: reducer.finish(),
             regulated: regulator.finish(),
-            loads: loads.into_items(),
         }
     }
 }
 
 impl Clerk<Times, Known> for RunClerk {
-    ghost use Rattle.recorder.specs.Clerks.{Accepts, ToldLocal, ToldTouch};
+    ghost use Rattle.run_records.specs.Clerks.{Accepts, ToldLocal, ToldTouch};
 
     ghost accepts = { λ c i. Accepts c i };
 
@@ -153,7 +149,6 @@ impl Clerk<Times, Known> for RunClerk {
 
     fn touched(&mut self, access: Access, rider: &mut Times, carry: &Known) {
         self.history.note(access.at, carry);
-        note_read(&mut self.loads, &access);
         self.reducer.retire_into(&access, rider, &mut self.untold);
     }
 }

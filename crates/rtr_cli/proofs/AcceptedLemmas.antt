@@ -20,9 +20,9 @@ use Rattle.replay_audit.specs.declared.audit_fault.AuditFault.TheVariants as fau
 use Rattle.replay_audit.specs.Audits.{AuditRefuses, IsInstrOf}
 use Rattle.replay_audit.specs.Determinate.{IsDeterminate}
 use Rattle.replay_audit.proofs.Refused.{refused_law}
-use Rattle.recorder.specs.Recordings.{IsRecorded, recording_of}
-use Rattle.run_plays.specs.Orders.{order_of}
-use Rattle.run_plays.proofs.RunLaws.{of_run, reduced_order, run_is_play}
+use Rattle.run_records.specs.Recordings.{IsRecorded, recording_of}
+use Rattle.run_replays.specs.Orders.{order_of}
+use Rattle.run_replays.proofs.RunLaws.{of_run, reduced_order, run_is_play}
 use Rattle.run_records.proofs.Recordings.{recorded_law}
 use Rattle.run_replays.proofs.BothLogs.{both_replay}
 use Rattle.schedule_pick.specs.Choices.{Choices, choices_of}

@@ -11,7 +11,7 @@ use Rattle.log_codec.specs.Reading.{whole_at}
 use Rattle.log_codec.specs.Spelling.{spelling}
 use Rattle.log_codec.specs.declared.recording.Recording.{Recording}
 use Rattle.run_outcome.specs.Outcomes.{outcome_of}
-use Rattle.recorder.specs.Recordings.{recording_of}
+use Rattle.run_records.specs.Recordings.{recording_of}
 use Rattle.replay_audit.specs.Audits.{AuditRefuses, Findings, IsAuditOf}
 use Rattle.replay_audit.specs.declared.audit_fault.AuditFault.{AuditFault}
 use Rattle.replay_audit.specs.declared.audit_fault.AuditFault.TheVariants as faults

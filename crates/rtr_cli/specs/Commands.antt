@@ -1,7 +1,7 @@
 -- What each command makes of an input.
 use Rattle.std.specs.Prelude.{◌≡◌, ℕ, ◌*◌, ◌<◌, ◌≤◌, ◌↔◌, ◌⊎◌, Bool, true, false, if◌then◌else◌, List, [], length}
 use Rattle.std.specs.Prelude.{Option, Some, None, Result, Ok, Err}
-use Rattle.recorder.specs.Recordings.{IsRecorded, recording_of}
+use Rattle.run_records.specs.Recordings.{IsRecorded, recording_of}
 use Rattle.image_elf.specs.declared.elf_fault.ElfFault.{ElfFault}
 use Rattle.image_elf.specs.Faults.{elf_fault}
 use Rattle.image_elf.specs.FlatImage.{flat_image}

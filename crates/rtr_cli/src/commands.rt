@@ -4,7 +4,7 @@ ghost use Rattle.log_codec.specs.Faults.{Gives};
 ghost use Rattle.log_codec.specs.Spelling.{spelling};
 ghost use Rattle.log_codec.specs.Validity.{Valid};
 ghost use Rattle.run_outcome.specs.Outcomes.{outcome_of};
-ghost use Rattle.recorder.specs.Recordings.{recording_of};
+ghost use Rattle.run_records.specs.Recordings.{recording_of};
 ghost use Rattle.replay_audit.specs.Audits.{EveryOrderAgrees, IsAuditOf};
 ghost use Rattle.replay_audit.specs.Determinate.{IsDeterminate, low_outcome};
 ghost use Rattle.replay_core.specs.Plans.{recorded_image};

@@ -1,7 +1,7 @@
 //! A run of a generated image, recorded and replayed.
 ghost use Rattle.std.specs.Prelude.{◌≡◌, ◌*◌, ◌≤◌, IfErr, IfOk, IsTrue, length};
 ghost use Rattle.run_outcome.specs.Outcomes.{outcome_of};
-ghost use Rattle.recorder.specs.Recordings.{recording_of};
+ghost use Rattle.run_records.specs.Recordings.{recording_of};
 ghost use Rattle.log_codec.specs.Validity.{Valid};
 ghost use Rattle.rtr_types.specs.Parameters.{Fits};
 ghost use Rattle.trace_gen.specs.Programs.{takes};

@@ -12,7 +12,7 @@ use Rattle.schedule_pick.specs.Choices.{choice_at}
 use Rattle.machine_bound.specs.Ends.{end_of}
 use Rattle.run_outcome.specs.Outcomes.{outcome_of}
 use Rattle.replay_core.specs.Play.{place, touched}
-use Rattle.run_plays.specs.Orders.{order_of}
+use Rattle.run_replays.specs.Orders.{order_of}
 use Rattle.run_examples.specs.HandingOver.{HandedOverByPlay, HandedOverInOrder}
 
 pub in_order : HandedOverInOrder

@@ -11,7 +11,7 @@ use Rattle.msi_examples.specs.Followed.{changed}
 use Rattle.msi_examples.specs.Images.{handed_over}
 use Rattle.replay_core.specs.Plans.{Plan}
 use Rattle.replay_core.specs.Play.{accesses_of, played}
-use Rattle.run_plays.specs.Orders.{order_of}
+use Rattle.run_replays.specs.Orders.{order_of}
 
 abbrev pub handing_params : Params
 handing_params = two_cores 10000 handed_over

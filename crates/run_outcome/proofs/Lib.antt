@@ -2,3 +2,9 @@ pub mod NotedLoads
 pub mod Turns
 pub mod Limits
 pub mod Fitting
+pub mod Working
+pub mod RunCores
+pub mod Retiring
+pub mod Accessing
+pub mod Later
+pub mod EveryRun

@@ -1,2 +1,4 @@
 pub mod Loads
 pub mod Outcomes
+pub mod EveryRun
+pub mod Retirement

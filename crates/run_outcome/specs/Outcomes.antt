@@ -30,13 +30,17 @@ RunFitsLaw =
     (image : Contents) (params : Params) (schedule : Choices) → Fits params → image.words ≡ params.words
     → RunFits image params (outcome_of image params schedule)
 
--- a machine in this state, with these loads told and these choices left, stands t choices into the run,
--- which hasn't ended before
-pub record StandsAt (image : Contents) (params : Params) (schedule : Choices) (t : ℕ) (s : PlainState)
-    (loads : List (List LoadNote)) (rest : Choices) : Type 0 where
+-- a machine in this state, with these choices left, stands t choices into the run, which hasn't ended before
+pub record RunsAt (image : Contents) (params : Params) (schedule : Choices) (t : ℕ) (s : PlainState) (rest : Choices)
+    : Type 0 where
   pub state : s ≡ run image params (choice_at schedule) t
   pub cores : length s.cores ≡ params.cores
-  pub loads_are : loads
-      ≡ map (λ c. loads_of c (accesses image params (choice_at schedule) t)) (range_with_len 0 params.cores)
   pub rest_is : (u : ℕ) → choice_at rest u ≡ choice_at schedule (t + u)
   pub going : (u : ℕ) → u < t → all_done (run image params (choice_at schedule) u) ≡ false
+
+-- and these loads were told
+pub record StandsAt (image : Contents) (params : Params) (schedule : Choices) (t : ℕ) (s : PlainState)
+    (loads : List (List LoadNote)) (rest : Choices) : Type 0 where
+  pub runs : RunsAt image params schedule t s rest
+  pub loads_are : loads
+      ≡ map (λ c. loads_of c (accesses image params (choice_at schedule) t)) (range_with_len 0 params.cores)

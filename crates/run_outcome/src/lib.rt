@@ -1,6 +1,7 @@
-//! The runs of the machine from their start to their end: what a run comes to, with the loads of each
-//! core, and where it stands after each step. The crate has definitions and laws alone; the recorder
-//! makes the runs.
+//! The runs of the machine, whatever its image, its parameters and its choices are: where a run stands
+//! after each step, what holds of the machine in each of its states and of what retires, and what the run
+//! comes to, with the loads of each core. The crate has definitions and laws alone; whoever runs the
+//! machine makes the runs.
 #![tactic(auto)]
 
 pub mod laws;

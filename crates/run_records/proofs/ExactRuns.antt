@@ -23,13 +23,13 @@ use Rattle.machine_times.proofs.Timed.{finds_exact}
 use Rattle.machine_times.specs.TimedSteps.{times_parts}
 use Rattle.online_reduce.specs.Exact.{AreExactFor}
 use Rattle.online_reduce.specs.Reduced.{clock_of, count_of}
-use Rattle.recorder.proofs.Standing.{step_exact}
+use Rattle.run_records.proofs.Standing.{step_exact}
 use Rattle.know_history.specs.Knowledge.{known_carrying}
 use Rattle.know_history.specs.declared.known.Known.{Known}
-use Rattle.run_laws.proofs.Retiring.{run_tells}
+use Rattle.run_outcome.proofs.Retiring.{run_tells}
 use Rattle.run_records.proofs.Recording.{StandsWell, clerk_counts, enabled_here, stands_at}
 use Rattle.run_records.specs.Exactness.{ExactClocks, ExactClocksLaw, FoundTimesLaw, RetiredClockLaw}
-use Rattle.run_records.specs.Standings.{Standing, found_by, next_move, reduction_at, standing_at}
+use Rattle.run_records.specs.StandingAt.{Standing, found_by, next_move, reduction_at, standing_at}
 
 pub exact_clocks : ExactClocksLaw
 exact_clocks image params schedule t fits le =

@@ -34,7 +34,6 @@ use Rattle.machine_times.proofs.Told.{timed_told}
 use Rattle.machine_times.specs.TimedSteps.{times_parts}
 use Rattle.online_reduce.proofs.ByPair.{length-by_pair}
 use Rattle.online_reduce.specs.Reduced.{IsNext, Reduced, clock_of, count_of, counted, edges_of, retired}
-use Rattle.run_outcome.specs.Loads.{lists_after, lists_told}
 use Rattle.know_history.specs.Knowledge.{known_carrying}
 use Rattle.know_history.specs.Notes.{IsNoted}
 use Rattle.know_history.specs.Rows.{with_note}
@@ -42,15 +41,15 @@ use Rattle.know_history.specs.declared.known.Known.{Known}
 use Rattle.know_history.proofs.Noting.{is_noted}
 use Rattle.edge_regulate.specs.Regulated.{IsRegulation, Regulation}
 use Rattle.edge_regulate.proofs.Regulations.{regulation_is}
-use Rattle.recorder.proofs.KnownRuns.{none_chosen}
-use Rattle.recorder.proofs.Regulating.{counts_noted, edges_noted}
-use Rattle.recorder.proofs.Standing.{Told, Turned, notes_next, notes_same, notes_start}
-use Rattle.recorder.specs.Clerks.{Noted, ToldLocal, ToldTouch}
-use Rattle.recorder.specs.Standing.{NotesAt, RecordsAt, Regulates}
-use Rattle.run_laws.specs.Retirement.{retired_count}
-use Rattle.run_laws.proofs.Retiring.{IsNextOf, run_tells}
+use Rattle.run_records.proofs.KnownRuns.{none_chosen}
+use Rattle.run_records.proofs.Regulating.{counts_noted, edges_noted}
+use Rattle.run_records.proofs.Standing.{Told, Turned, notes_next, notes_same, notes_start}
+use Rattle.run_records.specs.Clerks.{Noted, ToldLocal, ToldTouch}
+use Rattle.run_records.specs.Standing.{NotesAt, RecordsAt, Regulates}
+use Rattle.run_outcome.specs.Retirement.{retired_count}
+use Rattle.run_outcome.proofs.Retiring.{IsNextOf, run_tells}
 use Rattle.run_records.specs.Recorded.{RecordsLaw}
-use Rattle.run_records.specs.Standings.{Standing, clerk_after, moved_by, next_move, regulation_of, standing_at, standing_start, times_after}
+use Rattle.run_records.specs.StandingAt.{Standing, clerk_after, moved_by, next_move, regulation_of, standing_at, standing_start, times_after}
 
 -- the machine holds its invariant and is recorded so far
 pub record StandsWell (image : Contents) (params : Params) (schedule : Choices) (t : ℕ) (w : Standing) : Type 0 where
@@ -84,14 +83,12 @@ with_untold : Noted → Event → Known → (found : Times) → Noted
 with_untold c Nothing known found = c
 with_untold c (Retires at) known found = record {
   reduction = record { state = counted c.reduction.state at; ready = false };
-  loads = record { lists = c.loads.lists; roomy = false };
   history = record { notes = with_note c.history.notes at known; ready = false };
   untold = [];
   regulation = c.regulation;
 }
 with_untold c (Accesses a) known found = record {
   reduction = record { state = retired c.reduction.state a found; ready = false };
-  loads = record { lists = lists_after c.loads.lists a; roomy = false };
   history = record { notes = with_note c.history.notes a.at known; ready = false };
   untold = edges_of c.reduction.state a found;
   regulation = c.regulation;
@@ -107,27 +104,20 @@ told_of : (e : Event) (p : Port Times Known) (k : Known) (c : Noted) → c.untol
 unfolding with_untold
 told_of Nothing p k c none next noted = refl
 told_of (Retires at) p k c none next noted =
-    record { next = next at refl; loads = refl; reduction = refl; history = noted at refl; untold = refl; regulation = refl }
+    record { next = next at refl; reduction = refl; history = noted at refl; untold = refl; regulation = refl }
 told_of (Accesses a) p k c none next noted =
-    record { next = next a.at refl; loads = refl; reduction = refl; history = noted a.at refl; untold = refl; regulation = refl; times = refl }
-
-lists_are : (c : Noted) (e : Event) (k : Known) (found : Times) → (with_untold c e k found).loads.lists ≡ lists_told c.loads.lists e
-unfolding with_untold
-lists_are c Nothing k found = refl
-lists_are c (Retires at) k found = refl
-lists_are c (Accesses a) k found = refl
+    record { next = next a.at refl; reduction = refl; history = noted a.at refl; untold = refl; regulation = refl; times = refl }
 
 -- but for the regulation and its edges the clerk holds the same once it has told them
 record SameNotes (d x : Noted) : Type 0 where
   reduction : x.reduction.state ≡ d.reduction.state
-  loads : x.loads.lists ≡ d.loads.lists
   history : x.history.notes ≡ d.history.notes
 
 same_notes : (c : Noted) (e : Event) (k : Known) (found : Times) → SameNotes (with_untold c e k found) (clerk_after c e k found)
 unfolding with_untold
-same_notes c Nothing k found = record { reduction = refl; loads = refl; history = refl }
-same_notes c (Retires at) k found = record { reduction = refl; loads = refl; history = refl }
-same_notes c (Accesses a) k found = record { reduction = refl; loads = refl; history = refl }
+same_notes c Nothing k found = record { reduction = refl; history = refl }
+same_notes c (Retires at) k found = record { reduction = refl; history = refl }
+same_notes c (Accesses a) k found = record { reduction = refl; history = refl }
 
 -- ---- the regulation of what is noted
 
@@ -199,9 +189,6 @@ module _ (image : Contents) (params : Params) (schedule : Choices) (fits : Fits 
         steps = record {
           taken = is;
           state = forgets_step times_riding known_carrying left s m;
-          told =
-              lists_are c e k found
-              ∙ ap (λ (v : Event). lists_told c.loads.lists v) (forgets_event times_riding known_carrying s m);
           left = refl;
         };
         event_is = forgets_event times_riding known_carrying s m;
@@ -219,7 +206,7 @@ module _ (image : Contents) (params : Params) (schedule : Choices) (fits : Fits 
       let state : (moved_by w (Some m)).state ≡ after =
       ap (λ (r : Reduced). step times_riding known_carrying (times_after r e found) s m) kept.reduction in
       let there : NotesAt image params schedule (suc t) (moved_by w (Some m)).state x (choices_after w.rest) =
-      notes_same image params schedule (suc t) after (moved_by w (Some m)).state d x (choices_after w.rest) state kept.reduction kept.loads
+      notes_same image params schedule (suc t) after (moved_by w (Some m)).state d x (choices_after w.rest) state kept.reduction
       kept.history
       (notes_next image params schedule t s after m c d w.rest (choices_after w.rest) (ap all_done notes.run.state ∙ going) turned notes) in
       record {
@@ -253,7 +240,7 @@ module _ (image : Contents) (params : Params) (schedule : Choices) (fits : Fits 
       let w : Standing = standing_start image params schedule in
       let notes : NotesAt image params schedule 0 (standing_start image params schedule).state (standing_start image params schedule).clerk schedule =
       notes_start image params schedule w.state w.clerk fits refl (plain_start times_riding known_carrying image params.cores params.limit)
-      refl refl refl in
+      refl refl in
       record {
         holds = holds_start times_riding known_carrying image params.cores params.limit fits.cores small;
         records = record { notes = notes; regulates = regulates_of image params schedule 0 w.state w.clerk w.rest notes refl refl };

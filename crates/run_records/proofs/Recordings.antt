@@ -19,15 +19,16 @@ use Rattle.machine_bound.proofs.Ends.{run_ends}
 use Rattle.machine_plain.proofs.Shows.{plain_done}
 use Rattle.msi_state.specs.States.{PlainState, all_done}
 use Rattle.run_outcome.proofs.Fitting.{run_image}
-use Rattle.recorder.proofs.Recordings.{Ended, ended, least_log, recording_is, recording_left, recording_valid, vectors_by}
-use Rattle.recorder.specs.Standing.{RecordsAt}
-use Rattle.recorder.specs.WhatIsKnown.{CountsKnown}
-use Rattle.recorder.specs.LeastLists.{AreOf}
-use Rattle.recorder.specs.Recordings.{run_accesses, recording_of}
-use Rattle.run_laws.proofs.Accessing.{accesses_law}
+use Rattle.least_lists.proofs.Logs.{least_log}
+use Rattle.run_records.proofs.Ends.{Ended, ended, recording_is, recording_left, recording_valid, vectors_by}
+use Rattle.run_records.specs.Standing.{RecordsAt}
+use Rattle.run_records.specs.WhatIsKnown.{CountsKnown}
+use Rattle.least_lists.specs.LeastLists.{AreOf}
+use Rattle.run_records.specs.Recordings.{run_accesses, recording_of}
+use Rattle.run_outcome.proofs.Accessing.{accesses_law}
 use Rattle.run_records.proofs.Recording.{stands_at}
 use Rattle.run_records.specs.Recorded.{LeastLogLaw, RecordedLaw, RegulatedLogLaw}
-use Rattle.run_records.specs.Standings.{Standing, standing_at}
+use Rattle.run_records.specs.StandingAt.{Standing, standing_at}
 
 -- ---- the reduced log
 

@@ -12,8 +12,8 @@ use Rattle.msi_state.specs.Events.{Accesses}
 use Rattle.msi_state.specs.Runs.{accesses, event_at}
 use Rattle.online_reduce.specs.Exact.{AreExactFor, last_of}
 use Rattle.online_reduce.specs.Reduced.{Reduced, clock_of, count_of}
-use Rattle.run_laws.specs.Retirement.{RetiresAt, retired_count}
-use Rattle.run_records.specs.Standings.{reduction_at, times_found}
+use Rattle.run_outcome.specs.Retirement.{RetiresAt, retired_count}
+use Rattle.run_records.specs.StandingAt.{reduction_at, times_found}
 
 -- what the reduction r has after t choices: of each core the count of its retired instructions, and the exact clock of
 -- the last one

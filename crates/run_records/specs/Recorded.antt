@@ -13,10 +13,10 @@ use Rattle.conflict_edge.specs.Least.{IsLeast, Others}
 use Rattle.edge_regulate.specs.Regulated.{Knowledge, regulated}
 use Rattle.log_codec.specs.Sources.{log_edges}
 use Rattle.machine_bound.specs.Ends.{end_of}
-use Rattle.recorder.specs.Recordings.{IsRecorded, run_accesses, recording_of}
-use Rattle.recorder.specs.Standing.{RecordsAt}
-use Rattle.recorder.specs.WhatIsKnown.{CountsKnown}
-use Rattle.run_records.specs.Standings.{Standing, standing_at}
+use Rattle.run_records.specs.Recordings.{IsRecorded, run_accesses, recording_of}
+use Rattle.run_records.specs.Standing.{RecordsAt}
+use Rattle.run_records.specs.WhatIsKnown.{CountsKnown}
+use Rattle.run_records.specs.StandingAt.{Standing, standing_at}
 
 -- Until its end a run is recorded: the machine, the clerk and the choices that are left stand t choices into it.
 abbrev pub RecordsLaw : Type 0

@@ -1,6 +1,7 @@
 //! What is exact along every run, and what its recording is, with no machine at hand.
 ghost use Rattle.run_records.specs.Recorded.{LeastLogLaw, RecordedLaw, RecordsLaw, RegulatedLogLaw};
 ghost use Rattle.run_records.specs.Exactness.{ExactClocksLaw, FoundTimesLaw, RetiredClockLaw};
+ghost use Rattle.run_records.specs.WhatIsKnown.{KnownCountedLaw};
 
 /// After each choice of a run, until its end, the recorder's machine and clerk stand where the run does.
 pub fn every_run_is_recorded()
@@ -23,4 +24,10 @@ pub fn every_recording_is_read_back_and_least()
     ensures recorded { RecordedLaw }
     ensures least { LeastLogLaw }
     ensures regulated { RegulatedLogLaw }
+{}
+
+/// What is noted in a run counts, at each of its instructions, exactly the instructions of other cores that
+/// are known there.
+pub fn the_notes_count_what_is_known()
+    ensures { KnownCountedLaw }
 {}

@@ -36,13 +36,13 @@ use Rattle.regulated_log.specs.Logs.{IsPast, with_regulated}
 use Rattle.regulated_log.specs.Logs as ordered
 use Rattle.regulated_log.proofs.Happened.{EventOf, counts_are, event_of}
 use Rattle.regulated_log.proofs.InOrder.{regulated_law}
-use Rattle.recorder.specs.Recordings.{recording_of, run_knowledge}
-use Rattle.recorder.proofs.KnownRuns.{knows_run, long, run_past}
-use Rattle.run_laws.specs.Retirement.{RetiresAt, RetiresBefore, retired_count}
-use Rattle.run_laws.proofs.Later.{retires_once}
-use Rattle.run_plays.specs.Orders.{cores_of, order_of}
-use Rattle.run_plays.specs.ReplayOrders.{GoForward}
-use Rattle.run_plays.proofs.RunLaws.{of_run}
+use Rattle.run_records.specs.Recordings.{recording_of, run_knowledge}
+use Rattle.run_records.proofs.KnownRuns.{knows_run, long, run_past}
+use Rattle.run_outcome.specs.Retirement.{RetiresAt, RetiresBefore, retired_count}
+use Rattle.run_outcome.proofs.Later.{retires_once}
+use Rattle.run_replays.specs.Orders.{cores_of, order_of}
+use Rattle.run_replays.specs.ReplayOrders.{GoForward}
+use Rattle.run_replays.proofs.RunLaws.{of_run}
 use Rattle.run_records.proofs.Recordings.{recording_valid_law, regulated_log_law}
 use Rattle.run_replays.specs.BothLogs.{BothReplayLaw, RunRegulatedLaw}
 use Rattle.run_replays.specs.Deciding.{CoversRun}

@@ -1,3 +1,10 @@
+pub mod Memory
+pub mod Loads
+pub mod Events
+pub mod Played
+pub mod OrderCounts
+pub mod Ordered
+pub mod RunLaws
 pub mod Decided
 pub mod Replayed
 pub mod BothLogs

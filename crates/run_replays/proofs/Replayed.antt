@@ -12,7 +12,7 @@ use Rattle.conflict_edge.specs.Conflicts.{StandsIn}
 use Rattle.log_codec.specs.Validity.{Valid}
 use Rattle.log_codec.specs.declared.recording.Recording.{Recording}
 use Rattle.run_outcome.specs.Outcomes.{outcome_of}
-use Rattle.recorder.specs.Recordings.{run_accesses, recording_of}
+use Rattle.run_records.specs.Recordings.{run_accesses, recording_of}
 use Rattle.replay_core.proofs.Lists.{short_law}
 use Rattle.replay_core.specs.Answers.{Refuses}
 use Rattle.replay_core.specs.declared.answers.ReplayFault.{ReplayFault}
@@ -27,9 +27,9 @@ use Rattle.replay_audit.specs.Laws.{Agrees}
 use Rattle.replay_audit.specs.declared.audit_fault.AuditFault.{AuditFault}
 use Rattle.replay_audit.specs.declared.audit_fault.AuditFault.TheVariants as auditing
 use Rattle.replay_audit.proofs.Refused as refused
-use Rattle.run_plays.specs.Orders.{order_of}
-use Rattle.run_plays.specs.Plays.{IsOfRun, PlaysRun}
-use Rattle.run_plays.proofs.RunLaws.{of_run, run_is_play}
+use Rattle.run_replays.specs.Orders.{order_of}
+use Rattle.run_replays.specs.Plays.{IsOfRun, PlaysRun}
+use Rattle.run_replays.proofs.RunLaws.{of_run, run_is_play}
 use Rattle.run_records.proofs.Recordings.{recording_valid_law}
 use Rattle.run_replays.specs.Replays.{FollowsRun, ReducedReplaysLaw, RunReplaysLaw}
 use Rattle.run_replays.proofs.Decided.{reduced_decides}

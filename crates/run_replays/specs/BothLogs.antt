@@ -11,8 +11,8 @@ use Rattle.clock_core.specs.Order.{Among, Within}
 use Rattle.log_codec.specs.Sources.{log_edges}
 use Rattle.log_codec.specs.declared.recording.Recording.{Recording}
 use Rattle.edge_regulate.specs.Regulated.{Knowledge, regulated}
-use Rattle.recorder.specs.Recordings.{recording_of}
-use Rattle.recorder.specs.WhatIsKnown.{CountsKnown}
+use Rattle.run_records.specs.Recordings.{recording_of}
+use Rattle.run_records.specs.WhatIsKnown.{CountsKnown}
 use Rattle.run_replays.specs.Deciding.{CoversRun}
 use Rattle.run_replays.specs.Replays.{ReplaysRun}
 

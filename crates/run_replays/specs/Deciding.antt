@@ -9,12 +9,12 @@ use Rattle.schedule_pick.specs.Choices.{Choices}
 use Rattle.clock_core.specs.Order.{Among, Before, Within}
 use Rattle.log_codec.specs.Sources.{log_edges}
 use Rattle.log_codec.specs.declared.recording.Recording.{Recording}
-use Rattle.recorder.specs.Recordings.{recording_of}
+use Rattle.run_records.specs.Recordings.{recording_of}
 use Rattle.replay_core.specs.Plans.{plan_of}
 use Rattle.replay_audit.specs.Determinate.{Decides}
-use Rattle.run_plays.specs.Orders.{order_of}
-use Rattle.run_plays.specs.Plays.{IsOfRun}
-use Rattle.run_plays.specs.ReplayOrders.{GoForward}
+use Rattle.run_replays.specs.Orders.{order_of}
+use Rattle.run_replays.specs.Plays.{IsOfRun}
+use Rattle.run_replays.specs.ReplayOrders.{GoForward}
 
 -- the log's edges go forward in the run, and each edge of the least set is before by them
 pub record CoversRun (image : Contents) (params : Params) (schedule : Choices) (which : Which) (r : Recording)

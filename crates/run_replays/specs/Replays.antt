@@ -13,7 +13,7 @@ use Rattle.conflict_edge.specs.Conflicts.{StandsIn}
 use Rattle.log_codec.specs.Validity.{Valid}
 use Rattle.log_codec.specs.declared.recording.Recording.{Recording}
 use Rattle.run_outcome.specs.Outcomes.{outcome_of}
-use Rattle.recorder.specs.Recordings.{run_accesses, recording_of}
+use Rattle.run_records.specs.Recordings.{run_accesses, recording_of}
 use Rattle.replay_core.specs.Answers.{Refuses, Replays}
 use Rattle.replay_core.specs.declared.answers.ReplayFault.{ReplayFault}
 use Rattle.replay_core.specs.declared.answers.ReplayFault.TheVariants as replaying
@@ -26,8 +26,8 @@ use Rattle.replay_audit.specs.Determinate.{Decides, IsDeterminate, low_outcome}
 use Rattle.replay_audit.specs.Laws.{GoesOn}
 use Rattle.replay_audit.specs.declared.audit_fault.AuditFault.{AuditFault}
 use Rattle.replay_audit.specs.declared.audit_fault.AuditFault.TheVariants as auditing
-use Rattle.run_plays.specs.Orders.{order_of}
-use Rattle.run_plays.specs.Plays.{IsOfRun}
+use Rattle.run_replays.specs.Orders.{order_of}
+use Rattle.run_replays.specs.Plays.{IsOfRun}
 
 -- the order plays by accesses of the run, and each core's loads are the first ones that it has in the run; the order is
 -- whole, and ends where the run does, or it can go on

@@ -20,16 +20,17 @@ returns-clause-stands c =
     let m = c.step.result.taken in
     let same = c.make_room.ensures.state in
     let going : all_done (plain s) ≡ false = sym (plain_done s) ∙ c.requires.going in
-    let steps : Steps (plain s) (plain c.step.new.self.state) c.args.clerk.now.lists c.step.new.clerk.lists c.args.choices.now c.next.new.self m = record {
+    let steps : Steps (plain s) (plain c.step.new.self.state) c.args.choices.now c.next.new.self m = record {
       taken = ap (λ u. chosen (plain u) (choice_at c.args.choices.now 0)) (sym same)
           ∙ ap (chosen (plain c.make_room.new.self.state)) (sym c.next.ensures.choice) ∙ c.step.ensures.taken.plainly;
       state = c.step.ensures.moved.plainly ∙ ap (λ u. plain_step (plain u) m) same;
-      told = told_lists _ _ c.make_room-2.new.self c.step.new.clerk _ _ c.step.ensures.told
-          ∙ ap (λ (e : Event). lists_told c.make_room-2.new.self.lists e) (c.step.ensures.moved.tells ∙ ap (λ u. plain_event (plain u) m) same)
-          ∙ ap (λ lists. lists_told lists (plain_event (plain s) m)) c.make_room-2.ensures.lists;
       left = c.next.ensures.rest;
     } in
-    λ image params schedule t stands. stands_next image params schedule t _ _ _ _ _ _ m going steps stands
+    let told : c.step.new.clerk.lists ≡ lists_told c.args.clerk.now.lists (plain_event (plain s) m) =
+    told_lists _ _ c.make_room-2.new.self c.step.new.clerk _ _ c.step.ensures.told
+    ∙ ap (λ (e : Event). lists_told c.make_room-2.new.self.lists e) (c.step.ensures.moved.tells ∙ ap (λ u. plain_event (plain u) m) same)
+    ∙ ap (λ lists. lists_told lists (plain_event (plain s) m)) c.make_room-2.ensures.lists in
+    λ image params schedule t stands. stands_next image params schedule t _ _ _ _ _ _ m going steps told stands
 
 pub returns-clause-nearer : goal.returns-clause-nearer
 returns-clause-nearer c =

@@ -3,29 +3,27 @@ use Rattle.std.proofs.lemmas.List.Elements.{All-weaker}
 use Rattle.access_times.specs.declared.times.Times.{Times}
 use Rattle.know_history.specs.declared.known.Known.{Known}
 use Rattle.machine_plain.proofs.Shows.{plain_done}
-use Rattle.msi_state.specs.Events.{Event, next_instr}
+use Rattle.msi_state.specs.Events.{next_instr}
 use Rattle.machine_plain.specs.Plain.{plain}
 use Rattle.msi_state.specs.Runs.{chosen}
 use Rattle.msi_state.specs.States.{State, all_done}
-use Rattle.recorder.specs.Clerks.{Accepts, IsAwaited}
+use Rattle.run_records.specs.Clerks.{Accepts, IsAwaited}
 use Rattle.rv_core.specs.Steps.{is_done, need}
 use Rattle.rv_core.specs.declared.core_state.Core.{Core}
-use Rattle.run_outcome.specs.Loads.{lists_told}
-use Rattle.recorder.proofs.Regulating.{can_tell, regulates_same, told_regulates, turned_untold}
-use Rattle.recorder.proofs.Standing.{Turned, all_awaited, notes_next, notes_same, told_lists}
+use Rattle.run_records.proofs.Regulating.{can_tell, regulates_same, told_regulates, turned_untold}
+use Rattle.run_records.proofs.Standing.{Turned, all_awaited, notes_next, notes_same}
 use Rattle.recorder.proofs.run.turn.Goals as goal
 
 pub step_timed-requires-clause-accepts : goal.step_timed-requires-clause-accepts
 step_timed-requires-clause-accepts c =
     let r = c.requires.recording in
     let notes = notes_same r.image r.params r.schedule r.t c.args.machine.now.state c.make_room.new.self.state c.args.clerk.now c.ready.new.self
-    c.args.choices.now c.make_room.ensures.state c.ready.ensures.reduction c.ready.ensures.loads c.ready.ensures.history r.records.notes in
+    c.args.choices.now c.make_room.ensures.state c.ready.ensures.reduction c.ready.ensures.history r.records.notes in
     All-weaker (λ (core : Core). IsAwaited c.ready.new.self (next_instr core))
     (λ (core : Core). is_done (need c.make_room.new.self.state.image core) ≡ false → Accepts c.ready.new.self (next_instr core))
     (λ core awaited going. record {
       awaited = awaited;
       ready = c.in_ok-ready.ensures.ready;
-      roomy = c.in_ok-ready.ensures.roomy;
       history = c.in_ok-ready.ensures.history_ready;
     }) c.make_room.new.self.state.cores
     (all_awaited r.image r.params r.schedule r.t c.make_room.new.self.state c.ready.new.self c.args.choices.now r.fits notes
@@ -39,8 +37,6 @@ tell-requires c =
       steps = record {
         taken = ap (chosen (plain c.make_room.new.self.state)) (sym c.next.ensures.choice) ∙ c.step_timed.ensures.taken.plainly;
         state = c.step_timed.ensures.moved.plainly;
-        told = told_lists _ _ c.ready.new.self c.step_timed.new.clerk _ _ c.step_timed.ensures.told
-            ∙ ap (λ (e : Event). lists_told c.ready.new.self.loads.lists e) c.step_timed.ensures.moved.tells;
         left = c.next.ensures.rest;
       };
       event_is = c.step_timed.ensures.moved.tells;
@@ -52,7 +48,7 @@ tell-requires c =
       finds = c.step_timed.ensures.times;
     } in
     let notes = notes_same r.image r.params r.schedule r.t c.args.machine.now.state c.make_room.new.self.state c.args.clerk.now c.ready.new.self
-    c.args.choices.now c.make_room.ensures.state c.ready.ensures.reduction c.ready.ensures.loads c.ready.ensures.history r.records.notes in
+    c.args.choices.now c.make_room.ensures.state c.ready.ensures.reduction c.ready.ensures.history r.records.notes in
     let regulates = regulates_same c.args.clerk.now c.ready.new.self c.ready.ensures.reduction c.ready.ensures.history c.ready.ensures.untold
     c.ready.ensures.cores c.ready.ensures.regulation r.records.regulates in
     can_tell c.make_room.new.self.state c.step_timed.new.self.state c.step_timed.result.taken c.ready.new.self c.step_timed.new.clerk c.args.choices.now
@@ -70,8 +66,6 @@ returns-clause-stands c =
       steps = record {
         taken = ap (chosen (plain c.make_room.new.self.state)) (sym c.next.ensures.choice) ∙ c.step_timed.ensures.taken.plainly;
         state = c.step_timed.ensures.moved.plainly;
-        told = told_lists _ _ c.ready.new.self c.step_timed.new.clerk _ _ c.step_timed.ensures.told
-            ∙ ap (λ (e : Event). lists_told c.ready.new.self.loads.lists e) c.step_timed.ensures.moved.tells;
         left = c.next.ensures.rest;
       };
       event_is = c.step_timed.ensures.moved.tells;
@@ -84,14 +78,14 @@ returns-clause-stands c =
     } in
     λ image params schedule t stands.
     let notes = notes_same image params schedule t c.args.machine.now.state s c.args.clerk.now c.ready.new.self
-    c.args.choices.now c.make_room.ensures.state c.ready.ensures.reduction c.ready.ensures.loads c.ready.ensures.history stands.notes in
+    c.args.choices.now c.make_room.ensures.state c.ready.ensures.reduction c.ready.ensures.history stands.notes in
     let regulates = regulates_same c.args.clerk.now c.ready.new.self c.ready.ensures.reduction c.ready.ensures.history c.ready.ensures.untold
     c.ready.ensures.cores c.ready.ensures.regulation stands.regulates in
     let untold = turned_untold image params schedule t s c.step_timed.new.self.state m c.ready.new.self c.step_timed.new.clerk c.args.choices.now
     c.next.new.self turned notes regulates in
     record {
       notes = notes_same image params schedule (suc t) c.step_timed.new.self.state c.step_timed.new.self.state c.step_timed.new.clerk c.tell.new.self
-          c.next.new.self refl c.tell.ensures.reduction c.tell.ensures.loads c.tell.ensures.history
+          c.next.new.self refl c.tell.ensures.reduction c.tell.ensures.history
           (notes_next image params schedule t s c.step_timed.new.self.state m c.ready.new.self c.step_timed.new.clerk c.args.choices.now c.next.new.self
           going turned notes);
       regulates = told_regulates c.ready.new.self.reduction.state.lists c.step_timed.new.clerk c.tell.new.self untold c.tell.ensures;

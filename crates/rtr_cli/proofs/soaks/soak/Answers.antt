@@ -3,7 +3,7 @@ use Rattle.image_mem.specs.Contents.{Contents}
 use Rattle.log_codec.specs.declared.recording.Recording.{Recording}
 use Rattle.rv_core.specs.declared.outcome.Outcome.{Outcome}
 use Rattle.run_outcome.specs.Outcomes.{outcome_of}
-use Rattle.recorder.specs.Recordings.{recording_of}
+use Rattle.run_records.specs.Recordings.{recording_of}
 use Rattle.schedule_pick.specs.Choices.{Choices, choices_of}
 use Rattle.trace_gen.specs.Programs.{generated, image_length}
 use Rattle.rtr_cli.specs.Soaks.{changed_count, soak_lines}

@@ -1,9 +1,0 @@
-pub mod Reducing
-pub mod Standing
-pub mod Regulating
-pub mod KnownRuns
-pub mod Covering
-pub mod SortedPairs
-pub mod PairLists
-pub mod LeastLists
-pub mod Recordings

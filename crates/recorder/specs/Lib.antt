@@ -1,5 +1,0 @@
-pub mod Clerks
-pub mod LeastLists
-pub mod Recordings
-pub mod Standing
-pub mod WhatIsKnown

@@ -1,6 +1,0 @@
-pub mod Working
-pub mod RunCores
-pub mod Retiring
-pub mod Accessing
-pub mod Later
-pub mod EveryRun

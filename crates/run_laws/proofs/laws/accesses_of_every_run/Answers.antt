@@ -1,5 +1,0 @@
-use Rattle.run_laws.proofs.Accessing.{accesses_law}
-use Rattle.run_laws.proofs.laws.accesses_of_every_run.Goals as goal
-
-pub returns : goal.returns
-returns c = accesses_law

@@ -1,5 +1,0 @@
-use Rattle.run_laws.proofs.EveryRun.{every_run}
-use Rattle.run_laws.proofs.laws.the_machine_over_every_run.Goals as goal
-
-pub returns : goal.returns
-returns c = every_run

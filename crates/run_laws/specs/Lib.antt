@@ -1,2 +1,0 @@
-pub mod EveryRun
-pub mod Retirement

@@ -1,5 +1,0 @@
-use Rattle.run_plays.proofs.RunLaws.{conflicts_forward_law, forward_law, reduced_forward, reduced_order}
-use Rattle.run_plays.proofs.laws.retirement_is_a_replay_order.Goals as goal
-
-pub returns : goal.returns
-returns c = record { forward = forward_law; conflicts = conflicts_forward_law; edges = reduced_forward; reduced = reduced_order }

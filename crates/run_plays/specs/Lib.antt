@@ -1,4 +1,0 @@
-pub mod Orders
-pub mod Plays
-pub mod ReplayOrders
-pub mod Loads
