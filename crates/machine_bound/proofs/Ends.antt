@@ -35,13 +35,13 @@ use Rattle.machine_bound.proofs.Capacity.{capacity_kept, total_earned_le}
 
 -- ---- the first number that passes a test
 
-record IsFirst (n : ℕ) (test : ℕ → Bool) (t u : ℕ) : Type 0 where
-  from : t ≤ u
-  within : u ≤ t + n
-  before : (v : ℕ) → t ≤ v → v < u → test v ≡ false
-  found : u < t + n → test u ≡ true
+pub record IsFirst (n : ℕ) (test : ℕ → Bool) (t u : ℕ) : Type 0 where
+  pub from : t ≤ u
+  pub within : u ≤ t + n
+  pub before : (v : ℕ) → t ≤ v → v < u → test v ≡ false
+  pub found : u < t + n → test u ≡ true
 
-first_is : (n : ℕ) (test : ℕ → Bool) (t : ℕ) → IsFirst n test t (first_among n test t)
+pub first_is : (n : ℕ) (test : ℕ → Bool) (t : ℕ) → IsFirst n test t (first_among n test t)
 first_is zero test t = record { from = omega arith; within = omega arith; before = λ v past lt. absurd (omega arith); found = λ lt. absurd (omega arith) }
 first_is (suc n) test t = by_test (test t) refl (first_is n test (t + 1))
   where

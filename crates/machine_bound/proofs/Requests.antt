@@ -38,7 +38,7 @@ use Rattle.msi_memory.specs.Acts.{port_requested}
 use Rattle.memory_laws.specs.Holds.{MemoryHolds}
 use Rattle.memory_laws.specs.Sights.{asks_of, cons_if}
 use Rattle.memory_laws.specs.Waits.{WaitsFor}
-use Rattle.machine_invariant.specs.Holds.{Awaited}
+use Rattle.memory_laws.specs.Waits.{Awaited}
 use Rattle.machine_bound.specs.Bound.{debt, line_base, block_base, base_in}
 use Rattle.memory_laws.proofs.KindsShown.{blocks_hold}
 use Rattle.memory_laws.proofs.Lines.{waits_none}
@@ -164,12 +164,12 @@ module _ {R K : Type 0} where
       ]
 
 -- the line of a request that is under way waits, and pays for what the request brings to others and for one step more
-record AskedLine {R : Type 0} (l : Line R) (cores debt : ℕ) : Type 0 where
-  waits : is_transient l.state ≡ true
-  pays : (same : Bool) → line_base l.state same false cores + debt + 1 ≤ line_base l.state same true cores
+pub record AskedLine {R : Type 0} (l : Line R) (cores debt : ℕ) : Type 0 where
+  pub waits : is_transient l.state ≡ true
+  pub pays : (same : Bool) → line_base l.state same false cores + debt + 1 ≤ line_base l.state same true cores
 
 module _ {R K : Type 0} where
-  asked_line : (riding : Riding R) (carrying : Carrying K) (m : Memory R K) (c : ℕ) (mail : Mail (Request R) K) → MemoryHolds riding carrying m →
+  pub asked_line : (riding : Riding R) (carrying : Carrying K) (m : Memory R K) (c : ℕ) (mail : Mail (Request R) K) → MemoryHolds riding carrying m →
       c < length m.ports → (port_at carrying m.ports c).requests.items ≡ mail ∷ [] →
       is_free (entry_at riding.fresh m.home (request_block mail.item)).stage ≡ true →
       AskedLine (line_for riding.fresh (port_at carrying m.ports c).cache (request_block mail.item)) (length m.ports)

@@ -128,7 +128,7 @@ final_value image params choices t few small done word within =
     (word / BLOCK_WORDS))
     ∙ h.found.values word within
 
-same_maps : (f g : ℕ → ℕ) (n : ℕ) → ((i : ℕ) → i < n → f i ≡ g i) → map f (range_with_len 0 n) ≡ map g (range_with_len 0 n)
+pub same_maps : (f g : ℕ → ℕ) (n : ℕ) → ((i : ℕ) → i < n → f i ≡ g i) → map f (range_with_len 0 n) ≡ map g (range_with_len 0 n)
 same_maps f g zero same = refl
 same_maps f g (suc n) same =
     let shorter : map f (range_with_len 0 n) ≡ map g (range_with_len 0 n) = same_maps f g n (λ i lt. same i (omega arith)) in

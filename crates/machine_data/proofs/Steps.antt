@@ -23,8 +23,9 @@ use Rattle.msi_state.specs.Steps.{acts, acts_of, acts_working, enabled, event, s
 use Rattle.machine_invariant.specs.Holds.{MachineHolds}
 use Rattle.memory_laws.proofs.Kept.{memory_kept}
 use Rattle.memory_laws.proofs.Properties.{finds_words, words_kept}
-use Rattle.machine_invariant.proofs.Acting.{acts_carry, folded}
-use Rattle.machine_invariant.proofs.Awaits.{core_port, enabled_core, taken_there}
+use Rattle.memory_laws.proofs.Acting.{acts_carry, folded}
+use Rattle.memory_laws.proofs.Awaits.{taken_there}
+use Rattle.machine_invariant.proofs.Awaits.{core_port, enabled_core}
 use Rattle.machine_invariant.proofs.Kept.{acts_can}
 use Rattle.machine_data.specs.Coherent.{Coherent, Finds, memory_after}
 

@@ -29,14 +29,17 @@ use Rattle.msi_state.specs.Moves.{core_of}
 use Rattle.msi_state.specs.States.{State, core_at}
 use Rattle.msi_state.specs.Events.{Event, Retires, Accesses, access_of, next_instr, port_taken}
 use Rattle.msi_state.specs.Steps.{acts, acts_of, acts_working, event, enabled, step}
-use Rattle.machine_invariant.specs.Holds.{Awaited, CoreHolds, MachineHolds}
+use Rattle.memory_laws.specs.Waits.{Awaited}
+use Rattle.machine_invariant.specs.Holds.{CoreHolds, MachineHolds}
 use Rattle.memory_laws.proofs.Kept.{memory_kept}
 use Rattle.memory_laws.proofs.PortsKept.{length_act}
 use Rattle.memory_laws.proofs.Waits.{wants_law, port_there}
-use Rattle.machine_invariant.proofs.Acting.{acts_hold}
+use Rattle.memory_laws.proofs.Acting.{acts_hold}
 use Rattle.machine_invariant.proofs.Stepping.{core_after, core_there, core_elsewhere, step_ports, step_home, step_cores}
-use Rattle.machine_invariant.proofs.Awaits.{CanWork, core_enabled, enabled_core, core_port, core_cases, message_cases, still_awaits, awaited_kept, awaited_acts}
-use Rattle.machine_invariant.proofs.Awaits.{told_asks_not, step_asks_not, taken_there}
+use Rattle.memory_laws.proofs.Awaits.{still_awaits, awaited_kept, awaited_acts}
+use Rattle.machine_invariant.proofs.Awaits.{CanWork, core_enabled, enabled_core, core_port, core_cases, message_cases}
+use Rattle.memory_laws.proofs.Awaits.{taken_there}
+use Rattle.machine_invariant.proofs.Awaits.{told_asks_not, step_asks_not}
 
 -- ---- the cores' numbers
 

@@ -25,7 +25,8 @@ use Rattle.msi_state.specs.declared.moves.Move.TheVariants.{Response as Response
 use Rattle.msi_state.specs.Moves.{candidates}
 use Rattle.msi_state.specs.States.{State, core_at, all_done}
 use Rattle.msi_state.specs.Steps.{enabled, moves}
-use Rattle.machine_invariant.specs.Holds.{Awaited, MachineHolds}
+use Rattle.memory_laws.specs.Waits.{Awaited}
+use Rattle.machine_invariant.specs.Holds.{MachineHolds}
 use Rattle.memory_laws.proofs.Moving.{quiet_links}
 
 -- a core that is done needs no access

@@ -1,5 +1,5 @@
 -- Riders that meet in a move have the same last writes.
-use Rattle.std.proofs.Common.{◌≡◌, ◌∙◌, ap, refl, sym, ℕ, ◌<◌, Bool, true, List, [], ◌∷◌, Some, arith, eq-eqb}
+use Rattle.std.proofs.Common.{◌≡◌, ◌∙◌, ap, refl, sym, ℕ, ◌<◌, Bool, true, List, [], ◌∷◌, Some, IsTrue, arith, eq-eqb}
 use Rattle.std.specs.Prelude.{map, reverse}
 use Rattle.std.proofs.lemmas.Bool.Decides.{nat_tests}
 use Rattle.access_times.specs.Riding.{Carrying}
@@ -22,8 +22,9 @@ use Rattle.msi_protocol.proofs.Shown.{shown_asked, shown_replied}
 use Rattle.msi_protocol.proofs.Shows.{messages_cons}
 use Rattle.msi_memory.specs.declared.port.Mail.{Mail}
 use Rattle.msi_memory.specs.declared.port.Port.{Port}
-use Rattle.msi_memory.specs.Acts.{TakeMessage}
-use Rattle.msi_memory.specs.Memories.{port_at}
+use Rattle.msi_memory.specs.Acts.{TakeMessage, can}
+use Rattle.msi_memory.specs.Memories.{Memory, port_at}
+use Rattle.memory_laws.specs.Holds.{MemoryHolds}
 use Rattle.memory_laws.specs.Links.{of_block, line_if, port_sight}
 use Rattle.memory_laws.specs.Sights.{cons_if}
 use Rattle.msi_state.specs.declared.moves.Move.TheVariants.{Core as CoreMove, Request as RequestMove, Response as ResponseMove, FromHome as MessageMove}
@@ -32,7 +33,7 @@ use Rattle.memory_laws.proofs.Standing.{HasRow, message_row}
 use Rattle.machine_times.specs.Absorbing.{request_meets, response_meets, message_meets, request_meets_in, response_meets_in, message_meets_in, MeetAlike}
 use Rattle.machine_times.specs.History.{NotedAccess}
 use Rattle.machine_times.specs.Retirements.{noted_accesses}
-use Rattle.machine_times.specs.StandsFor.{TimesParts, HasTimes}
+use Rattle.machine_times.specs.StandsFor.{TimesParts, HasTimes, HaveTimes}
 use Rattle.machine_times.proofs.Timed.{mover_below}
 
 module _ {R : Type 0} where
@@ -123,53 +124,79 @@ head_shown block mail rest items is =
     ap (of_block block b) is ∙ ap (λ (t : Bool). cons_if t mail.item (of_block block b rest)) (eq-eqb b b refl)
 
 module _ {R K : Type 0} where
-  -- ---- of the machine
+  -- ---- of the memory system
 
-  pub meet_alike : (parts : TimesParts R) (carrying : Carrying K) → MeetAlike parts carrying
-  meet_alike parts carrying list s (CoreMove c) holds e f x y met slot ls = absurd cc
-  meet_alike parts carrying list s (RequestMove c) holds e f x y met slot ls = by (port_at carrying s.memory.ports c).requests.items refl met
+  -- riders that meet as the home takes core c's oldest request,
+  pub requests_alike : (parts : TimesParts R) (carrying : Carrying K) (h : List NotedAccess) (m : Memory R K) (c : ℕ)
+      (x y : R) → c < CORES_MAX → HaveTimes parts carrying h m →
+      request_meets_in (port_at carrying m.ports c).requests.items parts.riding m c ≡ Some (x, y) →
+      (slot : ℕ) → slot < BLOCK_WORDS → parts.write x slot ≡ parts.write y slot
+  requests_alike parts carrying h m c x y lc f met slot ls =
+      by (port_at carrying m.ports c).requests.items refl met
     where
-      lc : c < CORES_MAX
-      lc = mover_below parts carrying s (RequestMove c) holds e
-
-      by : (q : List (Mail (Request R) K)) → (port_at carrying s.memory.ports c).requests.items ≡ q →
-          request_meets_in q parts.riding s.memory c ≡ Some (x, y) → parts.write x slot ≡ parts.write y slot
+      by : (q : List (Mail (Request R) K)) → (port_at carrying m.ports c).requests.items ≡ q →
+          request_meets_in q parts.riding m c ≡ Some (x, y) → parts.write x slot ≡ parts.write y slot
       by [] is met = absurd cc
       by (mail ∷ rest) is met =
           let b : ℕ = request_block mail.item in
-          request_alike parts (noted_accesses (reverse list)) b (entry_at parts.riding.fresh s.memory.home b)
-          (λ d. port_sight parts.riding b (port_at carrying s.memory.ports d)) c mail.item (of_block request_block b rest) x y lc
-          (head_shown request_block mail rest (port_at carrying s.memory.ports c).requests.items is) (f.all.blocks b) met slot ls
-  meet_alike parts carrying list s (ResponseMove c) holds e f x y met slot ls = by (port_at carrying s.memory.ports c).responses.items refl met
-    where
-      lc : c < CORES_MAX
-      lc = mover_below parts carrying s (ResponseMove c) holds e
+          request_alike parts h b (entry_at parts.riding.fresh m.home b)
+          (λ d. port_sight parts.riding b (port_at carrying m.ports d)) c mail.item (of_block request_block b rest) x y
+          lc (head_shown request_block mail rest (port_at carrying m.ports c).requests.items is) (f.blocks b) met slot
+          ls
 
-      by : (q : List (Mail (Response R) K)) → (port_at carrying s.memory.ports c).responses.items ≡ q →
-          response_meets_in q parts.riding s.memory c ≡ Some (x, y) → parts.write x slot ≡ parts.write y slot
+  -- or its oldest response,
+  pub responses_alike : (parts : TimesParts R) (carrying : Carrying K) (h : List NotedAccess) (m : Memory R K) (c : ℕ)
+      (x y : R) → c < CORES_MAX → HaveTimes parts carrying h m →
+      response_meets_in (port_at carrying m.ports c).responses.items parts.riding m c ≡ Some (x, y) →
+      (slot : ℕ) → slot < BLOCK_WORDS → parts.write x slot ≡ parts.write y slot
+  responses_alike parts carrying h m c x y lc f met slot ls =
+      by (port_at carrying m.ports c).responses.items refl met
+    where
+      by : (q : List (Mail (Response R) K)) → (port_at carrying m.ports c).responses.items ≡ q →
+          response_meets_in q parts.riding m c ≡ Some (x, y) → parts.write x slot ≡ parts.write y slot
       by [] is met = absurd cc
       by (mail ∷ rest) is met =
           let b : ℕ = response_block mail.item in
-          response_alike parts (noted_accesses (reverse list)) b (entry_at parts.riding.fresh s.memory.home b)
-          (λ d. port_sight parts.riding b (port_at carrying s.memory.ports d)) c mail.item (of_block response_block b rest) x y lc
-          (head_shown response_block mail rest (port_at carrying s.memory.ports c).responses.items is) (f.all.blocks b) met slot ls
-  meet_alike parts carrying list s (MessageMove c) holds e f x y met slot ls = by p.messages.items refl met
+          response_alike parts h b (entry_at parts.riding.fresh m.home b)
+          (λ d. port_sight parts.riding b (port_at carrying m.ports d)) c mail.item (of_block response_block b rest) x y
+          lc (head_shown response_block mail rest (port_at carrying m.ports c).responses.items is) (f.blocks b) met slot
+          ls
+
+  -- and as its cache takes a message
+  pub messages_alike : (parts : TimesParts R) (carrying : Carrying K) (h : List NotedAccess) (m : Memory R K) (c : ℕ)
+      (x y : R) → c < CORES_MAX → MemoryHolds parts.riding carrying m → IsTrue (can parts.riding carrying m (TakeMessage c)) →
+      HaveTimes parts carrying h m →
+      message_meets_in (port_at carrying m.ports c).messages.items parts.riding carrying m c ≡ Some (x, y) →
+      (slot : ℕ) → slot < BLOCK_WORDS → parts.write x slot ≡ parts.write y slot
+  messages_alike parts carrying h m c x y lc holds e f met slot ls = by p.messages.items refl met
     where
       p : Port R K
-      p = port_at carrying s.memory.ports c
+      p = port_at carrying m.ports c
 
-      lc : c < CORES_MAX
-      lc = mover_below parts carrying s (MessageMove c) holds e
-
-      by : (q : List (Mail (FromHome R) K)) → p.messages.items ≡ q → message_meets_in q parts.riding carrying s.memory c ≡ Some (x, y) →
-          parts.write x slot ≡ parts.write y slot
+      by : (q : List (Mail (FromHome R) K)) → p.messages.items ≡ q →
+          message_meets_in q parts.riding carrying m c ≡ Some (x, y) → parts.write x slot ≡ parts.write y slot
       by [] is met = absurd cc
       by (mail ∷ rest) is met =
           let b : ℕ = block_of mail.item in
           let l : Line R = line_for parts.riding.fresh p.cache b in
           let row : HasRow parts.riding p mail.item =
-          message_row parts.riding carrying s.memory c mail rest (there_of parts.riding carrying s.memory (TakeMessage c) e) is holds.memory in
-          message_alike parts (noted_accesses (reverse list)) b (entry_at parts.riding.fresh s.memory.home b)
-          (λ d. port_sight parts.riding b (port_at carrying s.memory.ports d)) c mail.item (of_block block_of b rest) x y lc
-          (head_shown block_of mail rest p.messages.items is) (f.all.blocks b)
+          message_row parts.riding carrying m c mail rest (there_of parts.riding carrying m (TakeMessage c) e) is
+          holds in
+          message_alike parts h b (entry_at parts.riding.fresh m.home b)
+          (λ d. port_sight parts.riding b (port_at carrying m.ports d)) c mail.item (of_block block_of b rest) x y lc
+          (head_shown block_of mail rest p.messages.items is) (f.blocks b)
           (ap (λ (t : Bool). message_meets (line_if t b l) mail.item) (eq-eqb l.block b row.at) ∙ met) slot ls
+
+  -- ---- of the machine
+
+  pub meet_alike : (parts : TimesParts R) (carrying : Carrying K) → MeetAlike parts carrying
+  meet_alike parts carrying list s (CoreMove c) holds e f x y met slot ls = absurd cc
+  meet_alike parts carrying list s (RequestMove c) holds e f x y met slot ls =
+      requests_alike parts carrying (noted_accesses (reverse list)) s.memory c x y
+      (mover_below parts carrying s (RequestMove c) holds e) f.all met slot ls
+  meet_alike parts carrying list s (ResponseMove c) holds e f x y met slot ls =
+      responses_alike parts carrying (noted_accesses (reverse list)) s.memory c x y
+      (mover_below parts carrying s (ResponseMove c) holds e) f.all met slot ls
+  meet_alike parts carrying list s (MessageMove c) holds e f x y met slot ls =
+      messages_alike parts carrying (noted_accesses (reverse list)) s.memory c x y
+      (mover_below parts carrying s (MessageMove c) holds e) holds.memory e f.all met slot ls

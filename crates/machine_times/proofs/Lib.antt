@@ -4,6 +4,7 @@ pub mod Exact
 pub mod Times
 pub mod RiderLaws
 pub mod Counting
+pub mod TimedActs
 pub mod Timed
 pub mod Begins
 pub mod Told

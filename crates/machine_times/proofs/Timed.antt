@@ -1,5 +1,5 @@
 -- Every move of the machine, act by act, and what an access finds.
-use Rattle.std.proofs.Common.{◌≡◌, ◌∙◌, ap, refl, sym, subst, ℕ, ◌+◌, ◌<◌, ◌≤◌, ◌%◌, ◌/◌, true, false, List, [], ◌∷◌, length, Option, Some}
+use Rattle.std.proofs.Common.{◌≡◌, ◌∙◌, ap, refl, sym, subst, ℕ, ◌+◌, ◌<◌, ◌≤◌, ◌%◌, ◌/◌, true, List, [], ◌∷◌, length, Option, Some}
 use Rattle.std.proofs.Common.{None, arith, IsTrue}
 use Rattle.std.proofs.lemmas.List.{length-set}
 use Rattle.access_times.specs.Riding.{Carrying}
@@ -17,9 +17,6 @@ use Rattle.msi_memory.specs.Acts.{Act, Want, Touch, Retire, TakeRequest, TakeRes
 use Rattle.msi_memory.specs.Acts.{port_retiring}
 use Rattle.msi_memory.specs.Memories.{Memory, port_at, rider_at}
 use Rattle.memory_laws.specs.Holds.{MemoryHolds}
-use Rattle.memory_laws.specs.Links.{TouchGives, payload_at, words_left}
-use Rattle.msi_cache.specs.Lines.{line_for}
-use Rattle.msi_protocol.specs.Shown.{Payload}
 use Rattle.msi_state.specs.declared.moves.Move.{Move}
 use Rattle.msi_state.specs.declared.moves.Move.TheVariants.{Core as CoreMove, Request as RequestMove, Response as ResponseMove, FromHome as MessageMove}
 use Rattle.msi_state.specs.Moves.{core_of as move_core}
@@ -28,78 +25,35 @@ use Rattle.msi_state.specs.States.{State, core_at}
 use Rattle.msi_state.specs.Steps.{acts_of, acts_working, enabled, event, retiring, step}
 use Rattle.machine_invariant.specs.Holds.{MachineHolds}
 use Rattle.memory_laws.proofs.Kept.{memory_kept}
-use Rattle.memory_laws.proofs.LinksKept.{is_touch, links_kept, links_touched}
-use Rattle.memory_laws.proofs.PortsKept.{can_of, there_of}
 use Rattle.memory_laws.proofs.Standing.{core_below}
 use Rattle.memory_laws.proofs.Waits.{port_there}
-use Rattle.machine_invariant.proofs.Awaits.{core_port, enabled_core, taken_there}
+use Rattle.memory_laws.proofs.Awaits.{taken_there}
+use Rattle.machine_invariant.proofs.Awaits.{core_port, enabled_core}
 use Rattle.machine_invariant.proofs.Happening.{receiving_cases, working_cases}
 use Rattle.machine_invariant.proofs.Kept.{acts_can}
-use Rattle.machine_times.specs.History.{NotedAccess, core_of, rank, last_noted_read}
+use Rattle.machine_times.specs.History.{NotedAccess, rank, last_noted_read}
 use Rattle.machine_times.specs.Retirements.{Retirement, noted_accesses, noted_after, retired_by, StandsAfter, RiderNotes, IsExactRider}
-use Rattle.machine_times.specs.StandsFor.{TimesParts, AbsorbsAll, HasTimes, HaveTimes}
+use Rattle.machine_times.specs.StandsFor.{TimesParts, AbsorbsAll, HaveTimes}
 use Rattle.machine_times.specs.TimedSteps.{RiderFits, TimedStep, FindsTimes}
 use Rattle.machine_times.proofs.Counting.{IsNext, counted_after, event_next, noted_event, order_after, rank_retired}
-use Rattle.machine_times.proofs.Times.{port_finds, times_kept, times_touched}
+use Rattle.machine_times.proofs.Times.{port_finds}
+use Rattle.machine_times.proofs.TimedActs.{other_times, touch_times}
 
 -- a core that is at this number, whose accesses so far are no later than what it retired
 record IsAt (c : ℕ) (h : List NotedAccess) (core : Core) : Type 0 where
   id : core.id ≡ c
   counts : (w : ℕ) → rank (last_noted_read h w c) ≤ core.count
 
+-- the next access of a core that is at this number is later than its accesses so far
+next_later : (c : ℕ) (h : List NotedAccess) (core : Core) (a : Access) → IsAt c h core → a.at ≡ next_instr core →
+    (w : ℕ) → rank (last_noted_read h w c) < a.at.count
+next_later c h core a at next w =
+    let count : a.at.count ≡ core.count + 1 = ap (λ (i : Instr). i.count) next in
+    let before : rank (last_noted_read h w c) ≤ core.count = at.counts w in
+    omega arith
+
 module _ {R K : Type 0} where
   -- ---- what acts make of the times
-
-  -- an act that is no access keeps them
-  other_times : (parts : TimesParts R) (carrying : Carrying K) → AbsorbsAll parts → (h : List NotedAccess) (m : Memory R K) (act : Act R) →
-      IsTrue (can parts.riding carrying m act) → is_touch act ≡ false → MemoryHolds parts.riding carrying m → HaveTimes parts carrying h m →
-      HaveTimes parts carrying h (after_act parts.riding carrying m act)
-  other_times parts carrying well h m act e other holds f =
-      links_kept parts.riding carrying (HasTimes parts h) (times_kept parts well h) m act e other holds f
-
-  -- an access appends itself
-  touch_times : (parts : TimesParts R) (carrying : Carrying K) → AbsorbsAll parts → (h : List NotedAccess) (m : Memory R K) (c : ℕ) (core : Core)
-      (n : NotedAccess) (rider : R) → IsAt c h core → n.access.at ≡ next_instr core →
-      RiderNotes parts n (rider_at parts.riding (port_at carrying m.ports c) n.access.word) rider →
-      IsTrue (can parts.riding carrying m (Touch c (n.access.word / BLOCK_WORDS) (n.access.word % BLOCK_WORDS) n.access.kind n.access.after rider)) →
-      MemoryHolds parts.riding carrying m → HaveTimes parts carrying h m → HaveTimes parts carrying (n ∷ h)
-      (after_act parts.riding carrying m (Touch c (n.access.word / BLOCK_WORDS) (n.access.word % BLOCK_WORDS) n.access.kind n.access.after rider))
-  touch_times parts carrying well h m c core n rider at next notes e holds f =
-      links_touched parts.riding carrying (HasTimes parts h) (HasTimes parts (n ∷ h)) (times_kept parts well (n ∷ h)) m c block
-      (n.access.word % BLOCK_WORDS) n.access.kind n.access.after rider
-      (there_of parts.riding carrying m touching e) (can_of parts.riding carrying m touching e) holds gives f
-    where
-      block : ℕ
-      block = n.access.word / BLOCK_WORDS
-
-      touching : Act R
-      touching = Touch c block (n.access.word % BLOCK_WORDS) n.access.kind n.access.after rider
-
-      p : Port R K
-      p = port_at carrying m.ports c
-
-      old : Payload R
-      old = payload_at parts.riding p block
-
-      new : Payload R
-      new = record {
-        words = words_left n.access.kind (line_for parts.riding.fresh p.cache block).words (n.access.word % BLOCK_WORDS) n.access.after;
-        rider = rider;
-      }
-
-      core_is : core_of n ≡ c
-      core_is = ap (λ (i : Instr). i.core) next ∙ at.id
-
-      later : (w : ℕ) → rank (last_noted_read h w (core_of n)) < n.access.at.count
-      later w =
-          let count : n.access.at.count ≡ core.count + 1 = ap (λ (i : Instr). i.count) next in
-          let before : rank (last_noted_read h w (core_of n)) ≤ core.count =
-          subst (λ (x : ℕ). rank (last_noted_read h w x) ≤ core.count) (sym core_is) (at.counts w) in
-          omega arith
-
-      gives : TouchGives (HasTimes parts h) (HasTimes parts (n ∷ h)) c block n.access.kind old new
-      gives = subst (λ (x : ℕ). TouchGives (HasTimes parts h) (HasTimes parts (n ∷ h)) x block n.access.kind old new) core_is
-          (times_touched parts h n old new later notes)
 
   -- what an event of core c does
   told_times : (parts : TimesParts R) (carrying : Carrying K) → AbsorbsAll parts → (h : List NotedAccess) (m : Memory R K) (c : ℕ) (core : Core) (rider : R)
@@ -110,7 +64,8 @@ module _ {R K : Type 0} where
   told_times parts carrying well h m c core rider clock (Retires i) lc at next notes can_them holds f =
       other_times parts carrying well h m (Retire c i) (first_true (can parts.riding carrying m (Retire c i)) true can_them) refl holds f
   told_times parts carrying well h m c core rider clock (Accesses a) lc at next notes can_them holds f =
-      touch_times parts carrying well h retired c core (record { access = a; clock = clock }) rider at (next a.at refl)
+      touch_times parts carrying well h retired c (record { access = a; clock = clock }) rider
+      (ap (λ (i : Instr). i.core) (next a.at refl) ∙ at.id) (next_later c h core a at (next a.at refl))
       (subst (λ (p : Port R K). RiderNotes parts (record { access = a; clock = clock }) (rider_at parts.riding p a.word) rider) (sym there) (notes a refl))
       (first_true (can parts.riding carrying retired touching) true
       (second_true (can parts.riding carrying m (Retire c a.at)) (can_all parts.riding carrying retired (touching ∷ [])) can_them))

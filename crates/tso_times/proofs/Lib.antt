@@ -1,0 +1,4 @@
+pub mod Orders
+pub mod Timed
+pub mod Begins
+pub mod Meeting

@@ -1,0 +1,6 @@
+use Rattle.machine_times.specs.TimedSteps.{times_parts}
+use Rattle.tso_times.proofs.Meeting.{meet_alike}
+use Rattle.tso_times.proofs.laws.riders_meet_alike.Goals as goal
+
+pub returns : goal.returns
+returns g c = meet_alike times_parts g.K.Carry.carrying
