@@ -1,3 +1,6 @@
+pub mod Bytes
+pub mod Jumps
+pub mod Masks
 pub mod Programs
 pub mod LawLemmas
 pub mod OpLemmas

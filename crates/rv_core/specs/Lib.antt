@@ -4,4 +4,5 @@ pub mod Needs
 pub mod Operations
 pub mod States
 pub mod Steps
+pub mod StoreMask
 pub mod Programs
