@@ -4,12 +4,8 @@
 
 mod carry;
 mod clerk;
-#[cfg(test)]
-mod noter_tests;
 mod reads;
 mod rider;
-#[cfg(test)]
-mod tests;
 mod times;
 mod times_clerk;
 

@@ -17,7 +17,7 @@ const PLACES: usize = CORES_MAX as usize;
 ///
 /// There is a place for each core, and a read is there exactly where the set has the core: so reads are
 /// forgotten at once, and a copy costs what is there.
-#[derive(Debug, Drop)]
+#[derive(Drop)]
 pub(crate) struct Reads {
     readers: CoreSet,
     places: [(u32, Clock); PLACES],

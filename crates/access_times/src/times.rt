@@ -13,7 +13,7 @@ use rtr_types::{BLOCK_WORDS, CORES_MAX, CoreSet, Instr};
 
 /// The times of one word: its last write, and each core's last read since that write, each with the
 /// clock that was noted for it. An access that reads and writes is a write here.
-#[derive(Debug, Drop)]
+#[derive(Drop)]
 struct SlotTimes {
     write: Option<(Instr, Clock)>,
     reads: Reads,
@@ -21,7 +21,7 @@ struct SlotTimes {
 
 /// The rider that records: for each slot of the block the last write, and for each core its last
 /// read since that write, each with the clock that was noted for it.
-#[derive(Debug, Drop)]
+#[derive(Drop)]
 pub struct Times {
     slots: [SlotTimes; BLOCK_WORDS],
 }
@@ -200,60 +200,5 @@ impl Times {
         ensures { self.new ≡ times_stored self.old slot at clock }
     {
         self.slots[slot as usize].on_store(at, clock);
-    }
-}
-
-#[cfg(test)]
-mod tests {
-    use super::*;
-
-    /// The clock that knows of the core's first instructions alone.
-    fn only(core: u8, count: u32) -> Clock
-        requires { core < CORES_MAX }
-    {
-        let mut clock = Clock::zero();
-        clock.set(core, count);
-        clock
-    }
-
-    #[test]
-    fn a_write_forgets_reads_and_absorbing_keeps_the_newer(rt: HostRuntime) {
-        let first = Instr { core: 2, count: 4 };
-        let mut home = Times::fresh();
-        assert!(rt; home.write(1).is_none());
-        home.on_load(1, Instr { core: 0, count: 1 }, only(0, 1));
-        home.on_store(1, first, only(2, 4));
-        assert_eq!(rt; home.write(1), Some((first, only(2, 4))));
-        assert!(rt; home.read_by(1, 0).is_none());
-        let mut copy = Times::fresh();
-        copy.copy_from(&home);
-        home.on_load(1, Instr { core: 0, count: 2 }, only(0, 2));
-        copy.on_load(1, Instr { core: 0, count: 3 }, only(0, 3));
-        copy.on_load(1, Instr { core: 1, count: 5 }, only(1, 5));
-        home.absorb(&copy);
-        assert_eq!(rt; home.read_by(1, 0), Some((3, only(0, 3))));
-        assert_eq!(rt; home.read_by(1, 1), Some((5, only(1, 5))));
-        assert!(rt; home.read_by(0, 1).is_none());
-        home.on_store(1, Instr { core: 1, count: 6 }, only(1, 6));
-        home.absorb(&copy);
-        assert!(rt; home.read_by(1, 0).is_none());
-    }
-
-    #[test]
-    fn a_copy_forgets_what_it_was_and_a_renewed_rider_keeps_newer_reads(rt: HostRuntime) {
-        let mut home = Times::fresh();
-        home.on_store(2, Instr { core: 1, count: 3 }, only(1, 3));
-        home.on_load(2, Instr { core: 0, count: 4 }, only(0, 4));
-        let mut copy = Times::fresh();
-        copy.on_load(0, Instr { core: 7, count: 1 }, only(7, 1));
-        copy.copy_from(&home);
-        assert!(rt; copy.read_by(0, 7).is_none());
-        assert_eq!(rt; copy.write(2), home.write(2));
-        assert_eq!(rt; copy.read_by(2, 0), Some((4, only(0, 4))));
-        copy.on_load(2, Instr { core: 0, count: 9 }, only(0, 9));
-        home.on_load(2, Instr { core: 2, count: 5 }, only(2, 5));
-        copy.renew(&home);
-        assert_eq!(rt; copy.read_by(2, 0), Some((9, only(0, 9))));
-        assert_eq!(rt; copy.read_by(2, 2), Some((5, only(2, 5))));
     }
 }

@@ -3,3 +3,4 @@ pub mod Least
 pub mod Clocks
 pub mod Times
 pub mod Scan
+pub mod Sizes

@@ -1,7 +1,15 @@
 //! What the least set and the clocks of a list of accesses are.
+ghost use Rattle.std.specs.Prelude.{◌≡◌};
+ghost use Rattle.conflict_edge.specs.declared.TheConstants.{ACCESSES_MAX};
 ghost use Rattle.conflict_edge.specs.Clocks.{CandidatesLaw, ClockLaw, KeptClockLaw, OnlineClockLaw, OnlineLaw};
 ghost use Rattle.conflict_edge.specs.Least.{CoveringLaw, IndependentLaw, OneLeastLaw, SourceLaw};
+ghost use Rattle.conflict_edge.specs.Sizes.{accesses_max};
 ghost use Rattle.conflict_edge.specs.Times.{TimesLaw};
+
+/// How many accesses `least_of` takes at most, as a number.
+pub fn sizes_law()
+    ensures { ACCESSES_MAX ≡ accesses_max }
+{}
 
 /// The least set is exactly the covering pairs: the conflict pairs with nothing strictly between.
 pub fn covering_law()

@@ -14,6 +14,3 @@ mod segments;
 pub use elf_fault::ElfFault;
 pub use flattening::flatten;
 pub use laws::{fault_laws, image_law};
-
-#[cfg(test)]
-mod tests;

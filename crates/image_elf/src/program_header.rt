@@ -11,7 +11,7 @@ const PT_LOAD: u32 = 1;
 
 /// What a program header says of its segment: the type, where its bytes stand in the file, the address where
 /// they are loaded, how many they are in the file, and how many in memory. Those past the file's are 0.
-#[derive(Clone, Copy, Debug, PartialEq, Eq)]
+#[derive(Clone, Copy)]
 pub(crate) struct ProgramHeader {
     kind: u32,
     offset: u32,

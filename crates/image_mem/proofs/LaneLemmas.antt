@@ -1,5 +1,5 @@
 -- The bytes of a word after some of them were copied over are the lanes of the merged word.
-use Rattle.std.proofs.Common.{◌≡◌, ◌⊎◌, inl, inr, ℕ, zero, suc, ◌+◌, ◌-◌, ◌/◌, ◌%◌, ◌^◌, ◌<◌, lit<, Bool, true, false, IsTrue, [], ◌∷◌, take, refl, arith, w32}
+use Rattle.std.proofs.Common.{◌≡◌, ◌⊎◌, inl, inr, ℕ, zero, suc, ◌+◌, ◌-◌, ◌/◌, ◌%◌, ◌^◌, ◌<◌, lit<, Bool, true, false, IsTrue, [], ◌∷◌, take, refl, sym, arith, w32}
 use Rattle.std.specs.Prelude.{if◌then◌else◌}
 use Rattle.std.specs.Int.{byte_at, to_le_bytes, from_le_bytes}
 use Rattle.std.proofs.lemmas.Nat.{mod_below}
@@ -50,7 +50,7 @@ is_merge old value address size h aligned = elim (sizes size h) [
   ]
 ]
 
-byte_at-below : (k n : ℕ) → byte_at k n < 256
+pub byte_at-below : (k n : ℕ) → byte_at k n < 256
 byte_at-below zero n = omega arith
 byte_at-below (suc k) n = mod_below (n / 256 ^ suc k) 256 (lit< tt)
 
@@ -58,7 +58,7 @@ chosen_below : (test : Bool) (a b : ℕ) → a < 256 → b < 256 → (if test th
 chosen_below true a b h k = h
 chosen_below false a b h k = k
 
-merged_lane-below : (old value first size lane : ℕ) → merged_lane old value first size lane < 256
+pub merged_lane-below : (old value first size lane : ℕ) → merged_lane old value first size lane < 256
 merged_lane-below old value first size lane =
     chosen_below (is_lane_of first size lane) (byte_at (lane - first) value) (byte_at lane old)
     (byte_at-below (lane - first) value) (byte_at-below lane old)
@@ -78,3 +78,14 @@ merged-below old value first size =
 pub merged-whole : (one other value : ℕ) → merged one value 0 4 ≡ merged other value 0 4
 unfolding merged
 merged-whole one other value = refl
+
+-- and they are the value's
+pub merged-value : (old value : ℕ) → value < 2 ^ 32 → merged old value 0 4 ≡ value
+unfolding merged
+merged-value old value h = omega arith
+
+pub is_value : (old value address size : ℕ) → value < 2 ^ 32 → address % size ≡ 0 → size ≡ 4 →
+    value ≡ merged old value (address % 4) size
+is_value old value address size h aligned four =
+    let lane : address % 4 ≡ 0 = rw four at aligned in
+    rw four (rw lane (sym (merged-value old value h)))

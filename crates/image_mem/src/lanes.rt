@@ -9,6 +9,10 @@ pub fn merge_lanes(old: u32, value: u32, address: u32, size: u32) -> u32
     requires aligned { address % size ≡ 0 }
     ensures { result ≡ merged old value (address % 4) size }
 {
+    // all four lanes need no copy of any
+    if size == 4 {
+        return value;
+    }
     let first = (address % 4) as usize;
     let count = size as usize;
     let mut lanes = old.to_le_bytes();

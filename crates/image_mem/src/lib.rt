@@ -5,8 +5,6 @@
 mod image;
 mod lanes;
 mod memory;
-#[cfg(test)]
-mod tests;
 
 pub use image::{Image, TooLarge};
 pub use lanes::{merge_lanes, merged_words};

@@ -2,3 +2,4 @@ pub mod Rule
 pub mod Sources
 pub mod Reduced
 pub mod Exact
+pub mod Sizes

@@ -1,6 +1,7 @@
 //! The edges into one access.
 ghost use Rattle.std.specs.Prelude.{◌≡◌, ◌<◌, ◌++◌, [], ◌∷◌, length};
 ghost use Rattle.online_reduce.specs.declared.TheConstants.{EDGES_MAX};
+ghost use Rattle.online_reduce.specs.Sizes.{edges_room};
 
 use crate::EDGES_MAX;
 use rtr_types::Edge;
@@ -8,8 +9,11 @@ use smallvec::SmallVec;
 use std::alloc::Global;
 use std::marker::Model;
 
-/// The edges into one access, as a list with room for all of them in the value itself.
-pub type EdgeList = SmallVec<Edge, EDGES_MAX>;
+/// How many edges an `EdgeList` has room for in the value itself: all that one access gets, and one more.
+pub const EDGES_ROOM: usize = 17;
+
+/// The edges into one access, as a list with room for `EDGES_ROOM` of them in the value itself.
+pub type EdgeList = SmallVec<Edge, EDGES_ROOM>;
 
 /// The edges into one access, in places of the value itself, so that they are lent and not moved.
 /// Contracts see the list.
@@ -68,7 +72,7 @@ impl EdgePlaces {
     /// The edges as a list, which takes no memory.
     pub(crate) fn to_list(&self, alloc: Global) -> EdgeList
         ensures items { result.items ≡ self.now }
-        ensures inline { result.capacity ≡ EDGES_MAX }
+        ensures room { result.capacity ≡ edges_room }
     {
         let mut list = SmallVec::new(alloc);
         for edge in &self.places[..self.len] {

@@ -1,6 +1,14 @@
 //! What the online reduction keeps while the times handed in are exact.
+ghost use Rattle.std.specs.Prelude.{◌≡◌};
+ghost use Rattle.online_reduce.specs.declared.edge_places.TheConstants.{EDGES_ROOM};
 ghost use Rattle.online_reduce.specs.Exact.{BeginLaw, CountLaw, ExactForLaw, LeastLaw, ListedLaw, RetireLaw};
 ghost use Rattle.online_reduce.specs.Reduced.{OtherClocksLaw};
+ghost use Rattle.online_reduce.specs.Sizes.{edges_room};
+
+/// How many edges an `EdgeList` has room for in the value itself, as a number.
+pub fn sizes_law()
+    ensures { EDGES_ROOM ≡ edges_room }
+{}
 
 /// A retirement changes the clock of its core alone.
 pub fn other_clocks_law()

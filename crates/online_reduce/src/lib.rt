@@ -7,10 +7,8 @@ mod pair_lists;
 mod reducer;
 mod rule;
 mod source;
-#[cfg(test)]
-mod tests;
 
-pub use edge_places::{EdgeList, EdgePlaces};
+pub use edge_places::{EDGES_ROOM, EdgeList, EdgePlaces};
 pub use reducer::Reducer;
 use rtr_types::CORES_MAX;
 

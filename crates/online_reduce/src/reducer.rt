@@ -4,6 +4,7 @@ ghost use Rattle.rtr_types.specs.declared.TheConstants.{CORES_MAX};
 ghost use Rattle.rtr_types.specs.declared.access.Access.{Access};
 ghost use Rattle.rtr_types.specs.declared.instr.Edge.{Edge};
 ghost use Rattle.access_times.specs.Times.{times_noted};
+ghost use Rattle.online_reduce.specs.Sizes.{edges_room};
 ghost use Rattle.conflict_edge.specs.Times.{IsExactClock};
 
 use crate::edge_places::{EdgeList, EdgePlaces};
@@ -119,6 +120,7 @@ impl Reducer {
         requires ready { IsTrue self.old.ready }
         requires next { IsNext self.old.state access.now.at }
         ensures edges { result.items ≡ edges_of self.old.state access.now times.old }
+        ensures room { result.capacity ≡ edges_room }
         ensures state { self.new.state ≡ retired self.old.state access.now times.old }
         ensures times { times.new ≡ times_noted access.now times.old (clock_of self.new.state access.now.at.core) }
         ensures held { IsHeld access.now times.new (clock_of self.new.state access.now.at.core) }

@@ -15,7 +15,7 @@ use rtr_types::{Access, BLOCK_WORDS, Instr};
 use std::marker::Model;
 
 /// An access that a new one may need an edge from, with its clock.
-#[derive(Clone, Copy, Debug, Default)]
+#[derive(Clone, Copy, Default)]
 pub struct Source {
     pub at: Instr,
     pub clock: Clock,

@@ -1,26 +1,25 @@
 -- The mask and the bits of a core's next store give what it writes.
-use Rattle.std.proofs.Common.{◌≡◌, ◌∙◌, ap, refl, sym, ℕ, ◌+◌, ◌-◌, ◌/◌, ◌%◌, ◌^◌, Bool, true, false, Option, Some}
-use Rattle.std.proofs.Common.{None, arith}
+use Rattle.std.proofs.Common.{◌≡◌, ◌∙◌, ap, refl, sym, ℕ, ◌/◌, ◌%◌, Bool, true, false, Option, Some, None}
 use Rattle.std.specs.Prelude.{bit_and}
 use Rattle.image_mem.specs.Contents.{Contents}
-use Rattle.image_mem.specs.Lanes.{merged}
 use Rattle.rtr_types.specs.declared.access.Kind.{Kind}
 use Rattle.rtr_types.specs.declared.access.Kind.TheVariants.{Store as Storing}
 use Rattle.rv_decode.specs.declared.op.Op.{Op}
 use Rattle.rv_decode.specs.declared.op.Op.TheVariants.{Jal, Jalr, Branch, Load as Loads, Store as Stores, Amo as Amos}
 use Rattle.rv_core.specs.declared.core_state.Core.{Core}
 use Rattle.rv_core.specs.declared.core_state.Need.{Need}
-use Rattle.rv_core.specs.declared.core_state.Need.TheVariants.{Load, Store, Amo}
+use Rattle.rv_core.specs.declared.core_state.Need.TheVariants.{Local, Load, Store, Amo, Done}
 use Rattle.rv_core.specs.Operations.{size_of, moved}
 use Rattle.rv_core.specs.States.{register, address_of, register_target, branches, word_after}
 use Rattle.rv_core.specs.Steps.{need, wrote, is_done, access_of, need_of, instruction_at}
 use Rattle.rv_core.proofs.LawLemmas.{wrote-op}
 use Rattle.rv_core.proofs.OpLemmas.{access_goes}
 use Rattle.rv_core.proofs.StepLemmas.{GoesOnBy, access_parts, branch_accesses, goes_on, jump_accesses}
-use Rattle.rv_core.specs.StoreMask.{StoreMaskLaw, WithinMaskLaw, lanes_of, mask_of, masked, store_mask, stored_value}
+use Rattle.rv_core.specs.StoreMask.{StoreMaskLaw, WithinMaskLaw, is_store, mask_of, masked, store_mask}
 use Rattle.rv_core.proofs.Bytes.{and_zero, bits_within, merged_masked}
 
-none : {A : Type 0} (need : Need) (word : ℕ) → access_of need ≡ None → access_of need ≡ Some (Storing, word) → A
+none : {A : Type 0} (need : Need) (word : ℕ) → access_of need ≡ None → access_of need ≡ Some (Storing, word)
+    → A
 none need word nothing h = let both = sym nothing ∙ h in cc
 
 abbrev stores : Option (Kind × ℕ) → Bool
@@ -29,8 +28,8 @@ stores (Some (Storing, word)) = true
 stores (Some (_, word)) = false
 
 -- an instruction that stores writes the masked word
-op_masked : (words : ℕ) (core : Core) (op : Op) (word : ℕ) → access_of (need_of words core op) ≡ Some (Storing, word) →
-    (old : ℕ) →
+op_masked : (words : ℕ) (core : Core) (op : Op) (word : ℕ)
+    → access_of (need_of words core op) ≡ Some (Storing, word) → (old : ℕ) →
     word_after core op old ≡ masked old (mask_of core (Some op)).0 (mask_of core (Some op)).1
 unfolding need_of word_after
 op_masked words core (Jal rd offset) word h = λ old. none _ word (jump_accesses (moved core.pc offset)) h
@@ -54,8 +53,8 @@ op_masked words core (Amos op rd rs1 rs2) word h =
     λ old. cc
 op_masked words core _ word h = λ old. cc
 
-mask_at : (image : Contents) (core : Core) (op : Op) → instruction_at image core.pc ≡ Some op →
-    store_mask image core ≡ mask_of core (Some op)
+pub mask_at : (image : Contents) (core : Core) (op : Op) → instruction_at image core.pc ≡ Some op
+    → store_mask image core ≡ mask_of core (Some op)
 unfolding store_mask
 mask_at image core op e = ap (mask_of core) e
 
@@ -70,17 +69,38 @@ mask_law image core word whole old is =
 
 -- ---- the bits lie within the mask
 
-op_within : (core : Core) (op : Op) →
-    bit_and (mask_of core (Some op)).1 (mask_of core (Some op)).0 ≡ (mask_of core (Some op)).1
-op_within core (Stores width rs1 rs2 immediate) = bits_within (register core rs2) (address_of core rs1 immediate % 4)
-    (size_of width)
+op_within : (core : Core) (op : Op)
+    → bit_and (mask_of core (Some op)).1 (mask_of core (Some op)).0 ≡ (mask_of core (Some op)).1
+op_within core (Stores width rs1 rs2 immediate) =
+    bits_within (register core rs2) (address_of core rs1 immediate % 4) (size_of width)
 op_within core _ = and_zero 0
 
-by_found : (core : Core) (found : Option Op) →
-    bit_and (mask_of core found).1 (mask_of core found).0 ≡ (mask_of core found).1
+by_found : (core : Core) (found : Option Op)
+    → bit_and (mask_of core found).1 (mask_of core found).0 ≡ (mask_of core found).1
 by_found core None = and_zero 0
 by_found core (Some op) = op_within core op
 
 pub within_mask : WithinMaskLaw
 unfolding store_mask
 within_mask image core = by_found core (instruction_at image core.pc)
+
+-- ---- what a core answers that is asked for them
+
+store_parts : (need : Need) → is_store need ≡ true → (word : ℕ) × (whole : Bool) × (need ≡ Store word whole)
+store_parts Local h = cc
+store_parts (Load word) h = cc
+store_parts (Store word whole) h = (word, whole, refl)
+store_parts (Amo word) h = cc
+store_parts (Done stop) h = cc
+
+pub store_goes : (need : Need) → is_store need ≡ true → is_done need ≡ false
+store_goes need h = let (word, whole, e) = store_parts need h in ap is_done e
+
+pub mask_writes : (image : Contents) (core : Core) (mask : ℕ × ℕ) → is_store (need image core) ≡ true
+    → mask ≡ store_mask image core → (old : ℕ) → wrote image core old ≡ masked old mask.0 mask.1
+mask_writes image core mask stores is old =
+    let (word, whole, e) = store_parts (need image core) stores in rw is (mask_law image core word whole old e)
+
+pub mask_within : (image : Contents) (core : Core) (mask : ℕ × ℕ) → mask ≡ store_mask image core
+    → bit_and mask.1 mask.0 ≡ mask.1
+mask_within image core mask is = rw is (within_mask image core)

@@ -1,10 +1,9 @@
 -- What is decoded of an image, address by address.
-use Rattle.std.proofs.Common.{◌≡◌, ◌≢◌, ◌∙◌, ap, refl, sym, ℕ, ◌+◌, ◌*◌, ◌/◌, ◌%◌, ◌^◌, ◌<◌, ◌≤◌, true, false, List, length, arith}
-use Rattle.std.specs.Prelude.{None, Option, nat_le, slice_index_or}
+use Rattle.std.proofs.Common.{◌≡◌, ◌≢◌, ℕ, ◌+◌, ◌*◌, ◌%◌, ◌<◌, List, length, arith}
+use Rattle.std.specs.Prelude.{None, Option, slice_index_or}
 use Rattle.std.proofs.lemmas.Bool.Decides.{nat_tests}
 use Rattle.image_mem.specs.Contents.{Contents, fetched}
 use Rattle.rv_decode.specs.declared.op.Op.{Op}
-use Rattle.rv_core.specs.Programs.{AreDecoded}
 use Rattle.rv_core.specs.Steps.{instruction_at}
 
 -- the instructions at the first k of these addresses

@@ -1,7 +1,9 @@
 //! One core: its state, what its next instruction needs, and the retiring of that instruction.
-ghost use Rattle.std.specs.Prelude.{◌≡◌, ◌<◌, ◌+◌, ◌^◌, ◌%◌, true, false};
-ghost use Rattle.rv_core.specs.States.{starting, register, address_of, register_target, branches, next_pc, result_of};
-ghost use Rattle.rv_core.specs.States.{written, halt_after, retired, word_after, stores_aligned};
+ghost use Rattle.std.specs.Prelude.{◌≡◌, ◌↔◌, ℕ, ◌<◌, ◌+◌, ◌^◌, ◌%◌, IsTrue, true, false, bit_and, Some};
+ghost use Rattle.rv_core.specs.Operations.{bits_of, moved};
+ghost use Rattle.rv_core.specs.States.{starting, register, address_of, register_target, branches, written, retired};
+ghost use Rattle.rv_core.specs.States.{word_after, stores_aligned};
+ghost use Rattle.rv_core.specs.StoreMask.{is_store, mask_of, masked, store_mask};
 ghost use Rattle.rv_core.specs.Steps.{need, after, wrote, is_done, is_whole, access_of, stop_of, instruction_at};
 ghost use Rattle.rv_core.specs.Steps.{need_of, need_to_jump, need_to_access, need_at_pc};
 
@@ -175,6 +177,7 @@ impl Core {
 
     /// What the next instruction needs, where the one at pc is at hand already.
     #[tactic(auto, unfolding(crate::specs::Steps::need))]
+    #[inline(always)]
     pub fn need_by_op(&self, image: &Image, op: Option<Op>) -> Need
         requires { op ≡ instruction_at image.now self.now.pc }
         ensures { result ≡ need image.now self.now }
@@ -200,6 +203,7 @@ impl Core {
     }
 
     /// Retires the next instruction as `finish` does, where the one at pc is at hand already.
+    #[inline(always)]
     pub fn finish_op(&mut self, _image: &Image, op: Option<Op>, old: u32) -> u32
         requires more { is_done (need _image.now self.old) ≡ false }
         requires at_pc { op ≡ instruction_at _image.now self.old.pc }
@@ -207,9 +211,31 @@ impl Core {
         ensures value { result ≡ wrote _image.now self.old old }
     {
         let Some(op) = op else { unreachable!() };
-        let value = self.word_after(op, old);
-        self.retire(op, old);
-        value
+        self.execute(op, old)
+    }
+
+    /// What the next instruction, which is a store, leaves of its word: the mask of the bits that it replaces,
+    /// and what they become, which lies within the mask. Whatever the word holds, `finish` leaves in it
+    /// `old & !mask | bits`.
+    pub fn store_mask(&self, image: &Image) -> (u32, u32)
+        requires { is_store (need image.now self.now) ≡ true }
+        ensures mask { result ≡ store_mask image.now self.now }
+        ensures writes { (old : ℕ) → wrote image.now self.now old ≡ masked old result.0 result.1 }
+        ensures within { bit_and result.1 result.0 ≡ result.1 }
+    {
+        self.store_mask_by_op(image, self.next_op(image))
+    }
+
+    /// The mask and the bits as `store_mask` answers them, where the instruction at pc is at hand already.
+    pub fn store_mask_by_op(&self, _image: &Image, op: Option<Op>) -> (u32, u32)
+        requires store { is_store (need _image.now self.now) ≡ true }
+        requires at_pc { op ≡ instruction_at _image.now self.now.pc }
+        ensures mask { result ≡ store_mask _image.now self.now }
+        ensures writes { (old : ℕ) → wrote _image.now self.now old ≡ masked old result.0 result.1 }
+        ensures within { bit_and result.1 result.0 ≡ result.1 }
+    {
+        let Some(op) = op else { unreachable!() };
+        self.mask_of(op)
     }
 
     /// Why the program is done, or `Total` where it isn't.
@@ -244,6 +270,7 @@ impl Core {
     }
 
     #[tactic(auto, using(crate::proofs::StepLemmas::needs_of_op, crate::proofs::StepLemmas::stops_without_op))]
+    #[inline(always)]
     fn need_at_pc(&self, image: &Image, op: Option<Op>) -> Need
         requires { op ≡ instruction_at image.now self.now.pc }
         ensures { result ≡ need_at_pc image.now self.now }
@@ -257,12 +284,14 @@ impl Core {
         }
     }
 
-    #[tactic(auto, unfolding(crate::specs::Steps::need_of))]
+    #[tactic(auto, unfolding(crate::specs::Steps::need_of), using(crate::proofs::Jumps::whole_branch))]
+    #[inline(always)]
     fn need_of(&self, words: u32, op: Op) -> Need
+        requires { self.now.pc % 4 ≡ 0 }
         ensures { result ≡ need_of words self.now op }
     {
         match op {
-            Op::Jal { offset, .. } => need_to_jump(moved(self.pc, offset)),
+            Op::Jal { offset, .. } => self.need_to_move(offset),
             Op::Jalr { rs1, imm, .. } => need_to_jump(self.register_target(rs1, imm)),
             Op::Branch {
                 cond,
@@ -270,6 +299,9 @@ impl Core {
                 rs2,
                 offset,
             } => {
+                if is_whole_words(offset) {
+                    return Need::Local;
+                }
                 if self.branches(cond, rs1, rs2) {
                     need_to_jump(moved(self.pc, offset))
                 } else {
@@ -308,97 +340,120 @@ impl Core {
         }
     }
 
-    #[tactic(auto, unfolding(crate::specs::States::next_pc))]
-    fn next_pc(&self, op: Op) -> u32
-        ensures { result ≡ next_pc self.now op }
+    /// What a jump by an offset from pc needs. Where that is whole words, as in all that compilers make, the
+    /// target isn't looked at.
+    #[tactic(auto, using(crate::proofs::Jumps::whole_jump))]
+    fn need_to_move(&self, offset: i32) -> Need
+        requires { self.now.pc % 4 ≡ 0 }
+        ensures { result ≡ need_to_jump (moved self.now.pc offset) }
     {
+        if is_whole_words(offset) {
+            return Need::Local;
+        }
+        need_to_jump(moved(self.pc, offset))
+    }
+
+    /// Retires the instruction, by one match, and answers its word's value after it.
+    #[tactic(auto, unfolding(crate::specs::States::retired, crate::specs::States::word_after, crate::specs::States::next_pc, crate::specs::States::result_of, crate::specs::States::halt_after, crate::specs::States::register))]
+    #[inline(always)]
+    fn execute(&mut self, op: Op, old: u32) -> u32
+        requires room { self.old.count < self.old.limit }
+        requires aligned { stores_aligned self.old op ≡ true }
+        ensures core { self.new ≡ retired self.old op old }
+        ensures value { result ≡ word_after self.old op old }
+    {
+        prove!(self.count < self.limit);
+        let here = self.pc;
+        let after = here.wrapping_add(4);
+        self.count += 1;
+        self.pc = after;
         match op {
-            Op::Jal { offset, .. } => moved(self.pc, offset),
-            Op::Jalr { rs1, imm, .. } => self.register_target(rs1, imm),
+            Op::Lui { rd, upper } => self.put(rd, upper << 12),
+            Op::Auipc { rd, upper } => self.put(rd, here.wrapping_add(upper << 12)),
+            Op::Jal { rd, offset } => {
+                self.put(rd, after);
+                self.pc = moved(here, offset);
+            }
+            Op::Jalr { rd, rs1, imm } => {
+                let target = self.register_target(rs1, imm);
+                self.put(rd, after);
+                self.pc = target;
+            }
             Op::Branch {
                 cond,
                 rs1,
                 rs2,
                 offset,
-            } if self.branches(cond, rs1, rs2) => moved(self.pc, offset),
-            _ => self.pc.wrapping_add(4),
-        }
-    }
-
-    #[tactic(auto, unfolding(crate::specs::States::result_of))]
-    fn result_of(&self, op: Op, old: u32) -> Option<(u8, u32)>
-        ensures { result ≡ result_of self.now op old }
-    {
-        match op {
-            Op::Lui { rd, upper } => Some((rd, upper << 12)),
-            Op::Auipc { rd, upper } => Some((rd, self.pc.wrapping_add(upper << 12))),
-            Op::Jal { rd, .. } | Op::Jalr { rd, .. } => Some((rd, self.pc.wrapping_add(4))),
+            } => {
+                if self.branches(cond, rs1, rs2) {
+                    self.pc = moved(here, offset);
+                }
+            }
             Op::Load {
                 width,
                 rd,
                 rs1,
                 imm,
-            } => Some((rd, loaded(width, old, self.address_of(rs1, imm) % 4))),
-            Op::AluImm { alu, rd, rs1, imm } => {
-                Some((rd, compute(alu, self.reg(rs1), imm.cast_unsigned())))
+            } => {
+                let value = loaded(width, old, self.address_of(rs1, imm) % 4);
+                self.put(rd, value);
+                return old;
             }
-            Op::AluReg { alu, rd, rs1, rs2 } => {
-                Some((rd, compute(alu, self.reg(rs1), self.reg(rs2))))
-            }
-            Op::Amo { rd, .. } => Some((rd, old)),
-            Op::Branch { .. } | Op::Store { .. } | Op::Fence | Op::Ecall | Op::Ebreak => None,
-        }
-    }
-
-    #[tactic(auto, unfolding(crate::specs::States::halt_after))]
-    fn halt_after(&self, op: Op) -> Halt
-        ensures { result ≡ halt_after self.now op }
-    {
-        match op {
-            Op::Ecall => Halt::Exited,
-            Op::Ebreak => Halt::Broke,
-            _ => self.halt,
-        }
-    }
-
-    #[tactic(auto, unfolding(crate::specs::States::retired))]
-    fn retire(&mut self, op: Op, old: u32)
-        requires { self.old.count < self.old.limit }
-        ensures { self.new ≡ retired self.old op old }
-    {
-        prove!(self.count < self.limit);
-        let pc = self.next_pc(op);
-        let halt = self.halt_after(op);
-        if let Some((rd, value)) = self.result_of(op, old) {
-            write_register(&mut self.registers, rd, value);
-        }
-        self.pc = pc;
-        self.halt = halt;
-        self.count += 1;
-    }
-
-    #[tactic(auto, unfolding(crate::specs::States::word_after))]
-    fn word_after(&self, op: Op, old: u32) -> u32
-        requires { stores_aligned self.now op ≡ true }
-        ensures { result ≡ word_after self.now op old }
-    {
-        match op {
-            Op::Load { .. } => old,
             Op::Store {
                 width,
                 rs1,
                 rs2,
                 imm,
-            } => merge_lanes(
-                old,
-                self.reg(rs2),
-                self.address_of(rs1, imm),
-                size_of(width),
-            ),
-            Op::Amo { op, rs2, .. } => exchanged(op, old, self.reg(rs2)),
-            Op::Lui { .. } | Op::Auipc { .. } | Op::AluImm { .. } | Op::AluReg { .. } => 0,
-            Op::Jal { .. } | Op::Jalr { .. } | Op::Branch { .. } => 0,
-            Op::Fence | Op::Ecall | Op::Ebreak => 0,
+            } => {
+                let value = self.reg(rs2);
+                return merge_lanes(old, value, self.address_of(rs1, imm), size_of(width));
+            }
+            Op::AluImm { alu, rd, rs1, imm } => {
+                let value = compute(alu, self.reg(rs1), imm.cast_unsigned());
+                self.put(rd, value);
+            }
+            Op::AluReg { alu, rd, rs1, rs2 } => {
+                let value = compute(alu, self.reg(rs1), self.reg(rs2));
+                self.put(rd, value);
+            }
+            Op::Amo { op, rd, rs2, .. } => {
+                let value = exchanged(op, old, self.reg(rs2));
+                self.put(rd, old);
+                return value;
+            }
+            Op::Fence => {}
+            Op::Ecall => self.halt = Halt::Exited,
+            Op::Ebreak => self.halt = Halt::Broke,
+        }
+        0
+    }
+
+    /// Puts a value into a register.
+    fn put(&mut self, rd: u8, value: u32)
+        ensures { self.new ≡ record self.old { registers = written self.old.registers rd value } }
+    {
+        write_register(&mut self.registers, rd, value);
+    }
+
+    /// The bits that the instruction replaces in its word, and what they become.
+    fn mask_of(&self, op: Op) -> (u32, u32)
+        requires { stores_aligned self.now op ≡ true }
+        ensures { result ≡ mask_of self.now (Some op) }
+    {
+        match op {
+            Op::Store {
+                width,
+                rs1,
+                rs2,
+                imm,
+            } => {
+                let address = self.address_of(rs1, imm);
+                let size = size_of(width);
+                let mask = merge_lanes(0, u32::MAX, address, size);
+                let bits = merge_lanes(0, self.reg(rs2), address, size);
+                (mask, bits)
+            }
+            _ => (0, 0),
         }
     }
 }
@@ -410,6 +465,13 @@ fn write_register(registers: &mut [u32; REGISTERS], k: u8, value: u32)
     if k != 0 && (k as usize) < REGISTERS {
         registers[k as usize] = value;
     }
+}
+
+/// Whether the offset is a multiple of 4.
+fn is_whole_words(offset: i32) -> bool
+    ensures { IsTrue result ↔ (bits_of offset % 4 ≡ 0) }
+{
+    offset.cast_unsigned() % 4 == 0
 }
 
 #[tactic(auto, unfolding(crate::specs::Steps::need_to_jump))]

@@ -2,6 +2,7 @@
 //! laws, and never open the instruction set.
 ghost use Rattle.rv_core.specs.Laws.{StartLaw, CountLaw, NumberLaw, LimitLaw, RoomLaw, WithinLaw, LocalLaw, UnreadLaw};
 ghost use Rattle.rv_core.specs.Laws.{WholeLaw, WholeStoreLaw, LocalValueLaw, UnwrittenLaw, ValueLaw, TotalLaw};
+ghost use Rattle.rv_core.specs.StoreMask.{StoreMaskLaw, WithinMaskLaw};
 
 /// A core starts with its number and limit, and with no retired instruction.
 pub fn a_core_starts_at_0()
@@ -41,4 +42,10 @@ pub fn values_are_words()
     ensures local { LocalValueLaw }
     ensures unwritten { UnwrittenLaw }
     ensures value { ValueLaw }
+{}
+
+/// A store writes the word in which the bits of its mask became its bits, which lie within the mask.
+pub fn masks_give_what_stores_write()
+    ensures writes { StoreMaskLaw }
+    ensures within { WithinMaskLaw }
 {}

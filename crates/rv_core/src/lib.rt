@@ -13,8 +13,6 @@ pub mod laws;
 mod operations;
 mod outcome;
 mod program;
-#[cfg(test)]
-mod tests;
 
 pub use core_state::{Core, Halt, Need, REGISTERS, Stop};
 pub use outcome::{LoadNote, Outcome};

@@ -18,6 +18,3 @@ pub use encoder::encode;
 pub use laws::{decode_of_encode, decoded_fits};
 pub use op::{Alu, AmoOp, Cond, Op, Width};
 pub use ranges::fits;
-
-#[cfg(test)]
-mod tests;

@@ -1,7 +1,7 @@
 //! The instructions of RV32I and of the A extension's atomic memory operations.
 
 /// When a branch is taken: a comparison of rs1 with rs2, unsigned for `Ltu` and `Geu`.
-#[derive(Clone, Copy, Debug, PartialEq, Eq)]
+#[derive(Clone, Copy)]
 pub enum Cond {
     Eq,
     Ne,
@@ -13,7 +13,7 @@ pub enum Cond {
 
 /// How much a load or store moves: 8, 16 or 32 bits. A load of `Byte` or `Half` extends the sign, one
 /// of `ByteU` or `HalfU` fills with zeros.
-#[derive(Clone, Copy, Debug, PartialEq, Eq)]
+#[derive(Clone, Copy, PartialEq, Eq)]
 pub enum Width {
     Byte,
     Half,
@@ -23,7 +23,7 @@ pub enum Width {
 }
 
 /// What an arithmetic or logical instruction computes of its two operands.
-#[derive(Clone, Copy, Debug, PartialEq, Eq)]
+#[derive(Clone, Copy)]
 pub enum Alu {
     Add,
     Sub,
@@ -39,7 +39,7 @@ pub enum Alu {
 
 /// What an atomic memory operation makes of its word's old value and of rs2: `Swap` leaves rs2, `Add`
 /// wraps at 32 bits, `Min` and `Max` compare with sign, `Minu` and `Maxu` without.
-#[derive(Clone, Copy, Debug, PartialEq, Eq)]
+#[derive(Clone, Copy)]
 pub enum AmoOp {
     Swap,
     Add,
@@ -56,7 +56,7 @@ pub enum AmoOp {
 /// registers, from 0 to 31. `upper`, below 2^20, stands for `upper * 4096`. `imm` and `offset` are
 /// sign-extended, and `offset` counts bytes from the instruction's own address. An atomic memory operation
 /// has its whole address in rs1. `fits` says which values have a word.
-#[derive(Clone, Copy, Debug, PartialEq, Eq)]
+#[derive(Clone, Copy)]
 pub enum Op {
     Lui {
         rd: u8,

@@ -1,6 +1,11 @@
 use Rattle.std.proofs.Common.{◌∙◌}
-use Rattle.image_mem.proofs.LaneLemmas.{is_merge}
+use Rattle.image_mem.proofs.LaneLemmas.{is_merge, is_value}
 use Rattle.image_mem.proofs.lanes.merge_lanes.Goals as goal
+
+pub returns-then-size-eq4 : goal.returns-then-size-eq4
+returns-then-size-eq4 c =
+    is_value c.args.old c.args.value c.args.address c.args.size c.ranges.value.fits c.requires.aligned
+    c.if-size-eq4.true
 
 pub returns : goal.returns
 returns c =

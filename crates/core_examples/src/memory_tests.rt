@@ -1,0 +1,66 @@
+//! Values from outside: words and lanes as the standard's little-endian memory has them.
+use image_mem::{Image, Memory, TooLarge, merge_lanes};
+use std::test::Fail;
+
+#[test]
+fn an_image_gives_its_words(rt: HostRuntime) -> Result<(), Fail> {
+    // ADDI x1, x0, 5 as bytes, and half a word more.
+    let bytes = [0x93, 0x00, 0x50, 0x00, 0x34, 0x12].to_vec(rt.alloc())?;
+    let image = Image::flat(bytes, 4)?;
+    assert_eq!(rt; image.words(), 4);
+    for (pc, want) in [
+        (0, Some(0x0050_0093)),
+        (1, None),
+        (2, None),
+        (4, None),
+        (u32::MAX - 3, None),
+    ] {
+        assert_eq!(rt; image.fetch(pc), want, "at {pc}");
+    }
+    for (word, want) in [(0, 0x0050_0093), (1, 0x1234), (2, 0), (u32::MAX, 0)] {
+        assert_eq!(rt; image.word(word), want, "word {word}");
+    }
+    assert_eq!(rt; image.bytes().len(), 6);
+    let mut memory = Memory::new(rt.alloc(), &image)?;
+    memory.put(1, 7);
+    assert_eq!(rt; memory.get(0), 0x0050_0093);
+    assert_eq!(rt; memory.get(1), 7);
+    assert_eq!(rt; memory.get(3), 0);
+    assert_eq!(rt;
+        image.into_bytes().as_slice(),
+        [0x93, 0x00, 0x50, 0x00, 0x34, 0x12].as_slice()
+    );
+    Ok(())
+}
+
+#[test]
+fn an_image_above_its_memory_is_refused(rt: HostRuntime) -> Result<(), Fail> {
+    for (length, fits) in [(15, true), (16, true), (17, false)] {
+        let bytes = vec![in rt.alloc(); 0; length]?;
+        let image = Image::flat(bytes, 4);
+        assert_eq!(rt; image.is_ok(), fits, "length {length}");
+        if let Err(refused) = image {
+            assert_eq!(rt; refused, TooLarge);
+        }
+    }
+    Ok(())
+}
+
+#[test]
+fn lanes_are_replaced_alone(rt: HostRuntime) {
+    let cases = [
+        (0, 1, 0x1122_33dd),
+        (1, 1, 0x1122_dd44),
+        (2, 1, 0x11dd_3344),
+        (7, 1, 0xdd22_3344),
+        (4, 2, 0x1122_ccdd),
+        (6, 2, 0xccdd_3344),
+        (8, 4, 0xaabb_ccdd),
+    ];
+    for (address, size, want) in cases {
+        assert!(rt; size == 1 || size == 2 || size == 4);
+        assert!(rt; address % size == 0);
+        let merged = merge_lanes(0x1122_3344, 0xaabb_ccdd, address, size);
+        assert_eq!(rt; merged, want, "at {address}, size {size}");
+    }
+}
