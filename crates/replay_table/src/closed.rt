@@ -8,7 +8,6 @@ use std::marker::Model;
 
 /// The play of a whole replay order: what it leaves, and by core its accesses. Only closing a table
 /// makes one.
-#[derive(Drop)]
 pub struct Closed {
     pub(crate) outcome: Outcome,
     pub(crate) touched: Items<Items<Touch>>,
@@ -20,6 +19,15 @@ impl Model for Closed {
     ghost Value = { Ended };
 
     ghost view = { λ a. record { outcome = a.outcome; touched = a.touched } };
+}
+
+impl Drop for Closed {
+    fn drop(self) {
+        let Closed {
+            outcome: _outcome,
+            touched: _touched,
+        } = self;
+    }
 }
 
 impl Closed {

@@ -10,7 +10,6 @@ use std::marker::Model;
 
 /// The cores, loads and accesses of seats that were taken apart, in lists that took their room
 /// beforehand.
-#[derive(Drop)]
 pub(crate) struct Parts {
     cores: Vec<Core>,
     loads: Vec<Items<LoadNote>>,
@@ -32,6 +31,16 @@ impl Model for Parts {
 
     ghost invariant = { λ a. (length a.loads.items ≡ length a.cores.items)
         × (length a.touched.items ≡ length a.cores.items) };
+}
+
+impl Drop for Parts {
+    fn drop(self) {
+        let Parts {
+            cores: _cores,
+            loads: _loads,
+            touched: _touched,
+        } = self;
+    }
 }
 
 impl Parts {

@@ -13,7 +13,8 @@ use Rattle.log_codec.specs.declared.recording.Recording.{Recording}
 use Rattle.replay_core.specs.Plans.{plan_of}
 use Rattle.rtr_types.specs.declared.pairs.Which.{Which}
 use Rattle.replay_table.specs.Seats.{Sitting, Finished}
-use Rattle.replay_threads.specs.Groups.{Grouped, no_group, members, workers_at, ids_of, AllAt, AreAt, AreGrouped, AreKept, IsGivenTo, IsDone, AllDone}
+use Rattle.replay_threads.specs.Groups.{Grouped, no_group, members, workers_at, ids_of, AllAt, AreAt, AreGrouped, AreKept, IsGivenTo, IsDone, AllDone, Turned}
+use Rattle.replay_threads.specs.declared.groups.Stand.{Stand}
 
 -- ---- lists
 
@@ -247,3 +248,10 @@ all_groups P groups h k d lt = subst (λ (x : Grouped). P x.workers) (get_or_def
 
 pub by_group : (P : List Sitting → Type 0) (groups : List Grouped) → All (λ x. P x.workers) groups → (g : ℕ) → g < length groups → P (workers_at groups g)
 by_group P groups h g lt = h g no_group lt
+
+-- ---- passes
+
+-- one more turn of each worker of a group
+pub turned_then : (which : Which) (r : Recording) (table : TableId) (xs ys zs : List Sitting) (one two : Stand) → Turned which r table xs one ys →
+    Turned which r table ys two zs → Turned which r table xs two zs
+turned_then which r table xs ys zs one two a b = record { ids = b.ids ∙ a.ids; tables = b.tables; ended = b.ended; unsure = b.unsure }

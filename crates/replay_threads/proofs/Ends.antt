@@ -19,6 +19,7 @@ use Rattle.replay_threads.specs.Joints.{RanOut}
 pub end_ran : (which : Which) (r : Recording) (e : AnEnd) → Valid r → IsEnd (plan_of which r) e → IsDeterminate which r → RanOut which r e
 end_ran which r e valid h det = record {
   determinate = det;
+  ended = h;
   outcome = h.outcome ∙ (every_order_law which r (low_order (plan_of which r)) h.order valid det h.play.ordered).outcome h.play.whole;
 }
 

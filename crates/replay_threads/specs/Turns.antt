@@ -17,11 +17,10 @@ use Rattle.replay_threads.specs.declared.turns.Turn.{Turn}
 use Rattle.replay_threads.specs.declared.turns.Turn.TheVariants.{Ended, Waiting, Short, Raced}
 
 -- the parts of a worker belong to the recording and the log
-pub record WorksOn (w : Which) (r : Recording) (which : Which) (recording : Recording) (groups : ℕ) : Type 0 where
+pub record WorksOn (w : Which) (r : Recording) (which : Which) (recording : Recording) : Type 0 where
   pub valid : Valid r
   pub which_is : which ≡ w
   pub recording_is : recording ≡ r
-  pub some : 0 < groups
 
 -- ---- what moves
 

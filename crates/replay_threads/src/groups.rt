@@ -1,5 +1,6 @@
 //! Groups of workers. The workers of a group take their turns one after the other, and the groups work at
-//! the same time.
+//! the same time. A pass, in which each worker of a group takes one turn, is the group's round: it makes as
+//! many of them as it gets on by, and only then are the threads given up.
 ghost use Rattle.std.specs.Prelude.{◌≡◌, ◌<◌, ◌⊎◌, ℕ, [], ◌∷◌, ◌++◌, All, length, slice_index_or};
 ghost use Rattle.std.specs.Prelude.{IfNone, IfOk, IfSome, OnOk};
 ghost use Rattle.replay_audit.specs.Determinate.{IsDeterminate};
@@ -15,8 +16,12 @@ use std::marker::Model;
 use std::thread;
 use std::thread::Threads;
 
-/// How the turns of a round ended, taken together.
-#[derive(Clone, Copy, Debug, PartialEq, Eq)]
+/// After how many passes in a row in which none of its workers retired an instruction a group gives its
+/// thread up. The round then ends, and the next one serves a machine on which no thread can be made.
+const IDLE_PASSES: u32 = 256;
+
+/// How the turns of a pass ended, taken together.
+#[derive(Clone, Copy)]
 pub(crate) enum Stand {
     /// All cores are at their totals.
     Ended,
@@ -71,12 +76,50 @@ impl<'a, J: Job> Model for Group<'a, J> {
 }
 
 impl<'a, J: Job> Group<'a, J> {
+    /// Takes passes until none of the workers waits, or until many in a row brought nothing. After each of
+    /// these another thread may have the processor.
+    #[tactic(auto, using(crate::proofs::Dealing::turned_then))]
+    fn work<G: Gate>(&mut self, table: &ReplayTable<J>, gate: &G)
+        requires { AllAt table.now self.old.workers }
+        ensures { Turned J.which J.recording table.now self.old.workers self.new.stand self.new.workers }
+    {
+        self.pass(table, gate);
+        let mut idle: u32 = 0;
+        for _pass in 1..u32::MAX {
+            if idle >= IDLE_PASSES || !self.waits() {
+                return;
+            }
+            let before = self.retired();
+            self.pass(table, gate);
+            if self.retired() > before {
+                idle = 0;
+            } else {
+                idle = idle.saturating_add(1);
+                thread::yield_now();
+            }
+        }
+    }
+
     /// Each worker takes a turn, one after the other.
-    fn take_turns<G: Gate>(&mut self, table: &ReplayTable<J>, gate: &G)
+    fn pass<G: Gate>(&mut self, table: &ReplayTable<J>, gate: &G)
         requires { AllAt table.now self.old.workers }
         ensures { Turned J.which J.recording table.now self.old.workers self.new.stand self.new.workers }
     {
         self.stand = turns_of(table, self.workers.as_mut_slice(), gate);
+    }
+
+    /// Whether a worker waits and none has come to an end of another kind.
+    fn waits(&self) -> bool {
+        matches!(self.stand, Stand::Waiting)
+    }
+
+    /// How many instructions the workers' cores have retired.
+    fn retired(&self) -> u64 {
+        let mut sum: u64 = 0;
+        for worker in self.workers.as_slice() {
+            sum = sum.wrapping_add(worker.count() as u64);
+        }
+        sum
     }
 
     /// Puts a worker at the end.
@@ -108,7 +151,7 @@ fn turns_of<J: Job, G: Gate>(table: &ReplayTable<J>, workers: &mut [Worker<J>], 
     stand
 }
 
-/// Each group's workers take a turn, each group in a thread of its own where one can be made.
+/// Each group works as long as it gets on, each in a thread of its own where one can be made.
 pub(crate) fn one_round<J: Job + Send + Sync, R: Threads + Sync, G: Gate>(
     rt: &R,
     table: &ReplayTable<J>,
@@ -133,7 +176,7 @@ pub(crate) fn one_round<J: Job + Send + Sync, R: Threads + Sync, G: Gate>(
             requires { AllAt table.now group.now.workers }
             ensures { Turned J.which J.recording table.entry.now group.entry.now.workers group.exit.now.stand
                 group.exit.now.workers }
-        { group.take_turns(table, gate) },
+        { group.work(table, gate) },
     );
 }
 

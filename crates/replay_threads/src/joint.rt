@@ -1,10 +1,10 @@
 //! The replay of a recording on several threads.
-ghost use Rattle.std.specs.Prelude.{◌≡◌, ◌<◌, ◌≤◌, IfOk, length};
+ghost use Rattle.std.specs.Prelude.{◌≡◌, ◌<◌, ◌≤◌, IfNone, IfOk, IfSome, length};
 ghost use Rattle.atomic_table.specs.Seated.{TableId};
 ghost use Rattle.log_codec.specs.Validity.{Valid};
 ghost use Rattle.replay_core.specs.Plans.{plan_of};
 ghost use Rattle.replay_core.specs.Orders.{IsWhole};
-ghost use Rattle.replay_audit.specs.Determinate.{low_order_of};
+ghost use Rattle.replay_audit.specs.Determinate.{IsDeterminate, low_order_of};
 ghost use Rattle.replay_table.specs.Seats.{Finished};
 ghost use Rattle.replay_threads.specs.Groups.{AllAt, AllDone, AreAt, AreGrouped, AreInOrder};
 ghost use Rattle.replay_threads.specs.Joints.{IsJointOf};
@@ -36,8 +36,8 @@ pub enum Joint {
 /// by thread c mod `threads`. Where no thread can be made the turns are taken one after the other. It may
 /// wait, and its promise holds if it returns.
 ///
-/// `Ran` comes where the recording is determinate by the log, with the outcome of the low order, and
-/// `Unsure` where it isn't.
+/// `Ran` comes where the recording is determinate by the log, with the outcome of the low order and the
+/// accesses of the play that led to it, and `Unsure` where it isn't.
 pub fn replay_parallel<R: Threads + Wait + Sync, G: Gate>(
     rt: &R,
     alloc: Global,
@@ -74,11 +74,52 @@ fn run<J: Job + Send + Sync, R: Threads + Wait + Sync, G: Gate>(
 {
     let (table, seats) = ReplayTable::<J>::make(alloc, recording, which)?;
     let count = recording.params.cores.min(threads as u8);
-    let mut groups = groups_of(alloc, recording, which, count, seats)?;
-    if !rounds(rt, &table, groups.as_mut_slice(), gate)? {
+    let groups = groups_of(alloc, recording, which, count, seats)?;
+    let Some(seats) = worked(rt, alloc, recording.params.cores, &table, groups, gate)? else {
         return Ok(Joint::Unsure);
+    };
+    judged(alloc, recording, which, table, seats)
+}
+
+/// The seats once all groups have worked them to their cores' totals, or none where a worker can't go on.
+fn worked<J: Job + Send + Sync, R: Threads + Wait + Sync, G: Gate>(
+    rt: &R,
+    alloc: Global,
+    cores: u8,
+    table: &ReplayTable<J>,
+    mut groups: Vec<Group<J>>,
+    gate: &G,
+) -> Result<Option<Vec<CoreSeat<J>>>, AllocError>
+    requires some { 0 < length groups.items }
+    requires cores { cores ≡ length J.recording.totals }
+    requires grouped { AreGrouped (length groups.items) cores groups.items }
+    requires at { AreAt table.now groups.items }
+    ensures seats { IfOk result (λ seats. IfSome seats (λ all.
+        Finished (plan_of J.which J.recording) table.now all.items)) }
+    ensures unsure { IfOk result (λ seats. IfNone seats (IsDeterminate J.which J.recording → ⊥)) }
+{
+    if !rounds(rt, table, groups.as_mut_slice(), gate)? {
+        return Ok(None);
     }
-    let seats = seats_of(alloc, groups, recording.params.cores)?;
+    let seats = seats_of(alloc, groups, cores)?;
+    Ok(Some(seats))
+}
+
+/// What the table comes to once it is closed with its seats, which are at their cores' totals.
+fn judged<J: Job>(
+    alloc: Global,
+    recording: &Recording,
+    which: Which,
+    table: ReplayTable<J>,
+    seats: Vec<CoreSeat<J>>,
+) -> Result<Joint, AllocError>
+    requires valid { Valid J.recording }
+    requires recording { recording.now ≡ J.recording }
+    requires which { which ≡ J.which }
+    requires ordered { IsWhole (plan_of J.which J.recording) (low_order_of J.which J.recording) }
+    requires seats { Finished (plan_of J.which J.recording) table seats.items }
+    ensures { IfOk result (IsJointOf J.which J.recording) }
+{
     let Ok(closed) = table.close(alloc, seats) else {
         return Err(AllocError);
     };
@@ -109,7 +150,7 @@ fn groups_of<'a, J: Job>(
     let mut groups = no_groups(alloc, count)?;
     for core in 0..recording.params.cores {
         let seat = seats.remove(0);
-        let worker = Worker::among(recording, which, count, seat);
+        let worker = Worker::new(recording, which, seat);
         give(groups.as_mut_slice(), (core % count) as usize, worker)?;
     }
     Ok(groups)

@@ -1,4 +1,4 @@
-//! Rounds, in which each worker takes a turn.
+//! Rounds, in which each group works as long as it gets on.
 ghost use Rattle.std.specs.Prelude.{◌≡◌, All, IfOk, IsTrue, false};
 ghost use Rattle.replay_audit.specs.Determinate.{IsDeterminate};
 ghost use Rattle.replay_threads.specs.Groups.{AllAt, AllDone, AreKept};

@@ -10,7 +10,7 @@ ghost use Rattle.replay_table.specs.Seats.{AtRest};
 ghost use Rattle.replay_threads.specs.Turns.{Continues, EndsBy, IsReached};
 
 use crate::gate::Gate;
-use crate::waits::{Crew, publish, wait};
+use crate::waits::{publish, wait};
 use replay_table::{CoreSeat, Job, ReplayTable};
 use rtr_types::Instr;
 use rv_core::Need;
@@ -21,7 +21,7 @@ use std::alloc::AllocError;
 const PUBLISHED_AFTER: u32 = 32;
 
 /// How a worker's turn ended.
-#[derive(Clone, Copy, Debug, PartialEq, Eq)]
+#[derive(Clone, Copy)]
 pub enum Turn {
     /// The core is at its total.
     Ended,
@@ -39,21 +39,19 @@ pub enum Turn {
 pub(crate) fn run<J: Job, G: Gate>(
     seat: &mut CoreSeat<J>,
     total: u32,
-    crew: Crew,
     table: &ReplayTable<J>,
     gate: &G,
 ) -> Result<Turn, AllocError>
     requires valid { Valid J.recording }
     requires table { seat.old.table_id ≡ table.now }
     requires total { total ≡ slice_index J.recording.totals seat.old.core.id }
-    requires groups { 0 < crew.groups }
     ensures goes_on { Continues seat.old seat.new }
     ensures rest { IfOk result (λ turn. AtRest seat.new) }
     ensures reached { IfOk result (λ turn. IsReached J.which J.recording seat.new) }
     ensures ends { IfOk result (λ turn. EndsBy J.which J.recording seat.old turn seat.new) }
 {
     while seat.core().count() < total {
-        if let Some(end) = one(seat, total, crew, table, gate)? {
+        if let Some(end) = one(seat, total, table, gate)? {
             publish(seat, table);
             return Ok(end);
         }
@@ -70,7 +68,6 @@ pub(crate) fn run<J: Job, G: Gate>(
 fn one<J: Job, G: Gate>(
     seat: &mut CoreSeat<J>,
     total: u32,
-    crew: Crew,
     table: &ReplayTable<J>,
     gate: &G,
 ) -> Result<Option<Turn>, AllocError>
@@ -78,12 +75,11 @@ fn one<J: Job, G: Gate>(
     requires table { seat.old.table_id ≡ table.now }
     requires total { total ≡ slice_index J.recording.totals seat.old.core.id }
     requires below { seat.old.core.count < total }
-    requires groups { 0 < crew.groups }
     ensures goes_on { Continues seat.old seat.new }
     ensures more { IfOk result (λ end. IfNone end (seat.new.core.count ≡ seat.old.core.count + 1)) }
     ensures ends { IfOk result (λ end. IfSome end (λ turn. EndsBy J.which J.recording seat.old turn seat.new)) }
 {
-    if let Some(of) = wait(seat, crew, table) {
+    if let Some(of) = wait(seat, table) {
         return Ok(Some(Turn::Waiting { of }));
     }
     seat.make_room()?;

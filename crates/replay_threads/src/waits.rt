@@ -1,4 +1,4 @@
-//! How a worker waits for the sources of its next instruction, and for how long.
+//! How a worker waits for the sources of its next instruction.
 ghost use Rattle.std.specs.Prelude.{◌≡◌, ◌<◌, ◌≤◌, ◌+◌, false, length, IfNone, IfSome, IsTrue, slice_index};
 ghost use Rattle.log_codec.specs.Validity.{Valid};
 ghost use Rattle.replay_core.specs.Plans.{plan_of};
@@ -10,46 +10,24 @@ ghost use Rattle.replay_threads.specs.Turns.{Awaits, IsReached, Looks, Publishes
 use replay_table::{CoreSeat, Job, ReplayTable};
 use rtr_types::Instr;
 
-/// After how many loads in a row of a done word that brought nothing new a worker gives its turn up, where
-/// the awaited core is worked by the same group: it can't get on meanwhile.
+/// After how many loads in a row of a done word that brought nothing new a worker gives its turn up. As long
+/// as the awaited count moves it stays; then its group works the other cores, or lets another thread have
+/// the processor.
 const LOADS: u32 = 64;
-
-/// The same where the awaited core is worked beside it, by a group that has others too: it may not have its turn
-/// now, so the wait is a short one.
-const LOADS_BESIDE: u32 = 1_024;
-
-/// The same where each group has one core alone, so that the awaited one is worked at the same time unless its
-/// turn has ended. It is much longer than a thread takes to begin, or to get its processor back.
-const LOADS_ALONE: u32 = 4_194_304;
-
-/// How the cores are shared out among the groups that are worked at a time.
-#[derive(Clone, Copy)]
-pub(crate) struct Crew {
-    /// How many groups there are: core c is in group c mod `groups`.
-    pub(crate) groups: u8,
-    /// Whether each group has one core alone.
-    pub(crate) alone: bool,
-}
 
 /// Loads done words until all logged sources of the next instruction are seen. Answers one that isn't
 /// where its core didn't get on for long enough.
 #[tactic(auto, using(crate::proofs::Ends::looks_none, crate::proofs::Ends::looks_then))]
-pub(crate) fn wait<J: Job>(
-    seat: &mut CoreSeat<J>,
-    crew: Crew,
-    table: &ReplayTable<J>,
-) -> Option<Instr>
+pub(crate) fn wait<J: Job>(seat: &mut CoreSeat<J>, table: &ReplayTable<J>) -> Option<Instr>
     requires table { seat.old.table_id ≡ table.now }
     requires below { seat.old.core.count < slice_index J.recording.totals seat.old.core.id }
-    requires groups { 0 < crew.groups }
     ensures looks { Looks seat.old seat.new }
     ensures none { IfNone result (Due (plan_of J.which J.recording) (seen_of seat.new.view) seat.new.core) }
     ensures some { IfSome result (λ of. Awaits J.which J.recording of seat.old seat.new) }
 {
     while let Some(of) = seat.unmet() {
         publish(seat, table);
-        let own = seat.core().id();
-        if !await_source(seat, of, patience(own, of.core, crew), table) {
+        if !await_source(seat, of, table) {
             return Some(of);
         }
     }
@@ -59,23 +37,17 @@ pub(crate) fn wait<J: Job>(
 /// Loads the done word of a source's core until the source is seen, or until so many loads in a row brought
 /// nothing new.
 #[tactic(auto, using(crate::proofs::Ends::looks_none, crate::proofs::Ends::looks_then))]
-fn await_source<J: Job>(
-    seat: &mut CoreSeat<J>,
-    of: Instr,
-    patience: u32,
-    table: &ReplayTable<J>,
-) -> bool
+fn await_source<J: Job>(seat: &mut CoreSeat<J>, of: Instr, table: &ReplayTable<J>) -> bool
     requires table { seat.old.table_id ≡ table.now }
     requires core { of.core < length J.recording.totals }
     requires unseen { seen_of seat.old.view of.core < of.count }
-    requires patience { (64 ≤ patience) × (patience ≤ 4194304) }
     ensures looks { Looks seat.old seat.new }
     ensures seen { IsTrue result → to_see seat.new.view < to_see seat.old.view }
     ensures unseen { result ≡ false → (seen_of seat.new.view of.core < of.count)
         × (slice_index seat.old.view.polls of.core + 64 ≤ slice_index seat.new.view.polls of.core) }
 {
     let mut idle = 0;
-    while idle < patience {
+    while idle < LOADS {
         let before = seat.seen(of.core);
         let found = look(seat, of.core, table);
         if found >= of.count {
@@ -109,19 +81,4 @@ pub(crate) fn publish<J: Job>(seat: &mut CoreSeat<J>, table: &ReplayTable<J>)
     ensures reached { IsReached J.which J.recording seat.new }
 {
     table.publish(seat);
-}
-
-/// How many loads in a row that bring nothing new are enough for a worker of core `own` that waits for core
-/// `of`.
-fn patience(own: u8, of: u8, crew: Crew) -> u32
-    requires { 0 < crew.groups }
-    ensures { (64 ≤ result) × (result ≤ 4194304) }
-{
-    if of % crew.groups == own % crew.groups {
-        LOADS
-    } else if crew.alone {
-        LOADS_ALONE
-    } else {
-        LOADS_BESIDE
-    }
 }

@@ -1,12 +1,11 @@
 //! Workers, which take turns.
-ghost use Rattle.std.specs.Prelude.{◌≡◌, ◌<◌, ◌↔◌, IfOk, IsTrue};
+ghost use Rattle.std.specs.Prelude.{◌≡◌, ◌↔◌, IfOk, IsTrue};
 ghost use Rattle.log_codec.specs.Validity.{Valid};
 ghost use Rattle.replay_table.specs.Seats.{AtRest};
 ghost use Rattle.replay_threads.specs.Turns.{Continues, EndsBy, HasEnded, IsReached};
 
 use crate::gate::Gate;
 use crate::turns::{Turn, run};
-use crate::waits::Crew;
 use log_codec::Recording;
 use replay_table::{CoreSeat, Job, ReplayTable};
 use rtr_types::Which;
@@ -18,7 +17,6 @@ use std::marker::Model;
 pub struct Worker<'a, J: Job> {
     recording: &'a Recording,
     which: Which,
-    crew: Crew,
     seat: CoreSeat<J>,
 }
 
@@ -30,7 +28,7 @@ impl<'a, J: Job> Model for Worker<'a, J> {
 
     ghost view = { λ w. w.seat };
 
-    ghost invariant = { λ w. WorksOn J.which J.recording w.which w.recording.now w.crew.groups };
+    ghost invariant = { λ w. WorksOn J.which J.recording w.which w.recording.now };
 }
 
 impl<'a, J: Job> Worker<'a, J> {
@@ -44,36 +42,13 @@ impl<'a, J: Job> Worker<'a, J> {
         Worker {
             recording,
             which,
-            crew: Crew {
-                groups: 1,
-                alone: false,
-            },
             seat,
         }
     }
 
-    /// The same where so many groups of workers work at a time, core c in group c mod `groups`.
-    pub(crate) fn among(
-        recording: &'a Recording,
-        which: Which,
-        groups: u8,
-        seat: CoreSeat<J>,
-    ) -> Worker<'a, J>
-        requires valid { Valid J.recording }
-        requires recording { recording.now ≡ J.recording }
-        requires which { which ≡ J.which }
-        requires groups { 0 < groups }
-        ensures { result ≡ seat }
-    {
-        Worker {
-            recording,
-            which,
-            crew: Crew {
-                groups,
-                alone: recording.params.cores <= groups,
-            },
-            seat,
-        }
+    /// How many instructions the core has retired.
+    pub(crate) fn count(&self) -> u32 {
+        self.seat.core().count()
     }
 
     /// Whether the core is at its total.
@@ -104,6 +79,6 @@ impl<'a, J: Job> Worker<'a, J> {
     {
         let core = self.seat.core().id();
         let total = self.recording.totals.as_slice()[core as usize];
-        run(&mut self.seat, total, self.crew, table, gate)
+        run(&mut self.seat, total, table, gate)
     }
 }

@@ -17,9 +17,9 @@ loop-core-preserved g c =
     let new : List Grouped = c.give.new.groups in
     let orig : List Sitting = c.args.seats.items in
     let x : Sitting = c.remove-seat.result in
-    let given0 : IsGivenTo items (k % n) c.among-worker.result new =
-    subst (λ (l : List Grouped). IsGivenTo l (k % n) c.among-worker.result new) c.as_mut_slice.ensures.value c.in_ok-give.ensures in
-    let given : IsGivenTo items (k % n) x new = subst (λ (y : Sitting). IsGivenTo items (k % n) y new) c.among-worker.ensures given0 in
+    let given0 : IsGivenTo items (k % n) c.new-worker.result new =
+    subst (λ (l : List Grouped). IsGivenTo l (k % n) c.new-worker.result new) c.as_mut_slice.ensures.value c.in_ok-give.ensures in
+    let given : IsGivenTo items (k % n) x new = subst (λ (y : Sitting). IsGivenTo items (k % n) y new) c.new-worker.ensures given0 in
     let w = written c.loop-core.groups.len new items given.all c.loop-core.groups.ok.0 in
     let below = c.loop-core-test.true in
     let all = c.requires.all in

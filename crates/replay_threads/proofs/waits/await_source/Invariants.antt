@@ -11,8 +11,8 @@ invariant-loop-idle g l = record {
   unseen : seen_of l.seat.view l.of.core < l.of.count;
   polls : slice_index l.fn.seat.view.polls l.of.core + l.idle ≤ slice_index l.seat.view.polls l.of.core;
   less : to_see l.seat.view ≤ to_see l.fn.seat.view;
-  most : l.idle ≤ l.patience;
+  most : l.idle ≤ 64;
 }
 
 abbrev pub decreases-loop-idle : goal.decreases-loop-idle
-decreases-loop-idle g l = to_see l.seat.view * 5000000 + (l.patience - l.idle)
+decreases-loop-idle g l = to_see l.seat.view * 65 + (64 - l.idle)
