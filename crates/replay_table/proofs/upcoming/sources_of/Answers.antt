@@ -1,7 +1,7 @@
 use Rattle.std.proofs.Common.{◌≡◌, ◌∙◌, ◌<◌, ◌+◌, ℕ, List, length, set, sym, subst, arith, length-set}
 use Rattle.rtr_types.specs.declared.TheConstants.{CORES_MAX}
 use Rattle.log_codec.specs.Sources.{log_edges}
-use Rattle.replay_audit.proofs.Sourcing.{SourcedTo, sourced_some, sourced_none, sourced_own, sourced_all}
+use Rattle.replay_core.proofs.Sourcing.{SourcedTo, sourced_some, sourced_none, sourced_own, sourced_all}
 use Rattle.replay_table.proofs.Words.{index_set, index_set_else}
 use Rattle.replay_table.proofs.upcoming.sources_of.Goals as goal
 use Rattle.replay_table.proofs.upcoming.sources_of.Goals.{then-of-at+in-Some, then-of-at+in-None, else-of-at}

@@ -2,7 +2,7 @@
 use Rattle.std.proofs.Common.{◌≡◌, length}
 use Rattle.rtr_types.specs.declared.TheConstants.{CORES_MAX}
 use Rattle.log_codec.specs.Sources.{log_edges}
-use Rattle.replay_audit.proofs.Sourcing.{SourcedTo}
+use Rattle.replay_core.proofs.Sourcing.{SourcedTo}
 use Rattle.replay_table.proofs.upcoming.sources_of.Given as goal
 
 abbrev pub invariant-loop-of : goal.invariant-loop-of
