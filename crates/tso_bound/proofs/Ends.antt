@@ -1,0 +1,322 @@
+-- A run ends, and the instructions that executed in it have paid for its steps. What a run has earned rises with each
+-- step, and at the end no message and no access is pending, so nothing is owed: what is left over of 2 P + 5 steps an
+-- instruction was never made.
+use Rattle.std.proofs.Common.{◌≡◌, ◌∙◌, ap, refl, sym, ℕ, ◌+◌, ◌*◌, ◌<◌, ◌≤◌, ◌^◌, Bool, true, false, List, [], ◌∷◌}
+use Rattle.std.proofs.Common.{length, Option, Some, None, zero}
+use Rattle.std.proofs.Common.{suc, arith, inl, inr, ◌⊎◌}
+use Rattle.std.specs.Prelude.{if◌then◌else◌, map, replicate}
+use Rattle.std.specs.List.{sum_by, range_with_len}
+use Rattle.std.proofs.Math.Nat.{mul-add}
+use Rattle.std.proofs.lemmas.Bool.{cases_eq, cases_lt}
+use Rattle.std.proofs.lemmas.Nat.{mul-le}
+use Rattle.std.proofs.lemmas.List.{get_or_past}
+use Rattle.std.proofs.lemmas.List.FromFn.{length-map-range_with_len, length-range_with_len}
+use Rattle.std.proofs.lemmas.List.Sums.{sum_by-cons}
+use Rattle.access_times.specs.Riding.{Riding, Carrying, none_riding, none_carrying}
+use Rattle.image_mem.specs.Contents.{Contents}
+use Rattle.rtr_types.specs.declared.TheConstants.{CORES_MAX}
+use Rattle.rtr_types.specs.declared.params.TheConstants.{INSTRUCTIONS_MAX}
+use Rattle.rtr_types.specs.declared.params.Params.{Params}
+use Rattle.rtr_types.specs.Parameters.{Fits}
+use Rattle.rv_core.proofs.LawLemmas.{start_law}
+use Rattle.msi_cache.specs.Lines.{empty_line}
+use Rattle.msi_cache.specs.declared.line.TheConstants.{LINES}
+use Rattle.msi_memory.specs.declared.port.Port.{Port}
+use Rattle.msi_memory.specs.Memories.{no_port, port_at, port_start}
+use Rattle.machine_bound.proofs.Ends.{owed_start}
+use Rattle.tso_state.specs.declared.moves.Move.{Move}
+use Rattle.tso_state.specs.States.{PlainState, BufferedCore, all_done, buffered_start}
+use Rattle.tso_state.specs.Runs.{plain_moves, chosen, chosen_of, executed, stepped_by, opening_state, run, IsRunEnd}
+use Rattle.tso_invariant.specs.Holds.{TsoHolds}
+use Rattle.tso_invariant.proofs.Begins.{chosen_enabled, holds_run}
+use Rattle.tso_invariant.proofs.Ending.{ended_still}
+use Rattle.tso_invariant.proofs.Kept.{step_cores}
+use Rattle.tso_invariant.proofs.Stuck.{some_move}
+use Rattle.tso_bound.specs.Bound.{capacity, core_cost, empty_worth, left, lines_worth, memory_worth, paid, port_worth}
+use Rattle.tso_bound.specs.Bound.{total_earned, total_owed}
+use Rattle.tso_bound.specs.Ends.{most_steps, end_of}
+use Rattle.tso_bound.proofs.Capacity.{capacity_kept, total_earned_le}
+use Rattle.machine_bound.proofs.Ends.{IsFirst, first_is}
+use Rattle.tso_bound.proofs.Ports.{still_port}
+use Rattle.tso_bound.proofs.Steps.{earns}
+use Rattle.tso_bound.proofs.Sums.{sum_at_most}
+
+-- ---- the sums at the start and at the end
+
+module _ {R : Type 0} where
+  empty_lines : (fresh : R) (cores k : ℕ) → lines_worth true cores (replicate k (empty_line fresh)) ≡ 3 * k
+  empty_lines fresh cores zero = refl
+  empty_lines fresh cores (suc k) =
+      let rest = empty_lines fresh cores k in
+      let one : lines_worth true cores (replicate (suc k) (empty_line fresh)) ≡ 3 + lines_worth true cores
+      (replicate k (empty_line fresh)) =
+      sum_by-cons _ (empty_line fresh) (replicate k (empty_line fresh)) in
+      let three : 3 * suc k ≡ 3 + 3 * k = omega arith in
+      omega arith
+
+module _ {R K : Type 0} where
+  -- each cache is empty at the start
+  worth_start : (riding : Riding R) (carrying : Carrying K) (n cores : ℕ) →
+      sum_by (port_worth n) (replicate cores (port_start riding carrying)) ≡ cores * empty_worth
+  worth_start riding carrying n zero = refl
+  worth_start riding carrying n (suc cores) =
+      let rest = worth_start riding carrying n cores in
+      let first : port_worth n (port_start riding carrying) ≡ empty_worth = empty_lines riding.fresh n LINES in
+      let one = sum_by-cons (port_worth n) (port_start riding carrying)
+      (replicate cores (port_start riding carrying)) in
+      let more : suc cores * empty_worth ≡ empty_worth + cores * empty_worth = omega arith in
+      omega arith
+
+paid_start : (limit n : ℕ) (ids : List ℕ) → sum_by (paid n) (map (λ id. buffered_start id limit) ids) ≡ 0
+paid_start limit n [] = refl
+paid_start limit n (id ∷ ids) =
+    let first : paid n (buffered_start id limit) ≡ 0 = ap (λ (x : ℕ). (2 * n + 5) * x) (start_law id limit).2
+    ∙ omega arith in
+    let rest = paid_start limit n ids in
+    let one = sum_by-cons (paid n) (buffered_start id limit) (map (λ (x : ℕ). buffered_start x limit) ids) in
+    omega arith
+
+cost_start : (limit n : ℕ) (ids : List ℕ) → sum_by (core_cost n) (map (λ id. buffered_start id limit) ids) ≡ 0
+cost_start limit n [] = refl
+cost_start limit n (id ∷ ids) =
+    let rest = cost_start limit n ids in
+    let one : sum_by (core_cost n) (map (λ (x : ℕ). buffered_start x limit) (id ∷ ids)) ≡ 0 + sum_by (core_cost n)
+    (map (λ (x : ℕ). buffered_start x limit) ids) =
+    sum_by-cons (core_cost n) (buffered_start id limit) (map (λ (x : ℕ). buffered_start x limit) ids) in
+    omega arith
+
+capacity_start : (limit n : ℕ) (ids : List ℕ) →
+    sum_by (capacity n) (map (λ id. buffered_start id limit) ids) ≡ (2 * n + 5) * (length ids * limit) + length
+    ids * empty_worth
+capacity_start limit n [] = omega arith
+capacity_start limit n (id ∷ ids) =
+    let first : capacity n (buffered_start id limit) ≡ (2 * n + 5) * limit + empty_worth =
+    ap (λ (x : ℕ). (2 * n + 5) * x + empty_worth) (start_law id limit).1 in
+    let rest = capacity_start limit n ids in
+    let one = sum_by-cons (capacity n) (buffered_start id limit) (map (λ (x : ℕ). buffered_start x limit) ids) in
+    let more = one_more (2 * n + 5) limit (length ids) in
+    omega arith
+  where
+    one_more : (x y k : ℕ) → x * y + x * (k * y) ≡ x * (suc k * y)
+    one_more x y k = grind arith
+
+-- what has been paid for is by the instructions that executed
+paid_all : (n : ℕ) (cores : List BufferedCore) →
+    sum_by (paid n) cores ≡ (2 * n + 5) * sum_by (λ (t : BufferedCore). t.core.count) cores
+paid_all n [] = omega arith
+paid_all n (t ∷ cores) =
+    let rest = paid_all n cores in
+    let one = sum_by-cons (paid n) t cores in
+    let two = sum_by-cons (λ (x : BufferedCore). x.core.count) t cores in
+    let more : (2 * n + 5) * (t.core.count + sum_by (λ (x : BufferedCore). x.core.count) cores)
+    ≡ (2 * n + 5) * t.core.count + (2 * n + 5) * sum_by (λ (x : BufferedCore). x.core.count) cores =
+    mul-add (2 * n + 5) t.core.count (sum_by (λ (x : BufferedCore). x.core.count) cores) in
+    rw (one, two, rest) (sym more)
+
+-- ---- along a run
+
+-- the parameters for which each state of a run has the invariant
+pub record InRange (params : Params) : Type 0 where
+  pub cores : params.cores ≤ CORES_MAX
+  pub limit : params.limit < 2 ^ 32
+
+-- where some move is enabled, a choice takes one
+chosen_none : (ms : List Move) (choice : ℕ) {X : Type 0} → 0 < length ms → chosen_of ms choice ≡ None → X
+chosen_none [] choice some e = absurd (omega arith)
+chosen_none (m ∷ ms) choice some e = absurd (cc)
+
+-- the run is not yet at its end at any moment before this one
+abbrev pub NotBefore : Contents → Params → (choices : ℕ → ℕ) → (t : ℕ) → Type 0
+NotBefore image params choices t = (u : ℕ) → u < t → all_done (run image params choices u) ≡ false
+
+pub run_holds : (image : Contents) (params : Params) (choices : ℕ → ℕ) (t : ℕ) → InRange params →
+    TsoHolds none_riding none_carrying (run image params choices t)
+run_holds image params choices t fits = holds_run image params choices t fits.cores fits.limit
+
+-- the steps so far are paid for
+steps_paid : (image : Contents) (params : Params) (choices : ℕ → ℕ) (t : ℕ) → InRange params →
+    NotBefore image params choices t →
+    t + total_owed (run image params choices t) + params.cores * empty_worth ≤ total_earned (run image params choices t)
+steps_paid image params choices zero fits more =
+    let n : ℕ = length (opening_state image params).cores in
+    let none = owed_start none_riding none_carrying params.cores in
+    let worth = worth_start none_riding none_carrying n params.cores in
+    let cost = cost_start params.limit n (range_with_len 0 params.cores) in
+    let nothing = paid_start params.limit n (range_with_len 0 params.cores) in
+    omega arith
+steps_paid image params choices (suc t) fits more =
+    stepped (chosen s (choices t)) refl (more t (omega arith))
+    (steps_paid image params choices t fits (λ u lt. more u (omega arith)))
+  where
+    s : PlainState
+    s = run image params choices t
+
+    h : TsoHolds none_riding none_carrying s
+    h = run_holds image params choices t fits
+
+    stepped : (o : Option Move) → chosen s (choices t) ≡ o → all_done s ≡ false →
+        t + total_owed s + params.cores * empty_worth ≤ total_earned s →
+        suc t + total_owed (stepped_by s o) + params.cores * empty_worth ≤ total_earned (stepped_by s o)
+    stepped None e more so_far = chosen_none (plain_moves s) (choices t)
+        (some_move none_riding none_carrying s h more) e
+    stepped (Some m) e more so_far = let pays =
+        earns none_riding none_carrying s m tt (chosen_enabled s (choices t) m e) h in omega arith
+
+-- no step changes the number of cores, nor what all instructions can pay for
+pub run_cores : (image : Contents) (params : Params) (choices : ℕ → ℕ) (t : ℕ) →
+    length (run image params choices t).cores ≡ params.cores
+run_cores image params choices zero = length-map-range_with_len (λ (id : ℕ). buffered_start id params.limit) 0
+    params.cores
+run_cores image params choices (suc t) = stepped (chosen (run image params choices t) (choices t))
+    (run_cores image params choices t)
+  where
+    stepped : (o : Option Move) → length (run image params choices t).cores ≡ params.cores →
+        length (stepped_by (run image params choices t) o).cores
+        ≡ params.cores
+    stepped None e = e
+    stepped (Some m) e = step_cores none_riding none_carrying tt (run image params choices t) m ∙ e
+
+run_capacity : (image : Contents) (params : Params) (choices : ℕ → ℕ) (t : ℕ) →
+    sum_by (capacity params.cores) (run image params choices t).cores ≡ most_steps params + params.cores * empty_worth
+run_capacity image params choices zero =
+    let many : length (range_with_len 0 params.cores) ≡ params.cores = length-range_with_len 0 params.cores in
+    capacity_start params.limit params.cores (range_with_len 0 params.cores)
+    ∙ ap (λ (n : ℕ). (2 * params.cores + 5) * (n * params.limit) + n * empty_worth) many
+run_capacity image params choices (suc t) = stepped (chosen (run image params choices t) (choices t))
+    (run_capacity image params choices t)
+  where
+    stepped : (o : Option Move) →
+        sum_by (capacity params.cores)
+        (run image params choices t).cores ≡ most_steps params + params.cores * empty_worth →
+        sum_by (capacity params.cores) (stepped_by (run image params choices t) o).cores ≡ most_steps
+        params + params.cores * empty_worth
+    stepped None e = e
+    stepped (Some m) e = capacity_kept none_riding none_carrying (run image params choices t) m tt params.cores ∙ e
+
+-- what all instructions can pay for, of the state's own number of cores
+capacity_is : (image : Contents) (params : Params) (choices : ℕ → ℕ) (t : ℕ) →
+    sum_by (capacity (length (run image params choices t).cores))
+    (run image params choices t).cores ≡ most_steps params + params.cores * empty_worth
+capacity_is image params choices t =
+    ap (λ (cores : ℕ). sum_by (capacity cores) (run image params choices t).cores) (run_cores image params choices t)
+    ∙ run_capacity image params choices t
+
+-- the steps so far and those that are left are at most what all instructions can pay for
+left_within : (image : Contents) (params : Params) (choices : ℕ → ℕ) (t : ℕ) → InRange params →
+    NotBefore image params choices t →
+    t + left (run image params choices t) ≤ most_steps params
+left_within image params choices t fits more =
+    let s : PlainState = run image params choices t in
+    let so_far : t + total_owed s + params.cores * empty_worth ≤ total_earned s =
+    steps_paid image params choices t fits more in
+    let at_most : total_earned s ≤ sum_by (capacity (length s.cores)) s.cores + total_owed s =
+    total_earned_le none_riding none_carrying s (run_holds image params choices t fits) in
+    let all : sum_by (capacity (length s.cores)) s.cores ≡ most_steps params + params.cores * empty_worth =
+    capacity_is image params choices t in
+    omega arith
+
+-- where each core has ended the caches wait for nothing
+ended_worth : (s : PlainState) → TsoHolds none_riding none_carrying s → all_done s ≡ true →
+    memory_worth (length s.cores) s.memory ≤ length s.cores * empty_worth
+ended_worth s h done =
+    let n : ℕ = length s.cores in
+    let le = sum_at_most (port_worth {R = Unit {0}} {K = Unit {0}} n) empty_worth s.memory.ports (no_port none_carrying)
+    (λ c. at c (cases_lt c (length s.memory.ports))) in
+    let e : empty_worth * length s.memory.ports ≡ n * empty_worth = ap (λ (k : ℕ). empty_worth * k) h.ports_there
+    ∙ omega arith in
+    omega arith
+  where
+    at : (c : ℕ) → (c < length s.memory.ports) ⊎ (length s.memory.ports ≤ c) →
+        port_worth (length s.cores) (port_at none_carrying s.memory.ports c) ≤ empty_worth
+    at c (inl within) =
+        still_port none_riding (length s.cores) (port_at none_carrying s.memory.ports c)
+        (h.memory.ports c within).all_lines
+        (ended_still none_riding none_carrying s c h done (let e = h.ports_there in omega arith))
+    at c (inr past) =
+        let none : port_worth (length s.cores) (port_at none_carrying s.memory.ports c) ≡ 0 =
+        ap (λ (p : Port (Unit {0}) (Unit {0})). port_worth (length s.cores) p)
+        (get_or_past s.memory.ports c (no_port none_carrying) past) in
+        omega arith
+
+-- ---- the end
+
+found : (image : Contents) (params : Params) (choices : ℕ → ℕ) →
+    IsFirst (most_steps params) (λ t. all_done (run image params choices t)) 0 (end_of image params choices)
+unfolding end_of
+found image params choices = first_is (most_steps params) (λ t. all_done (run image params choices t)) 0
+
+end_first : (image : Contents) (params : Params) (choices : ℕ → ℕ) →
+    NotBefore image params choices (end_of image params choices)
+end_first image params choices u lt = (found image params choices).before u (omega arith) lt
+
+pub end_within : (image : Contents) (params : Params) (choices : ℕ → ℕ) →
+    end_of image params choices ≤ most_steps params
+end_within image params choices = let le = (found image params choices).within in omega arith
+
+pub end_done : (image : Contents) (params : Params) (choices : ℕ → ℕ) → InRange params →
+    all_done (run image params choices (end_of image params choices)) ≡ true
+end_done image params choices fits = by_test (all_done (run image params choices e)) refl
+  where
+    e : ℕ
+    e = end_of image params choices
+
+    still_more : all_done (run image params choices e) ≡ false → NotBefore image params choices (suc e)
+    still_more is u lt = elim (cases_eq u e)
+        [ inl same ↦ rw same is | inr other ↦ end_first image params choices u (omega arith) ]
+
+    by_test : (b : Bool) → all_done (run image params choices e) ≡ b → all_done (run image params choices e) ≡ true
+    by_test true is = is
+    by_test false is =
+        let le : suc e + left (run image params choices (suc e)) ≤ most_steps params =
+        left_within image params choices (suc e) fits (still_more is) in
+        (found image params choices).found (omega arith)
+
+pub run_ends : (image : Contents) (params : Params) (choices : ℕ → ℕ) → InRange params →
+    IsRunEnd image params choices (end_of image params choices)
+run_ends image params choices fits =
+    record { done = end_done image params choices fits; first = end_first image params choices }
+
+-- a run has one end
+ends_alike : (image : Contents) (params : Params) (choices : ℕ → ℕ) (t u : ℕ) → IsRunEnd image params choices t →
+    IsRunEnd image params choices u → t ≤ u
+ends_alike image params choices t u one other =
+    elim (cases_lt u t) [ inr le ↦ le | inl lt ↦ absurd (let more = one.first u lt in let done = other.done in cc) ]
+
+pub one_end : (image : Contents) (params : Params) (choices : ℕ → ℕ) (t : ℕ) → InRange params →
+    IsRunEnd image params choices t →
+    t ≡ end_of image params choices
+one_end image params choices t fits end =
+    let it = run_ends image params choices fits in
+    let le = ends_alike image params choices t (end_of image params choices) end it in
+    let ge = ends_alike image params choices (end_of image params choices) t it end in
+    omega arith
+
+pub end_in_time : (image : Contents) (params : Params) (choices : ℕ → ℕ) → InRange params →
+    end_of image params choices ≤ (2 * params.cores + 5) * executed
+    (run image params choices (end_of image params choices))
+end_in_time image params choices fits =
+    let e : ℕ = end_of image params choices in
+    let s : PlainState = run image params choices e in
+    let so_far : e + total_owed s + params.cores * empty_worth ≤ total_earned s =
+    steps_paid image params choices e fits (end_first image params choices) in
+    let worth : memory_worth (length s.cores) s.memory ≤ length s.cores * empty_worth =
+    ended_worth s (run_holds image params choices e fits) (end_done image params choices fits) in
+    let many : length s.cores * empty_worth ≡ params.cores * empty_worth = ap (λ (n : ℕ). n * empty_worth)
+    (run_cores image params choices e) in
+    let all : sum_by (paid (length s.cores)) s.cores ≡ (2 * params.cores + 5) * executed s =
+    paid_all (length s.cores) s.cores ∙ ap (λ (n : ℕ). (2 * n + 5) * executed s) (run_cores image params choices e) in
+    omega arith
+
+pub left_until_end : (image : Contents) (params : Params) (choices : ℕ → ℕ) (t : ℕ) → InRange params →
+    t ≤ end_of image params choices →
+    t + left (run image params choices t) ≤ most_steps params
+left_until_end image params choices t fits le =
+    left_within image params choices t fits (λ u lt. end_first image params choices u (omega arith))
+
+pub most_steps_few : (params : Params) → Fits params → most_steps params < 2 ^ 32
+most_steps_few params fits =
+    let few = fits.cores in
+    let steps : most_steps params ≤ (2 * CORES_MAX + 5) * INSTRUCTIONS_MAX =
+    mul-le (2 * params.cores + 5) (params.cores * params.limit) (2 * CORES_MAX + 5) INSTRUCTIONS_MAX (omega arith)
+    fits.instructions in
+    omega arith
