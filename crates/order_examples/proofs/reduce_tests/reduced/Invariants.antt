@@ -5,4 +5,4 @@ abbrev pub invariant-loop-access : goal.invariant-loop-access
 invariant-loop-access g l = l.reducer.state.cores ≡ 3
 
 abbrev pub invariant-loop-edge : goal.invariant-loop-edge
-invariant-loop-edge g l = l.reducer.state.cores ≡ 3
+invariant-loop-edge g l = l.reducer-inside.cores ≡ 3
