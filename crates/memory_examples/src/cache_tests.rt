@@ -1,7 +1,6 @@
 //! Each row of the table once, by calls, with a rider that leaves a trail. What is expected was worked
 //! out by hand from the table of the protocol.
-ghost use Rattle.std.specs.Prelude.{◌*◌, ◌+◌, ◌%◌, ◌^◌};
-
+use crate::trail::Trail;
 use access_times::Rider;
 use msi_cache::{
     Cache, FromHome, FromHomeSlot, Request, RequestSlot, Response, ResponseSlot, State,
@@ -10,35 +9,6 @@ use rtr_types::Kind;
 use std::alloc::Global;
 use std::process::Abort;
 use std::test::Fail;
-
-/// A rider whose decimal digits are the riders that it absorbed, in order, after its own.
-#[derive(Clone, Copy, Debug, PartialEq, Eq)]
-struct Trail {
-    digits: u32,
-}
-
-impl Rider for Trail {
-    ghost riding = { record {
-      fresh = record { digits = 0 };
-      absorbed = λ a b. record { digits = (a.digits * 10 % 2 ^ 32 + b.digits) % 2 ^ 32 };
-    } };
-
-    fn fresh() -> Self {
-        Trail { digits: 0 }
-    }
-
-    fn absorb(&mut self, other: &Self) {
-        self.digits = self.digits.wrapping_mul(10).wrapping_add(other.digits);
-    }
-
-    fn copy_from(&mut self, other: &Self) {
-        self.digits = other.digits;
-    }
-
-    fn renew(&mut self, other: &Self) {
-        self.digits = other.digits.wrapping_mul(10).wrapping_add(self.digits);
-    }
-}
 
 /// What happens to the line of block 4, with block 20 as the other block that goes there. `Data` has
 /// the number as each of its words and as its rider.
@@ -373,21 +343,32 @@ fn a_response_lies_in_its_place(rt: HostRuntime) -> Result<(), Fail> {
     Ok(())
 }
 
-/// The cache, which waits for block 4, takes its data where they lie.
-fn takes_data(rt: &impl Abort, cache: &mut Cache<Trail>, message: &mut FromHomeSlot<Trail>) {
-    let rider = Trail { digits: 7 };
-    let data = FromHome::BlockData {
+/// A message with block 4's data.
+fn block_4() -> FromHome<Trail> {
+    FromHome::BlockData {
         block: 4,
         words: [1, 2, 3, 4],
-        rider,
-    };
+        rider: Trail { digits: 7 },
+    }
+}
+
+#[test]
+fn a_message_lies_in_its_place(rt: HostRuntime) -> Result<(), Fail> {
+    let data = block_4();
+    let mut message = FromHomeSlot::<Trail>::blank(rt.alloc())?;
     message.put(data.lent());
     assert!(rt; (message.block(), message.open()) == (4, data.lent()));
+    Ok(())
+}
+
+/// The cache, which waits for block 4, takes its data where they lie.
+fn takes_data(rt: &impl Abort, cache: &mut Cache<Trail>, message: &mut FromHomeSlot<Trail>) {
+    let data = block_4();
+    message.put(data.lent());
     assert!(rt; cache.expects(&data));
     cache.take(message);
     assert!(rt; cache.can_read(4));
-    assert_eq!(rt; cache.word(4, 1), 2);
-    assert_eq!(rt; *cache.rider(4), rider);
+    assert_eq!(rt; (cache.word(4, 1), cache.rider(4).digits), (2, 7));
 }
 
 #[test]

@@ -1,8 +1,6 @@
 //! Each row of the table once, by calls, with a rider that leaves a trail. What is expected was worked
 //! out by hand from the table of the protocol.
-ghost use Rattle.std.specs.Prelude.{◌*◌, ◌+◌, ◌%◌, ◌^◌};
-
-use access_times::Rider;
+use crate::trail::Trail;
 use image_mem::Image;
 use msi_cache::{FromHome, Request, Response};
 use msi_directory::{Home, HomeAnswer, HomeWords, Stage};
@@ -10,35 +8,6 @@ use rtr_types::{CORES_MAX, CoreSet};
 use std::alloc::Global;
 use std::process::Abort;
 use std::test::Fail;
-
-/// A rider whose decimal digits are the riders that it absorbed, in order, after its own.
-#[derive(Clone, Copy, Debug, PartialEq, Eq)]
-struct Trail {
-    digits: u32,
-}
-
-impl Rider for Trail {
-    ghost riding = { record {
-      fresh = record { digits = 0 };
-      absorbed = λ a b. record { digits = (a.digits * 10 % 2 ^ 32 + b.digits) % 2 ^ 32 };
-    } };
-
-    fn fresh() -> Self {
-        Trail { digits: 0 }
-    }
-
-    fn absorb(&mut self, other: &Self) {
-        self.digits = self.digits.wrapping_mul(10).wrapping_add(other.digits);
-    }
-
-    fn copy_from(&mut self, other: &Self) {
-        self.digits = other.digits;
-    }
-
-    fn renew(&mut self, other: &Self) {
-        self.digits = other.digits.wrapping_mul(10).wrapping_add(self.digits);
-    }
-}
 
 /// A message about block 2, and the core that it comes from. Where it has words or a rider, each is the
 /// number.
@@ -405,8 +374,7 @@ fn owned_by_core_1(rt: &impl Abort, home: &mut Home<Trail>) {
     assert!(rt; home.blocks() == 4);
     assert_eq!(rt; (home.owner(2), home.words(2).owner), (Some(1), Some(1)));
     assert_eq!(rt; (home.is_free(2), home.touched()), (true, 1));
-    assert_eq!(rt; *home.rider(2), Trail { digits: 7 });
-    assert_eq!(rt; *home.rider(3), Trail { digits: 0 });
+    assert_eq!(rt; (home.rider(2).digits, home.rider(3).digits), (7, 0));
 }
 
 #[test]

@@ -10,3 +10,5 @@ mod home_tests;
 mod link_tests;
 #[cfg(test)]
 mod memory_tests;
+#[cfg(test)]
+mod trail;
