@@ -20,7 +20,7 @@ use Rattle.rtr_types.specs.declared.params.Params.{Params}
 use Rattle.rtr_types.specs.Parameters.{Fits}
 use Rattle.rv_core.proofs.LawLemmas.{start_law}
 use Rattle.msi_cache.specs.Lines.{empty_line}
-use Rattle.msi_cache.specs.declared.line.TheConstants.{LINES}
+use Rattle.rtr_types.specs.declared.TheConstants.{LINES}
 use Rattle.msi_memory.specs.declared.port.Port.{Port}
 use Rattle.msi_memory.specs.Memories.{no_port, port_at, port_start}
 use Rattle.machine_bound.proofs.Ends.{owed_start}

@@ -5,7 +5,7 @@
 use Rattle.std.specs.Prelude.{ℕ, ◌+◌, ◌*◌, ◌-◌, ◌≤◌, Bool, true, false, List, length, if◌then◌else◌}
 use Rattle.std.specs.List.{sum_by}
 use Rattle.link_order.specs.Queue.{is_nil}
-use Rattle.msi_cache.specs.declared.line.TheConstants.{LINES}
+use Rattle.rtr_types.specs.declared.TheConstants.{LINES}
 use Rattle.msi_cache.specs.declared.line.State.{State as LineState}
 use Rattle.msi_cache.specs.declared.line.State.TheVariants.{I, S, M, IsD, ImD, SmD, MiA, SiA, IiA}
 use Rattle.msi_cache.specs.declared.line.Line.{Line}
