@@ -1,5 +1,6 @@
 -- A part is named exactly where the parts below are spelled by a front of the bytes and no valid one follows.
-use Rattle.std.proofs.Common.{◌≡◌, ◌≢◌, ℕ, ◌+◌, ◌*◌, ◌^◌, ◌<◌, ◌≤◌, inl, inr, ◌⊎◌, Bool, true, false, cond, eqb, List, [], ◌∷◌, ◌++◌, length, get_or, Result}
+use Rattle.std.proofs.Common.{◌≡◌, ◌≢◌, ℕ, ◌+◌, ◌*◌, ◌^◌, ◌<◌, ◌≤◌, inl, inr, ◌⊎◌, Bool, true, false, cond, eqb, List}
+use Rattle.std.proofs.Common.{[], ◌∷◌, ◌++◌, length, get_or, Result}
 use Rattle.std.proofs.Common.{Ok, Err, refl, sym, ap, subst, ◌∙◌, arith}
 use Rattle.std.proofs.lemmas.Bool.{eq-eqb, ne_eqb}
 use Rattle.std.proofs.lemmas.List.{nil_from_length}
@@ -8,8 +9,10 @@ use Rattle.stride_vector.specs.declared.StrideVector.{StrideVector}
 use Rattle.log_codec.specs.declared.codec_fault.TheConstants.{HEADER, IMAGE, TOTALS, REDUCED, REGULATED, END}
 use Rattle.log_codec.specs.declared.recording.Recording.{Recording}
 use Rattle.log_codec.specs.declared.version.Version.{Version}
-use Rattle.log_codec.specs.BadParts.{BadPart, FrontNames, IsHeader, IsImage, IsReduced, IsRegulated, IsTotals, NoHeader, NoImage}
-use Rattle.log_codec.specs.BadParts.{NoReduced, NoRegulated, NoTotals, UpToHeader, UpToImage, UpToReduced, UpToRegulated, UpToTotals}
+use Rattle.log_codec.specs.BadParts.{BadPart, FrontNames, IsHeader, IsImage, IsReduced, IsRegulated, IsTotals, NoHeader}
+use Rattle.log_codec.specs.BadParts.{NoImage}
+use Rattle.log_codec.specs.BadParts.{NoReduced, NoRegulated, NoTotals, UpToHeader, UpToImage, UpToReduced}
+use Rattle.log_codec.specs.BadParts.{UpToRegulated, UpToTotals}
 use Rattle.log_codec.specs.BadParts.{WholeNames}
 use Rattle.log_codec.specs.Faults.{◌>>=◌}
 use Rattle.log_codec.specs.Laws.{IsBytes}
@@ -19,10 +22,12 @@ use Rattle.log_codec.specs.Validity.{AreVectors, bound_at}
 use Rattle.log_codec.specs.Versions.{FitsIn}
 use Rattle.log_codec.proofs.FieldLaws.{header_again, header_takes, image_again, image_takes}
 use Rattle.log_codec.proofs.InTurn.{places-stand, stand-places}
-use Rattle.log_codec.proofs.Named.{Names, bind-err, guard-names, header-names, image-names, reduced-names, regulated-names, totals-name}
+use Rattle.log_codec.proofs.Named.{Names, bind-err, guard-names, header-names, image-names, reduced-names}
+use Rattle.log_codec.proofs.Named.{regulated-names, totals-name}
 use Rattle.log_codec.proofs.ReducedLaws.{reduced_again, reduced_takes}
 use Rattle.log_codec.proofs.Steps.{bind_ok, ok_is}
-use Rattle.log_codec.proofs.Whole.{after_header, after_image, after_reduced, after_totals, made_of, regulated_again, regulated_takes, totals_again, totals_take}
+use Rattle.log_codec.proofs.Whole.{after_header, after_image, after_reduced, after_totals, made_of, regulated_again}
+use Rattle.log_codec.proofs.Whole.{regulated_takes, totals_again, totals_take}
 use Rattle.log_codec.proofs.Whole.{within-new}
 
 -- ---- a part that is read, and one that isn't
@@ -50,21 +55,30 @@ small-params : (v : Version) (p : Params) → FitsIn v p → Small p
 small-params v p fits = let f = within-new v p fits in
     record { limit = omega (arith, f.limit); together = omega (arith, f.instructions); cores = omega (arith, f.cores) }
 
-header-read : (bytes : List ℕ) (v : Version) (p : Params) (len : ℕ) (rest : List ℕ) → IsHeader bytes v p len rest → header_at bytes ≡ Ok (v, p, len, rest)
-header-read bytes v p len rest h = ap header_at h.spelled ∙ header_again v p len rest (record { params = h.limits; image = h.room })
+header-read : (bytes : List ℕ) (v : Version) (p : Params) (len : ℕ) (rest : List ℕ) → IsHeader bytes v p len rest →
+    header_at bytes ≡ Ok (v, p, len, rest)
+header-read bytes v p len rest h =
+    ap header_at h.spelled ∙ header_again v p len rest (record { params = h.limits; image = h.room })
 
-read-header : (bytes : List ℕ) (v : Version) (p : Params) (len : ℕ) (rest : List ℕ) → IsBytes bytes → header_at bytes ≡ Ok (v, p, len, rest) →
+read-header : (bytes : List ℕ) (v : Version) (p : Params) (len : ℕ) (rest : List ℕ) → IsBytes bytes →
+    header_at bytes ≡ Ok (v, p, len, rest) →
     IsHeader bytes v p len rest
-read-header bytes v p len rest are e = let t = header_takes bytes v p len rest are e in record { limits = t.1.params; room = t.1.image; spelled = t.0.parts }
+read-header bytes v p len rest are e = let t = header_takes bytes v p len rest are e in
+    record { limits = t.1.params; room = t.1.image; spelled = t.0.parts }
 
-pub image-read : (len : ℕ) (bytes image rest : List ℕ) → IsImage len bytes image rest → image_at len bytes ≡ Ok (image, rest)
+pub image-read : (len : ℕ) (bytes image rest : List ℕ) → IsImage len bytes image rest →
+    image_at len bytes ≡ Ok (image, rest)
 image-read len bytes image rest h =
-    subst (λ (n : ℕ). image_at n bytes ≡ Ok (image, rest)) h.long (ap (image_at (length image)) h.spelled ∙ image_again image rest)
+    subst (λ (n : ℕ). image_at n bytes ≡ Ok (image, rest)) h.long
+    (ap (image_at (length image)) h.spelled ∙ image_again image rest)
 
-pub read-image : (len : ℕ) (bytes image rest : List ℕ) → IsBytes bytes → image_at len bytes ≡ Ok (image, rest) → IsImage len bytes image rest
-read-image len bytes image rest are e = let t = image_takes len bytes image rest are e in record { long = t.1; spelled = t.0.parts }
+pub read-image : (len : ℕ) (bytes image rest : List ℕ) → IsBytes bytes → image_at len bytes ≡ Ok (image, rest) →
+    IsImage len bytes image rest
+read-image len bytes image rest are e = let t = image_takes len bytes image rest are e in
+    record { long = t.1; spelled = t.0.parts }
 
-pub totals-read : (v : Version) (p : Params) (bytes totals rest : List ℕ) → FitsIn v p → IsTotals p bytes totals rest → totals_at p.limit p.cores bytes
+pub totals-read : (v : Version) (p : Params) (bytes totals rest : List ℕ) → FitsIn v p → IsTotals p bytes totals rest →
+    totals_at p.limit p.cores bytes
     ≡ Ok (totals, rest)
 totals-read v p bytes totals rest fits h =
     let small = small-params v p fits in
@@ -72,32 +86,43 @@ totals-read v p bytes totals rest fits h =
     ∙ subst (λ (n : ℕ). totals_at p.limit n (totals_text totals ++ rest) ≡ Ok (totals, rest)) h.each_core
     (totals_again p.limit totals rest small.limit h.most)
 
-pub read-totals : (p : Params) (bytes totals rest : List ℕ) → IsBytes bytes → totals_at p.limit p.cores bytes ≡ Ok (totals, rest) → IsTotals p bytes totals rest
+pub read-totals : (p : Params) (bytes totals rest : List ℕ) → IsBytes bytes →
+    totals_at p.limit p.cores bytes ≡ Ok (totals, rest) → IsTotals p bytes totals rest
 read-totals p bytes totals rest are e = let t = totals_take p.limit p.cores bytes totals rest are e in
     record { each_core = t.1; most = t.2; spelled = t.0.parts }
 
-pub reduced-read : (v : Version) (p : Params) (before totals bytes : List ℕ) (reduced : List (List (ℕ × ℕ))) (rest : List ℕ) → FitsIn v p →
-    IsTotals p before totals bytes → IsReduced v totals bytes reduced rest → reduced_at v totals bytes ≡ Ok (reduced, rest)
+pub reduced-read : (v : Version) (p : Params) (before totals bytes : List ℕ) (reduced : List (List (ℕ × ℕ)))
+    (rest : List ℕ) → FitsIn v p →
+    IsTotals p before totals bytes → IsReduced v totals bytes reduced rest →
+    reduced_at v totals bytes ≡ Ok (reduced, rest)
 reduced-read v p before totals bytes reduced rest fits t h =
     let small = small-params v p fits in
-    let together : length totals * p.limit < 2 ^ 32 = subst (λ (n : ℕ). n * p.limit < 2 ^ 32) (sym t.each_core) small.together in
+    let together : length totals * p.limit < 2 ^ 32 =
+    subst (λ (n : ℕ). n * p.limit < 2 ^ 32) (sym t.each_core) small.together in
     let few : length totals < 2 ^ 32 = subst (λ (n : ℕ). n < 2 ^ 32) (sym t.each_core) small.cores in
-    ap (reduced_at v totals) h.spelled ∙ reduced_again v p.limit totals reduced rest small.limit together few t.most h.pairs h.edges
+    ap (reduced_at v totals) h.spelled
+    ∙ reduced_again v p.limit totals reduced rest small.limit together few t.most h.pairs h.edges
 
-pub read-reduced : (v : Version) (totals bytes : List ℕ) (reduced : List (List (ℕ × ℕ))) (rest : List ℕ) → IsBytes bytes → reduced_at v totals bytes
+pub read-reduced : (v : Version) (totals bytes : List ℕ) (reduced : List (List (ℕ × ℕ))) (rest : List ℕ) →
+    IsBytes bytes → reduced_at v totals bytes
     ≡ Ok (reduced, rest) → IsReduced v totals bytes reduced rest
 read-reduced v totals bytes reduced rest are e = let t = reduced_takes v totals bytes reduced rest are e in
     record { pairs = t.1; edges = t.2; spelled = t.0.parts }
 
-regulated-read : (v : Version) (p : Params) (before totals after bytes : List ℕ) (regulated : List (List StrideVector)) (rest : List ℕ) → FitsIn v p →
-    IsTotals p before totals after → IsRegulated totals bytes regulated rest → regulated_at totals bytes ≡ Ok (regulated, rest)
+regulated-read : (v : Version) (p : Params) (before totals after bytes : List ℕ) (regulated : List (List StrideVector))
+    (rest : List ℕ) → FitsIn v p →
+    IsTotals p before totals after → IsRegulated totals bytes regulated rest →
+    regulated_at totals bytes ≡ Ok (regulated, rest)
 regulated-read v p before totals after bytes regulated rest fits t h =
     let small = small-params v p fits in
-    let stand = places-stand (λ place vs. AreVectors (bound_at totals place) vs) 0 regulated [] (λ i lt. let same : i ≡ 0 + i = omega arith in
-    subst (λ (k : ℕ). AreVectors (bound_at totals k) (get_or regulated i [])) same (h.vectors i (subst (λ (n : ℕ). i < n) h.pairs lt))) in
+    let stand = places-stand (λ place vs. AreVectors (bound_at totals place) vs) 0 regulated []
+    (λ i lt. let same : i ≡ 0 + i = omega arith in
+    subst (λ (k : ℕ). AreVectors (bound_at totals k) (get_or regulated i [])) same
+    (h.vectors i (subst (λ (n : ℕ). i < n) h.pairs lt))) in
     ap (regulated_at totals) h.spelled ∙ regulated_again p.limit totals regulated rest small.limit t.most h.pairs stand
 
-read-regulated : (totals bytes : List ℕ) (regulated : List (List StrideVector)) (rest : List ℕ) → IsBytes bytes → regulated_at totals bytes
+read-regulated : (totals bytes : List ℕ) (regulated : List (List StrideVector)) (rest : List ℕ) → IsBytes bytes →
+    regulated_at totals bytes
     ≡ Ok (regulated, rest) → IsRegulated totals bytes regulated rest
 read-regulated totals bytes regulated rest are e =
     let t = regulated_takes totals bytes regulated rest are e in
@@ -105,25 +130,32 @@ read-regulated totals bytes regulated rest are e =
       pairs = t.1;
       vectors = λ place below. let same : 0 + place ≡ place = omega arith in
           subst (λ (k : ℕ). AreVectors (bound_at totals k) (get_or regulated place [])) same
-          (stand-places (λ place vs. AreVectors (bound_at totals place) vs) 0 regulated t.2 place [] (subst (λ (n : ℕ). place < n) (sym t.1) below));
+          (stand-places (λ place vs. AreVectors (bound_at totals place) vs) 0 regulated t.2 place []
+          (subst (λ (n : ℕ). place < n) (sym t.1) below));
       spelled = t.0.parts;
     }
 
 -- ---- the reading after valid parts
 
-after-1 : (bytes rest : List ℕ) (u : UpToHeader bytes rest) → front_at bytes ≡ after_header (u.version, u.params, u.len, rest)
+after-1 : (bytes rest : List ℕ) (u : UpToHeader bytes rest) →
+    front_at bytes ≡ after_header (u.version, u.params, u.len, rest)
 unfolding front_at
 after-1 bytes rest u = ap (λ r. r >>= after_header) (header-read bytes u.version u.params u.len rest u.header)
 
-after-2 : (bytes rest : List ℕ) (u : UpToImage bytes rest) → front_at bytes ≡ after_image u.first.version u.first.params (u.image, rest)
+after-2 : (bytes rest : List ℕ) (u : UpToImage bytes rest) →
+    front_at bytes ≡ after_image u.first.version u.first.params (u.image, rest)
 after-2 bytes rest u =
-    after-1 bytes u.before u.first ∙ ap (λ r. r >>= after_image u.first.version u.first.params) (image-read u.first.len u.before u.image rest u.second)
+    after-1 bytes u.before u.first
+    ∙ ap (λ r. r >>= after_image u.first.version u.first.params)
+    (image-read u.first.len u.before u.image rest u.second)
 
-after-3 : (bytes rest : List ℕ) (u : UpToTotals bytes rest) → front_at bytes ≡ after_totals u.two.first.version u.two.first.params u.two.image (u.totals, rest)
+after-3 : (bytes rest : List ℕ) (u : UpToTotals bytes rest) →
+    front_at bytes ≡ after_totals u.two.first.version u.two.first.params u.two.image (u.totals, rest)
 after-3 bytes rest u =
     let f = u.two.first in
     after-2 bytes u.before u.two
-    ∙ ap (λ r. r >>= after_totals f.version f.params u.two.image) (totals-read f.version f.params u.before u.totals rest f.header.limits u.third)
+    ∙ ap (λ r. r >>= after_totals f.version f.params u.two.image)
+    (totals-read f.version f.params u.before u.totals rest f.header.limits u.third)
 
 after-4 : (bytes rest : List ℕ) (u : UpToReduced bytes rest) →
     front_at bytes ≡ after_reduced u.three.two.first.params u.three.two.image u.three.totals (u.reduced, rest)
@@ -135,14 +167,19 @@ after-4 bytes rest u =
     (reduced-read f.version f.params t.before t.totals u.before u.reduced rest f.header.limits t.third u.fourth)
 
 pub after-5 : (bytes rest : List ℕ) (u : UpToRegulated bytes rest) →
-    front_at bytes ≡ Ok (made_of u.four.three.two.first.params u.four.three.two.image u.four.three.totals u.four.reduced u.regulated, rest)
+    front_at bytes ≡ Ok (
+      made_of u.four.three.two.first.params u.four.three.two.image u.four.three.totals u.four.reduced
+          u.regulated,
+      rest,
+    )
 after-5 bytes rest u =
     let r = u.four in
     let t = r.three in
     let f = t.two.first in
     after-4 bytes u.before r
     ∙ ap (λ x. x >>= λ regulated. Ok (made_of f.params t.two.image t.totals r.reduced regulated.0, regulated.1))
-    (regulated-read f.version f.params t.before t.totals r.before u.before u.regulated rest f.header.limits t.third u.fifth)
+    (regulated-read f.version f.params t.before t.totals r.before u.before u.regulated rest f.header.limits t.third
+    u.fifth)
 
 -- ---- no valid part
 
@@ -150,10 +187,12 @@ header-bytes : (bytes rest : List ℕ) → IsBytes bytes → UpToHeader bytes re
 header-bytes bytes rest are u = rest-bytes bytes (header_text u.version u.params u.len) rest are u.header.spelled
 
 image-bytes : (bytes rest : List ℕ) → IsBytes bytes → UpToImage bytes rest → IsBytes rest
-image-bytes bytes rest are u = rest-bytes u.before u.image rest (header-bytes bytes u.before are u.first) u.second.spelled
+image-bytes bytes rest are u =
+    rest-bytes u.before u.image rest (header-bytes bytes u.before are u.first) u.second.spelled
 
 totals-bytes : (bytes rest : List ℕ) → IsBytes bytes → UpToTotals bytes rest → IsBytes rest
-totals-bytes bytes rest are u = rest-bytes u.before (totals_text u.totals) rest (image-bytes bytes u.before are u.two) u.third.spelled
+totals-bytes bytes rest are u =
+    rest-bytes u.before (totals_text u.totals) rest (image-bytes bytes u.before are u.two) u.third.spelled
 
 reduced-bytes : (bytes rest : List ℕ) → IsBytes bytes → UpToReduced bytes rest → IsBytes rest
 reduced-bytes bytes rest are u =
@@ -166,14 +205,16 @@ name-header : (bytes : List ℕ) → IsBytes bytes → NoHeader bytes → front_
 unfolding front_at
 name-header bytes are none =
     ap (λ r. r >>= after_header)
-    (no-reading HEADER (header_at bytes) (header-names bytes) (λ x e. none x.0 x.1 x.2 x.3 (read-header bytes x.0 x.1 x.2 x.3 are e)))
+    (no-reading HEADER (header_at bytes) (header-names bytes)
+    (λ x e. none x.0 x.1 x.2 x.3 (read-header bytes x.0 x.1 x.2 x.3 are e)))
 
 name-image : (bytes : List ℕ) → IsBytes bytes → NoImage bytes → front_at bytes ≡ Err IMAGE
 name-image bytes are (rest, u, none) =
     let here = header-bytes bytes rest are u in
     after-1 bytes rest u
     ∙ ap (λ r. r >>= after_image u.version u.params)
-    (no-reading IMAGE (image_at u.len rest) (image-names u.len rest) (λ x e. none x.0 x.1 (read-image u.len rest x.0 x.1 here e)))
+    (no-reading IMAGE (image_at u.len rest) (image-names u.len rest)
+    (λ x e. none x.0 x.1 (read-image u.len rest x.0 x.1 here e)))
 
 name-totals : (bytes : List ℕ) → IsBytes bytes → NoTotals bytes → front_at bytes ≡ Err TOTALS
 name-totals bytes are (rest, u, none) =
@@ -181,7 +222,8 @@ name-totals bytes are (rest, u, none) =
     let p = u.first.params in
     after-2 bytes rest u
     ∙ ap (λ r. r >>= after_totals u.first.version p u.image)
-    (no-reading TOTALS (totals_at p.limit p.cores rest) (totals-name p.limit p.cores rest) (λ x e. none x.0 x.1 (read-totals p rest x.0 x.1 here e)))
+    (no-reading TOTALS (totals_at p.limit p.cores rest) (totals-name p.limit p.cores rest)
+    (λ x e. none x.0 x.1 (read-totals p rest x.0 x.1 here e)))
 
 name-reduced : (bytes : List ℕ) → IsBytes bytes → NoReduced bytes → front_at bytes ≡ Err REDUCED
 name-reduced bytes are (rest, u, none) =
@@ -197,21 +239,28 @@ name-regulated bytes are (rest, u, none) =
     let here = reduced-bytes bytes rest are u in
     let t = u.three in
     after-4 bytes rest u
-    ∙ ap (λ x. x >>= λ regulated. Ok (made_of t.two.first.params t.two.image t.totals u.reduced regulated.0, regulated.1))
-    (no-reading REGULATED (regulated_at t.totals rest) (regulated-names t.totals rest) (λ x e. none x.0 x.1 (read-regulated t.totals rest x.0 x.1 here e)))
+    ∙ ap (λ x. x >>= λ regulated. Ok
+    (made_of t.two.first.params t.two.image t.totals u.reduced regulated.0, regulated.1))
+    (no-reading REGULATED (regulated_at t.totals rest) (regulated-names t.totals rest)
+    (λ x e. none x.0 x.1 (read-regulated t.totals rest x.0 x.1 here e)))
 
 -- ---- a name, then no valid part
 
 -- where a reading of the front ends
 abbrev Ends : List ℕ → ℕ → Type 0
 Ends bytes p = ((p ≡ HEADER) × NoHeader bytes)
-    ⊎ (((p ≡ IMAGE) × NoImage bytes) ⊎ (((p ≡ TOTALS) × NoTotals bytes) ⊎ (((p ≡ REDUCED) × NoReduced bytes) ⊎ ((p ≡ REGULATED) × NoRegulated bytes))))
+    ⊎ (((p ≡ IMAGE) × NoImage bytes)
+    ⊎ (((p ≡ TOTALS) × NoTotals bytes)
+    ⊎ (((p ≡ REDUCED) × NoReduced bytes) ⊎ ((p ≡ REGULATED) × NoRegulated bytes))))
 
 ends-after-4 : (bytes rest : List ℕ) (p : ℕ) → (u : UpToReduced bytes rest) →
     after_reduced u.three.two.first.params u.three.two.image u.three.totals (u.reduced, rest) ≡ Err p → Ends bytes p
 ends-after-4 bytes rest p u e =
     elim (bind-err (regulated_at u.three.totals rest)
-    (λ regulated. Ok (made_of u.three.two.first.params u.three.two.image u.three.totals u.reduced regulated.0, regulated.1)) p e) [
+    (λ regulated. Ok (
+      made_of u.three.two.first.params u.three.two.image u.three.totals u.reduced regulated.0,
+      regulated.1,
+    )) p e) [
       | inl bad ↦
           let f = u.three.two.first in
           inr (inr (inr (inr (
@@ -220,7 +269,8 @@ ends-after-4 bytes rest p u e =
               rest,
               u,
               λ regulated after is. never-both p (regulated_at u.three.totals rest) (regulated, after) bad
-                  (regulated-read f.version f.params u.three.before u.three.totals u.before rest regulated after f.header.limits u.three.third is),
+                  (regulated-read f.version f.params u.three.before u.three.totals u.before rest regulated after
+                  f.header.limits u.three.third is),
             ),
           ))))
       | inr more ↦ absurd (let f = more.2 in cc)
@@ -228,31 +278,36 @@ ends-after-4 bytes rest p u e =
 
 ends-after-3 : (bytes rest : List ℕ) (p : ℕ) → IsBytes bytes → (u : UpToTotals bytes rest) →
     after_totals u.two.first.version u.two.first.params u.two.image (u.totals, rest) ≡ Err p → Ends bytes p
-ends-after-3 bytes rest p are u e = elim (bind-err (reduced_at u.two.first.version u.totals rest) (after_reduced u.two.first.params u.two.image u.totals) p e) [
-  | inl bad ↦
-      let f = u.two.first in
-      inr (inr (inr (inl (
-        reduced-names f.version u.totals rest p bad,
-        (
-          rest,
-          u,
-          λ reduced after is. never-both p (reduced_at f.version u.totals rest) (reduced, after) bad
-              (reduced-read f.version f.params u.before u.totals rest reduced after f.header.limits u.third is),
-        ),
-      ))))
-  | inr more ↦ ends-after-4 bytes more.0.1 p
-      (record {
-        before = rest;
-        three = u;
-        reduced = more.0.0;
-        fourth = read-reduced u.two.first.version u.totals rest more.0.0 more.0.1 (totals-bytes bytes rest are u) more.1;
-      }) more.2
-]
+ends-after-3 bytes rest p are u e =
+    elim (bind-err (reduced_at u.two.first.version u.totals rest)
+    (after_reduced u.two.first.params u.two.image u.totals) p e) [
+      | inl bad ↦
+          let f = u.two.first in
+          inr (inr (inr (inl (
+            reduced-names f.version u.totals rest p bad,
+            (
+              rest,
+              u,
+              λ reduced after is. never-both p (reduced_at f.version u.totals rest) (reduced, after) bad
+                  (reduced-read f.version f.params u.before u.totals rest reduced after f.header.limits u.third is),
+            ),
+          ))))
+      | inr more ↦ ends-after-4 bytes more.0.1 p
+          (record {
+            before = rest;
+            three = u;
+            reduced = more.0.0;
+            fourth = read-reduced u.two.first.version u.totals rest more.0.0 more.0.1 (totals-bytes bytes rest are u)
+                more.1;
+          }) more.2
+    ]
 
-ends-after-2 : (bytes rest : List ℕ) (p : ℕ) → IsBytes bytes → (u : UpToImage bytes rest) → after_image u.first.version u.first.params (u.image, rest)
+ends-after-2 : (bytes rest : List ℕ) (p : ℕ) → IsBytes bytes → (u : UpToImage bytes rest) →
+    after_image u.first.version u.first.params (u.image, rest)
     ≡ Err p → Ends bytes p
 ends-after-2 bytes rest p are u e =
-    elim (bind-err (totals_at u.first.params.limit u.first.params.cores rest) (after_totals u.first.version u.first.params u.image) p e) [
+    elim (bind-err (totals_at u.first.params.limit u.first.params.cores rest)
+    (after_totals u.first.version u.first.params u.image) p e) [
       | inl bad ↦
           let f = u.first in
           inr (inr (inl (
@@ -274,24 +329,40 @@ ends-after-2 bytes rest p are u e =
           more.2
     ]
 
-ends-after-1 : (bytes rest : List ℕ) (p : ℕ) → IsBytes bytes → (u : UpToHeader bytes rest) → after_header (u.version, u.params, u.len, rest) ≡ Err p →
+ends-after-1 : (bytes rest : List ℕ) (p : ℕ) → IsBytes bytes → (u : UpToHeader bytes rest) →
+    after_header (u.version, u.params, u.len, rest) ≡ Err p →
     Ends bytes p
 ends-after-1 bytes rest p are u e = elim (bind-err (image_at u.len rest) (after_image u.version u.params) p e) [
   | inl bad ↦ inr (inl (
     image-names u.len rest p bad,
-    (rest, u, λ image after is. never-both p (image_at u.len rest) (image, after) bad (image-read u.len rest image after is)),
+    (
+      rest,
+      u,
+      λ image after is. never-both p (image_at u.len rest) (image, after) bad
+          (image-read u.len rest image after is),
+    ),
   ))
   | inr more ↦ ends-after-2 bytes more.0.1 p are
-      (record { before = rest; first = u; image = more.0.0; second = read-image u.len rest more.0.0 more.0.1 (header-bytes bytes rest are u) more.1 }) more.2
+      (record {
+        before = rest;
+        first = u;
+        image = more.0.0;
+        second =
+            read-image u.len rest more.0.0 more.0.1 (header-bytes bytes rest are u) more.1;
+      }) more.2
 ]
 
 front-ends : (bytes : List ℕ) (p : ℕ) → IsBytes bytes → front_at bytes ≡ Err p → Ends bytes p
 unfolding front_at
 front-ends bytes p are e = elim (bind-err (header_at bytes) after_header p e) [
-  | inl bad ↦ inl (header-names bytes p bad, λ v q len rest is. never-both p (header_at bytes) (v, q, len, rest) bad (header-read bytes v q len rest is))
+  | inl bad ↦ inl (
+    header-names bytes p bad,
+    λ v q len rest is. never-both p (header_at bytes) (v, q, len, rest) bad (header-read bytes v q len rest is),
+  )
   | inr more ↦
       let h = more.0 in
-      let u : UpToHeader bytes h.3 = record { version = h.0; params = h.1; len = h.2; header = read-header bytes h.0 h.1 h.2 h.3 are more.1 } in
+      let u : UpToHeader bytes h.3 =
+      record { version = h.0; params = h.1; len = h.2; header = read-header bytes h.0 h.1 h.2 h.3 are more.1 } in
       ends-after-1 bytes h.3 p are u more.2
 ]
 
@@ -350,7 +421,8 @@ front_names bytes are = record {
 -- ---- the end
 
 -- all parts but for the end are valid
-pub read-all : (bytes : List ℕ) (r : Recording) (rest : List ℕ) → IsBytes bytes → front_at bytes ≡ Ok (r, rest) → UpToRegulated bytes rest
+pub read-all : (bytes : List ℕ) (r : Recording) (rest : List ℕ) → IsBytes bytes → front_at bytes ≡ Ok (r, rest) →
+    UpToRegulated bytes rest
 unfolding front_at
 read-all bytes r rest are e =
     let h = bind_ok (header_at bytes) after_header (r, rest) e in
@@ -359,16 +431,42 @@ read-all bytes r rest are e =
     let i = bind_ok (image_at h.0.2 h.0.3) (after_image v p) (r, rest) h.2 in
     let t = bind_ok (totals_at p.limit p.cores i.0.1) (after_totals v p i.0.0) (r, rest) i.2 in
     let d = bind_ok (reduced_at v t.0.0 t.0.1) (after_reduced p i.0.0 t.0.0) (r, rest) t.2 in
-    let g = bind_ok (regulated_at t.0.0 d.0.1) (λ regulated. Ok (made_of p i.0.0 t.0.0 d.0.0 regulated.0, regulated.1)) (r, rest) d.2 in
-    let one : UpToHeader bytes h.0.3 = record { version = v; params = p; len = h.0.2; header = read-header bytes v p h.0.2 h.0.3 are h.1 } in
+    let g = bind_ok (regulated_at t.0.0 d.0.1) (λ regulated. Ok (made_of p i.0.0 t.0.0 d.0.0 regulated.0, regulated.1))
+    (r, rest) d.2 in
+    let one : UpToHeader bytes h.0.3 =
+    record { version = v; params = p; len = h.0.2; header = read-header bytes v p h.0.2 h.0.3 are h.1 } in
     let two : UpToImage bytes i.0.1 =
-    record { before = h.0.3; first = one; image = i.0.0; second = read-image h.0.2 h.0.3 i.0.0 i.0.1 (header-bytes bytes h.0.3 are one) i.1 } in
+    record {
+      before = h.0.3;
+      first = one;
+      image = i.0.0;
+      second =
+          read-image h.0.2 h.0.3 i.0.0 i.0.1 (header-bytes bytes h.0.3 are one) i.1;
+    } in
     let three : UpToTotals bytes t.0.1 =
-    record { before = i.0.1; two = two; totals = t.0.0; third = read-totals p i.0.1 t.0.0 t.0.1 (image-bytes bytes i.0.1 are two) t.1 } in
+    record {
+      before = i.0.1;
+      two = two;
+      totals = t.0.0;
+      third =
+          read-totals p i.0.1 t.0.0 t.0.1 (image-bytes bytes i.0.1 are two) t.1;
+    } in
     let four : UpToReduced bytes d.0.1 =
-    record { before = t.0.1; three = three; reduced = d.0.0; fourth = read-reduced v t.0.0 t.0.1 d.0.0 d.0.1 (totals-bytes bytes t.0.1 are three) d.1 } in
+    record {
+      before = t.0.1;
+      three = three;
+      reduced = d.0.0;
+      fourth =
+          read-reduced v t.0.0 t.0.1 d.0.0 d.0.1 (totals-bytes bytes t.0.1 are three) d.1;
+    } in
     let five : UpToRegulated bytes g.0.1 =
-    record { before = d.0.1; four = four; regulated = g.0.0; fifth = read-regulated t.0.0 d.0.1 g.0.0 g.0.1 (reduced-bytes bytes d.0.1 are four) g.1 } in
+    record {
+      before = d.0.1;
+      four = four;
+      regulated = g.0.0;
+      fifth =
+          read-regulated t.0.0 d.0.1 g.0.0 g.0.1 (reduced-bytes bytes d.0.1 are four) g.1;
+    } in
     let all = ok_is (made_of p i.0.0 t.0.0 d.0.0 g.0.0, g.0.1) (r, rest) g.2 in
     subst (UpToRegulated bytes) (ap (λ (x : Recording × List ℕ). x.1) all) five
 
@@ -387,20 +485,26 @@ end-some part front e none =
 
 pub some-end : {A : Type 0} (part : ℕ) (front : A × List ℕ) → front.1 ≢ [] → at_end part front ≡ Err part
 some-end part front some =
-    let long : eqb (length front.1) 0 ≡ false = ne_eqb (length front.1) 0 (λ none. some (nil_from_length front.1 none)) in
+    let long : eqb (length front.1) 0 ≡ false =
+    ne_eqb (length front.1) 0 (λ none. some (nil_from_length front.1 none)) in
     rw long refl
 
 whole_names : (bytes : List ℕ) → IsBytes bytes → WholeNames bytes
 unfolding whole_at
 whole_names bytes are = record {
   below = λ part not. (λ e. below part not e, λ e. ap (λ r. r >>= at_end END) e);
-  end = (λ e. forth (bind-err (front_at bytes) (at_end END) END e), λ x. ap (λ r. r >>= at_end END) (after-5 bytes x.0 x.1) ∙ back x.0 x.1 x.2);
+  end = (
+    λ e. forth (bind-err (front_at bytes) (at_end END) END e),
+    λ x. ap (λ r. r >>= at_end END) (after-5 bytes x.0 x.1) ∙ back x.0 x.1 x.2,
+  );
   no_other = λ part e. within part (bind-err (front_at bytes) (at_end END) part e);
 }
   where
-    within : (part : ℕ) → (front_at bytes ≡ Err part) ⊎ ((x : Recording × List ℕ) × (front_at bytes ≡ Ok x) × (at_end END x ≡ Err part)) →
+    within : (part : ℕ) → (front_at bytes ≡ Err part)
+        ⊎ ((x : Recording × List ℕ) × (front_at bytes ≡ Ok x) × (at_end END x ≡ Err part)) →
         (1 ≤ part) × (part ≤ 6)
-    within part (inl bad) = let range = (front_names bytes are).no_other part bad in let a = range.0 in let b = range.1 in (omega arith, omega arith)
+    within part (inl bad) = let range = (front_names bytes are).no_other part bad in let a = range.0 in let b =
+        range.1 in (omega arith, omega arith)
     within part (inr more) = let is = end-names END more.0 part more.2 in (omega arith, omega arith)
 
     below : (part : ℕ) → part ≢ END → whole_at bytes ≡ Err part → front_at bytes ≡ Err part
@@ -409,14 +513,22 @@ whole_names bytes are = record {
       | inr more ↦ absurd (not (end-names END more.0 part more.2))
     ]
 
-    forth : (front_at bytes ≡ Err END) ⊎ ((x : Recording × List ℕ) × (front_at bytes ≡ Ok x) × (at_end END x ≡ Err END)) → (rest : List ℕ)
+    forth : (front_at bytes ≡ Err END)
+        ⊎ ((x : Recording × List ℕ) × (front_at bytes ≡ Ok x) × (at_end END x ≡ Err END)) → (rest : List ℕ)
         × UpToRegulated bytes rest × (rest ≢ [])
     forth (inl bad) = absurd (let no = (front_names bytes are).no_other END bad in let le = no.1 in omega arith)
     forth (inr more) = (more.0.1, read-all bytes more.0.0 more.0.1 are more.1, end-some END more.0 more.2)
 
     back : (rest : List ℕ) (u : UpToRegulated bytes rest) → rest ≢ [] →
-        at_end END (made_of u.four.three.two.first.params u.four.three.two.image u.four.three.totals u.four.reduced u.regulated, rest) ≡ Err END
-    back rest u some = some-end END (made_of u.four.three.two.first.params u.four.three.two.image u.four.three.totals u.four.reduced u.regulated, rest) some
+        at_end END (
+          made_of u.four.three.two.first.params u.four.three.two.image u.four.three.totals u.four.reduced
+              u.regulated,
+          rest,
+        ) ≡ Err END
+    back rest u some = some-end END (
+      made_of u.four.three.two.first.params u.four.three.two.image u.four.three.totals u.four.reduced u.regulated,
+      rest,
+    ) some
 
 pub bad_part : BadPart
 bad_part bytes are = (front_names bytes are, whole_names bytes are)

@@ -36,7 +36,8 @@ edges_fit r v =
     let are = v.reduced place (subst (λ (n : ℕ). place < n) each lt) in
     let count = few_edges (bound_at r.totals place) (get_or r.reduced place []) are in
     let most = bound-most r place v in
-    subst (λ (edges : List (ℕ × ℕ)). length edges ≤ r.params.limit) (get_or_default r.reduced place [] d lt) (omega arith)) in
+    subst (λ (edges : List (ℕ × ℕ)). length edges ≤ r.params.limit) (get_or_default r.reduced place [] d lt)
+    (omega arith)) in
     let product = product-fits (length r.reduced) r.params.limit (omega arith) (omega arith) in
     omega arith
 
@@ -49,7 +50,8 @@ positions_fit r v =
     let are = v.regulated place (subst (λ (n : ℕ). place < n) each lt) in
     let count = few_positions (bound_at r.totals place) (get_or r.regulated place []) are in
     let most = bound-most r place v in
-    subst (λ (vectors : List StrideVector). position_count vectors ≤ r.params.limit) (get_or_default r.regulated place [] d lt) (omega arith)) in
+    subst (λ (vectors : List StrideVector). position_count vectors ≤ r.params.limit)
+    (get_or_default r.regulated place [] d lt) (omega arith)) in
     let product = product-fits (length r.regulated) r.params.limit (omega arith) (omega arith) in
     omega arith
 

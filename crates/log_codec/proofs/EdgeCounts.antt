@@ -48,23 +48,27 @@ vector_edges vectors =
 
 -- a log's edges, pair by pair
 by_place : (which : Which) (r : Recording)
-    → length (log_edges which r) ≡ sum_by (λ place. length (edges_of_pair which r place)) (range_with_len 0 (pair_count r.params.cores))
+    → length (log_edges which r)
+    ≡ sum_by (λ place. length (edges_of_pair which r place)) (range_with_len 0 (pair_count r.params.cores))
 unfolding log_edges
 by_place which r =
     let places : List ℕ = range_with_len 0 (pair_count r.params.cores) in
     length-flat_map (edges_at which r) places
     ∙ sums_same (λ place. length (edges_at which r place)) (λ place. length (edges_of_pair which r place)) places
-    (λ place. length-map (edges_of_pair which r place) (edge_between (source_at r.params.cores place) (target_at r.params.cores place)))
+    (λ place. length-map (edges_of_pair which r place)
+    (edge_between (source_at r.params.cores place) (target_at r.params.cores place)))
 
 pub edges-counted : EdgesCounted
 edges-counted Reduced r valid =
     by_place Reduced r
     ∙ ap (λ n. sum_by (λ place. length (edges_of_pair Reduced r place)) (range_with_len 0 n)) (sym valid.each_reduced)
-    ∙ sum_over_places (λ (edges : List (ℕ × ℕ)). length edges) (λ place. length (edges_of_pair Reduced r place)) r.reduced [] 0
+    ∙ sum_over_places (λ (edges : List (ℕ × ℕ)). length edges) (λ place. length (edges_of_pair Reduced r place))
+    r.reduced [] 0
     (λ k lt. let place : 0 + k ≡ k = omega arith in ap (λ i. length (get_or r.reduced i [])) place)
 edges-counted Regulated r valid =
     by_place Regulated r
-    ∙ ap (λ n. sum_by (λ place. length (edges_of_pair Regulated r place)) (range_with_len 0 n)) (sym valid.each_regulated)
+    ∙ ap (λ n. sum_by (λ place. length (edges_of_pair Regulated r place)) (range_with_len 0 n))
+    (sym valid.each_regulated)
     ∙ sum_over_places position_count (λ place. length (edges_of_pair Regulated r place)) r.regulated [] 0
     (λ k lt.
     let place : 0 + k ≡ k = omega arith in

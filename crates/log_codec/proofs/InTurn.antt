@@ -1,5 +1,6 @@
 -- Items in turn, as loops read and write them, and as the laws take them.
-use Rattle.std.proofs.Common.{◌≡◌, ℕ, zero, suc, ◌+◌, ◌-◌, ◌<◌, ◌≤◌, List, [], ◌∷◌, ◌++◌, length, get_or, drop, Result, Ok, Err, Bool, true, refl, sym, ap}
+use Rattle.std.proofs.Common.{◌≡◌, ℕ, zero, suc, ◌+◌, ◌-◌, ◌<◌, ◌≤◌, List, [], ◌∷◌, ◌++◌, length, get_or, drop, Result}
+use Rattle.std.proofs.Common.{Ok, Err, Bool, true, refl, sym, ap}
 use Rattle.std.proofs.Common.{subst, ◌∙◌, append_assoc, arith}
 use Rattle.std.specs.Prelude.{All}
 use Rattle.std.specs.List.{AllByRecursion}
@@ -20,7 +21,8 @@ use Rattle.log_codec.proofs.Steps.{bind_ok, ok_is, Takes, Takes-then, Takes-none
 abbrev pub with_front : {X : Type 0} → List X → Result (List X × List ℕ) ℕ → Result (List X × List ℕ) ℕ
 with_front front read = read >>= λ x. Ok (front ++ x.0, x.1)
 
-regroup : {X : Type 0} (front : List X) (n : X) (read : Result (List X × List ℕ) ℕ) → with_front front (read >>= λ x. Ok (n ∷ x.0, x.1))
+regroup : {X : Type 0} (front : List X) (n : X) (read : Result (List X × List ℕ) ℕ) →
+    with_front front (read >>= λ x. Ok (n ∷ x.0, x.1))
     ≡ with_front (front ++ n ∷ []) read
 regroup {X} front n (Ok x) = ap (λ (ns : List X). Ok (ns, x.1)) (simp append_assoc)
 regroup front n (Err p) = refl
@@ -29,13 +31,15 @@ whole : {X : Type 0} (read : Result (List X × List ℕ) ℕ) → with_front [] 
 whole (Ok x) = refl
 whole (Err p) = refl
 
-pub begins : {S X : Type 0} (item : S → List ℕ → Result (X × List ℕ) ℕ) (next : S → X → S) (count : ℕ) (s : S) (bytes : List ℕ) →
+pub begins : {S X : Type 0} (item : S → List ℕ → Result (X × List ℕ) ℕ) (next : S → X → S) (count : ℕ) (s : S)
+    (bytes : List ℕ) →
     with_front [] (read_in_turn item next (count - 0) s bytes) ≡ read_in_turn item next count s bytes
 begins item next count s bytes =
     let all : count - 0 ≡ count = omega arith in
     rw all (whole (read_in_turn item next count s bytes))
 
-pub goes_on : {S X : Type 0} (item : S → List ℕ → Result (X × List ℕ) ℕ) (next : S → X → S) (front : List X) (count i : ℕ) (s : S) (bytes : List ℕ) (n : X)
+pub goes_on : {S X : Type 0} (item : S → List ℕ → Result (X × List ℕ) ℕ) (next : S → X → S) (front : List X)
+    (count i : ℕ) (s : S) (bytes : List ℕ) (n : X)
     (after : List ℕ) (total : Result (List X × List ℕ) ℕ)
     → i < count → item s bytes ≡ Ok (n, after) → with_front front (read_in_turn item next (count - i) s bytes) ≡ total
     → with_front (front ++ n ∷ []) (read_in_turn item next (count - (i + 1)) (next s n) after) ≡ total
@@ -47,9 +51,11 @@ goes_on item next front count i s bytes n after total lt h so_far =
     rw (k, h) (regroup front n (read_in_turn item next (count - (i + 1)) (next s n) after)) in
     sym one ∙ so_far
 
-pub ends : {S X : Type 0} (item : S → List ℕ → Result (X × List ℕ) ℕ) (next : S → X → S) (e : CodecFault) (front : List X) (count i : ℕ) (s : S)
+pub ends : {S X : Type 0} (item : S → List ℕ → Result (X × List ℕ) ℕ) (next : S → X → S) (e : CodecFault)
+    (front : List X) (count i : ℕ) (s : S)
     (bytes : List ℕ) (total : Result (List X × List ℕ) ℕ)
-    → i < count → Fails e (item s bytes) → with_front front (read_in_turn item next (count - i) s bytes) ≡ total → Fails e total
+    → i < count → Fails e (item s bytes) → with_front front (read_in_turn item next (count - i) s bytes) ≡ total →
+    Fails e total
 unfolding read_in_turn
 ends item next faults.OutOfMemory front count i s bytes total lt h so_far = tt
 ends item next (faults.Bad p) front count i s bytes total lt h so_far =
@@ -57,7 +63,8 @@ ends item next (faults.Bad p) front count i s bytes total lt h so_far =
     let one : with_front front (read_in_turn item next (count - i) s bytes) ≡ Err p = rw (k, h) refl in
     sym so_far ∙ one
 
-pub is_done : {S X : Type 0} (item : S → List ℕ → Result (X × List ℕ) ℕ) (next : S → X → S) (front : List X) (count i : ℕ) (s : S) (bytes : List ℕ)
+pub is_done : {S X : Type 0} (item : S → List ℕ → Result (X × List ℕ) ℕ) (next : S → X → S) (front : List X)
+    (count i : ℕ) (s : S) (bytes : List ℕ)
     (total : Result (List X × List ℕ) ℕ)
     → count ≤ i → with_front front (read_in_turn item next (count - i) s bytes) ≡ total → total ≡ Ok (front, bytes)
 unfolding read_in_turn
@@ -69,17 +76,20 @@ is_done {S} {X} item next front count i s bytes total le so_far =
 
 -- ---- a loop that writes
 
-pub puts_on : {S X : Type 0} (text : S → X → List ℕ) (next : S → X → S) (out new whole : List ℕ) (s : S) (xs : List X) (i : ℕ) (d : X)
+pub puts_on : {S X : Type 0} (text : S → X → List ℕ) (next : S → X → S) (out new whole : List ℕ) (s : S) (xs : List X)
+    (i : ℕ) (d : X)
     → i < length xs → new ≡ out ++ text s (get_or xs i d) → out ++ spelled_in_turn text next s (drop i xs) ≡ whole →
     new ++ spelled_in_turn text next (next s (get_or xs i d)) (drop (i + 1) xs) ≡ whole
 unfolding spelled_in_turn
 puts_on text next out new whole s xs i d lt is so_far =
     let split = drop_more xs i d lt in
     let x = get_or xs i d in
-    let one : out ++ spelled_in_turn text next s (drop i xs) ≡ out ++ (text s x ++ spelled_in_turn text next (next s x) (drop (i + 1) xs)) = rw split refl in
+    let one : out ++ spelled_in_turn text next s (drop i xs)
+    ≡ out ++ (text s x ++ spelled_in_turn text next (next s x) (drop (i + 1) xs)) = rw split refl in
     rw is (append_assoc out (text s x) (spelled_in_turn text next (next s x) (drop (i + 1) xs)) ∙ sym one ∙ so_far)
 
-pub puts_done : {S X : Type 0} (text : S → X → List ℕ) (next : S → X → S) (out whole : List ℕ) (s : S) (xs : List X) (i : ℕ)
+pub puts_done : {S X : Type 0} (text : S → X → List ℕ) (next : S → X → S) (out whole : List ℕ) (s : S) (xs : List X)
+    (i : ℕ)
     → length xs ≤ i → out ++ spelled_in_turn text next s (drop i xs) ≡ whole → out ≡ whole
 unfolding spelled_in_turn
 puts_done text next out whole s xs i le so_far =
@@ -89,63 +99,81 @@ puts_done text next out whole s xs i le so_far =
 
 -- ---- the laws
 
-pub turns_take : {S X : Type 0} (item : S → List ℕ → Result (X × List ℕ) ℕ) (next : S → X → S) (text : S → X → List ℕ) (stands : S → X → Type 0)
-    → ((s : S) (bytes : List ℕ) (x : X) (rest : List ℕ) → IsBytes bytes → item s bytes ≡ Ok (x, rest) → Takes bytes (text s x) rest × stands s x)
-    → (n : ℕ) (s : S) (bytes : List ℕ) (xs : List X) (rest : List ℕ) → IsBytes bytes → read_in_turn item next n s bytes ≡ Ok (xs, rest)
+pub turns_take : {S X : Type 0} (item : S → List ℕ → Result (X × List ℕ) ℕ) (next : S → X → S) (text : S → X → List ℕ)
+    (stands : S → X → Type 0)
+    → ((s : S) (bytes : List ℕ) (x : X) (rest : List ℕ) → IsBytes bytes → item s bytes ≡ Ok (x, rest) →
+    Takes bytes (text s x) rest × stands s x)
+    → (n : ℕ) (s : S) (bytes : List ℕ) (xs : List X) (rest : List ℕ) → IsBytes bytes →
+    read_in_turn item next n s bytes ≡ Ok (xs, rest)
     → Takes bytes (spelled_in_turn text next s xs) rest × (length xs ≡ n) × StandInTurn stands next s xs
 unfolding read_in_turn spelled_in_turn
 turns_take {S} {X} item next text stands one zero s bytes xs rest fits e =
-    subst (λ (y : List X × List ℕ). Takes bytes (spelled_in_turn text next s y.0) y.1 × (length y.0 ≡ 0) × StandInTurn stands next s y.0)
+    subst (λ (y : List X × List ℕ). Takes bytes (spelled_in_turn text next s y.0) y.1 × (length y.0 ≡ 0) ×
+    StandInTurn stands next s y.0)
     (ok_is ([], bytes) (xs, rest) e) (Takes-none bytes fits, refl, tt)
 turns_take {S} {X} item next text stands one (suc n) s bytes xs rest fits e =
-    let a = bind_ok (item s bytes) (λ first. read_in_turn item next n (next s first.0) first.1 >>= λ others. Ok (first.0 ∷ others.0, others.1)) (xs, rest) e in
-    let b = bind_ok (read_in_turn item next n (next s a.0.0) a.0.1) (λ others. Ok (a.0.0 ∷ others.0, others.1)) (xs, rest) a.2 in
+    let a = bind_ok (item s bytes)
+    (λ first. read_in_turn item next n (next s first.0) first.1 >>= λ others. Ok (first.0 ∷ others.0, others.1))
+    (xs, rest) e in
+    let b = bind_ok (read_in_turn item next n (next s a.0.0) a.0.1) (λ others. Ok (a.0.0 ∷ others.0, others.1))
+    (xs, rest) a.2 in
     let first = one s bytes a.0.0 a.0.1 fits a.1 in
     let others = turns_take item next text stands one n (next s a.0.0) a.0.1 b.0.0 b.0.1 first.0.rest_fits b.1 in
-    let both = Takes-then bytes (text s a.0.0) a.0.1 (spelled_in_turn text next (next s a.0.0) b.0.0) b.0.1 first.0 others.0 in
-    subst (λ (y : List X × List ℕ). Takes bytes (spelled_in_turn text next s y.0) y.1 × (length y.0 ≡ suc n) × StandInTurn stands next s y.0)
+    let both = Takes-then bytes (text s a.0.0) a.0.1 (spelled_in_turn text next (next s a.0.0) b.0.0) b.0.1 first.0
+    others.0 in
+    subst (λ (y : List X × List ℕ). Takes bytes (spelled_in_turn text next s y.0) y.1 × (length y.0 ≡ suc n) ×
+    StandInTurn stands next s y.0)
     (ok_is (a.0.0 ∷ b.0.0, b.0.1) (xs, rest) b.2) (both, ap suc others.1, (first.1, others.2))
 
-pub turns_again : {S X : Type 0} (item : S → List ℕ → Result (X × List ℕ) ℕ) (next : S → X → S) (text : S → X → List ℕ) (stands : S → X → Type 0)
+pub turns_again : {S X : Type 0} (item : S → List ℕ → Result (X × List ℕ) ℕ) (next : S → X → S) (text : S → X → List ℕ)
+    (stands : S → X → Type 0)
     → ((s : S) (x : X) (rest : List ℕ) → stands s x → item s (text s x ++ rest) ≡ Ok (x, rest))
-    → (s : S) (xs : List X) (rest : List ℕ) → StandInTurn stands next s xs → read_in_turn item next (length xs) s (spelled_in_turn text next s xs ++ rest)
+    → (s : S) (xs : List X) (rest : List ℕ) → StandInTurn stands next s xs →
+    read_in_turn item next (length xs) s (spelled_in_turn text next s xs ++ rest)
     ≡ Ok (xs, rest)
 unfolding read_in_turn spelled_in_turn
 turns_again item next text stands one s [] rest h = refl
 turns_again item next text stands one s (x ∷ xs) rest h =
     let others = turns_again item next text stands one (next s x) xs rest h.1 in
     let first = one s x (spelled_in_turn text next (next s x) xs ++ rest) h.0 in
-    ap (read_in_turn item next (suc (length xs)) s) (append_assoc (text s x) (spelled_in_turn text next (next s x) xs) rest) ∙ rw (first, others) refl
+    ap (read_in_turn item next (suc (length xs)) s)
+    (append_assoc (text s x) (spelled_in_turn text next (next s x) xs) rest) ∙ rw (first, others) refl
 
 -- ---- facts of each item
 
-pub stand-map : {S X : Type 0} (P Q : S → X → Type 0) (next : S → X → S) → ((s : S) (x : X) → P s x → Q s x) → (s : S) (xs : List X) →
+pub stand-map : {S X : Type 0} (P Q : S → X → Type 0) (next : S → X → S) → ((s : S) (x : X) → P s x → Q s x) →
+    (s : S) (xs : List X) →
     StandInTurn P next s xs → StandInTurn Q next s xs
 stand-map P Q next one s [] h = tt
 stand-map P Q next one s (x ∷ xs) h = (one s x h.0, stand-map P Q next one (next s x) xs h.1)
 
 -- a test of each item
-pub stand-true : {S X : Type 0} (P : S → X → Type 0) (p : S → X → Bool) (next : S → X → S) → ((s : S) (x : X) → p s x ≡ true → P s x) → (s : S) (xs : List X) →
+pub stand-true : {S X : Type 0} (P : S → X → Type 0) (p : S → X → Bool) (next : S → X → S) →
+    ((s : S) (x : X) → p s x ≡ true → P s x) → (s : S) (xs : List X) →
     stand_in_turn p next s xs ≡ true → StandInTurn P next s xs
 stand-true P p next one s [] h = tt
 stand-true P p next one s (x ∷ xs) h =
     let both = and_parts (p s x) (stand_in_turn p next (next s x) xs) h in
     (one s x both.0, stand-true P p next one (next s x) xs both.1)
 
-pub true-stand : {S X : Type 0} (P : S → X → Type 0) (p : S → X → Bool) (next : S → X → S) → ((s : S) (x : X) → P s x → p s x ≡ true) → (s : S) (xs : List X) →
+pub true-stand : {S X : Type 0} (P : S → X → Type 0) (p : S → X → Bool) (next : S → X → S) →
+    ((s : S) (x : X) → P s x → p s x ≡ true) → (s : S) (xs : List X) →
     StandInTurn P next s xs → stand_in_turn p next s xs ≡ true
 true-stand P p next one s [] h = refl
 true-stand P p next one s (x ∷ xs) h = rw (one s x h.0, true-stand P p next one (next s x) xs h.1) refl
 
 -- what is left after the items before it
-pub stand-drop : {S X : Type 0} (P : S → X → Type 0) (next : S → X → S) (s : S) (xs : List X) (i : ℕ) (d : X) → i < length xs →
-    StandInTurn P next s (drop i xs) → P s (get_or xs i d) × StandInTurn P next (next s (get_or xs i d)) (drop (i + 1) xs)
+pub stand-drop : {S X : Type 0} (P : S → X → Type 0) (next : S → X → S) (s : S) (xs : List X) (i : ℕ) (d : X) →
+    i < length xs →
+    StandInTurn P next s (drop i xs) → P s (get_or xs i d) ×
+    StandInTurn P next (next s (get_or xs i d)) (drop (i + 1) xs)
 stand-drop P next s xs i d lt h = subst (StandInTurn P next s) (drop_more xs i d lt) h
 
 -- ---- where the state is the place
 
 -- the item at a place
-pub stand-places : {X : Type 0} (P : ℕ → X → Type 0) (s : ℕ) (xs : List X) → StandInTurn P count_up s xs → (i : ℕ) (d : X) → i < length xs →
+pub stand-places : {X : Type 0} (P : ℕ → X → Type 0) (s : ℕ) (xs : List X) → StandInTurn P count_up s xs →
+    (i : ℕ) (d : X) → i < length xs →
     P (s + i) (get_or xs i d)
 stand-places P s [] h i d lt = absurd (omega arith)
 stand-places P s (x ∷ xs) h zero d lt = let same : s ≡ s + 0 = omega arith in subst (λ (k : ℕ). P k x) same h.0
@@ -153,7 +181,8 @@ stand-places P s (x ∷ xs) h (suc i) d lt =
     let same : s + 1 + i ≡ s + suc i = omega arith in
     subst (λ (k : ℕ). P k (get_or xs i d)) same (stand-places P (s + 1) xs h.1 i d (omega arith))
 
-pub places-stand : {X : Type 0} (P : ℕ → X → Type 0) (s : ℕ) (xs : List X) (d : X) → ((i : ℕ) → i < length xs → P (s + i) (get_or xs i d)) →
+pub places-stand : {X : Type 0} (P : ℕ → X → Type 0) (s : ℕ) (xs : List X) (d : X) →
+    ((i : ℕ) → i < length xs → P (s + i) (get_or xs i d)) →
     StandInTurn P count_up s xs
 places-stand P s [] d h = tt
 places-stand P s (x ∷ xs) d h =
@@ -166,16 +195,20 @@ places-stand P s (x ∷ xs) d h =
 
 -- ---- where nothing is kept from item to item
 
-recursion-stand : {X : Type 0} (P : X → Type 0) (xs : List X) → AllByRecursion P xs → StandInTurn (λ (s : Unit {0}) x. P x) stay tt xs
+recursion-stand : {X : Type 0} (P : X → Type 0) (xs : List X) → AllByRecursion P xs →
+    StandInTurn (λ (s : Unit {0}) x. P x) stay tt xs
 recursion-stand P [] h = tt
 recursion-stand P (x ∷ xs) h = (h.0, recursion-stand P xs h.1)
 
-stand-recursion : {X : Type 0} (P : X → Type 0) (xs : List X) → StandInTurn (λ (s : Unit {0}) x. P x) stay tt xs → AllByRecursion P xs
+stand-recursion : {X : Type 0} (P : X → Type 0) (xs : List X) → StandInTurn (λ (s : Unit {0}) x. P x) stay tt xs →
+    AllByRecursion P xs
 stand-recursion P [] h = tt
 stand-recursion P (x ∷ xs) h = (h.0, stand-recursion P xs h.1)
 
-pub stand-all : {X : Type 0} (P : X → Type 0) (xs : List X) → StandInTurn (λ (s : Unit {0}) x. P x) stay tt xs → All P xs
+pub stand-all : {X : Type 0} (P : X → Type 0) (xs : List X) → StandInTurn (λ (s : Unit {0}) x. P x) stay tt xs →
+    All P xs
 stand-all P xs h = All-from_recursion P xs (stand-recursion P xs h)
 
-pub all-stand : {X : Type 0} (P : X → Type 0) (xs : List X) → All P xs → StandInTurn (λ (s : Unit {0}) x. P x) stay tt xs
+pub all-stand : {X : Type 0} (P : X → Type 0) (xs : List X) → All P xs →
+    StandInTurn (λ (s : Unit {0}) x. P x) stay tt xs
 all-stand P xs h = recursion-stand P xs (recursion_from_All P xs h)

@@ -23,7 +23,12 @@ blocks-true p e =
     let a = and_parts (nat_le WORDS_MIN p.words && nat_le p.words WORDS_MAX) (nat_eq (p.words % 4) 0) e in
     let b = and_parts (nat_le WORDS_MIN p.words) (nat_le p.words WORDS_MAX) a.0 in
     let a1 = a.1 in let b0 = b.0 in let b1 = b.1 in
-    record { some_block = grind (arith, nat_tests); words = grind (arith, nat_tests); whole_blocks = grind (arith, nat_tests) }
+    record {
+      some_block = grind (arith, nat_tests);
+      words = grind (arith, nat_tests);
+      whole_blocks =
+          grind (arith, nat_tests);
+    }
 
 true-blocks : (p : Params) → HasBlocks p → has_blocks p ≡ true
 true-blocks p h =
@@ -34,7 +39,8 @@ true-blocks p h =
 
 pub old-true : (p : Params) → fits_old p ≡ true → FitsOld p
 old-true p e =
-    let a = and_parts (nat_le 1 p.cores && nat_le p.cores 8) ((nat_le 1 p.limit && nat_le p.limit 100000) && has_blocks p) e in
+    let a = and_parts (nat_le 1 p.cores && nat_le p.cores 8)
+    ((nat_le 1 p.limit && nat_le p.limit 100000) && has_blocks p) e in
     let b = and_parts (nat_le 1 p.cores) (nat_le p.cores 8) a.0 in
     let c = and_parts (nat_le 1 p.limit && nat_le p.limit 100000) (has_blocks p) a.1 in
     let d = and_parts (nat_le 1 p.limit) (nat_le p.limit 100000) c.0 in
@@ -62,10 +68,13 @@ true-old p f =
 pub run-true : (p : Params) → fits_run p ≡ true → Fits p
 run-true p e =
     let a = and_parts (nat_le 1 p.cores && nat_le p.cores CORES_MAX)
-    (((nat_le 1 p.limit && nat_le p.limit LIMIT_MAX) && nat_le (p.cores * p.limit) INSTRUCTIONS_MAX) && has_blocks p) e in
+    (((nat_le 1 p.limit && nat_le p.limit LIMIT_MAX) && nat_le (p.cores * p.limit) INSTRUCTIONS_MAX) && has_blocks p) e
+    in
     let b = and_parts (nat_le 1 p.cores) (nat_le p.cores CORES_MAX) a.0 in
-    let c = and_parts ((nat_le 1 p.limit && nat_le p.limit LIMIT_MAX) && nat_le (p.cores * p.limit) INSTRUCTIONS_MAX) (has_blocks p) a.1 in
-    let d = and_parts (nat_le 1 p.limit && nat_le p.limit LIMIT_MAX) (nat_le (p.cores * p.limit) INSTRUCTIONS_MAX) c.0 in
+    let c = and_parts ((nat_le 1 p.limit && nat_le p.limit LIMIT_MAX) && nat_le (p.cores * p.limit) INSTRUCTIONS_MAX)
+    (has_blocks p) a.1 in
+    let d = and_parts (nat_le 1 p.limit && nat_le p.limit LIMIT_MAX) (nat_le (p.cores * p.limit) INSTRUCTIONS_MAX) c.0
+    in
     let f = and_parts (nat_le 1 p.limit) (nat_le p.limit LIMIT_MAX) d.0 in
     let blocks = blocks-true p c.1 in
     let b0 = b.0 in let b1 = b.1 in let d1 = d.1 in let f0 = f.0 in let f1 = f.1 in

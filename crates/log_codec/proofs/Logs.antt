@@ -1,5 +1,6 @@
 -- Edges and vectors that are read are the ones that are spelled, and what is spelled is read again.
-use Rattle.std.proofs.Common.{◌≡◌, ℕ, ◌+◌, ◌-◌, ◌*◌, ◌^◌, ◌<◌, ◌≤◌, Bool, true, false, cond, ◌&&◌, nat_lt, nat_le, nat_eq, List, [], ◌∷◌, ◌++◌, length, Result}
+use Rattle.std.proofs.Common.{◌≡◌, ℕ, ◌+◌, ◌-◌, ◌*◌, ◌^◌, ◌<◌, ◌≤◌, Bool, true, false, cond, ◌&&◌, nat_lt, nat_le}
+use Rattle.std.proofs.Common.{nat_eq, List, [], ◌∷◌, ◌++◌, length, Result}
 use Rattle.std.proofs.Common.{Ok, Err, refl, sym, ap, subst, ◌∙◌, append_assoc, arith}
 use Rattle.std.specs.Prelude.{sum_by}
 use Rattle.std.proofs.Common.{inl, inr}
@@ -17,39 +18,48 @@ use Rattle.log_codec.specs.Turns.{alike, read_in_turn, spelled_in_turn}
 use Rattle.rtr_types.specs.PairEdges.{EdgeStands, AreEdges}
 use Rattle.log_codec.specs.Validity.{VectorStands, AreVectors, end_of, strides_stand, vector_stands}
 use Rattle.log_codec.specs.Spelling.{number, edge_text, edges_text, strides_text, vector_text, vectors_text}
-use Rattle.log_codec.specs.Reading.{number_at, edge_at, edges_at, two_strides, strides_at, standing, vector_at, vectors_at}
+use Rattle.log_codec.specs.Reading.{number_at, edge_at, edges_at, two_strides, strides_at, standing, vector_at}
+use Rattle.log_codec.specs.Reading.{vectors_at}
 use Rattle.log_codec.proofs.Steps.{bind_ok, guard_ok, ok_is, Takes, Takes-then, Takes-none}
 use Rattle.log_codec.proofs.FieldLaws.{number_takes, number_again}
 use Rattle.log_codec.proofs.InTurn.{turns_take, turns_again}
 
 -- ---- an edge
 
-edge_takes : (most last : ℕ × ℕ) (bytes : List ℕ) (e : ℕ × ℕ) (rest : List ℕ) → IsBytes bytes → edge_at most last bytes ≡ Ok (e, rest) →
+edge_takes : (most last : ℕ × ℕ) (bytes : List ℕ) (e : ℕ × ℕ) (rest : List ℕ) → IsBytes bytes →
+    edge_at most last bytes ≡ Ok (e, rest) →
     Takes bytes (edge_text last e) rest × EdgeStands most last e
 unfolding edge_at
 edge_takes most last bytes e rest are h =
     let p = bind_ok (number_at REDUCED bytes)
-    (λ b. number_at REDUCED b.1 >>= λ a. cond ((nat_lt 0 a.0 && nat_lt 0 b.0) && (nat_le (last.0 + a.0) most.0 && nat_le (last.1 + b.0) most.1))
+    (λ b. number_at REDUCED b.1 >>= λ a. cond
+    ((nat_lt 0 a.0 && nat_lt 0 b.0) && (nat_le (last.0 + a.0) most.0 && nat_le (last.1 + b.0) most.1))
     (Ok ((last.0 + a.0, last.1 + b.0), a.1)) (Err REDUCED)) (e, rest) h in
     let b = p.0 in
     let q = bind_ok (number_at REDUCED b.1)
-    (λ a. cond ((nat_lt 0 a.0 && nat_lt 0 b.0) && (nat_le (last.0 + a.0) most.0 && nat_le (last.1 + b.0) most.1)) (Ok ((last.0 + a.0, last.1 + b.0), a.1))
+    (λ a. cond ((nat_lt 0 a.0 && nat_lt 0 b.0) && (nat_le (last.0 + a.0) most.0 && nat_le (last.1 + b.0) most.1))
+    (Ok ((last.0 + a.0, last.1 + b.0), a.1))
     (Err REDUCED)) (e, rest) p.2 in
     let a = q.0 in
-    let g = guard_ok ((nat_lt 0 a.0 && nat_lt 0 b.0) && (nat_le (last.0 + a.0) most.0 && nat_le (last.1 + b.0) most.1)) REDUCED (
+    let g = guard_ok ((nat_lt 0 a.0 && nat_lt 0 b.0) && (nat_le (last.0 + a.0) most.0 && nat_le (last.1 + b.0) most.1))
+    REDUCED (
       (last.0 + a.0, last.1 + b.0),
       a.1,
     ) (e, rest) q.2 in
     let tb = number_takes REDUCED bytes b.0 b.1 are p.1 in
     let ta = number_takes REDUCED b.1 a.0 a.1 tb.0.rest_fits q.1 in
-    let u = and_parts (nat_lt 0 a.0 && nat_lt 0 b.0) (nat_le (last.0 + a.0) most.0 && nat_le (last.1 + b.0) most.1) g.0 in
+    let u = and_parts (nat_lt 0 a.0 && nat_lt 0 b.0) (nat_le (last.0 + a.0) most.0 && nat_le (last.1 + b.0) most.1) g.0
+    in
     let v = and_parts (nat_lt 0 a.0) (nat_lt 0 b.0) u.0 in
     let w = and_parts (nat_le (last.0 + a.0) most.0) (nat_le (last.1 + b.0) most.1) u.1 in
-    build a.0 b.0 a.1 (Takes-then bytes (number b.0) b.1 (number a.0) a.1 tb.0 ta.0) (ap (λ (x : (ℕ × ℕ) × List ℕ). x.0.0) g.1)
+    build a.0 b.0 a.1 (Takes-then bytes (number b.0) b.1 (number a.0) a.1 tb.0 ta.0)
+    (ap (λ (x : (ℕ × ℕ) × List ℕ). x.0.0) g.1)
     (ap (λ (x : (ℕ × ℕ) × List ℕ). x.0.1) g.1) (ap (λ (x : (ℕ × ℕ) × List ℕ). x.1) g.1) v.0 v.1 w.0 w.1
   where
-    build : (a b : ℕ) (after : List ℕ) → Takes bytes (number b ++ number a) after → last.0 + a ≡ e.0 → last.1 + b ≡ e.1 → after ≡ rest → nat_lt 0 a ≡ true →
-        nat_lt 0 b ≡ true → nat_le (last.0 + a) most.0 ≡ true → nat_le (last.1 + b) most.1 ≡ true → Takes bytes (edge_text last e) rest × EdgeStands most last e
+    build : (a b : ℕ) (after : List ℕ) → Takes bytes (number b ++ number a) after → last.0 + a ≡ e.0 →
+        last.1 + b ≡ e.1 → after ≡ rest → nat_lt 0 a ≡ true →
+        nat_lt 0 b ≡ true → nat_le (last.0 + a) most.0 ≡ true → nat_le (last.1 + b) most.1 ≡ true →
+        Takes bytes (edge_text last e) rest × EdgeStands most last e
     build a b after taken a_is b_is after_is pos_a pos_b most_a most_b =
         let a' : a ≡ e.0 - last.0 = omega arith in
         let b' : b ≡ e.1 - last.1 = omega arith in
@@ -62,7 +72,8 @@ edge_takes most last bytes e rest are h =
           },
         )
 
-edge_again : (most last e : ℕ × ℕ) (rest : List ℕ) → most.0 < 2 ^ 32 → most.1 < 2 ^ 32 → EdgeStands most last e → edge_at most last (edge_text last e ++ rest)
+edge_again : (most last e : ℕ × ℕ) (rest : List ℕ) → most.0 < 2 ^ 32 → most.1 < 2 ^ 32 → EdgeStands most last e →
+    edge_at most last (edge_text last e ++ rest)
     ≡ Ok (e, rest)
 unfolding edge_at
 edge_again most last e rest fits_a fits_b stands =
@@ -91,7 +102,8 @@ edge_again most last e rest fits_a fits_b stands =
 -- ---- the edges of a pair
 
 -- rising counts leave room for no more edges than the total
-edges-few : (most last : ℕ × ℕ) (edges : List (ℕ × ℕ)) → last.0 ≤ most.0 → StandInTurn (EdgeStands most) follow last edges → last.0 + length edges ≤ most.0
+edges-few : (most last : ℕ × ℕ) (edges : List (ℕ × ℕ)) → last.0 ≤ most.0 →
+    StandInTurn (EdgeStands most) follow last edges → last.0 + length edges ≤ most.0
 edges-few most last [] le h = omega arith
 edges-few most last (e ∷ edges) le h =
     let up = h.0.rises.source in
@@ -101,26 +113,35 @@ edges-few most last (e ∷ edges) le h =
 pub few_edges : (most : ℕ × ℕ) (edges : List (ℕ × ℕ)) → AreEdges most edges → length edges ≤ most.0
 few_edges most edges h = let few = edges-few most (0, 0) edges (omega arith) h in omega arith
 
-pub edges_take : (place : ℕ) (most : ℕ × ℕ) (bytes : List ℕ) (edges : List (ℕ × ℕ)) (rest : List ℕ) → IsBytes bytes → edges_at most bytes ≡ Ok (edges, rest) →
+pub edges_take : (place : ℕ) (most : ℕ × ℕ) (bytes : List ℕ) (edges : List (ℕ × ℕ)) (rest : List ℕ) → IsBytes bytes →
+    edges_at most bytes ≡ Ok (edges, rest) →
     Takes bytes (edges_text edges) rest × AreEdges most edges
 unfolding edges_at
 edges_take place most bytes edges rest are h =
-    let p = bind_ok (number_at REDUCED bytes) (λ count. read_in_turn (edge_at most) follow count.0 (0, 0) count.1) (edges, rest) h in
+    let p = bind_ok (number_at REDUCED bytes) (λ count. read_in_turn (edge_at most) follow count.0 (0, 0) count.1)
+    (edges, rest) h in
     let n = p.0 in
     let t = number_takes REDUCED bytes n.0 n.1 are p.1 in
-    let items = turns_take (edge_at most) follow edge_text (EdgeStands most) (λ s b x r. edge_takes most s b x r) n.0 (0, 0) n.1 edges rest t.0.rest_fits p.2 in
-    let both = Takes-then bytes (number n.0) n.1 (spelled_in_turn edge_text follow (0, 0) edges) rest t.0 items.0 in
-    (subst (λ (k : ℕ). Takes bytes (number k ++ spelled_in_turn edge_text follow (0, 0) edges) rest) (sym items.1) both, items.2)
+    let items = turns_take (edge_at most) follow edge_text (EdgeStands most) (λ s b x r. edge_takes most s b x r) n.0
+    (0, 0) n.1 edges rest t.0.rest_fits p.2 in
+    let both = Takes-then bytes (number n.0) n.1 (spelled_in_turn edge_text follow (0, 0) edges) rest t.0 items.0 in (
+      subst (λ (k : ℕ). Takes bytes (number k ++ spelled_in_turn edge_text follow (0, 0) edges) rest)
+          (sym items.1) both,
+      items.2,
+    )
 
-pub edges_again : (place : ℕ) (most : ℕ × ℕ) (edges : List (ℕ × ℕ)) (rest : List ℕ) → most.0 < 2 ^ 32 → most.1 < 2 ^ 32 → AreEdges most edges →
+pub edges_again : (place : ℕ) (most : ℕ × ℕ) (edges : List (ℕ × ℕ)) (rest : List ℕ) → most.0 < 2 ^ 32 →
+    most.1 < 2 ^ 32 → AreEdges most edges →
     edges_at most (edges_text edges ++ rest) ≡ Ok (edges, rest)
 unfolding edges_at
 edges_again place most edges rest fits_a fits_b h =
     let few = few_edges most edges h in
-    let items = turns_again (edge_at most) follow edge_text (EdgeStands most) (λ s x r stands. edge_again most s x r fits_a fits_b stands)
+    let items = turns_again (edge_at most) follow edge_text (EdgeStands most)
+    (λ s x r stands. edge_again most s x r fits_a fits_b stands)
     (0, 0) edges rest h in
     ap (edges_at most) (append_assoc (number (length edges)) (spelled_in_turn edge_text follow (0, 0) edges) rest)
-    ∙ rw (number_again REDUCED (length edges) (spelled_in_turn edge_text follow (0, 0) edges ++ rest) (omega arith)) items
+    ∙ rw (number_again REDUCED (length edges) (spelled_in_turn edge_text follow (0, 0) edges ++ rest) (omega arith))
+    items
 
 -- ---- a vector
 
@@ -132,7 +153,8 @@ rise-least n s some = elim (cases_lt 1 n) [
 
 stride-least : (n s : ℕ) → (n ≤ 1 → s ≡ 0) → s ≤ (n - 1) * s
 stride-least n s none = elim (cases_lt 1 n) [
-  | inl more ↦ let least : 1 ≤ n - 1 = omega arith in let up = mul-le-mul_left {m = 1} {n = n - 1} s least in omega arith
+  | inl more ↦ let least : 1 ≤ n - 1 = omega arith in let up = mul-le-mul_left {m = 1} {n = n - 1} s least in
+      omega arith
   | inr one ↦ let zero_is = none one in omega arith
 ]
 
@@ -154,7 +176,15 @@ vector_small most last v h =
     let first = h.source_rises in
     let end_a = h.source_most in
     let end_b = h.target_most in
-    record { reaches = omega arith; n = omega arith; a0 = omega arith; b0 = omega arith; sa = omega arith; sb = omega arith }
+    record {
+      reaches = omega arith;
+      n = omega arith;
+      a0 = omega arith;
+      b0 = omega arith;
+      sa = omega arith;
+      sb =
+          omega arith;
+    }
 
 -- strides stand between positions alone
 record StridesStand (v : StrideVector) : Type 0 where
@@ -173,7 +203,12 @@ strides-true v e = elim (cases_lt 1 v.n) [
       let b = both.1 in
       let sa : 1 ≤ v.sa = grind (arith, nat_tests) in
       let sb : 1 ≤ v.sb = grind (arith, nat_tests) in
-      record { source_stride = λ h. sa; target_stride = λ h. sb; no_source_stride = λ h. absurd (omega arith); no_target_stride = λ h. absurd (omega arith) }
+      record {
+        source_stride = λ h. sa;
+        target_stride = λ h. sb;
+        no_source_stride = λ h. absurd (omega arith);
+        no_target_stride = λ h. absurd (omega arith);
+      }
   | inr one ↦
       let t : nat_lt 1 v.n ≡ false = grind (arith, nat_tests) in
       let f : nat_eq v.sa 0 && nat_eq v.sb 0 ≡ true = rw t at e in
@@ -182,7 +217,13 @@ strides-true v e = elim (cases_lt 1 v.n) [
       let b = both.1 in
       let sa : v.sa ≡ 0 = grind (arith, nat_tests) in
       let sb : v.sb ≡ 0 = grind (arith, nat_tests) in
-      record { source_stride = λ h. absurd (omega arith); target_stride = λ h. absurd (omega arith); no_source_stride = λ h. sa; no_target_stride = λ h. sb }
+      record {
+        source_stride = λ h. absurd (omega arith);
+        target_stride = λ h. absurd (omega arith);
+        no_source_stride =
+            λ h. sa;
+        no_target_stride = λ h. sb;
+      }
 ]
 
 true-strides : (v : StrideVector) → StridesStand v → strides_stand v ≡ true
@@ -208,7 +249,8 @@ vector-true most last v e =
     let p = and_parts (nat_le 1 v.n && strides_stand v) ((nat_lt last.0 v.a0 && nat_lt last.1 v.b0)
     && (nat_le (last_of v).0 most.0 && nat_le (last_of v).1 most.1)) e in
     let q = and_parts (nat_le 1 v.n) (strides_stand v) p.0 in
-    let r = and_parts (nat_lt last.0 v.a0 && nat_lt last.1 v.b0) (nat_le (last_of v).0 most.0 && nat_le (last_of v).1 most.1) p.1 in
+    let r = and_parts (nat_lt last.0 v.a0 && nat_lt last.1 v.b0)
+    (nat_le (last_of v).0 most.0 && nat_le (last_of v).1 most.1) p.1 in
     let s = and_parts (nat_lt last.0 v.a0) (nat_lt last.1 v.b0) r.0 in
     let t = and_parts (nat_le (last_of v).0 most.0) (nat_le (last_of v).1 most.1) r.1 in
     let strides = strides-true v q.1 in
@@ -227,7 +269,8 @@ vector-true most last v e =
 
 pub true-vector : (most last : ℕ × ℕ) (v : StrideVector) → VectorStands most last v → vector_stands most last v ≡ true
 true-vector most last v h =
-    let h0 = h.some in let h1 = h.source_rises in let h2 = h.target_rises in let h3 = h.source_most in let h4 = h.target_most in
+    let h0 = h.some in let h1 = h.source_rises in let h2 = h.target_rises in let h3 = h.source_most in let h4 =
+    h.target_most in
     let a : nat_le 1 v.n ≡ true = grind (arith, nat_tests) in
     let b = true-strides v
     (record {
@@ -243,14 +286,17 @@ true-vector most last v h =
     rw (a, b, c, d, e, f) refl
 
 -- the strides of a vector with n positions
-strides_takes : (n : ℕ) (bytes : List ℕ) (sa sb : ℕ) (rest : List ℕ) → IsBytes bytes → strides_at n bytes ≡ Ok (sa, sb, rest) →
+strides_takes : (n : ℕ) (bytes : List ℕ) (sa sb : ℕ) (rest : List ℕ) → IsBytes bytes →
+    strides_at n bytes ≡ Ok (sa, sb, rest) →
     Takes bytes (cond (nat_lt 1 n) (number sa ++ number sb) []) rest
 unfolding strides_at
 strides_takes n bytes sa sb rest are e = by (nat_lt 1 n) e
   where
-    by : (t : Bool) → cond t (two_strides bytes) (Ok (0, 0, bytes)) ≡ Ok (sa, sb, rest) → Takes bytes (cond t (number sa ++ number sb) []) rest
+    by : (t : Bool) → cond t (two_strides bytes) (Ok (0, 0, bytes)) ≡ Ok (sa, sb, rest) →
+        Takes bytes (cond t (number sa ++ number sb) []) rest
     by true f =
-        let a = bind_ok (number_at REGULATED bytes) (λ a. number_at REGULATED a.1 >>= λ b. Ok (a.0, b.0, b.1)) (sa, sb, rest) f in
+        let a = bind_ok (number_at REGULATED bytes) (λ a. number_at REGULATED a.1 >>= λ b. Ok (a.0, b.0, b.1))
+        (sa, sb, rest) f in
         let b = bind_ok (number_at REGULATED a.0.1) (λ b. Ok (a.0.0, b.0, b.1)) (sa, sb, rest) a.2 in
         let ta = number_takes REGULATED bytes a.0.0 a.0.1 are a.1 in
         let tb = number_takes REGULATED a.0.1 b.0.0 b.0.1 ta.0.rest_fits b.1 in
@@ -261,7 +307,8 @@ strides_takes n bytes sa sb rest are e = by (nat_lt 1 n) e
         let none : ℕ × ℕ × List ℕ = (0, 0, bytes) in
         subst (λ (y : ℕ × ℕ × List ℕ). Takes bytes [] y.2) (ok_is none (sa, sb, rest) f) (Takes-none bytes are)
 
-strides_again : (v : StrideVector) (rest : List ℕ) → v.sa < 2 ^ 32 → v.sb < 2 ^ 32 → StridesStand v → strides_at v.n (strides_text v ++ rest)
+strides_again : (v : StrideVector) (rest : List ℕ) → v.sa < 2 ^ 32 → v.sb < 2 ^ 32 → StridesStand v →
+    strides_at v.n (strides_text v ++ rest)
     ≡ Ok (v.sa, v.sb, rest)
 unfolding strides_at
 strides_again v rest fits_a fits_b h = elim (cases_lt 1 v.n) [
@@ -275,7 +322,9 @@ strides_again v rest fits_a fits_b h = elim (cases_lt 1 v.n) [
 ]
 
 abbrev after_b : ℕ × ℕ → ℕ × ℕ → ℕ → ℕ → ℕ × List ℕ → Result (StrideVector × List ℕ) ℕ
-after_b most last n a b = strides_at n b.1 >>= λ strides. standing most last (record { n = n; a0 = a; b0 = b.0; sa = strides.0; sb = strides.1 }) strides.2
+after_b most last n a b =
+    strides_at n b.1 >>= λ strides. standing most last
+    (record { n = n; a0 = a; b0 = b.0; sa = strides.0; sb = strides.1 }) strides.2
 
 abbrev after_a : ℕ × ℕ → ℕ × ℕ → ℕ → ℕ × List ℕ → Result (StrideVector × List ℕ) ℕ
 after_a most last n a = number_at REGULATED a.1 >>= λ b. after_b most last n a.0 b
@@ -283,7 +332,8 @@ after_a most last n a = number_at REGULATED a.1 >>= λ b. after_b most last n a.
 abbrev after_n : ℕ × ℕ → ℕ × ℕ → ℕ × List ℕ → Result (StrideVector × List ℕ) ℕ
 after_n most last n = number_at REGULATED n.1 >>= λ a. after_a most last n.0 a
 
-vector_takes : (most last : ℕ × ℕ) (bytes : List ℕ) (v : StrideVector) (rest : List ℕ) → IsBytes bytes → vector_at most last bytes ≡ Ok (v, rest) →
+vector_takes : (most last : ℕ × ℕ) (bytes : List ℕ) (v : StrideVector) (rest : List ℕ) → IsBytes bytes →
+    vector_at most last bytes ≡ Ok (v, rest) →
     Takes bytes (vector_text v) rest × VectorStands most last v
 unfolding vector_at
 vector_takes most last bytes v rest are h =
@@ -291,7 +341,8 @@ vector_takes most last bytes v rest are h =
     let a = bind_ok (number_at REGULATED n.0.1) (after_a most last n.0.0) (v, rest) n.2 in
     let b = bind_ok (number_at REGULATED a.0.1) (after_b most last n.0.0 a.0.0) (v, rest) a.2 in
     let s = bind_ok (strides_at n.0.0 b.0.1)
-    (λ strides. standing most last (record { n = n.0.0; a0 = a.0.0; b0 = b.0.0; sa = strides.0; sb = strides.1 }) strides.2) (v, rest) b.2 in
+    (λ strides. standing most last (record { n = n.0.0; a0 = a.0.0; b0 = b.0.0; sa = strides.0; sb = strides.1 })
+    strides.2) (v, rest) b.2 in
     let made : StrideVector = record { n = n.0.0; a0 = a.0.0; b0 = b.0.0; sa = s.0.0; sb = s.0.1 } in
     let g = guard_ok (vector_stands most last made) REGULATED (made, s.0.2) (v, rest) s.2 in
     let tn = number_takes REGULATED bytes n.0.0 n.0.1 are n.1 in
@@ -300,15 +351,19 @@ vector_takes most last bytes v rest are h =
     let ts = strides_takes n.0.0 b.0.1 s.0.0 s.0.1 s.0.2 tb.0.rest_fits s.1 in
     let t1 = Takes-then a.0.1 (number b.0.0) b.0.1 (strides_text made) s.0.2 tb.0 ts in
     let t2 = Takes-then n.0.1 (number a.0.0) a.0.1 (number b.0.0 ++ strides_text made) s.0.2 ta.0 t1 in
-    let t3 = Takes-then bytes (number n.0.0) n.0.1 (number a.0.0 ++ (number b.0.0 ++ strides_text made)) s.0.2 tn.0 t2 in
-    subst (λ (y : StrideVector × List ℕ). Takes bytes (vector_text y.0) y.1 × VectorStands most last y.0) g.1 (t3, vector-true most last made g.0)
+    let t3 = Takes-then bytes (number n.0.0) n.0.1 (number a.0.0 ++ (number b.0.0 ++ strides_text made)) s.0.2 tn.0 t2
+    in
+    subst (λ (y : StrideVector × List ℕ). Takes bytes (vector_text y.0) y.1 × VectorStands most last y.0) g.1
+    (t3, vector-true most last made g.0)
 
-vector_again : (most last : ℕ × ℕ) (v : StrideVector) (rest : List ℕ) → most.0 < 2 ^ 32 → most.1 < 2 ^ 32 → VectorStands most last v →
+vector_again : (most last : ℕ × ℕ) (v : StrideVector) (rest : List ℕ) → most.0 < 2 ^ 32 → most.1 < 2 ^ 32 →
+    VectorStands most last v →
     vector_at most last (vector_text v ++ rest) ≡ Ok (v, rest)
 unfolding vector_at
 vector_again most last v rest fits_a fits_b h =
     let small = vector_small most last v h in
-    let n_small = small.n in let a_small = small.a0 in let b_small = small.b0 in let sa_small = small.sa in let sb_small = small.sb in
+    let n_small = small.n in let a_small = small.a0 in let b_small = small.b0 in let sa_small = small.sa in
+    let sb_small = small.sb in
     let strides = strides_again v rest (omega arith) (omega arith)
     (record {
       source_stride = h.source_stride;
@@ -316,7 +371,8 @@ vector_again most last v rest fits_a fits_b h =
       no_source_stride = h.no_source_stride;
       no_target_stride = h.no_target_stride;
     }) in
-    let regrouped : vector_text v ++ rest ≡ number v.n ++ (number v.a0 ++ (number v.b0 ++ (strides_text v ++ rest))) = simp append_assoc in
+    let regrouped : vector_text v ++ rest ≡ number v.n ++ (number v.a0 ++ (number v.b0 ++ (strides_text v ++ rest))) =
+    simp append_assoc in
     let n = number_again REGULATED v.n (number v.a0 ++ (number v.b0 ++ (strides_text v ++ rest))) (omega arith) in
     let a = number_again REGULATED v.a0 (number v.b0 ++ (strides_text v ++ rest)) (omega arith) in
     let b = number_again REGULATED v.b0 (strides_text v ++ rest) (omega arith) in
@@ -325,7 +381,8 @@ vector_again most last v rest fits_a fits_b h =
 -- ---- the vectors of a pair
 
 -- rising positions leave room for no more of them than the total
-positions-few : (most last : ℕ × ℕ) (vectors : List StrideVector) → last.0 ≤ most.0 → StandInTurn (VectorStands most) end_of last vectors →
+positions-few : (most last : ℕ × ℕ) (vectors : List StrideVector) → last.0 ≤ most.0 →
+    StandInTurn (VectorStands most) end_of last vectors →
     last.0 + sum_by (λ v. v.n) vectors ≤ most.0
 positions-few most last [] le h = omega arith
 positions-few most last (v ∷ vectors) le h =
@@ -333,7 +390,8 @@ positions-few most last (v ∷ vectors) le h =
     let rest = positions-few most (last_of v) vectors h.0.source_most h.1 in
     rw (sum_by-cons (λ (w : StrideVector). w.n) v vectors) (omega arith)
 
-pub few_positions : (most : ℕ × ℕ) (vectors : List StrideVector) → AreVectors most vectors → sum_by (λ v. v.n) vectors ≤ most.0
+pub few_positions : (most : ℕ × ℕ) (vectors : List StrideVector) → AreVectors most vectors →
+    sum_by (λ v. v.n) vectors ≤ most.0
 few_positions most vectors h = let few = positions-few most (0, 0) vectors (omega arith) h in omega arith
 
 vectors-few : (most last : ℕ × ℕ) (vectors : List StrideVector) → StandInTurn (VectorStands most) end_of last vectors →
@@ -350,24 +408,35 @@ few_vectors most vectors h =
     let less = vectors-few most (0, 0) vectors h in
     omega arith
 
-pub vectors_take : (place : ℕ) (most : ℕ × ℕ) (bytes : List ℕ) (vectors : List StrideVector) (rest : List ℕ) → IsBytes bytes →
+pub vectors_take : (place : ℕ) (most : ℕ × ℕ) (bytes : List ℕ) (vectors : List StrideVector) (rest : List ℕ) →
+    IsBytes bytes →
     vectors_at most bytes ≡ Ok (vectors, rest) → Takes bytes (vectors_text vectors) rest × AreVectors most vectors
 unfolding vectors_at
 vectors_take place most bytes vectors rest are h =
-    let p = bind_ok (number_at REGULATED bytes) (λ count. read_in_turn (vector_at most) end_of count.0 (0, 0) count.1) (vectors, rest) h in
+    let p = bind_ok (number_at REGULATED bytes) (λ count. read_in_turn (vector_at most) end_of count.0 (0, 0) count.1)
+    (vectors, rest) h in
     let n = p.0 in
     let t = number_takes REGULATED bytes n.0 n.1 are p.1 in
-    let items = turns_take (vector_at most) end_of (alike vector_text) (VectorStands most) (λ s b x r. vector_takes most s b x r) n.0
+    let items = turns_take (vector_at most) end_of (alike vector_text) (VectorStands most)
+    (λ s b x r. vector_takes most s b x r) n.0
     (0, 0) n.1 vectors rest t.0.rest_fits p.2 in
-    let both = Takes-then bytes (number n.0) n.1 (spelled_in_turn (alike vector_text) end_of (0, 0) vectors) rest t.0 items.0 in
-    (subst (λ (k : ℕ). Takes bytes (number k ++ spelled_in_turn (alike vector_text) end_of (0, 0) vectors) rest) (sym items.1) both, items.2)
+    let both = Takes-then bytes (number n.0) n.1 (spelled_in_turn (alike vector_text) end_of (0, 0) vectors) rest t.0
+    items.0 in (
+      subst (λ (k : ℕ). Takes bytes (number k ++ spelled_in_turn (alike vector_text) end_of (0, 0) vectors) rest)
+          (sym items.1) both,
+      items.2,
+    )
 
-pub vectors_again : (place : ℕ) (most : ℕ × ℕ) (vectors : List StrideVector) (rest : List ℕ) → most.0 < 2 ^ 32 → most.1 < 2 ^ 32 → AreVectors most vectors →
+pub vectors_again : (place : ℕ) (most : ℕ × ℕ) (vectors : List StrideVector) (rest : List ℕ) → most.0 < 2 ^ 32 →
+    most.1 < 2 ^ 32 → AreVectors most vectors →
     vectors_at most (vectors_text vectors ++ rest) ≡ Ok (vectors, rest)
 unfolding vectors_at
 vectors_again place most vectors rest fits_a fits_b h =
     let few = few_vectors most vectors h in
-    let items = turns_again (vector_at most) end_of (alike vector_text) (VectorStands most) (λ s x r stands. vector_again most s x r fits_a fits_b stands)
+    let items = turns_again (vector_at most) end_of (alike vector_text) (VectorStands most)
+    (λ s x r stands. vector_again most s x r fits_a fits_b stands)
     (0, 0) vectors rest h in
-    ap (vectors_at most) (append_assoc (number (length vectors)) (spelled_in_turn (alike vector_text) end_of (0, 0) vectors) rest)
-    ∙ rw (number_again REGULATED (length vectors) (spelled_in_turn (alike vector_text) end_of (0, 0) vectors ++ rest) (omega arith)) items
+    ap (vectors_at most) (append_assoc (number (length vectors))
+    (spelled_in_turn (alike vector_text) end_of (0, 0) vectors) rest)
+    ∙ rw (number_again REGULATED (length vectors) (spelled_in_turn (alike vector_text) end_of (0, 0) vectors ++ rest)
+    (omega arith)) items

@@ -1,5 +1,6 @@
 -- The next edge in order is the first of those that the cores have next, and what is left is merged_edges the same way.
-use Rattle.std.proofs.Common.{◌≡◌, ◌≢◌, ℕ, zero, suc, ◌+◌, ◌<◌, ◌≤◌, inl, inr, true, false, ◌==◌, List, [], ◌∷◌, ◌++◌, length, map}
+use Rattle.std.proofs.Common.{◌≡◌, ◌≢◌, ℕ, zero, suc, ◌+◌, ◌<◌, ◌≤◌, inl, inr, true, false, ◌==◌, List, [], ◌∷◌, ◌++◌}
+use Rattle.std.proofs.Common.{length, map}
 use Rattle.std.proofs.Common.{drop, set, Option, Some, None, refl, sym, ap, subst, ◌∙◌, arith}
 use Rattle.std.specs.Prelude.{slice_get, slice_index}
 use Rattle.std.specs.List.{AllByRecursion, flat_map, range_with_len}
@@ -9,9 +10,11 @@ use Rattle.std.proofs.lemmas.List.{drop-drop, length-append, length-map, length-
 use Rattle.rtr_types.specs.declared.TheConstants.{CORES_MAX}
 use Rattle.log_codec.specs.declared.incoming.Incoming.{Incoming}
 use Rattle.log_codec.specs.declared.merging.TheConstants.{PAST}
-use Rattle.log_codec.specs.Incoming.{AreFronts, Follows, IsFirst, IsFront, IsLeast, Keeps, edges_out_of, from_source, incoming, is_earlier}
+use Rattle.log_codec.specs.Incoming.{AreFronts, Follows, IsFirst, IsFront, IsLeast, Keeps, edges_out_of, from_source}
+use Rattle.log_codec.specs.Incoming.{incoming, is_earlier}
 use Rattle.log_codec.specs.Incoming.{last_target, left, merged_edges, newest, target_of}
-use Rattle.log_codec.proofs.Merges.{Merges, Reaches, Rises, Sorted, all-map, else-reaches, from_same, from_other, merge-is, merged-merges}
+use Rattle.log_codec.proofs.Merges.{Merges, Reaches, Rises, Sorted, all-map, else-reaches, from_same, from_other}
+use Rattle.log_codec.proofs.Merges.{merge-is, merged-merges}
 use Rattle.log_codec.proofs.Ordered.{all-from}
 
 -- ---- the first of the next ones
@@ -25,7 +28,8 @@ pub record LeastAmong (n : ℕ) (fronts : List ℕ) (least first : ℕ) : Type 0
   pub before : least < PAST → (other : ℕ) → other < first → least < slice_index fronts other
 
 -- the front of a list that has an edge left
-front-some : (next : Option (ℕ × ℕ)) (counts : ℕ × ℕ) (front : ℕ) → IsFront next front → next ≡ Some counts → (front ≡ counts.1) × (front < PAST)
+front-some : (next : Option (ℕ × ℕ)) (counts : ℕ × ℕ) (front : ℕ) → IsFront next front → next ≡ Some counts →
+    (front ≡ counts.1) × (front < PAST)
 front-some next counts front h is = subst (λ (o : Option (ℕ × ℕ)). IsFront o front) is h
 
 never-earlier : (d e : Incoming) → Reaches e d → is_earlier d e ≡ false
@@ -35,13 +39,16 @@ never-earlier d e r = let rc = r.count in let core = r.core in elim (cases_eq d.
 ]
 
 -- the next edge of the first core whose front is the least
-pub first-is : (cores : ℕ) (lists : ℕ → List (ℕ × ℕ)) (fronts : List ℕ) (source : ℕ) (counts : ℕ × ℕ) → AreFronts cores lists fronts →
-    IsLeast cores fronts source → slice_get (lists source) 0 ≡ Some counts → IsFirst cores lists (incoming source counts)
+pub first-is : (cores : ℕ) (lists : ℕ → List (ℕ × ℕ)) (fronts : List ℕ) (source : ℕ) (counts : ℕ × ℕ) →
+    AreFronts cores lists fronts →
+    IsLeast cores fronts source → slice_get (lists source) 0 ≡ Some counts →
+    IsFirst cores lists (incoming source counts)
 first-is cores lists fronts source counts f l own = record {
   inside = l.inside;
   own = own;
   first = λ other others lt is.
-      let mine = front-some (slice_get (lists source) 0) counts (slice_index fronts source) (f.each source l.inside) own in
+      let mine = front-some (slice_get (lists source) 0) counts (slice_index fronts source) (f.each source l.inside) own
+      in
       let theirs = front-some (slice_get (lists other) 0) others (slice_index fronts other) (f.each other lt) is in
       let le = l.least other lt in
       never-earlier (incoming other others) (incoming source counts) (record {
@@ -70,15 +77,19 @@ rises-drop (suc n) [] h = tt
 rises-drop (suc n) (c ∷ counts) h = rises-drop n counts h.1
 
 -- the first edge, and then the merge of the lists without it
-pub merge-step : (cores : ℕ) (lists rest : ℕ → List (ℕ × ℕ)) (e : Incoming) → ((i : ℕ) → i < cores → Rises (lists i)) → IsFirst cores lists e
-    → ((i : ℕ) → i < cores → i ≢ e.source → rest i ≡ lists i) → rest e.source ≡ drop 1 (lists e.source) → merged_edges cores lists ≡ e ∷ merged_edges cores rest
+pub merge-step : (cores : ℕ) (lists rest : ℕ → List (ℕ × ℕ)) (e : Incoming) → ((i : ℕ) → i < cores → Rises (lists i)) →
+    IsFirst cores lists e
+    → ((i : ℕ) → i < cores → i ≢ e.source → rest i ≡ lists i) → rest e.source ≡ drop 1 (lists e.source) →
+    merged_edges cores lists ≡ e ∷ merged_edges cores rest
 unfolding Sorted Rises
 merge-step cores lists rest e rise f others own =
-    sym (merge-is cores lists (e ∷ merged_edges cores rest) rise (record { sorted = (reached, m.sorted); own = λ i lt. owned i lt; none = λ i le. past i le }))
+    sym (merge-is cores lists (e ∷ merged_edges cores rest) rise
+    (record { sorted = (reached, m.sorted); own = λ i lt. owned i lt; none = λ i le. past i le }))
   where
     rises : (i : ℕ) → i < cores → Rises (rest i)
     rises i lt = elim (cases_eq i e.source) [
-      | inl is ↦ subst (λ (k : ℕ). Rises (rest k)) (sym is) (subst Rises (sym own) (rises-drop 1 (lists e.source) (rise e.source f.inside)))
+      | inl is ↦ subst (λ (k : ℕ). Rises (rest k)) (sym is)
+          (subst Rises (sym own) (rises-drop 1 (lists e.source) (rise e.source f.inside)))
       | inr not ↦ subst Rises (sym (others i lt not)) (rise i lt)
     ]
 
@@ -86,7 +97,8 @@ merge-step cores lists rest e rise f others own =
     m = merged-merges cores rest rises
 
     -- all of a core's edges, if the edge isn't after its next one
-    all-reached : (i : ℕ) (counts : List (ℕ × ℕ)) → Rises counts → ((c : ℕ × ℕ) → slice_get counts 0 ≡ Some c → Reaches e (incoming i c)) →
+    all-reached : (i : ℕ) (counts : List (ℕ × ℕ)) → Rises counts →
+        ((c : ℕ × ℕ) → slice_get counts 0 ≡ Some c → Reaches e (incoming i c)) →
         AllByRecursion (λ c. Reaches e (incoming i c)) counts
     all-reached i [] h one = tt
     all-reached i (c ∷ counts) h one =
@@ -97,7 +109,8 @@ merge-step cores lists rest e rise f others own =
               (λ d up. record { count = omega arith; core = λ same. absurd (omega arith) }) counts h.0,
         )
 
-    own-reached : (counts : List (ℕ × ℕ)) → Rises (e.counts ∷ counts) → AllByRecursion (λ c. Reaches e (incoming e.source c)) counts
+    own-reached : (counts : List (ℕ × ℕ)) → Rises (e.counts ∷ counts) →
+        AllByRecursion (λ c. Reaches e (incoming e.source c)) counts
     own-reached counts h =
         all-map (λ (d : ℕ × ℕ). e.counts.1 < d.1) (λ d. Reaches e (incoming e.source d))
         (λ d up. record { count = omega arith; core = λ same. absurd (omega arith) }) counts h.0
@@ -105,7 +118,8 @@ merge-step cores lists rest e rise f others own =
     from-each : (i : ℕ) → i < cores → AllByRecursion (λ c. Reaches e (incoming i c)) (rest i)
     from-each i lt = elim (cases_eq i e.source) [
       | inl is ↦
-          let all = own-reached (drop 1 (lists e.source)) (subst Rises (first-of (lists e.source) e.counts f.own) (rise e.source f.inside)) in
+          let all = own-reached (drop 1 (lists e.source))
+          (subst Rises (first-of (lists e.source) e.counts f.own) (rise e.source f.inside)) in
           subst (λ (k : ℕ). AllByRecursion (λ c. Reaches e (incoming k c)) (rest k)) (sym is)
           (subst (AllByRecursion (λ c. Reaches e (incoming e.source c))) (sym own) all)
       | inr not ↦
@@ -132,7 +146,8 @@ merge-step cores lists rest e rise f others own =
     past i le = let lt = f.inside in from_other i e (merged_edges cores rest) (λ is. omega arith) ∙ m.none i le
 
 -- no edge is left
-pub merge-none : (cores : ℕ) (lists : ℕ → List (ℕ × ℕ)) → ((source : ℕ) → source < cores → slice_get (lists source) 0 ≡ None) → merged_edges cores lists ≡ []
+pub merge-none : (cores : ℕ) (lists : ℕ → List (ℕ × ℕ)) →
+    ((source : ℕ) → source < cores → slice_get (lists source) 0 ≡ None) → merged_edges cores lists ≡ []
 unfolding Sorted Rises
 merge-none cores lists none =
     sym (merge-is cores lists [] (λ i lt. subst Rises (sym (none-of (lists i) (none i lt))) tt)
@@ -149,45 +164,58 @@ next-at (c ∷ counts) (suc n) = next-at counts n
 
 pub left-own : (cores : ℕ) (reduced : List (List (ℕ × ℕ))) (target : ℕ) (next : List ℕ) (i : ℕ) → i < length next →
     left cores reduced target (set next i (slice_index next i + 1)) i ≡ drop 1 (left cores reduced target next i)
-left-own cores reduced target next i lt = ap (λ (n : ℕ). drop n (edges_out_of cores reduced target i)) (get_or-set_same next i (slice_index next i + 1) 0 lt)
+left-own cores reduced target next i lt =
+    ap (λ (n : ℕ). drop n (edges_out_of cores reduced target i)) (get_or-set_same next i (slice_index next i + 1) 0 lt)
     ∙ sym (drop-drop 1 (slice_index next i) (edges_out_of cores reduced target i))
 
-pub left-other : (cores : ℕ) (reduced : List (List (ℕ × ℕ))) (target : ℕ) (next : List ℕ) (i n k : ℕ) → k ≢ i → left cores reduced target (set next i n) k
+pub left-other : (cores : ℕ) (reduced : List (List (ℕ × ℕ))) (target : ℕ) (next : List ℕ) (i n k : ℕ) → k ≢ i →
+    left cores reduced target (set next i n) k
     ≡ left cores reduced target next k
-left-other cores reduced target next i n k not = ap (λ (m : ℕ). drop m (edges_out_of cores reduced target k)) (get_or-set_other next i k n 0 not)
+left-other cores reduced target next i n k not =
+    ap (λ (m : ℕ). drop m (edges_out_of cores reduced target k)) (get_or-set_other next i k n 0 not)
 
 -- ---- the fronts
 
 -- the front at a place of a list is that of what is left from there on
-pub front-left : (counts : List (ℕ × ℕ)) (n front : ℕ) → IsFront (slice_get counts n) front → IsFront (slice_get (drop n counts) 0) front
+pub front-left : (counts : List (ℕ × ℕ)) (n front : ℕ) → IsFront (slice_get counts n) front →
+    IsFront (slice_get (drop n counts) 0) front
 front-left counts n front h = subst (λ (o : Option (ℕ × ℕ)). IsFront o front) (sym (next-at counts n)) h
 
 -- the fronts where a core's next edge is at another place
-pub fronts-step : (cores : ℕ) (reduced : List (List (ℕ × ℕ))) (target : ℕ) (next fronts : List ℕ) (i n front : ℕ) → cores ≤ CORES_MAX → i < cores →
-    AreFronts cores (left cores reduced target next) fronts → IsFront (slice_get (edges_out_of cores reduced target i) (slice_index (set next i n) i)) front
+pub fronts-step : (cores : ℕ) (reduced : List (List (ℕ × ℕ))) (target : ℕ) (next fronts : List ℕ) (i n front : ℕ) →
+    cores ≤ CORES_MAX → i < cores →
+    AreFronts cores (left cores reduced target next) fronts →
+    IsFront (slice_get (edges_out_of cores reduced target i) (slice_index (set next i n) i)) front
     → AreFronts cores (left cores reduced target (set next i n)) (set fronts i front)
 fronts-step cores reduced target next fronts i n front few inside h is = record {
   places = length-set fronts i front ∙ h.places;
   each = λ source lt. elim (cases_eq source i) [
     | inl same ↦
-        let own : slice_index (set fronts i front) i ≡ front = get_or-set_same fronts i front 0 (let places = h.places in omega arith) in
-        subst (λ (k : ℕ). IsFront (slice_get (left cores reduced target (set next i n) k) 0) (slice_index (set fronts i front) k)) (sym same)
+        let own : slice_index (set fronts i front) i ≡ front =
+        get_or-set_same fronts i front 0 (let places = h.places in omega arith) in
+        subst (λ (k : ℕ). IsFront (slice_get (left cores reduced target (set next i n) k) 0)
+        (slice_index (set fronts i front) k)) (sym same)
         (subst (IsFront (slice_get (left cores reduced target (set next i n) i) 0)) (sym own)
         (front-left (edges_out_of cores reduced target i) (slice_index (set next i n) i) front is))
     | inr not ↦
-        subst (IsFront (slice_get (left cores reduced target (set next i n) source) 0)) (sym (get_or-set_other fronts i source front 0 not))
-        (subst (λ (l : List (ℕ × ℕ)). IsFront (slice_get l 0) (slice_index fronts source)) (sym (left-other cores reduced target next i n source not))
+        subst (IsFront (slice_get (left cores reduced target (set next i n) source) 0))
+        (sym (get_or-set_other fronts i source front 0 not))
+        (subst (λ (l : List (ℕ × ℕ)). IsFront (slice_get l 0) (slice_index fronts source))
+        (sym (left-other cores reduced target next i n source not))
         (h.each source lt))
   ];
 }
 
 -- ---- what is kept
 
-pub keeps-none : (counts : List ℕ) → length counts ≡ CORES_MAX → ((k : ℕ) → k < CORES_MAX → slice_index counts k ≡ 0) → Keeps None counts []
+pub keeps-none : (counts : List ℕ) → length counts ≡ CORES_MAX → ((k : ℕ) → k < CORES_MAX → slice_index counts k ≡ 0) →
+    Keeps None counts []
 keeps-none counts long zeros = record { newest_is = refl; count_is = zeros; places = long }
 
-pub keeps-more : (last : Option Incoming) (counts : List ℕ) (before : List Incoming) (e : Incoming) (kept : List ℕ) → e.source < CORES_MAX →
-    Keeps last counts before → kept ≡ set counts e.source e.counts.0 → length kept ≡ CORES_MAX → Keeps (Some e) kept (e ∷ before)
+pub keeps-more : (last : Option Incoming) (counts : List ℕ) (before : List Incoming) (e : Incoming) (kept : List ℕ) →
+    e.source < CORES_MAX →
+    Keeps last counts before → kept ≡ set counts e.source e.counts.0 → length kept ≡ CORES_MAX →
+    Keeps (Some e) kept (e ∷ before)
 keeps-more last counts before e kept inside h is long = record {
   newest_is = refl;
   count_is = λ k lt. elim (cases_eq e.source k) [
@@ -199,12 +227,14 @@ keeps-more last counts before e kept inside h is long = record {
         ap (λ (l : List ℕ). slice_index l k) is ∙ there ∙ rw t refl
     | inr not ↦
         let t : (e.source == k) ≡ false = grind (arith, nat_tests) in
-        ap (λ (l : List ℕ). slice_index l k) is ∙ get_or-set_other counts e.source k e.counts.0 0 (λ same. not (sym same)) ∙ h.count_is k lt ∙ rw t refl
+        ap (λ (l : List ℕ). slice_index l k) is
+        ∙ get_or-set_other counts e.source k e.counts.0 0 (λ same. not (sym same)) ∙ h.count_is k lt ∙ rw t refl
   ];
   places = long;
 }
 
-pub target-is : (last : Option Incoming) (before : List Incoming) → last ≡ newest before → target_of last ≡ last_target before
+pub target-is : (last : Option Incoming) (before : List Incoming) → last ≡ newest before →
+    target_of last ≡ last_target before
 target-is last [] is = ap target_of is
 target-is last (d ∷ before) is = ap target_of is
 
@@ -219,7 +249,8 @@ target-reached (d ∷ before) e (inr same) = let is = same.0 in omega arith
 abbrev pub joined_from : (ℕ → List (ℕ × ℕ)) → (s n : ℕ) → List Incoming
 joined_from lists s n = flat_map (λ k. map (incoming k) (lists k)) (range_with_len s n)
 
-pub length-more : (lists : ℕ → List (ℕ × ℕ)) (s n k : ℕ) → s + n ≡ k → length (joined_from lists s (n + 1)) ≡ length (joined_from lists s n) + length (lists k)
+pub length-more : (lists : ℕ → List (ℕ × ℕ)) (s n k : ℕ) → s + n ≡ k →
+    length (joined_from lists s (n + 1)) ≡ length (joined_from lists s n) + length (lists k)
 length-more lists s zero k is =
     let one = length-append (map (incoming s) (lists s)) [] in
     let two : length (map (incoming s) (lists s)) ≡ length (lists s) = length-map (lists s) (incoming s) in
@@ -229,16 +260,19 @@ length-more lists s (suc n) k is =
     let one = length-append (map (incoming s) (lists s)) (joined_from lists (s + 1) (n + 1)) in
     let two = length-append (map (incoming s) (lists s)) (joined_from lists (s + 1) n) in
     let rest = length-more lists (s + 1) n k (omega arith) in
-    let same : length (joined_from lists s (suc n + 1)) ≡ length (map (incoming s) (lists s) ++ joined_from lists (s + 1) (n + 1)) =
+    let same : length (joined_from lists s (suc n + 1))
+    ≡ length (map (incoming s) (lists s) ++ joined_from lists (s + 1) (n + 1)) =
     ap (λ (m : ℕ). length (joined_from lists s m)) (suc-more n) in
     omega arith
   where
     suc-more : (m : ℕ) → suc m + 1 ≡ suc (m + 1)
     suc-more m = omega arith
 
-pub length-within : (lists : ℕ → List (ℕ × ℕ)) (s n m : ℕ) → length (joined_from lists s n) ≤ length (joined_from lists s (n + m))
+pub length-within : (lists : ℕ → List (ℕ × ℕ)) (s n m : ℕ) →
+    length (joined_from lists s n) ≤ length (joined_from lists s (n + m))
 length-within lists s n zero =
-    let same : length (joined_from lists s (n + 0)) ≡ length (joined_from lists s n) = ap (λ (k : ℕ). length (joined_from lists s k)) (omega arith) in
+    let same : length (joined_from lists s (n + 0)) ≡ length (joined_from lists s n) =
+    ap (λ (k : ℕ). length (joined_from lists s k)) (omega arith) in
     omega arith
 length-within lists s n (suc m) =
     let more = length-more lists s (n + m) (s + (n + m)) (omega arith) in

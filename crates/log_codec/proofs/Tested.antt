@@ -1,5 +1,6 @@
 -- Validity as a test, and by pair.
-use Rattle.std.proofs.Common.{◌≡◌, ℕ, ◌*◌, ◌≤◌, ◌&&◌, Bool, true, nat_lt, nat_le, nat_eq, List, [], length, get_or, refl, sym, ap, subst, ◌∙◌, arith}
+use Rattle.std.proofs.Common.{◌≡◌, ℕ, ◌*◌, ◌≤◌, ◌&&◌, Bool, true, nat_lt, nat_le, nat_eq, List, [], length, get_or}
+use Rattle.std.proofs.Common.{refl, sym, ap, subst, ◌∙◌, arith}
 use Rattle.std.specs.Prelude.{slice_index}
 use Rattle.std.proofs.lemmas.Bool.Decides.{nat_tests}
 use Rattle.std.proofs.lemmas.Bool.{eqb-true, eq-eqb, leb-true, le-leb, and_parts}
@@ -10,7 +11,8 @@ use Rattle.log_codec.specs.declared.recording.Recording.{Recording}
 use Rattle.rtr_types.specs.Turns.{stand_in_turn, stay, follow, count_up}
 use Rattle.log_codec.specs.Versions.{fits_run}
 use Rattle.rtr_types.specs.PairEdges.{EdgeStands, AreEdges}
-use Rattle.log_codec.specs.Validity.{Valid, is_valid, total_stands, bound_at, edge_stands, are_edges, VectorStands, AreVectors}
+use Rattle.log_codec.specs.Validity.{Valid, is_valid, total_stands, bound_at, edge_stands, are_edges, VectorStands}
+use Rattle.log_codec.specs.Validity.{AreVectors}
 use Rattle.log_codec.specs.Validity.{vector_stands, are_vectors, end_of}
 use Rattle.log_codec.specs.Laws.{ValidTest, EdgesByPair, VectorsByPair}
 use Rattle.log_codec.proofs.InTurn.{stand-true, true-stand, stand-all, all-stand}
@@ -29,8 +31,10 @@ edges_by_pair r from to v pair =
     ap (λ (n : ℕ). source_at n (pair_place r.params.cores from to)) v.each_core ∙ p.1 in
     let target : target_at (length r.totals) (pair_place r.params.cores from to) ≡ to =
     ap (λ (n : ℕ). target_at n (pair_place r.params.cores from to)) v.each_core ∙ p.2 in
-    subst (λ (k : ℕ). AreEdges (slice_index r.totals from, slice_index r.totals k) (get_or r.reduced (pair_place r.params.cores from to) [])) target
-    (subst (λ (k : ℕ). AreEdges (slice_index r.totals k, slice_index r.totals (target_at (length r.totals) (pair_place r.params.cores from to)))
+    subst (λ (k : ℕ). AreEdges (slice_index r.totals from, slice_index r.totals k)
+    (get_or r.reduced (pair_place r.params.cores from to) [])) target
+    (subst (λ (k : ℕ). AreEdges
+    (slice_index r.totals k, slice_index r.totals (target_at (length r.totals) (pair_place r.params.cores from to)))
     (get_or r.reduced (pair_place r.params.cores from to) [])) source are)
 
 pub vectors_by_pair : VectorsByPair
@@ -41,8 +45,10 @@ vectors_by_pair r from to v pair =
     ap (λ (n : ℕ). source_at n (pair_place r.params.cores from to)) v.each_core ∙ p.1 in
     let target : target_at (length r.totals) (pair_place r.params.cores from to) ≡ to =
     ap (λ (n : ℕ). target_at n (pair_place r.params.cores from to)) v.each_core ∙ p.2 in
-    subst (λ (k : ℕ). AreVectors (slice_index r.totals from, slice_index r.totals k) (get_or r.regulated (pair_place r.params.cores from to) [])) target
-    (subst (λ (k : ℕ). AreVectors (slice_index r.totals k, slice_index r.totals (target_at (length r.totals) (pair_place r.params.cores from to)))
+    subst (λ (k : ℕ). AreVectors (slice_index r.totals from, slice_index r.totals k)
+    (get_or r.regulated (pair_place r.params.cores from to) [])) target
+    (subst (λ (k : ℕ). AreVectors
+    (slice_index r.totals k, slice_index r.totals (target_at (length r.totals) (pair_place r.params.cores from to)))
     (get_or r.regulated (pair_place r.params.cores from to) [])) source are)
 
 -- ---- as a test
@@ -75,16 +81,20 @@ true-total : (limit : ℕ) (s : Unit {0}) (t : ℕ) → t ≤ limit → total_st
 true-total limit s t h = grind (arith, nat_tests)
 
 edges-true : (most : ℕ × ℕ) (edges : List (ℕ × ℕ)) → are_edges most edges ≡ true → AreEdges most edges
-edges-true most edges h = stand-true (EdgeStands most) (edge_stands most) follow (λ s x e. edge-true most s x e) (0, 0) edges h
+edges-true most edges h =
+    stand-true (EdgeStands most) (edge_stands most) follow (λ s x e. edge-true most s x e) (0, 0) edges h
 
 true-edges : (most : ℕ × ℕ) (edges : List (ℕ × ℕ)) → AreEdges most edges → are_edges most edges ≡ true
-true-edges most edges h = true-stand (EdgeStands most) (edge_stands most) follow (λ s x e. true-edge most s x e) (0, 0) edges h
+true-edges most edges h =
+    true-stand (EdgeStands most) (edge_stands most) follow (λ s x e. true-edge most s x e) (0, 0) edges h
 
 vectors-true : (most : ℕ × ℕ) (vectors : List StrideVector) → are_vectors most vectors ≡ true → AreVectors most vectors
-vectors-true most vectors h = stand-true (VectorStands most) (vector_stands most) end_of (λ s x e. vector-true most s x e) (0, 0) vectors h
+vectors-true most vectors h =
+    stand-true (VectorStands most) (vector_stands most) end_of (λ s x e. vector-true most s x e) (0, 0) vectors h
 
 true-vectors : (most : ℕ × ℕ) (vectors : List StrideVector) → AreVectors most vectors → are_vectors most vectors ≡ true
-true-vectors most vectors h = true-stand (VectorStands most) (vector_stands most) end_of (λ s x e. true-vector most s x e) (0, 0) vectors h
+true-vectors most vectors h =
+    true-stand (VectorStands most) (vector_stands most) end_of (λ s x e. true-vector most s x e) (0, 0) vectors h
 
 -- the tests of the parts
 abbrev first_test : Recording → Bool
@@ -107,23 +117,29 @@ tested r h =
     let b = and_parts (totals_test r) (reduced_test r && regulated_test r) a.1 in
     let c = and_parts (reduced_test r) (regulated_test r) b.1 in
     let first = and_parts (fits_run r.params) (nat_le (length r.image) (4 * r.params.words)) a.0 in
-    let totals = and_parts (nat_eq (length r.totals) r.params.cores) (stand_in_turn (total_stands r.params.limit) stay tt r.totals) b.0 in
+    let totals = and_parts (nat_eq (length r.totals) r.params.cores)
+    (stand_in_turn (total_stands r.params.limit) stay tt r.totals) b.0 in
     let reduced = and_parts (nat_eq (length r.reduced) (pair_count r.params.cores))
     (stand_in_turn (λ place es. are_edges (bound_at r.totals place) es) count_up 0 r.reduced) c.0 in
     let regulated = and_parts (nat_eq (length r.regulated) (pair_count r.params.cores))
     (stand_in_turn (λ place vs. are_vectors (bound_at r.totals place) vs) count_up 0 r.regulated) c.1 in
     let each = eqb-true (length r.totals) r.params.cores totals.0 in
     let back : pair_count r.params.cores ≡ pair_count (length r.totals) = ap (λ (n : ℕ). pair_count n) (sym each) in
-    let long : length r.reduced ≡ pair_count (length r.totals) = eqb-true (length r.reduced) (pair_count r.params.cores) reduced.0 ∙ back in
-    valid-made r.params r.image r.totals r.reduced r.regulated (run-true r.params first.0) (leb-true (length r.image) (4 * r.params.words) first.1) each
+    let long : length r.reduced ≡ pair_count (length r.totals) =
+    eqb-true (length r.reduced) (pair_count r.params.cores) reduced.0 ∙ back in
+    valid-made r.params r.image r.totals r.reduced r.regulated (run-true r.params first.0)
+    (leb-true (length r.image) (4 * r.params.words) first.1) each
     (stand-all (λ (t : ℕ). t ≤ r.params.limit) r.totals
-    (stand-true (λ (s : Unit {0}) t. t ≤ r.params.limit) (total_stands r.params.limit) stay (total-true r.params.limit) tt r.totals totals.1))
+    (stand-true (λ (s : Unit {0}) t. t ≤ r.params.limit) (total_stands r.params.limit) stay (total-true r.params.limit)
+    tt r.totals totals.1))
     long
     (all-placed r.totals r.reduced long
-    (stand-true (λ place es. AreEdges (bound_at r.totals place) es) (λ place es. are_edges (bound_at r.totals place) es) count_up
+    (stand-true (λ place es. AreEdges (bound_at r.totals place) es) (λ place es. are_edges (bound_at r.totals place) es)
+    count_up
     (λ place es e. edges-true (bound_at r.totals place) es e) 0 r.reduced reduced.1))
     (eqb-true (length r.regulated) (pair_count r.params.cores) regulated.0 ∙ back)
-    (stand-true (λ place vs. AreVectors (bound_at r.totals place) vs) (λ place vs. are_vectors (bound_at r.totals place) vs) count_up
+    (stand-true (λ place vs. AreVectors (bound_at r.totals place) vs)
+    (λ place vs. are_vectors (bound_at r.totals place) vs) count_up
     (λ place vs e. vectors-true (bound_at r.totals place) vs e) 0 r.regulated regulated.1)
 
 passes : (r : Recording) → Valid r → is_valid r ≡ true
@@ -131,21 +147,29 @@ passes r v =
     let a = true-run r.params v.params in
     let b = le-leb (length r.image) (4 * r.params.words) v.image in
     let c = eq-eqb (length r.totals) r.params.cores v.each_core in
-    let d = true-stand (λ (s : Unit {0}) t. t ≤ r.params.limit) (total_stands r.params.limit) stay (true-total r.params.limit) tt r.totals
+    let d = true-stand (λ (s : Unit {0}) t. t ≤ r.params.limit) (total_stands r.params.limit) stay
+    (true-total r.params.limit) tt r.totals
     (all-stand (λ (t : ℕ). t ≤ r.params.limit) r.totals v.totals) in
     let e = eq-eqb (length r.reduced) (pair_count r.params.cores) v.each_reduced in
-    let f = true-stand (λ place es. AreEdges (bound_at r.totals place) es) (λ place es. are_edges (bound_at r.totals place) es) count_up
+    let f = true-stand (λ place es. AreEdges (bound_at r.totals place) es)
+    (λ place es. are_edges (bound_at r.totals place) es) count_up
     (λ place es h. true-edges (bound_at r.totals place) es h) 0 r.reduced
-    (placed-all r.totals r.reduced (v.each_reduced ∙ ap (λ (n : ℕ). pair_count n) (sym v.each_core)) (edges-placed r v)) in
+    (placed-all r.totals r.reduced (v.each_reduced ∙ ap (λ (n : ℕ). pair_count n) (sym v.each_core)) (edges-placed r v))
+    in
     let g = eq-eqb (length r.regulated) (pair_count r.params.cores) v.each_regulated in
-    let h = true-stand (λ place vs. AreVectors (bound_at r.totals place) vs) (λ place vs. are_vectors (bound_at r.totals place) vs) count_up
+    let h = true-stand (λ place vs. AreVectors (bound_at r.totals place) vs)
+    (λ place vs. are_vectors (bound_at r.totals place) vs) count_up
     (λ place vs i. true-vectors (bound_at r.totals place) vs i) 0 r.regulated (vectors-stand r v) in
-    all_true (fits_run r.params) (nat_le (length r.image) (4 * r.params.words)) (nat_eq (length r.totals) r.params.cores)
-    (stand_in_turn (total_stands r.params.limit) stay tt r.totals) (nat_eq (length r.reduced) (pair_count r.params.cores))
-    (stand_in_turn (λ place es. are_edges (bound_at r.totals place) es) count_up 0 r.reduced) (nat_eq (length r.regulated) (pair_count r.params.cores))
+    all_true (fits_run r.params) (nat_le (length r.image) (4 * r.params.words))
+    (nat_eq (length r.totals) r.params.cores)
+    (stand_in_turn (total_stands r.params.limit) stay tt r.totals)
+    (nat_eq (length r.reduced) (pair_count r.params.cores))
+    (stand_in_turn (λ place es. are_edges (bound_at r.totals place) es) count_up 0 r.reduced)
+    (nat_eq (length r.regulated) (pair_count r.params.cores))
     (stand_in_turn (λ place vs. are_vectors (bound_at r.totals place) vs) count_up 0 r.regulated) a b c d e f g h
   where
-    all_true : (a b c d e f g h : Bool) → a ≡ true → b ≡ true → c ≡ true → d ≡ true → e ≡ true → f ≡ true → g ≡ true → h ≡ true →
+    all_true : (a b c d e f g h : Bool) → a ≡ true → b ≡ true → c ≡ true → d ≡ true → e ≡ true → f ≡ true → g ≡ true →
+        h ≡ true →
         (a && b) && ((c && d) && ((e && f) && (g && h))) ≡ true
     all_true a b c d e f g h pa pb pc pd pe pf pg ph = rw (pa, pb, pc, pd, pe, pf, pg, ph) refl
 

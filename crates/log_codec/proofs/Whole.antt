@@ -1,5 +1,6 @@
 -- A recording that is read is the one that is spelled, and what is spelled is read again.
-use Rattle.std.proofs.Common.{◌≡◌, ℕ, ◌+◌, ◌-◌, ◌*◌, ◌^◌, ◌<◌, ◌≤◌, cond, eqb, List, [], ◌++◌, length, take, drop, get_or, Result, Ok, Err, refl, sym}
+use Rattle.std.proofs.Common.{◌≡◌, ℕ, ◌+◌, ◌-◌, ◌*◌, ◌^◌, ◌<◌, ◌≤◌, cond, eqb, List, [], ◌++◌, length, take, drop}
+use Rattle.std.proofs.Common.{get_or, Result, Ok, Err, refl, sym}
 use Rattle.std.proofs.Common.{ap, subst, ◌∙◌, append_assoc, arith}
 use Rattle.std.specs.Prelude.{All, IfOk}
 use Rattle.std.proofs.lemmas.Bool.{eqb-true}
@@ -20,20 +21,27 @@ use Rattle.rtr_types.specs.PairEdges.{EdgeRises, EdgeStands}
 use Rattle.log_codec.specs.Validity.{Valid, AreVectors, IsListed, IsLog, bound_at}
 use Rattle.log_codec.specs.Versions.{FitsIn}
 use Rattle.rtr_types.specs.Parameters.{Fits}
-use Rattle.log_codec.specs.Spelling.{Spells, header_text, totals_text, reduced_text, vectors_text, regulated_text, spelling_in, number}
-use Rattle.log_codec.specs.Reading.{header_at, image_at, total_at, totals_at, reduced_at, vectors_at, regulated_at, front_at, whole_at}
-use Rattle.log_codec.specs.Laws.{IsBytes, ReadIsSpelled, SpelledIsRead, SpelledIsFront, FrontIsSpelled, PrefixFree, ReadAndSpelled, IntoTheTarget}
+use Rattle.log_codec.specs.Spelling.{Spells, header_text, totals_text, reduced_text, vectors_text, regulated_text}
+use Rattle.log_codec.specs.Spelling.{spelling_in, number}
+use Rattle.log_codec.specs.Reading.{header_at, image_at, total_at, totals_at, reduced_at, vectors_at, regulated_at}
+use Rattle.log_codec.specs.Reading.{front_at, whole_at}
+use Rattle.log_codec.specs.Laws.{IsBytes, ReadIsSpelled, SpelledIsRead, SpelledIsFront, FrontIsSpelled, PrefixFree}
+use Rattle.log_codec.specs.Laws.{ReadAndSpelled, IntoTheTarget}
 use Rattle.log_codec.proofs.Steps.{bind_ok, guard_ok, ok_is, Takes, Takes-then}
-use Rattle.log_codec.proofs.InTurn.{turns_take, turns_again, stand-places, places-stand, stand-all, all-stand, stand-map}
+use Rattle.log_codec.proofs.InTurn.{turns_take, turns_again, stand-places, places-stand, stand-all, all-stand}
+use Rattle.log_codec.proofs.InTurn.{stand-map}
 use Rattle.log_codec.proofs.Limits.{limits_nest}
-use Rattle.log_codec.proofs.ReducedLaws.{AllEdges, AllRise, total-small, bound-small, reduced_takes, reduced_again, edges-rise, into-stands, into-pair}
+use Rattle.log_codec.proofs.ReducedLaws.{AllEdges, AllRise, total-small, bound-small, reduced_takes, reduced_again}
+use Rattle.log_codec.proofs.ReducedLaws.{edges-rise, into-stands, into-pair}
 use Rattle.log_codec.proofs.ReducedLaws.{few-into}
-use Rattle.log_codec.proofs.FieldLaws.{Headed, header_takes, header_again, image_takes, image_again, total_takes, total_again}
+use Rattle.log_codec.proofs.FieldLaws.{Headed, header_takes, header_again, image_takes, image_again, total_takes}
+use Rattle.log_codec.proofs.FieldLaws.{total_again}
 use Rattle.log_codec.proofs.Logs.{few_edges, few_vectors, vectors_take, vectors_again}
 
 -- ---- part by part
 
-pub totals_take : (limit cores : ℕ) (bytes totals rest : List ℕ) → IsBytes bytes → totals_at limit cores bytes ≡ Ok (totals, rest) →
+pub totals_take : (limit cores : ℕ) (bytes totals rest : List ℕ) → IsBytes bytes →
+    totals_at limit cores bytes ≡ Ok (totals, rest) →
     Takes bytes (totals_text totals) rest × (length totals ≡ cores) × All (λ t. t ≤ limit) totals
 totals_take limit cores bytes totals rest are e =
     let t = turns_take (λ (s : Unit {0}). total_at limit) stay (alike number) (λ (s : Unit {0}) t. t ≤ limit)
@@ -46,31 +54,39 @@ totals_again limit totals rest small h =
     turns_again (λ (s : Unit {0}). total_at limit) stay (alike number) (λ (s : Unit {0}) t. t ≤ limit)
     (λ s x r most. total_again limit x r small most) tt totals rest (all-stand (λ (t : ℕ). t ≤ limit) totals h)
 
-pub regulated_takes : (totals bytes : List ℕ) (regulated : List (List StrideVector)) (rest : List ℕ) → IsBytes bytes → regulated_at totals bytes
+pub regulated_takes : (totals bytes : List ℕ) (regulated : List (List StrideVector)) (rest : List ℕ) → IsBytes bytes →
+    regulated_at totals bytes
     ≡ Ok (regulated, rest) →
     Takes bytes (regulated_text regulated) rest × (length regulated ≡ pair_count (length totals))
     × StandInTurn (λ place vs. AreVectors (bound_at totals place) vs) count_up 0 regulated
 regulated_takes totals bytes regulated rest are e =
-    turns_take (λ place. vectors_at (bound_at totals place)) count_up (alike vectors_text) (λ place vs. AreVectors (bound_at totals place) vs)
+    turns_take (λ place. vectors_at (bound_at totals place)) count_up (alike vectors_text)
+    (λ place vs. AreVectors (bound_at totals place) vs)
     (λ s b x r. vectors_take s (bound_at totals s) b x r) (pair_count (length totals)) 0 bytes regulated rest are e
 
-pub regulated_again : (limit : ℕ) (totals : List ℕ) (regulated : List (List StrideVector)) (rest : List ℕ) → limit < 2 ^ 32 → All (λ t. t ≤ limit) totals →
-    length regulated ≡ pair_count (length totals) → StandInTurn (λ place vs. AreVectors (bound_at totals place) vs) count_up 0 regulated →
+pub regulated_again : (limit : ℕ) (totals : List ℕ) (regulated : List (List StrideVector)) (rest : List ℕ) →
+    limit < 2 ^ 32 → All (λ t. t ≤ limit) totals →
+    length regulated ≡ pair_count (length totals) →
+    StandInTurn (λ place vs. AreVectors (bound_at totals place) vs) count_up 0 regulated →
     regulated_at totals (regulated_text regulated ++ rest) ≡ Ok (regulated, rest)
 regulated_again limit totals regulated rest small most each h =
-    let again = turns_again (λ place. vectors_at (bound_at totals place)) count_up (alike vectors_text) (λ place vs. AreVectors (bound_at totals place) vs)
+    let again = turns_again (λ place. vectors_at (bound_at totals place)) count_up (alike vectors_text)
+    (λ place vs. AreVectors (bound_at totals place) vs)
     (λ s x r stands. let b = bound-small limit totals s small most in
     vectors_again s (bound_at totals s) x r b.source b.target stands) 0 regulated rest h in
-    subst (λ (n : ℕ). read_in_turn (λ place. vectors_at (bound_at totals place)) count_up n 0 (regulated_text regulated ++ rest)
+    subst (λ (n : ℕ). read_in_turn (λ place. vectors_at (bound_at totals place)) count_up n 0
+    (regulated_text regulated ++ rest)
     ≡ Ok (regulated, rest)) each again
 
 -- ---- the parts together
 
 abbrev pub made_of : Params → List ℕ → List ℕ → List (List (ℕ × ℕ)) → List (List StrideVector) → Recording
-made_of params image totals reduced regulated = record { params = params; image = image; totals = totals; reduced = reduced; regulated = regulated }
+made_of params image totals reduced regulated =
+    record { params = params; image = image; totals = totals; reduced = reduced; regulated = regulated }
 
 abbrev pub after_reduced : Params → List ℕ → List ℕ → List (List (ℕ × ℕ)) × List ℕ → Result (Recording × List ℕ) ℕ
-after_reduced params image totals reduced = regulated_at totals reduced.1 >>= λ regulated. Ok (made_of params image totals reduced.0 regulated.0, regulated.1)
+after_reduced params image totals reduced =
+    regulated_at totals reduced.1 >>= λ regulated. Ok (made_of params image totals reduced.0 regulated.0, regulated.1)
 
 abbrev pub after_totals : Version → Params → List ℕ → List ℕ × List ℕ → Result (Recording × List ℕ) ℕ
 after_totals v params image totals = reduced_at v totals.0 totals.1 >>= after_reduced params image totals.0
@@ -82,10 +98,12 @@ abbrev pub after_header : Headed → Result (Recording × List ℕ) ℕ
 after_header header = image_at header.2 header.3 >>= after_image header.0 header.1
 
 -- a recording of valid parts
-pub valid-made : (p : Params) (image totals : List ℕ) (reduced : List (List (ℕ × ℕ))) (regulated : List (List StrideVector)) → Fits p →
+pub valid-made : (p : Params) (image totals : List ℕ) (reduced : List (List (ℕ × ℕ)))
+    (regulated : List (List StrideVector)) → Fits p →
     length image ≤ 4 * p.words → length totals ≡ p.cores → All (λ t. t ≤ p.limit) totals
     → length reduced ≡ pair_count (length totals) → AllEdges totals reduced
-    → length regulated ≡ pair_count (length totals) → StandInTurn (λ place vs. AreVectors (bound_at totals place) vs) count_up 0 regulated →
+    → length regulated ≡ pair_count (length totals) →
+    StandInTurn (λ place vs. AreVectors (bound_at totals place) vs) count_up 0 regulated →
     Valid (made_of p image totals reduced regulated)
 valid-made p image totals reduced regulated fits room each most each_reduced edges each_regulated vectors =
     let pairs_are : pair_count (length totals) ≡ pair_count p.cores = ap (λ (n : ℕ). pair_count n) each in
@@ -98,8 +116,10 @@ valid-made p image totals reduced regulated fits room each most each_reduced edg
       each_reduced = each_reduced ∙ pairs_are;
       reduced = λ place lt. edges place (subst (λ (n : ℕ). place < n) (sym pairs_are) lt);
       each_regulated = regulated_is;
-      regulated = λ place lt. subst (λ (k : ℕ). AreVectors (bound_at totals k) (get_or regulated place [])) (zero-plus place)
-          (stand-places (λ place vs. AreVectors (bound_at totals place) vs) 0 regulated vectors place [] (subst (λ (n : ℕ). place < n) (sym regulated_is) lt));
+      regulated = λ place lt. subst (λ (k : ℕ). AreVectors (bound_at totals k) (get_or regulated place []))
+          (zero-plus place)
+          (stand-places (λ place vs. AreVectors (bound_at totals place) vs) 0 regulated vectors place []
+          (subst (λ (n : ℕ). place < n) (sym regulated_is) lt));
     }
   where
     zero-plus : (k : ℕ) → 0 + k ≡ k
@@ -108,9 +128,12 @@ valid-made p image totals reduced regulated fits room each most each_reduced edg
 pub edges-placed : (r : Recording) → Valid r → AllEdges r.totals r.reduced
 edges-placed r v place lt = v.reduced place (subst (λ (n : ℕ). place < pair_count n) v.each_core lt)
 
-pub vectors-stand : (r : Recording) → Valid r → StandInTurn (λ place vs. AreVectors (bound_at r.totals place) vs) count_up 0 r.regulated
-vectors-stand r v = places-stand (λ place vs. AreVectors (bound_at r.totals place) vs) 0 r.regulated [] (λ i lt. let same : i ≡ 0 + i = omega arith in
-    subst (λ (k : ℕ). AreVectors (bound_at r.totals k) (get_or r.regulated i [])) same (v.regulated i (subst (λ (n : ℕ). i < n) v.each_regulated lt)))
+pub vectors-stand : (r : Recording) → Valid r →
+    StandInTurn (λ place vs. AreVectors (bound_at r.totals place) vs) count_up 0 r.regulated
+vectors-stand r v = places-stand (λ place vs. AreVectors (bound_at r.totals place) vs) 0 r.regulated []
+    (λ i lt. let same : i ≡ 0 + i = omega arith in
+    subst (λ (k : ℕ). AreVectors (bound_at r.totals k) (get_or r.regulated i [])) same
+    (v.regulated i (subst (λ (n : ℕ). i < n) v.each_regulated lt)))
 
 -- the limits of either version lie within those of version 2
 pub within-new : (v : Version) (p : Params) → FitsIn v p → Fits p
@@ -124,7 +147,8 @@ pub record FrontTaken (bytes : List ℕ) (r : Recording) (rest : List ℕ) : Typ
   pub limits : FitsIn version r.params
   pub taken : Takes bytes (spelling_in version r) rest
 
-pub front_takes : (bytes : List ℕ) (r : Recording) (rest : List ℕ) → IsBytes bytes → front_at bytes ≡ Ok (r, rest) → FrontTaken bytes r rest
+pub front_takes : (bytes : List ℕ) (r : Recording) (rest : List ℕ) → IsBytes bytes → front_at bytes ≡ Ok (r, rest) →
+    FrontTaken bytes r rest
 unfolding front_at spelling_in
 front_takes bytes r rest are e =
     let h = bind_ok (header_at bytes) after_header (r, rest) e in
@@ -133,24 +157,30 @@ front_takes bytes r rest are e =
     let i = bind_ok (image_at h.0.2 h.0.3) (after_image w p) (r, rest) h.2 in
     let t = bind_ok (totals_at p.limit p.cores i.0.1) (after_totals w p i.0.0) (r, rest) i.2 in
     let d = bind_ok (reduced_at w t.0.0 t.0.1) (after_reduced p i.0.0 t.0.0) (r, rest) t.2 in
-    let g = bind_ok (regulated_at t.0.0 d.0.1) (λ regulated. Ok (made_of p i.0.0 t.0.0 d.0.0 regulated.0, regulated.1)) (r, rest) d.2 in
+    let g = bind_ok (regulated_at t.0.0 d.0.1) (λ regulated. Ok (made_of p i.0.0 t.0.0 d.0.0 regulated.0, regulated.1))
+    (r, rest) d.2 in
     let th = header_takes bytes w p h.0.2 h.0.3 are h.1 in
     let ti = image_takes h.0.2 h.0.3 i.0.0 i.0.1 th.0.rest_fits i.1 in
     let tt' = totals_take p.limit p.cores i.0.1 t.0.0 t.0.1 ti.0.rest_fits t.1 in
     let td = reduced_takes w t.0.0 t.0.1 d.0.0 d.0.1 tt'.0.rest_fits d.1 in
     let tg = regulated_takes t.0.0 d.0.1 g.0.0 g.0.1 td.0.rest_fits g.1 in
-    let reduced : Takes t.0.1 (reduced_text w p.cores d.0.0) d.0.1 = subst (λ (n : ℕ). Takes t.0.1 (reduced_text w n d.0.0) d.0.1) tt'.1 td.0 in
+    let reduced : Takes t.0.1 (reduced_text w p.cores d.0.0) d.0.1 =
+    subst (λ (n : ℕ). Takes t.0.1 (reduced_text w n d.0.0) d.0.1) tt'.1 td.0 in
     let t1 = Takes-then t.0.1 (reduced_text w p.cores d.0.0) d.0.1 (regulated_text g.0.0) g.0.1 reduced tg.0 in
-    let t2 = Takes-then i.0.1 (totals_text t.0.0) t.0.1 (reduced_text w p.cores d.0.0 ++ regulated_text g.0.0) g.0.1 tt'.0 t1 in
-    let t3 = Takes-then h.0.3 i.0.0 i.0.1 (totals_text t.0.0 ++ (reduced_text w p.cores d.0.0 ++ regulated_text g.0.0)) g.0.1 ti.0 t2 in
+    let t2 = Takes-then i.0.1 (totals_text t.0.0) t.0.1 (reduced_text w p.cores d.0.0 ++ regulated_text g.0.0) g.0.1
+    tt'.0 t1 in
+    let t3 = Takes-then h.0.3 i.0.0 i.0.1 (totals_text t.0.0 ++ (reduced_text w p.cores d.0.0 ++ regulated_text g.0.0))
+    g.0.1 ti.0 t2 in
     let t4 = Takes-then bytes (header_text w p h.0.2) h.0.3
     (i.0.0 ++ (totals_text t.0.0 ++ (reduced_text w p.cores d.0.0 ++ regulated_text g.0.0))) g.0.1 th.0 t3 in
     let made = made_of p i.0.0 t.0.0 d.0.0 g.0.0 in
     let named : Takes bytes (spelling_in w made) g.0.1 =
     subst (λ (len : ℕ). Takes bytes
-    (header_text w p len ++ (i.0.0 ++ (totals_text t.0.0 ++ (reduced_text w p.cores d.0.0 ++ regulated_text g.0.0)))) g.0.1) (sym ti.1) t4 in
+    (header_text w p len ++ (i.0.0 ++ (totals_text t.0.0 ++ (reduced_text w p.cores d.0.0 ++ regulated_text g.0.0))))
+    g.0.1) (sym ti.1) t4 in
     let room : length i.0.0 ≤ 4 * p.words = subst (λ (len : ℕ). len ≤ 4 * p.words) (sym ti.1) th.1.image in
-    let valid = valid-made p i.0.0 t.0.0 d.0.0 g.0.0 (within-new w p th.1.params) room tt'.1 tt'.2 td.1 td.2 tg.1 tg.2 in
+    let valid = valid-made p i.0.0 t.0.0 d.0.0 g.0.0 (within-new w p th.1.params) room tt'.1 tt'.2 td.1 td.2 tg.1 tg.2
+    in
     subst (λ (y : Recording × List ℕ). FrontTaken bytes y.0 y.1) (ok_is (made, g.0.1) (r, rest) g.2)
     (record { valid = valid; version = w; limits = th.1.params; taken = named })
 
@@ -164,24 +194,33 @@ front_again w r rest v fits =
     let together : length r.totals * p.limit < 2 ^ 32 =
     let all = params.instructions in subst (λ (n : ℕ). n * p.limit < 2 ^ 32) (sym v.each_core) (omega arith) in
     let regrouped : spelling_in w r ++ rest ≡ header_text w p (length r.image)
-    ++ (r.image ++ (totals_text r.totals ++ (reduced_text w p.cores r.reduced ++ (regulated_text r.regulated ++ rest)))) = simp append_assoc in
-    let h = header_again w p (length r.image) (r.image ++ (totals_text r.totals ++ (reduced_text w p.cores r.reduced ++ (regulated_text r.regulated ++ rest))))
+    ++ (r.image ++ (totals_text r.totals ++ (reduced_text w p.cores r.reduced ++ (regulated_text r.regulated ++ rest))))
+    = simp append_assoc in
+    let h = header_again w p (length r.image)
+    (r.image ++ (totals_text r.totals
+    ++ (reduced_text w p.cores r.reduced ++ (regulated_text r.regulated ++ rest))))
     (record { params = fits; image = v.image }) in
-    let i = image_again r.image (totals_text r.totals ++ (reduced_text w p.cores r.reduced ++ (regulated_text r.regulated ++ rest))) in
-    let t = subst (λ (n : ℕ). totals_at p.limit n (totals_text r.totals ++ (reduced_text w p.cores r.reduced ++ (regulated_text r.regulated ++ rest)))
+    let i = image_again r.image
+    (totals_text r.totals ++ (reduced_text w p.cores r.reduced ++ (regulated_text r.regulated ++ rest))) in
+    let t = subst (λ (n : ℕ). totals_at p.limit n
+    (totals_text r.totals ++ (reduced_text w p.cores r.reduced ++ (regulated_text r.regulated ++ rest)))
     ≡ Ok (r.totals, reduced_text w p.cores r.reduced ++ (regulated_text r.regulated ++ rest))) v.each_core
-    (totals_again p.limit r.totals (reduced_text w p.cores r.reduced ++ (regulated_text r.regulated ++ rest)) small v.totals) in
+    (totals_again p.limit r.totals (reduced_text w p.cores r.reduced ++ (regulated_text r.regulated ++ rest)) small
+    v.totals) in
     let back : pair_count p.cores ≡ pair_count (length r.totals) = ap (λ (n : ℕ). pair_count n) (sym v.each_core) in
     let d = subst (λ (n : ℕ). reduced_at w r.totals (reduced_text w n r.reduced ++ (regulated_text r.regulated ++ rest))
     ≡ Ok (r.reduced, regulated_text r.regulated ++ rest)) v.each_core
-    (reduced_again w p.limit r.totals r.reduced (regulated_text r.regulated ++ rest) small together few v.totals (v.each_reduced ∙ back) (edges-placed r v)) in
-    let g = regulated_again p.limit r.totals r.regulated rest small v.totals (v.each_regulated ∙ back) (vectors-stand r v) in
+    (reduced_again w p.limit r.totals r.reduced (regulated_text r.regulated ++ rest) small together few v.totals
+    (v.each_reduced ∙ back) (edges-placed r v)) in
+    let g = regulated_again p.limit r.totals r.regulated rest small v.totals (v.each_regulated ∙ back)
+    (vectors-stand r v) in
     ap front_at regrouped ∙ rw (h, i, t, d, g) refl
 
 -- ---- the laws
 
 pub front_is_spelled : FrontIsSpelled
-front_is_spelled bytes r rest are e = let t = front_takes bytes r rest are e in (t.valid, (t.version, t.limits, t.taken.parts))
+front_is_spelled bytes r rest are e = let t = front_takes bytes r rest are e in
+    (t.valid, (t.version, t.limits, t.taken.parts))
 
 pub read_is_spelled : ReadIsSpelled
 unfolding whole_at
@@ -197,7 +236,8 @@ read_is_spelled bytes r are e =
 pub spelled_is_read : SpelledIsRead
 unfolding whole_at
 spelled_is_read w r v fits =
-    let f : front_at (spelling_in w r) ≡ Ok (r, []) = ap front_at (sym (append-nil (spelling_in w r))) ∙ front_again w r [] v fits in
+    let f : front_at (spelling_in w r) ≡ Ok (r, []) =
+    ap front_at (sym (append-nil (spelling_in w r))) ∙ front_again w r [] v fits in
     rw f refl
 
 -- the version shows at the front
@@ -207,23 +247,30 @@ version-of : (w : Version) (r : Recording) (rest : List ℕ) → FitsIn w r.para
       w,
       r.params,
       length r.image,
-      r.image ++ (totals_text r.totals ++ (reduced_text w r.params.cores r.reduced ++ (regulated_text r.regulated ++ rest))),
+      r.image ++ (totals_text r.totals
+          ++ (reduced_text w r.params.cores r.reduced ++ (regulated_text r.regulated ++ rest))),
     )
 unfolding spelling_in
 version-of w r rest fits room =
     let p = r.params in
     let regrouped : spelling_in w r ++ rest ≡ header_text w p (length r.image)
-    ++ (r.image ++ (totals_text r.totals ++ (reduced_text w p.cores r.reduced ++ (regulated_text r.regulated ++ rest)))) = simp append_assoc in
+    ++ (r.image ++ (totals_text r.totals ++ (reduced_text w p.cores r.reduced ++ (regulated_text r.regulated ++ rest))))
+    = simp append_assoc in
     ap header_at regrouped
-    ∙ header_again w p (length r.image) (r.image ++ (totals_text r.totals ++ (reduced_text w p.cores r.reduced ++ (regulated_text r.regulated ++ rest))))
+    ∙ header_again w p (length r.image)
+    (r.image ++ (totals_text r.totals
+    ++ (reduced_text w p.cores r.reduced ++ (regulated_text r.regulated ++ rest))))
     (record { params = fits; image = room })
 
 pub prefix_free : PrefixFree
 prefix_free v w r s x y vr fr vs fs e =
     let both : Ok (r, x) ≡ Ok (s, y) = sym (front_again v r x vr fr) ∙ ap front_at e ∙ front_again w s y vs fs in
     let same = ok_is (r, x) (s, y) both in
-    let heads = sym (version-of v r x fr vr.image) ∙ ap header_at e ∙ version-of w s y fs vs.image in
-    (ap (λ (h : Headed). h.0) (ok_is _ _ heads), ap (λ (p : Recording × List ℕ). p.0) same, ap (λ (p : Recording × List ℕ). p.1) same)
+    let heads = sym (version-of v r x fr vr.image) ∙ ap header_at e ∙ version-of w s y fs vs.image in (
+      ap (λ (h : Headed). h.0) (ok_is _ _ heads),
+      ap (λ (p : Recording × List ℕ). p.0) same,
+      ap (λ (p : Recording × List ℕ). p.1) same,
+    )
 
 -- what is read and spelled anew is read the same
 pub read_and_spelled : ReadAndSpelled
@@ -233,7 +280,8 @@ read_and_spelled bytes r are e =
 
 -- ---- what a call that reads returns
 
-pub is_found : (bytes : List ℕ) (r : Result Recording CodecFault) → IsBytes bytes → Gives (λ x. x) r (whole_at bytes) → IfOk r (λ x. Valid x × Spells bytes x)
+pub is_found : (bytes : List ℕ) (r : Result Recording CodecFault) → IsBytes bytes → Gives (λ x. x) r (whole_at bytes) →
+    IfOk r (λ x. Valid x × Spells bytes x)
 is_found bytes (Ok x) are given = read_is_spelled bytes x are given
 is_found bytes (Err e) are given = tt
 
@@ -244,29 +292,38 @@ pub record FrontFound (bytes : List ℕ) (r : Recording) (rest : List ℕ) : Typ
   pub text : Spells (take (length bytes - length rest) bytes) r
   pub rest_is : drop (length bytes - length rest) bytes ≡ rest
 
-pub front_found : (bytes : List ℕ) (r : Recording) (rest : List ℕ) → IsBytes bytes → front_at bytes ≡ Ok (r, rest) → FrontFound bytes r rest
+pub front_found : (bytes : List ℕ) (r : Recording) (rest : List ℕ) → IsBytes bytes → front_at bytes ≡ Ok (r, rest) →
+    FrontFound bytes r rest
 front_found bytes r rest are e =
     let t = front_takes bytes r rest are e in
     let parts = t.taken.parts in
     let text = spelling_in t.version r in
-    let sizes : length bytes ≡ length text + length rest = ap (λ (x : List ℕ). length x) parts ∙ length-append text rest in
+    let sizes : length bytes ≡ length text + length rest =
+    ap (λ (x : List ℕ). length x) parts ∙ length-append text rest in
     let size : length text ≡ length bytes - length rest = omega arith in
     record {
       valid = t.valid;
       within = omega arith;
-      text = (t.version, t.limits, ap (take (length bytes - length rest)) parts ∙ take_at text rest (length bytes - length rest) size);
+      text = (
+        t.version,
+        t.limits,
+        ap (take (length bytes - length rest)) parts
+            ∙ take_at text rest (length bytes - length rest) size,
+      );
       rest_is = ap (drop (length bytes - length rest)) parts ∙ drop_at text rest (length bytes - length rest) size;
     }
 
 -- a fault that is answered is the reading's
-pub no_fault : (bytes : List ℕ) (e : CodecFault) (w : Version) (r : Recording) (rest : List ℕ) → Valid r → FitsIn w r.params →
+pub no_fault : (bytes : List ℕ) (e : CodecFault) (w : Version) (r : Recording) (rest : List ℕ) → Valid r →
+    FitsIn w r.params →
     bytes ≡ spelling_in w r ++ rest → Fails e (front_at bytes) → Fails {Y = Recording × List ℕ} e (Ok (r, rest))
 no_fault bytes e w r rest valid fits is fails =
     subst (λ (x : Result (Recording × List ℕ) ℕ). Fails e x) (ap front_at is ∙ front_again w r rest valid fits) fails
 
 -- ---- what the writer needs
 
-pub edges_listed : (r : Recording) → Valid r → (place : ℕ) → place < length r.reduced → IsListed (get_or r.reduced place [])
+pub edges_listed : (r : Recording) → Valid r → (place : ℕ) → place < length r.reduced →
+    IsListed (get_or r.reduced place [])
 edges_listed r v place lt =
     let edges = get_or r.reduced place [] in
     let most = bound_at r.totals place in
@@ -275,7 +332,11 @@ edges_listed r v place lt =
     let small = bound-small r.params.limit r.totals place (omega arith) v.totals in
     let few = few_edges most edges are in
     let least = small.source in
-    record { few = omega arith; rising = stand-map (EdgeStands most) EdgeRises follow (λ s x h. h.rises) (0, 0) edges are }
+    record {
+      few = omega arith;
+      rising =
+          stand-map (EdgeStands most) EdgeRises follow (λ s x h. h.rises) (0, 0) edges are;
+    }
 
 -- the reduced log can be spelled in either version
 pub is_log : (r : Recording) → Valid r → IsLog r.params.cores r.reduced
@@ -298,13 +359,15 @@ pub into_the_target : IntoTheTarget
 into_the_target r target v inside =
     let lt : target < length r.totals = subst (λ (n : ℕ). target < n) (sym v.each_core) inside in
     let cores : length r.totals ≡ r.params.cores = v.each_core in (
-      subst (λ (n : ℕ). StandInTurn (IncomingStands r.totals target) remember [] (incoming_edges n r.reduced target)) cores
+      subst (λ (n : ℕ). StandInTurn (IncomingStands r.totals target) remember [] (incoming_edges n r.reduced target))
+          cores
           (into-stands r.totals r.reduced target lt (edges-placed r v)),
       λ source pair. into-pair r.params.cores r.reduced source target pair
           (subst (λ (n : ℕ). AllRise n r.reduced) cores (edges-rise r.totals r.reduced (edges-placed r v))),
     )
 
-pub vectors_listed : (r : Recording) → Valid r → (place : ℕ) → place < length r.regulated → length (get_or r.regulated place []) < 2 ^ 32
+pub vectors_listed : (r : Recording) → Valid r → (place : ℕ) → place < length r.regulated →
+    length (get_or r.regulated place []) < 2 ^ 32
 vectors_listed r v place lt =
     let vectors = get_or r.regulated place [] in
     let most = bound_at r.totals place in
@@ -320,7 +383,8 @@ pub bound-most : (r : Recording) (place : ℕ) → Valid r → (bound_at r.total
 bound-most r place v = total-small r.params.limit r.totals (source_at (length r.totals) place) v.totals
 
 -- both totals of a pair are numbers that can be spelled
-pub totals_small : (r : Recording) (place : ℕ) → Valid r → ((bound_at r.totals place).0 < 2 ^ 32) × ((bound_at r.totals place).1 < 2 ^ 32)
+pub totals_small : (r : Recording) (place : ℕ) → Valid r → ((bound_at r.totals place).0 < 2 ^ 32) ×
+    ((bound_at r.totals place).1 < 2 ^ 32)
 totals_small r place v =
     let params = v.params in
     let small = bound-small r.params.limit r.totals place (omega arith) v.totals in

@@ -23,7 +23,8 @@ whole sb k rise is = ap (λ (r : ℕ). r % sb) (sym is) ∙ mul-mod_left k sb
 
 -- that number is its place
 pub place : (sb k rise : ℕ) → 1 ≤ sb → k * sb ≡ rise → rise / sb ≡ k
-place sb k rise some is = let same : rise ≡ k * sb + 0 = omega arith in ap (λ (r : ℕ). r / sb) same ∙ div-mul-add k sb 0 (omega arith)
+place sb k rise some is = let same : rise ≡ k * sb + 0 = omega arith in
+    ap (λ (r : ℕ). r / sb) same ∙ div-mul-add k sb 0 (omega arith)
 
 -- a later position is at least a stride further
 further : (k m s : ℕ) → k < m → 1 ≤ s → k * s < m * s

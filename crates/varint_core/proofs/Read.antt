@@ -1,5 +1,6 @@
 -- Reading byte by byte gives the reading by groups.
-use Rattle.std.proofs.Common.{◌≡◌, ◌≢◌, ℕ, zero, suc, ◌+◌, ◌*◌, ◌%◌, ◌<◌, ◌≤◌, List, [], ◌∷◌, ◌++◌, length, drop, get_or, refl, sym, ◌∙◌, ap, inl, inr, arith}
+use Rattle.std.proofs.Common.{◌≡◌, ◌≢◌, ℕ, zero, suc, ◌+◌, ◌*◌, ◌%◌, ◌<◌, ◌≤◌, List, [], ◌∷◌, ◌++◌, length, drop}
+use Rattle.std.proofs.Common.{get_or, refl, sym, ◌∙◌, ap, inl, inr, arith}
 use Rattle.std.proofs.Common.{true, false, nat_lt, nat_eq, ◌&&◌, cond, Option, Some, None, Result, Err, append_assoc}
 use Rattle.std.specs.Prelude.{if◌then◌else◌}
 use Rattle.std.specs.Option.{option_map}
@@ -14,7 +15,8 @@ use Rattle.varint_core.specs.Leb128.{group, value, last, is_padded, judged, read
 abbrev pub read_on : ℕ → ℕ → ℕ → List ℕ → Result (ℕ × ℕ) Varint
 read_on i s v [] = if nat_lt i 5 then Err Short else Err Over
 read_on i s v (b ∷ bytes) =
-    if nat_eq i 5 then Err Over else if nat_lt b 128 then end (v + (b % 128) * s) i b else read_on (i + 1) (s * 128) (v + (b % 128) * s) bytes
+    if nat_eq i 5 then Err Over else if nat_lt b 128 then end (v + (b % 128) * s) i b else read_on (i + 1) (s * 128)
+    (v + (b % 128) * s) bytes
 
 pub scale : List ℕ → ℕ
 scale [] = 1
@@ -48,7 +50,8 @@ padded-push (c ∷ p) b i l =
     let two : nat_lt 0 i ≡ true = lt-ltb _ _ (omega arith) in
     rw (one, two, last-push c p b) refl
 
-fused : (p bytes : List ℕ) (b : ℕ) (o : Option (List ℕ)) → judged ((p ++ (b ∷ [])) ++ bytes) (option_map (λ g. (p ++ (b ∷ [])) ++ g) o)
+fused : (p bytes : List ℕ) (b : ℕ) (o : Option (List ℕ)) →
+    judged ((p ++ (b ∷ [])) ++ bytes) (option_map (λ g. (p ++ (b ∷ [])) ++ g) o)
     ≡ judged (p ++ (b ∷ bytes)) (option_map (λ g. p ++ g) (option_map (λ g. b ∷ g) o))
 fused p bytes b None = rw append_assoc refl
 fused p bytes b (Some g) = ap (λ (f : List ℕ). judged (p ++ (b ∷ bytes)) (Some f)) (append_assoc p (b ∷ []) g)
@@ -73,7 +76,8 @@ read-group (suc k) i s v p (b ∷ bytes) five l sc va =
       | inr big ↦
           let t = le-ltb b 128 big in
           let sc' : s * 128 ≡ scale (p ++ (b ∷ [])) = ap (λ (m : ℕ). m * 128) sc ∙ sym (scale-push p b) in
-          let ih = read-group k (i + 1) (s * 128) (v + (b % 128) * s) (p ++ (b ∷ [])) bytes (omega arith) (omega (arith, length-append p (b ∷ []))) sc' v' in
+          let ih = read-group k (i + 1) (s * 128) (v + (b % 128) * s) (p ++ (b ∷ [])) bytes (omega arith)
+          (omega (arith, length-append p (b ∷ []))) sc' v' in
           rw (one, t) (ih ∙ fused p bytes b (group k bytes))
     ]
 
@@ -83,18 +87,21 @@ id_map (Some g) = refl
 
 pub reading_is : (bytes : List ℕ) → read_on 0 1 0 bytes ≡ reading bytes
 unfolding reading scale value
-reading_is bytes = read-group 5 0 1 0 [] bytes refl refl refl refl ∙ ap (λ (o : Option (List ℕ)). judged bytes o) (id_map (group 5 bytes))
+reading_is bytes = read-group 5 0 1 0 [] bytes refl refl refl refl
+    ∙ ap (λ (o : Option (List ℕ)). judged bytes o) (id_map (group 5 bytes))
 
 -- ---- the exits of the reader's loop
 
-pub at_five : (bytes : List ℕ) (i s v : ℕ) (r : Result (ℕ × ℕ) Varint) → i ≡ 5 → i < length bytes → read_on i s v (drop i bytes) ≡ r → Err Over ≡ r
+pub at_five : (bytes : List ℕ) (i s v : ℕ) (r : Result (ℕ × ℕ) Varint) → i ≡ 5 → i < length bytes →
+    read_on i s v (drop i bytes) ≡ r → Err Over ≡ r
 at_five bytes i s v r five lt e =
     let d = drop_more bytes i 0 lt in
     let one : nat_eq i 5 ≡ true = grind (arith, nat_tests) in
     let f : read_on i s v (get_or bytes i 0 ∷ drop (i + 1) bytes) ≡ r = rw d at e in
     let g : Err Over ≡ r = rw one at f in g
 
-pub at_small : (bytes : List ℕ) (i s v : ℕ) (r : Result (ℕ × ℕ) Varint) → i ≢ 5 → i < length bytes → get_or bytes i 0 < 128 → read_on i s v (drop i bytes)
+pub at_small : (bytes : List ℕ) (i s v : ℕ) (r : Result (ℕ × ℕ) Varint) → i ≢ 5 → i < length bytes →
+    get_or bytes i 0 < 128 → read_on i s v (drop i bytes)
     ≡ r → end (v + (get_or bytes i 0 % 128) * s) i (get_or bytes i 0) ≡ r
 at_small bytes i s v r other lt small e =
     let d = drop_more bytes i 0 lt in
@@ -103,6 +110,7 @@ at_small bytes i s v r other lt small e =
     let f : read_on i s v (get_or bytes i 0 ∷ drop (i + 1) bytes) ≡ r = rw d at e in
     rw (one, two) at f
 
-pub at_end : (bytes : List ℕ) (i s v : ℕ) (r : Result (ℕ × ℕ) Varint) → length bytes ≤ i → read_on i s v (drop i bytes) ≡ r →
+pub at_end : (bytes : List ℕ) (i s v : ℕ) (r : Result (ℕ × ℕ) Varint) → length bytes ≤ i →
+    read_on i s v (drop i bytes) ≡ r →
     cond (nat_lt i 5) (Err Short) (Err Over) ≡ r
 at_end bytes i s v r le e = rw (drop_all i bytes le) at e

@@ -9,4 +9,5 @@ small n h = spelling-small 4 n h
 
 pub returns-then-value-lt128-clause-ok : goal.returns-then-value-lt128-clause-ok
 returns-then-value-lt128-clause-ok c =
-    c.in_ok-push.ensures.items ∙ ap (λ (xs : List ℕ). c.args.out.now.items ++ xs) (sym (small c.args.value c.if-value-lt128.true))
+    c.in_ok-push.ensures.items
+    ∙ ap (λ (xs : List ℕ). c.args.out.now.items ++ xs) (sym (small c.args.value c.if-value-lt128.true))

@@ -3,4 +3,9 @@ use Rattle.log_codec.proofs.SourceLaws as sources
 use Rattle.log_codec.proofs.laws.source_laws.Goals as goal
 
 pub returns : goal.returns
-returns c = record { paired = sources.edges-are-paired; within = sources.edges-within; one = sources.one-source; counted = edges-counted }
+returns c = record {
+  paired = sources.edges-are-paired;
+  within = sources.edges-within;
+  one = sources.one-source;
+  counted = edges-counted;
+}

@@ -12,7 +12,8 @@ overflow_add-count c =
     let cores = c.args.cores in
     let reduced = c.args.reduced.now in
     let source = c.loop-source.source in
-    let list = list-is cores reduced c.args.target source c.pair_at.result c.index-reduced-pair_at.result c.if-source-target.true c.pair_at.ensures.place
+    let list = list-is cores reduced c.args.target source c.pair_at.result c.index-reduced-pair_at.result
+    c.if-source-target.true c.pair_at.ensures.place
     (omega (arith, c.pair_at.ensures.within, c.requires.log.pairs)) c.index-reduced-pair_at.is in
     let size = ap (λ (l : List (ℕ × ℕ)). length l) list in
     let sum = counted cores reduced c.args.target source c.loop-source-test.true in
@@ -27,19 +28,22 @@ loop-source-preserved c =
     let more = length-more (edges_out_of cores reduced c.args.target) 0 source source (omega arith) in
     elim c.if-source-target.branch [
       | then-source-target w ↦
-          let list = list-is cores reduced c.args.target source w.pair_at.result w.index-reduced-pair_at.result w.if-source-target.true w.pair_at.ensures.place
+          let list = list-is cores reduced c.args.target source w.pair_at.result w.index-reduced-pair_at.result
+          w.if-source-target.true w.pair_at.ensures.place
           (omega (arith, w.pair_at.ensures.within, c.requires.log.pairs)) w.index-reduced-pair_at.is in
           let size = ap (λ (l : List (ℕ × ℕ)). length l) list in
           omega (arith, size, more, w.len.ensures, w.count-is, c.loop-source.invariant)
       | else-source-target w ↦
-          let none = ap (λ (l : List (ℕ × ℕ)). length l) (list-own cores reduced c.args.target source w.if-source-target.false) in
+          let none = ap (λ (l : List (ℕ × ℕ)). length l)
+          (list-own cores reduced c.args.target source w.if-source-target.false) in
           omega (arith, none, more, w.count-is, c.loop-source.invariant)
     ]
 
 pub returns : goal.returns
 returns c =
     let all = c.loop-source.invariant in
-    let same : c.loop-source.source ≡ c.args.cores = omega (arith, c.loop-source-test.false, c.loop-source.auto.source-end) in
+    let same : c.loop-source.source ≡ c.args.cores =
+    omega (arith, c.loop-source-test.false, c.loop-source.auto.source-end) in
     let size : length (joined_from (edges_out_of c.args.cores c.args.reduced.now c.args.target) 0 c.loop-source.source)
     ≡ length (joined_from (edges_out_of c.args.cores c.args.reduced.now c.args.target) 0 c.args.cores) =
     ap (λ (n : ℕ). length (joined_from (edges_out_of c.args.cores c.args.reduced.now c.args.target) 0 n)) same in

@@ -4,7 +4,8 @@ use Rattle.log_codec.specs.Incoming.{incoming_edges, remember}
 use Rattle.log_codec.specs.Spelling.{incoming_text, into_text, number}
 use Rattle.log_codec.specs.Turns.{spelled_in_turn}
 use Rattle.log_codec.proofs.NextEdges.{fronts-step}
-use Rattle.log_codec.proofs.Written.{fronts-start, log-rises, writes-start, writes-rises, writes-more, writes-none, writes-done}
+use Rattle.log_codec.proofs.Written.{fronts-start, log-rises, writes-start, writes-rises, writes-more, writes-none}
+use Rattle.log_codec.proofs.Written.{writes-done}
 use Rattle.log_codec.proofs.merging.put_into.Goals as goal
 use Rattle.log_codec.proofs.merging.put_into.Goals.{in-Some+in_ok-put_incoming, in_default}
 
@@ -16,7 +17,8 @@ loop-init c =
     let edges = incoming_edges cores reduced target in
     let text = spelled_in_turn incoming_text remember [] edges in
     let wrote : c.put_u32.new.out.items ++ text ≡ c.args.out.now.items ++ into_text edges =
-    ap (λ (l : List ℕ). l ++ text) (c.in_ok-put_u32.ensures.ok ∙ ap (λ (n : ℕ). c.args.out.now.items ++ number n) c.count_into-count.ensures)
+    ap (λ (l : List ℕ). l ++ text)
+    (c.in_ok-put_u32.ensures.ok ∙ ap (λ (n : ℕ). c.args.out.now.items ++ number n) c.count_into-count.ensures)
     ∙ append_assoc c.args.out.now.items (number (length edges)) text in (
       writes-start cores target (c.count_into-count.result - 0) reduced c.put_u32.new.out.items
           (c.args.out.now.items ++ into_text edges) c.requires.target (log-rises cores reduced c.requires.log)
@@ -27,16 +29,20 @@ loop-init c =
 pub put_incoming-requires-clause-target : goal.put_incoming-requires-clause-target
 put_incoming-requires-clause-target c =
     (writes-rises c.args.cores c.args.target
-    (c.count_into-count.result - c.loop.counter) c.args.reduced.now c.loop.next c.loop.last c.loop.counts c.loop.out.items
+    (c.count_into-count.result - c.loop.counter) c.args.reduced.now c.loop.next c.loop.last c.loop.counts
+    c.loop.out.items
     (c.args.out.now.items ++ into_text (incoming_edges c.args.cores c.args.reduced.now c.args.target)) c.in-Some.edge
-    c.requires.log.few c.requires.target (log-rises c.args.cores c.args.reduced.now c.requires.log) c.loop.invariant.0 c.in-Some.ensures.first).0
+    c.requires.log.few c.requires.target (log-rises c.args.cores c.args.reduced.now c.requires.log) c.loop.invariant.0
+    c.in-Some.ensures.first).0
 
 pub put_incoming-requires-clause-source : goal.put_incoming-requires-clause-source
 put_incoming-requires-clause-source c =
     (writes-rises c.args.cores c.args.target
-    (c.count_into-count.result - c.loop.counter) c.args.reduced.now c.loop.next c.loop.last c.loop.counts c.loop.out.items
+    (c.count_into-count.result - c.loop.counter) c.args.reduced.now c.loop.next c.loop.last c.loop.counts
+    c.loop.out.items
     (c.args.out.now.items ++ into_text (incoming_edges c.args.cores c.args.reduced.now c.args.target)) c.in-Some.edge
-    c.requires.log.few c.requires.target (log-rises c.args.cores c.args.reduced.now c.requires.log) c.loop.invariant.0 c.in-Some.ensures.first).1
+    c.requires.log.few c.requires.target (log-rises c.args.cores c.args.reduced.now c.requires.log) c.loop.invariant.0
+    c.in-Some.ensures.first).1
 
 pub loop-preserved : goal.loop-preserved
 loop-preserved c =
@@ -48,15 +54,19 @@ loop-preserved c =
     let one : many - 1 ≡ c.count_into-count.result - (c.loop.counter + 1) = omega arith in
     elim c.match-first_left.branch [
       | in-Some+in_ok-put_incoming w ↦
-          let next = writes-more cores target many reduced c.loop.next c.loop.last c.loop.counts c.loop.out.items whole w.in-Some.edge
+          let next = writes-more cores target many reduced c.loop.next c.loop.last c.loop.counts c.loop.out.items whole
+          w.in-Some.edge
           w.put_incoming.new.out.items c.requires.log.few c.requires.target
-          (log-rises cores reduced c.requires.log) c.loop.invariant.0 w.in-Some.ensures.first w.in_ok-put_incoming.ensures in
+          (log-rises cores reduced c.requires.log) c.loop.invariant.0 w.in-Some.ensures.first
+          w.in_ok-put_incoming.ensures in
           let passed = fronts-step cores reduced target c.loop.next c.loop.fronts w.in-Some.edge.source
-          (slice_index c.loop.next w.in-Some.edge.source + 1) w.front_at.result c.requires.log.few w.in-Some.ensures.first.inside c.loop.invariant.1
+          (slice_index c.loop.next w.in-Some.edge.source + 1) w.front_at.result c.requires.log.few
+          w.in-Some.ensures.first.inside c.loop.invariant.1
           w.front_at.ensures in
           rw (w.next-is, w.last-is, w.counts-is, w.out-is, w.fronts-is, ← one) (next, passed)
       | in_default w ↦
-          let none = writes-none cores target many reduced c.loop.next c.loop.last c.loop.counts c.loop.out.items whole c.loop.invariant.0
+          let none = writes-none cores target many reduced c.loop.next c.loop.last c.loop.counts c.loop.out.items whole
+          c.loop.invariant.0
           w.in_default.ensures.none in
           absurd (omega (arith, none, c.loop-test.true))
     ]
@@ -64,6 +74,8 @@ loop-preserved c =
 pub returns : goal.returns
 returns c =
     writes-done c.args.cores c.args.target
-    (c.count_into-count.result - c.loop.counter) c.args.reduced.now c.loop.next c.loop.last c.loop.counts c.loop.out.items
-    (c.args.out.now.items ++ into_text (incoming_edges c.args.cores c.args.reduced.now c.args.target)) c.loop.invariant.0
+    (c.count_into-count.result - c.loop.counter) c.args.reduced.now c.loop.next c.loop.last c.loop.counts
+    c.loop.out.items
+    (c.args.out.now.items ++ into_text (incoming_edges c.args.cores c.args.reduced.now c.args.target))
+    c.loop.invariant.0
     (omega (arith, c.loop-test.false))

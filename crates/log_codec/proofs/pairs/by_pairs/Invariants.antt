@@ -9,5 +9,6 @@ use Rattle.log_codec.proofs.pairs.by_pairs.Given as goal
 
 abbrev pub invariant-loop-place : goal.invariant-loop-place
 invariant-loop-place l =
-    with_front l.found (read_in_turn (λ place. edges_at (bound_at l.totals place)) count_up ((pair_count (length l.totals)) - l.place) l.place l.rest)
+    with_front l.found (read_in_turn (λ place. edges_at (bound_at l.totals place)) count_up
+    ((pair_count (length l.totals)) - l.place) l.place l.rest)
     ≡ read_in_turn (λ place. edges_at (bound_at l.totals place)) count_up (pair_count (length l.totals)) 0 l.bytes

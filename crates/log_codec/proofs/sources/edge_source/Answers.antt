@@ -29,5 +29,6 @@ returns-in-Err-clause-only c a has =
     let by_key = c.in-Err.ensures.position (λ e. e.1) (answers_always _ _ _ (λ f a r g called. search rules)) in
     let none = (searched (λ (e : ℕ × ℕ). e.1) edges no_edge c.args.target (targets-rise (0, 0) edges c.requires)
     (Err c.in-Err.field-0) c.in-Err.ensures.bound by_key).absent in
-    let is : get_or edges has.0 no_edge ≡ (a, c.args.target) = get_or_default edges has.0 no_edge (a, c.args.target) has.1 ∙ has.2 in
+    let is : get_or edges has.0 no_edge ≡ (a, c.args.target) =
+    get_or_default edges has.0 no_edge (a, c.args.target) has.1 ∙ has.2 in
     absurd (none has.0 has.1 (ap (λ (e : ℕ × ℕ). e.1) is))

@@ -10,18 +10,23 @@ loop-target-init c =
 
 pub into-requires-clause-lists : goal.into-requires-clause-lists
 into-requires-clause-lists c =
-    fills-long c.args.totals.now c.loop-target.target c.loop-target.lists.items c.args.bytes.now c.loop-target.rest.now c.loop-target.invariant
+    fills-long c.args.totals.now c.loop-target.target c.loop-target.lists.items c.args.bytes.now c.loop-target.rest.now
+    c.loop-target.invariant
 
 pub loop-target-preserved : goal.loop-target-preserved
 loop-target-preserved c =
-    fills-more c.args.totals.now c.loop-target.target c.loop-target.lists.items c.args.bytes.now c.loop-target.rest.now c.into.new.lists.items
-    c.in_ok-rest.rest.now (omega (arith, c.loop-target-test.true, c.target_count-target-end.ensures)) c.loop-target.invariant c.in_ok-rest.ensures
+    fills-more c.args.totals.now c.loop-target.target c.loop-target.lists.items c.args.bytes.now c.loop-target.rest.now
+    c.into.new.lists.items
+    c.in_ok-rest.rest.now (omega (arith, c.loop-target-test.true, c.target_count-target-end.ensures))
+    c.loop-target.invariant c.in_ok-rest.ensures
 
 pub returns-in_err-rest : goal.returns-in_err-rest
 returns-in_err-rest c =
     let p = err_from_is_err_and c.from_residual-in_err-rest.result c.from_residual-in_err-rest.ensures.1 in
-    rw (p.1, p.2) (fills-fails c.args.totals.now c.loop-target.target c.loop-target.lists.items c.args.bytes.now c.loop-target.rest.now c.in_err-rest.field-0.0
-    (omega (arith, c.loop-target-test.true, c.target_count-target-end.ensures)) c.loop-target.invariant c.in_err-rest.ensures)
+    rw (p.1, p.2) (fills-fails c.args.totals.now c.loop-target.target c.loop-target.lists.items c.args.bytes.now
+    c.loop-target.rest.now c.in_err-rest.field-0.0
+    (omega (arith, c.loop-target-test.true, c.target_count-target-end.ensures)) c.loop-target.invariant
+    c.in_err-rest.ensures)
 
 pub returns : goal.returns
 returns c =

@@ -3,21 +3,27 @@ use Rattle.log_codec.proofs.Received.{reads-start, reads-more, reads-fails, read
 use Rattle.log_codec.proofs.targets.edges_from.Goals as goal
 
 pub loop-init : goal.loop-init
-loop-init c = reads-start c.args.totals.now c.args.target c.args.count c.args.lists.now.items c.args.bytes.now c.requires.lists
+loop-init c = reads-start c.args.totals.now c.args.target c.args.count c.args.lists.now.items c.args.bytes.now
+    c.requires.lists
 
 pub loop-preserved : goal.loop-preserved
 loop-preserved c =
-    reads-more c.args.totals.now c.args.target c.args.count c.loop.counter c.args.lists.now.items c.loop.lists.items c.loop.last c.loop.counts c.args.bytes.now
+    reads-more c.args.totals.now c.args.target c.args.count c.loop.counter c.args.lists.now.items c.loop.lists.items
+    c.loop.last c.loop.counts c.args.bytes.now
     c.loop.rest.now c.in_ok-next.next c.in_ok-next.after.now c.pair_at.result c.index_mut.result.now c.push.new.self
-    c.requires.few c.loop-test.true c.in_ok-next.ensures.pair c.loop.invariant c.in_ok-next.ensures.read c.pair_at.ensures.place c.index_mut.ensures.value
+    c.requires.few c.loop-test.true c.in_ok-next.ensures.pair c.loop.invariant c.in_ok-next.ensures.read
+    c.pair_at.ensures.place c.index_mut.ensures.value
     c.in_ok-push.ensures.ok
 
 pub returns-in_err-next : goal.returns-in_err-next
 returns-in_err-next c =
     let p = err_from_is_err_and c.from_residual.result c.from_residual.ensures.1 in
-    rw (p.1, p.2) (reads-fails c.args.totals.now c.args.target c.args.count c.loop.counter c.args.lists.now.items c.loop.lists.items c.loop.last c.loop.counts
-    c.args.bytes.now c.loop.rest.now c.in_err-next.field-0.0 c.loop-test.true c.loop.invariant c.in_err-next.ensures.read)
+    rw (p.1, p.2) (reads-fails c.args.totals.now c.args.target c.args.count c.loop.counter c.args.lists.now.items
+    c.loop.lists.items c.loop.last c.loop.counts
+    c.args.bytes.now c.loop.rest.now c.in_err-next.field-0.0 c.loop-test.true c.loop.invariant
+    c.in_err-next.ensures.read)
 
 pub returns : goal.returns
-returns c = reads-done c.args.totals.now c.args.target c.args.count c.loop.counter c.args.lists.now.items c.loop.lists.items c.loop.last c.loop.counts
+returns c = reads-done c.args.totals.now c.args.target c.args.count c.loop.counter c.args.lists.now.items
+    c.loop.lists.items c.loop.last c.loop.counts
     c.args.bytes.now c.loop.rest.now c.loop-test.false c.loop.invariant

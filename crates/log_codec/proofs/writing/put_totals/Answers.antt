@@ -11,9 +11,11 @@ loop-total-init c = refl
 pub loop-total-preserved : goal.loop-total-preserved
 loop-total-preserved c =
     puts_on (alike number) stay c.loop-total.out.items c.put_u32.new.out.items
-    (c.args.out.now.items ++ totals_text c.args.totals.now) (tt {0}) c.args.totals.now c.loop-total.total-index 0 c.loop-total-test.true
+    (c.args.out.now.items ++ totals_text c.args.totals.now) (tt {0}) c.args.totals.now c.loop-total.total-index 0
+    c.loop-total-test.true
     c.in_ok-put_u32.ensures.ok c.loop-total.invariant
 
 pub returns : goal.returns
 returns c = puts_done (alike number) stay c.loop-total.out.items
-    (c.args.out.now.items ++ totals_text c.args.totals.now) (tt {0}) c.args.totals.now c.loop-total.total-index c.loop-total-test.false c.loop-total.invariant
+    (c.args.out.now.items ++ totals_text c.args.totals.now) (tt {0}) c.args.totals.now c.loop-total.total-index
+    c.loop-total-test.false c.loop-total.invariant

@@ -11,7 +11,8 @@ pub loop-v-init : goal.loop-v-init
 loop-v-init c = (
   (0, 0),
   rw c.in_ok-put_u32.ensures.ok
-      (append_assoc c.args.out.now.items (number (length c.args.vectors.now)) (spelled_in_turn (alike vector_text) end_of (0, 0) c.args.vectors.now)),
+      (append_assoc c.args.out.now.items (number (length c.args.vectors.now))
+      (spelled_in_turn (alike vector_text) end_of (0, 0) c.args.vectors.now)),
 )
 
 pub loop-v-preserved : goal.loop-v-preserved
@@ -20,11 +21,13 @@ loop-v-preserved c =
     let v = get_or c.args.vectors.now c.loop-v.v-index d in (
       last_of v,
       puts_on (alike vector_text) end_of c.loop-v.out.items c.put_vector.new.out.items
-          (c.args.out.now.items ++ vectors_text c.args.vectors.now) c.loop-v.invariant.0 c.args.vectors.now c.loop-v.v-index d c.loop-v-test.true
+          (c.args.out.now.items ++ vectors_text c.args.vectors.now) c.loop-v.invariant.0 c.args.vectors.now
+          c.loop-v.v-index d c.loop-v-test.true
           c.in_ok-put_vector.ensures c.loop-v.invariant.1,
     )
 
 pub returns : goal.returns
 returns c = puts_done (alike vector_text) end_of c.loop-v.out.items
-    (c.args.out.now.items ++ vectors_text c.args.vectors.now) c.loop-v.invariant.0 c.args.vectors.now c.loop-v.v-index c.loop-v-test.false
+    (c.args.out.now.items ++ vectors_text c.args.vectors.now) c.loop-v.invariant.0 c.args.vectors.now c.loop-v.v-index
+    c.loop-v-test.false
     c.loop-v.invariant.1
