@@ -184,7 +184,7 @@ fn loaded(alloc: Global, run: &RunWords, input: Vec<u8>) -> Result<Vec<u8>, Exit
     match flatten(alloc, input.as_slice(), run.params.words) {
         Ok(bytes) => Ok(bytes),
         Err(ElfFault::OutOfMemory) => Err(Exit::OutOfMemory),
-        Err(fault) => Err(Exit::Elf { fault }),
+        Err(fault) => Err(Exit::Elf(fault)),
     }
 }
 
@@ -275,9 +275,9 @@ fn certified(alloc: Global, recording: Recording) -> Result<Vec<u8>, Exit>
     let audited = audited(alloc, recording, Which::Reduced)?;
     match certify(alloc, &audited) {
         Ok(certificate) => Ok(spell_certificate(alloc, &certificate)?),
-        Err(CertFault::NotLeast { edge }) => Err(Exit::CheckFailed {
-            failure: CheckFailure::NotLeast { edge },
-        }),
+        Err(CertFault::NotLeast { edge }) => {
+            Err(Exit::CheckFailed(CheckFailure::NotLeast { edge }))
+        }
         Err(CertFault::OutOfMemory) => Err(Exit::OutOfMemory),
     }
 }
@@ -295,7 +295,7 @@ fn checked(alloc: Global, certificate: &Certificate) -> Result<Vec<u8>, Exit>
             Ok(check_text(alloc, edges)?)
         }
         Err(CheckFault::Audit(fault)) => Err(exit_of_audit(fault)),
-        Err(CheckFault::Failed(failure)) => Err(Exit::CheckFailed { failure }),
+        Err(CheckFault::Failed(failure)) => Err(Exit::CheckFailed(failure)),
         Err(CheckFault::OutOfMemory) => Err(Exit::OutOfMemory),
     }
 }
