@@ -7,8 +7,6 @@ mod image;
 mod laws;
 mod programs;
 mod shape;
-#[cfg(test)]
-mod tests;
 
 pub use image::gen_image;
 pub use laws::generated_images;
