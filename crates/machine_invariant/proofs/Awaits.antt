@@ -96,7 +96,7 @@ module _ {R K : Type 0} where
       list_all (λ act. not (is_want act d)) (acts riding carrying rider s m) ≡ true
   step_asks_not riding carrying rider s (CoreMove c) d other =
       worked_asks_not c d rider (need_access (need s.image (core_at s.cores c)))
-          (event riding carrying s (CoreMove c)) other
+      (event riding carrying s (CoreMove c)) other
   step_asks_not riding carrying rider s (RequestMove c) d other = refl
   step_asks_not riding carrying rider s (ResponseMove c) d other = refl
   step_asks_not riding carrying rider s (MessageMove c) d other =
@@ -109,7 +109,7 @@ module _ {R K : Type 0} where
       event_working image riding core p ≡ Accesses (access_of image riding core p word kind)
   access_made image riding core p kind word is allowed =
       ap (λ (needed : Option (Kind × ℕ)). event_working_in needed (is_done (need image core)) image riding core p) is
-          ∙ rw allowed refl
+      ∙ rw allowed refl
 
   -- ---- what moves tell in a state that holds
 
@@ -145,7 +145,7 @@ module _ {R K : Type 0} where
   message_cases riding carrying s c P h within quiet comes =
       receiving_cases s.image riding carrying (core_at s.cores c) (port_at carrying s.memory.ports c) P quiet
       (λ next. by_grant next (data_granted riding carrying s.memory c (need_access (need s.image (core_at s.cores c)))
-          h.memory
+      h.memory
       (core_port riding carrying s c h within) next (h.cores c within).awaited))
     where
       taken : Port R K

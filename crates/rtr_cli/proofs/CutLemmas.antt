@@ -1,12 +1,11 @@
 -- The state at a cut: it is an outcome over the recording's image, and there is one.
-use Rattle.std.proofs.Common.{◌≡◌, ◌∙◌, sym, ap, subst, Bool, true, false, List, ℕ, Result, Ok, Err}
+use Rattle.std.proofs.Common.{◌≡◌, ◌∙◌, sym, ap, subst, Bool, true, false, List, ℕ}
 use Rattle.rtr_types.specs.declared.cut.Cut.{Cut}
 use Rattle.rtr_types.specs.declared.instr.Instr.{Instr}
 use Rattle.rtr_types.specs.declared.pairs.Which.{Which}
 use Rattle.image_mem.specs.Contents.{Contents}
 use Rattle.rv_core.specs.declared.outcome.Outcome.{Outcome}
 use Rattle.log_codec.specs.declared.recording.Recording.{Recording}
-use Rattle.log_codec.specs.Reading.{whole_at}
 use Rattle.log_codec.specs.Validity.{Valid}
 use Rattle.replay_core.specs.Plans.{plan_of, recorded_image}
 use Rattle.replay_core.specs.Play.{played}
@@ -18,7 +17,7 @@ use Rattle.state_text.specs.Cuts.{cut_state_lines}
 use Rattle.state_text.specs.States.{IsOutcomeOf}
 use Rattle.state_text.specs.declared.exit.Exit.{Exit}
 use Rattle.state_text.specs.declared.exit.Exit.TheVariants as exits
-use Rattle.rtr_cli.specs.Commands.{AtEnds, AtMakesOne, AuditEnds, IsCutAt, IsReplayed, IsToldAt, SpellsSome}
+use Rattle.rtr_cli.specs.Commands.{AtEnds, AuditEnds, IsCutAt, IsReplayed, IsToldAt}
 
 -- what a replay order plays to is an outcome over the recording's image
 pub state_fits : ReplayFitsLaw → (which : Which) (r : Recording) (image : Contents) (cut : Cut) (outcome : Outcome)
@@ -38,7 +37,7 @@ one_cut least greatest which r at false cut other is also = least which r at cut
 one_cut least greatest which r at true cut other is also = greatest which r at cut other is also
 
 -- and so one text
-one_text : OneLeastCutLaw → OneGreatestCutLaw → OneStateLaw → (which : Which) (at : Instr) (latest loads : Bool) (r : Recording) (out other : List ℕ)
+pub one_text : OneLeastCutLaw → OneGreatestCutLaw → OneStateLaw → (which : Which) (at : Instr) (latest loads : Bool) (r : Recording) (out other : List ℕ)
     → IsToldAt which at latest loads r out → IsToldAt which at latest loads r other → out ≡ other
 one_text least greatest state which at latest loads r out other (has, cut, outcome, is_cut, is_state, is) (has', cut', outcome', is_cut', is_state', is') =
     let same_cut : cut' ≡ cut = one_cut least greatest which r at latest cut' cut is_cut' is_cut in
@@ -46,14 +45,6 @@ one_text least greatest state which at latest loads r out other (has, cut, outco
     state which r cut outcome outcome' is_state (subst (λ (c : Cut). IsStateAt which r c outcome') same_cut is_state') in
     is ∙ ap (λ (o : Outcome). cut_state_lines cut o (recorded_image r) loads) same_state
     ∙ ap (λ (c : Cut). cut_state_lines c outcome' (recorded_image r) loads) (sym same_cut) ∙ sym is'
-
-pub at_makes_one : OneLeastCutLaw → OneGreatestCutLaw → OneStateLaw → AtMakesOne
-at_makes_one least greatest state which at latest loads input out other made also = by (whole_at input) made also
-  where
-    by : (read : Result Recording ℕ) → SpellsSome read (λ r. IsToldAt which at latest loads r out)
-        → SpellsSome read (λ r. IsToldAt which at latest loads r other) → out ≡ other
-    by (Ok r) h k = one_text least greatest state which at latest loads r out other h k
-    by (Err part) h k = absurd h
 
 -- what an audit's recording and log are replaced by: those that were audited
 pub told_of : (which : Which) (at : Instr) (latest loads : Bool) (r : Recording) (a : Findings) (image : Contents) (cut : Cut) (outcome : Outcome)

@@ -11,7 +11,7 @@ use Rattle.replay_core.specs.Orders.{low_order}
 use Rattle.replay_audit.specs.Audits.{EveryOrderAgrees}
 use Rattle.replay_audit.specs.Determinate.{IsDeterminate}
 use Rattle.replay_audit.specs.Laws.{EveryOrderLaw}
-use Rattle.replay_table.specs.Seats.{Ended as TableEnd}
+use Rattle.replay_table.specs.Seats.{Ended as TableEnd, IsEnd}
 use Rattle.state_text.specs.declared.exit.Exit.{Exit}
 use Rattle.state_text.specs.declared.exit.Exit.TheVariants as exits
 use Rattle.tool_words.specs.Commands.{HasFittingParams}
@@ -23,7 +23,7 @@ use Rattle.rtr_cli.specs.declared.joint.Asked.{Asked}
 use Rattle.rtr_cli.specs.Answers.{Answers, IsRead}
 use Rattle.rtr_cli.specs.Commands.{IsReplayed, Refuses, SpellsSome, file_bytes_max, most_of}
 use Rattle.rtr_cli.specs.Completeness.{Accepts, EndsWell, HasLeft, IsFaultless}
-use Rattle.rtr_cli.specs.Joints.{PrintsJoint, PrintsSome, asked_by, command_of, joint_lines}
+use Rattle.rtr_cli.specs.Joints.{ClosesWith, PrintsJoint, PrintsSome, asked_by, command_of, joint_lines}
 
 none_some : {X : Type 0} (x : X) → None ≡ Some x → ⊥
 none_some x e = cc
@@ -66,12 +66,13 @@ spells_more (Err e) P Q f h = absurd h
 
 -- what was given is the text of what the closed table comes to
 pub prints_joint : (a : Asked) (closed : TableEnd) (left left' got got' : Option (List ℕ)) (input out : List ℕ) → IsRead file_bytes_max left left' input →
-    SpellsSome (whole_at input) (λ r. out ≡ joint_lines a.loads closed r) → Appends got got' out → PrintsJoint a.loads closed left left' got got'
+    SpellsSome (whole_at input) (λ r. (out ≡ joint_lines a.loads closed r) × IsEnd (plan_of a.which r) closed) → Appends got got' out →
+    PrintsJoint a closed left left' got got'
 prints_joint a closed left left' got got' input out taken printed whole = (
   input,
   taken,
-  spells_more (whole_at input) (λ (r : Recording). out ≡ joint_lines a.loads closed r) (λ (r : Recording). Appends got got' (joint_lines a.loads closed r))
-      (λ r e. subst (λ (l : List ℕ). Appends got got' l) e whole) printed,
+  spells_more (whole_at input) (λ (r : Recording). (out ≡ joint_lines a.loads closed r) × IsEnd (plan_of a.which r) closed) (ClosesWith a closed got got')
+      (λ r e. (subst (λ (l : List ℕ). Appends got got' l) e.0 whole, e.1)) printed,
 )
 
 -- a determinate recording is replayed by every order alike
@@ -111,7 +112,7 @@ usage_asked meant words a exit left left' got got' same asked h = (
 
 pub closed_asked : (meant words : Option Command) (a : Asked) (exit : Exit) (joint : Option TableEnd) (left left' got got' : Option (List ℕ)) →
     meant ≡ words → asked_by meant ≡ Some a →
-    IfSome joint (λ closed. (exit ≡ exits.Done) × PrintsJoint a.loads closed left left' got got') →
+    IfSome joint (λ closed. (exit ≡ exits.Done) × PrintsJoint a closed left left' got got') →
     IfSome joint (λ closed. (exit ≡ exits.Done) × PrintsSome (asked_by words) closed left left' got got')
 closed_asked meant words a exit joint left left' got got' same asked h =
     subst (λ (o : Option Asked). IfSome joint (λ closed. (exit ≡ exits.Done) × PrintsSome o closed left left' got got'))

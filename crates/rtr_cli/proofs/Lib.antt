@@ -8,3 +8,7 @@ pub mod Certified
 pub mod CompletenessLemmas
 pub mod CutLemmas
 pub mod ThinLemmas
+mod Listed
+mod OneCertificate
+mod OneThinning
+mod OneOutput

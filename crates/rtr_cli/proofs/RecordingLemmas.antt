@@ -1,15 +1,16 @@
 -- What a recording has of its run.
-use Rattle.std.proofs.Common.{◌≡◌, ◌∙◌, refl, sym, ap, subst, ℕ, ◌*◌, ◌≤◌, List, length, Result, Ok}
+use Rattle.std.proofs.Common.{◌≡◌, ◌∙◌, refl, sym, ap, subst, ℕ, ◌*◌, ◌≤◌, List, length, Result, Ok, arith}
 use Rattle.image_mem.specs.Contents.{Contents}
 use Rattle.rtr_types.specs.Parameters.{Fits}
 use Rattle.rtr_types.specs.declared.pairs.Which.{Which}
 use Rattle.rtr_types.specs.declared.pairs.Which.TheVariants.{Reduced}
 use Rattle.rtr_types.specs.declared.params.Params.{Params}
 use Rattle.rv_core.specs.declared.outcome.Outcome.{Outcome}
-use Rattle.schedule_pick.specs.Choices.{Choices, choices_of}
+use Rattle.schedule_pick.specs.Choices.{Choices, choice_at, choices_of}
 use Rattle.log_codec.specs.Reading.{whole_at}
 use Rattle.log_codec.specs.Spelling.{spelling}
 use Rattle.log_codec.specs.declared.recording.Recording.{Recording}
+use Rattle.machine_bound.proofs.Ends.{run_ends}
 use Rattle.run_outcome.specs.Outcomes.{outcome_of}
 use Rattle.run_records.specs.Recordings.{recording_of}
 use Rattle.replay_audit.specs.Audits.{AuditRefuses, Findings, IsAuditOf}
@@ -49,6 +50,7 @@ keeps_run params choices seed input fits room =
     let accepted : SpellsSome (whole_at (spelling r)) IsOfRecord =
     subst (λ (read : Result Recording ℕ). SpellsSome read IsOfRecord) (sym recorded.read_back) of_record in
     record {
+      ended = run_ends image params (choice_at schedule) (record { cores = fits.cores; limit = omega (arith, fits.limit) });
       recorded = recorded;
       regulates = run_regulated image params schedule fits refl room;
       replays = replays;

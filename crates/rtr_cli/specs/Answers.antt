@@ -41,8 +41,8 @@ GivesNothing command exit left left' got got' =
 
 -- what a command's exit says of the bytes that the input had left and of those that the output got. The input of a
 -- command that takes none is as it was.
--- At Done the output got exactly what the command makes of the input, which is as promised, and at
--- WriteFault a part of it. At ReadFault no more was taken than the command takes, and at OutOfMemory at most one byte
+-- At Done the output got exactly what the command makes of the input, and at WriteFault a part of it; at both that is as
+-- promised. At ReadFault no more was taken than the command takes, and at OutOfMemory at most one byte
 -- more.
 abbrev pub Answers : Command → Exit → (left left' got got' : Option (List ℕ)) → Type 0
 Answers command exits.Done left left' got got' =
@@ -50,7 +50,7 @@ Answers command exits.Done left left' got got' =
     × Makes command input out × Promised command input × Appends got got' out
 Answers command exits.WriteFault left left' got got' =
     (input : List ℕ) × (out : List ℕ) × IsTaken (most_of command) left left' input
-    × Makes command input out × GivesPart out got got'
+    × Makes command input out × Promised command input × GivesPart out got got'
 Answers command (exits.Bad part) left left' got got' = GivesNothing command (exits.Bad part) left left' got got'
 Answers command (exits.Stuck cut) left left' got got' = GivesNothing command (exits.Stuck cut) left left' got got'
 Answers command (exits.Short core count) left left' got got' =

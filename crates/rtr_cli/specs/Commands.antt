@@ -7,7 +7,9 @@ use Rattle.image_elf.specs.Faults.{elf_fault}
 use Rattle.image_elf.specs.FlatImage.{flat_image}
 use Rattle.image_mem.specs.Contents.{Contents}
 use Rattle.rv_core.specs.declared.outcome.Outcome.{Outcome}
-use Rattle.schedule_pick.specs.Choices.{choices_of}
+use Rattle.schedule_pick.specs.Choices.{choice_at, choices_of}
+use Rattle.machine_bound.specs.Ends.{end_of}
+use Rattle.msi_state.specs.Runs.{IsRunEnd}
 use Rattle.run_outcome.specs.Outcomes.{outcome_of}
 use Rattle.log_codec.specs.declared.recording.Recording.{Recording}
 use Rattle.rtr_types.specs.declared.cut.Cut.{Cut}
@@ -384,14 +386,19 @@ CheckEnds c exit = Ends (λ fault. AuditRefuses Reduced c.recording fault) (Chec
 abbrev pub flat_run : Params → (choices : List ℕ) (seed : ℕ) → RunWords
 flat_run params choices seed = record { params = params; choices = choices; seed = seed; elf = false }
 
+-- the run ends where its outcome is taken: there each core's program is done, and at no moment before
+abbrev pub RunEnds : Contents → Params → (choices : ℕ → ℕ) → Type 0
+RunEnds image params choices = IsRunEnd image params choices (end_of image params choices)
+
 -- of the recording of a run of the image of these bytes. Its spelling is read back as it, and its reduced log is the
 -- least set of the run's accesses.
--- Its regulated log has the greedy vectors by what is known in the run: each of its edges goes from an instruction to
--- one that retired later, and each edge of the reduced log is before by it, with no more vectors for a pair of cores
+-- The run ended, each core's program being done. Its regulated log has the greedy vectors by what is known in the run:
+-- each of its edges goes from an instruction to one that retired later, and each edge of the reduced log is before by it, with no more vectors for a pair of cores
 -- than edges. Every order that obeys either log replays the run: it gives each load the run's value, and is whole or
 -- can go on; a whole one ends in the run's memory and cores. So `replay` of its spelling with either log prints what
 -- `run` prints of the same image and options, and it and `certify` give nothing for no other reason than want of memory
 pub record KeepsRun (params : Params) (choices : List ℕ) (seed : ℕ) (bytes : List ℕ) : Type 0 where
+  pub ended : RunEnds (image_of params bytes) params (choice_at (choices_of choices seed))
   pub recorded : IsRecorded (image_of params bytes) params (choices_of choices seed)
   pub regulates : RegulatesRun (image_of params bytes) params (choices_of choices seed)
       (recording_of_bytes params choices seed bytes)
@@ -438,10 +445,10 @@ MigratedReadsTheSame = (input out : List ℕ) → IsBytes input → Makes Migrat
 abbrev pub NewestStays : Type 0
 NewestStays = (r : Recording) → Valid r → Makes Migrate (spelling r) (spelling r)
 
--- what at makes of an input is one output
-abbrev pub AtMakesOne : Type 0
-AtMakesOne = (which : Which) (at : Instr) (latest loads : Bool) (input out other : List ℕ) →
-    Makes (At which at latest loads) input out → Makes (At which at latest loads) input other → out ≡ other
+-- what a command makes of an input is one output
+abbrev pub MakesOne : Type 0
+MakesOne = (command : Command) (input out other : List ℕ) → Makes command input out → Makes command input other →
+    out ≡ other
 
 -- the recording that thin makes of an input is refused by a replay of its regulated log for want of memory alone
 abbrev pub ThinnedIsReplayed : Type 0

@@ -4,8 +4,8 @@ use Rattle.std.specs.Io.KnownBytes.{Appends}
 use Rattle.rtr_types.specs.declared.pairs.Which.{Which}
 use Rattle.log_codec.specs.declared.recording.Recording.{Recording}
 use Rattle.log_codec.specs.Reading.{whole_at}
-use Rattle.replay_core.specs.Plans.{recorded_image}
-use Rattle.replay_table.specs.Seats.{Ended as TableEnd}
+use Rattle.replay_core.specs.Plans.{plan_of, recorded_image}
+use Rattle.replay_table.specs.Seats.{Ended as TableEnd, IsEnd}
 use Rattle.state_text.specs.States.{state_lines}
 use Rattle.tool_words.specs.declared.command.Command.{Command}
 use Rattle.tool_words.specs.declared.command.Command.TheVariants.{Record, Run, Print, Replay, Migrate, Certify, Check}
@@ -43,13 +43,19 @@ command_of a = Replay a.which (Some a.threads) a.loads
 abbrev pub joint_lines : (loads : Bool) → TableEnd → Recording → List ℕ
 joint_lines loads closed r = state_lines closed.outcome (recorded_image r) loads
 
--- the input was read to its end, spells a recording, and the output got the text of what this closed table comes to
-abbrev pub PrintsJoint : (loads : Bool) → TableEnd → (left left' got got' : Option (List ℕ)) → Type 0
-PrintsJoint loads closed left left' got got' =
+-- the table was closed behind a replay of this recording, of whose play it has the outcome and each core's accesses; and the
+-- output got the text of what it comes to
+abbrev pub ClosesWith : Asked → TableEnd → (got got' : Option (List ℕ)) → Recording → Type 0
+ClosesWith asked closed got got' r =
+    Appends got got' (joint_lines asked.loads closed r) × IsEnd (plan_of asked.which r) closed
+
+-- the input was read to its end and spells a recording of which that is so
+abbrev pub PrintsJoint : Asked → TableEnd → (left left' got got' : Option (List ℕ)) → Type 0
+PrintsJoint asked closed left left' got got' =
     (input : List ℕ) × IsRead file_bytes_max left left' input
-    × SpellsSome (whole_at input) (λ r. Appends got got' (joint_lines loads closed r))
+    × SpellsSome (whole_at input) (ClosesWith asked closed got got')
 
 -- the same where a replay is asked for
 abbrev pub PrintsSome : Option Asked → TableEnd → (left left' got got' : Option (List ℕ)) → Type 0
 PrintsSome None closed left left' got got' = ⊥
-PrintsSome (Some asked) closed left left' got got' = PrintsJoint asked.loads closed left left' got got'
+PrintsSome (Some asked) closed left left' got got' = PrintsJoint asked closed left left' got got'

@@ -30,7 +30,7 @@ use image_mem::Image;
 use log_codec::{Recording, read, spell};
 use machine_run::run_image;
 use min_certificate::{CertFault, CheckFailure, CheckFault, certify, check};
-use recorder::record_run;
+use recorder::record_image;
 use replay_audit::laws::replays_fit_their_plan;
 use replay_audit::{AuditFault, Audited, audit};
 use rtr_types::{Params, Which};
@@ -184,7 +184,7 @@ fn loaded(alloc: Global, run: &RunWords, input: Vec<u8>) -> Result<Vec<u8>, Exit
     match flatten(alloc, input.as_slice(), run.params.words) {
         Ok(bytes) => Ok(bytes),
         Err(ElfFault::OutOfMemory) => Err(Exit::OutOfMemory),
-        Err(fault) => Err(Exit::Elf { fault }),
+        Err(fault) => Err(Exit::Elf(fault)),
     }
 }
 
@@ -200,8 +200,8 @@ fn record(
     ensures { IfOk result (λ out. out.items ≡ spelling (recording_of (image_of params bytes.items) params schedule)) }
 {
     let image = image(bytes, params.words);
-    let recorded = record_run(alloc, image, params, schedule)?;
-    spell(alloc, &recorded.recording)
+    let recording = record_image(alloc, image, params, schedule)?;
+    spell(alloc, &recording)
 }
 
 /// The text of how a run of the image ended.
@@ -233,12 +233,8 @@ fn replay(alloc: Global, recording: Recording, which: Which, loads: bool) -> Res
     replays_fit_their_plan();
     let audited = audited(alloc, recording, which)?;
     let (recording, outcome) = audited.into_parts();
-    let Recording {
-        params,
-        image: bytes,
-        ..
-    } = recording;
-    let image = image(bytes.into_vec(), params.words);
+    let words = recording.params.words;
+    let image = image(recording.into_image().into_vec(), words);
     Ok(state_text(alloc, &outcome, &image, loads)?)
 }
 
@@ -275,9 +271,9 @@ fn certified(alloc: Global, recording: Recording) -> Result<Vec<u8>, Exit>
     let audited = audited(alloc, recording, Which::Reduced)?;
     match certify(alloc, &audited) {
         Ok(certificate) => Ok(spell_certificate(alloc, &certificate)?),
-        Err(CertFault::NotLeast { edge }) => Err(Exit::CheckFailed {
-            failure: CheckFailure::NotLeast { edge },
-        }),
+        Err(CertFault::NotLeast { edge }) => {
+            Err(Exit::CheckFailed(CheckFailure::NotLeast { edge }))
+        }
         Err(CertFault::OutOfMemory) => Err(Exit::OutOfMemory),
     }
 }
@@ -295,7 +291,7 @@ fn checked(alloc: Global, certificate: &Certificate) -> Result<Vec<u8>, Exit>
             Ok(check_text(alloc, edges)?)
         }
         Err(CheckFault::Audit(fault)) => Err(exit_of_audit(fault)),
-        Err(CheckFault::Failed(failure)) => Err(Exit::CheckFailed { failure }),
+        Err(CheckFault::Failed(failure)) => Err(Exit::CheckFailed(failure)),
         Err(CheckFault::OutOfMemory) => Err(Exit::OutOfMemory),
     }
 }

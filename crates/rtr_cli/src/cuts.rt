@@ -56,12 +56,8 @@ fn told(
     ensures { IfOk result (λ out. out.items
         ≡ cut_state_lines cut.now outcome.now (recorded_image recording) loads) }
 {
-    let Recording {
-        params,
-        image: bytes,
-        ..
-    } = recording;
-    let image = image(bytes.into_vec(), params.words);
+    let words = recording.params.words;
+    let image = image(recording.into_image().into_vec(), words);
     cut_state_text(alloc, cut, outcome, &image, loads)
 }
 

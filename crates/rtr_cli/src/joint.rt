@@ -3,6 +3,8 @@ ghost use Rattle.std.specs.Prelude.{◌≡◌, ◌≢◌, ◌⊎◌, ℕ, List, 
 ghost use Rattle.log_codec.specs.Reading.{whole_at};
 ghost use Rattle.log_codec.specs.Validity.{Valid};
 ghost use Rattle.replay_audit.specs.Determinate.{IsDeterminate};
+ghost use Rattle.replay_core.specs.Plans.{plan_of};
+ghost use Rattle.replay_table.specs.Seats.{IsEnd};
 ghost use Rattle.rtr_io.specs.Faults.{HasRisen};
 ghost use Rattle.tool_words.specs.Commands.{AreFewThreads, HasFittingParams};
 ghost use Rattle.rtr_cli.specs.Answers.{Answers};
@@ -95,7 +97,7 @@ pub(crate) fn perform_joint<R: Threads + Wait + Sync, I: Source, O: Sink, G: Gat
         IsFaultless (O.faults output.old) (O.faults output.new) → EndsWell result.exit }
     ensures none { IfNone result.joint (result.exit ≢ Exit.Done) }
     ensures closed { IfSome result.joint (λ closed. (result.exit ≡ Exit.Done)
-        × PrintsJoint asked.loads closed (I.left input.old) (I.left input.new) (O.got output.old) (O.got output.new)) }
+        × PrintsJoint asked closed (I.left input.old) (I.left input.new) (O.got output.old) (O.got output.new)) }
 {
     let bytes = match take(alloc, Some(FILE_BYTES_MAX), input) {
         Ok(bytes) => bytes,
@@ -147,7 +149,7 @@ fn make_joint<R: Threads + Wait + Sync, G: Gate>(
     requires { AreFewThreads (Some asked.threads) }
     ensures made { IfOk result (λ made. Makes (command_of asked) bytes.items made.out.items) }
     ensures printed { IfOk result (λ made. SpellsSome (whole_at bytes.items)
-        (λ r. made.out.items ≡ joint_lines asked.loads made.closed r)) }
+        (λ r. (made.out.items ≡ joint_lines asked.loads made.closed r) × IsEnd (plan_of asked.which r) made.closed)) }
     ensures promised { OnOk result (Promised (command_of asked) bytes.items) }
     ensures refused { IfErr result (Refuses (command_of asked) bytes.items) }
 {
@@ -168,7 +170,8 @@ fn replay_joint<R: Threads + Wait + Sync, G: Gate>(
     requires valid { Valid recording }
     requires few { AreFewThreads (Some asked.threads) }
     ensures made { IfOk result (λ made. made.out.items ≡ replay_lines asked.which asked.loads recording) }
-    ensures printed { IfOk result (λ made. made.out.items ≡ joint_lines asked.loads made.closed recording) }
+    ensures printed { IfOk result (λ made. (made.out.items ≡ joint_lines asked.loads made.closed recording)
+        × IsEnd (plan_of asked.which recording) made.closed) }
     ensures determinate { OnOk result (IsReplayed asked.which recording) }
     ensures refused { IfErr result (AuditEnds asked.which recording) }
 {
@@ -176,12 +179,8 @@ fn replay_joint<R: Threads + Wait + Sync, G: Gate>(
     every_order_agrees();
     match replay_parallel(rt, alloc, &recording, asked.which, asked.threads, gate) {
         Ok(Joint::Ran(closed)) => {
-            let Recording {
-                params,
-                image: bytes,
-                ..
-            } = recording;
-            let image = image(bytes.into_vec(), params.words);
+            let words = recording.params.words;
+            let image = image(recording.into_image().into_vec(), words);
             let out = state_text(alloc, closed.outcome(), &image, asked.loads)?;
             Ok(Made { out, closed })
         }

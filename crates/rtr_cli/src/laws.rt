@@ -1,5 +1,5 @@
 //! What the commands' definitions promise of their outputs.
-ghost use Rattle.rtr_cli.specs.Commands.{AtMakesOne, CertifiedIsAccepted, MigratedReadsTheSame, NewestStays};
+ghost use Rattle.rtr_cli.specs.Commands.{CertifiedIsAccepted, MakesOne, MigratedReadsTheSame, NewestStays};
 ghost use Rattle.rtr_cli.specs.Commands.{ThinnedIsReplayed};
 ghost use Rattle.rtr_cli.specs.Completeness.{AcceptedIsNotRefused, WrittenIsAccepted};
 
@@ -18,9 +18,11 @@ pub fn certify_laws()
     ensures { CertifiedIsAccepted }
 {}
 
-/// What `at` makes of a recording is one text: an instruction has one cut of each kind, and a cut one state.
-pub fn at_laws()
-    ensures { AtMakesOne }
+/// What a command makes of an input is one output. That is so of `certify`, since exact clocks are one, of `at`, since an
+/// instruction has one cut of each kind and a cut one state, and of `thin`, since vectors have one thinning, of which each
+/// is shown by its first edge that the others don't imply and the least cut.
+pub fn each_command_makes_one_output()
+    ensures { MakesOne }
 {
     one_cut_each();
     one_state();

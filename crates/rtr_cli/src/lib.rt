@@ -11,6 +11,8 @@ mod thins;
 mod tool;
 
 pub use joint::Ended;
-pub use laws::{at_laws, certify_laws, completeness_laws, migrate_laws, thin_laws};
+pub use laws::{
+    certify_laws, completeness_laws, each_command_makes_one_output, migrate_laws, thin_laws,
+};
 pub use soak_texts::soak_text;
-pub use tool::{run_alone, run_tool};
+pub use tool::{run_alone, run_tool, tell};

@@ -227,8 +227,8 @@ pub(crate) fn take<I: Source>(
     }
 }
 
-/// Tells the report how the call ended.
-fn tell<E: Sink>(report: &mut E, exit: &Exit)
+/// Tells the report how a call ended: the exit's text, which is empty for `Done`. A fault of the report is told nobody.
+pub fn tell<E: Sink>(report: &mut E, exit: &Exit)
     ensures { Tells (fault_line exit.now) (E.got report.old) (E.got report.new) (E.faults report.old)
         (E.faults report.new) }
 {

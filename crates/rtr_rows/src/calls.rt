@@ -3,9 +3,10 @@
 use crate::record_tables::Recorded;
 use crate::tables::Row;
 use replay_threads::{Gate, OpenGate};
-use rtr_cli::run_tool;
+use rtr_cli::{Ended, run_tool};
 use rtr_io::{MemSink, MemSource};
 use std::alloc::{AllocError, Global};
+use std::process::Abort;
 use std::sync::Wait;
 use std::thread::Threads;
 
@@ -123,10 +124,37 @@ pub fn ask_at<R: Threads + Wait + Sync, G: Gate>(
         &mut report,
         gate,
     );
+    answer_of(alloc, &ended, &output, &report)
+}
+
+/// The answer of a call that ended so and gave these streams what they got.
+pub fn answer_of(
+    alloc: Global,
+    ended: &Ended,
+    output: &MemSink,
+    report: &MemSink,
+) -> Result<Answer, AllocError> {
     Ok(Answer {
         status: ended.exit.status(),
         joint: ended.joint.is_some(),
         output: output.bytes().to_vec(alloc)?,
         report: report.bytes().to_vec(alloc)?,
     })
+}
+
+/// Asks with these words and this input, where nothing fails and the gate stands open, and compares the answer.
+pub fn asks<R: Abort + Threads + Wait + Sync>(
+    rt: &R,
+    alloc: Global,
+    words: &str,
+    input: Vec<u8>,
+    status: u8,
+    output: &[u8],
+    report: &str,
+) -> Result<(), AllocError> {
+    let answer = ask(rt, alloc, words, input)?;
+    assert_eq!(rt; answer.status, status, "{words}");
+    assert_eq!(rt; answer.output.as_slice(), output, "{words}");
+    assert_eq!(rt; answer.report.as_slice(), report.as_bytes(), "{words}");
+    Ok(())
 }

@@ -51,7 +51,7 @@ macro_rules! refused {
     };
 }
 
-pub static CERTIFICATES: [Row; 23] = [
+pub static CERTIFICATES: [Row; 27] = [
     // One core has no edge, and so no clock.
     certified!("52545202 01 904e 808001 04 73000000 01", "00"),
     least!(
@@ -87,6 +87,35 @@ pub static CERTIFICATES: [Row; 23] = [
         "52545201 02 904e 20 20 631a0500 93027000 23205004 03230004 73000000 83230004 2320a004 73000000 0504 \
             010203 010403 01010302 01010304 02 0300 0403 02 0302 0303",
         "least 2 edges\n"
+    ),
+    // So may one whose clock is wrong, and one with a byte too many; and `print` and `check` each read their own form.
+    refused!(
+        "check",
+        "52545201 02 904e 20 20 631a0500 93027000 23205004 03230004 73000000 83230004 2320a004 73000000 0504 \
+            010203 010403 01010302 01010304 02 0300 0402 02 0302 0303",
+        7,
+        "rtr: clock 2 of core 0 is wrong\n"
+    ),
+    refused!(
+        "check",
+        "52545201 02 904e 20 20 631a0500 93027000 23205004 03230004 73000000 83230004 2320a004 73000000 0504 \
+            010203 010403 01010302 01010304 02 0300 0403 02 0302 0303 00",
+        3,
+        "rtr: bad input, part 7\n"
+    ),
+    refused!(
+        "print",
+        "52545201 02 904e 20 20 631a0500 93027000 23205004 03230004 73000000 83230004 2320a004 73000000 0504 \
+            010203 010403 01010302 01010304 02 0300 0403 02 0302 0303",
+        3,
+        "rtr: bad input, part 6\n"
+    ),
+    refused!(
+        "check",
+        "52545201 02 904e 20 20 631a0500 93027000 23205004 03230004 73000000 83230004 2320a004 73000000 0504 \
+            010203 010403 01010302 01010304",
+        3,
+        "rtr: bad input, part 6\n"
     ),
     // 1:3 comes before 0:4, and the clock of 0:4 has only two of core 1's instructions. In the other row, 0:3 comes
     // before 1:2, whose clock lacks it.

@@ -75,13 +75,23 @@ const BRANCHED: &str = "cut 0 1\n\
     core 1 x10 00000001\n";
 
 /// The rows.
-pub static STATES: [Replayed; 14] = [
+pub static STATES: [Replayed; 15] = [
     told!("at --core 1 --count 2", READ),
     told!("at --core 1 --count 2 --latest", UNREAD),
     told!("at --core 0 --count 5 --loads", ENDED),
     told!("at --log regulated --loads --count 5 --core 0", ENDED),
     told!("at --core 0 --count 3 --latest --log=regulated", UNWRITTEN),
     told!("at --core 1 --count 1 --loads", BRANCHED),
+    // Core 0 has five instructions.
+    Replayed {
+        words: "at --core 0 --count 6",
+        header: "52545201 02 904e 20 20",
+        image: HANDED_OVER,
+        logs: "0504 01 02 03 01 04 03 01 01 03 02 01 01 03 04",
+        status: 12,
+        text: "",
+        report: "rtr: no instruction 0:6\n",
+    },
     // Core 0 has three instructions, and there are two cores.
     refused!(
         "at --core 0 --count 6",

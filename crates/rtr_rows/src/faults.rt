@@ -1,11 +1,13 @@
 //! Sources and sinks that fail.
 
-use crate::calls::{bytes, words};
+use crate::calls::{Answer, answer_of, bytes, words};
 use replay_threads::OpenGate;
 use rtr_cli::run_tool;
 use rtr_io::{MemSink, MemSource};
-use std::alloc::Global;
+use std::alloc::{AllocError, Global};
+use std::sync::Wait;
 use std::test::Fail;
+use std::thread::Threads;
 
 /// The words; the call of the input, of the output and of the report that fails (0 for none), and the most
 /// bytes that a call of the output takes; then the status, how many bytes of the output were given, and the
@@ -65,33 +67,44 @@ static ROWS: [Row; 22] = [
     fault!("", 0, 0, 1, 99, 1, 0, ""),
 ];
 
+/// The answer to the row's words and the image of one ECALL, where the streams fail as it says.
+fn answer_to(
+    rt: &(impl Threads + Wait + Sync),
+    alloc: Global,
+    row: &Row,
+) -> Result<Answer, AllocError> {
+    let words = words(alloc, row.words)?;
+    let image = bytes(alloc, "73000000")?;
+    let mut input = MemSource::new(image, one(alloc, row.input_fails)?, 99);
+    let mut output = MemSink::new(alloc, 99, one(alloc, row.output_fails)?, row.most.max(1))?;
+    let mut report = MemSink::new(alloc, 99, one(alloc, row.report_fails)?, 99)?;
+    let ended = run_tool(
+        rt,
+        alloc,
+        words.as_slice(),
+        &mut input,
+        &mut output,
+        &mut report,
+        &OpenGate,
+    );
+    answer_of(alloc, &ended, &output, &report)
+}
+
 #[test]
 fn a_fault_is_told_and_a_fault_of_the_report_changes_nothing(rt: HostRuntime) -> Result<(), Fail> {
     let alloc = rt.alloc();
     for row in &ROWS {
-        let words = words(alloc, row.words)?;
-        let image = bytes(alloc, "73000000")?;
-        let mut input = MemSource::new(image, one(alloc, row.input_fails)?, 99);
-        let mut output = MemSink::new(alloc, 99, one(alloc, row.output_fails)?, row.most.max(1))?;
-        let mut report = MemSink::new(alloc, 99, one(alloc, row.report_fails)?, 99)?;
-        let ended = run_tool(
-            &rt,
-            alloc,
-            words.as_slice(),
-            &mut input,
-            &mut output,
-            &mut report,
-            &OpenGate,
-        );
         let mut given = bytes(alloc, OUTPUT)?;
         given.truncate(row.given);
-        assert_eq!(rt; ended.exit.status(), row.status);
-        assert_eq!(rt; output.bytes(), given.as_slice());
-        assert_eq!(rt; report.bytes(), row.report.as_bytes());
+        let answer = answer_to(&rt, alloc, row)?;
+        assert_eq!(rt; answer.status, row.status);
+        assert_eq!(rt; answer.output.as_slice(), given.as_slice());
+        assert_eq!(rt; answer.report.as_slice(), row.report.as_bytes());
     }
     Ok(())
 }
 
-fn one(alloc: Global, call: u64) -> Result<Vec<u64>, Fail> {
+/// The list of this one call.
+fn one(alloc: Global, call: u64) -> Result<Vec<u64>, AllocError> {
     Ok(vec![in alloc; call]?)
 }

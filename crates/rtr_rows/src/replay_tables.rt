@@ -2,7 +2,7 @@
 //! the instructions: a comment says how, where they don't show it.
 
 use crate::record_tables::THREE_WORDS;
-use crate::run_tables::{HANDED_OVER, ONE_WORD};
+use crate::run_tables::{HANDED_OVER, ONE_WORD, OWN_BYTES};
 
 /// A call of `replay`: its words, and the recording that it reads, in three pieces: what stands before the
 /// image, the image, and the totals and logs. Then the status that it ends with, the state that it prints,
@@ -97,7 +97,7 @@ const THREE_WORDS_STATE: &str = "core 0 exit retired 6 pc 00000018\n\
     load 2 7 00000048 00000009\n";
 
 /// The rows.
-pub static REPLAYS: [Replayed; 18] = [
+pub static REPLAYS: [Replayed; 19] = [
     replayed!(
         "replay",
         "52545201 01 904e 808001 04",
@@ -229,6 +229,16 @@ pub static REPLAYS: [Replayed; 18] = [
         6,
         "rtr: no order from 0:2 to 2:2\n"
     ),
+    // Each core stores a byte of its own in one word, and neither log orders the two.
+    Replayed {
+        words: "replay",
+        header: TWO_CORES,
+        image: OWN_BYTES,
+        logs: "0303 00 00 00 00",
+        status: 6,
+        text: "",
+        report: "rtr: no order from 0:2 to 1:2\n",
+    },
     // No recording.
     refused!("replay", "", "", 3, "rtr: bad input, part 1\n"),
     refused!(

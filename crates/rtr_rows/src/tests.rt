@@ -1,42 +1,48 @@
-use crate::calls::{ask, bytes, input_of, output_of, recording_of};
+use crate::calls::{ask, asks, bytes, input_of, output_of, recording_of};
 use crate::certificate_tables::CERTIFICATES;
 use crate::cut_tables::STATES;
 use crate::generated_tables::{ELF_FILES, GENERATED};
 use crate::lesson_tables::{EXAMPLES, LESSON};
-use crate::record_tables::{READ_IN_TURN, RECORDINGS};
+use crate::record_tables::{READ_IN_TURN, RECORDINGS, Recorded};
 use crate::replay_tables::{REPLAYS, Replayed};
-use crate::run_tables::{FAULTY, RUNS};
+use crate::run_tables::{FAULTY, RUNS, Run};
 use crate::tables::{CUTS, ROWS, Row};
-use crate::thin_tables::{FEWER, MORE, NEW, OLD, THINNED};
+use crate::thin_tables::{ENDLESS_JUMPS, FEWER, LONG_VECTORS, MORE, NEW, OLD, THINNED, Thinned};
 use log_codec::{fits_old, read, spell_v1};
-use std::alloc::Global;
+use std::alloc::{AllocError, Global};
 use std::process::Abort;
 use std::sync::Wait;
 use std::test::Fail;
 use std::thread::Threads;
+use varint_core::put_u32;
 
-/// Asks what each row asks, and compares the answer.
+/// Asks what the row asks, and compares the answer.
+fn is_answered(
+    rt: &(impl Abort + Threads + Wait + Sync),
+    alloc: Global,
+    row: &Row,
+) -> Result<(), AllocError> {
+    let input = input_of(alloc, row)?;
+    let wanted = output_of(alloc, row, input.as_slice())?;
+    asks(
+        rt,
+        alloc,
+        row.words,
+        input,
+        row.status,
+        wanted.as_slice(),
+        row.report,
+    )
+}
+
+/// The same of each row.
 fn are_answered(
     rt: &(impl Abort + Threads + Wait + Sync),
     alloc: Global,
     rows: &[Row],
 ) -> Result<(), Fail> {
     for row in rows {
-        let input = input_of(alloc, row)?;
-        let wanted = output_of(alloc, row, input.as_slice())?;
-        let answer = ask(rt, alloc, row.words, input)?;
-        let (words, piece) = (row.words, row.input);
-        assert_eq!(rt; answer.status, row.status, "{words}: {piece}");
-        assert_eq!(rt;
-            answer.output.as_slice(),
-            wanted.as_slice(),
-            "{words}: {piece}"
-        );
-        assert_eq!(rt;
-            answer.report.as_slice(),
-            row.report.as_bytes(),
-            "{words}: {piece}"
-        );
+        is_answered(rt, alloc, row)?;
     }
     Ok(())
 }
@@ -59,25 +65,42 @@ fn each_generated_image_and_each_elf_file_is_answered(rt: HostRuntime) -> Result
     are_answered(&rt, rt.alloc(), &ELF_FILES)
 }
 
+/// The options of a run of the lock by two cores.
+const OPTIONS: &str = "--cores 2 --limit 100000 --words 128 --seed 7";
+
+/// What a command with these options makes of the image of a lock that each core takes 500 times.
+fn of_the_lock(
+    rt: &(impl Threads + Wait + Sync),
+    alloc: Global,
+    command: &str,
+    more: &str,
+) -> Result<Vec<u8>, AllocError> {
+    let image = ask(rt, alloc, "gen --shape lock --number 500", Vec::new(alloc))?.output;
+    let words = format!(in alloc; "{command} {OPTIONS}{more}")?;
+    Ok(ask(rt, alloc, &words, image)?.output)
+}
+
 // Each of two cores takes the lock 500 times and adds 1 to the word that it guards, which no addition is lost of.
 #[test]
 fn a_lock_keeps_every_addition(rt: HostRuntime) -> Result<(), Fail> {
     let alloc = rt.alloc();
-    let image = ask(&rt, alloc, "gen --shape lock --number 500", Vec::new(alloc))?.output;
-    let options = "--cores 2 --limit 100000 --words 128 --seed 7";
-    let run = ask(
-        &rt,
-        alloc,
-        &format!(in alloc; "run {options}")?,
-        image.clone()?,
-    )?;
-    assert!(rt; run.output.ends_with(b"mem 00000130 000003e8\n".as_slice()));
-    let made = ask(&rt, alloc, &format!(in alloc; "record {options}")?, image)?;
+    let run = of_the_lock(&rt, alloc, "run", "")?;
+    assert!(rt; run.ends_with(b"mem 00000130 000003e8\n".as_slice()));
     for words in ["replay", "replay --log regulated"] {
-        let replay = ask(&rt, alloc, words, made.output.clone()?)?;
-        assert_eq!(rt; replay.output.as_slice(), run.output.as_slice(), "{words}");
+        let made = of_the_lock(&rt, alloc, "record", "")?;
+        asks(&rt, alloc, words, made, 0, run.as_slice(), "")?;
     }
     Ok(())
+}
+
+// And a replay by the regulated log gives each load the run's value.
+#[test]
+fn a_lock_is_replayed_with_its_loads(rt: HostRuntime) -> Result<(), Fail> {
+    let alloc = rt.alloc();
+    let words = "replay --log regulated --loads";
+    let run = of_the_lock(&rt, alloc, "run", " --loads")?;
+    let made = of_the_lock(&rt, alloc, "record", "")?;
+    Ok(asks(&rt, alloc, words, made, 0, run.as_slice(), "")?)
 }
 
 // A mix of four cores, each of which retires as many instructions as the program has: the soak of it comes to the
@@ -86,13 +109,24 @@ fn a_lock_keeps_every_addition(rt: HostRuntime) -> Result<(), Fail> {
 fn a_soak_of_the_mix_is_the_same_each_time(rt: HostRuntime) -> Result<(), Fail> {
     let alloc = rt.alloc();
     let words = "soak --shape mix --number 3 --cores 4 --limit 100000";
-    let first = ask(&rt, alloc, words, Vec::new(alloc))?;
-    let second = ask(&rt, alloc, words, Vec::new(alloc))?;
-    assert_eq!(rt; first.status, 0);
+    let first = ask(&rt, alloc, words, Vec::new(alloc))?.output;
     let wanted = b"shape mix number 3 cores 4\nretired 103208\n".as_slice();
-    assert!(rt; first.output.starts_with(wanted));
-    assert_eq!(rt; first.output.as_slice(), second.output.as_slice());
-    Ok(())
+    assert!(rt; first.starts_with(wanted));
+    Ok(asks(&rt, alloc, words, Vec::new(alloc), 0, first.as_slice(), "")?)
+}
+
+/// Prints the first bytes of a recording, so many of them, and compares the part that is named.
+fn cut_names(
+    rt: &(impl Abort + Threads + Wait + Sync),
+    alloc: Global,
+    recording: &str,
+    len: usize,
+    part: u8,
+) -> Result<(), AllocError> {
+    let mut cut = bytes(alloc, recording)?;
+    cut.truncate(len);
+    let report = format!(in alloc; "rtr: bad input, part {part}\n")?;
+    asks(rt, alloc, "print", cut, 3, b"".as_slice(), &report)
 }
 
 #[test]
@@ -100,13 +134,7 @@ fn a_cut_names_the_part_that_it_cuts(rt: HostRuntime) -> Result<(), Fail> {
     let alloc = rt.alloc();
     for cuts in &CUTS {
         for (len, part) in cuts.parts.iter().enumerate() {
-            let mut cut = bytes(alloc, cuts.recording)?;
-            cut.truncate(len);
-            let report = format!(in alloc; "rtr: bad input, part {part}\n")?;
-            let answer = ask(&rt, alloc, "print", cut)?;
-            assert_eq!(rt; answer.status, 3, "{len} bytes");
-            assert_eq!(rt; answer.output.as_slice(), b"".as_slice(), "{len} bytes");
-            assert_eq!(rt; answer.report.as_slice(), report.as_bytes(), "{len} bytes");
+            cut_names(&rt, alloc, cuts.recording, len, *part)?;
         }
         let whole = ask(&rt, alloc, "print", bytes(alloc, cuts.recording)?)?;
         assert_eq!(rt; whole.status, 0);
@@ -114,16 +142,29 @@ fn a_cut_names_the_part_that_it_cuts(rt: HostRuntime) -> Result<(), Fail> {
     Ok(())
 }
 
+/// Runs the row's image, and compares the text.
+fn leaves_its_text(
+    rt: &(impl Abort + Threads + Wait + Sync),
+    alloc: Global,
+    run: &Run,
+) -> Result<(), AllocError> {
+    let mut text = String::from_str(alloc, run.state)?;
+    text.push_str(run.loads)?;
+    asks(
+        rt,
+        alloc,
+        run.words,
+        bytes(alloc, run.image)?,
+        0,
+        text.as_bytes(),
+        "",
+    )
+}
+
 #[test]
 fn each_run_leaves_its_text(rt: HostRuntime) -> Result<(), Fail> {
-    let alloc = rt.alloc();
     for run in &RUNS {
-        let mut text = String::from_str(alloc, run.state)?;
-        text.push_str(run.loads)?;
-        let answer = ask(&rt, alloc, run.words, bytes(alloc, run.image)?)?;
-        assert_eq!(rt; answer.status, 0, "{}", run.words);
-        assert_eq!(rt; answer.output.as_slice(), text.as_bytes(), "{}", run.words);
-        assert_eq!(rt; answer.report.as_slice(), b"".as_slice(), "{}", run.words);
+        leaves_its_text(&rt, rt.alloc(), run)?;
     }
     Ok(())
 }
@@ -133,21 +174,28 @@ fn each_run_is_recorded_and_printed(rt: HostRuntime) -> Result<(), Fail> {
     let alloc = rt.alloc();
     for row in &RECORDINGS {
         let wanted = recording_of(alloc, row)?;
-        let made = ask(&rt, alloc, row.words, bytes(alloc, row.image)?)?;
-        assert_eq!(rt; made.status, 0, "{}", row.words);
-        assert_eq!(rt; made.output.as_slice(), wanted.as_slice(), "{}", row.words);
-        assert_eq!(rt; made.report.as_slice(), b"".as_slice(), "{}", row.words);
-        let said = ask(&rt, alloc, "print", made.output)?;
-        assert_eq!(rt; said.status, 0, "{}", row.words);
-        assert_eq!(rt;
-            said.output.as_slice(),
-            row.text.as_bytes(),
-            "{}",
-            row.words
-        );
-        assert_eq!(rt; said.report.as_slice(), b"".as_slice(), "{}", row.words);
+        asks(
+            &rt,
+            alloc,
+            row.words,
+            bytes(alloc, row.image)?,
+            0,
+            wanted.as_slice(),
+            "",
+        )?;
+        asks(&rt, alloc, "print", wanted, 0, row.text.as_bytes(), "")?;
     }
     Ok(())
+}
+
+/// The spelling of the recording in version 1, where it is within the limits of that version.
+fn oldest_of(alloc: Global, newest: &[u8]) -> Result<Option<Vec<u8>>, Fail> {
+    let recording = read(alloc, newest)?;
+    if fits_old(&recording.params) {
+        Ok(Some(spell_v1(alloc, &recording)?))
+    } else {
+        Ok(None)
+    }
 }
 
 // The recording of a run has a spelling in version 1 too, where it is within the limits of that version. It says
@@ -157,60 +205,85 @@ fn both_versions_of_each_recording_say_the_same(rt: HostRuntime) -> Result<(), F
     let alloc = rt.alloc();
     for row in &RECORDINGS {
         let newest = recording_of(alloc, row)?;
-        let recording = read(alloc, newest.as_slice())?;
-        if fits_old(&recording.params) {
-            let oldest = spell_v1(alloc, &recording)?;
-            let said = ask(&rt, alloc, "print", oldest.clone()?)?;
-            assert_eq!(rt;
-                said.output.as_slice(),
+        if let Some(oldest) = oldest_of(alloc, newest.as_slice())? {
+            asks(
+                &rt,
+                alloc,
+                "print",
+                oldest.clone()?,
+                0,
                 row.text.as_bytes(),
-                "{}",
-                row.words
-            );
-            let again = ask(&rt, alloc, "migrate", oldest)?;
-            assert_eq!(rt; again.output.as_slice(), newest.as_slice(), "{}", row.words);
+                "",
+            )?;
+            asks(&rt, alloc, "migrate", oldest, 0, newest.as_slice(), "")?;
         }
+    }
+    Ok(())
+}
+
+/// Replays the row's recording by either log, and compares the text with that of the run, loads included.
+fn replays_its_run(
+    rt: &(impl Abort + Threads + Wait + Sync),
+    alloc: Global,
+    row: &Recorded,
+) -> Result<(), AllocError> {
+    let options = row.words.strip_prefix("record").unwrap_or("");
+    let words = format!(in alloc; "run{options} --loads")?;
+    let run = ask(rt, alloc, &words, bytes(alloc, row.image)?)?.output;
+    for replays in ["replay --loads", "replay --log regulated --loads"] {
+        asks(
+            rt,
+            alloc,
+            replays,
+            recording_of(alloc, row)?,
+            0,
+            run.as_slice(),
+            "",
+        )?;
     }
     Ok(())
 }
 
 #[test]
 fn each_recording_replays_its_run(rt: HostRuntime) -> Result<(), Fail> {
-    let alloc = rt.alloc();
     for row in &RECORDINGS {
-        let options = row.words.strip_prefix("record").unwrap_or("");
-        let words = format!(in alloc; "run{options} --loads")?;
-        let run = ask(&rt, alloc, &words, bytes(alloc, row.image)?)?;
-        for replays in ["replay --loads", "replay --log regulated --loads"] {
-            let replay = ask(&rt, alloc, replays, recording_of(alloc, row)?)?;
-            assert_eq!(rt; replay.status, 0, "{replays}: {words}");
-            assert_eq!(rt;
-                replay.output.as_slice(),
-                run.output.as_slice(),
-                "{replays}: {words}"
-            );
-            assert_eq!(rt;
-                replay.report.as_slice(),
-                b"".as_slice(),
-                "{replays}: {words}"
-            );
-        }
+        replays_its_run(&rt, rt.alloc(), row)?;
     }
+    Ok(())
+}
+
+/// Makes of the row's recording what one command makes, and hands it to another, which is to accept it.
+fn is_accepted(
+    rt: &(impl Abort + Threads + Wait + Sync),
+    alloc: Global,
+    row: &Recorded,
+    makes: &str,
+    checks: &str,
+) -> Result<(), AllocError> {
+    let made = ask(rt, alloc, makes, recording_of(alloc, row)?)?.output;
+    let check = ask(rt, alloc, checks, made)?;
+    assert_eq!(rt; check.status, 0, "{}", row.words);
+    assert_eq!(rt; check.report.as_slice(), b"".as_slice(), "{}", row.words);
     Ok(())
 }
 
 // A run's reduced log is least, so that each recording has a certificate, which a check accepts.
 #[test]
 fn each_recording_is_certified(rt: HostRuntime) -> Result<(), Fail> {
-    let alloc = rt.alloc();
     for row in &RECORDINGS {
-        let certificate = ask(&rt, alloc, "certify", recording_of(alloc, row)?)?;
-        assert_eq!(rt; certificate.status, 0, "{}", row.words);
-        let check = ask(&rt, alloc, "check", certificate.output)?;
-        assert_eq!(rt; check.status, 0, "{}", row.words);
-        assert_eq!(rt; check.report.as_slice(), b"".as_slice(), "{}", row.words);
+        is_accepted(&rt, rt.alloc(), row, "certify", "check")?;
     }
     Ok(())
+}
+
+/// The recording that a row replays.
+fn replayed(alloc: Global, row: &Replayed) -> Result<Vec<u8>, AllocError> {
+    let mut recording = bytes(alloc, row.header)?;
+    for piece in [row.image, row.logs] {
+        let piece = bytes(alloc, piece)?;
+        recording.extend_from_slice(piece.as_slice())?;
+    }
+    Ok(recording)
 }
 
 /// Asks what each row asks of its recording, with these words more, and compares the answer.
@@ -221,25 +294,17 @@ fn are_replayed(
     more: &str,
 ) -> Result<(), Fail> {
     for row in rows {
-        let mut recording = bytes(alloc, row.header)?;
-        for piece in [row.image, row.logs] {
-            let piece = bytes(alloc, piece)?;
-            recording.extend_from_slice(piece.as_slice())?;
-        }
-        let (asked, logs) = (row.words, row.logs);
+        let asked = row.words;
         let words = format!(in alloc; "{asked}{more}")?;
-        let answer = ask(rt, alloc, &words, recording)?;
-        assert_eq!(rt; answer.status, row.status, "{words}: {logs}");
-        assert_eq!(rt;
-            answer.output.as_slice(),
+        asks(
+            rt,
+            alloc,
+            &words,
+            replayed(alloc, row)?,
+            row.status,
             row.text.as_bytes(),
-            "{words}: {logs}"
-        );
-        assert_eq!(rt;
-            answer.report.as_slice(),
-            row.report.as_bytes(),
-            "{words}: {logs}"
-        );
+            row.report,
+        )?;
     }
     Ok(())
 }
@@ -265,20 +330,14 @@ fn each_state_at_an_instruction_is_told_or_refused(rt: HostRuntime) -> Result<()
 fn words_that_mean_nothing_are_refused(rt: HostRuntime) -> Result<(), Fail> {
     let alloc = rt.alloc();
     for words in &FAULTY {
-        let answer = ask(&rt, alloc, words, bytes(alloc, "73000000")?)?;
-        assert_eq!(rt; answer.status, 1, "{words}");
-        assert_eq!(rt; answer.output.as_slice(), b"".as_slice(), "{words}");
-        assert_eq!(rt;
-            answer.report.as_slice(),
-            b"rtr: usage\n".as_slice(),
-            "{words}"
-        );
+        let image = bytes(alloc, "73000000")?;
+        asks(&rt, alloc, words, image, 1, b"".as_slice(), "rtr: usage\n")?;
     }
     Ok(())
 }
 
 /// The bytes of a recording of `READ_IN_TURN`: the pieces before and after the image; none where none stands before it.
-fn read_in_turn(alloc: Global, header: &str, logs: &str) -> Result<Vec<u8>, Fail> {
+fn read_in_turn(alloc: Global, header: &str, logs: &str) -> Result<Vec<u8>, AllocError> {
     let mut recording = bytes(alloc, header)?;
     if !recording.is_empty() {
         for piece in [READ_IN_TURN, logs] {
@@ -289,25 +348,30 @@ fn read_in_turn(alloc: Global, header: &str, logs: &str) -> Result<Vec<u8>, Fail
     Ok(recording)
 }
 
+/// Asks what the row asks, and compares the answer.
+fn is_thinned(
+    rt: &(impl Abort + Threads + Wait + Sync),
+    alloc: Global,
+    row: &Thinned,
+) -> Result<(), AllocError> {
+    let mut wanted = read_in_turn(alloc, row.gives, row.left)?;
+    wanted.extend_from_slice(row.text.as_bytes())?;
+    let input = read_in_turn(alloc, row.header, row.logs)?;
+    asks(
+        rt,
+        alloc,
+        row.words,
+        input,
+        row.status,
+        wanted.as_slice(),
+        row.report,
+    )
+}
+
 #[test]
 fn each_log_is_thinned_or_refused(rt: HostRuntime) -> Result<(), Fail> {
-    let alloc = rt.alloc();
     for row in &THINNED {
-        let mut wanted = read_in_turn(alloc, row.gives, row.left)?;
-        wanted.extend_from_slice(row.text.as_bytes())?;
-        let (words, logs) = (row.words, row.logs);
-        let answer = ask(&rt, alloc, words, read_in_turn(alloc, row.header, logs)?)?;
-        assert_eq!(rt; answer.status, row.status, "{words}: {logs}");
-        assert_eq!(rt;
-            answer.output.as_slice(),
-            wanted.as_slice(),
-            "{words}: {logs}"
-        );
-        assert_eq!(rt;
-            answer.report.as_slice(),
-            row.report.as_bytes(),
-            "{words}: {logs}"
-        );
+        is_thinned(&rt, rt.alloc(), row)?;
     }
     Ok(())
 }
@@ -317,30 +381,71 @@ fn each_log_is_thinned_or_refused(rt: HostRuntime) -> Result<(), Fail> {
 fn a_thinned_log_replays_the_same(rt: HostRuntime) -> Result<(), Fail> {
     let alloc = rt.alloc();
     let words = "replay --log regulated --loads";
-    let before = ask(&rt, alloc, words, read_in_turn(alloc, OLD, MORE)?)?;
-    let after = ask(&rt, alloc, words, read_in_turn(alloc, NEW, FEWER)?)?;
-    assert_eq!(rt; after.status, 0);
-    assert_eq!(rt; after.output.as_slice(), before.output.as_slice());
-    Ok(())
+    let before = ask(&rt, alloc, words, read_in_turn(alloc, OLD, MORE)?)?.output;
+    let thinned = read_in_turn(alloc, NEW, FEWER)?;
+    Ok(asks(&rt, alloc, words, thinned, 0, before.as_slice(), "")?)
+}
+
+/// Thins the row's recording, and compares a replay by what is left with one by the reduced log.
+fn thins_and_replays(
+    rt: &(impl Abort + Threads + Wait + Sync),
+    alloc: Global,
+    row: &Recorded,
+) -> Result<(), AllocError> {
+    let run = ask(rt, alloc, "replay --loads", recording_of(alloc, row)?)?.output;
+    let thinned = ask(rt, alloc, "thin", recording_of(alloc, row)?)?.output;
+    asks(
+        rt,
+        alloc,
+        "replay --log regulated --loads",
+        thinned,
+        0,
+        run.as_slice(),
+        "",
+    )
 }
 
 // Each recording has a thinning, whose certificate is accepted, and which replays the run.
 #[test]
 fn each_recording_is_thinned(rt: HostRuntime) -> Result<(), Fail> {
-    let alloc = rt.alloc();
     for row in &RECORDINGS {
-        let thinned = ask(&rt, alloc, "thin", recording_of(alloc, row)?)?;
-        let replay = ask(&rt, alloc, "replay --log regulated --loads", thinned.output)?;
-        let run = ask(&rt, alloc, "replay --loads", recording_of(alloc, row)?)?;
-        assert_eq!(rt;
-            replay.output.as_slice(),
-            run.output.as_slice(),
-            "{}",
-            row.words
-        );
-        let certificate = ask(&rt, alloc, "thin --certify", recording_of(alloc, row)?)?;
-        let check = ask(&rt, alloc, "checkthin", certificate.output)?;
-        assert_eq!(rt; check.status, 0, "{}", row.words);
+        thins_and_replays(&rt, rt.alloc(), row)?;
+        is_accepted(&rt, rt.alloc(), row, "thin --certify", "checkthin")?;
     }
     Ok(())
+}
+
+/// A recording of so many vectors of one edge each, from an instruction of core 0 to the one of core 1 with its count:
+/// none of them is implied by the others.
+fn many_vectors(alloc: Global, vectors: u32) -> Result<Vec<u8>, AllocError> {
+    let mut recording = bytes(alloc, ENDLESS_JUMPS)?;
+    put_u32(&mut recording, vectors)?;
+    for count in 1..=vectors {
+        put_u32(&mut recording, 1)?;
+        put_u32(&mut recording, count)?;
+        put_u32(&mut recording, count)?;
+    }
+    put_u32(&mut recording, 0)?;
+    Ok(recording)
+}
+
+#[test]
+fn each_of_4096_vectors_is_tried(rt: HostRuntime) -> Result<(), Fail> {
+    let alloc = rt.alloc();
+    let wanted = many_vectors(alloc, 4_096)?;
+    let input = many_vectors(alloc, 4_096)?;
+    Ok(asks(&rt, alloc, "thin", input, 0, wanted.as_slice(), "")?)
+}
+
+#[test]
+fn one_vector_more_is_too_many(rt: HostRuntime) -> Result<(), Fail> {
+    let alloc = rt.alloc();
+    let report = "rtr: 4097 vectors with 4097 edges are too many\n";
+    let input = many_vectors(alloc, 4_097)?;
+    Ok(asks(&rt, alloc, "thin", input, 13, b"".as_slice(), report)?)
+}
+
+#[test]
+fn a_vector_of_65536_edges_is_tried_and_of_one_more_not(rt: HostRuntime) -> Result<(), Fail> {
+    are_answered(&rt, rt.alloc(), &LONG_VECTORS)
 }

@@ -1,6 +1,8 @@
 //! Regulated logs of which vectors are left out, and what shows that the others are needed. What each row wants was
 //! worked out from the logs and the instructions: a comment says how, where they don't show it.
 
+use crate::tables::Row;
+
 /// A call of `thin` or `checkthin`: its words, and what it reads: the pieces that stand before and after the image,
 /// which is `READ_IN_TURN`. Then the status that it ends with; what it gives, as such pieces or as a text; and the
 /// report. Bytes are hexadecimal digits.
@@ -157,4 +159,34 @@ pub static THINNED: [Thinned; 16] = [
         "",
         "rtr: bad input, part 3\n"
     ),
+];
+
+/// Two cores that jump to themselves, 70,000 times each, and no reduced log, in version 2: all but the regulated log.
+pub const ENDLESS_JUMPS: &str = "52545202 02 a08d06 04 04 6f000000 f0a204 f0a204 00 00";
+
+/// One vector, from each instruction of core 0 to the one of core 1 with its count: of 65,536 edges, which is tried and
+/// stays, and of one more, which is not tried.
+pub static LONG_VECTORS: [Row; 2] = [
+    Row {
+        words: "thin",
+        input: "52545202 02 a08d06 04 04 6f000000 f0a204 f0a204 00 00 01 808004 01 01 01 01 00",
+        copies: 1,
+        status: 0,
+        output: "",
+        echoes: true,
+        rest: "",
+        text: "",
+        report: "",
+    },
+    Row {
+        words: "thin",
+        input: "52545202 02 a08d06 04 04 6f000000 f0a204 f0a204 00 00 01 818004 01 01 01 01 00",
+        copies: 1,
+        status: 13,
+        output: "",
+        echoes: false,
+        rest: "",
+        text: "",
+        report: "rtr: 1 vectors with 65537 edges are too many\n",
+    },
 ];

@@ -4,6 +4,7 @@ use crate::all_pairs::EACH_READS_ALL;
 use crate::calls::{ask, ask_at, bytes, recording_of};
 use crate::record_tables::RECORDINGS;
 use crate::run_tables::SUM;
+use log_codec::read;
 use replay_threads::Gate;
 use rtr_types::Instr;
 use std::alloc::Global;
@@ -12,10 +13,11 @@ use std::sync::atomic::{AtomicU64, Ordering};
 use std::test::Fail;
 use std::thread::{self, Threads};
 
-/// How often core 0 looks for core 1 at the most.
+/// How often a core looks for the other at the most.
 const LOOKS: u64 = 10_000_000;
 
-/// A gate that holds core 0 before its first instruction until core 1 has come, and counts the calls of both.
+/// A gate that holds each of two cores before its first instruction until the other has come, and counts the calls of
+/// both.
 #[derive(Drop)]
 struct Meeting {
     first: AtomicU64,
@@ -34,10 +36,10 @@ impl Meeting {
         }
     }
 
-    /// Looks for core 1 until it has come.
-    fn meet(&self) {
+    /// Looks for the core with these calls until it has come.
+    fn meet(&self, calls: &AtomicU64) {
         for look in 0..LOOKS {
-            if self.second.load(Ordering::SeqCst) > 0 {
+            if calls.load(Ordering::SeqCst) > 0 {
                 return;
             }
             thread::yield_now();
@@ -59,23 +61,32 @@ impl Meeting {
 
 impl Gate for Meeting {
     fn pass(&self, at: Instr) {
-        let passed = if at.core == 0 {
-            &self.first
+        let (passed, other) = if at.core == 0 {
+            (&self.first, &self.second)
         } else {
-            &self.second
+            (&self.second, &self.first)
         };
         let before = passed.fetch_add(1, Ordering::SeqCst);
         if before.wrapping_add(1) != at.count as u64 {
             self.astray.store(1, Ordering::SeqCst);
         }
-        if at.core == 0 && at.count == 1 {
-            self.meet();
+        if at.count == 1 {
+            self.meet(other);
         }
     }
 }
 
-// Each of two cores takes the lock 500 times. Two workers replay it at the same time: core 0 is held until core 1 has
-// come.
+/// The totals of a recording of two cores, and zeros of any other.
+fn totals_of(alloc: Global, bytes: &[u8]) -> Result<(u64, u64), Fail> {
+    let recording = read(alloc, bytes)?;
+    Ok(match recording.totals.as_slice() {
+        [first, second] => (*first as u64, *second as u64),
+        _ => (0, 0),
+    })
+}
+
+// Each of two cores takes the lock 500 times. Two workers replay it at the same time: each core is held until the other
+// has come, and then passes as often as its total says.
 #[test]
 fn two_workers_meet_and_pass_each_instruction_once(rt: HostRuntime) -> Result<(), Fail> {
     let alloc = rt.alloc();
@@ -88,6 +99,7 @@ fn two_workers_meet_and_pass_each_instruction_once(rt: HostRuntime) -> Result<()
         image.clone()?,
     )?;
     let made = ask(&rt, alloc, &format!(in alloc; "record {options}")?, image)?;
+    let totals = totals_of(alloc, made.output.as_slice())?;
     let gate = Meeting::new();
     let words = "replay --threads 2 --loads";
     let replay = ask_at(&rt, alloc, words, made.output, &gate)?;
@@ -95,8 +107,7 @@ fn two_workers_meet_and_pass_each_instruction_once(rt: HostRuntime) -> Result<()
     assert!(rt; replay.joint);
     assert_eq!(rt; replay.output.as_slice(), run.output.as_slice());
     assert!(rt; gate.is_in_order());
-    let (first, second) = gate.calls();
-    assert_eq!(rt; first.wrapping_add(second), 23_676);
+    assert!(rt; gate.calls() == totals);
     Ok(())
 }
 

@@ -31,7 +31,7 @@ pub enum Exit {
     Undetermined { first: Instr, second: Instr },
     /// The recording is determinate by its reduced log, but the log isn't shown to be least: by `check`, or
     /// by `certify`.
-    CheckFailed { failure: CheckFailure },
+    CheckFailed(CheckFailure),
     /// The input could not be read.
     ReadFault,
     /// The output could not be written.
@@ -40,7 +40,7 @@ pub enum Exit {
     OutOfMemory,
     /// The input is to be an ELF file, was read to its end, and has no flat image for the memory. Want of memory
     /// for that image is `OutOfMemory` above, and never this fault.
-    Elf { fault: ElfFault },
+    Elf(ElfFault),
     /// The recording on the input has no such instruction: its core isn't one of the recording's, or the count is
     /// beyond the core's total.
     NoInstr { at: Instr },
@@ -63,11 +63,11 @@ impl Exit {
             Exit::Stuck { .. } => 4,
             Exit::Short { .. } => 5,
             Exit::Undetermined { .. } => 6,
-            Exit::CheckFailed { .. } => 7,
+            Exit::CheckFailed(_) => 7,
             Exit::ReadFault => 8,
             Exit::WriteFault => 9,
             Exit::OutOfMemory => 10,
-            Exit::Elf { .. } => 11,
+            Exit::Elf(_) => 11,
             Exit::NoInstr { .. } => 12,
             Exit::TooMany { .. } => 13,
             Exit::NotShown { .. } => 14,

@@ -64,30 +64,22 @@ fn exits(rt: HostRuntime) {
             "rtr: no order from 0:2 to 1:2\n",
         ),
         (
-            Exit::CheckFailed {
-                failure: CheckFailure::NotConflict { edge },
-            },
+            Exit::CheckFailed(CheckFailure::NotConflict { edge }),
             7,
             "rtr: edge 0:2 to 1:2 is no conflict\n",
         ),
         (
-            Exit::CheckFailed {
-                failure: CheckFailure::BadClock { core: 0, entry: 2 },
-            },
+            Exit::CheckFailed(CheckFailure::BadClock { core: 0, entry: 2 }),
             7,
             "rtr: clock 2 of core 0 is wrong\n",
         ),
         (
-            Exit::CheckFailed {
-                failure: CheckFailure::NotNeeded { edge },
-            },
+            Exit::CheckFailed(CheckFailure::NotNeeded { edge }),
             7,
             "rtr: edge 0:2 to 1:2 is not needed\n",
         ),
         (
-            Exit::CheckFailed {
-                failure: CheckFailure::NotLeast { edge },
-            },
+            Exit::CheckFailed(CheckFailure::NotLeast { edge }),
             7,
             "rtr: edge 0:2 to 1:2 is not in the least log\n",
         ),
@@ -142,7 +134,7 @@ fn faults_of_elf_files(rt: HostRuntime) {
         (ElfFault::Entry, "rtr: ELF entry not accepted\n"),
     ];
     for (fault, text) in rows {
-        let exit = Exit::Elf { fault };
+        let exit = Exit::Elf(fault);
         assert_eq!(rt; exit.status(), 11);
         assert_eq!(rt; fault_text(&exit).bytes(), text.as_bytes());
     }

@@ -26,6 +26,7 @@ returns-clause-answered g c =
       c.in-Ok-make_joint.made.out.items,
       c.in-Ok.ensures.bytes,
       c.in-Ok-make_joint.ensures.made,
+      c.in-Ok-make_joint.ensures.promised,
       part,
     )
 

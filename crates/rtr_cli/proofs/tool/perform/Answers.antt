@@ -25,6 +25,7 @@ returns-clause-answered g c =
       c.in-Ok-make.out.items,
       taken,
       c.in-Ok-make.ensures.made,
+      c.in-Ok-make.ensures.promised,
       part,
     )
 
