@@ -1,6 +1,6 @@
 -- The loads of a play are those that are told.
 use Rattle.std.proofs.Common.{◌≡◌, ◌≢◌, ◌∙◌, ℕ, ◌+◌, ◌<◌, Bool, true, false, cond, List, [], ◌∷◌, ◌++◌, length, refl}
-use Rattle.std.proofs.Common.{sym, ap, subst, eq-eqb, ne_eqb, eqb}
+use Rattle.std.proofs.Common.{sym, ap, subst, eq-eqb, ne_eqb}
 use Rattle.std.proofs.Common.{append-nil, append_assoc, arith}
 use Rattle.std.specs.Prelude.{Option, Some, None}
 use native.Mathlib.Decide.{ℕ_discrete}
@@ -15,7 +15,7 @@ use Rattle.replay_core.specs.Play.{Given, Use, use_of, old_for, heeded, found_fo
 use Rattle.replay_core.specs.Play.{core_at, loads_at, need_at, valued_place}
 use Rattle.replay_core.specs.Play.{valued_play}
 use Rattle.replay_core.proofs.Places.{place_given_law}
-use Rattle.tso_replay.specs.Told.{Telling, Locally, Ordered, Logged, told_at, cores_told, IsOrdered, IsLogged, TellsAt}
+use Rattle.tso_replay.specs.Told.{Telling, Locally, Ordered, Logged, told_at, IsOrdered, IsLogged, TellsAt}
 use Rattle.tso_recordings.specs.Values.{read_note, note_told, notes_told, LoadsToldLaw}
 
 pub loads_length : (given : Given) (p : Plan) (s : Outcome) (order : List ℕ) →

@@ -1,7 +1,7 @@
 -- Every replay order of what is recorded of a run replays the run.
-use Rattle.std.proofs.Common.{◌≡◌, ◌∙◌, refl, sym, ap, subst, ℕ, ◌+◌, ◌*◌, ◌<◌, ◌≤◌, ◌^◌, true, List, [], ◌∷◌, ◌++◌}
+use Rattle.std.proofs.Common.{◌≡◌, ◌∙◌, sym, ap, subst, ℕ, ◌<◌, ◌≤◌, ◌^◌, true, List, [], ◌++◌}
 use Rattle.std.proofs.Common.{length, zero-add, arith}
-use Rattle.std.specs.Prelude.{map, slice_index, slice_index_or}
+use Rattle.std.specs.Prelude.{map}
 use Rattle.std.specs.List.{range_with_len}
 use Rattle.std.proofs.lemmas.List.{ext_get_or, get_or-map, length-map}
 use Rattle.std.proofs.lemmas.List.FromFn.{length-map-range_with_len, get_or-map-range_with_len}
@@ -18,27 +18,27 @@ use Rattle.rv_core.specs.States.{starting}
 use Rattle.conflict_edge.specs.Least.{IsLeast}
 use Rattle.log_codec.specs.Sources.{log_edges}
 use Rattle.machine_data.specs.LastValues.{EachFindsLast, memory_left}
-use Rattle.replay_core.specs.Orders.{IsWhole, counts, nought}
+use Rattle.replay_core.specs.Orders.{IsWhole, nought}
 use Rattle.replay_core.specs.Plans.{Plan}
-use Rattle.replay_core.specs.Play.{Given, core_at as play_core, given_by, loads_at, start, valued_play, valued_played}
+use Rattle.replay_core.specs.Play.{core_at as play_core, given_by, start, valued_played}
 use Rattle.replay_core.proofs.Places.{play_start_law, start_known}
 use Rattle.tso_codec.specs.declared.recording.TsoRecording.{TsoRecording}
-use Rattle.tso_codec.specs.Validity.{IsTso, plain_of}
+use Rattle.tso_codec.specs.Validity.{plain_of}
 use Rattle.tso_data.proofs.Remembers.{each_finds_last, final_values}
 use Rattle.tso_recordings.proofs.Loads.{loads_length, loads_told as play_loads}
 use Rattle.tso_recordings.proofs.Values.{values_are_told}
 use Rattle.tso_recordings.specs.Values.{notes_told}
-use Rattle.tso_recordings.specs.Values.{IsTold, Suits, values_told}
-use Rattle.tso_replay.specs.Laws.{Inside, IsToldRun, ReplaysTold}
+use Rattle.tso_recordings.specs.Values.{values_told}
+use Rattle.tso_replay.specs.Laws.{Inside, ReplaysTold}
 use Rattle.tso_replay.specs.Replays.{tso_given, tso_plan}
-use Rattle.tso_replay.specs.Told.{Telling, accesses_told, cores_told}
+use Rattle.tso_replay.specs.Told.{cores_told}
 use Rattle.tso_replay.proofs.Forward.{counted_play, counted_start}
 use Rattle.tso_replay.proofs.Replayed.{least_replays}
 use Rattle.tso_state.specs.Events.{Told}
 use Rattle.tso_state.specs.FinalMemory.{final_memory}
 use Rattle.tso_state.specs.Runs.{accesses, all_told, outcome_at, reads, run, totals}
 use Rattle.tso_state.specs.States.{BufferedCore, all_done, buffered_start, core_at}
-use Rattle.tso_told.specs.Played.{AreInside, AreNext, ordered_told, reads_told, told_core, told_of}
+use Rattle.tso_told.specs.Played.{ordered_told, told_core, told_of}
 use Rattle.tso_told.proofs.Sorted.{accesses_told as run_accesses_told}
 use Rattle.tso_told.proofs.Told.{run_cores, told_all_reads, told_whole}
 use Rattle.told_plays.specs.Plays.{AreGiven, AreToldOf, IsPlayed, tellings_of}
@@ -46,7 +46,7 @@ use Rattle.told_plays.proofs.Orders.{told_counts}
 use Rattle.told_plays.proofs.Plays.{played}
 use Rattle.tso_recordings.specs.Recordings.{CanRun, RunReplaysLaw, told_order, tso_recording_at}
 use Rattle.tso_recordings.proofs.Tellings.{accesses_are, are_given, cores_are, notes_are}
-use Rattle.tso_recordings.proofs.Totals.{all_totals, total_at, total_told}
+use Rattle.tso_recordings.proofs.Totals.{all_totals, total_told}
 use Rattle.tso_recordings.proofs.Valid.{recorded_here, run_order, run_told, run_values, valid_here}
 
 abbrev made : List Core → List ℕ → List (List LoadNote) → Outcome

@@ -3,14 +3,13 @@ use Rattle.std.proofs.Common.{◌≡◌, ◌∙◌, refl, sym, ap, ℕ, ◌==◌
 use Rattle.std.specs.Prelude.{map}
 use Rattle.rtr_types.specs.declared.access.Access.{Access}
 use Rattle.rtr_types.specs.declared.instr.Instr.{Instr}
-use Rattle.rtr_types.specs.Accesses.{is_read}
 use Rattle.rv_core.specs.declared.outcome.LoadNote.{LoadNote}
 use Rattle.replay_core.specs.Play.{Given}
 use Rattle.tso_recordings.specs.Values.{notes_told}
 use Rattle.tso_recordings.specs.Values.{AreSmall, IsTold, Suits, values_of as values_of_tellings}
-use Rattle.tso_replay.specs.Told.{Telling, accesses_told, cores_told, told_at}
+use Rattle.tso_replay.specs.Told.{Telling, accesses_told, cores_told}
 use Rattle.tso_state.specs.Events.{Told, Alone, Ordered, Logged, instr_told}
-use Rattle.tso_state.specs.Runs.{LoggedLoad, values_of}
+use Rattle.tso_state.specs.Runs.{values_of}
 use Rattle.tso_told.specs.Played.{logged_told, ordered_told, read_told, reads_told, told_of}
 use Rattle.tso_words.specs.Words.{SmallTold}
 use Rattle.told_plays.specs.Plays.{AreGiven, telling, tellings_of}

@@ -1,7 +1,7 @@
 -- What a run is recorded as: it is valid, and its reduced log is the least set.
-use Rattle.std.proofs.Common.{◌≡◌, ◌∙◌, refl, sym, ap, subst, ℕ, ◌+◌, ◌*◌, ◌<◌, ◌≤◌, ◌^◌, true, List, [], ◌∷◌, length}
+use Rattle.std.proofs.Common.{◌≡◌, ◌∙◌, refl, sym, ap, subst, ℕ, ◌<◌, ◌≤◌, ◌^◌, true, List, [], ◌∷◌, length}
 use Rattle.std.proofs.Common.{zero-add, arith}
-use Rattle.std.specs.Prelude.{map, replicate, slice_index, slice_index_or}
+use Rattle.std.specs.Prelude.{map, slice_index, slice_index_or}
 use Rattle.std.specs.List.{range_with_len}
 use Rattle.std.proofs.lemmas.List.{get_or-replicate, length-replicate}
 use Rattle.image_mem.specs.Contents.{Contents}
@@ -9,16 +9,14 @@ use Rattle.rtr_types.specs.Pairs.{pair_count, source_at, target_at}
 use Rattle.rtr_types.specs.PairEdges.{AreEdges}
 use Rattle.rtr_types.proofs.PairPlaces.{places-paired}
 use Rattle.rtr_types.specs.declared.TheConstants.{CORES_MAX}
-use Rattle.rtr_types.specs.declared.access.Access.{Access}
 use Rattle.rtr_types.specs.declared.params.Params.{Params}
-use Rattle.conflict_edge.specs.Conflicts.{StandsIn}
 use Rattle.least_lists.proofs.LeastLists.{reduced_lists}
 use Rattle.least_lists.proofs.Logs.{least_log}
 use Rattle.least_lists.specs.LeastLists.{AreOf, least_lists}
 use Rattle.log_codec.specs.Validity.{AreVectors, Valid, bound_at}
 use Rattle.online_reduce.proofs.ByPair.{length-by_pair}
 use Rattle.online_reduce.specs.Reduced.{Reduced, count_of}
-use Rattle.replay_core.specs.Orders.{counts, nought}
+use Rattle.replay_core.specs.Orders.{nought}
 use Rattle.stride_vector.specs.declared.StrideVector.{StrideVector}
 use Rattle.tso_codec.specs.Validity.{IsTso, plain_of}
 use Rattle.tso_recordings.proofs.ValidValues.{values_valid}
@@ -28,9 +26,8 @@ use Rattle.tso_records.proofs.Runs.{reduction_is}
 use Rattle.tso_records.specs.Records.{IsReductionOf}
 use Rattle.tso_records.specs.Standings.{standing_at}
 use Rattle.tso_replay.specs.Laws.{Inside}
-use Rattle.tso_replay.specs.Told.{Telling, cores_told}
-use Rattle.tso_state.specs.Events.{Told}
-use Rattle.tso_state.specs.Runs.{LoggedLoad, accesses, all_told, logged_loads, run, totals, values_at, values_of}
+use Rattle.tso_replay.specs.Told.{cores_told}
+use Rattle.tso_state.specs.Runs.{LoggedLoad, accesses, all_told, run, totals, values_at, values_of}
 use Rattle.tso_state.specs.States.{all_done}
 use Rattle.tso_told.specs.Played.{logged_told, told_of}
 use Rattle.tso_told.proofs.Sorted.{loads_told}

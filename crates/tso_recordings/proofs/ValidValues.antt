@@ -1,19 +1,16 @@
 -- The recorded words make a valid recording.
-use Rattle.std.proofs.Common.{◌≡◌, ◌≢◌, ◌∙◌, ℕ, ◌+◌, ◌^◌, ◌<◌, ◌≤◌, Bool, true, false, cond, eqb, List, [], ◌∷◌, length}
-use Rattle.std.proofs.Common.{get_or, refl, sym, ap, subst}
+use Rattle.std.proofs.Common.{◌≡◌, ◌∙◌, ℕ, ◌+◌, ◌<◌, ◌≤◌, Bool, cond, List, [], ◌∷◌, length}
+use Rattle.std.proofs.Common.{get_or, sym, ap, subst}
 use Rattle.std.proofs.Common.{eq-eqb, ne_eqb, arith}
 use Rattle.std.specs.Prelude.{slice_index}
 use Rattle.std.proofs.lemmas.List.FromFn.{length-map-range_with_len, get_or-map-range_with_len}
 use native.Mathlib.Decide.{ℕ_discrete}
-use Rattle.rtr_types.specs.Turns.{StandInTurn, count_up}
-use Rattle.rtr_types.specs.declared.instr.Instr.{Instr}
-use Rattle.log_codec.specs.Validity.{Valid}
+use Rattle.rtr_types.specs.Turns.{StandInTurn}
 use Rattle.log_codec.proofs.InTurn.{places-stand}
 use Rattle.replay_core.specs.Orders.{bump, counts, nought}
 use Rattle.replay_core.proofs.Counts.{bump_same, bump_more, counts_more}
-use Rattle.tso_codec.specs.declared.recording.TsoRecording.{TsoRecording}
-use Rattle.tso_codec.specs.Validity.{IsTso, ValueStands, AreValues, AreValuesOf, count_of, plain_of}
-use Rattle.tso_replay.specs.Told.{Telling, Locally, Ordered, Logged, told_at, cores_told}
+use Rattle.tso_codec.specs.Validity.{ValueStands, AreValues, AreValuesOf, count_of}
+use Rattle.tso_replay.specs.Told.{Telling, Locally, Ordered, Logged, cores_told}
 use Rattle.told_plays.specs.Plays.{InProgramOrder}
 use Rattle.tso_recordings.specs.Values.{values_of, values_told, AreSmall, ValuesValidLaw}
 

@@ -1,16 +1,15 @@
 -- The recorded words are given to their loads.
-use Rattle.std.proofs.Common.{inl, inr, ◌≡◌, ◌≢◌, ◌⊎◌, ◌∙◌, ℕ, ◌+◌, ◌<◌, ◌≤◌, Bool, true, false, cond, eqb, List, []}
-use Rattle.std.proofs.Common.{◌∷◌, ◌++◌, length, refl, sym, ap}
+use Rattle.std.proofs.Common.{inl, inr, ◌≡◌, ◌≢◌, ◌∙◌, ℕ, ◌+◌, ◌<◌, ◌≤◌, Bool, true, false, cond, eqb, List, []}
+use Rattle.std.proofs.Common.{◌∷◌, refl, sym, ap}
 use Rattle.std.proofs.Common.{subst, eq-eqb, ne_eqb, arith}
-use Rattle.std.specs.Prelude.{Option, Some, None, slice_index_or}
+use Rattle.std.specs.Prelude.{Some, None, slice_index_or}
 use Rattle.std.proofs.lemmas.List.FromFn.{get_or-map-range_with_len}
 use native.Mathlib.Decide.{ℕ_discrete}
 use Rattle.rtr_types.specs.Turns.{StandInTurn}
-use Rattle.rtr_types.specs.declared.access.Access.{Access}
 use Rattle.rtr_types.specs.declared.instr.Instr.{Instr}
 use Rattle.replay_core.specs.Orders.{bump, nought}
 use Rattle.replay_core.specs.Play.{count_of, value_at, given_by}
-use Rattle.replay_core.proofs.Counts.{bump_here, bump_more, bump_same, bump_else}
+use Rattle.replay_core.proofs.Counts.{bump_here, bump_more, bump_same}
 use Rattle.tso_replay.specs.Laws.{Inside}
 use Rattle.tso_replay.specs.Told.{Telling, Locally, Ordered, Logged, told_at, cores_told}
 use Rattle.told_plays.specs.Plays.{InProgramOrder}
