@@ -12,8 +12,6 @@ mod raced;
 mod rules;
 mod seat;
 mod table;
-#[cfg(test)]
-mod tests;
 mod upcoming;
 mod view;
 

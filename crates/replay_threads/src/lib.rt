@@ -6,8 +6,6 @@ mod gate;
 mod groups;
 mod joint;
 mod rounds;
-#[cfg(test)]
-mod tests;
 mod turns;
 mod waits;
 mod worker;

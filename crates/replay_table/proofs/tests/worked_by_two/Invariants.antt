@@ -1,5 +1,0 @@
-use Rattle.rtr_types.specs.declared.pairs.Which.TheVariants.{Regulated}
-use Rattle.replay_table.proofs.tests.worked_by_two.Given as goal
-
-abbrev pub ghosts-worked : goal.ghosts-worked
-ghosts-worked g a = record { recording = a.recording.now; which = Regulated }

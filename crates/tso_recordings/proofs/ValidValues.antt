@@ -1,0 +1,69 @@
+-- The recorded words make a valid recording.
+use Rattle.std.proofs.Common.{◌≡◌, ◌∙◌, ℕ, ◌+◌, ◌<◌, ◌≤◌, Bool, cond, List, [], ◌∷◌, length}
+use Rattle.std.proofs.Common.{get_or, sym, ap, subst}
+use Rattle.std.proofs.Common.{eq-eqb, ne_eqb, arith}
+use Rattle.std.specs.Prelude.{slice_index}
+use Rattle.std.proofs.lemmas.List.FromFn.{length-map-range_with_len, get_or-map-range_with_len}
+use native.Mathlib.Decide.{ℕ_discrete}
+use Rattle.rtr_types.specs.Turns.{StandInTurn}
+use Rattle.log_codec.proofs.InTurn.{places-stand}
+use Rattle.replay_core.specs.Orders.{bump, counts, nought}
+use Rattle.replay_core.proofs.Counts.{bump_same, bump_more, counts_more}
+use Rattle.tso_codec.specs.Validity.{ValueStands, AreValues, AreValuesOf, count_of}
+use Rattle.tso_replay.specs.Told.{Telling, Locally, Ordered, Logged, cores_told}
+use Rattle.told_plays.specs.Plays.{InProgramOrder}
+use Rattle.tso_recordings.specs.Values.{values_of, values_told, AreSmall, ValuesValidLaw}
+
+stand : (f : ℕ → ℕ) (list : List Telling) (c last total : ℕ) → InProgramOrder f list → last ≤ f c →
+    counts f (cores_told list) c ≤ total → AreSmall list →
+    StandInTurn (ValueStands total) count_of last (values_of c list)
+stand f [] c last total h le most small = tt
+stand f (Locally at ∷ list) c last total h le most small =
+    stand (bump f at.core) list c last total h.1 (let m = bump_more f at.core c in omega arith) most small
+stand f (Ordered a ∷ list) c last total h le most small =
+    stand (bump f a.at.core) list c last total h.1 (let m = bump_more f a.at.core c in omega arith) most small
+stand f (Logged at word value ∷ list) c last total h le most small = elim (ℕ_discrete at.core c) [
+  | yes e ↦
+      let same : f at.core ≡ f c = ap f e in
+      let one = bump_same f at.core c (sym e) in
+      let up = counts_more (bump f at.core) (cores_told list) c in
+      let first : ValueStands total last (at.count, value) =
+      record { rises = let n = h.0 in omega arith; most = let n = h.0 in omega arith; word = small.0 } in
+      let rest = stand (bump f at.core) list c at.count total h.1 (let n = h.0 in omega arith) most small.1 in
+      subst (λ (b : Bool). StandInTurn (ValueStands total) count_of last
+      (cond b ((at.count, value) ∷ values_of c list) (values_of c list)))
+      (sym (eq-eqb at.core c e)) (first, rest)
+  | no ne ↦
+      subst (λ (b : Bool). StandInTurn (ValueStands total) count_of last
+      (cond b ((at.count, value) ∷ values_of c list) (values_of c list)))
+      (sym (ne_eqb at.core c ne))
+      (stand (bump f at.core) list c last total h.1 (let m = bump_more f at.core c in omega arith) most small.1)
+]
+
+pub values_valid : ValuesValidLaw
+values_valid r list valid order totals small is = record {
+  plain = valid;
+  each_core = long ∙ valid.each_core;
+  values = places-stand (AreValuesOf r.totals) 0 r.values [] each;
+}
+  where
+    told : List (List (ℕ × ℕ))
+    told = values_told (length r.totals) list
+
+    long : length r.values ≡ length r.totals
+    long =
+        ap (λ (l : List (List (ℕ × ℕ))). length l) is
+        ∙ length-map-range_with_len (λ core. values_of core list) 0 (length r.totals)
+
+    each : (i : ℕ) → i < length r.values → AreValuesOf r.totals (0 + i) (get_or r.values i [])
+    each i lt =
+        let n : length r.values ≡ length r.totals = long in
+        let inside : i < length r.totals = omega arith in
+        let all = totals i inside in
+        let none : i ≡ 0 + i = omega arith in
+        let at : get_or r.values i [] ≡ values_of i list =
+        ap (λ (l : List (List (ℕ × ℕ))). get_or l i []) is
+        ∙ get_or-map-range_with_len (λ core. values_of core list) 0 (length r.totals) i i [] inside (omega arith) in
+        subst (λ (k : ℕ). AreValuesOf r.totals k (get_or r.values i [])) none
+        (subst (λ (l : List (ℕ × ℕ)). AreValues (slice_index r.totals i) l) (sym at)
+        (stand nought list i 0 (slice_index r.totals i) order (omega arith) (omega arith) small))
