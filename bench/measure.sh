@@ -22,10 +22,10 @@ counters() {
   done
 }
 
-# The same with the cores' own words 512 bytes apart, and the word of all every 512th time.
+# The same with the cores' own words 512 bytes apart, and the word of all every so many times: 8, 64 or 512.
 loners() {
-  for w in 0x000f42b7 0x24028293 0x00951313 0x10032383 0x00138393 0x10732023 0x1ff3f413 0x00041863 0x04002483 \
-    0x00148493 0x04902023 0xfff28293 0xfc029ee3 0x00000073; do
+  for w in 0x000f42b7 0x24028293 0x00951313 0x10032383 0x00138393 0x10732023 $(((${1:-512} - 1) << 20 | 0x3f413)) \
+    0x00041863 0x04002483 0x00148493 0x04902023 0xfff28293 0xfc029ee3 0x00000073; do
     word $w
   done
 }

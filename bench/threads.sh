@@ -1,15 +1,16 @@
 #!/usr/bin/env bash
-# Measures the replay on threads: how long `replay` takes alone, and with 1, 2 and 4 threads.
+# Measures the replay on threads: how long `replay` takes alone, and with 1, 2, 4 and 8 threads.
 #
-#   bench/threads.sh [TIMES]              each is taken so many times (9 where the word is missing), and the least is told
+#   bench/threads.sh [TIMES]              each is taken so many times (7 where the word is missing), and the least is told
 #
 # The works are two cores that take Peterson's lock 500 times (they wait for each other all the time), and cores that
-# each count up a word of their own, and every eighth (counters) or 512th time (loners) a word of all; of these each
-# core retires 100,000 instructions. For each work and each log it prints a line: the work, how many cores, the log,
-# and the seconds alone and with 1, 2 and 4 threads. A machine of fewer processors than threads shows no gain by them.
+# each count up a word of their own, and every eighth (counters), 64th or 512th time (loners) a word of all; of these
+# each core retires 100,000 instructions; and mix 3 of `rtr gen` on four cores. For each work and each log (LOGS says
+# which, both where it is missing) it prints a line: the work, how many cores, the log, and the seconds alone and with
+# 1, 2, 4 and 8 threads. A machine of fewer processors than threads shows no gain by them.
 set -eu
 cd "$(dirname "$0")/.."
-times=${1:-9}
+times=${1:-7}
 . bench/measure.sh
 
 # The least seconds that a command takes on the recording.
@@ -24,11 +25,11 @@ least() {
 
 # A line for each log of a work: its name, its cores, and the options of the recording.
 work() {
-  "$tool" record --cores "$2" --limit 100000 --words 1024 --seed 7 < "$place/image" > "$place/recording"
-  for log in reduced regulated; do
+  "$tool" record --cores "$2" --limit 100000 --words 2048 --seed 7 < "$place/image" > "$place/recording"
+  for log in ${LOGS:-reduced regulated}; do
     line="$1 $2 $log $(least replay --log $log)"
     cp "$place/out" "$place/alone"
-    for threads in 1 2 4; do
+    for threads in 1 2 4 8; do
       line="$line $(least replay --log $log --threads $threads)"
       cmp "$place/out" "$place/alone"
     done
@@ -36,11 +37,16 @@ work() {
   done
 }
 
-echo "work cores log alone 1 2 4"
+echo "work cores log alone 1 2 4 8"
 lock 500 > "$place/image"
 work lock 2
 counters > "$place/image"
 work counters 4
-loners > "$place/image"
-work loners 2
-work loners 4
+loners 64 > "$place/image"
+work each-64th 4
+work each-64th 8
+loners 512 > "$place/image"
+work each-512th 2
+work each-512th 4
+"$tool" gen --shape mix --number 3 > "$place/image"
+work mix-3 4

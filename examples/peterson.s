@@ -4,6 +4,11 @@
 # schedule. The words of the lock take nearly all edges; those of the counter are implied by them.
 #
 #   rtr record --cores 2 --words 64 --seed 0
+#
+# On cores with store buffers a count may be lost, since a core may look at the other's flag before its own is seen to be
+# up: under seed 0 the counter ends as 3. A FENCE before `wait` mends that.
+#
+#   rtr tsorun --cores 2 --words 64 --seed 0
 
         addi    t0, zero, 2             # rounds that are left
         slli    t1, a0, 2               # the own flag, from 128 on

@@ -7,10 +7,11 @@
   tests/hostile.py growth                  the same at 4, 8, 16 and 32 MiB: the time of each is to be about twice that before
   tests/hostile.py memory                  a short run, its replay, certificate and check, each with every allocation failing in turn
   tests/hostile.py try [CALLS]             the same by `rt try --fail-alloc`, for the allocations of these numbers (1 2 4 8)
+  tests/hostile.py again [CALLS]           tests that make what found no memory once more, with these allocations failing (1 2 4 8)
 
-It needs the built tool (crates/rtr/out/rtr, or the one that $RTR names), a C compiler for `memory`, and Debian's time for `large` and
-`growth`. It ends with status 1 where a
-run crashed, hung, ended with a status outside the table, or told or gave what its status doesn't allow.
+But for `again` it needs the built tool (crates/rtr/out/rtr, or the one that $RTR names), a C compiler for `memory`, and Debian's
+time for `large` and `growth`. It ends with status 1 where a run crashed, hung, ended with a status outside the table, or told or
+gave what its status doesn't allow, and where a test failed.
 """
 import os
 import random
@@ -57,13 +58,16 @@ READERS = [
     ["at", "--core", "0", "--count", "1"],
     ["thin"],
     ["checkthin"],
+    ["tsoreplay", "--loads"],
     ["expand"],
 ]
 ELF_READERS = [["run", "--elf", "--words", "64", "--limit", "200"], ["record", "--elf", "--cores", "2", "--words", "64", "--limit", "200"]]
-IMAGE_READERS = [["run", "--cores", "3", "--words", "64", "--limit", "200"], ["record", "--cores", "3", "--words", "64", "--limit", "200"]]
+IMAGE_READERS = [["tsorun", "--cores", "3", "--words", "64", "--limit", "200"], ["tsorecord", "--cores", "3", "--words", "64", "--limit", "200"], ["run", "--cores", "3", "--words", "64", "--limit", "200"], ["record", "--cores", "3", "--words", "64", "--limit", "200"]]
 
 HANDED_OVER = bytes.fromhex("631a0500 93027000 23205004 03230004 73000000 83230004 2320a004 73000000")
 HANDED_OVER_OPTIONS = ["--cores", "2", "--words", "32", "--choices", "00000001010101010101010101010101"]
+# Two cores with store buffers that each load 0 past the other's store.
+BUFFERED = bytes.fromhex("52545203 02 904e 20 1c 13134500 93431500 13944300 93041000 23209304 83250404 73000000 0707 00 00 010600 010600")
 OLD_RECORDING = bytes.fromhex("52545201 02 904e 10 0c 93025500 23205002 73000000 0303 010202 00 01010202 00")
 
 
@@ -127,13 +131,14 @@ def corpus():
     mix = ask(["gen", "--shape", "mix", "--number", "3"], b"")
     recordings = [
         OLD_RECORDING,
+        BUFFERED,
         ask(["record"], bytes.fromhex("73000000")),
         ask(["record"] + HANDED_OVER_OPTIONS, HANDED_OVER),
         ask(["record", "--cores", "2", "--limit", "10000", "--words", "128", "--seed", "7"], lock),
         ask(["record", "--cores", "4", "--limit", "300", "--words", "512", "--seed", "1"], mix),
         ask(["record", "--cores", "16", "--limit", "40", "--words", "512", "--seed", "2"], mix),
     ]
-    certificates = [ask(["certify"], recording) for recording in recordings[1:]]
+    certificates = [ask(["certify"], recording) for recording in recordings[2:]]
     return {"recording": recordings + certificates, "elf": [elf_file()], "image": [HANDED_OVER, lock, mix[:256]]}
 
 
@@ -376,7 +381,8 @@ def rows():
     certificate = ask(["certify"], recording)
     row = [(["record"] + HANDED_OVER_OPTIONS, HANDED_OVER), (["run"] + HANDED_OVER_OPTIONS, HANDED_OVER), (["print"], recording)]
     row += [(["replay"], recording), (["replay", "--threads", "2"], recording), (["migrate"], OLD_RECORDING)]
-    row += [(["certify"], recording), (["check"], certificate)]
+    row += [(["certify"], recording), (["check"], certificate), (["tsoreplay", "--loads"], BUFFERED)]
+    row += [([word] + HANDED_OVER_OPTIONS, HANDED_OVER) for word in ("tsorun", "tsorecord")]
     return [(words, data) for words, data in row if Run(words, data).status == 0]
 
 
@@ -422,6 +428,25 @@ def by_try(calls):
     return report(wrong)
 
 
+AGAIN = {"tso_machine_examples": "", "tso_record_examples": "recorded_tests::", "replay_examples": "tso_replays::"}
+
+
+def made_again(calls):
+    """Each of these tests has to pass whichever allocation fails."""
+    wrong = []
+    for crate, front in AGAIN.items():
+        for call in calls:
+            command = ["rt", "try", "--test", "--fail-alloc", call]
+            run = subprocess.run(command, cwd=os.path.join(TOP, "crates", crate), capture_output=True)
+            told = [line.split() for line in (run.stdout + run.stderr).decode(errors="replace").splitlines()]
+            tests = [line for line in told if line[:1] == ["test"] and line[1].startswith(front) and line[1] != "result:"]
+            passed = [line for line in tests if line[-1] == "ok"]
+            print(f"{crate} with allocation {call} failing: {len(passed)} of {len(tests)} tests passed", flush=True)
+            if not tests or len(passed) < len(tests):
+                wrong.append(f"{crate}, allocation {call}")
+    return report(wrong)
+
+
 def report(wrong):
     for line in wrong[:40]:
         print("wrong:", line)
@@ -431,6 +456,8 @@ def report(wrong):
 
 def main(words):
     resource.setrlimit(resource.RLIMIT_CORE, (0, 0))
+    if words[:1] == ["again"]:
+        return made_again(words[1:] or ["1", "2", "4", "8"])
     if not os.access(TOOL, os.X_OK):
         sys.exit("build the tool first: (cd crates/rtr && rt run -- record) < crates/rtr/stdin")
     if words[:1] == ["bytes"]:

@@ -5,3 +5,4 @@ pub mod Marks
 pub mod Ends
 pub mod Named
 pub mod Numbered
+pub mod RowLaws

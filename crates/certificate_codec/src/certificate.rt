@@ -1,4 +1,5 @@
 //! The certificate, and the parts that its bytes have beyond a recording's first five.
+use crate::core_entries::CoreEntries;
 use log_codec::Recording;
 use rtr_types::Items;
 
@@ -15,5 +16,5 @@ pub struct Certificate {
     /// The recording.
     pub recording: Recording,
     /// For each core, for each of its edge ends by rising count, a count of each core.
-    pub clocks: Items<Items<Items<u32>>>,
+    pub clocks: Items<CoreEntries>,
 }

@@ -1,18 +1,19 @@
 //! The instructions at which reduced edges begin or end.
-ghost use Rattle.std.specs.Prelude.{◌≡◌, ◌+◌, ◌<◌, ◌||◌, ℕ, IfOk, IfSome, IsTrue, false, length};
+ghost use Rattle.std.specs.Prelude.{◌≡◌, ◌+◌, ◌<◌, ◌||◌, ℕ, IfOk, IfSome, IsTrue, false, length, map};
 ghost use Rattle.std.specs.Prelude.{slice_index, slice_index_or};
+ghost use Rattle.log_codec.specs.Sources.{edge_between};
 ghost use Rattle.log_codec.specs.Validity.{Valid};
 ghost use Rattle.clock_entries.specs.Ends.{instr, is_same, is_end, ends_to};
 ghost use Rattle.certificate_codec.specs.Ends.{reduced_edges, ends_in, IsWithin, IsNumber};
 
 use crate::edge_lists::edges_of;
 use log_codec::Recording;
-use rtr_types::{Edge, Instr, Items};
+use rtr_types::{Edge, Instr, Items, pair_count, pair_of};
 use std::alloc::{AllocError, Global};
 use std::marker::Model;
 
 /// How many numbers are tried from a guess on.
-const TRIED: usize = 8;
+const TRIED: usize = 32;
 
 /// A recording with its reduced edges and their ends. Contracts see it as the recording.
 #[derive(Drop)]
@@ -34,14 +35,14 @@ impl<'a> Model for EdgeEnds<'a> {
 }
 
 impl<'a> EdgeEnds<'a> {
-    /// The recording with its edge ends. They are found in one pass over the edges and one over the
-    /// counts for each core.
+    /// The recording with its edge ends. They are found in one pass over a core's edges and one over its
+    /// counts.
     pub fn new(alloc: Global, recording: &'a Recording) -> Result<EdgeEnds<'a>, AllocError>
         requires { Valid recording.now }
         ensures { IfOk result (λ ends. ends ≡ recording.now) }
     {
         let edges = edges_of(alloc, recording)?;
-        let ends = ends_of(alloc, recording, edges.as_slice())?;
+        let ends = ends_of(alloc, recording)?;
         Ok(EdgeEnds {
             recording,
             edges,
@@ -122,29 +123,55 @@ fn mark(marks: &mut [bool], core: u8, at: Instr)
     }
 }
 
-/// Marks the core's counts at which an edge begins or ends. None was marked before.
-fn mark_edges(marks: &mut [bool], core: u8, edges: &[Edge])
-    requires { (n : ℕ) → n < length marks.old → slice_index_or marks.old n false ≡ false }
-    ensures { (n : ℕ) → n < length marks.old →
-        slice_index_or marks.new n false ≡ is_end edges.now (instr core (n + 1)) }
+/// Marks the core's counts at which an edge from one core to another begins or ends.
+fn mark_pair(marks: &mut [bool], core: u8, from: u8, to: u8, counts: &[(u32, u32)])
+    ensures { (n : ℕ) → n < length marks.old → slice_index_or marks.new n false
+        ≡ is_end (map (edge_between from to) counts.now) (instr core (n + 1)) || slice_index_or marks.old n false }
 {
-    for edge in edges {
-        mark(marks, core, edge.from);
-        mark(marks, core, edge.to);
+    if from != core && to != core {
+        return;
+    }
+    for &(source, target) in counts {
+        let start = Instr {
+            core: from,
+            count: source,
+        };
+        let end = Instr {
+            core: to,
+            count: target,
+        };
+        mark(marks, core, start);
+        mark(marks, core, end);
+    }
+}
+
+/// Marks the core's counts at which a reduced edge begins or ends, pair by pair. None was marked before.
+fn mark_edges(marks: &mut [bool], core: u8, recording: &Recording)
+    requires valid { Valid recording.now }
+    requires none { (n : ℕ) → n < length marks.old → slice_index_or marks.old n false ≡ false }
+    ensures { (n : ℕ) → n < length marks.old →
+        slice_index_or marks.new n false ≡ is_end (reduced_edges recording.now) (instr core (n + 1)) }
+{
+    let cores = recording.params.cores;
+    for place in 0..pair_count(cores) {
+        let (from, to) = pair_of(cores, place);
+        let counts = recording.reduced.as_slice()[place].as_slice();
+        mark_pair(marks, core, from, to, counts);
     }
 }
 
 /// The edge ends of a core, by rising count.
 fn ends_of_core(
     alloc: Global,
-    edges: &[Edge],
+    recording: &Recording,
     core: u8,
     total: u32,
 ) -> Result<Items<u32>, AllocError>
-    ensures { IfOk result (λ ends. ends ≡ ends_to edges.now core total) }
+    requires { Valid recording.now }
+    ensures { IfOk result (λ ends. ends ≡ ends_to (reduced_edges recording.now) core total) }
 {
     let mut marks = vec![in alloc; false; total as usize]?;
-    mark_edges(marks.as_mut_slice(), core, edges);
+    mark_edges(marks.as_mut_slice(), core, recording);
     let mut ends = Items::new(alloc);
     for before in 0..total {
         if marks[before as usize] {
@@ -155,19 +182,14 @@ fn ends_of_core(
 }
 
 /// The edge ends of each core.
-fn ends_of(
-    alloc: Global,
-    recording: &Recording,
-    edges: &[Edge],
-) -> Result<Items<Items<u32>>, AllocError>
-    requires valid { Valid recording.now }
-    requires edges { edges.now ≡ reduced_edges recording.now }
+fn ends_of(alloc: Global, recording: &Recording) -> Result<Items<Items<u32>>, AllocError>
+    requires { Valid recording.now }
     ensures { IfOk result (λ ends. ends ≡ ends_in recording.now) }
 {
     let totals = recording.totals.as_slice();
     let mut ends = Items::new(alloc);
     for core in 0..recording.params.cores {
-        ends.push(ends_of_core(alloc, edges, core, totals[core as usize])?)?;
+        ends.push(ends_of_core(alloc, recording, core, totals[core as usize])?)?;
     }
     Ok(ends)
 }

@@ -3,6 +3,7 @@
 #![tactic(auto)]
 
 mod certificate;
+mod core_entries;
 mod edge_ends;
 mod edge_lists;
 pub mod laws;
@@ -10,6 +11,7 @@ mod reading;
 mod writing;
 
 pub use certificate::{CLOCKS, Certificate, END};
+pub use core_entries::CoreEntries;
 pub use edge_ends::EdgeEnds;
 pub use reading::read_certificate;
 pub use writing::spell_certificate;

@@ -10,8 +10,9 @@ ghost use Rattle.certificate_codec.specs.Validity.{IsCertificate};
 ghost use Rattle.certificate_codec.specs.declared.certificate.Certificate.{Certificate as SomeCertificate};
 
 use crate::certificate::{CLOCKS, Certificate, END};
+use crate::core_entries::CoreEntries;
 use crate::edge_ends::EdgeEnds;
-use log_codec::{CodecFault, Recording, counts, number, read_front};
+use log_codec::{CodecFault, Recording, counts_into, number, read_front};
 use rtr_types::Items;
 use std::alloc::Global;
 
@@ -19,19 +20,18 @@ use std::alloc::Global;
 fn entries_from<'a>(
     alloc: Global,
     totals: &[u32],
-    number: u32,
+    number: usize,
     bytes: &'a [u8],
-) -> Result<(Items<Items<u32>>, &'a [u8]), CodecFault>
+) -> Result<(CoreEntries, &'a [u8]), CodecFault>
     ensures { Gives (λ x. (x.0, x.1.now)) result (read_in_turn (entry_at totals.now) stay number tt bytes.now) }
 {
-    let mut found = Items::from_vec(Vec::with_capacity(alloc, number as usize)?);
+    let room = number.saturating_mul(totals.len());
+    let mut found = Items::from_vec(Vec::with_capacity(alloc, room)?);
     let mut rest = bytes;
     for _ in 0..number {
-        let (next, after) = counts(alloc, CLOCKS, totals, rest)?;
-        found.push(next)?;
-        rest = after;
+        rest = counts_into(&mut found, CLOCKS, totals, rest)?;
     }
-    Ok((found, rest))
+    Ok((CoreEntries::new(number, totals.len(), found), rest))
 }
 
 /// The entries of a core: as many as it has edge ends.
@@ -41,7 +41,7 @@ fn entries<'a>(
     ends: &EdgeEnds,
     core: u8,
     bytes: &'a [u8],
-) -> Result<(Items<Items<u32>>, &'a [u8]), CodecFault>
+) -> Result<(CoreEntries, &'a [u8]), CodecFault>
     requires { core < ends.now.params.cores }
     ensures { Gives (λ x. (x.0, x.1.now)) result (entries_at ends.now core bytes.now) }
 {
@@ -49,7 +49,7 @@ fn entries<'a>(
     if n as usize != ends.of_core(core).len() {
         return Err(CodecFault::Bad { part: CLOCKS });
     }
-    entries_from(alloc, ends.recording().totals.as_slice(), n, rest)
+    entries_from(alloc, ends.recording().totals.as_slice(), n as usize, rest)
 }
 
 /// The sixth part: the entries of each core.
@@ -57,7 +57,7 @@ fn clocks<'a>(
     alloc: Global,
     recording: &Recording,
     bytes: &'a [u8],
-) -> Result<(Items<Items<Items<u32>>>, &'a [u8]), CodecFault>
+) -> Result<(Items<CoreEntries>, &'a [u8]), CodecFault>
     requires { Valid recording.now }
     ensures { Gives (λ x. (x.0, x.1.now)) result (clocks_at recording.now bytes.now) }
 {

@@ -114,10 +114,7 @@ impl<'a> SlowJudge<'a> {
             return &[];
         }
         match self.certificate.clocks.as_slice().get(at.core as usize) {
-            Some(entries) => match entries.as_slice().get(number - 1) {
-                Some(entry) => entry.as_slice(),
-                None => &[],
-            },
+            Some(entries) => entries.entry(number - 1),
             None => &[],
         }
     }

@@ -1,5 +1,6 @@
 -- Edges as elements of a list, and as pairs of instructions.
-use Rattle.std.proofs.Common.{◌≡◌, ◌∙◌, ap, ℕ, zero, suc, ◌<◌, List, [], ◌∷◌, length, inl, inr, arith, ◌⊎◌, ◌++◌, get_or, refl}
+use Rattle.std.proofs.Common.{◌≡◌, ◌∙◌, ap, ℕ, zero, suc, ◌<◌, List, [], ◌∷◌, length, inl, inr, arith, ◌⊎◌, ◌++◌}
+use Rattle.std.proofs.Common.{get_or, refl}
 use Rattle.std.specs.Prelude.{slice_index_or}
 use Rattle.std.specs.List.{Contains}
 use Rattle.rtr_types.specs.declared.instr.Edge.{Edge}
@@ -13,7 +14,8 @@ edge x y = record { from = x; to = y }
 pub among_contains : (edges : List Edge) (x y : Instr) → Among edges x y → Contains edges (record { from = x; to = y })
 among_contains [] x y among = absurd among
 among_contains (e ∷ edges) x y (inl is) = (0, omega arith, ap (λ (i : Instr). edge i e.to) is.0 ∙ ap (edge x) is.1)
-among_contains (e ∷ edges) x y (inr among) = let there = among_contains edges x y among in (suc there.0, omega (arith, there.1), there.2)
+among_contains (e ∷ edges) x y (inr among) = let there = among_contains edges x y among in
+    (suc there.0, omega (arith, there.1), there.2)
 
 among_at : (edges : List Edge) (x y : Instr) (k : ℕ) → k < length edges → slice_index_or edges k (edge x y) ≡ edge x y
     → Among edges x y
@@ -47,7 +49,8 @@ among_cases (e ∷ xs) ys x y (inr a) = elim (among_cases xs ys x y a) [
   | inr b ↦ inr b
 ]
 
-pub place_among : (edges : List Edge) (i : ℕ) (d : Edge) → i < length edges → Among edges (get_or edges i d).from (get_or edges i d).to
+pub place_among : (edges : List Edge) (i : ℕ) (d : Edge) → i < length edges →
+    Among edges (get_or edges i d).from (get_or edges i d).to
 place_among [] i d lt = absurd (omega arith)
 place_among (e ∷ edges) zero d lt = inl (refl, refl)
 place_among (e ∷ edges) (suc i) d lt = inr (place_among edges i d (omega arith))

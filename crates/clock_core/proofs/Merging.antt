@@ -17,4 +17,5 @@ length-merged (x ∷ xs) (y ∷ ys) same = ap suc (length-merged xs ys (omega ar
 -- what has the greater count at each place is the merged clock
 pub merged_is : (xs ys zs : List ℕ) → length xs ≡ length ys → length zs ≡ length xs →
     ((i : ℕ) → i < length zs → get_or zs i 0 ≡ max (get_or xs i 0) (get_or ys i 0)) → zs ≡ merged xs ys
-merged_is xs ys zs same len each = ext_get_or 0 zs (merged xs ys) (len ∙ sym (length-merged xs ys same)) (λ i lt. each i lt ∙ sym (get_or-merged xs ys i))
+merged_is xs ys zs same len each = ext_get_or 0 zs (merged xs ys) (len ∙ sym (length-merged xs ys same))
+    (λ i lt. each i lt ∙ sym (get_or-merged xs ys i))

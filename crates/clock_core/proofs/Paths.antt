@@ -51,4 +51,5 @@ pub instr_eq : (x y : Instr) → x.core ≡ y.core → x.count ≡ y.count → x
 instr_eq x y p q = ap (λ (c : ℕ). instr_of c x.count) p ∙ ap (λ (n : ℕ). instr_of y.core n) q
 
 pub same_instr : (x y : Instr) → is_same x y ≡ true → x ≡ y
-same_instr x y t = let a : x.core ≡ y.core = grind (arith, nat_tests) in let b : x.count ≡ y.count = grind (arith, nat_tests) in instr_eq x y a b
+same_instr x y t = let a : x.core ≡ y.core = grind (arith, nat_tests) in let b : x.count ≡ y.count =
+    grind (arith, nat_tests) in instr_eq x y a b

@@ -1,12 +1,14 @@
 -- The clock is reachability.
-use Rattle.std.proofs.Common.{◌≡◌, ℕ, zero, suc, ◌<◌, ◌≤◌, ◌⊎◌, List, [], ◌∷◌, refl, sym, ◌∙◌, ap, subst, inl, inr, arith, true, false, nat_eq, max}
+use Rattle.std.proofs.Common.{◌≡◌, ℕ, zero, suc, ◌<◌, ◌≤◌, ◌⊎◌, List, [], ◌∷◌, refl, sym, ◌∙◌, ap, subst, inl, inr}
+use Rattle.std.proofs.Common.{arith, true, false, nat_eq, max}
 use Rattle.std.proofs.Math.Nat.{eq-or-lt_of_le}
 use Rattle.std.proofs.lemmas.Bool.{cases_Bool, cases_lt}
 use Rattle.std.proofs.lemmas.Bool.Decides.{nat_tests}
 use Rattle.clock_core.proofs.Paths.{joined, one, instr_eq}
 use Rattle.clock_core.specs.Order.{Relation, Step, Path, Before}
 use Rattle.conflict_edge.proofs.Ranks.{no_cycle}
-use Rattle.conflict_edge.proofs.History.{Pair, Rising, reaches-true, reaches-false, reaches-yes, reaches-no, do_conflict-true, do_conflict-yes, ends, older}
+use Rattle.conflict_edge.proofs.History.{Pair, Rising, reaches-true, reaches-false, reaches-yes, reaches-no}
+use Rattle.conflict_edge.proofs.History.{do_conflict-true, do_conflict-yes, ends, older}
 use Rattle.conflict_edge.specs.Clocks.{reaches, greatest, clock}
 use Rattle.conflict_edge.specs.Conflicts.{Conflicts, do_conflict, StandsIn}
 use Rattle.rtr_types.specs.declared.access.Access.{Access}
@@ -18,12 +20,14 @@ pub clock-newest : (a : Access) (h : List Access) (y : Instr) (i : ℕ) → reac
 unfolding clock
 clock-newest a h y i e = rw e refl
 
-pub clock-older : (a : Access) (h : List Access) (y : Instr) (i : ℕ) → reaches a y ≡ false → clock (a ∷ h) y i ≡ clock h y i
+pub clock-older : (a : Access) (h : List Access) (y : Instr) (i : ℕ) → reaches a y ≡ false →
+    clock (a ∷ h) y i ≡ clock h y i
 unfolding clock
 clock-older a h y i e = rw e refl
 
 -- it is at least each
-pub greatest-le : (f : Access → ℕ) (a : Access) (h : List Access) (b : Access) → StandsIn h b → Conflicts b a → f b ≤ greatest f a h
+pub greatest-le : (f : Access → ℕ) (a : Access) (h : List Access) (b : Access) → StandsIn h b → Conflicts b a →
+    f b ≤ greatest f a h
 unfolding greatest
 greatest-le f a [] b stands c = absurd stands
 greatest-le f a (d ∷ h) b (inl e) c =
@@ -37,7 +41,8 @@ greatest-le f a (d ∷ h) b (inr stands) c =
     ]
 
 -- it is 0 or one of them
-pub greatest-is : (f : Access → ℕ) (a : Access) (h : List Access) (n : ℕ) → 1 ≤ n → n ≤ greatest f a h → (b : Access) × StandsIn h b × Conflicts b a × (n ≤ f b)
+pub greatest-is : (f : Access → ℕ) (a : Access) (h : List Access) (n : ℕ) → 1 ≤ n → n ≤ greatest f a h →
+    (b : Access) × StandsIn h b × Conflicts b a × (n ≤ f b)
 unfolding greatest
 greatest-is f a [] n pos le = absurd (omega arith)
 greatest-is f a (d ∷ h) n pos le =
@@ -67,12 +72,14 @@ clock-own (a ∷ h) y =
     ]
 
 -- along a core the clock doesn't fall
-pub clock-program : (h : List Access) (x y : Instr) (i : ℕ) → x.core ≡ y.core → x.count ≤ y.count → clock h x i ≤ clock h y i
+pub clock-program : (h : List Access) (x y : Instr) (i : ℕ) → x.core ≡ y.core → x.count ≤ y.count →
+    clock h x i ≤ clock h y i
 unfolding clock
 clock-program [] x y i p q =
     elim (cases_Bool (nat_eq y.core i)) [
       | inl e ↦ let d : nat_eq x.core i ≡ true = subst (λ (c : ℕ). nat_eq c i ≡ true) (sym p) e in rw (e, d) q
-      | inr e ↦ let d : nat_eq x.core i ≡ false = subst (λ (c : ℕ). nat_eq c i ≡ false) (sym p) e in rw (e, d) (omega arith)
+      | inr e ↦ let d : nat_eq x.core i ≡ false = subst (λ (c : ℕ). nat_eq c i ≡ false) (sym p) e in
+          rw (e, d) (omega arith)
     ]
 clock-program (a ∷ h) x y i p q =
     elim (cases_Bool (reaches a y)) [
@@ -81,7 +88,8 @@ clock-program (a ∷ h) x y i p q =
         | inr d ↦ omega (arith, clock-newest a h y i e, clock-older a h x i d, clock-program h x y i p q)
       ]
       | inr e ↦
-          let n : reaches a x ≡ false = reaches-no a x (λ (s : a.at.core ≡ x.core). let t = reaches-false a y e (s ∙ p) in omega arith) in
+          let n : reaches a x ≡ false = reaches-no a x (λ (s : a.at.core ≡ x.core). let t =
+          reaches-false a y e (s ∙ p) in omega arith) in
           omega (arith, clock-older a h y i e, clock-older a h x i n, clock-program h x y i p q)
     ]
 
@@ -89,7 +97,8 @@ clock-program (a ∷ h) x y i p q =
 pub clock-pair : (h : List Access) (x y : Instr) (i : ℕ) → Rising h → Pair h x y → clock h x i ≤ clock h y i
 clock-pair [] x y i rising p = absurd p
 clock-pair (a ∷ h) x y i rising (inl p) =
-    let yes : reaches a y ≡ true = subst (λ (z : Instr). reaches a z ≡ true) p.0 (reaches-yes a a.at refl (omega arith)) in
+    let yes : reaches a y ≡ true = subst (λ (z : Instr). reaches a z ≡ true) p.0
+    (reaches-yes a a.at refl (omega arith)) in
     let no : reaches a x ≡ false = older a h p.1.0 x rising p.1.1 p.1.2 in
     let big = greatest-le (λ b. clock h b.at i) a h p.1.0 p.1.1 p.1.3 in
     let same : clock h p.1.0.at i ≡ clock h x i = ap (λ (z : Instr). clock h z i) p.1.2 in
@@ -104,7 +113,8 @@ clock-step : (h : List Access) (x y : Instr) (i : ℕ) → Rising h → Step (Pa
 clock-step h x y i rising (inl p) = clock-program h x y i p.0 (let q = p.1 in omega arith)
 clock-step h x y i rising (inr p) = clock-pair h x y i rising p
 
-clock-path : (h : List Access) (i : ℕ) → Rising h → (n : ℕ) (x y : Instr) → Path (Pair h) n x y → clock h x i ≤ clock h y i
+clock-path : (h : List Access) (i : ℕ) → Rising h → (n : ℕ) (x y : Instr) → Path (Pair h) n x y →
+    clock h x i ≤ clock h y i
 clock-path h i rising zero x y p = clock-step h x y i rising p
 clock-path h i rising (suc n) x y p = omega (arith, clock-step h x p.0 i rising p.1, clock-path h i rising n p.0 y p.2)
 
@@ -132,13 +142,16 @@ widen_up a h x y (inl e) = inl e
 widen_up a h x y (inr p) = inr (widen a h x y p)
 
 -- x leads to a through b
-through : (a : Access) (h : List Access) (x : Instr) (b : Access) → StandsIn h b → Conflicts b a → UpTo h x b.at → Before (Pair (a ∷ h)) x a.at
+through : (a : Access) (h : List Access) (x : Instr) (b : Access) → StandsIn h b → Conflicts b a → UpTo h x b.at →
+    Before (Pair (a ∷ h)) x a.at
 through a h x b stands c (inl e) = one (Pair (a ∷ h)) x a.at (inr (inl (refl, (b, stands, sym e, c))))
 through a h x b stands c (inr p) =
-    joined (Pair (a ∷ h)) x b.at a.at (widen a h x b.at p) (one (Pair (a ∷ h)) b.at a.at (inr (inl (refl, (b, stands, refl, c)))))
+    joined (Pair (a ∷ h)) x b.at a.at (widen a h x b.at p) (one (Pair (a ∷ h)) b.at a.at
+    (inr (inl (refl, (b, stands, refl, c)))))
 
 -- along a core from a to y
-onwards : (a : Access) (h : List Access) (x y : Instr) → (a.at.core ≡ y.core) × (a.at.count ≤ y.count) → Before (Pair (a ∷ h)) x a.at →
+onwards : (a : Access) (h : List Access) (x y : Instr) → (a.at.core ≡ y.core) × (a.at.count ≤ y.count) →
+    Before (Pair (a ∷ h)) x a.at →
     Before (Pair (a ∷ h)) x y
 onwards a h x y r p = elim (eq-or-lt_of_le r.1) [
   | inl e ↦ subst (λ (z : Instr). Before (Pair (a ∷ h)) x z) (instr_eq a.at y r.0 e) p

@@ -1,5 +1,6 @@
 -- A list of accesses, the newest first.
-use Rattle.std.proofs.Common.{◌≡◌, ◌≢◌, ◌<◌, ◌≤◌, ◌⊎◌, List, [], ◌∷◌, refl, sym, ◌∙◌, ap, subst, inl, inr, arith, true, false, Bool, nat_eq, ◌&&◌, ◌||◌, not}
+use Rattle.std.proofs.Common.{◌≡◌, ◌≢◌, ◌<◌, ◌≤◌, ◌⊎◌, List, [], ◌∷◌, refl, sym, ◌∙◌, ap, subst, inl, inr, arith, true}
+use Rattle.std.proofs.Common.{false, Bool, nat_eq, ◌&&◌, ◌||◌, not}
 use Rattle.std.proofs.lemmas.Bool.{and_parts, or_cases}
 use Rattle.std.specs.Prelude.{⊤}
 use Rattle.std.proofs.lemmas.Bool.Decides.{nat_tests}
@@ -21,7 +22,8 @@ Pair (a ∷ h) x y = ((a.at ≡ y) × Source h a x) ⊎ Pair h x y
 
 abbrev pub Rising : List Access → Type 0
 Rising [] = ⊤
-Rising (a ∷ h) = (1 ≤ a.at.count) × ((b : Access) → StandsIn h b → b.at.core ≡ a.at.core → b.at.count < a.at.count) × Rising h
+Rising (a ∷ h) = (1 ≤ a.at.count) × ((b : Access) → StandsIn h b → b.at.core ≡ a.at.core →
+    b.at.count < a.at.count) × Rising h
 
 pub reaches-true : (a : Access) (y : Instr) → reaches a y ≡ true → (a.at.core ≡ y.core) × (a.at.count ≤ y.count)
 reaches-true a y e = grind (arith, nat_tests)
@@ -48,7 +50,16 @@ pub record Ends (h : List Access) (x y : Instr) : Type 0 where
 pub ends : (h : List Access) (x y : Instr) → Pair h x y → Ends h x y
 ends [] x y p = absurd p
 ends (a ∷ h) x y (inl p) =
-    record { first = p.1.0; second = a; first_stands = inr p.1.1; second_stands = inl refl; first_at = p.1.2; second_at = p.0; conflict = p.1.3 }
+    record {
+      first = p.1.0;
+      second = a;
+      first_stands = inr p.1.1;
+      second_stands = inl refl;
+      first_at =
+          p.1.2;
+      second_at = p.0;
+      conflict = p.1.3;
+    }
 ends (a ∷ h) x y (inr p) =
     let e = ends h x y p in
     record {
@@ -62,8 +73,10 @@ ends (a ∷ h) x y (inr p) =
     }
 
 -- the newest access isn't at or before an instruction of an older one
-pub older : (a : Access) (h : List Access) (b : Access) (y : Instr) → Rising (a ∷ h) → StandsIn h b → b.at ≡ y → reaches a y ≡ false
-older a h b y rising stands e = subst (λ (z : Instr). reaches a z ≡ false) e (reaches-no a b.at (λ (p : a.at.core ≡ b.at.core). rising.1 b stands (sym p)))
+pub older : (a : Access) (h : List Access) (b : Access) (y : Instr) → Rising (a ∷ h) → StandsIn h b → b.at ≡ y →
+    reaches a y ≡ false
+older a h b y rising stands e = subst (λ (z : Instr). reaches a z ≡ false) e
+    (reaches-no a b.at (λ (p : a.at.core ≡ b.at.core). rising.1 b stands (sym p)))
 
 pub pair_cores : (h : List Access) (x y : Instr) → Pair h x y → x.core ≢ y.core
 pair_cores h x y p =
@@ -72,7 +85,8 @@ pair_cores h x y p =
 
 pub do_conflict-true : (a b : Access) → do_conflict a b ≡ true → Conflicts a b
 do_conflict-true a b e =
-    let p = and_parts (not (nat_eq a.at.core b.at.core)) (nat_eq a.word b.word && (is_write a.kind || is_write b.kind)) e in
+    let p = and_parts (not (nat_eq a.at.core b.at.core)) (nat_eq a.word b.word && (is_write a.kind || is_write b.kind))
+    e in
     let q = and_parts (nat_eq a.word b.word) (is_write a.kind || is_write b.kind) p.1 in
     let cores : not (nat_eq a.at.core b.at.core) ≡ true = p.0 in
     let words : nat_eq a.word b.word ≡ true = q.0 in

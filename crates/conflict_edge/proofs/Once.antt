@@ -1,5 +1,6 @@
 -- No edge stands twice.
-use Rattle.std.proofs.Common.{◌≡◌, ℕ, ◌+◌, ◌-◌, ◌<◌, ◌≤◌, ◌⊎◌, List, [], ◌∷◌, reverse, ◌++◌, refl, sym, ◌∙◌, ap, subst, inl, inr, arith, true, false, nat_eq}
+use Rattle.std.proofs.Common.{◌≡◌, ℕ, ◌+◌, ◌-◌, ◌<◌, ◌≤◌, ◌⊎◌, List, [], ◌∷◌, reverse, ◌++◌, refl, sym, ◌∙◌, ap, subst}
+use Rattle.std.proofs.Common.{inl, inr, arith, true, false, nat_eq}
 use Rattle.std.proofs.Common.{◌&&◌, cond, drop}
 use Rattle.std.proofs.lemmas.Bool.{and_parts, cases_Bool, eqb-true}
 use Rattle.std.specs.List.{count_by, sum_by}
@@ -22,7 +23,8 @@ use Rattle.rtr_types.specs.declared.instr.Instr.{Instr}
 
 is_edge-true : (e : Edge) (x y : Instr) → is_edge x y e ≡ true → (e.from ≡ x) × (e.to ≡ y)
 is_edge-true e x y h =
-    let p = and_parts (nat_eq e.from.core x.core && nat_eq e.from.count x.count) (nat_eq e.to.core y.core && nat_eq e.to.count y.count) h in
+    let p = and_parts (nat_eq e.from.core x.core && nat_eq e.from.count x.count) (nat_eq e.to.core y.core && nat_eq
+    e.to.count y.count) h in
     let q = and_parts (nat_eq e.from.core x.core) (nat_eq e.from.count x.count) p.0 in
     let r = and_parts (nat_eq e.to.core y.core) (nat_eq e.to.count y.count) p.1 in (
       instr_eq e.from x (eqb-true e.from.core x.core q.0) (eqb-true e.from.count x.count q.1),
@@ -33,28 +35,35 @@ count-none : (es : List Edge) (x y : Instr) → (Among es x y → ⊥) → count
 count-none [] x y f = refl
 count-none (e ∷ es) x y f = by (cases_Bool (is_edge x y e)) (count-none es x y (λ s. f (inr s)))
   where
-    by : (is_edge x y e ≡ true) ⊎ (is_edge x y e ≡ false) → count_by (is_edge x y) es ≡ 0 → count_by (is_edge x y) (e ∷ es) ≡ 0
+    by : (is_edge x y e ≡ true) ⊎ (is_edge x y e ≡ false) → count_by (is_edge x y) es ≡ 0 →
+        count_by (is_edge x y) (e ∷ es) ≡ 0
     by (inl h) ih = absurd (f (inl (is_edge-true e x y h)))
     by (inr h) ih = rw (h, ih) refl
 
 -- a new edge is pushed once
-pub once_push : (es : List Edge) (e : Edge) (fs : List Edge) → fs ≡ es ++ (e ∷ []) → AreOnce es → (Among es e.from e.to → ⊥) → AreOnce fs
+pub once_push : (es : List Edge) (e : Edge) (fs : List Edge) → fs ≡ es ++ (e ∷ []) → AreOnce es →
+    (Among es e.from e.to → ⊥) → AreOnce fs
 once_push es e fs is once fresh x y = by (cases_Bool (is_edge x y e))
   where
     test : Edge → ℕ
     test d = cond (is_edge x y d) 1 0
 
-    total : sum_by (λ d. cond (is_edge x y d) 1 0) fs ≡ sum_by (λ d. cond (is_edge x y d) 1 0) es + (0 + cond (is_edge x y e) 1 0)
-    total = ap (λ (l : List Edge). sum_by (λ d. cond (is_edge x y d) 1 0) l) is ∙ sum_by-append (λ d. cond (is_edge x y d) 1 0) es (e ∷ [])
+    total : sum_by (λ d. cond (is_edge x y d) 1 0) fs ≡ sum_by (λ d. cond (is_edge x y d) 1 0) es +
+        (0 + cond (is_edge x y e) 1 0)
+    total = ap (λ (l : List Edge). sum_by (λ d. cond (is_edge x y d) 1 0) l) is
+        ∙ sum_by-append (λ d. cond (is_edge x y d) 1 0) es (e ∷ [])
 
     by : (is_edge x y e ≡ true) ⊎ (is_edge x y e ≡ false) → count_by (is_edge x y) fs ≤ 1
     by (inl h) =
         let p = is_edge-true e x y h in
-        let none = count-none es x y (λ s. fresh (subst (λ (v : Instr). Among es v e.to) (sym p.0) (subst (λ (v : Instr). Among es x v) (sym p.1) s))) in
-        let t : sum_by (λ d. cond (is_edge x y d) 1 0) fs ≡ sum_by (λ d. cond (is_edge x y d) 1 0) es + (0 + 1) = rw h at total in
+        let none = count-none es x y (λ s. fresh (subst (λ (v : Instr). Among es v e.to) (sym p.0)
+        (subst (λ (v : Instr). Among es x v) (sym p.1) s))) in
+        let t : sum_by (λ d. cond (is_edge x y d) 1 0) fs ≡ sum_by (λ d. cond (is_edge x y d) 1 0) es + (0 + 1) =
+        rw h at total in
         omega (arith, t, none)
     by (inr h) =
-        let t : sum_by (λ d. cond (is_edge x y d) 1 0) fs ≡ sum_by (λ d. cond (is_edge x y d) 1 0) es + (0 + 0) = rw h at total in
+        let t : sum_by (λ d. cond (is_edge x y d) 1 0) fs ≡ sum_by (λ d. cond (is_edge x y d) 1 0) es + (0 + 0) =
+        rw h at total in
         omega (arith, t, once x y)
 
 -- order changes no count
@@ -62,7 +71,8 @@ pub once_shuffled : (es fs : List Edge) → IsPermutation es fs → AreOnce es �
 once_shuffled es fs p once x y = omega (arith, sum_by-IsPermutation (λ d. cond (is_edge x y d) 1 0) es fs p, once x y)
 
 -- the edge from b is not among those found from newer accesses
-pub not_yet : (e : List Access) (s : ℕ) (a b : Access) (old new : List Edge) → At e s b → Rising (a ∷ reverse e) → ((x : Instr) → Among old x a.at → ⊥) →
+pub not_yet : (e : List Access) (s : ℕ) (a b : Access) (old new : List Edge) → At e s b → Rising (a ∷ reverse e) →
+    ((x : Instr) → Among old x a.at → ⊥) →
     FoundFrom (reverse e) (reverse (drop s e)) a old new → Among new b.at a.at → ⊥
 not_yet e s a b old new around rising apart found among = by ((found b.at a.at).0 among)
   where
@@ -78,7 +88,8 @@ not_yet e s a b old new around rising apart found among = by ((found b.at a.at).
         ap (λ (v : Instr). rank (newer ++ (b ∷ around.older)) v) f in
         absurd (omega (arith, rank-newer newer b around.older r r' t, rank-mid newer b around.older r', g))
 
-    by : Among old b.at a.at ⊎ ((a.at ≡ a.at) × (r : Access) × StandsIn newer r × (r.at ≡ b.at) × Cover (a ∷ reverse e) b.at a.at) → ⊥
+    by : Among old b.at a.at ⊎ ((a.at ≡ a.at) × (r : Access) × StandsIn newer r × (r.at ≡ b.at) × Cover (a ∷ reverse e)
+        b.at a.at) → ⊥
     by (inl t) = apart b.at t
     by (inr q) = same q.1 q.2 q.3
 
@@ -92,9 +103,11 @@ pub record Noted (e : List Access) (s : ℕ) (a : Access) (old next : List Edge)
 pub noted_push : (e : List Access) (s : ℕ) (a b : Access) (m : ℕ → ℕ) (old new next : List Edge) →
     At e s b → Rising (a ∷ reverse e) → b.at.core < CORES_MAX → Conflicts b a → ((x : Instr) → Among old x a.at → ⊥) →
     Reached (reverse e) (reverse (drop s e)) a m → m b.at.core < b.at.count →
-    FoundFrom (reverse e) (reverse (drop s e)) a old new → AreOnce new → next ≡ new ++ (record { from = b.at; to = a.at } ∷ []) → Noted e s a old next
+    FoundFrom (reverse e) (reverse (drop s e)) a old new → AreOnce new →
+    next ≡ new ++ (record { from = b.at; to = a.at } ∷ []) → Noted e s a old next
 noted_push e s a b m old new next around rising fits conflict apart reached lacks found once is = record {
-  found = push_found e s a b old new next edge around refl refl is (uncovered e s a b m around rising fits conflict reached lacks) found;
+  found = push_found e s a b old new next edge around refl refl is (uncovered e s a b m around rising fits conflict
+      reached lacks) found;
   once = once_push new edge next is once (not_yet e s a b old new around rising apart found);
 }
   where
@@ -102,9 +115,11 @@ noted_push e s a b m old new next around rising fits conflict apart reached lack
     edge = record { from = b.at; to = a.at }
 
 -- what is no covering source is left out
-pub noted_skip : (e : List Access) (s : ℕ) (a b : Access) (old new next : List Edge) → At e s b → (Cover (a ∷ reverse e) b.at a.at → ⊥) →
+pub noted_skip : (e : List Access) (s : ℕ) (a b : Access) (old new next : List Edge) → At e s b →
+    (Cover (a ∷ reverse e) b.at a.at → ⊥) →
     FoundFrom (reverse e) (reverse (drop s e)) a old new → AreOnce new → next ≡ new → Noted e s a old next
 noted_skip e s a b old new next around none found once is = record {
-  found = subst (λ (es : List Edge). FoundFrom (reverse e) (reverse (drop (s - 1) e)) a old es) (sym is) (skip_found e s a b old new around none found);
+  found = subst (λ (es : List Edge). FoundFrom (reverse e) (reverse (drop (s - 1) e)) a old es) (sym is)
+      (skip_found e s a b old new around none found);
   once = subst AreOnce (sym is) once;
 }

@@ -1,5 +1,6 @@
 -- The online rule keeps exactly the covering pairs.
-use Rattle.std.proofs.Common.{◌≡◌, ◌≢◌, ℕ, ◌-◌, ◌<◌, ◌≤◌, ◌⊎◌, ◌↔◌, List, [], ◌∷◌, refl, sym, ◌∙◌, ap, subst, inl, inr, arith, true, false, Some, None, nat_eq}
+use Rattle.std.proofs.Common.{◌≡◌, ◌≢◌, ℕ, ◌-◌, ◌<◌, ◌≤◌, ◌⊎◌, ◌↔◌, List, [], ◌∷◌, refl, sym, ◌∙◌, ap, subst, inl, inr}
+use Rattle.std.proofs.Common.{arith, true, false, Some, None, nat_eq}
 use Rattle.std.proofs.Common.{Bool}
 use Rattle.std.proofs.Math.Nat.{eq-or-lt_of_le}
 use Rattle.std.proofs.lemmas.Bool.{cases_eq, cases_lt}
@@ -29,33 +30,40 @@ not_both k e f = let g : false ≡ true = sym e ∙ f in cc
 
 -- ---- what the times hold
 
-pub last_write-at : (b : Access) (h : List Access) (word : ℕ) → b.word ≡ word → is_write b.kind ≡ true → last_write (b ∷ h) word ≡ Some b
+pub last_write-at : (b : Access) (h : List Access) (word : ℕ) → b.word ≡ word → is_write b.kind ≡ true →
+    last_write (b ∷ h) word ≡ Some b
 unfolding last_write
 last_write-at b h word p q = let e : nat_eq b.word word ≡ true = grind (arith, nat_tests) in rw (e, q) refl
 
-pub last_write-word : (b : Access) (h : List Access) (word : ℕ) → b.word ≢ word → last_write (b ∷ h) word ≡ last_write h word
+pub last_write-word : (b : Access) (h : List Access) (word : ℕ) → b.word ≢ word →
+    last_write (b ∷ h) word ≡ last_write h word
 unfolding last_write
 last_write-word b h word p = let e : nat_eq b.word word ≡ false = grind (arith, nat_tests) in rw e refl
 
-pub last_write-load : (b : Access) (h : List Access) (word : ℕ) → b.word ≡ word → is_write b.kind ≡ false → last_write (b ∷ h) word ≡ last_write h word
+pub last_write-load : (b : Access) (h : List Access) (word : ℕ) → b.word ≡ word → is_write b.kind ≡ false →
+    last_write (b ∷ h) word ≡ last_write h word
 unfolding last_write
 last_write-load b h word p q = let e : nat_eq b.word word ≡ true = grind (arith, nat_tests) in rw (e, q) refl
 
-pub last_read-word : (b : Access) (h : List Access) (word core : ℕ) → b.word ≢ word → last_read (b ∷ h) word core ≡ last_read h word core
+pub last_read-word : (b : Access) (h : List Access) (word core : ℕ) → b.word ≢ word →
+    last_read (b ∷ h) word core ≡ last_read h word core
 unfolding last_read
 last_read-word b h word core p = let e : nat_eq b.word word ≡ false = grind (arith, nat_tests) in rw e refl
 
-pub last_read-store : (b : Access) (h : List Access) (word core : ℕ) → b.word ≡ word → is_write b.kind ≡ true → last_read (b ∷ h) word core ≡ None
+pub last_read-store : (b : Access) (h : List Access) (word core : ℕ) → b.word ≡ word → is_write b.kind ≡ true →
+    last_read (b ∷ h) word core ≡ None
 unfolding last_read
 last_read-store b h word core p q = let e : nat_eq b.word word ≡ true = grind (arith, nat_tests) in rw (e, q) refl
 
-pub last_read-at : (b : Access) (h : List Access) (word core : ℕ) → b.word ≡ word → is_write b.kind ≡ false → b.at.core ≡ core → last_read (b ∷ h) word core
+pub last_read-at : (b : Access) (h : List Access) (word core : ℕ) → b.word ≡ word → is_write b.kind ≡ false →
+    b.at.core ≡ core → last_read (b ∷ h) word core
     ≡ Some b
 unfolding last_read
 last_read-at b h word core p q r = let e : nat_eq b.word word ≡ true = grind (arith, nat_tests) in
     let d : nat_eq b.at.core core ≡ true = grind (arith, nat_tests) in rw (e, q, d) refl
 
-pub last_read-core : (b : Access) (h : List Access) (word core : ℕ) → b.word ≡ word → is_write b.kind ≡ false → b.at.core ≢ core → last_read (b ∷ h) word core
+pub last_read-core : (b : Access) (h : List Access) (word core : ℕ) → b.word ≡ word → is_write b.kind ≡ false →
+    b.at.core ≢ core → last_read (b ∷ h) word core
     ≡ last_read h word core
 unfolding last_read
 last_read-core b h word core p q r = let e : nat_eq b.word word ≡ true = grind (arith, nat_tests) in
@@ -81,35 +89,49 @@ last_write-is (c ∷ h) word b e = by (last_write-is h word b) (cases_eq c.word 
     over : IsWrite h word b → IsWrite (c ∷ h) word b
     over w = record { stands = inr w.stands; word_is = w.word_is; kind_is = w.kind_is }
 
-    by : (last_write h word ≡ Some b → IsWrite h word b) → (c.word ≡ word) ⊎ (c.word ≢ word) → (is_write c.kind ≡ false) ⊎ (is_write c.kind ≡ true) →
+    by : (last_write h word ≡ Some b → IsWrite h word b) → (c.word ≡ word) ⊎ (c.word ≢ word) →
+        (is_write c.kind ≡ false) ⊎ (is_write c.kind ≡ true) →
         IsWrite (c ∷ h) word b
     by rest (inr p) _ = over (rest (sym (last_write-word c h word p) ∙ e))
     by rest (inl p) (inl q) = over (rest (sym (last_write-load c h word p q) ∙ e))
     by rest (inl p) (inr q) =
         let same : c ≡ b = some_is c b (sym (last_write-at c h word p q) ∙ e) in
-        record { stands = inl same; word_is = ap (λ (d : Access). d.word) (sym same) ∙ p; kind_is = ap (λ (d : Access). is_write d.kind) (sym same) ∙ q }
+        record {
+          stands = inl same;
+          word_is = ap (λ (d : Access). d.word) (sym same) ∙ p;
+          kind_is =
+              ap (λ (d : Access). is_write d.kind) (sym same) ∙ q;
+        }
 
 pub record IsRead (h : List Access) (word core : ℕ) (b : Access) : Type 0 where
   pub stands : StandsIn h b
   pub word_is : b.word ≡ word
   pub core_is : b.at.core ≡ core
 
-pub last_read-is : (h : List Access) (word core : ℕ) (b : Access) → last_read h word core ≡ Some b → IsRead h word core b
+pub last_read-is : (h : List Access) (word core : ℕ) (b : Access) → last_read h word core ≡ Some b →
+    IsRead h word core b
 unfolding last_read
 last_read-is [] word core b e = absurd (none_some b e)
-last_read-is (c ∷ h) word core b e = by (last_read-is h word core b) (cases_eq c.word word) (cases_kind c.kind) (cases_eq c.at.core core)
+last_read-is (c ∷ h) word core b e = by (last_read-is h word core b) (cases_eq c.word word) (cases_kind c.kind)
+    (cases_eq c.at.core core)
   where
     over : IsRead h word core b → IsRead (c ∷ h) word core b
     over w = record { stands = inr w.stands; word_is = w.word_is; core_is = w.core_is }
 
-    by : (last_read h word core ≡ Some b → IsRead h word core b) → (c.word ≡ word) ⊎ (c.word ≢ word) → (is_write c.kind ≡ false) ⊎ (is_write c.kind ≡ true) →
+    by : (last_read h word core ≡ Some b → IsRead h word core b) → (c.word ≡ word) ⊎ (c.word ≢ word) →
+        (is_write c.kind ≡ false) ⊎ (is_write c.kind ≡ true) →
         (c.at.core ≡ core) ⊎ (c.at.core ≢ core) → IsRead (c ∷ h) word core b
     by rest (inr p) _ _ = over (rest (sym (last_read-word c h word core p) ∙ e))
     by rest (inl p) (inr q) _ = absurd (none_some b (sym (last_read-store c h word core p q) ∙ e))
     by rest (inl p) (inl q) (inr r) = over (rest (sym (last_read-core c h word core p q r) ∙ e))
     by rest (inl p) (inl q) (inl r) =
         let same : c ≡ b = some_is c b (sym (last_read-at c h word core p q r) ∙ e) in
-        record { stands = inl same; word_is = ap (λ (d : Access). d.word) (sym same) ∙ p; core_is = ap (λ (d : Access). d.at.core) (sym same) ∙ r }
+        record {
+          stands = inl same;
+          word_is = ap (λ (d : Access). d.word) (sym same) ∙ p;
+          core_is =
+              ap (λ (d : Access). d.at.core) (sym same) ∙ r;
+        }
 
 -- an access of a word is the last write, the last read of its core, or before one of these
 abbrev pub Found : List Access → Access → Type 0
@@ -123,28 +145,42 @@ found (c ∷ h) b rising (inl e) = subst (λ (d : Access). Found (c ∷ h) d) e 
     by : (is_write c.kind ≡ false) ⊎ (is_write c.kind ≡ true) → Found (c ∷ h) c
     by (inl k) = inr (c, last_read-at c h c.word c.at.core refl k refl, k, inl refl)
     by (inr k) = inl (c, last_write-at c h c.word refl k, inl refl)
-found (c ∷ h) b rising (inr s) = by (found h b rising.2 s) (cases_eq c.word b.word) (cases_kind c.kind) (cases_eq c.at.core b.at.core)
+found (c ∷ h) b rising (inr s) = by (found h b rising.2 s) (cases_eq c.word b.word) (cases_kind c.kind)
+    (cases_eq c.at.core b.at.core)
   where
     on_core : c.at.core ≡ b.at.core → Before (Pair (c ∷ h)) b.at c.at
     on_core e = one (Pair (c ∷ h)) b.at c.at (inl (sym e, rising.1 b s (sym e)))
 
-    by : Found h b → (c.word ≡ b.word) ⊎ (c.word ≢ b.word) → (is_write c.kind ≡ false) ⊎ (is_write c.kind ≡ true) → (c.at.core ≡ b.at.core)
+    by : Found h b → (c.word ≡ b.word) ⊎ (c.word ≢ b.word) → (is_write c.kind ≡ false) ⊎ (is_write c.kind ≡ true) →
+        (c.at.core ≡ b.at.core)
         ⊎ (c.at.core ≢ b.at.core) → Found (c ∷ h) b
     by (inl f) (inr p) _ _ = inl (f.0, last_write-word c h b.word p ∙ f.1, widen_up c h b.at f.0.at f.2)
     by (inr f) (inr p) _ _ = inr (f.0, last_read-word c h b.word b.at.core p ∙ f.1, f.2, widen_up c h b.at f.0.at f.3)
     by _ (inl p) (inr k) (inl e) = inl (c, last_write-at c h b.word p k, inr (on_core e))
     by _ (inl p) (inr k) (inr e) =
-        inl (c, last_write-at c h b.word p k, inr (one (Pair (c ∷ h)) b.at c.at (inr (inl (refl, (b, s, refl, (λ g. e (sym g), sym p, inr k)))))))
+        inl (
+          c,
+          last_write-at c h b.word p k,
+          inr (one (Pair (c ∷ h)) b.at c.at
+              (inr (inl (refl, (b, s, refl, (λ g. e (sym g), sym p, inr k)))))),
+        )
     by (inl f) (inl p) (inl k) _ = inl (f.0, last_write-load c h b.word p k ∙ f.1, widen_up c h b.at f.0.at f.2)
     by (inr f) (inl p) (inl k) (inl e) = inr (c, last_read-at c h b.word b.at.core p k e, f.2, inr (on_core e))
-    by (inr f) (inl p) (inl k) (inr e) = inr (f.0, last_read-core c h b.word b.at.core p k e ∙ f.1, f.2, widen_up c h b.at f.0.at f.3)
+    by (inr f) (inl p) (inl k) (inr e) = inr (
+      f.0,
+      last_read-core c h b.word b.at.core p k e
+          ∙ f.1,
+      f.2,
+      widen_up c h b.at f.0.at f.3,
+    )
 
 -- ---- candidates and sources
 
 pub candidate_source : (h : List Access) (a : Access) (z : Instr) → Candidate h a z → Source h a z
 candidate_source h a z c = by c.0 c.1 c.2 c.3
   where
-    by : (b : Access) → (last_write h a.word ≡ Some b) ⊎ ((is_write a.kind ≡ true) × (last_read h a.word b.at.core ≡ Some b)) → b.at.core ≢ a.at.core →
+    by : (b : Access) → (last_write h a.word ≡ Some b)
+        ⊎ ((is_write a.kind ≡ true) × (last_read h a.word b.at.core ≡ Some b)) → b.at.core ≢ a.at.core →
         b.at ≡ z → Source h a z
     by b (inl w) d e = let i = last_write-is h a.word b w in (b, i.stands, e, (d, i.word_is, inl i.kind_is))
     by b (inr w) d e = let i = last_read-is h a.word b.at.core b w.1 in (b, i.stands, e, (d, i.word_is, inr w.0))
@@ -156,14 +192,18 @@ pub data Leads (h : List Access) (a : Access) (z : Instr) : Type 0 where
   by_own : UpTo h z (previous a.at) → Leads h a z
 
 -- an access of a's core is at or before the instruction before a
-up_previous : (a : Access) (h : List Access) (c : Access) (z : Instr) → Rising (a ∷ h) → StandsIn h c → c.at.core ≡ a.at.core → UpTo h z c.at →
+up_previous : (a : Access) (h : List Access) (c : Access) (z : Instr) → Rising (a ∷ h) → StandsIn h c →
+    c.at.core ≡ a.at.core → UpTo h z c.at →
     UpTo h z (previous a.at)
-up_previous a h c z rising s e up = by (eq-or-lt_of_le {n = c.at.count} {m = a.at.count - 1} (let lt = rising.1 c s e in omega arith)) up
+up_previous a h c z rising s e up = by (eq-or-lt_of_le {n = c.at.count} {m = a.at.count - 1} (let lt = rising.1 c s e in
+    omega arith)) up
   where
     by : (c.at.count ≡ a.at.count - 1) ⊎ (c.at.count < a.at.count - 1) → UpTo h z c.at → UpTo h z (previous a.at)
     by (inl f) u = subst (λ (w : Instr). UpTo h z w) (instr_eq c.at (previous a.at) e f) u
-    by (inr lt) (inl g) = inr (subst (λ (w : Instr). Before (Pair h) w (previous a.at)) (sym g) (one (Pair h) c.at (previous a.at) (inl (e, lt))))
-    by (inr lt) (inr p) = inr (joined (Pair h) z c.at (previous a.at) p (one (Pair h) c.at (previous a.at) (inl (e, lt))))
+    by (inr lt) (inl g) = inr (subst (λ (w : Instr). Before (Pair h) w (previous a.at)) (sym g)
+        (one (Pair h) c.at (previous a.at) (inl (e, lt))))
+    by (inr lt) (inr p) = inr (joined (Pair h) z c.at (previous a.at) p (one (Pair h) c.at (previous a.at)
+        (inl (e, lt))))
 
 pub source_leads : (h : List Access) (a : Access) (z : Instr) → Rising (a ∷ h) → Source h a z → Leads h a z
 source_leads h a z rising s = by s.0 s.1 s.2 s.3 (found h s.0 rising.2 s.1)
@@ -172,7 +212,8 @@ source_leads h a z rising s = by s.0 s.1 s.2 s.3 (found h s.0 rising.2 s.1)
     to c k (inl e) = itself (subst (λ (w : Instr). Candidate h a w) (sym e) k)
     to c k (inr p) = onward c.at k p
 
-    write : (c : Access) → last_write h a.word ≡ Some c → UpTo h z c.at → (c.at.core ≡ a.at.core) ⊎ (c.at.core ≢ a.at.core) → Leads h a z
+    write : (c : Access) → last_write h a.word ≡ Some c → UpTo h z c.at →
+        (c.at.core ≡ a.at.core) ⊎ (c.at.core ≢ a.at.core) → Leads h a z
     write c w up (inl e) = by_own (up_previous a h c z rising (last_write-is h a.word c w).stands e up)
     write c w up (inr d) = to c (c, inl w, d, refl) up
 
@@ -182,9 +223,11 @@ source_leads h a z rising s = by s.0 s.1 s.2 s.3 (found h s.0 rising.2 s.1)
         let up : UpTo h z f.0.at = subst (λ (v : Instr). UpTo h v f.0.at) e f.2 in
         write f.0 w up (cases_eq f.0.at.core a.at.core)
     by b stands e k (inr f) =
-        let r : last_read h a.word b.at.core ≡ Some f.0 = subst (λ (n : ℕ). last_read h n b.at.core ≡ Some f.0) k.1 f.1 in
+        let r : last_read h a.word b.at.core ≡ Some f.0 = subst (λ (n : ℕ). last_read h n b.at.core ≡ Some f.0) k.1
+        f.1 in
         let i = last_read-is h a.word b.at.core f.0 r in
-        let r' : last_read h a.word f.0.at.core ≡ Some f.0 = subst (λ (n : ℕ). last_read h a.word n ≡ Some f.0) (sym i.core_is) r in
+        let r' : last_read h a.word f.0.at.core ≡ Some f.0 = subst (λ (n : ℕ). last_read h a.word n ≡ Some f.0)
+        (sym i.core_is) r in
         let up : UpTo h z f.0.at = subst (λ (v : Instr). UpTo h v f.0.at) e f.3 in
         to f.0 (f.0, inr (stored f.2 k.2, r'), (λ g. k.0 (sym i.core_is ∙ g)), refl) up
       where
@@ -195,10 +238,13 @@ source_leads h a z rising s = by s.0 s.1 s.2 s.3 (found h s.0 rising.2 s.1)
 -- ---- the rule
 
 -- clocks of what is before a don't see a
-pub before_a : (a : Access) (h : List Access) (i : ℕ) → Rising (a ∷ h) → clock (a ∷ h) (previous a.at) i ≡ clock h (previous a.at) i
-before_a a h i rising = clock-older a h (previous a.at) i (reaches-no a (previous a.at) (λ _. let pos = rising.0 in omega arith))
+pub before_a : (a : Access) (h : List Access) (i : ℕ) → Rising (a ∷ h) → clock (a ∷ h) (previous a.at) i ≡ clock h
+    (previous a.at) i
+before_a a h i rising = clock-older a h (previous a.at) i (reaches-no a (previous a.at) (λ _. let pos = rising.0 in
+    omega arith))
 
-pub source_clock : (a : Access) (h : List Access) (z : Instr) (i : ℕ) → Rising (a ∷ h) → Source h a z → clock (a ∷ h) z i ≡ clock h z i
+pub source_clock : (a : Access) (h : List Access) (z : Instr) (i : ℕ) → Rising (a ∷ h) → Source h a z →
+    clock (a ∷ h) z i ≡ clock h z i
 source_clock a h z i rising s = clock-older a h z i (older a h s.0 z rising s.1 s.2)
 
 -- a pair into the newest access is from a source
@@ -240,13 +286,16 @@ kept_online h a x rising k =
     in_own : (z : Instr) → UpTo h x z → UpTo h z (previous a.at) → x.count ≤ clock h (previous a.at) x.core
     in_own z (inl e) (inl f) = subst (λ (v : Instr). x.count ≤ clock h v x.core) (e ∙ f) (clock-own h x)
     in_own z up (inr p) = clock-before h x (previous a.at) rising.2 (joins z (previous a.at) up p)
-    in_own z (inr q) (inl f) = clock-before h x (previous a.at) rising.2 (subst (λ (v : Instr). Before (Pair h) x v) f q)
+    in_own z (inr q) (inl f) = clock-before h x (previous a.at) rising.2 (subst (λ (v : Instr). Before (Pair h) x v) f
+        q)
 
-    below_by : (z : Instr) → (z ≢ x) → Leads h a z → (clock h z x.core < x.count) ⊎ (x.count ≤ clock h z x.core) → clock h z x.core < x.count
+    below_by : (z : Instr) → (z ≢ x) → Leads h a z → (clock h z x.core < x.count) ⊎ (x.count ≤ clock h z x.core) →
+        clock h z x.core < x.count
     below_by z d _ (inl lt) = lt
     below_by z d (itself c) (inr le) = k.others z c d
     below_by z d (onward c cand p) (inr le) = absurd (not_through z c (clock-up_to h x z pos le) cand p)
-    below_by z d (by_own up) (inr le) = let l = in_own z (clock-up_to h x z pos le) up in let lt = k.own in absurd (omega arith)
+    below_by z d (by_own up) (inr le) = let l = in_own z (clock-up_to h x z pos le) up in let lt = k.own in
+        absurd (omega arith)
 
     below : (z : Instr) → (z ≢ x) → Leads h a z → clock h z x.core < x.count
     below z d l = below_by z d l (cases_lt (clock h z x.core) x.count)
@@ -274,12 +323,17 @@ online_kept h a x rising k = record {
         let s = candidate_source h a c c_is in
         let le = clock-before h x c rising.2 p in
         let e = source_clock a h c x.core rising s in
-        let lt = k.others c (inl (refl, s)) (λ g. no_cycle h rising.2 x (subst (λ (v : Instr). Before (Pair h) x v) g p)) in
+        let lt = k.others c (inl (refl, s)) (λ g. no_cycle h rising.2 x (subst (λ (v : Instr). Before (Pair h) x v) g
+        p)) in
         absurd (omega arith)
     cand (by_own (inl e)) = absurd (src.3.0 (ap (λ (v : Instr). v.core) (src.2 ∙ e)))
-    cand (by_own (inr p)) = let le = clock-before h x (previous a.at) rising.2 p in let lt = own_below in absurd (omega arith)
+    cand (by_own (inr p)) = let le = clock-before h x (previous a.at) rising.2 p in let lt = own_below in
+        absurd (omega arith)
 
 -- the rule keeps exactly the covering pairs into the newest access
 pub online_rule : (h : List Access) (a : Access) (x : Instr) → Rising (a ∷ h) → IsKept h a x ↔ Cover (a ∷ h) x a.at
-online_rule h a x rising =
-    (λ k. kept_covers (a ∷ h) x a.at rising (kept_online h a x rising k), λ c. online_kept h a x rising (covers_kept (a ∷ h) x a.at rising c))
+online_rule h a x rising = (
+  λ k. kept_covers (a ∷ h) x a.at rising (kept_online h a x rising k),
+  λ c. online_kept h a x rising
+      (covers_kept (a ∷ h) x a.at rising c),
+)

@@ -1,5 +1,6 @@
 -- The place in the list of the last access at or before an instruction. Pairs go up in it, so nothing leads to itself.
-use Rattle.std.proofs.Common.{◌≡◌, ℕ, zero, suc, ◌<◌, ◌≤◌, ◌⊎◌, List, [], ◌∷◌, length, refl, sym, ◌∙◌, ap, subst, inl, inr, arith, true, false, cond}
+use Rattle.std.proofs.Common.{◌≡◌, ℕ, zero, suc, ◌<◌, ◌≤◌, ◌⊎◌, List, [], ◌∷◌, length, refl, sym, ◌∙◌, ap, subst, inl}
+use Rattle.std.proofs.Common.{inr, arith, true, false, cond}
 use Rattle.std.proofs.lemmas.Bool.{cases_Bool}
 use Rattle.clock_core.specs.Order.{ProgramOrder, Step, Path, Before}
 use Rattle.conflict_edge.proofs.History.{Pair, Rising, reaches-false, reaches-yes, reaches-no, ends, older}
@@ -39,14 +40,16 @@ rank-program (a ∷ h) x y p q =
         | inr d ↦ rw (e, d) (omega (arith, rank-le h x))
       ]
       | inr e ↦
-          let n : reaches a x ≡ false = reaches-no a x (λ (s : a.at.core ≡ x.core). let t = reaches-false a y e (s ∙ p) in omega arith) in
+          let n : reaches a x ≡ false = reaches-no a x (λ (s : a.at.core ≡ x.core). let t =
+          reaches-false a y e (s ∙ p) in omega arith) in
           rw (e, n) (rank-program h x y p q)
     ]
 
 pub rank-pair : (h : List Access) (x y : Instr) → Rising h → Pair h x y → rank h x < rank h y
 rank-pair [] x y rising p = absurd p
 rank-pair (a ∷ h) x y rising (inl p) =
-    let yes : reaches a y ≡ true = subst (λ (z : Instr). reaches a z ≡ true) p.0 (reaches-yes a a.at refl (omega arith)) in
+    let yes : reaches a y ≡ true = subst (λ (z : Instr). reaches a z ≡ true) p.0
+    (reaches-yes a a.at refl (omega arith)) in
     let no : reaches a x ≡ false = older a h p.1.0 x rising p.1.1 p.1.2 in
     omega (arith, rank-newest a h y yes, rank-older a h x no, rank-le h x)
 rank-pair (a ∷ h) x y rising (inr p) =
@@ -56,16 +59,19 @@ rank-pair (a ∷ h) x y rising (inr p) =
     omega (arith, rank-older a h y no_y, rank-older a h x no_x, rank-pair h x y rising.2 p)
 
 -- an instruction before an access has a lower rank
-pub rank-access : (h : List Access) (a : Access) (x : Instr) → Rising h → StandsIn h a → ProgramOrder x a.at → rank h x < rank h a.at
+pub rank-access : (h : List Access) (a : Access) (x : Instr) → Rising h → StandsIn h a → ProgramOrder x a.at →
+    rank h x < rank h a.at
 rank-access [] a x rising stands p = absurd stands
 rank-access (c ∷ h) a x rising (inl e) p =
-    let yes : reaches c a.at ≡ true = subst (λ (b : Access). reaches c b.at ≡ true) e (reaches-yes c c.at refl (omega arith)) in
+    let yes : reaches c a.at ≡ true = subst (λ (b : Access). reaches c b.at ≡ true) e
+    (reaches-yes c c.at refl (omega arith)) in
     let same : c.at.count ≡ a.at.count = ap (λ (b : Access). b.at.count) e in
     let no : reaches c x ≡ false = reaches-no c x (λ (s : c.at.core ≡ x.core). omega (arith, p.1)) in
     omega (arith, rank-newest c h a.at yes, rank-older c h x no, rank-le h x)
 rank-access (c ∷ h) a x rising (inr stands) p =
     let no_a : reaches c a.at ≡ false = older c h a a.at rising stands refl in
-    let no : reaches c x ≡ false = reaches-no c x (λ (s : c.at.core ≡ x.core). let lt = rising.1 a stands (sym p.0 ∙ sym s) in omega (arith, p.1)) in
+    let no : reaches c x ≡ false = reaches-no c x (λ (s : c.at.core ≡ x.core). let lt = rising.1 a stands (sym p.0
+    ∙ sym s) in omega (arith, p.1)) in
     omega (arith, rank-older c h a.at no_a, rank-older c h x no, rank-access h a x rising.2 stands p)
 
 -- what a path leads to: rank falls nowhere, and it goes up but along one core
@@ -78,9 +84,14 @@ step-goes h rising x y (inl p) = record { rank_le = rank-program h x y p.0 (let 
 step-goes h rising x y (inr p) = let lt = rank-pair h x y rising p in record { rank_le = omega arith; way = inr lt }
 
 goes-then : (h : List Access) (x y z : Instr) → Goes h x y → Goes h y z → Goes h x z
-goes-then h x y z p q = record { rank_le = let a = p.rank_le in let b = q.rank_le in omega arith; way = ways p.way q.way }
+goes-then h x y z p q = record {
+  rank_le = let a = p.rank_le in let b = q.rank_le in omega arith;
+  way =
+      ways p.way q.way;
+}
   where
-    ways : ProgramOrder x y ⊎ (rank h x < rank h y) → ProgramOrder y z ⊎ (rank h y < rank h z) → ProgramOrder x z ⊎ (rank h x < rank h z)
+    ways : ProgramOrder x y ⊎ (rank h x < rank h y) → ProgramOrder y z ⊎ (rank h y < rank h z) →
+        ProgramOrder x z ⊎ (rank h x < rank h z)
     ways (inl s) (inl t) = inl (s.0 ∙ t.0, let a = s.1 in let b = t.1 in omega arith)
     ways (inl s) (inr t) = inr (let a = p.rank_le in omega arith)
     ways (inr s) _ = inr (let b = q.rank_le in omega arith)
@@ -101,9 +112,11 @@ no_cycle h rising x p = no (goes h rising x x p).way
     no (inr lt) = omega arith
 
 -- what leads to an access has a lower rank
-pub rank-before : (h : List Access) → Rising h → (a : Access) (x y : Instr) → StandsIn h a → a.at ≡ y → Before (Pair h) x y → rank h x < rank h y
+pub rank-before : (h : List Access) → Rising h → (a : Access) (x y : Instr) → StandsIn h a → a.at ≡ y →
+    Before (Pair h) x y → rank h x < rank h y
 rank-before h rising a x y stands e p = to (goes h rising x y p).way
   where
     to : ProgramOrder x y ⊎ (rank h x < rank h y) → rank h x < rank h y
-    to (inl s) = subst (λ (z : Instr). rank h x < rank h z) e (rank-access h a x rising stands (subst (λ (z : Instr). ProgramOrder x z) (sym e) s))
+    to (inl s) = subst (λ (z : Instr). rank h x < rank h z) e (rank-access h a x rising stands
+        (subst (λ (z : Instr). ProgramOrder x z) (sym e) s))
     to (inr lt) = lt

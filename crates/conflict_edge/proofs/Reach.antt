@@ -1,11 +1,14 @@
 -- Clocks are reachability.
-use Rattle.std.proofs.Common.{◌≡◌, ◌≢◌, ℕ, ◌≤◌, ◌⊎◌, ◌↔◌, List, [], ◌∷◌, reverse, ◌++◌, refl, sym, ◌∙◌, ap, subst, inl, inr, arith}
+use Rattle.std.proofs.Common.{◌≡◌, ◌≢◌, ℕ, ◌≤◌, ◌⊎◌, ◌↔◌, List, [], ◌∷◌, reverse, ◌++◌, refl, sym, ◌∙◌, ap, subst, inl}
+use Rattle.std.proofs.Common.{inr, arith}
 use Rattle.clock_core.proofs.Paths.{joined, more, last_at}
 use Rattle.clock_core.specs.Order.{Within, Step, Before, IsOrLeads, previous}
-use Rattle.conflict_edge.proofs.Clocks.{UpTo, clock-older, own_clock, clock-before, clock-up_to, clock-own, clock-program, clock-pair}
+use Rattle.conflict_edge.proofs.Clocks.{UpTo, clock-older, own_clock, clock-before, clock-up_to, clock-own}
+use Rattle.conflict_edge.proofs.Clocks.{clock-program, clock-pair}
 use Rattle.conflict_edge.proofs.History.{Pair, Rising, reaches-no}
 use Rattle.conflict_edge.proofs.Kept.{Cover}
-use Rattle.conflict_edge.proofs.Online.{online_rule, Leads, itself, onward, by_own, source_leads, candidate_source, before_a, source_clock, pair_source}
+use Rattle.conflict_edge.proofs.Online.{online_rule, Leads, itself, onward, by_own, source_leads, candidate_source}
+use Rattle.conflict_edge.proofs.Online.{before_a, source_clock, pair_source}
 use Rattle.conflict_edge.proofs.Reversed.{pair_back, pair_forth, rising_back, reverse-next}
 use Rattle.conflict_edge.specs.Clocks.{clock, Candidate, IsKept, ClockLaw, OnlineLaw, OnlineClockLaw, KeptClockLaw}
 use Rattle.conflict_edge.specs.Conflicts.{ConflictPair, CountsRise}
@@ -17,10 +20,13 @@ up_back : (list : List Access) (x y : Instr) → UpTo (reverse list) x y → IsO
 up_back list x y (inl e) = inl e
 up_back list x y (inr p) = inr (more (Pair (reverse list)) (ConflictPair list) (pair_back list) x y p)
 
-clock_up : (list : List Access) (x y : Instr) → CountsRise list → IsOrLeads (ConflictPair list) x y → x.count ≤ clock (reverse list) y x.core
-clock_up list x y rise (inl e) = subst (λ (v : Instr). x.count ≤ clock (reverse list) v x.core) e (clock-own (reverse list) x)
+clock_up : (list : List Access) (x y : Instr) → CountsRise list → IsOrLeads (ConflictPair list) x y →
+    x.count ≤ clock (reverse list) y x.core
+clock_up list x y rise (inl e) = subst (λ (v : Instr). x.count ≤ clock (reverse list) v x.core) e
+    (clock-own (reverse list) x)
 clock_up list x y rise (inr p) =
-    clock-before (reverse list) x y (rising_back list rise) (more (ConflictPair list) (Pair (reverse list)) (pair_forth list) x y p)
+    clock-before (reverse list) x y (rising_back list rise) (more (ConflictPair list) (Pair (reverse list))
+    (pair_forth list) x y p)
 
 pub clock_law : ClockLaw
 clock_law list y rise x pos = (λ le. up_back list x y (clock-up_to (reverse list) x y pos le), clock_up list x y rise)
@@ -48,13 +54,15 @@ online_law list a x rise = (to, back)
     to k = let c = rule.0 k in (
       into x a.at c.0,
       λ z p q.
-          c.1 z (more (ConflictPair now) (Pair (a ∷ reverse list)) out x z p) (more (ConflictPair now) (Pair (a ∷ reverse list)) out z a.at q),
+          c.1 z (more (ConflictPair now) (Pair (a ∷ reverse list)) out x z p)
+          (more (ConflictPair now) (Pair (a ∷ reverse list)) out z a.at q),
     )
 
     back : Covering now x a.at → IsKept (reverse list) a x
     back c = rule.1 (
       out x a.at c.0,
-      λ z p q. c.1 z (more (Pair (a ∷ reverse list)) (ConflictPair now) into x z p) (more (Pair (a ∷ reverse list)) (ConflictPair now) into z a.at q),
+      λ z p q. c.1 z (more (Pair (a ∷ reverse list)) (ConflictPair now) into x z p) (more (Pair (a ∷ reverse list))
+          (ConflictPair now) into z a.at q),
     )
 
 -- the clock of the newest access, by those of its candidates
@@ -72,7 +80,8 @@ newest_clock h a i n rising d pos = (λ le. to (clock-up_to (a ∷ h) x a.at pos
     up h' r w (inl e) = subst (λ (v : Instr). n ≤ clock h' v i) e (clock-own h' x)
     up h' r w (inr q) = clock-before h' x w r q
 
-    leads : (w : Instr) → n ≤ clock h w i → Leads h a w → (n ≤ clock h (previous a.at) i) ⊎ ((z : Instr) × Candidate h a z × (n ≤ clock h z i))
+    leads : (w : Instr) → n ≤ clock h w i → Leads h a w →
+        (n ≤ clock h (previous a.at) i) ⊎ ((z : Instr) × Candidate h a z × (n ≤ clock h z i))
     leads w le (itself c) = inr (w, c, le)
     leads w le (onward c cand p) = inr (c, cand, up h rising.2 c (joins (clock-up_to h x w pos le) p))
       where
@@ -86,7 +95,8 @@ newest_clock h a i n rising d pos = (λ le. to (clock-up_to (a ∷ h) x a.at pos
         joins (inr r) (inl e) = inr (subst (λ (v : Instr). Before (Pair h) x v) e r)
         joins (inr r) (inr q) = inr (joined (Pair h) x w (previous a.at) r q)
 
-    last : (w : Instr) → UpTo (a ∷ h) x w → Step (Pair (a ∷ h)) w a.at → (n ≤ clock h (previous a.at) i) ⊎ ((z : Instr) × Candidate h a z × (n ≤ clock h z i))
+    last : (w : Instr) → UpTo (a ∷ h) x w → Step (Pair (a ∷ h)) w a.at →
+        (n ≤ clock h (previous a.at) i) ⊎ ((z : Instr) × Candidate h a z × (n ≤ clock h z i))
     last w u (inl s) =
         let le = up (a ∷ h) rising w u in
         let t = clock-program (a ∷ h) w (previous a.at) i s.0 (let lt = s.1 in omega arith) in
@@ -102,7 +112,8 @@ newest_clock h a i n rising d pos = (λ le. to (clock-up_to (a ∷ h) x a.at pos
     to (inl e) = absurd (d (ap (λ (v : Instr). v.core) e))
     to (inr q) = let l = last_at (Pair (a ∷ h)) q.0 x a.at q.1 in last l.0 l.1 l.2
 
-    back : (n ≤ clock h (previous a.at) i) ⊎ ((z : Instr) × Candidate h a z × (n ≤ clock h z i)) → n ≤ clock (a ∷ h) a.at i
+    back : (n ≤ clock h (previous a.at) i) ⊎ ((z : Instr) × Candidate h a z × (n ≤ clock h z i)) →
+        n ≤ clock (a ∷ h) a.at i
     back (inl le) =
         let e = before_a a h i rising in
         let t = clock-program (a ∷ h) (previous a.at) a.at i refl (omega arith) in
@@ -116,10 +127,12 @@ newest_clock h a i n rising d pos = (λ le. to (clock-up_to (a ∷ h) x a.at pos
 
 pub online_clock_law : OnlineClockLaw
 online_clock_law list a rise = record {
-  own = ap (λ (g : List Access). clock g a.at a.at.core) (reverse-next list a) ∙ own_clock (a ∷ reverse list) a.at (rising_next list a rise);
+  own = ap (λ (g : List Access). clock g a.at a.at.core) (reverse-next list a)
+      ∙ own_clock (a ∷ reverse list) a.at (rising_next list a rise);
   others = λ i n d pos.
       subst (λ (g : List Access). (n ≤ clock g a.at i)
-      ↔ ((n ≤ clock (reverse list) (previous a.at) i) ⊎ ((z : Instr) × Candidate (reverse list) a z × (n ≤ clock (reverse list) z i))))
+      ↔ ((n ≤ clock (reverse list) (previous a.at) i) ⊎ ((z : Instr) × Candidate (reverse list) a
+      z × (n ≤ clock (reverse list) z i))))
       (sym (reverse-next list a)) (newest_clock (reverse list) a i n (rising_next list a rise) d pos);
 }
 

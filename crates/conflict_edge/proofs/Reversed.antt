@@ -33,7 +33,8 @@ stands_cases (c ∷ g) a b (inr s) = on (stands_cases g a b s)
 -- the same accesses stand in both lists
 pub stands_back : (list : List Access) (b : Access) → StandsIn (reverse list) b → StandsIn list b
 stands_back [] b s = s
-stands_back (a ∷ list) b s = on (stands_back list b) (stands_cases (reverse list) a b (subst (λ (g : List Access). StandsIn g b) (reverse-cons a list) s))
+stands_back (a ∷ list) b s = on (stands_back list b) (stands_cases (reverse list) a b
+    (subst (λ (g : List Access). StandsIn g b) (reverse-cons a list) s))
   where
     on : (StandsIn (reverse list) b → StandsIn list b) → StandsIn (reverse list) b ⊎ (a ≡ b) → StandsIn (a ∷ list) b
     on back (inl t) = inr (back t)
@@ -45,7 +46,8 @@ stands_forth (a ∷ list) b (inl e) =
     subst (λ (g : List Access). StandsIn g b) (sym (reverse-cons a list))
     (subst (λ (c : Access). StandsIn (reverse list ++ (a ∷ [])) c) e (stands_last (reverse list) a))
 stands_forth (a ∷ list) b (inr s) =
-    subst (λ (g : List Access). StandsIn g b) (sym (reverse-cons a list)) (stands_front (reverse list) a b (stands_forth list b s))
+    subst (λ (g : List Access). StandsIn g b) (sym (reverse-cons a list)) (stands_front (reverse list) a b
+    (stands_forth list b s))
 
 -- a pair that the oldest access adds
 abbrev FromOldest : List Access → Access → Instr → Instr → Type 0
@@ -60,9 +62,14 @@ pair_oldest : (g : List Access) (a : Access) (x y : Instr) → FromOldest g a x 
 pair_oldest [] a x y p = absurd p.2
 pair_oldest (c ∷ g) a x y p = by (pair_oldest g a x y) p.0 p.1 p.2 p.3 p.4
   where
-    by : (FromOldest g a x y → Pair (g ++ (a ∷ [])) x y) → a.at ≡ x → (b : Access) → StandsIn (c ∷ g) b → b.at ≡ y → Conflicts a b →
+    by : (FromOldest g a x y → Pair (g ++ (a ∷ [])) x y) → a.at ≡ x → (b : Access) → StandsIn (c ∷ g) b → b.at ≡ y →
+        Conflicts a b →
         Pair (c ∷ g ++ (a ∷ [])) x y
-    by rest q b (inl e) r k = inl (ap (λ (d : Access). d.at) e ∙ r, (a, stands_last g a, q, subst (λ (d : Access). Conflicts a d) (sym e) k))
+    by rest q b (inl e) r k = inl (
+      ap (λ (d : Access). d.at) e
+          ∙ r,
+      (a, stands_last g a, q, subst (λ (d : Access). Conflicts a d) (sym e) k),
+    )
     by rest q b (inr s) r k = inr (rest (q, b, s, r, k))
 
 pair_cases : (g : List Access) (a : Access) (x y : Instr) → Pair (g ++ (a ∷ [])) x y → Pair g x y ⊎ FromOldest g a x y
@@ -70,9 +77,17 @@ pair_cases [] a x y (inl p) = absurd p.1.1
 pair_cases [] a x y (inr p) = absurd p
 pair_cases (c ∷ g) a x y (inl p) = by p.0 p.1.0 (stands_cases g a p.1.0 p.1.1) p.1.2 p.1.3
   where
-    by : c.at ≡ y → (b : Access) → StandsIn g b ⊎ (a ≡ b) → b.at ≡ x → Conflicts b c → Pair (c ∷ g) x y ⊎ FromOldest (c ∷ g) a x y
+    by : c.at ≡ y → (b : Access) → StandsIn g b ⊎ (a ≡ b) → b.at ≡ x → Conflicts b c →
+        Pair (c ∷ g) x y ⊎ FromOldest (c ∷ g) a x y
     by q b (inl s) r k = inl (inl (q, (b, s, r, k)))
-    by q b (inr e) r k = inr (ap (λ (d : Access). d.at) e ∙ r, c, inl refl, q, subst (λ (d : Access). Conflicts d c) (sym e) k)
+    by q b (inr e) r k = inr (
+      ap (λ (d : Access). d.at) e ∙ r,
+      c,
+      inl refl,
+      q,
+      subst (λ (d : Access). Conflicts d c)
+          (sym e) k,
+    )
 pair_cases (c ∷ g) a x y (inr p) = on (pair_cases g a x y p)
   where
     on : Pair g x y ⊎ FromOldest g a x y → Pair (c ∷ g) x y ⊎ FromOldest (c ∷ g) a x y
@@ -82,28 +97,39 @@ pair_cases (c ∷ g) a x y (inr p) = on (pair_cases g a x y p)
 -- and their conflict pairs are the same
 pub pair_back : (list : List Access) → Within (Pair (reverse list)) (ConflictPair list)
 pair_back [] x y p = p
-pair_back (a ∷ list) x y p = on (pair_back list x y) (pair_cases (reverse list) a x y (subst (λ (g : List Access). Pair g x y) (reverse-cons a list) p))
+pair_back (a ∷ list) x y p = on (pair_back list x y) (pair_cases (reverse list) a x y
+    (subst (λ (g : List Access). Pair g x y) (reverse-cons a list) p))
   where
-    on : (Pair (reverse list) x y → ConflictPair list x y) → Pair (reverse list) x y ⊎ FromOldest (reverse list) a x y → ConflictPair (a ∷ list) x y
+    on : (Pair (reverse list) x y → ConflictPair list x y) → Pair (reverse list) x y ⊎ FromOldest (reverse list) a x y →
+        ConflictPair (a ∷ list) x y
     on back (inl q) = inr (back q)
     on back (inr q) = inl (q.0, q.1, stands_back list q.1 q.2, q.3, q.4)
 
 pub pair_forth : (list : List Access) → Within (ConflictPair list) (Pair (reverse list))
 pair_forth [] x y p = p
 pair_forth (a ∷ list) x y (inl p) =
-    subst (λ (g : List Access). Pair g x y) (sym (reverse-cons a list)) (pair_oldest (reverse list) a x y (p.0, p.1, stands_forth list p.1 p.2, p.3, p.4))
+    subst (λ (g : List Access). Pair g x y) (sym (reverse-cons a list)) (pair_oldest (reverse list) a x y (
+      p.0,
+      p.1,
+      stands_forth list p.1 p.2,
+      p.3,
+      p.4,
+    ))
 pair_forth (a ∷ list) x y (inr p) =
-    subst (λ (g : List Access). Pair g x y) (sym (reverse-cons a list)) (pair_front (reverse list) a x y (pair_forth list x y p))
+    subst (λ (g : List Access). Pair g x y) (sym (reverse-cons a list)) (pair_front (reverse list) a x y
+    (pair_forth list x y p))
 
 -- counts that rise in the list fall from the newest on
-rising_oldest : (g : List Access) (a : Access) → 1 ≤ a.at.count → ((b : Access) → StandsIn g b → a.at.core ≡ b.at.core → a.at.count < b.at.count) → Rising g →
+rising_oldest : (g : List Access) (a : Access) → 1 ≤ a.at.count → ((b : Access) → StandsIn g b → a.at.core ≡ b.at.core →
+    a.at.count < b.at.count) → Rising g →
     Rising (g ++ (a ∷ []))
 rising_oldest [] a pos before r = (pos, (λ b s e. absurd s), tt)
 rising_oldest (c ∷ g) a pos before r = (r.0, newest, rising_oldest g a pos (λ b s e. before b (inr s) e) r.2)
   where
     by : (b : Access) → StandsIn g b ⊎ (a ≡ b) → b.at.core ≡ c.at.core → b.at.count < c.at.count
     by b (inl s) e = r.1 b s e
-    by b (inr f) e = subst (λ (d : Access). d.at.count < c.at.count) f (before c (inl refl) (ap (λ (d : Access). d.at.core) f ∙ e))
+    by b (inr f) e = subst (λ (d : Access). d.at.count < c.at.count) f
+        (before c (inl refl) (ap (λ (d : Access). d.at.core) f ∙ e))
 
     newest : (b : Access) → StandsIn (g ++ (a ∷ [])) b → b.at.core ≡ c.at.core → b.at.count < c.at.count
     newest b s e = by b (stands_cases g a b s) e
@@ -111,7 +137,8 @@ rising_oldest (c ∷ g) a pos before r = (r.0, newest, rising_oldest g a pos (λ
 pub rising_back : (list : List Access) → CountsRise list → Rising (reverse list)
 rising_back [] r = r
 rising_back (a ∷ list) r =
-    subst Rising (sym (reverse-cons a list)) (rising_oldest (reverse list) a r.0 (λ b s e. r.1 b (stands_back list b s) e) (rising_back list r.2))
+    subst Rising (sym (reverse-cons a list)) (rising_oldest (reverse list) a r.0 (λ b s e. r.1 b (stands_back list b s)
+    e) (rising_back list r.2))
 
 pub reverse-next : (list : List Access) (a : Access) → reverse (list ++ (a ∷ [])) ≡ a ∷ reverse list
 reverse-next list a = reverse-append list (a ∷ [])

@@ -1,11 +1,13 @@
 -- One scan from the newest to the oldest finds the covering pairs into an access, and its clock.
-use Rattle.std.proofs.Common.{◌≡◌, ◌≢◌, ℕ, zero, suc, ◌<◌, ◌≤◌, ◌⊎◌, ◌↔◌, List, [], ◌∷◌, ◌++◌, length, refl, sym, ◌∙◌, ap, subst, inl, inr, arith, true, false}
+use Rattle.std.proofs.Common.{◌≡◌, ◌≢◌, ℕ, zero, suc, ◌<◌, ◌≤◌, ◌⊎◌, ◌↔◌, List, [], ◌∷◌, ◌++◌, length, refl, sym, ◌∙◌}
+use Rattle.std.proofs.Common.{ap, subst, inl, inr, arith, true, false}
 use Rattle.std.proofs.Common.{max}
 use Rattle.std.proofs.lemmas.Bool.{cases_eq, cases_lt}
 use Rattle.std.proofs.lemmas.List.{length-append}
 use Rattle.clock_core.proofs.Paths.{joined, one, last_at}
 use Rattle.clock_core.specs.Order.{Step, Path, Before, Among, previous}
-use Rattle.conflict_edge.proofs.Clocks.{UpTo, clock-before, clock-up_to, clock-own, clock-program, clock-pair, clock-older}
+use Rattle.conflict_edge.proofs.Clocks.{UpTo, clock-before, clock-up_to, clock-own, clock-program, clock-pair}
+use Rattle.conflict_edge.proofs.Clocks.{clock-older}
 use Rattle.conflict_edge.proofs.History.{Source, Pair, Rising, ends, older, reaches-yes}
 use Rattle.conflict_edge.proofs.Kept.{Kept, Cover, kept_covers, covers_kept, stands_pos}
 use Rattle.conflict_edge.proofs.Online.{before_a, source_clock, pair_source}
@@ -39,29 +41,35 @@ stands-split (c ∷ g) k b (inr s) = on (stands-split g k b s)
     on (inl t) = inl (inr t)
     on (inr t) = inr t
 
-pub rank-newer : (newer : List Access) (b : Access) (g : List Access) (r : Access) → Rising (newer ++ (b ∷ g)) → StandsIn newer r →
+pub rank-newer : (newer : List Access) (b : Access) (g : List Access) (r : Access) → Rising (newer ++ (b ∷ g)) →
+    StandsIn newer r →
     suc (length g) < rank (newer ++ (b ∷ g)) r.at
 rank-newer [] b g r rising s = absurd s
 rank-newer (c ∷ newer) b g r rising (inl e) =
-    let yes : reaches c r.at ≡ true = subst (λ (d : Access). reaches c d.at ≡ true) e (reaches-yes c c.at refl (omega arith)) in
+    let yes : reaches c r.at ≡ true = subst (λ (d : Access). reaches c d.at ≡ true) e
+    (reaches-yes c c.at refl (omega arith)) in
     omega (arith, rank-newest c (newer ++ (b ∷ g)) r.at yes, length-append newer (b ∷ g))
 rank-newer (c ∷ newer) b g r rising (inr s) =
     let no : reaches c r.at ≡ false = older c (newer ++ (b ∷ g)) r r.at rising (stands-left newer (b ∷ g) r s) refl in
     omega (arith, rank-older c (newer ++ (b ∷ g)) r.at no, rank-newer newer b g r rising.2 s)
 
-pub rank-mid : (newer : List Access) (b : Access) (g : List Access) → Rising (newer ++ (b ∷ g)) → rank (newer ++ (b ∷ g)) b.at ≡ suc (length g)
+pub rank-mid : (newer : List Access) (b : Access) (g : List Access) → Rising (newer ++ (b ∷ g)) →
+    rank (newer ++ (b ∷ g)) b.at ≡ suc (length g)
 rank-mid [] b g rising = rank-newest b g b.at (reaches-yes b b.at refl (omega arith))
 rank-mid (c ∷ newer) b g rising =
-    let no : reaches c b.at ≡ false = older c (newer ++ (b ∷ g)) b b.at rising (stands-right newer (b ∷ g) b (inl refl)) refl in
+    let no : reaches c b.at ≡ false = older c (newer ++ (b ∷ g)) b b.at rising (stands-right newer (b ∷ g) b (inl refl))
+    refl in
     rank-older c (newer ++ (b ∷ g)) b.at no ∙ rank-mid newer b g rising.2
 
-rank-below : (newer : List Access) (b : Access) (g : List Access) (r : Access) → Rising (newer ++ (b ∷ g)) → StandsIn g r →
+rank-below : (newer : List Access) (b : Access) (g : List Access) (r : Access) → Rising (newer ++ (b ∷ g)) →
+    StandsIn g r →
     rank (newer ++ (b ∷ g)) r.at ≤ length g
 rank-below [] b g r rising s =
     let no : reaches b r.at ≡ false = older b g r r.at rising s refl in
     omega (arith, rank-older b g r.at no, rank-le g r.at)
 rank-below (c ∷ newer) b g r rising s =
-    let no : reaches c r.at ≡ false = older c (newer ++ (b ∷ g)) r r.at rising (stands-right newer (b ∷ g) r (inr s)) refl in
+    let no : reaches c r.at ≡ false = older c (newer ++ (b ∷ g)) r r.at rising (stands-right newer (b ∷ g) r (inr s))
+    refl in
     omega (arith, rank-older c (newer ++ (b ∷ g)) r.at no, rank-below newer b g r rising.2 s)
 
 -- what leads to another core leads to an access of it
@@ -85,15 +93,18 @@ arrived h x z y p same le =
       before = subst (λ (v : Instr). Before (Pair h) x v) (sym e.second_at) (one (Pair h) x z (inr p));
     }
 
-arrives_at : (h : List Access) → Rising h → (n : ℕ) (x y : Instr) → Path (Pair h) n x y → x.core ≢ y.core → Arrives h x y
+arrives_at : (h : List Access) → Rising h → (n : ℕ) (x y : Instr) → Path (Pair h) n x y → x.core ≢ y.core →
+    Arrives h x y
 arrives_at h rising zero x y (inl s) d = absurd (d s.0)
 arrives_at h rising zero x y (inr s) d = arrived h x y y s refl (omega arith)
-arrives_at h rising (suc n) x y p d = by (cases_eq p.0.core y.core) (arrives_at h rising n p.0 y p.2) p.1 (cases_lt y.count p.0.count)
+arrives_at h rising (suc n) x y p d = by (cases_eq p.0.core y.core) (arrives_at h rising n p.0 y p.2) p.1
+    (cases_lt y.count p.0.count)
   where
     later : p.0.core ≡ y.core → y.count < p.0.count → ⊥
     later e lt = no_cycle h rising y (joined (Pair h) y p.0 y (one (Pair h) y p.0 (inl (sym e, lt))) (n, p.2))
 
-    by : (p.0.core ≡ y.core) ⊎ (p.0.core ≢ y.core) → (p.0.core ≢ y.core → Arrives h p.0 y) → Step (Pair h) x p.0 → (y.count < p.0.count)
+    by : (p.0.core ≡ y.core) ⊎ (p.0.core ≢ y.core) → (p.0.core ≢ y.core → Arrives h p.0 y) → Step (Pair h) x p.0 →
+        (y.count < p.0.count)
         ⊎ (p.0.count ≤ y.count) → Arrives h x y
     by (inr e) ih s _ =
         let r = ih e in
@@ -117,12 +128,15 @@ arrives h rising x y p d = arrives_at h rising p.0 x y p.1 d
 abbrev pub IsFree : List Access → List Access → Access → Access → Type 0
 IsFree h newer a b = (r : Access) → StandsIn newer r → Direct r a → clock h r.at b.at.core < b.at.count
 
-pub free_kept : (newer : List Access) (b : Access) (g : List Access) (a : Access) → Rising (a ∷ newer ++ (b ∷ g)) → Conflicts b a →
+pub free_kept : (newer : List Access) (b : Access) (g : List Access) (a : Access) → Rising (a ∷ newer ++ (b ∷ g)) →
+    Conflicts b a →
     IsFree (newer ++ (b ∷ g)) newer a b → Kept (a ∷ newer ++ (b ∷ g)) b.at a.at
 free_kept newer b g a rising conflict free = record {
   pair = inl (refl, (b, stands_b, refl, conflict));
-  own = let e = before_a a h b.at.core rising in let lt = own_below (cases_lt (clock h (previous a.at) b.at.core) b.at.count) in omega arith;
-  others = λ z p d. let s = pair_source a h z rising p in let e = source_clock a h z b.at.core rising s in let lt = other_below s.0 s.1 s.2 s.3 z d in
+  own = let e = before_a a h b.at.core rising in let lt =
+      own_below (cases_lt (clock h (previous a.at) b.at.core) b.at.count) in omega arith;
+  others = λ z p d. let s = pair_source a h z rising p in let e = source_clock a h z b.at.core rising s in let lt =
+      other_below s.0 s.1 s.2 s.3 z d in
       omega arith;
 }
   where
@@ -147,7 +161,8 @@ free_kept newer b g a rising conflict free = record {
 
         by : StandsIn newer r ⊎ StandsIn (b ∷ g) r → StandsIn newer r
         by (inl t) = t
-        by (inr (inl e)) = let f : rank h b.at ≡ rank h r.at = ap (λ (d : Access). rank h d.at) e in absurd (omega (arith, up, f))
+        by (inr (inl e)) = let f : rank h b.at ≡ rank h r.at = ap (λ (d : Access). rank h d.at) e in
+            absurd (omega (arith, up, f))
         by (inr (inr t)) = absurd (omega (arith, rank-below newer b g r rising.2 t, up, mid))
 
     lt_of : (r : Access) → StandsIn h r → Direct r a → Before (Pair h) b.at r.at → clock h r.at b.at.core < b.at.count
@@ -166,20 +181,25 @@ free_kept newer b g a rising conflict free = record {
     own_below (inr le) = absurd (through_own (clock-up_to h b.at (previous a.at) pos le))
     own_below (inl lt) = lt
 
-    other_up : (r : Access) → StandsIn h r → Direct r a → r.at ≢ b.at → UpTo h b.at r.at → clock h r.at b.at.core < b.at.count
+    other_up : (r : Access) → StandsIn h r → Direct r a → r.at ≢ b.at → UpTo h b.at r.at →
+        clock h r.at b.at.core < b.at.count
     other_up r s direct d (inl e) = absurd (d (sym e))
     other_up r s direct d (inr p) = lt_of r s direct p
 
-    other_cases : (r : Access) → StandsIn h r → Direct r a → r.at ≢ b.at → (clock h r.at b.at.core < b.at.count) ⊎ (b.at.count ≤ clock h r.at b.at.core) →
+    other_cases : (r : Access) → StandsIn h r → Direct r a → r.at ≢ b.at →
+        (clock h r.at b.at.core < b.at.count) ⊎ (b.at.count ≤ clock h r.at b.at.core) →
         clock h r.at b.at.core < b.at.count
     other_cases r s direct d (inr le) = other_up r s direct d (clock-up_to h b.at r.at pos le)
     other_cases r s direct d (inl lt) = lt
 
-    other_below : (r : Access) → StandsIn h r → {z : Instr} → r.at ≡ z → Conflicts r a → (w : Instr) → z ≢ b.at → clock h z b.at.core < b.at.count
+    other_below : (r : Access) → StandsIn h r → {z : Instr} → r.at ≡ z → Conflicts r a → (w : Instr) → z ≢ b.at →
+        clock h z b.at.core < b.at.count
     other_below r s {z} e k w d =
-        subst (λ (v : Instr). clock h v b.at.core < b.at.count) e (other_cases r s (inr k) (λ f. d (sym e ∙ f)) (cases_lt (clock h r.at b.at.core) b.at.count))
+        subst (λ (v : Instr). clock h v b.at.core < b.at.count) e (other_cases r s (inr k) (λ f. d (sym e ∙ f))
+        (cases_lt (clock h r.at b.at.core) b.at.count))
 
-pub kept_free : (newer : List Access) (b : Access) (g : List Access) (a : Access) → Rising (a ∷ newer ++ (b ∷ g)) → Kept (a ∷ newer ++ (b ∷ g)) b.at a.at →
+pub kept_free : (newer : List Access) (b : Access) (g : List Access) (a : Access) → Rising (a ∷ newer ++ (b ∷ g)) →
+    Kept (a ∷ newer ++ (b ∷ g)) b.at a.at →
     IsFree (newer ++ (b ∷ g)) newer a b
 kept_free newer b g a rising k r s direct = by direct
   where
@@ -221,9 +241,11 @@ direct_clock h a i n rising d pos = (λ le. to (clock-up_to (a ∷ h) x a.at pos
 
     on_core : UpTo h x (previous a.at) → (r : Access) × StandsIn h r × Direct r a × (n ≤ clock h r.at i)
     on_core (inl e) = absurd (d (ap (λ (v : Instr). v.core) e))
-    on_core (inr p) = let r = arrives h rising.2 x (previous a.at) p d in (r.there, r.stands, inl r.core_is, clock-before h x r.there.at rising.2 r.before)
+    on_core (inr p) = let r = arrives h rising.2 x (previous a.at) p d in
+        (r.there, r.stands, inl r.core_is, clock-before h x r.there.at rising.2 r.before)
 
-    last : (w : Instr) → UpTo (a ∷ h) x w → Step (Pair (a ∷ h)) w a.at → (r : Access) × StandsIn h r × Direct r a × (n ≤ clock h r.at i)
+    last : (w : Instr) → UpTo (a ∷ h) x w → Step (Pair (a ∷ h)) w a.at →
+        (r : Access) × StandsIn h r × Direct r a × (n ≤ clock h r.at i)
     last w u (inl s) =
         let le = up (a ∷ h) rising w u in
         let t = clock-program (a ∷ h) w (previous a.at) i s.0 (let lt = s.1 in omega arith) in
@@ -256,29 +278,36 @@ direct_clock h a i n rising d pos = (λ le. to (clock-up_to (a ∷ h) x a.at pos
 
 -- what the clock m has, after the newer accesses
 abbrev pub Reached : List Access → List Access → Access → (ℕ → ℕ) → Type 0
-Reached h newer a m = (i n : ℕ) → i < CORES_MAX → 1 ≤ n → (n ≤ m i) ↔ ((r : Access) × StandsIn newer r × Direct r a × (n ≤ clock h r.at i))
+Reached h newer a m = (i n : ℕ) → i < CORES_MAX → 1 ≤ n →
+    (n ≤ m i) ↔ ((r : Access) × StandsIn newer r × Direct r a × (n ≤ clock h r.at i))
 
 -- the edges found from the newer accesses
 abbrev pub FoundFrom : List Access → List Access → Access → List Edge → List Edge → Type 0
 FoundFrom h newer a old new =
-    (x y : Instr) → Among new x y ↔ (Among old x y ⊎ ((y ≡ a.at) × (r : Access) × StandsIn newer r × (r.at ≡ x) × Cover (a ∷ h) x a.at))
+    (x y : Instr) → Among new x y ↔ (Among old x y ⊎ ((y ≡ a.at) × (r : Access) × StandsIn newer r × (r.at ≡ x) × Cover
+    (a ∷ h) x a.at))
 
-pub reached_skip : (h newer : List Access) (a b : Access) (m : ℕ → ℕ) → (Direct b a → ⊥) → Reached h newer a m → Reached h (newer ++ (b ∷ [])) a m
+pub reached_skip : (h newer : List Access) (a b : Access) (m : ℕ → ℕ) → (Direct b a → ⊥) → Reached h newer a m →
+    Reached h (newer ++ (b ∷ [])) a m
 reached_skip h newer a b m not_direct reached i n lt pos = (
   λ le. let q = (reached i n lt pos).0 le in (q.0, stands-left newer (b ∷ []) q.0 q.1, q.2, q.3),
   λ q. (reached i n lt pos).1 (by q.0 (stands-split newer (b ∷ []) q.0 q.1) q.2 q.3),
 )
   where
-    by : (r : Access) → StandsIn newer r ⊎ StandsIn (b ∷ []) r → Direct r a → n ≤ clock h r.at i → (r : Access) × StandsIn newer r × Direct r a
+    by : (r : Access) → StandsIn newer r ⊎ StandsIn (b ∷ []) r → Direct r a → n ≤ clock h r.at i →
+        (r : Access) × StandsIn newer r × Direct r a
         × (n ≤ clock h r.at i)
     by r (inl s) direct le = (r, s, direct, le)
     by r (inr (inl e)) direct le = absurd (not_direct (subst (λ (d : Access). Direct d a) (sym e) direct))
     by r (inr (inr s)) direct le = absurd s
 
 pub reached_merge : (h newer : List Access) (a b : Access) (m c w : ℕ → ℕ) → Direct b a → Reached h newer a m →
-    ((i : ℕ) → i < CORES_MAX → c i ≡ clock h b.at i) → ((i : ℕ) → w i ≡ max (m i) (c i)) → Reached h (newer ++ (b ∷ [])) a w
-reached_merge h newer a b m c w direct reached exact merged i n lt pos =
-    (λ le. to (split n (m i) (c i) (let e = merged i in omega arith)), λ q. back q.0 (stands-split newer (b ∷ []) q.0 q.1) q.2 q.3)
+    ((i : ℕ) → i < CORES_MAX → c i ≡ clock h b.at i) → ((i : ℕ) → w i ≡ max (m i) (c i)) →
+    Reached h (newer ++ (b ∷ [])) a w
+reached_merge h newer a b m c w direct reached exact merged i n lt pos = (
+  λ le. to (split n (m i) (c i) (let e = merged i in omega arith)),
+  λ q. back q.0 (stands-split newer (b ∷ []) q.0 q.1) q.2 q.3,
+)
   where
     split : (n x y : ℕ) → n ≤ max x y → (n ≤ x) ⊎ (n ≤ y)
     split n x y h = grind arith
@@ -289,33 +318,40 @@ reached_merge h newer a b m c w direct reached exact merged i n lt pos =
 
     back : (r : Access) → StandsIn newer r ⊎ StandsIn (b ∷ []) r → Direct r a → n ≤ clock h r.at i → n ≤ w i
     back r (inl s) d le = let q = (reached i n lt pos).1 (r, s, d, le) in let e = merged i in omega arith
-    back r (inr (inl f)) d le = let e = merged i in let g : clock h b.at i ≡ clock h r.at i = ap (λ (v : Access). clock h v.at i) f in omega (arith, exact i lt)
+    back r (inr (inl f)) d le = let e = merged i in let g : clock h b.at i ≡ clock h r.at i =
+        ap (λ (v : Access). clock h v.at i) f in omega (arith, exact i lt)
     back r (inr (inr s)) d le = absurd s
 
-pub found_skip : (h newer : List Access) (a b : Access) (old new : List Edge) → (Cover (a ∷ h) b.at a.at → ⊥) → FoundFrom h newer a old new →
+pub found_skip : (h newer : List Access) (a b : Access) (old new : List Edge) → (Cover (a ∷ h) b.at a.at → ⊥) →
+    FoundFrom h newer a old new →
     FoundFrom h (newer ++ (b ∷ [])) a old new
 found_skip h newer a b old new not_cover found x y = (λ s. to ((found x y).0 s), λ q. (found x y).1 (back q))
   where
     Left : Type 0
     Left = Among old x y ⊎ ((y ≡ a.at) × (r : Access) × StandsIn newer r × (r.at ≡ x) × Cover (a ∷ h) x a.at)
 
-    to : Among old x y ⊎ ((y ≡ a.at) × (r : Access) × StandsIn newer r × (r.at ≡ x) × Cover (a ∷ h) x a.at) → Among old x y
+    to : Among old x y ⊎ ((y ≡ a.at) × (r : Access) × StandsIn newer r × (r.at ≡ x) × Cover (a ∷ h) x a.at) →
+        Among old x y
         ⊎ ((y ≡ a.at) × (r : Access) × StandsIn (newer ++ (b ∷ [])) r × (r.at ≡ x) × Cover (a ∷ h) x a.at)
     to (inl s) = inl s
     to (inr q) = inr (q.0, q.1, stands-left newer (b ∷ []) q.1 q.2, q.3, q.4)
 
-    back_by : y ≡ a.at → (r : Access) → StandsIn newer r ⊎ StandsIn (b ∷ []) r → r.at ≡ x → Cover (a ∷ h) x a.at → Among old x y
+    back_by : y ≡ a.at → (r : Access) → StandsIn newer r ⊎ StandsIn (b ∷ []) r → r.at ≡ x → Cover (a ∷ h) x a.at →
+        Among old x y
         ⊎ ((y ≡ a.at) × (r : Access) × StandsIn newer r × (r.at ≡ x) × Cover (a ∷ h) x a.at)
     back_by e r (inl s) f c = inr (e, r, s, f, c)
-    back_by e r (inr (inl g)) f c = absurd (not_cover (subst (λ (v : Instr). Cover (a ∷ h) v a.at) (sym (ap (λ (d : Access). d.at) g ∙ f)) c))
+    back_by e r (inr (inl g)) f c = absurd (not_cover (subst (λ (v : Instr). Cover (a ∷ h) v a.at)
+        (sym (ap (λ (d : Access). d.at) g ∙ f)) c))
     back_by e r (inr (inr s)) f c = absurd s
 
-    back : Among old x y ⊎ ((y ≡ a.at) × (r : Access) × StandsIn (newer ++ (b ∷ [])) r × (r.at ≡ x) × Cover (a ∷ h) x a.at) → Among old x y
+    back : Among old x y ⊎ ((y ≡ a.at) × (r : Access) × StandsIn (newer ++ (b ∷ [])) r × (r.at ≡ x) × Cover (a ∷ h) x
+        a.at) → Among old x y
         ⊎ ((y ≡ a.at) × (r : Access) × StandsIn newer r × (r.at ≡ x) × Cover (a ∷ h) x a.at)
     back (inl s) = inl s
     back (inr q) = back_by q.0 q.1 (stands-split newer (b ∷ []) q.1 q.2) q.3 q.4
 
-pub among-push : (es : List Edge) (e : Edge) (x y : Instr) → Among (es ++ (e ∷ [])) x y ↔ (Among es x y ⊎ ((e.from ≡ x) × (e.to ≡ y)))
+pub among-push : (es : List Edge) (e : Edge) (x y : Instr) →
+    Among (es ++ (e ∷ [])) x y ↔ (Among es x y ⊎ ((e.from ≡ x) × (e.to ≡ y)))
 among-push es e x y = (to es, from es)
   where
     to : (es : List Edge) → Among (es ++ (e ∷ [])) x y → Among es x y ⊎ ((e.from ≡ x) × (e.to ≡ y))
@@ -335,14 +371,16 @@ among-push es e x y = (to es, from es)
     from (f ∷ es) (inl (inr s)) = inr (from es (inl s))
     from (f ∷ es) (inr s) = inr (from es (inr s))
 
-pub found_push : (h newer : List Access) (a b : Access) (old new next : List Edge) (e : Edge) → e.from ≡ b.at → e.to ≡ a.at → next ≡ new ++ (e ∷ []) →
+pub found_push : (h newer : List Access) (a b : Access) (old new next : List Edge) (e : Edge) → e.from ≡ b.at →
+    e.to ≡ a.at → next ≡ new ++ (e ∷ []) →
     Cover (a ∷ h) b.at a.at → FoundFrom h newer a old new → FoundFrom h (newer ++ (b ∷ [])) a old next
 found_push h newer a b old new next e from_is to_is is cover found x y = (
   λ s. to ((among-push new e x y).0 (subst (λ (es : List Edge). Among es x y) is s)),
   λ q. subst (λ (es : List Edge). Among es x y) (sym is) ((among-push new e x y).1 (back q)),
 )
   where
-    old_to : Among old x y ⊎ ((y ≡ a.at) × (r : Access) × StandsIn newer r × (r.at ≡ x) × Cover (a ∷ h) x a.at) → Among old x y
+    old_to : Among old x y ⊎ ((y ≡ a.at) × (r : Access) × StandsIn newer r × (r.at ≡ x) × Cover (a ∷ h) x a.at) →
+        Among old x y
         ⊎ ((y ≡ a.at) × (r : Access) × StandsIn (newer ++ (b ∷ [])) r × (r.at ≡ x) × Cover (a ∷ h) x a.at)
     old_to (inl s) = inl s
     old_to (inr q) = inr (q.0, q.1, stands-left newer (b ∷ []) q.1 q.2, q.3, q.4)
@@ -359,18 +397,21 @@ found_push h newer a b old new next e from_is to_is is cover found x y = (
       subst (λ (v : Instr). Cover (a ∷ h) v a.at) (sym from_is ∙ s.0) cover,
     )
 
-    back_by : y ≡ a.at → (r : Access) → StandsIn newer r ⊎ StandsIn (b ∷ []) r → r.at ≡ x → Cover (a ∷ h) x a.at → Among new x y ⊎ ((e.from ≡ x) × (e.to ≡ y))
+    back_by : y ≡ a.at → (r : Access) → StandsIn newer r ⊎ StandsIn (b ∷ []) r → r.at ≡ x → Cover (a ∷ h) x a.at →
+        Among new x y ⊎ ((e.from ≡ x) × (e.to ≡ y))
     back_by g r (inl s) f c = inl ((found x y).1 (inr (g, r, s, f, c)))
     back_by g r (inr (inl k)) f c = inr (from_is ∙ ap (λ (d : Access). d.at) k ∙ f, to_is ∙ sym g)
     back_by g r (inr (inr s)) f c = absurd s
 
-    back : Among old x y ⊎ ((y ≡ a.at) × (r : Access) × StandsIn (newer ++ (b ∷ [])) r × (r.at ≡ x) × Cover (a ∷ h) x a.at) → Among new x y
+    back : Among old x y ⊎ ((y ≡ a.at) × (r : Access) × StandsIn (newer ++ (b ∷ [])) r × (r.at ≡ x) × Cover (a ∷ h) x
+        a.at) → Among new x y
         ⊎ ((e.from ≡ x) × (e.to ≡ y))
     back (inl s) = inl ((found x y).1 (inl s))
     back (inr q) = back_by q.0 q.1 (stands-split newer (b ∷ []) q.1 q.2) q.3 q.4
 
 -- m covers b: some newer one has it in its clock
-pub covered_not : (newer : List Access) (b : Access) (g : List Access) (a : Access) (m : ℕ → ℕ) → Rising (a ∷ newer ++ (b ∷ g)) → b.at.core < CORES_MAX →
+pub covered_not : (newer : List Access) (b : Access) (g : List Access) (a : Access) (m : ℕ → ℕ) →
+    Rising (a ∷ newer ++ (b ∷ g)) → b.at.core < CORES_MAX →
     Reached (newer ++ (b ∷ g)) newer a m → b.at.count ≤ m b.at.core → Cover (a ∷ newer ++ (b ∷ g)) b.at a.at → ⊥
 covered_not newer b g a m rising fits reached le cover =
     let h : List Access = newer ++ (b ∷ g) in
@@ -380,9 +421,12 @@ covered_not newer b g a m rising fits reached le cover =
     let le' = q.3 in
     omega arith
 
-pub not_covered : (newer : List Access) (b : Access) (g : List Access) (a : Access) (m : ℕ → ℕ) → Rising (a ∷ newer ++ (b ∷ g)) → b.at.core < CORES_MAX →
-    Conflicts b a → Reached (newer ++ (b ∷ g)) newer a m → m b.at.core < b.at.count → Cover (a ∷ newer ++ (b ∷ g)) b.at a.at
-not_covered newer b g a m rising fits conflict reached lt = kept_covers (a ∷ newer ++ (b ∷ g)) b.at a.at rising (free_kept newer b g a rising conflict free)
+pub not_covered : (newer : List Access) (b : Access) (g : List Access) (a : Access) (m : ℕ → ℕ) →
+    Rising (a ∷ newer ++ (b ∷ g)) → b.at.core < CORES_MAX →
+    Conflicts b a → Reached (newer ++ (b ∷ g)) newer a m → m b.at.core < b.at.count →
+    Cover (a ∷ newer ++ (b ∷ g)) b.at a.at
+not_covered newer b g a m rising fits conflict reached lt = kept_covers (a ∷ newer ++ (b ∷ g)) b.at a.at rising
+    (free_kept newer b g a rising conflict free)
   where
     pos : 1 ≤ b.at.count
     pos = stands_pos (newer ++ (b ∷ g)) b rising.2 (stands-right newer (b ∷ g) b (inl refl))

@@ -13,9 +13,15 @@ use Rattle.rtr_types.specs.declared.instr.Edge.{Edge}
 use Rattle.rtr_types.specs.declared.instr.Instr.{Instr}
 
 shuffled : (es fs : List Edge) → IsPermutation es fs → (x y : Instr) → Among es x y → Among fs x y
-shuffled es fs p x y s = contains_among fs x y (Contains-permutation es fs (record { from = x; to = y }) p (among_contains es x y s))
+shuffled es fs p x y s = contains_among fs x y (Contains-permutation es fs (record { from = x; to = y }) p
+    (among_contains es x y s))
 
-pub least_shuffled : (list : List Access) (es fs : List Edge) → CountsRise list → AreCovering list es → IsPermutation es fs → IsPermutation fs es →
+pub least_shuffled : (list : List Access) (es fs : List Edge) → CountsRise list → AreCovering list es →
+    IsPermutation es fs → IsPermutation fs es →
     IsLeast list fs
 least_shuffled list es fs rise covers p q =
-    (covering_law list fs rise).1 (λ x y. (λ s. (covers x y).0 (shuffled fs es q x y s), λ c. shuffled es fs p x y ((covers x y).1 c)))
+    (covering_law list fs rise).1 (λ x y. (
+      λ s. (covers x y).0 (shuffled fs es q x y s),
+      λ c. shuffled es fs p x y
+          ((covers x y).1 c),
+    ))

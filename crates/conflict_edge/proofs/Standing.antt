@@ -10,7 +10,8 @@ positive (b ∷ later) a rise (inl e) = subst (λ (x : Access). 1 ≤ x.at.count
 positive (b ∷ later) a rise (inr s) = positive later a rise.2 s
 
 -- two accesses of one instruction are one
-pub one_access : (list : List Access) (a b : Access) → CountsRise list → StandsIn list a → StandsIn list b → a.at ≡ b.at → a ≡ b
+pub one_access : (list : List Access) (a b : Access) → CountsRise list → StandsIn list a → StandsIn list b →
+    a.at ≡ b.at → a ≡ b
 one_access [] a b rise s t same = absurd s
 one_access (c ∷ later) a b rise (inl e) (inl f) same = sym e ∙ f
 one_access (c ∷ later) a b rise (inl e) (inr t) same =
@@ -37,16 +38,28 @@ pub one_first : (list : List Access) (a b : Access) → StandsIn list a → Stan
     ConflictPair list a.at b.at ⊎ ConflictPair list b.at a.at
 one_first [] a b s t c = absurd s
 one_first (d ∷ later) a b (inl e) (inl f) c = absurd (c.0 (ap (λ (x : Access). x.at.core) (sym e ∙ f)))
-one_first (d ∷ later) a b (inl e) (inr t) c = inl (inl (ap (λ (x : Access). x.at) e, b, t, refl, subst (λ (x : Access). Conflicts x b) (sym e) c))
+one_first (d ∷ later) a b (inl e) (inr t) c =
+    inl (inl (ap (λ (x : Access). x.at) e, b, t, refl, subst (λ (x : Access). Conflicts x b) (sym e) c))
 one_first (d ∷ later) a b (inr s) (inl f) c =
-    inr (inl (ap (λ (x : Access). x.at) f, a, s, refl, subst (λ (x : Access). Conflicts x a) (sym f) (turned_conflict a b c)))
+    inr (inl (
+      ap (λ (x : Access). x.at) f,
+      a,
+      s,
+      refl,
+      subst (λ (x : Access). Conflicts x a) (sym f)
+          (turned_conflict a b c),
+    ))
 one_first (d ∷ later) a b (inr s) (inr t) c = by (one_first later a b s t c)
   where
-    by : ConflictPair later a.at b.at ⊎ ConflictPair later b.at a.at → ConflictPair (d ∷ later) a.at b.at ⊎ ConflictPair (d ∷ later) b.at a.at
+    by : ConflictPair later a.at b.at ⊎ ConflictPair later b.at a.at → ConflictPair (d ∷ later) a.at b.at ⊎ ConflictPair
+        (d ∷ later) b.at a.at
     by (inl p) = inl (inr p)
     by (inr p) = inr (inr p)
 
 pub stands_which : (xs ys : List Access) (a : Access) → StandsIn (xs ++ ys) a → StandsIn xs a ⊎ StandsIn ys a
 stands_which [] ys a s = inr s
 stands_which (x ∷ xs) ys a (inl same) = inl (inl same)
-stands_which (x ∷ xs) ys a (inr s) = elim (stands_which xs ys a s) [ inl there ↦ inl (inr there) | inr there ↦ inr there ]
+stands_which (x ∷ xs) ys a (inr s) = elim (stands_which xs ys a s) [
+  | inl there ↦ inl (inr there)
+  | inr there ↦ inr there
+]

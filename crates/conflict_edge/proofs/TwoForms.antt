@@ -9,20 +9,23 @@ use Rattle.conflict_edge.proofs.Kept.{Cover, covering_suffices}
 use Rattle.conflict_edge.proofs.Ranks.{no_cycle}
 use Rattle.conflict_edge.proofs.Reversed.{pair_back, pair_forth, rising_back}
 use Rattle.conflict_edge.specs.Conflicts.{ConflictPair, CountsRise}
-use Rattle.conflict_edge.specs.Least.{Suffices, IsLeast, Covering, Others, CoveringLaw, IndependentLaw, OneLeastLaw, SourceLaw}
+use Rattle.conflict_edge.specs.Least.{Suffices, IsLeast, Covering, Others, CoveringLaw, IndependentLaw, OneLeastLaw}
+use Rattle.conflict_edge.specs.Least.{SourceLaw}
 use Rattle.rtr_types.specs.declared.access.Access.{Access}
 use Rattle.rtr_types.specs.declared.instr.Edge.{Edge}
 use Rattle.rtr_types.specs.declared.instr.Instr.{Instr}
 
 pub acyclic : (list : List Access) → CountsRise list → (x : Instr) → Before (ConflictPair list) x x → ⊥
-acyclic list rise x p = no_cycle (reverse list) (rising_back list rise) x (more (ConflictPair list) (Pair (reverse list)) (pair_forth list) x x p)
+acyclic list rise x p = no_cycle (reverse list) (rising_back list rise) x (more (ConflictPair list)
+    (Pair (reverse list)) (pair_forth list) x x p)
 
 pub cores_differ : (list : List Access) (x y : Instr) → ConflictPair list x y → x.core ≢ y.core
 cores_differ list x y p = pair_cores (reverse list) x y (pair_forth list x y p)
 
 pub covering_suffice : (list : List Access) → CountsRise list → Suffices list (Covering list)
 covering_suffice list rise x y p =
-    more (Cover (reverse list)) (Covering list) over x y (covering_suffices (reverse list) (rising_back list rise) x y (pair_forth list x y p))
+    more (Cover (reverse list)) (Covering list) over x y (covering_suffices (reverse list) (rising_back list rise) x y
+    (pair_forth list x y p))
   where
     over : Within (Cover (reverse list)) (Covering list)
     over a b c = (
@@ -32,7 +35,8 @@ covering_suffice list rise x y p =
     )
 
 -- no pair of a least set is implied by the others
-pub least_independent : (list : List Access) (edges : List Edge) → IsLeast list edges → (x y : Instr) → Among edges x y →
+pub least_independent : (list : List Access) (edges : List Edge) → IsLeast list edges → (x y : Instr) →
+    Among edges x y →
     Before (Others (Among edges) x y) x y → ⊥
 least_independent list edges least x y s p = (w.1 x y (least.least w.0 within enough x y s)).1 refl refl
   where
@@ -43,17 +47,24 @@ least_independent list edges least x y s p = (w.1 x y (least.least w.0 within en
     within a b t = least.conflict a b (w.1 a b t).0
 
     enough : Suffices list (Among w.0)
-    enough a b c = more (Others (Among edges) x y) (Among w.0) w.2 a b (others_suffice (ConflictPair list) (Among edges) least.suffices x y p a b c)
+    enough a b c = more (Others (Among edges) x y) (Among w.0) w.2 a b (others_suffice (ConflictPair list) (Among edges)
+        least.suffices x y p a b c)
 
 -- a pair that the others don't imply covers
-pub independent_covers : (list : List Access) (edges : List Edge) → CountsRise list → Within (Among edges) (ConflictPair list) → Suffices list (Among edges) →
+pub independent_covers : (list : List Access) (edges : List Edge) → CountsRise list →
+    Within (Among edges) (ConflictPair list) → Suffices list (Among edges) →
     (x y : Instr) → Among edges x y → (Before (Others (Among edges) x y) x y → ⊥) → Covering list x y
-independent_covers list edges rise within suffices x y s free =
-    (within x y s, λ z p q. free (implied (ConflictPair list) (Among edges) within suffices (acyclic list rise) x y z p q))
+independent_covers list edges rise within suffices x y s free = (
+  within x y s,
+  λ z p q. free (implied (ConflictPair list) (Among edges) within suffices (acyclic list rise) x y z p
+      q),
+)
 
-pub covering_in : (list : List Access) (edges : List Edge) → Within (Among edges) (ConflictPair list) → Suffices list (Among edges) →
+pub covering_in : (list : List Access) (edges : List Edge) → Within (Among edges) (ConflictPair list) →
+    Suffices list (Among edges) →
     Within (Covering list) (Among edges)
-covering_in list edges within suffices x y c = in_each (ConflictPair list) (Among edges) within suffices (cores_differ list) x y c.0 c.1
+covering_in list edges within suffices x y c = in_each (ConflictPair list) (Among edges) within suffices
+    (cores_differ list) x y c.0 c.1
 
 pub independent_law : IndependentLaw
 independent_law list edges rise within suffices = (least_independent list edges, back)
@@ -62,7 +73,8 @@ independent_law list edges rise within suffices = (least_independent list edges,
     back free = record {
       conflict = within;
       suffices = suffices;
-      least = λ others inside enough x y s. covering_in list others inside enough x y (independent_covers list edges rise within suffices x y s (free x y s));
+      least = λ others inside enough x y s. covering_in list others inside enough x y
+          (independent_covers list edges rise within suffices x y s (free x y s));
     }
 
 pub covering_law : CoveringLaw
@@ -70,14 +82,16 @@ covering_law list edges rise = (forth, back)
   where
     forth : IsLeast list edges → (x y : Instr) → Among edges x y ↔ Covering list x y
     forth least x y = (
-      λ s. independent_covers list edges rise least.conflict least.suffices x y s (least_independent list edges least x y s),
+      λ s. independent_covers list edges rise least.conflict least.suffices x y s (least_independent list edges least x
+          y s),
       covering_in list edges least.conflict least.suffices x y,
     )
 
     back : ((x y : Instr) → Among edges x y ↔ Covering list x y) → IsLeast list edges
     back same = record {
       conflict = λ x y s. ((same x y).0 s).0;
-      suffices = λ x y p. more (Covering list) (Among edges) (λ a b c. (same a b).1 c) x y (covering_suffice list rise x y p);
+      suffices = λ x y p. more (Covering list) (Among edges) (λ a b c. (same a b).1 c) x y
+          (covering_suffice list rise x y p);
       least = λ others inside enough x y s. covering_in list others inside enough x y ((same x y).0 s);
     }
 
@@ -86,8 +100,11 @@ source_law list x z y c d same = by (cases_order x.count z.count)
   where
     by : (x.count ≡ z.count) ⊎ (x.count < z.count) ⊎ (z.count < x.count) → x ≡ z
     by (inl e) = instr_eq x z same e
-    by (inr (inl lt)) = absurd (c.1 z (one (ConflictPair list) x z (inl (same, lt))) (one (ConflictPair list) z y (inr d.0)))
-    by (inr (inr lt)) = absurd (d.1 x (one (ConflictPair list) z x (inl (sym same, lt))) (one (ConflictPair list) x y (inr c.0)))
+    by (inr (inl lt)) = absurd (c.1 z (one (ConflictPair list) x z (inl (same, lt))) (one (ConflictPair list) z y
+        (inr d.0)))
+    by (inr (inr lt)) = absurd (d.1 x (one (ConflictPair list) z x (inl (sym same, lt))) (one (ConflictPair list) x y
+        (inr c.0)))
 
 pub one_least_law : OneLeastLaw
-one_least_law list edges others p q x y = (p.least others q.conflict q.suffices x y, q.least edges p.conflict p.suffices x y)
+one_least_law list edges others p q x y =
+    (p.least others q.conflict q.suffices x y, q.least edges p.conflict p.suffices x y)

@@ -47,6 +47,28 @@ fn retired(rt: &impl Abort, image: &Image, core: &mut Core, want: Need, old: u32
     core.finish(image, old)
 }
 
+// The same of this instruction at address 16: the word's value after it, the core's pc and count, and x0 to x3.
+fn left_of_one(
+    rt: &impl Abort,
+    alloc: Global,
+    word: u32,
+    (x1, x2): (u32, u32),
+    want: Need,
+    old: u32,
+) -> Result<[u32; 7], Fail> {
+    let (image, mut core) = at_16(alloc, word, x1, x2)?;
+    let left = retired(rt, &image, &mut core, want, old);
+    Ok([
+        left,
+        core.pc(),
+        core.count(),
+        core.reg(0),
+        core.reg(1),
+        core.reg(2),
+        core.reg(3),
+    ])
+}
+
 #[test]
 fn results_go_to_the_register(rt: HostRuntime) -> Result<(), Fail> {
     // The word, x1, x2, and x3 after it.
@@ -69,13 +91,8 @@ fn results_go_to_the_register(rt: HostRuntime) -> Result<(), Fail> {
         (0x0ff0_000f, 7, 0, 0), // fence
     ];
     for (word, x1, x2, want) in steps {
-        let (image, mut core) = at_16(rt.alloc(), word, x1, x2)?;
-        let left = retired(&rt, &image, &mut core, Need::Local, 9);
-        assert_eq!(rt; left, 0, "{word:x}");
-        assert_eq!(rt; core.reg(3), want, "{word:x}");
-        assert_eq!(rt; core.reg(0), 0, "{word:x}");
-        assert_eq!(rt; core.pc(), 20, "{word:x}");
-        assert_eq!(rt; core.count(), 1, "{word:x}");
+        let left = left_of_one(&rt, rt.alloc(), word, (x1, x2), Need::Local, 9)?;
+        assert_eq!(rt; left, [0, 20, 1, 0, x1, x2, want], "{word:x}");
     }
     Ok(())
 }
@@ -97,11 +114,8 @@ fn jumps_and_branches_go_to_their_targets(rt: HostRuntime) -> Result<(), Fail> {
         (0x0020_f863, u32::MAX, 1, 32, u32::MAX, 0), // bgeu x1, x2, 16
     ];
     for (word, x1, x2, pc, x1_after, x3_after) in steps {
-        let (image, mut core) = at_16(rt.alloc(), word, x1, x2)?;
-        retired(&rt, &image, &mut core, Need::Local, 9);
-        assert_eq!(rt; core.pc(), pc, "{word:x}");
-        assert_eq!(rt; core.reg(1), x1_after, "{word:x}");
-        assert_eq!(rt; core.reg(3), x3_after, "{word:x}");
+        let left = left_of_one(&rt, rt.alloc(), word, (x1, x2), Need::Local, 9)?;
+        assert_eq!(rt; left, [0, pc, 1, 0, x1_after, x2, x3_after], "{word:x}");
     }
     Ok(())
 }
@@ -129,11 +143,8 @@ fn loads_and_stores_act_on_lanes(rt: HostRuntime) -> Result<(), Fail> {
         (0xfe20_ae23, 36, whole, 0x1122_3344, 0, 0xaabb_ccdd), // sw x2, -4(x1)
     ];
     for (word, x1, want, old, x3, value) in steps {
-        let (image, mut core) = at_16(rt.alloc(), word, x1, 0xaabb_ccdd)?;
-        let left = retired(&rt, &image, &mut core, want, old);
-        assert_eq!(rt; left, value, "{word:x}");
-        assert_eq!(rt; core.reg(3), x3, "{word:x}");
-        assert_eq!(rt; core.pc(), 20, "{word:x}");
+        let left = left_of_one(&rt, rt.alloc(), word, (x1, 0xaabb_ccdd), want, old)?;
+        assert_eq!(rt; left, [value, 20, 1, 0, x1, 0xaabb_ccdd, x3], "{word:x}");
     }
     Ok(())
 }
@@ -157,19 +168,24 @@ fn atomics_act_on_their_word(rt: HostRuntime) -> Result<(), Fail> {
         (0x0020_a02f, 10, 4, 32, 0xffff_fffa, 0), // amoadd.w x0, x2, (x1)
     ];
     for (word, old, value, x1, x2, x3) in steps {
-        let (image, mut core) = at_16(rt.alloc(), word, 32, 0xffff_fffa)?;
-        let need = Need::Amo { word: 8 };
-        assert!(rt; !need.is_whole());
-        let left = retired(&rt, &image, &mut core, need, old);
-        assert_eq!(rt; left, value, "{word:x}");
-        assert_eq!(rt;
-            [core.reg(1), core.reg(2), core.reg(3)],
-            [x1, x2, x3],
-            "{word:x}"
-        );
-        assert_eq!(rt; core.pc(), 20, "{word:x}");
+        let left = left_of_one(
+            &rt,
+            rt.alloc(),
+            word,
+            (32, 0xffff_fffa),
+            Need::Amo { word: 8 },
+            old,
+        )?;
+        assert_eq!(rt; left, [value, 20, 1, 0, x1, x2, x3], "{word:x}");
     }
+    assert!(rt; !Need::Amo { word: 8 }.is_whole());
     Ok(())
+}
+
+// Why a core stops at this instruction at address 16.
+fn stop_at_16(alloc: Global, word: u32, x1: u32, x2: u32) -> Result<Stop, Fail> {
+    let (image, core) = at_16(alloc, word, x1, x2)?;
+    Ok(core.stop(&image))
 }
 
 #[test]
@@ -182,18 +198,39 @@ fn atomics_stop_by_their_address(rt: HostRuntime) -> Result<(), Fail> {
         (256, Stop::Address),
         (258, Stop::Align),
     ] {
-        let (image, core) = at_16(rt.alloc(), 0x0020_a1af, x1, 1)?;
-        assert_eq!(rt; core.stop(&image), stop, "{x1}");
+        assert_eq!(rt; stop_at_16(rt.alloc(), 0x0020_a1af, x1, 1)?, stop, "{x1}");
     }
     Ok(())
 }
 
-// A core of number 3 and this limit, after its first instruction, ADDI x5, x0, 1.
-fn after_one(rt: &impl Abort, image: &Image, limit: u32) -> Core {
-    let mut core = Core::new(3, limit);
+// A core of number 3 retires one more instruction that needs no memory.
+fn go_on(rt: &impl Abort, core: &mut Core, image: &Image) {
     assert!(rt; !core.need(image).is_done());
     core.finish(image, 0);
-    core
+}
+
+// Core 3 over ADDI x5, x0, 1 and this word, at this limit, after so many instructions: why it stops there, and its
+// number, count, pc, x5 and x10.
+fn stood(
+    rt: &impl Abort,
+    alloc: Global,
+    word: u32,
+    limit: u32,
+    retired: u32,
+) -> Result<(Stop, [u32; 5]), Fail> {
+    let image = image_of(alloc, &[0x0010_0293, word], 4)?;
+    let mut core = Core::new(3, limit);
+    for _one in 0..retired {
+        go_on(rt, &mut core, &image);
+    }
+    let shown = [
+        core.id() as u32,
+        core.count(),
+        core.pc(),
+        core.reg(5),
+        core.reg(10),
+    ];
+    Ok((core.stop(&image), shown))
 }
 
 #[test]
@@ -211,14 +248,9 @@ fn stops_retire_nothing(rt: HostRuntime) -> Result<(), Fail> {
         (0x0ff0_000f, Stop::Total), // fence
     ];
     for (word, stop) in stops {
-        let image = image_of(rt.alloc(), &[0x0010_0293, word], 4)?;
-        let core = after_one(&rt, &image, 10_000);
-        assert_eq!(rt; core.stop(&image), stop, "{word:x}");
-        assert_eq!(rt; core.id(), 3);
-        assert_eq!(rt; core.count(), 1, "{word:x}");
-        assert_eq!(rt; core.pc(), 4, "{word:x}");
-        assert_eq!(rt; core.reg(5), 1, "{word:x}");
-        assert_eq!(rt; core.reg(10), 3, "{word:x}");
+        let (why, shown) = stood(&rt, rt.alloc(), word, 10_000, 1)?;
+        assert_eq!(rt; why, stop, "{word:x}");
+        assert_eq!(rt; shown, [3, 1, 4, 1, 3], "{word:x}");
     }
     Ok(())
 }
@@ -233,18 +265,22 @@ fn the_last_instruction_decides(rt: HostRuntime) -> Result<(), Fail> {
         (0x8330_000f, 3, Stop::Fetch),
     ];
     for (word, limit, stop) in stops {
-        let image = image_of(rt.alloc(), &[0x0010_0293, word], 4)?;
-        let mut core = after_one(&rt, &image, limit);
-        assert!(rt; !core.need(&image).is_done());
-        core.finish(&image, 0);
-        assert_eq!(rt; core.stop(&image), stop, "{word:x}");
-        assert_eq!(rt; core.count(), 2, "{word:x}");
-        assert_eq!(rt; core.pc(), 8, "{word:x}");
+        let (why, shown) = stood(&rt, rt.alloc(), word, limit, 2)?;
+        assert_eq!(rt; why, stop, "{word:x}");
+        assert_eq!(rt; shown, [3, 2, 8, 1, 3], "{word:x}");
     }
     Ok(())
 }
 
-// A store of this size at byte 1, 2 or 0 of word 8, with x2 = 0xaabbccdd: its mask and bits.
+// The mask and bits of this store at address 16, where x1 is 32.
+fn masked(rt: &impl Abort, alloc: Global, word: u32, x2: u32) -> Result<(u32, u32), Fail> {
+    let (image, core) = at_16(alloc, word, 32, x2)?;
+    let need = core.need(&image);
+    assert!(rt; matches!(need, Need::Store { .. }));
+    Ok(core.store_mask(&image))
+}
+
+// A store of each size at byte 1, 2 or 0 of word 8, with x2 = 0xaabbccdd: its mask and bits.
 #[test]
 fn stores_have_masks(rt: HostRuntime) -> Result<(), Fail> {
     let stores = [
@@ -253,10 +289,11 @@ fn stores_have_masks(rt: HostRuntime) -> Result<(), Fail> {
         (0x0020_a023, 0xffff_ffff, 0xaabb_ccdd), // sw x2, 0(x1)
     ];
     for (word, mask, bits) in stores {
-        let (image, core) = at_16(rt.alloc(), word, 32, 0xaabb_ccdd)?;
-        let need = core.need(&image);
-        assert!(rt; matches!(need, Need::Store { .. }));
-        assert_eq!(rt; core.store_mask(&image), (mask, bits), "{word:x}");
+        assert_eq!(rt;
+            masked(&rt, rt.alloc(), word, 0xaabb_ccdd)?,
+            (mask, bits),
+            "{word:x}"
+        );
     }
     Ok(())
 }
@@ -271,8 +308,7 @@ fn jumps_by_half_words_stop(rt: HostRuntime) -> Result<(), Fail> {
         (0x0020_8463, Stop::Total), // beq x1, x2, 8
     ];
     for (word, stop) in stops {
-        let (image, core) = at_16(rt.alloc(), word, 5, 5)?;
-        assert_eq!(rt; core.stop(&image), stop, "{word:x}");
+        assert_eq!(rt; stop_at_16(rt.alloc(), word, 5, 5)?, stop, "{word:x}");
     }
     Ok(())
 }

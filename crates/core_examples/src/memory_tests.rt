@@ -1,13 +1,17 @@
 //! Values from outside: words and lanes as the standard's little-endian memory has them.
 use image_mem::{Image, Memory, TooLarge, merge_lanes};
+use std::alloc::Global;
 use std::test::Fail;
 
+/// ADDI x1, x0, 5 as bytes, and half a word more, over four words.
+fn image(alloc: Global) -> Result<Image, Fail> {
+    let bytes = [0x93, 0x00, 0x50, 0x00, 0x34, 0x12].to_vec(alloc)?;
+    Ok(Image::flat(bytes, 4)?)
+}
+
 #[test]
-fn an_image_gives_its_words(rt: HostRuntime) -> Result<(), Fail> {
-    // ADDI x1, x0, 5 as bytes, and half a word more.
-    let bytes = [0x93, 0x00, 0x50, 0x00, 0x34, 0x12].to_vec(rt.alloc())?;
-    let image = Image::flat(bytes, 4)?;
-    assert_eq!(rt; image.words(), 4);
+fn an_image_fetches_at_whole_words_alone(rt: HostRuntime) -> Result<(), Fail> {
+    let image = image(rt.alloc())?;
     for (pc, want) in [
         (0, Some(0x0050_0093)),
         (1, None),
@@ -17,19 +21,38 @@ fn an_image_gives_its_words(rt: HostRuntime) -> Result<(), Fail> {
     ] {
         assert_eq!(rt; image.fetch(pc), want, "at {pc}");
     }
+    Ok(())
+}
+
+#[test]
+fn an_image_gives_its_words(rt: HostRuntime) -> Result<(), Fail> {
+    let image = image(rt.alloc())?;
+    assert_eq!(rt; (image.words(), image.bytes().len()), (4, 6));
     for (word, want) in [(0, 0x0050_0093), (1, 0x1234), (2, 0), (u32::MAX, 0)] {
         assert_eq!(rt; image.word(word), want, "word {word}");
     }
-    assert_eq!(rt; image.bytes().len(), 6);
+    Ok(())
+}
+
+#[test]
+fn an_image_gives_its_bytes_back(rt: HostRuntime) -> Result<(), Fail> {
+    let bytes = image(rt.alloc())?.into_bytes();
+    assert_eq!(rt;
+        bytes.as_slice(),
+        [0x93, 0x00, 0x50, 0x00, 0x34, 0x12].as_slice()
+    );
+    Ok(())
+}
+
+#[test]
+fn a_memory_begins_with_its_image(rt: HostRuntime) -> Result<(), Fail> {
+    let image = image(rt.alloc())?;
+    assert_eq!(rt; image.words(), 4);
     let mut memory = Memory::new(rt.alloc(), &image)?;
     memory.put(1, 7);
     assert_eq!(rt; memory.get(0), 0x0050_0093);
     assert_eq!(rt; memory.get(1), 7);
     assert_eq!(rt; memory.get(3), 0);
-    assert_eq!(rt;
-        image.into_bytes().as_slice(),
-        [0x93, 0x00, 0x50, 0x00, 0x34, 0x12].as_slice()
-    );
     Ok(())
 }
 

@@ -4,8 +4,6 @@
 pub mod laws;
 mod open_vector;
 mod regulator;
+mod seat;
 
 pub use regulator::Regulator;
-
-#[cfg(test)]
-mod tests;

@@ -1,23 +1,26 @@
 //! The regulator.
-ghost use Rattle.std.specs.Prelude.{◌≡◌, ◌≢◌, ℕ, ◌<◌, ◌≤◌, List, [], All, IfOk, IsTrue, OnErr, OnOk, false, length};
+ghost use Rattle.std.specs.Prelude.{◌≡◌, ◌≢◌, ℕ, ◌<◌, ◌≤◌, List, [], All, IfOk, IsTrue, OnOk, false};
 ghost use Rattle.std.specs.Prelude.{replicate, slice_index_or};
 ghost use Rattle.rtr_types.specs.declared.TheConstants.{CORES_MAX};
 ghost use Rattle.rtr_types.specs.Pairs.{pair_count, pair_place};
 
 use crate::open_vector::{newest_with, opened};
-use know_history::History;
+use crate::seat::{Awaited, Seat};
+use know_history::Known;
 use roomy_lists::RoomyLists;
-use rtr_types::{Edge, Items, pair_at, pair_count};
+use rtr_types::{Edge, Instr, Items, pair_at, pair_count};
 use std::alloc::{AllocError, Global};
 use std::marker::Model;
 use stride_vector::StrideVector;
 
-/// Makes the regulated log of a run, one reduced edge after the other: it keeps the vectors so far, by pair of
-/// cores, of which each pair's last one may go on. Contracts see the vectors, and for each pair whether it has
-/// room for one more.
+/// Makes the regulated log of a run while it goes on. It is told of each retirement, with what is known at it,
+/// and of each reduced edge. It keeps no history of what is known: of each pair of cores, whose last vector may
+/// go on, it awaits the next position, and looks whether that is known when the target's instruction retires.
+/// Contracts see the vectors, for each pair whether it has room for one more, and what each core awaits.
 pub struct Regulator {
     cores: u8,
     pairs: RoomyLists<StrideVector>,
+    seats: Vec<Seat>,
 }
 
 // One call lets the whole regulator go, at each way out of the functions that own one.
@@ -26,102 +29,136 @@ impl Drop for Regulator {
         let Regulator {
             cores: _cores,
             pairs: _pairs,
+            seats: _seats,
         } = self;
     }
 }
 
 impl Model for Regulator {
-    ghost use Rattle.std.specs.Prelude.{◌≡◌, ◌≤◌, All, length, map};
+    ghost use Rattle.std.specs.Prelude.{◌≡◌, ◌≤◌, All, length, map, vec_len};
     ghost use Rattle.rtr_types.specs.Pairs.{pair_count};
     ghost use Rattle.rtr_types.specs.declared.TheConstants.{CORES_MAX};
     ghost use Rattle.roomy_lists.specs.Lists.{items_in};
-    ghost use Rattle.edge_regulate.specs.Regulated.{IsGrowing, Regulation};
+    ghost use Rattle.edge_regulate.specs.Regulated.{IsGrowing};
+    ghost use Rattle.edge_regulate.specs.Seats.{Following};
 
-    ghost Value = { Regulation };
+    ghost Value = { Following };
 
-    ghost view = { λ a. record { cores = a.cores; vectors = items_in a.pairs; ready = map (λ l. l.ready) a.pairs } };
+    ghost view = { λ a. record {
+      regulation = record { cores = a.cores; vectors = items_in a.pairs; ready = map (λ l. l.ready) a.pairs };
+      seats = a.seats.items;
+    } };
 
     ghost invariant = { λ a. (a.cores ≤ CORES_MAX) × (length a.pairs ≡ pair_count a.cores)
-        × All (λ vectors. All IsGrowing vectors) (items_in a.pairs) };
+        × All (λ vectors. All IsGrowing vectors) (items_in a.pairs) × (vec_len a.seats ≡ a.cores) };
 }
 
 impl Regulator {
-    ghost use Rattle.know_history.specs.Notes.{Notes, known_at};
-    ghost use Rattle.edge_regulate.specs.Regulated.{AreReady, ArePairsApart, IsNextEdge, IsRegulation, IsSameAt};
+    ghost use Rattle.know_history.specs.Notes.{Notes, known_at, no_notes, noted_count};
+    ghost use Rattle.edge_regulate.specs.Regulated.{AreReady, ArePairsApart, IsRegulation, IsSameAt};
+    ghost use Rattle.edge_regulate.specs.Regulated.{end_target, regulated};
+    ghost use Rattle.edge_regulate.specs.Seats.{CanFollow, Follows, IsNotedNext};
     ghost use Rattle.rtr_types.specs.PairEdges.{with_edge, with_edges};
-    ghost use Rattle.edge_regulate.specs.Regulated.{regulated};
 
     /// No vectors yet, for so many cores.
     pub fn new(alloc: Global, cores: u8) -> Result<Regulator, AllocError>
         requires { cores ≤ CORES_MAX }
-        ensures cores { IfOk result (λ regulator. regulator.cores ≡ cores) }
-        ensures regulation { IfOk result (λ regulator. (notes : Notes) →
-            IsRegulation notes (replicate (pair_count cores) []) regulator) }
+        ensures cores { IfOk result (λ regulator. regulator.regulation.cores ≡ cores) }
+        ensures none { IfOk result (λ regulator. regulator.regulation.vectors ≡ replicate (pair_count cores) []) }
+        ensures follows { IfOk result (λ regulator.
+            Follows (no_notes cores) (replicate (pair_count cores) []) regulator) }
     {
         let pairs = RoomyLists::new(alloc, pair_count(cores))?;
-        Ok(Regulator { cores, pairs })
+        let mut seats = Vec::with_capacity(alloc, cores as usize)?;
+        for core in 0..cores {
+            seats.push(Seat::none())?;
+        }
+        Ok(Regulator {
+            cores,
+            pairs,
+            seats,
+        })
     }
 
     /// Makes room for one vector in each pair. After want of memory some pairs may have got room.
     pub fn ready(&mut self) -> Result<(), AllocError>
-        ensures cores { self.new.cores ≡ self.old.cores }
-        ensures vectors { self.new.vectors ≡ self.old.vectors }
-        ensures regulation { (notes : Notes) (edges : List (List (ℕ × ℕ))) → IsRegulation notes edges self.old →
-            IsRegulation notes edges self.new }
-        ensures ready { OnOk result (AreReady self.new) }
+        ensures cores { self.new.regulation.cores ≡ self.old.regulation.cores }
+        ensures vectors { self.new.regulation.vectors ≡ self.old.regulation.vectors }
+        ensures follows { (notes : Notes) (edges : List (List (ℕ × ℕ))) → Follows notes edges self.old →
+            Follows notes edges self.new }
+        ensures ready { OnOk result (AreReady self.new.regulation) }
     {
         self.pairs.make_room()
     }
 
-    /// Whether the pair at a place has room for one vector.
-    pub fn is_ready(&self, pair: usize) -> bool
-        requires { pair < pair_count self.now.cores }
-        ensures { result ≡ slice_index_or self.now.ready pair false }
+    /// Notes a core's next retirement, with what is known at it.
+    pub fn retired(&mut self, at: Instr, known: &Known)
+        requires { at.core < self.old.regulation.cores }
+        ensures regulation { self.new.regulation ≡ self.old.regulation }
+        ensures follows { (old new : Notes) (edges : List (List (ℕ × ℕ))) → IsNotedNext old at known.now new →
+            Follows old edges self.old → Follows new edges self.new }
     {
-        self.pairs.has_room_at(pair)
+        let cores = self.cores;
+        let seat = &mut self.seats[at.core as usize];
+        if seat.awaits(at.count) {
+            seat.look(cores, at.count, known);
+        }
     }
 
     /// Takes the next edge of its pair, whose target was just noted.
-    pub fn edge(&mut self, edge: Edge, history: &History)
-        requires ready { IsTrue (slice_index_or self.old.ready
-            (pair_place self.old.cores edge.from.core edge.to.core) false) }
-        requires next { IsNextEdge history.now.notes self.old edge }
-        ensures cores { self.new.cores ≡ self.old.cores }
-        ensures regulation { (edges : List (List (ℕ × ℕ))) → IsRegulation history.now.notes edges self.old →
-            IsRegulation history.now.notes (with_edge self.old.cores edges edge) self.new }
-        ensures others { (place : ℕ) → place ≢ pair_place self.old.cores edge.from.core edge.to.core →
-            IsSameAt place self.old self.new }
+    pub fn edge(&mut self, edge: Edge)
+        requires ready { IsTrue (slice_index_or self.old.regulation.ready
+            (pair_place self.old.regulation.cores edge.from.core edge.to.core) false) }
+        requires next { CanFollow self.old.regulation edge }
+        ensures cores { self.new.regulation.cores ≡ self.old.regulation.cores }
+        ensures follows { (notes : Notes) (edges : List (List (ℕ × ℕ))) →
+            edge.to.count ≡ noted_count notes edge.to.core → Follows notes edges self.old →
+            Follows notes (with_edge self.old.regulation.cores edges edge) self.new }
+        ensures ends { end_target (slice_index_or self.new.regulation.vectors
+            (pair_place self.old.regulation.cores edge.from.core edge.to.core) []) ≤ edge.to.count }
+        ensures others { (place : ℕ) → place ≢ pair_place self.old.regulation.cores edge.from.core edge.to.core →
+            IsSameAt place self.old.regulation self.new.regulation }
     {
         let place = pair_at(self.cores, edge.from.core, edge.to.core);
-        match newest_with(self.pairs.list(place), edge, history) {
-            Some(vector) => self.pairs.set_last(place, vector),
-            None => self.pairs.push(place, opened(edge)),
+        let seat = &mut self.seats[edge.to.core as usize];
+        match newest_with(self.pairs.list(place), edge, seat.awaited(edge.from.core)) {
+            Some(taken) => {
+                seat.put(edge.from.core, taken.awaited);
+                self.pairs.set_last(place, taken.vector);
+            }
+            None => {
+                seat.put(edge.from.core, Awaited::none());
+                self.pairs.push(place, opened(edge));
+            }
         }
     }
 
     /// Takes the next edges, each of another pair, whose targets were just noted.
-    pub fn edges(&mut self, edges: &[Edge], history: &History)
-        requires ready { AreReady self.old }
-        requires next { All (λ e. IsNextEdge history.now.notes self.old e) edges.now }
-        requires apart { ArePairsApart self.old.cores edges.now }
-        ensures cores { self.new.cores ≡ self.old.cores }
-        ensures regulation { (told : List (List (ℕ × ℕ))) → IsRegulation history.now.notes told self.old →
-            IsRegulation history.now.notes (with_edges self.old.cores told edges.now) self.new }
+    pub fn edges(&mut self, edges: &[Edge])
+        requires ready { AreReady self.old.regulation }
+        requires next { All (λ e. CanFollow self.old.regulation e) edges.now }
+        requires apart { ArePairsApart self.old.regulation.cores edges.now }
+        ensures cores { self.new.regulation.cores ≡ self.old.regulation.cores }
+        ensures follows { (notes : Notes) (told : List (List (ℕ × ℕ))) →
+            All (λ e. e.to.count ≡ noted_count notes e.to.core) edges.now → Follows notes told self.old →
+            Follows notes (with_edges self.old.regulation.cores told edges.now) self.new }
     {
         for edge in edges {
-            self.edge(*edge, history);
+            self.edge(*edge);
         }
     }
 
     /// The vectors by pair of cores. It takes no memory.
     pub fn finish(self) -> Items<Items<StrideVector>>
-        ensures vectors { result ≡ self.vectors }
-        ensures regulated { (notes : Notes) (edges : List (List (ℕ × ℕ))) → IsRegulation notes edges self →
-            result ≡ regulated self.cores (known_at notes) edges }
+        ensures vectors { result ≡ self.regulation.vectors }
+        ensures regulated { (notes : Notes) (edges : List (List (ℕ × ℕ))) →
+            IsRegulation notes edges self.regulation →
+            result ≡ regulated self.regulation.cores (known_at notes) edges }
     {
         let Regulator {
             cores: _cores,
             pairs,
+            seats: _seats,
         } = self;
         pairs.into_items()
     }

@@ -32,36 +32,47 @@ found_exact list a rider found = record {
 
 -- ---- the accesses and the clocks of one retirement more
 
-pub accesses_more : (list : List Retirement) (r : Retirement) → retired_accesses (list ++ r ∷ []) ≡ retired_accesses list ++ with_access r.access []
+pub accesses_more : (list : List Retirement) (r : Retirement) → retired_accesses (list ++ r ∷ []) ≡ retired_accesses
+    list ++ with_access r.access []
 accesses_more [] r = refl
 accesses_more (q ∷ list) r = by q.access (accesses_more list r)
   where
     by : (o : Option Access) → retired_accesses (list ++ r ∷ []) ≡ retired_accesses list ++ with_access r.access [] →
-        with_access o (retired_accesses (list ++ r ∷ [])) ≡ with_access o (retired_accesses list) ++ with_access r.access []
+        with_access o (retired_accesses (list ++ r ∷ [])) ≡ with_access o (retired_accesses list) ++ with_access
+        r.access []
     by None same = same
     by (Some a) same = ap (λ (l : List Access). a ∷ l) same
 
-pub clocks_more : (all : List Access) (list : List Retirement) (r : Retirement) → HaveExactClocks all list → IsClockOf all r.access r.clock →
+pub clocks_more : (all : List Access) (list : List Retirement) (r : Retirement) → HaveExactClocks all list →
+    IsClockOf all r.access r.clock →
     HaveExactClocks all (list ++ r ∷ [])
 clocks_more all [] r exact own = (own, tt)
 clocks_more all (q ∷ list) r exact own = (exact.0, clocks_more all list r exact.1 own)
 
 -- an exact clock of an access stays exact where another access comes after
-clock_stays : (all : List Access) (a b : Access) (clock : Clock) → CountsRise (all ++ a ∷ []) → StandsIn all b → IsExactClock all b.at clock →
+clock_stays : (all : List Access) (a b : Access) (clock : Clock) → CountsRise (all ++ a ∷ []) → StandsIn all b →
+    IsExactClock all b.at clock →
     IsExactClock (all ++ a ∷ []) b.at clock
 clock_stays all a b clock rise stands exact i lt =
-    exact i lt ∙ sym (kept_clock_law all a b.at i rise (λ (same : b.at.core ≡ a.at.core). (rising_next all a rise).1 b (stands_forth all b stands) same))
+    exact i lt ∙ sym (kept_clock_law all a b.at i rise (λ (same : b.at.core ≡ a.at.core). (rising_next all a rise).1 b
+    (stands_forth all b stands) same))
 
 clocks_stay : (all : List Access) (a : Access) (list : List Retirement) → CountsRise (all ++ a ∷ []) →
-    ((b : Access) → StandsIn (retired_accesses list) b → StandsIn all b) → HaveExactClocks all list → HaveExactClocks (all ++ a ∷ []) list
+    ((b : Access) → StandsIn (retired_accesses list) b → StandsIn all b) → HaveExactClocks all list →
+    HaveExactClocks (all ++ a ∷ []) list
 clocks_stay all a [] rise within exact = tt
-clocks_stay all a (q ∷ list) rise within exact = by q.access within exact.0 (λ inside. clocks_stay all a list rise inside exact.1)
+clocks_stay all a (q ∷ list) rise within exact =
+    by q.access within exact.0 (λ inside. clocks_stay all a list rise inside exact.1)
   where
-    by : (o : Option Access) → ((b : Access) → StandsIn (with_access o (retired_accesses list)) b → StandsIn all b) → IsClockOf all o q.clock →
+    by : (o : Option Access) → ((b : Access) → StandsIn (with_access o (retired_accesses list)) b → StandsIn all b) →
+        IsClockOf all o q.clock →
         (((b : Access) → StandsIn (retired_accesses list) b → StandsIn all b) → HaveExactClocks (all ++ a ∷ []) list) →
         IsClockOf (all ++ a ∷ []) o q.clock × HaveExactClocks (all ++ a ∷ []) list
     by None inside own rest = (tt, rest inside)
-    by (Some b) inside own rest = (clock_stays all a b q.clock rise (inside b (inl refl)) own, rest (λ d s. inside d (inr s)))
+    by (Some b) inside own rest = (
+      clock_stays all a b q.clock rise (inside b (inl refl)) own,
+      rest (λ d s. inside d (inr s)),
+    )
 
 -- ---- the counts
 
@@ -71,16 +82,20 @@ pub record Counted (r : Reduced) (at : Instr) (next : Reduced) : Type 0 where
   pub own : count_of next at.core ≡ at.count
   pub others : (core : ℕ) → core ≢ at.core → count_of next core ≡ count_of r core
 
-pub local_counted : (list : List Access) (r : Reduced) (at : Instr) → IsExact list r → IsNext r at → Counted r at (counted r at)
+pub local_counted : (list : List Access) (r : Reduced) (at : Instr) → IsExact list r → IsNext r at →
+    Counted r at (counted r at)
 local_counted list r at exact next = record {
   cores = refl;
-  own = ap (λ (c : Clock). slice_index c at.core) (get_or-set_same r.clocks at.core _ no_counts (let core = next.core in let few = exact.few in
+  own = ap (λ (c : Clock). slice_index c at.core) (get_or-set_same r.clocks at.core _ no_counts (let core = next.core in
+      let few = exact.few in
       let places = exact.places in omega arith))
-      ∙ get_or-set_same (clock_of r at.core) at.core at.count 0 (let core = next.core in let few = exact.few in omega (arith, exact.wide at.core next.core));
+      ∙ get_or-set_same (clock_of r at.core) at.core at.count 0 (let core = next.core in let few = exact.few in
+      omega (arith, exact.wide at.core next.core));
   others = λ core differ. ap (λ (c : Clock). slice_index c core) ((other_clocks_law r core).0 at differ);
 }
 
-pub access_counted : (list : List Access) (r : Reduced) (a : Access) (rider : Times) → IsExact list r → IsNext r a.at → AreExactFor list a rider →
+pub access_counted : (list : List Access) (r : Reduced) (a : Access) (rider : Times) → IsExact list r → IsNext r a.at →
+    AreExactFor list a rider →
     Counted r a.at (retired r a rider)
 access_counted list r a rider exact next times = record {
   cores = refl;
@@ -93,14 +108,18 @@ access_counted list r a rider exact next times = record {
 pub access_reduces : AccessReducesLaw
 access_reduces list all r edges a rider next times h =
     let q : Retirement = record { at = a.at; access = Some a; clock = clock_of (retired r a rider) a.at.core } in
-    let reduction : IsReduction (all ++ a ∷ []) (retired r a rider) (edges ++ edges_of r a rider) = retire_law all r edges a rider next times h.reduction in
-    let own : count_of (retired r a rider) a.at.core ≡ a.at.count = retired_own all r a rider (next_of all r a rider h.reduction.exact next times) in
+    let reduction : IsReduction (all ++ a ∷ []) (retired r a rider) (edges ++ edges_of r a rider) =
+    retire_law all r edges a rider next times h.reduction in
+    let own : count_of (retired r a rider) a.at.core ≡ a.at.count =
+    retired_own all r a rider (next_of all r a rider h.reduction.exact next times) in
     let exact : IsExactClock (all ++ a ∷ []) a.at (clock_of (retired r a rider) a.at.core) =
-    subst (λ (n : ℕ). IsExactClock (all ++ a ∷ []) (record { core = a.at.core; count = n }) (clock_of (retired r a rider) a.at.core)) own
+    subst (λ (n : ℕ). IsExactClock (all ++ a ∷ []) (record { core = a.at.core; count = n })
+    (clock_of (retired r a rider) a.at.core)) own
     (reduction.exact.clocks a.at.core next.core) in
     record {
       accesses_are = accesses_more list q ∙ ap (λ (l : List Access). l ++ a ∷ []) h.accesses_are;
       exact = clocks_more (all ++ a ∷ []) list q
-          (clocks_stay all a list reduction.exact.rise (λ b s. subst (λ (l : List Access). StandsIn l b) h.accesses_are s) h.exact) exact;
+          (clocks_stay all a list reduction.exact.rise (λ b s. subst (λ (l : List Access). StandsIn l b) h.accesses_are
+          s) h.exact) exact;
       reduction = reduction;
     }

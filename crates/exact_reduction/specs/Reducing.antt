@@ -17,7 +17,8 @@ pub record ReducesExactly (list : List Retirement) (all : List Access) (r : Redu
 
 -- The times that an access finds by exact clocks are those that the reduction needs.
 abbrev pub FoundExactLaw : Type 0
-FoundExactLaw = (list : List Access) (a : Access) (rider : Times) → FindsExactTimes list a rider → AreExactFor list a rider
+FoundExactLaw = (list : List Access) (a : Access) (rider : Times) → FindsExactTimes list a rider → AreExactFor list a
+    rider
 
 -- The reduction still stands for the retirements once it was told of one more that made an access, by exact times.
 abbrev pub AccessReducesLaw : Type 0
@@ -25,5 +26,6 @@ AccessReducesLaw =
     (list : List Retirement) (all : List Access) (r : Reduced) (edges : List Edge) (a : Access) (rider : Times)
     → IsNext r a.at → AreExactFor all a rider → ReducesExactly list all r edges
     → ReducesExactly
-    (list ++ (record { at = a.at; access = Some a; clock = clock_of (retired r a rider) a.at.core }) ∷ []) (all ++ a ∷ [])
+    (list ++ (record { at = a.at; access = Some a; clock = clock_of (retired r a rider) a.at.core }) ∷ [])
+    (all ++ a ∷ [])
     (retired r a rider) (edges ++ edges_of r a rider)

@@ -1,5 +1,6 @@
 -- The flat image of a file without a fault, by the cases of its bytes.
-use Rattle.std.proofs.Common.{◌≡◌, ◌⊎◌, inl, inr, ℕ, zero, suc, ◌-◌, ◌<◌, ◌≤◌, Bool, true, false, IsTrue, List, refl, arith, Some, None}
+use Rattle.std.proofs.Common.{◌≡◌, ◌⊎◌, inl, inr, ℕ, zero, suc, ◌-◌, ◌<◌, ◌≤◌, Bool, true, false, IsTrue, List, refl}
+use Rattle.std.proofs.Common.{arith, Some, None}
 use Rattle.std.specs.Prelude.{Option, is_some}
 use Rattle.std.specs.Option.{option_or}
 use Rattle.std.proofs.Math.Nat.{le-max_left, le-max_right, max-le}
@@ -49,7 +50,8 @@ has_before h address e = grind (arith, nat_tests)
 abbrev Loads : List ℕ → (n number address : ℕ) → Type 0
 Loads file n number address = loaded_byte file n address ≡ Some (range_byte file (header file number) address)
 
-later_loads : (file : List ℕ) (words n number address : ℕ) → header_fault file words n ≡ None → Loads file n number address
+later_loads : (file : List ℕ) (words n number address : ℕ) → header_fault file words n ≡ None →
+    Loads file n number address
     → (b : Bool) → has (header file n) address ≡ b → Loads file (suc n) number address
 later_loads file words n number address none earlier true e =
     let h = header file n in
@@ -73,7 +75,8 @@ loads file words (suc n) none number address h e = elim (below_suc number n h) [
 ]
 
 -- what no range has is not loaded
-pub loads_none : (file : List ℕ) (n address : ℕ) → ((number : ℕ) → number < n → has (header file number) address ≡ false)
+pub loads_none : (file : List ℕ) (n address : ℕ) →
+    ((number : ℕ) → number < n → has (header file number) address ≡ false)
     → loaded_byte file n address ≡ None
 loads_none file zero address none = refl
 loads_none file (suc n) address none =
@@ -83,7 +86,8 @@ end_after : (h : ProgramHeader) (address : ℕ) → has h address ≡ true → a
 end_after h address e = grind (arith, nat_tests)
 
 -- each range ends by the greatest end
-pub within : (file : List ℕ) (n number address : ℕ) → number < n → has (header file number) address ≡ true → address < loaded_length file n
+pub within : (file : List ℕ) (n number address : ℕ) → number < n → has (header file number) address ≡ true →
+    address < loaded_length file n
 within file zero number address h e = absurd (omega arith)
 within file (suc n) number address h e =
     let left = le-max_left (loaded_end (header file n)) (loaded_length file n) in
@@ -97,7 +101,8 @@ last_address : (h : ProgramHeader) → (loaded_end h ≡ 0) ⊎ (has h (loaded_e
 last_address h = grind (arith, nat_tests)
 
 -- the greatest end is no greater than what each range ends by
-pub least : (file : List ℕ) (n m : ℕ) → ((number address : ℕ) → number < n → has (header file number) address ≡ true → address < m)
+pub least : (file : List ℕ) (n m : ℕ) → ((number address : ℕ) → number < n → has (header file number) address ≡ true →
+    address < m)
     → loaded_length file n ≤ m
 least file zero m ends = omega arith
 least file (suc n) m ends =

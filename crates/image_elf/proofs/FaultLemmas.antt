@@ -3,7 +3,8 @@ use Rattle.std.proofs.Common.{◌≡◌, ℕ, true, false, List, refl, Some, Non
 use Rattle.image_elf.specs.declared.elf_fault.ElfFault.{ElfFault}
 use Rattle.image_elf.specs.declared.elf_fault.ElfFault.TheVariants.{NotElf, Header, Segment, Outside, Overlap, Entry}
 use Rattle.image_elf.specs.Headers.{accepts_header, header, header_count, is_elf, is_loaded, range_end}
-use Rattle.image_elf.specs.Faults.{accepts_entry, elf_fault, first_header_fault, header_fault, is_taken, is_within_file, is_within_memory}
+use Rattle.image_elf.specs.Faults.{accepts_entry, elf_fault, first_header_fault, header_fault, is_taken, is_within_file}
+use Rattle.image_elf.specs.Faults.{is_within_memory}
 
 module _ (file : List ℕ) (words n : ℕ) where
   pub other_type : is_loaded (header file n) ≡ false → header_fault file words n ≡ None
@@ -19,7 +20,8 @@ module _ (file : List ℕ) (words n : ℕ) where
 
   pub bad_overlap : is_loaded (header file n) ≡ true → is_within_file file (header file n) ≡ true
       → is_within_memory words (header file n) ≡ true
-      → is_taken file n (header file n).vaddr (range_end (header file n)) ≡ true → header_fault file words n ≡ Some (Overlap n)
+      → is_taken file n (header file n).vaddr (range_end (header file n)) ≡ true →
+      header_fault file words n ≡ Some (Overlap n)
   bad_overlap a b c d = rw (a, b, c, d) refl
 
   pub no_fault : is_loaded (header file n) ≡ true → is_within_file file (header file n) ≡ true
@@ -42,11 +44,13 @@ module _ (file : List ℕ) (words : ℕ) where
   bad_headers fault a b c = rw (a, b, c) refl
 
   pub bad_entry : is_elf file ≡ true → accepts_header file ≡ true
-      → first_header_fault file words (header_count file) ≡ None → accepts_entry file words ≡ false → elf_fault file words ≡ Some Entry
+      → first_header_fault file words (header_count file) ≡ None → accepts_entry file words ≡ false →
+      elf_fault file words ≡ Some Entry
   unfolding elf_fault
   bad_entry a b c d = rw (a, b, c, d) refl
 
   pub no_fault_at_all : is_elf file ≡ true → accepts_header file ≡ true
-      → first_header_fault file words (header_count file) ≡ None → accepts_entry file words ≡ true → elf_fault file words ≡ None
+      → first_header_fault file words (header_count file) ≡ None → accepts_entry file words ≡ true →
+      elf_fault file words ≡ None
   unfolding elf_fault
   no_fault_at_all a b c d = rw (a, b, c, d) refl

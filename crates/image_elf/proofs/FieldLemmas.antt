@@ -1,5 +1,6 @@
 -- Fields read from the rest of a file.
-use Rattle.std.proofs.Common.{◌≡◌, ℕ, zero, suc, ◌+◌, ◌-◌, List, length, take, drop, refl, ap, ◌∙◌, arith, add-zero, add-suc, length-drop}
+use Rattle.std.proofs.Common.{◌≡◌, ℕ, zero, suc, ◌+◌, ◌-◌, List, length, take, drop, refl, ap, ◌∙◌, arith, add-zero}
+use Rattle.std.proofs.Common.{add-suc, length-drop}
 use Rattle.std.proofs.lemmas.List.{get_or-drop, take_all}
 use Rattle.byteorder.specs.Endian.{little_from}
 

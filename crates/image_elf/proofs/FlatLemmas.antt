@@ -1,5 +1,6 @@
 -- The flat image of a file without a fault is one, case by case.
-use Rattle.std.proofs.Common.{◌≡◌, ◌≢◌, ◌⊎◌, inl, inr, ℕ, ◌+◌, ◌<◌, ◌≤◌, false, IsTrue, List, length, get_or, refl, ap, ◌∙◌, arith, Some, None}
+use Rattle.std.proofs.Common.{◌≡◌, ◌≢◌, ◌⊎◌, inl, inr, ℕ, ◌+◌, ◌<◌, ◌≤◌, false, IsTrue, List, length, get_or, refl, ap}
+use Rattle.std.proofs.Common.{◌∙◌, arith, Some, None}
 use Rattle.std.proofs.Common.{zero-add, ◌++◌, ◌∷◌, []}
 use Rattle.std.specs.Prelude.{map, max, Option, is_some, unwrap_or}
 use Rattle.std.specs.List.{range_with_len}
@@ -10,7 +11,8 @@ use Rattle.std.proofs.lemmas.List.FromFn.{length-map-range_with_len, get_or-map-
 use Rattle.std.proofs.lemmas.List.{get_or_past}
 use Rattle.std.proofs.lemmas.Bool.{both_ways, cases_lt, false_from_ne_true}
 use Rattle.image_elf.specs.Headers.{entry, header, header_count}
-use Rattle.image_elf.specs.FlatImage.{flat_byte, flat_image, flat_length, jump_length, jump_word, loaded_byte, loaded_length, range_byte}
+use Rattle.image_elf.specs.FlatImage.{flat_byte, flat_image, flat_length, jump_length, jump_word, loaded_byte}
+use Rattle.image_elf.specs.FlatImage.{loaded_length, range_byte}
 use Rattle.image_elf.specs.Faults.{elf_fault, first_header_fault, is_taken}
 use Rattle.image_elf.specs.Cases.{EndsBy, IsFlatImage, IsLoadedBy}
 use Rattle.image_elf.proofs.RangeLemmas.{taken}
@@ -52,7 +54,8 @@ length_is : (file : List ℕ) → length (flat_image file) ≡ max (jump_length 
 unfolding flat_length
 length_is file = length-map-range_with_len (flat_byte file) 0 (flat_length file)
 
-byte_is : (file : List ℕ) (address : ℕ) → address < length (flat_image file) → get_or (flat_image file) address 0 ≡ flat_byte file address
+byte_is : (file : List ℕ) (address : ℕ) → address < length (flat_image file) →
+    get_or (flat_image file) address 0 ≡ flat_byte file address
 byte_is file address h =
     let long = length-map-range_with_len (flat_byte file) 0 (flat_length file) in
     get_or-map-range_with_len (flat_byte file) 0 (flat_length file) address address 0 (omega arith) (omega arith)
@@ -61,14 +64,16 @@ jump_at_most : (file : List ℕ) → jump_length file ≤ 4
 jump_at_most file = grind (arith, nat_tests)
 
 -- one more byte
-pub map_range_more : {X : Type 0} (f : ℕ → X) (n : ℕ) → map f (range_with_len 0 (n + 1)) ≡ map f (range_with_len 0 n) ++ f n ∷ []
+pub map_range_more : {X : Type 0} (f : ℕ → X) (n : ℕ) → map f (range_with_len 0 (n + 1)) ≡ map f (range_with_len 0 n)
+    ++ f n ∷ []
 map_range_more f n = map-range_with_len_more f 0 n n (zero-add n)
 
 module _ (file : List ℕ) (words : ℕ) (ok : Passes file words) where
   loaded_there : (number address : ℕ) → IsLoadedBy file number address
       → loaded_byte file (header_count file) address ≡ Some (range_byte file (header file number) address)
   loaded_there number address l =
-      loads file words (header_count file) (no_fault_below file words (header_count file) ok.headers) number address l.there l.has
+      loads file words (header_count file) (no_fault_below file words (header_count file) ok.headers) number address
+      l.there l.has
 
   -- no range has a byte of the jump
   past_jump : (number address : ℕ) → IsLoadedBy file number address → jump_length file ≤ address
@@ -76,7 +81,8 @@ module _ (file : List ℕ) (words : ℕ) (ok : Passes file words) where
     | inl none ↦ let k = jump_none file none in omega arith
     | inr untaken ↦ elim (cases_lt address 4) [
       | inl below ↦
-          let there : IsTrue (is_some (loaded_byte file (header_count file) address)) = rw (loaded_there number address l) refl in
+          let there : IsTrue (is_some (loaded_byte file (header_count file) address)) =
+          rw (loaded_there number address l) refl in
           absurd (both_ways _ untaken (taken file (header_count file) 0 4 address (omega arith) below there))
       | inr above ↦ let k = jump_at_most file in omega arith
     ]
@@ -98,7 +104,11 @@ module _ (file : List ℕ) (words : ℕ) (ok : Passes file words) where
 
   image_least : (n : ℕ) → EndsBy file n → length (flat_image file) ≤ n
   image_least n by =
-      let ranges = least file (header_count file) n (λ number address h e. by.loaded number address record { there = h; has = e }) in
+      let ranges = least file (header_count file) n (λ number address h e. by.loaded number address record {
+        there =
+            h;
+        has = e;
+      }) in
       let jump : jump_length file ≤ n = elim (is_zero (entry file)) [
         | inl none ↦ let k = jump_none file none in omega arith
         | inr begins ↦ let k = jump_some file begins in let l = by.jump begins in omega arith

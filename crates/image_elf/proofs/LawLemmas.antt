@@ -1,5 +1,6 @@
 -- The laws of faults.
-use Rattle.std.proofs.Common.{◌≡◌, ◌⊎◌, inl, inr, ℕ, zero, suc, ◌<◌, ◌≤◌, Bool, true, false, List, refl, arith, Some, None, ◌∙◌}
+use Rattle.std.proofs.Common.{◌≡◌, ◌⊎◌, inl, inr, ℕ, zero, suc, ◌<◌, ◌≤◌, Bool, true, false, List, refl, arith, Some}
+use Rattle.std.proofs.Common.{None, ◌∙◌}
 use Rattle.std.specs.Prelude.{Option, max}
 use Rattle.std.specs.Option.{option_or}
 use Rattle.std.proofs.Math.Nat.{le-max_right}
@@ -24,7 +25,8 @@ more file n first end a = record {
 }
 
 taken_to_by : (file : List ℕ) (n first end : ℕ) → (is_taken file n first end ≡ true → HasAddress file n first end)
-    → (b : Bool) → has_some (header file n) first end ≡ b → is_taken file (suc n) first end ≡ true → HasAddress file (suc n) first end
+    → (b : Bool) → has_some (header file n) first end ≡ b → is_taken file (suc n) first end ≡ true →
+    HasAddress file (suc n) first end
 taken_to_by file n first end earlier true e t = record {
   number = n;
   address = max (header file n).vaddr first;
@@ -44,7 +46,8 @@ taken_from : (file : List ℕ) (n first end number address : ℕ) → number < n
     → first ≤ address → address < end → is_taken file n first end ≡ true
 taken_from file zero first end number address there e after before = absurd (omega arith)
 taken_from file (suc n) first end number address there e after before = elim (below_suc number n there) [
-  | inl below ↦ or_right (has_some (header file n) first end) _ (taken_from file n first end number address below e after before)
+  | inl below ↦ or_right (has_some (header file n) first end) _ (taken_from file n first end number address below e
+      after before)
   | inr same ↦ or_left _ _ (has_some_at (header file n) first end address after before (rw same at e))
 ]
 
@@ -73,17 +76,20 @@ first_to_by file words n fault before (Some other) e f =
       earlier = found.earlier;
     }
 
-first_to : (file : List ℕ) (words n : ℕ) (fault : ElfFault) → first_header_fault file words n ≡ Some fault → IsFirstFault file words n fault
+first_to : (file : List ℕ) (words n : ℕ) (fault : ElfFault) → first_header_fault file words n ≡ Some fault →
+    IsFirstFault file words n fault
 first_to file words zero fault f = absurd (cc)
 first_to file words (suc n) fault f =
     first_to_by file words n fault (first_to file words n fault) (first_header_fault file words n) refl f
 
-none_first : (file : List ℕ) (words n : ℕ) → ((k : ℕ) → k < n → header_fault file words k ≡ None) → first_header_fault file words n ≡ None
+none_first : (file : List ℕ) (words n : ℕ) → ((k : ℕ) → k < n → header_fault file words k ≡ None) →
+    first_header_fault file words n ≡ None
 none_first file words zero none = refl
 none_first file words (suc n) none =
     rw (none_first file words n (λ k h. none k (omega arith))) (none n (omega arith))
 
-first_from : (file : List ℕ) (words n : ℕ) (fault : ElfFault) (number : ℕ) → number < n → header_fault file words number ≡ Some fault
+first_from : (file : List ℕ) (words n : ℕ) (fault : ElfFault) (number : ℕ) → number < n →
+    header_fault file words number ≡ Some fault
     → ((k : ℕ) → k < number → header_fault file words k ≡ None) → first_header_fault file words n ≡ Some fault
 first_from file words zero fault number there e earlier = absurd (omega arith)
 first_from file words (suc n) fault number there e earlier = elim (below_suc number n there) [
@@ -98,7 +104,8 @@ first_fault = λ file words n fault. (
 )
 
 -- the fault of a header before which none has one is the first, unless memory ran out
-pub first_here : (file : List ℕ) (words n count : ℕ) (fault : ElfFault) → n < count → first_header_fault file words n ≡ None
+pub first_here : (file : List ℕ) (words n count : ℕ) (fault : ElfFault) → n < count →
+    first_header_fault file words n ≡ None
     → (fault ≡ OutOfMemory) ⊎ (header_fault file words n ≡ Some fault)
     → (fault ≡ OutOfMemory) ⊎ (first_header_fault file words count ≡ Some fault)
 first_here file words n count fault there none (inl memory) = inl memory

@@ -41,12 +41,15 @@ none_more file n cells holds e = record {
 }
 
 -- the same for a header that was read, and with the count as code has it
-pub one_more_by : (file : List ℕ) (n : ℕ) (h : ProgramHeader) (old new : List (Option ℕ)) → h ≡ header file n → HoldFirst file n old
+pub one_more_by : (file : List ℕ) (n : ℕ) (h : ProgramHeader) (old new : List (Option ℕ)) → h ≡ header file n →
+    HoldFirst file n old
     → is_loaded h ≡ true → h.memsz ≢ 0 → length new ≡ max (range_end h) (length old) → LoadsInto file h old new
     → HoldFirst file (n + 1) new
 one_more_by file n h old new same holds loaded there long into =
-    rw (add-one n) (one_more file n old new holds (rw same at loaded) (rw same at there) (rw same at long) (rw same at into))
+    rw (add-one n) (one_more file n old new holds (rw same at loaded) (rw same at there) (rw same at long)
+    (rw same at into))
 
-pub none_more_by : (file : List ℕ) (n : ℕ) (h : ProgramHeader) (cells : List (Option ℕ)) → h ≡ header file n → HoldFirst file n cells
+pub none_more_by : (file : List ℕ) (n : ℕ) (h : ProgramHeader) (cells : List (Option ℕ)) → h ≡ header file n →
+    HoldFirst file n cells
     → (is_loaded h ≡ false) ⊎ (h.memsz ≡ 0) → HoldFirst file (n + 1) cells
 none_more_by file n h cells same holds e = rw (add-one n) (none_more file n cells holds (rw same at e))

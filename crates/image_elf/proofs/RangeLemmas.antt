@@ -10,7 +10,8 @@ use Rattle.image_elf.specs.FlatImage.{loaded_byte}
 use Rattle.image_elf.specs.Faults.{is_taken}
 
 -- a range that has an address between two others
-pub has_some_at : (h : ProgramHeader) (first end address : ℕ) → first ≤ address → address < end → has h address ≡ true → has_some h first end ≡ true
+pub has_some_at : (h : ProgramHeader) (first end address : ℕ) → first ≤ address → address < end → has h address ≡ true →
+    has_some h first end ≡ true
 has_some_at h first end address after before t = grind (arith, nat_tests)
 
 -- the first address that it has there
@@ -46,7 +47,8 @@ earlier_none : (file : List ℕ) (n address : ℕ) (b : Bool) → has (header fi
 earlier_none file n address true e none = absurd (let k = rw e at none in cc)
 earlier_none file n address false e none = rw e at none
 
-none_has : (file : List ℕ) (n address : ℕ) → loaded_byte file (suc n) address ≡ None → has (header file n) address ≡ true → ⊥
+none_has : (file : List ℕ) (n address : ℕ) → loaded_byte file (suc n) address ≡ None →
+    has (header file n) address ≡ true → ⊥
 none_has file n address none e = let k = rw e at none in cc
 
 free_by : (file : List ℕ) (n first end : ℕ) → IsFreeBelow file (suc n) first end → is_taken file n first end ≡ false
@@ -63,5 +65,6 @@ pub free : (file : List ℕ) (n first end : ℕ) → IsFreeBelow file n first en
 free file zero first end none = refl
 free file (suc n) first end none =
     free_by file n first end none
-    (free file n first end (λ address after before. earlier_none file n address (has (header file n) address) refl (none address after before)))
+    (free file n first end (λ address after before. earlier_none file n address (has (header file n) address) refl
+    (none address after before)))
     (has_some (header file n) first end) refl

@@ -10,10 +10,12 @@ use Rattle.image_elf.proofs.CaseLemmas.{no_fault_below, has_loaded}
 use Rattle.image_elf.proofs.FlatLemmas.{is_flat_image, passes}
 
 -- an address of a range that ends within the memory
-has_within : (words : ℕ) (h : ProgramHeader) (address : ℕ) → is_within_memory words h ≡ true → has h address ≡ true → address < 4 * words
+has_within : (words : ℕ) (h : ProgramHeader) (address : ℕ) → is_within_memory words h ≡ true → has h address ≡ true →
+    address < 4 * words
 has_within words h address within e = grind (arith, nat_tests)
 
-outside_fault : (file : List ℕ) (words n : ℕ) → is_loaded (header file n) ≡ true → is_within_memory words (header file n) ≡ false
+outside_fault : (file : List ℕ) (words n : ℕ) → is_loaded (header file n) ≡ true →
+    is_within_memory words (header file n) ≡ false
     → header_fault file words n ≡ None → ⊥
 outside_fault file words n loaded outside none = grind (arith, nat_tests)
 

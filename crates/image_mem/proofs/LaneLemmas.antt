@@ -1,5 +1,6 @@
 -- The bytes of a word after some of them were copied over are the lanes of the merged word.
-use Rattle.std.proofs.Common.{◌≡◌, ◌⊎◌, inl, inr, ℕ, zero, suc, ◌+◌, ◌-◌, ◌/◌, ◌%◌, ◌^◌, ◌<◌, lit<, Bool, true, false, IsTrue, [], ◌∷◌, take, refl, sym, arith, w32}
+use Rattle.std.proofs.Common.{◌≡◌, ◌⊎◌, inl, inr, ℕ, zero, suc, ◌+◌, ◌-◌, ◌/◌, ◌%◌, ◌^◌, ◌<◌, lit<, Bool, true, false}
+use Rattle.std.proofs.Common.{IsTrue, [], ◌∷◌, take, refl, sym, arith, w32}
 use Rattle.std.specs.Prelude.{if◌then◌else◌}
 use Rattle.std.specs.Int.{byte_at, to_le_bytes, from_le_bytes}
 use Rattle.std.proofs.lemmas.Nat.{mod_below}
@@ -41,12 +42,15 @@ merge_whole old value (suc (suc (suc (suc first)))) h e = absurd (omega arith)
 pub sizes : (size : ℕ) → IsTrue (is_access_size size) → (size ≡ 1) ⊎ ((size ≡ 2) ⊎ (size ≡ 4))
 sizes size h = grind (arith, nat_tests)
 
-pub is_merge : (old value address size : ℕ) → IsTrue (is_access_size size) → address % size ≡ 0 → IsMerge old value (address % 4) size
+pub is_merge : (old value address size : ℕ) → IsTrue (is_access_size size) → address % size ≡ 0 →
+    IsMerge old value (address % 4) size
 is_merge old value address size h aligned = elim (sizes size h) [
   | inl e ↦ rw e (merge_byte old value (address % 4) (omega arith))
   | inr rest ↦ elim rest [
-    | inl e ↦ rw e (merge_half old value (address % 4) (omega arith) (let k : address % 2 ≡ 0 = rw e at aligned in omega arith))
-    | inr e ↦ rw e (merge_whole old value (address % 4) (omega arith) (let k : address % 4 ≡ 0 = rw e at aligned in omega arith))
+    | inl e ↦ rw e (merge_half old value (address % 4) (omega arith) (let k : address % 2 ≡ 0 = rw e at aligned in
+        omega arith))
+    | inr e ↦ rw e (merge_whole old value (address % 4) (omega arith) (let k : address % 4 ≡ 0 = rw e at aligned in
+        omega arith))
   ]
 ]
 

@@ -1,5 +1,6 @@
 -- Words read from a part of a list of bytes, and words that begin past its end.
-use Rattle.std.proofs.Common.{◌≡◌, ◌≢◌, ◌⊎◌, ℕ, zero, suc, ◌+◌, ◌-◌, ◌*◌, ◌%◌, ◌<◌, ◌≤◌, List, length, take, drop, refl, ap, ◌∙◌, arith, add-zero, add-suc}
+use Rattle.std.proofs.Common.{◌≡◌, ◌≢◌, ◌⊎◌, ℕ, zero, suc, ◌+◌, ◌-◌, ◌*◌, ◌%◌, ◌<◌, ◌≤◌, List, length, take, drop, refl}
+use Rattle.std.proofs.Common.{ap, ◌∙◌, arith, add-zero, add-suc}
 use Rattle.std.proofs.Common.{length-drop, Some, None}
 use Rattle.std.proofs.lemmas.List.{get_or-drop, get_or_past, take_all}
 use Rattle.std.proofs.lemmas.Bool.Decides.{nat_tests}
@@ -29,7 +30,8 @@ unfolding fetched
 fetched-none image pc h = grind (arith, nat_tests)
 
 -- where there is one
-pub fetched-some : (image : Contents) (pc : ℕ) → pc % 4 ≡ 0 → pc + 4 ≤ length image.bytes → fetched image pc ≡ Some (word_from image.bytes pc)
+pub fetched-some : (image : Contents) (pc : ℕ) → pc % 4 ≡ 0 → pc + 4 ≤ length image.bytes →
+    fetched image pc ≡ Some (word_from image.bytes pc)
 unfolding fetched
 fetched-some image pc aligned within = grind (arith, nat_tests)
 
@@ -39,7 +41,8 @@ unfolding opening_word
 opening_word-past image word h = little_from-past 4 (4 * word) image.bytes h
 
 -- the first four bytes of the part from an address to the end
-pub word_from-part : (xs : List ℕ) (address : ℕ) → little_from 0 4 (take (length xs - address) (drop address xs)) ≡ word_from xs address
+pub word_from-part : (xs : List ℕ) (address : ℕ) →
+    little_from 0 4 (take (length xs - address) (drop address xs)) ≡ word_from xs address
 word_from-part xs address =
     let whole = take_all (length xs - address) (drop address xs) (simp length-drop (omega arith)) in
     let part = little_from-drop 4 0 address xs ∙ ap (λ (i : ℕ). little_from i 4 xs) (add-zero address) in

@@ -6,8 +6,6 @@ mod changes;
 mod history;
 mod known;
 pub mod laws;
-#[cfg(test)]
-mod tests;
 
 pub use history::History;
 pub use known::Known;

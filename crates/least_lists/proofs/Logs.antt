@@ -25,8 +25,11 @@ least_log r list rise of is = (covering_law list edges rise).1 (λ x y. (to x y,
     to : (x y : Instr) → Among (log_edges ReducedLog r) x y → Covering list x y
     to x y s =
         let q = (edges-are-paired ReducedLog r x y).0 (among_contains (log_edges ReducedLog r) x y s) in
-        (least_lists_law r.params.cores list rise of x y).1
-        (q.0, subst (λ (ls : List (List (ℕ × ℕ))). Contains (slice_index_or ls (pair_place r.params.cores x.core y.core) []) (x.count, y.count)) is q.1)
+        (least_lists_law r.params.cores list rise of x y).1 (
+          q.0,
+          subst (λ (ls : List (List (ℕ × ℕ))). Contains (slice_index_or ls (pair_place r.params.cores x.core y.core)
+              []) (x.count, y.count)) is q.1,
+        )
 
     back : (x y : Instr) → Covering list x y → Among (log_edges ReducedLog r) x y
     back x y cover =
@@ -34,6 +37,7 @@ least_log r list rise of is = (covering_law list edges rise).1 (λ x y. (to x y,
         contains_among (log_edges ReducedLog r) x y
         ((edges-are-paired ReducedLog r x y).1 (
           q.0,
-          subst (λ (ls : List (List (ℕ × ℕ))). Contains (slice_index_or ls (pair_place r.params.cores x.core y.core) []) (x.count, y.count))
+          subst (λ (ls : List (List (ℕ × ℕ))). Contains (slice_index_or ls (pair_place r.params.cores x.core y.core) [])
+              (x.count, y.count))
               (sym is) q.1,
         ))

@@ -19,3 +19,4 @@ pub mod Looked
 pub mod Rises
 pub mod SourceLaws
 pub mod EdgeCounts
+pub mod Near

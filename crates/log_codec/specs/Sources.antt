@@ -69,3 +69,9 @@ pub record AreApart (vectors : List StrideVector) : Type 0 where
   pub each : (k : ℕ) (d : StrideVector) → k < length vectors → IsVector (slice_index_or vectors k d)
   pub apart : (i j : ℕ) (d : StrideVector) → i < j → j < length vectors →
       (last_of (slice_index_or vectors i d)).1 < (slice_index_or vectors j d).b0
+
+-- the edges before the place, and no others, lead to lower counts than this one
+pub record IsFrom (edges : List (ℕ × ℕ)) (target place : ℕ) : Type 0 where
+  pub most : place ≤ length edges
+  pub lower : (k : ℕ) → k < place → (slice_index_or edges k (0, 0)).1 < target
+  pub others : (k : ℕ) → place ≤ k → k < length edges → target ≤ (slice_index_or edges k (0, 0)).1

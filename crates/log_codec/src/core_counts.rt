@@ -1,5 +1,5 @@
 //! A count of each core, as further parts of a file have them.
-ghost use Rattle.std.specs.Prelude.{◌≡◌, ◌++◌, ◌<◌, length, OnOk};
+ghost use Rattle.std.specs.Prelude.{◌≡◌, ◌+◌, ◌++◌, ◌<◌, drop, length, take, OnOk};
 ghost use Rattle.log_codec.specs.CoreCounts.{count_at, counts_at, counts_text};
 ghost use Rattle.log_codec.specs.Faults.{Gives};
 
@@ -37,13 +37,29 @@ pub fn counts<'a>(
     ensures { Gives (λ x. (x.0, x.1.now)) result (counts_at part totals.now bytes.now) }
 {
     let mut found = Items::from_vec(Vec::with_capacity(alloc, totals.len())?);
+    let rest = counts_into(&mut found, part, totals, bytes)?;
+    Ok((found, rest))
+}
+
+/// The same, put behind what the list has already. After a fault it may have some of them.
+pub fn counts_into<'a>(
+    found: &mut Items<u32>,
+    part: u8,
+    totals: &[u32],
+    bytes: &'a [u8],
+) -> Result<&'a [u8], CodecFault>
+    ensures read { Gives (λ rest. (drop (length found.old) found.new, rest.now)) result
+        (counts_at part totals.now bytes.now) }
+    ensures kept { OnOk result (take (length found.old) found.new ≡ found.old) }
+    ensures all { OnOk result (length found.new ≡ length found.old + length totals.now) }
+{
     let mut rest = bytes;
     for core in 0..totals.len() {
         let (next, after) = count(part, totals, core, rest)?;
         found.push(next)?;
         rest = after;
     }
-    Ok((found, rest))
+    Ok(rest)
 }
 
 /// Appends a count of each core.

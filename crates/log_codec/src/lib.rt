@@ -19,7 +19,7 @@ mod version;
 mod writing;
 
 pub use codec_fault::{CodecFault, END, HEADER, IMAGE, REDUCED, REGULATED, TOTALS};
-pub use core_counts::{counts, put_counts};
+pub use core_counts::{counts, counts_into, put_counts};
 pub use fields::{image, number, sizes, totals};
 pub use laws::{
     bad_part_law, prefix_free, source_laws, spelling_laws, validity_laws, version_laws,

@@ -28,7 +28,8 @@ limit_after image core Nothing = refl
 limit_after image core (Retires at) = limit_law image core 0
 limit_after image core (Accesses a) = limit_law image core a.before
 
-earned_at_most : {R K : Type 0} (image : Contents) (riding : Riding R) (cores : ℕ) (core : Core) (p : Port R K) → 1 ≤ cores → core.count ≤ core.limit →
+earned_at_most : {R K : Type 0} (image : Contents) (riding : Riding R) (cores : ℕ) (core : Core) (p : Port R K) →
+    1 ≤ cores → core.count ≤ core.limit →
     earned image riding cores (core, p) ≤ capacity cores core
 earned_at_most image riding cores core p some fits = by_done (is_done (need image core)) refl
   where
@@ -41,7 +42,8 @@ earned_at_most image riding cores core p some fits = by_done (is_done (need imag
         let le = base_le (need_access (need image core)) (is_done (need image core)) riding cores p some in
         let e : (2 * cores + 4) * (core.count + 1) ≤ (2 * cores + 4) * core.limit =
         mul-le-mul_left (2 * cores + 4) (let lt = room_law image core more in omega arith) in
-        let f : (2 * cores + 4) * (core.count + 1) ≡ (2 * cores + 4) * core.count + (2 * cores + 4) * 1 = mul-add (2 * cores + 4) core.count 1 in
+        let f : (2 * cores + 4) * (core.count + 1) ≡ (2 * cores + 4) * core.count + (2 * cores + 4) * 1 =
+        mul-add (2 * cores + 4) core.count 1 in
         omega arith
 
 module _ {R K : Type 0} where
@@ -58,19 +60,24 @@ module _ {R K : Type 0} where
   pub total_earned_le : (riding : Riding R) (carrying : Carrying K) (s : State R K) → MachineHolds riding carrying s →
       total_earned riding s ≤ sum_by (capacity (length s.cores)) s.cores
   total_earned_le riding carrying s h =
-      sum_at_most (earned s.image riding (length s.cores)) (capacity (length s.cores)) s.cores s.memory.ports (starting 0 0) (no_port carrying) h.ports_there
-      (λ c lt. earned_at_most s.image riding (length s.cores) (core_at s.cores c) (port_at carrying s.memory.ports c) (let f = lt in omega arith)
+      sum_at_most (earned s.image riding (length s.cores)) (capacity (length s.cores)) s.cores s.memory.ports
+      (starting 0 0) (no_port carrying) h.ports_there
+      (λ c lt. earned_at_most s.image riding (length s.cores) (core_at s.cores c) (port_at carrying s.memory.ports c)
+      (let f = lt in omega arith)
       (h.cores c lt).count_fits)
 
   -- after a step fewer are left
-  pub nearer : (riding : Riding R) (carrying : Carrying K) (s : State R K) (m : Move) (rider : R) → IsTrue (enabled riding carrying s m) →
+  pub nearer : (riding : Riding R) (carrying : Carrying K) (s : State R K) (m : Move) (rider : R) →
+      IsTrue (enabled riding carrying s m) →
       MachineHolds riding carrying s → MachineHolds riding carrying (step riding carrying rider s m) →
       left riding (step riding carrying rider s m) < left riding s
   nearer riding carrying s m rider e h k =
       let t : State R K = step riding carrying rider s m in
-      let pays : total_earned riding s + total_owed t + 1 ≤ total_earned riding t + total_owed s = earns riding carrying s m rider e h in
+      let pays : total_earned riding s + total_owed t + 1 ≤ total_earned riding t + total_owed s =
+      earns riding carrying s m rider e h in
       let same : sum_by (capacity (length t.cores)) t.cores ≡ sum_by (capacity (length s.cores)) s.cores =
-      ap (λ (n : ℕ). sum_by (capacity n) t.cores) (step_cores riding carrying rider s m) ∙ capacity_kept riding carrying s m rider (length s.cores) in
+      ap (λ (n : ℕ). sum_by (capacity n) t.cores) (step_cores riding carrying rider s m)
+      ∙ capacity_kept riding carrying s m rider (length s.cores) in
       let lt = total_earned_le riding carrying t k in
       let ls = total_earned_le riding carrying s h in
       omega arith

@@ -1,5 +1,6 @@
 -- A run ends, and the instructions that retired in it have paid for its steps.
-use Rattle.std.proofs.Common.{◌≡◌, ◌∙◌, ap, refl, sym, ℕ, ◌+◌, ◌*◌, ◌<◌, ◌≤◌, ◌^◌, Bool, true, false, List, [], ◌∷◌, length, Option, Some, None, zero}
+use Rattle.std.proofs.Common.{◌≡◌, ◌∙◌, ap, refl, sym, ℕ, ◌+◌, ◌*◌, ◌<◌, ◌≤◌, ◌^◌, Bool, true, false, List, [], ◌∷◌}
+use Rattle.std.proofs.Common.{length, Option, Some, None, zero}
 use Rattle.std.proofs.Common.{suc, arith, inl, inr}
 use Rattle.std.specs.Prelude.{if◌then◌else◌, map, replicate}
 use Rattle.std.specs.List.{sum_by, list_all, range_with_len, zip}
@@ -42,17 +43,30 @@ pub record IsFirst (n : ℕ) (test : ℕ → Bool) (t u : ℕ) : Type 0 where
   pub found : u < t + n → test u ≡ true
 
 pub first_is : (n : ℕ) (test : ℕ → Bool) (t : ℕ) → IsFirst n test t (first_among n test t)
-first_is zero test t = record { from = omega arith; within = omega arith; before = λ v past lt. absurd (omega arith); found = λ lt. absurd (omega arith) }
+first_is zero test t = record {
+  from = omega arith;
+  within = omega arith;
+  before = λ v past lt. absurd (omega arith);
+  found = λ lt. absurd (omega arith);
+}
 first_is (suc n) test t = by_test (test t) refl (first_is n test (t + 1))
   where
     by_test : (b : Bool) → test t ≡ b → IsFirst n test (t + 1) (first_among n test (t + 1)) →
         IsFirst (suc n) test t (if b then t else first_among n test (t + 1))
-    by_test true e rest = record { from = omega arith; within = omega arith; before = λ v past lt. absurd (omega arith); found = λ lt. e }
+    by_test true e rest = record {
+      from = omega arith;
+      within = omega arith;
+      before = λ v past lt. absurd (omega arith);
+      found = λ lt. e;
+    }
     by_test false e rest =
         record {
           from = let le = rest.from in omega arith;
           within = let le = rest.within in omega arith;
-          before = λ v past lt. elim (cases_eq v t) [ inl same ↦ rw same e | inr other ↦ rest.before v (omega arith) lt ];
+          before = λ v past lt. elim (cases_eq v t) [
+            | inl same ↦ rw same e
+            | inr other ↦ rest.before v (omega arith) lt
+          ];
           found = λ lt. rest.found (omega arith);
         }
 
@@ -60,14 +74,16 @@ first_is (suc n) test t = by_test (test t) refl (first_is n test (t + 1))
 
 module _ {R K : Type 0} where
   -- nothing is owed at the start
-  pub owed_start : (riding : Riding R) (carrying : Carrying K) (cores : ℕ) → sum_by owed (replicate cores (port_start riding carrying)) ≡ 0
+  pub owed_start : (riding : Riding R) (carrying : Carrying K) (cores : ℕ) →
+      sum_by owed (replicate cores (port_start riding carrying)) ≡ 0
   owed_start riding carrying zero = refl
   owed_start riding carrying (suc cores) =
       let rest = owed_start riding carrying cores in
       sum_by-cons owed (port_start riding carrying) (replicate cores (port_start riding carrying)) ∙ (rw rest refl)
 
   -- a core whose program is done has paid with the instructions that retired
-  pub done_earned : (image : Contents) (riding : Riding R) (n : ℕ) (cores : List Core) (ports : List (Port R K)) → length ports ≡ length cores →
+  pub done_earned : (image : Contents) (riding : Riding R) (n : ℕ) (cores : List Core) (ports : List (Port R K)) →
+      length ports ≡ length cores →
       list_all (λ (core : Core). is_done (need image core)) cores ≡ true →
       sum_by (earned image riding n) (zip cores ports) ≡ (2 * n + 4) * sum_by (λ (core : Core). core.count) cores
   done_earned image riding n [] ports long is = omega arith
@@ -77,14 +93,21 @@ module _ {R K : Type 0} where
       let base = done_base (need image core) riding n p here.0 in
       let first : earned image riding n (core, p) ≡ (2 * n + 4) * core.count = omega arith in
       let rest = done_earned image riding n cores ports (omega arith) here.1 in
-      rw (sum_by-cons (earned image riding n) (core, p) (zip cores ports), sum_by-cons (λ (x : Core). x.count) core cores, first, rest)
+      rw (
+        sum_by-cons (earned image riding n) (core, p) (zip cores ports),
+        sum_by-cons (λ (x : Core). x.count) core
+            cores,
+        first,
+        rest,
+      )
       (sym (mul-add (2 * n + 4) core.count (sum_by (λ (x : Core). x.count) cores)))
 
 capacity_start : (limit cores : ℕ) (ids : List ℕ) →
     sum_by (capacity cores) (map (λ id. starting id limit) ids) ≡ (2 * cores + 4) * (length ids * limit)
 capacity_start limit cores [] = omega arith
 capacity_start limit cores (id ∷ ids) =
-    let first : capacity cores (starting id limit) ≡ (2 * cores + 4) * limit = ap (λ (x : ℕ). (2 * cores + 4) * x) (start_law id limit).1 in
+    let first : capacity cores (starting id limit) ≡ (2 * cores + 4) * limit =
+    ap (λ (x : ℕ). (2 * cores + 4) * x) (start_law id limit).1 in
     let rest = capacity_start limit cores ids in
     sum_by-cons (capacity cores) (starting id limit) (map (λ (x : ℕ). starting x limit) ids)
     ∙ (rw (first, rest) (one_more (2 * cores + 4) limit (length ids)))
@@ -113,13 +136,15 @@ pub run_holds : (image : Contents) (params : Params) (choices : ℕ → ℕ) (t 
 run_holds image params choices t fits = holds_run image params choices t fits.cores fits.limit
 
 -- the steps so far are paid for
-steps_paid : (image : Contents) (params : Params) (choices : ℕ → ℕ) (t : ℕ) → InRange params → NotBefore image params choices t →
+steps_paid : (image : Contents) (params : Params) (choices : ℕ → ℕ) (t : ℕ) → InRange params →
+    NotBefore image params choices t →
     t + total_owed (run image params choices t) ≤ total_earned none_riding (run image params choices t)
 steps_paid image params choices zero fits more =
     let none : total_owed (opening_state image params) ≡ 0 = owed_start none_riding none_carrying params.cores in
     omega arith
 steps_paid image params choices (suc t) fits more =
-    stepped (chosen s (choices t)) refl (more t (omega arith)) (steps_paid image params choices t fits (λ u lt. more u (omega arith)))
+    stepped (chosen s (choices t)) refl (more t (omega arith)) (steps_paid image params choices t fits
+    (λ u lt. more u (omega arith)))
   where
     s : PlainState
     s = run image params choices t
@@ -127,17 +152,22 @@ steps_paid image params choices (suc t) fits more =
     h : MachineHolds none_riding none_carrying s
     h = run_holds image params choices t fits
 
-    stepped : (o : Option Move) → chosen s (choices t) ≡ o → all_done s ≡ false → t + total_owed s ≤ total_earned none_riding s →
+    stepped : (o : Option Move) → chosen s (choices t) ≡ o → all_done s ≡ false →
+        t + total_owed s ≤ total_earned none_riding s →
         suc t + total_owed (stepped_by s o) ≤ total_earned none_riding (stepped_by s o)
     stepped None e more paid = chosen_none (plain_moves s) (choices t) (some_move none_riding none_carrying s h more) e
-    stepped (Some m) e more paid = let pays = earns none_riding none_carrying s m tt (chosen_enabled s (choices t) m e) h in omega arith
+    stepped (Some m) e more paid = let pays = earns none_riding none_carrying s m tt (chosen_enabled s (choices t) m e)
+        h in omega arith
 
 -- no step changes the number of cores, nor what all instructions can pay for
-pub run_cores : (image : Contents) (params : Params) (choices : ℕ → ℕ) (t : ℕ) → length (run image params choices t).cores ≡ params.cores
+pub run_cores : (image : Contents) (params : Params) (choices : ℕ → ℕ) (t : ℕ) →
+    length (run image params choices t).cores ≡ params.cores
 run_cores image params choices zero = length-map-range_with_len (λ (id : ℕ). starting id params.limit) 0 params.cores
-run_cores image params choices (suc t) = stepped (chosen (run image params choices t) (choices t)) (run_cores image params choices t)
+run_cores image params choices (suc t) = stepped (chosen (run image params choices t) (choices t))
+    (run_cores image params choices t)
   where
-    stepped : (o : Option Move) → length (run image params choices t).cores ≡ params.cores → length (stepped_by (run image params choices t) o).cores
+    stepped : (o : Option Move) → length (run image params choices t).cores ≡ params.cores →
+        length (stepped_by (run image params choices t) o).cores
         ≡ params.cores
     stepped None e = e
     stepped (Some m) e = step_cores none_riding none_carrying tt (run image params choices t) m ∙ e
@@ -148,9 +178,11 @@ run_capacity image params choices zero =
     let many : length (range_with_len 0 params.cores) ≡ params.cores = length-range_with_len 0 params.cores in
     capacity_start params.limit params.cores (range_with_len 0 params.cores)
     ∙ ap (λ (n : ℕ). (2 * params.cores + 4) * (n * params.limit)) many
-run_capacity image params choices (suc t) = stepped (chosen (run image params choices t) (choices t)) (run_capacity image params choices t)
+run_capacity image params choices (suc t) = stepped (chosen (run image params choices t) (choices t))
+    (run_capacity image params choices t)
   where
-    stepped : (o : Option Move) → sum_by (capacity params.cores) (run image params choices t).cores ≡ most_steps params →
+    stepped : (o : Option Move) → sum_by (capacity params.cores) (run image params choices t).cores ≡ most_steps
+        params →
         sum_by (capacity params.cores) (stepped_by (run image params choices t) o).cores ≡ most_steps params
     stepped None e = e
     stepped (Some m) e = capacity_kept none_riding none_carrying (run image params choices t) m tt params.cores ∙ e
@@ -159,10 +191,12 @@ run_capacity image params choices (suc t) = stepped (chosen (run image params ch
 capacity_is : (image : Contents) (params : Params) (choices : ℕ → ℕ) (t : ℕ) →
     sum_by (capacity (length (run image params choices t).cores)) (run image params choices t).cores ≡ most_steps params
 capacity_is image params choices t =
-    ap (λ (cores : ℕ). sum_by (capacity cores) (run image params choices t).cores) (run_cores image params choices t) ∙ run_capacity image params choices t
+    ap (λ (cores : ℕ). sum_by (capacity cores) (run image params choices t).cores) (run_cores image params choices t)
+    ∙ run_capacity image params choices t
 
 -- the steps so far and those that are left are at most what all instructions can pay for
-left_within : (image : Contents) (params : Params) (choices : ℕ → ℕ) (t : ℕ) → InRange params → NotBefore image params choices t →
+left_within : (image : Contents) (params : Params) (choices : ℕ → ℕ) (t : ℕ) → InRange params →
+    NotBefore image params choices t →
     t + left none_riding (run image params choices t) ≤ most_steps params
 left_within image params choices t fits more =
     let s : PlainState = run image params choices t in
@@ -184,20 +218,27 @@ found : (image : Contents) (params : Params) (choices : ℕ → ℕ) →
 unfolding end_of
 found image params choices = first_is (most_steps params) (λ t. all_done (run image params choices t)) 0
 
-end_first : (image : Contents) (params : Params) (choices : ℕ → ℕ) → NotBefore image params choices (end_of image params choices)
+end_first : (image : Contents) (params : Params) (choices : ℕ → ℕ) →
+    NotBefore image params choices (end_of image params choices)
 end_first image params choices u lt = (found image params choices).before u (omega arith) lt
 
-pub end_within : (image : Contents) (params : Params) (choices : ℕ → ℕ) → end_of image params choices ≤ most_steps params
+pub end_within : (image : Contents) (params : Params) (choices : ℕ → ℕ) →
+    end_of image params choices ≤ most_steps params
 end_within image params choices = let le = (found image params choices).within in omega arith
 
-end_done : (image : Contents) (params : Params) (choices : ℕ → ℕ) → InRange params → all_done (run image params choices (end_of image params choices)) ≡ true
+end_done : (image : Contents) (params : Params) (choices : ℕ → ℕ) → InRange params →
+    all_done (run image params choices (end_of image params choices)) ≡ true
 end_done image params choices fits = by_test (all_done (run image params choices e)) refl
   where
     e : ℕ
     e = end_of image params choices
 
     still_more : all_done (run image params choices e) ≡ false → NotBefore image params choices (suc e)
-    still_more is u lt = elim (cases_eq u e) [ inl same ↦ rw same is | inr other ↦ end_first image params choices u (omega arith) ]
+    still_more is u lt = elim (cases_eq u e) [
+      | inl same ↦ rw same is
+      | inr other ↦ end_first image params choices u
+          (omega arith)
+    ]
 
     by_test : (b : Bool) → all_done (run image params choices e) ≡ b → all_done (run image params choices e) ≡ true
     by_test true is = is
@@ -206,14 +247,25 @@ end_done image params choices fits = by_test (all_done (run image params choices
         left_within image params choices (suc e) fits (still_more is) in
         (found image params choices).found (omega arith)
 
-pub run_ends : (image : Contents) (params : Params) (choices : ℕ → ℕ) → InRange params → IsRunEnd image params choices (end_of image params choices)
-run_ends image params choices fits = record { done = end_done image params choices fits; first = end_first image params choices }
+pub run_ends : (image : Contents) (params : Params) (choices : ℕ → ℕ) → InRange params →
+    IsRunEnd image params choices (end_of image params choices)
+run_ends image params choices fits = record {
+  done = end_done image params choices fits;
+  first =
+      end_first image params choices;
+}
 
 -- a run has one end
-ends_alike : (image : Contents) (params : Params) (choices : ℕ → ℕ) (t u : ℕ) → IsRunEnd image params choices t → IsRunEnd image params choices u → t ≤ u
-ends_alike image params choices t u one other = elim (cases_lt u t) [ inr le ↦ le | inl lt ↦ absurd (let more = one.first u lt in let done = other.done in cc) ]
+ends_alike : (image : Contents) (params : Params) (choices : ℕ → ℕ) (t u : ℕ) → IsRunEnd image params choices t →
+    IsRunEnd image params choices u → t ≤ u
+ends_alike image params choices t u one other = elim (cases_lt u t) [
+  | inr le ↦ le
+  | inl lt ↦ absurd (let more =
+      one.first u lt in let done = other.done in cc)
+]
 
-pub one_end : (image : Contents) (params : Params) (choices : ℕ → ℕ) (t : ℕ) → InRange params → IsRunEnd image params choices t →
+pub one_end : (image : Contents) (params : Params) (choices : ℕ → ℕ) (t : ℕ) → InRange params →
+    IsRunEnd image params choices t →
     t ≡ end_of image params choices
 one_end image params choices t fits end =
     let it = run_ends image params choices fits in
@@ -222,23 +274,28 @@ one_end image params choices t fits end =
     omega arith
 
 pub end_in_time : (image : Contents) (params : Params) (choices : ℕ → ℕ) → InRange params →
-    end_of image params choices ≤ (2 * params.cores + 4) * total_retired (run image params choices (end_of image params choices))
+    end_of image params choices ≤ (2 * params.cores + 4) * total_retired (run image params choices
+    (end_of image params choices))
 end_in_time image params choices fits =
     let e : ℕ = end_of image params choices in
     let s : PlainState = run image params choices e in
-    let paid : e + total_owed s ≤ total_earned none_riding s = steps_paid image params choices e fits (end_first image params choices) in
+    let paid : e + total_owed s ≤ total_earned none_riding s =
+    steps_paid image params choices e fits (end_first image params choices) in
     let all : total_earned none_riding s ≡ (2 * params.cores + 4) * total_retired s =
     all_earned s (run_holds image params choices e fits).ports_there (end_done image params choices fits)
     ∙ ap (λ (cores : ℕ). (2 * cores + 4) * total_retired s) (run_cores image params choices e) in
     omega arith
 
-pub left_until_end : (image : Contents) (params : Params) (choices : ℕ → ℕ) (t : ℕ) → InRange params → t ≤ end_of image params choices →
+pub left_until_end : (image : Contents) (params : Params) (choices : ℕ → ℕ) (t : ℕ) → InRange params →
+    t ≤ end_of image params choices →
     t + left none_riding (run image params choices t) ≤ most_steps params
-left_until_end image params choices t fits le = left_within image params choices t fits (λ u lt. end_first image params choices u (omega arith))
+left_until_end image params choices t fits le =
+    left_within image params choices t fits (λ u lt. end_first image params choices u (omega arith))
 
 pub most_steps_few : (params : Params) → Fits params → most_steps params < 2 ^ 32
 most_steps_few params fits =
     let few = fits.cores in
     let steps : most_steps params ≤ (2 * CORES_MAX + 4) * INSTRUCTIONS_MAX =
-    mul-le (2 * params.cores + 4) (params.cores * params.limit) (2 * CORES_MAX + 4) INSTRUCTIONS_MAX (omega arith) fits.instructions in
+    mul-le (2 * params.cores + 4) (params.cores * params.limit) (2 * CORES_MAX + 4) INSTRUCTIONS_MAX (omega arith)
+    fits.instructions in
     omega arith

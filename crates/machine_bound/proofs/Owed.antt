@@ -1,5 +1,6 @@
 -- What is owed to others' accesses, summed over the ports, and what the home's answer adds to it.
-use Rattle.std.proofs.Common.{◌≡◌, refl, ℕ, ◌+◌, ◌*◌, ◌<◌, ◌≤◌, Bool, true, false, cond, List, [], ◌∷◌, ◌++◌, length, Option, Some, None, zero, suc}
+use Rattle.std.proofs.Common.{◌≡◌, refl, ℕ, ◌+◌, ◌*◌, ◌<◌, ◌≤◌, Bool, true, false, cond, List, [], ◌∷◌, ◌++◌, length}
+use Rattle.std.proofs.Common.{Option, Some, None, zero, suc}
 use Rattle.std.proofs.Common.{arith, length-append}
 use Rattle.std.specs.Prelude.{if◌then◌else◌}
 use Rattle.std.specs.List.{sum_by, zip}
@@ -25,7 +26,8 @@ answers None = 0
 answers (Some response) = 1
 
 module _ {R K : Type 0} where
-  debts-snoc : (xs : List (Mail (FromHome R) K)) (mail : Mail (FromHome R) K) → debts (xs ++ mail ∷ []) ≡ debts xs + debt mail.item
+  debts-snoc : (xs : List (Mail (FromHome R) K)) (mail : Mail (FromHome R) K) →
+      debts (xs ++ mail ∷ []) ≡ debts xs + debt mail.item
   debts-snoc [] mail = omega arith
   debts-snoc (x ∷ xs) mail = rw (debts-snoc xs mail) (omega arith)
 
@@ -55,7 +57,8 @@ answer_debt None set cores = members set cores * 2
 
 module _ {R K : Type 0} where
   more : (carrying : Carrying K) (t : Bool) (before : List (Port R K)) (n : ℕ) (m : FromHome R) (k : K) (total : ℕ) →
-      sum_by owed before ≤ total → sum_by owed (if t then ports_sent carrying before n m k else before) ≤ total + cond t 1 0 * debt m
+      sum_by owed before ≤ total → sum_by owed (if t then ports_sent carrying before n m k else before) ≤ total + cond t
+      1 0 * debt m
   more carrying true before n m k total le = let f = owed-ports_sent carrying before n m k in omega arith
   more carrying false before n m k total le = omega arith
 
@@ -64,7 +67,8 @@ module _ {R K : Type 0} where
   owed-ports_told carrying set m k zero ports = omega arith
   owed-ports_told carrying set m k (suc n) ports =
       let ih = owed-ports_told carrying set m k n ports in
-      let one = more carrying (has set n) (ports_told carrying set m k n ports) n m k (sum_by owed ports + members set n * debt m) ih in
+      let one = more carrying (has set n) (ports_told carrying set m k n ports) n m k (sum_by owed ports + members set n
+      * debt m) ih in
       let all = spread (members set n) (cond (has set n) 1 0) (debt m) (sum_by owed ports) in
       omega arith
     where
@@ -73,30 +77,38 @@ module _ {R K : Type 0} where
 
   -- what the home's answer adds to what is owed
   pub owed_delivered : (carrying : Carrying K) (answer : HomeAnswer R) (block : ℕ) (k : K) (ports : List (Port R K)) →
-      sum_by owed (delivered carrying answer block k ports) ≤ sum_by owed ports + answer_debt answer.send answer.invalidate (length ports)
+      sum_by owed (delivered carrying answer block k ports) ≤ sum_by owed ports + answer_debt answer.send
+      answer.invalidate (length ports)
   owed_delivered carrying answer block k ports = by_send answer.send
     where
       by_send : (o : Option (ℕ × FromHome R)) →
-          sum_by owed (delivered_in o carrying answer.invalidate block k ports) ≤ sum_by owed ports + answer_debt o answer.invalidate (length ports)
+          sum_by owed (delivered_in o carrying answer.invalidate block k ports) ≤ sum_by owed ports + answer_debt o
+          answer.invalidate (length ports)
       by_send None = owed-ports_told carrying answer.invalidate (Inv block) k (length ports) ports
       by_send (Some (to, m)) = owed-ports_sent carrying ports to m k
 
   -- what no message changes
-  pub sum_delivered : {X : Type 0} (f : X × Port R K → ℕ) → ((x : X) (p : Port R K) (m : FromHome R) (k : K) → f (x, port_sent p m k) ≡ f (x, p)) →
+  pub sum_delivered : {X : Type 0} (f : X × Port R K → ℕ) → ((x : X) (p : Port R K) (m : FromHome R) (k : K) →
+      f (x, port_sent p m k) ≡ f (x, p)) →
       (carrying : Carrying K) (answer : HomeAnswer R) (block : ℕ) (k : K) (xs : List X) (ports : List (Port R K)) →
       sum_by f (zip xs (delivered carrying answer block k ports)) ≡ sum_by f (zip xs ports)
   sum_delivered {X} f same carrying answer block k xs ports = by_send answer.send
     where
-      sent : (before : List (Port R K)) (to : ℕ) (m : FromHome R) → sum_by f (zip xs (ports_sent carrying before to m k)) ≡ sum_by f (zip xs before)
+      sent : (before : List (Port R K)) (to : ℕ) (m : FromHome R) →
+          sum_by f (zip xs (ports_sent carrying before to m k)) ≡ sum_by f (zip xs before)
       sent before to m =
-          sum_same f xs before to (port_sent (port_at carrying before to) m k) (no_port carrying) (λ x. same x (port_at carrying before to) m k)
+          sum_same f xs before to (port_sent (port_at carrying before to) m k) (no_port carrying)
+          (λ x. same x (port_at carrying before to) m k)
 
-      told : (set : CoreSet) (n : ℕ) → sum_by f (zip xs (ports_told carrying set (Inv block) k n ports)) ≡ sum_by f (zip xs ports)
+      told : (set : CoreSet) (n : ℕ) → sum_by f (zip xs (ports_told carrying set (Inv block) k n ports)) ≡ sum_by f
+          (zip xs ports)
       told set zero = refl
       told set (suc n) = by_test (has set n) (told set n)
         where
-          by_test : (t : Bool) → sum_by f (zip xs (ports_told carrying set (Inv block) k n ports)) ≡ sum_by f (zip xs ports) →
-              sum_by f (zip xs (if t then ports_sent carrying (ports_told carrying set (Inv block) k n ports) n (Inv block) k
+          by_test : (t : Bool) → sum_by f (zip xs (ports_told carrying set (Inv block) k n ports)) ≡ sum_by f
+              (zip xs ports) →
+              sum_by f (zip xs (if t then ports_sent carrying (ports_told carrying set (Inv block) k n ports) n
+              (Inv block) k
               else ports_told carrying set (Inv block) k n ports)) ≡ sum_by f (zip xs ports)
           by_test true ih = rw (sent (ports_told carrying set (Inv block) k n ports) n (Inv block)) ih
           by_test false ih = ih

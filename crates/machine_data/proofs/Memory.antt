@@ -12,33 +12,40 @@ use Rattle.machine_data.specs.Coherent.{memory_after, WordsFit, word_of, LastWri
 same_place : (x y : ℕ) → x / BLOCK_WORDS ≡ y / BLOCK_WORDS → x % BLOCK_WORDS ≡ y % BLOCK_WORDS → x ≡ y
 same_place x y q r = omega arith
 
-set_word : (xs : List ℕ) (i j v : ℕ) → length xs ≡ BLOCK_WORDS → j < BLOCK_WORDS → slice_index (slice_set xs i v) j ≡ (if j == i then v else slice_index xs j)
+set_word : (xs : List ℕ) (i j v : ℕ) → length xs ≡ BLOCK_WORDS → j < BLOCK_WORDS →
+    slice_index (slice_set xs i v) j ≡ (if j == i then v else slice_index xs j)
 set_word xs i j v long lt = grind (arith, nat_tests, get_or-set_same xs i v 0, get_or-set_other xs i j v 0)
 
 written_fits : (a : Access) (memory : ℕ → List ℕ) → WordsFit memory → WordsFit (memory_after (Accesses a) memory)
 written_fits a memory h b = by_test (is_write a.kind && (b == a.word / BLOCK_WORDS))
   where
-    by_test : (t : Bool) → length (if t then slice_set (memory b) (a.word % BLOCK_WORDS) a.after else memory b) ≡ BLOCK_WORDS
+    by_test : (t : Bool) → length (if t then slice_set (memory b) (a.word % BLOCK_WORDS) a.after else memory
+        b) ≡ BLOCK_WORDS
     by_test true = length-set (memory b) (a.word % BLOCK_WORDS) a.after ∙ h b
     by_test false = h b
 
-written_word : (a : Access) (memory : ℕ → List ℕ) → WordsFit memory → (word : ℕ) → word_of (memory_after (Accesses a) memory) word
+written_word : (a : Access) (memory : ℕ → List ℕ) → WordsFit memory → (word : ℕ) →
+    word_of (memory_after (Accesses a) memory) word
     ≡ (if is_write a.kind && (a.word == word) then a.after else word_of memory word)
 written_word a memory h word = by_write (is_write a.kind)
   where
     by_test : (t : Bool) → (word / BLOCK_WORDS == a.word / BLOCK_WORDS) ≡ t →
-        slice_index (if t then slice_set (memory (word / BLOCK_WORDS)) (a.word % BLOCK_WORDS) a.after else memory (word / BLOCK_WORDS)) (word % BLOCK_WORDS)
+        slice_index (if t then slice_set (memory (word / BLOCK_WORDS)) (a.word % BLOCK_WORDS) a.after else memory
+        (word / BLOCK_WORDS)) (word % BLOCK_WORDS)
         ≡ (if a.word == word then a.after else word_of memory word)
     by_test true e =
         let block : word / BLOCK_WORDS ≡ a.word / BLOCK_WORDS = grind (arith, nat_tests) in
         let same : (word % BLOCK_WORDS ≡ a.word % BLOCK_WORDS) → word ≡ a.word =
         λ (r : word % BLOCK_WORDS ≡ a.word % BLOCK_WORDS). same_place word a.word block r in
-        set_word (memory (word / BLOCK_WORDS)) (a.word % BLOCK_WORDS) (word % BLOCK_WORDS) a.after (h (word / BLOCK_WORDS)) (omega arith)
+        set_word (memory (word / BLOCK_WORDS)) (a.word % BLOCK_WORDS) (word % BLOCK_WORDS) a.after
+        (h (word / BLOCK_WORDS)) (omega arith)
         ∙ by_slot (word % BLOCK_WORDS == a.word % BLOCK_WORDS) refl same
       where
-        by_slot : (u : Bool) → (word % BLOCK_WORDS == a.word % BLOCK_WORDS) ≡ u → (word % BLOCK_WORDS ≡ a.word % BLOCK_WORDS → word ≡ a.word) →
+        by_slot : (u : Bool) → (word % BLOCK_WORDS == a.word % BLOCK_WORDS) ≡ u →
+            (word % BLOCK_WORDS ≡ a.word % BLOCK_WORDS → word ≡ a.word) →
             (if u then a.after else word_of memory word) ≡ (if a.word == word then a.after else word_of memory word)
-        by_slot true f same = let at : (a.word == word) ≡ true = let w : word ≡ a.word = same (grind (arith, nat_tests)) in grind (arith, nat_tests) in
+        by_slot true f same = let at : (a.word == word) ≡ true = let w : word ≡ a.word =
+            same (grind (arith, nat_tests)) in grind (arith, nat_tests) in
             rw at refl
         by_slot false f same = let at : (a.word == word) ≡ false = grind (arith, nat_tests) in rw at refl
     by_test false e = let at : (a.word == word) ≡ false = grind (arith, nat_tests) in rw at refl

@@ -1,5 +1,6 @@
 -- At the start the copies that count have what the image has.
-use Rattle.std.proofs.Common.{◌≡◌, ◌∙◌, ap, refl, sym, subst, ℕ, ◌+◌, ◌*◌, ◌<◌, ◌≤◌, ◌%◌, ◌/◌, List, [], ◌∷◌, length, inl, inr, ◌⊎◌, arith, zero-add, zero, suc}
+use Rattle.std.proofs.Common.{◌≡◌, ◌∙◌, ap, refl, sym, subst, ℕ, ◌+◌, ◌*◌, ◌<◌, ◌≤◌, ◌%◌, ◌/◌, List, [], ◌∷◌, length}
+use Rattle.std.proofs.Common.{inl, inr, ◌⊎◌, arith, zero-add, zero, suc}
 use Rattle.std.specs.Prelude.{slice_index}
 use Rattle.std.proofs.lemmas.Bool.{cases_lt}
 use Rattle.std.proofs.lemmas.List.{get_or_past}
@@ -27,11 +28,14 @@ home_memory fresh image b = (entry_at fresh (opening_entries fresh image) b).wor
 
 module _ {R : Type 0} where
   -- a block of the home's is as the image has it
-  home_within : (fresh : R) (image : Contents) (b : ℕ) → b < block_count image.words → home_memory fresh image b ≡ opening_memory image b
+  home_within : (fresh : R) (image : Contents) (b : ℕ) → b < block_count image.words →
+      home_memory fresh image b ≡ opening_memory image b
   home_within fresh image b within =
-      ap (λ (e : Entry R). e.words) (get_or-map-range_with_len (opening_entry fresh image) 0 (block_count image.words) b b (no_entry fresh) within (zero-add b))
+      ap (λ (e : Entry R). e.words) (get_or-map-range_with_len (opening_entry fresh image) 0 (block_count image.words) b
+      b (no_entry fresh) within (zero-add b))
 
-  home_past : (fresh : R) (image : Contents) (b : ℕ) → block_count image.words ≤ b → home_memory fresh image b ≡ 0 ∷ 0 ∷ 0 ∷ 0 ∷ []
+  home_past : (fresh : R) (image : Contents) (b : ℕ) → block_count image.words ≤ b →
+      home_memory fresh image b ≡ 0 ∷ 0 ∷ 0 ∷ 0 ∷ []
   home_past fresh image b past =
       ap (λ (e : Entry R). e.words)
       (get_or_past (opening_entries fresh image) b (no_entry fresh)
@@ -40,12 +44,14 @@ module _ {R : Type 0} where
   pub home_fits : (fresh : R) (image : Contents) → WordsFit (home_memory fresh image)
   home_fits fresh image b = by_place (cases_lt b (block_count image.words))
     where
-      by_place : (b < block_count image.words) ⊎ (block_count image.words ≤ b) → length (home_memory fresh image b) ≡ BLOCK_WORDS
+      by_place : (b < block_count image.words) ⊎ (block_count image.words ≤ b) →
+          length (home_memory fresh image b) ≡ BLOCK_WORDS
       by_place (inr past) = ap (λ (words : List ℕ). length words) (home_past fresh image b past)
       by_place (inl within) = ap (λ (words : List ℕ). length words) (home_within fresh image b within)
 
 -- the word at a slot of a block
-opening_slot : (image : Contents) (b slot word : ℕ) → slot < BLOCK_WORDS → word ≡ b * BLOCK_WORDS + slot → slice_index (opening_memory image b) slot
+opening_slot : (image : Contents) (b slot word : ℕ) → slot < BLOCK_WORDS → word ≡ b * BLOCK_WORDS + slot →
+    slice_index (opening_memory image b) slot
     ≡ opening_word image word
 opening_slot image b zero word lt is = ap (opening_word image) (omega arith)
 opening_slot image b (suc zero) word lt is = ap (opening_word image) (sym is)
@@ -54,13 +60,16 @@ opening_slot image b (suc (suc (suc zero))) word lt is = ap (opening_word image)
 opening_slot image b (suc (suc (suc (suc slot)))) word lt is = absurd (omega arith)
 
 -- a word of the memory opens as the image has it
-pub opening_at : {R : Type 0} (fresh : R) (image : Contents) (word : ℕ) → word < image.words → word_of (home_memory fresh image) word ≡ opening_word image word
+pub opening_at : {R : Type 0} (fresh : R) (image : Contents) (word : ℕ) → word < image.words →
+    word_of (home_memory fresh image) word ≡ opening_word image word
 opening_at fresh image word within =
-    ap (λ (words : List ℕ). slice_index words (word % BLOCK_WORDS)) (home_within fresh image (word / BLOCK_WORDS) (omega arith))
+    ap (λ (words : List ℕ). slice_index words (word % BLOCK_WORDS)) (home_within fresh image (word / BLOCK_WORDS)
+    (omega arith))
     ∙ opening_slot image (word / BLOCK_WORDS) (word % BLOCK_WORDS) word (omega arith) (omega arith)
 
 -- past the image's bytes the memory opens with 0
-opening_past : (image : Contents) (b : ℕ) → length image.bytes ≤ 4 * image.words → block_count image.words ≤ b → opening_memory image b ≡ 0 ∷ 0 ∷ 0 ∷ 0 ∷ []
+opening_past : (image : Contents) (b : ℕ) → length image.bytes ≤ 4 * image.words → block_count image.words ≤ b →
+    opening_memory image b ≡ 0 ∷ 0 ∷ 0 ∷ 0 ∷ []
 opening_past image b fits past =
     rw (
       opening_word-past image (b * BLOCK_WORDS) (omega arith),
@@ -69,23 +78,27 @@ opening_past image b fits past =
       opening_word-past image (b * BLOCK_WORDS + 3) (omega arith),
     ) refl
 
-home_opens : {R : Type 0} (fresh : R) (image : Contents) (b : ℕ) → length image.bytes ≤ 4 * image.words → home_memory fresh image b ≡ opening_memory image b
+home_opens : {R : Type 0} (fresh : R) (image : Contents) (b : ℕ) → length image.bytes ≤ 4 * image.words →
+    home_memory fresh image b ≡ opening_memory image b
 home_opens fresh image b fits = by_place (cases_lt b (block_count image.words))
   where
-    by_place : (b < block_count image.words) ⊎ (block_count image.words ≤ b) → home_memory fresh image b ≡ opening_memory image b
+    by_place : (b < block_count image.words) ⊎ (block_count image.words ≤ b) →
+        home_memory fresh image b ≡ opening_memory image b
     by_place (inr past) = home_past fresh image b past ∙ sym (opening_past image b fits past)
     by_place (inl within) = home_within fresh image b within
 
 module _ {R K : Type 0} where
   -- the memory matters block by block
-  same_memory : (riding : Riding R) (carrying : Carrying K) (m : Memory R K) (old new : ℕ → List ℕ) → ((b : ℕ) → old b ≡ new b) →
+  same_memory : (riding : Riding R) (carrying : Carrying K) (m : Memory R K) (old new : ℕ → List ℕ) →
+      ((b : ℕ) → old b ≡ new b) →
       HaveWords riding carrying m old → HaveWords riding carrying m new
   same_memory riding carrying m old new same h = record { blocks = λ b. at b (h.blocks b) }
     where
       sights : (b d : ℕ) → Sight R
       sights b d = port_sight riding b (port_at carrying m.ports d)
 
-      at : (b : ℕ) → Shows (HasWords old b) b (entry_at riding.fresh m.home b) (sights b) → Shows (HasWords new b) b (entry_at riding.fresh m.home b) (sights b)
+      at : (b : ℕ) → Shows (HasWords old b) b (entry_at riding.fresh m.home b) (sights b) →
+          Shows (HasWords new b) b (entry_at riding.fresh m.home b) (sights b)
       at b s =
           record {
             block = s.block;
@@ -101,8 +114,10 @@ module _ {R K : Type 0} where
   home_coherent riding carrying image cores limit = words_start riding carrying image cores
 
   -- where the image's bytes lie within the memory, it is as the image has it
-  pub start_coherent : (riding : Riding R) (carrying : Carrying K) (image : Contents) (cores limit : ℕ) → length image.bytes ≤ 4 * image.words →
+  pub start_coherent : (riding : Riding R) (carrying : Carrying K) (image : Contents) (cores limit : ℕ) →
+      length image.bytes ≤ 4 * image.words →
       Coherent riding carrying (state_start riding carrying image cores limit) (opening_memory image)
   start_coherent riding carrying image cores limit fits =
-      same_memory riding carrying (memory_start riding carrying image cores) (home_memory riding.fresh image) (opening_memory image)
+      same_memory riding carrying (memory_start riding carrying image cores) (home_memory riding.fresh image)
+      (opening_memory image)
       (λ b. home_opens riding.fresh image b fits) (words_start riding carrying image cores)

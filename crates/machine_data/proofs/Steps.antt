@@ -15,9 +15,11 @@ use Rattle.msi_memory.specs.Memories.{Memory, port_at}
 use Rattle.memory_laws.specs.Holds.{MemoryHolds}
 use Rattle.memory_laws.specs.Words.{HaveWords, memory_after_act}
 use Rattle.msi_state.specs.declared.moves.Move.{Move}
-use Rattle.msi_state.specs.declared.moves.Move.TheVariants.{Core as CoreMove, Request as RequestMove, Response as ResponseMove, FromHome as MessageMove}
+use Rattle.msi_state.specs.declared.moves.Move.TheVariants.{Core as CoreMove, Request as RequestMove}
+use Rattle.msi_state.specs.declared.moves.Move.TheVariants.{Response as ResponseMove, FromHome as MessageMove}
 use Rattle.msi_state.specs.Moves.{core_of}
-use Rattle.msi_state.specs.Events.{Event, Nothing, Retires, Accesses, access_of, event_working, event_working_in, port_taken}
+use Rattle.msi_state.specs.Events.{Event, Nothing, Retires, Accesses, access_of, event_working, event_working_in}
+use Rattle.msi_state.specs.Events.{port_taken}
 use Rattle.msi_state.specs.States.{State, core_at}
 use Rattle.msi_state.specs.Steps.{acts, acts_of, acts_working, enabled, event, step}
 use Rattle.machine_invariant.specs.Holds.{MachineHolds}
@@ -32,7 +34,8 @@ use Rattle.machine_data.specs.Coherent.{Coherent, Finds, memory_after}
 -- ---- what acts leave of the memory
 
 module _ {R : Type 0} where
-  event_memory : (c : ℕ) (rider : R) (e : Event) (memory : ℕ → List ℕ) → folded memory_after_act (acts_of c rider e) memory ≡ memory_after e memory
+  event_memory : (c : ℕ) (rider : R) (e : Event) (memory : ℕ → List ℕ) →
+      folded memory_after_act (acts_of c rider e) memory ≡ memory_after e memory
   event_memory c rider Nothing memory = refl
   event_memory c rider (Retires at) memory = refl
   event_memory c rider (Accesses a) memory = refl
@@ -46,49 +49,61 @@ module _ {R : Type 0} where
   working_memory c rider used (Accesses a) memory = refl
 
 module _ {R K : Type 0} where
-  acts_memory : (riding : Riding R) (carrying : Carrying K) (rider : R) (s : State R K) (m : Move) (memory : ℕ → List ℕ) →
+  acts_memory : (riding : Riding R) (carrying : Carrying K) (rider : R) (s : State R K) (m : Move) (memory : ℕ →
+      List ℕ) →
       folded memory_after_act (acts riding carrying rider s m) memory ≡ memory_after (event riding carrying s m) memory
   acts_memory riding carrying rider s (CoreMove c) memory =
-      working_memory c rider (need_access (need s.image (core_at s.cores c))) (event riding carrying s (CoreMove c)) memory
+      working_memory c rider (need_access (need s.image (core_at s.cores c))) (event riding carrying s (CoreMove c))
+      memory
   acts_memory riding carrying rider s (RequestMove c) memory = refl
   acts_memory riding carrying rider s (ResponseMove c) memory = refl
-  acts_memory riding carrying rider s (MessageMove c) memory = event_memory c rider (event riding carrying s (MessageMove c)) memory
+  acts_memory riding carrying rider s (MessageMove c) memory =
+      event_memory c rider (event riding carrying s (MessageMove c)) memory
 
-  words_after : (riding : Riding R) (carrying : Carrying K) (m : Memory R K) (todo : List (Act R)) (memory : ℕ → List ℕ) →
+  words_after : (riding : Riding R) (carrying : Carrying K) (m : Memory R K) (todo : List (Act R)) (memory : ℕ →
+      List ℕ) →
       IsTrue (can_all riding carrying m todo) → MemoryHolds riding carrying m → HaveWords riding carrying m memory →
       HaveWords riding carrying (after_acts riding carrying m todo) (folded memory_after_act todo memory)
   words_after riding carrying m todo memory e h k =
-      acts_carry riding carrying memory_after_act (λ (left : ℕ → List ℕ) (x : Memory R K). HaveWords riding carrying x left)
+      acts_carry riding carrying memory_after_act (λ (left : ℕ → List ℕ) (x : Memory R K). HaveWords riding carrying x
+      left)
       (λ left x act can_it holds words. words_kept riding carrying x act left holds can_it words) memory m todo e h k
 
 -- ---- what an access finds
 
 module _ {R K : Type 0} where
-  working_finds : (riding : Riding R) (carrying : Carrying K) (m : Memory R K) (c : ℕ) (image : Contents) (core : Core) (used : Option (Kind × ℕ))
-      (done : Bool) (memory : ℕ → List ℕ) → MemoryHolds riding carrying m → c < length m.ports → HaveWords riding carrying m memory →
+  working_finds : (riding : Riding R) (carrying : Carrying K) (m : Memory R K) (c : ℕ) (image : Contents) (core : Core)
+      (used : Option (Kind × ℕ))
+      (done : Bool) (memory : ℕ → List ℕ) → MemoryHolds riding carrying m → c < length m.ports →
+      HaveWords riding carrying m memory →
       Finds (event_working_in used done image riding core (port_at carrying m.ports c)) memory
   working_finds riding carrying m c image core None true memory h lc k = tt
   working_finds riding carrying m c image core None false memory h lc k = tt
-  working_finds riding carrying m c image core (Some (kind, word)) done memory h lc k = by (allows riding p (word / BLOCK_WORDS) kind) refl
+  working_finds riding carrying m c image core (Some (kind, word)) done memory h lc k =
+      by (allows riding p (word / BLOCK_WORDS) kind) refl
     where
       p : Port R K
       p = port_at carrying m.ports c
 
       by : (t : Bool) → allows riding p (word / BLOCK_WORDS) kind ≡ t →
           Finds (if t then Accesses (access_of image riding core p word kind) else Nothing) memory
-      by true is = ap (λ (words : List ℕ). slice_index words (word % BLOCK_WORDS)) (finds_words riding carrying m c (word / BLOCK_WORDS) kind memory h lc is k)
+      by true is = ap (λ (words : List ℕ). slice_index words (word % BLOCK_WORDS)) (finds_words riding carrying m c
+          (word / BLOCK_WORDS) kind memory h lc is k)
       by false is = tt
 
   -- the core that moves has a port
-  port_of : (riding : Riding R) (carrying : Carrying K) (s : State R K) (m : Move) → IsTrue (enabled riding carrying s m) → MachineHolds riding carrying s →
+  port_of : (riding : Riding R) (carrying : Carrying K) (s : State R K) (m : Move) →
+      IsTrue (enabled riding carrying s m) → MachineHolds riding carrying s →
       core_of m < length s.memory.ports
   port_of riding carrying s m e h = core_port riding carrying s (core_of m) h (enabled_core riding carrying s m e h)
 
-  step_finds : (riding : Riding R) (carrying : Carrying K) (s : State R K) (m : Move) (memory : ℕ → List ℕ) → IsTrue (enabled riding carrying s m) →
+  step_finds : (riding : Riding R) (carrying : Carrying K) (s : State R K) (m : Move) (memory : ℕ → List ℕ) →
+      IsTrue (enabled riding carrying s m) →
       MachineHolds riding carrying s → Coherent riding carrying s memory → Finds (event riding carrying s m) memory
   step_finds riding carrying s (CoreMove c) memory e h k =
       let core : Core = core_at s.cores c in
-      working_finds riding carrying s.memory c s.image core (need_access (need s.image core)) (is_done (need s.image core)) memory h.memory
+      working_finds riding carrying s.memory c s.image core (need_access (need s.image core))
+      (is_done (need s.image core)) memory h.memory
       (port_of riding carrying s (CoreMove c) e h) k
   step_finds riding carrying s (RequestMove c) memory e h k = tt
   step_finds riding carrying s (ResponseMove c) memory e h k = tt
@@ -110,29 +125,35 @@ module _ {R K : Type 0} where
       here = taken_there riding carrying s.memory c lc
 
       found : Finds (event_working s.image riding core (port_at carrying next.ports c)) memory
-      found = working_finds riding carrying next c s.image core (need_access (need s.image core)) (is_done (need s.image core)) memory
+      found = working_finds riding carrying next c s.image core (need_access (need s.image core))
+          (is_done (need s.image core)) memory
           (memory_kept riding carrying s.memory (TakeMessage c) e h.memory) (rw length-set lc)
           (words_kept riding carrying s.memory (TakeMessage c) memory h.memory e k)
 
-      by : (t : Bool) → Finds (if t then event_working s.image riding core (port_taken riding carrying p) else Nothing) memory
+      by : (t : Bool) → Finds (if t then event_working s.image riding core (port_taken riding carrying p) else Nothing)
+          memory
       by true = subst (λ (x : Port R K). Finds (event_working s.image riding core x) memory) here found
       by false = tt
 
 -- ---- the law
 
 -- the state after the move is coherent with the memory after its event, which found the memory's word
-pub record Works {R K : Type 0} (riding : Riding R) (carrying : Carrying K) (s : State R K) (e : Event) (memory : ℕ → List ℕ) : Type 0 where
+pub record Works {R K : Type 0} (riding : Riding R) (carrying : Carrying K) (s : State R K) (e : Event) (memory : ℕ →
+    List ℕ) : Type 0 where
   pub coherent : Coherent riding carrying s (memory_after e memory)
   pub finds : Finds e memory
 
 module _ {R K : Type 0} where
-  pub step_works : (riding : Riding R) (carrying : Carrying K) (s : State R K) (m : Move) (rider : R) (memory : ℕ → List ℕ) →
+  pub step_works : (riding : Riding R) (carrying : Carrying K) (s : State R K) (m : Move) (rider : R) (memory : ℕ →
+      List ℕ) →
       IsTrue (enabled riding carrying s m) → MachineHolds riding carrying s → Coherent riding carrying s memory →
       Works riding carrying (step riding carrying rider s m) (event riding carrying s m) memory
   step_works riding carrying s m rider memory e h k =
       record {
-        coherent = subst (λ (left : ℕ → List ℕ). HaveWords riding carrying (after_acts riding carrying s.memory (acts riding carrying rider s m)) left)
+        coherent = subst (λ (left : ℕ → List ℕ). HaveWords riding carrying (after_acts riding carrying s.memory
+            (acts riding carrying rider s m)) left)
             (acts_memory riding carrying rider s m memory)
-            (words_after riding carrying s.memory (acts riding carrying rider s m) memory (acts_can riding carrying s m rider e h) h.memory k);
+            (words_after riding carrying s.memory (acts riding carrying rider s m) memory
+            (acts_can riding carrying s m rider e h) h.memory k);
         finds = step_finds riding carrying s m memory e h k;
       }

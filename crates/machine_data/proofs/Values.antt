@@ -1,5 +1,6 @@
 -- Accesses made one after the other: each finds the last value of its word, which the memory then has.
-use Rattle.std.proofs.Common.{◌≡◌, ◌∙◌, ap, refl, sym, subst, ℕ, ◌<◌, ◌==◌, ◌&&◌, Bool, true, false, List, [], ◌∷◌, ◌++◌, inl, inr, ◌⊎◌, arith, eqb-true}
+use Rattle.std.proofs.Common.{◌≡◌, ◌∙◌, ap, refl, sym, subst, ℕ, ◌<◌, ◌==◌, ◌&&◌, Bool, true, false, List, [], ◌∷◌}
+use Rattle.std.proofs.Common.{◌++◌, inl, inr, ◌⊎◌, arith, eqb-true}
 use Rattle.std.specs.Prelude.{All, if◌then◌else◌}
 use Rattle.std.proofs.lemmas.List.Elements.{All-push, All-nil}
 use Rattle.std.proofs.lemmas.List.{append-nil}
@@ -31,15 +32,25 @@ first_same x y xs ys is = grind arith
 rest_same : {X : Type 0} (x y : X) (xs ys : List X) → x ∷ xs ≡ y ∷ ys → xs ≡ ys
 rest_same x y xs ys is = grind arith
 
-split-snoc : {X : Type 0} (list earlier later : List X) (a x : X) → list ++ a ∷ [] ≡ earlier ++ x ∷ later → ((earlier ≡ list) × (x ≡ a))
+split-snoc : {X : Type 0} (list earlier later : List X) (a x : X) → list ++ a ∷ [] ≡ earlier ++ x ∷ later →
+    ((earlier ≡ list) × (x ≡ a))
     ⊎ ((rest : List X) × (list ≡ earlier ++ x ∷ rest))
 split-snoc [] [] later a x is = inl (refl, sym (first_same a x [] later is))
-split-snoc [] (y ∷ earlier) later a x is = absurd (none_there earlier later x (rest_same a y [] (earlier ++ x ∷ later) is))
+split-snoc [] (y ∷ earlier) later a x is =
+    absurd (none_there earlier later x (rest_same a y [] (earlier ++ x ∷ later) is))
 split-snoc (z ∷ list) [] later a x is = inr (list, ap (λ w. w ∷ list) (first_same z x (list ++ a ∷ []) later is))
 split-snoc (z ∷ list) (y ∷ earlier) later a x is =
     elim (split-snoc list earlier later a x (rest_same z y (list ++ a ∷ []) (earlier ++ x ∷ later) is)) [
-      | inl p ↦ inl (ap (λ xs. y ∷ xs) p.0 ∙ sym (ap (λ w. w ∷ list) (first_same z y (list ++ a ∷ []) (earlier ++ x ∷ later) is)), p.1)
-      | inr p ↦ inr (p.0, ap (λ w. w ∷ list) (first_same z y (list ++ a ∷ []) (earlier ++ x ∷ later) is) ∙ ap (λ xs. y ∷ xs) p.1)
+      | inl p ↦ inl (
+        ap (λ xs. y ∷ xs) p.0 ∙ sym (ap (λ w. w ∷ list) (first_same z y (list ++ a ∷ [])
+            (earlier ++ x ∷ later) is)),
+        p.1,
+      )
+      | inr p ↦ inr (
+        p.0,
+        ap (λ w. w ∷ list) (first_same z y (list ++ a ∷ []) (earlier ++ x ∷ later) is)
+            ∙ ap (λ xs. y ∷ xs) p.1,
+      )
     ]
 
 -- ---- one event more
@@ -65,30 +76,39 @@ found_none fresh image =
       within = All-nil (λ a. a.word < image.words);
     }
 
-found_access : (image : Contents) (memory : ℕ → List ℕ) (list : List Access) (a : Access) → Found image memory list → a.before ≡ word_of memory a.word →
-    a.word < image.words → (is_write a.kind ≡ false → a.after ≡ a.before) → Found image (memory_after (Accesses a) memory) (list ++ a ∷ [])
+found_access : (image : Contents) (memory : ℕ → List ℕ) (list : List Access) (a : Access) → Found image memory list →
+    a.before ≡ word_of memory a.word →
+    a.word < image.words → (is_write a.kind ≡ false → a.after ≡ a.before) →
+    Found image (memory_after (Accesses a) memory) (list ++ a ∷ [])
 found_access image memory list a h finds within reads =
     record {
       fits = (last_write_found (Accesses a) memory h.fits).0;
       values = λ word lt. (last_write_found (Accesses a) memory h.fits).1 word
-          ∙ (left word lt (is_write a.kind) (a.word == word) refl refl ∙ sym (last_value-snoc (opening_word image word) word list a));
+          ∙ (left word lt (is_write a.kind) (a.word == word) refl refl
+          ∙ sym (last_value-snoc (opening_word image word) word list a));
       found = λ earlier later x is. elim (split-snoc list earlier later a x is) [
         | inl p ↦ subst (λ (e : List Access). x.before ≡ last_value (opening_word image x.word) x.word e) (sym p.0)
-            (subst (λ (y : Access). y.before ≡ last_value (opening_word image y.word) y.word list) (sym p.1) (finds ∙ h.values a.word within))
+            (subst (λ (y : Access). y.before ≡ last_value (opening_word image y.word) y.word list) (sym p.1) (finds
+            ∙ h.values a.word within))
         | inr p ↦ h.found earlier p.0 x p.1
       ];
       within = All-push (λ (x : Access). x.word < image.words) list a h.within within;
     }
   where
     left : (word : ℕ) → word < image.words → (writes here : Bool) → is_write a.kind ≡ writes → (a.word == word) ≡ here →
-        (if writes && here then a.after else word_of memory word) ≡ (if here then a.after else last_value (opening_word image word) word list)
+        (if writes && here then a.after else word_of memory word) ≡ (if here then a.after else last_value
+        (opening_word image word) word list)
     left word lt true true w e = refl
     left word lt true false w e = h.values word lt
-    left word lt false true w e = ap (λ (x : ℕ). word_of memory x) (sym (eqb-true a.word word e)) ∙ (sym finds ∙ sym (reads w))
+    left word lt false true w e = ap (λ (x : ℕ). word_of memory x) (sym (eqb-true a.word word e))
+        ∙ (sym finds ∙ sym (reads w))
     left word lt false false w e = h.values word lt
 
-pub found_more : (image : Contents) (memory : ℕ → List ℕ) (list : List Access) (e : Event) → Found image memory list → Finds e memory → Honest image.words e →
+pub found_more : (image : Contents) (memory : ℕ → List ℕ) (list : List Access) (e : Event) → Found image memory list →
+    Finds e memory → Honest image.words e →
     Found image (memory_after e memory) (list ++ accesses_in e)
-found_more image memory list Nothing h finds honest = subst (λ (l : List Access). Found image memory l) (sym (append-nil list)) h
-found_more image memory list (Retires at) h finds honest = subst (λ (l : List Access). Found image memory l) (sym (append-nil list)) h
+found_more image memory list Nothing h finds honest = subst (λ (l : List Access). Found image memory l)
+    (sym (append-nil list)) h
+found_more image memory list (Retires at) h finds honest = subst (λ (l : List Access). Found image memory l)
+    (sym (append-nil list)) h
 found_more image memory list (Accesses a) h finds honest = found_access image memory list a h finds honest.0 honest.1

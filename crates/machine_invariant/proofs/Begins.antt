@@ -1,5 +1,6 @@
 -- The start keeps what each state of a run keeps, and so each state of a run does.
-use Rattle.std.proofs.Common.{◌≡◌, ◌∙◌, refl, sym, subst, ℕ, ◌*◌, ◌<◌, ◌≤◌, ◌%◌, ◌^◌, Bool, true, false, List, [], ◌∷◌, length, get_or}
+use Rattle.std.proofs.Common.{◌≡◌, ◌∙◌, refl, sym, subst, ℕ, ◌*◌, ◌<◌, ◌≤◌, ◌%◌, ◌^◌, Bool, true, false, List, [], ◌∷◌}
+use Rattle.std.proofs.Common.{length, get_or}
 use Rattle.std.proofs.Common.{Option, Some, None, zero, suc, arith, zero-add}
 use Rattle.std.specs.Prelude.{if◌then◌else◌}
 use Rattle.std.proofs.lemmas.List.{length-replicate, get_or-replicate}
@@ -38,7 +39,8 @@ module _ {R K : Type 0} where
 
   pub port_start_at : (riding : Riding R) (carrying : Carrying K) (image : Contents) (cores limit c : ℕ) → c < cores →
       port_at carrying (state_start riding carrying image cores limit).memory.ports c ≡ port_start riding carrying
-  port_start_at riding carrying image cores limit c within = get_or-replicate cores c (port_start riding carrying) (no_port carrying) within
+  port_start_at riding carrying image cores limit c within = get_or-replicate cores c (port_start riding carrying)
+      (no_port carrying) within
 
   start_well : (image : Contents) (riding : Riding R) (carrying : Carrying K) (limit c : ℕ) → limit < 2 ^ 32 →
       CoreHolds image riding c (starting c limit) (port_start riding carrying)
@@ -50,7 +52,8 @@ module _ {R K : Type 0} where
         awaited = still_awaits riding (port_start riding carrying) (need_access (need image (starting c limit))) refl;
       }
 
-  pub holds_start : (riding : Riding R) (carrying : Carrying K) (image : Contents) (cores limit : ℕ) → cores ≤ CORES_MAX → limit < 2 ^ 32 →
+  pub holds_start : (riding : Riding R) (carrying : Carrying K) (image : Contents) (cores limit : ℕ) →
+      cores ≤ CORES_MAX → limit < 2 ^ 32 →
       MachineHolds riding carrying (state_start riding carrying image cores limit)
   holds_start riding carrying image cores limit few small =
       record {
@@ -66,53 +69,64 @@ module _ {R K : Type 0} where
       long : length start.cores ≡ cores
       long = length-map-range_with_len (λ (id : ℕ). starting id limit) 0 cores
 
-      core_well : (c : ℕ) → c < cores → CoreHolds image riding c (core_at start.cores c) (port_at carrying start.memory.ports c)
+      core_well : (c : ℕ) → c < cores → CoreHolds image riding c (core_at start.cores c)
+          (port_at carrying start.memory.ports c)
       core_well c within =
           subst (λ (core : Core). CoreHolds image riding c core (port_at carrying start.memory.ports c))
           (sym (core_start_at riding carrying image cores limit c within))
-          (subst (λ (p : Port R K). CoreHolds image riding c (starting c limit) p) (sym (port_start_at riding carrying image cores limit c within))
+          (subst (λ (p : Port R K). CoreHolds image riding c (starting c limit) p)
+          (sym (port_start_at riding carrying image cores limit c within))
           (start_well image riding carrying limit c small))
 
   -- a move that isn't enabled changes nothing
-  holds_taking : (riding : Riding R) (carrying : Carrying K) (s : State R K) (taken : MoveTaken R) → MachineHolds riding carrying s →
+  holds_taking : (riding : Riding R) (carrying : Carrying K) (s : State R K) (taken : MoveTaken R) →
+      MachineHolds riding carrying s →
       MachineHolds riding carrying (taking riding carrying s taken)
-  holds_taking riding carrying s taken h = by_test (enabled riding carrying s taken.move) (λ is. holds_kept riding carrying s taken.move taken.rider is h)
+  holds_taking riding carrying s taken h =
+      by_test (enabled riding carrying s taken.move) (λ is. holds_kept riding carrying s taken.move taken.rider is h)
     where
       by_test : (t : Bool) → (t ≡ true → MachineHolds riding carrying (step riding carrying taken.rider s taken.move)) →
           MachineHolds riding carrying (if t then step riding carrying taken.rider s taken.move else s)
       by_test true f = f refl
       by_test false f = h
 
-  pub holds_walked : (riding : Riding R) (carrying : Carrying K) (s : State R K) (taken : List (MoveTaken R)) → MachineHolds riding carrying s →
+  pub holds_walked : (riding : Riding R) (carrying : Carrying K) (s : State R K) (taken : List (MoveTaken R)) →
+      MachineHolds riding carrying s →
       MachineHolds riding carrying (walked riding carrying s taken)
   holds_walked riding carrying s [] h = h
   holds_walked riding carrying s (taken ∷ later) h =
       holds_walked riding carrying (taking riding carrying s taken) later (holds_taking riding carrying s taken h)
 
 -- what a choice takes is one of the moves
-pub chosen_at : (ms : List Move) (P : Move → Type 0) (choice : ℕ) (m : Move) → ((i : ℕ) (d : Move) → i < length ms → P (get_or ms i d)) →
+pub chosen_at : (ms : List Move) (P : Move → Type 0) (choice : ℕ) (m : Move) → ((i : ℕ) (d : Move) → i < length ms →
+    P (get_or ms i d)) →
     chosen_of ms choice ≡ Some m → P m
 chosen_at [] P choice m each is = absurd (cc)
 chosen_at (first ∷ later) P choice m each is =
-    subst P (some_same _ m is) (each (choice % length (first ∷ later)) first (mod_below choice (length (first ∷ later)) (omega arith)))
+    subst P (some_same _ m is) (each (choice % length (first ∷ later)) first (mod_below choice (length (first ∷ later))
+    (omega arith)))
   where
     some_same : (a b : Move) → Some a ≡ Some b → a ≡ b
     some_same a b e = grind arith
 
 -- what a choice takes is enabled
-pub chosen_enabled : (s : PlainState) (choice : ℕ) (m : Move) → chosen s choice ≡ Some m → enabled none_riding none_carrying s m ≡ true
+pub chosen_enabled : (s : PlainState) (choice : ℕ) (m : Move) → chosen s choice ≡ Some m →
+    enabled none_riding none_carrying s m ≡ true
 chosen_enabled s choice m is =
     chosen_at (plain_moves s) (λ (x : Move). enabled none_riding none_carrying s x ≡ true) choice m
     (filter_passes (enabled none_riding none_carrying s) (candidates (length s.cores) (4 * length s.cores))) is
 
-holds_stepped : (s : PlainState) (taken : Option Move) → ((m : Move) → taken ≡ Some m → enabled none_riding none_carrying s m ≡ true) →
+holds_stepped : (s : PlainState) (taken : Option Move) →
+    ((m : Move) → taken ≡ Some m → enabled none_riding none_carrying s m ≡ true) →
     MachineHolds none_riding none_carrying s → MachineHolds none_riding none_carrying (stepped_by s taken)
 holds_stepped s None enabled_by h = h
 holds_stepped s (Some m) enabled_by h = holds_kept none_riding none_carrying s m tt (enabled_by m refl) h
 
-pub holds_run : (image : Contents) (params : Params) (choices : ℕ → ℕ) (t : ℕ) → params.cores ≤ CORES_MAX → params.limit < 2 ^ 32 →
+pub holds_run : (image : Contents) (params : Params) (choices : ℕ → ℕ) (t : ℕ) → params.cores ≤ CORES_MAX →
+    params.limit < 2 ^ 32 →
     MachineHolds none_riding none_carrying (run image params choices t)
-holds_run image params choices zero few small = holds_start none_riding none_carrying image params.cores params.limit few small
+holds_run image params choices zero few small = holds_start none_riding none_carrying image params.cores params.limit
+    few small
 holds_run image params choices (suc t) few small =
     holds_stepped (run image params choices t) (chosen (run image params choices t) (choices t))
     (λ m is. chosen_enabled (run image params choices t) (choices t) m is) (holds_run image params choices t few small)

@@ -1,5 +1,6 @@
 -- What a step leaves: its cores, its ports, and how many of them there are.
-use Rattle.std.proofs.Common.{◌≡◌, ◌∙◌, refl, sym, ap, ℕ, ◌<◌, ◌==◌, ◌/◌, ◌%◌, false, List, length, Option, Some, None, arith}
+use Rattle.std.proofs.Common.{◌≡◌, ◌∙◌, refl, sym, ap, ℕ, ◌<◌, ◌==◌, ◌/◌, ◌%◌, false, List, length, Option, Some, None}
+use Rattle.std.proofs.Common.{arith}
 use Rattle.std.proofs.lemmas.List.{length-set, get_or-set_same, get_or-set_other}
 use Rattle.std.proofs.lemmas.Bool.Decides.{nat_tests}
 use Rattle.access_times.specs.Riding.{Riding, Carrying}
@@ -11,7 +12,8 @@ use Rattle.rv_core.specs.declared.core_state.Core.{Core}
 use Rattle.rv_core.specs.States.{starting}
 use Rattle.rv_core.specs.Steps.{need, after, access_of as need_access}
 use Rattle.msi_memory.specs.declared.port.Port.{Port}
-use Rattle.msi_memory.specs.Acts.{after_acts, with_port, take_request, take_response, port_asking, port_retiring, port_touched}
+use Rattle.msi_memory.specs.Acts.{after_acts, with_port, take_request, take_response, port_asking, port_retiring}
+use Rattle.msi_memory.specs.Acts.{port_touched}
 use Rattle.msi_memory.specs.Memories.{Memory, port_at}
 use Rattle.msi_state.specs.declared.moves.Move.{Move}
 use Rattle.msi_state.specs.declared.moves.Move.TheVariants.{Core as CoreMove, Request as RequestMove}
@@ -32,7 +34,8 @@ core_after image (Retires at) core = after image core 0
 core_after image (Accesses a) core = after image core a.before
 
 -- an event makes no core and takes none away
-pub length-cores_after : (image : Contents) (c : ℕ) (e : Event) (cores : List Core) → length (cores_after image c e cores) ≡ length cores
+pub length-cores_after : (image : Contents) (c : ℕ) (e : Event) (cores : List Core) →
+    length (cores_after image c e cores) ≡ length cores
 length-cores_after image c Nothing cores = refl
 length-cores_after image c (Retires at) cores = length-set cores c _
 length-cores_after image c (Accesses a) cores = length-set cores c _
@@ -41,17 +44,21 @@ length-cores_after image c (Accesses a) cores = length-set cores c _
 pub core_there : (image : Contents) (c : ℕ) (e : Event) (cores : List Core) → c < length cores →
     core_at (cores_after image c e cores) c ≡ core_after image e (core_at cores c)
 core_there image c Nothing cores within = refl
-core_there image c (Retires at) cores within = get_or-set_same cores c (after image (core_at cores c) 0) (starting 0 0) within
-core_there image c (Accesses a) cores within = get_or-set_same cores c (after image (core_at cores c) a.before) (starting 0 0) within
+core_there image c (Retires at) cores within = get_or-set_same cores c (after image (core_at cores c) 0) (starting 0 0)
+    within
+core_there image c (Accesses a) cores within = get_or-set_same cores c (after image (core_at cores c) a.before)
+    (starting 0 0) within
 
 -- every other one stays
 pub core_elsewhere : (image : Contents) (c : ℕ) (e : Event) (cores : List Core) (d : ℕ) → (d == c) ≡ false →
     core_at (cores_after image c e cores) d ≡ core_at cores d
 core_elsewhere image c Nothing cores d other = refl
 core_elsewhere image c (Retires at) cores d other =
-    get_or-set_other cores c d (after image (core_at cores c) 0) (starting 0 0) (λ (same : d ≡ c). absurd (grind (arith, nat_tests)))
+    get_or-set_other cores c d (after image (core_at cores c) 0) (starting 0 0) (λ (same : d ≡ c).
+    absurd (grind (arith, nat_tests)))
 core_elsewhere image c (Accesses a) cores d other =
-    get_or-set_other cores c d (after image (core_at cores c) a.before) (starting 0 0) (λ (same : d ≡ c). absurd (grind (arith, nat_tests)))
+    get_or-set_other cores c d (after image (core_at cores c) a.before) (starting 0 0) (λ (same : d ≡ c).
+    absurd (grind (arith, nat_tests)))
 
 -- ---- the ports
 
@@ -61,7 +68,8 @@ module _ {R K : Type 0} where
   port_told riding carrying rider Nothing p = p
   port_told riding carrying rider (Retires at) p = port_retiring carrying p at
   port_told riding carrying rider (Accesses a) p =
-      port_touched riding (port_retiring carrying p a.at) (a.word / BLOCK_WORDS) (a.word % BLOCK_WORDS) a.kind a.after rider
+      port_touched riding (port_retiring carrying p a.at) (a.word / BLOCK_WORDS) (a.word % BLOCK_WORDS) a.kind a.after
+      rider
 
   -- the port after its core asked for what this access needs
   abbrev pub port_wanting : Riding R → Option (Kind × ℕ) → Port R K → Port R K
@@ -74,37 +82,46 @@ module _ {R K : Type 0} where
   port_worked riding carrying rider needed e p = port_told riding carrying rider e p
 
   -- what an event of core c does changes its port alone
-  pub told_memory : (riding : Riding R) (carrying : Carrying K) (rider : R) (m : Memory R K) (c : ℕ) (e : Event) → c < length m.ports →
-      after_acts riding carrying m (acts_of c rider e) ≡ with_port m c (port_told riding carrying rider e (port_at carrying m.ports c))
+  pub told_memory : (riding : Riding R) (carrying : Carrying K) (rider : R) (m : Memory R K) (c : ℕ) (e : Event) →
+      c < length m.ports →
+      after_acts riding carrying m (acts_of c rider e) ≡ with_port m c (port_told riding carrying rider e
+      (port_at carrying m.ports c))
   told_memory riding carrying rider m c Nothing within = sym (port_same carrying m c)
   told_memory riding carrying rider m c (Retires at) within = refl
   told_memory riding carrying rider m c (Accesses a) within =
       let retired : Port R K = port_retiring carrying (port_at carrying m.ports c) a.at in
-      let touched : Port R K → Port R K = λ p. port_touched riding p (a.word / BLOCK_WORDS) (a.word % BLOCK_WORDS) a.kind a.after rider in
+      let touched : Port R K → Port R K = λ p. port_touched riding p (a.word / BLOCK_WORDS) (a.word % BLOCK_WORDS)
+      a.kind a.after rider in
       ap (λ (p : Port R K). with_port (with_port m c retired) c (touched p)) (port_there carrying m c retired within)
       ∙ port_again m c retired (touched retired)
 
   -- and so does its own move
-  pub worked_memory : (riding : Riding R) (carrying : Carrying K) (rider : R) (m : Memory R K) (c : ℕ) (needed : Option (Kind × ℕ)) (e : Event) →
+  pub worked_memory : (riding : Riding R) (carrying : Carrying K) (rider : R) (m : Memory R K) (c : ℕ)
+      (needed : Option (Kind × ℕ)) (e : Event) →
       c < length m.ports → after_acts riding carrying m (acts_working c rider needed e)
       ≡ with_port m c (port_worked riding carrying rider needed e (port_at carrying m.ports c))
   worked_memory riding carrying rider m c None Nothing within = sym (port_same carrying m c)
   worked_memory riding carrying rider m c (Some (kind, word)) Nothing within = refl
   worked_memory riding carrying rider m c needed (Retires at) within = refl
-  worked_memory riding carrying rider m c needed (Accesses a) within = told_memory riding carrying rider m c (Accesses a) within
+  worked_memory riding carrying rider m c needed (Accesses a) within =
+      told_memory riding carrying rider m c (Accesses a) within
 
   -- ---- each move
 
   -- after a core's own move its port alone is another
-  pub core_memory : (riding : Riding R) (carrying : Carrying K) (rider : R) (s : State R K) (c : ℕ) → c < length s.memory.ports →
+  pub core_memory : (riding : Riding R) (carrying : Carrying K) (rider : R) (s : State R K) (c : ℕ) →
+      c < length s.memory.ports →
       (step riding carrying rider s (CoreMove c)).memory
-      ≡ with_port s.memory c (port_worked riding carrying rider (need_access (need s.image (core_at s.cores c))) (event riding carrying s (CoreMove c))
+      ≡ with_port s.memory c (port_worked riding carrying rider (need_access (need s.image (core_at s.cores c)))
+      (event riding carrying s (CoreMove c))
       (port_at carrying s.memory.ports c))
   core_memory riding carrying rider s c within =
-      worked_memory riding carrying rider s.memory c (need_access (need s.image (core_at s.cores c))) (event riding carrying s (CoreMove c)) within
+      worked_memory riding carrying rider s.memory c (need_access (need s.image (core_at s.cores c)))
+      (event riding carrying s (CoreMove c)) within
 
   -- and so it is after a message, which it takes first
-  pub message_memory : (riding : Riding R) (carrying : Carrying K) (rider : R) (s : State R K) (c : ℕ) → c < length s.memory.ports →
+  pub message_memory : (riding : Riding R) (carrying : Carrying K) (rider : R) (s : State R K) (c : ℕ) →
+      c < length s.memory.ports →
       (step riding carrying rider s (MessageMove c)).memory
       ≡ with_port s.memory c (port_told riding carrying rider (event riding carrying s (MessageMove c))
       (port_taken riding carrying (port_at carrying s.memory.ports c)))
@@ -112,8 +129,10 @@ module _ {R K : Type 0} where
       let taken : Port R K = port_taken riding carrying (port_at carrying s.memory.ports c) in
       let e : Event = event riding carrying s (MessageMove c) in
       told_memory riding carrying rider (with_port s.memory c taken) c e (longer taken)
-      ∙ (port_again s.memory c taken (port_told riding carrying rider e (port_at carrying (with_port s.memory c taken).ports c))
-      ∙ ap (λ (p : Port R K). with_port s.memory c (port_told riding carrying rider e p)) (port_there carrying s.memory c taken within))
+      ∙ (port_again s.memory c taken (port_told riding carrying rider e
+      (port_at carrying (with_port s.memory c taken).ports c))
+      ∙ ap (λ (p : Port R K). with_port s.memory c (port_told riding carrying rider e p))
+      (port_there carrying s.memory c taken within))
     where
       longer : (p : Port R K) → c < length (with_port s.memory c p).ports
       longer p = rw (length-set s.memory.ports c p) within
@@ -131,11 +150,13 @@ module _ {R K : Type 0} where
   pub retired_memory : (riding : Riding R) (carrying : Carrying K) (rider : R) (s : State R K) (m : Move) (at : Instr) →
       core_of m < length s.memory.ports → instr_of (event riding carrying s m) ≡ Some at →
       (step riding carrying rider s m).memory
-      ≡ with_port s.memory (core_of m) (port_told riding carrying rider (event riding carrying s m) (retiring riding carrying s m))
+      ≡ with_port s.memory (core_of m) (port_told riding carrying rider (event riding carrying s m)
+      (retiring riding carrying s m))
   retired_memory riding carrying rider s (CoreMove c) at within is =
       core_memory riding carrying rider s c within
       ∙ ap (λ (p : Port R K). with_port s.memory c p)
-      (by_event (event riding carrying s (CoreMove c)) (need_access (need s.image (core_at s.cores c))) (port_at carrying s.memory.ports c) is)
+      (by_event (event riding carrying s (CoreMove c)) (need_access (need s.image (core_at s.cores c)))
+      (port_at carrying s.memory.ports c) is)
     where
       by_event : (e : Event) (needed : Option (Kind × ℕ)) (p : Port R K) → instr_of e ≡ Some at →
           port_worked riding carrying rider needed e p ≡ port_told riding carrying rider e p

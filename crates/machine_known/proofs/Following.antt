@@ -1,5 +1,6 @@
 -- What a move does to the carries of a state is what its event says.
-use Rattle.std.proofs.Common.{◌≡◌, ◌≢◌, ◌∙◌, ap, refl, sym, subst, ℕ, ◌<◌, ◌≤◌, ◌==◌, ◌⊎◌, inl, inr, Bool, true, false, nat_lt, ◌&&◌, IsTrue, Option, Some}
+use Rattle.std.proofs.Common.{◌≡◌, ◌≢◌, ◌∙◌, ap, refl, sym, subst, ℕ, ◌<◌, ◌≤◌, ◌==◌, ◌⊎◌, inl, inr, Bool, true, false}
+use Rattle.std.proofs.Common.{nat_lt, ◌&&◌, IsTrue, Option, Some}
 use Rattle.std.proofs.Common.{None, List, [], ◌∷◌, ◌++◌, drop, length, arith}
 use Rattle.std.specs.Prelude.{if◌then◌else◌, map, not}
 use Rattle.std.proofs.lemmas.Bool.{cases_eq, cases_lt, and_parts, ltb-true}
@@ -20,16 +21,19 @@ use Rattle.msi_directory.specs.Blocks.{entry_at, entries_after_request, entries_
 use Rattle.msi_directory.specs.Entries.{answer_to_request, answer_to_response}
 use Rattle.msi_directory.specs.declared.entry.Entry.{Entry}
 use Rattle.msi_directory.specs.declared.entry.HomeAnswer.{HomeAnswer}
-use Rattle.know_history.specs.Happenings.{Actor, AtCore, AtHome, Channel, Messages, Requests, Responses, is_channel, left_on, with_sent}
+use Rattle.know_history.specs.Happenings.{Actor, AtCore, AtHome, Channel, Messages, Requests, Responses, is_channel}
+use Rattle.know_history.specs.Happenings.{left_on, with_sent}
 use Rattle.know_history.specs.Knowing.{CarriesFollow, carry_retired, carry_taken, joined_oldest}
 use Rattle.msi_memory.specs.declared.port.Mail.{Mail}
 use Rattle.msi_memory.specs.declared.port.Port.{Port}
-use Rattle.msi_memory.specs.Acts.{TakeMessage, TakeRequest, TakeResponse, can_at, delivered, delivered_in, head_free, port_requested, port_responded}
+use Rattle.msi_memory.specs.Acts.{TakeMessage, TakeRequest, TakeResponse, can_at, delivered, delivered_in, head_free}
+use Rattle.msi_memory.specs.Acts.{port_requested, port_responded}
 use Rattle.msi_memory.specs.Acts.{port_sent, ports_sent, take_request_in, take_response_in, with_port}
 use Rattle.msi_memory.specs.Memories.{Memory, port_at}
 use Rattle.msi_memory.specs.PlainPart.{plain_mail, plain_port}
 use Rattle.msi_state.specs.declared.moves.Move.{Move}
-use Rattle.msi_state.specs.declared.moves.Move.TheVariants.{Core as CoreMove, Request as RequestMove, Response as ResponseMove, FromHome as MessageMove}
+use Rattle.msi_state.specs.declared.moves.Move.TheVariants.{Core as CoreMove, Request as RequestMove}
+use Rattle.msi_state.specs.declared.moves.Move.TheVariants.{Response as ResponseMove, FromHome as MessageMove}
 use Rattle.msi_state.specs.Events.{instr_of, port_taken}
 use Rattle.msi_state.specs.Moves.{core_of}
 use Rattle.msi_state.specs.Runs.{plain_event, plain_step}
@@ -38,7 +42,8 @@ use Rattle.msi_state.specs.Steps.{enabled, event, step}
 use Rattle.machine_plain.specs.Plain.{plain}
 use Rattle.machine_plain.proofs.Plains.{plain_port_at}
 use Rattle.machine_plain.proofs.Forgetting as forgetting
-use Rattle.machine_known.specs.Events.{actor_of, carries_at, carries_of, count_at, happening_of, own_carry, port_of, taken_from, under_way}
+use Rattle.machine_known.specs.Events.{actor_of, carries_at, carries_of, count_at, happening_of, own_carry, port_of}
+use Rattle.machine_known.specs.Events.{taken_from, under_way}
 use Rattle.machine_known.specs.Known.{PortsThere}
 use Rattle.memory_laws.proofs.PortsKept.{there_of}
 use Rattle.memory_laws.proofs.Views.{port_at-sent, port_at-told}
@@ -55,7 +60,8 @@ goes_left false before k = inl refl
 module _ {R K : Type 0} where
   -- the number of messages on a port's link is that of their carries, and that of the plain port's link
   counted_port : (link : Channel) (p : Port R K) → count_at link (plain_port p) ≡ length (carries_at link p)
-  counted_port (Requests c) p = length-map p.requests.items (plain_mail plain_request) ∙ sym (length-map p.requests.items (λ (x : Mail (Request R) K). x.carry))
+  counted_port (Requests c) p = length-map p.requests.items (plain_mail plain_request)
+      ∙ sym (length-map p.requests.items (λ (x : Mail (Request R) K). x.carry))
   counted_port (Responses c) p = length-map p.responses.items (plain_mail plain_response)
       ∙ sym (length-map p.responses.items (λ (x : Mail (Response R) K). x.carry))
   counted_port (Messages c) p = length-map p.messages.items (plain_mail plain_message)
@@ -64,23 +70,30 @@ module _ {R K : Type 0} where
   pub counted : (carrying : Carrying K) (s : State R K) (link : Channel) → under_way (plain s) link
       ≡ length (carries_at link (port_at carrying s.memory.ports (port_of link)))
   counted carrying s link =
-      ap (count_at link) (plain_port_at carrying s.memory.ports (port_of link)) ∙ counted_port link (port_at carrying s.memory.ports (port_of link))
+      ap (count_at link) (plain_port_at carrying s.memory.ports (port_of link))
+      ∙ counted_port link (port_at carrying s.memory.ports (port_of link))
 
   -- a state before and after a move of the actor
-  pub record StateActs (carrying : Carrying K) (takes : Option Channel) (o : Option Instr) (actor : Actor) (s t : State R K) : Type 0 where
-    pub acting : own_carry carrying t actor ≡ carry_retired carrying o (carry_taken carrying takes (carries_of carrying s).sent (own_carry carrying s actor))
+  pub record StateActs (carrying : Carrying K) (takes : Option Channel) (o : Option Instr) (actor : Actor)
+      (s t : State R K) : Type 0 where
+    pub acting : own_carry carrying t actor ≡ carry_retired carrying o (carry_taken carrying takes
+        (carries_of carrying s).sent (own_carry carrying s actor))
     pub resting : (other : Actor) → (other ≡ actor → ⊥) → own_carry carrying t other ≡ own_carry carrying s other
     pub links : (link : Channel) →
-        Goes (is_channel takes link) ((carries_of carrying s).sent link) (own_carry carrying t actor) ((carries_of carrying t).sent link)
+        Goes (is_channel takes link) ((carries_of carrying s).sent link) (own_carry carrying t actor)
+        ((carries_of carrying t).sent link)
 
   follows : (riding : Riding R) (carrying : Carrying K) (s : State R K) (m : Move) (rider : R) →
-      StateActs carrying (taken_from m) (instr_of (event riding carrying s m)) (actor_of m) s (step riding carrying rider s m) →
-      CarriesFollow carrying (happening_of (plain s) m) (actor_of m) (carries_of carrying s) (carries_of carrying (step riding carrying rider s m))
+      StateActs carrying (taken_from m) (instr_of (event riding carrying s m)) (actor_of m) s
+      (step riding carrying rider s m) →
+      CarriesFollow carrying (happening_of (plain s) m) (actor_of m) (carries_of carrying s)
+      (carries_of carrying (step riding carrying rider s m))
   follows riding carrying s m rider h =
       record {
         acting = h.acting
             ∙ ap (λ (o : Option Instr).
-            carry_retired carrying o (carry_taken carrying (taken_from m) (carries_of carrying s).sent (own_carry carrying s (actor_of m)))) retires;
+            carry_retired carrying o (carry_taken carrying (taken_from m) (carries_of carrying s).sent
+            (own_carry carrying s (actor_of m)))) retires;
         resting = h.resting;
         sent = sent;
       }
@@ -91,27 +104,35 @@ module _ {R K : Type 0} where
       retires : instr_of (event riding carrying s m) ≡ instr_of (plain_event (plain s) m)
       retires = ap instr_of (forgetting.plain_event riding carrying s m)
 
-      tests : (link : Channel) → nat_lt (length ((carries_of carrying s).sent link)) (length ((carries_of carrying t).sent link))
+      tests : (link : Channel) → nat_lt (length ((carries_of carrying s).sent link))
+          (length ((carries_of carrying t).sent link))
           ≡ nat_lt (under_way (plain s) link) (under_way (plain_step (plain s) m) link)
       tests link =
           ap (λ (n : ℕ). nat_lt n (length ((carries_of carrying t).sent link))) (sym (counted carrying s link))
           ∙ ap (λ (n : ℕ). nat_lt (under_way (plain s) link) n)
-          (sym (ap (λ (p : PlainState). under_way p link) (sym (forgetting.plain_step riding carrying rider s m)) ∙ counted carrying t link))
+          (sym (ap (λ (p : PlainState). under_way p link) (sym (forgetting.plain_step riding carrying rider s m))
+          ∙ counted carrying t link))
 
       sent : (link : Channel) → (carries_of carrying t).sent link
-          ≡ with_sent (nat_lt (under_way (plain s) link) (under_way (plain_step (plain s) m) link)) (own_carry carrying t (actor_of m))
+          ≡ with_sent (nat_lt (under_way (plain s) link) (under_way (plain_step (plain s) m) link))
+          (own_carry carrying t (actor_of m))
           (left_on (taken_from m) link ((carries_of carrying s).sent link))
       sent link =
-          goes_sent (is_channel (taken_from m) link) ((carries_of carrying s).sent link) (own_carry carrying t (actor_of m))
+          goes_sent (is_channel (taken_from m) link) ((carries_of carrying s).sent link)
+          (own_carry carrying t (actor_of m))
           ((carries_of carrying t).sent link) (h.links link)
-          ∙ ap (λ (b : Bool). with_sent b (own_carry carrying t (actor_of m)) (left_on (taken_from m) link ((carries_of carrying s).sent link))) (tests link)
+          ∙ ap (λ (b : Bool). with_sent b (own_carry carrying t (actor_of m)) (left_on (taken_from m) link
+          ((carries_of carrying s).sent link))) (tests link)
 
   -- a core's own move, or the receipt of a message, which change one port
-  port_moved : (carrying : Carrying K) (s t : State R K) (c : ℕ) (takes : Option Channel) (o : Option Instr) (q : Port R K) → c < length s.memory.ports →
-      t.memory ≡ with_port s.memory c q → carry_taken carrying takes (λ link. carries_at link (port_at carrying s.memory.ports c))
+  port_moved : (carrying : Carrying K) (s t : State R K) (c : ℕ) (takes : Option Channel) (o : Option Instr)
+      (q : Port R K) → c < length s.memory.ports →
+      t.memory ≡ with_port s.memory c q → carry_taken carrying takes
+      (λ link. carries_at link (port_at carrying s.memory.ports c))
       (port_at carrying s.memory.ports c).carry
       ≡ carry_taken carrying takes (carries_of carrying s).sent (port_at carrying s.memory.ports c).carry →
-      ((link : Channel) → port_of link ≢ c → is_channel takes link ≡ false) → PortActs carrying c takes o (port_at carrying s.memory.ports c) q →
+      ((link : Channel) → port_of link ≢ c → is_channel takes link ≡ false) →
+      PortActs carrying c takes o (port_at carrying s.memory.ports c) q →
       StateActs carrying takes o (AtCore c) s t
   port_moved carrying s t c takes o q lc is taken_here elsewhere acts =
       record {
@@ -136,36 +157,47 @@ module _ {R K : Type 0} where
       resting (AtCore d) apart = ap (λ (p : Port R K). p.carry) (there d (λ (e : d ≡ c). apart (ap AtCore e)))
 
       by_core : (link : Channel) → (port_of link ≡ c) ⊎ (port_of link ≢ c) →
-          Goes (is_channel takes link) (carries_at link (port_at carrying s.memory.ports (port_of link))) (own_carry carrying t (AtCore c))
+          Goes (is_channel takes link) (carries_at link (port_at carrying s.memory.ports (port_of link)))
+          (own_carry carrying t (AtCore c))
           (carries_at link (port_at carrying t.memory.ports (port_of link)))
       by_core link (inl e) =
-          subst (λ (k : K). Goes (is_channel takes link) (carries_at link (port_at carrying s.memory.ports (port_of link))) k
+          subst (λ (k : K). Goes (is_channel takes link)
+          (carries_at link (port_at carrying s.memory.ports (port_of link))) k
           (carries_at link (port_at carrying t.memory.ports (port_of link)))) (sym mine)
-          (subst (λ (ks : List K). Goes (is_channel takes link) (carries_at link (port_at carrying s.memory.ports (port_of link))) q.carry ks)
+          (subst (λ (ks : List K). Goes (is_channel takes link)
+          (carries_at link (port_at carrying s.memory.ports (port_of link))) q.carry ks)
           (sym (ap (λ (d : ℕ). carries_at link (port_at carrying t.memory.ports d)) e ∙ ap (carries_at link) here))
           (subst (λ (ks : List K). Goes (is_channel takes link) ks q.carry (carries_at link q))
           (ap (λ (d : ℕ). carries_at link (port_at carrying s.memory.ports d)) (sym e)) (acts.links link e)))
       by_core link (inr apart) =
-          subst (λ (b : Bool). Goes b (carries_at link (port_at carrying s.memory.ports (port_of link))) (own_carry carrying t (AtCore c))
+          subst (λ (b : Bool). Goes b (carries_at link (port_at carrying s.memory.ports (port_of link)))
+          (own_carry carrying t (AtCore c))
           (carries_at link (port_at carrying t.memory.ports (port_of link)))) (sym (elsewhere link apart))
           (inl (ap (carries_at link) (there (port_of link) apart)))
 
-  core_acts : (riding : Riding R) (carrying : Carrying K) (s : State R K) (c : ℕ) (rider : R) → c < length s.memory.ports →
-      StateActs carrying None (instr_of (event riding carrying s (CoreMove c))) (AtCore c) s (step riding carrying rider s (CoreMove c))
+  core_acts : (riding : Riding R) (carrying : Carrying K) (s : State R K) (c : ℕ) (rider : R) →
+      c < length s.memory.ports →
+      StateActs carrying None (instr_of (event riding carrying s (CoreMove c))) (AtCore c) s
+      (step riding carrying rider s (CoreMove c))
   core_acts riding carrying s c rider lc =
       let p = port_at carrying s.memory.ports c in
       let needed = need_access (need s.image (core_at s.cores c)) in
       let e = event riding carrying s (CoreMove c) in
-      port_moved carrying s (step riding carrying rider s (CoreMove c)) c None (instr_of e) (port_worked riding carrying rider needed e p) lc
-      (core_memory riding carrying rider s c lc) refl (λ link apart. refl) (worked_acts riding carrying c rider needed e p)
+      port_moved carrying s (step riding carrying rider s (CoreMove c)) c None (instr_of e)
+      (port_worked riding carrying rider needed e p) lc
+      (core_memory riding carrying rider s c lc) refl (λ link apart. refl) (worked_acts riding carrying c rider needed e
+      p)
 
-  message_acts : (riding : Riding R) (carrying : Carrying K) (s : State R K) (c : ℕ) (rider : R) → c < length s.memory.ports →
-      StateActs carrying (Some (Messages c)) (instr_of (event riding carrying s (MessageMove c))) (AtCore c) s (step riding carrying rider s (MessageMove c))
+  message_acts : (riding : Riding R) (carrying : Carrying K) (s : State R K) (c : ℕ) (rider : R) →
+      c < length s.memory.ports →
+      StateActs carrying (Some (Messages c)) (instr_of (event riding carrying s (MessageMove c))) (AtCore c) s
+      (step riding carrying rider s (MessageMove c))
   message_acts riding carrying s c rider lc =
       let p = port_at carrying s.memory.ports c in
       let e = event riding carrying s (MessageMove c) in
       port_moved carrying s (step riding carrying rider s (MessageMove c)) c (Some (Messages c)) (instr_of e)
-      (port_told riding carrying rider e (port_taken riding carrying p)) lc (message_memory riding carrying rider s c lc) refl elsewhere
+      (port_told riding carrying rider e (port_taken riding carrying p)) lc (message_memory riding carrying rider s c
+      lc) refl elsewhere
       (received_acts riding carrying rider s c)
     where
       elsewhere : (link : Channel) → port_of link ≢ c → is_channel (Some (Messages c)) link ≡ false
@@ -187,11 +219,14 @@ module _ {R K : Type 0} where
     where
       sent : (to : ℕ) (m : FromHome R) → (to < length ns) ⊎ (length ns ≤ to) →
           IsTold k (port_at carrying ns d) (port_at carrying (ports_sent carrying ns to m k) d)
-      sent to m (inr past) = inl (ap (λ (xs : List (Port R K)). port_at carrying xs d) (set_past ns to (port_sent (port_at carrying ns to) m k) past))
+      sent to m (inr past) = inl (ap (λ (xs : List (Port R K)). port_at carrying xs d)
+          (set_past ns to (port_sent (port_at carrying ns to) m k) past))
       sent to m (inl lt) =
-          told_if k (d == to) (port_at carrying ns d) (port_at carrying (ports_sent carrying ns to m k) d) m (port_at-sent carrying ns to m k d lt)
+          told_if k (d == to) (port_at carrying ns d) (port_at carrying (ports_sent carrying ns to m k) d) m
+          (port_at-sent carrying ns to m k d lt)
 
-      by : (send : Option (ℕ × FromHome R)) → IsTold k (port_at carrying ns d) (port_at carrying (delivered_in send carrying answer.invalidate block k ns) d)
+      by : (send : Option (ℕ × FromHome R)) → IsTold k (port_at carrying ns d)
+          (port_at carrying (delivered_in send carrying answer.invalidate block k ns) d)
       by None = told_if k (nat_lt d (length ns) && has answer.invalidate d) (port_at carrying ns d) _ (Inv block)
           (port_at-told carrying answer.invalidate (Inv block) k (length ns) ns d (omega arith))
       by (Some (to, m)) = sent to m (cases_lt to (length ns))
@@ -200,28 +235,43 @@ module _ {R K : Type 0} where
   told_carry k x y (inl e) = ap (λ (p : Port R K). p.carry) e
   told_carry k x y (inr f) = ap (λ (p : Port R K). p.carry) f.1
 
-  told_goes : (takes : Option Channel) (link : Channel) (before : List K) (k : K) (x y : Port R K) → ((d : ℕ) → is_channel takes (Messages d) ≡ false) →
-      carries_at link x ≡ left_on takes link before → IsTold k x y → Goes (is_channel takes link) before k (carries_at link y)
+  told_goes : (takes : Option Channel) (link : Channel) (before : List K) (k : K) (x y : Port R K) →
+      ((d : ℕ) → is_channel takes (Messages d) ≡ false) →
+      carries_at link x ≡ left_on takes link before → IsTold k x y →
+      Goes (is_channel takes link) before k (carries_at link y)
   told_goes takes link before k x y quiet e (inl f) =
-      subst (λ (ks : List K). Goes (is_channel takes link) before k ks) (sym (ap (carries_at link) f ∙ e)) (goes_left (is_channel takes link) before k)
+      subst (λ (ks : List K). Goes (is_channel takes link) before k ks) (sym (ap (carries_at link) f ∙ e))
+      (goes_left (is_channel takes link) before k)
   told_goes takes (Requests d) before k x y quiet e (inr f) =
-      subst (λ (ks : List K). Goes (is_channel takes (Requests d)) before k ks) (sym (ap (carries_at (Requests d)) f.1 ∙ e))
+      subst (λ (ks : List K). Goes (is_channel takes (Requests d)) before k ks) (sym (ap (carries_at (Requests d)) f.1
+      ∙ e))
       (goes_left (is_channel takes (Requests d)) before k)
   told_goes takes (Responses d) before k x y quiet e (inr f) =
-      subst (λ (ks : List K). Goes (is_channel takes (Responses d)) before k ks) (sym (ap (carries_at (Responses d)) f.1 ∙ e))
+      subst (λ (ks : List K). Goes (is_channel takes (Responses d)) before k ks) (sym (ap (carries_at (Responses d)) f.1
+      ∙ e))
       (goes_left (is_channel takes (Responses d)) before k)
   told_goes takes (Messages d) before k x y quiet e (inr f) =
       subst (λ (b : Bool). Goes b before k (carries_at (Messages d) y)) (sym (quiet d))
       (inr (ap (carries_at (Messages d)) f.1
-      ∙ (map-append _ _ _ ∙ ap (λ (ks : List K). ks ++ k ∷ []) (e ∙ ap (λ (b : Bool). if b then drop 1 before else before) (quiet d)))))
+      ∙ (map-append _ _ _ ∙ ap (λ (ks : List K). ks ++ k ∷ []) (e
+      ∙ ap (λ (b : Bool). if b then drop 1 before else before) (quiet d)))))
 
   -- the home took a message of core c, whose port it left so, and answered
-  home_moved : (carrying : Carrying K) (s t : State R K) (c : ℕ) (takes : Option Channel) (q : Port R K) (answer : HomeAnswer R) (block : ℕ)
+  home_moved : (carrying : Carrying K) (s t : State R K) (c : ℕ) (takes : Option Channel) (q : Port R K)
+      (answer : HomeAnswer R) (block : ℕ)
       (home : List (Entry R)) (k : K) → c < length s.memory.ports →
-      t.memory ≡ record { ports = delivered carrying answer block k (with_port s.memory c q).ports; home = home; carry = k } →
-      k ≡ carry_taken carrying takes (carries_of carrying s).sent s.memory.carry → q.carry ≡ (port_at carrying s.memory.ports c).carry →
-      ((link : Channel) → port_of link ≡ c → carries_at link q ≡ left_on takes link (carries_at link (port_at carrying s.memory.ports c))) →
-      ((link : Channel) → port_of link ≢ c → is_channel takes link ≡ false) → ((d : ℕ) → is_channel takes (Messages d) ≡ false) →
+      t.memory ≡ record {
+        ports = delivered carrying answer block k (with_port s.memory c q).ports;
+        home = home;
+        carry =
+            k;
+      } →
+      k ≡ carry_taken carrying takes (carries_of carrying s).sent s.memory.carry →
+      q.carry ≡ (port_at carrying s.memory.ports c).carry →
+      ((link : Channel) → port_of link ≡ c → carries_at link q ≡ left_on takes link
+      (carries_at link (port_at carrying s.memory.ports c))) →
+      ((link : Channel) → port_of link ≢ c → is_channel takes link ≡ false) →
+      ((d : ℕ) → is_channel takes (Messages d) ≡ false) →
       StateActs carrying takes None AtHome s t
   home_moved carrying s t c takes q answer block home k lc is joins same left elsewhere quiet =
       record {
@@ -230,8 +280,10 @@ module _ {R K : Type 0} where
         links = λ link. subst (λ (own : K).
             Goes (is_channel takes link) (carries_at link (port_at carrying s.memory.ports (port_of link))) own
             (carries_at link (port_at carrying t.memory.ports (port_of link)))) (sym mine)
-            (told_goes takes link (carries_at link (port_at carrying s.memory.ports (port_of link))) k (port_at carrying ns (port_of link))
-            (port_at carrying t.memory.ports (port_of link)) quiet (taken link (cases_eq (port_of link) c)) (told (port_of link)));
+            (told_goes takes link (carries_at link (port_at carrying s.memory.ports (port_of link))) k
+            (port_at carrying ns (port_of link))
+            (port_at carrying t.memory.ports (port_of link)) quiet (taken link (cases_eq (port_of link) c))
+            (told (port_of link)));
       }
     where
       ns : List (Port R K)
@@ -241,32 +293,40 @@ module _ {R K : Type 0} where
       mine = ap (λ (m : Memory R K). m.carry) is
 
       told : (d : ℕ) → IsTold k (port_at carrying ns d) (port_at carrying t.memory.ports d)
-      told d = subst (λ (m : Memory R K). IsTold k (port_at carrying ns d) (port_at carrying m.ports d)) (sym is) (delivered_tells carrying answer block k ns d)
+      told d = subst (λ (m : Memory R K). IsTold k (port_at carrying ns d) (port_at carrying m.ports d)) (sym is)
+          (delivered_tells carrying answer block k ns d)
 
       here : port_at carrying ns c ≡ q
       here = port_there carrying s.memory c q lc
 
       there : (d : ℕ) → d ≢ c → port_at carrying ns d ≡ port_at carrying s.memory.ports d
-      there d apart = let other : (d == c) ≡ false = grind (arith, nat_tests) in port_elsewhere carrying s.memory c q d other lc
+      there d apart = let other : (d == c) ≡ false = grind (arith, nat_tests) in
+          port_elsewhere carrying s.memory c q d other lc
 
-      carry_same : (d : ℕ) → (d ≡ c) ⊎ (d ≢ c) → (port_at carrying ns d).carry ≡ (port_at carrying s.memory.ports d).carry
+      carry_same : (d : ℕ) → (d ≡ c) ⊎ (d ≢ c) →
+          (port_at carrying ns d).carry ≡ (port_at carrying s.memory.ports d).carry
       carry_same d (inl e) =
           ap (λ (x : ℕ). (port_at carrying ns x).carry) e
-          ∙ (ap (λ (p : Port R K). p.carry) here ∙ (same ∙ ap (λ (x : ℕ). (port_at carrying s.memory.ports x).carry) (sym e)))
+          ∙ (ap (λ (p : Port R K). p.carry) here ∙ (same ∙ ap (λ (x : ℕ). (port_at carrying s.memory.ports x).carry)
+          (sym e)))
       carry_same d (inr apart) = ap (λ (p : Port R K). p.carry) (there d apart)
 
       resting : (other : Actor) → (other ≡ AtHome → ⊥) → own_carry carrying t other ≡ own_carry carrying s other
       resting AtHome apart = absurd (apart refl)
-      resting (AtCore d) apart = told_carry k (port_at carrying ns d) (port_at carrying t.memory.ports d) (told d) ∙ carry_same d (cases_eq d c)
+      resting (AtCore d) apart = told_carry k (port_at carrying ns d) (port_at carrying t.memory.ports d) (told d)
+          ∙ carry_same d (cases_eq d c)
 
-      taken : (link : Channel) → (port_of link ≡ c) ⊎ (port_of link ≢ c) → carries_at link (port_at carrying ns (port_of link))
+      taken : (link : Channel) → (port_of link ≡ c) ⊎ (port_of link ≢ c) →
+          carries_at link (port_at carrying ns (port_of link))
           ≡ left_on takes link (carries_at link (port_at carrying s.memory.ports (port_of link)))
       taken link (inl e) =
           ap (λ (d : ℕ). carries_at link (port_at carrying ns d)) e
-          ∙ (ap (carries_at link) here ∙ (left link e ∙ ap (λ (d : ℕ). left_on takes link (carries_at link (port_at carrying s.memory.ports d))) (sym e)))
+          ∙ (ap (carries_at link) here ∙ (left link e
+          ∙ ap (λ (d : ℕ). left_on takes link (carries_at link (port_at carrying s.memory.ports d))) (sym e)))
       taken link (inr apart) =
           ap (carries_at link) (there (port_of link) apart)
-          ∙ ap (λ (b : Bool). if b then drop 1 (carries_at link (port_at carrying s.memory.ports (port_of link))) else carries_at link
+          ∙ ap (λ (b : Bool). if b then drop 1 (carries_at link (port_at carrying s.memory.ports (port_of link))) else
+          carries_at link
           (port_at carrying s.memory.ports (port_of link))) (sym (elsewhere link apart))
 
   request_acts : (riding : Riding R) (carrying : Carrying K) (s t : State R K) (c : ℕ) → c < length s.memory.ports →
@@ -286,22 +346,27 @@ module _ {R K : Type 0} where
       same_core : (d : ℕ) → d ≡ c → (c == d) ≡ true
       same_core d f = grind (arith, nat_tests)
 
-      left : (mail : Mail (Request R) K) (rest : List (Mail (Request R) K)) → p.requests.items ≡ mail ∷ rest → (link : Channel) → port_of link ≡ c →
+      left : (mail : Mail (Request R) K) (rest : List (Mail (Request R) K)) → p.requests.items ≡ mail ∷ rest →
+          (link : Channel) → port_of link ≡ c →
           carries_at link (port_requested p rest) ≡ left_on (Some (Requests c)) link (carries_at link p)
       left mail rest items (Requests d) f =
           ap (λ (q : List (Mail (Request R) K)). drop 1 (map (λ (x : Mail (Request R) K). x.carry) q)) (sym items)
-          ∙ ap (λ (b : Bool). if b then drop 1 (carries_at (Requests d) p) else carries_at (Requests d) p) (sym (same_core d f))
+          ∙ ap (λ (b : Bool). if b then drop 1 (carries_at (Requests d) p) else carries_at (Requests d) p)
+          (sym (same_core d f))
       left mail rest items (Responses d) f = refl
       left mail rest items (Messages d) f = refl
 
       by_items : (q : List (Mail (Request R) K)) → p.requests.items ≡ q → head_free q riding s.memory.home ≡ true →
-          t.memory ≡ take_request_in q riding carrying s.memory c → StateActs carrying (Some (Requests c)) None AtHome s t
+          t.memory ≡ take_request_in q riding carrying s.memory c → StateActs carrying (Some (Requests c)) None AtHome s
+          t
       by_items [] items free made = absurd (grind arith)
       by_items (mail ∷ rest) items free made =
           home_moved carrying s t c (Some (Requests c)) (port_requested p rest)
-          (answer_to_request riding.absorbed (entry_at riding.fresh s.memory.home (request_block mail.item)) c mail.item) (request_block mail.item)
+          (answer_to_request riding.absorbed (entry_at riding.fresh s.memory.home (request_block mail.item)) c
+          mail.item) (request_block mail.item)
           (entries_after_request riding s.memory.home c mail.item) (carrying.joined s.memory.carry mail.carry) lc made
-          (ap (λ (q : List (Mail (Request R) K)). joined_oldest carrying (map (λ (x : Mail (Request R) K). x.carry) q) s.memory.carry) (sym items)) refl
+          (ap (λ (q : List (Mail (Request R) K)). joined_oldest carrying (map (λ (x : Mail (Request R) K). x.carry) q)
+          s.memory.carry) (sym items)) refl
           (left mail rest items) elsewhere (λ d. refl)
 
   response_acts : (riding : Riding R) (carrying : Carrying K) (s t : State R K) (c : ℕ) → c < length s.memory.ports →
@@ -321,44 +386,56 @@ module _ {R K : Type 0} where
       same_core : (d : ℕ) → d ≡ c → (c == d) ≡ true
       same_core d f = grind (arith, nat_tests)
 
-      left : (mail : Mail (Response R) K) (rest : List (Mail (Response R) K)) → p.responses.items ≡ mail ∷ rest → (link : Channel) → port_of link ≡ c →
+      left : (mail : Mail (Response R) K) (rest : List (Mail (Response R) K)) → p.responses.items ≡ mail ∷ rest →
+          (link : Channel) → port_of link ≡ c →
           carries_at link (port_responded p rest) ≡ left_on (Some (Responses c)) link (carries_at link p)
       left mail rest items (Requests d) f = refl
       left mail rest items (Responses d) f =
           ap (λ (q : List (Mail (Response R) K)). drop 1 (map (λ (x : Mail (Response R) K). x.carry) q)) (sym items)
-          ∙ ap (λ (b : Bool). if b then drop 1 (carries_at (Responses d) p) else carries_at (Responses d) p) (sym (same_core d f))
+          ∙ ap (λ (b : Bool). if b then drop 1 (carries_at (Responses d) p) else carries_at (Responses d) p)
+          (sym (same_core d f))
       left mail rest items (Messages d) f = refl
 
-      by_items : (q : List (Mail (Response R) K)) → p.responses.items ≡ q → not (is_nil q) ≡ true → t.memory ≡ take_response_in q riding carrying s.memory c →
+      by_items : (q : List (Mail (Response R) K)) → p.responses.items ≡ q → not (is_nil q) ≡ true →
+          t.memory ≡ take_response_in q riding carrying s.memory c →
           StateActs carrying (Some (Responses c)) None AtHome s t
       by_items [] items some made = absurd (grind arith)
       by_items (mail ∷ rest) items some made =
           home_moved carrying s t c (Some (Responses c)) (port_responded p rest)
-          (answer_to_response riding.absorbed (entry_at riding.fresh s.memory.home (response_block mail.item)) c mail.item) (response_block mail.item)
+          (answer_to_response riding.absorbed (entry_at riding.fresh s.memory.home (response_block mail.item)) c
+          mail.item) (response_block mail.item)
           (entries_after_response riding s.memory.home c mail.item) (carrying.joined s.memory.carry mail.carry) lc made
-          (ap (λ (q : List (Mail (Response R) K)). joined_oldest carrying (map (λ (x : Mail (Response R) K). x.carry) q) s.memory.carry) (sym items)) refl
+          (ap (λ (q : List (Mail (Response R) K)). joined_oldest carrying (map (λ (x : Mail (Response R) K). x.carry) q)
+          s.memory.carry) (sym items)) refl
           (left mail rest items) elsewhere (λ d. refl)
 
   -- the move's core has a port
-  pub at_port : (riding : Riding R) (carrying : Carrying K) (s : State R K) (m : Move) → IsTrue (enabled riding carrying s m) → PortsThere s →
+  pub at_port : (riding : Riding R) (carrying : Carrying K) (s : State R K) (m : Move) →
+      IsTrue (enabled riding carrying s m) → PortsThere s →
       core_of m < length s.memory.ports
-  at_port riding carrying s (CoreMove c) e ports = rw ports (ltb-true c (length s.cores) (and_parts (nat_lt c (length s.cores)) _ e).0)
+  at_port riding carrying s (CoreMove c) e ports =
+      rw ports (ltb-true c (length s.cores) (and_parts (nat_lt c (length s.cores)) _ e).0)
   at_port riding carrying s (RequestMove c) e ports = there_of riding carrying s.memory (TakeRequest c) e
   at_port riding carrying s (ResponseMove c) e ports = there_of riding carrying s.memory (TakeResponse c) e
   at_port riding carrying s (MessageMove c) e ports = there_of riding carrying s.memory (TakeMessage c) e
 
-  state_acts : (riding : Riding R) (carrying : Carrying K) (s : State R K) (m : Move) (rider : R) → IsTrue (enabled riding carrying s m) →
+  state_acts : (riding : Riding R) (carrying : Carrying K) (s : State R K) (m : Move) (rider : R) →
+      IsTrue (enabled riding carrying s m) →
       core_of m < length s.memory.ports →
-      StateActs carrying (taken_from m) (instr_of (event riding carrying s m)) (actor_of m) s (step riding carrying rider s m)
+      StateActs carrying (taken_from m) (instr_of (event riding carrying s m)) (actor_of m) s
+      (step riding carrying rider s m)
   state_acts riding carrying s (CoreMove c) rider e lc = core_acts riding carrying s c rider lc
   state_acts riding carrying s (RequestMove c) rider e lc =
-      request_acts riding carrying s (step riding carrying rider s (RequestMove c)) c lc (and_parts (nat_lt c (length s.memory.ports)) _ e).1 refl
+      request_acts riding carrying s (step riding carrying rider s (RequestMove c)) c lc
+      (and_parts (nat_lt c (length s.memory.ports)) _ e).1 refl
   state_acts riding carrying s (ResponseMove c) rider e lc =
-      response_acts riding carrying s (step riding carrying rider s (ResponseMove c)) c lc (and_parts (nat_lt c (length s.memory.ports)) _ e).1 refl
+      response_acts riding carrying s (step riding carrying rider s (ResponseMove c)) c lc
+      (and_parts (nat_lt c (length s.memory.ports)) _ e).1 refl
   state_acts riding carrying s (MessageMove c) rider e lc = message_acts riding carrying s c rider lc
 
   -- each move changes the carries as its event says
-  pub carries_follow : (riding : Riding R) (carrying : Carrying K) (s : State R K) (m : Move) (rider : R) → IsTrue (enabled riding carrying s m) →
+  pub carries_follow : (riding : Riding R) (carrying : Carrying K) (s : State R K) (m : Move) (rider : R) →
+      IsTrue (enabled riding carrying s m) →
       PortsThere s → CarriesFollow carrying (happening_of (plain s) m) (actor_of m) (carries_of carrying s)
       (carries_of carrying (step riding carrying rider s m))
   carries_follow riding carrying s m rider e ports =

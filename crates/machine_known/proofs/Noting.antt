@@ -1,5 +1,6 @@
 -- A history in which a run's retirements are noted.
-use Rattle.std.proofs.Common.{◌≡◌, ◌≢◌, ◌∙◌, ap, refl, sym, ℕ, suc, ◌+◌, ◌<◌, ◌==◌, ◌⊎◌, inl, inr, false, Option, Some, None, List, [], length, arith}
+use Rattle.std.proofs.Common.{◌≡◌, ◌≢◌, ◌∙◌, ap, refl, sym, ℕ, suc, ◌+◌, ◌<◌, ◌==◌, ◌⊎◌, inl, inr, false, Option, Some}
+use Rattle.std.proofs.Common.{None, List, [], length, arith}
 use Rattle.std.specs.Prelude.{IsTrue, replicate, slice_index_or}
 use Rattle.std.proofs.lemmas.Bool.{cases_eq}
 use Rattle.std.proofs.lemmas.Bool.Decides.{nat_tests}
@@ -35,17 +36,26 @@ record NotedAfter (event_at : ℕ → Happening) (t cores : ℕ) (h : Notes) : T
   noted : (core : ℕ) → core < cores → noted_count h core ≡ retired_in event_at t core
   history : HistoryKnows event_at h
 
-unretired : (event_at : ℕ → Happening) (t core : ℕ) (o : Option Instr) → (event_at t).retires ≡ o → is_of core o ≡ false → retired_in event_at t core
+unretired : (event_at : ℕ → Happening) (t core : ℕ) (o : Option Instr) → (event_at t).retires ≡ o →
+    is_of core o ≡ false → retired_in event_at t core
     ≡ retired_in event_at (suc t) core
-unretired event_at t core o is test = let same : is_of core (event_at t).retires ≡ false = ap (is_of core) is ∙ test in rw same refl
+unretired event_at t core o is test = let same : is_of core (event_at t).retires ≡ false = ap (is_of core) is ∙ test in
+    rw same refl
 
-noted_none : (event_at : ℕ → Happening) (t cores : ℕ) (old new : Notes) → (event_at t).retires ≡ None → new ≡ old → NotedAfter event_at t cores old →
+noted_none : (event_at : ℕ → Happening) (t cores : ℕ) (old new : Notes) → (event_at t).retires ≡ None → new ≡ old →
+    NotedAfter event_at t cores old →
     NotedAfter event_at (suc t) cores new
 noted_none event_at t cores old new is same h =
-    rw same (record { many = h.many; noted = λ core lt. h.noted core lt ∙ unretired event_at t core None is refl; history = h.history })
+    rw same (record {
+      many = h.many;
+      noted = λ core lt. h.noted core lt ∙ unretired event_at t core None is refl;
+      history = h.history;
+    })
 
-noted_one : (event_at : ℕ → Happening) (t cores : ℕ) (y : Instr) (known : Known) (old new : Notes) → AreOrderly event_at → y.core < cores →
-    (event_at t).retires ≡ Some y → IsKnownCount event_at known y → IsNoted old y known new → NotedAfter event_at t cores old →
+noted_one : (event_at : ℕ → Happening) (t cores : ℕ) (y : Instr) (known : Known) (old new : Notes) →
+    AreOrderly event_at → y.core < cores →
+    (event_at t).retires ≡ Some y → IsKnownCount event_at known y → IsNoted old y known new →
+    NotedAfter event_at t cores old →
     NotedAfter event_at (suc t) cores new
 noted_one event_at t cores y known old new orderly within is counts note h =
     record {
@@ -58,15 +68,20 @@ noted_one event_at t cores y known old new orderly within is counts note h =
     other_core : (i j : ℕ) → j ≢ i → (i == j) ≡ false
     other_core i j apart = grind (arith, nat_tests)
 
-    by : (core : ℕ) → core < cores → (core ≡ y.core) ⊎ (core ≢ y.core) → noted_count new core ≡ retired_in event_at (suc t) core
-    by core lt (inl e) = ap (noted_count new) e ∙ (note.count ∙ (sym (is_counted event_at t y is (orderly t y is)) ∙ ap (retired_in event_at (suc t)) (sym e)))
-    by core lt (inr apart) = note.others core apart ∙ (h.noted core lt ∙ unretired event_at t core (Some y) is (other_core y.core core apart))
+    by : (core : ℕ) → core < cores → (core ≡ y.core) ⊎ (core ≢ y.core) → noted_count new core ≡ retired_in event_at
+        (suc t) core
+    by core lt (inl e) = ap (noted_count new) e ∙ (note.count ∙ (sym (is_counted event_at t y is (orderly t y is))
+        ∙ ap (retired_in event_at (suc t)) (sym e)))
+    by core lt (inr apart) = note.others core apart
+        ∙ (h.noted core lt ∙ unretired event_at t core (Some y) is (other_core y.core core apart))
 
 told : (event_at : ℕ → Happening) (t cores : ℕ) (e : Event) (known : Known) (old new : Notes) → AreOrderly event_at →
     ((y : Instr) → instr_of e ≡ Some y → y.core < cores) → (event_at t).retires ≡ instr_of e →
-    ((y : Instr) → instr_of e ≡ Some y → IsKnownCount event_at known y) → HistoryTold e known old new → NotedAfter event_at t cores old →
+    ((y : Instr) → instr_of e ≡ Some y → IsKnownCount event_at known y) → HistoryTold e known old new →
+    NotedAfter event_at t cores old →
     NotedAfter event_at (suc t) cores new
-told event_at t cores Nothing known old new orderly within is counts note h = noted_none event_at t cores old new is note h
+told event_at t cores Nothing known old new orderly within is counts note h =
+    noted_none event_at t cores old new is note h
 told event_at t cores (Retires at) known old new orderly within is counts note h =
     noted_one event_at t cores at known old new orderly (within at refl) is (counts at refl) note h
 told event_at t cores (Accesses a) known old new orderly within is counts note h =
@@ -78,16 +93,20 @@ module _ {R : Type 0} where
       record {
         carries = (known_start riding event_at image cores limit).1;
         retired = counts_start riding event_at image cores limit few;
-        cores = ap length is ∙ (length-replicate {A = List Clock} cores [] ∙ sym (length-map-range_with_len (λ (id : ℕ). starting id limit) 0 cores));
+        cores = ap length is ∙ (length-replicate {A = List Clock} cores []
+            ∙ sym (length-map-range_with_len (λ (id : ℕ). starting id limit) 0 cores));
         noted = λ core lt. (let e : noted_count h core
             ≡ length (slice_index_or {A = List Clock} (replicate cores []) core []) = ap
-            (λ (lists : List (List Clock)). length (slice_index_or lists core [])) is in let none = none_noted cores core in omega arith);
+            (λ (lists : List (List Clock)). length (slice_index_or lists core [])) is in let none =
+            none_noted cores core in omega arith);
         history = history_start_law event_at h cores is;
       }
 
   -- what retires is one of the state's cores
-  pub retires_within : (riding : Riding R) (event_at : ℕ → Happening) (t : ℕ) (s : State R Known) (m : Move) → IsTrue (enabled riding known_carrying s m) →
-      CountsRetired event_at t s → (y : Instr) → instr_of (event riding known_carrying s m) ≡ Some y → y.core < length s.cores
+  pub retires_within : (riding : Riding R) (event_at : ℕ → Happening) (t : ℕ) (s : State R Known) (m : Move) →
+      IsTrue (enabled riding known_carrying s m) →
+      CountsRetired event_at t s → (y : Instr) → instr_of (event riding known_carrying s m) ≡ Some y →
+      y.core < length s.cores
   retires_within riding event_at t s m e counts y f =
       let lt = at_core riding known_carrying s m e counts.ports in
       let same : y.core ≡ core_of m =
@@ -111,7 +130,8 @@ module _ {R : Type 0} where
       long = (state_counts riding known_carrying s m rider (at_core riding known_carrying s m e h.retired.ports)).long
 
       retires : (event_at t).retires ≡ instr_of (event riding known_carrying s m)
-      retires = ap (λ (p : Happening). p.retires) is ∙ sym (ap instr_of (forgetting.plain_event riding known_carrying s m))
+      retires = ap (λ (p : Happening). p.retires) is
+          ∙ sym (ap instr_of (forgetting.plain_event riding known_carrying s m))
 
       after : NotedAfter event_at (suc t) (length s.cores) new
       after = told event_at t (length s.cores) (event riding known_carrying s m)

@@ -1,5 +1,6 @@
 -- What retires in a move is the next instruction of the core whose event it is.
-use Rattle.std.proofs.Common.{◌≡◌, ◌≢◌, ◌∙◌, ap, refl, sym, subst, ℕ, suc, ◌+◌, ◌<◌, ◌==◌, ◌⊎◌, inl, inr, true, false, IsTrue, Option, Some, None}
+use Rattle.std.proofs.Common.{◌≡◌, ◌≢◌, ◌∙◌, ap, refl, sym, subst, ℕ, suc, ◌+◌, ◌<◌, ◌==◌, ◌⊎◌, inl, inr, true, false}
+use Rattle.std.proofs.Common.{IsTrue, Option, Some, None}
 use Rattle.std.proofs.Common.{length, arith}
 use Rattle.std.proofs.lemmas.Bool.{cases_eq}
 use Rattle.std.proofs.lemmas.Bool.Decides.{nat_tests}
@@ -11,7 +12,8 @@ use Rattle.know_history.specs.Knowing.{IsOrderly, carry_left, carry_retired, car
 use Rattle.know_history.proofs.Leading.{none_some}
 use Rattle.msi_memory.specs.Memories.{port_at}
 use Rattle.msi_state.specs.declared.moves.Move.{Move}
-use Rattle.msi_state.specs.declared.moves.Move.TheVariants.{Core as CoreMove, Request as RequestMove, Response as ResponseMove, FromHome as MessageMove}
+use Rattle.msi_state.specs.declared.moves.Move.TheVariants.{Core as CoreMove, Request as RequestMove}
+use Rattle.msi_state.specs.declared.moves.Move.TheVariants.{Response as ResponseMove, FromHome as MessageMove}
 use Rattle.msi_state.specs.Events.{instr_of, next_instr}
 use Rattle.msi_state.specs.Moves.{core_of}
 use Rattle.msi_state.specs.States.{State, core_at}
@@ -32,18 +34,23 @@ pub record StateCounts {R K : Type 0} (o : Option Instr) (c : ℕ) (s t : State 
 
 module _ {R K : Type 0} where
   -- the move's core is there
-  pub at_core : (riding : Riding R) (carrying : Carrying K) (s : State R K) (m : Move) → IsTrue (enabled riding carrying s m) → PortsThere s →
+  pub at_core : (riding : Riding R) (carrying : Carrying K) (s : State R K) (m : Move) →
+      IsTrue (enabled riding carrying s m) → PortsThere s →
       core_of m < length s.cores
   at_core riding carrying s m e ports = subst (λ (n : ℕ). core_of m < n) ports (at_port riding carrying s m e ports)
 
-  pub state_counts : (riding : Riding R) (carrying : Carrying K) (s : State R K) (m : Move) (rider : R) → core_of m < length s.cores →
+  pub state_counts : (riding : Riding R) (carrying : Carrying K) (s : State R K) (m : Move) (rider : R) →
+      core_of m < length s.cores →
       StateCounts (instr_of (event riding carrying s m)) (core_of m) s (step riding carrying rider s m)
   state_counts riding carrying s m rider lc =
       record {
         long = step_cores riding carrying rider s m;
-        here = subst (λ (core : Core). CoreCounts (instr_of (event riding carrying s m)) (core_at s.cores (core_of m)) core)
-            (sym (core_there s.image (core_of m) (event riding carrying s m) s.cores lc)) (event_counts riding carrying s m);
-        there = λ d apart. core_elsewhere s.image (core_of m) (event riding carrying s m) s.cores d (other d (core_of m) apart);
+        here = subst (λ (core : Core). CoreCounts (instr_of (event riding carrying s m)) (core_at s.cores (core_of m))
+            core)
+            (sym (core_there s.image (core_of m) (event riding carrying s m) s.cores lc))
+            (event_counts riding carrying s m);
+        there = λ d apart. core_elsewhere s.image (core_of m) (event riding carrying s m) s.cores d
+            (other d (core_of m) apart);
       }
     where
       other : (d c : ℕ) → d ≢ c → (d == c) ≡ false
@@ -55,29 +62,35 @@ module _ {R K : Type 0} where
   ports_stay riding carrying rider s m ports =
       step_ports riding carrying rider s m ∙ (ports ∙ sym (step_cores riding carrying rider s m))
 
-  own_event : (riding : Riding R) (carrying : Carrying K) (s : State R K) (m : Move) (x : Instr) → instr_of (event riding carrying s m) ≡ Some x →
+  own_event : (riding : Riding R) (carrying : Carrying K) (s : State R K) (m : Move) (x : Instr) →
+      instr_of (event riding carrying s m) ≡ Some x →
       actor_of m ≡ AtCore (core_of m)
   own_event riding carrying s (CoreMove c) x is = refl
   own_event riding carrying s (RequestMove c) x is = none_some None x refl is
   own_event riding carrying s (ResponseMove c) x is = none_some None x refl is
   own_event riding carrying s (MessageMove c) x is = refl
 
-  pub orderly_step : (riding : Riding R) (carrying : Carrying K) (event_at : ℕ → Happening) (t : ℕ) (s : State R K) (m : Move) →
-      IsTrue (enabled riding carrying s m) → event_at t ≡ happening_of (plain s) m → CountsRetired event_at t s → IsOrderly event_at t
+  pub orderly_step : (riding : Riding R) (carrying : Carrying K) (event_at : ℕ → Happening) (t : ℕ) (s : State R K)
+      (m : Move) →
+      IsTrue (enabled riding carrying s m) → event_at t ≡ happening_of (plain s) m → CountsRetired event_at t s →
+      IsOrderly event_at t
   orderly_step riding carrying event_at t s m e is h x retires =
       record {
         core = (let few = h.few in let lt = lc in let f : x.core ≡ core_of m = core in omega arith);
         own = ap (λ (p : Happening). p.actor) is
-            ∙ (ap (λ (a : Actor). Some a) (own_event riding carrying s m x told) ∙ ap (λ (c : ℕ). Some (AtCore c)) (sym core));
+            ∙ (ap (λ (a : Actor). Some a) (own_event riding carrying s m x told)
+            ∙ ap (λ (c : ℕ). Some (AtCore c)) (sym core));
         count = ap (λ (i : Instr). i.count) (sym next)
-            ∙ (ap (λ (n : ℕ). n + 1) (h.counts (core_of m) lc) ∙ ap (λ (c : ℕ). retired_in event_at t c + 1) (sym core));
+            ∙ (ap (λ (n : ℕ). n + 1) (h.counts (core_of m) lc)
+            ∙ ap (λ (c : ℕ). retired_in event_at t c + 1) (sym core));
       }
     where
       lc : core_of m < length s.cores
       lc = at_core riding carrying s m e h.ports
 
       told : instr_of (event riding carrying s m) ≡ Some x
-      told = ap instr_of (forgetting.plain_event riding carrying s m) ∙ (sym (ap (λ (p : Happening). p.retires) is) ∙ retires)
+      told = ap instr_of (forgetting.plain_event riding carrying s m) ∙ (sym (ap (λ (p : Happening). p.retires) is)
+          ∙ retires)
 
       next : next_instr (core_at s.cores (core_of m)) ≡ x
       next = retired_next riding carrying s m x told
@@ -85,7 +98,8 @@ module _ {R K : Type 0} where
       core : x.core ≡ core_of m
       core = ap (λ (i : Instr). i.core) (sym next) ∙ h.numbers (core_of m) lc
 
-  pub counts_step : (riding : Riding R) (carrying : Carrying K) (event_at : ℕ → Happening) (t : ℕ) (s : State R K) (m : Move) (rider : R) →
+  pub counts_step : (riding : Riding R) (carrying : Carrying K) (event_at : ℕ → Happening) (t : ℕ) (s : State R K)
+      (m : Move) (rider : R) →
       IsTrue (enabled riding carrying s m) → event_at t ≡ happening_of (plain s) m → CountsRetired event_at t s →
       CountsRetired event_at (suc t) (step riding carrying rider s m)
   counts_step riding carrying event_at t s m rider e is h =
@@ -118,13 +132,16 @@ module _ {R K : Type 0} where
       retires = ap (λ (p : Happening). p.retires) is ∙ sym (ap instr_of (forgetting.plain_event riding carrying s m))
 
       number : (d : ℕ) → d < length s.cores → (d ≡ c) ⊎ (d ≢ c) → (core_at after.cores d).id ≡ d
-      number d ld (inl f) = ap (λ (x : ℕ). (core_at after.cores x).id) f ∙ (moved.here.number ∙ (h.numbers c lc ∙ sym f))
+      number d ld (inl f) = ap (λ (x : ℕ). (core_at after.cores x).id) f
+          ∙ (moved.here.number ∙ (h.numbers c lc ∙ sym f))
       number d ld (inr apart) = ap (λ (k : Core). k.id) (moved.there d apart) ∙ h.numbers d ld
 
-      counted : (d k : ℕ) (p : Option Instr) → (event_at t).retires ≡ p → is_of d p ≡ true → k ≡ retired_in event_at t d + 1 → k ≡ retired_in event_at (suc t) d
+      counted : (d k : ℕ) (p : Option Instr) → (event_at t).retires ≡ p → is_of d p ≡ true →
+          k ≡ retired_in event_at t d + 1 → k ≡ retired_in event_at (suc t) d
       counted d k p f test g = let same : is_of d (event_at t).retires ≡ true = ap (is_of d) f ∙ test in rw same g
 
-      uncounted : (d k : ℕ) (p : Option Instr) → (event_at t).retires ≡ p → is_of d p ≡ false → k ≡ retired_in event_at t d → k ≡ retired_in event_at (suc t) d
+      uncounted : (d k : ℕ) (p : Option Instr) → (event_at t).retires ≡ p → is_of d p ≡ false →
+          k ≡ retired_in event_at t d → k ≡ retired_in event_at (suc t) d
       uncounted d k p f test g = let same : is_of d (event_at t).retires ≡ false = ap (is_of d) f ∙ test in rw same g
 
       same_core : (i j : ℕ) → i ≡ j → (i == j) ≡ true
@@ -133,27 +150,37 @@ module _ {R K : Type 0} where
       other_core : (i j k : ℕ) → i ≡ j → k ≢ j → (i == k) ≡ false
       other_core i j k f apart = grind (arith, nat_tests)
 
-      here : ((o ≡ None) × ((core_at after.cores c).count ≡ core.count)) ⊎ ((o ≡ Some (next_instr core)) × ((core_at after.cores c).count ≡ core.count + 1)) →
+      here : ((o ≡ None) × ((core_at after.cores c).count ≡ core.count))
+          ⊎ ((o ≡ Some (next_instr core)) × ((core_at after.cores c).count ≡ core.count + 1)) →
           (core_at after.cores c).count ≡ retired_in event_at (suc t) c
       here (inl f) = uncounted c (core_at after.cores c).count None (retires ∙ f.0) refl (f.1 ∙ h.counts c lc)
-      here (inr f) = counted c (core_at after.cores c).count (Some (next_instr core)) (retires ∙ f.0) (same_core core.id c (h.numbers c lc))
+      here (inr f) = counted c (core_at after.cores c).count (Some (next_instr core)) (retires
+          ∙ f.0) (same_core core.id c (h.numbers c lc))
           (f.1 ∙ ap (λ (k : ℕ). k + 1) (h.counts c lc))
 
       there : (d : ℕ) → d < length s.cores → d ≢ c → ((o ≡ None) × ((core_at after.cores c).count ≡ core.count))
-          ⊎ ((o ≡ Some (next_instr core)) × ((core_at after.cores c).count ≡ core.count + 1)) → (core_at after.cores d).count ≡ retired_in event_at (suc t) d
+          ⊎ ((o ≡ Some (next_instr core)) × ((core_at after.cores c).count ≡ core.count + 1)) →
+          (core_at after.cores d).count ≡ retired_in event_at (suc t) d
       there d ld apart (inl f) =
-          uncounted d (core_at after.cores d).count None (retires ∙ f.0) refl (ap (λ (k : Core). k.count) (moved.there d apart) ∙ h.counts d ld)
+          uncounted d (core_at after.cores d).count None (retires
+          ∙ f.0) refl (ap (λ (k : Core). k.count) (moved.there d apart) ∙ h.counts d ld)
       there d ld apart (inr f) =
-          uncounted d (core_at after.cores d).count (Some (next_instr core)) (retires ∙ f.0) (other_core core.id c d (h.numbers c lc) apart)
+          uncounted d (core_at after.cores d).count (Some (next_instr core)) (retires
+          ∙ f.0) (other_core core.id c d (h.numbers c lc) apart)
           (ap (λ (k : Core). k.count) (moved.there d apart) ∙ h.counts d ld)
 
-      count : (d : ℕ) → d < length s.cores → (d ≡ c) ⊎ (d ≢ c) → (core_at after.cores d).count ≡ retired_in event_at (suc t) d
-      count d ld (inl f) = ap (λ (x : ℕ). (core_at after.cores x).count) f ∙ (here moved.here.count ∙ ap (retired_in event_at (suc t)) (sym f))
+      count : (d : ℕ) → d < length s.cores → (d ≡ c) ⊎ (d ≢ c) → (core_at after.cores d).count ≡ retired_in event_at
+          (suc t) d
+      count d ld (inl f) = ap (λ (x : ℕ). (core_at after.cores x).count) f
+          ∙ (here moved.here.count ∙ ap (retired_in event_at (suc t)) (sym f))
       count d ld (inr apart) = there d ld apart moved.here.count
 
-  -- the carry of the port at which an instruction retires is its actor's, joined with that of the message that was taken
-  retiring_carry : (riding : Riding R) (carrying : Carrying K) (s : State R K) (m : Move) (y : Instr) → instr_of (event riding carrying s m) ≡ Some y →
-      (retiring riding carrying s m).carry ≡ carry_taken carrying (taken_from m) (carries_of carrying s).sent (own_carry carrying s (actor_of m))
+  -- the carry of the port at which an instruction retires is its actor's, joined with that of the message that was
+  -- taken
+  retiring_carry : (riding : Riding R) (carrying : Carrying K) (s : State R K) (m : Move) (y : Instr) →
+      instr_of (event riding carrying s m) ≡ Some y →
+      (retiring riding carrying s m).carry ≡ carry_taken carrying (taken_from m) (carries_of carrying s).sent
+      (own_carry carrying s (actor_of m))
   retiring_carry riding carrying s (CoreMove c) y is = refl
   retiring_carry riding carrying s (RequestMove c) y is = none_some None y refl is
   retiring_carry riding carrying s (ResponseMove c) y is = none_some None y refl is
@@ -161,12 +188,16 @@ module _ {R K : Type 0} where
       taken_carry riding carrying (port_at carrying s.memory.ports c) (port_at carrying s.memory.ports c).messages.items
 
   -- the carry that is told is the one that its core then has
-  pub carry_follows : (riding : Riding R) (carrying : Carrying K) (s : State R K) (m : Move) (y : Instr) → IsTrue (enabled riding carrying s m) →
+  pub carry_follows : (riding : Riding R) (carrying : Carrying K) (s : State R K) (m : Move) (y : Instr) →
+      IsTrue (enabled riding carrying s m) →
       instr_of (event riding carrying s m) ≡ Some y → carry_told riding carrying s m
       ≡ carry_left carrying (happening_of (plain s) m) (carries_of carrying s) (actor_of m)
   carry_follows riding carrying s m y e is =
-      ap (λ (k : K). carrying.retired k (next_instr (core_at s.cores (core_of m)))) (retiring_carry riding carrying s m y is)
-      ∙ (ap (λ (x : Instr). carrying.retired (carry_taken carrying (taken_from m) (carries_of carrying s).sent (own_carry carrying s (actor_of m))) x)
+      ap (λ (k : K). carrying.retired k (next_instr (core_at s.cores (core_of m)))) (retiring_carry riding carrying s m
+      y is)
+      ∙ (ap (λ (x : Instr). carrying.retired (carry_taken carrying (taken_from m) (carries_of carrying s).sent
+      (own_carry carrying s (actor_of m))) x)
       (retired_next riding carrying s m y is) ∙ ap (λ (o : Option Instr).
-      carry_retired carrying o (carry_taken carrying (taken_from m) (carries_of carrying s).sent (own_carry carrying s (actor_of m))))
+      carry_retired carrying o (carry_taken carrying (taken_from m) (carries_of carrying s).sent
+      (own_carry carrying s (actor_of m))))
       (sym (sym (ap instr_of (forgetting.plain_event riding carrying s m)) ∙ is)))

@@ -32,13 +32,16 @@ module _ (image : Contents) (params : Params) (choices : ℕ → ℕ) (few : par
 
   -- what holds of the run's own history after t choices
   abbrev pub KnowsRun : ℕ → Type 0
-  KnowsRun t = KnowsAt (happening_at image params choices) t (carrying_at image params choices t) (notes_at image params choices t)
+  KnowsRun t = KnowsAt (happening_at image params choices) t (carrying_at image params choices t)
+      (notes_at image params choices t)
 
   pub run_known_start : KnowsRun 0
-  run_known_start = knows_start none_riding (happening_at image params choices) image params.cores params.limit (no_notes params.cores) few refl
+  run_known_start = knows_start none_riding (happening_at image params choices) image params.cores params.limit
+      (no_notes params.cores) few refl
 
   -- a retirement is noted as it is to be
-  noted_next : (t : ℕ) (m : Move) (at : Instr) (known : Known) → IsTrue (enabled none_riding known_carrying (carrying_at image params choices t) m) →
+  noted_next : (t : ℕ) (m : Move) (at : Instr) (known : Known) →
+      IsTrue (enabled none_riding known_carrying (carrying_at image params choices t) m) →
       (events t).retires ≡ Some at →
       instr_of (event none_riding known_carrying (carrying_at image params choices t) m) ≡ Some at → KnowsRun t →
       IsNoted (notes_at image params choices t) at known (with_note (notes_at image params choices t) at known)
@@ -50,15 +53,18 @@ module _ (image : Contents) (params : Params) (choices : ℕ → ℕ) (few : par
       let cores = h.cores in
       is_noted notes at known (with_note notes at known) (omega arith) (count ∙ ap (λ (n : ℕ). n + 1) (sym noted)) refl
 
-  event_noted : (t : ℕ) (m : Move) (known : Known) (e : Event) → IsTrue (enabled none_riding known_carrying (carrying_at image params choices t) m) →
-      (events t).retires ≡ instr_of e → event none_riding known_carrying (carrying_at image params choices t) m ≡ e → KnowsRun t →
+  event_noted : (t : ℕ) (m : Move) (known : Known) (e : Event) →
+      IsTrue (enabled none_riding known_carrying (carrying_at image params choices t) m) →
+      (events t).retires ≡ instr_of e → event none_riding known_carrying (carrying_at image params choices t) m ≡ e →
+      KnowsRun t →
       HistoryTold e known (notes_at image params choices t) (with_event (notes_at image params choices t) e known)
   event_noted t m known Nothing can retires is h = refl
   event_noted t m known (Retires at) can retires is h = noted_next t m at known can retires (ap instr_of is) h
   event_noted t m known (Accesses a) can retires is h = noted_next t m a.at known can retires (ap instr_of is) h
 
   -- the history goes on with the move that the run takes
-  pub run_known_next : (t : ℕ) (m : Move) → chosen (run image params choices t) (choices t) ≡ Some m → KnowsRun t → KnowsRun (suc t)
+  pub run_known_next : (t : ℕ) (m : Move) → chosen (run image params choices t) (choices t) ≡ Some m → KnowsRun t →
+      KnowsRun (suc t)
   run_known_next t m taken h = by (chosen (plain (carrying_at image params choices t)) (choices t)) refl
     where
       s : State (Unit {0}) Known
@@ -70,15 +76,22 @@ module _ (image : Contents) (params : Params) (choices : ℕ → ℕ) (few : par
       by : (o : Option Move) → chosen (plain (carrying_at image params choices t)) (choices t) ≡ o →
           KnowsAt events (suc t) (known_stepped none_riding tt (carrying_at image params choices t) o)
           (with_move (carrying_at image params choices t) (notes_at image params choices t) o)
-      by None none = absurd (let clash : Some m ≡ None = sym taken ∙ ap (λ (u : PlainState). chosen u (choices t)) (sym here) ∙ none in cc)
+      by None none = absurd (let clash : Some m ≡ None = sym taken ∙ ap (λ (u : PlainState). chosen u (choices t))
+          (sym here) ∙ none in cc)
       by (Some n) is =
           let e = event none_riding known_carrying (carrying_at image params choices t) n in
           let can = taken_enabled none_riding (carrying_at image params choices t) (choices t) n is in
-          let happens : happening_at image params choices t ≡ happening_of (plain (carrying_at image params choices t)) n =
-          ap (λ (u : PlainState). happening_by u (chosen u (choices t))) (sym here) ∙ ap (happening_by (plain (carrying_at image params choices t))) is in
+          let happens : happening_at image params choices t ≡ happening_of (plain (carrying_at image params choices t))
+          n =
+          ap (λ (u : PlainState). happening_by u (chosen u (choices t))) (sym here)
+          ∙ ap (happening_by (plain (carrying_at image params choices t))) is in
           let retires : (happening_at image params choices t).retires ≡ instr_of e =
           ap (λ (p : Happening). p.retires) happens
-          ∙ sym (ap instr_of (forgetting.plain_event none_riding known_carrying (carrying_at image params choices t) n)) in
-          knows_step none_riding (happening_at image params choices) t (carrying_at image params choices t) n tt (notes_at image params choices t)
-          (with_move (carrying_at image params choices t) (notes_at image params choices t) (Some n)) (run_orderly_law image params choices few) can happens
-          (event_noted t n (carry_told none_riding known_carrying (carrying_at image params choices t) n) e can retires refl h) h
+          ∙ sym (ap instr_of (forgetting.plain_event none_riding known_carrying (carrying_at image params choices t)
+          n)) in
+          knows_step none_riding (happening_at image params choices) t (carrying_at image params choices t) n tt
+          (notes_at image params choices t)
+          (with_move (carrying_at image params choices t) (notes_at image params choices t) (Some n))
+          (run_orderly_law image params choices few) can happens
+          (event_noted t n (carry_told none_riding known_carrying (carrying_at image params choices t) n) e can retires
+          refl h) h

@@ -10,7 +10,8 @@ use Rattle.msi_memory.specs.declared.port.Port.{Port}
 use Rattle.msi_memory.specs.Acts.{TakeRequest, TakeResponse, TakeMessage}
 use Rattle.msi_memory.specs.Memories.{port_at}
 use Rattle.msi_state.specs.declared.moves.Move.{Move}
-use Rattle.msi_state.specs.declared.moves.Move.TheVariants.{Core as CoreMove, Request as RequestMove, Response as ResponseMove, FromHome as MessageMove}
+use Rattle.msi_state.specs.declared.moves.Move.TheVariants.{Core as CoreMove, Request as RequestMove}
+use Rattle.msi_state.specs.declared.moves.Move.TheVariants.{Response as ResponseMove, FromHome as MessageMove}
 use Rattle.msi_state.specs.Moves.{candidates}
 use Rattle.msi_state.specs.States.{State, core_at}
 use Rattle.msi_state.specs.Steps.{enabled}
@@ -23,7 +24,8 @@ filter_same f g same [] = refl
 filter_same f g same (x ∷ xs) = rw (same x, filter_same f g same xs)
 
 module _ {R K : Type 0} where
-  pub plain_enabled : (riding : Riding R) (carrying : Carrying K) (s : State R K) (m : Move) → enabled riding carrying s m
+  pub plain_enabled : (riding : Riding R) (carrying : Carrying K) (s : State R K) (m : Move) →
+      enabled riding carrying s m
       ≡ enabled none_riding none_carrying (plain s) m
   plain_enabled riding carrying s (CoreMove c) =
       ap (λ (w : Bool). nat_lt c (length s.cores) && (not (is_done (need s.image (core_at s.cores c))) && not w))
@@ -35,5 +37,6 @@ module _ {R K : Type 0} where
 
   pub plain_moves : (riding : Riding R) (carrying : Carrying K) (s : State R K) → PlainMoves riding carrying s
   plain_moves riding carrying s =
-      filter_same (enabled riding carrying s) (enabled none_riding none_carrying (plain s)) (plain_enabled riding carrying s)
+      filter_same (enabled riding carrying s) (enabled none_riding none_carrying (plain s))
+      (plain_enabled riding carrying s)
       (candidates (length s.cores) (4 * length s.cores))

@@ -23,33 +23,47 @@ use Rattle.memory_laws.proofs.Spaces.{no_requests}
 
 module _ {R K : Type 0} where
   -- where data come, the access is allowed that waited for them
-  access_waited : (riding : Riding R) (carrying : Carrying K) (s : State R K) (c : ℕ) → MachineHolds riding carrying s → c < length s.cores →
+  access_waited : (riding : Riding R) (carrying : Carrying K) (s : State R K) (c : ℕ) → MachineHolds riding carrying s →
+      c < length s.cores →
       (t : Bool) → data_next (port_at carrying s.memory.ports c).messages.items ≡ t →
-      IsTrue (not t || may_access (need_access (need s.image (core_at s.cores c))) riding (port_taken riding carrying (port_at carrying s.memory.ports c)))
+      IsTrue (not t || may_access (need_access (need s.image (core_at s.cores c))) riding (port_taken riding carrying
+      (port_at carrying s.memory.ports c)))
   access_waited riding carrying s c h within false e = refl
   access_waited riding carrying s c h within true e =
-      let g = data_granted riding carrying s.memory c (need_access (need s.image (core_at s.cores c))) h.memory (core_port riding carrying s c h within) e
+      let g = data_granted riding carrying s.memory c (need_access (need s.image (core_at s.cores c))) h.memory
+      (core_port riding carrying s c h within) e
       (h.cores c within).awaited in
-      ap (λ (needed : Option (Kind × ℕ)). may_access needed riding (port_taken riding carrying (port_at carrying s.memory.ports c))) g.needs ∙ g.allowed
+      ap (λ (needed : Option (Kind × ℕ)). may_access needed riding (port_taken riding carrying
+      (port_at carrying s.memory.ports c))) g.needs ∙ g.allowed
 
-  pub rows_there : (riding : Riding R) (carrying : Carrying K) (s : State R K) (m : Move) → MachineHolds riding carrying s →
+  pub rows_there : (riding : Riding R) (carrying : Carrying K) (s : State R K) (m : Move) →
+      MachineHolds riding carrying s →
       IsTrue (enabled riding carrying s m) → IsTrue (has_row_for riding carrying s m)
   rows_there riding carrying s (CoreMove c) h e = refl
-  rows_there riding carrying s (RequestMove c) h e = (memory_ready riding carrying s.memory h.memory).rows (TakeRequest c) e
-  rows_there riding carrying s (ResponseMove c) h e = (memory_ready riding carrying s.memory h.memory).rows (TakeResponse c) e
+  rows_there riding carrying s (RequestMove c) h e =
+      (memory_ready riding carrying s.memory h.memory).rows (TakeRequest c) e
+  rows_there riding carrying s (ResponseMove c) h e =
+      (memory_ready riding carrying s.memory h.memory).rows (TakeResponse c) e
   rows_there riding carrying s (MessageMove c) h e =
       both_true (has_act_row riding carrying s.memory (TakeMessage c))
-      (not (data_next (port_at carrying s.memory.ports c).messages.items) || may_access (need_access (need s.image (core_at s.cores c))) riding
-      (port_taken riding carrying (port_at carrying s.memory.ports c))) ((memory_ready riding carrying s.memory h.memory).rows (TakeMessage c) e)
+      (not (data_next (port_at carrying s.memory.ports c).messages.items) || may_access
+      (need_access (need s.image (core_at s.cores c))) riding
+      (port_taken riding carrying (port_at carrying s.memory.ports c))) ((memory_ready riding carrying s.memory
+      h.memory).rows (TakeMessage c) e)
       (access_waited riding carrying s c h (enabled_core riding carrying s (MessageMove c) e h)
       (data_next (port_at carrying s.memory.ports c).messages.items) refl)
 
-  pub rooms_there : (riding : Riding R) (carrying : Carrying K) (s : State R K) (m : Move) → MachineHolds riding carrying s →
+  pub rooms_there : (riding : Riding R) (carrying : Carrying K) (s : State R K) (m : Move) →
+      MachineHolds riding carrying s →
       IsTrue (enabled riding carrying s m) → HasRoomFor riding carrying s m
   rooms_there riding carrying s (CoreMove c) h e =
       let w = core_enabled riding carrying s c e in
       let within = core_port riding carrying s c h w.core in
-      rw (no_requests riding carrying s.memory c h.memory within w.still, (h.memory.ports c within).requests_room) (omega arith)
-  rooms_there riding carrying s (RequestMove c) h e = (memory_ready riding carrying s.memory h.memory).rooms (TakeRequest c) e
-  rooms_there riding carrying s (ResponseMove c) h e = (memory_ready riding carrying s.memory h.memory).rooms (TakeResponse c) e
-  rooms_there riding carrying s (MessageMove c) h e = (memory_ready riding carrying s.memory h.memory).rooms (TakeMessage c) e
+      rw (no_requests riding carrying s.memory c h.memory within w.still, (h.memory.ports c within).requests_room)
+      (omega arith)
+  rooms_there riding carrying s (RequestMove c) h e = (memory_ready riding carrying s.memory h.memory).rooms
+      (TakeRequest c) e
+  rooms_there riding carrying s (ResponseMove c) h e = (memory_ready riding carrying s.memory h.memory).rooms
+      (TakeResponse c) e
+  rooms_there riding carrying s (MessageMove c) h e = (memory_ready riding carrying s.memory h.memory).rooms
+      (TakeMessage c) e

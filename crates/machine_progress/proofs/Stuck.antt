@@ -22,7 +22,8 @@ use Rattle.machine_invariant.specs.Holds.{MachineHolds}
 use Rattle.machine_invariant.proofs.Awaits.{enabled_core, core_port}
 use Rattle.memory_laws.proofs.Moving.{waiting_moves}
 
-filter_some : {X : Type 0} (test : X → Bool) (xs : List X) (k : ℕ) (d : X) → k < length xs → test (get_or xs k d) ≡ true → 0 < length (filter test xs)
+filter_some : {X : Type 0} (test : X → Bool) (xs : List X) (k : ℕ) (d : X) → k < length xs →
+    test (get_or xs k d) ≡ true → 0 < length (filter test xs)
 filter_some test [] k d within is = absurd (omega arith)
 filter_some test (x ∷ xs) zero d within is = rw is (omega arith)
 filter_some test (x ∷ xs) (suc k) d within is = by_test (test x) (filter_some test xs k d (omega arith) is)
@@ -31,12 +32,14 @@ filter_some test (x ∷ xs) (suc k) d within is = by_test (test x) (filter_some 
     by_test true lt = omega arith
     by_test false lt = lt
 
-not_all : {X : Type 0} (test : X → Bool) (xs : List X) (d : X) → list_all test xs ≡ false → (i : ℕ) × (i < length xs) × (test (get_or xs i d) ≡ false)
+not_all : {X : Type 0} (test : X → Bool) (xs : List X) (d : X) → list_all test xs ≡ false →
+    (i : ℕ) × (i < length xs) × (test (get_or xs i d) ≡ false)
 not_all test [] d e = absurd (cc)
 not_all test (x ∷ xs) d e = by_test (test x) refl e (λ (f : list_all test xs ≡ false). not_all test xs d f)
   where
     by_test : (t : Bool) → test x ≡ t → (t && list_all test xs) ≡ false →
-        (list_all test xs ≡ false → (i : ℕ) × (i < length xs) × (test (get_or xs i d) ≡ false)) → (i : ℕ) × (i < length (x ∷ xs))
+        (list_all test xs ≡ false → (i : ℕ) × (i < length xs) × (test (get_or xs i d) ≡ false)) →
+        (i : ℕ) × (i < length (x ∷ xs))
         × (test (get_or (x ∷ xs) i d) ≡ false)
     by_test true is f rest = let r = rest f in (suc r.0, (let lt = r.1 in omega arith), r.2)
     by_test false is f rest = (0, omega arith, is)
@@ -56,7 +59,8 @@ numbered cores (MessageMove c) lt = grind (arith, nat_tests)
 
 module _ {R K : Type 0} where
   -- an enabled move is among the moves
-  pub move_some : (riding : Riding R) (carrying : Carrying K) (s : State R K) (m : Move) → MachineHolds riding carrying s →
+  pub move_some : (riding : Riding R) (carrying : Carrying K) (s : State R K) (m : Move) →
+      MachineHolds riding carrying s →
       IsTrue (enabled riding carrying s m) → 0 < length (moves riding carrying s)
   move_some riding carrying s m h e =
       let n : ℕ = 4 * length s.cores in
@@ -64,12 +68,14 @@ module _ {R K : Type 0} where
       let lt : core_of m < length s.cores = enabled_core riding carrying s m e h in
       let within : k < n = number_within (length s.cores) m lt in
       let at : get_or (candidates (length s.cores) n) k m ≡ m =
-      get_or-map-range_with_len (candidate (length s.cores)) 0 n k k m within (zero-add k) ∙ numbered (length s.cores) m lt in
+      get_or-map-range_with_len (candidate (length s.cores)) 0 n k k m within (zero-add k)
+      ∙ numbered (length s.cores) m lt in
       filter_some (enabled riding carrying s) (candidates (length s.cores) n) k m
       (rw (length-map-range_with_len (candidate (length s.cores)) 0 n) within) (rw at e)
 
   -- what takes a message is a move
-  take_some : (riding : Riding R) (carrying : Carrying K) (s : State R K) (act : Act R) → MachineHolds riding carrying s → is_take act ≡ true →
+  take_some : (riding : Riding R) (carrying : Carrying K) (s : State R K) (act : Act R) →
+      MachineHolds riding carrying s → is_take act ≡ true →
       can riding carrying s.memory act ≡ true → 0 < length (moves riding carrying s)
   take_some riding carrying s (Want c block kind) h takes e = absurd (cc)
   take_some riding carrying s (Touch c block slot kind value rider) h takes e = absurd (cc)
@@ -78,11 +84,13 @@ module _ {R K : Type 0} where
   take_some riding carrying s (TakeResponse c) h takes e = move_some riding carrying s (ResponseMove c) h e
   take_some riding carrying s (TakeMessage c) h takes e = move_some riding carrying s (MessageMove c) h e
 
-  core_goes : (riding : Riding R) (carrying : Carrying K) (s : State R K) (c : ℕ) → c < length s.cores → is_done (need s.image (core_at s.cores c)) ≡ false →
+  core_goes : (riding : Riding R) (carrying : Carrying K) (s : State R K) (c : ℕ) → c < length s.cores →
+      is_done (need s.image (core_at s.cores c)) ≡ false →
       waits (port_at carrying s.memory.ports c).cache ≡ false → IsTrue (enabled riding carrying s (CoreMove c))
   core_goes riding carrying s c within more still = rw (more, still) (grind (arith, nat_tests))
 
-  pub some_move : (riding : Riding R) (carrying : Carrying K) (s : State R K) → MachineHolds riding carrying s → all_done s ≡ false →
+  pub some_move : (riding : Riding R) (carrying : Carrying K) (s : State R K) → MachineHolds riding carrying s →
+      all_done s ≡ false →
       0 < length (moves riding carrying s)
   some_move riding carrying s h e =
       let m = not_all (λ (core : Core). is_done (need s.image core)) s.cores (starting 0 0) e in
@@ -90,7 +98,8 @@ module _ {R K : Type 0} where
     where
       by_waits : (c : ℕ) → c < length s.cores → is_done (need s.image (core_at s.cores c)) ≡ false → (t : Bool) →
           waits (port_at carrying s.memory.ports c).cache ≡ t → 0 < length (moves riding carrying s)
-      by_waits c within more false w = move_some riding carrying s (CoreMove c) h (core_goes riding carrying s c within more w)
+      by_waits c within more false w = move_some riding carrying s (CoreMove c) h (core_goes riding carrying s c within
+          more w)
       by_waits c within more true w =
           let take = waiting_moves riding carrying s.memory c h.memory (core_port riding carrying s c h within) w in
           take_some riding carrying s take.0 h take.1 take.2

@@ -1,5 +1,6 @@
 -- The words of a memory, block by block.
-use Rattle.std.proofs.Common.{◌≡◌, ◌∙◌, add-zero, ap, arith, map, sym, zero-add, ℕ, suc, ◌+◌, ◌*◌, ◌/◌, ◌%◌, ◌<◌, List, [], ◌∷◌, ◌++◌, length}
+use Rattle.std.proofs.Common.{◌≡◌, ◌∙◌, add-zero, ap, arith, map, sym, zero-add, ℕ, suc, ◌+◌, ◌*◌, ◌/◌, ◌%◌, ◌<◌, List}
+use Rattle.std.proofs.Common.{[], ◌∷◌, ◌++◌, length}
 use Rattle.std.specs.Prelude.{slice_index}
 use Rattle.std.specs.List.{range_with_len}
 use Rattle.std.proofs.lemmas.List.{append-nil, append_assoc}
@@ -14,7 +15,8 @@ module _ (f : ℕ → ℕ) where
   abbrev firsts : ℕ → List ℕ
   firsts n = map f (range_with_len 0 n)
 
-  more_values : (xs : List ℕ) (n : ℕ) → ((i : ℕ) → i < length xs → slice_index xs i ≡ f (n + i)) → firsts n ++ xs ≡ firsts (n + length xs)
+  more_values : (xs : List ℕ) (n : ℕ) → ((i : ℕ) → i < length xs → slice_index xs i ≡ f (n + i)) →
+      firsts n ++ xs ≡ firsts (n + length xs)
   more_values [] n each = append-nil (firsts n) ∙ ap firsts (sym (add-zero n))
   more_values (x ∷ xs) n each =
       let first : x ≡ f n = each 0 (omega arith) ∙ ap f (add-zero n) in
@@ -29,14 +31,16 @@ module _ (f : ℕ → ℕ) where
 
 -- a block's words are the next words of the memory
 module _ {R K : Type 0} (riding : Riding R) (carrying : Carrying K) (s : State R K) (block : ℕ) where
-  slot_of : (slot : ℕ) → slot < 4 → slice_index (final_words riding carrying s block) slot ≡ final_word riding carrying s (block * 4 + slot)
+  slot_of : (slot : ℕ) → slot < 4 → slice_index (final_words riding carrying s block) slot ≡ final_word riding carrying
+      s (block * 4 + slot)
   slot_of slot low =
       let same : (block * 4 + slot) / 4 ≡ block = omega arith in
       let here : (block * 4 + slot) % 4 ≡ slot = omega arith in
       rw (same, here)
 
   pub block_more : (words : List ℕ) → length words ≡ 4 → SameWords words (final_words riding carrying s block)
-      → map (final_word riding carrying s) (range_with_len 0 (block * 4)) ++ words ≡ map (final_word riding carrying s) (range_with_len 0 ((block + 1) * 4))
+      → map (final_word riding carrying s) (range_with_len 0 (block * 4)) ++ words ≡ map (final_word riding carrying s)
+      (range_with_len 0 ((block + 1) * 4))
   block_more words four same =
       let each : (i : ℕ) → i < length words → slice_index words i ≡ final_word riding carrying s (block * 4 + i) =
       λ i within. let low : i < 4 = omega (arith, within, four) in same i low ∙ slot_of i low in

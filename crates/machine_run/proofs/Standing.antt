@@ -27,14 +27,16 @@ use Rattle.machine_run.specs.Clerks.{ToldLocal, ToldTouch}
 -- the lists after what the clerk was told of
 pub told_lists : (e : Event) (carry : NoCarry) (before after : LoadRooms) (r q : NoRider) →
     Tells (λ (c : LoadRooms) (i : Instr) (k : NoCarry) (d : LoadRooms). ToldLocal c d)
-    (λ (c : LoadRooms) (r : NoRider) (a : Access) (k : NoCarry) (d : LoadRooms) (q : NoRider). ToldTouch c r a d q) e carry before r after q →
+    (λ (c : LoadRooms) (r : NoRider) (a : Access) (k : NoCarry) (d : LoadRooms) (q : NoRider). ToldTouch c r a d q) e
+    carry before r after q →
     after.lists ≡ lists_told before.lists e
 told_lists Nothing carry before after r q is = ap (λ (l : LoadRooms). l.lists) is
 told_lists (Retires at) carry before after r q is = is
 told_lists (Accesses a) carry before after r q is = is.loads
 
 -- each core's number is that of a list
-pub all_numbered : {R K : Type 0} (image : Contents) (params : Params) (schedule : Choices) (t : ℕ) (s : State R K) (loads : List (List LoadNote))
+pub all_numbered : {R K : Type 0} (image : Contents) (params : Params) (schedule : Choices) (t : ℕ) (s : State R K)
+    (loads : List (List LoadNote))
     (rest : Choices) → Fits params → StandsAt image params schedule t (plain s) loads rest →
     All (λ (core : Core). core.id < length loads) s.cores
 all_numbered {R} {K} image params schedule t s loads rest fits stands =

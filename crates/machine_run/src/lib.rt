@@ -5,8 +5,6 @@
 mod ends;
 mod load_clerk;
 mod run;
-#[cfg(test)]
-mod tests;
 
 pub use ends::{cores_of, words_of};
 pub use load_clerk::note_read;

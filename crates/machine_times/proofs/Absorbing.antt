@@ -27,10 +27,12 @@ use Rattle.msi_memory.specs.Memories.{Memory, port_at}
 use Rattle.memory_laws.specs.Holds.{MemoryHolds}
 use Rattle.memory_laws.specs.Links.{of_block, line_if, port_sight}
 use Rattle.memory_laws.specs.Sights.{cons_if}
-use Rattle.msi_state.specs.declared.moves.Move.TheVariants.{Core as CoreMove, Request as RequestMove, Response as ResponseMove, FromHome as MessageMove}
+use Rattle.msi_state.specs.declared.moves.Move.TheVariants.{Core as CoreMove, Request as RequestMove}
+use Rattle.msi_state.specs.declared.moves.Move.TheVariants.{Response as ResponseMove, FromHome as MessageMove}
 use Rattle.memory_laws.proofs.PortsKept.{there_of}
 use Rattle.memory_laws.proofs.Standing.{HasRow, message_row}
-use Rattle.machine_times.specs.Absorbing.{request_meets, response_meets, message_meets, request_meets_in, response_meets_in, message_meets_in, MeetAlike}
+use Rattle.machine_times.specs.Absorbing.{request_meets, response_meets, message_meets, request_meets_in}
+use Rattle.machine_times.specs.Absorbing.{response_meets_in, message_meets_in, MeetAlike}
 use Rattle.machine_times.specs.History.{NotedAccess}
 use Rattle.machine_times.specs.Retirements.{noted_accesses}
 use Rattle.machine_times.specs.StandsFor.{TimesParts, HasTimes, HaveTimes}
@@ -39,25 +41,40 @@ use Rattle.machine_times.proofs.Timed.{mover_below}
 module _ {R : Type 0} where
   -- ---- of one block
 
-  request_counts : (b : ℕ) (bl : FullBlock (Payload R)) (c : ℕ) (a : Ask) (rest : List Ask) (x y : R) → (picture (bl.seats c).phase).requests ≡ a ∷ rest →
-      role_in (bl.seats c).phase ≡ role bl.stage c → request_meets (entry_with bl) c (ask_with b (bl.seats c).put a) ≡ Some (x, y)
-      → (home_counts bl.stage ≡ true) × (line_counts (bl.seats c).phase ≡ true) × (put_counts (bl.seats c).phase ≡ true) × (x ≡ bl.home.rider)
+  request_counts : (b : ℕ) (bl : FullBlock (Payload R)) (c : ℕ) (a : Ask) (rest : List Ask) (x y : R) →
+      (picture (bl.seats c).phase).requests ≡ a ∷ rest →
+      role_in (bl.seats c).phase ≡ role bl.stage c →
+      request_meets (entry_with bl) c (ask_with b (bl.seats c).put a) ≡ Some (x, y)
+      → (home_counts bl.stage ≡ true) × (line_counts (bl.seats c).phase ≡ true) × (put_counts
+      (bl.seats c).phase ≡ true) × (x ≡ bl.home.rider)
       × (y ≡ (bl.seats c).put.rider)
-  request_counts b bl c a rest x y asks is met =
-      (grind (arith, nat_tests), grind (arith, nat_tests), grind (arith, nat_tests), grind (arith, nat_tests), grind (arith, nat_tests))
+  request_counts b bl c a rest x y asks is met = (
+    grind (arith, nat_tests),
+    grind (arith, nat_tests),
+    grind (arith, nat_tests),
+    grind (arith, nat_tests),
+    grind (arith, nat_tests),
+  )
 
-  response_counts : (b : ℕ) (bl : FullBlock (Payload R)) (c : ℕ) (a : Reply) (rest : List Reply) (x y : R) → (picture (bl.seats c).phase).responses
-      ≡ a ∷ rest → role_in (bl.seats c).phase ≡ role bl.stage c → response_meets (entry_with bl) c (reply_with b (bl.seats c).reply a) ≡ Some (x, y)
-      → (home_counts bl.stage ≡ true) × (reply_counts (bl.seats c).phase ≡ true) × (x ≡ bl.home.rider) × (y ≡ (bl.seats c).reply.rider)
-  response_counts b bl c a rest x y asks is met = (grind (arith, nat_tests), grind (arith, nat_tests), grind (arith, nat_tests), grind (arith, nat_tests))
+  response_counts : (b : ℕ) (bl : FullBlock (Payload R)) (c : ℕ) (a : Reply) (rest : List Reply) (x y : R) →
+      (picture (bl.seats c).phase).responses
+      ≡ a ∷ rest → role_in (bl.seats c).phase ≡ role bl.stage c →
+      response_meets (entry_with bl) c (reply_with b (bl.seats c).reply a) ≡ Some (x, y)
+      → (home_counts bl.stage ≡ true) × (reply_counts (bl.seats c).phase ≡ true) × (x ≡ bl.home.rider) × (y ≡ (bl.seats
+      c).reply.rider)
+  response_counts b bl c a rest x y asks is met =
+      (grind (arith, nat_tests), grind (arith, nat_tests), grind (arith, nat_tests), grind (arith, nat_tests))
 
-  message_counts : (b : ℕ) (s : Seat (Payload R)) (g : Signal) (rest : List Signal) (x y : R) → (picture s.phase).messages ≡ g ∷ rest →
+  message_counts : (b : ℕ) (s : Seat (Payload R)) (g : Signal) (rest : List Signal) (x y : R) →
+      (picture s.phase).messages ≡ g ∷ rest →
       message_meets (line_with b s) (signal_with b s.sent g) ≡ Some (x, y)
       → (sent_counts s.phase ≡ true) × (line_counts s.phase ≡ true) × (x ≡ s.sent.rider) × (y ≡ s.line.rider)
   message_counts b s g rest x y asks met = (grind arith, grind arith, grind arith, grind arith)
 
-  pub request_alike : (parts : TimesParts R) (h : List NotedAccess) (b : ℕ) (entry : Entry R) (sights : ℕ → Sight R) (c : ℕ) (request : Request R)
-      (rest : List (Request R)) (x y : R) → c < CORES_MAX → (sights c).requests ≡ request ∷ rest → Shows (HasTimes parts h b) b entry sights →
+  pub request_alike : (parts : TimesParts R) (h : List NotedAccess) (b : ℕ) (entry : Entry R) (sights : ℕ →
+      Sight R) (c : ℕ) (request : Request R)
+      (rest : List (Request R)) (x y : R) → c < CORES_MAX → (sights c).requests ≡ request ∷ rest →
+      Shows (HasTimes parts h b) b entry sights →
       request_meets entry c request ≡ Some (x, y)
       → (slot : ℕ) → slot < BLOCK_WORDS → parts.write x slot ≡ parts.write y slot
   request_alike parts h b entry sights c request rest x y lc asks f met slot ls =
@@ -67,7 +84,8 @@ module _ {R : Type 0} where
       let seat = e.holders.seats c lc in
       let q = shown_asked b s request rest (ap (λ (v : Sight R). v.requests) (f.shows c lc) ∙ asks) in
       let here : request_meets (entry_with bl) c (ask_with b s.put q.0) ≡ Some (x, y) =
-      ap (λ (e : Entry R). request_meets e c (ask_with b s.put q.0)) f.entry_is ∙ (ap (λ (r : Request R). request_meets entry c r) (sym q.3) ∙ met) in
+      ap (λ (e : Entry R). request_meets e c (ask_with b s.put q.0)) f.entry_is
+      ∙ (ap (λ (r : Request R). request_meets entry c r) (sym q.3) ∙ met) in
       let counts = request_counts b bl c q.0 q.1 x y q.2 (e.stands.roles c lc) here in
       ap (λ (r : R). parts.write r slot) counts.3
       ∙ ((e.holders.home counts.0).write
@@ -75,8 +93,10 @@ module _ {R : Type 0} where
       ∙ (ap (λ (p : Payload R). parts.write p.rider slot) (sym (seat.put counts.2))
       ∙ ap (λ (r : R). parts.write r slot) (sym counts.4))))
 
-  pub response_alike : (parts : TimesParts R) (h : List NotedAccess) (b : ℕ) (entry : Entry R) (sights : ℕ → Sight R) (c : ℕ) (response : Response R)
-      (rest : List (Response R)) (x y : R) → c < CORES_MAX → (sights c).responses ≡ response ∷ rest → Shows (HasTimes parts h b) b entry sights →
+  pub response_alike : (parts : TimesParts R) (h : List NotedAccess) (b : ℕ) (entry : Entry R) (sights : ℕ →
+      Sight R) (c : ℕ) (response : Response R)
+      (rest : List (Response R)) (x y : R) → c < CORES_MAX → (sights c).responses ≡ response ∷ rest →
+      Shows (HasTimes parts h b) b entry sights →
       response_meets entry c response ≡ Some (x, y)
       → (slot : ℕ) → slot < BLOCK_WORDS → parts.write x slot ≡ parts.write y slot
   response_alike parts h b entry sights c response rest x y lc asks f met slot ls =
@@ -94,16 +114,20 @@ module _ {R : Type 0} where
       ∙ (sym (seat.reply counts.1).write
       ∙ ap (λ (r : R). parts.write r slot) (sym counts.3)))
 
-  pub message_alike : (parts : TimesParts R) (h : List NotedAccess) (b : ℕ) (entry : Entry R) (sights : ℕ → Sight R) (c : ℕ) (m : FromHome R)
-      (rest : List (FromHome R)) (x y : R) → c < CORES_MAX → (sights c).messages ≡ m ∷ rest → Shows (HasTimes parts h b) b entry sights →
+  pub message_alike : (parts : TimesParts R) (h : List NotedAccess) (b : ℕ) (entry : Entry R) (sights : ℕ →
+      Sight R) (c : ℕ) (m : FromHome R)
+      (rest : List (FromHome R)) (x y : R) → c < CORES_MAX → (sights c).messages ≡ m ∷ rest →
+      Shows (HasTimes parts h b) b entry sights →
       message_meets (sights c).line m ≡ Some (x, y)
       → (slot : ℕ) → slot < BLOCK_WORDS → parts.write x slot ≡ parts.write y slot
   message_alike parts h b entry sights c m rest x y lc asks f met slot ls =
       let s : Seat (Payload R) = f.block.seats c in
       let seat = (f.has slot ls).holders.seats c lc in
-      let head : map (signal_with b s.sent) (picture s.phase).messages ≡ m ∷ rest = ap (λ (v : Sight R). v.messages) (f.shows c lc) ∙ asks in
+      let head : map (signal_with b s.sent) (picture s.phase).messages ≡ m ∷ rest =
+      ap (λ (v : Sight R). v.messages) (f.shows c lc) ∙ asks in
       let q = messages_cons b s.sent m rest (picture s.phase).messages head in
-      let first : signal_with b s.sent q.0 ≡ m = head_is (map (signal_with b s.sent) q.1) (ap (map (signal_with b s.sent)) (sym q.2) ∙ head) in
+      let first : signal_with b s.sent q.0 ≡ m =
+      head_is (map (signal_with b s.sent) q.1) (ap (map (signal_with b s.sent)) (sym q.2) ∙ head) in
       let here : message_meets (line_with b s) (signal_with b s.sent q.0) ≡ Some (x, y) =
       ap (λ (v : Sight R). message_meets v.line (signal_with b s.sent q.0)) (f.shows c lc)
       ∙ (ap (λ (n : FromHome R). message_meets (sights c).line n) first ∙ met) in
@@ -164,7 +188,8 @@ module _ {R K : Type 0} where
 
   -- and as its cache takes a message
   pub messages_alike : (parts : TimesParts R) (carrying : Carrying K) (h : List NotedAccess) (m : Memory R K) (c : ℕ)
-      (x y : R) → c < CORES_MAX → MemoryHolds parts.riding carrying m → IsTrue (can parts.riding carrying m (TakeMessage c)) →
+      (x y : R) → c < CORES_MAX → MemoryHolds parts.riding carrying m →
+      IsTrue (can parts.riding carrying m (TakeMessage c)) →
       HaveTimes parts carrying h m →
       message_meets_in (port_at carrying m.ports c).messages.items parts.riding carrying m c ≡ Some (x, y) →
       (slot : ℕ) → slot < BLOCK_WORDS → parts.write x slot ≡ parts.write y slot

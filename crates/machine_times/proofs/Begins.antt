@@ -30,14 +30,25 @@ module _ {R K : Type 0} where
         holders = record {
           home = λ counts. record {
             write = ap (λ (r : R). parts.write r slot) rider ∙ fresh.write slot ls;
-            reads = λ d ld. rw (ap (λ (r : R). parts.read r slot d) rider ∙ fresh.read slot d ls ld) (record { below = omega arith; same = λ le. refl });
+            reads = λ d ld. rw (ap (λ (r : R). parts.read r slot d) rider ∙ fresh.read slot d ls ld) (record {
+              below =
+                  omega arith;
+              same = λ le. refl;
+            });
           };
-          seats = λ d ld. record { line = λ counts. absurd cc; sent = λ counts. absurd cc; reply = λ counts. absurd cc; put = λ counts. absurd cc };
+          seats = λ d ld. record {
+            line = λ counts. absurd cc;
+            sent = λ counts. absurd cc;
+            reply =
+                λ counts. absurd cc;
+            put = λ counts. absurd cc;
+          };
         };
         found = λ d ld lt. absurd (omega arith);
       }))
 
-  pub machine_start : (parts : TimesParts R) (carrying : Carrying K) → IsFresh parts → (image : Contents) (cores limit : ℕ) →
+  pub machine_start : (parts : TimesParts R) (carrying : Carrying K) → IsFresh parts →
+      (image : Contents) (cores limit : ℕ) →
       StandsAfter parts carrying [] (state_start parts.riding carrying image cores limit)
   machine_start parts carrying fresh image cores limit =
       record {

@@ -1,27 +1,33 @@
 -- Each move and each access keeps the block's riders right, and a store finds exact times.
-use Rattle.std.proofs.Common.{◌≡◌, ◌≢◌, ◌∙◌, ◌⊎◌, inl, inr, ap, refl, sym, subst, ℕ, ◌<◌, ◌≤◌, ◌==◌, Bool, true, false, Option, List, ◌∷◌, arith}
+use Rattle.std.proofs.Common.{◌≡◌, ◌≢◌, ◌∙◌, ◌⊎◌, inl, inr, ap, refl, sym, subst, ℕ, ◌<◌, ◌≤◌, ◌==◌, Bool, true, false}
+use Rattle.std.proofs.Common.{Option, List, ◌∷◌, arith}
 use Rattle.clock_core.specs.declared.clock.Clock.{Clock}
 use Rattle.rtr_types.specs.declared.TheConstants.{CORES_MAX}
 use Rattle.std.proofs.lemmas.Bool.Decides.{nat_tests}
 use Rattle.msi_directory.specs.declared.entry.Stage.{Stage}
 use Rattle.rtr_types.specs.declared.access.Kind.{Kind}
 use Rattle.msi_protocol.specs.Phases.{Phase, role, role_in}
-use Rattle.msi_protocol.specs.Seats.{Seat, seat_accessed, reads_in, writes_in, FullBlock, seat_if, main, main_of, main_in, main_at, place, count_at, own_count}
+use Rattle.msi_protocol.specs.Seats.{Seat, seat_accessed, reads_in, writes_in, FullBlock, seat_if, main, main_of}
+use Rattle.msi_protocol.specs.Seats.{main_in, main_at, place, count_at, own_count}
 use Rattle.msi_protocol.specs.Seats.{accessing, PhasesFit, HoldersHave, Found, is_main, is_away}
-use Rattle.machine_times.specs.History.{NotedAccess, core_of, read_after, last_noted_read, last_noted_write, rank, WordTimes, AbsorbsWell, HasNoted}
+use Rattle.machine_times.specs.History.{NotedAccess, core_of, read_after, last_noted_read, last_noted_write, rank}
+use Rattle.machine_times.specs.History.{WordTimes, AbsorbsWell, HasNoted}
 use Rattle.machine_times.specs.History.{FitsLast, IsPast, read_rank, Exact, IsExactFor, MayAccess}
 use Rattle.msi_protocol.specs.Seats.{allows}
 use Rattle.rtr_types.specs.Accesses.{is_write}
-use Rattle.msi_protocol.proofs.Found.{main_core, at_core, found_in, found_request, found_response, found_message, found_wish}
+use Rattle.msi_protocol.proofs.Found.{main_core, at_core, found_in, found_request, found_response, found_message}
+use Rattle.msi_protocol.proofs.Found.{found_wish}
 use Rattle.machine_times.proofs.Past.{absorbed_past, absorbed_grows, noted_past, others_past, read_cases}
 use Rattle.msi_protocol.specs.Showing.{KeptBy}
 use Rattle.msi_protocol.proofs.Keeping.{holders_kept}
-use Rattle.msi_protocol.proofs.Moves.{stands_request, stands_response, stands_message, stands_wish, stands_access, has_load, has_store, still_has}
+use Rattle.msi_protocol.proofs.Moves.{stands_request, stands_response, stands_message, stands_wish, stands_access}
+use Rattle.msi_protocol.proofs.Moves.{has_load, has_store, still_has}
 use Rattle.msi_protocol.proofs.Moves.{allows_read, reads_line, writer_away}
 use Rattle.machine_times.proofs.Relined.{found_relined}
 
 -- each move of a block keeps its riders right
-pub exact_kept : {X : Type 0} (t : WordTimes X) → AbsorbsWell t → (h : List NotedAccess) (word : ℕ) → KeptBy t.absorbed (Exact t h word)
+pub exact_kept : {X : Type 0} (t : WordTimes X) → AbsorbsWell t → (h : List NotedAccess) (word : ℕ) →
+    KeptBy t.absorbed (Exact t h word)
 exact_kept {X} t well h word =
     record {
       request = λ c a rest b lc free asks st e. record {
@@ -50,7 +56,8 @@ exact_kept {X} t well h word =
       reline = λ b lines same st e. record {
         stands = record { fits = st.fits; roles = st.roles };
         holders = holders.reline b lines same st e.holders;
-        found = λ d ld. found_relined (read_rank t d) (rank (last_noted_read h word d)) d b lines ld same st (e.found d ld);
+        found = λ d ld. found_relined (read_rank t d) (rank (last_noted_read h word d)) d b lines ld same st
+            (e.found d ld);
       };
     }
   where
@@ -60,15 +67,18 @@ exact_kept {X} t well h word =
 -- ---- an access
 
 -- the line has a read of the count
-read_main : {X : Type 0} (r : X → ℕ) (p : Phase) (line sent reply : X) → reads_in p ≡ true → is_main (role_in p) ≡ false → count_at r (place p) line reply
+read_main : {X : Type 0} (r : X → ℕ) (p : Phase) (line sent reply : X) → reads_in p ≡ true →
+    is_main (role_in p) ≡ false → count_at r (place p) line reply
     ≡ r line
 read_main r p line sent reply may e = grind arith
 
-read_place : {X : Type 0} (r : X → ℕ) (p : Phase) (line sent reply : X) → reads_in p ≡ true → (main_in p line sent reply ≡ line)
+read_place : {X : Type 0} (r : X → ℕ) (p : Phase) (line sent reply : X) → reads_in p ≡ true →
+    (main_in p line sent reply ≡ line)
     ⊎ (count_at r (place p) line reply ≡ r line)
 read_place r p line sent reply may = grind arith
 
-found_mine : {X : Type 0} (r : X → ℕ) (c : ℕ) (line : X) (b : FullBlock X) → c < CORES_MAX → reads_in (b.seats c).phase ≡ true → PhasesFit b →
+found_mine : {X : Type 0} (r : X → ℕ) (c : ℕ) (line : X) (b : FullBlock X) → c < CORES_MAX →
+    reads_in (b.seats c).phase ≡ true → PhasesFit b →
     Found r (r line) c (accessing c line b)
 found_mine {X} r c line b lc may st lt = by (is_main (role_in p)) refl (read_place r p line s.sent s.reply may) lt
   where
@@ -81,7 +91,8 @@ found_mine {X} r c line b lc may st lt = by (is_main (role_in p)) refl (read_pla
     same : (accessing c line b).seats c ≡ seat_accessed line s
     same = let e : (c == c) ≡ true = grind (arith, nat_tests) in ap (λ (k : Bool). seat_if k (seat_accessed line s) s) e
 
-    by : (is : Bool) → is_main (role_in p) ≡ is → (main_in p line s.sent s.reply ≡ line) ⊎ (count_at r (place p) line s.reply ≡ r line) →
+    by : (is : Bool) → is_main (role_in p) ≡ is →
+        (main_in p line s.sent s.reply ≡ line) ⊎ (count_at r (place p) line s.reply ≡ r line) →
         r (main (accessing c line b)) < r line → r line ≤ own_count r ((accessing c line b).seats c)
     by is e (inr own) lt = let k = ap (own_count r) same in omega arith
     by true e (inl in_main) lt =
@@ -90,35 +101,46 @@ found_mine {X} r c line b lc may st lt = by (is_main (role_in p)) refl (read_pla
         let m : main (accessing c line b) ≡ line = k ∙ ap main_of same ∙ in_main in
         let n = ap r m in
         absurd (omega arith)
-    by false e (inl in_main) lt = let k = ap (own_count r) same in let o = read_main r p line s.sent s.reply may e in omega arith
+    by false e (inl in_main) lt = let k = ap (own_count r) same in let o = read_main r p line s.sent s.reply may e in
+        omega arith
 
 -- the rider of the line has the read that it had
 main_still : {X : Type 0} (r : X → ℕ) (stage : Stage) (c : ℕ) (line home : X) (seats : ℕ → Seat X) →
     ((o : ℕ) → r (main_of (seat_if (o == c) (seat_accessed line (seats o)) (seats o))) ≡ r (main_of (seats o))) →
-    r (main_at stage home (λ d. seat_if (d == c) (seat_accessed line (seats d)) (seats d))) ≡ r (main_at stage home seats)
+    r (main_at stage home (λ d. seat_if (d == c) (seat_accessed line (seats d)) (seats d))) ≡ r
+    (main_at stage home seats)
 main_still r stage c line home seats each = grind arith
 
-accessed_main : {X : Type 0} (r : X → ℕ) (p : Phase) (line new sent reply : X) → r new ≡ r line → r (main_in p new sent reply) ≡ r (main_in p line sent reply)
+accessed_main : {X : Type 0} (r : X → ℕ) (p : Phase) (line new sent reply : X) → r new ≡ r line →
+    r (main_in p new sent reply) ≡ r (main_in p line sent reply)
 accessed_main r p line new sent reply e = grind arith
 
-accessed_own : {X : Type 0} (r : X → ℕ) (p : Phase) (line new reply : X) → r new ≡ r line → count_at r (place p) new reply ≡ count_at r (place p) line reply
+accessed_own : {X : Type 0} (r : X → ℕ) (p : Phase) (line new reply : X) → r new ≡ r line →
+    count_at r (place p) new reply ≡ count_at r (place p) line reply
 accessed_own r p line new reply e = grind arith
 
-found_still : {X : Type 0} (r : X → ℕ) (n d c : ℕ) (line : X) (b : FullBlock X) → r line ≡ r (b.seats c).line → Found r n d b → Found r n d (accessing c line b)
+found_still : {X : Type 0} (r : X → ℕ) (n d c : ℕ) (line : X) (b : FullBlock X) → r line ≡ r (b.seats c).line →
+    Found r n d b → Found r n d (accessing c line b)
 found_still {X} r n d c line b e f =
-    let at : (o : ℕ) → o ≡ c → r line ≡ r (b.seats o).line = λ (o : ℕ) (k : o ≡ c). subst (λ (x : ℕ). r line ≡ r (b.seats x).line) (sym k) e in
+    let at : (o : ℕ) → o ≡ c → r line ≡ r (b.seats o).line =
+    λ (o : ℕ) (k : o ≡ c). subst (λ (x : ℕ). r line ≡ r (b.seats x).line) (sym k) e in
     let main_same = main_still r b.stage c line b.home b.seats
-    (λ (o : ℕ). at_core (λ (t : Seat X). r (main_of t) ≡ r (main_of (b.seats o))) c o (seat_accessed line (b.seats o)) (b.seats o) (λ (k : o ≡ c). let s =
+    (λ (o : ℕ). at_core (λ (t : Seat X). r (main_of t) ≡ r (main_of (b.seats o))) c o (seat_accessed line (b.seats o))
+    (b.seats o) (λ (k : o ≡ c). let s =
     b.seats o in accessed_main r s.phase s.line line s.sent s.reply (at o k)) (λ (k : o ≢ c). refl)) in
-    let own_same = at_core (λ (t : Seat X). own_count r t ≡ own_count r (b.seats d)) c d (seat_accessed line (b.seats d)) (b.seats d)
+    let own_same = at_core (λ (t : Seat X). own_count r t ≡ own_count r (b.seats d)) c d
+    (seat_accessed line (b.seats d)) (b.seats d)
     (λ (k : d ≡ c). let s = b.seats d in accessed_own r s.phase s.line line s.reply (at d k)) (λ (k : d ≢ c). refl) in
-    found_in r n (main b) (main (accessing c line b)) (b.seats d) ((accessing c line b).seats d) (omega arith) (inl (omega arith)) f
+    found_in r n (main b) (main (accessing c line b)) (b.seats d) ((accessing c line b).seats d) (omega arith)
+    (inl (omega arith)) f
 
 allows_write : (k : Kind) (p : Phase) → allows k p ≡ true → is_write k ≡ true → writes_in p ≡ true
 allows_write k p e w = grind arith
 
-pub exact_access : {X : Type 0} (t : WordTimes X) (h : List NotedAccess) (word : ℕ) (n : NotedAccess) (line : X) (b : FullBlock X) → MayAccess h word b n →
-    HasNoted t n word (b.seats (core_of n)).line line → Exact t h word b → Exact t (n ∷ h) word (accessing (core_of n) line b)
+pub exact_access : {X : Type 0} (t : WordTimes X) (h : List NotedAccess) (word : ℕ) (n : NotedAccess) (line : X)
+    (b : FullBlock X) → MayAccess h word b n →
+    HasNoted t n word (b.seats (core_of n)).line line → Exact t h word b →
+    Exact t (n ∷ h) word (accessing (core_of n) line b)
 exact_access {X} t h word n line b may noted e =
     record {
       stands = stands_access c line b e.stands;
@@ -142,7 +164,8 @@ exact_access {X} t h word n line b may noted e =
     new = noted_past t n h word s.line line noted old
 
     by : (w : Bool) → is_write n.access.kind ≡ w → HoldersHave (IsPast t (n ∷ h) word) (accessing c line b)
-    by true w = has_store (IsPast t (n ∷ h) word) c line b may.core (allows_write n.access.kind s.phase may.allowed w) new e.stands
+    by true w = has_store (IsPast t (n ∷ h) word) c line b may.core (allows_write n.access.kind s.phase may.allowed w)
+        new e.stands
     by false w = has_load (IsPast t h word) (IsPast t (n ∷ h) word) c line b reads
         (λ (x : X) (p : IsPast t h word x). others_past t n h word x w may.later p) new e.holders
 
@@ -158,7 +181,8 @@ exact_access {X} t h word n line b may noted e =
         (found_still (read_rank t d) (rank (last_noted_read h word d)) d c line b k (e.found d ld)) lt
     found d ld (inr (inr mine)) lt =
         let k : read_rank t d line ≡ rank (last_noted_read (n ∷ h) word d) = ap rank (noted.read d ld) ∙ mine.1 in
-        let at_c : Found (read_rank t d) (read_rank t d line) c (accessing c line b) = found_mine (read_rank t d) c line b may.core reads e.stands in
+        let at_c : Found (read_rank t d) (read_rank t d line) c (accessing c line b) =
+        found_mine (read_rank t d) c line b may.core reads e.stands in
         subst (λ (m : ℕ). Found (read_rank t d) m d (accessing c line b)) k
         (subst (λ (x : ℕ). Found (read_rank t d) (read_rank t d line) x (accessing c line b)) (sym mine.0) at_c) lt
 
@@ -168,16 +192,19 @@ writer_main : {X : Type 0} (stage : Stage) (c : ℕ) (home : X) (seats : ℕ →
     role_in (seats c).phase ≡ role stage c → main_at stage home seats ≡ (seats c).line
 writer_main stage c home seats may is = grind (arith, nat_tests)
 
-writer_place : {X : Type 0} (r : X → ℕ) (p : Phase) (line reply : X) → writes_in p ≡ true → count_at r (place p) line reply ≡ 0
+writer_place : {X : Type 0} (r : X → ℕ) (p : Phase) (line reply : X) → writes_in p ≡ true →
+    count_at r (place p) line reply ≡ 0
 writer_place r p line reply may = grind arith
 
-away_place : {X : Type 0} (r : X → ℕ) (p : Phase) (line reply : X) → is_away (role_in p) ≡ true → count_at r (place p) line reply ≡ 0
+away_place : {X : Type 0} (r : X → ℕ) (p : Phase) (line reply : X) → is_away (role_in p) ≡ true →
+    count_at r (place p) line reply ≡ 0
 away_place r p line reply away = grind arith
 
 not_behind : (a n own : ℕ) → (a < n → n ≤ own) → own ≡ 0 → n ≤ a
 not_behind a n own f e = grind arith
 
-pub exact_for : {X : Type 0} (t : WordTimes X) (h : List NotedAccess) (word c : ℕ) (k : Kind) (b : FullBlock X) → c < CORES_MAX → allows k (b.seats c).phase
+pub exact_for : {X : Type 0} (t : WordTimes X) (h : List NotedAccess) (word c : ℕ) (k : Kind) (b : FullBlock X) →
+    c < CORES_MAX → allows k (b.seats c).phase
     ≡ true → Exact t h word b → IsExactFor t h word k (b.seats c).line
 exact_for {X} t h word c k b lc may e = record { write = past.write; reads = reads }
   where
@@ -189,7 +216,8 @@ exact_for {X} t h word c k b lc may e = record { write = past.write; reads = rea
 
     own : writes_in s.phase ≡ true → (d : ℕ) → d < CORES_MAX → own_count (read_rank t d) (b.seats d) ≡ 0
     own writes d ld = at_core (λ (u : Seat X). own_count (read_rank t d) (b.seats d) ≡ 0) c d s s
-        (λ (q : d ≡ c). let u = b.seats d in writer_place (read_rank t d) u.phase u.line u.reply (ap (λ (x : ℕ). writes_in (b.seats x).phase) q ∙ writes))
+        (λ (q : d ≡ c). let u = b.seats d in writer_place (read_rank t d) u.phase u.line u.reply
+        (ap (λ (x : ℕ). writes_in (b.seats x).phase) q ∙ writes))
         (λ (q : d ≢ c). let u = b.seats d in
         away_place (read_rank t d) u.phase u.line u.reply (ap is_away (e.stands.roles d ld)
         ∙ writer_away b.stage c d s.phase q writes (e.stands.roles c lc)))
@@ -198,27 +226,33 @@ exact_for {X} t h word c k b lc may e = record { write = past.write; reads = rea
     reads w d ld =
         let writes = allows_write k s.phase may w in
         let m = ap (read_rank t d) (writer_main b.stage c b.home b.seats writes (e.stands.roles c lc)) in
-        let le = not_behind (read_rank t d (main b)) (rank (last_noted_read h word d)) (own_count (read_rank t d) (b.seats d)) (e.found d ld)
+        let le = not_behind (read_rank t d (main b)) (rank (last_noted_read h word d)) (own_count (read_rank t d)
+        (b.seats d)) (e.found d ld)
         (own writes d ld) in
         (past.reads d ld).same (subst (λ (x : ℕ). rank (last_noted_read h word d) ≤ x) m le)
 
 -- ---- an access of another block's word
 
-elsewhere_write : (n : NotedAccess) (h : List NotedAccess) (word : ℕ) → n.access.word ≢ word → last_noted_write (n ∷ h) word ≡ last_noted_write h word
+elsewhere_write : (n : NotedAccess) (h : List NotedAccess) (word : ℕ) → n.access.word ≢ word →
+    last_noted_write (n ∷ h) word ≡ last_noted_write h word
 elsewhere_write n h word other = grind (arith, nat_tests)
 
-elsewhere_read : (n : NotedAccess) (h : List NotedAccess) (word d : ℕ) → n.access.word ≢ word → last_noted_read (n ∷ h) word d ≡ last_noted_read h word d
+elsewhere_read : (n : NotedAccess) (h : List NotedAccess) (word d : ℕ) → n.access.word ≢ word →
+    last_noted_read (n ∷ h) word d ≡ last_noted_read h word d
 elsewhere_read n h word d other = grind (arith, nat_tests)
 
-past_elsewhere : {X : Type 0} (t : WordTimes X) (n : NotedAccess) (h : List NotedAccess) (word : ℕ) (x : X) → n.access.word ≢ word → IsPast t h word x →
+past_elsewhere : {X : Type 0} (t : WordTimes X) (n : NotedAccess) (h : List NotedAccess) (word : ℕ) (x : X) →
+    n.access.word ≢ word → IsPast t h word x →
     IsPast t (n ∷ h) word x
 past_elsewhere t n h word x other p =
     record {
       write = p.write ∙ sym (elsewhere_write n h word other);
-      reads = λ d ld. subst (λ (l : Option (ℕ × Clock)). FitsLast (t.read x d) l) (sym (elsewhere_read n h word d other)) (p.reads d ld);
+      reads = λ d ld. subst (λ (l : Option (ℕ × Clock)). FitsLast (t.read x d) l)
+          (sym (elsewhere_read n h word d other)) (p.reads d ld);
     }
 
-pub exact_elsewhere : {X : Type 0} (t : WordTimes X) (n : NotedAccess) (h : List NotedAccess) (word : ℕ) (b : FullBlock X) → n.access.word ≢ word →
+pub exact_elsewhere : {X : Type 0} (t : WordTimes X) (n : NotedAccess) (h : List NotedAccess) (word : ℕ)
+    (b : FullBlock X) → n.access.word ≢ word →
     Exact t h word b → Exact t (n ∷ h) word b
 exact_elsewhere {X} t n h word b other e =
     record {
@@ -228,5 +262,6 @@ exact_elsewhere {X} t n h word b other e =
         seats = λ d ld. still_has (IsPast t h word) (IsPast t (n ∷ h) word) (b.seats d)
             (λ (x : X) (p : IsPast t h word x). past_elsewhere t n h word x other p) (e.holders.seats d ld);
       };
-      found = λ d ld. subst (λ (k : ℕ). Found (read_rank t d) k d b) (ap rank (sym (elsewhere_read n h word d other))) (e.found d ld);
+      found = λ d ld. subst (λ (k : ℕ). Found (read_rank t d) k d b) (ap rank (sym (elsewhere_read n h word d other)))
+          (e.found d ld);
     }

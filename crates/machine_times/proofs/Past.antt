@@ -5,7 +5,8 @@ use Rattle.std.proofs.lemmas.Bool.Decides.{nat_tests}
 use Rattle.rtr_types.specs.declared.instr.Instr.{Instr}
 use Rattle.msi_protocol.proofs.Newest.{Grows}
 use Rattle.clock_core.specs.declared.clock.Clock.{Clock}
-use Rattle.machine_times.specs.History.{NotedAccess, core_of, write_after, read_after, last_noted_write, last_noted_read, rank, WordTimes, AbsorbsWell}
+use Rattle.machine_times.specs.History.{NotedAccess, core_of, write_after, read_after, last_noted_write}
+use Rattle.machine_times.specs.History.{last_noted_read, rank, WordTimes, AbsorbsWell}
 use Rattle.machine_times.specs.History.{HasNoted, FitsLast, IsPast, read_rank}
 use Rattle.rtr_types.specs.Accesses.{is_write}
 use Rattle.access_times.specs.Times.{newer_read}
@@ -19,23 +20,31 @@ newer_left a b = grind (arith, nat_tests)
 newer_right : (a b : Option (ℕ × Clock)) → rank b ≤ rank (newer_read a b)
 newer_right a b = grind (arith, nat_tests)
 
-newer_same : (a b last : Option (ℕ × Clock)) → (rank last ≤ rank a → a ≡ last) → (rank last ≤ rank b → b ≡ last) → rank last ≤ rank (newer_read a b) →
+newer_same : (a b last : Option (ℕ × Clock)) → (rank last ≤ rank a → a ≡ last) → (rank last ≤ rank b → b ≡ last) →
+    rank last ≤ rank (newer_read a b) →
     newer_read a b ≡ last
 newer_same a b last p q le = grind (arith, nat_tests)
 
 pub newer_fits : (a b last : Option (ℕ × Clock)) → FitsLast a last → FitsLast b last → FitsLast (newer_read a b) last
-newer_fits a b last p q = record { below = newer_below a b (rank last) p.below q.below; same = λ le. newer_same a b last p.same q.same le }
+newer_fits a b last p q = record {
+  below = newer_below a b (rank last) p.below q.below;
+  same =
+      λ le. newer_same a b last p.same q.same le;
+}
 
-pub absorbed_past : {X : Type 0} (t : WordTimes X) → AbsorbsWell t → (h : List NotedAccess) (word : ℕ) (x y : X) → IsPast t h word x → IsPast t h word y →
+pub absorbed_past : {X : Type 0} (t : WordTimes X) → AbsorbsWell t → (h : List NotedAccess) (word : ℕ) (x y : X) →
+    IsPast t h word x → IsPast t h word y →
     IsPast t h word (t.absorbed x y)
 absorbed_past t well h word x y p q =
     let e : t.write x ≡ t.write y = p.write ∙ sym q.write in
     record {
       write = well.write x y e ∙ p.write;
-      reads = λ d ld. rw (well.read x y d ld e) (newer_fits (t.read x d) (t.read y d) (last_noted_read h word d) (p.reads d ld) (q.reads d ld));
+      reads = λ d ld. rw (well.read x y d ld e) (newer_fits (t.read x d) (t.read y d) (last_noted_read h word d)
+          (p.reads d ld) (q.reads d ld));
     }
 
-pub absorbed_grows : {X : Type 0} (t : WordTimes X) → AbsorbsWell t → (h : List NotedAccess) (word d : ℕ) → d < CORES_MAX →
+pub absorbed_grows : {X : Type 0} (t : WordTimes X) → AbsorbsWell t → (h : List NotedAccess) (word d : ℕ) →
+    d < CORES_MAX →
     Grows (IsPast t h word) t.absorbed (read_rank t d)
 absorbed_grows {X} t well h word d ld = record { left = left; right = right }
   where
@@ -51,10 +60,12 @@ after_below : (n : NotedAccess) (word d : ℕ) (read last : Option (ℕ × Clock
 after_below n word d read last le = grind (arith, nat_tests)
 
 after_same : (n : NotedAccess) (word d : ℕ) (read last : Option (ℕ × Clock)) → (rank last ≤ rank read → read ≡ last) →
-    rank (read_after n word d last) ≤ rank (read_after n word d read) → read_after n word d read ≡ read_after n word d last
+    rank (read_after n word d last) ≤ rank (read_after n word d read) →
+    read_after n word d read ≡ read_after n word d last
 after_same n word d read last same le = grind (arith, nat_tests)
 
-pub noted_past : {X : Type 0} (t : WordTimes X) (n : NotedAccess) (h : List NotedAccess) (word : ℕ) (x y : X) → HasNoted t n word x y → IsPast t h word x →
+pub noted_past : {X : Type 0} (t : WordTimes X) (n : NotedAccess) (h : List NotedAccess) (word : ℕ) (x y : X) →
+    HasNoted t n word x y → IsPast t h word x →
     IsPast t (n ∷ h) word y
 noted_past t n h word x y noted p =
     record {
@@ -69,7 +80,8 @@ noted_past t n h word x y noted p =
 
 -- the others after a load
 load_below : (n : NotedAccess) (word d : ℕ) (read last : Option (ℕ × Clock)) → is_write n.access.kind ≡ false →
-    (d ≡ core_of n → rank last < n.access.at.count) → rank read ≤ rank last → rank read ≤ rank (read_after n word d last)
+    (d ≡ core_of n → rank last < n.access.at.count) → rank read ≤ rank last →
+    rank read ≤ rank (read_after n word d last)
 load_below n word d read last load later le = grind (arith, nat_tests)
 
 load_same : (n : NotedAccess) (word d : ℕ) (read last : Option (ℕ × Clock)) → is_write n.access.kind ≡ false →
@@ -77,10 +89,12 @@ load_same : (n : NotedAccess) (word d : ℕ) (read last : Option (ℕ × Clock))
     rank (read_after n word d last) ≤ rank read → read ≡ read_after n word d last
 load_same n word d read last load later below same le = grind (arith, nat_tests)
 
-load_write : (n : NotedAccess) (word : ℕ) (old : Option (Instr × Clock)) → is_write n.access.kind ≡ false → write_after n word old ≡ old
+load_write : (n : NotedAccess) (word : ℕ) (old : Option (Instr × Clock)) → is_write n.access.kind ≡ false →
+    write_after n word old ≡ old
 load_write n word old load = grind (arith, nat_tests)
 
-pub others_past : {X : Type 0} (t : WordTimes X) (n : NotedAccess) (h : List NotedAccess) (word : ℕ) (x : X) → is_write n.access.kind ≡ false →
+pub others_past : {X : Type 0} (t : WordTimes X) (n : NotedAccess) (h : List NotedAccess) (word : ℕ) (x : X) →
+    is_write n.access.kind ≡ false →
     rank (last_noted_read h word (core_of n)) < n.access.at.count → IsPast t h word x → IsPast t (n ∷ h) word x
 others_past t n h word x load later p =
     record {

@@ -19,16 +19,19 @@ use Rattle.machine_times.proofs.RiderLaws.{times_absorb, times_fresh, times_note
 use Rattle.machine_times.proofs.Timed.{timed_step, finds_exact}
 use Rattle.machine_times.proofs.Told.{event_reversed}
 use Rattle.machine_times.specs.Retirements.{Retirement, StandsAfter, MachineStandsFor, RiderNotes, with_event}
-use Rattle.machine_times.specs.TimedRuns.{TimedMove, TimedState, rider_noted, timed_taking, timed_run, timed_start, TimedRunLaw}
+use Rattle.machine_times.specs.TimedRuns.{TimedMove, TimedState, rider_noted, timed_taking, timed_run, timed_start}
+use Rattle.machine_times.specs.TimedRuns.{TimedRunLaw}
 use Rattle.machine_times.specs.TimedSteps.{RiderFits, times_parts}
 
 module _ {K : Type 0} where
-  noted_fits : (e : Event) (port : Port Times K) (clock : Clock) → RiderFits times_parts clock (rider_noted e port clock) e port
+  noted_fits : (e : Event) (port : Port Times K) (clock : Clock) →
+      RiderFits times_parts clock (rider_noted e port clock) e port
   noted_fits Nothing port clock a is = absurd cc
   noted_fits (Retires at) port clock a is = absurd cc
   noted_fits (Accesses b) port clock a is =
       subst (λ (x : Access).
-      RiderNotes times_parts (record { access = x; clock = clock }) (rider_at times_riding port x.word) (rider_noted (Accesses b) port clock)) same
+      RiderNotes times_parts (record { access = x; clock = clock }) (rider_at times_riding port x.word)
+      (rider_noted (Accesses b) port clock)) same
       (times_notes b clock (rider_at times_riding port b.word))
     where
       same : b ≡ a
@@ -38,7 +41,8 @@ module _ {K : Type 0} where
     holds : MachineHolds times_riding carrying t.state
     stands : MachineStandsFor times_parts carrying t.list t.state
 
-  taken_stands : (carrying : Carrying K) (t : TimedState K) (m : TimedMove) → Stands carrying t → Stands carrying (timed_taking carrying t m)
+  taken_stands : (carrying : Carrying K) (t : TimedState K) (m : TimedMove) → Stands carrying t →
+      Stands carrying (timed_taking carrying t m)
   taken_stands carrying t m h = by (enabled times_riding carrying t.state m.move) (λ is. moved is)
     where
       e : Event
@@ -54,7 +58,8 @@ module _ {K : Type 0} where
       moved is =
           record {
             holds = holds_kept times_riding carrying t.state m.move rider is h.holds;
-            stands = subst (λ (l : List Retirement). StandsAfter times_parts carrying l next.state) (event_reversed e m.clock t.list)
+            stands = subst (λ (l : List Retirement). StandsAfter times_parts carrying l next.state)
+                (event_reversed e m.clock t.list)
                 (timed_step times_parts carrying times_absorb (reverse t.list) t.state m.move rider m.clock h.holds is
                 (noted_fits e (retiring times_riding carrying t.state m.move) m.clock) h.stands);
           }
@@ -63,7 +68,8 @@ module _ {K : Type 0} where
       by true f = f refl
       by false f = h
 
-  run_stands : (carrying : Carrying K) (t : TimedState K) (ms : List TimedMove) → Stands carrying t → Stands carrying (timed_run carrying t ms)
+  run_stands : (carrying : Carrying K) (t : TimedState K) (ms : List TimedMove) → Stands carrying t →
+      Stands carrying (timed_run carrying t ms)
   run_stands carrying t [] h = h
   run_stands carrying t (m ∷ ms) h = run_stands carrying (timed_taking carrying t m) ms (taken_stands carrying t m h)
 
@@ -78,6 +84,7 @@ module _ {K : Type 0} where
       }) in
       record {
         stands = h.stands;
-        finds = λ m e a is. finds_exact times_parts carrying times_absorb (reverse t.list) t.state m a h.holds e is h.stands;
+        finds = λ m e a is. finds_exact times_parts carrying times_absorb (reverse t.list) t.state m a h.holds e is
+            h.stands;
         alike = λ m e. meet_alike times_parts carrying t.list t.state m h.holds e h.stands;
       }

@@ -1,4 +1,5 @@
--- The times that riders have are a property of blocks that each move keeps; an access appends itself to what they are after, and finds exact times.
+-- The times that riders have are a property of blocks that each move keeps; an access appends itself to what they are
+-- after, and finds exact times.
 use Rattle.std.proofs.Common.{◌≡◌, ◌∙◌, ap, sym, subst, ℕ, ◌<◌, ◌==◌, ◌%◌, ◌/◌, Bool, true, List, [], ◌∷◌, arith}
 use Rattle.std.proofs.lemmas.Bool.Decides.{nat_tests}
 use Rattle.access_times.specs.Riding.{Carrying}
@@ -15,29 +16,34 @@ use Rattle.msi_protocol.proofs.Shows.{copy_in}
 use Rattle.msi_memory.specs.Acts.{allows}
 use Rattle.msi_memory.specs.Memories.{Memory, port_at, rider_at}
 use Rattle.memory_laws.specs.Links.{TouchGives, line_if, payload_at, port_sight}
-use Rattle.machine_times.specs.History.{NotedAccess, core_of, rank, last_noted_read, read_after, write_after, Exact, IsExactFor}
+use Rattle.machine_times.specs.History.{NotedAccess, core_of, rank, last_noted_read, read_after, write_after, Exact}
+use Rattle.machine_times.specs.History.{IsExactFor}
 use Rattle.machine_times.specs.Retirements.{RiderNotes}
 use Rattle.machine_times.specs.StandsFor.{TimesParts, AbsorbsAll, HasTimes, HaveTimes, slot_times, word_number}
 use Rattle.machine_times.proofs.Exact.{exact_kept, exact_access, exact_elsewhere, exact_for}
 
 module _ {R : Type 0} where
-  pub times_kept : (parts : TimesParts R) → AbsorbsAll parts → (h : List NotedAccess) (b : ℕ) → KeptBy (payload_absorbed parts.riding) (HasTimes parts h b)
+  pub times_kept : (parts : TimesParts R) → AbsorbsAll parts → (h : List NotedAccess) (b : ℕ) →
+      KeptBy (payload_absorbed parts.riding) (HasTimes parts h b)
   times_kept parts well h b =
       record {
-        request = λ c a rest bl lc free asks st e slot ls. (kept slot ls).request c a rest bl lc free asks st (e slot ls);
+        request = λ c a rest bl lc free asks st e slot ls. (kept slot ls).request c a rest bl lc free asks st
+            (e slot ls);
         response = λ c a rest bl lc asks st e slot ls. (kept slot ls).response c a rest bl lc asks st (e slot ls);
         message = λ c m rest bl lc asks st e slot ls. (kept slot ls).message c m rest bl lc asks st (e slot ls);
         wish = λ c w bl st e slot ls. (kept slot ls).wish c w bl st (e slot ls);
         reline = λ bl lines same st e slot ls. (kept slot ls).reline bl lines same st (e slot ls);
       }
     where
-      kept : (slot : ℕ) → slot < BLOCK_WORDS → KeptBy (payload_absorbed parts.riding) (Exact (slot_times parts slot) h (word_number b slot))
+      kept : (slot : ℕ) → slot < BLOCK_WORDS → KeptBy (payload_absorbed parts.riding) (Exact (slot_times parts slot) h
+          (word_number b slot))
       kept slot ls = exact_kept (slot_times parts slot) (well slot ls) h (word_number b slot)
 
   -- the access is its core's next one, and the rider is the old one with it noted
   pub times_touched : (parts : TimesParts R) (h : List NotedAccess) (n : NotedAccess) (old new : Payload R) →
       ((w : ℕ) → rank (last_noted_read h w (core_of n)) < n.access.at.count) → RiderNotes parts n old.rider new.rider →
-      TouchGives (HasTimes parts h) (HasTimes parts (n ∷ h)) (core_of n) (n.access.word / BLOCK_WORDS) n.access.kind old new
+      TouchGives (HasTimes parts h) (HasTimes parts (n ∷ h)) (core_of n) (n.access.word / BLOCK_WORDS) n.access.kind old
+      new
   times_touched parts h n old new later notes =
       record {
         here = λ bl lc st is may e slot ls.
@@ -45,9 +51,11 @@ module _ {R : Type 0} where
             (record { core = lc; allowed = may; later = later (word_number (n.access.word / BLOCK_WORDS) slot) })
             (record {
               write = notes.write slot ls
-                  ∙ ap (λ (x : Payload R). write_after n (word_number (n.access.word / BLOCK_WORDS) slot) (parts.write x.rider slot)) (sym is);
+                  ∙ ap (λ (x : Payload R). write_after n (word_number (n.access.word / BLOCK_WORDS) slot)
+                  (parts.write x.rider slot)) (sym is);
               read = λ d ld. notes.read slot d ls ld
-                  ∙ ap (λ (x : Payload R). read_after n (word_number (n.access.word / BLOCK_WORDS) slot) d (parts.read x.rider slot d)) (sym is);
+                  ∙ ap (λ (x : Payload R). read_after n (word_number (n.access.word / BLOCK_WORDS) slot) d
+                  (parts.read x.rider slot d)) (sym is);
             }) (e slot ls);
         elsewhere = λ b bl other e slot ls. exact_elsewhere (slot_times parts slot) n h (word_number b slot) bl
             (λ (same : n.access.word ≡ word_number b slot). other (omega arith)) (e slot ls);
@@ -55,14 +63,16 @@ module _ {R : Type 0} where
 
 module _ {R K : Type 0} where
   -- where a port allows an access, the rider there is exact for it
-  pub port_finds : (parts : TimesParts R) (carrying : Carrying K) (h : List NotedAccess) (m : Memory R K) (c word : ℕ) (kind : Kind) → c < CORES_MAX →
+  pub port_finds : (parts : TimesParts R) (carrying : Carrying K) (h : List NotedAccess) (m : Memory R K) (c word : ℕ)
+      (kind : Kind) → c < CORES_MAX →
       allows parts.riding (port_at carrying m.ports c) (word / BLOCK_WORDS) kind ≡ true → HaveTimes parts carrying h m →
       IsExactFor (slot_times parts (word % BLOCK_WORDS)) h word kind
       (record { words = []; rider = rider_at parts.riding (port_at carrying m.ports c) word })
   port_finds parts carrying h m c word kind lc allowed f =
       record {
         write = ap (λ (x : Payload R). parts.write x.rider (word % BLOCK_WORDS)) (sym payload) ∙ found.write;
-        reads = λ writes d ld. ap (λ (x : Payload R). parts.read x.rider (word % BLOCK_WORDS) d) (sym payload) ∙ found.reads writes d ld;
+        reads = λ writes d ld. ap (λ (x : Payload R). parts.read x.rider (word % BLOCK_WORDS) d) (sym payload)
+            ∙ found.reads writes d ld;
       }
     where
       block : ℕ
@@ -71,7 +81,8 @@ module _ {R K : Type 0} where
       l : Line R
       l = line_for parts.riding.fresh (port_at carrying m.ports c).cache block
 
-      shown : Shows (HasTimes parts h block) block (entry_at parts.riding.fresh m.home block) (λ d. port_sight parts.riding block (port_at carrying m.ports d))
+      shown : Shows (HasTimes parts h block) block (entry_at parts.riding.fresh m.home block)
+          (λ d. port_sight parts.riding block (port_at carrying m.ports d))
       shown = f.blocks block
 
       s : Seat (Payload R)
@@ -94,5 +105,6 @@ module _ {R K : Type 0} where
 
       found : IsExactFor (slot_times parts (word % BLOCK_WORDS)) h word kind s.line
       found = subst (λ (w : ℕ). IsExactFor (slot_times parts (word % BLOCK_WORDS)) h w kind s.line) word_is
-          (exact_for (slot_times parts (word % BLOCK_WORDS)) h (word_number block (word % BLOCK_WORDS)) c kind shown.block lc may
+          (exact_for (slot_times parts (word % BLOCK_WORDS)) h (word_number block (word % BLOCK_WORDS)) c kind
+          shown.block lc may
           (shown.has (word % BLOCK_WORDS) (omega arith)))

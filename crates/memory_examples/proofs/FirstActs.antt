@@ -54,7 +54,8 @@ module _ {R K : Type 0} (riding : Riding R) (carrying : Carrying K) (bytes : Lis
   pub here_retired : (at : Instr) → 0 < length (retire carrying taken 0 at).ports
   here_retired at = omega arith
 
-  pub allowed_retired : (at : Instr) → IsTrue (allows riding (port_at carrying (retire carrying taken 0 at).ports 0) 0 Store)
+  pub allowed_retired : (at : Instr) → IsTrue (allows riding (port_at carrying (retire carrying taken 0 at).ports 0) 0
+      Store)
   allowed_retired at = refl
 
   abbrev pub written : Instr → R → Memory R K

@@ -25,7 +25,12 @@ use Rattle.memory_laws.specs.Links.{AllShow, port_sight}
 module _ {R : Type 0} where
   -- the kinds of what is seen
   abbrev pub kinds : Sight R → View
-  kinds v = record { line = v.line.state; requests = map ask_of v.requests; responses = map reply_of v.responses; messages = map signal v.messages }
+  kinds v = record {
+    line = v.line.state;
+    requests = map ask_of v.requests;
+    responses = map reply_of v.responses;
+    messages = map signal v.messages;
+  }
 
   asked_kind : (b : ℕ) (x : Payload R) (q : List Ask) → map ask_of (map (ask_with b x) q) ≡ q
   asked_kind b x [] = refl
@@ -57,14 +62,18 @@ module _ {R : Type 0} where
 
 module _ {T G K : Type 0} where
   -- the kinds of those of the messages that are about the block
-  kinds_of_block : (block : T → ℕ) (kind : T → G) (b : ℕ) (of_kind : List (Mail T K) → List G) → of_kind [] ≡ [] → ((mail : Mail T K) (rest : List (Mail T K)) →
-      of_kind (mail ∷ rest) ≡ cons_if (block mail.item == b) (kind mail.item) (of_kind rest)) → (q : List (Mail T K)) → map kind (of_block block b q)
+  kinds_of_block : (block : T → ℕ) (kind : T → G) (b : ℕ) (of_kind : List (Mail T K) → List G) → of_kind [] ≡ [] →
+      ((mail : Mail T K) (rest : List (Mail T K)) →
+      of_kind (mail ∷ rest) ≡ cons_if (block mail.item == b) (kind mail.item) (of_kind rest)) → (q : List
+      (Mail T K)) → map kind (of_block block b q)
       ≡ of_kind q
   kinds_of_block block kind b of_kind none more [] = sym none
-  kinds_of_block block kind b of_kind none more (mail ∷ rest) = by_test (block mail.item == b) (kinds_of_block block kind b of_kind none more rest)
+  kinds_of_block block kind b of_kind none more (mail ∷ rest) =
+      by_test (block mail.item == b) (kinds_of_block block kind b of_kind none more rest)
       ∙ sym (more mail rest)
     where
-      by_test : (t : Bool) → map kind (of_block block b rest) ≡ of_kind rest → map kind (cons_if t mail.item (of_block block b rest)) ≡ cons_if t
+      by_test : (t : Bool) → map kind (of_block block b rest) ≡ of_kind rest →
+          map kind (cons_if t mail.item (of_block block b rest)) ≡ cons_if t
           (kind mail.item) (of_kind rest)
       by_test true e = ap (λ (r : List G). kind mail.item ∷ r) e
       by_test false e = e
@@ -88,21 +97,26 @@ module _ {R K : Type 0} where
       )
 
   -- so the protocol holds of each block that shows
-  pub shows_hold : (riding : Riding R) (carrying : Carrying K) (Q : ℕ → FullBlock (Payload R) → Type 0) (m : Memory R K) → AllShow riding carrying Q m →
+  pub shows_hold : (riding : Riding R) (carrying : Carrying K) (Q : ℕ → FullBlock (Payload R) →
+      Type 0) (m : Memory R K) → AllShow riding carrying Q m →
       (b : ℕ) → BlockHolds (block_in riding carrying m b)
   shows_hold riding carrying Q m f b =
       let s = f.blocks b in
-      let stage_is : s.block.stage ≡ (entry_at riding.fresh m.home b).stage = ap (λ (e : Entry R). e.stage) s.entry_is in
+      let stage_is : s.block.stage ≡ (entry_at riding.fresh m.home b).stage =
+      ap (λ (e : Entry R). e.stage) s.entry_is in
       record {
         fits = subst StageFits stage_is s.fits.fits;
-        stands = λ d ld. subst (λ (stage : Stage). Stands stage d (port_view riding b (port_at carrying m.ports d))) stage_is
+        stands = λ d ld. subst (λ (stage : Stage). Stands stage d (port_view riding b (port_at carrying m.ports d)))
+            stage_is
             (record {
               phase = (s.block.seats d).phase;
               role_is = s.fits.roles d ld;
-              view_is = shown_kinds b (s.block.seats d) ∙ (ap kinds (s.shows d ld) ∙ sight_kinds riding b (port_at carrying m.ports d));
+              view_is = shown_kinds b (s.block.seats d) ∙ (ap kinds (s.shows d ld)
+                  ∙ sight_kinds riding b (port_at carrying m.ports d));
             });
       }
 
-  pub blocks_hold : (riding : Riding R) (carrying : Carrying K) (m : Memory R K) → MemoryHolds riding carrying m → (b : ℕ) →
+  pub blocks_hold : (riding : Riding R) (carrying : Carrying K) (m : Memory R K) → MemoryHolds riding carrying m →
+      (b : ℕ) →
       BlockHolds (block_in riding carrying m b)
   blocks_hold riding carrying m h b = shows_hold riding carrying Anything m h.shows b

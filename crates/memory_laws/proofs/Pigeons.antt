@@ -1,5 +1,6 @@
 -- Messages that are for different cores' wants are no more than the cores.
-use Rattle.std.proofs.Common.{◌≡◌, ◌≢◌, ap, refl, sym, subst, ℕ, ◌+◌, ◌<◌, ◌≤◌, ◌==◌, Bool, true, false, not, cond, ◌&&◌, ◌||◌, List, [], ◌∷◌, length, suc}
+use Rattle.std.proofs.Common.{◌≡◌, ◌≢◌, ap, refl, sym, subst, ℕ, ◌+◌, ◌<◌, ◌≤◌, ◌==◌, Bool, true, false, not, cond}
+use Rattle.std.proofs.Common.{◌&&◌, ◌||◌, List, [], ◌∷◌, length, suc}
 use Rattle.std.proofs.Common.{arith, eqb}
 use Rattle.std.specs.List.{IsDistinct, AllByRecursion, list_any}
 use Rattle.std.proofs.lemmas.Bool.{eq-eqb, ne_eqb}
@@ -51,7 +52,8 @@ pub record Below (requester : ℕ → ℕ) (d : ℕ) (n : ℕ) (xs : List Item) 
   pub other : (b : ℕ) → 1 ≤ others b xs → requester b < n
 
 -- fewer messages are apart too
-fewer : (requester : ℕ → ℕ) (d : ℕ) (W : ℕ → ℕ → Type 0) (xs ys : List Item) → ((b : ℕ) → owns b ys ≤ owns b xs) → ((b : ℕ) → others b ys ≤ others b xs) →
+fewer : (requester : ℕ → ℕ) (d : ℕ) (W : ℕ → ℕ → Type 0) (xs ys : List Item) → ((b : ℕ) → owns b ys ≤ owns b xs) →
+    ((b : ℕ) → others b ys ≤ others b xs) →
     Apart requester d W xs → Apart requester d W ys
 fewer requester d W xs ys p q h =
     record {
@@ -75,70 +77,97 @@ others_more : (i : Item) (xs : List Item) (b : ℕ) → others b xs ≤ others b
 others_more i xs b = omega arith
 
 -- two messages are for different cores' wants, by whether each is for its receiver's own
-one_apart : (requester : ℕ → ℕ) (d : ℕ) (W : ℕ → ℕ → Type 0) → ((c b e : ℕ) → W c b → W c e → b ≡ e) → (x y : Item) (ys : List Item) →
-    Apart requester d W (x ∷ y ∷ ys) → (p q : Bool) → x.own ≡ p → y.own ≡ q → holder_in p d (requester x.block) ≢ holder_in q d (requester y.block)
+one_apart : (requester : ℕ → ℕ) (d : ℕ) (W : ℕ → ℕ → Type 0) → ((c b e : ℕ) → W c b → W c e → b ≡ e) →
+    (x y : Item) (ys : List Item) →
+    Apart requester d W (x ∷ y ∷ ys) → (p q : Bool) → x.own ≡ p → y.own ≡ q →
+    holder_in p d (requester x.block) ≢ holder_in q d (requester y.block)
 one_apart requester d W one x y ys h true true e f same =
     let wx : W d x.block = h.own x.block (let m = own_here x (y ∷ ys) e in omega arith) in
-    let wy : W d y.block = h.own y.block (let m = own_here y ys f in let k = owns_more x (y ∷ ys) y.block in omega arith) in
+    let wy : W d y.block = h.own y.block (let m = own_here y ys f in let k = owns_more x (y ∷ ys) y.block in
+    omega arith) in
     let at : x.block ≡ y.block = one d x.block y.block wx wy in
     absurd (let m = own_here x (y ∷ ys) e in
-    let k : owns x.block (y ∷ ys) ≡ 1 + owns x.block ys = subst (λ (b : ℕ). owns b (y ∷ ys) ≡ 1 + owns b ys) (sym at) (own_here y ys f) in
+    let k : owns x.block (y ∷ ys) ≡ 1 + owns x.block ys = subst (λ (b : ℕ). owns b (y ∷ ys) ≡ 1 + owns b ys) (sym at)
+    (own_here y ys f) in
     let o = h.once_own x.block in omega arith)
 one_apart requester d W one x y ys h true false e f same =
-    absurd (h.not_own y.block (let m = other_here y ys f in let k = others_more x (y ∷ ys) y.block in omega arith) (sym same))
-one_apart requester d W one x y ys h false true e f same = absurd (h.not_own x.block (let m = other_here x (y ∷ ys) e in omega arith) same)
+    absurd (h.not_own y.block (let m = other_here y ys f in let k = others_more x (y ∷ ys) y.block in
+    omega arith) (sym same))
+one_apart requester d W one x y ys h false true e f same = absurd (h.not_own x.block (let m = other_here x (y ∷ ys) e in
+    omega arith) same)
 one_apart requester d W one x y ys h false false e f same =
     let wx : W (requester x.block) x.block = h.other x.block (let m = other_here x (y ∷ ys) e in omega arith) in
-    let wy : W (requester y.block) y.block = h.other y.block (let m = other_here y ys f in let k = others_more x (y ∷ ys) y.block in omega arith) in
-    let at : x.block ≡ y.block = one (requester x.block) x.block y.block wx (subst (λ (c : ℕ). W c y.block) (sym same) wy) in
+    let wy : W (requester y.block) y.block = h.other y.block (let m = other_here y ys f in let k =
+    others_more x (y ∷ ys) y.block in omega arith) in
+    let at : x.block ≡ y.block = one (requester x.block) x.block y.block wx (subst (λ (c : ℕ). W c y.block) (sym same)
+    wy) in
     absurd (let m = other_here x (y ∷ ys) e in
-    let k : others x.block (y ∷ ys) ≡ 1 + others x.block ys = subst (λ (b : ℕ). others b (y ∷ ys) ≡ 1 + others b ys) (sym at) (other_here y ys f) in
+    let k : others x.block (y ∷ ys) ≡ 1 + others x.block ys = subst (λ (b : ℕ). others b (y ∷ ys) ≡ 1 + others b ys)
+    (sym at) (other_here y ys f) in
     let o = h.once_other x.block in omega arith)
 
-apart_all : (requester : ℕ → ℕ) (d : ℕ) (W : ℕ → ℕ → Type 0) → ((c b e : ℕ) → W c b → W c e → b ≡ e) → (x : Item) (ys : List Item) →
-    Apart requester d W (x ∷ ys) → AllByRecursion (λ (h : ℕ). eqb (holder requester d x) h ≡ false) (holders requester d ys)
+apart_all : (requester : ℕ → ℕ) (d : ℕ) (W : ℕ → ℕ → Type 0) → ((c b e : ℕ) → W c b → W c e → b ≡ e) →
+    (x : Item) (ys : List Item) →
+    Apart requester d W (x ∷ ys) → AllByRecursion (λ (h : ℕ). eqb (holder requester d x) h ≡ false)
+    (holders requester d ys)
 apart_all requester d W one x [] h = tt
 apart_all requester d W one x (y ∷ ys) h = (
   ne_eqb (holder requester d x) (holder requester d y) (one_apart requester d W one x y ys h x.own y.own refl refl),
   apart_all requester d W one x ys (fewer requester d W (x ∷ y ∷ ys) (x ∷ ys) (λ b. omega arith) (λ b. omega arith) h),
 )
 
-distinct_holders : (requester : ℕ → ℕ) (d : ℕ) (W : ℕ → ℕ → Type 0) → ((c b e : ℕ) → W c b → W c e → b ≡ e) → (xs : List Item) → Apart requester d W xs →
+distinct_holders : (requester : ℕ → ℕ) (d : ℕ) (W : ℕ → ℕ → Type 0) → ((c b e : ℕ) → W c b → W c e → b ≡ e) →
+    (xs : List Item) → Apart requester d W xs →
     IsDistinct eqb (holders requester d xs)
 unfolding IsDistinct
 distinct_holders requester d W one [] h = tt
-distinct_holders requester d W one (x ∷ xs) h =
-    (apart_all requester d W one x xs h, distinct_holders requester d W one xs (fewer requester d W (x ∷ xs) xs (λ b. omega arith) (λ b. omega arith) h))
+distinct_holders requester d W one (x ∷ xs) h = (
+  apart_all requester d W one x xs h,
+  distinct_holders requester d W one xs (fewer requester d W (x ∷ xs) xs
+      (λ b. omega arith) (λ b. omega arith) h),
+)
 
-free_rest : (requester : ℕ → ℕ) (d who : ℕ) (x : Item) (xs : List Item) → Free requester d who (x ∷ xs) → Free requester d who xs
-free_rest requester d who x xs h = record { own = λ b lt. h.own b (omega arith); other = λ b lt. h.other b (omega arith) }
+free_rest : (requester : ℕ → ℕ) (d who : ℕ) (x : Item) (xs : List Item) → Free requester d who (x ∷ xs) →
+    Free requester d who xs
+free_rest requester d who x xs h = record {
+  own = λ b lt. h.own b (omega arith);
+  other =
+      λ b lt. h.other b (omega arith);
+}
 
-free_one : (requester : ℕ → ℕ) (d who : ℕ) (x : Item) (xs : List Item) → Free requester d who (x ∷ xs) → (p : Bool) → x.own ≡ p →
+free_one : (requester : ℕ → ℕ) (d who : ℕ) (x : Item) (xs : List Item) → Free requester d who (x ∷ xs) → (p : Bool) →
+    x.own ≡ p →
     holder_in p d (requester x.block) ≢ who
 free_one requester d who x xs h true e = h.own x.block (let m = own_here x xs e in omega arith)
 free_one requester d who x xs h false e = h.other x.block (let m = other_here x xs e in omega arith)
 
-free_all : (requester : ℕ → ℕ) (d who : ℕ) (xs : List Item) → Free requester d who xs → AllByRecursion (λ (h : ℕ). eqb who h ≡ false) (holders requester d xs)
+free_all : (requester : ℕ → ℕ) (d who : ℕ) (xs : List Item) → Free requester d who xs →
+    AllByRecursion (λ (h : ℕ). eqb who h ≡ false) (holders requester d xs)
 free_all requester d who [] h = tt
 free_all requester d who (x ∷ xs) h = (
-  ne_eqb who (holder requester d x) (λ (e : who ≡ holder requester d x). free_one requester d who x xs h x.own refl (sym e)),
+  ne_eqb who (holder requester d x) (λ (e : who ≡ holder requester d x). free_one requester d who x xs h x.own refl
+      (sym e)),
   free_all requester d who xs (free_rest requester d who x xs h),
 )
 
-below_one : (requester : ℕ → ℕ) (d n : ℕ) (x : Item) (xs : List Item) → Below requester d n (x ∷ xs) → (p : Bool) → x.own ≡ p →
+below_one : (requester : ℕ → ℕ) (d n : ℕ) (x : Item) (xs : List Item) → Below requester d n (x ∷ xs) → (p : Bool) →
+    x.own ≡ p →
     holder_in p d (requester x.block) < n
 below_one requester d n x xs h true e = h.own x.block (let m = own_here x xs e in omega arith)
 below_one requester d n x xs h false e = h.other x.block (let m = other_here x xs e in omega arith)
 
-below_all : (requester : ℕ → ℕ) (d n : ℕ) (xs : List Item) → Below requester d n xs → (q : ℕ) → list_any (eqb q) (holders requester d xs) ≡ true → q < n
+below_all : (requester : ℕ → ℕ) (d n : ℕ) (xs : List Item) → Below requester d n xs → (q : ℕ) →
+    list_any (eqb q) (holders requester d xs) ≡ true → q < n
 below_all requester d n [] h q e = absurd (cc)
 below_all requester d n (x ∷ xs) h q e =
     by_test (eqb q (holder requester d x)) refl e (λ (f : list_any (eqb q) (holders requester d xs) ≡ true).
-    below_all requester d n xs (record { own = λ b lt. h.own b (omega arith); other = λ b lt. h.other b (omega arith) }) q f)
+    below_all requester d n xs (record { own = λ b lt. h.own b (omega arith); other = λ b lt. h.other b (omega arith) })
+    q f)
   where
     by_test : (t : Bool) → eqb q (holder requester d x) ≡ t → (t || list_any (eqb q) (holders requester d xs)) ≡ true →
         (list_any (eqb q) (holders requester d xs) ≡ true → q < n) → q < n
-    by_test true is f rest = let lt = below_one requester d n x xs h x.own refl in let same : q ≡ holder requester d x = grind (arith, nat_tests) in rw same lt
+    by_test true is f rest = let lt = below_one requester d n x xs h x.own refl in let same : q ≡ holder requester d x =
+        grind (arith, nat_tests) in rw same lt
     by_test false is f rest = rest f
 
 length-holders : (requester : ℕ → ℕ) (d : ℕ) (xs : List Item) → length (holders requester d xs) ≡ length xs
@@ -146,21 +175,27 @@ length-holders requester d [] = refl
 length-holders requester d (x ∷ xs) = ap suc (length-holders requester d xs)
 
 -- no more messages than cores
-pub at_most_cores : (requester : ℕ → ℕ) (d n : ℕ) (W : ℕ → ℕ → Type 0) → ((c b e : ℕ) → W c b → W c e → b ≡ e) → (xs : List Item) → Apart requester d W xs →
+pub at_most_cores : (requester : ℕ → ℕ) (d n : ℕ) (W : ℕ → ℕ → Type 0) → ((c b e : ℕ) → W c b → W c e → b ≡ e) →
+    (xs : List Item) → Apart requester d W xs →
     Below requester d n xs → length xs ≤ n
 at_most_cores requester d n W one xs apart below =
     let all : length (holders requester d xs) ≤ n =
-    length-le_from_distinct_below (holders requester d xs) n (distinct_holders requester d W one xs apart) (below_all requester d n xs below) in
+    length-le_from_distinct_below (holders requester d xs) n (distinct_holders requester d W one xs apart)
+    (below_all requester d n xs below) in
     let long = length-holders requester d xs in
     omega arith
 
 -- and fewer where there is a core for whose want none of them is
-pub fewer_than_cores : (requester : ℕ → ℕ) (d who n : ℕ) (W : ℕ → ℕ → Type 0) → ((c b e : ℕ) → W c b → W c e → b ≡ e) → (xs : List Item) → who < n →
+pub fewer_than_cores : (requester : ℕ → ℕ) (d who n : ℕ) (W : ℕ → ℕ → Type 0) → ((c b e : ℕ) → W c b → W c e → b ≡ e) →
+    (xs : List Item) → who < n →
     Apart requester d W xs → Free requester d who xs → Below requester d n xs → length xs < n
 unfolding IsDistinct
 fewer_than_cores requester d who n W one xs lt apart free below =
     let all : length (who ∷ holders requester d xs) ≤ n =
-    length-le_from_distinct_below (who ∷ holders requester d xs) n (free_all requester d who xs free, distinct_holders requester d W one xs apart)
+    length-le_from_distinct_below (who ∷ holders requester d xs) n (
+      free_all requester d who xs free,
+      distinct_holders requester d W one xs apart,
+    )
     (λ q e. by_test q (eqb q who) refl e) in
     let long = length-holders requester d xs in
     omega arith

@@ -1,5 +1,6 @@
 -- At the start the memory system keeps all that it keeps.
-use Rattle.std.proofs.Common.{◌≡◌, ◌∙◌, ap, refl, sym, subst, ℕ, ◌<◌, ◌≤◌, ◌==◌, ◌%◌, Bool, true, false, List, [], ◌∷◌, length, get_or, replicate, arith, inl}
+use Rattle.std.proofs.Common.{◌≡◌, ◌∙◌, ap, refl, sym, subst, ℕ, ◌<◌, ◌≤◌, ◌==◌, ◌%◌, Bool, true, false, List, [], ◌∷◌}
+use Rattle.std.proofs.Common.{length, get_or, replicate, arith, inl}
 use Rattle.std.proofs.Common.{inr, ◌⊎◌}
 use Rattle.std.proofs.lemmas.List.{get_or_past, get_or-replicate, length-replicate}
 use Rattle.std.proofs.lemmas.List.FromFn.{get_or-map-range_with_len}
@@ -38,24 +39,44 @@ not_waiting : true ≡ false → ⊥
 not_waiting e = grind arith
 
 module _ {R : Type 0} where
-  opened : (fresh : R) (image : Contents) (b : ℕ) (e : Entry R) → (e ≡ opening_entry fresh image b) ⊎ (e ≡ no_entry fresh) → ◌≡◌ {A = Entry R}
+  opened : (fresh : R) (image : Contents) (b : ℕ) (e : Entry R) →
+      (e ≡ opening_entry fresh image b) ⊎ (e ≡ no_entry fresh) → ◌≡◌ {A = Entry R}
       (record { stage = Unshared; words = e.words; rider = e.rider }) e
-  opened fresh image b e (inl is) = subst (λ (x : Entry R). ◌≡◌ {A = Entry R} (record { stage = Unshared; words = x.words; rider = x.rider }) x) (sym is) refl
-  opened fresh image b e (inr is) = subst (λ (x : Entry R). ◌≡◌ {A = Entry R} (record { stage = Unshared; words = x.words; rider = x.rider }) x) (sym is) refl
+  opened fresh image b e (inl is) = subst (λ (x : Entry R). ◌≡◌ {A = Entry R} (record {
+    stage = Unshared;
+    words =
+        x.words;
+    rider = x.rider;
+  }) x) (sym is) refl
+  opened fresh image b e (inr is) = subst (λ (x : Entry R). ◌≡◌ {A = Entry R} (record {
+    stage = Unshared;
+    words =
+        x.words;
+    rider = x.rider;
+  }) x) (sym is) refl
 
-  entry_start : (fresh : R) (image : Contents) (b : ℕ) → (entry_at fresh (opening_entries fresh image) b ≡ opening_entry fresh image b) ⊎
+  entry_start : (fresh : R) (image : Contents) (b : ℕ) →
+      (entry_at fresh (opening_entries fresh image) b ≡ opening_entry fresh image b) ⊎
       (entry_at fresh (opening_entries fresh image) b ≡ no_entry fresh)
   entry_start fresh image b = by (cases_lt b (block_count image.words))
     where
-      by : (b < block_count image.words) ⊎ (block_count image.words ≤ b) → (entry_at fresh (opening_entries fresh image) b ≡ opening_entry fresh image b) ⊎
+      by : (b < block_count image.words) ⊎ (block_count image.words ≤ b) →
+          (entry_at fresh (opening_entries fresh image) b ≡ opening_entry fresh image b) ⊎
           (entry_at fresh (opening_entries fresh image) b ≡ no_entry fresh)
-      by (inr past) = inr (get_or_past (opening_entries fresh image) b (no_entry fresh) (rw (openings_counted fresh image (block_count image.words)) past))
-      by (inl within) = inl (get_or-map-range_with_len (opening_entry fresh image) 0 (block_count image.words) b b (no_entry fresh) within (omega arith))
+      by (inr past) = inr (get_or_past (opening_entries fresh image) b (no_entry fresh)
+          (rw (openings_counted fresh image (block_count image.words)) past))
+      by (inl within) = inl (get_or-map-range_with_len (opening_entry fresh image) 0 (block_count image.words) b b
+          (no_entry fresh) within (omega arith))
 
   -- no rider has anything yet
-  pub opening_rider : (fresh : R) (image : Contents) (b : ℕ) → (entry_at fresh (opening_entries fresh image) b).rider ≡ fresh
+  pub opening_rider : (fresh : R) (image : Contents) (b : ℕ) →
+      (entry_at fresh (opening_entries fresh image) b).rider ≡ fresh
   opening_rider fresh image b =
-      elim (entry_start fresh image b) [ inl is ↦ ap (λ (e : Entry R). e.rider) is | inr is ↦ ap (λ (e : Entry R). e.rider) is ]
+      elim (entry_start fresh image b) [
+        | inl is ↦ ap (λ (e : Entry R). e.rider) is
+        | inr is ↦ ap
+            (λ (e : Entry R). e.rider) is
+      ]
 
   -- what is seen of a block that a cache doesn't hold
   abbrev blank : Riding R → ℕ → Sight R
@@ -79,9 +100,17 @@ module _ {R : Type 0} where
       } in l)) z
       by false e = refl
 
-  sight_of_lines : (riding : Riding R) (b : ℕ) (lines : List (Line R)) → line_for riding.fresh lines b ≡ empty_line riding.fresh → ◌≡◌ {A = Sight R}
-      (record { line = line_here b (line_for riding.fresh lines b); requests = []; responses = []; messages = [] }) (blank riding b)
-  sight_of_lines riding b lines e = ap (λ (l : Line R). (let v : Sight R = record { line = l; requests = []; responses = []; messages = [] } in v))
+  sight_of_lines : (riding : Riding R) (b : ℕ) (lines : List (Line R)) →
+      line_for riding.fresh lines b ≡ empty_line riding.fresh → ◌≡◌ {A = Sight R}
+      (record { line = line_here b (line_for riding.fresh lines b); requests = []; responses = []; messages = [] })
+      (blank riding b)
+  sight_of_lines riding b lines e = ap (λ (l : Line R). (let v : Sight R = record {
+    line = l;
+    requests = [];
+    responses =
+        [];
+    messages = [];
+  } in v))
       (ap (line_here b) e ∙ line_start riding b)
 
   -- a block that the home alone has a copy of
@@ -96,39 +125,50 @@ module _ {R : Type 0} where
 module _ {R K : Type 0} where
   port_start_at : (riding : Riding R) (carrying : Carrying K) (cores d : ℕ) → d < cores →
       port_at carrying (replicate cores (port_start riding carrying)) d ≡ port_start riding carrying
-  port_start_at riding carrying cores d within = get_or-replicate cores d (port_start riding carrying) (no_port carrying) within
+  port_start_at riding carrying cores d within = get_or-replicate cores d (port_start riding carrying)
+      (no_port carrying) within
 
-  long : (riding : Riding R) (carrying : Carrying K) (cores : ℕ) → length (replicate cores (port_start riding carrying)) ≡ cores
+  long : (riding : Riding R) (carrying : Carrying K) (cores : ℕ) →
+      length (replicate cores (port_start riding carrying)) ≡ cores
   long riding carrying cores = length-replicate cores (port_start riding carrying)
 
-  sight_start : (riding : Riding R) (carrying : Carrying K) (image : Contents) (cores b d : ℕ) → blank riding b ≡ port_sight riding b
+  sight_start : (riding : Riding R) (carrying : Carrying K) (image : Contents) (cores b d : ℕ) →
+      blank riding b ≡ port_sight riding b
       (port_at carrying (memory_start riding carrying image cores).ports d)
   sight_start riding carrying image cores b d = by (cases_lt d cores)
     where
-      by : (d < cores) ⊎ (cores ≤ d) → blank riding b ≡ port_sight riding b (port_at carrying (memory_start riding carrying image cores).ports d)
-      by (inr past) = sym (ap (port_sight riding b) (get_or_past (memory_start riding carrying image cores).ports d (no_port carrying)
+      by : (d < cores) ⊎ (cores ≤ d) → blank riding b ≡ port_sight riding b
+          (port_at carrying (memory_start riding carrying image cores).ports d)
+      by (inr past) = sym (ap (port_sight riding b) (get_or_past (memory_start riding carrying image cores).ports d
+          (no_port carrying)
           (rw (long riding carrying cores) past)) ∙ sight_of_lines riding b [] refl)
-      by (inl within) = sym (ap (port_sight riding b) (port_start_at riding carrying cores d within) ∙ sight_of_lines riding b
+      by (inl within) = sym (ap (port_sight riding b) (port_start_at riding carrying cores d within)
+          ∙ sight_of_lines riding b
           (replicate LINES (empty_line riding.fresh)) (replicate_at LINES (b % LINES) (empty_line riding.fresh)))
 
-  start_holds : (riding : Riding R) (carrying : Carrying K) (blocks : ℕ) → PortHolds riding blocks (port_start riding carrying)
+  start_holds : (riding : Riding R) (carrying : Carrying K) (blocks : ℕ) →
+      PortHolds riding blocks (port_start riding carrying)
   start_holds riding carrying blocks =
       record {
         all_lines = length-replicate LINES (empty_line riding.fresh);
-        lines = λ i. subst (λ (l : Line R). LineHolds blocks i l) (sym (replicate_at LINES i (empty_line riding.fresh))) (record {
-          place = λ some. absurd
-              (some refl);
-          within = λ some. absurd (some refl);
-        });
-        one_waits = λ i j e f. absurd (not_waiting (sym e ∙ ap (λ (l : Line R). is_transient l.state) (replicate_at LINES i (empty_line riding.fresh))));
+        lines = λ i. subst (λ (l : Line R). LineHolds blocks i l) (sym (replicate_at LINES i (empty_line riding.fresh)))
+            (record {
+              place = λ some. absurd
+                  (some refl);
+              within = λ some. absurd (some refl);
+            });
+        one_waits = λ i j e f. absurd (not_waiting (sym e
+            ∙ ap (λ (l : Line R). is_transient l.state) (replicate_at LINES i (empty_line riding.fresh))));
         requests_room = refl;
         responses_room = refl;
         messages_room = refl;
       }
 
   -- at the start a block shows one in which the home alone has a copy
-  pub start_shows : (riding : Riding R) (carrying : Carrying K) (Q : ℕ → FullBlock (Payload R) → Type 0) (image : Contents) (cores : ℕ) →
-      ((b : ℕ) (none : Payload R) → Q b (opened_block none (entry_at riding.fresh (opening_entries riding.fresh image) b))) →
+  pub start_shows : (riding : Riding R) (carrying : Carrying K) (Q : ℕ → FullBlock (Payload R) →
+      Type 0) (image : Contents) (cores : ℕ) →
+      ((b : ℕ) (none : Payload R) → Q b (opened_block none (entry_at riding.fresh (opening_entries riding.fresh image)
+      b))) →
       AllShow riding carrying Q (memory_start riding carrying image cores)
   start_shows riding carrying Q image cores has =
       record {
@@ -158,8 +198,15 @@ module _ {R K : Type 0} where
 
   pub words_start : (riding : Riding R) (carrying : Carrying K) → OpeningWordsLaw riding carrying
   words_start riding carrying image cores =
-      start_shows riding carrying (HasWords (λ b. (entry_at riding.fresh (opening_entries riding.fresh image) b).words)) image cores
+      start_shows riding carrying (HasWords (λ b. (entry_at riding.fresh (opening_entries riding.fresh image) b).words))
+      image cores
       (λ b none. record {
         home = λ counts. refl;
-        seats = λ d ld. record { line = λ counts. absurd cc; sent = λ counts. absurd cc; reply = λ counts. absurd cc; put = λ counts. absurd cc };
+        seats = λ d ld. record {
+          line = λ counts. absurd cc;
+          sent = λ counts. absurd cc;
+          reply =
+              λ counts. absurd cc;
+          put = λ counts. absurd cc;
+        };
       })

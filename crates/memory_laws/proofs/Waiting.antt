@@ -1,6 +1,7 @@
 -- Whom a message under way is for: each is for one core's want, which waits until it is served. So no
 -- link has more messages than there are cores.
-use Rattle.std.proofs.Common.{◌≡◌, ◌≢◌, ◌∙◌, ap, refl, sym, subst, ℕ, ◌+◌, ◌<◌, ◌≤◌, ◌==◌, ◌%◌, Bool, true, false, not, cond, ◌&&◌, List, [], ◌∷◌, length, suc}
+use Rattle.std.proofs.Common.{◌≡◌, ◌≢◌, ◌∙◌, ap, refl, sym, subst, ℕ, ◌+◌, ◌<◌, ◌≤◌, ◌==◌, ◌%◌, Bool, true, false, not}
+use Rattle.std.proofs.Common.{cond, ◌&&◌, List, [], ◌∷◌, length, suc}
 use Rattle.std.proofs.Common.{arith}
 use Rattle.std.specs.Prelude.{slice_index_or}
 use Rattle.std.proofs.lemmas.Bool.Decides.{nat_tests}
@@ -15,7 +16,8 @@ use Rattle.msi_directory.specs.declared.entry.Stage.{Stage}
 use Rattle.msi_directory.specs.declared.entry.Stage.TheVariants.{Acks, Data}
 use Rattle.msi_directory.specs.Blocks.{entry_at}
 use Rattle.msi_protocol.specs.Block.{View}
-use Rattle.msi_protocol.specs.Phases.{Stands, StageFits, Phase, picture, role, role_in, Role, Out, AckWaiter, GiveWaiter}
+use Rattle.msi_protocol.specs.Phases.{Stands, StageFits, Phase, picture, role, role_in, Role, Out, AckWaiter}
+use Rattle.msi_protocol.specs.Phases.{GiveWaiter}
 use Rattle.msi_protocol.specs.NextPhases.{owes}
 use Rattle.msi_protocol.proofs.Quiet.{few_responses}
 use Rattle.msi_memory.specs.declared.port.Mail.{Mail}
@@ -66,18 +68,24 @@ phase_other p e = grind arith
 pub phase_reply : (p : Phase) → 1 ≤ length (picture p).responses → owes (role_in p) ≡ true
 phase_reply p e = grind arith
 
-pub phase_asks : (p : Phase) → 1 ≤ length (picture p).requests → (is_transient (picture p).line ≡ true) × (own_count (picture p).messages ≡ 0)
+pub phase_asks : (p : Phase) → 1 ≤ length (picture p).requests →
+    (is_transient (picture p).line ≡ true) × (own_count (picture p).messages ≡ 0)
     × (awaiting (role_in p) ≡ false)
 phase_asks p e = (grind arith, grind arith, grind arith)
 
-pub phase_awaits : (p : Phase) → awaiting (role_in p) ≡ true → (is_transient (picture p).line ≡ true) × ((picture p).messages ≡ [])
+pub phase_awaits : (p : Phase) → awaiting (role_in p) ≡ true →
+    (is_transient (picture p).line ≡ true) × ((picture p).messages ≡ [])
     × ((picture p).responses ≡ [])
 phase_awaits p e = (grind arith, grind arith, grind arith)
 
 -- where one owes, another waits
 pub owing_for : (stage : Stage) (d : ℕ) → StageFits stage → owes (role stage d) ≡ true → (requester_of stage ≢ d)
     × (awaiting (role stage (requester_of stage)) ≡ true) × (requester_of stage < CORES_MAX)
-owing_for stage d fits e = (λ (same : requester_of stage ≡ d). grind (arith, nat_tests), grind (arith, nat_tests), grind (arith, nat_tests))
+owing_for stage d fits e = (
+  λ (same : requester_of stage ≡ d). grind (arith, nat_tests),
+  grind (arith, nat_tests),
+  grind (arith, nat_tests),
+)
 
 pub awaiting_named : (r : Role) → awaiting r ≡ true → r ≢ Out
 awaiting_named r e is = absurd (grind arith)
@@ -105,7 +113,8 @@ module _ {R K : Type 0} where
   owns_items b [] = refl
   owns_items b (x ∷ xs) = one (ends_wait (signal x.item)) (block_of x.item == b) (owns_items b xs) refl
     where
-      one : (t u : Bool) → owns b (items_of xs) ≡ own_count (signals_of b xs) → ends_wait (signal x.item) ≡ t → cond (t && u) 1 0 + owns b (items_of xs)
+      one : (t u : Bool) → owns b (items_of xs) ≡ own_count (signals_of b xs) → ends_wait (signal x.item) ≡ t →
+          cond (t && u) 1 0 + owns b (items_of xs)
           ≡ own_count (cons_if u (signal x.item) (signals_of b xs))
       one true true ih e = rw e (omega arith)
       one false true ih e = rw e (omega arith)
@@ -145,25 +154,29 @@ module _ {R K : Type 0} where
     pub waits : is_transient (port_view riding b (port_at carrying m.ports c)).line ≡ true
 
   -- a core waits for one block
-  pub wants_one : (riding : Riding R) (carrying : Carrying K) (m : Memory R K) → MemoryHolds riding carrying m → (c b e : ℕ) → Wants riding carrying m c b →
+  pub wants_one : (riding : Riding R) (carrying : Carrying K) (m : Memory R K) → MemoryHolds riding carrying m →
+      (c b e : ℕ) → Wants riding carrying m c b →
       Wants riding carrying m c e → b ≡ e
   wants_one riding carrying m h c b e p q =
       let n : Port R K = port_at carrying m.ports c in
       let holds = h.ports c p.core in
       let l = view_waits b (line_for riding.fresh n.cache b) p.waits in
       let k = view_waits e (line_for riding.fresh n.cache e) q.waits in
-      sym l.0 ∙ (ap (λ (i : ℕ). (slice_index_or n.cache i (empty_line riding.fresh)).block) (holds.one_waits (b % LINES) (e % LINES) l.1 k.1) ∙ k.0)
+      sym l.0 ∙ (ap (λ (i : ℕ). (slice_index_or n.cache i (empty_line riding.fresh)).block) (holds.one_waits (b % LINES)
+      (e % LINES) l.1 k.1) ∙ k.0)
 
   abbrev pub requester : Riding R → Memory R K → ℕ → ℕ
   requester riding m b = requester_of (entry_at riding.fresh m.home b).stage
 
-  phase_line : (riding : Riding R) (b : ℕ) (n : Port R K) (stage : Stage) (d : ℕ) (st : Stands stage d (port_view riding b n)) →
+  phase_line : (riding : Riding R) (b : ℕ) (n : Port R K) (stage : Stage) (d : ℕ)
+      (st : Stands stage d (port_view riding b n)) →
       is_transient (picture st.phase).line ≡ true → is_transient (port_view riding b n).line ≡ true
   phase_line riding b n stage d st e = ap (λ (v : View). is_transient v.line) (sym st.view_is) ∙ e
 
   -- a core that owes an answer owes it to one that waits
   pub owed_to : (riding : Riding R) (carrying : Carrying K) (m : Memory R K) (d b : ℕ) → MemoryHolds riding carrying m →
-      owes (role (entry_at riding.fresh m.home b).stage d) ≡ true → Wants riding carrying m (requester riding m b) b × (requester riding m b ≢ d)
+      owes (role (entry_at riding.fresh m.home b).stage d) ≡ true →
+      Wants riding carrying m (requester riding m b) b × (requester riding m b ≢ d)
       × (awaiting (role (entry_at riding.fresh m.home b).stage (requester riding m b)) ≡ true)
   owed_to riding carrying m d b h e =
       let block = blocks_hold riding carrying m h b in
@@ -171,7 +184,8 @@ module _ {R K : Type 0} where
       let for_it = owing_for stage d block.fits e in
       let st = block.stands (requester riding m b) for_it.2 in
       let lt : requester riding m b < length m.ports =
-      there riding carrying m.ports stage b (requester riding m b) st (awaiting_named (role stage (requester riding m b)) for_it.1) in (
+      there riding carrying m.ports stage b (requester riding m b) st
+      (awaiting_named (role stage (requester riding m b)) for_it.1) in (
         record {
           core = lt;
           waits = phase_line riding b (port_at carrying m.ports (requester riding m b)) stage (requester riding m b) st
@@ -182,17 +196,24 @@ module _ {R K : Type 0} where
       )
 
   -- what the messages to a core, and its responses, are for
-  pub own_wants : (riding : Riding R) (carrying : Carrying K) (m : Memory R K) (d b : ℕ) → d < length m.ports → MemoryHolds riding carrying m →
+  pub own_wants : (riding : Riding R) (carrying : Carrying K) (m : Memory R K) (d b : ℕ) → d < length m.ports →
+      MemoryHolds riding carrying m →
       1 ≤ owns b (items_of (port_at carrying m.ports d).messages.items) → Wants riding carrying m d b
   own_wants riding carrying m d b ld h e =
       let n : Port R K = port_at carrying m.ports d in
       let st = stands_at riding carrying m d b ld h in
       let same : owns b (items_of n.messages.items) ≡ own_count (picture st.phase).messages =
       owns_items b n.messages.items ∙ ap (λ (v : View). own_count v.messages) (sym st.view_is) in
-      record { core = ld; waits = phase_line riding b n (entry_at riding.fresh m.home b).stage d st (phase_own st.phase (omega arith)) }
+      record {
+        core = ld;
+        waits = phase_line riding b n (entry_at riding.fresh m.home b).stage d st
+            (phase_own st.phase (omega arith));
+      }
 
-  pub other_owes : (riding : Riding R) (carrying : Carrying K) (m : Memory R K) (d b : ℕ) → d < length m.ports → MemoryHolds riding carrying m →
-      1 ≤ others b (items_of (port_at carrying m.ports d).messages.items) → owes (role (entry_at riding.fresh m.home b).stage d) ≡ true
+  pub other_owes : (riding : Riding R) (carrying : Carrying K) (m : Memory R K) (d b : ℕ) → d < length m.ports →
+      MemoryHolds riding carrying m →
+      1 ≤ others b (items_of (port_at carrying m.ports d).messages.items) →
+      owes (role (entry_at riding.fresh m.home b).stage d) ≡ true
   other_owes riding carrying m d b ld h e =
       let n : Port R K = port_at carrying m.ports d in
       let st = stands_at riding carrying m d b ld h in
@@ -200,8 +221,10 @@ module _ {R K : Type 0} where
       others_items b n.messages.items ∙ ap (λ (v : View). other_count v.messages) (sym st.view_is) in
       sym (ap owes st.role_is) ∙ phase_other st.phase (omega arith)
 
-  pub answer_owes : (riding : Riding R) (carrying : Carrying K) (m : Memory R K) (d b : ℕ) → d < length m.ports → MemoryHolds riding carrying m →
-      1 ≤ others b (answers_of (port_at carrying m.ports d).responses.items) → owes (role (entry_at riding.fresh m.home b).stage d) ≡ true
+  pub answer_owes : (riding : Riding R) (carrying : Carrying K) (m : Memory R K) (d b : ℕ) → d < length m.ports →
+      MemoryHolds riding carrying m →
+      1 ≤ others b (answers_of (port_at carrying m.ports d).responses.items) →
+      owes (role (entry_at riding.fresh m.home b).stage d) ≡ true
   answer_owes riding carrying m d b ld h e =
       let n : Port R K = port_at carrying m.ports d in
       let st = stands_at riding carrying m d b ld h in
@@ -211,12 +234,14 @@ module _ {R K : Type 0} where
 
   -- ---- how many there are
 
-  messages_apart : (riding : Riding R) (carrying : Carrying K) (m : Memory R K) (d : ℕ) → d < length m.ports → MemoryHolds riding carrying m →
+  messages_apart : (riding : Riding R) (carrying : Carrying K) (m : Memory R K) (d : ℕ) → d < length m.ports →
+      MemoryHolds riding carrying m →
       Apart (requester riding m) d (Wants riding carrying m) (items_of (port_at carrying m.ports d).messages.items)
   messages_apart riding carrying m d ld h =
       record {
         once_own = λ b. let st = stands_at riding carrying m d b ld h in
-            rw (owns_items b (port_at carrying m.ports d).messages.items) (subst (λ (v : View). own_count v.messages ≤ 1) st.view_is (phase_own_once st.phase));
+            rw (owns_items b (port_at carrying m.ports d).messages.items)
+            (subst (λ (v : View). own_count v.messages ≤ 1) st.view_is (phase_own_once st.phase));
         once_other = λ b. let st = stands_at riding carrying m d b ld h in
             rw (others_items b (port_at carrying m.ports d).messages.items)
             (subst (λ (v : View). other_count v.messages ≤ 1) st.view_is (phase_other_once st.phase));
@@ -225,7 +250,8 @@ module _ {R K : Type 0} where
         not_own = λ b e. (owed_to riding carrying m d b h (other_owes riding carrying m d b ld h e)).1;
       }
 
-  messages_below : (riding : Riding R) (carrying : Carrying K) (m : Memory R K) (d : ℕ) → d < length m.ports → MemoryHolds riding carrying m →
+  messages_below : (riding : Riding R) (carrying : Carrying K) (m : Memory R K) (d : ℕ) → d < length m.ports →
+      MemoryHolds riding carrying m →
       Below (requester riding m) d (length m.ports) (items_of (port_at carrying m.ports d).messages.items)
   messages_below riding carrying m d ld h =
       record {
@@ -234,26 +260,34 @@ module _ {R K : Type 0} where
       }
 
   -- the messages to a core are at most as many as the cores
-  pub messages_few : (riding : Riding R) (carrying : Carrying K) (m : Memory R K) (d : ℕ) → d < length m.ports → MemoryHolds riding carrying m →
+  pub messages_few : (riding : Riding R) (carrying : Carrying K) (m : Memory R K) (d : ℕ) → d < length m.ports →
+      MemoryHolds riding carrying m →
       length (port_at carrying m.ports d).messages.items ≤ length m.ports
   messages_few riding carrying m d ld h =
-      let few = at_most_cores (requester riding m) d (length m.ports) (Wants riding carrying m) (wants_one riding carrying m h)
-      (items_of (port_at carrying m.ports d).messages.items) (messages_apart riding carrying m d ld h) (messages_below riding carrying m d ld h) in
+      let few = at_most_cores (requester riding m) d (length m.ports) (Wants riding carrying m)
+      (wants_one riding carrying m h)
+      (items_of (port_at carrying m.ports d).messages.items) (messages_apart riding carrying m d ld h)
+      (messages_below riding carrying m d ld h) in
       let long = length-items (port_at carrying m.ports d).messages.items in
       omega arith
 
   -- and fewer where there is a core for whose want none of them is
-  pub messages_fewer : (riding : Riding R) (carrying : Carrying K) (m : Memory R K) (d who : ℕ) → d < length m.ports → who < length m.ports →
-      MemoryHolds riding carrying m → Free (requester riding m) d who (items_of (port_at carrying m.ports d).messages.items) →
+  pub messages_fewer : (riding : Riding R) (carrying : Carrying K) (m : Memory R K) (d who : ℕ) → d < length m.ports →
+      who < length m.ports →
+      MemoryHolds riding carrying m → Free (requester riding m) d who
+      (items_of (port_at carrying m.ports d).messages.items) →
       length (port_at carrying m.ports d).messages.items < length m.ports
   messages_fewer riding carrying m d who ld lw h free =
-      let lt = fewer_than_cores (requester riding m) d who (length m.ports) (Wants riding carrying m) (wants_one riding carrying m h)
-      (items_of (port_at carrying m.ports d).messages.items) lw (messages_apart riding carrying m d ld h) free (messages_below riding carrying m d ld h) in
+      let lt = fewer_than_cores (requester riding m) d who (length m.ports) (Wants riding carrying m)
+      (wants_one riding carrying m h)
+      (items_of (port_at carrying m.ports d).messages.items) lw (messages_apart riding carrying m d ld h) free
+      (messages_below riding carrying m d ld h) in
       let long = length-items (port_at carrying m.ports d).messages.items in
       omega arith
 
   -- the responses of a core are fewer than the cores, since none is for its own want
-  pub answers_fewer : (riding : Riding R) (carrying : Carrying K) (m : Memory R K) (d : ℕ) → d < length m.ports → MemoryHolds riding carrying m →
+  pub answers_fewer : (riding : Riding R) (carrying : Carrying K) (m : Memory R K) (d : ℕ) → d < length m.ports →
+      MemoryHolds riding carrying m →
       length (port_at carrying m.ports d).responses.items < length m.ports
   answers_fewer riding carrying m d ld h =
       let n : Port R K = port_at carrying m.ports d in
@@ -262,7 +296,8 @@ module _ {R K : Type 0} where
       record {
         once_own = λ b. let z = owns_answers b n.responses.items in omega arith;
         once_other = λ b. let st = stands_at riding carrying m d b ld h in
-            rw (others_answers b n.responses.items) (subst (λ (v : View). length v.responses ≤ 1) st.view_is (few_responses st.phase));
+            rw (others_answers b n.responses.items) (subst (λ (v : View). length v.responses ≤ 1) st.view_is
+            (few_responses st.phase));
         own = λ b e. absurd (let z = owns_answers b n.responses.items in omega arith);
         other = λ b e. (owed_to riding carrying m d b h (answer_owes riding carrying m d b ld h e)).0;
         not_own = λ b e. (owed_to riding carrying m d b h (answer_owes riding carrying m d b ld h e)).1;
@@ -272,7 +307,12 @@ module _ {R K : Type 0} where
         own = λ b e. absurd (let z = owns_answers b n.responses.items in omega arith);
         other = λ b e. (owed_to riding carrying m d b h (answer_owes riding carrying m d b ld h e)).1;
       } in
-      let lt = fewer_than_cores (requester riding m) d d (length m.ports) (Wants riding carrying m) (wants_one riding carrying m h) xs ld apart free
-      (record { own = λ b e. ld; other = λ b e. (owed_to riding carrying m d b h (answer_owes riding carrying m d b ld h e)).0.core }) in
+      let lt = fewer_than_cores (requester riding m) d d (length m.ports) (Wants riding carrying m)
+      (wants_one riding carrying m h) xs ld apart free
+      (record {
+        own = λ b e. ld;
+        other = λ b e. (owed_to riding carrying m d b h (answer_owes riding carrying m d b ld h
+            e)).0.core;
+      }) in
       let long = length-answers n.responses.items in
       omega arith

@@ -58,7 +58,7 @@ last_value_at opening list a =
 abbrev value_of : Contents → List Access → ℕ → ℕ
 value_of image list word = last_value (opening_word image word) word list
 
-memory_written : (image : Contents) (list : List Access) (a : Access)
+pub memory_written : (image : Contents) (list : List Access) (a : Access)
     → memory_left image (list ++ a ∷ []) ≡ slice_set (memory_left image list) a.word a.after
 memory_written image list a =
     let first : 0 + a.word ≡ a.word = omega arith in
@@ -67,7 +67,7 @@ memory_written image list a =
     (ap (value_of image (list ++ a ∷ [])) first ∙ last_value_at (opening_word image a.word) list a)
 
 -- an access that leaves what it found leaves the memory as it was
-memory_read : (image : Contents) (list : List Access) (a : Access)
+pub memory_read : (image : Contents) (list : List Access) (a : Access)
     → a.after ≡ last_value (opening_word image a.word) a.word list
     → memory_left image (list ++ a ∷ []) ≡ memory_left image list
 memory_read image list a found =

@@ -139,7 +139,8 @@ entry_of_clock r core k ends clock counts h exact all each =
     (record {
       each_core = all;
       exact =
-          front_exact r (instr core (get_or ends k 0)) clock counts h.valid (end_in_list r core k ends h).0 exact all each;
+          front_exact r (instr core (get_or ends k 0)) clock counts h.valid (end_in_list r core k ends h).0 exact all
+          each;
     })
 
 -- one more entry of a core

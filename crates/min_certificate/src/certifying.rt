@@ -10,9 +10,9 @@ use crate::answers::CertFault;
 use crate::core_accesses::CoreAccesses;
 use crate::entries::Entries;
 use crate::exact_clocks::exact_clocks;
-use certificate_codec::{Certificate, EdgeEnds};
+use certificate_codec::{Certificate, CoreEntries, EdgeEnds};
 use replay_audit::Audited;
-use rtr_types::{Access, Edge, Items};
+use rtr_types::{Access, Edge};
 use std::alloc::{AllocError, Global};
 
 /// The first edge, by pair and target, that no least log has, by exact clocks and the accesses of the low
@@ -20,7 +20,7 @@ use std::alloc::{AllocError, Global};
 fn first_amiss(
     alloc: Global,
     ends: EdgeEnds,
-    clocks: &[Items<Items<u32>>],
+    clocks: &[CoreEntries],
     accesses: &[Access],
 ) -> Result<Option<Edge>, AllocError>
     requires determinate { IsDeterminate Reduced ends }

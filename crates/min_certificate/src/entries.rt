@@ -13,15 +13,18 @@ ghost use Rattle.min_certificate.specs.Sound.{IsSound};
 
 use crate::core_accesses::CoreAccesses;
 use crate::places::{entry_at, is_below, is_below_but, place};
-use certificate_codec::EdgeEnds;
-use rtr_types::{Edge, Instr, Items, Which};
+use certificate_codec::{CoreEntries, EdgeEnds};
+use rtr_types::{CORES_MAX, Edge, Instr, Which};
 use std::marker::Model;
+
+/// A place for each core, as the length of an array.
+const PLACES: usize = CORES_MAX as usize;
 
 /// The edge ends of a recording, with clocks for them. Contracts see it as the certificate.
 #[derive(Drop)]
 pub struct Entries<'a> {
     ends: EdgeEnds<'a>,
-    clocks: &'a [Items<Items<u32>>],
+    clocks: &'a [CoreEntries],
 }
 
 impl<'a> Model for Entries<'a> {
@@ -34,7 +37,7 @@ impl<'a> Model for Entries<'a> {
 
 impl<'a> Entries<'a> {
     /// Clocks for these edge ends.
-    pub fn new(ends: EdgeEnds<'a>, clocks: &'a [Items<Items<u32>>]) -> Entries<'a>
+    pub fn new(ends: EdgeEnds<'a>, clocks: &'a [CoreEntries]) -> Entries<'a>
         ensures { result ≡ record { recording = ends.entry; clocks = clocks.now } }
     {
         Entries { ends, clocks }
@@ -76,6 +79,20 @@ impl<'a> Entries<'a> {
         ensures only { (z : SomeInstr) → Among (reduced_edges self.now.recording) z at → z.core ≡ of → result ≡ Some z }
     {
         match self.ends.recording().source(Which::Reduced, of, at) {
+            Some(count) => Some(Instr { core: of, count }),
+            None => None,
+        }
+    }
+
+    /// The same, looked for from a place in the two cores' list of edges on; the place where it was found
+    /// is left.
+    fn source_near(&self, of: u8, at: Instr, near: &mut usize) -> Option<Instr>
+        requires { IsPair self.now.recording.params.cores of at.core }
+        ensures some { IfSome result (λ z. Among (reduced_edges self.now.recording) z at × (z.core ≡ of)
+            × IsWithin self.now.recording z) }
+        ensures only { (z : SomeInstr) → Among (reduced_edges self.now.recording) z at → z.core ≡ of → result ≡ Some z }
+    {
+        match self.ends.recording().reduced_source_near(of, at, near) {
             Some(count) => Some(Instr { core: of, count }),
             None => None,
         }
@@ -203,26 +220,31 @@ impl<'a> Entries<'a> {
 // Which edges are needed.
 impl<'a> Entries<'a> {
     /// Whether the entry of the logged source of the edge's target on another core than that of the edge's
-    /// own, if there is one, doesn't know the edge's source.
-    fn is_unknown_there(&self, edge: Edge, of: u8) -> bool
+    /// own, if there is one, doesn't know the edge's source. It is looked for from where the last edge to the
+    /// target's core from that core was.
+    fn is_unknown_there(&self, edge: Edge, of: u8, near: &mut usize) -> bool
         requires pair { IsPair self.now.recording.params.cores of edge.to.core }
         requires other { of ≢ edge.from.core }
         ensures { IsTrue result ↔ IsUnknownThere self.now edge.from edge.to of }
     {
-        match self.source(of, edge.to) {
+        match self.source_near(of, edge.to, near) {
             Some(source) => { place(self.entry(source), edge.from.core as usize) < edge.from.count }
             None => true,
         }
     }
 
     /// The same for all other logged sources. On the core of the edge's source there is no other.
-    fn is_unknown_by_others(&self, edge: Edge) -> bool
+    fn is_unknown_by_others(&self, edge: Edge, near: &mut [usize; PLACES]) -> bool
         requires within { IsWithin self.now.recording edge.to }
         requires edge { Among (reduced_edges self.now.recording) edge.from edge.to }
         ensures { IsTrue result ↔ IsUnknownByOthers self.now edge.from edge.to }
     {
         for of in 0..self.cores() {
-            if of != edge.to.core && of != edge.from.core && !self.is_unknown_there(edge, of) {
+            let near = &mut near[of as usize];
+            if of != edge.to.core
+                && of != edge.from.core
+                && !self.is_unknown_there(edge, of, near)
+            {
                 return false;
             }
         }
@@ -230,9 +252,9 @@ impl<'a> Entries<'a> {
     }
 
     /// Whether an edge is needed: neither the entry before its target on the target's core nor that of
-    /// another logged source of the target knows its source. The number of that entry is looked for from
-    /// the one that was found last.
-    fn is_needed(&self, edge: Edge, number: &mut usize) -> bool
+    /// another logged source of the target knows its source. The number of that entry and those sources are
+    /// looked for from the ones that were found last.
+    fn is_needed(&self, edge: Edge, number: &mut usize, near: &mut [usize; PLACES]) -> bool
         requires within { IsWithin self.now.recording edge.to }
         requires edge { Among (reduced_edges self.now.recording) edge.from edge.to }
         requires some { 1 ≤ edge.to.count }
@@ -243,7 +265,7 @@ impl<'a> Entries<'a> {
             count: edge.to.count - 1,
         };
         place(self.entry_near(before, number), edge.from.core as usize) < edge.from.count
-            && self.is_unknown_by_others(edge)
+            && self.is_unknown_by_others(edge, near)
     }
 
     /// The first reduced edge that isn't needed.
@@ -251,8 +273,9 @@ impl<'a> Entries<'a> {
         ensures { FirstWithout (IsNeededIn self.now) (reduced_edges self.now.recording) result }
     {
         let mut number = 0;
+        let mut near = [0; PLACES];
         for &edge in self.edges() {
-            if !self.is_needed(edge, &mut number) {
+            if !self.is_needed(edge, &mut number, &mut near) {
                 return Some(edge);
             }
         }
@@ -264,8 +287,9 @@ impl<'a> Entries<'a> {
         ensures { FirstWithout (IsSound self.now accesses.now) (reduced_edges self.now.recording) result }
     {
         let mut number = 0;
+        let mut near = [0; PLACES];
         for &edge in self.edges() {
-            if !accesses.is_conflict(edge) || !self.is_needed(edge, &mut number) {
+            if !accesses.is_conflict(edge) || !self.is_needed(edge, &mut number, &mut near) {
                 return Some(edge);
             }
         }

@@ -3,7 +3,7 @@ ghost use Rattle.std.specs.Prelude.{◌≡◌, ◌≢◌, ◌≤◌, ◌<◌, �
 ghost use Rattle.clock_entries.specs.Ends.{entry_at};
 ghost use Rattle.min_certificate.specs.Places.{IsBelow, IsBelowBut};
 
-use rtr_types::Items;
+use certificate_codec::CoreEntries;
 
 /// The count at a place.
 pub fn place(entry: &[u32], at: usize) -> u32
@@ -40,17 +40,14 @@ pub fn is_below_but(core: u8, there: &[u32], here: &[u32]) -> bool
 }
 
 /// The entry of a core with this number, from 1; empty where there is none.
-pub fn entry_at<'a>(clocks: &'a [Items<Items<u32>>], core: u8, number: usize) -> &'a [u32]
+pub fn entry_at<'a>(clocks: &'a [CoreEntries], core: u8, number: usize) -> &'a [u32]
     ensures { result.now ≡ entry_at clocks.now core number }
 {
     if number == 0 {
         return &[];
     }
     match clocks.get(core as usize) {
-        Some(entries) => match entries.as_slice().get(number - 1) {
-            Some(entry) => entry.as_slice(),
-            None => &[],
-        },
+        Some(entries) => entries.entry(number - 1),
         None => &[],
     }
 }

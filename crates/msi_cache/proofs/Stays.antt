@@ -6,7 +6,8 @@ use Rattle.msi_cache.specs.Messages.{signal}
 use Rattle.msi_cache.specs.declared.line.Line.{Line}
 use Rattle.msi_cache.specs.declared.messages.FromHome.{FromHome}
 
-pub after_block : {R : Type 0} (absorbed : R → R → R) (l : Line R) (m : FromHome R) → (line_after absorbed l m).block ≡ l.block
+pub after_block : {R : Type 0} (absorbed : R → R → R) (l : Line R) (m : FromHome R) →
+    (line_after absorbed l m).block ≡ l.block
 after_block absorbed l m = by_row (row (signal m) l.state)
   where
     by_row : (o : Option Row) → (line_by absorbed o m l).block ≡ l.block

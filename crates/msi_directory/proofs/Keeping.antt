@@ -1,5 +1,6 @@
 -- What is kept after an entry was added or changed, and where a block stands.
-use Rattle.std.proofs.Common.{◌≡◌, ◌∙◌, ℕ, suc, zero, ◌<◌, List, [], ◌∷◌, ◌++◌, Some, None, refl, sym, ap, subst, slice_get}
+use Rattle.std.proofs.Common.{◌≡◌, ◌∙◌, ℕ, suc, zero, ◌<◌, List, [], ◌∷◌, ◌++◌, Some, None, refl, sym, ap, subst}
+use Rattle.std.proofs.Common.{slice_get}
 use Rattle.std.specs.Prelude.{length, slice_index_or, slice_set}
 use Rattle.std.specs.Cmp.{nat_eq_equiv}
 use Rattle.std.specs.List.{IsDistinct}
@@ -19,14 +20,17 @@ use Rattle.msi_directory.specs.declared.home_copies.HomeCopy.{HomeCopy}
 -- a block that has no entry goes last
 added : (entries : List (ℕ × Stage)) (block : ℕ) (stage : Stage) → place_of (keys_of entries) block ≡ None
     → insert_entry nat_eq entries block stage ≡ entries ++ (block, stage) ∷ []
-added entries block stage none = insert_entry-absent nat_eq block stage entries (Missing-position (nat_eq block) entries none).absent
+added entries block stage none = insert_entry-absent nat_eq block stage entries (Missing-position (nat_eq block) entries
+    none).absent
 
 -- the block whose entry is at a place stands there
 stands_at : (entries : List (ℕ × Stage)) (place block : ℕ) (stage : Stage) → IsDistinct nat_eq (keys_of entries)
     → slice_get entries place ≡ Some (block, stage) → place_of (keys_of entries) block ≡ Some place
-stands_at entries place block stage distinct at = index-first (nat_eq block) entries place (own_first nat_eq nat_eq_equiv entries place block stage distinct at)
+stands_at entries place block stage distinct at =
+    index-first (nat_eq block) entries place (own_first nat_eq nat_eq_equiv entries place block stage distinct at)
 
-values_set : (entries : List (ℕ × Stage)) (place : ℕ) (stage : Stage) → values_of (set_value_at entries place stage) ≡ slice_set (values_of entries) place stage
+values_set : (entries : List (ℕ × Stage)) (place : ℕ) (stage : Stage) →
+    values_of (set_value_at entries place stage) ≡ slice_set (values_of entries) place stage
 values_set [] place stage = refl
 values_set (e ∷ es) zero stage = refl
 values_set (e ∷ es) (suc place) stage = ap (λ rest. e.1 ∷ rest) (values_set es place stage)
@@ -40,36 +44,56 @@ module _ {R S : Type 0} (m : IndexMap ℕ Stage S) (copies : List (HomeCopy R)) 
   pub seen_at : (now : Kept R) → kept_of ≡ now → IsDistinct nat_eq (keys m) → (place kept block : ℕ) (stage : Stage)
       → slice_get m.entries place ≡ Some (kept, stage) → kept ≡ block → Some place ≡ place_of now.blocks block
   seen_at now is distinct place kept block stage at same =
-      sym (stands_at m.entries place kept stage distinct at) ∙ ap (place_of (keys m)) same ∙ ap (λ (k : Kept R). place_of k.blocks block) is
+      sym (stands_at m.entries place kept stage distinct at) ∙ ap (place_of (keys m)) same
+      ∙ ap (λ (k : Kept R). place_of k.blocks block) is
 
 -- one more block's entry comes behind the others
 module _ {R S : Type 0} (m m' : IndexMap ℕ Stage S) (copies copies' : List (HomeCopy R)) (block : ℕ) (e : Entry R)
     (none : place_of (keys m) block ≡ None)
-    (stages : m'.entries ≡ insert_entry nat_eq m.entries block e.stage) (beside : copies' ≡ copies ++ copy_of e ∷ []) where
-  entries_more : m'.entries ≡ m.entries ++ (block, e.stage) ∷ []
-  entries_more = stages ∙ added m.entries block e.stage none
+    (stages : m'.entries ≡ insert_entry nat_eq m.entries block e.stage) (beside : copies' ≡ copies ++ copy_of e ∷ [])
+  where
+    entries_more : m'.entries ≡ m.entries ++ (block, e.stage) ∷ []
+    entries_more = stages ∙ added m.entries block e.stage none
 
-  pub more : kept_of m' copies' ≡ kept_more (kept_of m copies) block e
-  more = rw (entries_more, beside, map_push (λ (p : ℕ × Stage). p.0) m.entries (block, e.stage), map_push (λ (p : ℕ × Stage). p.1) m.entries (block, e.stage))
+    pub more : kept_of m' copies' ≡ kept_more (kept_of m copies) block e
+    more = rw (
+      entries_more,
+      beside,
+      map_push (λ (p : ℕ × Stage). p.0) m.entries (block, e.stage),
+      map_push (λ (p : ℕ × Stage). p.1) m.entries (block, e.stage),
+    )
 
-  pub more_counted : length copies ≡ length m.entries → length copies' ≡ length m'.entries
-  more_counted same = rw (entries_more, beside, length_push m.entries (block, e.stage), length_push copies (copy_of e), same)
+    pub more_counted : length copies ≡ length m.entries → length copies' ≡ length m'.entries
+    more_counted same = rw (
+      entries_more,
+      beside,
+      length_push m.entries (block, e.stage),
+      length_push copies (copy_of e),
+      same,
+    )
 
 -- the stage and the copy at a place are changed
-module _ {R S : Type 0} (m : IndexMap ℕ Stage S) (copies : List (HomeCopy R)) (now : Kept R) (is : kept_of m copies ≡ now)
+module _ {R S : Type 0} (m : IndexMap ℕ Stage S) (copies : List (HomeCopy R)) (now : Kept R)
+    (is : kept_of m copies ≡ now)
     (place : ℕ) (stage : Stage) (copy : HomeCopy R)
-    (stands : slice_get (values m) place ≡ Some stage) (within : place < length copies) (lies : copy ≡ slice_index_or copies place copy) where
+    (stands : slice_get (values m) place ≡ Some stage) (within : place < length copies)
+    (lies : copy ≡ slice_index_or copies place copy) where
   here : (past : Entry R) → kept_at now place past ≡ entry_of stage copy
   here past =
       subst (λ k. kept_at k place past ≡ entry_of stage copy) is
-      (λ i. entry_of (get_or_from_slice_get (values m) place stage past.stage stands i) (sym (get_or_read copies place copy within lies (copy_of past)) i))
+      (λ i. entry_of (get_or_from_slice_get (values m) place stage past.stage stands i)
+      (sym (get_or_read copies place copy within lies (copy_of past)) i))
 
-  pub changed : (row : Entry R → Entry R) (stage' : Stage) (copy' : HomeCopy R) → entry_of stage' copy' ≡ row (entry_of stage copy) → (past : Entry R)
-      → kept_of (with_value_at m place stage') (slice_set copies place copy') ≡ kept_with now place (row (kept_at now place past))
+  pub changed : (row : Entry R → Entry R) (stage' : Stage) (copy' : HomeCopy R) →
+      entry_of stage' copy' ≡ row (entry_of stage copy) → (past : Entry R)
+      → kept_of (with_value_at m place stage') (slice_set copies place copy') ≡ kept_with now place
+      (row (kept_at now place past))
   changed row stage' copy' after past =
       rw (here past, ← after, ← is, keys-with_value_at m place stage', values_set m.entries place stage')
 
   pub answered : (X : Type 0) (answer : R → X) (wanted : Entry R → X) (copy' : HomeCopy R)
       → answer copy'.rider ≡ wanted (entry_of stage copy) → (past : Entry R)
-      → answer (slice_index_or (slice_set copies place copy') place (copy_of past)).rider ≡ wanted (kept_at now place past)
-  answered X answer wanted copy' after past = rw (here past, get_or-set_same copies place copy' (copy_of past) within) after
+      → answer (slice_index_or (slice_set copies place copy') place (copy_of past)).rider ≡ wanted
+      (kept_at now place past)
+  answered X answer wanted copy' after past = rw (here past, get_or-set_same copies place copy' (copy_of past) within)
+      after

@@ -14,14 +14,18 @@ rounded_up words = omega arith
 
 module _ {R : Type 0} where
   -- the stages fit, since no block is held
-  opening_fits : (fresh : R) (image : Contents) (blocks : List ℕ) → All (λ b. IsTrue (stage_fits (opening_entry fresh image b).stage)) blocks
+  opening_fits : (fresh : R) (image : Contents) (blocks : List ℕ) →
+      All (λ b. IsTrue (stage_fits (opening_entry fresh image b).stage)) blocks
   opening_fits fresh image [] = search rules
   opening_fits fresh image (b ∷ blocks) = let rest = opening_fits fresh image blocks in search rules
 
-  pub openings_fit : (fresh : R) (image : Contents) (n : ℕ) → All (λ e. IsTrue (stage_fits e.stage)) (map (opening_entry fresh image) (range_with_len 0 n))
+  pub openings_fit : (fresh : R) (image : Contents) (n : ℕ) →
+      All (λ e. IsTrue (stage_fits e.stage)) (map (opening_entry fresh image) (range_with_len 0 n))
   openings_fit fresh image n =
-      All-map (λ e. IsTrue (stage_fits e.stage)) (opening_entry fresh image) (range_with_len 0 n) (opening_fits fresh image (range_with_len 0 n))
+      All-map (λ e. IsTrue (stage_fits e.stage)) (opening_entry fresh image) (range_with_len 0 n)
+      (opening_fits fresh image (range_with_len 0 n))
 
   -- how many there are
-  pub openings_counted : (fresh : R) (image : Contents) (n : ℕ) → length (map (opening_entry fresh image) (range_with_len 0 n)) ≡ n
+  pub openings_counted : (fresh : R) (image : Contents) (n : ℕ) →
+      length (map (opening_entry fresh image) (range_with_len 0 n)) ≡ n
   openings_counted fresh image n = length-map-range_with_len (opening_entry fresh image) 0 n

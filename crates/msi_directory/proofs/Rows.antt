@@ -19,7 +19,8 @@ pub record IsFound {R : Type 0} (home : Sparse R) (block place : ℕ) : Type 0 w
 -- as a search answers it
 pub is_found : {R : Type 0} (home : Sparse R) (asked block place : ℕ) (answer : Option ℕ) → asked ≡ block
     → answer ≡ place_of home.kept.blocks asked
-    → IfSome answer (λ p. p < length home.kept.stages) → IfSome answer (λ p. p < length home.kept.copies) → answer ≡ Some place → IsFound home block place
+    → IfSome answer (λ p. p < length home.kept.stages) → IfSome answer (λ p. p < length home.kept.copies) →
+    answer ≡ Some place → IsFound home block place
 is_found home asked block place answer about looked stage copy is =
     record {
       stands = ap (place_of home.kept.blocks) (sym about) ∙ sym looked ∙ is;
@@ -27,8 +28,10 @@ is_found home asked block place answer about looked stage copy is =
       copy = rw is at copy;
     }
 
-module _ {R : Type 0} (home : Sparse R) (block place : ℕ) (found : IsFound home block place) (within : block < length (blocks_in home).entries) (past : Entry R)
-    (row : Entry R → Entry R) (after : Kept R) (changes : (e : Entry R) → after ≡ kept_with home.kept place (row (kept_at home.kept place e))) where
+module _ {R : Type 0} (home : Sparse R) (block place : ℕ) (found : IsFound home block place)
+    (within : block < length (blocks_in home).entries) (past : Entry R)
+    (row : Entry R → Entry R) (after : Kept R) (changes : (e : Entry R) →
+    after ≡ kept_with home.kept place (row (kept_at home.kept place e))) where
   -- the block's entry, before
   abbrev pub entry_before : Entry R
   entry_before = slice_index_or (blocks_in home).entries block past
@@ -37,12 +40,17 @@ module _ {R : Type 0} (home : Sparse R) (block place : ℕ) (found : IsFound hom
   home_after = record home { kept = after }
 
   row_is : after ≡ kept_with home.kept place (row entry_before)
-  row_is = rw (reads_kept home block within past place found.stands) (changes (opening_entry home.fresh home.opening block))
+  row_is = rw (reads_kept home block within past place found.stands)
+      (changes (opening_entry home.fresh home.opening block))
 
-  pub blocks_after : blocks_in home_after ≡ record (blocks_in home) { entries = slice_set (blocks_in home).entries block (row entry_before) }
+  pub blocks_after : blocks_in home_after ≡ record (blocks_in home) {
+    entries =
+        slice_set (blocks_in home).entries block (row entry_before);
+  }
   blocks_after =
       ap (λ (k : Kept R). blocks_in (record home { kept = k })) row_is
-      ∙ ap (λ entries. record (blocks_in home) { entries = entries }) (entries_with home block place found.stands found.stage found.copy (row entry_before))
+      ∙ ap (λ entries. record (blocks_in home) { entries = entries }) (entries_with home block place found.stands
+      found.stage found.copy (row entry_before))
 
   pub same_elsewhere : (other : ℕ) → (other ≡ block → ⊥)
       → slice_index_or (blocks_in home_after).entries other past ≡ slice_index_or (blocks_in home).entries other past
@@ -61,28 +69,35 @@ module _ {R : Type 0} (home : Sparse R) (block place : ℕ) (found : IsFound hom
   place_after = rw (row_is, length-set home.kept.stages place (row entry_before).stage) found.stage
 
   -- a stage that is read where the block's is by now is the one after the row
-  pub stage_after : (stage : Stage) → ((d : Stage) → stage ≡ slice_index_or after.stages place d) → stage ≡ (row entry_before).stage
+  pub stage_after : (stage : Stage) → ((d : Stage) → stage ≡ slice_index_or after.stages place d) →
+      stage ≡ (row entry_before).stage
   stage_after stage reads =
       let next : Stage = (row entry_before).stage in
       reads next
       ∙ ap (λ (k : Kept R). slice_index_or k.stages place next) row_is
       ∙ get_or-set_same home.kept.stages place next next found.stage
 
-  pub rider_after : (copy : HomeCopy R) → ReadsAfter copy → copy.rider ≡ (slice_index_or (blocks_in home_after).entries block past).rider
+  pub rider_after : (copy : HomeCopy R) → ReadsAfter copy →
+      copy.rider ≡ (slice_index_or (blocks_in home_after).entries block past).rider
   rider_after copy reads =
-      let within_after : block < length (blocks_in home_after).entries = rw (entries_counted home_after, ← entries_counted home) within in
-      let stands_after : place_of after.blocks block ≡ Some place = ap (λ (k : Kept R). place_of k.blocks block) row_is ∙ found.stands in
+      let within_after : block < length (blocks_in home_after).entries =
+      rw (entries_counted home_after, ← entries_counted home) within in
+      let stands_after : place_of after.blocks block ≡ Some place = ap (λ (k : Kept R). place_of k.blocks block) row_is
+      ∙ found.stands in
       ap (λ (c : HomeCopy R). c.rider) (reads (copy_of (opening_entry home.fresh home.opening block)))
       ∙ ap (λ (e : Entry R). e.rider) (sym (reads_kept home_after block within_after past place stands_after))
 
   pub row_answers : (X : Type 0) (answer : R → X) (wanted : Entry R → X) (copy : HomeCopy R) → ReadsAfter copy
-      → ((e : Entry R) → answer (kept_at after place e).rider ≡ wanted (kept_at home.kept place e)) → answer copy.rider ≡ wanted entry_before
+      → ((e : Entry R) → answer (kept_at after place e).rider ≡ wanted (kept_at home.kept place e)) →
+      answer copy.rider ≡ wanted entry_before
   row_answers X answer wanted copy reads says =
       let opens = opening_entry home.fresh home.opening block in
       ap (λ (c : HomeCopy R). answer c.rider) (reads (copy_of opens))
       ∙ says opens
       ∙ ap wanted (sym (reads_kept home block within past place found.stands))
 
-  pub fits_after : All (λ (o : Entry R). IsTrue (stage_fits o.stage)) (slice_set (blocks_in home).entries block (row entry_before))
+  pub fits_after : All (λ (o : Entry R). IsTrue (stage_fits o.stage)) (slice_set (blocks_in home).entries block
+      (row entry_before))
       → HomeFits home → HomeFits home_after
-  fits_after stages fits = rw row_is (fits_with home block place found.stands found.stage found.copy (row entry_before) stages fits)
+  fits_after stages fits = rw row_is (fits_with home block place found.stands found.stage found.copy (row entry_before)
+      stages fits)

@@ -9,5 +9,6 @@ module _ {R : Type 0} where
   pub seen_request_block : (request : Request (Bor R)) → request_block request ≡ request_block (request_seen request)
   seen_request_block request = search rules
 
-  pub seen_response_block : (response : Response (Bor R)) → response_block response ≡ response_block (response_seen response)
+  pub seen_response_block : (response : Response (Bor R)) → response_block response ≡ response_block
+      (response_seen response)
   seen_response_block response = search rules

@@ -7,17 +7,22 @@ use Rattle.rv_core.specs.States.{starting, register, written, next_pc, result_of
 use Rattle.rv_core.specs.Operations.{computed, is_taken, moved, without_low_bit, loaded}
 use Rattle.rv_core.specs.Steps.{instruction_at, need_to_jump, need_to_access, need_of, need_at_pc, need, after, wrote}
 use Rattle.rv_decode.specs.Fields.{field, signed}
-use Rattle.rv_decode.specs.Table.{jump_and_link_register, branch, load, store, constant_shift, alu_immediate, alu_register, fence, system, decoded}
+use Rattle.rv_decode.specs.Table.{jump_and_link_register, branch, load, store, constant_shift, alu_immediate}
+use Rattle.rv_decode.specs.Table.{alu_register, fence, system, decoded}
 use Rattle.msi_examples.specs.Examples.{BothBlocksAreHeld, ReadEightApart}
 
 pub both_blocks_are_held : BothBlocksAreHeld
-unfolding need need_at_pc need_of need_to_jump need_to_access fetched opening_word merged has with_core without_core decoded jump_and_link_register branch load
-    store constant_shift alu_immediate alu_register fence system field signed starting register written is_taken moved without_low_bit computed loaded next_pc
+unfolding need need_at_pc need_of need_to_jump need_to_access fetched opening_word merged has with_core without_core
+    decoded jump_and_link_register branch load
+    store constant_shift alu_immediate alu_register fence system field signed starting register written is_taken moved
+    without_low_bit computed loaded next_pc
     result_of halt_after retired word_after instruction_at after wrote
 both_blocks_are_held = refl
 
 pub read_eight_apart : ReadEightApart
-unfolding need need_at_pc need_of need_to_jump need_to_access fetched opening_word merged has with_core without_core decoded jump_and_link_register branch load
-    store constant_shift alu_immediate alu_register fence system field signed starting register written is_taken moved without_low_bit computed loaded next_pc
+unfolding need need_at_pc need_of need_to_jump need_to_access fetched opening_word merged has with_core without_core
+    decoded jump_and_link_register branch load
+    store constant_shift alu_immediate alu_register fence system field signed starting register written is_taken moved
+    without_low_bit computed loaded next_pc
     result_of halt_after retired word_after instruction_at after wrote
 read_eight_apart = record { ends = refl; leaves = refl; finds = refl }

@@ -8,23 +8,30 @@ use Rattle.rv_core.specs.States.{starting, register, written, next_pc, result_of
 use Rattle.rv_core.specs.Operations.{computed, is_taken, moved, without_low_bit, loaded}
 use Rattle.rv_core.specs.Steps.{instruction_at, need_to_jump, need_to_access, need_of, need_at_pc, need, after, wrote}
 use Rattle.rv_decode.specs.Fields.{field, signed}
-use Rattle.rv_decode.specs.Table.{jump_and_link_register, branch, load, store, constant_shift, alu_immediate, alu_register, atomic, fence, system, decoded}
+use Rattle.rv_decode.specs.Table.{jump_and_link_register, branch, load, store, constant_shift, alu_immediate}
+use Rattle.rv_decode.specs.Table.{alu_register, atomic, fence, system, decoded}
 use Rattle.msi_examples.specs.Examples.{ShareFalsely, StoreBytes, SumInTurn}
 
 pub share_falsely : ShareFalsely
-unfolding need need_at_pc need_of need_to_jump need_to_access fetched opening_word merged has with_core without_core decoded jump_and_link_register branch load
-    store constant_shift alu_immediate alu_register fence system field signed starting register written is_taken moved without_low_bit computed loaded next_pc
+unfolding need need_at_pc need_of need_to_jump need_to_access fetched opening_word merged has with_core without_core
+    decoded jump_and_link_register branch load
+    store constant_shift alu_immediate alu_register fence system field signed starting register written is_taken moved
+    without_low_bit computed loaded next_pc
     result_of halt_after retired word_after instruction_at after wrote
 share_falsely = record { ends = refl; leaves = refl; finds = refl }
 
 pub store_bytes : StoreBytes
-unfolding need need_at_pc need_of need_to_jump need_to_access fetched opening_word merged has with_core without_core decoded jump_and_link_register branch load
-    store constant_shift alu_immediate alu_register fence system field signed starting register written is_taken moved without_low_bit computed loaded next_pc
+unfolding need need_at_pc need_of need_to_jump need_to_access fetched opening_word merged has with_core without_core
+    decoded jump_and_link_register branch load
+    store constant_shift alu_immediate alu_register fence system field signed starting register written is_taken moved
+    without_low_bit computed loaded next_pc
     result_of halt_after retired word_after instruction_at after wrote
 store_bytes = record { ends = refl; leaves = refl; finds = refl }
 
 pub sum_in_turn : SumInTurn
-unfolding need need_at_pc need_of need_to_jump need_to_access fetched opening_word merged has with_core without_core decoded jump_and_link_register branch load
-    store constant_shift alu_immediate alu_register atomic fence system field signed starting register written is_taken moved without_low_bit computed loaded
+unfolding need need_at_pc need_of need_to_jump need_to_access fetched opening_word merged has with_core without_core
+    decoded jump_and_link_register branch load
+    store constant_shift alu_immediate alu_register atomic fence system field signed starting register written is_taken
+    moved without_low_bit computed loaded
     next_pc result_of halt_after retired word_after instruction_at after wrote exchanged
 sum_in_turn = record { ends = refl; leaves = refl; finds = refl }

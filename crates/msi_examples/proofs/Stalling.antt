@@ -7,23 +7,30 @@ use Rattle.rv_core.specs.States.{starting, register, written, next_pc, result_of
 use Rattle.rv_core.specs.Operations.{computed, is_taken, moved, without_low_bit, loaded}
 use Rattle.rv_core.specs.Steps.{instruction_at, need_to_jump, need_to_access, need_of, need_at_pc, need, after, wrote}
 use Rattle.rv_decode.specs.Fields.{field, signed}
-use Rattle.rv_decode.specs.Table.{jump_and_link_register, branch, load, store, constant_shift, alu_immediate, alu_register, fence, system, decoded}
+use Rattle.rv_decode.specs.Table.{jump_and_link_register, branch, load, store, constant_shift, alu_immediate}
+use Rattle.rv_decode.specs.Table.{alu_register, fence, system, decoded}
 use Rattle.msi_examples.specs.Examples.{InvMeetsPut, ForwardMeetsPut, ForwardToOwnMeetsPut}
 
 pub inv_meets_put : InvMeetsPut
-unfolding need need_at_pc need_of need_to_jump need_to_access fetched opening_word merged has with_core without_core decoded jump_and_link_register branch load
-    store constant_shift alu_immediate alu_register fence system field signed starting register written is_taken moved without_low_bit computed loaded next_pc
+unfolding need need_at_pc need_of need_to_jump need_to_access fetched opening_word merged has with_core without_core
+    decoded jump_and_link_register branch load
+    store constant_shift alu_immediate alu_register fence system field signed starting register written is_taken moved
+    without_low_bit computed loaded next_pc
     result_of halt_after retired word_after instruction_at after wrote
 inv_meets_put = record { ends = refl; leaves = refl; finds = refl }
 
 pub forward_meets_put : ForwardMeetsPut
-unfolding need need_at_pc need_of need_to_jump need_to_access fetched opening_word merged has with_core without_core decoded jump_and_link_register branch load
-    store constant_shift alu_immediate alu_register fence system field signed starting register written is_taken moved without_low_bit computed loaded next_pc
+unfolding need need_at_pc need_of need_to_jump need_to_access fetched opening_word merged has with_core without_core
+    decoded jump_and_link_register branch load
+    store constant_shift alu_immediate alu_register fence system field signed starting register written is_taken moved
+    without_low_bit computed loaded next_pc
     result_of halt_after retired word_after instruction_at after wrote
 forward_meets_put = record { ends = refl; leaves = refl; finds = refl }
 
 pub forward_to_own_meets_put : ForwardToOwnMeetsPut
-unfolding need need_at_pc need_of need_to_jump need_to_access fetched opening_word merged has with_core without_core decoded jump_and_link_register branch load
-    store constant_shift alu_immediate alu_register fence system field signed starting register written is_taken moved without_low_bit computed loaded next_pc
+unfolding need need_at_pc need_of need_to_jump need_to_access fetched opening_word merged has with_core without_core
+    decoded jump_and_link_register branch load
+    store constant_shift alu_immediate alu_register fence system field signed starting register written is_taken moved
+    without_low_bit computed loaded next_pc
     result_of halt_after retired word_after instruction_at after wrote
 forward_to_own_meets_put = record { ends = refl; leaves = refl; finds = refl }

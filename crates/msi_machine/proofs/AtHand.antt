@@ -1,5 +1,6 @@
 -- Who may read and write a block's copies; and at the end each block's words are at hand.
-use Rattle.std.proofs.Common.{◌≡◌, ◌∙◌, ◌⊎◌, inl, inr, ap, refl, sym, subst, ℕ, ◌<◌, ◌≤◌, ◌==◌, Bool, true, false, nat_lt, length, arith}
+use Rattle.std.proofs.Common.{◌≡◌, ◌∙◌, ◌⊎◌, inl, inr, ap, refl, sym, subst, ℕ, ◌<◌, ◌≤◌, ◌==◌, Bool, true, false}
+use Rattle.std.proofs.Common.{nat_lt, length, arith}
 use Rattle.std.specs.Prelude.{◌&&◌, if◌then◌else◌}
 use Rattle.std.proofs.lemmas.Bool.Decides.{nat_tests}
 use Rattle.std.proofs.lemmas.Bool.{and_from, cases_lt, lt-ltb}
@@ -45,17 +46,21 @@ readable_seen b line = by_test (line.block == b) line.state
     by_test false s = refl
 
 module _ {R K : Type 0} where
-  below : (riding : Riding R) (carrying : Carrying K) (s : State R K) (c : ℕ) → MachineHolds riding carrying s → c < length s.cores → c < CORES_MAX
+  below : (riding : Riding R) (carrying : Carrying K) (s : State R K) (c : ℕ) → MachineHolds riding carrying s →
+      c < length s.cores → c < CORES_MAX
   below riding carrying s c h lc =
       let ports = h.ports_there in
       let few = h.memory.cores in
       omega arith
 
-  pub one_writer : (riding : Riding R) (carrying : Carrying K) (s : State R K) → MachineHolds riding carrying s → OneWriterEach riding carrying s
+  pub one_writer : (riding : Riding R) (carrying : Carrying K) (s : State R K) → MachineHolds riding carrying s →
+      OneWriterEach riding carrying s
   one_writer riding carrying s h b c d lc ld apart writes =
       readable_seen b (line_for riding.fresh (port_at carrying s.memory.ports d).cache b)
-      ∙ one_writer_holds (block_in riding carrying s.memory b) (blocks_hold riding carrying s.memory h.memory b) c d (below riding carrying s c h lc)
-      (below riding carrying s d h ld) apart (sym (writable_seen b (line_for riding.fresh (port_at carrying s.memory.ports c).cache b)) ∙ writes)
+      ∙ one_writer_holds (block_in riding carrying s.memory b) (blocks_hold riding carrying s.memory h.memory b) c d
+      (below riding carrying s c h lc)
+      (below riding carrying s d h ld) apart (sym
+      (writable_seen b (line_for riding.fresh (port_at carrying s.memory.ports c).cache b)) ∙ writes)
 
   -- a port that isn't there holds no block
   held_there : (riding : Riding R) (carrying : Carrying K) (s : State R K) (b c : ℕ) →
@@ -69,19 +74,22 @@ module _ {R K : Type 0} where
       by : (c < length s.memory.ports) ⊎ (length s.memory.ports ≤ c) → c < length s.memory.ports
       by (inl within) = within
       by (inr past) =
-          let out : port_at carrying s.memory.ports c ≡ no_port carrying = get_or_past s.memory.ports c (no_port carrying) past in
+          let out : port_at carrying s.memory.ports c ≡ no_port carrying =
+          get_or_past s.memory.ports c (no_port carrying) past in
           let empty : line_state b (line_for riding.fresh (port_at carrying s.memory.ports c).cache b) ≡ I =
           ap (λ (p : Port R K). line_state b (line_for riding.fresh p.cache b)) out ∙ none _ in
           absurd (cc)
 
-  pub ends_at_hand : (riding : Riding R) (carrying : Carrying K) (s : State R K) → MachineHolds riding carrying s → all_done s ≡ true → (b : ℕ) →
+  pub ends_at_hand : (riding : Riding R) (carrying : Carrying K) (s : State R K) → MachineHolds riding carrying s →
+      all_done s ≡ true → (b : ℕ) →
       at_hand riding carrying s.memory b ≡ true
   ends_at_hand riding carrying s h done b = by_stage (entry_at riding.fresh s.memory.home b).stage refl
     where
       owner_role : (o : ℕ) → role (Owned o) o ≡ Owner
       owner_role o = grind (arith, nat_tests)
 
-      by_stage : (stage : Stage) → (entry_at riding.fresh s.memory.home b).stage ≡ stage → at_hand_in stage riding carrying s.memory b ≡ true
+      by_stage : (stage : Stage) → (entry_at riding.fresh s.memory.home b).stage ≡ stage →
+          at_hand_in stage riding carrying s.memory b ≡ true
       by_stage Unshared is = refl
       by_stage (Shared by) is = refl
       by_stage (Acks awaited requester) is = refl
@@ -89,10 +97,13 @@ module _ {R K : Type 0} where
       by_stage (Owned o) is =
           let holds = blocks_hold riding carrying s.memory h.memory b in
           let known : o < CORES_MAX = subst StageFits is holds.fits in
-          let named : role (entry_at riding.fresh s.memory.home b).stage o ≡ Owner = ap (λ (x : Stage). role x o) is ∙ owner_role o in
+          let named : role (entry_at riding.fresh s.memory.home b).stage o ≡ Owner = ap (λ (x : Stage). role x o) is
+          ∙ owner_role o in
           let line : line_state b (line_for riding.fresh (port_at carrying s.memory.ports o).cache b) ≡ M =
           (quiet_agrees (block_in riding carrying s.memory b) holds
-          (λ d ld. all_quiet riding carrying s.memory b d (links_left riding carrying s h done))).lines o known ∙ ap settled named in
-          and_from (nat_lt o (length s.memory.ports)) (can_read (line_for riding.fresh (port_at carrying s.memory.ports o).cache b) b)
+          (λ d ld. all_quiet riding carrying s.memory b d
+          (links_left riding carrying s h done))).lines o known ∙ ap settled named in
+          and_from (nat_lt o (length s.memory.ports))
+          (can_read (line_for riding.fresh (port_at carrying s.memory.ports o).cache b) b)
           (lt-ltb o (length s.memory.ports) (held_there riding carrying s b o line))
           (readable_seen b (line_for riding.fresh (port_at carrying s.memory.ports o).cache b) ∙ ap is_readable line)

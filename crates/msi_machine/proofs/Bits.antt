@@ -1,5 +1,6 @@
 -- Marks: which bit is whose, how many there are, and which is the one of some number.
-use Rattle.std.proofs.Common.{◌≡◌, ◌≢◌, ◌∙◌, ◌⊎◌, inl, inr, refl, sym, subst, ap, ℕ, zero, suc, ◌+◌, ◌-◌, ◌*◌, ◌/◌, ◌^◌, ◌<◌, ◌≤◌, Bool, true, false, cond}
+use Rattle.std.proofs.Common.{◌≡◌, ◌≢◌, ◌∙◌, ◌⊎◌, inl, inr, refl, sym, subst, ap, ℕ, zero, suc, ◌+◌, ◌-◌, ◌*◌, ◌/◌, ◌^◌}
+use Rattle.std.proofs.Common.{◌<◌, ◌≤◌, Bool, true, false, cond}
 use Rattle.std.proofs.Common.{List, [], ◌∷◌, length, get_or, nat_lt, arith, ◌&&◌, ◌==◌, zero-add}
 use Rattle.std.specs.Prelude.{bit_and, map, not}
 use Rattle.std.specs.Int.{bit_at}
@@ -40,8 +41,10 @@ candidate_number cores (Request c) within = request_at cores c within
 candidate_number cores (Response c) within = response_at cores c within
 candidate_number cores (FromHome c) within = message_at cores c within
 
-one_number : (cores : ℕ) (m n : Move) → core_of m < cores → core_of n < cores → number_of cores m ≡ number_of cores n → m ≡ n
-one_number cores m n p q same = sym (candidate_number cores m p) ∙ ap (candidate cores) same ∙ candidate_number cores n q
+one_number : (cores : ℕ) (m n : Move) → core_of m < cores → core_of n < cores → number_of cores m ≡ number_of cores n →
+    m ≡ n
+one_number cores m n p q same = sym (candidate_number cores m p) ∙ ap (candidate cores) same
+    ∙ candidate_number cores n q
 
 pub number_below : (cores : ℕ) (m : Move) → core_of m < cores → number_of cores m < 4 * cores
 number_below cores (Core c) within = omega arith
@@ -68,12 +71,14 @@ read_back true x is = grind (arith, nat_tests, is)
 read_back false x is = grind (arith, nat_tests, is)
 
 -- one bit is written
-pub set_this : (cores bits : ℕ) (m : Move) (can : Bool) → core_of m < cores → bit_at bits (number_of cores m) ≡ cond can 1 0 →
+pub set_this : (cores bits : ℕ) (m : Move) (can : Bool) → core_of m < cores →
+    bit_at bits (number_of cores m) ≡ cond can 1 0 →
     is_marked (record { cores = cores; bits = bits }) m ≡ can
 unfolding is_marked
 set_this cores bits m can within is =
     let here : nat_lt (core_of m) cores ≡ true = grind (arith, nat_tests) in
-    ap (λ (b : Bool). b && (bit_at bits (number_of cores m) == 1)) here ∙ read_back can (bit_at bits (number_of cores m)) is
+    ap (λ (b : Bool). b && (bit_at bits (number_of cores m) == 1)) here
+    ∙ read_back can (bit_at bits (number_of cores m)) is
 
 pub set_others : (cores old new : ℕ) (m taken : Move) → core_of taken < cores → m ≢ taken →
     ((i : ℕ) → i < 4 * cores → i ≢ number_of cores taken → bit_at new i ≡ bit_at old i) →
@@ -82,11 +87,13 @@ unfolding is_marked
 set_others cores old new m taken within other same =
     gated (nat_lt (core_of m) cores) (bit_at new (number_of cores m) == 1) (bit_at old (number_of cores m) == 1) (λ is.
     let here : core_of m < cores = is_below (core_of m) cores is in
-    ap (λ (x : ℕ). x == 1) (same (number_of cores m) (number_below cores m here) (λ at. other (one_number cores m taken here within at))))
+    ap (λ (x : ℕ). x == 1) (same (number_of cores m) (number_below cores m here)
+    (λ at. other (one_number cores m taken here within at))))
 
 pub none_marked : (cores : ℕ) (m : Move) → is_marked (record { cores = cores; bits = 0 }) m ≡ false
 unfolding is_marked
-none_marked cores m = nothing (nat_lt (core_of m) cores) (bit_at 0 (number_of cores m)) (bit_at-zero (number_of cores m))
+none_marked cores m = nothing (nat_lt (core_of m) cores) (bit_at 0 (number_of cores m))
+    (bit_at-zero (number_of cores m))
   where
     nothing : (b : Bool) (x : ℕ) → x ≡ 0 → (b && (x == 1)) ≡ false
     nothing true x is = read_back false x is
@@ -103,43 +110,61 @@ none_past marks m past =
 abbrev pub flags : Marks → List Bool
 flags marks = map (is_marked marks) (candidates marks.cores (4 * marks.cores))
 
-flag_at : (marks : Marks) (k : ℕ) → k < 4 * marks.cores → get_or (flags marks) k false ≡ is_marked marks (candidate marks.cores k)
+flag_at : (marks : Marks) (k : ℕ) → k < 4 * marks.cores → get_or (flags marks) k false ≡ is_marked marks
+    (candidate marks.cores k)
 flag_at marks k within =
-    let long : length (candidates marks.cores (4 * marks.cores)) ≡ 4 * marks.cores = length-map-range_with_len (candidate marks.cores) 0 (4 * marks.cores) in
+    let long : length (candidates marks.cores (4 * marks.cores)) ≡ 4 * marks.cores =
+    length-map-range_with_len (candidate marks.cores) 0 (4 * marks.cores) in
     get_or-map (is_marked marks) (candidates marks.cores (4 * marks.cores)) k (Core 0) false (omega (arith, long))
-    ∙ ap (is_marked marks) (get_or-map-range_with_len (candidate marks.cores) 0 (4 * marks.cores) k k (Core 0) within (zero-add k))
+    ∙ ap (is_marked marks) (get_or-map-range_with_len (candidate marks.cores) 0 (4 * marks.cores) k k (Core 0) within
+    (zero-add k))
 
 flag_past : (marks : Marks) (k : ℕ) → 4 * marks.cores ≤ k → get_or (flags marks) k false ≡ false
 flag_past marks k past =
-    let long : length (candidates marks.cores (4 * marks.cores)) ≡ 4 * marks.cores = length-map-range_with_len (candidate marks.cores) 0 (4 * marks.cores) in
-    get_or_past (flags marks) k false (omega (arith, long, length-map (candidates marks.cores (4 * marks.cores)) (is_marked marks)))
+    let long : length (candidates marks.cores (4 * marks.cores)) ≡ 4 * marks.cores =
+    length-map-range_with_len (candidate marks.cores) 0 (4 * marks.cores) in
+    get_or_past (flags marks) k false (omega (
+      arith,
+      long,
+      length-map (candidates marks.cores (4 * marks.cores))
+          (is_marked marks),
+    ))
 
 as_digit : (x : ℕ) → x < 2 → x ≡ cond (x == 1) 1 0
 as_digit x within = grind (arith, nat_tests)
 
-bit_is : (marks : Marks) (k : ℕ) → k < 4 * marks.cores → bit_at marks.bits k ≡ cond (is_marked marks (candidate marks.cores k)) 1 0
+bit_is : (marks : Marks) (k : ℕ) → k < 4 * marks.cores →
+    bit_at marks.bits k ≡ cond (is_marked marks (candidate marks.cores k)) 1 0
 unfolding is_marked
 bit_is marks k within =
-    let here : nat_lt (core_of (candidate marks.cores k)) marks.cores ≡ true = grind (arith, nat_tests, core_below marks.cores k within) in
+    let here : nat_lt (core_of (candidate marks.cores k)) marks.cores ≡ true =
+    grind (arith, nat_tests, core_below marks.cores k within) in
     as_digit (bit_at marks.bits k) (bit_at-lt marks.bits k)
     ∙ ap (λ (n : ℕ). cond (bit_at marks.bits n == 1) 1 0) (sym (number_at marks.cores k within))
-    ∙ ap (λ (b : Bool). cond (b && (bit_at marks.bits (number_of marks.cores (candidate marks.cores k)) == 1)) 1 0) (sym here)
+    ∙ ap (λ (b : Bool). cond (b && (bit_at marks.bits (number_of marks.cores (candidate marks.cores k)) == 1)) 1 0)
+    (sym here)
 
-bits_are : (marks : Marks) → marks.bits < 2 ^ 64 → marks.cores ≤ CORES_MAX → IsWithin marks → marks.bits ≡ mask_l (flags marks)
-bits_are marks fits few within = same_from_bits marks.bits (mask_l (flags marks)) (λ i. by i (split i (4 * marks.cores)) (split i 64))
+bits_are : (marks : Marks) → marks.bits < 2 ^ 64 → marks.cores ≤ CORES_MAX → IsWithin marks →
+    marks.bits ≡ mask_l (flags marks)
+bits_are marks fits few within = same_from_bits marks.bits (mask_l (flags marks)) (λ i. by i (split i (4 * marks.cores))
+    (split i 64))
   where
     split : (a b : ℕ) → (a < b) ⊎ (b ≤ a)
     split a b = grind arith
 
-    none : (i : ℕ) → 4 * marks.cores ≤ i → bit_at marks.bits i ≡ 0 → bit_at marks.bits i ≡ bit_at (mask_l (flags marks)) i
+    none : (i : ℕ) → 4 * marks.cores ≤ i → bit_at marks.bits i ≡ 0 → bit_at marks.bits i ≡ bit_at (mask_l (flags marks))
+        i
     none i past is = is ∙ sym (bit_mask_l (flags marks) i ∙ ap (λ (b : Bool). cond b 1 0) (flag_past marks i past))
 
-    by : (i : ℕ) → (i < 4 * marks.cores) ⊎ (4 * marks.cores ≤ i) → (i < 64) ⊎ (64 ≤ i) → bit_at marks.bits i ≡ bit_at (mask_l (flags marks)) i
-    by i (inl here) at = bit_is marks i here ∙ sym (bit_mask_l (flags marks) i ∙ ap (λ (b : Bool). cond b 1 0) (flag_at marks i here))
+    by : (i : ℕ) → (i < 4 * marks.cores) ⊎ (4 * marks.cores ≤ i) → (i < 64) ⊎ (64 ≤ i) →
+        bit_at marks.bits i ≡ bit_at (mask_l (flags marks)) i
+    by i (inl here) at = bit_is marks i here ∙ sym (bit_mask_l (flags marks) i
+        ∙ ap (λ (b : Bool). cond b 1 0) (flag_at marks i here))
     by i (inr past) (inl at) = none i past (within i past at)
     by i (inr past) (inr out) = none i past (bit_at_above marks.bits 64 i fits out)
 
-pub count_is : (marks : Marks) → marks.bits < 2 ^ 64 → marks.cores ≤ CORES_MAX → IsWithin marks → ones marks.bits ≡ length (marked marks)
+pub count_is : (marks : Marks) → marks.bits < 2 ^ 64 → marks.cores ≤ CORES_MAX → IsWithin marks →
+    ones marks.bits ≡ length (marked marks)
 count_is marks fits few within =
     ap ones (bits_are marks fits few within)
     ∙ ones-mask_l (is_marked marks) (candidates marks.cores (4 * marks.cores))
@@ -182,25 +207,30 @@ unfolding later
 some_left [] n more = absurd (omega arith)
 some_left (true ∷ bs) zero more = omega arith
 some_left (false ∷ bs) zero more =
-    let left : 0 < mask_l bs = subst (λ (xs : List Bool). 0 < mask_l xs) (all_later bs) (some_left bs zero (omega arith)) in
+    let left : 0 < mask_l bs = subst (λ (xs : List Bool). 0 < mask_l xs) (all_later bs)
+    (some_left bs zero (omega arith)) in
     omega arith
 some_left (true ∷ bs) (suc n) more = omega (arith, some_left bs n (omega arith))
 some_left (false ∷ bs) (suc n) more = omega (arith, some_left bs (suc n) (omega arith))
 
 -- a number without its lowest bit
-lowest_cleared : (bs : List Bool) (n : ℕ) → 0 < mask_l (later bs n) → bit_and (mask_l (later bs n)) (mask_l (later bs n) - 1) ≡ mask_l (later bs (suc n))
+lowest_cleared : (bs : List Bool) (n : ℕ) → 0 < mask_l (later bs n) →
+    bit_and (mask_l (later bs n)) (mask_l (later bs n) - 1) ≡ mask_l (later bs (suc n))
 unfolding later
 lowest_cleared [] n some = absurd (omega arith)
-lowest_cleared (true ∷ bs) zero some = odd_cleared (mask_l bs) ∙ ap (λ (xs : List Bool). 0 + 2 * mask_l xs) (sym (all_later bs))
+lowest_cleared (true ∷ bs) zero some = odd_cleared (mask_l bs)
+    ∙ ap (λ (xs : List Bool). 0 + 2 * mask_l xs) (sym (all_later bs))
 lowest_cleared (false ∷ bs) zero some =
-    let left : 0 < mask_l (later bs zero) = subst (λ (xs : List Bool). 0 < mask_l xs) (sym (all_later bs)) (omega arith) in
+    let left : 0 < mask_l (later bs zero) = subst (λ (xs : List Bool). 0 < mask_l xs) (sym (all_later bs))
+    (omega arith) in
     even_cleared (mask_l bs) (omega arith)
     ∙ ap (λ (xs : List Bool). 0 + 2 * bit_and (mask_l xs) (mask_l xs - 1)) (sym (all_later bs))
     ∙ ap (λ (x : ℕ). 0 + 2 * x) (lowest_cleared bs zero left)
 lowest_cleared (true ∷ bs) (suc n) some =
     even_cleared (mask_l (later bs n)) (omega arith) ∙ ap (λ (x : ℕ). 0 + 2 * x) (lowest_cleared bs n (omega arith))
 lowest_cleared (false ∷ bs) (suc n) some =
-    even_cleared (mask_l (later bs (suc n))) (omega arith) ∙ ap (λ (x : ℕ). 0 + 2 * x) (lowest_cleared bs (suc n) (omega arith))
+    even_cleared (mask_l (later bs (suc n))) (omega arith)
+    ∙ ap (λ (x : ℕ). 0 + 2 * x) (lowest_cleared bs (suc n) (omega arith))
 
 -- the place of the first that is left
 abbrev place : List Bool → ℕ → ℕ
@@ -212,12 +242,14 @@ place_below [] n more = absurd (omega arith)
 place_below (true ∷ bs) zero more = omega arith
 place_below (false ∷ bs) zero more =
     let first : prefix_len (λ (b : Bool). not b) bs < length bs =
-    subst (λ (xs : List Bool). prefix_len (λ (b : Bool). not b) xs < length bs) (all_later bs) (place_below bs zero (omega arith)) in
+    subst (λ (xs : List Bool). prefix_len (λ (b : Bool). not b) xs < length bs) (all_later bs)
+    (place_below bs zero (omega arith)) in
     omega arith
 place_below (true ∷ bs) (suc n) more = omega (arith, place_below bs n (omega arith))
 place_below (false ∷ bs) (suc n) more = omega (arith, place_below bs (suc n) (omega arith))
 
-one_more : {X : Type 0} (b : Bool) (x : X) (ys : List X) (n : ℕ) → length ys ≡ n → length (cond b (x ∷ ys) ys) ≡ cond b 1 0 + n
+one_more : {X : Type 0} (b : Bool) (x : X) (ys : List X) (n : ℕ) → length ys ≡ n →
+    length (cond b (x ∷ ys) ys) ≡ cond b 1 0 + n
 one_more true x ys n is = omega (arith, is)
 one_more false x ys n is = omega (arith, is)
 
@@ -241,19 +273,24 @@ one_nearer false x xs ys bs zero d rest more =
 one_nearer false x xs ys bs (suc n) d rest more = rest (suc n) (omega arith) ∙ sym (next_at x xs (place bs (suc n)) d)
 
 -- the n-th element that passes stands at the place of the first flag that is left after n
-nth_is : {X : Type 0} (p : X → Bool) (xs : List X) (n : ℕ) (d : X) → n < set_count (map p xs) → get_or (filter p xs) n d ≡ get_or xs (place (map p xs) n) d
+nth_is : {X : Type 0} (p : X → Bool) (xs : List X) (n : ℕ) (d : X) → n < set_count (map p xs) →
+    get_or (filter p xs) n d ≡ get_or xs (place (map p xs) n) d
 nth_is p [] n d more = absurd (omega arith)
-nth_is p (x ∷ xs) n d more = one_nearer (p x) x xs (filter p xs) (map p xs) n d (λ k within. nth_is p xs k d within) more
+nth_is p (x ∷ xs) n d more = one_nearer (p x) x xs (filter p xs) (map p xs) n d (λ k within. nth_is p xs k d within)
+    more
 
-pub begin : (marks : Marks) → marks.bits < 2 ^ 64 → marks.cores ≤ CORES_MAX → IsWithin marks → marks.bits ≡ mask_l (later (flags marks) 0)
+pub begin : (marks : Marks) → marks.bits < 2 ^ 64 → marks.cores ≤ CORES_MAX → IsWithin marks →
+    marks.bits ≡ mask_l (later (flags marks) 0)
 begin marks fits few within = bits_are marks fits few within ∙ ap mask_l (sym (all_later (flags marks)))
 
-pub more_left : (marks : Marks) (n number rest : ℕ) → number < length (marked marks) → n ≤ number → rest ≡ mask_l (later (flags marks) n) → 0 < rest
+pub more_left : (marks : Marks) (n number rest : ℕ) → number < length (marked marks) → n ≤ number →
+    rest ≡ mask_l (later (flags marks) n) → 0 < rest
 more_left marks n number rest some within is =
     let many = set_length (is_marked marks) (candidates marks.cores (4 * marks.cores)) in
     subst (λ (x : ℕ). 0 < x) (sym is) (some_left (flags marks) n (omega (arith, many)))
 
-pub one_less : (marks : Marks) (n rest : ℕ) → 0 < rest → rest ≡ mask_l (later (flags marks) n) → bit_and rest (rest - 1) ≡ mask_l (later (flags marks) (n + 1))
+pub one_less : (marks : Marks) (n rest : ℕ) → 0 < rest → rest ≡ mask_l (later (flags marks) n) →
+    bit_and rest (rest - 1) ≡ mask_l (later (flags marks) (n + 1))
 one_less marks n rest some is =
     (λ i. bit_and (is i) (is i - 1))
     ∙ lowest_cleared (flags marks) n (subst (λ (x : ℕ). 0 < x) is some)
@@ -286,7 +323,8 @@ module _ (marks : Marks) (number rest : ℕ) where
       ap (count_trailing_zeros 64) all
       ∙ trailing_mask_l (λ (b : Bool). b) 64 bs long (subst (λ (x : ℕ). 0 < x) all left)
 
-  pub pick_below : marks.cores ≤ CORES_MAX → number < length (marked marks) → rest ≡ mask_l (later (flags marks) number) →
+  pub pick_below : marks.cores ≤ CORES_MAX → number < length (marked marks) →
+      rest ≡ mask_l (later (flags marks) number) →
       count_trailing_zeros 64 rest < 4 * marks.cores
   pick_below few some is =
       let many = set_length (is_marked marks) (candidates marks.cores (4 * marks.cores)) in
@@ -298,11 +336,13 @@ module _ (marks : Marks) (number rest : ℕ) where
         length-map-range_with_len (candidate marks.cores) 0 (4 * marks.cores),
       )
 
-  pub pick_is : marks.cores ≤ CORES_MAX → number < length (marked marks) → rest ≡ mask_l (later (flags marks) number) → (d : Move) →
+  pub pick_is : marks.cores ≤ CORES_MAX → number < length (marked marks) → rest ≡ mask_l (later (flags marks) number) →
+      (d : Move) →
       candidate marks.cores (count_trailing_zeros 64 rest) ≡ get_or (marked marks) number d
   pick_is few some is d =
       let many = set_length (is_marked marks) (candidates marks.cores (4 * marks.cores)) in
       let k = count_trailing_zeros 64 rest in
-      sym (get_or-map-range_with_len (candidate marks.cores) 0 (4 * marks.cores) k k d (pick_below few some is) (zero-add k))
+      sym (get_or-map-range_with_len (candidate marks.cores) 0 (4 * marks.cores) k k d (pick_below few some is)
+      (zero-add k))
       ∙ ap (λ (x : ℕ). get_or (candidates marks.cores (4 * marks.cores)) x d) (place_is few some is)
       ∙ sym (nth_is (is_marked marks) (candidates marks.cores (4 * marks.cores)) number d (omega (arith, many)))

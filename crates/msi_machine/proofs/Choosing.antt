@@ -14,7 +14,8 @@ use Rattle.machine_plain.proofs.SameMoves.{plain_moves}
 use Rattle.machine_plain.specs.Plain.{plain}
 use Rattle.machine_progress.proofs.Stuck.{some_move}
 
-chosen_of_some : (ms : List Move) (choice : ℕ) (m : Move) → 0 < length ms → IsNumbered ms choice m → chosen_of ms choice ≡ Some m
+chosen_of_some : (ms : List Move) (choice : ℕ) (m : Move) → 0 < length ms → IsNumbered ms choice m →
+    chosen_of ms choice ≡ Some m
 chosen_of_some [] choice m some is = absurd (omega arith)
 chosen_of_some (first ∷ ms) choice m some is = ap Some (sym (is first))
 
@@ -24,13 +25,15 @@ pub numbered : {found ms : List Move} (choice count : ℕ) (m : Move) → found 
 numbered choice count m all same is d = is d ∙ (λ i. slice_index_or (all i) (choice % (same ∙ ap length all) i) d)
 
 module _ {R K : Type 0} where
-  pub plainly_chosen : (riding : Riding R) (carrying : Carrying K) (s : State R K) (choice : ℕ) (m : Move) → 0 < length (moves riding carrying s) →
+  pub plainly_chosen : (riding : Riding R) (carrying : Carrying K) (s : State R K) (choice : ℕ) (m : Move) →
+      0 < length (moves riding carrying s) →
       IsNumbered (moves riding carrying s) choice m → chosen (plain s) choice ≡ Some m
   plainly_chosen riding carrying s choice m some is =
       ap (λ (ms : List Move). chosen_of ms choice) (sym (plain_moves riding carrying s))
       ∙ chosen_of_some (moves riding carrying s) choice m some is
 
-  pub taken_enabled : (riding : Riding R) (carrying : Carrying K) (s : State R K) (choice : ℕ) (m : Move) → 0 < length (moves riding carrying s) →
+  pub taken_enabled : (riding : Riding R) (carrying : Carrying K) (s : State R K) (choice : ℕ) (m : Move) →
+      0 < length (moves riding carrying s) →
       IsNumbered (moves riding carrying s) choice m → enabled riding carrying s m ≡ true
   taken_enabled riding carrying s choice m some is =
       chosen_at (moves riding carrying s) (λ (x : Move). enabled riding carrying s x ≡ true) choice m
@@ -38,11 +41,14 @@ module _ {R K : Type 0} where
       (chosen_of_some (moves riding carrying s) choice m some is)
 
   -- what is found so in a machine that isn't done can be made
-  pub found_enabled : (riding : Riding R) (carrying : Carrying K) (m seen : Machinery R K) (choice count : ℕ) (taken : Move) {found : List Move} →
-      m ≡ seen → MachineHolds riding carrying m.state → all_done seen.state ≡ false → found ≡ moves riding carrying seen.state → count ≡ length found →
+  pub found_enabled : (riding : Riding R) (carrying : Carrying K) (m seen : Machinery R K) (choice count : ℕ)
+      (taken : Move) {found : List Move} →
+      m ≡ seen → MachineHolds riding carrying m.state → all_done seen.state ≡ false →
+      found ≡ moves riding carrying seen.state → count ≡ length found →
       ((d : Move) → taken ≡ slice_index_or found (choice % count) d) → enabled riding carrying m.state taken ≡ true
   found_enabled riding carrying m seen choice count taken view holds more all same is =
       subst (λ (x : Machinery R K). enabled riding carrying x.state taken ≡ true) (sym view)
       (taken_enabled riding carrying seen.state choice taken
-      (some_move riding carrying seen.state (subst (λ (x : Machinery R K). MachineHolds riding carrying x.state) view holds) more)
+      (some_move riding carrying seen.state (subst (λ (x : Machinery R K). MachineHolds riding carrying x.state) view
+      holds) more)
       (numbered choice count taken all same is))

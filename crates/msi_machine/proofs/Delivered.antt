@@ -18,7 +18,8 @@ use Rattle.memory_laws.proofs.Views.{port_at-told}
 use Rattle.msi_machine.specs.declared.marks.Marks.{Marks}
 use Rattle.msi_memory.specs.declared.port.Port.{Port}
 use Rattle.msi_state.specs.declared.moves.Move.{Move}
-use Rattle.msi_state.specs.declared.moves.Move.TheVariants.{Core as CoreMove, Request as RequestMove, Response as ResponseMove, FromHome as MessageMove}
+use Rattle.msi_state.specs.declared.moves.Move.TheVariants.{Core as CoreMove, Request as RequestMove}
+use Rattle.msi_state.specs.declared.moves.Move.TheVariants.{Response as ResponseMove, FromHome as MessageMove}
 use Rattle.msi_machine.specs.Marks.{is_asked, is_marked, is_told}
 use Rattle.msi_memory.specs.Rests.{hears_in}
 use Rattle.msi_memory.specs.Memories.{no_port, port_at}
@@ -74,12 +75,14 @@ none_there true b is = is
 none_there false b is = refl
 
 -- an empty set tells nobody, and asks for nothing
-pub none_told : (set : CoreSet) (marks : Marks) (m : Move) → is_none set ≡ true → is_marked marks m ≡ cond (is_told set marks.cores m) true (is_marked marks m)
+pub none_told : (set : CoreSet) (marks : Marks) (m : Move) → is_none set ≡ true →
+    is_marked marks m ≡ cond (is_told set marks.cores m) true (is_marked marks m)
 none_told set marks (CoreMove d) none = refl
 none_told set marks (RequestMove d) none = refl
 none_told set marks (ResponseMove d) none = refl
 none_told set marks (MessageMove d) none =
-    ap (λ (b : Bool). cond b true (is_marked marks (MessageMove d))) (sym (none_there (nat_lt d marks.cores) (has set d) (has-none set d none)))
+    ap (λ (b : Bool). cond b true (is_marked marks (MessageMove d))) (sym (none_there (nat_lt d marks.cores) (has set d)
+    (has-none set d none)))
 
 pub none_asked : (set : CoreSet) (marks : Marks) (free : Bool) (m : Move) → is_none set ≡ true →
     is_marked marks m ≡ cond (is_asked set marks.cores m) free (is_marked marks m)
@@ -87,14 +90,18 @@ none_asked set marks free (CoreMove d) none = refl
 none_asked set marks free (MessageMove d) none = refl
 none_asked set marks free (ResponseMove d) none = refl
 none_asked set marks free (RequestMove d) none =
-    ap (λ (b : Bool). cond b free (is_marked marks (RequestMove d))) (sym (none_there (nat_lt d marks.cores) (has set d) (has-none set d none)))
+    ap (λ (b : Bool). cond b free (is_marked marks (RequestMove d))) (sym (none_there (nat_lt d marks.cores) (has set d)
+    (has-none set d none)))
 
 module _ {R K : Type 0} where
   -- what a message on its way to a port doesn't change, no port has otherwise after it
-  module _ {X : Type 0} (f : Port R K → X) (same : (n : Port R K) (m : FromHome R) (carry : K) → f (port_sent n m carry) ≡ f n) (carrying : Carrying K) where
-    pub sent_same : (ports : List (Port R K)) (to : ℕ) (m : FromHome R) (carry : K) → map f (ports_sent carrying ports to m carry) ≡ map f ports
+  module _ {X : Type 0} (f : Port R K → X) (same : (n : Port R K) (m : FromHome R) (carry : K) →
+      f (port_sent n m carry) ≡ f n) (carrying : Carrying K) where
+    pub sent_same : (ports : List (Port R K)) (to : ℕ) (m : FromHome R) (carry : K) →
+        map f (ports_sent carrying ports to m carry) ≡ map f ports
     sent_same ports to m carry =
-        map-set_same f ports to (port_sent (port_at carrying ports to) m carry) (no_port carrying) (same (port_at carrying ports to) m carry)
+        map-set_same f ports to (port_sent (port_at carrying ports to) m carry) (no_port carrying)
+        (same (port_at carrying ports to) m carry)
 
     pub told_same : (set : CoreSet) (m : FromHome R) (carry : K) (n : ℕ) (ports : List (Port R K)) →
         map f (ports_told carrying set m carry n ports) ≡ map f ports
@@ -102,11 +109,13 @@ module _ {R K : Type 0} where
     told_same set m carry (suc n) ports = by (has set n) (told_same set m carry n ports)
       where
         by : (is : Bool) → map f (ports_told carrying set m carry n ports) ≡ map f ports
-            → map f (cond is (ports_sent carrying (ports_told carrying set m carry n ports) n m carry) (ports_told carrying set m carry n ports)) ≡ map f ports
+            → map f (cond is (ports_sent carrying (ports_told carrying set m carry n ports) n m carry)
+            (ports_told carrying set m carry n ports)) ≡ map f ports
         by true before = sent_same (ports_told carrying set m carry n ports) n m carry ∙ before
         by false before = before
 
-    pub delivered_same : (send : Option (ℕ × FromHome R)) (set : CoreSet) (block : ℕ) (carry : K) (ports : List (Port R K)) →
+    pub delivered_same : (send : Option (ℕ × FromHome R)) (set : CoreSet) (block : ℕ) (carry : K)
+        (ports : List (Port R K)) →
         map f (delivered_in send carrying set block carry ports) ≡ map f ports
     delivered_same (Some (to, m)) set block carry ports = sent_same ports to m carry
     delivered_same None set block carry ports = told_same set (Inv block) carry (length ports) ports
@@ -115,11 +124,13 @@ module _ {R K : Type 0} where
   abbrev pub silent : Carrying K → List (Port R K) → ℕ → Bool
   silent carrying ports d = is_nil (port_at carrying ports d).messages.items
 
-  pub sent_silent : (carrying : Carrying K) (ports : List (Port R K)) (to : ℕ) (m : FromHome R) (carry : K) (d : ℕ) → d < length ports →
+  pub sent_silent : (carrying : Carrying K) (ports : List (Port R K)) (to : ℕ) (m : FromHome R) (carry : K) (d : ℕ) →
+      d < length ports →
       silent carrying (ports_sent carrying ports to m carry) d ≡ cond (d == to) false (silent carrying ports d)
   sent_silent carrying ports to m carry d within = by d within (cases_eq d to)
     where
-      by : (d : ℕ) → d < length ports → (d ≡ to) ⊎ (d ≡ to → ⊥) → is_nil (port_at carrying (ports_sent carrying ports to m carry) d).messages.items
+      by : (d : ℕ) → d < length ports → (d ≡ to) ⊎ (d ≡ to → ⊥) →
+          is_nil (port_at carrying (ports_sent carrying ports to m carry) d).messages.items
           ≡ cond (d == to) false (is_nil (port_at carrying ports d).messages.items)
       by d within (inl same) =
           let here : to < length ports = omega arith in
@@ -129,25 +140,35 @@ module _ {R K : Type 0} where
           ∙ more_nil (port_at carrying ports to).messages.items _
           ∙ ap (λ (b : Bool). cond b false (is_nil (port_at carrying ports d).messages.items)) (sym (eq_is d to same))
       by d within (inr other) =
-          ap (λ (n : Port R K). is_nil n.messages.items) (get_or-set_other ports to d (port_sent (port_at carrying ports to) m carry) (no_port carrying) other)
+          ap (λ (n : Port R K). is_nil n.messages.items) (get_or-set_other ports to d
+          (port_sent (port_at carrying ports to) m carry) (no_port carrying) other)
           ∙ ap (λ (b : Bool). cond b false (is_nil (port_at carrying ports d).messages.items)) (sym (ne_is d to other))
 
-  told_silent : (carrying : Carrying K) (set : CoreSet) (m : FromHome R) (carry : K) (ports : List (Port R K)) (d : ℕ) → d < length ports →
-      silent carrying (ports_told carrying set m carry (length ports) ports) d ≡ cond (has set d) false (silent carrying ports d)
+  told_silent : (carrying : Carrying K) (set : CoreSet) (m : FromHome R) (carry : K) (ports : List (Port R K)) (d : ℕ) →
+      d < length ports →
+      silent carrying (ports_told carrying set m carry (length ports) ports) d ≡ cond (has set d) false
+      (silent carrying ports d)
   told_silent carrying set m carry ports d within =
-      ap (λ (p : Port R K). is_nil p.messages.items) (port_at-told carrying set m carry (length ports) ports d (omega arith))
-      ∙ ap (λ (b : Bool). is_nil (cond (b && has set d) (port_sent p m carry) p).messages.items) (below_is d (length ports) within)
+      ap (λ (p : Port R K). is_nil p.messages.items) (port_at-told carrying set m carry (length ports) ports d
+      (omega arith))
+      ∙ ap (λ (b : Bool). is_nil (cond (b && has set d) (port_sent p m carry) p).messages.items)
+      (below_is d (length ports) within)
       ∙ by (has set d)
     where
       p : Port R K
       p = port_at carrying ports d
 
-      by : (told : Bool) → is_nil (cond told (port_sent (port_at carrying ports d) m carry) (port_at carrying ports d)).messages.items
+      by : (told : Bool) → is_nil (cond told (port_sent (port_at carrying ports d) m carry)
+          (port_at carrying ports d)).messages.items
           ≡ cond told false (silent carrying ports d)
       by true = more_nil (port_at carrying ports d).messages.items _
       by false = refl
 
-  pub delivered_silent : (send : Option (ℕ × FromHome R)) (carrying : Carrying K) (set : CoreSet) (block : ℕ) (carry : K) (ports : List (Port R K)) (d : ℕ) →
-      d < length ports → silent carrying (delivered_in send carrying set block carry ports) d ≡ cond (hears_in send set d) false (silent carrying ports d)
-  delivered_silent (Some (to, m)) carrying set block carry ports d within = sent_silent carrying ports to m carry d within
-  delivered_silent None carrying set block carry ports d within = told_silent carrying set (Inv block) carry ports d within
+  pub delivered_silent : (send : Option (ℕ × FromHome R)) (carrying : Carrying K) (set : CoreSet) (block : ℕ)
+      (carry : K) (ports : List (Port R K)) (d : ℕ) →
+      d < length ports → silent carrying (delivered_in send carrying set block carry ports) d ≡ cond
+      (hears_in send set d) false (silent carrying ports d)
+  delivered_silent (Some (to, m)) carrying set block carry ports d within =
+      sent_silent carrying ports to m carry d within
+  delivered_silent None carrying set block carry ports d within =
+      told_silent carrying set (Inv block) carry ports d within

@@ -1,5 +1,6 @@
 -- What stays as it was: what a move doesn't change of each port, of each core, and of what can be done there.
-use Rattle.std.proofs.Common.{◌≡◌, ◌≢◌, ◌∙◌, ◌⊎◌, inl, inr, refl, sym, subst, ap, ℕ, zero, suc, ◌<◌, ◌≤◌, Bool, false, List, [], ◌∷◌, length, get_or, nat_lt}
+use Rattle.std.proofs.Common.{◌≡◌, ◌≢◌, ◌∙◌, ◌⊎◌, inl, inr, refl, sym, subst, ap, ℕ, zero, suc, ◌<◌, ◌≤◌, Bool, false}
+use Rattle.std.proofs.Common.{List, [], ◌∷◌, length, get_or, nat_lt}
 use Rattle.std.proofs.Common.{◌&&◌}
 use Rattle.std.specs.Prelude.{map, not, slice_set}
 use Rattle.std.proofs.lemmas.List.{get_or-map, get_or-set_other, get_or-set_same, length-set, map-set}
@@ -15,7 +16,8 @@ use Rattle.msi_memory.specs.Acts.{Act, TakeRequest, TakeResponse, TakeMessage, c
 use Rattle.msi_memory.specs.Memories.{Memory, no_port, port_at}
 use Rattle.msi_memory.specs.Rests.{requests_at}
 use Rattle.msi_state.specs.declared.moves.Move.{Move}
-use Rattle.msi_state.specs.declared.moves.Move.TheVariants.{Core as CoreMove, Request as RequestMove, Response as ResponseMove, FromHome as MessageMove}
+use Rattle.msi_state.specs.declared.moves.Move.TheVariants.{Core as CoreMove, Request as RequestMove}
+use Rattle.msi_state.specs.declared.moves.Move.TheVariants.{Response as ResponseMove, FromHome as MessageMove}
 use Rattle.msi_state.specs.Moves.{core_of}
 use Rattle.msi_state.specs.States.{State, core_at}
 use Rattle.msi_state.specs.Steps.{enabled}
@@ -29,41 +31,53 @@ module _ {R K : Type 0} where
   at_map f carrying (p ∷ ports) zero = refl
   at_map f carrying (p ∷ ports) (suc d) = at_map f carrying ports d
 
-  pub same_at : {X : Type 0} (f : Port R K → X) (carrying : Carrying K) (new old : List (Port R K)) → map f new ≡ map f old → (d : ℕ) →
+  pub same_at : {X : Type 0} (f : Port R K → X) (carrying : Carrying K) (new old : List (Port R K)) →
+      map f new ≡ map f old → (d : ℕ) →
       f (port_at carrying new d) ≡ f (port_at carrying old d)
   same_at f carrying new old same d =
       at_map f carrying new d ∙ (λ i. get_or (same i) d (f (no_port carrying))) ∙ sym (at_map f carrying old d)
 
   pub requests_within : (carrying : Carrying K) (ports : List (Port R K)) (d : ℕ) → d < length ports →
       requests_at ports d ≡ (port_at carrying ports d).requests.items
-  requests_within carrying ports d within = get_or-map (λ (p : Port R K). p.requests.items) ports d (no_port carrying) [] within
+  requests_within carrying ports d within = get_or-map (λ (p : Port R K). p.requests.items) ports d (no_port carrying)
+      [] within
 
   -- one port is replaced
-  pub set_elsewhere : (ports : List (Port R K)) (c d : ℕ) (port : Port R K) → d ≢ c → requests_at (slice_set ports c port) d ≡ requests_at ports d
+  pub set_elsewhere : (ports : List (Port R K)) (c d : ℕ) (port : Port R K) → d ≢ c →
+      requests_at (slice_set ports c port) d ≡ requests_at ports d
   set_elsewhere ports c d port other =
-      ap (λ (xs : List (List (Mail (Request R) K))). get_or xs d []) (map-set (λ (p : Port R K). p.requests.items) ports c port)
+      ap (λ (xs : List (List (Mail (Request R) K))). get_or xs d []) (map-set (λ (p : Port R K). p.requests.items) ports
+      c port)
       ∙ get_or-set_other (map (λ (p : Port R K). p.requests.items) ports) c d port.requests.items [] other
 
   -- ---- an act can be made by what stands at its port
-  pub can_here : (riding : Riding R) (carrying : Carrying K) (m : Memory R K) (act : Act R) → port_of act < length m.ports →
+  pub can_here : (riding : Riding R) (carrying : Carrying K) (m : Memory R K) (act : Act R) →
+      port_of act < length m.ports →
       can riding carrying m act ≡ can_at riding m.home (port_at carrying m.ports (port_of act)) act
   can_here riding carrying m act within =
-      ap (λ (b : Bool). b && can_at riding m.home (port_at carrying m.ports (port_of act)) act) (below_is (port_of act) (length m.ports) within)
+      ap (λ (b : Bool). b && can_at riding m.home (port_at carrying m.ports (port_of act)) act)
+      (below_is (port_of act) (length m.ports) within)
 
-  pub can_past : (riding : Riding R) (carrying : Carrying K) (m : Memory R K) (act : Act R) → length m.ports ≤ port_of act →
+  pub can_past : (riding : Riding R) (carrying : Carrying K) (m : Memory R K) (act : Act R) →
+      length m.ports ≤ port_of act →
       can riding carrying m act ≡ false
   can_past riding carrying m act past =
-      ap (λ (b : Bool). b && can_at riding m.home (port_at carrying m.ports (port_of act)) act) (past_is (port_of act) (length m.ports) past)
+      ap (λ (b : Bool). b && can_at riding m.home (port_at carrying m.ports (port_of act)) act)
+      (past_is (port_of act) (length m.ports) past)
 
-  pub can_by : (riding : Riding R) (carrying : Carrying K) (m n : Memory R K) (act : Act R) → length n.ports ≡ length m.ports →
+  pub can_by : (riding : Riding R) (carrying : Carrying K) (m n : Memory R K) (act : Act R) →
+      length n.ports ≡ length m.ports →
       (port_of act < length m.ports → can_at riding n.home (port_at carrying n.ports (port_of act)) act
-      ≡ can_at riding m.home (port_at carrying m.ports (port_of act)) act) → can riding carrying n act ≡ can riding carrying m act
+      ≡ can_at riding m.home (port_at carrying m.ports (port_of act))
+      act) → can riding carrying n act ≡ can riding carrying m act
   can_by riding carrying m n act count same = by (split (port_of act) (length m.ports))
     where
-      by : (port_of act < length m.ports) ⊎ (length m.ports ≤ port_of act) → can riding carrying n act ≡ can riding carrying m act
+      by : (port_of act < length m.ports) ⊎ (length m.ports ≤ port_of act) →
+          can riding carrying n act ≡ can riding carrying m act
       by (inl within) = (λ i. nat_lt (port_of act) (count i) && same within i)
       by (inr past) =
-          can_past riding carrying n act (subst (λ (k : ℕ). k ≤ port_of act) (sym count) past) ∙ sym (can_past riding carrying m act past)
+          can_past riding carrying n act (subst (λ (k : ℕ). k ≤ port_of act) (sym count) past)
+          ∙ sym (can_past riding carrying m act past)
 
 -- the state after core c moved at its port, with its core and its port as they are then
 pub record MovedAt {R K : Type 0} (s t : State R K) (c : ℕ) : Type 0 where
@@ -82,29 +96,37 @@ module _ {R K : Type 0} (carrying : Carrying K) (s t : State R K) (c : ℕ) (mov
   moved_ports = ap length moved.ports ∙ length-set s.memory.ports c moved.port
 
   pub core_now : c < length s.cores → core_at t.cores c ≡ moved.core
-  core_now within = ap (λ (cores : List Core). core_at cores c) moved.cores ∙ get_or-set_same s.cores c moved.core (starting 0 0) within
+  core_now within = ap (λ (cores : List Core). core_at cores c) moved.cores
+      ∙ get_or-set_same s.cores c moved.core (starting 0 0) within
 
   pub port_now : c < length s.memory.ports → port_at carrying t.memory.ports c ≡ moved.port
   port_now within =
-      ap (λ (ports : List (Port R K)). port_at carrying ports c) moved.ports ∙ get_or-set_same s.memory.ports c moved.port (no_port carrying) within
+      ap (λ (ports : List (Port R K)). port_at carrying ports c) moved.ports
+      ∙ get_or-set_same s.memory.ports c moved.port (no_port carrying) within
 
   core_other : (d : ℕ) → d ≢ c → core_at t.cores d ≡ core_at s.cores d
-  core_other d other = ap (λ (cores : List Core). core_at cores d) moved.cores ∙ get_or-set_other s.cores c d moved.core (starting 0 0) other
+  core_other d other = ap (λ (cores : List Core). core_at cores d) moved.cores
+      ∙ get_or-set_other s.cores c d moved.core (starting 0 0) other
 
   port_other : (d : ℕ) → d ≢ c → port_at carrying t.memory.ports d ≡ port_at carrying s.memory.ports d
   port_other d other =
-      ap (λ (ports : List (Port R K)). port_at carrying ports d) moved.ports ∙ get_or-set_other s.memory.ports c d moved.port (no_port carrying) other
+      ap (λ (ports : List (Port R K)). port_at carrying ports d) moved.ports
+      ∙ get_or-set_other s.memory.ports c d moved.port (no_port carrying) other
 
   pub requests_other : (d : ℕ) → d ≢ c → requests_at t.memory.ports d ≡ requests_at s.memory.ports d
   requests_other d other =
-      ap (λ (ports : List (Port R K)). requests_at ports d) moved.ports ∙ set_elsewhere s.memory.ports c d moved.port other
+      ap (λ (ports : List (Port R K)). requests_at ports d) moved.ports
+      ∙ set_elsewhere s.memory.ports c d moved.port other
 
-  can_other : (riding : Riding R) (act : Act R) → port_of act ≢ c → can riding carrying t.memory act ≡ can riding carrying s.memory act
+  can_other : (riding : Riding R) (act : Act R) → port_of act ≢ c →
+      can riding carrying t.memory act ≡ can riding carrying s.memory act
   can_other riding act other =
-      can_by riding carrying s.memory t.memory act moved_ports (λ within i. can_at riding (moved.home i) (port_other (port_of act) other i) act)
+      can_by riding carrying s.memory t.memory act moved_ports (λ within i. can_at riding (moved.home i)
+      (port_other (port_of act) other i) act)
 
   -- the other cores' moves
-  pub elsewhere : (riding : Riding R) (m : Move) → core_of m ≢ c → enabled riding carrying t m ≡ enabled riding carrying s m
+  pub elsewhere : (riding : Riding R) (m : Move) → core_of m ≢ c → enabled riding carrying t m ≡ enabled riding carrying
+      s m
   elsewhere riding (CoreMove d) other = λ i.
       nat_lt d (moved_cores i)
       && (not (is_done (need (moved.image i) (core_other d other i))) && not (waits (port_other d other i).cache))

@@ -1,5 +1,6 @@
 -- What each move leaves of cores, ports and what is noted beside them.
-use Rattle.std.proofs.Common.{◌≡◌, ◌≢◌, ◌∙◌, refl, sym, subst, ap, ℕ, ◌<◌, true, List, length, get_or, Option, Some, None}
+use Rattle.std.proofs.Common.{◌≡◌, ◌≢◌, ◌∙◌, refl, sym, subst, ap, ℕ, ◌<◌, true, List, length, get_or, Option, Some}
+use Rattle.std.proofs.Common.{None}
 use Rattle.std.specs.Prelude.{slice_set}
 use Rattle.std.proofs.lemmas.List.{set-get_or}
 use Rattle.access_times.specs.Riding.{Riding, Carrying}
@@ -14,7 +15,8 @@ use Rattle.msi_memory.specs.Memories.{Memory, port_at}
 use Rattle.msi_memory.specs.Rests.{OthersRoomy, head_roomy, requests_at}
 use Rattle.msi_memory.proofs.Roomy.{each_roomy}
 use Rattle.msi_state.specs.declared.moves.Move.{Move}
-use Rattle.msi_state.specs.declared.moves.Move.TheVariants.{Core as CoreMove, Request as RequestMove, Response as ResponseMove, FromHome as MessageMove}
+use Rattle.msi_state.specs.declared.moves.Move.TheVariants.{Core as CoreMove, Request as RequestMove}
+use Rattle.msi_state.specs.declared.moves.Move.TheVariants.{Response as ResponseMove, FromHome as MessageMove}
 use Rattle.msi_state.specs.Events.{Event, Nothing, Retires, Accesses, port_taken}
 use Rattle.msi_state.specs.Moves.{core_of}
 use Rattle.msi_state.specs.Rests.{heads_roomy}
@@ -33,44 +35,54 @@ use Rattle.msi_machine.proofs.Renewed.{core_marked, moved_marked, own_marked}
 use Rattle.msi_machine.proofs.Standings.{moved_stands, stands_at, turned_stands}
 use Rattle.msi_machine.proofs.Turns.{request_stays, response_stays}
 
-one_core : (image : Contents) (c : ℕ) (e : Event) (cores : List Core) → cores_after image c e cores ≡ slice_set cores c (core_after image e (core_at cores c))
+one_core : (image : Contents) (c : ℕ) (e : Event) (cores : List Core) → cores_after image c e cores ≡ slice_set cores c
+    (core_after image e (core_at cores c))
 one_core image c Nothing cores = sym (set-get_or cores c (starting 0 0))
 one_core image c (Retires at) cores = refl
 one_core image c (Accesses a) cores = refl
 
 module _ {R K : Type 0} where
   -- a core's own move
-  pub core_moves : (riding : Riding R) (carrying : Carrying K) (rider : R) (s t : State R K) (c : ℕ) → c < length s.memory.ports →
+  pub core_moves : (riding : Riding R) (carrying : Carrying K) (rider : R) (s t : State R K) (c : ℕ) →
+      c < length s.memory.ports →
       t ≡ step riding carrying rider s (CoreMove c) → MovedAt s t c
   core_moves riding carrying rider s t c within is =
       record {
         core = core_after s.image (event riding carrying s (CoreMove c)) (core_at s.cores c);
-        port = port_worked riding carrying rider (need_access (need s.image (core_at s.cores c))) (event riding carrying s (CoreMove c))
+        port = port_worked riding carrying rider (need_access (need s.image (core_at s.cores c)))
+            (event riding carrying s (CoreMove c))
             (port_at carrying s.memory.ports c);
         image = ap (λ (x : State R K). x.image) is;
         cores = ap (λ (x : State R K). x.cores) is ∙ one_core s.image c (event riding carrying s (CoreMove c)) s.cores;
-        ports = ap (λ (x : State R K). x.memory.ports) is ∙ ap (λ (m : Memory R K). m.ports) (core_memory riding carrying rider s c within);
-        home = ap (λ (x : State R K). x.memory.home) is ∙ ap (λ (m : Memory R K). m.home) (core_memory riding carrying rider s c within);
+        ports = ap (λ (x : State R K). x.memory.ports) is
+            ∙ ap (λ (m : Memory R K). m.ports) (core_memory riding carrying rider s c within);
+        home = ap (λ (x : State R K). x.memory.home) is
+            ∙ ap (λ (m : Memory R K). m.home) (core_memory riding carrying rider s c within);
       }
 
   -- it changes neither the port's responses nor its messages
-  worked_responses : (riding : Riding R) (carrying : Carrying K) (rider : R) (needed : Option (Kind × ℕ)) (e : Event) (p : Port R K) →
+  worked_responses : (riding : Riding R) (carrying : Carrying K) (rider : R) (needed : Option (Kind × ℕ)) (e : Event)
+      (p : Port R K) →
       (port_worked riding carrying rider needed e p).responses ≡ p.responses
   worked_responses riding carrying rider None Nothing p = refl
   worked_responses riding carrying rider (Some (kind, word)) Nothing p = refl
   worked_responses riding carrying rider needed (Retires at) p = refl
   worked_responses riding carrying rider needed (Accesses a) p = refl
 
-  worked_messages : (riding : Riding R) (carrying : Carrying K) (rider : R) (needed : Option (Kind × ℕ)) (e : Event) (p : Port R K) →
+  worked_messages : (riding : Riding R) (carrying : Carrying K) (rider : R) (needed : Option (Kind × ℕ)) (e : Event)
+      (p : Port R K) →
       (port_worked riding carrying rider needed e p).messages ≡ p.messages
   worked_messages riding carrying rider None Nothing p = refl
   worked_messages riding carrying rider (Some (kind, word)) Nothing p = refl
   worked_messages riding carrying rider needed (Retires at) p = refl
   worked_messages riding carrying rider needed (Accesses a) p = refl
 
-  pub core_marks : (riding : Riding R) (carrying : Carrying K) (rider : R) (s t : State R K) (old new : Marks) (c : ℕ) (kept : Standing) →
-      AllMarked riding carrying s old → t ≡ step riding carrying rider s (CoreMove c) → c < length s.cores → c < length s.memory.ports →
-      kept ≡ standing_at carrying t c → new.cores ≡ old.cores → (IsWithin old → IsWithin new) → is_marked new (CoreMove c) ≡ may_work kept →
+  pub core_marks : (riding : Riding R) (carrying : Carrying K) (rider : R) (s t : State R K) (old new : Marks) (c : ℕ)
+      (kept : Standing) →
+      AllMarked riding carrying s old → t ≡ step riding carrying rider s (CoreMove c) → c < length s.cores →
+      c < length s.memory.ports →
+      kept ≡ standing_at carrying t c → new.cores ≡ old.cores → (IsWithin old → IsWithin new) →
+      is_marked new (CoreMove c) ≡ may_work kept →
       ((m : Move) → m ≢ CoreMove c → is_marked new m ≡ is_marked old m) → OthersMarked riding carrying t new c
   unfolding core_moves
   core_marks riding carrying rider s t old new c kept all is here port stands cores within this others =
@@ -78,35 +90,47 @@ module _ {R K : Type 0} where
       let e = event riding carrying s (CoreMove c) in
       let p = port_at carrying s.memory.ports c in
       core_marked riding carrying s t old new c kept all (core_moves riding carrying rider s t c port is) here port
-      (worked_responses riding carrying rider needed e p) (worked_messages riding carrying rider needed e p) stands cores within this others
+      (worked_responses riding carrying rider needed e p) (worked_messages riding carrying rider needed e p) stands
+      cores within this others
 
   -- a core takes a message
-  pub message_moves : (riding : Riding R) (carrying : Carrying K) (rider : R) (s t : State R K) (c : ℕ) → c < length s.memory.ports →
+  pub message_moves : (riding : Riding R) (carrying : Carrying K) (rider : R) (s t : State R K) (c : ℕ) →
+      c < length s.memory.ports →
       t ≡ step riding carrying rider s (MessageMove c) → MovedAt s t c
   message_moves riding carrying rider s t c within is =
       record {
         core = core_after s.image (event riding carrying s (MessageMove c)) (core_at s.cores c);
-        port = port_told riding carrying rider (event riding carrying s (MessageMove c)) (port_taken riding carrying (port_at carrying s.memory.ports c));
+        port = port_told riding carrying rider (event riding carrying s (MessageMove c)) (port_taken riding carrying
+            (port_at carrying s.memory.ports c));
         image = ap (λ (x : State R K). x.image) is;
-        cores = ap (λ (x : State R K). x.cores) is ∙ one_core s.image c (event riding carrying s (MessageMove c)) s.cores;
-        ports = ap (λ (x : State R K). x.memory.ports) is ∙ ap (λ (m : Memory R K). m.ports) (message_memory riding carrying rider s c within);
-        home = ap (λ (x : State R K). x.memory.home) is ∙ ap (λ (m : Memory R K). m.home) (message_memory riding carrying rider s c within);
+        cores = ap (λ (x : State R K). x.cores) is ∙ one_core s.image c (event riding carrying s (MessageMove c))
+            s.cores;
+        ports = ap (λ (x : State R K). x.memory.ports) is
+            ∙ ap (λ (m : Memory R K). m.ports) (message_memory riding carrying rider s c within);
+        home = ap (λ (x : State R K). x.memory.home) is
+            ∙ ap (λ (m : Memory R K). m.home) (message_memory riding carrying rider s c within);
       }
 
-  pub message_marks : (riding : Riding R) (carrying : Carrying K) (rider : R) (s t : State R K) (old new : Marks) (c : ℕ) (kept : Standing) →
-      AllMarked riding carrying s old → t ≡ step riding carrying rider s (MessageMove c) → c < length s.cores → c < length s.memory.ports →
-      kept ≡ standing_at carrying t c → new.cores ≡ old.cores → (IsWithin old → IsWithin new) → is_marked new (CoreMove c) ≡ may_work kept →
+  pub message_marks : (riding : Riding R) (carrying : Carrying K) (rider : R) (s t : State R K) (old new : Marks)
+      (c : ℕ) (kept : Standing) →
+      AllMarked riding carrying s old → t ≡ step riding carrying rider s (MessageMove c) → c < length s.cores →
+      c < length s.memory.ports →
+      kept ≡ standing_at carrying t c → new.cores ≡ old.cores → (IsWithin old → IsWithin new) →
+      is_marked new (CoreMove c) ≡ may_work kept →
       is_marked new (ResponseMove c) ≡ can riding carrying t.memory (TakeResponse c) →
       is_marked new (MessageMove c) ≡ can riding carrying t.memory (TakeMessage c) →
       ((m : Move) → core_of m ≢ c → is_marked new m ≡ is_marked old m) → OthersMarked riding carrying t new c
-  message_marks riding carrying rider s t old new c kept all is here port stands cores within own response message others =
+  message_marks riding carrying rider s t old new c kept all is here port stands cores within own response message
+      others =
       let moved = message_moves riding carrying rider s t c port is in
       moved_marked riding carrying s t old new c all moved cores within
-      (own ∙ own_marked riding carrying t c kept (subst (λ (n : ℕ). c < n) (sym (moved_cores carrying s t c moved)) here) stands)
+      (own ∙ own_marked riding carrying t c kept (subst (λ (n : ℕ). c < n) (sym (moved_cores carrying s t c moved))
+      here) stands)
       response message others
 
   -- ---- a move changes no requests but those of its own core
-  requests_stay : (riding : Riding R) (carrying : Carrying K) (rider : R) (s : State R K) (m : Move) (d : ℕ) → core_of m < length s.memory.ports →
+  requests_stay : (riding : Riding R) (carrying : Carrying K) (rider : R) (s : State R K) (m : Move) (d : ℕ) →
+      core_of m < length s.memory.ports →
       d ≢ core_of m → requests_at (step riding carrying rider s m).memory.ports d ≡ requests_at s.memory.ports d
   requests_stay riding carrying rider s (CoreMove c) d within other =
       requests_other carrying s (step riding carrying rider s (CoreMove c)) c
@@ -114,12 +138,15 @@ module _ {R K : Type 0} where
   requests_stay riding carrying rider s (MessageMove c) d within other =
       requests_other carrying s (step riding carrying rider s (MessageMove c)) c
       (message_moves riding carrying rider s (step riding carrying rider s (MessageMove c)) c within refl) d other
-  requests_stay riding carrying rider s (RequestMove c) d within other = (request_stays riding carrying s.memory c).requests d other
-  requests_stay riding carrying rider s (ResponseMove c) d within other = (response_stays riding carrying s.memory c).requests d other
+  requests_stay riding carrying rider s (RequestMove c) d within other =
+      (request_stays riding carrying s.memory c).requests d other
+  requests_stay riding carrying rider s (ResponseMove c) d within other =
+      (response_stays riding carrying s.memory c).requests d other
 
   -- so where each head's block had room, only the mover's may have none
   pub others_roomy : (riding : Riding R) (carrying : Carrying K) (rider : R) (old new : Machinery R K) (m : Move) →
-      core_of m < length old.state.memory.ports → heads_roomy old ≡ true → new.state ≡ step riding carrying rider old.state m → new.rooms ≡ old.rooms →
+      core_of m < length old.state.memory.ports → heads_roomy old ≡ true →
+      new.state ≡ step riding carrying rider old.state m → new.rooms ≡ old.rooms →
       OthersRoomy new.state.memory.ports (core_of m) new.rooms
   others_roomy riding carrying rider old new m within roomy is same d other =
       (λ i. head_roomy (requests_at (is i).memory.ports d) (same i))
@@ -127,58 +154,80 @@ module _ {R K : Type 0} where
       ∙ each_roomy old.state.memory.ports old.rooms roomy d
 
   -- ---- what is kept of each core follows a move that can be made
-  kept_before : (riding : Riding R) (carrying : Carrying K) (s : State R K) (taken : Move) (standings : List Standing) (d : Standing) →
+  kept_before : (riding : Riding R) (carrying : Carrying K) (s : State R K) (taken : Move) (standings : List Standing)
+      (d : Standing) →
       MachineHolds riding carrying s → enabled riding carrying s taken ≡ true → StandingsFit s standings →
       get_or standings (core_of taken) d ≡ standing_at carrying s (core_of taken)
   kept_before riding carrying s taken standings d holds can_be fit =
       let here : core_of taken < length s.cores = enabled_core riding carrying s taken can_be holds in
       stands_at carrying s standings (core_of taken) d fit here (core_port riding carrying s (core_of taken) holds here)
 
-  pub kept_here : (riding : Riding R) (carrying : Carrying K) (s : State R K) (taken : Move) (c : ℕ) (standings : List Standing) (d : Standing) →
-      MachineHolds riding carrying s → enabled riding carrying s taken ≡ true → core_of taken ≡ c → StandingsFit s standings →
+  pub kept_here : (riding : Riding R) (carrying : Carrying K) (s : State R K) (taken : Move) (c : ℕ)
+      (standings : List Standing) (d : Standing) →
+      MachineHolds riding carrying s → enabled riding carrying s taken ≡ true → core_of taken ≡ c →
+      StandingsFit s standings →
       get_or standings c d ≡ standing_at carrying s c
   kept_here riding carrying s taken c standings d holds can_be at fit =
-      subst (λ (k : ℕ). get_or standings k d ≡ standing_at carrying s k) at (kept_before riding carrying s taken standings d holds can_be fit)
+      subst (λ (k : ℕ). get_or standings k d ≡ standing_at carrying s k) at (kept_before riding carrying s taken
+      standings d holds can_be fit)
 
-  pub core_stands : (riding : Riding R) (carrying : Carrying K) (rider : R) (s t : State R K) (taken : Move) (c : ℕ) (standings : List Standing)
-      (kept : Standing) → MachineHolds riding carrying s → enabled riding carrying s taken ≡ true → taken ≡ CoreMove c → StandingsFit s standings →
-      t ≡ step riding carrying rider s (CoreMove c) → kept ≡ standing_at carrying t c → StandingsFit t (slice_set standings c kept)
+  pub core_stands : (riding : Riding R) (carrying : Carrying K) (rider : R) (s t : State R K) (taken : Move) (c : ℕ)
+      (standings : List Standing)
+      (kept : Standing) → MachineHolds riding carrying s → enabled riding carrying s taken ≡ true → taken ≡ CoreMove c →
+      StandingsFit s standings →
+      t ≡ step riding carrying rider s (CoreMove c) → kept ≡ standing_at carrying t c →
+      StandingsFit t (slice_set standings c kept)
   core_stands riding carrying rider s t taken c standings kept holds can_be at fit is stands =
-      let here : c < length s.cores = subst (λ (m : Move). core_of m < length s.cores) at (enabled_core riding carrying s taken can_be holds) in
+      let here : c < length s.cores = subst (λ (m : Move). core_of m < length s.cores) at
+      (enabled_core riding carrying s taken can_be holds) in
       let port : c < length s.memory.ports = core_port riding carrying s c holds here in
       moved_stands carrying s t standings c kept (core_moves riding carrying rider s t c port is) fit here port stands
 
-  pub message_stands : (riding : Riding R) (carrying : Carrying K) (rider : R) (s t : State R K) (taken : Move) (c : ℕ) (standings : List Standing)
-      (kept : Standing) → MachineHolds riding carrying s → enabled riding carrying s taken ≡ true → taken ≡ MessageMove c → StandingsFit s standings →
-      t ≡ step riding carrying rider s (MessageMove c) → kept ≡ standing_at carrying t c → StandingsFit t (slice_set standings c kept)
+  pub message_stands : (riding : Riding R) (carrying : Carrying K) (rider : R) (s t : State R K) (taken : Move) (c : ℕ)
+      (standings : List Standing)
+      (kept : Standing) → MachineHolds riding carrying s → enabled riding carrying s taken ≡ true →
+      taken ≡ MessageMove c → StandingsFit s standings →
+      t ≡ step riding carrying rider s (MessageMove c) → kept ≡ standing_at carrying t c →
+      StandingsFit t (slice_set standings c kept)
   message_stands riding carrying rider s t taken c standings kept holds can_be at fit is stands =
-      let here : c < length s.cores = subst (λ (m : Move). core_of m < length s.cores) at (enabled_core riding carrying s taken can_be holds) in
+      let here : c < length s.cores = subst (λ (m : Move). core_of m < length s.cores) at
+      (enabled_core riding carrying s taken can_be holds) in
       let port : c < length s.memory.ports = core_port riding carrying s c holds here in
-      moved_stands carrying s t standings c kept (message_moves riding carrying rider s t c port is) fit here port stands
+      moved_stands carrying s t standings c kept (message_moves riding carrying rider s t c port is) fit here port
+      stands
 
-  pub request_stands : (riding : Riding R) (carrying : Carrying K) (rider : R) (s t : State R K) (c : ℕ) (standings : List Standing) →
+  pub request_stands : (riding : Riding R) (carrying : Carrying K) (rider : R) (s t : State R K) (c : ℕ)
+      (standings : List Standing) →
       t ≡ step riding carrying rider s (RequestMove c) → StandingsFit s standings → StandingsFit t standings
   request_stands riding carrying rider s t c standings is fit =
       subst (λ (x : State R K). StandingsFit x standings) (sym is)
-      (turned_stands s (take_request riding carrying s.memory c) standings (request_stays riding carrying s.memory c).waiting fit)
+      (turned_stands s (take_request riding carrying s.memory c) standings (request_stays riding carrying s.memory
+      c).waiting fit)
 
-  pub response_stands : (riding : Riding R) (carrying : Carrying K) (rider : R) (s t : State R K) (c : ℕ) (standings : List Standing) →
+  pub response_stands : (riding : Riding R) (carrying : Carrying K) (rider : R) (s t : State R K) (c : ℕ)
+      (standings : List Standing) →
       t ≡ step riding carrying rider s (ResponseMove c) → StandingsFit s standings → StandingsFit t standings
   response_stands riding carrying rider s t c standings is fit =
       subst (λ (x : State R K). StandingsFit x standings) (sym is)
-      (turned_stands s (take_response riding carrying s.memory c) standings (response_stays riding carrying s.memory c).waiting fit)
+      (turned_stands s (take_response riding carrying s.memory c) standings (response_stays riding carrying s.memory
+      c).waiting fit)
 
   -- a machine's notes follow a move
-  pub notes_kept : (riding : Riding R) (carrying : Carrying K) (old new : Machinery R K) (m : Move) (standings kept : List Standing) (marks : Marks)
-      (mover : ℕ) → heads_roomy old ≡ true → MachineHolds riding carrying old.state → enabled riding carrying old.state m ≡ true →
-      StepsTo riding carrying old.state new.state m → new.rooms ≡ old.rooms → StandingsFit new.state kept → standings ≡ kept →
-      OthersMarked riding carrying new.state marks (core_of m) → mover ≡ core_of m → NotesFit riding carrying new standings marks mover
+  pub notes_kept : (riding : Riding R) (carrying : Carrying K) (old new : Machinery R K) (m : Move)
+      (standings kept : List Standing) (marks : Marks)
+      (mover : ℕ) → heads_roomy old ≡ true → MachineHolds riding carrying old.state →
+      enabled riding carrying old.state m ≡ true →
+      StepsTo riding carrying old.state new.state m → new.rooms ≡ old.rooms → StandingsFit new.state kept →
+      standings ≡ kept →
+      OthersMarked riding carrying new.state marks (core_of m) → mover ≡ core_of m →
+      NotesFit riding carrying new standings marks mover
   notes_kept riding carrying old new m standings kept marks mover roomy holds can_be is same fit all others mine =
       let rider : R = rider_left riding carrying old.state new.state m in
       let here : core_of m < length old.state.memory.ports =
       core_port riding carrying old.state (core_of m) holds (enabled_core riding carrying old.state m can_be holds) in
       record {
-        holds = subst (λ (s : State R K). MachineHolds riding carrying s) (sym is) (holds_kept riding carrying old.state m rider can_be holds);
+        holds = subst (λ (s : State R K). MachineHolds riding carrying s) (sym is) (holds_kept riding carrying old.state
+            m rider can_be holds);
         stands = subst (λ (xs : List Standing). StandingsFit new.state xs) (sym all) fit;
         marked = subst (λ (c : ℕ). OthersMarked riding carrying new.state marks c) (sym mine) others;
         roomy = subst (λ (c : ℕ). OthersRoomy new.state.memory.ports c new.rooms) (sym mine)

@@ -1,5 +1,6 @@
 -- The marks after each move are those of what can be done then.
-use Rattle.std.proofs.Common.{◌≡◌, ◌≢◌, ◌∙◌, ◌⊎◌, inl, inr, refl, sym, subst, ap, ℕ, ◌*◌, ◌<◌, ◌≤◌, Bool, true, false, length, nat_lt, ◌&&◌}
+use Rattle.std.proofs.Common.{◌≡◌, ◌≢◌, ◌∙◌, ◌⊎◌, inl, inr, refl, sym, subst, ap, ℕ, ◌*◌, ◌<◌, ◌≤◌, Bool, true, false}
+use Rattle.std.proofs.Common.{length, nat_lt, ◌&&◌}
 use Rattle.std.specs.Prelude.{not}
 use Rattle.std.specs.List.{filter}
 use Rattle.std.proofs.lemmas.Bool.{cases_eq}
@@ -17,7 +18,8 @@ use Rattle.msi_memory.specs.Turns.{IsRequestTurn, IsResponseTurn}
 use Rattle.memory_laws.proofs.Ready.{memory_ready}
 use Rattle.machine_invariant.specs.Holds.{MachineHolds}
 use Rattle.msi_state.specs.declared.moves.Move.{Move}
-use Rattle.msi_state.specs.declared.moves.Move.TheVariants.{Core as CoreMove, Request as RequestMove, Response as ResponseMove, FromHome as MessageMove}
+use Rattle.msi_state.specs.declared.moves.Move.TheVariants.{Core as CoreMove, Request as RequestMove}
+use Rattle.msi_state.specs.declared.moves.Move.TheVariants.{Response as ResponseMove, FromHome as MessageMove}
 use Rattle.msi_state.specs.Moves.{candidates, core_of}
 use Rattle.msi_state.specs.States.{State}
 use Rattle.msi_state.specs.Steps.{enabled, moves}
@@ -31,15 +33,19 @@ use Rattle.msi_machine.proofs.Elsewhere.{MovedAt, can_by, can_past, elsewhere, m
 use Rattle.msi_machine.proofs.Turns.{TurnFits, request_fits, response_fits, same_responses}
 
 module _ {R K : Type 0} where
-  pub all_moves : (riding : Riding R) (carrying : Carrying K) (s : State R K) (marks : Marks) → AllMarked riding carrying s marks →
+  pub all_moves : (riding : Riding R) (carrying : Carrying K) (s : State R K) (marks : Marks) →
+      AllMarked riding carrying s marks →
       marked marks ≡ moves riding carrying s
   all_moves riding carrying s marks all =
       (λ i. filter (is_marked marks) (candidates (all.cores i) (4 * all.cores i)))
-      ∙ filter_agree (is_marked marks) (enabled riding carrying s) all.marked (candidates (length s.cores) (4 * length s.cores))
+      ∙ filter_agree (is_marked marks) (enabled riding carrying s) all.marked (candidates (length s.cores)
+      (4 * length s.cores))
 
   -- the mover's oldest request is marked too
-  pub mover_marked : (riding : Riding R) (carrying : Carrying K) (s : State R K) (old new : Marks) (c : ℕ) → OthersMarked riding carrying s old c →
-      new.cores ≡ old.cores → (IsWithin old → IsWithin new) → is_marked new (RequestMove c) ≡ enabled riding carrying s (RequestMove c) →
+  pub mover_marked : (riding : Riding R) (carrying : Carrying K) (s : State R K) (old new : Marks) (c : ℕ) →
+      OthersMarked riding carrying s old c →
+      new.cores ≡ old.cores → (IsWithin old → IsWithin new) → is_marked new (RequestMove c) ≡ enabled riding carrying s
+      (RequestMove c) →
       ((m : Move) → m ≢ RequestMove c → is_marked new m ≡ is_marked old m) → AllMarked riding carrying s new
   mover_marked riding carrying s old new c others cores within this kept =
       record { cores = cores ∙ others.cores; within = within others.within; marked = every }
@@ -53,88 +59,123 @@ module _ {R K : Type 0} where
       every (MessageMove d) = plain (MessageMove d) (λ (e : MessageMove d ≡ RequestMove c). cc)
       every (RequestMove d) = by d (cases_eq d c)
         where
-          by : (d : ℕ) → (d ≡ c) ⊎ (d ≡ c → ⊥) → is_marked new (RequestMove d) ≡ enabled riding carrying s (RequestMove d)
-          by d (inl same) = subst (λ (k : ℕ). is_marked new (RequestMove k) ≡ enabled riding carrying s (RequestMove k)) (sym same) this
+          by : (d : ℕ) → (d ≡ c) ⊎ (d ≡ c → ⊥) → is_marked new (RequestMove d) ≡ enabled riding carrying s
+              (RequestMove d)
+          by d (inl same) = subst (λ (k : ℕ). is_marked new (RequestMove k) ≡ enabled riding carrying s (RequestMove k))
+              (sym same) this
           by d (inr other) = plain (RequestMove d) (λ (e : RequestMove d ≡ RequestMove c). other (ap core_of e))
 
   -- a core that isn't there has no request
-  pub no_mover_marked : (riding : Riding R) (carrying : Carrying K) (s : State R K) (marks : Marks) (c : ℕ) → OthersMarked riding carrying s marks c →
+  pub no_mover_marked : (riding : Riding R) (carrying : Carrying K) (s : State R K) (marks : Marks) (c : ℕ) →
+      OthersMarked riding carrying s marks c →
       length s.memory.ports ≡ length s.cores → marks.cores ≤ c → AllMarked riding carrying s marks
   no_mover_marked riding carrying s marks c others ports past =
       mover_marked riding carrying s marks marks c others refl (λ within. within)
       (none_past marks (RequestMove c) past
-      ∙ sym (can_past riding carrying s.memory (TakeRequest c) (subst (λ (n : ℕ). n ≤ c) (others.cores ∙ sym ports) past)))
+      ∙ sym (can_past riding carrying s.memory (TakeRequest c) (subst (λ (n : ℕ). n ≤ c) (others.cores
+      ∙ sym ports) past)))
       (λ m other. refl)
 
   -- core c moved at its port, and its moves are marked again
-  pub moved_marked : (riding : Riding R) (carrying : Carrying K) (s t : State R K) (old new : Marks) (c : ℕ) → AllMarked riding carrying s old →
+  pub moved_marked : (riding : Riding R) (carrying : Carrying K) (s t : State R K) (old new : Marks) (c : ℕ) →
+      AllMarked riding carrying s old →
       MovedAt s t c → new.cores ≡ old.cores → (IsWithin old → IsWithin new) →
-      is_marked new (CoreMove c) ≡ enabled riding carrying t (CoreMove c) → is_marked new (ResponseMove c) ≡ enabled riding carrying t (ResponseMove c) →
-      is_marked new (MessageMove c) ≡ enabled riding carrying t (MessageMove c) → ((m : Move) → core_of m ≢ c → is_marked new m ≡ is_marked old m) →
+      is_marked new (CoreMove c) ≡ enabled riding carrying t (CoreMove c) →
+      is_marked new (ResponseMove c) ≡ enabled riding carrying t (ResponseMove c) →
+      is_marked new (MessageMove c) ≡ enabled riding carrying t (MessageMove c) →
+      ((m : Move) → core_of m ≢ c → is_marked new m ≡ is_marked old m) →
       OthersMarked riding carrying t new c
   moved_marked riding carrying s t old new c all moved cores within own response message kept =
-      record { cores = cores ∙ all.cores ∙ sym (moved_cores carrying s t c moved); within = within all.within; marked = every }
+      record {
+        cores = cores ∙ all.cores ∙ sym (moved_cores carrying s t c moved);
+        within = within all.within;
+        marked =
+            every;
+      }
     where
       other_core : (m : Move) → core_of m ≢ c → is_marked new m ≡ enabled riding carrying t m
       other_core m other = kept m other ∙ all.marked m ∙ sym (elsewhere carrying s t c moved riding m other)
 
-      each : (make : ℕ → Move) → ((d : ℕ) → core_of (make d) ≡ d) → is_marked new (make c) ≡ enabled riding carrying t (make c) → (d : ℕ) →
+      each : (make : ℕ → Move) → ((d : ℕ) → core_of (make d) ≡ d) → is_marked new (make c) ≡ enabled riding carrying t
+          (make c) → (d : ℕ) →
           (d ≡ c) ⊎ (d ≡ c → ⊥) → is_marked new (make d) ≡ enabled riding carrying t (make d)
-      each make core this d (inl same) = subst (λ (k : ℕ). is_marked new (make k) ≡ enabled riding carrying t (make k)) (sym same) this
+      each make core this d (inl same) = subst (λ (k : ℕ). is_marked new (make k) ≡ enabled riding carrying t (make k))
+          (sym same) this
       each make core this d (inr other) = other_core (make d) (λ same. other (sym (core d) ∙ same))
 
       every : (m : Move) → m ≢ RequestMove c → is_marked new m ≡ enabled riding carrying t m
       every (CoreMove d) not_asked = each (λ k. CoreMove k) (λ k. refl) own d (cases_eq d c)
       every (ResponseMove d) not_asked = each (λ k. ResponseMove k) (λ k. refl) response d (cases_eq d c)
       every (MessageMove d) not_asked = each (λ k. MessageMove k) (λ k. refl) message d (cases_eq d c)
-      every (RequestMove d) not_asked = other_core (RequestMove d) (λ same. not_asked (ap (λ (k : ℕ). RequestMove k) same))
+      every (RequestMove d) not_asked = other_core (RequestMove d)
+          (λ same. not_asked (ap (λ (k : ℕ). RequestMove k) same))
 
   -- a core that is there moves by itself where it stands so
-  pub own_marked : (riding : Riding R) (carrying : Carrying K) (s : State R K) (c : ℕ) (kept : Standing) → c < length s.cores →
+  pub own_marked : (riding : Riding R) (carrying : Carrying K) (s : State R K) (c : ℕ) (kept : Standing) →
+      c < length s.cores →
       kept ≡ standing_at carrying s c → may_work kept ≡ enabled riding carrying s (CoreMove c)
   own_marked riding carrying s c kept here stands =
-      ap may_work stands ∙ ap (λ (b : Bool). b && may_work (standing_at carrying s c)) (sym (below_is c (length s.cores) here))
+      ap may_work stands ∙ ap (λ (b : Bool). b && may_work (standing_at carrying s c))
+      (sym (below_is c (length s.cores) here))
 
   -- in its own move, which changes neither its responses nor its messages
-  pub core_marked : (riding : Riding R) (carrying : Carrying K) (s t : State R K) (old new : Marks) (c : ℕ) (kept : Standing) →
+  pub core_marked : (riding : Riding R) (carrying : Carrying K) (s t : State R K) (old new : Marks) (c : ℕ)
+      (kept : Standing) →
       AllMarked riding carrying s old → (moved : MovedAt s t c) → c < length s.cores → c < length s.memory.ports →
-      moved.port.responses ≡ (port_at carrying s.memory.ports c).responses → moved.port.messages ≡ (port_at carrying s.memory.ports c).messages →
-      kept ≡ standing_at carrying t c → new.cores ≡ old.cores → (IsWithin old → IsWithin new) → is_marked new (CoreMove c) ≡ may_work kept →
+      moved.port.responses ≡ (port_at carrying s.memory.ports c).responses →
+      moved.port.messages ≡ (port_at carrying s.memory.ports c).messages →
+      kept ≡ standing_at carrying t c → new.cores ≡ old.cores → (IsWithin old → IsWithin new) →
+      is_marked new (CoreMove c) ≡ may_work kept →
       ((m : Move) → m ≢ CoreMove c → is_marked new m ≡ is_marked old m) → OthersMarked riding carrying t new c
-  core_marked riding carrying s t old new c kept all moved here port responses messages stands cores within this others =
+  core_marked riding carrying s t old new c kept all moved here port responses messages stands cores within this
+      others =
       moved_marked riding carrying s t old new c all moved cores within
-      (this ∙ own_marked riding carrying t c kept (subst (λ (n : ℕ). c < n) (sym (moved_cores carrying s t c moved)) here) stands)
+      (this ∙ own_marked riding carrying t c kept (subst (λ (n : ℕ). c < n) (sym (moved_cores carrying s t c moved))
+      here) stands)
       (others (ResponseMove c) (λ (e : ResponseMove c ≡ CoreMove c). cc)
       ∙ all.marked (ResponseMove c)
       ∙ sym (can_by riding carrying s.memory t.memory (TakeResponse c) (moved_ports carrying s t c moved)
-      (λ within. ap (λ (l : Queue (Mail (Response R) K)). not (is_nil l.items)) (ap (λ (p : Port R K). p.responses) now ∙ responses))))
+      (λ within. ap (λ (l : Queue (Mail (Response R) K)). not (is_nil l.items)) (ap (λ (p : Port R K). p.responses) now
+      ∙ responses))))
       (others (MessageMove c) (λ (e : MessageMove c ≡ CoreMove c). cc)
       ∙ all.marked (MessageMove c)
       ∙ sym (can_by riding carrying s.memory t.memory (TakeMessage c) (moved_ports carrying s t c moved)
-      (λ within. ap (λ (l : Queue (Mail (FromHome R) K)). not (is_nil l.items)) (ap (λ (p : Port R K). p.messages) now ∙ messages))))
+      (λ within. ap (λ (l : Queue (Mail (FromHome R) K)). not (is_nil l.items)) (ap (λ (p : Port R K). p.messages) now
+      ∙ messages))))
       (λ m apart. others m (λ same. apart (ap core_of same)))
     where
       now : port_at carrying t.memory.ports c ≡ moved.port
       now = port_now carrying s t c moved port
 
   -- the home moved at core c, and the marks followed
-  pub turn_others : (riding : Riding R) (carrying : Carrying K) (s : State R K) (n : Memory R K) (old mid new : Marks) (c : ℕ) (turn : Turn) (was : Bool) →
-      TurnFits riding carrying s n c turn was → AllMarked riding carrying s old → length s.memory.ports ≡ length s.cores →
-      mid.cores ≡ old.cores → (IsWithin old → IsWithin mid) → ((m : Move) → m ≢ ResponseMove c → is_marked mid m ≡ is_marked old m) →
-      is_marked mid (ResponseMove c) ≡ can riding carrying n (TakeResponse c) → new.cores ≡ mid.cores → (IsWithin mid → IsWithin new) →
-      ((m : Move) → is_marked new m ≡ after_turn riding n turn was mid m) → OthersMarked riding carrying (record s { memory = n }) new c
-  turn_others riding carrying s n old mid new c turn was fits all ports cores within kept own cores_after within_after after =
+  pub turn_others : (riding : Riding R) (carrying : Carrying K) (s : State R K) (n : Memory R K) (old mid new : Marks)
+      (c : ℕ) (turn : Turn) (was : Bool) →
+      TurnFits riding carrying s n c turn was → AllMarked riding carrying s old →
+      length s.memory.ports ≡ length s.cores →
+      mid.cores ≡ old.cores → (IsWithin old → IsWithin mid) → ((m : Move) → m ≢ ResponseMove c →
+      is_marked mid m ≡ is_marked old m) →
+      is_marked mid (ResponseMove c) ≡ can riding carrying n (TakeResponse c) → new.cores ≡ mid.cores →
+      (IsWithin mid → IsWithin new) →
+      ((m : Move) → is_marked new m ≡ after_turn riding n turn was mid m) →
+      OthersMarked riding carrying (record s { memory = n }) new c
+  turn_others riding carrying s n old mid new c turn was fits all ports cores within kept own cores_after within_after
+      after =
       record {
         cores = cores_after ∙ cores ∙ all.cores;
         within = within_after (within all.within);
         marked = λ m other.
-            after m ∙ fits.marked mid (cores ∙ all.cores ∙ sym ports) (λ k apart. kept k apart ∙ all.marked k) own m other;
+            after m ∙ fits.marked mid (cores ∙ all.cores ∙ sym ports) (λ k apart. kept k apart
+            ∙ all.marked k) own m other;
       }
 
-  pub request_others : (riding : Riding R) (carrying : Carrying K) (s : State R K) (n : Memory R K) (old new : Marks) (c : ℕ) (turn : Turn) →
-      n ≡ take_request riding carrying s.memory c → MachineHolds riding carrying s → enabled riding carrying s (RequestMove c) ≡ true →
-      IsRequestTurn (port_at carrying s.memory.ports c).requests.items riding s.memory c turn → AllMarked riding carrying s old →
-      new.cores ≡ old.cores → (IsWithin old → IsWithin new) → ((m : Move) → is_marked new m ≡ after_turn riding n turn true old m) →
+  pub request_others : (riding : Riding R) (carrying : Carrying K) (s : State R K) (n : Memory R K) (old new : Marks)
+      (c : ℕ) (turn : Turn) →
+      n ≡ take_request riding carrying s.memory c → MachineHolds riding carrying s →
+      enabled riding carrying s (RequestMove c) ≡ true →
+      IsRequestTurn (port_at carrying s.memory.ports c).requests.items riding s.memory c turn →
+      AllMarked riding carrying s old →
+      new.cores ≡ old.cores → (IsWithin old → IsWithin new) →
+      ((m : Move) → is_marked new m ≡ after_turn riding n turn true old m) →
       OthersMarked riding carrying (record s { memory = n }) new c
   request_others riding carrying s n old new c turn is holds can_be about all cores within after =
       let left : Memory R K = take_request riding carrying s.memory c in
@@ -146,15 +187,22 @@ module _ {R K : Type 0} where
       all holds.ports_there refl (λ same. same) (λ m other. refl)
       (all.marked (ResponseMove c) ∙ sym (same_responses riding carrying s.memory c)) cores within) after
 
-  pub response_others : (riding : Riding R) (carrying : Carrying K) (s : State R K) (n : Memory R K) (old mid new : Marks) (c : ℕ) (turn : Turn) →
-      n ≡ take_response riding carrying s.memory c → MachineHolds riding carrying s → enabled riding carrying s (ResponseMove c) ≡ true →
-      IsResponseTurn (port_at carrying s.memory.ports c).responses.items riding s.memory c turn → AllMarked riding carrying s old →
-      mid.cores ≡ old.cores → (IsWithin old → IsWithin mid) → ((m : Move) → m ≢ ResponseMove c → is_marked mid m ≡ is_marked old m) →
+  pub response_others : (riding : Riding R) (carrying : Carrying K) (s : State R K) (n : Memory R K)
+      (old mid new : Marks) (c : ℕ) (turn : Turn) →
+      n ≡ take_response riding carrying s.memory c → MachineHolds riding carrying s →
+      enabled riding carrying s (ResponseMove c) ≡ true →
+      IsResponseTurn (port_at carrying s.memory.ports c).responses.items riding s.memory c turn →
+      AllMarked riding carrying s old →
+      mid.cores ≡ old.cores → (IsWithin old → IsWithin mid) → ((m : Move) → m ≢ ResponseMove c →
+      is_marked mid m ≡ is_marked old m) →
       is_marked mid (ResponseMove c) ≡ can riding carrying n (TakeResponse c) →
-      new.cores ≡ mid.cores → (IsWithin mid → IsWithin new) → ((m : Move) → is_marked new m ≡ after_turn riding n turn false mid m) →
+      new.cores ≡ mid.cores → (IsWithin mid → IsWithin new) →
+      ((m : Move) → is_marked new m ≡ after_turn riding n turn false mid m) →
       OthersMarked riding carrying (record s { memory = n }) new c
-  response_others riding carrying s n old mid new c turn is holds can_be about all cores within kept own cores_after within_after after =
+  response_others riding carrying s n old mid new c turn is holds can_be about all cores within kept own cores_after
+      within_after after =
       turn_others riding carrying s n old mid new c turn false
       (subst (λ (x : Memory R K). TurnFits riding carrying s x c turn false) (sym is)
-      (response_fits riding carrying s c turn ((memory_ready riding carrying s.memory holds.memory).rows (TakeResponse c) can_be) about))
+      (response_fits riding carrying s c turn ((memory_ready riding carrying s.memory holds.memory).rows
+      (TakeResponse c) can_be) about))
       all holds.ports_there cores within kept own cores_after within_after after

@@ -28,15 +28,20 @@ module _ {R K : Type 0} where
       ∙ sym (can_here riding carrying m (TakeRequest c) within)
 
   -- each head's block has room where each but that of a core that isn't there has
-  pub all_past : (ports : List (Port R K)) (core : ℕ) (rooms : List Bool) → OthersRoomy ports core rooms → length ports ≤ core →
+  pub all_past : (ports : List (Port R K)) (core : ℕ) (rooms : List Bool) → OthersRoomy ports core rooms →
+      length ports ≤ core →
       are_heads_roomy ports rooms ≡ true
   all_past ports core rooms others past = (none_made ports core rooms others (past_ports ports core past)).all
 
   -- what is noted fits then, whichever core is left out
-  pub room_made : (riding : Riding R) (carrying : Carrying K) (old new : Machinery R K) (standings : List Standing) (before after : Marks) (mover : ℕ) →
-      NotesFit riding carrying old standings before mover → new.state ≡ old.state → heads_roomy new ≡ true → after.cores ≡ before.cores →
-      (IsWithin before → IsWithin after) → is_marked after (RequestMove mover) ≡ can riding carrying old.state.memory (TakeRequest mover) →
-      ((m : Move) → m ≢ RequestMove mover → is_marked after m ≡ is_marked before m) → (later : ℕ) → NotesFit riding carrying new standings after later
+  pub room_made : (riding : Riding R) (carrying : Carrying K) (old new : Machinery R K) (standings : List Standing)
+      (before after : Marks) (mover : ℕ) →
+      NotesFit riding carrying old standings before mover → new.state ≡ old.state → heads_roomy new ≡ true →
+      after.cores ≡ before.cores →
+      (IsWithin before → IsWithin after) → is_marked after (RequestMove mover) ≡ can riding carrying old.state.memory
+      (TakeRequest mover) →
+      ((m : Move) → m ≢ RequestMove mover → is_marked after m ≡ is_marked before m) → (later : ℕ) →
+      NotesFit riding carrying new standings after later
   room_made riding carrying old new standings before after mover fit same roomy cores within asked others later =
       let all : AllMarked riding carrying old.state after =
       mover_marked riding carrying old.state before after mover fit.marked cores within asked others in
@@ -48,4 +53,5 @@ module _ {R K : Type 0} where
         roomy = λ c other. each_roomy old.state.memory.ports new.rooms
             (subst (λ (s : State R K). are_heads_roomy s.memory.ports new.rooms ≡ true) same roomy) c;
       } in
-      subst (λ (s : State R K). NotesFit riding carrying (record new { state = s }) standings after later) (sym same) kept
+      subst (λ (s : State R K). NotesFit riding carrying (record new { state = s }) standings after later) (sym same)
+      kept

@@ -18,12 +18,14 @@ use Rattle.msi_machine.specs.Standings.{StandingsFit, next_in, next_of, standing
 use Rattle.msi_machine.proofs.Elsewhere.{MovedAt, core_now, port_now}
 
 module _ {R K : Type 0} where
-  pub standings_long : (s : State R K) (standings : List Standing) → StandingsFit s standings → length standings ≡ length s.cores
+  pub standings_long : (s : State R K) (standings : List Standing) → StandingsFit s standings →
+      length standings ≡ length s.cores
   standings_long s standings fit =
       sym (length-map standings next_of) ∙ ap length fit.next ∙ length-map s.cores (next_in s.image)
 
   -- what is kept of a core
-  pub stands_at : (carrying : Carrying K) (s : State R K) (standings : List Standing) (c : ℕ) (d : Standing) → StandingsFit s standings →
+  pub stands_at : (carrying : Carrying K) (s : State R K) (standings : List Standing) (c : ℕ) (d : Standing) →
+      StandingsFit s standings →
       c < length s.cores → c < length s.memory.ports → get_or standings c d ≡ standing_at carrying s c
   stands_at carrying s standings c d fit here port =
       λ i. record { need = (next i).0; op = (next i).1; waits = waiting i }
@@ -44,19 +46,22 @@ module _ {R K : Type 0} where
           ∙ get_or-map (λ (p : Port R K). waits p.cache) s.memory.ports c (no_port carrying) d.waits port
 
   -- the core that moved stands at something else
-  pub moved_stands : (carrying : Carrying K) (s t : State R K) (standings : List Standing) (c : ℕ) (kept : Standing) → MovedAt s t c →
+  pub moved_stands : (carrying : Carrying K) (s t : State R K) (standings : List Standing) (c : ℕ) (kept : Standing) →
+      MovedAt s t c →
       StandingsFit s standings → c < length s.cores → c < length s.memory.ports → kept ≡ standing_at carrying t c →
       StandingsFit t (slice_set standings c kept)
   moved_stands carrying s t standings c kept moved fit here port stands =
       record {
         next = map-set next_of standings c kept
             ∙ (λ i. slice_set (fit.next i) c (next_of (stands i)))
-            ∙ (λ i. slice_set (map (next_in (image i)) s.cores) c (next_in t.image (core_now carrying s t c moved here i)))
+            ∙ (λ i. slice_set (map (next_in (image i)) s.cores) c
+            (next_in t.image (core_now carrying s t c moved here i)))
             ∙ sym (map-set (next_in t.image) s.cores c moved.core)
             ∙ ap (map (next_in t.image)) (sym moved.cores);
         waits = map-set (λ (x : Standing). x.waits) standings c kept
             ∙ (λ i. slice_set (fit.waits i) c (stands i).waits)
-            ∙ ap (λ (p : Port R K). slice_set (map (λ (q : Port R K). waits q.cache) s.memory.ports) c (waits p.cache)) (port_now carrying s t c moved port)
+            ∙ ap (λ (p : Port R K). slice_set (map (λ (q : Port R K). waits q.cache) s.memory.ports) c (waits p.cache))
+            (port_now carrying s t c moved port)
             ∙ sym (map-set (λ (p : Port R K). waits p.cache) s.memory.ports c moved.port)
             ∙ ap (map (λ (p : Port R K). waits p.cache)) (sym moved.ports);
       }
@@ -66,7 +71,8 @@ module _ {R K : Type 0} where
 
   -- the home's turns change no core, and no port waits otherwise after them
   pub turned_stands : (s : State R K) (n : Memory R K) (standings : List Standing) →
-      map (λ (p : Port R K). waits p.cache) n.ports ≡ map (λ (p : Port R K). waits p.cache) s.memory.ports → StandingsFit s standings →
+      map (λ (p : Port R K). waits p.cache) n.ports ≡ map (λ (p : Port R K). waits p.cache) s.memory.ports →
+      StandingsFit s standings →
       StandingsFit (record s { memory = n }) standings
   turned_stands s n standings waiting fit = record { next = fit.next; waits = fit.waits ∙ sym waiting }
 

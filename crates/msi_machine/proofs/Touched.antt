@@ -23,8 +23,10 @@ module _ {R : Type 0} where
       by false = refl
 
 module _ {R K : Type 0} where
-  pub touch_waits : (riding : Riding R) (carrying : Carrying K) (m : Memory R K) (c block slot : ℕ) (kind : Kind) (value : ℕ) (rider : R) →
-      c < length m.ports → waits (port_at carrying (touch riding carrying m c block slot kind value rider).ports c).cache
+  pub touch_waits : (riding : Riding R) (carrying : Carrying K) (m : Memory R K) (c block slot : ℕ) (kind : Kind)
+      (value : ℕ) (rider : R) →
+      c < length m.ports → waits (port_at carrying (touch riding carrying m c block slot kind value rider).ports
+      c).cache
       ≡ waits (port_at carrying m.ports c).cache
   touch_waits riding carrying m c block slot kind value rider within =
       let p : Port R K = port_at carrying m.ports c in
@@ -34,14 +36,17 @@ module _ {R K : Type 0} where
       ∙ lines_wait riding.fresh p.cache block slot kind value
 
   -- nor does an access after its instruction was told of
-  pub retired_waits : (riding : Riding R) (carrying : Carrying K) (m told n : Memory R K) (c : ℕ) (at : Instr) (block slot : ℕ) (kind : Kind) (value : ℕ)
-      (rider : R) → c < length m.ports → told ≡ retire carrying m c at → n ≡ touch riding carrying told c block slot kind value rider →
+  pub retired_waits : (riding : Riding R) (carrying : Carrying K) (m told n : Memory R K) (c : ℕ) (at : Instr)
+      (block slot : ℕ) (kind : Kind) (value : ℕ)
+      (rider : R) → c < length m.ports → told ≡ retire carrying m c at →
+      n ≡ touch riding carrying told c block slot kind value rider →
       waits (port_at carrying n.ports c).cache ≡ waits (port_at carrying m.ports c).cache
   retired_waits riding carrying m told n c at block slot kind value rider within first is =
       ap (λ (x : Memory R K). waits (port_at carrying x.ports c).cache) is
       ∙ touch_waits riding carrying told c block slot kind value rider
       (subst (λ (x : Memory R K). c < length x.ports) (sym first)
-      (subst (λ (k : ℕ). c < k) (sym (length-set m.ports c (port_retiring carrying (port_at carrying m.ports c) at))) within))
+      (subst (λ (k : ℕ). c < k) (sym (length-set m.ports c (port_retiring carrying (port_at carrying m.ports c) at)))
+      within))
       ∙ ap (λ (x : Memory R K). waits (port_at carrying x.ports c).cache) first
       ∙ ap (λ (x : Port R K). waits x.cache)
       (get_or-set_same m.ports c (port_retiring carrying (port_at carrying m.ports c) at) (no_port carrying) within)

@@ -1,5 +1,6 @@
 -- The set of the cores whose oldest request is for a block, core by core.
-use Rattle.std.proofs.Common.{◌≡◌, ◌≢◌, ◌∙◌, ◌⊎◌, inl, inr, sym, ap, ℕ, ◌+◌, ◌<◌, ◌≤◌, Bool, true, false, ◌&&◌, List, [], length, get_or, nat_lt, arith}
+use Rattle.std.proofs.Common.{◌≡◌, ◌≢◌, ◌∙◌, ◌⊎◌, inl, inr, sym, ap, ℕ, ◌+◌, ◌<◌, ◌≤◌, Bool, true, false, ◌&&◌, List}
+use Rattle.std.proofs.Common.{[], length, get_or, nat_lt, arith}
 use Rattle.std.specs.Prelude.{map}
 use Rattle.std.proofs.lemmas.Bool.{cases_eq}
 use Rattle.std.proofs.lemmas.Bool.Decides.{nat_tests}
@@ -38,28 +39,34 @@ module _ {R K : Type 0} where
   requests_here : (ports : List (Port R K)) (n : ℕ) (port : Port R K) → n < length ports → get_or ports n port ≡ port
       → requests_at ports n ≡ port.requests.items
   requests_here ports n port within at =
-      get_or-map (λ (p : Port R K). p.requests.items) ports n port [] within ∙ ap (λ (p : Port R K). p.requests.items) at
+      get_or-map (λ (p : Port R K). p.requests.items) ports n port [] within
+      ∙ ap (λ (p : Port R K). p.requests.items) at
 
   pub asked_none : (ports : List (Port R K)) (block : ℕ) → AskedBelow ports 0 block no_cores
   asked_none ports block c = has-no_cores c ∙ sym (is_past c 0 (head_is block (requests_at ports c)) (omega arith))
 
-  pub asked_yes : (ports : List (Port R K)) (n block : ℕ) (set : CoreSet) (port : Port R K) → n < CORES_MAX → n < length ports → get_or ports n port ≡ port
-      → head_is block port.requests.items ≡ true → AskedBelow ports n block set → AskedBelow ports (n + 1) block (with_core set n)
+  pub asked_yes : (ports : List (Port R K)) (n block : ℕ) (set : CoreSet) (port : Port R K) → n < CORES_MAX →
+      n < length ports → get_or ports n port ≡ port
+      → head_is block port.requests.items ≡ true → AskedBelow ports n block set →
+      AskedBelow ports (n + 1) block (with_core set n)
   asked_yes ports n block set port few within at asks so_far c = by (cases_eq c n)
     where
       own : has (with_core set n) n ≡ (nat_lt n (n + 1) && head_is block (requests_at ports n))
-      own = has-with_same set n few ∙ sym (below_own n _ ∙ ap (head_is block) (requests_here ports n port within at) ∙ asks)
+      own = has-with_same set n few ∙ sym (below_own n _ ∙ ap (head_is block) (requests_here ports n port within at)
+          ∙ asks)
 
       by : (c ≡ n) ⊎ (c ≡ n → ⊥) → has (with_core set n) c ≡ (nat_lt c (n + 1) && head_is block (requests_at ports c))
       by (inl same) = rw same own
       by (inr other) = has-with_other set n c few other ∙ so_far c ∙ below_more c n _ other
 
-  pub asked_no : (ports : List (Port R K)) (n block : ℕ) (set : CoreSet) (port : Port R K) → n < length ports → get_or ports n port ≡ port
+  pub asked_no : (ports : List (Port R K)) (n block : ℕ) (set : CoreSet) (port : Port R K) → n < length ports →
+      get_or ports n port ≡ port
       → head_is block port.requests.items ≡ false → AskedBelow ports n block set → AskedBelow ports (n + 1) block set
   asked_no ports n block set port within at asks so_far c = by (cases_eq c n)
     where
       own : has set n ≡ (nat_lt n (n + 1) && head_is block (requests_at ports n))
-      own = so_far n ∙ not_below n _ ∙ sym (below_own n _ ∙ ap (head_is block) (requests_here ports n port within at) ∙ asks)
+      own = so_far n ∙ not_below n _ ∙ sym (below_own n _ ∙ ap (head_is block) (requests_here ports n port within at)
+          ∙ asks)
 
       by : (c ≡ n) ⊎ (c ≡ n → ⊥) → has set c ≡ (nat_lt c (n + 1) && head_is block (requests_at ports c))
       by (inl same) = rw same own
@@ -69,7 +76,8 @@ module _ {R K : Type 0} where
       (c : ℕ) → has set c ≡ head_is block (requests_at ports c)
   asked_all ports block set so_far c = so_far c ∙ by (below_or_past c (length ports))
     where
-      by : (c < length ports) ⊎ (length ports ≤ c) → (nat_lt c (length ports) && head_is block (requests_at ports c)) ≡ head_is block (requests_at ports c)
+      by : (c < length ports) ⊎ (length ports ≤ c) →
+          (nat_lt c (length ports) && head_is block (requests_at ports c)) ≡ head_is block (requests_at ports c)
       by (inl within) = is_below c (length ports) _ within
       by (inr past) =
           is_past c (length ports) _ past

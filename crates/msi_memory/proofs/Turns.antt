@@ -40,29 +40,42 @@ module _ {R : Type 0} where
   hears_plain : (answer : HomeAnswer R) (d : ℕ) → hears (plain_home_answer answer) d ≡ hears answer d
   hears_plain answer d = by answer.send
     where
-      by : (send : Option (ℕ × FromHome R)) → hears_in (plain_send send) answer.invalidate d ≡ hears_in send answer.invalidate d
+      by : (send : Option (ℕ × FromHome R)) → hears_in (plain_send send) answer.invalidate d ≡ hears_in send
+          answer.invalidate d
       by None = refl
       by (Some (to, m)) = refl
 
   -- who hears the turn's answer hears this one
-  pub turn_heard : (about : ℕ) (told : HomeAnswer R) (turn : Turn) → IsTurn about told turn → (d : ℕ) → hears turn.answer d ≡ hears told d
-  turn_heard about told turn is d = ap (λ (answer : HomeAnswer (Unit {0})). hears answer d) is.answer ∙ hears_plain told d
+  pub turn_heard : (about : ℕ) (told : HomeAnswer R) (turn : Turn) → IsTurn about told turn → (d : ℕ) →
+      hears turn.answer d ≡ hears told d
+  turn_heard about told turn is d = ap (λ (answer : HomeAnswer (Unit {0})). hears answer d) is.answer
+      ∙ hears_plain told d
 
-  turn_is : (rider : R) (answer : HomeAnswer R) (about : ℕ) (turn : Turn) → turn.block ≡ about → answer_riding rider turn.answer ≡ answer →
+  turn_is : (rider : R) (answer : HomeAnswer R) (about : ℕ) (turn : Turn) → turn.block ≡ about →
+      answer_riding rider turn.answer ≡ answer →
       IsTurn about answer turn
   turn_is rider answer about turn block whole =
-      record { block = block; answer = plain_riding rider turn.answer ∙ ap (λ (a : HomeAnswer R). plain_home_answer a) whole }
+      record {
+        block = block;
+        answer = plain_riding rider turn.answer
+            ∙ ap (λ (a : HomeAnswer R). plain_home_answer a) whole;
+      }
 
 module _ {R K : Type 0} where
-  pub request_turn_is : (riding : Riding R) (m : Memory R K) (c : ℕ) (items rest : List (Mail (Request R) K)) (mail : Mail (Request R) K) (rider : R)
+  pub request_turn_is : (riding : Riding R) (m : Memory R K) (c : ℕ) (items rest : List (Mail (Request R) K))
+      (mail : Mail (Request R) K) (rider : R)
       (turn : Turn) → items ≡ mail ∷ rest → turn.block ≡ request_block mail.item → answer_riding rider turn.answer
-      ≡ answer_to_request riding.absorbed (entry_at riding.fresh m.home (request_block mail.item)) c mail.item → IsRequestTurn items riding m c turn
+      ≡ answer_to_request riding.absorbed (entry_at riding.fresh m.home (request_block mail.item)) c mail.item →
+      IsRequestTurn items riding m c turn
   request_turn_is riding m c items rest mail rider turn head block whole =
-      subst (λ (xs : List (Mail (Request R) K)). IsRequestTurn xs riding m c turn) (sym head) (turn_is rider _ (request_block mail.item) turn block whole)
+      subst (λ (xs : List (Mail (Request R) K)). IsRequestTurn xs riding m c turn) (sym head)
+      (turn_is rider _ (request_block mail.item) turn block whole)
 
-  pub response_turn_is : (riding : Riding R) (m : Memory R K) (c : ℕ) (items rest : List (Mail (Response R) K)) (mail : Mail (Response R) K) (rider : R)
+  pub response_turn_is : (riding : Riding R) (m : Memory R K) (c : ℕ) (items rest : List (Mail (Response R) K))
+      (mail : Mail (Response R) K) (rider : R)
       (turn : Turn) → items ≡ mail ∷ rest → turn.block ≡ response_block mail.item → answer_riding rider turn.answer
-      ≡ answer_to_response riding.absorbed (entry_at riding.fresh m.home (response_block mail.item)) c mail.item → IsResponseTurn items riding m c turn
+      ≡ answer_to_response riding.absorbed (entry_at riding.fresh m.home (response_block mail.item)) c mail.item →
+      IsResponseTurn items riding m c turn
   response_turn_is riding m c items rest mail rider turn head block whole =
       subst (λ (xs : List (Mail (Response R) K)). IsResponseTurn xs riding m c turn) (sym head)
       (turn_is rider _ (response_block mail.item) turn block whole)

@@ -1,5 +1,6 @@
 -- What changes whether a line of a cache waits.
-use Rattle.std.proofs.Common.{◌≡◌, refl, ap, ℕ, ◌%◌, Bool, false, ◌||◌, Option, Some, None, List, [], ◌∷◌, zero, suc, get_or, arith}
+use Rattle.std.proofs.Common.{◌≡◌, refl, ap, ℕ, ◌%◌, Bool, false, ◌||◌, Option, Some, None, List, [], ◌∷◌, zero, suc}
+use Rattle.std.proofs.Common.{get_or, arith}
 use Rattle.std.proofs.Common.{◌∙◌}
 use Rattle.std.specs.Prelude.{slice_set, slice_index_or}
 use Rattle.std.specs.List.{list_any}
@@ -14,7 +15,8 @@ use Rattle.msi_cache.specs.Messages.{block_of, signal}
 use Rattle.msi_memory.specs.Waiting.{ends_wait}
 
 -- an element gives way to one that the test cannot tell from it
-any_set_same : {X : Type 0} (test : X → Bool) (xs : List X) (i : ℕ) (y d : X) → test y ≡ test (get_or xs i d) → list_any test (slice_set xs i y)
+any_set_same : {X : Type 0} (test : X → Bool) (xs : List X) (i : ℕ) (y d : X) → test y ≡ test (get_or xs i d) →
+    list_any test (slice_set xs i y)
     ≡ list_any test xs
 any_set_same test [] i y d same = refl
 any_set_same test (x ∷ xs) zero y d same = ap (λ (b : Bool). b || list_any test xs) same
@@ -25,12 +27,14 @@ abbrev next_of : Option Row → State → State
 next_of None state = state
 next_of (Some r) state = r.next
 
-same_wait : (m : Signal) (state : State) → ends_wait m ≡ false → is_transient (next_of (row m state) state) ≡ is_transient state
+same_wait : (m : Signal) (state : State) → ends_wait m ≡ false →
+    is_transient (next_of (row m state) state) ≡ is_transient state
 same_wait m state other = grind arith
 
 module _ {R : Type 0} where
   -- an access changes no line's state
-  pub waits_put : (fresh : R) (lines : List (Line R)) (block slot value : ℕ) → waits (lines_put fresh lines block slot value) ≡ waits lines
+  pub waits_put : (fresh : R) (lines : List (Line R)) (block slot value : ℕ) →
+      waits (lines_put fresh lines block slot value) ≡ waits lines
   waits_put fresh lines block slot value =
       any_set_same (λ (line : Line R). is_transient line.state) lines (block % LINES)
       (record (slice_index_or lines (block % LINES) (empty_line fresh)) {
@@ -38,19 +42,24 @@ module _ {R : Type 0} where
             slice_set (slice_index_or lines (block % LINES) (empty_line fresh)).words slot value;
       }) (empty_line fresh) refl
 
-  pub waits_riding : (fresh : R) (lines : List (Line R)) (block : ℕ) (rider : R) → waits (lines_riding fresh lines block rider) ≡ waits lines
+  pub waits_riding : (fresh : R) (lines : List (Line R)) (block : ℕ) (rider : R) →
+      waits (lines_riding fresh lines block rider) ≡ waits lines
   waits_riding fresh lines block rider =
       any_set_same (λ (line : Line R). is_transient line.state) lines (block % LINES)
       (record (slice_index_or lines (block % LINES) (empty_line fresh)) { rider = rider }) (empty_line fresh) refl
 
-  state_after : (absorbed : R → R → R) (r : Option Row) (m : FromHome R) (line : Line R) → (line_by absorbed r m line).state ≡ next_of r line.state
+  state_after : (absorbed : R → R → R) (r : Option Row) (m : FromHome R) (line : Line R) →
+      (line_by absorbed r m line).state ≡ next_of r line.state
   state_after absorbed None m line = refl
   state_after absorbed (Some r) m line = refl
 
   -- only two kinds of messages end a wait, and none begins one
-  pub waits_kept : (riding : Riding R) (lines : List (Line R)) (m : FromHome R) → ends_wait (signal m) ≡ false → waits (lines_after riding lines m)
+  pub waits_kept : (riding : Riding R) (lines : List (Line R)) (m : FromHome R) → ends_wait (signal m) ≡ false →
+      waits (lines_after riding lines m)
       ≡ waits lines
   waits_kept riding lines m other =
       let line : Line R = slice_index_or lines (block_of m % LINES) (empty_line riding.fresh) in
-      any_set_same (λ (x : Line R). is_transient x.state) lines (block_of m % LINES) (line_after riding.absorbed line m) (empty_line riding.fresh)
-      (ap is_transient (state_after riding.absorbed (row (signal m) line.state) m line) ∙ same_wait (signal m) line.state other)
+      any_set_same (λ (x : Line R). is_transient x.state) lines (block_of m % LINES) (line_after riding.absorbed line m)
+      (empty_line riding.fresh)
+      (ap is_transient (state_after riding.absorbed (row (signal m) line.state) m line)
+      ∙ same_wait (signal m) line.state other)

@@ -7,7 +7,8 @@ use Rattle.msi_protocol.proofs.Moves.{has_request, has_response, has_message, ha
 use Rattle.msi_protocol.proofs.Relined.{relined_counts, put_line}
 
 -- a property of the copies that count is kept where one that absorbs another keeps it
-pub holders_kept : {X : Type 0} (P : X → Type 0) (absorbed : X → X → X) → Closed P absorbed → KeptBy absorbed (HoldersHave P)
+pub holders_kept : {X : Type 0} (P : X → Type 0) (absorbed : X → X → X) → Closed P absorbed →
+    KeptBy absorbed (HoldersHave P)
 holders_kept P absorbed both =
     record {
       request = λ c a rest bl lc free asks st h. has_request P absorbed both c a rest bl lc free asks st h;

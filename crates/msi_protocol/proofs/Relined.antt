@@ -31,7 +31,8 @@ pub record SameSight {R : Type 0} (v w : Sight R) : Type 0 where
   pub messages : v.messages ≡ w.messages
 
 module _ {R : Type 0} where
-  pub alike_sights : (riding : Riding R) (Q : FullBlock (Payload R) → Type 0) → KeptBy (payload_absorbed riding) Q → (b : ℕ) (entry : Entry R)
+  pub alike_sights : (riding : Riding R) (Q : FullBlock (Payload R) → Type 0) → KeptBy (payload_absorbed riding) Q →
+      (b : ℕ) (entry : Entry R)
       (v w : ℕ → Sight R) → ((d : ℕ) → d < CORES_MAX → SameSight (v d) (w d)) → Shows Q b entry v → Shows Q b entry w
   alike_sights riding Q well b entry v w alike f =
       record {
@@ -40,21 +41,26 @@ module _ {R : Type 0} where
         shows = λ d ld. at d (f.block.seats d) (f.shows d ld) (alike d ld);
         fits = record { fits = f.fits.fits; roles = f.fits.roles };
         has = well.reline f.block (λ d. copy_in (w d).line)
-            (λ d ld valid. ap copy_in (sym ((alike d ld).payload (λ (e : (v d).line.state ≡ I). valid (ap (λ (x : Sight R). x.line.state) (f.shows d ld) ∙ e)))
+            (λ d ld valid. ap copy_in (sym ((alike d ld).payload (λ (e : (v d).line.state ≡ I). valid
+            (ap (λ (x : Sight R). x.line.state) (f.shows d ld) ∙ e)))
             ∙ ap (λ (x : Sight R). x.line) (sym (f.shows d ld)))) f.fits f.has;
       }
     where
-      at : (d : ℕ) (s : Seat (Payload R)) → shown b s ≡ v d → SameSight (v d) (w d) → shown b (record s { line = copy_in (w d).line }) ≡ w d
+      at : (d : ℕ) (s : Seat (Payload R)) → shown b s ≡ v d → SameSight (v d) (w d) →
+          shown b (record s { line = copy_in (w d).line }) ≡ w d
       at d s is a =
           let state : (picture s.phase).line ≡ (w d).line.state = ap (λ (x : Sight R). x.line.state) is ∙ a.state in
           let block : b ≡ (w d).line.block = ap (λ (x : Sight R). x.line.block) is ∙ a.block in
           let requests = ap (λ (x : Sight R). x.requests) is ∙ a.requests in
           let responses = ap (λ (x : Sight R). x.responses) is ∙ a.responses in
           let messages = ap (λ (x : Sight R). x.messages) is ∙ a.messages in
-          build (picture s.phase).line (w d).line.state b (w d).line.block (w d).line.words (w d).line.rider (shown b s).requests (w d).requests
-          (shown b s).responses (w d).responses (shown b s).messages (w d).messages state block requests responses messages
+          build (picture s.phase).line (w d).line.state b (w d).line.block (w d).line.words (w d).line.rider
+          (shown b s).requests (w d).requests
+          (shown b s).responses (w d).responses (shown b s).messages (w d).messages state block requests responses
+          messages
         where
-          build : (x y : State) (b c : ℕ) (words : List ℕ) (rider : R) (q r : List (Request R)) (p u : List (Response R)) (m n : List (FromHome R)) → x ≡ y →
+          build : (x y : State) (b c : ℕ) (words : List ℕ) (rider : R) (q r : List (Request R))
+              (p u : List (Response R)) (m n : List (FromHome R)) → x ≡ y →
               b ≡ c → q ≡ r → p ≡ u → m ≡ n → ◌≡◌ {A = Sight R} (record {
                 line = record { state = x; block = b; words = words; rider = rider };
                 requests = q;

@@ -1,5 +1,6 @@
 -- Each move of the tables leads from a block that is shown to one that is shown.
-use Rattle.std.proofs.Common.{◌≡◌, ◌≢◌, ◌∙◌, ◌⊎◌, inl, inr, ap, refl, sym, subst, ℕ, ◌<◌, ◌==◌, true, false, List, [], ◌∷◌, arith}
+use Rattle.std.proofs.Common.{◌≡◌, ◌≢◌, ◌∙◌, ◌⊎◌, inl, inr, ap, refl, sym, subst, ℕ, ◌<◌, ◌==◌, true, false, List, []}
+use Rattle.std.proofs.Common.{◌∷◌, arith}
 use Rattle.rtr_types.specs.Accesses.{is_write}
 use Rattle.msi_directory.specs.Entries.{entry_after_request, entry_after_response}
 use Rattle.rtr_types.specs.declared.TheConstants.{CORES_MAX}
@@ -23,12 +24,16 @@ use Rattle.msi_protocol.specs.Block.{Wish, View, view}
 use Rattle.msi_protocol.specs.Phases.{Phase, picture}
 use Rattle.msi_protocol.specs.NextPhases.{after_other, after_others_response}
 use Rattle.msi_protocol.proofs.Keeps.{response_has_row}
-use Rattle.msi_protocol.specs.Seats.{Seat, FullBlock, seat_if, requested, responded, messaged, wishing, accessing, seat_own, seat_other, seat_answered}
-use Rattle.msi_protocol.specs.Seats.{seat_others, seat_received, seat_wished, seat_accessed, home_requested, home_responded, sent_served, PhasesFit}
-use Rattle.msi_protocol.specs.Shown.{Payload, payload_absorbed, ask_with, reply_with, signal_with, Sight, line_with, shown, entry_with, sight_received}
+use Rattle.msi_protocol.specs.Seats.{Seat, FullBlock, seat_if, requested, responded, messaged, wishing, accessing}
+use Rattle.msi_protocol.specs.Seats.{seat_own, seat_other, seat_answered}
+use Rattle.msi_protocol.specs.Seats.{seat_others, seat_received, seat_wished, seat_accessed, home_requested}
+use Rattle.msi_protocol.specs.Seats.{home_responded, sent_served, PhasesFit}
+use Rattle.msi_protocol.specs.Shown.{Payload, payload_absorbed, ask_with, reply_with, signal_with, Sight, line_with}
+use Rattle.msi_protocol.specs.Shown.{shown, entry_with, sight_received}
 use Rattle.msi_protocol.specs.Shown.{sight_asking, sight_accessed, after_request_at, after_response_at, wish_in}
 use Rattle.msi_protocol.proofs.Found.{at_core}
-use Rattle.msi_protocol.proofs.Shown.{shown_received, shown_asked, shown_own, shown_entry, shown_other, shown_replied, shown_responder, shown_response_entry}
+use Rattle.msi_protocol.proofs.Shown.{shown_received, shown_asked, shown_own, shown_entry, shown_other, shown_replied}
+use Rattle.msi_protocol.proofs.Shown.{shown_responder, shown_response_entry}
 use Rattle.msi_protocol.proofs.Shown.{shown_others, shown_wish, shown_allows}
 use Rattle.msi_protocol.proofs.Moves.{stands_request, stands_response, stands_message, stands_wish, stands_access}
 use Rattle.msi_protocol.specs.Seats.{allows}
@@ -43,28 +48,38 @@ abbrev pub copy_in : {R : Type 0} → Line R → Payload R
 copy_in l = record { words = l.words; rider = l.rider }
 
 -- a sight after a choice by core
-at_sight : {R : Type 0} (b c d : ℕ) (s t : Seat (Payload R)) (v : Sight R) → (d ≡ c → shown b s ≡ v) → (d ≢ c → shown b t ≡ v) → shown b (seat_if (d == c) s t)
+at_sight : {R : Type 0} (b c d : ℕ) (s t : Seat (Payload R)) (v : Sight R) → (d ≡ c → shown b s ≡ v) →
+    (d ≢ c → shown b t ≡ v) → shown b (seat_if (d == c) s t)
     ≡ v
 at_sight {R} b c d s t v here there = at_core (λ (u : Seat (Payload R)). shown b u ≡ v) c d s t here there
 
 module _ {R : Type 0} where
-  request_cong : (riding : Riding R) (b c d : ℕ) (e f : Entry R) (q r : Request R) (qs rs : List (Request R)) (v w : Sight R) → e ≡ f → r ≡ q → rs ≡ qs →
+  request_cong : (riding : Riding R) (b c d : ℕ) (e f : Entry R) (q r : Request R) (qs rs : List (Request R))
+      (v w : Sight R) → e ≡ f → r ≡ q → rs ≡ qs →
       v ≡ w → after_request_at riding e b c q qs d v ≡ after_request_at riding f b c r rs d w
   request_cong riding b c d e f q r qs rs v w ef qr qrs vw =
-      ap (λ (x : Entry R). after_request_at riding x b c q qs d v) ef ∙ ap (λ (x : Request R). after_request_at riding f b c x qs d v) (sym qr)
-      ∙ ap (λ (x : List (Request R)). after_request_at riding f b c r x d v) (sym qrs) ∙ ap (λ (x : Sight R). after_request_at riding f b c r rs d x) vw
+      ap (λ (x : Entry R). after_request_at riding x b c q qs d v) ef
+      ∙ ap (λ (x : Request R). after_request_at riding f b c x qs d v) (sym qr)
+      ∙ ap (λ (x : List (Request R)). after_request_at riding f b c r x d v) (sym qrs)
+      ∙ ap (λ (x : Sight R). after_request_at riding f b c r rs d x) vw
 
-  response_cong : (riding : Riding R) (b c d : ℕ) (e f : Entry R) (q r : Response R) (qs rs : List (Response R)) (v w : Sight R) → e ≡ f → r ≡ q → rs ≡ qs →
+  response_cong : (riding : Riding R) (b c d : ℕ) (e f : Entry R) (q r : Response R) (qs rs : List (Response R))
+      (v w : Sight R) → e ≡ f → r ≡ q → rs ≡ qs →
       v ≡ w → after_response_at riding e b c q qs d v ≡ after_response_at riding f b c r rs d w
   response_cong riding b c d e f q r qs rs v w ef qr qrs vw =
-      ap (λ (x : Entry R). after_response_at riding x b c q qs d v) ef ∙ ap (λ (x : Response R). after_response_at riding f b c x qs d v) (sym qr)
-      ∙ ap (λ (x : List (Response R)). after_response_at riding f b c r x d v) (sym qrs) ∙ ap (λ (x : Sight R). after_response_at riding f b c r rs d x) vw
+      ap (λ (x : Entry R). after_response_at riding x b c q qs d v) ef
+      ∙ ap (λ (x : Response R). after_response_at riding f b c x qs d v) (sym qr)
+      ∙ ap (λ (x : List (Response R)). after_response_at riding f b c r x d v) (sym qrs)
+      ∙ ap (λ (x : Sight R). after_response_at riding f b c r rs d x) vw
 
-  pub for_request : (riding : Riding R) (Q : FullBlock (Payload R) → Type 0) → KeptBy (payload_absorbed riding) Q → (b : ℕ) (entry : Entry R)
-      (sights : ℕ → Sight R) (c : ℕ) (request : Request R) (rest : List (Request R)) → c < CORES_MAX → is_free entry.stage ≡ true → (sights c).requests
+  pub for_request : (riding : Riding R) (Q : FullBlock (Payload R) → Type 0) → KeptBy (payload_absorbed riding) Q →
+      (b : ℕ) (entry : Entry R)
+      (sights : ℕ → Sight R) (c : ℕ) (request : Request R) (rest : List (Request R)) → c < CORES_MAX →
+      is_free entry.stage ≡ true → (sights c).requests
       ≡ request ∷ rest →
       Shows Q b entry sights
-      → Shows Q b (entry_after_request riding.absorbed entry c request) (λ d. after_request_at riding entry b c request rest d (sights d))
+      → Shows Q b (entry_after_request riding.absorbed entry c request) (λ d. after_request_at riding entry b c request
+      rest d (sights d))
   for_request riding Q well b entry sights c request rest lc free asks f =
       let bl : FullBlock (Payload R) = f.block in
       let s : Seat (Payload R) = bl.seats c in
@@ -81,30 +96,41 @@ module _ {R : Type 0} where
         has = well.request c q.0 q.1 bl lc free' q.2 f.fits f.has;
       }
     where
-      seen : (bl : FullBlock (Payload R)) → entry_with bl ≡ entry → ((d : ℕ) → d < CORES_MAX → shown b (bl.seats d) ≡ sights d) → (a : Ask) (more : List Ask) →
-          (picture (bl.seats c).phase).requests ≡ a ∷ more → request ≡ ask_with b (bl.seats c).put a → rest ≡ map (ask_with b (bl.seats c).put) more →
+      seen : (bl : FullBlock (Payload R)) → entry_with bl ≡ entry →
+          ((d : ℕ) → d < CORES_MAX → shown b (bl.seats d) ≡ sights d) → (a : Ask) (more : List Ask) →
+          (picture (bl.seats c).phase).requests ≡ a ∷ more → request ≡ ask_with b (bl.seats c).put a →
+          rest ≡ map (ask_with b (bl.seats c).put) more →
           is_free bl.stage ≡ true → PhasesFit bl →
-          (d : ℕ) → d < CORES_MAX → shown b ((requested (payload_absorbed riding) c a bl).seats d) ≡ after_request_at riding entry b c request rest d (sights d)
+          (d : ℕ) → d < CORES_MAX → shown b ((requested (payload_absorbed riding) c a bl).seats d) ≡ after_request_at
+          riding entry b c request rest d (sights d)
       seen bl is shows a more asks request_is rest_is free st d ld =
-          at_sight b c d (seat_own bl.stage c home (bl.seats d)) (seat_other bl.stage c a d (bl.seats d)) (after_request_at riding entry b c request rest d
+          at_sight b c d (seat_own bl.stage c home (bl.seats d)) (seat_other bl.stage c a d (bl.seats d))
+          (after_request_at riding entry b c request rest d
           (sights d))
-          (λ (e : d ≡ c). subst (λ (x : ℕ). shown b (seat_own bl.stage c home (bl.seats x)) ≡ after_request_at riding entry b c request rest x (sights x))
+          (λ (e : d ≡ c). subst (λ (x : ℕ). shown b (seat_own bl.stage c home (bl.seats x)) ≡ after_request_at riding
+          entry b c request rest x (sights x))
           (sym e) (sym (shown_own riding b c a more bl lc free asks (st.roles c lc)) ∙ same c lc))
-          (λ (n : d ≢ c). sym (shown_other riding b c a (bl.seats c).put (map (ask_with b (bl.seats c).put) more) d (entry_with bl) (bl.seats d) lc ld n free
+          (λ (n : d ≢ c). sym (shown_other riding b c a (bl.seats c).put (map (ask_with b (bl.seats c).put) more) d
+          (entry_with bl) (bl.seats d) lc ld n free
           (st.roles d ld)) ∙ same d ld)
         where
           home : Payload R
           home = home_requested (payload_absorbed riding) bl.stage c a (bl.seats c).put bl.home
 
           same : (x : ℕ) → x < CORES_MAX → after_request_at riding (entry_with bl) b c (ask_with b (bl.seats c).put a)
-              (map (ask_with b (bl.seats c).put) more) x (shown b (bl.seats x)) ≡ after_request_at riding entry b c request rest x (sights x)
-          same x lx = request_cong riding b c x (entry_with bl) entry (ask_with b (bl.seats c).put a) request (map (ask_with b (bl.seats c).put) more) rest
+              (map (ask_with b (bl.seats c).put) more) x (shown b (bl.seats x)) ≡ after_request_at riding entry b c
+              request rest x (sights x)
+          same x lx = request_cong riding b c x (entry_with bl) entry (ask_with b (bl.seats c).put a) request
+              (map (ask_with b (bl.seats c).put) more) rest
               (shown b (bl.seats x)) (sights x) is request_is rest_is (shows x lx)
 
-  pub for_response : (riding : Riding R) (Q : FullBlock (Payload R) → Type 0) → KeptBy (payload_absorbed riding) Q → (b : ℕ) (entry : Entry R)
-      (sights : ℕ → Sight R) (c : ℕ) (response : Response R) (rest : List (Response R)) → c < CORES_MAX → (sights c).responses ≡ response ∷ rest →
+  pub for_response : (riding : Riding R) (Q : FullBlock (Payload R) → Type 0) → KeptBy (payload_absorbed riding) Q →
+      (b : ℕ) (entry : Entry R)
+      (sights : ℕ → Sight R) (c : ℕ) (response : Response R) (rest : List (Response R)) → c < CORES_MAX →
+      (sights c).responses ≡ response ∷ rest →
       Shows Q b entry sights
-      → Shows Q b (entry_after_response riding.absorbed entry c response) (λ d. after_response_at riding entry b c response rest d (sights d))
+      → Shows Q b (entry_after_response riding.absorbed entry c response) (λ d. after_response_at riding entry b c
+      response rest d (sights d))
   for_response riding Q well b entry sights c response rest lc asks f =
       let bl : FullBlock (Payload R) = f.block in
       let s : Seat (Payload R) = bl.seats c in
@@ -120,61 +146,80 @@ module _ {R : Type 0} where
         has = well.response c q.0 q.1 bl lc q.2 f.fits f.has;
       }
     where
-      seen : (bl : FullBlock (Payload R)) → entry_with bl ≡ entry → ((d : ℕ) → d < CORES_MAX → shown b (bl.seats d) ≡ sights d) →
-          (a : Reply) (more : List Reply) → (picture (bl.seats c).phase).responses ≡ a ∷ more → response ≡ reply_with b (bl.seats c).reply a →
+      seen : (bl : FullBlock (Payload R)) → entry_with bl ≡ entry →
+          ((d : ℕ) → d < CORES_MAX → shown b (bl.seats d) ≡ sights d) →
+          (a : Reply) (more : List Reply) → (picture (bl.seats c).phase).responses ≡ a ∷ more →
+          response ≡ reply_with b (bl.seats c).reply a →
           rest ≡ map (reply_with b (bl.seats c).reply) more → PhasesFit bl →
-          (d : ℕ) → d < CORES_MAX → shown b ((responded (payload_absorbed riding) c a bl).seats d) ≡ after_response_at riding entry b c response rest d
+          (d : ℕ) → d < CORES_MAX → shown b ((responded (payload_absorbed riding) c a bl).seats d) ≡ after_response_at
+          riding entry b c response rest d
           (sights d)
       seen bl is shows a more asks response_is rest_is st d ld =
-          at_sight b c d (seat_answered (bl.seats d)) (seat_others bl.stage c home (bl.seats d)) (after_response_at riding entry b c response rest d (sights d))
-          (λ (e : d ≡ c). subst (λ (x : ℕ). shown b (seat_answered (bl.seats x)) ≡ after_response_at riding entry b c response rest x (sights x)) (sym e)
+          at_sight b c d (seat_answered (bl.seats d)) (seat_others bl.stage c home (bl.seats d))
+          (after_response_at riding entry b c response rest d (sights d))
+          (λ (e : d ≡ c). subst (λ (x : ℕ). shown b (seat_answered (bl.seats x)) ≡ after_response_at riding entry b c
+          response rest x (sights x)) (sym e)
           (sym (shown_responder riding b c a more bl lc st.fits asks (st.roles c lc)) ∙ same c lc))
-          (λ (n : d ≢ c). sym (shown_others riding b c a (map (reply_with b (bl.seats c).reply) more) d bl lc ld n st.fits
+          (λ (n : d ≢ c). sym (shown_others riding b c a (map (reply_with b (bl.seats c).reply) more) d bl lc ld n
+          st.fits
           (response_has_row bl.stage c a more (bl.seats c).phase asks (st.roles c lc)) (st.roles d ld)) ∙ same d ld)
         where
           home : Payload R
           home = home_responded (payload_absorbed riding) bl.stage (bl.seats c).reply bl.home
 
-          same : (x : ℕ) → x < CORES_MAX → after_response_at riding (entry_with bl) b c (reply_with b (bl.seats c).reply a)
-              (map (reply_with b (bl.seats c).reply) more) x (shown b (bl.seats x)) ≡ after_response_at riding entry b c response rest x (sights x)
+          same : (x : ℕ) → x < CORES_MAX → after_response_at riding (entry_with bl) b c (reply_with b (bl.seats c).reply
+              a)
+              (map (reply_with b (bl.seats c).reply) more) x (shown b (bl.seats x)) ≡ after_response_at riding entry b c
+              response rest x (sights x)
           same x lx = response_cong riding b c x (entry_with bl) entry (reply_with b (bl.seats c).reply a) response
-              (map (reply_with b (bl.seats c).reply) more) rest (shown b (bl.seats x)) (sights x) is response_is rest_is (shows x lx)
+              (map (reply_with b (bl.seats c).reply) more) rest (shown b (bl.seats x)) (sights x) is response_is rest_is
+              (shows x lx)
 
   -- a seat of c alone is another, and so is c's sight
-  seen_at : (b c : ℕ) (f : Seat (Payload R) → Seat (Payload R)) (seats : ℕ → Seat (Payload R)) (v : Sight R) (sights : ℕ → Sight R) → shown b (f (seats c))
-      ≡ v → (d : ℕ) → shown b (seats d) ≡ sights d → shown b (seat_if (d == c) (f (seats d)) (seats d)) ≡ sight_at c v sights d
+  seen_at : (b c : ℕ) (f : Seat (Payload R) → Seat (Payload R)) (seats : ℕ → Seat (Payload R)) (v : Sight R)
+      (sights : ℕ → Sight R) → shown b (f (seats c))
+      ≡ v → (d : ℕ) → shown b (seats d) ≡ sights d → shown b (seat_if (d == c) (f (seats d)) (seats d)) ≡ sight_at c v
+      sights d
   seen_at b c f seats v sights here d there = by (cases_eq d c)
     where
       by : (d ≡ c) ⊎ (d ≢ c) → shown b (seat_if (d == c) (f (seats d)) (seats d)) ≡ sight_at c v sights d
-      by (inl e) = let t : (d == c) ≡ true = grind (arith, nat_tests) in rw t (subst (λ (x : ℕ). shown b (f (seats x)) ≡ v) (sym e) here)
+      by (inl e) = let t : (d == c) ≡ true = grind (arith, nat_tests) in
+          rw t (subst (λ (x : ℕ). shown b (f (seats x)) ≡ v) (sym e) here)
       by (inr n) = let t : (d == c) ≡ false = grind (arith, nat_tests) in rw t there
 
-  pub messages_cons : (b : ℕ) (x : Payload R) (m : FromHome R) (rest : List (FromHome R)) (q : List Signal) → map (signal_with b x) q ≡ m ∷ rest → (g : Signal)
+  pub messages_cons : (b : ℕ) (x : Payload R) (m : FromHome R) (rest : List (FromHome R)) (q : List Signal) →
+      map (signal_with b x) q ≡ m ∷ rest → (g : Signal)
       × (more : List Signal) × (q ≡ g ∷ more)
   messages_cons b x m rest [] e = absurd cc
   messages_cons b x m rest (g ∷ more) e = (g, more, refl)
 
-  pub for_message : (riding : Riding R) (Q : FullBlock (Payload R) → Type 0) → KeptBy (payload_absorbed riding) Q → (b : ℕ) (entry : Entry R)
-      (sights : ℕ → Sight R) (c : ℕ) (m : FromHome R) (rest : List (FromHome R)) → c < CORES_MAX → (sights c).messages ≡ m ∷ rest → Shows Q b entry sights
+  pub for_message : (riding : Riding R) (Q : FullBlock (Payload R) → Type 0) → KeptBy (payload_absorbed riding) Q →
+      (b : ℕ) (entry : Entry R)
+      (sights : ℕ → Sight R) (c : ℕ) (m : FromHome R) (rest : List (FromHome R)) → c < CORES_MAX →
+      (sights c).messages ≡ m ∷ rest → Shows Q b entry sights
       → Shows Q b entry (sight_at c (sight_received riding m rest (sights c)) sights)
   for_message riding Q well b entry sights c m rest lc asks f =
       let bl : FullBlock (Payload R) = f.block in
       let s : Seat (Payload R) = bl.seats c in
       let head : (shown b s).messages ≡ m ∷ rest = ap (λ (v : Sight R). v.messages) (f.shows c lc) ∙ asks in
       let q = messages_cons b s.sent m rest (picture s.phase).messages head in
-      let here : shown b (seat_received (payload_absorbed riding) s) ≡ sight_received riding m rest (sights c) = sym (shown_received riding b s m rest head)
+      let here : shown b (seat_received (payload_absorbed riding) s) ≡ sight_received riding m rest (sights c) =
+      sym (shown_received riding b s m rest head)
       ∙ ap (λ (v : Sight R). sight_received riding m rest v) (f.shows c lc) in
       record {
         block = messaged (payload_absorbed riding) c bl;
         entry_is = f.entry_is;
-        shows = λ d ld. seen_at b c (seat_received (payload_absorbed riding)) bl.seats (sight_received riding m rest (sights c)) sights here d (f.shows d ld);
+        shows = λ d ld. seen_at b c (seat_received (payload_absorbed riding)) bl.seats (sight_received riding m rest
+            (sights c)) sights here d (f.shows d ld);
         fits = stands_message (payload_absorbed riding) c q.0 q.1 bl q.2 f.fits;
         has = well.message c q.0 q.1 bl lc q.2 f.fits f.has;
       }
 
   -- a core asks for this block or, where the line has this one, for another
-  pub for_wish : (riding : Riding R) (Q : FullBlock (Payload R) → Type 0) → KeptBy (payload_absorbed riding) Q → (b block : ℕ) (kind : Kind) (entry : Entry R)
-      (sights : ℕ → Sight R) (c : ℕ) → c < CORES_MAX → is_transient (sights c).line.state ≡ false → is_allowed (sights c).line block kind ≡ false →
+  pub for_wish : (riding : Riding R) (Q : FullBlock (Payload R) → Type 0) → KeptBy (payload_absorbed riding) Q →
+      (b block : ℕ) (kind : Kind) (entry : Entry R)
+      (sights : ℕ → Sight R) (c : ℕ) → c < CORES_MAX → is_transient (sights c).line.state ≡ false →
+      is_allowed (sights c).line block kind ≡ false →
       ((sights c).line.state ≡ I → b ≡ block) → Shows Q b entry sights
       → Shows Q b entry (sight_at c (sight_asking block kind (sights c)) sights)
   for_wish riding Q well b block kind entry sights c lc still needed same f =
@@ -183,13 +228,15 @@ module _ {R : Type 0} where
       let line : line_with b s ≡ (sights c).line = ap (λ (v : Sight R). v.line) (f.shows c lc) in
       let w : Wish = wish_in (picture s.phase).line (b == block) (is_write kind) in
       let here : shown b (seat_wished w s) ≡ sight_asking block kind (sights c) =
-      sym (shown_wish b block kind s (ap (λ (l : Line R). is_transient l.state) line ∙ still) (ap (λ (l : Line R). is_allowed l block kind) line ∙ needed)
+      sym (shown_wish b block kind s (ap (λ (l : Line R). is_transient l.state) line
+      ∙ still) (ap (λ (l : Line R). is_allowed l block kind) line ∙ needed)
       (λ (e : (picture s.phase).line ≡ I). same (ap (λ (l : Line R). l.state) (sym line) ∙ e)))
       ∙ ap (λ (v : Sight R). sight_asking block kind v) (f.shows c lc) in
       record {
         block = wishing c w bl;
         entry_is = f.entry_is;
-        shows = λ d ld. seen_at b c (seat_wished w) bl.seats (sight_asking block kind (sights c)) sights here d (f.shows d ld);
+        shows = λ d ld. seen_at b c (seat_wished w) bl.seats (sight_asking block kind (sights c)) sights here d
+            (f.shows d ld);
         fits = stands_wish c w bl f.fits;
         has = well.wish c w bl f.fits f.has;
       }
@@ -198,7 +245,8 @@ module _ {R : Type 0} where
 
 blank_view : (v : View) → v.line ≡ I → v.requests ≡ [] → v.responses ≡ [] → v.messages ≡ [] → v ≡ view I [] [] []
 blank_view v l q r m =
-    ap (λ (x : State). view x v.requests v.responses v.messages) l ∙ ap (λ (x : List Ask). view I x v.responses v.messages) q
+    ap (λ (x : State). view x v.requests v.responses v.messages) l
+    ∙ ap (λ (x : List Ask). view I x v.responses v.messages) q
     ∙ ap (λ (x : List Reply). view I [] x v.messages) r ∙ ap (λ (x : List Signal). view I [] [] x) m
 
 map_nil : {A B : Type 0} (f : A → B) (q : List A) → map f q ≡ [] → q ≡ []
@@ -206,9 +254,17 @@ map_nil f [] e = refl
 map_nil f (x ∷ q) e = absurd cc
 
 module _ {R : Type 0} where
-  pub same_sights : (Q : FullBlock (Payload R) → Type 0) (b : ℕ) (e f : Entry R) (v w : ℕ → Sight R) → e ≡ f → ((d : ℕ) → d < CORES_MAX → v d ≡ w d) →
+  pub same_sights : (Q : FullBlock (Payload R) → Type 0) (b : ℕ) (e f : Entry R) (v w : ℕ → Sight R) → e ≡ f →
+      ((d : ℕ) → d < CORES_MAX → v d ≡ w d) →
       Shows Q b e v → Shows Q b f w
-  same_sights Q b e f v w ef vw s = record { block = s.block; entry_is = s.entry_is ∙ ef; shows = λ d ld. s.shows d ld ∙ vw d ld; fits = s.fits; has = s.has }
+  same_sights Q b e f v w ef vw s = record {
+    block = s.block;
+    entry_is = s.entry_is ∙ ef;
+    shows = λ d ld. s.shows d ld
+        ∙ vw d ld;
+    fits = s.fits;
+    has = s.has;
+  }
 
   -- a sight of nothing
   pub record IsBlank (v : Sight R) : Type 0 where
@@ -225,7 +281,8 @@ module _ {R : Type 0} where
       let m = map_nil (signal_with b s.sent) (picture s.phase).messages blank.messages in
       blank_view (picture s.phase) l q r m
 
-  shown_picture : (b : ℕ) (p q : Phase) (s : Seat (Payload R)) → picture p ≡ picture q → shown b (record s { phase = p }) ≡ shown b (record s { phase = q })
+  shown_picture : (b : ℕ) (p q : Phase) (s : Seat (Payload R)) → picture p ≡ picture q →
+      shown b (record s { phase = p }) ≡ shown b (record s { phase = q })
   shown_picture b p q s e = ap (λ (v : View). (let x : Sight R = record {
     line = record {
       state = v.line;
@@ -239,7 +296,8 @@ module _ {R : Type 0} where
         (signal_with b s.sent) v.messages;
   } in x)) e
 
-idle_stays : (stage : Stage) (c : ℕ) (a : Ask) (d : ℕ) (p : Phase) → picture p ≡ view I [] [] [] → picture (after_other stage c a d p) ≡ picture p
+idle_stays : (stage : Stage) (c : ℕ) (a : Ask) (d : ℕ) (p : Phase) → picture p ≡ view I [] [] [] →
+    picture (after_other stage c a d p) ≡ picture p
 idle_stays stage c a d p is = grind arith
 
 idle_others : {X : Type 0} (stage : Stage) (c : ℕ) (home sent : X) (p : Phase) → picture p ≡ view I [] [] [] →
@@ -247,8 +305,10 @@ idle_others : {X : Type 0} (stage : Stage) (c : ℕ) (home sent : X) (p : Phase)
 idle_others stage c home sent p is = (grind arith, grind arith)
 
 module _ {R : Type 0} where
-  pub blank_request : (riding : Riding R) (Q : FullBlock (Payload R) → Type 0) (b : ℕ) (entry : Entry R) (sights : ℕ → Sight R) (c : ℕ) (request : Request R)
-      (rest : List (Request R)) (d : ℕ) → c < CORES_MAX → d < CORES_MAX → d ≢ c → is_free entry.stage ≡ true → (sights c).requests ≡ request ∷ rest →
+  pub blank_request : (riding : Riding R) (Q : FullBlock (Payload R) → Type 0) (b : ℕ) (entry : Entry R) (sights : ℕ →
+      Sight R) (c : ℕ) (request : Request R)
+      (rest : List (Request R)) (d : ℕ) → c < CORES_MAX → d < CORES_MAX → d ≢ c → is_free entry.stage ≡ true →
+      (sights c).requests ≡ request ∷ rest →
       IsBlank (sights d) → Shows Q b entry sights
       → after_request_at riding entry b c request rest d (sights d) ≡ sights d
   blank_request riding Q b entry sights c request rest d lc ld other free asks blank f =
@@ -259,14 +319,18 @@ module _ {R : Type 0} where
       let q = shown_asked b s request rest (ap (λ (v : Sight R). v.requests) (f.shows c lc) ∙ asks) in
       let free' : is_free bl.stage ≡ true = ap (λ (e : Entry R). is_free e.stage) f.entry_is ∙ free in
       let is = blank_picture b u (subst IsBlank (sym (f.shows d ld)) blank) in
-      sym (request_cong riding b c d (entry_with bl) entry (ask_with b s.put q.0) request (map (ask_with b s.put) q.1) rest (shown b u)
+      sym (request_cong riding b c d (entry_with bl) entry (ask_with b s.put q.0) request (map (ask_with b s.put) q.1)
+      rest (shown b u)
       (sights d) f.entry_is q.3 q.4 (f.shows d ld))
-      ∙ shown_other riding b c q.0 s.put (map (ask_with b s.put) q.1) d (entry_with bl) u lc ld other free' (st.roles d ld)
+      ∙ shown_other riding b c q.0 s.put (map (ask_with b s.put) q.1) d (entry_with bl) u lc ld other free'
+      (st.roles d ld)
       ∙ shown_picture b (after_other bl.stage c q.0 d u.phase) u.phase u (idle_stays bl.stage c q.0 d u.phase is)
       ∙ f.shows d ld
 
-  pub blank_response : (riding : Riding R) (Q : FullBlock (Payload R) → Type 0) (b : ℕ) (entry : Entry R) (sights : ℕ → Sight R) (c : ℕ) (response : Response R)
-      (rest : List (Response R)) (d : ℕ) → c < CORES_MAX → d < CORES_MAX → d ≢ c → (sights c).responses ≡ response ∷ rest → IsBlank (sights d) →
+  pub blank_response : (riding : Riding R) (Q : FullBlock (Payload R) → Type 0) (b : ℕ) (entry : Entry R) (sights : ℕ →
+      Sight R) (c : ℕ) (response : Response R)
+      (rest : List (Response R)) (d : ℕ) → c < CORES_MAX → d < CORES_MAX → d ≢ c →
+      (sights c).responses ≡ response ∷ rest → IsBlank (sights d) →
       Shows Q b entry sights
       → after_response_at riding entry b c response rest d (sights d) ≡ sights d
   blank_response riding Q b entry sights c response rest d lc ld other asks blank f =
@@ -278,9 +342,11 @@ module _ {R : Type 0} where
       let home : Payload R = home_responded (payload_absorbed riding) bl.stage s.reply bl.home in
       let is = blank_picture b u (subst IsBlank (sym (f.shows d ld)) blank) in
       let i = idle_others bl.stage c home u.sent u.phase is in
-      sym (response_cong riding b c d (entry_with bl) entry (reply_with b s.reply q.0) response (map (reply_with b s.reply) q.1) rest (shown b u)
+      sym (response_cong riding b c d (entry_with bl) entry (reply_with b s.reply q.0) response
+      (map (reply_with b s.reply) q.1) rest (shown b u)
       (sights d) f.entry_is q.3 q.4 (f.shows d ld))
-      ∙ shown_others riding b c q.0 (map (reply_with b s.reply) q.1) d bl lc ld other st.fits (response_has_row bl.stage c q.0 q.1 s.phase q.2 (st.roles c lc))
+      ∙ shown_others riding b c q.0 (map (reply_with b s.reply) q.1) d bl lc ld other st.fits
+      (response_has_row bl.stage c q.0 q.1 s.phase q.2 (st.roles c lc))
       (st.roles d ld)
       ∙ ap (λ (x : Payload R). shown b (record u { phase = after_others_response bl.stage c u.phase; sent = x })) i.1
       ∙ shown_picture b (after_others_response bl.stage c u.phase) u.phase u i.0
@@ -289,15 +355,18 @@ module _ {R : Type 0} where
 module _ {R : Type 0} where
   -- an access of core c to the block, which finds the old copy in its line and leaves the new one there
   pub for_touch : (Q P : FullBlock (Payload R) → Type 0) (b c : ℕ) (kind : Kind) (old new : Payload R) → c < CORES_MAX →
-      ((bl : FullBlock (Payload R)) → PhasesFit bl → (bl.seats c).line ≡ old → allows kind (bl.seats c).phase ≡ true → Q bl → P (accessing c new bl))
-      → (entry : Entry R) (sights : ℕ → Sight R) → copy_in (sights c).line ≡ old → is_allowed (sights c).line b kind ≡ true → Shows Q b entry sights
+      ((bl : FullBlock (Payload R)) → PhasesFit bl → (bl.seats c).line ≡ old → allows kind (bl.seats c).phase ≡ true →
+      Q bl → P (accessing c new bl))
+      → (entry : Entry R) (sights : ℕ → Sight R) → copy_in (sights c).line ≡ old →
+      is_allowed (sights c).line b kind ≡ true → Shows Q b entry sights
       → Shows P b entry (sight_at c (sight_accessed new.words new.rider (sights c)) sights)
   for_touch Q P b c kind old new lc gives entry sights is allowed f =
       let bl : FullBlock (Payload R) = f.block in
       let s : Seat (Payload R) = bl.seats c in
       let line : line_with b s ≡ (sights c).line = ap (λ (v : Sight R). v.line) (f.shows c lc) in
       let found : s.line ≡ old = ap copy_in line ∙ is in
-      let may : allows kind s.phase ≡ true = sym (shown_allows b kind s) ∙ ap (λ (x : Line R). is_allowed x b kind) line ∙ allowed in
+      let may : allows kind s.phase ≡ true = sym (shown_allows b kind s) ∙ ap (λ (x : Line R). is_allowed x b kind) line
+      ∙ allowed in
       record {
         block = accessing c new bl;
         entry_is = f.entry_is;

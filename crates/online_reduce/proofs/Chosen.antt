@@ -1,5 +1,6 @@
 -- Which candidates are kept, and the edges that they give.
-use Rattle.std.proofs.Common.{◌≡◌, ◌≢◌, ◌<◌, ◌⊎◌, List, [], ◌∷◌, slice_index, refl, sym, ◌∙◌, ap, subst, inl, inr, arith, true, false, Bool, cond, ◌&&◌, ◌||◌}
+use Rattle.std.proofs.Common.{◌≡◌, ◌≢◌, ◌<◌, ◌⊎◌, List, [], ◌∷◌, slice_index, refl, sym, ◌∙◌, ap, subst, inl, inr}
+use Rattle.std.proofs.Common.{arith, true, false, Bool, cond, ◌&&◌, ◌||◌}
 use Rattle.std.proofs.Common.{nat_eq}
 use Rattle.std.proofs.lemmas.Bool.{and_parts, or_cases}
 use Rattle.std.specs.Prelude.{map}
@@ -33,24 +34,29 @@ pub all_others : (found : List Source) (at : Instr) → is_kept found at ≡ tru
 all_others [] at e s one d = absurd one
 all_others (r ∷ found) at e s (inl f) d =
     subst (λ (v : Source). v.at ≢ at → slice_index v.clock at.core < at.count) f
-    (λ other. by other (or_cases (is_same r.at at) (is_above r.clock at) (and_parts (lets_pass at r) (list_all (lets_pass at) found) e).0)) d
+    (λ other. by other
+    (or_cases (is_same r.at at) (is_above r.clock at)
+    (and_parts (lets_pass at r) (list_all (lets_pass at) found) e).0)) d
   where
     by : r.at ≢ at → (is_same r.at at ≡ true) ⊎ (is_above r.clock at ≡ true) → slice_index r.clock at.core < at.count
     by other (inl same) = absurd (other (same_instr r.at at same))
     by other (inr above) = grind (arith, nat_tests)
-all_others (r ∷ found) at e s (inr one) d = all_others found at (and_parts (lets_pass at r) (list_all (lets_pass at) found) e).1 s one d
+all_others (r ∷ found) at e s (inr one) d = all_others found at
+    (and_parts (lets_pass at r) (list_all (lets_pass at) found) e).1 s one d
 
 pub others_all : (found : List Source) (at : Instr) → Passes found at → is_kept found at ≡ true
 others_all [] at f = refl
 others_all (r ∷ found) at f = by (is_same r.at at) refl (others_all found at (λ s one d. f s (inr one) d))
   where
     apart : is_same r.at at ≡ false → r.at ≢ at
-    apart no_test e = let t : is_same r.at at ≡ true = ap (λ (v : Instr). is_same v at) e ∙ itself in let g : false ≡ true = sym no_test ∙ t in cc
+    apart no_test e = let t : is_same r.at at ≡ true = ap (λ (v : Instr). is_same v at) e ∙ itself in
+        let g : false ≡ true = sym no_test ∙ t in cc
       where
         itself : is_same at at ≡ true
         itself = grind (arith, nat_tests)
 
-    by : (b : Bool) → is_same r.at at ≡ b → list_all (lets_pass at) found ≡ true → (b || is_above r.clock at) && list_all (lets_pass at) found ≡ true
+    by : (b : Bool) → is_same r.at at ≡ b → list_all (lets_pass at) found ≡ true → (b || is_above r.clock at) &&
+        list_all (lets_pass at) found ≡ true
     by true t rest = rest
     by false t rest =
         let lt = f r (inl refl) (apart t) in
@@ -73,7 +79,8 @@ chosen_from at found (s ∷ some) x y e = by (is_kept found s.at) refl e (λ f. 
 
     by : (b : Bool) → is_kept found s.at ≡ b →
         Among (map (edge_to at)
-        (cond b (s ∷ filter (λ (r : Source). is_kept found r.at) some) (filter (λ (r : Source). is_kept found r.at) some))) x y →
+        (cond b (s ∷ filter (λ (r : Source). is_kept found r.at) some)
+        (filter (λ (r : Source). is_kept found r.at) some))) x y →
         (Among (chosen at found some) x y → ComesFrom at found some x y) → ComesFrom at found (s ∷ some) x y
     by true t (inl f) later = (sym f.1, s, inl refl, f.0, t)
     by true t (inr f) later = more (later f)
@@ -82,17 +89,20 @@ chosen_from at found (s ∷ some) x y e = by (is_kept found s.at) refl e (λ f. 
 pub from_chosen : (at : Instr) (found some : List Source) (s : Source) → IsOneOf some s → is_kept found s.at ≡ true →
     Among (chosen at found some) s.at at
 from_chosen at found [] s one kept = absurd one
-from_chosen at found (r ∷ some) s (inl e) kept = by (is_kept found r.at) (ap (λ (v : Source). is_kept found v.at) e ∙ kept)
+from_chosen at found (r ∷ some) s (inl e) kept = by (is_kept found r.at) (ap (λ (v : Source). is_kept found v.at) e
+    ∙ kept)
   where
     by : (b : Bool) → b ≡ true →
         Among (map (edge_to at)
-        (cond b (r ∷ filter (λ (v : Source). is_kept found v.at) some) (filter (λ (v : Source). is_kept found v.at) some))) s.at at
+        (cond b (r ∷ filter (λ (v : Source). is_kept found v.at) some)
+        (filter (λ (v : Source). is_kept found v.at) some))) s.at at
     by true t = inl (ap (λ (v : Source). v.at) e, refl)
     by false t = absurd cc
 from_chosen at found (r ∷ some) s (inr one) kept = by (is_kept found r.at) (from_chosen at found some s one kept)
   where
     by : (b : Bool) → Among (chosen at found some) s.at at →
         Among (map (edge_to at)
-        (cond b (r ∷ filter (λ (v : Source). is_kept found v.at) some) (filter (λ (v : Source). is_kept found v.at) some))) s.at at
+        (cond b (r ∷ filter (λ (v : Source). is_kept found v.at) some)
+        (filter (λ (v : Source). is_kept found v.at) some))) s.at at
     by true f = inr f
     by false f = f

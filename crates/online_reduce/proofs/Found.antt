@@ -1,12 +1,10 @@
 -- The candidates of an access: what they are, and how many.
-use Rattle.std.proofs.Common.{◌≡◌, ◌≢◌, ℕ, zero, suc, ◌+◌, ◌%◌, ◌<◌, ◌≤◌, ◌⊎◌, List, [], ◌∷◌, ◌++◌, length, refl, sym, ◌∙◌, ap, subst, inl, inr, arith, true}
+use Rattle.std.proofs.Common.{◌≡◌, ◌≢◌, ℕ, zero, suc, ◌+◌, ◌%◌, ◌<◌, ◌≤◌, ◌⊎◌, List, [], ◌∷◌, ◌++◌, length, refl, sym}
+use Rattle.std.proofs.Common.{◌∙◌, ap, subst, inl, inr, arith, true}
 use Rattle.std.proofs.Common.{false, Bool, not, ◌&&◌, nat_eq, nat_lt, Option, Some, None, get_or}
 use Rattle.std.proofs.lemmas.Bool.{and_parts}
 use Rattle.std.specs.Prelude.{All, ⊤, if◌then◌else◌}
-use Rattle.std.specs.Option.{is_some, option_to_list}
-use Rattle.rtr_types.specs.CoreSets.{has, is_none, without_core}
-use Rattle.rtr_types.specs.declared.core_set.CoreSet.{CoreSet}
-use Rattle.rtr_types.proofs.Members.{has-none, has-without_other}
+use Rattle.std.specs.Option.{option_to_list}
 use Rattle.std.proofs.lemmas.List.{length-append}
 use Rattle.std.proofs.lemmas.List.Elements.{All-nil, All-cons}
 use Rattle.std.proofs.lemmas.Bool.Decides.{nat_tests}
@@ -85,12 +83,14 @@ pub record Wrote (cores : ℕ) (before : Clock) (a : Access) (w : Option (Instr 
   pub within : s.at.core < cores
   pub lives : Lives before a s.at
 
-pub wrote : (cores : ℕ) (before : Clock) (a : Access) (w : Option (Instr × Clock)) (s : Source) → write_from cores before a w ≡ Some s →
+pub wrote : (cores : ℕ) (before : Clock) (a : Access) (w : Option (Instr × Clock)) (s : Source)
+    → write_from cores before a w ≡ Some s →
     Wrote cores before a w s
 wrote cores before a None s e = absurd cc
 wrote cores before a (Some w) s e = by (nat_lt w.0.core cores && is_live before a w.0) refl e
   where
-    by : (b : Bool) → nat_lt w.0.core cores && is_live before a w.0 ≡ b → (if b then Some (record { at = w.0; clock = w.1 }) else None) ≡ Some s →
+    by : (b : Bool) → nat_lt w.0.core cores && is_live before a w.0 ≡ b
+        → (if b then Some (record { at = w.0; clock = w.1 }) else None) ≡ Some s →
         Wrote cores before a (Some w) s
     by true t f =
         let is : ◌≡◌ {A = Source} (record { at = w.0; clock = w.1 }) s = cc in
@@ -104,21 +104,25 @@ wrote cores before a (Some w) s e = by (nat_lt w.0.core cores && is_live before 
         }
     by false t f = absurd cc
 
-pub wrote_back : (cores : ℕ) (before : Clock) (a : Access) (s : Source) → s.at.core < cores → is_live before a s.at ≡ true →
+pub wrote_back : (cores : ℕ) (before : Clock) (a : Access) (s : Source) → s.at.core < cores → is_live before a s.at ≡
+    true →
     write_from cores before a (Some (s.at, s.clock)) ≡ Some s
 wrote_back cores before a s lt live =
-    by (nat_lt s.at.core cores && is_live before a s.at) (let one : nat_lt s.at.core cores ≡ true = grind (arith, nat_tests) in rw (one, live) refl)
+    by (nat_lt s.at.core cores && is_live before a s.at)
+    (let one : nat_lt s.at.core cores ≡ true = grind (arith, nat_tests) in rw (one, live) refl)
   where
     by : (b : Bool) → b ≡ true → (if b then Some (record { at = s.at; clock = s.clock }) else None) ≡ Some s
     by true t = refl
     by false t = absurd cc
 
 -- a write of no core of these, or that is not live, gives none
-pub no_write : (cores : ℕ) (before : Clock) (a : Access) (w : Instr × Clock) → (w.0.core < cores → is_live before a w.0 ≡ true → ⊥) →
+pub no_write : (cores : ℕ) (before : Clock) (a : Access) (w : Instr × Clock)
+    → (w.0.core < cores → is_live before a w.0 ≡ true → ⊥) →
     write_from cores before a (Some w) ≡ None
 no_write cores before a w dead = by (nat_lt w.0.core cores && is_live before a w.0) refl
   where
-    by : (b : Bool) → nat_lt w.0.core cores && is_live before a w.0 ≡ b → (if b then Some (let s : Source = record { at = w.0; clock = w.1 } in s) else None)
+    by : (b : Bool) → nat_lt w.0.core cores && is_live before a w.0 ≡ b
+        → (if b then Some (let s : Source = record { at = w.0; clock = w.1 } in s) else None)
         ≡ None
     by false e = refl
     by true e =
@@ -135,14 +139,16 @@ pub record Read (before : Clock) (a : Access) (core : ℕ) (r : Option (ℕ × C
   pub core_is : s.at.core ≡ core
   pub lives : Lives before a s.at
 
-did_read : (before : Clock) (a : Access) (core : ℕ) (r : Option (ℕ × Clock)) (s : Source) → read_from before a core r ≡ Some s → Read before a core r s
+did_read : (before : Clock) (a : Access) (core : ℕ) (r : Option (ℕ × Clock)) (s : Source) → read_from before a core r
+    ≡ Some s → Read before a core r s
 did_read before a core None s e = absurd cc
 did_read before a core (Some r) s e = by (is_write a.kind && is_live before a at) refl e
   where
     at : Instr
     at = record { core = core; count = r.0 }
 
-    by : (b : Bool) → is_write a.kind && is_live before a at ≡ b → (if b then Some (record { at = at; clock = r.1 }) else None) ≡ Some s →
+    by : (b : Bool) → is_write a.kind && is_live before a at ≡ b
+        → (if b then Some (record { at = at; clock = r.1 }) else None) ≡ Some s →
         Read before a core (Some r) s
     by true t f =
         let is : ◌≡◌ {A = Source} (record { at = at; clock = r.1 }) s = cc in
@@ -159,7 +165,9 @@ read_back : (before : Clock) (a : Access) (s : Source) → is_write a.kind ≡ t
     read_from before a s.at.core (Some (s.at.count, s.clock)) ≡ Some s
 read_back before a s w l = by (is_write a.kind && is_live before a s.at) (rw (w, is_live_of before a s.at l) refl)
   where
-    by : (b : Bool) → b ≡ true → (if b then Some (record { at = record { core = s.at.core; count = s.at.count }; clock = s.clock }) else None) ≡ Some s
+    by : (b : Bool) → b ≡ true
+        → (if b then Some (record { at = record { core = s.at.core; count = s.at.count }; clock = s.clock }) else None)
+        ≡ Some s
     by true t = refl
     by false t = absurd cc
 
@@ -180,24 +188,29 @@ unfolding reads_from
 one_read zero before a t s o = absurd o
 one_read (suc n) before a t s o =
     by (λ p. one_read n before a t s p)
-    (one_cases (reads_from n before a t) (option_to_list (read_from before a n (read_at t (a.word % BLOCK_WORDS) n))) s o)
+    (one_cases (reads_from n before a t) (option_to_list (read_from before a n (read_at t (a.word % BLOCK_WORDS) n)))
+    s o)
   where
-    by : (IsOneOf (reads_from n before a t) s → (s.at.core < n) × IsReadIn before a t s) → IsOneOf (reads_from n before a t) s
+    by : (IsOneOf (reads_from n before a t) s → (s.at.core < n) × IsReadIn before a t s)
+        → IsOneOf (reads_from n before a t) s
         ⊎ IsOneOf (option_to_list (read_from before a n (read_at t (a.word % BLOCK_WORDS) n))) s →
         (s.at.core < suc n) × IsReadIn before a t s
     by earlier (inl p) = let q = earlier p in let lt = q.0 in (omega arith, q.1)
     by earlier (inr p) =
-        let r = did_read before a n (read_at t (a.word % BLOCK_WORDS) n) s (one_option (read_from before a n (read_at t (a.word % BLOCK_WORDS) n)) s p) in
+        let r = did_read before a n (read_at t (a.word % BLOCK_WORDS) n) s
+        (one_option (read_from before a n (read_at t (a.word % BLOCK_WORDS) n)) s p) in
         let e = r.core_is in (
           omega arith,
           record {
             writes = r.writes;
-            noted = subst (λ (k : ℕ). read_at t (a.word % BLOCK_WORDS) k ≡ Some (s.at.count, s.clock)) (sym r.core_is) r.noted;
+            noted = subst (λ (k : ℕ). read_at t (a.word % BLOCK_WORDS) k ≡ Some (s.at.count, s.clock)) (sym r.core_is)
+                r.noted;
             lives = r.lives;
           },
         )
 
-pub read_one : (n : ℕ) (before : Clock) (a : Access) (t : Times) (s : Source) → s.at.core < n → IsReadIn before a t s → IsOneOf (reads_from n before a t) s
+pub read_one : (n : ℕ) (before : Clock) (a : Access) (t : Times) (s : Source) → s.at.core < n → IsReadIn before a t s
+    → IsOneOf (reads_from n before a t) s
 unfolding reads_from
 read_one zero before a t s lt r = absurd (omega arith)
 read_one (suc n) before a t s lt r = by (λ below. read_one n before a t s below r) (split s.at.core n)
@@ -205,13 +218,16 @@ read_one (suc n) before a t s lt r = by (λ below. read_one n before a t s below
     split : (i j : ℕ) → (i < j) ⊎ (j ≤ i)
     split i j = grind arith
 
-    by : (s.at.core < n → IsOneOf (reads_from n before a t) s) → (s.at.core < n) ⊎ (n ≤ s.at.core) → IsOneOf (reads_from n before a t
+    by : (s.at.core < n → IsOneOf (reads_from n before a t) s) → (s.at.core < n) ⊎ (n ≤ s.at.core)
+        → IsOneOf (reads_from n before a t
         ++ option_to_list (read_from before a n (read_at t (a.word % BLOCK_WORDS) n))) s
     by earlier (inl below) =
-        one_left (reads_from n before a t) (option_to_list (read_from before a n (read_at t (a.word % BLOCK_WORDS) n))) s (earlier below)
+        one_left (reads_from n before a t)
+        (option_to_list (read_from before a n (read_at t (a.word % BLOCK_WORDS) n))) s (earlier below)
     by earlier (inr past) =
         let e : s.at.core ≡ n = omega arith in
-        one_right (reads_from n before a t) (option_to_list (read_from before a n (read_at t (a.word % BLOCK_WORDS) n))) s
+        one_right (reads_from n before a t)
+        (option_to_list (read_from before a n (read_at t (a.word % BLOCK_WORDS) n))) s
         (subst (λ (k : ℕ). IsOneOf (option_to_list (read_from before a k (read_at t (a.word % BLOCK_WORDS) k))) s) e
         (option_one (read_from before a s.at.core (read_at t (a.word % BLOCK_WORDS) s.at.core)) s
         (ap (read_from before a s.at.core) r.noted ∙ read_back before a s r.writes r.lives)))
@@ -228,23 +244,27 @@ reads_few zero before a t = omega arith
 reads_few (suc n) before a t =
     omega (
       arith,
-      length-append (reads_from n before a t) (option_to_list (read_from before a n (read_at t (a.word % BLOCK_WORDS) n))),
+      length-append (reads_from n before a t)
+          (option_to_list (read_from before a n (read_at t (a.word % BLOCK_WORDS) n))),
       reads_few n before a t,
       one_at_most (read_from before a n (read_at t (a.word % BLOCK_WORDS) n)),
     )
 
-or_few : (reads : List Source) (write : Option Source) (n : ℕ) → 1 ≤ n → length reads ≤ n → length (or_write reads write) ≤ n
+or_few : (reads : List Source) (write : Option Source) (n : ℕ) → 1 ≤ n → length reads ≤ n
+    → length (or_write reads write) ≤ n
 or_few [] write n pos le = omega (arith, one_at_most write)
 or_few (r ∷ reads) write n pos le = le
 
-pub found_few : (n : ℕ) (before : Clock) (a : Access) (t : Times) → n ≤ CORES_MAX → length (candidates n before a t) ≤ EDGES_MAX
+pub found_few : (n : ℕ) (before : Clock) (a : Access) (t : Times) → n ≤ CORES_MAX → length (candidates n before a t) ≤
+    EDGES_MAX
 found_few n before a t le =
     or_few (reads_from n before a t) (write_from n before a (write_at t (a.word % BLOCK_WORDS))) EDGES_MAX (omega arith)
     (omega (arith, reads_few n before a t))
 
 -- ---- no reads
 
-loads_none : (before : Clock) (a : Access) (core : ℕ) (r : Option (ℕ × Clock)) → is_write a.kind ≡ false → read_from before a core r ≡ None
+loads_none : (before : Clock) (a : Access) (core : ℕ) (r : Option (ℕ × Clock)) → is_write a.kind ≡ false
+    → read_from before a core r ≡ None
 loads_none before a core None loads = refl
 loads_none before a core (Some r) loads = rw loads refl
 
@@ -258,56 +278,38 @@ reads_none (suc n) before a t none =
     ∙ ap (λ (v : Option Source). option_to_list v) (none n (omega arith))
 
 -- a load has no read as a candidate
-pub load_reads : (n : ℕ) (before : Clock) (a : Access) (t : Times) → is_write a.kind ≡ false → reads_from n before a t ≡ []
-load_reads n before a t loads = reads_none n before a t (λ k lt. loads_none before a k (read_at t (a.word % BLOCK_WORDS) k) loads)
-
-not_both : (b : Bool) (v : Option Source) → (if b && false then v else None) ≡ None
-not_both true v = refl
-not_both false v = refl
-
-own_none : (before : Clock) (a : Access) (core : ℕ) (r : Option (ℕ × Clock)) → core ≡ a.at.core → read_from before a core r ≡ None
-own_none before a core None same = refl
-own_none before a core (Some r) same =
-    let own : not (nat_eq core a.at.core) ≡ false = grind (arith, nat_tests) in rw own (not_both (is_write a.kind) _)
-
-none_where : (r : Option (ℕ × Clock)) → is_some r ≡ false → r ≡ None
-none_where None e = refl
-none_where (Some r) e = absurd cc
-
--- where no core but the access's own has a noted read, there is no read among the candidates
-pub unread : (cores : ℕ) (a : Access) (t : Times) (readers : CoreSet) → cores ≤ CORES_MAX → a.at.core < CORES_MAX →
-    ((core : ℕ) → core < CORES_MAX → has readers core ≡ is_some (read_at t (a.word % BLOCK_WORDS) core)) →
-    is_none (without_core readers a.at.core) ≡ true → (before : Clock) → reads_from cores before a t ≡ []
-unread cores a t readers most own read none before = reads_none cores before a t (λ k lt. by k (omega (arith, lt, most)) (nat_eq k a.at.core) refl)
-  where
-    by : (k : ℕ) → k < CORES_MAX → (b : Bool) → nat_eq k a.at.core ≡ b → read_from before a k (read_at t (a.word % BLOCK_WORDS) k) ≡ None
-    by k lt true e = own_none before a k (read_at t (a.word % BLOCK_WORDS) k) (grind (arith, nat_tests))
-    by k lt false e =
-        let other : k ≢ a.at.core = grind (arith, nat_tests) in
-        let isnt : has readers k ≡ false =
-        sym (has-without_other readers a.at.core k own lt other) ∙ has-none (without_core readers a.at.core) k none in
-        ap (read_from before a k) (none_where (read_at t (a.word % BLOCK_WORDS) k) (sym (read k lt) ∙ isnt))
+pub load_reads : (n : ℕ) (before : Clock) (a : Access) (t : Times) → is_write a.kind ≡ false → reads_from n before a t
+    ≡ []
+load_reads n before a t loads = reads_none n before a t
+    (λ k lt. loads_none before a k (read_at t (a.word % BLOCK_WORDS) k) loads)
 
 -- ---- the reads, or the write
 
 -- where there are reads, they are the candidates
-or_reads : (reads : List Source) (write : Option Source) (s : Source) → IsOneOf reads s → IsOneOf (or_write reads write) s
+or_reads : (reads : List Source) (write : Option Source) (s : Source) → IsOneOf reads s
+    → IsOneOf (or_write reads write) s
 or_reads [] write s one = absurd one
 or_reads (r ∷ reads) write s one = one
 
-pub read_found : (n : ℕ) (before : Clock) (a : Access) (t : Times) (s : Source) → IsOneOf (reads_from n before a t) s → IsOneOf (candidates n before a t) s
-read_found n before a t s one = or_reads (reads_from n before a t) (write_from n before a (write_at t (a.word % BLOCK_WORDS))) s one
+pub read_found : (n : ℕ) (before : Clock) (a : Access) (t : Times) (s : Source) → IsOneOf (reads_from n before a t) s
+    → IsOneOf (candidates n before a t) s
+read_found n before a t s one = or_reads (reads_from n before a t)
+    (write_from n before a (write_at t (a.word % BLOCK_WORDS))) s one
 
 -- the write is a candidate, or there is a read
-or_other : (reads : List Source) (write : Option Source) (s : Source) → write ≡ Some s → IsOneOf (or_write reads write) s ⊎ ((r : Source) × IsOneOf reads r)
+or_other : (reads : List Source) (write : Option Source) (s : Source) → write ≡ Some s
+    → IsOneOf (or_write reads write) s ⊎ ((r : Source) × IsOneOf reads r)
 or_other [] write s e = inl (option_one write s e)
 or_other (r ∷ reads) write s e = inr (r, inl refl)
 
-pub write_or_read : (n : ℕ) (before : Clock) (a : Access) (t : Times) (s : Source) → write_from n before a (write_at t (a.word % BLOCK_WORDS)) ≡ Some s →
+pub write_or_read : (n : ℕ) (before : Clock) (a : Access) (t : Times) (s : Source) → write_from n before a
+    (write_at t (a.word % BLOCK_WORDS)) ≡ Some s →
     IsOneOf (candidates n before a t) s ⊎ ((r : Source) × IsOneOf (reads_from n before a t) r)
-write_or_read n before a t s e = or_other (reads_from n before a t) (write_from n before a (write_at t (a.word % BLOCK_WORDS))) s e
+write_or_read n before a t s e = or_other (reads_from n before a t)
+    (write_from n before a (write_at t (a.word % BLOCK_WORDS))) s e
 
-or_cases : (reads : List Source) (write : Option Source) (s : Source) → IsOneOf (or_write reads write) s → IsOneOf reads s ⊎ (write ≡ Some s)
+or_cases : (reads : List Source) (write : Option Source) (s : Source) → IsOneOf (or_write reads write) s
+    → IsOneOf reads s ⊎ (write ≡ Some s)
 or_cases [] write s one = inr (one_option write s one)
 or_cases (r ∷ reads) write s one = inl one
 
@@ -319,11 +321,13 @@ pub record IsNotedIn (before : Clock) (a : Access) (t : Times) (s : Source) : Ty
 
 pub one_noted : (n : ℕ) (before : Clock) (a : Access) (t : Times) (s : Source) → IsOneOf (candidates n before a t) s →
     (s.at.core < n) × IsNotedIn before a t s
-one_noted n before a t s one = by (or_cases (reads_from n before a t) (write_from n before a (write_at t (a.word % BLOCK_WORDS))) s one)
+one_noted n before a t s one = by
+    (or_cases (reads_from n before a t) (write_from n before a (write_at t (a.word % BLOCK_WORDS))) s one)
   where
     by : IsOneOf (reads_from n before a t) s ⊎ (write_from n before a (write_at t (a.word % BLOCK_WORDS)) ≡ Some s) →
         (s.at.core < n) × IsNotedIn before a t s
-    by (inl p) = let q = one_read n before a t s p in (q.0, record { lives = q.1.lives; noted = inr (q.1.writes, q.1.noted) })
+    by (inl p) = let q = one_read n before a t s p in
+        (q.0, record { lives = q.1.lives; noted = inr (q.1.writes, q.1.noted) })
     by (inr e) =
         let w = wrote n before a (write_at t (a.word % BLOCK_WORDS)) s e in
         (w.within, record { lives = w.lives; noted = inl w.noted })
@@ -332,7 +336,16 @@ one_noted n before a t s one = by (or_cases (reads_from n before a t) (write_fro
 pub only_write : (n : ℕ) (before : Clock) (a : Access) (t : Times) (w : Option Source) → reads_from n before a t ≡ [] →
     write_from n before a (write_at t (a.word % BLOCK_WORDS)) ≡ w → candidates n before a t ≡ option_to_list w
 only_write n before a t w none is =
-    ap (λ (xs : List Source). or_write xs (write_from n before a (write_at t (a.word % BLOCK_WORDS)))) none ∙ ap (λ (v : Option Source). option_to_list v) is
+    ap (λ (xs : List Source). or_write xs (write_from n before a (write_at t (a.word % BLOCK_WORDS)))) none
+    ∙ ap (λ (v : Option Source). option_to_list v) is
+
+-- where there are reads, they are the only candidates
+pub only_reads : (n : ℕ) (before : Clock) (a : Access) (t : Times) (found : List Source) → found ≡ reads_from n before
+    a t →
+    nat_eq (length found) 0 ≡ false → found ≡ candidates n before a t
+only_reads n before a t [] is some = absurd (grind (arith, nat_tests))
+only_reads n before a t (s ∷ found) is some =
+    ap (λ (xs : List Source). or_write xs (write_from n before a (write_at t (a.word % BLOCK_WORDS)))) is
 
 -- ---- by rising core
 
@@ -354,13 +367,18 @@ rise_one : (low n : ℕ) (found : List Source) (o : Option Source) → low ≤ n
     ((s : Source) → o ≡ Some s → s.at.core ≡ n) → CoresRise low (found ++ option_to_list o)
 rise_one low n [] None le rise below is = tt
 rise_one low n [] (Some s) le rise below is = let e = is s refl in (omega arith, tt)
-rise_one low n (r ∷ found) o le rise below is = (rise.0, rise_one (r.at.core + 1) n found o (let lt = below.0 in omega arith) rise.1 below.1 is)
+rise_one low n (r ∷ found) o le rise below is = (
+  rise.0,
+  rise_one (r.at.core + 1) n found o (let lt = below.0 in
+      omega arith) rise.1 below.1 is,
+)
 
 reads_rise : (n : ℕ) (before : Clock) (a : Access) (t : Times) → CoresRise 0 (reads_from n before a t)
 unfolding reads_from
 reads_rise zero before a t = tt
 reads_rise (suc n) before a t =
-    rise_one 0 n (reads_from n before a t) (read_from before a n (read_at t (a.word % BLOCK_WORDS) n)) (omega arith) (reads_rise n before a t)
+    rise_one 0 n (reads_from n before a t) (read_from before a n (read_at t (a.word % BLOCK_WORDS) n)) (omega arith)
+    (reads_rise n before a t)
     (each_below n (reads_from n before a t) (λ s o. (one_read n before a t s o).0))
     (λ s e. (did_read before a n (read_at t (a.word % BLOCK_WORDS) n) s e).core_is)
 
@@ -371,18 +389,22 @@ or_rise (r ∷ reads) write rise = rise
 
 pub candidates_rise : (n : ℕ) (before : Clock) (a : Access) (t : Times) → CoresRise 0 (candidates n before a t)
 candidates_rise n before a t =
-    or_rise (reads_from n before a t) (write_from n before a (write_at t (a.word % BLOCK_WORDS))) (reads_rise n before a t)
+    or_rise (reads_from n before a t) (write_from n before a (write_at t (a.word % BLOCK_WORDS)))
+    (reads_rise n before a t)
 
-cores_above : (low : ℕ) (found : List Source) (k : ℕ) (d : Source) → CoresRise low found → k < length found → low ≤ (get_or found k d).at.core
+cores_above : (low : ℕ) (found : List Source) (k : ℕ) (d : Source) → CoresRise low found → k < length found
+    → low ≤ (get_or found k d).at.core
 cores_above low [] k d rise lt = absurd (omega arith)
 cores_above low (s ∷ found) zero d rise lt = rise.0
 cores_above low (s ∷ found) (suc k) d rise lt =
     let first = rise.0 in let rest = cores_above (s.at.core + 1) found k d rise.1 (omega arith) in omega arith
 
-pub cores_rise_at : (low : ℕ) (found : List Source) (i j : ℕ) (d : Source) → CoresRise low found → i < j → j < length found →
+pub cores_rise_at : (low : ℕ) (found : List Source) (i j : ℕ) (d : Source) → CoresRise low found → i < j
+    → j < length found →
     (get_or found i d).at.core < (get_or found j d).at.core
 cores_rise_at low [] i j d rise earlier lt = absurd (omega arith)
 cores_rise_at low (s ∷ found) i zero d rise earlier lt = absurd (omega arith)
 cores_rise_at low (s ∷ found) zero (suc j) d rise earlier lt =
     let up = cores_above (s.at.core + 1) found j d rise.1 (omega arith) in omega arith
-cores_rise_at low (s ∷ found) (suc i) (suc j) d rise earlier lt = cores_rise_at (s.at.core + 1) found i j d rise.1 (omega arith) (omega arith)
+cores_rise_at low (s ∷ found) (suc i) (suc j) d rise earlier lt = cores_rise_at (s.at.core + 1) found i j d rise.1
+    (omega arith) (omega arith)

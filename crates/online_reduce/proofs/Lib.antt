@@ -13,3 +13,7 @@ pub mod Reductions
 pub mod Retired
 pub mod Held
 pub mod Touched
+mod SetReads
+mod Left
+mod Drawn
+mod Adding

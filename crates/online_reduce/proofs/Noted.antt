@@ -1,5 +1,6 @@
 -- With exact times the candidates that are found are candidates, each with its exact clock, and no other one matters.
-use Rattle.std.proofs.Common.{◌≡◌, ◌≢◌, ℕ, ◌%◌, ◌<◌, ◌≤◌, ◌⊎◌, List, [], ◌∷◌, reverse, refl, sym, ◌∙◌, ap, subst, inl, inr, arith, true, false, Option, Some}
+use Rattle.std.proofs.Common.{◌≡◌, ◌≢◌, ℕ, ◌%◌, ◌<◌, ◌≤◌, ◌⊎◌, List, [], ◌∷◌, reverse, refl, sym, ◌∙◌, ap, subst, inl}
+use Rattle.std.proofs.Common.{inr, arith, true, false, Option, Some}
 use Rattle.std.proofs.Common.{Bool, None, slice_index}
 use Rattle.std.proofs.lemmas.Bool.{cases_eq}
 use Rattle.std.proofs.lemmas.Bool.Decides.{nat_tests}
@@ -19,13 +20,15 @@ use Rattle.conflict_edge.proofs.Clocks.{UpTo, clock-up_to, widen}
 use Rattle.conflict_edge.proofs.History.{Pair, Rising}
 use Rattle.conflict_edge.proofs.Kept.{stands_pos}
 use Rattle.conflict_edge.proofs.Reversed.{stands_back}
-use Rattle.conflict_edge.proofs.Online.{cases_kind, none_some, some_is, last_write-word, last_write-load, last_read-word, last_read-store, last_read-at}
+use Rattle.conflict_edge.proofs.Online.{cases_kind, none_some, some_is, last_write-word, last_write-load}
+use Rattle.conflict_edge.proofs.Online.{last_read-word, last_read-store, last_read-at}
 use Rattle.conflict_edge.proofs.Online.{IsWrite, last_read-core, last_write-is, last_read-is}
 use Rattle.online_reduce.specs.declared.source.Source.{Source}
 use Rattle.online_reduce.specs.Rule.{is_above}
 use Rattle.online_reduce.specs.Sources.{write_from, reads_from, candidates, IsOneOf}
 use Rattle.online_reduce.specs.Exact.{AreExactFor}
-use Rattle.online_reduce.proofs.Found.{IsNotedIn, Lives, is_live_of, one_noted, one_read, read_one, read_found, write_or_read, wrote_back}
+use Rattle.online_reduce.proofs.Found.{IsNotedIn, Lives, is_live_of, one_noted, one_read, read_one, read_found}
+use Rattle.online_reduce.proofs.Found.{write_or_read, wrote_back}
 
 -- ---- notes
 
@@ -36,7 +39,8 @@ pub record NoteOf (list : List Access) (here : Option Access) (at : Instr) (cloc
   pub at_is : at ≡ access.at
   pub exact : IsExactClock list access.at clock
 
-pub note_of : (list : List Access) (here : Option Access) (note : Option (Instr × Clock)) (at : Instr) (clock : Clock) → IsNoteOf list here note →
+pub note_of : (list : List Access) (here : Option Access) (note : Option (Instr × Clock)) (at : Instr) (clock : Clock)
+    → IsNoteOf list here note →
     note ≡ Some (at, clock) → NoteOf list here at clock
 note_of list None None at clock is e = absurd cc
 note_of list None (Some n) at clock is e = absurd is
@@ -51,14 +55,16 @@ note_of list (Some b) (Some n) at clock is e =
     }
 
 -- an access that stands here has its note
-noted_of : (list : List Access) (here : Option Access) (note : Option (Instr × Clock)) (b : Access) → IsNoteOf list here note → here ≡ Some b →
+noted_of : (list : List Access) (here : Option Access) (note : Option (Instr × Clock)) (b : Access)
+    → IsNoteOf list here note → here ≡ Some b →
     (n : Instr × Clock) × (note ≡ Some n) × (n.0 ≡ b.at)
 noted_of list None n b is e = absurd (none_some b e)
 noted_of list (Some d) None b is e = absurd is
 noted_of list (Some d) (Some n) b is e = (n, refl, is.0 ∙ ap (λ (v : Access). v.at) (some_is d b e))
 
 -- a core's read that is noted
-read_noted : (core : ℕ) (r : Option (ℕ × Clock)) (n : Instr × Clock) → read_note core r ≡ Some n → r ≡ Some (n.0.count, n.1)
+read_noted : (core : ℕ) (r : Option (ℕ × Clock)) (n : Instr × Clock) → read_note core r ≡ Some n
+    → r ≡ Some (n.0.count, n.1)
 read_noted core None n e = absurd cc
 read_noted core (Some m) n e =
     let same : ◌≡◌ {A = Instr × Clock} ((let at : Instr = record { core = core; count = m.0 } in at), m.1) n = cc in
@@ -66,22 +72,29 @@ read_noted core (Some m) n e =
 
 -- ---- a read since the last write comes after it
 
-pub read_later : (h : List Access) (word core : ℕ) (b c : Access) → Rising h → last_write h word ≡ Some b → last_read h word core ≡ Some c →
+pub read_later : (h : List Access) (word core : ℕ) (b c : Access) → Rising h → last_write h word ≡ Some b
+    → last_read h word core ≡ Some c →
     Before (Pair h) b.at c.at
 unfolding last_write last_read
 read_later [] word core b c rising w r = absurd (none_some b w)
 read_later (d ∷ h) word core b c rising w r =
-    by (λ p q. widen d h b.at c.at (read_later h word core b c rising.2 p q)) (cases_eq d.word word) (cases_kind d.kind) (cases_eq d.at.core core)
+    by (λ p q. widen d h b.at c.at (read_later h word core b c rising.2 p q)) (cases_eq d.word word)
+    (cases_kind d.kind) (cases_eq d.at.core core)
   where
-    onto : IsWrite h word b → d.word ≡ word → (b.at.core ≡ d.at.core) ⊎ (b.at.core ≢ d.at.core) → Before (Pair (d ∷ h)) b.at d.at
+    onto : IsWrite h word b → d.word ≡ word → (b.at.core ≡ d.at.core) ⊎ (b.at.core ≢ d.at.core)
+        → Before (Pair (d ∷ h)) b.at d.at
     onto is p (inl e) = one (Pair (d ∷ h)) b.at d.at (inl (e, rising.1 b is.stands e))
-    onto is p (inr differ) = one (Pair (d ∷ h)) b.at d.at (inr (inl (refl, (b, is.stands, refl, (differ, is.word_is ∙ sym p, inl is.kind_is)))))
+    onto is p (inr differ) = one (Pair (d ∷ h)) b.at d.at
+        (inr (inl (refl, (b, is.stands, refl, (differ, is.word_is ∙ sym p, inl is.kind_is)))))
 
-    by : (last_write h word ≡ Some b → last_read h word core ≡ Some c → Before (Pair (d ∷ h)) b.at c.at) → (d.word ≡ word) ⊎ (d.word ≢ word) →
-        (is_write d.kind ≡ false) ⊎ (is_write d.kind ≡ true) → (d.at.core ≡ core) ⊎ (d.at.core ≢ core) → Before (Pair (d ∷ h)) b.at c.at
+    by : (last_write h word ≡ Some b → last_read h word core ≡ Some c → Before (Pair (d ∷ h)) b.at c.at)
+        → (d.word ≡ word) ⊎ (d.word ≢ word) →
+        (is_write d.kind ≡ false) ⊎ (is_write d.kind ≡ true) → (d.at.core ≡ core) ⊎ (d.at.core ≢ core)
+        → Before (Pair (d ∷ h)) b.at c.at
     by earlier (inr p) _ _ = earlier (sym (last_write-word d h word p) ∙ w) (sym (last_read-word d h word core p) ∙ r)
     by earlier (inl p) (inr q) _ = absurd (none_some c (sym (last_read-store d h word core p q) ∙ r))
-    by earlier (inl p) (inl q) (inr o) = earlier (sym (last_write-load d h word p q) ∙ w) (sym (last_read-core d h word core p q o) ∙ r)
+    by earlier (inl p) (inl q) (inr o) = earlier (sym (last_write-load d h word p q) ∙ w)
+        (sym (last_read-core d h word core p q o) ∙ r)
     by earlier (inl p) (inl q) (inl o) =
         let same : d ≡ c = some_is d c (sym (last_read-at d h word core p q o) ∙ r) in
         subst (λ (v : Access). Before (Pair (d ∷ h)) b.at v.at) same
@@ -107,7 +120,8 @@ record Stands (list : List Access) (a : Access) (s : Source) : Type 0 where
   candidate : Candidate (reverse list) a s.at
   exact : IsExactClock list s.at s.clock
 
-noted_stands : (list : List Access) (before : Clock) (a : Access) (t : Times) (s : Source) → s.at.core < CORES_MAX → AreExactFor list a t →
+noted_stands : (list : List Access) (before : Clock) (a : Access) (t : Times) (s : Source) → s.at.core < CORES_MAX
+    → AreExactFor list a t →
     IsNotedIn before a t s → Stands list a s
 noted_stands list before a t s fits exact noted = by noted.noted
   where
@@ -118,15 +132,27 @@ noted_stands list before a t s fits exact noted = by noted.noted
     other_at b e = subst (λ (v : Instr). v.core ≢ a.at.core) e noted.lives.other
 
     by : (write_at t (a.word % BLOCK_WORDS) ≡ Some (s.at, s.clock))
-        ⊎ ((is_write a.kind ≡ true) × (read_at t (a.word % BLOCK_WORDS) s.at.core ≡ Some (s.at.count, s.clock))) → Stands list a s
+        ⊎ ((is_write a.kind ≡ true) × (read_at t (a.word % BLOCK_WORDS) s.at.core ≡ Some (s.at.count, s.clock)))
+        → Stands list a s
     by (inl w) =
-        let n = note_of list (last_write (reverse list) a.word) (write_at t (a.word % BLOCK_WORDS)) s.at s.clock exact.write_is w in
-        record { candidate = (n.access, inl n.here_is, other_at n.access n.at_is, sym n.at_is); exact = exact_at n.access n.at_is n.exact }
+        let n = note_of list (last_write (reverse list) a.word) (write_at t (a.word % BLOCK_WORDS)) s.at s.clock
+        exact.write_is w in
+        record {
+          candidate = (n.access, inl n.here_is, other_at n.access n.at_is, sym n.at_is);
+          exact = exact_at
+              n.access n.at_is n.exact;
+        }
     by (inr r) =
-        let n = note_of list (last_read (reverse list) a.word s.at.core) (read_note s.at.core (read_at t (a.word % BLOCK_WORDS) s.at.core)) s.at s.clock
+        let n = note_of list (last_read (reverse list) a.word s.at.core)
+        (read_note s.at.core (read_at t (a.word % BLOCK_WORDS) s.at.core)) s.at s.clock
         (exact.read_is r.0 s.at.core fits) (ap (read_note s.at.core) r.1) in
-        let here = subst (λ (k : ℕ). last_read (reverse list) a.word k ≡ Some n.access) (ap (λ (v : Instr). v.core) n.at_is) n.here_is in
-        record { candidate = (n.access, inr (r.0, here), other_at n.access n.at_is, sym n.at_is); exact = exact_at n.access n.at_is n.exact }
+        let here = subst (λ (k : ℕ). last_read (reverse list) a.word k ≡ Some n.access)
+        (ap (λ (v : Instr). v.core) n.at_is) n.here_is in
+        record {
+          candidate = (n.access, inr (r.0, here), other_at n.access n.at_is, sym n.at_is);
+          exact = exact_at
+              n.access n.at_is n.exact;
+        }
 
 -- an instruction that the clock before knows of leads to the one before a
 known_up : (list : List Access) (before : Clock) (a : Access) (at : Instr) → at.core < CORES_MAX → 1 ≤ at.count →
@@ -138,14 +164,16 @@ known_up list before a at fits pos exact known =
 
 -- a candidate's note, whose core is another than a's, is live, or it leads to the instruction before a
 live_or_known : (list : List Access) (before : Clock) (a : Access) (at : Instr) → at.core < CORES_MAX → 1 ≤ at.count →
-    IsExactClock list (previous a.at) before → at.core ≢ a.at.core → Lives before a at ⊎ UpTo (reverse list) at (previous a.at)
+    IsExactClock list (previous a.at) before → at.core ≢ a.at.core → Lives before a at ⊎ UpTo (reverse list) at
+    (previous a.at)
 live_or_known list before a at fits pos exact other = by (is_above before at) refl
   where
     by : (b : Bool) → is_above before at ≡ b → Lives before a at ⊎ UpTo (reverse list) at (previous a.at)
     by true e = inl (record { other = other; above = e })
     by false e = inr (known_up list before a at fits pos exact e)
 
-pub are_candidates : (n : ℕ) (list : List Access) (before : Clock) (a : Access) (t : Times) → n ≤ CORES_MAX → Rising (reverse list) →
+pub are_candidates : (n : ℕ) (list : List Access) (before : Clock) (a : Access) (t : Times) → n ≤ CORES_MAX
+    → Rising (reverse list) →
     IsExactClock list (previous a.at) before → ((b : Access) → StandsIn list b → b.at.core < n) →
     AreExactFor list a t → AreCandidates list before a (candidates n before a t)
 are_candidates n list before a t few rising known within exact = record {
@@ -161,56 +189,78 @@ are_candidates n list before a t few rising known within exact = record {
 
     stands : (s : Source) → IsOneOf (candidates n before a t) s → Stands list a s
     stands s one =
-        noted_stands list before a t s (let lt = (one_noted n before a t s one).0 in omega arith) exact (one_noted n before a t s one).1
+        noted_stands list before a t s (let lt = (one_noted n before a t s one).0 in omega arith) exact
+        (one_noted n before a t s one).1
 
     above : (s : Source) → is_above before s.at ≡ true → slice_index before s.at.core < s.at.count
     above s e = grind (arith, nat_tests)
 
     -- a live read comes after the write
-    through : (b : Access) → last_write (reverse list) a.word ≡ Some b → (r : Source) → IsOneOf (reads_from n before a t) r →
+    through : (b : Access) → last_write (reverse list) a.word ≡ Some b → (r : Source)
+        → IsOneOf (reads_from n before a t) r →
         IsLed (reverse list) a (candidates n before a t) b.at
     through b w r one =
         let q = one_read n before a t r one in
         let lt = q.0 in
-        let m = note_of list (last_read (reverse list) a.word r.at.core) (read_note r.at.core (read_at t (a.word % BLOCK_WORDS) r.at.core)) r.at r.clock
+        let m = note_of list (last_read (reverse list) a.word r.at.core)
+        (read_note r.at.core (read_at t (a.word % BLOCK_WORDS) r.at.core)) r.at r.clock
         (exact.read_is q.1.writes r.at.core (omega arith)) (ap (read_note r.at.core) q.1.noted) in
         let later = read_later (reverse list) a.word r.at.core b m.access rising w m.here_is in
-        inl (r, read_found n before a t r one, inr (subst (λ (v : Instr). Before (Pair (reverse list)) b.at v) (sym m.at_is) later))
+        inl (
+          r,
+          read_found n before a t r one,
+          inr
+              (subst (λ (v : Instr). Before (Pair (reverse list)) b.at v) (sym m.at_is) later),
+        )
 
     write : (z : Instr) (b : Access) → last_write (reverse list) a.word ≡ Some b → b.at ≡ z → (s : Source) →
         write_at t (a.word % BLOCK_WORDS) ≡ Some (s.at, s.clock) → s.at ≡ b.at → s.at.core < n →
-        Lives before a s.at ⊎ UpTo (reverse list) s.at (previous a.at) → IsLed (reverse list) a (candidates n before a t) z
-    write z b w e s noted is lt (inr up) = inr (subst (λ (v : Instr). UpTo (reverse list) v (previous a.at)) (is ∙ e) up)
+        Lives before a s.at ⊎ UpTo (reverse list) s.at (previous a.at) → IsLed (reverse list) a
+        (candidates n before a t) z
+    write z b w e s noted is lt (inr up) = inr (subst (λ (v : Instr). UpTo (reverse list) v (previous a.at)) (is ∙ e)
+        up)
     write z b w e s noted is lt (inl lives) =
-        by (write_or_read n before a t s (ap (write_from n before a) noted ∙ wrote_back n before a s lt (is_live_of before a s.at lives)))
+        by (write_or_read n before a t s (ap (write_from n before a) noted ∙ wrote_back n before a s lt
+        (is_live_of before a s.at lives)))
       where
         by : IsOneOf (candidates n before a t) s ⊎ ((r : Source) × IsOneOf (reads_from n before a t) r) →
             IsLed (reverse list) a (candidates n before a t) z
         by (inl one) = inl (s, one, inl (sym e ∙ sym is))
         by (inr q) = subst (λ (v : Instr). IsLed (reverse list) a (candidates n before a t) v) e (through b w q.0 q.1)
 
-    read : (z : Instr) (s : Source) → is_write a.kind ≡ true → read_at t (a.word % BLOCK_WORDS) s.at.core ≡ Some (s.at.count, s.clock) → s.at ≡ z →
-        s.at.core < n → Lives before a s.at ⊎ UpTo (reverse list) s.at (previous a.at) → IsLed (reverse list) a (candidates n before a t) z
+    read : (z : Instr) (s : Source) → is_write a.kind ≡ true → read_at t (a.word % BLOCK_WORDS) s.at.core ≡ Some
+        (s.at.count, s.clock) → s.at ≡ z →
+        s.at.core < n → Lives before a s.at ⊎ UpTo (reverse list) s.at (previous a.at) → IsLed (reverse list) a
+        (candidates n before a t) z
     read z s writes noted is lt (inr up) = inr (subst (λ (v : Instr). UpTo (reverse list) v (previous a.at)) is up)
     read z s writes noted is lt (inl lives) =
-        inl (s, read_found n before a t s (read_one n before a t s lt (record { writes = writes; noted = noted; lives = lives })), inl (sym is))
+        inl (
+          s,
+          read_found n before a t s
+              (read_one n before a t s lt (record { writes = writes; noted = noted; lives = lives })),
+          inl (sym is),
+        )
 
     all : (z : Instr) (b : Access) → (last_write (reverse list) a.word ≡ Some b)
-        ⊎ ((is_write a.kind ≡ true) × (last_read (reverse list) a.word b.at.core ≡ Some b)) → b.at.core ≢ a.at.core → b.at ≡ z →
+        ⊎ ((is_write a.kind ≡ true) × (last_read (reverse list) a.word b.at.core ≡ Some b)) → b.at.core ≢ a.at.core
+        → b.at ≡ z →
         IsLed (reverse list) a (candidates n before a t) z
     all z b (inl w) other e =
         let stands_b = (last_write-is (reverse list) a.word b w).stands in
         let below = within b (stands_back list b stands_b) in
-        let m = noted_of list (last_write (reverse list) a.word) (write_at t (a.word % BLOCK_WORDS)) b exact.write_is w in
+        let m = noted_of list (last_write (reverse list) a.word) (write_at t (a.word % BLOCK_WORDS)) b exact.write_is
+        w in
         let s : Source = record { at = m.0.0; clock = m.0.1 } in
         let core : s.at.core ≡ b.at.core = ap (λ (v : Instr). v.core) m.2 in
         let count : s.at.count ≡ b.at.count = ap (λ (v : Instr). v.count) m.2 in
         let pos = stands_pos (reverse list) b rising stands_b in
-        write z b w e s m.1 m.2 (omega arith) (live_or_known list before a s.at (omega arith) (omega arith) known (λ f. other (sym core ∙ f)))
+        write z b w e s m.1 m.2 (omega arith) (live_or_known list before a s.at (omega arith) (omega arith) known
+        (λ f. other (sym core ∙ f)))
     all z b (inr r) other e =
         let stands_b = (last_read-is (reverse list) a.word b.at.core b r.1).stands in
         let below = within b (stands_back list b stands_b) in
-        let m = noted_of list (last_read (reverse list) a.word b.at.core) (read_note b.at.core (read_at t (a.word % BLOCK_WORDS) b.at.core)) b
+        let m = noted_of list (last_read (reverse list) a.word b.at.core)
+        (read_note b.at.core (read_at t (a.word % BLOCK_WORDS) b.at.core)) b
         (exact.read_is r.0 b.at.core (omega arith)) r.1 in
         let s : Source = record { at = m.0.0; clock = m.0.1 } in
         let core : s.at.core ≡ b.at.core = ap (λ (v : Instr). v.core) m.2 in
@@ -218,4 +268,5 @@ are_candidates n list before a t few rising known within exact = record {
         let pos = stands_pos (reverse list) b rising stands_b in
         let here = subst (λ (k : ℕ). read_at t (a.word % BLOCK_WORDS) k ≡ Some (s.at.count, s.clock)) (sym core)
         (read_noted b.at.core (read_at t (a.word % BLOCK_WORDS) b.at.core) m.0 m.1) in
-        read z s r.0 here (m.2 ∙ e) (omega arith) (live_or_known list before a s.at (omega arith) (omega arith) known (λ f. other (sym core ∙ f)))
+        read z s r.0 here (m.2 ∙ e) (omega arith) (live_or_known list before a s.at (omega arith) (omega arith) known
+        (λ f. other (sym core ∙ f)))

@@ -14,12 +14,14 @@ sources_lower : (low high : ℕ) (edges : List Edge) → low ≤ high → Source
 sources_lower low high [] le rise = tt
 sources_lower low high (e ∷ edges) le rise = (let first = rise.0 in omega arith, rise.1)
 
-pub chosen_rise : (low : ℕ) (at : Instr) (found some : List Source) → CoresRise low some → SourcesRise low (chosen at found some)
+pub chosen_rise : (low : ℕ) (at : Instr) (found some : List Source) → CoresRise low some
+    → SourcesRise low (chosen at found some)
 chosen_rise low at found [] rise = tt
 chosen_rise low at found (s ∷ some) rise = by (is_kept found s.at) (chosen_rise (s.at.core + 1) at found some rise.1)
   where
     by : (b : Bool) → SourcesRise (s.at.core + 1) (chosen at found some) →
         SourcesRise low (map (edge_to at)
-        (cond b (s ∷ filter (λ (r : Source). is_kept found r.at) some) (filter (λ (r : Source). is_kept found r.at) some)))
+        (cond b (s ∷ filter (λ (r : Source). is_kept found r.at) some)
+        (filter (λ (r : Source). is_kept found r.at) some)))
     by true rest = (rise.0, rest)
     by false rest = sources_lower low (s.at.core + 1) (chosen at found some) (let first = rise.0 in omega arith) rest

@@ -1,5 +1,6 @@
 -- The reduction is kept: the edges are the covering pairs, and they stand by pair, rising.
-use Rattle.std.proofs.Common.{◌≡◌, ◌≢◌, ℕ, ◌<◌, ◌≤◌, ◌⊎◌, ◌↔◌, List, [], ◌∷◌, ◌++◌, length, replicate, refl, sym, ◌∙◌, ap, subst, inl, inr, arith, nat_eq, Bool}
+use Rattle.std.proofs.Common.{◌≡◌, ◌≢◌, ℕ, ◌<◌, ◌≤◌, ◌⊎◌, ◌↔◌, List, [], ◌∷◌, ◌++◌, length, replicate, refl, sym, ◌∙◌}
+use Rattle.std.proofs.Common.{ap, subst, inl, inr, arith, nat_eq, Bool}
 use Rattle.std.proofs.Common.{false, true, cond, slice_index, if◌then◌else◌}
 use Rattle.std.proofs.lemmas.Bool.{cases_lt}
 use Rattle.std.specs.Prelude.{map, slice_index_or}
@@ -28,9 +29,11 @@ use Rattle.conflict_edge.proofs.TwoForms.{covering_law}
 use Rattle.rtr_types.specs.PairEdges.{counts, is_between, with_edges, pair_edges, by_pair, AreEdgesAfter}
 use Rattle.online_reduce.specs.Reduced.{Reduced, unreduced, count_of, counted, retired, edges_of}
 use Rattle.online_reduce.specs.Exact.{IsExact, BeginLaw, CountLaw, RetireLaw, LeastLaw, ListedLaw}
-use Rattle.online_reduce.proofs.ByPair.{pair_append, each_pair, OneEdge, pair_one, by_pair_at, by_pair_none, by_pair_add}
+use Rattle.online_reduce.proofs.ByPair.{pair_append, each_pair, OneEdge, pair_one, by_pair_at, by_pair_none}
+use Rattle.online_reduce.proofs.ByPair.{by_pair_add}
 use Rattle.online_reduce.proofs.ExactNext.{retired_exact, retired_grows, retired_own, counted_exact, counted_grows}
-use Rattle.online_reduce.proofs.Rises.{rise_wider, rise_push, among_left, among_right, among_cases, all_among, pair_source, pair_target, cores_differ, at_pos}
+use Rattle.online_reduce.proofs.Rises.{rise_wider, rise_push, among_left, among_right, among_cases, all_among}
+use Rattle.online_reduce.proofs.Rises.{pair_source, pair_target, cores_differ, at_pos}
 use Rattle.online_reduce.proofs.Rises.{source_above}
 use Rattle.online_reduce.proofs.Step.{Next, next_of, covering_into}
 
@@ -40,9 +43,11 @@ use Rattle.online_reduce.proofs.Step.{Next, next_of, covering_into}
 pub no_count : (core : ℕ) → slice_index_or (replicate CORES_MAX no_counts) core no_counts ≡ no_counts
 no_count core = by (cases_lt core CORES_MAX)
   where
-    by : (core < CORES_MAX) ⊎ (CORES_MAX ≤ core) → slice_index_or (replicate CORES_MAX no_counts) core no_counts ≡ no_counts
+    by : (core < CORES_MAX) ⊎ (CORES_MAX ≤ core) → slice_index_or (replicate CORES_MAX no_counts) core no_counts ≡
+        no_counts
     by (inl lt) = get_or-replicate CORES_MAX core no_counts no_counts lt
-    by (inr past) = get_or_past (replicate CORES_MAX no_counts) core no_counts (omega (arith, length-replicate CORES_MAX no_counts))
+    by (inr past) = get_or_past (replicate CORES_MAX no_counts) core no_counts
+        (omega (arith, length-replicate CORES_MAX no_counts))
 
 -- the clock that knows of nothing counts nothing
 pub none_counted : (i : ℕ) → slice_index no_counts i ≡ 0
@@ -57,10 +62,12 @@ unfolding clock
 unreduced_exact cores few = record {
   few = few;
   places = length-replicate CORES_MAX no_counts;
-  wide = λ core lt. subst (λ (m : Clock). CORES_MAX ≤ length m) (sym (no_count core)) (omega (arith, length-replicate {A = ℕ} CORES_MAX 0));
+  wide = λ core lt. subst (λ (m : Clock). CORES_MAX ≤ length m) (sym (no_count core))
+      (omega (arith, length-replicate {A = ℕ} CORES_MAX 0));
   rise = tt;
   within = λ a s. absurd s;
-  clocks = λ core lt. subst (λ (m : Clock). IsExactClock [] (record { core = core; count = slice_index m core }) m) (sym (no_count core)) (exact core);
+  clocks = λ core lt. subst (λ (m : Clock). IsExactClock [] (record { core = core; count = slice_index m core }) m)
+      (sym (no_count core)) (exact core);
 }
   where
     zero_clock : (core i n : ℕ) → n ≡ 0 → (if nat_eq core i then n else 0) ≡ 0
@@ -79,7 +86,8 @@ begin_law cores few = record {
   covering = λ x y. (λ s. absurd s, λ c. c.0);
   by_pairs = by_pair_none cores;
   rising = λ place lt.
-      subst (λ (es : List (ℕ × ℕ)). AreEdgesAfter (count_of (unreduced cores) (source_at cores place), count_of (unreduced cores) (target_at cores place))
+      subst (λ (es : List (ℕ × ℕ)). AreEdgesAfter
+      (count_of (unreduced cores) (source_at cores place), count_of (unreduced cores) (target_at cores place))
       (0, 0) es)
       (sym (get_or-replicate (pair_count cores) place [] [] lt)) tt;
 }
@@ -103,7 +111,8 @@ count_law list r edges at next kept = record {
 -- ---- a retirement with an access
 
 covering_more : (list : List Access) (a : Access) (edges new : List Edge) →
-    ((x y : Instr) → Among new x y ↔ ((y ≡ a.at) × Covering (list ++ (a ∷ [])) x a.at)) → AddsCoveringInto (list ++ (a ∷ [])) a edges (edges ++ new)
+    ((x y : Instr) → Among new x y ↔ ((y ≡ a.at) × Covering (list ++ (a ∷ [])) x a.at))
+    → AddsCoveringInto (list ++ (a ∷ [])) a edges (edges ++ new)
 covering_more list a edges new covers x y = (λ s. to (among_cases edges new x y s), from)
   where
     to : Among edges x y ⊎ Among new x y → Among edges x y ⊎ ((y ≡ a.at) × Covering (list ++ (a ∷ [])) x a.at)
@@ -123,7 +132,8 @@ record Into (list : List Access) (r : Reduced) (a : Access) (t : Times) (x y : I
   differ : x.core ≢ a.at.core
   within : x.count ≤ count_of (retired r a t) x.core
 
-into : (list : List Access) (r : Reduced) (a : Access) (t : Times) → Next list r a t → (x y : Instr) → Among (edges_of r a t) x y → Into list r a t x y
+into : (list : List Access) (r : Reduced) (a : Access) (t : Times) → Next list r a t → (x y : Instr)
+    → Among (edges_of r a t) x y → Into list r a t x y
 into list r a t next x y s =
     let q = ((covering_into list r a t next).covering x y).0 s in
     let source = pair_source (list ++ (a ∷ [])) x a.at q.1.0 in
@@ -141,7 +151,8 @@ pairs_of : (list : List Access) (r : Reduced) (a : Access) (t : Times) → Next 
     AllByRecursion (λ (e : Edge). IsPair r.cores e.from.core e.to.core) (edges_of r a t)
 pairs_of list r a t next = all_among (λ x y. IsPair r.cores x.core y.core) (edges_of r a t) (λ x y s.
     let i = into list r a t next x y s in
-    subst (λ (v : Instr). IsPair r.cores x.core v.core) (sym i.target) (record { source = i.core; target = next.next.core; differ = i.differ }))
+    subst (λ (v : Instr). IsPair r.cores x.core v.core) (sym i.target)
+    (record { source = i.core; target = next.next.core; differ = i.differ }))
 
 pub retire_law : RetireLaw
 retire_law list r edges a t is_next times kept = record {
@@ -149,7 +160,8 @@ retire_law list r edges a t is_next times kept = record {
   covering = covering_next list a edges (edges ++ edges_of r a t) next.rise kept.covering
       (covering_more list a edges (edges_of r a t) (covering_into list r a t next).covering);
   by_pairs = by_pairs;
-  rising = λ place lt. rising place lt (pair_one 0 (source_at r.cores place) (target_at r.cores place) (edges_of r a t) (covering_into list r a t next).order);
+  rising = λ place lt. rising place lt (pair_one 0 (source_at r.cores place) (target_at r.cores place)
+      (edges_of r a t) (covering_into list r a t next).order);
 }
   where
     next : Next list r a t
@@ -159,48 +171,59 @@ retire_law list r edges a t is_next times kept = record {
     by_pairs = ap (λ (ls : List (List (ℕ × ℕ))). with_edges r.cores ls (edges_of r a t)) kept.by_pairs
         ∙ by_pair_add r.cores edges (edges_of r a t) (pairs_of list r a t (next_of list r a t kept.exact is_next times))
 
-    at_place : (place : ℕ) → place < pair_count r.cores → slice_index_or (retired r a t).lists place [] ≡ slice_index_or r.lists place []
+    at_place : (place : ℕ) → place < pair_count r.cores → slice_index_or (retired r a t).lists place [] ≡
+        slice_index_or r.lists place []
         ++ pair_edges (source_at r.cores place) (target_at r.cores place) (edges_of r a t)
     at_place place lt =
         ap (λ (ls : List (List (ℕ × ℕ))). slice_index_or ls place []) by_pairs
         ∙ by_pair_at r.cores (edges ++ edges_of r a t) place [] lt
         ∙ pair_append (source_at r.cores place) (target_at r.cores place) edges (edges_of r a t)
-        ∙ ap (λ (es : List (ℕ × ℕ)). es ++ pair_edges (source_at r.cores place) (target_at r.cores place) (edges_of r a t))
-        (sym (ap (λ (ls : List (List (ℕ × ℕ))). slice_index_or ls place []) kept.by_pairs ∙ by_pair_at r.cores edges place [] lt))
+        ∙ ap (λ (es : List (ℕ × ℕ)). es ++ pair_edges (source_at r.cores place) (target_at r.cores place)
+        (edges_of r a t))
+        (sym (ap (λ (ls : List (List (ℕ × ℕ))). slice_index_or ls place []) kept.by_pairs ∙ by_pair_at r.cores edges
+        place [] lt))
 
     most : (s : Reduced) → ℕ → ℕ × ℕ
     most s place = (count_of s (source_at r.cores place), count_of s (target_at r.cores place))
 
     -- each earlier edge of the pair comes from below
-    below : (place : ℕ) (o : OneEdge (source_at r.cores place) (target_at r.cores place) (edges_of r a t)) → place < pair_count r.cores →
+    below : (place : ℕ) (o : OneEdge (source_at r.cores place) (target_at r.cores place) (edges_of r a t))
+        → place < pair_count r.cores →
         AllByRecursion (λ (e : ℕ × ℕ). e.0 < o.edge.from.count) (slice_index_or r.lists place [])
     below place o lt =
         subst (λ (es : List (ℕ × ℕ)). AllByRecursion (λ (e : ℕ × ℕ). e.0 < o.edge.from.count) es)
-        (sym (ap (λ (ls : List (List (ℕ × ℕ))). slice_index_or ls place []) kept.by_pairs ∙ by_pair_at r.cores edges place [] lt))
-        (each_pair (λ (e : ℕ × ℕ). e.0 < o.edge.from.count) (source_at r.cores place) (target_at r.cores place) edges (λ u v s from_is to_is.
+        (sym (ap (λ (ls : List (List (ℕ × ℕ))). slice_index_or ls place []) kept.by_pairs ∙ by_pair_at r.cores edges
+        place [] lt))
+        (each_pair (λ (e : ℕ × ℕ). e.0 < o.edge.from.count) (source_at r.cores place) (target_at r.cores place) edges
+        (λ u v s from_is to_is.
         let i = into list r a t next o.edge.from o.edge.to o.among in
         let pair = ((kept.covering u v).0 s).0 in
         let target = pair_target list u v pair in
-        let within = subst (λ (w : Instr). w.count ≤ count_of r w.core) target.at_is (kept.exact.within target.access target.stands).1 in
+        let within = subst (λ (w : Instr). w.count ≤ count_of r w.core) target.at_is
+        (kept.exact.within target.access target.stands).1 in
         let core : v.core ≡ a.at.core = to_is ∙ sym o.to_is ∙ ap (λ (w : Instr). w.core) i.target in
         let same = ap (count_of r) core in
         let more = is_next.count in
         source_above list a o.edge.from u v pair core (omega arith) (from_is ∙ sym o.from_is) i.cover))
 
-    rising : (place : ℕ) → place < pair_count r.cores → (pair_edges (source_at r.cores place) (target_at r.cores place) (edges_of r a t) ≡ [])
+    rising : (place : ℕ) → place < pair_count r.cores
+        → (pair_edges (source_at r.cores place) (target_at r.cores place) (edges_of r a t) ≡ [])
         ⊎ OneEdge (source_at r.cores place) (target_at r.cores place) (edges_of r a t) →
         AreEdgesAfter (most (retired r a t) place) (0, 0) (slice_index_or (retired r a t).lists place [])
     rising place lt (inl none) =
         subst (λ (es : List (ℕ × ℕ)). AreEdgesAfter (most (retired r a t) place) (0, 0) es)
-        (sym (at_place place lt ∙ ap (λ (es : List (ℕ × ℕ)). slice_index_or r.lists place [] ++ es) none ∙ append-nil (slice_index_or r.lists place [])))
+        (sym (at_place place lt ∙ ap (λ (es : List (ℕ × ℕ)). slice_index_or r.lists place [] ++ es) none
+        ∙ append-nil (slice_index_or r.lists place [])))
         (rise_wider (most r place) (most (retired r a t) place) (0, 0) (slice_index_or r.lists place [])
-        (retired_grows list r a t next (source_at r.cores place)) (retired_grows list r a t next (target_at r.cores place)) (kept.rising place lt))
+        (retired_grows list r a t next (source_at r.cores place))
+        (retired_grows list r a t next (target_at r.cores place)) (kept.rising place lt))
     rising place lt (inr o) =
         let i = into list r a t next o.edge.from o.edge.to o.among in
         let target_core : target_at r.cores place ≡ a.at.core = sym o.to_is ∙ ap (λ (w : Instr). w.core) i.target in
         let count : o.edge.to.count ≡ a.at.count = ap (λ (w : Instr). w.count) i.target in
         let was : count_of r (target_at r.cores place) ≡ count_of r a.at.core = ap (count_of r) target_core in
-        let now : count_of (retired r a t) (target_at r.cores place) ≡ a.at.count = ap (count_of (retired r a t)) target_core ∙ retired_own list r a t next in
+        let now : count_of (retired r a t) (target_at r.cores place) ≡ a.at.count = ap (count_of (retired r a t))
+        target_core ∙ retired_own list r a t next in
         let more = is_next.count in
         let source : o.edge.from.count ≤ count_of (retired r a t) (source_at r.cores place) =
         subst (λ (k : ℕ). o.edge.from.count ≤ count_of (retired r a t) k) o.from_is i.within in
@@ -208,7 +231,8 @@ retire_law list r edges a t is_next times kept = record {
         subst (λ (es : List (ℕ × ℕ)). AreEdgesAfter (most (retired r a t) place) (0, 0) es)
         (sym (at_place place lt ∙ ap (λ (es : List (ℕ × ℕ)). slice_index_or r.lists place [] ++ es) o.only))
         (rise_push (most r place) (most (retired r a t) place) (0, 0) (counts o.edge) (slice_index_or r.lists place [])
-        (retired_grows list r a t next (source_at r.cores place)) (retired_grows list r a t next (target_at r.cores place)) (kept.rising place lt)
+        (retired_grows list r a t next (source_at r.cores place))
+        (retired_grows list r a t next (target_at r.cores place)) (kept.rising place lt)
         (omega arith) (omega arith) (below place o lt) (omega arith) source (omega arith))
 
 pub least_law : LeastLaw
@@ -232,18 +256,27 @@ listed from to (e ∷ edges) x y p q (inl s) = by (is_between from to e) (grind 
     same_pair : (u x v y : Instr) → u ≡ x → v ≡ y → ◌≡◌ {A = Instr × Instr} (u, v) (x, y)
     same_pair u x v y f g = cc
 
-    by : (b : Bool) → b ≡ true → Contains (map counts (cond b (e ∷ filter (is_between from to) edges) (filter (is_between from to) edges))) (x.count, y.count)
-    by true t = (0, omega arith, ap (λ (v : Instr × Instr). (let c : ℕ × ℕ = (v.0.count, v.1.count) in c)) (same_pair e.from x e.to y s.0 s.1))
+    by : (b : Bool) → b ≡ true
+        → Contains (map counts (cond b (e ∷ filter (is_between from to) edges) (filter (is_between from to) edges)))
+        (x.count, y.count)
+    by true t = (
+      0,
+      omega arith,
+      ap (λ (v : Instr × Instr). (let c : ℕ × ℕ = (v.0.count, v.1.count) in c))
+          (same_pair e.from x e.to y s.0 s.1),
+    )
     by false t = absurd cc
 listed from to (e ∷ edges) x y p q (inr s) = by (is_between from to e) (listed from to edges x y p q s)
   where
     by : (b : Bool) → Contains (pair_edges from to edges) (x.count, y.count) →
-        Contains (map counts (cond b (e ∷ filter (is_between from to) edges) (filter (is_between from to) edges))) (x.count, y.count)
+        Contains (map counts (cond b (e ∷ filter (is_between from to) edges) (filter (is_between from to) edges)))
+        (x.count, y.count)
     by true c = Contains-append_right (counts e ∷ []) (pair_edges from to edges) (x.count, y.count) c
     by false c = c
 
 -- what is in a pair's list stands among the edges
-unlisted : (from to : ℕ) (edges : List Edge) (x y : Instr) → x.core ≡ from → y.core ≡ to → Contains (pair_edges from to edges) (x.count, y.count) →
+unlisted : (from to : ℕ) (edges : List Edge) (x y : Instr) → x.core ≡ from → y.core ≡ to
+    → Contains (pair_edges from to edges) (x.count, y.count) →
     Among edges x y
 unlisted from to edges x y p q c =
     subst (λ (v : Instr). Among edges x v) (instr_eq (at to y.count) y (sym q) refl)
@@ -262,7 +295,8 @@ unlisted from to edges x y p q c =
 pub listed_law : ListedLaw
 listed_law list r edges kept x y = (to, λ q. from q.0 q.1)
   where
-    here : IsPair r.cores x.core y.core → slice_index_or r.lists (pair_place r.cores x.core y.core) [] ≡ pair_edges x.core y.core edges
+    here : IsPair r.cores x.core y.core → slice_index_or r.lists (pair_place r.cores x.core y.core) [] ≡ pair_edges
+        x.core y.core edges
     here pair =
         let placed = pairs-placed r.cores x.core y.core pair in
         ap (λ (ls : List (List (ℕ × ℕ))). slice_index_or ls (pair_place r.cores x.core y.core) []) kept.by_pairs
@@ -275,15 +309,23 @@ listed_law list r edges kept x y = (to, λ q. from q.0 q.1)
         let source = pair_source list x y p in
         let target = pair_target list x y p in
         record {
-          source = subst (λ (v : Instr). v.core < r.cores) source.at_is (kept.exact.within source.access source.stands).0;
-          target = subst (λ (v : Instr). v.core < r.cores) target.at_is (kept.exact.within target.access target.stands).0;
+          source = subst (λ (v : Instr). v.core < r.cores) source.at_is
+              (kept.exact.within source.access source.stands).0;
+          target = subst (λ (v : Instr). v.core < r.cores) target.at_is
+              (kept.exact.within target.access target.stands).0;
           differ = cores_differ list x y p;
         }
 
-    to : Among edges x y → IsPair r.cores x.core y.core × Contains (slice_index_or r.lists (pair_place r.cores x.core y.core) []) (x.count, y.count)
+    to : Among edges x y → IsPair r.cores x.core y.core
+        × Contains (slice_index_or r.lists (pair_place r.cores x.core y.core) []) (x.count, y.count)
     to s =
-        let pair = paired ((kept.covering x y).0 s).0 in
-        (pair, subst (λ (es : List (ℕ × ℕ)). Contains es (x.count, y.count)) (sym (here pair)) (listed x.core y.core edges x y refl refl s))
+        let pair = paired ((kept.covering x y).0 s).0 in (
+          pair,
+          subst (λ (es : List (ℕ × ℕ)). Contains es (x.count, y.count)) (sym (here pair))
+              (listed x.core y.core edges x y refl refl s),
+        )
 
-    from : IsPair r.cores x.core y.core → Contains (slice_index_or r.lists (pair_place r.cores x.core y.core) []) (x.count, y.count) → Among edges x y
-    from pair c = unlisted x.core y.core edges x y refl refl (subst (λ (es : List (ℕ × ℕ)). Contains es (x.count, y.count)) (here pair) c)
+    from : IsPair r.cores x.core y.core → Contains (slice_index_or r.lists (pair_place r.cores x.core y.core) [])
+        (x.count, y.count) → Among edges x y
+    from pair c = unlisted x.core y.core edges x y refl refl
+        (subst (λ (es : List (ℕ × ℕ)). Contains es (x.count, y.count)) (here pair) c)

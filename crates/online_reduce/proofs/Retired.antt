@@ -1,19 +1,16 @@
 -- What the two retirements leave, from the parts that the code has.
-use Rattle.std.proofs.Common.{◌≡◌, ℕ, ◌<◌, List, [], length, get_or, sym, ◌∙◌, ap, subst, arith}
-use Rattle.std.specs.Prelude.{All, slice_set}
+use Rattle.std.proofs.Common.{◌≡◌, ℕ, ◌<◌, List, length, get_or, sym, ◌∙◌, ap, subst, arith}
+use Rattle.std.specs.Prelude.{All}
 use Rattle.std.proofs.lemmas.List.{get_or_default}
 use Rattle.std.proofs.lemmas.List.Elements.{All-same}
 use Rattle.rtr_types.specs.Pairs.{IsPair}
-use Rattle.rtr_types.specs.declared.instr.Instr.{Instr}
 use Rattle.rtr_types.specs.declared.access.Access.{Access}
 use Rattle.clock_core.specs.Counts.{no_counts}
 use Rattle.clock_core.specs.declared.clock.Clock.{Clock}
 use Rattle.access_times.specs.declared.times.Times.{Times}
 use Rattle.online_reduce.specs.declared.source.Source.{Source}
 use Rattle.online_reduce.specs.Sources.{candidates}
-use Rattle.online_reduce.specs.Rule.{edges_into, clock_into}
-use Rattle.rtr_types.specs.PairEdges.{with_edges}
-use Rattle.online_reduce.specs.Reduced.{Reduced, clock_of, counted, edges_of, retired}
+use Rattle.online_reduce.specs.Reduced.{Reduced, clock_of}
 use Rattle.online_reduce.proofs.Found.{CoresRise, all_from_one, candidates_rise, cores_rise_at, one_noted}
 
 -- ---- what the calls within a retirement need
@@ -22,19 +19,24 @@ use Rattle.online_reduce.proofs.Found.{CoresRise, all_from_one, candidates_rise,
 abbrev pub AreFound : Reduced → Access → Times → List Source → Type 0
 AreFound r a t found = found ≡ candidates r.cores (clock_of r a.at.core) a t
 
-pub sources_pair : (m : ℕ) (r : Reduced) (a : Access) (t : Times) (found : List Source) → m ≡ r.cores → a.at.core < r.cores → AreFound r a t found →
+pub sources_pair : (m : ℕ) (r : Reduced) (a : Access) (t : Times) (found : List Source) → m ≡ r.cores
+    → a.at.core < r.cores → AreFound r a t found →
     All (λ (s : Source). IsPair m s.at.core a.at.core) found
 sources_pair m r a t found same lt is =
     All-same (λ (s : Source). IsPair m s.at.core a.at.core) found (candidates r.cores (clock_of r a.at.core) a t) is
-    (all_from_one (λ (s : Source). IsPair m s.at.core a.at.core) (candidates r.cores (clock_of r a.at.core) a t) (λ s one.
+    (all_from_one (λ (s : Source). IsPair m s.at.core a.at.core) (candidates r.cores (clock_of r a.at.core) a t)
+    (λ s one.
     let q = one_noted r.cores (clock_of r a.at.core) a t s one in
     let below = q.0 in
     record { source = omega arith; target = omega arith; differ = q.1.lives.other }))
 
-pub sources_apart : (r : Reduced) (a : Access) (t : Times) (found : List Source) → AreFound r a t found → (i j : ℕ) (d : Source) → i < j →
+pub sources_apart : (r : Reduced) (a : Access) (t : Times) (found : List Source) → AreFound r a t found
+    → (i j : ℕ) (d : Source) → i < j →
     j < length found → (get_or found i d).at.core < (get_or found j d).at.core
 sources_apart r a t found is i j d earlier lt =
-    cores_rise_at 0 found i j d (subst (λ (xs : List Source). CoresRise 0 xs) (sym is) (candidates_rise r.cores (clock_of r a.at.core) a t)) earlier lt
+    cores_rise_at 0 found i j d
+    (subst (λ (xs : List Source). CoresRise 0 xs) (sym is) (candidates_rise r.cores (clock_of r a.at.core) a t))
+    earlier lt
 
 -- ---- the state after
 
@@ -43,31 +45,8 @@ read_is : (r : Reduced) (core : ℕ) (d : Clock) → core < length r.clocks → 
 read_is r core d lt = get_or_default r.clocks core d no_counts lt
 
 -- the same, where the clocks are those of the state
-pub same_clock_of : (clocks : List Clock) (r : Reduced) (core : ℕ) (d : Clock) → clocks ≡ r.clocks → core < length clocks →
+pub same_clock_of : (clocks : List Clock) (r : Reduced) (core : ℕ) (d : Clock) → clocks ≡ r.clocks
+    → core < length clocks →
     get_or clocks core d ≡ clock_of r core
-same_clock_of clocks r core d same lt = ap (λ (cs : List Clock). get_or cs core d) same ∙ read_is r core d (omega (arith, lt, ap length same))
-
-pub counted_is : (r now : Reduced) (at : Instr) (d new : Clock) → r ≡ now → at.core < length r.clocks →
-    new ≡ slice_set (get_or r.clocks at.core d) at.core at.count →
-    ◌≡◌ {A = Reduced} (record { cores = r.cores; clocks = slice_set r.clocks at.core new; lists = r.lists }) (counted now at)
-counted_is r now at d new same lt set =
-    ap (λ (m : Clock). (let s : Reduced = record { cores = r.cores; clocks = slice_set r.clocks at.core m; lists = r.lists } in s))
-    (set ∙ ap (λ (m : Clock). slice_set m at.core at.count) (read_is r at.core d lt))
-    ∙ ap (λ (s : Reduced). counted s at) same
-
--- ---- without candidates
-
--- an access that has none gets no edge
-pub alone_edges : (r : Reduced) (a : Access) (t : Times) → AreFound r a t [] → edges_of r a t ≡ []
-unfolding edges_into
-alone_edges r a t alone = ap (edges_into a.at) (sym alone)
-
--- and is retired as an instruction without an access is
-pub alone_retired : (r : Reduced) (a : Access) (t : Times) → AreFound r a t [] → retired r a t ≡ counted r a.at
-unfolding edges_into clock_into with_edges
-alone_retired r a t alone =
-    ap (λ (found : List Source). (let s : Reduced = record {
-      cores = r.cores;
-      clocks = slice_set r.clocks a.at.core (clock_into a.at (clock_of r a.at.core) found);
-      lists = with_edges r.cores r.lists (edges_into a.at found);
-    } in s)) (sym alone)
+same_clock_of clocks r core d same lt = ap (λ (cs : List Clock). get_or cs core d) same
+    ∙ read_is r core d (omega (arith, lt, ap length same))

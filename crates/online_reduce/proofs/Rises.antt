@@ -1,5 +1,6 @@
 -- Both counts of a pair's edges rise.
-use Rattle.std.proofs.Common.{◌≡◌, ◌≢◌, ℕ, ◌<◌, ◌≤◌, ◌⊎◌, List, [], ◌∷◌, ◌++◌, reverse, refl, sym, ◌∙◌, ap, subst, inl, inr, arith}
+use Rattle.std.proofs.Common.{◌≡◌, ◌≢◌, ℕ, ◌<◌, ◌≤◌, ◌⊎◌, List, [], ◌∷◌, ◌++◌, reverse, refl, sym, ◌∙◌, ap, subst}
+use Rattle.std.proofs.Common.{inl, inr, arith}
 use Rattle.std.proofs.lemmas.Bool.{cases_order}
 use Rattle.std.specs.List.{AllByRecursion}
 use Rattle.rtr_types.specs.declared.instr.Instr.{Instr}
@@ -16,25 +17,37 @@ use Rattle.rtr_types.specs.PairEdges.{EdgeStands, AreEdgesAfter}
 
 -- ---- lists of counts
 
-stands_wider : (most wider last e : ℕ × ℕ) → most.0 ≤ wider.0 → most.1 ≤ wider.1 → EdgeStands most last e → EdgeStands wider last e
+stands_wider : (most wider last e : ℕ × ℕ) → most.0 ≤ wider.0 → most.1 ≤ wider.1 → EdgeStands most last e
+    → EdgeStands wider last e
 stands_wider most wider last e p q stands = let source = stands.source_most in let target = stands.target_most in
     record { rises = stands.rises; source_most = omega arith; target_most = omega arith }
 
-pub rise_wider : (most wider last : ℕ × ℕ) (edges : List (ℕ × ℕ)) → most.0 ≤ wider.0 → most.1 ≤ wider.1 → AreEdgesAfter most last edges →
+pub rise_wider : (most wider last : ℕ × ℕ) (edges : List (ℕ × ℕ)) → most.0 ≤ wider.0 → most.1 ≤ wider.1
+    → AreEdgesAfter most last edges →
     AreEdgesAfter wider last edges
 rise_wider most wider last [] p q rise = tt
 rise_wider most wider last (e ∷ edges) p q rise =
     (stands_wider most wider last e p q rise.0, rise_wider most wider e edges p q rise.1)
 
 -- an edge whose source count is above all others, and whose target count is above what was the most
-pub rise_push : (most wider last new : ℕ × ℕ) (edges : List (ℕ × ℕ)) → most.0 ≤ wider.0 → most.1 ≤ wider.1 → AreEdgesAfter most last edges →
-    last.0 < new.0 → last.1 < new.1 → AllByRecursion (λ (e : ℕ × ℕ). e.0 < new.0) edges → most.1 < new.1 → new.0 ≤ wider.0 → new.1 ≤ wider.1 →
+pub rise_push : (most wider last new : ℕ × ℕ) (edges : List (ℕ × ℕ)) → most.0 ≤ wider.0 → most.1 ≤ wider.1
+    → AreEdgesAfter most last edges →
+    last.0 < new.0 → last.1 < new.1 → AllByRecursion (λ (e : ℕ × ℕ). e.0 < new.0) edges → most.1 < new.1
+    → new.0 ≤ wider.0 → new.1 ≤ wider.1 →
     AreEdgesAfter wider last (edges ++ new ∷ [])
-rise_push most wider last new [] p q rise above_source above_target below past source_le target_le =
-    (record { rises = record { source = above_source; target = above_target }; source_most = source_le; target_most = target_le }, tt)
+rise_push most wider last new [] p q rise above_source above_target below past source_le target_le = (
+  record {
+    rises = record { source = above_source; target = above_target };
+    source_most = source_le;
+    target_most
+        = target_le;
+  },
+  tt,
+)
 rise_push most wider last new (e ∷ edges) p q rise above_source above_target below past source_le target_le = (
   stands_wider most wider last e p q rise.0,
-  rise_push most wider e new edges p q rise.1 below.0 (let le = rise.0.target_most in omega arith) below.1 past source_le target_le,
+  rise_push most wider e new edges p q rise.1 below.0 (let le = rise.0.target_most in omega arith) below.1 past
+      source_le target_le,
 )
 
 -- ---- edges among lists
@@ -99,7 +112,8 @@ at_pos list x rise a = subst (λ (v : Instr). 1 ≤ v.count) a.at_is (pos_of lis
 -- ---- covering pairs between the same two cores don't cross
 
 -- a covering pair into a comes from above the source of each earlier pair between the two cores
-pub source_above : (list : List Access) (a : Access) (x u v : Instr) → ConflictPair list u v → v.core ≡ a.at.core → v.count < a.at.count → u.core ≡ x.core →
+pub source_above : (list : List Access) (a : Access) (x u v : Instr) → ConflictPair list u v → v.core ≡ a.at.core
+    → v.count < a.at.count → u.core ≡ x.core →
     Covering (list ++ (a ∷ [])) x a.at → u.count < x.count
 source_above list a x u v pair core later same cover = by (cases_order x.count u.count)
   where
@@ -110,7 +124,11 @@ source_above list a x u v pair core later same cover = by (cases_order x.count u
     last = one (ConflictPair (list ++ (a ∷ []))) v a.at (inl (core, later))
 
     by : (x.count ≡ u.count) ⊎ ((x.count < u.count) ⊎ (u.count < x.count)) → u.count < x.count
-    by (inl e) = absurd (cover.1 v (subst (λ (w : Instr). Before (ConflictPair (list ++ (a ∷ []))) w v) (instr_eq u x same (sym e)) step) last)
+    by (inl e) = absurd
+        (cover.1 v (subst (λ (w : Instr). Before (ConflictPair (list ++ (a ∷ []))) w v) (instr_eq u x same (sym e))
+        step) last)
     by (inr (inl lt)) = absurd
-        (cover.1 v (joined (ConflictPair (list ++ (a ∷ []))) x u v (one (ConflictPair (list ++ (a ∷ []))) x u (inl (sym same, lt))) step) last)
+        (cover.1 v
+        (joined (ConflictPair (list ++ (a ∷ []))) x u v
+        (one (ConflictPair (list ++ (a ∷ []))) x u (inl (sym same, lt))) step) last)
     by (inr (inr lt)) = lt

@@ -1,5 +1,6 @@
 -- One retirement with exact times: its edges are the covering pairs into it, and its clock is exact.
-use Rattle.std.proofs.Common.{◌≡◌, ◌≢◌, ℕ, ◌<◌, ◌≤◌, ◌⊎◌, List, [], ◌∷◌, ◌++◌, reverse, sym, ap, subst, inl, inr, arith, true}
+use Rattle.std.proofs.Common.{◌≡◌, ◌≢◌, ℕ, ◌<◌, ◌≤◌, ◌⊎◌, List, [], ◌∷◌, ◌++◌, reverse, sym, ap, subst, inl, inr}
+use Rattle.std.proofs.Common.{arith, true}
 use Rattle.std.proofs.lemmas.Bool.{cases_lt}
 use Rattle.rtr_types.specs.declared.instr.Instr.{Instr}
 use Rattle.rtr_types.specs.declared.access.Access.{Access}
@@ -38,21 +39,25 @@ pub record Next (list : List Access) (r : Reduced) (a : Access) (t : Times) : Ty
   pub found : AreCandidates list (clock_of r a.at.core) a (candidates r.cores (clock_of r a.at.core) a t)
   pub before : IsExactClock list (previous a.at) (clock_of r a.at.core)
 
-pub next_of : (list : List Access) (r : Reduced) (a : Access) (t : Times) → IsExact list r → IsNext r a.at → AreExactFor list a t → Next list r a t
+pub next_of : (list : List Access) (r : Reduced) (a : Access) (t : Times) → IsExact list r → IsNext r a.at
+    → AreExactFor list a t → Next list r a t
 next_of list r a t exact next times = record {
   exact = exact;
   next = next;
   times = times;
   rise = rise_next list a exact.rise (let e = next.count in omega arith) (λ b s core. later b s core);
-  found = are_candidates r.cores list (clock_of r a.at.core) a t exact.few (rising_back list exact.rise) before (λ b s. (exact.within b s).0) times;
+  found = are_candidates r.cores list (clock_of r a.at.core) a t exact.few (rising_back list exact.rise) before
+      (λ b s. (exact.within b s).0) times;
   before = before;
 }
   where
     later : (b : Access) → StandsIn list b → b.at.core ≡ a.at.core → b.at.count < a.at.count
-    later b s core = let le = (exact.within b s).1 in let same = ap (count_of r) core in let e = next.count in omega arith
+    later b s core = let le = (exact.within b s).1 in let same = ap (count_of r) core in let e = next.count in
+        omega arith
 
     last : last_of r a.at.core ≡ previous a.at
-    last = let e = next.count in ap (λ (n : ℕ). (let i : Instr = record { core = a.at.core; count = n } in i)) (omega arith)
+    last = let e = next.count in ap (λ (n : ℕ). (let i : Instr = record { core = a.at.core; count = n } in i))
+        (omega arith)
 
     before : IsExactClock list (previous a.at) (clock_of r a.at.core)
     before = subst (λ (y : Instr). IsExactClock list y (clock_of r a.at.core)) last (exact.clocks a.at.core next.core)
@@ -66,20 +71,26 @@ found_of r a t = candidates r.cores (clock_of r a.at.core) a t
 -- what is known of where x leads to is known of x, so that x is not kept
 not_before : (list : List Access) (r : Reduced) (a : Access) (t : Times) → Next list r a t → (x : Instr) →
     clock (reverse list) (previous a.at) x.core < x.count → UpTo (reverse list) x (previous a.at) → ⊥
-not_before list r a t n x own up = let le = up_counts (reverse list) x (previous a.at) (rising_back list n.exact.rise) up in omega arith
+not_before list r a t n x own up = let le = up_counts (reverse list) x (previous a.at) (rising_back list n.exact.rise)
+    up in omega arith
 
-own_below : (list : List Access) (r : Reduced) (a : Access) (t : Times) → Next list r a t → (s : Source) → IsOneOf (found_of r a t) s →
+own_below : (list : List Access) (r : Reduced) (a : Access) (t : Times) → Next list r a t → (s : Source)
+    → IsOneOf (found_of r a t) s →
     clock (reverse list) (previous a.at) s.at.core < s.at.count
-own_below list r a t n s one = let e = n.before s.at.core (n.found.fits s one) in let lt = n.found.above s one in omega arith
+own_below list r a t n s one = let e = n.before s.at.core (n.found.fits s one) in let lt = n.found.above s one in
+    omega arith
 
 -- another candidate that is found does not know of one that is kept
-passes_below : (list : List Access) (r : Reduced) (a : Access) (t : Times) → Next list r a t → (s q : Source) → IsOneOf (found_of r a t) s →
-    IsOneOf (found_of r a t) q → Passes (found_of r a t) s.at → q.at ≢ s.at → clock (reverse list) q.at s.at.core < s.at.count
+passes_below : (list : List Access) (r : Reduced) (a : Access) (t : Times) → Next list r a t → (s q : Source)
+    → IsOneOf (found_of r a t) s →
+    IsOneOf (found_of r a t) q → Passes (found_of r a t) s.at → q.at ≢ s.at → clock (reverse list) q.at s.at.core <
+    s.at.count
 passes_below list r a t n s q one other passes apart =
     let e = n.found.exact q other s.at.core (n.found.fits s one) in let lt = passes q other apart in omega arith
 
 -- a candidate that is found is kept exactly where the online rule keeps it
-kept_rule : (list : List Access) (r : Reduced) (a : Access) (t : Times) → Next list r a t → (s : Source) → IsOneOf (found_of r a t) s →
+kept_rule : (list : List Access) (r : Reduced) (a : Access) (t : Times) → Next list r a t → (s : Source)
+    → IsOneOf (found_of r a t) s →
     is_kept (found_of r a t) s.at ≡ true → IsKept (reverse list) a s.at
 kept_rule list r a t n s one kept = record {
   candidate = n.found.candidate s one;
@@ -98,7 +109,8 @@ kept_rule list r a t n s one kept = record {
     turns z apart (inl e) (inr p) = apart (sym e)
     turns z apart (inr q) (inr p) = no_cycle (reverse list) rising s.at (joined (Pair (reverse list)) s.at z s.at q p)
 
-    led : (z : Instr) → z ≢ s.at → UpTo (reverse list) s.at z → (q : Source) → IsOneOf (found_of r a t) q → UpTo (reverse list) z q.at →
+    led : (z : Instr) → z ≢ s.at → UpTo (reverse list) s.at z → (q : Source) → IsOneOf (found_of r a t) q
+        → UpTo (reverse list) z q.at →
         (q.at ≡ s.at) ⊎ (q.at ≢ s.at) → ⊥
     led z apart up q other on (inl e) = turns z apart up (subst (λ (v : Instr). UpTo (reverse list) z v) e on)
     led z apart up q other on (inr differ) =
@@ -109,24 +121,29 @@ kept_rule list r a t n s one kept = record {
     not_known : (z : Instr) → z ≢ s.at → UpTo (reverse list) s.at z → IsLed (reverse list) a (found_of r a t) z → ⊥
     not_known z apart up (inl q) = led z apart up q.0 q.1 q.2 (cases_instr q.0.at s.at)
     not_known z apart up (inr on) =
-        not_before list r a t n s.at (own_below list r a t n s one) (up_joined (reverse list) s.at z (previous a.at) up on)
+        not_before list r a t n s.at (own_below list r a t n s one)
+        (up_joined (reverse list) s.at z (previous a.at) up on)
 
     below : (z : Instr) → z ≢ s.at → IsLed (reverse list) a (found_of r a t) z →
-        (clock (reverse list) z s.at.core < s.at.count) ⊎ (s.at.count ≤ clock (reverse list) z s.at.core) → clock (reverse list) z s.at.core < s.at.count
+        (clock (reverse list) z s.at.core < s.at.count) ⊎ (s.at.count ≤ clock (reverse list) z s.at.core)
+        → clock (reverse list) z s.at.core < s.at.count
     below z apart led (inl lt) = lt
     below z apart led (inr le) =
         let above = n.found.above s one in
         absurd (not_known z apart (clock-up_to (reverse list) s.at z (omega arith) le) led)
 
-rule_kept : (list : List Access) (r : Reduced) (a : Access) (t : Times) → Next list r a t → (s : Source) → IsOneOf (found_of r a t) s →
+rule_kept : (list : List Access) (r : Reduced) (a : Access) (t : Times) → Next list r a t → (s : Source)
+    → IsOneOf (found_of r a t) s →
     IsKept (reverse list) a s.at → is_kept (found_of r a t) s.at ≡ true
 rule_kept list r a t n s one kept = others_all (found_of r a t) s.at (
     λ q other apart.
-    let e = n.found.exact q other s.at.core (n.found.fits s one) in let lt = kept.others q.at (n.found.candidate q other) apart in omega arith
+    let e = n.found.exact q other s.at.core (n.found.fits s one) in
+    let lt = kept.others q.at (n.found.candidate q other) apart in omega arith
     )
 
 -- what the online rule keeps is found
-kept_found : (list : List Access) (r : Reduced) (a : Access) (t : Times) → Next list r a t → (x : Instr) → IsKept (reverse list) a x →
+kept_found : (list : List Access) (r : Reduced) (a : Access) (t : Times) → Next list r a t → (x : Instr)
+    → IsKept (reverse list) a x →
     (s : Source) × IsOneOf (found_of r a t) s × (s.at ≡ x)
 kept_found list r a t n x kept = by (n.found.all x kept.candidate)
   where
@@ -147,17 +164,24 @@ kept_found list r a t n x kept = by (n.found.all x kept.candidate)
 
 -- ---- the edges
 
-pub covering_into : (list : List Access) (r : Reduced) (a : Access) (t : Times) → Next list r a t → AreCoveringInto (list ++ (a ∷ [])) a.at (edges_of r a t)
+pub covering_into : (list : List Access) (r : Reduced) (a : Access) (t : Times) → Next list r a t
+    → AreCoveringInto (list ++ (a ∷ [])) a.at (edges_of r a t)
 unfolding edges_into
 covering_into list r a t n = record {
   covering = λ x y. (λ e. to x y (chosen_from a.at (found_of r a t) (found_of r a t) x y e), λ q. back x y q.0 q.1);
   order = chosen_rise 0 a.at (found_of r a t) (found_of r a t) (candidates_rise r.cores (clock_of r a.at.core) a t);
 }
   where
-    to : (x y : Instr) → ComesFrom a.at (found_of r a t) (found_of r a t) x y → (y ≡ a.at) × Covering (list ++ (a ∷ [])) x a.at
-    to x y q = (q.0, subst (λ (v : Instr). Covering (list ++ (a ∷ [])) v a.at) q.3 ((online_law list a q.1.at n.rise).0 (kept_rule list r a t n q.1 q.2 q.4)))
+    to : (x y : Instr) → ComesFrom a.at (found_of r a t) (found_of r a t) x y → (y ≡ a.at)
+        × Covering (list ++ (a ∷ [])) x a.at
+    to x y q = (
+      q.0,
+      subst (λ (v : Instr). Covering (list ++ (a ∷ [])) v a.at) q.3
+          ((online_law list a q.1.at n.rise).0 (kept_rule list r a t n q.1 q.2 q.4)),
+    )
 
-    back : (x y : Instr) → y ≡ a.at → Covering (list ++ (a ∷ [])) x a.at → Among (chosen a.at (found_of r a t) (found_of r a t)) x y
+    back : (x y : Instr) → y ≡ a.at → Covering (list ++ (a ∷ [])) x a.at
+        → Among (chosen a.at (found_of r a t) (found_of r a t)) x y
     back x y e c =
         let kept = (online_law list a x n.rise).1 c in
         let s = kept_found list r a t n x kept in

@@ -3,6 +3,7 @@
 
 mod edge_places;
 pub mod laws;
+mod live_reads;
 mod pair_lists;
 mod reducer;
 mod rule;

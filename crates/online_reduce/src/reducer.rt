@@ -1,5 +1,5 @@
 //! The online reduction.
-ghost use Rattle.std.specs.Prelude.{◌≡◌, ◌<◌, ◌≤◌, ◌++◌, ◌∷◌, [], List, IfOk, IsTrue, OnErr, OnOk};
+ghost use Rattle.std.specs.Prelude.{◌≡◌, ◌<◌, ◌≤◌, ◌++◌, ◌∷◌, [], List, IfOk, IsTrue, OnErr, OnOk, false, true};
 ghost use Rattle.rtr_types.specs.declared.TheConstants.{CORES_MAX};
 ghost use Rattle.rtr_types.specs.declared.access.Access.{Access};
 ghost use Rattle.rtr_types.specs.declared.instr.Edge.{Edge};
@@ -8,9 +8,10 @@ ghost use Rattle.online_reduce.specs.Sizes.{edges_room};
 ghost use Rattle.conflict_edge.specs.Times.{IsExactClock};
 
 use crate::edge_places::{EdgeList, EdgePlaces};
-use crate::pair_lists::{PairLists, add_edges};
-use crate::rule::{clock_into, note};
-use crate::source::{Source, Sources, is_live, is_unread, list_reads, slot_of};
+use crate::live_reads::LiveReads;
+use crate::pair_lists::{PairLists, add_edge, add_reads};
+use crate::rule::note;
+use crate::source::live_write;
 use access_times::Times;
 use clock_core::Clock;
 use roomy_lists::RoomyLists;
@@ -53,6 +54,7 @@ impl Model for Reducer {
 }
 
 impl Reducer {
+    ghost use Rattle.online_reduce.specs.LiveReads.{drawn};
     ghost use Rattle.online_reduce.specs.Sources.{candidates, reads_from};
     ghost use Rattle.online_reduce.specs.Reduced.{IsNext, clock_of, counted, edges_of, retired, unreduced};
     ghost use Rattle.online_reduce.specs.Exact.{AreCoveringInto, AreExactFor, AreRising, IsExact, IsHeld, IsReduction};
@@ -111,7 +113,7 @@ impl Reducer {
         ensures reduction { (list : List Access) (edges : List Edge) →
             IsReduction list self.old.state edges → IsReduction list self.new.state edges }
     {
-        self.clocks[at.core as usize].set(at.core, at.count);
+        self.count(at);
     }
 
     /// The core's next instruction retired with the access. Answers the new edges by rising source core,
@@ -158,99 +160,72 @@ impl Reducer {
             IsReduction list self.old.state edges_before → AreExactFor list access.now times.old →
             IsReduction (list ++ access.now ∷ []) self.new.state (edges_before ++ edges.new) }
     {
-        if is_unread(self.cores, access, times) {
-            self.retire_unread(access, times, edges);
-        } else {
-            self.retire_read(access, times, edges);
-        }
-    }
-
-    /// An access without a read among its candidates: it has at most one, the write, so that no list of
-    /// them is made.
-    fn retire_unread(&mut self, access: &Access, times: &mut Times, edges: &mut EdgePlaces)
-        requires ready { IsTrue self.old.ready }
-        requires next { IsNext self.old.state access.now.at }
-        requires unread { reads_from self.old.state.cores (clock_of self.old.state access.now.at.core)
-            access.now times.old ≡ [] }
-        ensures edges { edges.new ≡ edges_of self.old.state access.now times.old }
-        ensures state { self.new.state ≡ retired self.old.state access.now times.old }
-        ensures times { times.new ≡ times_noted access.now times.old (clock_of self.new.state access.now.at.core) }
-        ensures held { IsHeld access.now times.new (clock_of self.new.state access.now.at.core) }
-    {
-        if let Some((at, clock)) = times.last_write(slot_of(access.word)) {
-            let before = &self.clocks[access.at.core as usize];
-            if at.core < self.cores && is_live(before, access, *at) {
-                let found = [Source {
-                    at: *at,
-                    clock: *clock,
-                }];
-                self.settle(access, &found, times, edges);
-                return;
-            }
-        }
-        self.retire_alone(access, times, edges);
-    }
-
-    /// An access without candidates, as most are: it gets no edge, and its clock is the previous one with
-    /// its own count.
-    fn retire_alone(&mut self, access: &Access, times: &mut Times, edges: &mut EdgePlaces)
-        requires next { IsNext self.old.state access.now.at }
-        requires alone { candidates self.old.state.cores (clock_of self.old.state access.now.at.core)
-            access.now times.old ≡ [] }
-        ensures edges { edges.new ≡ edges_of self.old.state access.now times.old }
-        ensures state { self.new.state ≡ retired self.old.state access.now times.old }
-        ensures times { times.new ≡ times_noted access.now times.old (clock_of self.new.state access.now.at.core) }
-        ensures held { IsHeld access.now times.new (clock_of self.new.state access.now.at.core) }
-    {
-        edges.clear();
-        self.local(access.at);
+        self.draw(access, times, edges);
+        self.count(access.at);
         note(access, self.clocks[access.at.core as usize], times);
     }
 
-    /// An access with noted reads, whose candidates are listed. It is apart so that an access without
-    /// them makes no room on the stack for their list.
-    fn retire_read(&mut self, access: &Access, times: &mut Times, edges: &mut EdgePlaces)
+    /// Draws the edges from the access's candidates, and takes over their clocks.
+    fn draw(&mut self, access: &Access, times: &Times, edges: &mut EdgePlaces)
         requires ready { IsTrue self.old.ready }
-        requires next { IsNext self.old.state access.now.at }
-        ensures edges { edges.new ≡ edges_of self.old.state access.now times.old }
-        ensures state { self.new.state ≡ retired self.old.state access.now times.old }
-        ensures times { times.new ≡ times_noted access.now times.old (clock_of self.new.state access.now.at.core) }
-        ensures held { IsHeld access.now times.new (clock_of self.new.state access.now.at.core) }
+        requires own { access.now.at.core < self.old.state.cores }
+        ensures state { self.new.state ≡ drawn self.old.state access.now.at (candidates self.old.state.cores
+            (clock_of self.old.state access.now.at.core) access.now times.now) }
+        ensures edges { edges.new ≡ edges_of self.old.state access.now times.now }
     {
-        let mut found = Sources::new();
-        let before = &self.clocks[access.at.core as usize];
-        list_reads(&mut found, self.cores, before, access, times);
-        if found.is_empty() {
-            self.retire_unread(access, times, edges);
-        } else {
-            self.settle(access, found.as_slice(), times, edges);
+        edges.clear();
+        if !self.add_reads(access, times, edges) {
+            self.add_write(access, times, edges);
         }
     }
 
-    /// Puts the access's edges into the pairs' lists and answers them, keeps its clock and notes it, once
-    /// its candidates are found.
-    fn settle(
-        &mut self,
-        access: &Access,
-        found: &[Source],
-        times: &mut Times,
-        edges: &mut EdgePlaces,
-    )
+    /// The same for the reads among them, and answers whether there are some.
+    fn add_reads(&mut self, access: &Access, times: &Times, edges: &mut EdgePlaces) -> bool
         requires ready { IsTrue self.old.ready }
-        requires next { IsNext self.old.state access.now.at }
-        requires found { found.now ≡ candidates self.old.state.cores (clock_of self.old.state access.now.at.core)
-            access.now times.old }
-        ensures edges { edges.new ≡ edges_of self.old.state access.now times.old }
-        ensures state { self.new.state ≡ retired self.old.state access.now times.old }
-        ensures times { times.new ≡ times_noted access.now times.old (clock_of self.new.state access.now.at.core) }
-        ensures held { IsHeld access.now times.new (clock_of self.new.state access.now.at.core) }
+        requires own { access.now.at.core < self.old.state.cores }
+        requires none { edges.old ≡ [] }
+        ensures unread { result ≡ false → (self.new ≡ self.old) × (edges.new ≡ []) × (reads_from self.old.state.cores
+            (clock_of self.old.state access.now.at.core) access.now times.now ≡ []) }
+        ensures state { result ≡ true → self.new.state ≡ drawn self.old.state access.now.at (candidates
+            self.old.state.cores (clock_of self.old.state access.now.at.core) access.now times.now) }
+        ensures edges { result ≡ true → edges.new ≡ edges_of self.old.state access.now times.now }
     {
-        let at = access.at;
-        let before = self.clocks[at.core as usize];
-        add_edges(&mut self.pairs, self.cores, at, found, edges);
-        let clock = clock_into(at, before, found);
-        self.clocks[at.core as usize] = clock;
-        note(access, clock, times);
+        let cores = self.cores;
+        let own = access.at.core as usize;
+        let found = LiveReads::new(cores, &self.clocks[own], access, times);
+        if found.is_empty() {
+            return false;
+        }
+        let clock = &mut self.clocks[own];
+        add_reads(&mut self.pairs, clock, cores, access.at, &found, edges);
+        true
+    }
+
+    /// The same for an access without reads among them: it has at most one, the write.
+    fn add_write(&mut self, access: &Access, times: &Times, edges: &mut EdgePlaces)
+        requires ready { IsTrue self.old.ready }
+        requires own { access.now.at.core < self.old.state.cores }
+        requires none { edges.old ≡ [] }
+        requires unread { reads_from self.old.state.cores (clock_of self.old.state access.now.at.core)
+            access.now times.now ≡ [] }
+        ensures state { self.new.state ≡ drawn self.old.state access.now.at (candidates self.old.state.cores
+            (clock_of self.old.state access.now.at.core) access.now times.now) }
+        ensures edges { edges.new ≡ edges_of self.old.state access.now times.now }
+    {
+        let own = access.at.core as usize;
+        if let Some((from, clock)) = live_write(self.cores, &self.clocks[own], access, times) {
+            self.clocks[own].join(clock);
+            add_edge(&mut self.pairs, self.cores, from, access.at, edges);
+        }
+    }
+
+    /// Counts the instruction in its core's clock.
+    fn count(&mut self, at: Instr)
+        requires { at.core < self.old.state.cores }
+        ensures state { self.new.state ≡ counted self.old.state at }
+        ensures ready { self.new.ready ≡ self.old.ready }
+    {
+        self.clocks[at.core as usize].set(at.core, at.count);
     }
 
     /// The edges by pair of cores, each list rising in both counts. It takes no memory.

@@ -1,48 +1,37 @@
-//! Which candidates become edges, and what the new clock is.
+//! Which candidates become edges, and how an access is noted.
 ghost use Rattle.std.specs.Prelude.{◌≡◌, ◌<◌};
 ghost use Rattle.rtr_types.specs.declared.TheConstants.{CORES_MAX};
 ghost use Rattle.access_times.specs.declared.times.Times.{Times};
 ghost use Rattle.access_times.specs.Times.{times_noted};
-ghost use Rattle.online_reduce.specs.Rule.{clock_into, is_kept, lets_pass};
+ghost use Rattle.online_reduce.specs.Rule.{is_kept, lets_pass};
 ghost use Rattle.online_reduce.specs.declared.source.Source.{Source};
 
-use crate::source::{Source, slot_of};
+use crate::live_reads::LiveReads;
+use crate::source::slot_of;
 use access_times::Times;
 use clock_core::Clock;
 use rtr_types::{Access, Instr};
 
 /// Whether the candidate is this instruction, or its clock doesn't know of it.
-fn lets_pass(at: Instr, source: &Source) -> bool
+fn lets_pass(at: Instr, source: Instr, clock: &Clock) -> bool
     requires { at.core < CORES_MAX }
-    ensures { result ≡ lets_pass at source.now }
+    ensures { result ≡ lets_pass at (record { at = source; clock = clock.now }) }
 {
-    source.at == at || !source.clock.covers(at)
+    source == at || !clock.covers(at)
 }
 
 /// Whether the candidate at this instruction becomes an edge: no other candidate's clock knows of it.
-pub fn is_kept(found: &[Source], at: Instr) -> bool
+pub fn is_kept(found: &LiveReads, at: Instr) -> bool
     requires { at.core < CORES_MAX }
     ensures { result ≡ is_kept found.now at }
 {
-    for source in found {
-        if !lets_pass(at, source) {
+    let mut left = found.copied();
+    while let Some((source, clock)) = left.pop() {
+        if !lets_pass(at, source, clock) {
             return false;
         }
     }
     true
-}
-
-/// The clock of an instruction, from the one before on its core and those of its candidates.
-pub fn clock_into(at: Instr, before: Clock, found: &[Source]) -> Clock
-    requires { at.core < CORES_MAX }
-    ensures { result ≡ clock_into at before found.now }
-{
-    let mut clock = before;
-    for source in found {
-        clock = clock.merge(source.clock);
-    }
-    clock.set(at.core, at.count);
-    clock
 }
 
 /// Notes the access with its clock in the times of its block.

@@ -6,7 +6,5 @@
 
 mod run;
 mod run_clerk;
-#[cfg(test)]
-mod tests;
 
 pub use run::{Recorded, record_image, record_run};

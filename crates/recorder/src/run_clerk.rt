@@ -5,13 +5,14 @@ ghost use Rattle.rtr_types.specs.Pairs.{pair_count};
 ghost use Rattle.rtr_types.specs.declared.TheConstants.{CORES_MAX};
 ghost use Rattle.know_history.specs.Notes.{Notes, known_at, no_notes};
 ghost use Rattle.edge_regulate.specs.Regulated.{AreReady, IsRegulation, regulated};
+ghost use Rattle.edge_regulate.specs.Seats.{Follows};
 ghost use Rattle.online_reduce.proofs.ExactNext.{other_clocks_law};
 ghost use Rattle.online_reduce.specs.Reduced.{clock_of, unreduced};
 ghost use Rattle.run_records.specs.Clerks.{CanTell, IsTold};
 
 use access_times::{Clerk, Times, TimesClerk};
 use edge_regulate::Regulator;
-use know_history::{History, Known};
+use know_history::Known;
 use online_reduce::{EdgePlaces, Reducer};
 use rtr_types::{Access, Instr, Items};
 use std::alloc::{AllocError, Global};
@@ -21,12 +22,10 @@ use stride_vector::StrideVector;
 /// Makes both logs of the run. It keeps no access. It accepts the next instruction of each core while one
 /// more retirement needs no memory.
 ///
-/// The regulated log is made from what is known at the instructions up to an edge's target. So a
-/// retirement is noted first, and its edges are told to the regulator by `tell`, after the step in which
-/// it retired.
+/// The regulated log is made from what is known at the instructions up to an edge's target. So the regulator
+/// is told of a retirement first, and of its edges by `tell`, after the step in which it retired.
 pub(crate) struct RunClerk {
     reducer: Reducer,
-    history: History,
     /// The edges of the last retirement, until the regulator is told of them.
     untold: EdgePlaces,
     regulator: Regulator,
@@ -37,7 +36,6 @@ impl Drop for RunClerk {
     fn drop(self) {
         let RunClerk {
             reducer: _reducer,
-            history: _history,
             untold: _untold,
             regulator: _regulator,
         } = self;
@@ -58,7 +56,6 @@ impl Model for RunClerk {
 
     ghost view = { λ a. record {
       reduction = a.reducer;
-      history = a.history;
       untold = a.untold;
       regulation = a.regulator;
     } };
@@ -69,18 +66,15 @@ impl RunClerk {
     pub(crate) fn new(alloc: Global, cores: u8) -> Result<RunClerk, AllocError>
         requires { cores ≤ CORES_MAX }
         ensures reduction { IfOk result (λ clerk. clerk.reduction.state ≡ unreduced cores) }
-        ensures history { IfOk result (λ clerk. clerk.history.notes ≡ no_notes cores) }
         ensures untold { IfOk result (λ clerk. clerk.untold ≡ []) }
-        ensures cores { IfOk result (λ clerk. clerk.regulation.cores ≡ cores) }
-        ensures regulation { IfOk result (λ clerk. (notes : Notes) →
-            IsRegulation notes (replicate (pair_count cores) []) clerk.regulation) }
+        ensures cores { IfOk result (λ clerk. clerk.regulation.regulation.cores ≡ cores) }
+        ensures follows { IfOk result (λ clerk.
+            Follows (no_notes cores) (replicate (pair_count cores) []) clerk.regulation) }
     {
         let reducer = Reducer::new(alloc, cores)?;
-        let history = History::new(alloc, cores)?;
         let regulator = Regulator::new(alloc, cores)?;
         Ok(RunClerk {
             reducer,
-            history,
             untold: EdgePlaces::new(),
             regulator,
         })
@@ -89,17 +83,14 @@ impl RunClerk {
     /// Makes room for one more retirement.
     pub(crate) fn ready(&mut self) -> Result<(), AllocError>
         ensures reduction { self.new.reduction.state ≡ self.old.reduction.state }
-        ensures history { self.new.history.notes ≡ self.old.history.notes }
         ensures untold { self.new.untold ≡ self.old.untold }
-        ensures cores { self.new.regulation.cores ≡ self.old.regulation.cores }
-        ensures regulation { (notes : Notes) (edges : List (List (ℕ × ℕ))) →
-            IsRegulation notes edges self.old.regulation → IsRegulation notes edges self.new.regulation }
+        ensures cores { self.new.regulation.regulation.cores ≡ self.old.regulation.regulation.cores }
+        ensures follows { (notes : Notes) (edges : List (List (ℕ × ℕ))) →
+            Follows notes edges self.old.regulation → Follows notes edges self.new.regulation }
         ensures ready { OnOk result (IsTrue self.new.reduction.ready) }
-        ensures history_ready { OnOk result (IsTrue self.new.history.ready) }
-        ensures regulation_ready { OnOk result (AreReady self.new.regulation) }
+        ensures regulation_ready { OnOk result (AreReady self.new.regulation.regulation) }
     {
         self.reducer.ready()?;
-        self.history.ready()?;
         self.regulator.ready()
     }
 
@@ -108,7 +99,7 @@ impl RunClerk {
         requires { CanTell self.old }
         ensures { IsTold self.old self.new }
     {
-        self.regulator.edges(self.untold.as_slice(), &self.history);
+        self.regulator.edges(self.untold.as_slice());
         self.untold.clear();
     }
 
@@ -116,13 +107,12 @@ impl RunClerk {
     pub(crate) fn finish(self) -> RunLogs
         ensures reduced { result.reduced ≡ self.reduction.state.lists }
         ensures regulated { (known : Notes) (edges : List (List (ℕ × ℕ))) →
-            IsRegulation known edges self.regulation →
-            result.regulated ≡ regulated self.regulation.cores (known_at known) edges }
-        ensures vectors { result.regulated ≡ self.regulation.vectors }
+            IsRegulation known edges self.regulation.regulation →
+            result.regulated ≡ regulated self.regulation.regulation.cores (known_at known) edges }
+        ensures vectors { result.regulated ≡ self.regulation.regulation.vectors }
     {
         let RunClerk {
             reducer,
-            history: _history,
             untold: _untold,
             regulator,
         } = self;
@@ -143,12 +133,12 @@ impl Clerk<Times, Known> for RunClerk {
     ghost told_touch = { λ c r a k d q. ToldTouch c r a k d q };
 
     fn local(&mut self, at: Instr, carry: &Known) {
-        self.history.note(at, carry);
+        self.regulator.retired(at, carry);
         self.reducer.local(at);
     }
 
     fn touched(&mut self, access: Access, rider: &mut Times, carry: &Known) {
-        self.history.note(access.at, carry);
+        self.regulator.retired(access.at, carry);
         self.reducer.retire_into(&access, rider, &mut self.untold);
     }
 }

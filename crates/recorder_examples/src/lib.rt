@@ -3,6 +3,12 @@
 #![tactic(auto)]
 
 #[cfg(test)]
+mod hand_tests;
+#[cfg(test)]
 mod least_tests;
 #[cfg(test)]
 mod regulated_tests;
+#[cfg(test)]
+mod run_tests;
+#[cfg(test)]
+mod vector_tests;

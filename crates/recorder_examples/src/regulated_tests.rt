@@ -5,11 +5,13 @@ ghost use Rattle.std.specs.Prelude.{◌≡◌};
 use crate::least_tests::{PARAMS, SEEDS, STEPS, image};
 use access_times::{Clerk, NoRider, Rider};
 use know_history::Known;
+use log_codec::Recording;
 use msi_machine::Machine;
 use recorder::record_run;
 use rtr_types::{Access, CORES_MAX, Instr, pair_count, pair_of};
 use schedule_pick::Schedule;
 use std::alloc::{AllocError, Global};
+use std::process::Abort;
 use std::test::Fail;
 use stride_vector::StrideVector;
 
@@ -148,30 +150,51 @@ fn positions_of(alloc: Global, vectors: &[StrideVector]) -> Result<Vec<(u64, u64
     Ok(all)
 }
 
+/// The vectors of the pair of cores are the slow program's; how many fewer they are than the edges.
+fn saved_by(
+    rt: &impl Abort,
+    alloc: Global,
+    rows: &[(Instr, Known)],
+    pair: (u8, u8),
+    edges: &[(u32, u32)],
+    vectors: &[StrideVector],
+) -> Result<u64, Fail> {
+    let (wanted, count) = slow(alloc, rows, pair, edges)?;
+    let found = positions_of(alloc, vectors)?;
+    assert_eq!(rt; found.as_slice(), wanted.as_slice(), "pair {pair:?}");
+    assert_eq!(rt; vectors.len() as u64, count, "pair {pair:?}");
+    Ok((edges.len() as u64).saturating_sub(count))
+}
+
+/// The edges and the vectors of the pair of cores at a place.
+fn lists_at(recording: &Recording, place: usize) -> (&[(u32, u32)], &[StrideVector]) {
+    let reduced = recording.reduced.as_slice();
+    let regulated = recording.regulated.as_slice();
+    match (reduced.get(place), regulated.get(place)) {
+        (Some(edges), Some(vectors)) => (edges.as_slice(), vectors.as_slice()),
+        _ => (&[], &[]),
+    }
+}
+
+/// The same of all pairs of a run with this seed.
+fn saved_in_run(rt: &impl Abort, alloc: Global, seed: u64) -> Result<u64, Fail> {
+    let rows = known_in_run(alloc, seed)?;
+    let schedule = Schedule::new(Vec::new(alloc), seed);
+    let run = record_run(alloc, image(alloc)?, PARAMS, schedule)?;
+    let mut saved = 0u64;
+    for place in 0..pair_count(CORES_MAX) {
+        let (edges, vectors) = lists_at(&run.recording, place);
+        let pair = pair_of(CORES_MAX, place);
+        saved = saved.saturating_add(saved_by(rt, alloc, &rows, pair, edges, vectors)?);
+    }
+    Ok(saved)
+}
+
 #[test]
 fn the_vectors_are_those_of_the_definition(rt: HostRuntime) -> Result<(), Fail> {
-    let alloc = rt.alloc();
     let mut saved = 0u64;
     for seed in &SEEDS {
-        let rows = known_in_run(alloc, *seed)?;
-        let schedule = Schedule::new(Vec::new(alloc), *seed);
-        let run = record_run(alloc, image(alloc)?, PARAMS, schedule)?;
-        for place in 0..pair_count(CORES_MAX) {
-            let reduced = run.recording.reduced.as_slice();
-            let regulated = run.recording.regulated.as_slice();
-            if let (Some(edges), Some(vectors)) = (reduced.get(place), regulated.get(place)) {
-                let pair = pair_of(CORES_MAX, place);
-                let (wanted, count) = slow(alloc, &rows, pair, edges.as_slice())?;
-                let found = positions_of(alloc, vectors.as_slice())?;
-                assert_eq!(rt;
-                    found.as_slice(),
-                    wanted.as_slice(),
-                    "seed {seed} pair {place}"
-                );
-                assert_eq!(rt; vectors.len() as u64, count, "seed {seed} pair {place}");
-                saved = saved.saturating_add((edges.len() as u64).saturating_sub(count));
-            }
-        }
+        saved = saved.saturating_add(saved_in_run(&rt, rt.alloc(), *seed)?);
     }
     assert!(rt; saved > 0);
     Ok(())

@@ -1,5 +1,6 @@
 -- The order of retirement meets the regulated log.
-use Rattle.std.proofs.Common.{◌≡◌, ◌≢◌, ℕ, ◌+◌, ◌<◌, ◌≤◌, ◌⊎◌, true, List, [], ◌∷◌, ◌++◌, refl, sym, ap, subst, ◌∙◌, inl, inr, arith}
+use Rattle.std.proofs.Common.{◌≡◌, ◌≢◌, ℕ, ◌+◌, ◌<◌, ◌≤◌, ◌⊎◌, true, List, [], ◌∷◌, ◌++◌, refl, sym, ap, subst, ◌∙◌}
+use Rattle.std.proofs.Common.{inl, inr, arith}
 use Rattle.std.specs.Prelude.{slice_index, slice_index_or, nat_le}
 use Rattle.std.specs.List.{AllByRecursion, Contains, flat_map}
 use Rattle.std.proofs.lemmas.List.{get_or_default}
@@ -35,16 +36,30 @@ pub record PlaceOf (order : List ℕ) (f : ℕ → ℕ) (core count : ℕ) : Typ
   pub split : order ≡ front ++ core ∷ rest
   pub before : counts f front core + 1 ≡ count
 
-pub place_of : (order : List ℕ) (f : ℕ → ℕ) (core count : ℕ) → f core < count → count ≤ counts f order core → PlaceOf order f core count
+pub place_of : (order : List ℕ) (f : ℕ → ℕ) (core count : ℕ) → f core < count → count ≤ counts f order core →
+    PlaceOf order f core count
 place_of [] f core count above most = absurd (omega arith)
-place_of (c ∷ order) f core count above most = by (λ lt. place_of order (bump f c) core count lt most) (cases_eq core c) (cases_eq (f core + 1) count)
+place_of (c ∷ order) f core count above most = by (λ lt. place_of order (bump f c) core count lt most) (cases_eq core c)
+    (cases_eq (f core + 1) count)
   where
     later : PlaceOf order (bump f c) core count → PlaceOf (c ∷ order) f core count
-    later p = record { front = c ∷ p.front; rest = p.rest; split = ap (λ (l : List ℕ). c ∷ l) p.split; before = p.before }
+    later p = record {
+      front = c ∷ p.front;
+      rest = p.rest;
+      split = ap (λ (l : List ℕ). c ∷ l) p.split;
+      before =
+          p.before;
+    }
 
-    by : (bump f c core < count → PlaceOf order (bump f c) core count) → (core ≡ c) ⊎ (core ≢ c) → (f core + 1 ≡ count) ⊎ (f core + 1 ≢ count) →
+    by : (bump f c core < count → PlaceOf order (bump f c) core count) → (core ≡ c) ⊎ (core ≢ c) →
+        (f core + 1 ≡ count) ⊎ (f core + 1 ≢ count) →
         PlaceOf (c ∷ order) f core count
-    by on (inl same) (inl here) = record { front = []; rest = order; split = ap (λ (i : ℕ). i ∷ order) (sym same); before = here }
+    by on (inl same) (inl here) = record {
+      front = [];
+      rest = order;
+      split = ap (λ (i : ℕ). i ∷ order) (sym same);
+      before = here;
+    }
     by on (inl same) (inr there) = let more = bump_same f c core same in later (on (omega arith))
     by on (inr other) _ = let as_was = bump_else f c core other in later (on (omega arith))
 
@@ -56,11 +71,17 @@ positions_all : (P : ℕ × ℕ → Type 0) (vectors : List StrideVector) (a b :
 positions_all P vectors a b each has =
     let p = position_at vectors a b has in
     let v = slice_index_or vectors p.k no_vector in
-    let at = all_contains (EachPosition P) vectors v each (p.k, p.within, get_or_default vectors p.k v no_vector p.within) in
+    let at = all_contains (EachPosition P) vectors v each (
+      p.k,
+      p.within,
+      get_or_default vectors p.k v no_vector
+          p.within,
+    ) in
     subst P p.is (at p.m p.below)
 
 -- at a place of the order, each regulated source of the core's next instruction has retired
-source_retired : (known : Knowledge) (order : List ℕ) (r : Recording) (front : List ℕ) (core : ℕ) (rest : List ℕ) (from : Instr) → Valid r →
+source_retired : (known : Knowledge) (order : List ℕ) (r : Recording) (front : List ℕ) (core : ℕ) (rest : List ℕ)
+    (from : Instr) → Valid r →
     IsPast r.params.cores order known → order ≡ front ++ core ∷ rest →
     Sourced (log_edges Reduced r) (counts nought front) core (counts nought front core + 1) →
     HasEdge Regulated (with_regulated known r) from (record { core = core; count = counts nought front core + 1 }) →
@@ -78,19 +99,26 @@ source_retired known order r front core rest from valid past split sourced has =
     let retired = past.each front core rest from.core split p.0 in
     let all : a ≤ counts nought front from.core = omega arith in all) in
     let by_edge = contains_all before edges
-    (λ e here is. source_within (log_edges Reduced r) (counts nought front) core n sourced (record { core = from.core; count = e.0 })
+    (λ e here is. source_within (log_edges Reduced r) (counts nought front) core n sourced (record {
+      core =
+          from.core;
+      count = e.0;
+    })
     ((edges-are-paired Reduced r (record { core = from.core; count = e.0 }) (record { core = core; count = n })).1
     (p.0, subst (λ (b : ℕ). Contains edges (e.0, b)) is here))) in
     positions_all before (between known r from.core core) from.count n
-    (greedy_positions before (bound_at r.totals place) (knows_by known from.core core) edges by_known stand by_edge) p.1 refl
+    (greedy_positions before (bound_at r.totals place) (knows_by known from.core core) edges by_known stand by_edge) p.1
+    refl
 
 pub order_law : OrderLaw
-order_law known order r valid past ordered = (places_law (plan_of Regulated (with_regulated known r)) order).1 (λ front core rest split.
+order_law known order r valid past ordered = (places_law (plan_of Regulated (with_regulated known r)) order).1
+    (λ front core rest split.
     let ready = (places_law (plan_of Reduced r) order).0 ordered front core rest split in
     record {
       inside = ready.inside;
       below = ready.below;
-      sourced = within_sourced (log_edges Regulated (with_regulated known r)) (counts nought front) core (counts nought front core + 1)
+      sourced = within_sourced (log_edges Regulated (with_regulated known r)) (counts nought front) core
+          (counts nought front core + 1)
           (λ from has. source_retired known order r front core rest from valid past split ready.sourced has);
     })
 
@@ -102,12 +130,18 @@ within_law known order r valid past whole = record {
       let each = valid.each_core in
       let all = whole.each core core_in in
       let p = place_of order nought core count (omega arith) (omega arith) in
-      let pair : IsPair r.params.cores of core = record { source = omega arith; target = omega arith; differ = other } in
+      let pair : IsPair r.params.cores of core = record {
+        source = omega arith;
+        target = omega arith;
+        differ =
+            other;
+      } in
       let retired = past.each p.front core p.rest of p.split pair in
       let same = ap (λ (n : ℕ). known core n of) p.before in
       let more = counts_more (counts nought p.front) (core ∷ p.rest) of in
       let on : counts nought order of ≡ counts (counts nought p.front) (core ∷ p.rest) of =
-      ap (λ (l : List ℕ). counts nought l of) p.split ∙ ap (λ (f : ℕ → ℕ). f of) (counts_on nought p.front (core ∷ p.rest)) in
+      ap (λ (l : List ℕ). counts nought l of) p.split
+      ∙ ap (λ (f : ℕ → ℕ). f of) (counts_on nought p.front (core ∷ p.rest)) in
       let total = whole.each of of_in in
       let le : known core count of ≤ slice_index r.totals of = omega arith in
       le;
@@ -124,7 +158,8 @@ forward_law known order r x y valid past ordered whole has =
     let all = whole.each y.core (omega arith) in
     let p = place_of order nought y.core y.count (omega arith) (omega arith) in
     let ready = (places_law (plan_of Reduced r) order).0 ordered p.front y.core p.rest p.split in
-    let there = subst (λ (n : ℕ). HasEdge Regulated (with_regulated known r) x (record { core = y.core; count = n })) (sym p.before) has in
+    let there = subst (λ (n : ℕ). HasEdge Regulated (with_regulated known r) x (record { core = y.core; count = n }))
+    (sym p.before) has in
     record {
       front = p.front;
       rest = p.rest;
@@ -145,7 +180,8 @@ regulated_law known order r valid past ordered whole = record {
 -- ---- what is past
 
 -- a core's place with a count is one
-one_place : (order : List ℕ) (f : ℕ → ℕ) (core : ℕ) (front rest other more : List ℕ) → order ≡ front ++ core ∷ rest → order ≡ other ++ core ∷ more →
+one_place : (order : List ℕ) (f : ℕ → ℕ) (core : ℕ) (front rest other more : List ℕ) → order ≡ front ++ core ∷ rest →
+    order ≡ other ++ core ∷ more →
     counts f front core ≡ counts f other core → front ≡ other
 one_place order f core [] rest [] more p q same = refl
 one_place order f core [] rest (c ∷ other) more p q same =
@@ -164,8 +200,10 @@ one_place order f core (c ∷ front) rest (d ∷ other) more p q same =
     let heads : c ∷ (front ++ core ∷ rest) ≡ d ∷ (other ++ core ∷ more) = sym p ∙ q in
     let head : c ≡ d = cc in
     let tail : front ++ core ∷ rest ≡ other ++ core ∷ more = cc in
-    let same_from : counts (bump f c) front core ≡ counts (bump f c) other core = same ∙ ap (λ (i : ℕ). counts (bump f i) other core) (sym head) in
-    ap (λ (l : List ℕ). c ∷ l) (one_place (front ++ core ∷ rest) (bump f c) core front rest other more refl tail same_from) ∙ ap (λ (i : ℕ). i ∷ other) head
+    let same_from : counts (bump f c) front core ≡ counts (bump f c) other core = same
+    ∙ ap (λ (i : ℕ). counts (bump f i) other core) (sym head) in
+    ap (λ (l : List ℕ). c ∷ l) (one_place (front ++ core ∷ rest) (bump f c) core front rest other more refl tail
+    same_from) ∙ ap (λ (i : ℕ). i ∷ other) head
 
 pub past_law : PastLaw
 past_law pairs order known = (forth, back)
@@ -176,16 +214,19 @@ past_law pairs order known = (forth, back)
           at front core rest of split other (cases_eq (known core (counts nought front core + 1) of) 0);
     }
       where
-        at : (front : List ℕ) (core : ℕ) (rest : List ℕ) (of : ℕ) → order ≡ front ++ core ∷ rest → IsPair pairs of core →
+        at : (front : List ℕ) (core : ℕ) (rest : List ℕ) (of : ℕ) → order ≡ front ++ core ∷ rest →
+            IsPair pairs of core →
             (known core (counts nought front core + 1) of ≡ 0) ⊎ (known core (counts nought front core + 1) of ≢ 0) →
             known core (counts nought front core + 1) of ≤ counts nought front of
         at front core rest of split other (inl none) = omega arith
         at front core rest of split other (inr some) =
-            let on : counts nought order core ≡ counts (counts nought front) (core ∷ rest) core = ap (λ (l : List ℕ). counts nought l core) split
+            let on : counts nought order core ≡ counts (counts nought front) (core ∷ rest) core =
+            ap (λ (l : List ℕ). counts nought l core) split
             ∙ ap (λ (f : ℕ → ℕ). f core) (counts_on nought front (core ∷ rest)) in
             let one = bump_same (counts nought front) core core refl in
             let up = counts_more (bump (counts nought front) core) rest core in
-            let b = retired core (counts nought front core + 1) of (known core (counts nought front core + 1) of) other (omega arith) (omega arith)
+            let b = retired core (counts nought front core + 1) of (known core (counts nought front core + 1) of) other
+            (omega arith) (omega arith)
             (omega arith) (omega arith) in
             let target = b.target in
             let same = one_place order nought core b.front b.rest front rest b.place split (omega arith) in

@@ -29,9 +29,11 @@ touched_of_image p s c = refl
 
 play_of_image : (p : Plan) (s : Outcome) (order : List ℕ) → play p s order ≡ play (of p.image) s order
 play_of_image p s [] = refl
-play_of_image p s (c ∷ cs) = play_of_image p (place p s c) cs ∙ ap (λ (t : Outcome). play (of p.image) t cs) (place_of_image p s c)
+play_of_image p s (c ∷ cs) = play_of_image p (place p s c) cs
+    ∙ ap (λ (t : Outcome). play (of p.image) t cs) (place_of_image p s c)
 
-accesses_of_image : (p : Plan) (s : Outcome) (order : List ℕ) → accesses_from p s order ≡ accesses_from (of p.image) s order
+accesses_of_image : (p : Plan) (s : Outcome) (order : List ℕ) → accesses_from p s order ≡ accesses_from (of p.image) s
+    order
 accesses_of_image p s [] = refl
 accesses_of_image p s (c ∷ cs) =
     ap (λ (l : List Access). l ++ accesses_from p (place p s c) cs) (touched_of_image p s c)
@@ -40,13 +42,19 @@ accesses_of_image p s (c ∷ cs) =
 
 plays_by_image : (p : Plan) (s : Outcome) (order : List ℕ) → Plays p s order → Plays (of p.image) s order
 plays_by_image p s [] plays = tt
-plays_by_image p s (c ∷ cs) plays =
-    (plays.0, subst (λ (t : Outcome). Plays (of p.image) t cs) (place_of_image p s c) (plays_by_image p (place p s c) cs plays.1))
+plays_by_image p s (c ∷ cs) plays = (
+  plays.0,
+  subst (λ (t : Outcome). Plays (of p.image) t cs) (place_of_image p s c) (plays_by_image p (place p s c) cs
+      plays.1),
+)
 
 image_plays_by : (p : Plan) (s : Outcome) (order : List ℕ) → Plays (of p.image) s order → Plays p s order
 image_plays_by p s [] plays = tt
-image_plays_by p s (c ∷ cs) plays =
-    (plays.0, image_plays_by p (place p s c) cs (subst (λ (t : Outcome). Plays (of p.image) t cs) (sym (place_of_image p s c)) plays.1))
+image_plays_by p s (c ∷ cs) plays = (
+  plays.0,
+  image_plays_by p (place p s c) cs (subst (λ (t : Outcome). Plays (of p.image) t cs)
+      (sym (place_of_image p s c)) plays.1),
+)
 
 pub decides_law : DecidesLaw
 decides_law known r order valid past decides = record {
@@ -68,5 +76,6 @@ decides_law known r order valid past decides = record {
     after = plan_of Regulated (with_regulated known r)
 
     same : accesses_of (plan_of Regulated (with_regulated known r)) order ≡ accesses_of (plan_of Reduced r) order
-    same = accesses_of_image (plan_of Regulated (with_regulated known r)) (start (plan_of Regulated (with_regulated known r))) order
+    same = accesses_of_image (plan_of Regulated (with_regulated known r))
+        (start (plan_of Regulated (with_regulated known r))) order
         ∙ sym (accesses_of_image (plan_of Reduced r) (start (plan_of Reduced r)) order)

@@ -17,4 +17,5 @@ pub mod Following
 pub mod Auditing
 pub mod Refused
 pub mod Judging
+pub mod Walking
 pub mod Touching

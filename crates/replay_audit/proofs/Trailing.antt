@@ -35,7 +35,7 @@ use Rattle.replay_core.specs.Sources.{AreSources}
 use Rattle.replay_audit.specs.Clocks.{Kept, clock_at, Clocked}
 use Rattle.replay_audit.specs.Marks.{first_mark, AreMarksCovered, AreMarked}
 use Rattle.replay_audit.specs.Unordered.{IsLatestBefore, IsUnordered, is_open, AreCovered, IsLatestAt}
-use Rattle.replay_audit.specs.Trails.{Trailed, FoundNext, with_kept, Trails, IsFinding, IsTrailOf}
+use Rattle.replay_audit.specs.Trails.{Trailed, FoundNext, Watches, with_kept, Trails, IsFinding, IsTrailOf}
 use Rattle.replay_audit.proofs.Pairs.{Apart, both_left, both_right, across, pairs_which}
 use Rattle.replay_audit.proofs.Clocking.{clocked_on, clock_found, clocked_start}
 use Rattle.replay_audit.proofs.Marking.{AreCandidatesCovered, covered_marks, marked_next, marked_start}
@@ -199,15 +199,21 @@ finding_next edges marks list a k None (Some o) h now was f n = record {
 
 -- ---- a trail
 
-pub trail_start : (edges : List Edge) (cores words : ℕ) (t : Trailed) → t.kept.numbers ≡ replicate cores [] →
-    t.kept.clocks ≡ replicate cores [] →
-    t.marks ≡ replicate words first_mark → t.accesses ≡ [] → t.found ≡ None → IsTrailOf edges cores nought [] t
-trail_start edges cores words t numbers clocks marks accesses found = record {
-  clocked = clocked_start edges cores t.kept numbers clocks;
+-- no access yet, with the clocks of instructions that were noted
+pub trail_along : (edges : List Edge) (cores words : ℕ) (f : ℕ → ℕ) (t : Trailed) → Clocked edges cores f t.kept →
+    t.marks ≡ replicate words first_mark → t.accesses ≡ [] → t.found ≡ None → IsTrailOf edges cores f [] t
+trail_along edges cores words f t clocked marks accesses found = record {
+  clocked = clocked;
   accesses_is = accesses;
   marked = subst (λ (l : List Mark). AreMarked [] l) (sym marks) (marked_start words);
   finding = λ acyclic. subst (λ (o : Option Unordered). IsFinding edges [] o) (sym found) (λ x y p. absurd p);
 }
+
+pub trail_start : (edges : List Edge) (cores words : ℕ) (t : Trailed) → t.kept.numbers ≡ replicate cores [] →
+    t.kept.clocks ≡ replicate cores [] →
+    t.marks ≡ replicate words first_mark → t.accesses ≡ [] → t.found ≡ None → IsTrailOf edges cores nought [] t
+trail_start edges cores words t numbers clocks = trail_along edges cores words nought t
+    (clocked_start edges cores t.kept numbers clocks)
 
 module _ (which : Which) (r : Recording) (valid : Valid r) (f : ℕ → ℕ) (c : ℕ) (ready : Ready (plan_of which r) f c)
     (list : List Access) (s : Trailed)
@@ -255,3 +261,21 @@ module _ (which : Which) (r : Recording) (valid : Valid r) (f : ℕ → ℕ) (c 
           (λ i. slice_index h.watched.clock i)
           (λ i. sym (h.watched.clock_is i ∙ ap (λ (x : Instr). clock_at h.kept x i) here))
           (clock_found which r valid f s.kept trail.clocked c sources h.kept ready are h.noted acyclic))
+
+-- an access of an instruction that was noted before
+pub trail_watched : (edges : List Edge) (cores : ℕ) (f : ℕ → ℕ) (list : List Access) (s t : Trailed) (a : Access) →
+    IsTrailOf edges cores f list s → Watches s a t → a.at.core < cores → a.at.core < CORES_MAX → 1 ≤ a.at.count →
+    a.at.count ≤ f a.at.core → CountsRise list → CountsRise (list ++ a ∷ []) →
+    ((b : Access) → StandsIn list b → b.at.core < CORES_MAX) → IsTrailOf edges cores f (list ++ a ∷ []) t
+trail_watched edges cores f list s t a trail w inside few pos le rise now each = record {
+  clocked = subst (λ (k : Kept). Clocked edges cores f k) (sym w.kept) trail.clocked;
+  accesses_is = w.accesses ∙ ap (λ (l : List Access). l ++ a ∷ []) trail.accesses_is;
+  marked = subst (λ (l : List Access). AreMarked l t.marks) (sym (reverse-next list a))
+      (subst (λ (m : List Mark). AreMarked (a ∷ reverse list) m) (sym w.marks)
+      (marked_next (reverse list) s.marks a few trail.marked));
+  finding = λ acyclic. finding_next edges s.marks list a w.clock s.found t.found
+      (clock_same (Among edges) a.at (clock_at s.kept a.at) (λ i. slice_index w.clock i) (λ i. sym (w.clock_is i))
+      (trail.clocked.exact acyclic a.at.core a.at.count inside pos le)) now
+      (record { rise = rise; marked = trail.marked; cores = each }) (trail.finding acyclic)
+      (subst (λ (l : List Access). FoundNext s.found s.marks l a w.clock t.found) trail.accesses_is w.found);
+}

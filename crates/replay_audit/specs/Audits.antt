@@ -1,5 +1,5 @@
 -- What an audit answers.
-use Rattle.std.specs.Prelude.{◌≡◌, ℕ, ◌<◌, ◌≤◌, List, [], length, slice_index, replicate, Option, Some, None}
+use Rattle.std.specs.Prelude.{◌≡◌, ℕ, List, [], length, replicate, Option, Some, None}
 use Rattle.replay_core.specs.Answers.{UnderWay}
 use Rattle.replay_audit.specs.Marks.{first_mark}
 use Rattle.replay_core.specs.Tallies.{Tallied}
@@ -7,6 +7,7 @@ use Rattle.replay_audit.specs.Trails.{Trailed}
 use Rattle.rtr_types.specs.declared.instr.Instr.{Instr}
 use Rattle.rtr_types.specs.declared.access.Access.{Access}
 use Rattle.rtr_types.specs.declared.pairs.Which.{Which}
+use Rattle.rtr_types.specs.Nodes.{IsNode}
 use Rattle.clock_core.specs.Order.{Among}
 use Rattle.clock_core.specs.Reach.{IsClock}
 use Rattle.rv_core.specs.declared.outcome.Outcome.{Outcome}
@@ -56,10 +57,8 @@ pub record IsAuditOf (which : Which) (r : Recording) (audited : Findings) : Type
   pub passed : PassesOf audited
 
 -- an instruction of the recording: a count of one of its cores, from 1 to the core's total
-pub record IsInstrOf (r : Recording) (at : Instr) : Type 0 where
-  pub core : at.core < length r.totals
-  pub some : 1 ≤ at.count
-  pub most : at.count ≤ slice_index r.totals at.core
+abbrev pub IsInstrOf : Recording → Instr → Type 0
+IsInstrOf r at = IsNode r.totals at
 
 -- the clocks that are kept give each instruction's clock by the log
 abbrev pub AreClocksOf : Which → Recording → Kept → Type 0

@@ -7,3 +7,4 @@ pub mod Marks
 pub mod Touches
 pub mod Trails
 pub mod Unordered
+pub mod Walks

@@ -1,5 +1,5 @@
 -- Accesses without their values, by core.
-use Rattle.std.specs.Prelude.{◌≡◌, ℕ, ◌<◌, List, [], length, slice_index_or}
+use Rattle.std.specs.Prelude.{◌≡◌, ℕ, ◌-◌, ◌<◌, ◌≤◌, List, [], length, slice_index_or}
 use Rattle.std.specs.List.{Contains}
 use Rattle.rtr_types.specs.declared.access.Access.{Access}
 use Rattle.rtr_types.specs.declared.pairs.Which.{Which}
@@ -29,6 +29,17 @@ IsAccessOf list count a = (t : Touch) × Contains list t × (t.at.count ≡ coun
 pub record AreRising (list : List Touch) : Type 0 where
   pub each : (i j : ℕ) (d : Touch) → i < j → j < length list →
       (slice_index_or list i d).at.count < (slice_index_or list j d).at.count
+
+-- the touch with count n stands at place k
+pub record IsAt (list : List Touch) (n k : ℕ) : Type 0 where
+  pub within : k < length list
+  pub is : (d : Touch) → (slice_index_or list k d).at.count ≡ n
+
+-- where the count n stands in the list, or would: the touch before place k has a lower count, and the one there hasn't
+pub record IsPlaceOf (list : List Touch) (n k : ℕ) : Type 0 where
+  pub within : k ≤ length list
+  pub before : (d : Touch) → 1 ≤ k → (slice_index_or list (k - 1) d).at.count < n
+  pub after : (d : Touch) → k < length list → n ≤ (slice_index_or list k d).at.count
 
 -- the k-th list has the accesses of core k, by rising count
 pub record AreTouches (list : List Access) (cores : ℕ) (touched : List (List Touch)) : Type 0 where

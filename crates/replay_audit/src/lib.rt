@@ -18,4 +18,4 @@ pub use audit_fault::AuditFault;
 pub use audited::{Audited, audit};
 pub use judgement::judge;
 pub use touch::Touch;
-pub use whole_order::ordered;
+pub use whole_order::{WholeOrder, ordered};

@@ -64,6 +64,26 @@ impl Trail {
         })
     }
 
+    /// No access yet, with the clocks of instructions that were noted before, and room as above.
+    pub fn along(
+        alloc: Global,
+        words: u32,
+        totals: &[u32],
+        clocks: LogClocks,
+    ) -> Result<Trail, AllocError>
+        ensures kept { IfOk result (λ trail. trail.kept ≡ clocks) }
+        ensures marks { IfOk result (λ trail. trail.marks ≡ replicate words first_mark) }
+        ensures accesses { IfOk result (λ trail. trail.accesses ≡ []) }
+        ensures found { IfOk result (λ trail. trail.found ≡ NoneFound) }
+    {
+        Ok(Trail {
+            clocks,
+            marks: Marks::new(alloc, words)?,
+            accesses: Items::from_vec(Vec::with_capacity(alloc, room_for(totals))?),
+            found: None,
+        })
+    }
+
     /// Notes the next instruction of its core, of so many cores, with its access.
     #[inline(always)]
     pub fn note(
@@ -112,7 +132,7 @@ impl Trail {
 
     /// Looks at an access, whose instruction was noted, and keeps it.
     #[inline(always)]
-    fn watch(&mut self, access: Access) -> Result<(), AllocError>
+    pub fn watch(&mut self, access: Access) -> Result<(), AllocError>
         requires core { access.at.core < CORES_MAX }
         requires each { (b : SomeAccess) → StandsIn self.old.accesses b → b.at.core < CORES_MAX }
         requires marked { IsMark (mark_at self.old.marks access.word) }

@@ -2,6 +2,8 @@
 ghost use Rattle.std.specs.Prelude.{◌≡◌, ◌≢◌, ◌<◌, ◌≤◌, ◌+◌, ◌-◌, ◌^◌, ℕ, IfOk, IfSome, IsTrue, length};
 ghost use Rattle.std.specs.Prelude.{None as NoneThere};
 ghost use Rattle.rtr_types.specs.declared.TheConstants.{CORES_MAX};
+ghost use Rattle.rtr_types.specs.declared.pairs.Which.{Which};
+ghost use Rattle.log_codec.specs.declared.recording.Recording.{Recording};
 ghost use Rattle.replay_core.specs.Plans.{plan_of};
 ghost use Rattle.replay_core.specs.Play.{instr};
 ghost use Rattle.rtr_types.specs.Pairs.{IsPair};
@@ -22,9 +24,10 @@ const PLACES: usize = CORES_MAX as usize;
 
 /// The next edges into one core: from each other core the first one to the instruction with the count
 /// `from` or to a later one. None of these leads to a count below `due`. `places` has a guess of where the
-/// edge after each stands in its pair's list.
+/// edge after each stands in its pair's list. Where the core's instructions are asked for in their order, an
+/// edge is looked up once, and an instruction to which none leads takes no look-up.
 #[derive(Clone, Copy)]
-struct Coming {
+pub struct Coming {
     from: u32,
     due: u32,
     edges: [Option<(u32, u32)>; PLACES],
@@ -32,6 +35,37 @@ struct Coming {
 }
 
 impl Coming {
+    /// Before any edge was looked up.
+    pub fn new() -> Coming
+        ensures { (which : Which) (r : Recording) (core : ℕ) → Valid r →
+            IsComing (log_edges which r) core r.params.cores result }
+    {
+        Coming::none(u32::MAX)
+    }
+
+    /// Finds the logged sources of an instruction of the core: none where no edge leads to it.
+    #[inline(always)]
+    pub fn find(
+        &mut self,
+        recording: &Recording,
+        which: Which,
+        at: Instr,
+        sources: &mut Option<Clock>,
+    )
+        requires valid { Valid recording.now }
+        requires core { at.core < recording.now.params.cores }
+        requires count { at.count < 2 ^ 32 - 1 }
+        requires coming { IsComing (log_edges which recording.now) at.core recording.now.params.cores self.old }
+        ensures sources { AreSources (log_edges which recording.now) at (sources_in sources.new) }
+        ensures coming { IsComing (log_edges which recording.now) at.core recording.now.params.cores self.new }
+    {
+        if self.is_early(at.count) {
+            clear(sources);
+            return;
+        }
+        self.pass(recording, which, at, sources);
+    }
+
     /// No edge to this count or a later one.
     fn none(from: u32) -> Coming
         ensures from { result.from ≡ from }
@@ -179,8 +213,7 @@ struct Step {
     next: Option<(u32, u32)>,
 }
 
-/// The logged sources of a recording's instructions. Where each core's instructions are asked for in their
-/// order, an edge is looked up once, and an instruction to which none leads takes no look-up.
+/// The logged sources of a recording's instructions, with the next edges into each core.
 #[derive(Drop)]
 pub struct Sources<'a> {
     recording: &'a Recording,
@@ -228,12 +261,8 @@ impl<'a> Sources<'a> {
         ensures plan { self.new ≡ self.old }
         ensures sources { AreSources self.old.edges at (sources_in sources.new) }
     {
-        if self.coming[at.core as usize].is_early(at.count) {
-            clear(sources);
-            return;
-        }
         let coming = &mut self.coming[at.core as usize];
-        coming.pass(self.recording, self.which, at, sources);
+        coming.find(self.recording, self.which, at, sources);
     }
 }
 

@@ -14,6 +14,8 @@ mod sourced;
 mod tally;
 
 pub use answers::{Advanced, ReplayFault};
+pub use coming::Coming;
 pub use low_order::LowOrder;
 pub use replay::Replay;
 pub use sourced::Sourced;
+pub use tally::Tally;

@@ -6,10 +6,11 @@ ghost use Rattle.rtr_types.specs.declared.TheConstants.{CORES_MAX};
 ghost use Rattle.rv_core.specs.States.{starting};
 ghost use Rattle.log_codec.specs.Validity.{Valid};
 ghost use Rattle.replay_core.specs.Plans.{plan_of};
-ghost use Rattle.replay_core.specs.Play.{AreRising, EachRising, given_by, given_next, start, value_at};
+ghost use Rattle.replay_core.specs.Play.{AreRising, EachRising, core_at, given_by, given_next, need_at, start};
+ghost use Rattle.replay_core.specs.Play.{use_of, value_at};
 ghost use Rattle.replay_core.specs.Orders.{counts_in, Full, is_ready, is_sourced};
 ghost use Rattle.replay_core.specs.Answers.{TellsOrders, Advances, AdvancesGiven, Replays, ReplaysValued, Refuses};
-ghost use Rattle.replay_core.specs.Answers.{IsMet, RefusesValued, cut_of};
+ghost use Rattle.replay_core.specs.Answers.{IsMet, RefusesValued, UsesWithin, cut_of};
 
 use crate::answers::{Advanced, ReplayFault};
 use crate::low_order::LowOrder;
@@ -17,8 +18,8 @@ use crate::one_place::{access, found, heeded, leave, note, shared};
 use image_mem::{Image, Memory};
 use load_lists::LoadLists;
 use log_codec::Recording;
-use rtr_types::{CORES_MAX, Cut, Instr, Items, Which};
-use rv_core::{Core, Outcome, Program};
+use rtr_types::{CORES_MAX, Cut, Instr, Items, Kind, Which};
+use rv_core::{Core, Need, Outcome, Program};
 use std::alloc::{AllocError, Global};
 use std::marker::Model;
 
@@ -180,6 +181,43 @@ impl<'a> Replay<'a> {
         ensures { result ≡ counts_in self.now.state core }
     {
         self.cores[core as usize].count()
+    }
+
+    /// The core, as it stands.
+    pub fn core(&self, core: u8) -> &Core
+        requires { core < length self.now.plan.totals }
+        ensures { result.now ≡ core_at self.now.state core }
+    {
+        let _ = &self.recording;
+        &self.cores[core as usize]
+    }
+
+    /// The word of the memory with this index.
+    pub fn word(&self, word: u32) -> u32
+        requires { word < self.now.plan.image.words }
+        ensures { result ≡ slice_index self.now.state.words word }
+    {
+        self.memory.get(word)
+    }
+
+    /// What the core's next instruction needs. The core may be ready or not: what it waits for changes what
+    /// a load finds, and not which word it reads.
+    pub fn next_need(&self, core: u8) -> Need
+        requires { core < length self.now.plan.totals }
+        ensures { result ≡ need_at self.now.plan self.now.state core }
+    {
+        let core = self.core(core);
+        core.need_by_op(self.program.image(), self.program.op(core.pc()))
+    }
+
+    /// The access that the core's next instruction makes, and the index of its word, which is one of the
+    /// memory's. None for a local instruction, and where the core's program is done.
+    pub fn next_use(&self, core: u8) -> Option<(Kind, u32)>
+        requires { core < length self.now.plan.totals }
+        ensures used { result ≡ use_of (need_at self.now.plan self.now.state core) }
+        ensures within { UsesWithin result self.now.plan.image.words }
+    {
+        self.next_need(core).access()
     }
 
     /// How far each core has come.

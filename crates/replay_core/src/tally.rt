@@ -172,7 +172,7 @@ impl<'a> Tally<'a> {
     }
 
     /// Lowers the counts where the core's next instruction waits for less.
-    pub fn lower(&self, core: u8, until: &mut [u32; PLACES])
+    pub(crate) fn lower(&self, core: u8, until: &mut [u32; PLACES])
         requires { core < length self.now.plan.totals }
         ensures below { (i : ℕ) → slice_index until.new i ≤ slice_index until.old i }
         ensures waits { (i a : ℕ) → Among self.now.plan.edges (instr i a) (next_of self.now.counts core) →

@@ -1,5 +1,5 @@
 -- What the calls of the table know of the instruction that they retire.
-use Rattle.std.proofs.Common.{◌≡◌, ℕ, true, false, sym, ap, subst, ◌∙◌}
+use Rattle.std.proofs.Common.{◌≡◌, ℕ, List, true, false, sym, ap, subst, ◌∙◌}
 use Rattle.std.specs.Prelude.{Option, Some, IsTrue}
 use Rattle.rtr_types.specs.declared.access.Kind.{Kind}
 use Rattle.image_mem.specs.Contents.{Contents}
@@ -8,8 +8,10 @@ use Rattle.rv_core.specs.declared.core_state.Core.{Core}
 use Rattle.rv_core.specs.declared.core_state.Need.{Need}
 use Rattle.rv_core.specs.Needs.{is_writing}
 use Rattle.rv_core.specs.Steps.{need, access_of, after, wrote, is_done, is_whole, instruction_at}
-use Rattle.replay_core.specs.Play.{Use, use_of}
-use Rattle.replay_table.specs.Accesses.{Loads, Stores, Changes, is_load, is_change, word_of, word_by}
+use Rattle.rv_core.specs.declared.outcome.LoadNote.{LoadNote}
+use Rattle.replay_core.specs.Play.{Use, use_of, loads_after}
+use Rattle.replay_audit.specs.declared.touch.Touch.{Touch}
+use Rattle.replay_table.specs.Accesses.{Loads, Stores, Changes, is_load, is_change, touched_after, word_of, word_by}
 use Rattle.replay_table.specs.Seats.{Past, Notes}
 use Rattle.replay_table.proofs.Ties.{load_is, change_is, write_is}
 
@@ -18,37 +20,57 @@ pub record Found (image : Contents) (k : Core) (used : Use) (word : ℕ) : Type 
   pub used_is : used ≡ use_of (need image k)
   pub word_is : word_of (need image k) ≡ word
 
-pub found : (image : Contents) (k : Core) (n : Need) (used : Use) (kind : Kind) (word : ℕ) → n ≡ need image k → used ≡ access_of n
+pub found : (image : Contents) (k : Core) (n : Need) (used : Use) (kind : Kind) (word : ℕ) → n ≡ need image k
+    → used ≡ access_of n
     → used ≡ Some (kind, word) → Found image k used word
 found image k n used kind word is used_is some_ =
     let e : used ≡ use_of (need image k) = used_is ∙ ap access_of is in
     record { used_is = e; word_is = ap word_by (sym e ∙ some_) }
 
-pub loads_found : (image : Contents) (k : Core) (used : Use) (word : ℕ) → Found image k used word → IsTrue (is_load (need image k)) → Loads (need image k) word
+pub loads_found : (image : Contents) (k : Core) (used : Use) (word : ℕ) → Found image k used word
+    → IsTrue (is_load (need image k)) → Loads (need image k) word
 loads_found image k used word f t = subst (λ (w : ℕ). Loads (need image k) w) f.word_is (load_is (need image k) t)
 
-pub changes_found : (image : Contents) (k : Core) (used : Use) (word : ℕ) → Found image k used word → IsTrue (is_change (need image k))
+pub changes_found : (image : Contents) (k : Core) (used : Use) (word : ℕ) → Found image k used word
+    → IsTrue (is_change (need image k))
     → Changes (need image k) word
 changes_found image k used word f t = subst (λ (w : ℕ). Changes (need image k) w) f.word_is (change_is (need image k) t)
 
-pub stores_found : (image : Contents) (k : Core) (used : Use) (word : ℕ) → Found image k used word → IsTrue (is_writing (need image k))
+pub stores_found : (image : Contents) (k : Core) (used : Use) (word : ℕ) → Found image k used word
+    → IsTrue (is_writing (need image k))
     → IsTrue (is_whole (need image k)) → Stores (need image k) word
-stores_found image k used word f t w = subst (λ (x : ℕ). Stores (need image k) x) f.word_is (write_is (need image k) true t w)
+stores_found image k used word f t w = subst (λ (x : ℕ). Stores (need image k) x) f.word_is
+    (write_is (need image k) true t w)
 
 -- the core and the value that the code made
-pub after_is : (own image : Contents) (l k m : Core) (old : ℕ) → own ≡ image → l ≡ k → m ≡ after own l old → m ≡ after image k old
-after_is own image l k m old same at is = is ∙ ap (λ (x : Contents). after x l old) same ∙ ap (λ (x : Core). after image x old) at
+pub after_is : (own image : Contents) (l k m : Core) (old : ℕ) → own ≡ image → l ≡ k → m ≡ after own l old
+    → m ≡ after image k old
+after_is own image l k m old same at is = is ∙ ap (λ (x : Contents). after x l old) same
+    ∙ ap (λ (x : Core). after image x old) at
 
-pub wrote_is : (own image : Contents) (l k : Core) (value old : ℕ) → own ≡ image → l ≡ k → value ≡ wrote own l old → value ≡ wrote image k old
-wrote_is own image l k value old same at is = is ∙ ap (λ (x : Contents). wrote x l old) same ∙ ap (λ (x : Core). wrote image x old) at
+pub wrote_is : (own image : Contents) (l k : Core) (value old : ℕ) → own ≡ image → l ≡ k → value ≡ wrote own l old
+    → value ≡ wrote image k old
+wrote_is own image l k value old same at is = is ∙ ap (λ (x : Contents). wrote x l old) same
+    ∙ ap (λ (x : Core). wrote image x old) at
 
-pub notes_is : (image : Contents) (past new : Past) (k next : Core) (used : Use) (old : ℕ) → next ≡ after image k old → used ≡ use_of (need image k)
-    → Notes past next used old new → Notes past (after image k old) (use_of (need image k)) old new
-notes_is image past new k next used old core used_is h = subst (λ (u : Use). Notes past (after image k old) u old new) used_is
-    (subst (λ (x : Core). Notes past x used old new) core h)
+-- an access noted of a core that has retired it, `mid`, is noted of the past before
+pub notes_is : (image : Contents) (past mid new : Past) (k : Core) (used : Use) (old : ℕ)
+    → mid.core ≡ after image k old → mid.loads ≡ past.loads → mid.touched ≡ past.touched
+    → used ≡ use_of (need image k) → Notes mid mid.core used old new
+    → Notes past (after image k old) (use_of (need image k)) old new
+notes_is image past mid new k used old core loads touched used_is h = record {
+  core = h.core ∙ core;
+  loads = h.loads ∙ ap (λ (u : Use). loads_after u mid.loads mid.core.count old) used_is
+      ∙ ap (λ (l : List LoadNote). loads_after (use_of (need image k)) l mid.core.count old) loads
+      ∙ ap (λ (x : Core). loads_after (use_of (need image k)) past.loads x.count old) core;
+  touched = h.touched ∙ ap (λ (u : Use). touched_after u mid.touched mid.core.id mid.core.count) used_is
+      ∙ ap (λ (l : List Touch). touched_after (use_of (need image k)) l mid.core.id mid.core.count) touched
+      ∙ ap (λ (x : Core). touched_after (use_of (need image k)) past.touched x.id x.count) core;
+}
 
 -- the code may retire the instruction
-pub can_finish : (own image : Contents) (l k : Core) (op : Option Op) → own ≡ image → l ≡ k → op ≡ instruction_at image k.pc → is_done (need image k) ≡ false
+pub can_finish : (own image : Contents) (l k : Core) (op : Option Op) → own ≡ image → l ≡ k → op ≡ instruction_at
+    image k.pc → is_done (need image k) ≡ false
     → (is_done (need own l) ≡ false) × (op ≡ instruction_at own l.pc)
 can_finish own image l k op same at is more =
     subst (λ (x : Core). (is_done (need own x) ≡ false) × (op ≡ instruction_at own x.pc)) (sym at)

@@ -36,7 +36,8 @@ get-last : {A : Type 0} → (xs : List A) (a : A) → slice_get (xs ++ a ∷ [])
 get-last [] a = refl
 get-last (x ∷ xs) a = get-last xs a
 
-get-longer : {A : Type 0} → (xs : List A) (a x : A) (k : ℕ) → slice_get xs k ≡ Some x → slice_get (xs ++ a ∷ []) k ≡ Some x
+get-longer : {A : Type 0} → (xs : List A) (a x : A) (k : ℕ) → slice_get xs k ≡ Some x → slice_get (xs ++ a ∷ []) k ≡
+    Some x
 get-longer [] a x k e = absurd cc
 get-longer (y ∷ ys) a x zero e = e
 get-longer (y ∷ ys) a x (suc k) e = get-longer ys a x k e
@@ -49,7 +50,8 @@ get-some [] k h = absurd (omega arith)
 get-some (x ∷ xs) zero h = (x, refl)
 get-some (x ∷ xs) (suc k) h = get-some xs k (omega arith)
 
-map-get : {A B : Type 0} → (f : A → B) (xs : List A) (k : ℕ) (x : A) (d : B) → slice_get xs k ≡ Some x → slice_index_or (map f xs) k d ≡ f x
+map-get : {A B : Type 0} → (f : A → B) (xs : List A) (k : ℕ) (x : A) (d : B) → slice_get xs k ≡ Some x
+    → slice_index_or (map f xs) k d ≡ f x
 map-get f [] k x d e = absurd cc
 map-get f (y ∷ ys) zero x d e = let q : y ≡ x = cc in ap f q
 map-get f (y ∷ ys) (suc k) x d e = map-get f ys k x d e
@@ -63,13 +65,15 @@ map-end f [] a = refl
 map-end f (x ∷ xs) a = ap (λ (l : List _). f x ∷ l) (map-end f xs a)
 
 -- lists that have the same at each place
-same-list : {A : Type 0} → (xs ys : List A) (d : A) → length xs ≡ length ys → ((k : ℕ) → k < length xs → slice_index_or xs k d ≡ slice_index_or ys k d)
+same-list : {A : Type 0} → (xs ys : List A) (d : A) → length xs ≡ length ys
+    → ((k : ℕ) → k < length xs → slice_index_or xs k d ≡ slice_index_or ys k d)
     → xs ≡ ys
 same-list [] [] d e h = refl
 same-list [] (y ∷ ys) d e h = absurd (omega arith)
 same-list (x ∷ xs) [] d e h = absurd (omega arith)
 same-list (x ∷ xs) (y ∷ ys) d e h =
-    ap (λ (a : _). a ∷ xs) (h zero (omega arith)) ∙ ap (λ (l : List _). y ∷ l) (same-list xs ys d (omega arith) (λ k lt. h (suc k) (omega arith)))
+    ap (λ (a : _). a ∷ xs) (h zero (omega arith)) ∙ ap (λ (l : List _). y ∷ l)
+    (same-list xs ys d (omega arith) (λ k lt. h (suc k) (omega arith)))
 
 -- ---- the views that are taken in
 
@@ -79,18 +83,22 @@ has-left v w o h = (h.0, at_longer v.owned w.owned h.0 o h.1)
 has-right : (v w : View) (o : Own) → Has w o → Has (both v w) o
 has-right v w o h = (length v.owned + h.0, at_later v.owned w.owned h.0 o h.1)
 
-pub gather_table : (t : TableId) (xs rest : List Sitting) (y : Sitting) → xs ≡ rest ++ y ∷ [] → AllAt t xs → y.table_id ≡ t
-gather_table t xs rest y e all = all (length rest) y (subst (λ (l : List Sitting). slice_get l (length rest) ≡ Some y) (sym e) (get-last rest y))
+pub gather_table : (t : TableId) (xs rest : List Sitting) (y : Sitting) → xs ≡ rest ++ y ∷ [] → AllAt t xs
+    → y.table_id ≡ t
+gather_table t xs rest y e all = all (length rest) y (subst (λ (l : List Sitting). slice_get l (length rest) ≡ Some y)
+    (sym e) (get-last rest y))
 
 pub gather_rest : (t : TableId) (xs rest : List Sitting) (y : Sitting) → xs ≡ rest ++ y ∷ [] → AllAt t xs → AllAt t rest
-gather_rest t xs rest y e all k x h = all k x (subst (λ (l : List Sitting). slice_get l k ≡ Some x) (sym e) (get-longer rest y x k h))
+gather_rest t xs rest y e all k x h = all k x
+    (subst (λ (l : List Sitting). slice_get l k ≡ Some x) (sym e) (get-longer rest y x k h))
 
 pub gather_kept : (v0 v w : View) → ((o : Own) → Has v0 o → Has v o) → (o : Own) → Has v0 o → Has (both v w) o
 gather_kept v0 v w h o ow = has-left v w o (h o ow)
 
 pub gather_joined : (xs0 xs rest : List Sitting) (y : Sitting) (v : View) → xs ≡ rest ++ y ∷ []
     → ((k : ℕ) (x : Sitting) (o : Own) → slice_get xs0 k ≡ Some x → Has x.view o → (slice_get xs k ≡ Some x) ⊎ Has v o)
-    → (k : ℕ) (x : Sitting) (o : Own) → slice_get xs0 k ≡ Some x → Has x.view o → (slice_get rest k ≡ Some x) ⊎ Has (both v y.view) o
+    → (k : ℕ) (x : Sitting) (o : Own) → slice_get xs0 k ≡ Some x → Has x.view o → (slice_get rest k ≡ Some x)
+    ⊎ Has (both v y.view) o
 gather_joined xs0 xs rest y v e h k x o is ow =
     ⊎_elim
     (λ t. ⊎_elim
@@ -101,10 +109,12 @@ gather_joined xs0 xs rest y v e h k x o is ow =
     (h k x o is ow)
 
 pub gather_done : (v0 v : View) (xs0 xs : List Sitting) → xs ≡ [] → ((o : Own) → Has v0 o → Has v o)
-    → ((k : ℕ) (x : Sitting) (o : Own) → slice_get xs0 k ≡ Some x → Has x.view o → (slice_get xs k ≡ Some x) ⊎ Has v o) → Gathered v0 xs0 v
+    → ((k : ℕ) (x : Sitting) (o : Own) → slice_get xs0 k ≡ Some x → Has x.view o → (slice_get xs k ≡ Some x)
+    ⊎ Has v o) → Gathered v0 xs0 v
 gather_done v0 v xs0 xs e kept joined = record {
   kept = kept;
-  each = λ k x o is ow. ⊎_elim (λ t. absurd (get-none x k (subst (λ (l : List Sitting). slice_get l k ≡ Some x) e t))) (λ t. t) (joined k x o is ow);
+  each = λ k x o is ow. ⊎_elim (λ t. absurd (get-none x k (subst (λ (l : List Sitting). slice_get l k ≡ Some x) e t)))
+      (λ t. t) (joined k x o is ow);
 }
 
 -- a seat that is left has ended as all have
@@ -128,10 +138,13 @@ none_left (x ∷ xs) e = absurd (omega arith)
 abbrev pub Left : List Sitting → List Sitting → Taken → Taken → Type 0
 Left all left old new =
     (map (λ (x : Sitting). x.core) left ++ reverse new.cores ≡ map (λ (x : Sitting). x.core) all ++ reverse old.cores)
-    × (map (λ (x : Sitting). x.loads) left ++ reverse new.loads ≡ map (λ (x : Sitting). x.loads) all ++ reverse old.loads)
-    × (map (λ (x : Sitting). x.touched) left ++ reverse new.touched ≡ map (λ (x : Sitting). x.touched) all ++ reverse old.touched)
+    × (map (λ (x : Sitting). x.loads) left ++ reverse new.loads ≡ map (λ (x : Sitting). x.loads) all
+    ++ reverse old.loads)
+    × (map (λ (x : Sitting). x.touched) left ++ reverse new.touched ≡ map (λ (x : Sitting). x.touched) all
+    ++ reverse old.touched)
 
-left-one : {A B : Type 0} → (f : A → B) (xs rest : List A) (y : A) (b : B) (zs zs' : List B) → xs ≡ rest ++ y ∷ [] → b ≡ f y → zs' ≡ zs ++ b ∷ []
+left-one : {A B : Type 0} → (f : A → B) (xs rest : List A) (y : A) (b : B) (zs zs' : List B) → xs ≡ rest ++ y ∷ []
+    → b ≡ f y → zs' ≡ zs ++ b ∷ []
     → map f rest ++ reverse zs' ≡ map f xs ++ reverse zs
 left-one f xs rest y b zs zs' e same put =
     ap (λ (l : List _). map f rest ++ reverse l) put ∙ ap (λ (l : List _). map f rest ++ l) (reverse-append zs (b ∷ []))
@@ -139,9 +152,11 @@ left-one f xs rest y b zs zs' e same put =
     ∙ ap (λ (z : _). (map f rest ++ z ∷ []) ++ reverse zs) same
     ∙ ap (λ (l : List _). l ++ reverse zs) (sym (map-end f rest y) ∙ ap (λ (l : List _). map f l) (sym e))
 
-pub left_more : (all xs rest : List Sitting) (y : Sitting) (core : Core) (notes : List LoadNote) (ts : List Touch) (old new new' : Taken)
+pub left_more : (all xs rest : List Sitting) (y : Sitting) (core : Core) (notes : List LoadNote) (ts : List Touch)
+    (old new new' : Taken)
     → xs ≡ rest ++ y ∷ [] → core ≡ y.core → notes ≡ y.loads → ts ≡ y.touched
-    → new'.cores ≡ new.cores ++ core ∷ [] → new'.loads ≡ new.loads ++ notes ∷ [] → new'.touched ≡ new.touched ++ ts ∷ [] → Left all xs old new
+    → new'.cores ≡ new.cores ++ core ∷ [] → new'.loads ≡ new.loads ++ notes ∷ [] → new'.touched ≡ new.touched
+    ++ ts ∷ [] → Left all xs old new
     → Left all rest old new'
 left_more all xs rest y core notes ts old new new' e a b d cores loads touched h = (
   left-one (λ (x : Sitting). x.core) xs rest y core new.cores new'.cores e a cores ∙ h.0,
@@ -151,7 +166,8 @@ left_more all xs rest y core notes ts old new new' e a b d cores loads touched h
 
 pub left_none : (all xs : List Sitting) (old new : Taken) → xs ≡ [] → Left all xs old new → Adds all old new
 left_none all xs old new e h =
-    let q : Left all [] old new = subst (λ (l : List Sitting). Left all l old new) e h in record { cores = q.0; loads = q.1; touched = q.2 }
+    let q : Left all [] old new = subst (λ (l : List Sitting). Left all l old new) e h in
+    record { cores = q.0; loads = q.1; touched = q.2 }
 
 -- ---- the end
 
@@ -166,7 +182,8 @@ made cores words loads = record { cores = cores; words = words; loads = loads }
 
 same-outcome : (a b : Outcome) → a.cores ≡ b.cores → a.words ≡ b.words → a.loads ≡ b.loads → a ≡ b
 unfolding made
-same-outcome a b cores words loads = ap (λ (z : List Core). made z a.words a.loads) cores ∙ ap (λ (z : List ℕ). made b.cores z a.loads) words
+same-outcome a b cores words loads = ap (λ (z : List Core). made z a.words a.loads) cores
+    ∙ ap (λ (z : List ℕ). made b.cores z a.loads) words
     ∙ ap (λ (z : List (List LoadNote)). made b.cores b.words z) loads
 
 -- what the order that stood leaves of a seat's core
@@ -176,14 +193,16 @@ record AtEnd (p : Plan) (order : List ℕ) (k : ℕ) (x : Sitting) : Type 0 wher
   pub loads : loads_at (played p order) k ≡ x.loads
   pub touched : touches_by k (accesses_of p order) ≡ x.touched
 
-at-end : (p : Plan) (table : TableId) (seats rest : List Sitting) (last : Sitting) (v : View) (id : ℕ) (s : State ℕ View) → Finished p table seats
+at-end : (p : Plan) (table : TableId) (seats rest : List Sitting) (last : Sitting) (v : View) (id : ℕ)
+    (s : State ℕ View) → Finished p table seats
     → seats ≡ rest ++ last ∷ [] → Gathered last.view rest v → (h : TableRule p s) → get_elem? s.views id ≡ some v
     → (k : ℕ) (x : Sitting) → slice_get seats k ≡ Some x → AtEnd p h.order.0 k x
 at-end p table seats rest last v id s f split g h at k x has =
     let r = f.rest k x has in
     let order = h.order.0 in
     let mine : Has x.view r.own = (0, subst (λ (l : List Own). get_elem? l 0 ≡ some r.own) (sym r.owned) refl) in
-    let all : Has v r.own = ⊎_elim (λ u. g.each k x r.own u mine) (λ u. g.kept r.own (subst (λ (z : Sitting). Has z.view r.own) (sym u.1) mine))
+    let all : Has v r.own = ⊎_elim (λ u. g.each k x r.own u mine)
+    (λ u. g.kept r.own (subst (λ (z : Sitting). Has z.view r.own) (sym u.1) mine))
     (get_end rest last x k (subst (λ (l : List Sitting). slice_get l k ≡ Some x) split has)) in
     let a : Agrees p order r.own = h.order.1.cores id all.0 r.own (v, at, all.1) in
     let here : k ≡ r.own.core.id = sym (f.ids k x has) ∙ ap (λ (c : Core). c.id) (sym r.core) in
@@ -204,18 +223,23 @@ parts-same : {B : Type 0} → (f : Sitting → B) (seats : List Sitting) (ys : L
     → ((k : ℕ) (x : Sitting) → slice_get seats k ≡ Some x → slice_index_or ys k d ≡ f x) → map f seats ≡ ys
 parts-same f seats ys d all same =
     let n = length-map' f seats in
-    same-list (map f seats) ys d (n ∙ all) (λ k lt. let x = get-some seats k (omega arith) in map-get f seats k x.0 d x.1 ∙ sym (same k x.0 x.1))
+    same-list (map f seats) ys d (n ∙ all) (λ k lt. let x = get-some seats k (omega arith) in
+    map-get f seats k x.0 d x.1 ∙ sym (same k x.0 x.1))
 
-pub end_is : (p : Plan) (table : TableId) (seats rest : List Sitting) (last : Sitting) (v : View) (words : List ℕ) (id : ℕ) (s : State ℕ View) (e : Ended)
-    → Finished p table seats → seats ≡ rest ++ last ∷ [] → Gathered last.view rest v → TableRule p s → get_elem? s.views id ≡ some v → s.words ≡ words
-    → Whole seats e → length e.outcome.words ≡ p.image.words → ((i : ℕ) → i < p.image.words → slice_index e.outcome.words i ≡ slice_index words i)
+pub end_is : (p : Plan) (table : TableId) (seats rest : List Sitting) (last : Sitting) (v : View) (words : List ℕ)
+    (id : ℕ) (s : State ℕ View) (e : Ended)
+    → Finished p table seats → seats ≡ rest ++ last ∷ [] → Gathered last.view rest v → TableRule p s
+    → get_elem? s.views id ≡ some v → s.words ≡ words
+    → Whole seats e → length e.outcome.words ≡ p.image.words
+    → ((i : ℕ) → i < p.image.words → slice_index e.outcome.words i ≡ slice_index words i)
     → IsEnd p e
 end_is p table seats rest last v words id s e f split g h at is parts wide same =
     let st = h.order.1 in
     let order = h.order.0 in
     let known = play_law p order st.ordered in
     let n = f.all in
-    let ends : (k : ℕ) (x : Sitting) → slice_get seats k ≡ Some x → AtEnd p order k x = at-end p table seats rest last v id s f split g h at in
+    let ends : (k : ℕ) (x : Sitting) → slice_get seats k ≡ Some x → AtEnd p order k x = at-end p table seats rest last
+    v id s f split g h at in
     let accesses : ℕ → List Touch = λ c. touches_by c (accesses_of p order) in
     let wide' = length-map-range_with_len accesses 0 (length p.totals) in
     record {
@@ -223,16 +247,24 @@ end_is p table seats rest last v words id s e f split g h at is parts wide same 
       play = record {
         ordered = st.ordered;
         plays = st.plays;
-        whole = record { each = λ c lt. let x = get-some seats c (omega arith) in (ends c x.0 x.1).count ∙ f.totals c x.0 x.1 };
+        whole = record {
+          each = λ c lt. let x = get-some seats c (omega arith) in
+              (ends c x.0 x.1).count ∙ f.totals c x.0 x.1;
+        };
       };
       outcome = same-outcome e.outcome (played p order)
-          (parts.cores ∙ parts-same (λ (x : Sitting). x.core) seats (played p order).cores (starting 0 0) (n ∙ sym known.all_cores)
+          (parts.cores ∙ parts-same (λ (x : Sitting). x.core) seats (played p order).cores (starting 0 0)
+          (n ∙ sym known.all_cores)
           (λ k x has. (ends k x has).core))
-          (same-list e.outcome.words (played p order).words 0 (wide ∙ sym known.all_words) (λ i lt. let below : i < p.image.words = omega arith in
+          (same-list e.outcome.words (played p order).words 0 (wide ∙ sym known.all_words)
+          (λ i lt. let below : i < p.image.words = omega arith in
           same i below ∙ ap (λ (l : List ℕ). slice_index l i) (sym is) ∙ st.memory i below))
-          (parts.loads ∙ parts-same (λ (x : Sitting). x.loads) seats (played p order).loads [] (n ∙ sym known.all_loads) (λ k x has. (ends k x has).loads));
-      touched = parts.touched ∙ parts-same (λ (x : Sitting). x.touched) seats (map accesses (range_with_len 0 (length p.totals))) [] (n ∙ sym wide')
-          (λ k x has. let lt : k < length p.totals = get-below seats k x has n in get_or-map-range_with_len accesses 0 (length p.totals) k k [] lt
+          (parts.loads ∙ parts-same (λ (x : Sitting). x.loads) seats (played p order).loads []
+          (n ∙ sym known.all_loads) (λ k x has. (ends k x has).loads));
+      touched = parts.touched ∙ parts-same (λ (x : Sitting). x.touched) seats
+          (map accesses (range_with_len 0 (length p.totals))) [] (n ∙ sym wide')
+          (λ k x has. let lt : k < length p.totals = get-below seats k x has n in
+          get_or-map-range_with_len accesses 0 (length p.totals) k k [] lt
           (omega arith) ∙ (ends k x has).touched);
     }
 
@@ -243,19 +275,22 @@ index_of [] i x e = absurd (some-ne-none x (sym e))
 index_of (y ∷ ys) zero x e = some-injective y x e
 index_of (y ∷ ys) (suc i) x e = index_of ys i x e
 
-pub index_more : (xs ys l : List ℕ) (n a : ℕ) → ys ≡ xs ++ a ∷ [] → length xs ≡ n → ((i : ℕ) → i < n → slice_index xs i ≡ slice_index l i) → slice_index l n ≡ a
+pub index_more : (xs ys l : List ℕ) (n a : ℕ) → ys ≡ xs ++ a ∷ [] → length xs ≡ n
+    → ((i : ℕ) → i < n → slice_index xs i ≡ slice_index l i) → slice_index l n ≡ a
     → (i : ℕ) → i < n + 1 → slice_index ys i ≡ slice_index l i
 index_more xs ys l n a e len same at i h =
     let q = ap (λ (z : List ℕ). slice_index z i) e in
     elim (dec_lt i n) [
       | yes lt ↦ q ∙ index_before xs a i (omega arith) ∙ same i lt
       | no ge ↦ let is : i ≡ length xs = omega arith in let is' : i ≡ n = omega arith in
-          q ∙ ap (λ (j : ℕ). slice_index (xs ++ a ∷ []) j) is ∙ index_end xs a ∙ sym at ∙ ap (λ (j : ℕ). slice_index l j) (sym is')
+          q ∙ ap (λ (j : ℕ). slice_index (xs ++ a ∷ []) j) is ∙ index_end xs a ∙ sym at
+          ∙ ap (λ (j : ℕ). slice_index l j) (sym is')
     ]
 
 -- ---- the parts of all seats, the last seat's put first
 
-pub whole_by : {A B : Type 0} → (f : A → B) (seats rest : List A) (last : A) (old put new : List B) (b : B) → seats ≡ rest ++ last ∷ [] → old ≡ []
+pub whole_by : {A B : Type 0} → (f : A → B) (seats rest : List A) (last : A) (old put new : List B) (b : B)
+    → seats ≡ rest ++ last ∷ [] → old ≡ []
     → put ≡ old ++ b ∷ [] → b ≡ f last → reverse new ≡ map f rest ++ reverse put → reverse new ≡ map f seats
 whole_by f seats rest last old put new b split none is same h =
     h ∙ ap (λ (l : List _). map f rest ++ reverse l) (is ∙ ap (λ (l : List _). l ++ b ∷ []) none)

@@ -9,7 +9,9 @@ use Rattle.log_codec.specs.declared.recording.Recording.{Recording}
 use Rattle.log_codec.specs.Sources.{log_edges}
 use Rattle.log_codec.specs.Validity.{Valid}
 use Rattle.replay_core.specs.Plans.{plan_of, recorded_image}
+use Rattle.replay_core.specs.Coming.{IsComing}
 use Rattle.replay_core.specs.Play.{instr}
+use Rattle.replay_core.specs.Sources.{sources_in}
 use Rattle.replay_core.proofs.Ready.{within_sourced}
 use Rattle.replay_core.proofs.Sources.{apart}
 use Rattle.replay_table.specs.declared.upcoming.Upcoming.{Upcoming}
@@ -19,13 +21,16 @@ use Rattle.replay_table.specs.Rule.{seen_of}
 use Rattle.replay_table.specs.Seats.{IsUpcoming, IsUnmet}
 
 -- what was looked up is of the job's recording and log
-pub upcoming_is : (w w' : Which) (r r' : Recording) (k l : Core) (u : Upcoming) → w' ≡ w → r' ≡ r → l ≡ k → IsUpcoming w' r' l u → IsUpcoming w r k u
+pub upcoming_is : (w w' : Which) (r r' : Recording) (k l : Core) (u : Upcoming) → w' ≡ w → r' ≡ r → l ≡ k
+    → IsUpcoming w' r' l u → IsUpcoming w r k u
 upcoming_is w w' r r' k l u e q same h =
-    subst (λ (x : Which). IsUpcoming x r k u) e (subst (λ (x : Recording). IsUpcoming w' x k u) q (subst (λ (x : Core). IsUpcoming w' r' x u) same h))
+    subst (λ (x : Which). IsUpcoming x r k u) e
+    (subst (λ (x : Recording). IsUpcoming w' x k u) q (subst (λ (x : Core). IsUpcoming w' r' x u) same h))
 
 -- a core all of whose sources were seen is ready
-pub due_by : (which : Which) (r : Recording) (f : ℕ → ℕ) (k : Core) (u : Upcoming) → Valid r → IsUpcoming which r k u → k.count < slice_index r.totals k.id
-    → ((i : ℕ) → i < length r.totals → slice_index u.sources i ≤ f i) → Due (plan_of which r) f k
+pub due_by : (which : Which) (r : Recording) (f : ℕ → ℕ) (k : Core) (u : Upcoming) → Valid r → IsUpcoming which r k u
+    → k.count < slice_index r.totals k.id
+    → ((i : ℕ) → i < length r.totals → slice_index (sources_in u.sources) i ≤ f i) → Due (plan_of which r) f k
 due_by which r f k u valid h below met = record {
   below = below;
   sourced = within_sourced (log_edges which r) f k.id (k.count + 1)
@@ -37,24 +42,51 @@ due_by which r f k u valid h below met = record {
 }
 
 -- a source that wasn't seen
-pub unmet_is : (which : Which) (r : Recording) (v : View) (k : Core) (u : Upcoming) (of : ℕ) → IsUpcoming which r k u → of < length r.totals
-    → seen_of v of < slice_index u.sources of
-    → IsUnmet which r v k (instr of (slice_index u.sources of))
+pub unmet_is : (which : Which) (r : Recording) (v : View) (k : Core) (u : Upcoming) (of : ℕ) → IsUpcoming which r k u
+    → of < length r.totals
+    → seen_of v of < slice_index (sources_in u.sources) of
+    → IsUnmet which r v k (instr of (slice_index (sources_in u.sources) of))
 unmet_is which r v k u of h inside unseen = record {
   inside = inside;
   unseen = unseen;
-  logged = among_contains (log_edges which r) (instr of (slice_index u.sources of)) (instr k.id (k.count + 1)) (h.sources.only of (omega arith));
+  logged = among_contains (log_edges which r) (instr of (slice_index (sources_in u.sources) of))
+      (instr k.id (k.count + 1)) (h.sources.only of (omega arith));
 }
 
--- what a look-up asks of the recording, the image and the core
-pub record CanLook (r : Recording) (image : Contents) (k : Core) : Type 0 where
+-- what a first look-up asks of the recording, the image and the core
+pub record CanBegin (r : Recording) (image : Contents) (k : Core) : Type 0 where
   pub valid : Valid r
   pub image_is : image ≡ recorded_image r
   pub inside : k.id < length r.totals
   pub within : k.count ≤ slice_index r.totals k.id
 
-pub can_look : (r r' : Recording) (image : Contents) (k l : Core) → Valid r → r' ≡ r → image ≡ recorded_image r → l ≡ k → k.id < length r.totals
-    → k.count ≤ slice_index r.totals k.id → CanLook r' image l
-can_look r r' image k l valid q image_is same inside within =
-    subst (λ (x : Core). CanLook r' image x) (sym same)
-    (subst (λ (x : Recording). CanLook x image k) (sym q) (record { valid = valid; image_is = image_is; inside = inside; within = within }))
+pub can_begin : (r r' : Recording) (image : Contents) (k l : Core) → Valid r → r' ≡ r → image ≡ recorded_image r
+    → l ≡ k → k.id < length r.totals
+    → k.count ≤ slice_index r.totals k.id → CanBegin r' image l
+can_begin r r' image k l valid q image_is same inside within =
+    subst (λ (x : Core). CanBegin r' image x) (sym same)
+    (subst (λ (x : Recording). CanBegin x image k) (sym q)
+    (record { valid = valid; image_is = image_is; inside = inside; within = within }))
+
+-- and what each later one asks of the edges that are known as well
+pub record CanLook (which : Which) (r : Recording) (image : Contents) (k : Core) (u : Upcoming) : Type 0 where
+  pub valid : Valid r
+  pub image_is : image ≡ recorded_image r
+  pub inside : k.id < length r.totals
+  pub within : k.count ≤ slice_index r.totals k.id
+  pub coming : IsComing (log_edges which r) k.id r.params.cores u.coming
+
+-- the core k has gone on to m, which the code has as l
+pub can_look : (w w' : Which) (r r' : Recording) (image : Contents) (k m l : Core) (u : Upcoming) → Valid r → w' ≡ w
+    → r' ≡ r → image ≡ recorded_image r
+    → l ≡ m → m.id < length r.totals → m.count ≤ slice_index r.totals m.id → l.id ≡ k.id
+    → IsComing (log_edges w r) k.id r.params.cores u.coming → CanLook w' r' image l u
+can_look w w' r r' image k m l u valid e q image_is same inside within id coming =
+    subst (λ (x : Which). CanLook x r' image l u) (sym e)
+    (subst (λ (x : Recording). CanLook w x image l u) (sym q) (record {
+      valid = valid;
+      image_is = image_is;
+      inside = subst (λ (x : Core). x.id < length r.totals) (sym same) inside;
+      within = subst (λ (x : Core). x.count ≤ slice_index r.totals x.id) (sym same) within;
+      coming = subst (λ (i : ℕ). IsComing (log_edges w r) i r.params.cores u.coming) (sym id) coming;
+    }))

@@ -32,12 +32,15 @@ only-one t x (suc j, below, at) = absurd (omega arith)
 none-in : (x : Touch) → Contains [] x → ⊥
 none-in x (j, below, at) = absurd (omega arith)
 
-rising-more : (t : Touch) (ts : List Touch) → ((x : Touch) → Contains ts x → t.at.count < x.at.count) → AreRising ts → AreRising (t ∷ ts)
+rising-more : (t : Touch) (ts : List Touch) → ((x : Touch) → Contains ts x → t.at.count < x.at.count) → AreRising ts
+    → AreRising (t ∷ ts)
 rising-more t ts first rest = record { each = each }
   where
-    each : (i j : ℕ) (d : Touch) → i < j → j < length (t ∷ ts) → (slice_index_or (t ∷ ts) i d).at.count < (slice_index_or (t ∷ ts) j d).at.count
+    each : (i j : ℕ) (d : Touch) → i < j → j < length (t ∷ ts) → (slice_index_or (t ∷ ts) i d).at.count <
+        (slice_index_or (t ∷ ts) j d).at.count
     each i zero d lt below = absurd (omega arith)
-    each zero (suc j) d lt below = let there : j < length ts = omega arith in first (get_or ts j d) (j, there, get_or_default ts j (get_or ts j d) d there)
+    each zero (suc j) d lt below = let there : j < length ts = omega arith in
+        first (get_or ts j d) (j, there, get_or_default ts j (get_or ts j d) d there)
     each (suc i) (suc j) d lt below = rest.each i j d (omega arith) (omega arith)
 
 -- ---- the accesses of one core among a list
@@ -46,15 +49,18 @@ rising-more t ts first rest = record { each = each }
 abbrev with-one : Bool → Touch → List Touch → List Touch
 with-one mine t ts = cond mine (t ∷ ts) ts
 
-forth-by : (list : List Access) (a : Access) (c : ℕ) → a.at.core ≡ c → StandsIn list a → Contains (touches_by c list) (as_touch a)
+forth-by : (list : List Access) (a : Access) (c : ℕ) → a.at.core ≡ c → StandsIn list a → Contains (touches_by c list)
+    (as_touch a)
 forth-by [] a c e s = absurd s
 forth-by (b ∷ rest) a c e (inl q) =
     let mine : eqb b.at.core c ≡ true = eq-eqb b.at.core c (ap (λ (x : Access). x.at.core) q ∙ e) in
     subst (λ (m : Bool). Contains (with-one m (as_touch b) (touches_by c rest)) (as_touch a)) (sym mine)
-    (subst (λ (t : Touch). Contains (as_touch b ∷ touches_by c rest) t) (ap as_touch q) (first-in (as_touch b) (touches_by c rest)))
+    (subst (λ (t : Touch). Contains (as_touch b ∷ touches_by c rest) t) (ap as_touch q)
+    (first-in (as_touch b) (touches_by c rest)))
 forth-by (b ∷ rest) a c e (inr s) = by (eqb b.at.core c) (forth-by rest a c e s)
   where
-    by : (mine : Bool) → Contains (touches_by c rest) (as_touch a) → Contains (with-one mine (as_touch b) (touches_by c rest)) (as_touch a)
+    by : (mine : Bool) → Contains (touches_by c rest) (as_touch a)
+        → Contains (with-one mine (as_touch b) (touches_by c rest)) (as_touch a)
     by true h = Contains-append_right (as_touch b ∷ []) (touches_by c rest) (as_touch a) h
     by false h = h
 
@@ -72,20 +78,27 @@ back-by (b ∷ rest) c t h = by (ℕ_discrete b.at.core c) h (back-by rest c t)
     by : Dec (b.at.core ≡ c) → Contains (with-one (eqb b.at.core c) (as_touch b) (touches_by c rest)) t
         → (Contains (touches_by c rest) t → Found rest c t) → Found (b ∷ rest) c t
     by (yes e) h go =
-        let g : Contains (as_touch b ∷ touches_by c rest) t = subst (λ (m : Bool). Contains (with-one m (as_touch b) (touches_by c rest)) t)
+        let g : Contains (as_touch b ∷ touches_by c rest) t = subst
+        (λ (m : Bool). Contains (with-one m (as_touch b) (touches_by c rest)) t)
         (eq-eqb b.at.core c e) h in
-        ⊎_elim (λ q. (b, inl refl, only-one (as_touch b) t q, e)) (λ q. later (go q)) (Contains-append_cases (as_touch b ∷ []) (touches_by c rest) t g)
-    by (no ne) h go = later (go (subst (λ (m : Bool). Contains (with-one m (as_touch b) (touches_by c rest)) t) (ne_eqb b.at.core c ne) h))
+        ⊎_elim (λ q. (b, inl refl, only-one (as_touch b) t q, e)) (λ q. later (go q))
+        (Contains-append_cases (as_touch b ∷ []) (touches_by c rest) t g)
+    by (no ne) h go = later
+        (go (subst (λ (m : Bool). Contains (with-one m (as_touch b) (touches_by c rest)) t) (ne_eqb b.at.core c ne) h))
 
 rising-by : (list : List Access) (c : ℕ) → CountsRise list → AreRising (touches_by c list)
 rising-by [] c h = record { each = λ i j d lt below. absurd (omega arith) }
 rising-by (b ∷ rest) c h = by (ℕ_discrete b.at.core c) (rising-by rest c h.2)
   where
-    by : Dec (b.at.core ≡ c) → AreRising (touches_by c rest) → AreRising (with-one (eqb b.at.core c) (as_touch b) (touches_by c rest))
-    by (yes e) go = subst (λ (m : Bool). AreRising (with-one m (as_touch b) (touches_by c rest))) (sym (eq-eqb b.at.core c e))
+    by : Dec (b.at.core ≡ c) → AreRising (touches_by c rest)
+        → AreRising (with-one (eqb b.at.core c) (as_touch b) (touches_by c rest))
+    by (yes e) go = subst (λ (m : Bool). AreRising (with-one m (as_touch b) (touches_by c rest)))
+        (sym (eq-eqb b.at.core c e))
         (rising-more (as_touch b) (touches_by c rest)
-        (λ x q. let r = back-by rest c x q in subst (λ (t : Touch). b.at.count < t.at.count) r.2 (h.1 r.0 r.1 (e ∙ sym r.3))) go)
-    by (no ne) go = subst (λ (m : Bool). AreRising (with-one m (as_touch b) (touches_by c rest))) (sym (ne_eqb b.at.core c ne)) go
+        (λ x q. let r = back-by rest c x q in
+        subst (λ (t : Touch). b.at.count < t.at.count) r.2 (h.1 r.0 r.1 (e ∙ sym r.3))) go)
+    by (no ne) go = subst (λ (m : Bool). AreRising (with-one m (as_touch b) (touches_by c rest)))
+        (sym (ne_eqb b.at.core c ne)) go
 
 -- ---- those of each core
 
@@ -98,10 +111,12 @@ are-touches : (list : List Access) (n : ℕ) → CountsRise list → ((a : Acces
     → AreTouches list n (map (λ c. touches_by c list) (range_with_len 0 n))
 are-touches list n rise inside = record {
   all = wide;
-  forth = λ a s. subst (λ (l : List Touch). Contains l (as_touch a)) (sym (here a.at.core (inside a s))) (forth-by list a a.at.core refl s);
+  forth = λ a s. subst (λ (l : List Touch). Contains l (as_touch a)) (sym (here a.at.core (inside a s)))
+      (forth-by list a a.at.core refl s);
   back = λ c t h. elim (dec_lt c n) [
     | yes lt ↦ back-by list c t (subst (λ (l : List Touch). Contains l t) (here c lt) h)
-    | no ge ↦ absurd (none-in t (subst (λ (l : List Touch). Contains l t) (past-end all c (let w = wide in omega arith)) h))
+    | no ge ↦ absurd
+        (none-in t (subst (λ (l : List Touch). Contains l t) (past-end all c (let w = wide in omega arith)) h))
   ];
   rising = λ c. elim (dec_lt c n) [
     | yes lt ↦ subst (λ (l : List Touch). AreRising l) (sym (here c lt)) (rising-by list c rise)

@@ -1,5 +1,6 @@
 -- What follows from the access that an instruction makes.
-use Rattle.std.proofs.Common.{◌≡◌, ◌≢◌, ℕ, ◌+◌, ◌<◌, Bool, true, false, cond, eqb, eq-eqb, ne_eqb, List, [], ◌∷◌, ◌++◌, sym, refl, ap, subst, ◌∙◌, append-nil}
+use Rattle.std.proofs.Common.{◌≡◌, ◌≢◌, ℕ, ◌+◌, ◌<◌, Bool, true, false, cond, eqb, eq-eqb, ne_eqb, List, [], ◌∷◌}
+use Rattle.std.proofs.Common.{◌++◌, sym, refl, ap, subst, ◌∙◌, append-nil}
 use Rattle.std.specs.Prelude.{Option, Some, None, slice_set}
 use Rattle.rtr_types.specs.declared.access.Access.{Access}
 use Rattle.rtr_types.specs.declared.access.Kind.{Kind}
@@ -41,9 +42,11 @@ pub not_local : (n : Need) (word : ℕ) (writes whole : Bool) → Accesses n wor
 not_local n word writes whole h e = some_none (h.kind, word) (sym (ap use_of e) ∙ h.used)
 
 -- its word is one of the memory's
-pub word_within : (image : Contents) (k : Core) (word : ℕ) (writes whole : Bool) → Accesses (need image k) word writes whole → word < image.words
+pub word_within : (image : Contents) (k : Core) (word : ℕ) (writes whole : Bool) → Accesses (need image k) word writes
+    whole → word < image.words
 word_within image k word writes whole h =
-    subst (λ (u : Use). UsesWithin u image.words) h.used (used_within image k (use_of (need image k)) image.words refl refl)
+    subst (λ (u : Use). UsesWithin u image.words) h.used
+    (used_within image k (use_of (need image k)) image.words refl refl)
 
 -- two descriptions of one access agree
 pub record Same (word word' : ℕ) (writes writes' whole whole' : Bool) : Type 0 where
@@ -51,7 +54,8 @@ pub record Same (word word' : ℕ) (writes writes' whole whole' : Bool) : Type 0
   pub writes_is : writes ≡ writes'
   pub whole_is : whole ≡ whole'
 
-pub one_access : (n : Need) (word word' : ℕ) (writes writes' whole whole' : Bool) → Accesses n word writes whole → Accesses n word' writes' whole'
+pub one_access : (n : Need) (word word' : ℕ) (writes writes' whole whole' : Bool) → Accesses n word writes whole
+    → Accesses n word' writes' whole'
     → Same word word' writes writes' whole whole'
 one_access n word word' writes writes' whole whole' h g =
     let e : ◌≡◌ {A = Option (Kind × ℕ)} (Some (h.kind, word)) (Some (g.kind, word')) = sym h.used ∙ g.used in
@@ -64,7 +68,8 @@ one_access n word word' writes writes' whole whole' h g =
     }
 
 -- what the word holds afterwards
-pub words_left : (n : Need) (word : ℕ) (whole : Bool) (words : List ℕ) (value : ℕ) → Accesses n word false whole → words_after (use_of n) words value ≡ words
+pub words_left : (n : Need) (word : ℕ) (whole : Bool) (words : List ℕ) (value : ℕ) → Accesses n word false whole
+    → words_after (use_of n) words value ≡ words
 words_left n word whole words value h = ap (λ (u : Use). words_after u words value) h.used
     ∙ ap (λ (b : Bool). cond b (slice_set words word value) words) h.writes_is
 
@@ -77,10 +82,12 @@ words_written n word whole words value h = ap (λ (u : Use). words_after u words
 unread : (n : Need) (word : ℕ) → (h : Stores n word) → is_read h.kind ≡ false
 unread n word h = sym (ap (λ (u : Use). is_of_kind is_read u) h.used) ∙ (whole_store_law n h.whole_is).1
 
-pub whole_after : (image : Contents) (k : Core) (word one other : ℕ) → Stores (need image k) word → after image k one ≡ after image k other
+pub whole_after : (image : Contents) (k : Core) (word one other : ℕ) → Stores (need image k) word → after image k one
+    ≡ after image k other
 whole_after image k word one other h = unread_law image k h.kind word one other h.used (unread (need image k) word h)
 
-pub whole_wrote : (image : Contents) (k : Core) (word one other : ℕ) → Stores (need image k) word → wrote image k one ≡ wrote image k other
+pub whole_wrote : (image : Contents) (k : Core) (word one other : ℕ) → Stores (need image k) word → wrote image k one
+    ≡ wrote image k other
 whole_wrote image k word one other h = whole_law image k one other h.whole_is
 
 -- nor does it note what it found
@@ -90,14 +97,18 @@ whole-loads n word list count one other h = noted one ∙ sym (noted other)
   where
     noted : (value : ℕ) → loads_after (use_of n) list count value ≡ list
     noted value = ap (λ (u : Use). loads_after u list count value) h.used
-        ∙ ap (λ (b : Bool). cond b (list ++ record { count = count; word = word; value = value } ∷ []) list) (unread n word h)
+        ∙ ap (λ (b : Bool). cond b (list ++ record { count = count; word = word; value = value } ∷ []) list)
+        (unread n word h)
 
-pub whole_retired : (p : Plan) (o : Own) (at : Core) (word one other : ℕ) → Stores (need p.image at) word → retired p o at one ≡ retired p o at other
+pub whole_retired : (p : Plan) (o : Own) (at : Core) (word one other : ℕ) → Stores (need p.image at) word
+    → retired p o at one ≡ retired p o at other
 whole_retired p o at word one other h =
     let u = use_of (need p.image at) in
-    let own : Core → List LoadNote → Own = λ k l. record o { core = k; loads = l; touched = touched_after u o.touched at.id (at.count + 1) } in
+    let own : Core → List LoadNote → Own = λ k l. record o
+    { core = k; loads = l; touched = touched_after u o.touched at.id (at.count + 1) } in
     ap (λ (k : Core). own k (loads_after u o.loads (at.count + 1) one)) (whole_after p.image at word one other h)
-    ∙ ap (λ (l : List LoadNote). own (after p.image at other) l) (whole-loads (need p.image at) word o.loads (at.count + 1) one other h)
+    ∙ ap (λ (l : List LoadNote). own (after p.image at other) l)
+    (whole-loads (need p.image at) word o.loads (at.count + 1) one other h)
 
 -- ---- the accesses of one core
 
@@ -106,7 +117,8 @@ touches_on c [] ys = refl
 touches_on c (a ∷ xs) ys = by (eqb a.at.core c) (touches_on c xs ys)
   where
     by : (b : Bool) → touches_by c (xs ++ ys) ≡ touches_by c xs ++ touches_by c ys
-        → cond b (as_touch a ∷ touches_by c (xs ++ ys)) (touches_by c (xs ++ ys)) ≡ cond b (as_touch a ∷ touches_by c xs) (touches_by c xs) ++ touches_by c ys
+        → cond b (as_touch a ∷ touches_by c (xs ++ ys)) (touches_by c (xs ++ ys)) ≡ cond b
+        (as_touch a ∷ touches_by c xs) (touches_by c xs) ++ touches_by c ys
     by true e = ap (λ (l : List Touch). as_touch a ∷ l) e
     by false e = e
 
@@ -115,6 +127,7 @@ pub touches_here : (used : Use) (list : List Touch) (c count before value : ℕ)
 touches_here None list c count before value = append-nil list
 touches_here (Some used) list c count before value = rw (eq-eqb c c refl) refl
 
-pub touches_else : (used : Use) (c i count before value : ℕ) → i ≢ c → touches_by i (accesses_by used (instr c count) before value) ≡ []
+pub touches_else : (used : Use) (c i count before value : ℕ) → i ≢ c
+    → touches_by i (accesses_by used (instr c count) before value) ≡ []
 touches_else None c i count before value ne = refl
 touches_else (Some used) c i count before value ne = rw (ne_eqb c i (λ e. ne (sym e))) refl

@@ -1,5 +1,6 @@
--- The eight kinds of step: what each asks of the view of the seat that makes it, and what it changes in it.
-use Rattle.std.specs.Prelude.{◌≡◌, ℕ, zero, suc, ◌+◌, ◌-◌, ◌^◌, ◌<◌, ◌≤◌, ◌==◌, List, [], ◌∷◌, ◌++◌, length, replicate}
+-- The eight kinds of step: what each asks of the view of the seat that makes it, and what it changes in it. What the
+-- rule then tells of a step stands beside (`Told.antt`).
+use Rattle.std.specs.Prelude.{◌≡◌, ℕ, zero, suc, ◌+◌, ◌-◌, ◌≤◌, ◌==◌, List, [], ◌∷◌, ◌++◌, length, replicate}
 use Rattle.std.specs.Prelude.{take, drop, max, slice_index, slice_set, Some, None, if◌then◌else◌}
 use mathlib.Core.Option.{some}
 use lib.ListN.{get_elem?}
@@ -12,7 +13,7 @@ use Rattle.replay_table.specs.declared.view.Own.{Own}
 use Rattle.replay_table.specs.declared.view.View.{View}
 use Rattle.replay_table.specs.Accesses.{Loads, Stores, Changes, touched_after}
 use Rattle.replay_table.specs.Aheads.{Ahead}
-use Rattle.replay_table.specs.Rule.{seen_of, LowDecides, Reached, Next}
+use Rattle.replay_table.specs.Rule.{seen_of, Next}
 
 -- an owned core after the next instruction of `at`, which found a value in its word: an access that reads, a load or an
 -- atomic memory operation, has the value join the core's loads
@@ -34,8 +35,6 @@ polled c polls = slice_set polls c (slice_index polls c + 1)
 pub record SeesDone (p : Plan) (v : View) (word found : ℕ) (w : View) : Type 0 where
   pub core : ℕ
   pub word_is : word ≡ p.image.words + core
-  pub most : seen_of v core ≤ found
-  pub fits : found < 2 ^ 32
   pub view : w ≡ record v { seen = slice_set v.seen core found; polls = polled core v.polls }
 
 -- 2: a word was loaded for a load
@@ -44,8 +43,6 @@ pub record LoadsWord (p : Plan) (v : View) (word found : ℕ) (w : View) : Type 
   pub at : Core
   pub next : Next p v own at
   pub access : Loads (need p.image at) word
-  pub fits : found < 2 ^ 32
-  pub reached : Reached p (seen_of v) (retired p own at found)
   pub view : w ≡ alone_with (retired p own at found) v
 
 -- 3: a word was loaded to be held
@@ -54,7 +51,6 @@ pub record HoldsWord (p : Plan) (v : View) (word found : ℕ) (w : View) : Type 
   pub at : Core
   pub next : Next p v own at
   pub access : Changes (need p.image at) word
-  pub fits : found < 2 ^ 32
   pub view : w ≡ record v { held = Some found }
 
 -- 4: a whole word was stored
@@ -64,7 +60,6 @@ pub record StoresWord (p : Plan) (v : View) (word new : ℕ) (w : View) : Type 0
   pub next : Next p v own at
   pub access : Stores (need p.image at) word
   pub new_is : new ≡ wrote p.image at 0
-  pub reached : Reached p (seen_of v) (retired p own at 0)
   pub view : w ≡ alone_with (retired p own at 0) v
 
 -- the view after a compare-exchange of the held word: it has retired the access, or has failed once more
@@ -74,8 +69,7 @@ exchanged p v o at old found =
     then record (alone_with (retired p o at old) v) { held = None }
     else record v { held = None; failed = v.failed + 1 }
 
--- 5: the held word was to be exchanged for the value after. Where the recording is determinate by the log, the word
--- was the held one
+-- 5: the held word was to be exchanged for the value after
 pub record ExchangesWord (p : Plan) (v : View) (word old new found : ℕ) (w : View) : Type 0 where
   pub own : Own
   pub at : Core
@@ -83,9 +77,6 @@ pub record ExchangesWord (p : Plan) (v : View) (word old new found : ℕ) (w : V
   pub access : Changes (need p.image at) word
   pub held : v.held ≡ Some old
   pub new_is : new ≡ wrote p.image at old
-  pub fits : found < 2 ^ 32
-  pub sure : LowDecides p → found ≡ old
-  pub reached : found ≡ old → Reached p (seen_of v) (retired p own at old)
   pub view : w ≡ exchanged p v own at old found
 
 -- 6: a count was published
@@ -98,7 +89,6 @@ pub record PublishesCount (p : Plan) (v : View) (word new : ℕ) (w : View) : Ty
   pub most : at.count ≤ slice_index p.totals at.id
   pub word_is : word ≡ p.image.words + at.id
   pub new_is : new ≡ at.count
-  pub reached : Reached p (seen_of v) (record own { core = at; published = new })
   pub view : w ≡ alone_with (record own { core = at; published = new }) v
 
 -- 7: the first core of a view goes to a new one, before any of them has executed an instruction
@@ -161,3 +151,8 @@ first_view p = record {
 -- and those from c on when c cores have gone to other views
 abbrev pub rest_view : Plan → ℕ → View
 rest_view p c = record (first_view p) { owned = own_from p c (length p.totals - c) }
+
+-- core c has gone to a seat of its own: it has executed and published nothing, and its seat has seen nothing and holds
+-- nothing
+abbrev pub dealt_view : Plan → ℕ → View
+dealt_view p c = record (first_view p) { owned = first_own p c ∷ [] }

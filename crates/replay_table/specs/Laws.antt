@@ -1,19 +1,24 @@
--- What holds of each kind of step, for all words and views that keep the rule: it keeps the rule, and whichever order
--- stood before, that order stands afterwards with the step's piece at its end.
-use Rattle.std.specs.Prelude.{◌≡◌, ◌≢◌, ℕ, ◌+◌, List, [], ◌∷◌, ◌++◌, replicate, slice_index, slice_set}
+-- What holds of each kind of step, for all words and views that keep the rule: it keeps the rule, the rule tells
+-- more of
+-- it, and whichever order stood before, that order stands afterwards with the step's piece at its end. And what
+-- holds of
+-- the table before the first step.
+use Rattle.std.specs.Prelude.{◌≡◌, ◌≢◌, ℕ, ◌+◌, List, [], ◌∷◌, ◌++◌, length, replicate, slice_index, slice_set}
 use mathlib.Core.Option.{some}
 use lib.ListN.{get_elem?}
 use Rattle.atomic_table.specs.Table.{State}
 use Rattle.rtr_types.specs.declared.pairs.Which.{Which}
+use Rattle.image_mem.specs.Contents.{opening_words}
 use Rattle.log_codec.specs.declared.recording.Recording.{Recording}
 use Rattle.replay_core.specs.Plans.{Plan, plan_of}
 use Rattle.replay_audit.specs.Touches.{ArePlayed}
 use Rattle.replay_table.specs.declared.view.Own.{Own}
 use Rattle.replay_table.specs.declared.view.View.{View}
-use Rattle.replay_table.specs.Rule.{OrderStands, TableRule}
+use Rattle.replay_table.specs.Rule.{Owns, IsRecorded, OrderStands, TableRule}
 use Rattle.replay_table.specs.Kinds.{SeesDone, LoadsWord, HoldsWord, StoresWord, ExchangesWord, PublishesCount}
-use Rattle.replay_table.specs.Kinds.{SplitsView, JoinsViews}
-use Rattle.replay_table.specs.Seats.{Ended, IsEnd}
+use Rattle.replay_table.specs.Kinds.{SplitsView, JoinsViews, first_view}
+use Rattle.replay_table.specs.Told.{ToldDone, ToldLoad, ToldHold, ToldStore, ToldExchange, ToldPublish}
+use Rattle.replay_table.specs.Seats.{Ended, IsEnd, Opening}
 
 -- ---- what a step leaves of the table
 
@@ -90,6 +95,34 @@ abbrev pub JoinKeeps : Type 0
 JoinKeeps = (p : Plan) (s : State ℕ View) (id other : ℕ) (v w both left : View) → Sits p s id v →
     other ≢ id → get_elem? s.views other ≡ some w → JoinsViews v w both left →
     TableRule p (joined s id both other left)
+
+-- ---- what rule and step tell
+
+-- of a step that reads a word, the word that was there
+abbrev pub SeeTells : Type 0
+SeeTells = (p : Plan) (s : State ℕ View) (id : ℕ) (v w : View) (word : ℕ) → Sits p s id v →
+    SeesDone p v word (slice_index s.words word) w → ToldDone p v word (slice_index s.words word) w
+
+abbrev pub LoadTells : Type 0
+LoadTells = (p : Plan) (s : State ℕ View) (id : ℕ) (v w : View) (word : ℕ) → Sits p s id v →
+    LoadsWord p v word (slice_index s.words word) w → ToldLoad p v word (slice_index s.words word) w
+
+abbrev pub HoldTells : Type 0
+HoldTells = (p : Plan) (s : State ℕ View) (id : ℕ) (v w : View) (word : ℕ) → Sits p s id v →
+    HoldsWord p v word (slice_index s.words word) w → ToldHold p v word (slice_index s.words word) w
+
+abbrev pub StoreTells : Type 0
+StoreTells = (p : Plan) (s : State ℕ View) (id : ℕ) (v w : View) (word new : ℕ) → Sits p s id v →
+    StoresWord p v word new w → ToldStore p v word new w
+
+abbrev pub ExchangeTells : Type 0
+ExchangeTells = (p : Plan) (s : State ℕ View) (id : ℕ) (v w : View) (word old new : ℕ) → Sits p s id v →
+    ExchangesWord p v word old new (slice_index s.words word) w →
+    ToldExchange p v word old new (slice_index s.words word) w
+
+abbrev pub PublishTells : Type 0
+PublishTells = (p : Plan) (s : State ℕ View) (id : ℕ) (v w : View) (word new : ℕ) → Sits p s id v →
+    PublishesCount p v word new w → ToldPublish p v word new w
 
 -- ---- steps that append a piece
 
@@ -182,6 +215,26 @@ ExchangeRises = (p : Plan) (v w : View) (word old new : ℕ) → (step : Exchang
 abbrev pub PublishRises : Type 0
 PublishRises = (p : Plan) (v w : View) (word new : ℕ) → (step : PublishesCount p v word new w) →
     Rises v w step.locals
+
+-- ---- the start
+
+-- a table with these words, before its first view has given a core to another
+abbrev pub opened : Plan → (words : List ℕ) → State ℕ View
+opened p words = record { words = words; homes = []; views = first_view p ∷ [] }
+
+-- the opening memory, and a done word of 0 for each core, keep the rule
+abbrev pub OpeningLaw : Type 0
+OpeningLaw = (p : Plan) (words : List ℕ) → IsRecorded p →
+    Opening (opening_words p.image) (length p.totals) words → TableRule p (opened p words)
+
+-- no core that the views own has executed an instruction
+abbrev pub AreIdle : List View → Type 0
+AreIdle views = (id k : ℕ) (o : Own) → Owns views id k o → o.core.count ≡ 0
+
+-- and where none has, the rule leaves the words no choice
+abbrev pub FreshLaw : Type 0
+FreshLaw = (p : Plan) (s : State ℕ View) → TableRule p s → AreIdle s.views →
+    Opening (opening_words p.image) (length p.totals) s.words
 
 -- ---- the end
 

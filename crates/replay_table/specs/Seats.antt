@@ -19,7 +19,8 @@ use Rattle.log_codec.specs.Validity.{Valid}
 use Rattle.replay_core.specs.Plans.{Plan, recorded_image, plan_of}
 use Rattle.replay_core.specs.Play.{Use, instr, loads_at, loads_after, played, accesses_of}
 use Rattle.replay_audit.specs.declared.touch.Touch.{Touch}
-use Rattle.replay_core.specs.Sources.{AreSources}
+use Rattle.replay_core.specs.Coming.{IsComing}
+use Rattle.replay_core.specs.Sources.{AreSources, sources_in}
 use Rattle.replay_audit.specs.Determinate.{IsDeterminate, low_outcome}
 use Rattle.replay_audit.specs.Laws.{IsWholePlay}
 use Rattle.replay_table.specs.declared.upcoming.Upcoming.{Upcoming}
@@ -29,7 +30,8 @@ use Rattle.replay_table.specs.declared.view.View.{View}
 use Rattle.replay_table.specs.Accesses.{Changes, word_of, touched_after, touches_by}
 use Rattle.replay_table.specs.Aheads.{Due, Ahead}
 use Rattle.replay_table.specs.Rule.{seen_of}
-use Rattle.replay_table.specs.Kinds.{ExchangesWord}
+use Rattle.replay_table.specs.Kinds.{dealt_view}
+use Rattle.replay_table.specs.Told.{ToldExchange}
 
 -- what a core has done, and whether there is room for one access more
 pub record Past : Type 0 where
@@ -87,11 +89,13 @@ pub record Tied (p : Plan) (past : Past) (sees : List ℕ) (holds : Option ℕ) 
   pub within : past.core.count ≤ slice_index p.totals past.core.id
   pub holding : (value : ℕ) → holds ≡ Some value → AwaitsChange p (seen_of v) past.core
 
--- what a seat keeps of its core's next instruction: the instruction itself, what it needs, and its logged sources
+-- what a seat keeps of its core's next instruction: the instruction itself, what it needs, its logged sources, and the
+-- next edges into the core
 pub record IsUpcoming (which : Which) (r : Recording) (k : Core) (u : Upcoming) : Type 0 where
   pub op : u.op ≡ instruction_at (recorded_image r) k.pc
   pub need : u.need ≡ need (recorded_image r) k
-  pub sources : AreSources (log_edges which r) (instr k.id (k.count + 1)) u.sources
+  pub sources : AreSources (log_edges which r) (instr k.id (k.count + 1)) (sources_in u.sources)
+  pub coming : IsComing (log_edges which r) k.id r.params.cores u.coming
 
 -- a logged source of the core's next instruction that the view hasn't seen
 pub record IsUnmet (which : Which) (r : Recording) (v : View) (k : Core) (of : Instr) : Type 0 where
@@ -106,11 +110,20 @@ pub record SeatHolds (which : Which) (r : Recording) (past : Past) (next : Upcom
   pub upcoming : IsUpcoming which r past.core next
   pub tied : Tied (plan_of which r) past sees holds v
 
--- one seat for each core, in order, before its first instruction
+-- the core of a seat has done nothing, and the seat has seen nothing and holds nothing
+pub record IsFresh (p : Plan) (k : ℕ) (x : Sitting) : Type 0 where
+  pub core : x.core ≡ starting k p.limit
+  pub loads : x.loads ≡ []
+  pub touched : x.touched ≡ []
+  pub view : x.view ≡ dealt_view p k
+
+-- one fresh seat for each core, in order. The rule then leaves the words of the table no choice: the memory is the
+-- opening one, and each done word is 0 (`FreshLaw`)
 pub record Dealt (p : Plan) (table : TableId) (seats : List Sitting) : Type 0 where
   pub all : length seats ≡ length p.totals
+  pub words : table.words ≡ p.image.words + length p.totals
   pub tables : (k : ℕ) (x : Sitting) → slice_get seats k ≡ Some x → x.table_id ≡ table
-  pub cores : (k : ℕ) (x : Sitting) → slice_get seats k ≡ Some x → x.core ≡ starting k p.limit
+  pub fresh : (k : ℕ) (x : Sitting) → slice_get seats k ≡ Some x → IsFresh p k x
 
 -- the word that an exchange found
 abbrev pub found_by : Result (Unit {0}) Raced → (held : ℕ) → ℕ
@@ -120,8 +133,8 @@ found_by (Err e) held = e.found
 -- what an exchange of the held word answers
 pub record Exchanged (p : Plan) (x : Sitting) (held : ℕ) (result : Result (Unit {0}) Raced) (y : Sitting) : Type 0
   where
-    pub step :
-        ExchangesWord p x.view (word_of (need p.image x.core)) held (wrote p.image x.core held) (found_by result held)
+    pub told :
+        ToldExchange p x.view (word_of (need p.image x.core)) held (wrote p.image x.core held) (found_by result held)
         y.view
     pub answer :
         MatchResult result (λ done. y.core ≡ after p.image x.core held)

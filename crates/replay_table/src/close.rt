@@ -55,7 +55,7 @@ impl<'a, J: Job> ReplayTable<'a, J> {
         let ReplayTable {
             recording,
             which: _,
-            image: _,
+            program: _,
             table,
         } = self;
         let Some(last) = seats.pop() else {

@@ -1,9 +1,11 @@
-//! What holds of each kind of step, for all words and views that keep the rule.
+//! What holds of each kind of step, for all words and views that keep the rule, and of the table's start and end.
 ghost use Rattle.replay_table.specs.Laws.{SeeKeeps, LoadKeeps, HoldKeeps, StoreKeeps, ExchangeKeeps, FailKeeps};
 ghost use Rattle.replay_table.specs.Laws.{PublishKeeps, SplitKeeps, JoinKeeps};
+ghost use Rattle.replay_table.specs.Laws.{SeeTells, LoadTells, HoldTells, StoreTells, ExchangeTells, PublishTells};
 ghost use Rattle.replay_table.specs.Laws.{LoadLaw, StoreLaw, ExchangeLaw, PublishLaw};
 ghost use Rattle.replay_table.specs.Laws.{SeeLaw, HoldLaw, FailLaw, SplitLaw, JoinLaw};
-ghost use Rattle.replay_table.specs.Laws.{LoadRises, StoreRises, ExchangeRises, PublishRises, EndPlayedLaw};
+ghost use Rattle.replay_table.specs.Laws.{LoadRises, StoreRises, ExchangeRises, PublishRises};
+ghost use Rattle.replay_table.specs.Laws.{OpeningLaw, FreshLaw, EndPlayedLaw};
 
 /// Each kind of step keeps the table's rule.
 pub fn steps_keep_the_rule()
@@ -16,6 +18,16 @@ pub fn steps_keep_the_rule()
     ensures publish { PublishKeeps }
     ensures split { SplitKeeps }
     ensures join { JoinKeeps }
+{}
+
+/// What the rule tells of each kind of step.
+pub fn rule_and_step_tell()
+    ensures see { SeeTells }
+    ensures load { LoadTells }
+    ensures hold { HoldTells }
+    ensures store { StoreTells }
+    ensures exchange { ExchangeTells }
+    ensures publish { PublishTells }
 {}
 
 /// Whichever order stood before a step that retires instructions, that order followed by their places
@@ -42,6 +54,13 @@ pub fn counts_rise()
     ensures store { StoreRises }
     ensures exchange { ExchangeRises }
     ensures publish { PublishRises }
+{}
+
+/// The opening memory and done counts of 0 keep the rule, and as long as no core has executed an instruction
+/// there are no other words that do.
+pub fn a_table_opens()
+    ensures keeps { OpeningLaw }
+    ensures alone { FreshLaw }
 {}
 
 /// What a closed table answers as accesses can be judged: they are those of the play of a whole order.

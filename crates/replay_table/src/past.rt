@@ -1,10 +1,13 @@
 //! What a core has done.
-ghost use Rattle.std.specs.Prelude.{◌≡◌, [], IsTrue, OnOk};
+ghost use Rattle.std.specs.Prelude.{◌≡◌, [], IsTrue, OnOk, false};
+ghost use Rattle.rv_core.specs.Steps.{need, after, wrote, is_done, instruction_at};
 ghost use Rattle.replay_table.specs.Seats.{Notes};
 
+use image_mem::Image;
 use replay_audit::Touch;
 use rtr_types::{Instr, Kind};
 use rv_core::{Core, LoadNote};
+use rv_decode::Op;
 use std::alloc::{AllocError, Global};
 use std::marker::Model;
 
@@ -72,7 +75,22 @@ impl Past {
         self.touched.reserve(1)
     }
 
-    /// The core has retired a local instruction.
+    /// The core retires its next instruction where it stands. The instruction finds the value `old` in its word;
+    /// the answer is the word's value after it.
+    #[inline(always)]
+    pub(crate) fn finish(&mut self, image: &Image, op: Option<Op>, old: u32) -> u32
+        requires more { is_done (need image.now self.old.core) ≡ false }
+        requires at_pc { op ≡ instruction_at image.now self.old.core.pc }
+        ensures core { self.new.core ≡ after image.now self.old.core old }
+        ensures loads { self.new.loads ≡ self.old.loads }
+        ensures touched { self.new.touched ≡ self.old.touched }
+        ensures room { self.new.roomy ≡ self.old.roomy }
+        ensures value { result ≡ wrote image.now self.old.core old }
+    {
+        self.core.finish_op(image, op, old)
+    }
+
+    /// The core has become this one.
     pub(crate) fn go_on(&mut self, next: Core)
         ensures core { self.new.core ≡ next }
         ensures loads { self.new.loads ≡ self.old.loads }
@@ -83,15 +101,14 @@ impl Past {
     }
 
     /// The core has retired an access, which found a value.
-    pub(crate) fn note(&mut self, next: Core, used: Option<(Kind, u32)>, value: u32)
+    pub(crate) fn note(&mut self, used: Option<(Kind, u32)>, value: u32)
         requires { IsTrue self.old.roomy }
-        ensures { Notes self.old next used value self.new }
+        ensures { Notes self.old self.old.core used value self.new }
     {
-        self.core = next;
         let Some((kind, word)) = used else { return };
         let at = Instr {
-            core: next.id(),
-            count: next.count(),
+            core: self.core.id(),
+            count: self.core.count(),
         };
         if kind.is_read() {
             self.loads.push_reserved(LoadNote {

@@ -1,4 +1,4 @@
-//! The rule of the table, and what each kind of step tells.
+//! The rule of the table, and what it tells of each kind of step.
 
 use crate::job::Job;
 use crate::view::View;
@@ -28,9 +28,9 @@ pub struct SeeDone<J> {
 impl<J: Job> Play<u8, View> for SeeDone<J> {
     ghost use Rattle.std.specs.Prelude.{◌≡◌};
     ghost use Rattle.replay_core.specs.Plans.{plan_of};
-    ghost use Rattle.replay_table.specs.Kinds.{SeesDone};
+    ghost use Rattle.replay_table.specs.Told.{ToldDone};
 
-    ghost then = { λ at before found after. SeesDone (plan_of J.which J.recording) before.0 at.word found after.0
+    ghost then = { λ at before found after. ToldDone (plan_of J.which J.recording) before.0 at.word found after.0
         × (after.1 ≡ before.1) };
 }
 
@@ -42,9 +42,9 @@ pub struct LoadWord<J> {
 impl<J: Job> Play<u8, View> for LoadWord<J> {
     ghost use Rattle.std.specs.Prelude.{◌≡◌};
     ghost use Rattle.replay_core.specs.Plans.{plan_of};
-    ghost use Rattle.replay_table.specs.Kinds.{LoadsWord};
+    ghost use Rattle.replay_table.specs.Told.{ToldLoad};
 
-    ghost then = { λ at before found after. LoadsWord (plan_of J.which J.recording) before.0 at.word found after.0
+    ghost then = { λ at before found after. ToldLoad (plan_of J.which J.recording) before.0 at.word found after.0
         × (after.1 ≡ before.1) };
 }
 
@@ -56,9 +56,9 @@ pub struct HoldWord<J> {
 impl<J: Job> Play<u8, View> for HoldWord<J> {
     ghost use Rattle.std.specs.Prelude.{◌≡◌};
     ghost use Rattle.replay_core.specs.Plans.{plan_of};
-    ghost use Rattle.replay_table.specs.Kinds.{HoldsWord};
+    ghost use Rattle.replay_table.specs.Told.{ToldHold};
 
-    ghost then = { λ at before found after. HoldsWord (plan_of J.which J.recording) before.0 at.word found after.0
+    ghost then = { λ at before found after. ToldHold (plan_of J.which J.recording) before.0 at.word found after.0
         × (after.1 ≡ before.1) };
 }
 
@@ -70,9 +70,9 @@ pub struct StoreWord<J> {
 impl<J: Job> Play<u8, View> for StoreWord<J> {
     ghost use Rattle.std.specs.Prelude.{◌≡◌};
     ghost use Rattle.replay_core.specs.Plans.{plan_of};
-    ghost use Rattle.replay_table.specs.Kinds.{StoresWord};
+    ghost use Rattle.replay_table.specs.Told.{ToldStore};
 
-    ghost then = { λ at before new after. StoresWord (plan_of J.which J.recording) before.0 at.word new after.0
+    ghost then = { λ at before new after. ToldStore (plan_of J.which J.recording) before.0 at.word new after.0
         × (after.1 ≡ before.1) };
 }
 
@@ -84,9 +84,9 @@ pub struct ExchangeWord<J> {
 impl<J: Job> Play<u8, View> for ExchangeWord<J> {
     ghost use Rattle.std.specs.Prelude.{◌≡◌};
     ghost use Rattle.replay_core.specs.Plans.{plan_of};
-    ghost use Rattle.replay_table.specs.Kinds.{ExchangesWord};
+    ghost use Rattle.replay_table.specs.Told.{ToldExchange};
 
-    ghost then = { λ at before found after. ExchangesWord (plan_of J.which J.recording) before.0
+    ghost then = { λ at before found after. ToldExchange (plan_of J.which J.recording) before.0
         at.word at.first at.second found after.0 × (after.1 ≡ before.1) };
 }
 
@@ -98,9 +98,9 @@ pub struct PublishCount<J> {
 impl<J: Job> Play<u8, View> for PublishCount<J> {
     ghost use Rattle.std.specs.Prelude.{◌≡◌};
     ghost use Rattle.replay_core.specs.Plans.{plan_of};
-    ghost use Rattle.replay_table.specs.Kinds.{PublishesCount};
+    ghost use Rattle.replay_table.specs.Told.{ToldPublish};
 
-    ghost then = { λ at before new after. PublishesCount (plan_of J.which J.recording) before.0 at.word new after.0
+    ghost then = { λ at before new after. ToldPublish (plan_of J.which J.recording) before.0 at.word new after.0
         × (after.1 ≡ before.1) };
 }
 

@@ -65,8 +65,11 @@ impl<J: Job> CoreSeat<J> {
         ensures none { IfNone result (Due (plan_of J.which J.recording) (seen_of self.now.view) self.now.core) }
         ensures some { IfSome result (IsUnmet J.which J.recording self.now.view self.now.core) }
     {
+        let Some(sources) = &self.upcoming.sources else {
+            return None;
+        };
         for of in 0..self.seen.len() as u8 {
-            let count = self.upcoming.sources[of as usize];
+            let count = sources.get(of);
             if self.seen[of as usize] < count {
                 return Some(Instr { core: of, count });
             }

@@ -10,7 +10,7 @@ ghost use Rattle.replay_audit.specs.Determinate.{IsDeterminate};
 ghost use Rattle.replay_table.specs.Accesses.{is_load, is_change, word_of};
 ghost use Rattle.replay_table.specs.Aheads.{Due};
 ghost use Rattle.replay_table.specs.Rule.{seen_of};
-ghost use Rattle.replay_table.specs.Kinds.{SeesDone, LoadsWord, HoldsWord, StoresWord, PublishesCount};
+ghost use Rattle.replay_table.specs.Told.{ToldDone, ToldLoad, ToldHold, ToldStore, ToldPublish};
 ghost use Rattle.replay_table.specs.Seats.{Dealt, Exchanged, AtRest, IsLowValue, Opening};
 
 use crate::job::Job;
@@ -26,7 +26,7 @@ use atomic_table::Table;
 use image_mem::{Image, Memory};
 use log_codec::Recording;
 use rtr_types::Which;
-use rv_core::Core;
+use rv_core::{Core, Program};
 use std::alloc::{AllocError, Global};
 use std::marker::{Model, PhantomData};
 
@@ -36,7 +36,7 @@ use std::marker::{Model, PhantomData};
 pub struct ReplayTable<'a, J: Job> {
     pub(crate) recording: &'a Recording,
     pub(crate) which: Which,
-    pub(crate) image: Image,
+    pub(crate) program: Program,
     pub(crate) table: Table<u8, View, (), RuleOf<J>, Global>,
 }
 
@@ -50,7 +50,8 @@ impl<'a, J: Job> Model for ReplayTable<'a, J> {
 
     ghost view = { λ t. t.table.shared.table_id };
 
-    ghost invariant = { λ t. Belongs J.which J.recording t.which t.recording.now t.image t.table.shared.table_id };
+    ghost invariant = { λ t. Belongs J.which J.recording t.which t.recording.now t.program
+        t.table.shared.table_id };
 }
 
 /// The words of the memory, and a 0 for each core.
@@ -87,6 +88,7 @@ impl<'a, J: Job> ReplayTable<'a, J> {
             unreachable!()
         };
         let memory = Memory::new(alloc, &image)?;
+        let program = Program::new(alloc, image)?;
         let words = opening(alloc, &memory, params.words, params.cores)?;
         let (table, mut clerk) = Table::<u8, View, (), RuleOf<J>, Global>::of_words(
             alloc,
@@ -97,7 +99,7 @@ impl<'a, J: Job> ReplayTable<'a, J> {
         for id in 0..params.cores {
             let seen = vec![in alloc; 0u32; params.cores as usize]?;
             let core = Core::new(id, params.limit);
-            let upcoming = Upcoming::new(recording, which, &image, &core);
+            let upcoming = Upcoming::new(recording, which, &program, &core);
             let seat = table.shared.split_seat::<TakeFirst>(&mut clerk);
             seats.push(CoreSeat {
                 past: Past::new(alloc, core),
@@ -112,7 +114,7 @@ impl<'a, J: Job> ReplayTable<'a, J> {
             ReplayTable {
                 recording,
                 which,
-                image,
+                program,
                 table,
             },
             seats,
@@ -129,8 +131,9 @@ impl<'a, J: Job> ReplayTable<'a, J> {
         ensures touched { seat.new.touched ≡ seat.old.touched }
         ensures room { seat.new.roomy ≡ seat.old.roomy }
         ensures least { seen_of seat.old.view core ≤ result }
+        ensures seen { result ≡ seen_of seat.new.view core }
         ensures polls { slice_index seat.new.view.polls core ≡ slice_index seat.old.view.polls core + 1 }
-        ensures step { SeesDone (plan_of J.which J.recording) seat.old.view
+        ensures told { ToldDone (plan_of J.which J.recording) seat.old.view
             (J.recording.params.words + core) result seat.new.view }
     {
         let word = self.recording.params.words as usize + core as usize;
@@ -150,10 +153,8 @@ impl<'a, J: Job> ReplayTable<'a, J> {
         ensures room { seat.new.roomy ≡ seat.old.roomy }
         ensures view { seat.new.view ≡ seat.old.view }
     {
-        let mut next = *seat.past.core();
-        next.finish_op(&self.image, seat.upcoming.op, 0);
-        seat.past.go_on(next);
-        seat.upcoming = Upcoming::new(self.recording, self.which, &self.image, &next);
+        seat.past.finish(self.program.image(), seat.upcoming.op, 0);
+        seat.upcoming.advance(self.recording, self.which, &self.program, seat.past.core());
     }
 
     /// The word of a load, with which the instruction retires. Where the recording is determinate by the
@@ -165,11 +166,10 @@ impl<'a, J: Job> ReplayTable<'a, J> {
         requires room { IsTrue seat.old.roomy }
         ensures table { seat.new.table_id ≡ seat.old.table_id }
         ensures core { seat.new.core ≡ after (recorded_image J.recording) seat.old.core result }
-        ensures step { LoadsWord (plan_of J.which J.recording) seat.old.view
+        ensures told { ToldLoad (plan_of J.which J.recording) seat.old.view
             (word_of (need (recorded_image J.recording) seat.old.core)) result seat.new.view }
         ensures low { IsLowValue J.which J.recording seat.old.core result }
     {
-        let mut next = *seat.past.core();
         let used = seat.upcoming.need.access();
         let Some((_, word)) = used else {
             unreachable!()
@@ -179,9 +179,10 @@ impl<'a, J: Job> ReplayTable<'a, J> {
             .shared
             .load::<LoadWord<J>>(&mut seat.seat, word as usize);
         let value = found as u32;
-        next.finish_op(&self.image, seat.upcoming.op, value);
-        seat.past.note(next, used, value);
-        seat.upcoming = Upcoming::new(self.recording, self.which, &self.image, &next);
+        seat.past
+            .finish(self.program.image(), seat.upcoming.op, value);
+        seat.past.note(used, value);
+        seat.upcoming.advance(self.recording, self.which, &self.program, seat.past.core());
         value
     }
 
@@ -196,7 +197,7 @@ impl<'a, J: Job> ReplayTable<'a, J> {
         ensures loads { seat.new.loads ≡ seat.old.loads }
         ensures touched { seat.new.touched ≡ seat.old.touched }
         ensures room { seat.new.roomy ≡ seat.old.roomy }
-        ensures step { HoldsWord (plan_of J.which J.recording) seat.old.view
+        ensures told { ToldHold (plan_of J.which J.recording) seat.old.view
             (word_of (need (recorded_image J.recording) seat.old.core)) result seat.new.view }
     {
         let Some((_, word)) = seat.upcoming.need.access() else {
@@ -224,7 +225,7 @@ impl<'a, J: Job> ReplayTable<'a, J> {
         ensures whole { IsTrue (is_whole (need (recorded_image J.recording) seat.old.core)) →
             (result ≡ Ok tt)
             × (seat.new.core ≡ after (recorded_image J.recording) seat.old.core 0)
-            × StoresWord (plan_of J.which J.recording) seat.old.view
+            × ToldStore (plan_of J.which J.recording) seat.old.view
             (word_of (need (recorded_image J.recording) seat.old.core))
             (wrote (recorded_image J.recording) seat.old.core 0) seat.new.view }
         ensures change { is_whole (need (recorded_image J.recording) seat.old.core) ≡ false → (held : ℕ) →
@@ -246,7 +247,7 @@ impl<'a, J: Job> ReplayTable<'a, J> {
         ensures table { seat.new.table_id ≡ seat.old.table_id }
         ensures core { seat.new.core ≡ seat.old.core }
         ensures room { seat.new.roomy ≡ seat.old.roomy }
-        ensures step { PublishesCount (plan_of J.which J.recording) seat.old.view
+        ensures told { ToldPublish (plan_of J.which J.recording) seat.old.view
             (J.recording.params.words + seat.old.core.id) seat.old.core.count seat.new.view }
         ensures rest { AtRest seat.new }
     {
@@ -269,21 +270,20 @@ impl<'a, J: Job> ReplayTable<'a, J> {
         requires room { IsTrue seat.old.roomy }
         ensures table { seat.new.table_id ≡ seat.old.table_id }
         ensures core { seat.new.core ≡ after (recorded_image J.recording) seat.old.core 0 }
-        ensures step { StoresWord (plan_of J.which J.recording) seat.old.view
+        ensures told { ToldStore (plan_of J.which J.recording) seat.old.view
             (word_of (need (recorded_image J.recording) seat.old.core))
             (wrote (recorded_image J.recording) seat.old.core 0) seat.new.view }
     {
-        let mut next = *seat.past.core();
         let used = seat.upcoming.need.access();
         let Some((_, word)) = used else {
             unreachable!()
         };
-        let value = next.finish_op(&self.image, seat.upcoming.op, 0);
+        let value = seat.past.finish(self.program.image(), seat.upcoming.op, 0);
         self.table
             .shared
             .store::<StoreWord<J>>(&mut seat.seat, word as usize, value as u64);
-        seat.past.note(next, used, 0);
-        seat.upcoming = Upcoming::new(self.recording, self.which, &self.image, &next);
+        seat.past.note(used, 0);
+        seat.upcoming.advance(self.recording, self.which, &self.program, seat.past.core());
     }
 
     fn exchange(&self, seat: &mut CoreSeat<J>) -> Result<(), Raced>
@@ -307,7 +307,7 @@ impl<'a, J: Job> ReplayTable<'a, J> {
         let Some(held) = seat.held else {
             unreachable!()
         };
-        let value = next.finish_op(&self.image, seat.upcoming.op, held);
+        let value = next.finish_op(self.program.image(), seat.upcoming.op, held);
         let found = self
             .table
             .shared
@@ -319,8 +319,10 @@ impl<'a, J: Job> ReplayTable<'a, J> {
             );
         seat.held = None;
         if found == held as u64 {
-            seat.past.note(next, used, held);
-            seat.upcoming = Upcoming::new(self.recording, self.which, &self.image, &next);
+            seat.past.go_on(next);
+            seat.past.note(used, held);
+            seat.upcoming
+                .advance(self.recording, self.which, &self.program, &next);
             return Ok(());
         }
         Err(Raced {

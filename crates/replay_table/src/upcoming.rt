@@ -2,65 +2,76 @@
 ghost use Rattle.std.specs.Prelude.{◌≡◌, ◌<◌, ◌≤◌, length, slice_index};
 ghost use Rattle.log_codec.specs.Sources.{log_edges};
 ghost use Rattle.log_codec.specs.Validity.{Valid};
-ghost use Rattle.replay_core.specs.Sources.{AreSources};
+ghost use Rattle.replay_core.specs.Coming.{IsComing};
 ghost use Rattle.replay_core.specs.Plans.{recorded_image};
 ghost use Rattle.replay_table.specs.Seats.{IsUpcoming};
 
-use image_mem::Image;
+use clock_core::Clock;
 use log_codec::Recording;
-use rtr_types::{CORES_MAX, Instr, Which};
-use rv_core::{Core, Need};
+use replay_core::Coming;
+use rtr_types::{Instr, Which};
+use rv_core::{Core, Need, Program};
 use rv_decode::Op;
 
-/// A place for each core, as the length of an array.
-const PLACES: usize = CORES_MAX as usize;
-
-/// The core's next instruction, what it needs, and its logged sources: for each core the count from which
-/// the log has an edge to it, and 0 where there is none. They are looked up once, when the instruction
-/// before has retired.
+/// The core's next instruction, what it needs, its logged sources, and the next edges into the core. They are
+/// looked up once, when the instruction before has retired, and an instruction to which no edge leads has no
+/// sources.
 #[derive(Clone, Copy)]
 pub(crate) struct Upcoming {
     pub(crate) op: Option<Op>,
     pub(crate) need: Need,
-    pub(crate) sources: [u32; PLACES],
+    pub(crate) sources: Option<Clock>,
+    pub(crate) coming: Coming,
 }
 
 impl Upcoming {
     /// Looks up the core's next instruction.
-    pub(crate) fn new(recording: &Recording, which: Which, image: &Image, core: &Core) -> Upcoming
+    pub(crate) fn new(
+        recording: &Recording,
+        which: Which,
+        program: &Program,
+        core: &Core,
+    ) -> Upcoming
         requires valid { Valid recording.now }
-        requires image { image.now ≡ recorded_image recording.now }
+        requires program { program.now ≡ recorded_image recording.now }
         requires core { core.now.id < length recording.now.totals }
         requires within { core.now.count ≤ slice_index recording.now.totals core.now.id }
         ensures { IsUpcoming which recording.now core.now result }
     {
-        let op = core.next_op(image);
+        let mut upcoming = Upcoming {
+            op: None,
+            need: Need::Local,
+            sources: None,
+            coming: Coming::new(),
+        };
+        upcoming.advance(recording, which, program, core);
+        upcoming
+    }
+
+    /// Goes on to the core's next instruction.
+    #[inline(always)]
+    pub(crate) fn advance(
+        &mut self,
+        recording: &Recording,
+        which: Which,
+        program: &Program,
+        core: &Core,
+    )
+        requires valid { Valid recording.now }
+        requires program { program.now ≡ recorded_image recording.now }
+        requires core { core.now.id < length recording.now.totals }
+        requires within { core.now.count ≤ slice_index recording.now.totals core.now.id }
+        requires coming { IsComing (log_edges which recording.now) core.now.id recording.now.params.cores
+            self.old.coming }
+        ensures { IsUpcoming which recording.now core.now self.new }
+    {
+        let op = program.op(core.pc());
         let at = Instr {
             core: core.id(),
             count: core.count() + 1,
         };
-        Upcoming {
-            op,
-            need: core.need_by_op(image, op),
-            sources: sources_of(recording, which, at),
-        }
+        self.op = op;
+        self.need = core.need_by_op(program.image(), op);
+        self.coming.find(recording, which, at, &mut self.sources);
     }
-}
-
-/// The logged sources of an instruction.
-fn sources_of(recording: &Recording, which: Which, at: Instr) -> [u32; PLACES]
-    requires valid { Valid recording.now }
-    requires core { at.core < length recording.now.totals }
-    ensures { AreSources (log_edges which recording.now) at result }
-{
-    let mut sources = [0; PLACES];
-    for of in 0..recording.params.cores {
-        if of != at.core {
-            match recording.source(which, of, at) {
-                Some(count) => sources[of as usize] = count,
-                None => {}
-            }
-        }
-    }
-    sources
 }

@@ -16,11 +16,13 @@ use Rattle.replay_threads.specs.Joints.{RanOut}
 
 -- ---- a closed table
 
-pub end_ran : (which : Which) (r : Recording) (e : AnEnd) → Valid r → IsEnd (plan_of which r) e → IsDeterminate which r → RanOut which r e
+pub end_ran : (which : Which) (r : Recording) (e : AnEnd) → Valid r → IsEnd (plan_of which r) e → IsDeterminate which
+    r → RanOut which r e
 end_ran which r e valid h det = record {
   determinate = det;
   ended = h;
-  outcome = h.outcome ∙ (every_order_law which r (low_order (plan_of which r)) h.order valid det h.play.ordered).outcome h.play.whole;
+  outcome = h.outcome
+      ∙ (every_order_law which r (low_order (plan_of which r)) h.order valid det h.play.ordered).outcome h.play.whole;
 }
 
 -- ---- turns
@@ -44,7 +46,8 @@ pub looks_then : (x y z : Sitting) → Looks x y → Looks y z → Looks x z
 looks_then x y z a b = record { goes_on = goes_then x y z a.goes_on b.goes_on; core = b.core ∙ a.core }
 
 -- what ends a turn that began later ends one that began earlier
-pub ends_sooner : (which : Which) (r : Recording) (x y z : Sitting) (turn : Turn) → Continues x y → EndsBy which r y turn z → EndsBy which r x turn z
+pub ends_sooner : (which : Which) (r : Recording) (x y z : Sitting) (turn : Turn) → Continues x y
+    → EndsBy which r y turn z → EndsBy which r x turn z
 ends_sooner which r x y z Ended go h = h
 ends_sooner which r x y z (Waiting of) go h = record {
   source = h.source;
@@ -53,18 +56,31 @@ ends_sooner which r x y z (Waiting of) go h = record {
       arith;
 }
 ends_sooner which r x y z Short go h = h
-ends_sooner which r x y z Raced go h = record { failed = let p = go.failed in let q = h.failed in omega arith; undetermined = h.undetermined }
+ends_sooner which r x y z Raced go h = record {
+  failed = let p = go.failed in let q = h.failed in
+      omega arith;
+  undetermined = h.undetermined;
+}
 
 -- and still ends it once the core's count is published
-pub ends_published : (which : Which) (r : Recording) (x y z : Sitting) (turn : Turn) → Publishes y z → EndsBy which r x turn y → EndsBy which r x turn z
+pub ends_published : (which : Which) (r : Recording) (x y z : Sitting) (turn : Turn) → Publishes y z
+    → EndsBy which r x turn y → EndsBy which r x turn z
 ends_published which r x y z Ended same h = rw same.core h
 ends_published which r x y z (Waiting of) same h = record {
   source = rw same.core h.source;
   unseen = let e = ap (λ (l : List ℕ). slice_index l of.core) same.seen in let u = h.unseen in omega arith;
   loads = let e = ap (λ (l : List ℕ). slice_index l of.core) same.polls in let u = h.loads in omega arith;
 }
-ends_published which r x y z Short same h = record { below = rw same.core h.below; done = rw same.core h.done; undetermined = h.undetermined }
-ends_published which r x y z Raced same h = record { failed = let e = same.failed in let u = h.failed in omega arith; undetermined = h.undetermined }
+ends_published which r x y z Short same h = record {
+  below = rw same.core h.below;
+  done = rw same.core h.done;
+  undetermined = h.undetermined;
+}
+ends_published which r x y z Raced same h = record {
+  failed = let e = same.failed in let u = h.failed in
+      omega arith;
+  undetermined = h.undetermined;
+}
 
 -- what a turn's loop goes by
 pub ruleset turns_go_on = (goes_none, goes_then, ends_sooner, ends_published)

@@ -15,15 +15,19 @@ use Rattle.replay_audit.specs.Determinate.{IsDeterminate}
 use Rattle.replay_audit.proofs.Ahead.{due_ready}
 use Rattle.replay_audit.proofs.Agreed.{every_order_law}
 
--- an order that plays to a core which is due and done goes on to one that falls short, and in a determinate recording none
+-- an order that plays to a core which is due and done goes on to one that falls short, and in a determinate
+-- recording none
 -- does
-pub short_open : (which : Which) (r : Recording) (order : List ℕ) (f : ℕ → ℕ) (k : Core) → Valid r → IsReplayOrder (plan_of which r) order →
-    ((i : ℕ) → f i ≤ counts nought order i) → k.id < length r.totals → core_at (played (plan_of which r) order) k.id ≡ k →
+pub short_open : (which : Which) (r : Recording) (order : List ℕ) (f : ℕ → ℕ) (k : Core) → Valid r
+    → IsReplayOrder (plan_of which r) order →
+    ((i : ℕ) → f i ≤ counts nought order i) → k.id < length r.totals → core_at (played (plan_of which r) order) k.id ≡
+    k →
     IsDue (plan_of which r) f k.id k → is_done (need (plan_of which r).image k) ≡ true → IsDeterminate which r → ⊥
 short_open which r order f k valid ord le lt at due done det =
     let p = plan_of which r in
     let ready : Ready p (counts nought order) k.id = due_ready p order f k.id k ord le lt at due in
     let longer : IsReplayOrder p (order ++ k.id ∷ []) = (one_more p order k.id ord).1 ready in
     let plays = (every_order_law which r (low_order p) (order ++ k.id ∷ []) valid det longer).plays in
-    let last : is_done (need_at p (play p (start p) order) k.id) ≡ false = ((plays_on p (start p) order (k.id ∷ [])).0 plays).1.0 in
+    let last : is_done (need_at p (play p (start p) order) k.id) ≡ false
+    = ((plays_on p (start p) order (k.id ∷ [])).0 plays).1.0 in
     true≢false (sym done ∙ ap (λ (x : Core). is_done (need p.image x)) (sym at) ∙ last)

@@ -16,8 +16,9 @@ use std::marker::Model;
 use std::thread;
 use std::thread::Threads;
 
-/// After how many passes in a row in which none of its workers retired an instruction a group gives its
-/// thread up. The round then ends, and the next one serves a machine on which no thread can be made.
+/// After how many passes in a row a group gives its thread up in which none of its workers retired an
+/// instruction or saw that another core got on. The round then ends, and the next one serves a machine on which no
+/// thread can be made.
 const IDLE_PASSES: u32 = 256;
 
 /// How the turns of a pass ended, taken together.
@@ -85,18 +86,20 @@ impl<'a, J: Job> Group<'a, J> {
     {
         self.pass(table, gate);
         let mut idle: u32 = 0;
+        let mut before = self.headway();
         for _pass in 1..u32::MAX {
             if idle >= IDLE_PASSES || !self.waits() {
                 return;
             }
-            let before = self.retired();
             self.pass(table, gate);
-            if self.retired() > before {
+            let now = self.headway();
+            if now > before {
                 idle = 0;
             } else {
                 idle = idle.saturating_add(1);
                 thread::yield_now();
             }
+            before = now;
         }
     }
 
@@ -113,11 +116,11 @@ impl<'a, J: Job> Group<'a, J> {
         matches!(self.stand, Stand::Waiting)
     }
 
-    /// How many instructions the workers' cores have retired.
-    fn retired(&self) -> u64 {
+    /// How far the workers' cores have come, and those that they wait for, as far as they have seen.
+    fn headway(&self) -> u64 {
         let mut sum: u64 = 0;
         for worker in self.workers.as_slice() {
-            sum = sum.wrapping_add(worker.count() as u64);
+            sum = sum.wrapping_add(worker.headway());
         }
         sum
     }

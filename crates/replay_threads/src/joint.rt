@@ -3,8 +3,7 @@ ghost use Rattle.std.specs.Prelude.{◌≡◌, ◌<◌, ◌≤◌, IfNone, IfOk,
 ghost use Rattle.atomic_table.specs.Seated.{TableId};
 ghost use Rattle.log_codec.specs.Validity.{Valid};
 ghost use Rattle.replay_core.specs.Plans.{plan_of};
-ghost use Rattle.replay_core.specs.Orders.{IsWhole};
-ghost use Rattle.replay_audit.specs.Determinate.{IsDeterminate, low_order_of};
+ghost use Rattle.replay_audit.specs.Determinate.{IsDeterminate};
 ghost use Rattle.replay_table.specs.Seats.{Finished};
 ghost use Rattle.replay_threads.specs.Groups.{AllAt, AllDone, AreAt, AreGrouped, AreInOrder};
 ghost use Rattle.replay_threads.specs.Joints.{IsJointOf};
@@ -14,7 +13,7 @@ use crate::groups::{Group, give, no_groups, take_last};
 use crate::rounds::rounds;
 use crate::worker::Worker;
 use log_codec::Recording;
-use replay_audit::{judge, ordered};
+use replay_audit::WholeOrder;
 use replay_table::laws::an_end_was_played;
 use replay_table::{Closed, CoreSeat, Job, ReplayTable};
 use rtr_types::Which;
@@ -50,10 +49,10 @@ pub fn replay_parallel<R: Threads + Wait + Sync, G: Gate>(
     requires threads { (1 ≤ threads) × (threads ≤ 8) }
     ensures { IfOk result (IsJointOf which recording.now) }
 {
-    if !ordered(alloc, recording, which)? {
+    let Some(order) = WholeOrder::of(alloc, recording, which)? else {
         return Ok(Joint::Unsure);
-    }
-    run::<Brand, R, G>(rt, alloc, recording, which, threads, gate)
+    };
+    run::<Brand, R, G>(rt, alloc, recording, which, order, threads, gate)
 }
 
 /// The same for a job, whose log's low order is whole.
@@ -62,13 +61,14 @@ fn run<J: Job + Send + Sync, R: Threads + Wait + Sync, G: Gate>(
     alloc: Global,
     recording: &Recording,
     which: Which,
+    order: WholeOrder,
     threads: u32,
     gate: &G,
 ) -> Result<Joint, AllocError>
     requires valid { Valid J.recording }
     requires recording { recording.now ≡ J.recording }
     requires which { which ≡ J.which }
-    requires ordered { IsWhole (plan_of J.which J.recording) (low_order_of J.which J.recording) }
+    requires order { (order.which ≡ J.which) × (order.recording ≡ J.recording) }
     requires threads { (1 ≤ threads) × (threads ≤ 8) }
     ensures { IfOk result (IsJointOf J.which J.recording) }
 {
@@ -78,7 +78,7 @@ fn run<J: Job + Send + Sync, R: Threads + Wait + Sync, G: Gate>(
     let Some(seats) = worked(rt, alloc, recording.params.cores, &table, groups, gate)? else {
         return Ok(Joint::Unsure);
     };
-    judged(alloc, recording, which, table, seats)
+    judged(alloc, order, table, seats)
 }
 
 /// The seats once all groups have worked them to their cores' totals, or none where a worker can't go on.
@@ -108,15 +108,12 @@ fn worked<J: Job + Send + Sync, R: Threads + Wait + Sync, G: Gate>(
 /// What the table comes to once it is closed with its seats, which are at their cores' totals.
 fn judged<J: Job>(
     alloc: Global,
-    recording: &Recording,
-    which: Which,
+    order: WholeOrder,
     table: ReplayTable<J>,
     seats: Vec<CoreSeat<J>>,
 ) -> Result<Joint, AllocError>
     requires valid { Valid J.recording }
-    requires recording { recording.now ≡ J.recording }
-    requires which { which ≡ J.which }
-    requires ordered { IsWhole (plan_of J.which J.recording) (low_order_of J.which J.recording) }
+    requires order { (order.which ≡ J.which) × (order.recording ≡ J.recording) }
     requires seats { Finished (plan_of J.which J.recording) table seats.items }
     ensures { IfOk result (IsJointOf J.which J.recording) }
 {
@@ -124,7 +121,7 @@ fn judged<J: Job>(
         return Err(AllocError);
     };
     an_end_was_played();
-    if !judge(alloc, recording, which, closed.touched())? {
+    if !order.judge(alloc, closed.touched())? {
         return Ok(Joint::Unsure);
     }
     Ok(Joint::Ran(closed))

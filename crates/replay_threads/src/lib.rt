@@ -8,6 +8,7 @@ mod joint;
 mod rounds;
 mod turns;
 mod waits;
+mod wanted;
 mod worker;
 
 pub use gate::{Gate, OpenGate};

@@ -11,14 +11,12 @@ ghost use Rattle.replay_threads.specs.Turns.{Continues, EndsBy, IsReached};
 
 use crate::gate::Gate;
 use crate::waits::{publish, wait};
+use crate::wanted::Wanted;
+use log_codec::Recording;
 use replay_table::{CoreSeat, Job, ReplayTable};
-use rtr_types::Instr;
+use rtr_types::{Instr, Which};
 use rv_core::Need;
 use std::alloc::AllocError;
-
-/// After how many instructions at most a worker lets others see how far it has come. Each time costs them
-/// the place of its done word in their caches.
-const PUBLISHED_AFTER: u32 = 32;
 
 /// How a worker's turn ended.
 #[derive(Clone, Copy)]
@@ -38,11 +36,15 @@ pub enum Turn {
 #[tactic(auto, using(crate::proofs::Ends::turns_go_on))]
 pub(crate) fn run<J: Job, G: Gate>(
     seat: &mut CoreSeat<J>,
+    wanted: &mut Wanted,
+    recording: &Recording,
+    which: Which,
     total: u32,
     table: &ReplayTable<J>,
     gate: &G,
 ) -> Result<Turn, AllocError>
     requires valid { Valid J.recording }
+    requires recording { recording.now ≡ J.recording }
     requires table { seat.old.table_id ≡ table.now }
     requires total { total ≡ slice_index J.recording.totals seat.old.core.id }
     ensures goes_on { Continues seat.old seat.new }
@@ -55,8 +57,9 @@ pub(crate) fn run<J: Job, G: Gate>(
             publish(seat, table);
             return Ok(end);
         }
-        if seat.core().count() % PUBLISHED_AFTER == 0 {
+        if wanted.is_due(seat.core().count()) {
             publish(seat, table);
+            wanted.pass(recording, which, seat.core().id(), seat.core().count());
         }
     }
     publish(seat, table);

@@ -26,7 +26,6 @@ pub(crate) fn wait<J: Job>(seat: &mut CoreSeat<J>, table: &ReplayTable<J>) -> Op
     ensures some { IfSome result (λ of. Awaits J.which J.recording of seat.old seat.new) }
 {
     while let Some(of) = seat.unmet() {
-        publish(seat, table);
         if !await_source(seat, of, table) {
             return Some(of);
         }
@@ -37,6 +36,7 @@ pub(crate) fn wait<J: Job>(seat: &mut CoreSeat<J>, table: &ReplayTable<J>) -> Op
 /// Loads the done word of a source's core until the source is seen, or until so many loads in a row brought
 /// nothing new.
 #[tactic(auto, using(crate::proofs::Ends::looks_none, crate::proofs::Ends::looks_then))]
+#[inline(never)]
 fn await_source<J: Job>(seat: &mut CoreSeat<J>, of: Instr, table: &ReplayTable<J>) -> bool
     requires table { seat.old.table_id ≡ table.now }
     requires core { of.core < length J.recording.totals }
@@ -46,14 +46,15 @@ fn await_source<J: Job>(seat: &mut CoreSeat<J>, of: Instr, table: &ReplayTable<J
     ensures unseen { result ≡ false → (seen_of seat.new.view of.core < of.count)
         × (slice_index seat.old.view.polls of.core + 64 ≤ slice_index seat.new.view.polls of.core) }
 {
+    let mut seen = seat.seen(of.core);
     let mut idle = 0;
     while idle < LOADS {
-        let before = seat.seen(of.core);
         let found = look(seat, of.core, table);
         if found >= of.count {
             return true;
         }
-        idle = if found > before { 0 } else { idle + 1 };
+        idle = if found > seen { 0 } else { idle + 1 };
+        seen = found;
     }
     false
 }
@@ -68,8 +69,7 @@ fn look<J: Job>(seat: &mut CoreSeat<J>, of: u8, table: &ReplayTable<J>) -> u32
     ensures least { to_see seat.new.view ≤ to_see seat.old.view }
     ensures less { seen_of seat.old.view of < result → to_see seat.new.view < to_see seat.old.view }
 {
-    table.seen_done(seat, of);
-    seat.seen(of)
+    table.seen_done(seat, of)
 }
 
 /// Publishes the core's count.

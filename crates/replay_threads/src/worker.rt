@@ -6,6 +6,7 @@ ghost use Rattle.replay_threads.specs.Turns.{Continues, EndsBy, HasEnded, IsReac
 
 use crate::gate::Gate;
 use crate::turns::{Turn, run};
+use crate::wanted::Wanted;
 use log_codec::Recording;
 use replay_table::{CoreSeat, Job, ReplayTable};
 use rtr_types::Which;
@@ -18,6 +19,7 @@ pub struct Worker<'a, J: Job> {
     recording: &'a Recording,
     which: Which,
     seat: CoreSeat<J>,
+    wanted: Wanted,
 }
 
 impl<'a, J: Job> Model for Worker<'a, J> {
@@ -43,12 +45,17 @@ impl<'a, J: Job> Worker<'a, J> {
             recording,
             which,
             seat,
+            wanted: Wanted::new(),
         }
     }
 
-    /// How many instructions the core has retired.
-    pub(crate) fn count(&self) -> u32 {
-        self.seat.core().count()
+    /// How many instructions the core has retired, and of how many of other cores it has seen.
+    pub(crate) fn headway(&self) -> u64 {
+        let mut sum = self.seat.core().count() as u64;
+        for core in 0..self.recording.params.cores {
+            sum = sum.wrapping_add(self.seat.seen(core) as u64);
+        }
+        sum
     }
 
     /// Whether the core is at its total.
@@ -79,6 +86,14 @@ impl<'a, J: Job> Worker<'a, J> {
     {
         let core = self.seat.core().id();
         let total = self.recording.totals.as_slice()[core as usize];
-        run(&mut self.seat, total, table, gate)
+        run(
+            &mut self.seat,
+            &mut self.wanted,
+            self.recording,
+            self.which,
+            total,
+            table,
+            gate,
+        )
     }
 }

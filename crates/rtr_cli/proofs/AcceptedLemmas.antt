@@ -32,12 +32,17 @@ use Rattle.rtr_types.specs.declared.pairs.Which.{Which}
 use Rattle.rtr_types.specs.declared.pairs.Which.TheVariants.{Reduced, Regulated}
 use Rattle.rtr_types.specs.declared.params.Params.{Params}
 use Rattle.tool_words.specs.declared.command.Command.{Command}
-use Rattle.tool_words.specs.declared.command.Command.TheVariants.{Record, Run, Print, Replay, Migrate, Certify, Check, Gen, Soak, At}
-use Rattle.tool_words.specs.declared.command.Command.TheVariants.{Thin, CheckThin}
+use Rattle.tool_words.specs.declared.command.Command.TheVariants.{Record, Run, Print, Replay, Migrate, Certify, Check}
+use Rattle.tool_words.specs.declared.command.Command.TheVariants.{Gen, Soak, At}
+use Rattle.tool_words.specs.declared.command.Command.TheVariants.{Thin, CheckThin, TsoRecord, TsoRun, TsoReplay}
 use Rattle.vector_reduce.specs.Answers.{AreFew, AreTooMany, IsTooMany, IsNotShown as IsNotNeededShown}
 use Rattle.vector_reduce.specs.Reading.{thinned_at}
 use Rattle.rtr_cli.specs.Commands.{IsNotLeast, image_of, loaded}
-use Rattle.rtr_cli.specs.Completeness.{Accepts, AcceptedIsNotRefused, IsOfCertify, IsOfRecord, IsOfRecordWith, IsOfRecordWithFew, IsOfThin}
+use Rattle.tso_codec.specs.Reading.{tso_at}
+use Rattle.rtr_cli.specs.Commands.{TsoStops}
+use Rattle.rtr_cli.specs.Completeness.{Accepts, AcceptedIsNotRefused, IsOfBuffers, IsOfCertify, IsOfRecord}
+use Rattle.rtr_cli.specs.Completeness.{IsOfRecordWith, IsOfRecordWithFew, IsOfThin}
+use Rattle.rtr_cli.proofs.BufferLemmas.{not_stopped}
 use Rattle.rtr_cli.proofs.ReasonLemmas.{HasNoReason, both_said, is_read, memory_alone}
 
 -- ---- the least log
@@ -48,7 +53,8 @@ none_amiss r (failures.NotConflict edge) least amiss = amiss
 none_amiss r (failures.BadClock core entry) least amiss = amiss
 none_amiss r (failures.NotNeeded edge) least amiss = amiss
 none_amiss r (failures.NotLeast edge) least amiss =
-    let none : certs.NotLeast edge ≡ certs.OutOfMemory = least_is_certified r (certs.NotLeast edge) least amiss.1 in absurd cc
+    let none : certs.NotLeast edge ≡ certs.OutOfMemory = least_is_certified r (certs.NotLeast edge) least amiss.1 in
+    absurd cc
 
 -- the reduced log is the least set of the low order's accesses too, as it is of those of the order of retirement
 least_in_low : (image : Contents) (params : Params) (schedule : Choices) → Fits params → image.words ≡ params.words
@@ -64,10 +70,12 @@ least_in_low image params schedule fits words recorded determinate =
 -- ---- no reason to refuse what is accepted
 
 -- no audit refuses what is determinate
-pub determinate_not_audited : (which : Which) (r : Recording) (fault : AuditFault) → IsDeterminate which r → AuditRefuses which r fault
+pub determinate_not_audited : (which : Which) (r : Recording) (fault : AuditFault) → IsDeterminate which r
+    → AuditRefuses which r fault
     → fault ≡ faults.OutOfMemory
 determinate_not_audited which r faults.OutOfMemory is refuses = refl
-determinate_not_audited which r (faults.Stuck cut) is refuses = absurd (refused_law which r (faults.Stuck cut) refuses (λ e. absurd cc) is)
+determinate_not_audited which r (faults.Stuck cut) is refuses = absurd
+    (refused_law which r (faults.Stuck cut) refuses (λ e. absurd cc) is)
 determinate_not_audited which r (faults.Short core count) is refuses =
     absurd (refused_law which r (faults.Short core count) refuses (λ e. absurd cc) is)
 determinate_not_audited which r (faults.Undetermined first second) is refuses =
@@ -79,9 +87,11 @@ not_too_many r few (inl more) = absurd (omega (arith, few.vectors, more))
 not_too_many r few (inr more) = absurd (omega (arith, few.positions, more))
 
 -- no audit refuses what `record` makes
-not_audited : (which : Which) (r : Recording) (fault : AuditFault) → IsOfRecord r → AuditRefuses which r fault → fault ≡ faults.OutOfMemory
+not_audited : (which : Which) (r : Recording) (fault : AuditFault) → IsOfRecord r → AuditRefuses which r fault
+    → fault ≡ faults.OutOfMemory
 not_audited which r fault h refuses =
-    (both_replay (image_of h.params h.bytes) h.params (choices_of h.choices h.seed) which h.fits refl h.room).answers.not_audited fault
+    (both_replay (image_of h.params h.bytes) h.params (choices_of h.choices h.seed) which h.fits refl
+    h.room).answers.not_audited fault
     (subst (λ (q : Recording). AuditRefuses which q fault) h.recorded refuses)
 
 -- its reduced log is least
@@ -98,8 +108,10 @@ not_amiss r failure h amiss =
 determinate_of : (c : Certificate) → IsOfCertify c → IsDeterminate Reduced c.recording
 determinate_of c h = subst (λ (q : Recording). IsDeterminate Reduced q) (sym h.certifies.recording) h.determinate
 
-certificate_not_audited : (c : Certificate) (fault : AuditFault) → IsOfCertify c → AuditRefuses Reduced c.recording fault → fault ≡ faults.OutOfMemory
-certificate_not_audited c fault h refuses = determinate_not_audited Reduced c.recording fault (determinate_of c h) refuses
+certificate_not_audited : (c : Certificate) (fault : AuditFault) → IsOfCertify c → AuditRefuses Reduced c.recording
+    fault → fault ≡ faults.OutOfMemory
+certificate_not_audited c fault h refuses = determinate_not_audited Reduced c.recording fault (determinate_of c h)
+    refuses
 
 certificate_passes : (c : Certificate) (failure : CheckFailure) → IsOfCertify c → CheckFails c failure → ⊥
 certificate_passes c failure h fails =
@@ -166,7 +178,8 @@ no_reason Certify input a = record {
   audited = λ fault h.
       both_said (whole_at input) IsOfRecord (λ r. AuditRefuses Reduced r fault) (fault ≡ faults.OutOfMemory)
       (λ r is it. not_audited Reduced r fault is it) a h;
-  shown = λ failure h. both_said (whole_at input) IsOfRecord (λ r. IsNotLeast r failure) ⊥ (λ r is it. not_amiss r failure is it) a h;
+  shown = λ failure h. both_said (whole_at input) IsOfRecord (λ r. IsNotLeast r failure) ⊥
+      (λ r is it. not_amiss r failure is it) a h;
   few = λ vectors edges h. h;
   needed = λ vector h. h;
   faultless = λ fault h. h;
@@ -176,10 +189,12 @@ no_reason Check input a = record {
   read = λ part h. is_read (certificate_at input) IsOfCertify part a h;
   present = λ at h. h;
   audited = λ fault h.
-      both_said (certificate_at input) IsOfCertify (λ c. AuditRefuses Reduced c.recording fault) (fault ≡ faults.OutOfMemory)
+      both_said (certificate_at input) IsOfCertify (λ c. AuditRefuses Reduced c.recording fault)
+      (fault ≡ faults.OutOfMemory)
       (λ c is it. certificate_not_audited c fault is it) a h;
   shown = λ failure h.
-      both_said (certificate_at input) IsOfCertify (λ c. CheckFails c failure) ⊥ (λ c is it. certificate_passes c failure is it) a h;
+      both_said (certificate_at input) IsOfCertify (λ c. CheckFails c failure) ⊥
+      (λ c is it. certificate_passes c failure is it) a h;
   few = λ vectors edges h. h;
   needed = λ vector h. h;
   faultless = λ fault h. h;
@@ -210,7 +225,8 @@ no_reason (At which at latest loads) input a = record {
   present = λ absent h.
       both_said (whole_at input) (IsOfRecordWith at) (λ r. IsInstrOf r at → ⊥) ⊥ (λ r is it. it is.1) a h.0;
   audited = λ fault h.
-      both_said (whole_at input) (IsOfRecordWith at) (λ r. IsInstrOf r at × AuditRefuses which r fault) (fault ≡ faults.OutOfMemory)
+      both_said (whole_at input) (IsOfRecordWith at) (λ r. IsInstrOf r at × AuditRefuses which r fault)
+      (fault ≡ faults.OutOfMemory)
       (λ r is it. not_audited which r fault is.0 it.1) a h;
   shown = λ failure h. h;
   few = λ vectors edges h. h;
@@ -243,6 +259,38 @@ no_reason CheckThin input a = record {
   needed = λ vector h.
       both_said (thinned_at input) IsOfThin (λ t. IsNotNeededShown t vector) ⊥
       (λ t is it. it.not_shown (is.1.shown.each it.before it.within).shown) a h;
+  faultless = λ fault h. h;
+  holds = λ h. h;
+}
+no_reason (TsoRecord run) input a = record {
+  read = λ part h. h;
+  present = λ at h. h;
+  audited = λ fault h. absurd h;
+  shown = λ failure h. h;
+  few = λ vectors edges h. h;
+  needed = λ vector h. h;
+  faultless = λ fault h. h;
+  holds = λ h. h;
+}
+no_reason (TsoRun run loads) input a = record {
+  read = λ part h. h;
+  present = λ at h. h;
+  audited = λ fault h. absurd h;
+  shown = λ failure h. h;
+  few = λ vectors edges h. h;
+  needed = λ vector h. h;
+  faultless = λ fault h. h;
+  holds = λ h. h;
+}
+no_reason (TsoReplay loads) input a = record {
+  read = λ part h. is_read (tso_at input) IsOfBuffers part a h;
+  present = λ at h. h;
+  audited = λ fault h.
+      both_said (tso_at input) IsOfBuffers (λ r. TsoStops r fault) (fault ≡ faults.OutOfMemory)
+      (λ r is it. not_stopped r fault is it) a h;
+  shown = λ failure h. h;
+  few = λ vectors edges h. h;
+  needed = λ vector h. h;
   faultless = λ fault h. h;
   holds = λ h. h;
 }

@@ -15,11 +15,13 @@ use Rattle.rtr_cli.specs.Completeness.{Accepts, IsOfCertify}
 use Rattle.rtr_cli.proofs.ReasonLemmas.{both_said}
 use Rattle.rtr_cli.proofs.AcceptedLemmas.{accepted_is_not_refused}
 
-certified_of : (out : List ℕ) (r : Recording) → IsCertified r out → IsDeterminate Reduced r × IsLeastIn r → Accepts Check out
+certified_of : (out : List ℕ) (r : Recording) → IsCertified r out → IsDeterminate Reduced r × IsLeastIn r
+    → Accepts Check out
 certified_of out r made promised =
     let c : Certificate = made.0 in
     let read : certificate_at out ≡ Ok c =
-    ap certificate_at made.2 ∙ spelled_is_read c (spelling c) made.1.certificate (written_spells c made.1.certificate) in
+    ap certificate_at made.2 ∙ spelled_is_read c (spelling c) made.1.certificate (written_spells c made.1.certificate)
+    in
     let of_certify : IsOfCertify c = record { recording = r; determinate = promised.0; certifies = made.1 } in
     subst (λ (found : Result Certificate ℕ). SpellsSome found IsOfCertify) (sym read) of_certify
 
@@ -29,4 +31,5 @@ check_accepts input out made promised =
     (λ r m p. certified_of out r m p) made promised
 
 pub certified_is_accepted : CertifiedIsAccepted
-certified_is_accepted input out exit made promised refused = accepted_is_not_refused Check out exit (check_accepts input out made promised) refused
+certified_is_accepted input out exit made promised refused = accepted_is_not_refused Check out exit
+    (check_accepts input out made promised) refused

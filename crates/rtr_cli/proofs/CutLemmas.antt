@@ -25,31 +25,46 @@ pub state_fits : ReplayFitsLaw → (which : Which) (r : Recording) (image : Cont
 state_fits law which r image cut outcome valid is state =
     let order = state.some_order.0 in
     let plays = state.every_order order state.some_order.1 in
-    let fits : OutcomeFits (plan_of which r) (played (plan_of which r) order) = law (plan_of which r) order state.some_order.1.ordered in
+    let fits : OutcomeFits (plan_of which r) (played (plan_of which r) order) = law (plan_of which r) order
+    state.some_order.1.ordered in
     let played_fits : IsOutcomeOf (recorded_image r) (played (plan_of which r) order) =
-    record { memory = valid.params.words; words = fits.words; loads = fits.lists ∙ sym fits.cores; within = fits.within } in
-    subst (λ (i : Contents). IsOutcomeOf i outcome) (sym is) (subst (λ (o : Outcome). IsOutcomeOf (recorded_image r) o) (sym plays.outcome_is) played_fits)
+    record {
+      memory = valid.params.words;
+      words = fits.words;
+      loads = fits.lists ∙ sym fits.cores;
+      within
+          = fits.within;
+    } in
+    subst (λ (i : Contents). IsOutcomeOf i outcome) (sym is)
+    (subst (λ (o : Outcome). IsOutcomeOf (recorded_image r) o) (sym plays.outcome_is) played_fits)
 
 -- there is one cut of each kind
-one_cut : OneLeastCutLaw → OneGreatestCutLaw → (which : Which) (r : Recording) (at : Instr) (latest : Bool) (cut other : Cut)
+one_cut : OneLeastCutLaw → OneGreatestCutLaw → (which : Which) (r : Recording) (at : Instr) (latest : Bool)
+    (cut other : Cut)
     → IsCutAt which r at latest cut → IsCutAt which r at latest other → cut ≡ other
 one_cut least greatest which r at false cut other is also = least which r at cut other is also
 one_cut least greatest which r at true cut other is also = greatest which r at cut other is also
 
 -- and so one text
-pub one_text : OneLeastCutLaw → OneGreatestCutLaw → OneStateLaw → (which : Which) (at : Instr) (latest loads : Bool) (r : Recording) (out other : List ℕ)
+pub one_text : OneLeastCutLaw → OneGreatestCutLaw → OneStateLaw → (which : Which) (at : Instr) (latest loads : Bool)
+    (r : Recording) (out other : List ℕ)
     → IsToldAt which at latest loads r out → IsToldAt which at latest loads r other → out ≡ other
-one_text least greatest state which at latest loads r out other (has, cut, outcome, is_cut, is_state, is) (has', cut', outcome', is_cut', is_state', is') =
+one_text least greatest state which at latest loads r out other (has, cut, outcome, is_cut, is_state, is)
+    (has', cut', outcome', is_cut', is_state', is') =
     let same_cut : cut' ≡ cut = one_cut least greatest which r at latest cut' cut is_cut' is_cut in
     let same_state : outcome ≡ outcome' =
-    state which r cut outcome outcome' is_state (subst (λ (c : Cut). IsStateAt which r c outcome') same_cut is_state') in
+    state which r cut outcome outcome' is_state (subst (λ (c : Cut). IsStateAt which r c outcome') same_cut is_state')
+    in
     is ∙ ap (λ (o : Outcome). cut_state_lines cut o (recorded_image r) loads) same_state
     ∙ ap (λ (c : Cut). cut_state_lines c outcome' (recorded_image r) loads) (sym same_cut) ∙ sym is'
 
 -- what an audit's recording and log are replaced by: those that were audited
-pub told_of : (which : Which) (at : Instr) (latest loads : Bool) (r : Recording) (a : Findings) (image : Contents) (cut : Cut) (outcome : Outcome)
-    (out : List ℕ) → IsInstrOf r at → IsAuditOf which r a → image ≡ recorded_image r → IsCutAt a.which a.recording at latest cut
-    → IsStateAt a.which a.recording cut outcome → out ≡ cut_state_lines cut outcome image loads → IsToldAt which at latest loads r out
+pub told_of : (which : Which) (at : Instr) (latest loads : Bool) (r : Recording) (a : Findings) (image : Contents)
+    (cut : Cut) (outcome : Outcome)
+    (out : List ℕ) → IsInstrOf r at → IsAuditOf which r a → image ≡ recorded_image r → IsCutAt a.which a.recording at
+    latest cut
+    → IsStateAt a.which a.recording cut outcome → out ≡ cut_state_lines cut outcome image loads → IsToldAt which at
+    latest loads r out
 told_of which at latest loads r a image cut outcome out has audited is is_cut is_state made =
     let cut_by : IsCutAt which a.recording at latest cut =
     subst (λ (w : Which). IsCutAt w a.recording at latest cut) audited.which_is is_cut in
@@ -64,7 +79,8 @@ told_of which at latest loads r a image cut outcome out has audited is is_cut is
     )
 
 -- either cut is closed
-pub cut_is_closed : (which : Which) (r : Recording) (at : Instr) (latest : Bool) (cut : Cut) → IsCutAt which r at latest cut → IsClosed which r cut
+pub cut_is_closed : (which : Which) (r : Recording) (at : Instr) (latest : Bool) (cut : Cut) → IsCutAt which r at
+    latest cut → IsClosed which r cut
 cut_is_closed which r at false cut is = is.closed
 cut_is_closed which r at true cut is = is.closed
 
@@ -73,7 +89,8 @@ pub instr_of : (r audited : Recording) (at : Instr) → audited ≡ r → IsInst
 instr_of r audited at is has = subst (λ (q : Recording). IsInstrOf q at) (sym is) has
 
 -- the audit of a recording that has the instruction was refused
-pub at_ends : (which : Which) (at : Instr) (r : Recording) (exit : Exit) → IsInstrOf r at → AuditEnds which r exit → AtEnds which at r exit
+pub at_ends : (which : Which) (at : Instr) (r : Recording) (exit : Exit) → IsInstrOf r at → AuditEnds which r exit
+    → AtEnds which at r exit
 at_ends which at r (exits.Stuck cut) has it = (has, it)
 at_ends which at r (exits.Short core count) has it = (has, it)
 at_ends which at r (exits.Undetermined first second) has it = (has, it)
@@ -94,5 +111,6 @@ at_ends which at r (exits.NotShown vector) has it = it
 pub replayed_of : (which : Which) (r : Recording) (a : Findings) → IsAuditOf which r a → IsReplayed which r
 replayed_of which r a audited =
     let by_which : IsReplayed which a.recording =
-    subst (λ (w : Which). IsReplayed w a.recording) audited.which_is (audited.passed.determinate, audited.passed.every_order) in
+    subst (λ (w : Which). IsReplayed w a.recording) audited.which_is
+    (audited.passed.determinate, audited.passed.every_order) in
     subst (λ (q : Recording). IsReplayed which q) audited.recording_is by_which

@@ -8,6 +8,9 @@ pub mod Certified
 pub mod CompletenessLemmas
 pub mod CutLemmas
 pub mod ThinLemmas
+pub mod BufferLemmas
+pub mod BufferRuns
+mod Apart
 mod Listed
 mod OneCertificate
 mod OneThinning

@@ -7,15 +7,16 @@ use Rattle.cut_replay.specs.CutStates.{OneStateLaw}
 use Rattle.log_codec.specs.declared.recording.Recording.{Recording}
 use Rattle.log_codec.specs.Reading.{whole_at}
 use Rattle.log_codec.specs.Spelling.{spelling}
-use Rattle.tool_words.specs.declared.command.Command.{Command}
 use Rattle.tool_words.specs.declared.command.Command.TheVariants.{Record, Run, Print, Replay, Migrate, Certify, Check}
 use Rattle.tool_words.specs.declared.command.Command.TheVariants.{Gen, Soak, At, Thin, CheckThin}
+use Rattle.tool_words.specs.declared.command.Command.TheVariants.{TsoRecord, TsoRun, TsoReplay}
+use Rattle.tso_codec.specs.Reading.{tso_at}
 use Rattle.vector_reduce.specs.declared.thinned.Thinned.{Thinned}
 use Rattle.vector_reduce.specs.Reading.{thinned_at}
 use Rattle.certificate_codec.specs.Reading.{certificate_at}
 use Rattle.state_text.specs.Logs.{logs_lines}
 use Rattle.rtr_cli.specs.Commands.{IsCertified, IsThinnedTo, IsToldAt, MakesOne, SpellsSome, checked_lines, loaded}
-use Rattle.rtr_cli.specs.Commands.{recorded_bytes}
+use Rattle.rtr_cli.specs.Commands.{recorded_bytes, tso_replay_lines}
 use Rattle.rtr_cli.specs.Commands.{replay_lines, run_lines, thin_checked_lines, thinned_bytes}
 use Rattle.rtr_cli.proofs.CutLemmas.{one_text}
 use Rattle.rtr_cli.proofs.OneCertificate.{one_certificate}
@@ -61,3 +62,7 @@ makes_one least greatest state (At which at latest loads) input out other =
 makes_one least greatest state (Thin certify) input out other =
     of_spelled (whole_at input) (IsThinnedTo certify) out other (λ r. thinned_one certify r out other)
 makes_one least greatest state CheckThin input out other = of_value (thinned_at input) thin_checked_lines out other
+makes_one least greatest state (TsoRecord run) input out other = λ made also. made ∙ sym also
+makes_one least greatest state (TsoRun run loads) input out other = λ made also. made ∙ sym also
+makes_one least greatest state (TsoReplay loads) input out other = of_value (tso_at input) (tso_replay_lines loads) out
+    other

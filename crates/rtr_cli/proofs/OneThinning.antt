@@ -178,7 +178,8 @@ one_shown others v totals s t h k a b =
     made edge cores counts = record { edge = edge; cut = record { cores = cores; counts = counts } }
 
     cores : s.cut.cores ≡ t.cut.cores
-    cores = ap (λ (c : Cut). c.cores) a.cut ∙ a.counts.each_core ∙ sym b.counts.each_core ∙ sym (ap (λ (c : Cut). c.cores) b.cut)
+    cores = ap (λ (c : Cut). c.cores) a.cut ∙ a.counts.each_core ∙ sym b.counts.each_core
+        ∙ sym (ap (λ (c : Cut). c.cores) b.cut)
 
     long : (x : Shown) → ShownStands totals tt x → length x.cut.counts ≡ length (cut_of []).counts
     long x stands = ap (λ (c : Cut). length c.counts) stands.cut ∙ lengths (counts_of x.cut)

@@ -8,7 +8,8 @@ use Rattle.min_certificate.specs.declared.answers.CheckFailure.{CheckFailure}
 use Rattle.state_text.specs.declared.exit.Exit.{Exit}
 use Rattle.state_text.specs.declared.exit.Exit.TheVariants as exits
 use Rattle.tool_words.specs.declared.command.Command.{Command}
-use Rattle.rtr_cli.specs.Commands.{AuditFails, IsAbsent, IsFaulty, IsNotNeeded, IsTooLong, IsNotShown, IsUnread, Overflows, Refuses, SpellsSome}
+use Rattle.rtr_cli.specs.Commands.{AuditFails, IsAbsent, IsFaulty, IsNotNeeded, IsTooLong, IsNotShown, IsUnread}
+use Rattle.rtr_cli.specs.Commands.{Overflows, Refuses, SpellsSome}
 
 -- there is none for this command and this input
 pub record HasNoReason (command : Command) (input : List ℕ) : Type 0 where
@@ -21,11 +22,14 @@ pub record HasNoReason (command : Command) (input : List ℕ) : Type 0 where
   pub faultless : (fault : ElfFault) → IsFaulty command input fault → ⊥
   pub holds : Overflows command → ⊥
 
-pub memory_alone : (command : Command) (input : List ℕ) (exit : Exit) → HasNoReason command input → Refuses command input exit → exit ≡ exits.OutOfMemory
+pub memory_alone : (command : Command) (input : List ℕ) (exit : Exit) → HasNoReason command input
+    → Refuses command input exit → exit ≡ exits.OutOfMemory
 memory_alone command input (exits.Bad part) h it = absurd (h.read part it)
 memory_alone command input (exits.Stuck cut) h it = let none = h.audited (faults.Stuck cut) it in absurd cc
-memory_alone command input (exits.Short core count) h it = let none = h.audited (faults.Short core count) it in absurd cc
-memory_alone command input (exits.Undetermined first second) h it = let none = h.audited (faults.Undetermined first second) it in absurd cc
+memory_alone command input (exits.Short core count) h it = let none = h.audited (faults.Short core count) it in
+    absurd cc
+memory_alone command input (exits.Undetermined first second) h it = let none = h.audited
+    (faults.Undetermined first second) it in absurd cc
 memory_alone command input (exits.CheckFailed failure) h it = absurd (h.shown failure it)
 memory_alone command input exits.OutOfMemory h it = refl
 memory_alone command input exits.TooLarge h it = absurd (h.holds it)
@@ -44,6 +48,7 @@ is_read (Ok x) P e h is = absurd cc
 is_read (Err f) P e h is = h
 
 -- what is said of something that was read
-pub both_said : {X E : Type 0} (read : Result X E) (P Q : X → Type 0) (R : Type 0) → ((x : X) → P x → Q x → R) → SpellsSome read P → SpellsSome read Q → R
+pub both_said : {X E : Type 0} (read : Result X E) (P Q : X → Type 0) (R : Type 0) → ((x : X) → P x → Q x → R)
+    → SpellsSome read P → SpellsSome read Q → R
 both_said (Ok x) P Q R join h k = join x h k
 both_said (Err e) P Q R join h k = absurd h

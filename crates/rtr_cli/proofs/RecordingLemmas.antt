@@ -33,7 +33,8 @@ use Rattle.rtr_cli.proofs.AcceptedLemmas.{accepted_is_not_refused}
 -- ---- what every recording keeps of its run
 
 -- what is said of the recording that was read
-of_read : (bytes : List ℕ) (r : Recording) (P : Recording → Type 0) → whole_at bytes ≡ Ok r → SpellsSome (whole_at bytes) P → P r
+of_read : (bytes : List ℕ) (r : Recording) (P : Recording → Type 0) → whole_at bytes ≡ Ok r
+    → SpellsSome (whole_at bytes) P → P r
 of_read bytes r P is h = subst (λ (read : Result Recording ℕ). SpellsSome read P) is h
 
 pub keeps_run : (params : Params) (choices : List ℕ) (seed : ℕ) (input : List ℕ) → Fits params
@@ -46,11 +47,20 @@ keeps_run params choices seed input fits room =
     let replays : (which : Which) → ReplaysRun image params schedule which r = λ which.
     both_replay image params schedule which fits refl room in
     let of_record : IsOfRecord r =
-    record { params = params; choices = choices; seed = seed; bytes = input; fits = fits; room = room; recorded = refl } in
+    record {
+      params = params;
+      choices = choices;
+      seed = seed;
+      bytes = input;
+      fits = fits;
+      room = room;
+      recorded = refl;
+    } in
     let accepted : SpellsSome (whole_at (spelling r)) IsOfRecord =
     subst (λ (read : Result Recording ℕ). SpellsSome read IsOfRecord) (sym recorded.read_back) of_record in
     record {
-      ended = run_ends image params (choice_at schedule) (record { cores = fits.cores; limit = omega (arith, fits.limit) });
+      ended = run_ends image params (choice_at schedule)
+          (record { cores = fits.cores; limit = omega (arith, fits.limit) });
       recorded = recorded;
       regulates = run_regulated image params schedule fits refl room;
       replays = replays;
@@ -58,12 +68,15 @@ keeps_run params choices seed input fits room =
           let same : replay_lines which loads r ≡ state_lines (outcome_of image params schedule) image loads =
           ap (λ (o : Outcome). state_lines o (replayed_image r) loads) (replays which).low
           ∙ ap (λ (i : Contents). state_lines (outcome_of image params schedule) i loads) (replays which).image_is in (
-            (λ replayed. of_read (spelling r) r (λ q. out ≡ replay_lines which loads q) recorded.read_back replayed ∙ same),
+            (λ replayed. of_read (spelling r) r (λ q. out ≡ replay_lines which loads q) recorded.read_back replayed
+                ∙ same),
             (λ ran.
-                subst (λ (read : Result Recording ℕ). SpellsSome read (λ q. out ≡ replay_lines which loads q)) (sym recorded.read_back)
+                subst (λ (read : Result Recording ℕ). SpellsSome read (λ q. out ≡ replay_lines which loads q))
+                (sym recorded.read_back)
                 (ran ∙ sym same)),
           );
-      refuses = λ which threads loads exit it. accepted_is_not_refused (Replay which threads loads) (spelling r) exit accepted it;
+      refuses = λ which threads loads exit it. accepted_is_not_refused (Replay which threads loads) (spelling r) exit
+          accepted it;
       certified = λ exit it. accepted_is_not_refused Certify (spelling r) exit accepted it;
     }
 
@@ -71,24 +84,28 @@ keeps_run params choices seed input fits room =
 pub record_promised : (run : RunWords) (input bytes : List ℕ) → loaded run input ≡ Ok bytes → Fits run.params
     → length bytes ≤ 4 * run.params.words → Promised (Record run) input
 record_promised run input bytes is fits room =
-    subst (λ (read : Result (List ℕ) ElfFault). SpellsSome read (λ b. KeepsRun run.params run.choices run.seed b)) (sym is)
+    subst (λ (read : Result (List ℕ) ElfFault). SpellsSome read (λ b. KeepsRun run.params run.choices run.seed b))
+    (sym is)
     (keeps_run run.params run.choices run.seed bytes fits room)
 
 -- ---- a run's recording in an audit
 
 -- what passes comes to what the run came to
-pub run_audited : (image : Contents) (params : Params) (schedule : Choices) (a : Findings) → Fits params → image.words ≡ params.words
+pub run_audited : (image : Contents) (params : Params) (schedule : Choices) (a : Findings) → Fits params
+    → image.words ≡ params.words
     → length image.bytes ≤ 4 * params.words → IsAuditOf Reduced (recording_of image params schedule) a
     → a.outcome ≡ outcome_of image params schedule
 run_audited image params schedule a fits words room audited =
     (both_replay image params schedule Reduced fits words room).answers.audited a audited
 
 -- a command ends for want of memory where its audit is refused for nothing else
-audit_memory : (which : Which) (r : Recording) (exit : Exit) → ((fault : AuditFault) → AuditRefuses which r fault → fault ≡ faults.OutOfMemory)
+audit_memory : (which : Which) (r : Recording) (exit : Exit)
+    → ((fault : AuditFault) → AuditRefuses which r fault → fault ≡ faults.OutOfMemory)
     → AuditEnds which r exit → exit ≡ exits.OutOfMemory
 audit_memory which r (exits.Stuck cut) knows it = let none = knows (faults.Stuck cut) it in absurd cc
 audit_memory which r (exits.Short core count) knows it = let none = knows (faults.Short core count) it in absurd cc
-audit_memory which r (exits.Undetermined first second) knows it = let none = knows (faults.Undetermined first second) it in absurd cc
+audit_memory which r (exits.Undetermined first second) knows it = let none = knows (faults.Undetermined first second)
+    it in absurd cc
 audit_memory which r (exits.CheckFailed failure) knows it = absurd it
 audit_memory which r exits.OutOfMemory knows it = refl
 audit_memory which r (exits.Bad part) knows it = absurd it
@@ -103,8 +120,10 @@ audit_memory which r (exits.TooMany vectors edges) knows it = absurd it
 audit_memory which r (exits.NotShown vector) knows it = absurd it
 
 -- nothing but want of memory refuses it
-pub run_not_refused : (image : Contents) (params : Params) (schedule : Choices) (exit : Exit) → Fits params → image.words ≡ params.words
-    → length image.bytes ≤ 4 * params.words → AuditEnds Reduced (recording_of image params schedule) exit → exit ≡ exits.OutOfMemory
+pub run_not_refused : (image : Contents) (params : Params) (schedule : Choices) (exit : Exit) → Fits params
+    → image.words ≡ params.words
+    → length image.bytes ≤ 4 * params.words → AuditEnds Reduced (recording_of image params schedule) exit
+    → exit ≡ exits.OutOfMemory
 run_not_refused image params schedule exit fits words room ends =
     audit_memory Reduced (recording_of image params schedule) exit
     (both_replay image params schedule Reduced fits words room).answers.not_audited ends

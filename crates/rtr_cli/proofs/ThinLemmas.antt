@@ -16,7 +16,8 @@ use Rattle.vector_reduce.specs.Answers.{IsThinningOf, IsTooMany}
 use Rattle.state_text.specs.declared.exit.Exit.{Exit}
 use Rattle.state_text.specs.declared.exit.Exit.TheVariants as exits
 use Rattle.tool_words.specs.declared.command.Command.TheVariants.{Replay}
-use Rattle.rtr_cli.specs.Commands.{AuditEnds, CheckThinEnds, IsThinnedTo, SpellsSome, ThinEnds, ThinnedIsReplayed, exit_of_audit, thinned_bytes}
+use Rattle.rtr_cli.specs.Commands.{AuditEnds, CheckThinEnds, IsThinnedTo, SpellsSome, ThinEnds, ThinnedIsReplayed}
+use Rattle.rtr_cli.specs.Commands.{exit_of_audit, thinned_bytes}
 use Rattle.rtr_cli.proofs.AcceptedLemmas.{determinate_not_audited}
 use Rattle.rtr_cli.proofs.ReasonLemmas.{HasNoReason, both_said, is_read, memory_alone}
 
@@ -27,7 +28,8 @@ replayed threads loads out a = record {
   read = λ part h. is_read (whole_at out) (IsDeterminate Regulated) part a h;
   present = λ at h. h;
   audited = λ fault h.
-      both_said (whole_at out) (IsDeterminate Regulated) (λ r. AuditRefuses Regulated r fault) (fault ≡ faults.OutOfMemory)
+      both_said (whole_at out) (IsDeterminate Regulated) (λ r. AuditRefuses Regulated r fault)
+      (fault ≡ faults.OutOfMemory)
       (λ r is it. determinate_not_audited Regulated r fault is it) a h;
   shown = λ failure h. h;
   few = λ vectors edges h. h;
@@ -48,12 +50,15 @@ thinned_reads out (Err part) made = absurd made
 -- ---- what was audited is what was read
 
 -- its thinning is written
-pub thinned_to : (certify : Bool) (r : Recording) (a : Findings) (t : Thinned) (out : List ℕ) → IsAuditOf Regulated r a → IsThinningOf a.recording t
+pub thinned_to : (certify : Bool) (r : Recording) (a : Findings) (t : Thinned) (out : List ℕ) → IsAuditOf Regulated r
+    a → IsThinningOf a.recording t
     → out ≡ thinned_bytes certify t → IsThinnedTo certify r out
-thinned_to certify r a t out audited thinning made = (t, subst (λ (q : Recording). IsThinningOf q t) audited.recording_is thinning, made)
+thinned_to certify r a t out audited thinning made
+    = (t, subst (λ (q : Recording). IsThinningOf q t) audited.recording_is thinning, made)
 
 -- or it has too many vectors
-pub too_many_audited : (r : Recording) (a : Findings) (vectors edges : ℕ) → IsAuditOf Regulated r a → IsTooMany a.recording vectors edges
+pub too_many_audited : (r : Recording) (a : Findings) (vectors edges : ℕ) → IsAuditOf Regulated r a
+    → IsTooMany a.recording vectors edges
     → IsDeterminate Regulated r × IsTooMany r vectors edges
 too_many_audited r a vectors edges audited many =
     let by_which : IsDeterminate Regulated a.recording =
@@ -81,7 +86,8 @@ thin_ends r (exits.TooMany vectors edges) it = absurd it
 thin_ends r (exits.NotShown vector) it = it
 
 -- and that of one in a thin file
-pub thin_check_ends : (t : Thinned) (fault : AuditFault) → AuditRefuses Regulated t.recording fault → CheckThinEnds t (exit_of_audit fault)
+pub thin_check_ends : (t : Thinned) (fault : AuditFault) → AuditRefuses Regulated t.recording fault
+    → CheckThinEnds t (exit_of_audit fault)
 thin_check_ends t (faults.Stuck cut) it = it
 thin_check_ends t (faults.Short core count) it = it
 thin_check_ends t (faults.Undetermined first second) it = it
@@ -89,4 +95,5 @@ thin_check_ends t faults.OutOfMemory it = tt
 
 pub thinned_is_replayed : ThinnedIsReplayed
 thinned_is_replayed threads loads input out exit made refused =
-    memory_alone (Replay Regulated threads loads) out exit (replayed threads loads out (thinned_reads out (whole_at input) made)) refused
+    memory_alone (Replay Regulated threads loads) out exit
+    (replayed threads loads out (thinned_reads out (whole_at input) made)) refused

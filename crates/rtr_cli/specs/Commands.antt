@@ -1,5 +1,6 @@
 -- What each command makes of an input.
-use Rattle.std.specs.Prelude.{◌≡◌, ℕ, ◌*◌, ◌<◌, ◌≤◌, ◌↔◌, ◌⊎◌, Bool, true, false, if◌then◌else◌, List, [], length}
+use Rattle.std.specs.Prelude.{◌≡◌, ℕ, ◌*◌, ◌<◌, ◌≤◌, ◌↔◌, ◌⊎◌, Bool, true, false, if◌then◌else◌, List, [], ◌++◌}
+use Rattle.std.specs.Prelude.{length}
 use Rattle.std.specs.Prelude.{Option, Some, None, Result, Ok, Err}
 use Rattle.run_records.specs.Recordings.{IsRecorded, recording_of}
 use Rattle.image_elf.specs.declared.elf_fault.ElfFault.{ElfFault}
@@ -18,11 +19,18 @@ use Rattle.rtr_types.specs.declared.params.Params.{Params}
 use Rattle.rtr_types.specs.declared.pairs.Which.{Which}
 use Rattle.rtr_types.specs.declared.pairs.Which.TheVariants.{Reduced, Regulated}
 use Rattle.log_codec.specs.Counts.{edge_count_of}
+use Rattle.log_codec.specs.declared.codec_fault.TheConstants.{HEADER}
+use Rattle.log_codec.specs.declared.version.Version.{Version}
 use Rattle.log_codec.specs.Laws.{IsBytes}
 use Rattle.log_codec.specs.Reading.{whole_at}
 use Rattle.log_codec.specs.Spelling.{spelling}
 use Rattle.log_codec.specs.Validity.{Valid}
+use Rattle.log_codec.specs.Versions.{magic}
+use Rattle.replay_core.specs.declared.answers.ReplayFault.{ReplayFault}
+use Rattle.replay_core.specs.declared.answers.ReplayFault.TheVariants as replays
+use Rattle.replay_core.specs.Orders.{IsWhole, low_order}
 use Rattle.replay_core.specs.Plans.{recorded_image}
+use Rattle.replay_core.specs.Play.{ValuedPlays, start, valued_played}
 use Rattle.replay_audit.specs.declared.audit_fault.AuditFault.{AuditFault}
 use Rattle.replay_audit.specs.declared.audit_fault.AuditFault.TheVariants as faults
 use Rattle.run_replays.specs.BothLogs.{RegulatesRun}
@@ -31,6 +39,18 @@ use Rattle.replay_audit.specs.Audits.{AuditRefuses, EveryOrderAgrees, IsInstrOf}
 use Rattle.replay_audit.specs.Determinate.{IsDeterminate, low_outcome}
 use Rattle.cut_replay.specs.ClosedCuts.{IsGreatestWithout, IsLeastWith}
 use Rattle.cut_replay.specs.CutStates.{IsStateAt}
+use Rattle.tso_answers.specs.Logged.{AreLogged}
+use Rattle.tso_answers.specs.Schedules.{IsHeld, tso_order_of, tso_recording_of}
+use Rattle.tso_bound.specs.Ends.{end_of as tso_end_of}
+use Rattle.tso_codec.specs.declared.recording.TsoRecording.{TsoRecording}
+use Rattle.tso_outcome.specs.Outcomes.{tso_outcome_of}
+use Rattle.tso_state.specs.Runs.{IsRunEnd as IsTsoRunEnd}
+use Rattle.tso_codec.specs.Reading.{tso_at}
+use Rattle.tso_codec.specs.Spelling.{tso_magic, tso_spelling}
+use Rattle.tso_codec.specs.Validity.{plain_of}
+use Rattle.tso_replay.specs.Laws.{AllAgree, IsToldRun, OrdersConflicts, ReplaysTold}
+use Rattle.tso_replay.specs.Replays.{TsoRefuses, tso_given, tso_plan}
+use Rattle.tso_replay.specs.Told.{Telling, cores_told}
 use Rattle.vector_reduce.specs.declared.thinned.Thinned.{Thinned}
 use Rattle.vector_reduce.specs.Answers.{IsAccepted, IsThinningOf, IsTooMany, IsNotShown as IsNotNeededShown}
 use Rattle.vector_reduce.specs.Reading.{thinned_at}
@@ -52,6 +72,7 @@ use Rattle.state_text.specs.States.{state_lines}
 use Rattle.tool_words.specs.declared.command.Command.{Command}
 use Rattle.tool_words.specs.declared.command.Command.TheVariants.{Record, Run, Print, Replay, Migrate, Certify, Check}
 use Rattle.tool_words.specs.declared.command.Command.TheVariants.{Gen, Soak, At, Thin, CheckThin}
+use Rattle.tool_words.specs.declared.command.Command.TheVariants.{TsoRecord, TsoRun, TsoReplay}
 use Rattle.tool_words.specs.declared.command.RunWords.{RunWords}
 use Rattle.trace_gen.specs.declared.shape.Shape.{Shape}
 use Rattle.trace_gen.specs.Programs.{generated, image_length}
@@ -79,6 +100,9 @@ most_of (Soak shape number params seed) = None
 most_of (At which at latest loads) = Some file_bytes_max
 most_of (Thin certify) = Some file_bytes_max
 most_of CheckThin = Some file_bytes_max
+most_of (TsoRecord run) = Some (4 * run.params.words)
+most_of (TsoRun run loads) = Some (4 * run.params.words)
+most_of (TsoReplay loads) = Some file_bytes_max
 
 -- the command takes an input of these bytes; one that takes no input has none
 abbrev pub IsWithin : (most : Option ℕ) → (input : List ℕ) → Type 0
@@ -106,6 +130,16 @@ outcome_of_bytes params choices seed bytes = outcome_of (image_of params bytes) 
 -- the recording of that run: its reduced log is the least set of the run's accesses
 abbrev pub recording_of_bytes : Params → (choices : List ℕ) (seed : ℕ) → (bytes : List ℕ) → Recording
 recording_of_bytes params choices seed bytes = recording_of (image_of params bytes) params (choices_of choices seed)
+
+-- the same by cores with store buffers: the outcome of the run, and its recording, whose log is the least set of the
+-- accesses that the run ordered and whose logged loads are those of the run
+abbrev pub tso_outcome_of_bytes : Params → (choices : List ℕ) (seed : ℕ) → (bytes : List ℕ) → Outcome
+tso_outcome_of_bytes params choices seed bytes =
+    tso_outcome_of (image_of params bytes) params (choices_of choices seed)
+
+abbrev pub tso_recording_of_bytes : Params → (choices : List ℕ) (seed : ℕ) → (bytes : List ℕ) → TsoRecording
+tso_recording_of_bytes params choices seed bytes =
+    tso_recording_of (image_of params bytes) params (choices_of choices seed)
 
 -- ---- what is given
 
@@ -145,6 +179,15 @@ IsThinnedTo certify r out = (t : Thinned) × IsThinningOf r t × (out ≡ thinne
 abbrev pub thin_checked_lines : Thinned → List ℕ
 thin_checked_lines t = needed_lines (length (vectors_of t.recording))
 
+-- what the low order of a recording of cores with store buffers comes to, where each logged load takes its word, and
+-- the
+-- text of it
+abbrev pub tso_outcome : TsoRecording → Outcome
+tso_outcome r = valued_played (tso_given r) (tso_plan r) (low_order (tso_plan r))
+
+abbrev pub tso_replay_lines : (loads : Bool) → TsoRecording → List ℕ
+tso_replay_lines loads r = state_lines (tso_outcome r) (recorded_image (plain_of r)) loads
+
 -- the spelling of a certificate that the recording's reduced log is least. Its clocks are exact, so there is one
 abbrev pub IsCertified : Recording → (out : List ℕ) → Type 0
 IsCertified r out = (c : Certificate) × Certifies r c × (out ≡ certificate_spelling c)
@@ -160,6 +203,14 @@ recorded_bytes run bytes = spelling (recording_of_bytes run.params run.choices r
 abbrev pub run_lines : RunWords → (loads : Bool) → (bytes : List ℕ) → List ℕ
 run_lines run loads bytes =
     state_lines (outcome_of_bytes run.params run.choices run.seed bytes) (image_of run.params bytes) loads
+
+-- what `tsorecord` gives of a run of the image of these bytes, and what `tsorun` prints of it
+abbrev pub tso_recorded_bytes : RunWords → (bytes : List ℕ) → List ℕ
+tso_recorded_bytes run bytes = tso_spelling (tso_recording_of_bytes run.params run.choices run.seed bytes)
+
+abbrev pub tso_run_lines : RunWords → (loads : Bool) → (bytes : List ℕ) → List ℕ
+tso_run_lines run loads bytes =
+    state_lines (tso_outcome_of_bytes run.params run.choices run.seed bytes) (image_of run.params bytes) loads
 
 -- what `soak` prints: the recording of the run of the generated image without choice bytes, and how many words of
 -- memory that run changed
@@ -191,6 +242,9 @@ Makes (At which at latest loads) input out =
     SpellsSome (whole_at input) (λ r. IsToldAt which at latest loads r out)
 Makes (Thin certify) input out = SpellsSome (whole_at input) (λ r. IsThinnedTo certify r out)
 Makes CheckThin input out = SpellsSome (thinned_at input) (λ t. out ≡ thin_checked_lines t)
+Makes (TsoRecord run) input out = out ≡ tso_recorded_bytes run input
+Makes (TsoRun run loads) input out = out ≡ tso_run_lines run loads input
+Makes (TsoReplay loads) input out = SpellsSome (tso_at input) (λ r. out ≡ tso_replay_lines loads r)
 
 -- ---- why nothing is given
 
@@ -208,6 +262,9 @@ IsUnread (Soak shape number params seed) input part = ⊥
 IsUnread (At which at latest loads) input part = whole_at input ≡ Err part
 IsUnread (Thin certify) input part = whole_at input ≡ Err part
 IsUnread CheckThin input part = thinned_at input ≡ Err part
+IsUnread (TsoRecord run) input part = ⊥
+IsUnread (TsoRun run loads) input part = ⊥
+IsUnread (TsoReplay loads) input part = tso_at input ≡ Err part
 
 -- the command names this instruction, and the recording that the input spells doesn't have it
 abbrev pub IsAbsent : Command → (input : List ℕ) → Instr → Type 0
@@ -215,7 +272,16 @@ IsAbsent (At which at latest loads) input absent =
     SpellsSome (whole_at input) (λ r. IsInstrOf r at → ⊥) × (absent ≡ at)
 IsAbsent command input absent = ⊥
 
--- the command audits the recording that the input spells by a log, and this is the answer. Where the command names an
+-- a replay of a recording of cores with store buffers is refused so, and never for conflicts that the log leaves open.
+-- Want of memory says nothing
+abbrev pub TsoStops : TsoRecording → AuditFault → Type 0
+TsoStops r (faults.Stuck cut) = TsoRefuses r (replays.Stuck cut)
+TsoStops r (faults.Short core count) = TsoRefuses r (replays.Short core count)
+TsoStops r (faults.Undetermined first second) = ⊥
+TsoStops r faults.OutOfMemory = Unit {0}
+
+-- the command audits, or replays, the recording that the input spells by a log, and this is the answer. Where the
+-- command names an
 -- instruction, the recording has it
 abbrev pub AuditFails : Command → (input : List ℕ) → AuditFault → Type 0
 AuditFails (Record run) input fault = ⊥
@@ -231,6 +297,9 @@ AuditFails (At which at latest loads) input fault =
     SpellsSome (whole_at input) (λ r. IsInstrOf r at × AuditRefuses which r fault)
 AuditFails (Thin certify) input fault = SpellsSome (whole_at input) (λ r. AuditRefuses Regulated r fault)
 AuditFails CheckThin input fault = SpellsSome (thinned_at input) (λ t. AuditRefuses Regulated t.recording fault)
+AuditFails (TsoRecord run) input fault = ⊥
+AuditFails (TsoRun run loads) input fault = ⊥
+AuditFails (TsoReplay loads) input fault = SpellsSome (tso_at input) (λ r. TsoStops r fault)
 
 -- the command thins a recording that is determinate by its regulated log, and this is how many vectors that log has,
 -- and how many edges they have: more than are tried
@@ -266,6 +335,9 @@ IsNotShown (Soak shape number params seed) input failure = ⊥
 IsNotShown (At which at latest loads) input failure = ⊥
 IsNotShown (Thin certify) input failure = ⊥
 IsNotShown CheckThin input failure = ⊥
+IsNotShown (TsoRecord run) input failure = ⊥
+IsNotShown (TsoRun run loads) input failure = ⊥
+IsNotShown (TsoReplay loads) input failure = ⊥
 
 -- the input is to be an ELF file, and this is the file's first fault
 abbrev pub IsFaulty : Command → (input : List ℕ) → ElfFault → Type 0
@@ -281,6 +353,9 @@ IsFaulty (Soak shape number params seed) input fault = ⊥
 IsFaulty (At which at latest loads) input fault = ⊥
 IsFaulty (Thin certify) input fault = ⊥
 IsFaulty CheckThin input fault = ⊥
+IsFaulty (TsoRecord run) input fault = ⊥
+IsFaulty (TsoRun run loads) input fault = ⊥
+IsFaulty (TsoReplay loads) input fault = ⊥
 
 -- the command makes an image that is longer than the memory
 abbrev pub Overflows : Command → Type 0
@@ -296,6 +371,9 @@ Overflows (Soak shape number params seed) = 4 * params.words < image_length shap
 Overflows (At which at latest loads) = ⊥
 Overflows (Thin certify) = ⊥
 Overflows CheckThin = ⊥
+Overflows (TsoRecord run) = ⊥
+Overflows (TsoRun run loads) = ⊥
+Overflows (TsoReplay loads) = ⊥
 
 -- how a command ends whose audit was refused so
 abbrev pub exit_of_audit : AuditFault → Exit
@@ -303,6 +381,12 @@ exit_of_audit (faults.Stuck cut) = exits.Stuck cut
 exit_of_audit (faults.Short core count) = exits.Short core count
 exit_of_audit (faults.Undetermined first second) = exits.Undetermined first second
 exit_of_audit faults.OutOfMemory = exits.OutOfMemory
+
+-- and one whose replay was
+abbrev pub exit_of_replay : ReplayFault → Exit
+exit_of_replay (replays.Stuck cut) = exits.Stuck cut
+exit_of_replay (replays.Short core count) = exits.Short core count
+exit_of_replay replays.OutOfMemory = exits.OutOfMemory
 
 -- a command that audits and checks ends so: by what the audit answers, or by what isn't shown. Want of memory says
 -- nothing
@@ -372,6 +456,10 @@ abbrev pub CheckThinEnds : Thinned → Exit → Type 0
 CheckThinEnds t (exits.NotShown vector) = IsNotNeededShown t vector
 CheckThinEnds t exit = Ends (λ fault. AuditRefuses Regulated t.recording fault) (λ failure. ⊥) exit
 
+-- a command that replays this recording of cores with store buffers ends so
+abbrev pub TsoEnds : TsoRecording → Exit → Type 0
+TsoEnds r exit = Ends (TsoStops r) (λ failure. ⊥) exit
+
 -- a command that certifies this recording ends so
 abbrev pub CertifyEnds : Recording → Exit → Type 0
 CertifyEnds r exit = Ends (λ fault. AuditRefuses Reduced r fault) (IsNotLeast r) exit
@@ -393,7 +481,8 @@ RunEnds image params choices = IsRunEnd image params choices (end_of image param
 -- of the recording of a run of the image of these bytes. Its spelling is read back as it, and its reduced log is the
 -- least set of the run's accesses.
 -- The run ended, each core's program being done. Its regulated log has the greedy vectors by what is known in the run:
--- each of its edges goes from an instruction to one that retired later, and each edge of the reduced log is before by it, with no more vectors for a pair of cores
+-- each of its edges goes from an instruction to one that retired later, and each edge of the reduced log is before
+-- by it, with no more vectors for a pair of cores
 -- than edges. Every order that obeys either log replays the run: it gives each load the run's value, and is whole or
 -- can go on; a whole one ends in the run's memory and cores. So `replay` of its spelling with either log prints what
 -- `run` prints of the same image and options, and it and `certify` give nothing for no other reason than want of memory
@@ -418,9 +507,52 @@ pub record KeepsRun (params : Params) (choices : List ℕ) (seed : ℕ) (bytes :
 abbrev pub IsReplayed : Which → Recording → Type 0
 IsReplayed which r = IsDeterminate which r × EveryOrderAgrees which r
 
--- a recording keeps its run; what was replayed, to its end or to a cut, is determinate; what was certified or checked
--- is determinate, and its reduced log is least; and what was thinned or is checked to be so is determinate, and of a
--- checked one each vector is needed
+-- a recording of cores with store buffers is replayed: its low order is whole and plays. Where the log orders each two
+-- accesses of the low order that conflict, every order that obeys it plays, gives each load the same word, and can
+-- go on
+-- until it is whole, where it ends as the low order does. And where the recording is one of a run (the instructions
+-- that were told play with the recorded words, and the log is the least set of their accesses), every such order
+-- replays
+-- that run: it gives each load the run's word, and is whole or can go on; a whole one ends in the run's memory and
+-- cores
+pub record IsTsoReplayed (r : TsoRecording) : Type 0 where
+  pub whole : IsWhole (tso_plan r) (low_order (tso_plan r))
+  pub plays : ValuedPlays (tso_given r) (tso_plan r) (start (tso_plan r)) (low_order (tso_plan r))
+  pub every_order : OrdersConflicts r → AllAgree r
+  pub told : (list : List Telling) (outcome : Outcome) → IsToldRun r list outcome
+      → ReplaysTold r (cores_told list) outcome
+
+-- of the recording of a run of the image of these bytes by cores with store buffers. The run ended, each core's program
+-- being done and no access pending. The recording is valid and its reduced log is the least set of the accesses that
+-- the
+-- run ordered; its logged loads are those that left their core's queue where the core's port couldn't read the word, or
+-- where the word differed from what the load got, and no others; its spelling is read back as it. Every order that
+-- obeys the log replays the run with the logged words: it
+-- gives each load and atomic memory operation the word that it got in the run, and is whole or can go on; a whole one
+-- ends in the run's memory and cores. So `tsoreplay` of the spelling prints what `tsorun` prints of the same image and
+-- options, and gives nothing for no other reason than want of memory
+pub record KeepsTsoRun (params : Params) (choices : List ℕ) (seed : ℕ) (bytes : List ℕ) : Type 0 where
+  pub ended : IsTsoRunEnd (image_of params bytes) params (choice_at (choices_of choices seed))
+      (tso_end_of (image_of params bytes) params (choice_at (choices_of choices seed)))
+  pub held : IsHeld (image_of params bytes) params (choices_of choices seed)
+  pub logged : AreLogged (image_of params bytes) params (choices_of choices seed)
+      (tso_recording_of_bytes params choices seed bytes).values
+  pub read_back : tso_at (tso_spelling (tso_recording_of_bytes params choices seed bytes))
+      ≡ Ok (tso_recording_of_bytes params choices seed bytes)
+  pub replays : ReplaysTold (tso_recording_of_bytes params choices seed bytes)
+      (tso_order_of (image_of params bytes) params (choices_of choices seed))
+      (tso_outcome_of_bytes params choices seed bytes)
+  pub prints : (loads : Bool) (out : List ℕ)
+      → Makes (TsoReplay loads) (tso_spelling (tso_recording_of_bytes params choices seed bytes)) out
+      ↔ Makes (TsoRun (flat_run params choices seed) loads) bytes out
+  pub refuses : (loads : Bool) (exit : Exit)
+      → Refuses (TsoReplay loads) (tso_spelling (tso_recording_of_bytes params choices seed bytes)) exit
+      → exit ≡ exits.OutOfMemory
+
+-- a recording keeps its run, of either kind of cores; what was replayed, to its end or to a cut, is determinate;
+-- what was certified or checked
+-- is determinate, and its reduced log is least; what was thinned or is checked to be so is determinate, and of a
+-- checked one each vector is needed; and what was replayed of cores with store buffers is so by its low order
 abbrev pub Promised : Command → (input : List ℕ) → Type 0
 Promised (Record run) input = SpellsSome (loaded run input) (λ bytes. KeepsRun run.params run.choices run.seed bytes)
 Promised (Run run loads) input = Unit {0}
@@ -434,6 +566,9 @@ Promised (Soak shape number params seed) input = Unit {0}
 Promised (At which at latest loads) input = SpellsSome (whole_at input) (λ r. IsReplayed which r)
 Promised (Thin certify) input = SpellsSome (whole_at input) (λ r. IsReplayed Regulated r)
 Promised CheckThin input = SpellsSome (thinned_at input) (λ t. IsAccepted t)
+Promised (TsoRecord run) input = KeepsTsoRun run.params run.choices run.seed input
+Promised (TsoRun run loads) input = Unit {0}
+Promised (TsoReplay loads) input = SpellsSome (tso_at input) (λ r. IsTsoReplayed r)
 
 -- ---- laws
 
@@ -444,6 +579,31 @@ MigratedReadsTheSame = (input out : List ℕ) → IsBytes input → Makes Migrat
 -- it leaves the bytes of a recording of the newest version as they are
 abbrev pub NewestStays : Type 0
 NewestStays = (r : Recording) → Valid r → Makes Migrate (spelling r) (spelling r)
+
+-- the command reads a recording of one of the first two versions, or a file that begins as one
+abbrev pub ReadsEarlier : Command → Type 0
+ReadsEarlier (Record run) = ⊥
+ReadsEarlier (Run run loads) = ⊥
+ReadsEarlier Print = Unit {0}
+ReadsEarlier (Replay which threads loads) = Unit {0}
+ReadsEarlier Migrate = Unit {0}
+ReadsEarlier Certify = Unit {0}
+ReadsEarlier Check = Unit {0}
+ReadsEarlier (Gen shape number) = ⊥
+ReadsEarlier (Soak shape number params seed) = ⊥
+ReadsEarlier (At which at latest loads) = Unit {0}
+ReadsEarlier (Thin certify) = Unit {0}
+ReadsEarlier CheckThin = Unit {0}
+ReadsEarlier (TsoRecord run) = ⊥
+ReadsEarlier (TsoRun run loads) = ⊥
+ReadsEarlier (TsoReplay loads) = ⊥
+
+-- such a command finds no header where a recording of cores with store buffers begins, whatever follows; and tsoreplay
+-- finds none where one of an earlier version begins
+pub record VersionsAreApart : Type 0 where
+  pub earlier : (command : Command) (rest : List ℕ) → ReadsEarlier command → IsUnread command (tso_magic ++ rest) HEADER
+  pub buffered : (loads : Bool) (version : Version) (rest : List ℕ)
+      → IsUnread (TsoReplay loads) (magic version ++ rest) HEADER
 
 -- what a command makes of an input is one output
 abbrev pub MakesOne : Type 0

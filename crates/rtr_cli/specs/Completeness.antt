@@ -1,5 +1,6 @@
 -- The inputs of which each command makes an output, unless memory runs out: among them whatever another command wrote.
-use Rattle.std.specs.Prelude.{◌≡◌, ℕ, ◌*◌, ◌≤◌, ◌⊎◌, Bool, true, List, [], length, Option, Some, None}
+use Rattle.std.specs.Prelude.{◌≡◌, ℕ, ◌*◌, ◌<◌, ◌≤◌, ◌⊎◌, Bool, true, List, [], length, slice_index, Option}
+use Rattle.std.specs.Prelude.{Some, None}
 use Rattle.certificate_codec.specs.declared.certificate.Certificate.{Certificate}
 use Rattle.certificate_codec.specs.Reading.{certificate_at}
 use Rattle.log_codec.specs.Laws.{IsBytes}
@@ -19,8 +20,15 @@ use Rattle.state_text.specs.declared.exit.Exit.TheVariants as exits
 use Rattle.tool_words.specs.declared.command.Command.{Command}
 use Rattle.tool_words.specs.declared.command.Command.TheVariants.{Record, Run, Print, Replay, Migrate, Certify, Check}
 use Rattle.tool_words.specs.declared.command.Command.TheVariants.{Gen, Soak, At, Thin, CheckThin}
+use Rattle.tool_words.specs.declared.command.Command.TheVariants.{TsoRecord, TsoRun, TsoReplay}
 use Rattle.tool_words.specs.declared.command.RunWords.{RunWords}
 use Rattle.trace_gen.specs.Programs.{image_length}
+use Rattle.rv_core.specs.declared.outcome.Outcome.{Outcome}
+use Rattle.tso_codec.specs.declared.recording.TsoRecording.{TsoRecording}
+use Rattle.tso_codec.specs.Reading.{tso_at}
+use Rattle.tso_codec.specs.Validity.{IsTso}
+use Rattle.tso_replay.specs.Laws.{IsToldRun}
+use Rattle.tso_replay.specs.Told.{Telling}
 use Rattle.vector_reduce.specs.declared.thinned.Thinned.{Thinned}
 use Rattle.vector_reduce.specs.Answers.{AreFew, IsThinningOf}
 use Rattle.vector_reduce.specs.Reading.{thinned_at}
@@ -54,10 +62,19 @@ pub record IsOfCertify (c : Certificate) : Type 0 where
   pub determinate : IsDeterminate Reduced recording
   pub certifies : Certifies recording c
 
+-- the recording is one of a run of cores with store buffers: the instructions that were told play with the recorded
+-- words,
+-- and the log is the least set of their accesses
+pub record IsOfBuffers (r : TsoRecording) : Type 0 where
+  pub valid : IsTso r
+  pub list : List Telling
+  pub outcome : Outcome
+  pub told : IsToldRun r list outcome
+
 -- the command makes an output of this input, unless memory runs out: of an image or a faultless ELF file; of any
 -- recording, of either version, or of one that `record` makes, for `at` with the instruction and for `thin` with few
 -- vectors; of a thin file that `thin` makes, or a certificate that `certify` makes, whose recording is spelled in
--- either version; or of a generated image that the memory holds
+-- either version; of a recording of a run of cores with store buffers; or of a generated image that the memory holds
 abbrev pub Accepts : Command → (input : List ℕ) → Type 0
 Accepts (Record run) input = SpellsSome (loaded run input) (λ bytes. Unit {0})
 Accepts (Run run loads) input = SpellsSome (loaded run input) (λ bytes. Unit {0})
@@ -71,6 +88,9 @@ Accepts (Soak shape number params seed) input = image_length shape ≤ 4 * param
 Accepts (At which at latest loads) input = SpellsSome (whole_at input) (IsOfRecordWith at)
 Accepts (Thin certify) input = SpellsSome (whole_at input) IsOfRecordWithFew
 Accepts CheckThin input = SpellsSome (thinned_at input) IsOfThin
+Accepts (TsoRecord run) input = Unit {0}
+Accepts (TsoRun run loads) input = Unit {0}
+Accepts (TsoReplay loads) input = SpellsSome (tso_at input) IsOfBuffers
 
 -- the input has just these bytes left, no more than the command takes; for a command that takes none they are none,
 -- whatever the input has
@@ -105,7 +125,9 @@ pub record RecordingIsAccepted (out : List ℕ) : Type 0 where
   pub certified : Accepts Certify out
 
 -- so what `record` writes is accepted by each command that reads recordings, and so is what `migrate` makes of it;
--- and what `certify` writes of a recording that is determinate is accepted by `check`
+-- what `certify` writes of a recording that is determinate is accepted by `check`; and what `tsorecord` writes of an
+-- image
+-- of bytes is accepted by `tsoreplay`
 pub record WrittenIsAccepted : Type 0 where
   pub recorded : (run : RunWords) (input out : List ℕ) → Fits run.params → length input ≤ run_bytes_max run
       → Makes (Record run) input out → RecordingIsAccepted out
@@ -113,3 +135,6 @@ pub record WrittenIsAccepted : Type 0 where
       → RecordingIsAccepted out
   pub certified : (input out : List ℕ) → Makes Certify input out → Promised Certify input → Accepts Check out
   pub thinned : (input out : List ℕ) → Makes (Thin true) input out → Accepts CheckThin out
+  pub buffered : (run : RunWords) (input out : List ℕ) → Fits run.params → length input ≤ 4 * run.params.words
+      → ((i : ℕ) → slice_index input i < 256) → Makes (TsoRecord run) input out
+      → (loads : Bool) → Accepts (TsoReplay loads) out

@@ -1,7 +1,6 @@
 -- Replays that words ask for on several threads, and how they end.
-use Rattle.std.specs.Prelude.{◌≡◌, ◌≤◌, ℕ, Bool, List, Option, Some, None}
+use Rattle.std.specs.Prelude.{ℕ, Bool, List, Option, Some, None}
 use Rattle.std.specs.Io.KnownBytes.{Appends}
-use Rattle.rtr_types.specs.declared.pairs.Which.{Which}
 use Rattle.log_codec.specs.declared.recording.Recording.{Recording}
 use Rattle.log_codec.specs.Reading.{whole_at}
 use Rattle.replay_core.specs.Plans.{plan_of, recorded_image}
@@ -10,6 +9,7 @@ use Rattle.state_text.specs.States.{state_lines}
 use Rattle.tool_words.specs.declared.command.Command.{Command}
 use Rattle.tool_words.specs.declared.command.Command.TheVariants.{Record, Run, Print, Replay, Migrate, Certify, Check}
 use Rattle.tool_words.specs.declared.command.Command.TheVariants.{Gen, Soak, At, Thin, CheckThin}
+use Rattle.tool_words.specs.declared.command.Command.TheVariants.{TsoRecord, TsoRun, TsoReplay}
 use Rattle.rtr_cli.specs.declared.joint.Asked.{Asked}
 use Rattle.rtr_cli.specs.Answers.{IsRead}
 use Rattle.rtr_cli.specs.Commands.{SpellsSome, file_bytes_max}
@@ -29,6 +29,9 @@ asked_of (Soak shape number params seed) = None
 asked_of (At which at latest loads) = None
 asked_of (Thin certify) = None
 asked_of CheckThin = None
+asked_of (TsoRecord run) = None
+asked_of (TsoRun run loads) = None
+asked_of (TsoReplay loads) = None
 
 -- the same of what words mean
 abbrev pub asked_by : Option Command → Option Asked
@@ -43,7 +46,8 @@ command_of a = Replay a.which (Some a.threads) a.loads
 abbrev pub joint_lines : (loads : Bool) → TableEnd → Recording → List ℕ
 joint_lines loads closed r = state_lines closed.outcome (recorded_image r) loads
 
--- the table was closed behind a replay of this recording, of whose play it has the outcome and each core's accesses; and the
+-- the table was closed behind a replay of this recording, of whose play it has the outcome and each core's accesses;
+-- and the
 -- output got the text of what it comes to
 abbrev pub ClosesWith : Asked → TableEnd → (got got' : Option (List ℕ)) → Recording → Type 0
 ClosesWith asked closed got got' r =

@@ -21,6 +21,7 @@ ghost use Rattle.rtr_cli.specs.Commands.{checked_lines, exit_of_audit, image_of,
 ghost use Rattle.rtr_cli.specs.Commands.{run_bytes_max};
 ghost use Rattle.tool_words.specs.declared.command.Command.TheVariants.{Record, Run};
 
+use crate::buffers::{tso_record_input, tso_replayed, tso_run_input};
 use crate::cuts::state_at;
 use crate::soaks::soak;
 use crate::thins::{checked_thin, thinned};
@@ -40,6 +41,7 @@ use state_text::{Exit, check_text, logs_text, state_text};
 use std::alloc::{AllocError, Global};
 use tool_words::{Command, RunWords};
 use trace_gen::gen_image;
+use tso_codec::tso_read;
 use vector_reduce::read_thin;
 
 /// The most bytes that a command takes which reads a recording, a certificate or an ELF file: 512 MiB.
@@ -51,6 +53,9 @@ pub(crate) fn most_of(command: &Command) -> Option<usize>
 {
     match command {
         Command::Record(run) | Command::Run { run, .. } => Some(run_bytes_max(run)),
+        Command::TsoRecord(run) | Command::TsoRun { run, .. } => Some(
+            4 * run.params.words as usize,
+        ),
         Command::Print
         | Command::Replay { .. }
         | Command::Migrate
@@ -58,7 +63,8 @@ pub(crate) fn most_of(command: &Command) -> Option<usize>
         | Command::Check
         | Command::At { .. }
         | Command::Thin { .. }
-        | Command::CheckThin => Some(FILE_BYTES_MAX),
+        | Command::CheckThin
+        | Command::TsoReplay { .. } => Some(FILE_BYTES_MAX),
         Command::Gen { .. } | Command::Soak { .. } => None,
     }
 }
@@ -128,6 +134,12 @@ pub(crate) fn make(alloc: Global, command: Command, bytes: Vec<u8>) -> Result<Ve
         Command::CheckThin => {
             let thinned = read_thin(alloc, bytes.as_slice())?;
             checked_thin(alloc, &thinned)
+        }
+        Command::TsoRecord(run) => tso_record_input(alloc, run, bytes),
+        Command::TsoRun { run, loads } => tso_run_input(alloc, run, loads, bytes),
+        Command::TsoReplay { loads } => {
+            let recording = tso_read(alloc, bytes.as_slice())?;
+            tso_replayed(alloc, recording, loads)
         }
     }
 }

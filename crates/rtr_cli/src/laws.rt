@@ -1,6 +1,6 @@
 //! What the commands' definitions promise of their outputs.
 ghost use Rattle.rtr_cli.specs.Commands.{CertifiedIsAccepted, MakesOne, MigratedReadsTheSame, NewestStays};
-ghost use Rattle.rtr_cli.specs.Commands.{ThinnedIsReplayed};
+ghost use Rattle.rtr_cli.specs.Commands.{ThinnedIsReplayed, VersionsAreApart};
 ghost use Rattle.rtr_cli.specs.Completeness.{AcceptedIsNotRefused, WrittenIsAccepted};
 
 use cut_replay::laws::{one_cut_each, one_state};
@@ -32,6 +32,12 @@ pub fn each_command_makes_one_output()
 /// memory runs out.
 pub fn thin_laws()
     ensures { ThinnedIsReplayed }
+{}
+
+/// `tsoreplay` names the first part of whatever begins as a recording of another version does, and each other command
+/// that reads a file names the first part of whatever begins as a recording of cores with store buffers does.
+pub fn versions_are_told_apart()
+    ensures { VersionsAreApart }
 {}
 
 /// What a command accepts it refuses for want of memory alone, and what `record`, `migrate`, `certify` and `thin` write

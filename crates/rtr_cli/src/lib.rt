@@ -1,6 +1,7 @@
 //! The top call of the tool: from words and an input to an output, a report and a way to end.
 #![tactic(auto)]
 
+mod buffers;
 mod commands;
 mod cuts;
 mod joint;
@@ -13,6 +14,7 @@ mod tool;
 pub use joint::Ended;
 pub use laws::{
     certify_laws, completeness_laws, each_command_makes_one_output, migrate_laws, thin_laws,
+    versions_are_told_apart,
 };
 pub use soak_texts::soak_text;
 pub use tool::{run_alone, run_tool, tell};

@@ -11,7 +11,7 @@ use crate::commands::{audited, image};
 use crate::soak_texts::{changed_words, soak_text};
 use image_mem::Image;
 use log_codec::Recording;
-use recorder::record_run;
+use recorder::record_image;
 use rtr_types::{Params, Which};
 use run_outcome::laws::a_run_fits_its_image;
 use rv_core::Outcome;
@@ -65,7 +65,7 @@ fn replayed(
     ensures outcome { IfOk result (λ pair. pair.1 ≡ outcome_of image params schedule) }
     ensures refused { IfErr result (λ exit. exit ≡ Exit.OutOfMemory) }
 {
-    let recorded = record_run(alloc, image, params, schedule)?;
-    let audited = audited(alloc, recorded.recording, Which::Reduced)?;
+    let recording = record_image(alloc, image, params, schedule)?;
+    let audited = audited(alloc, recording, Which::Reduced)?;
     Ok(audited.into_parts())
 }

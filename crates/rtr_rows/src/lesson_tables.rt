@@ -1,6 +1,6 @@
-//! The six racing programs of `examples/`, and the steps of `docs/TUTORIAL.md`. What is wanted of runs and
-//! recordings comes from `tools/reference`, a slow model of the tool; the answers to logs and certificates that
-//! were damaged were worked out by hand.
+//! The seven racing programs of `examples/`, and the steps of `docs/TUTORIAL.md`. What is wanted of runs and
+//! recordings comes from `tests/reference` and `tests/tso_reference`, slow models of the tool; the answers to logs and
+//! certificates that were damaged were worked out by hand.
 
 use crate::cut_tables::{READ, UNWRITTEN};
 use crate::replay_tables::HANDED_OVER_STATE;
@@ -47,6 +47,10 @@ const LOST_UPDATE: &str = "83220004 93821200 23205004 73000000";
 /// `examples/store_buffering.s`.
 const STORE_BUFFERING: &str = "13136500 93020008 b3826240 93031000 23207304 03ae0200 73000000";
 
+/// `examples/store_buffering_fenced.s`.
+const STORE_BUFFERING_FENCED: &str =
+    "13136500 93020008 b3826240 93031000 23207304 0f00f00f 03ae0200 73000000";
+
 /// `examples/peterson.s`.
 const PETERSON: &str = "93022000 13132500 93431500 13942300 93041000 23209308 23247008 83250408 \
     63860500 03268008 e30a76fe 83260009 93861600 2328d008 23200308 9382f2ff \
@@ -79,6 +83,11 @@ const LOST_UPDATE_LATER_RECORDING: &str =
 const STORE_BUFFERING_RECORDING: &str =
     "52545202 02904e40 1c131365 00930200 08b38262 40930310 00232073 0403ae02 00730000 \
     00070700 01050006 01010605 00";
+
+/// What `record --cores 2 --words 64 --seed 0` makes of it.
+const STORE_BUFFERING_FENCED_RECORDING: &str =
+    "52545202 02904e40 20131365 00930200 08b38262 40930310 00232073 040f00f0 0f03ae02 \
+    00730000 00080801 07010501 07000501 01050701 010507";
 
 /// What `record --cores 2 --words 64 --seed 0` makes of it.
 const PETERSON_RECORDING: &str =
@@ -121,8 +130,81 @@ const LOST_STATE: &str = "core 0 exit retired 4 pc 00000010\n\
             load 0 1 00000040 00000000\n\
             load 1 1 00000040 00000000\n";
 
+/// What `tsorecord --cores 2 --words 64 --seed 0` makes of `STORE_BUFFERING`: both loads are logged.
+const BUFFERED: &str =
+    "52545203 02904e40 1c131365 00930200 08b38262 40930310 00232073 0403ae02 00730000 \
+    00070700 00010600 010600";
+
+/// How that run ends.
+const BUFFERED_STATE: &str = "core 0 exit retired 7 pc 0000001c\n\
+            core 0 x5 00000080\n\
+            core 0 x7 00000001\n\
+            core 1 exit retired 7 pc 0000001c\n\
+            core 1 x5 00000040\n\
+            core 1 x6 00000040\n\
+            core 1 x7 00000001\n\
+            core 1 x10 00000001\n\
+            mem 00000040 00000001\n\
+            mem 00000080 00000001\n\
+            load 0 6 00000080 00000000\n\
+            load 1 6 00000040 00000000\n";
+
+/// The same of `STORE_BUFFERING_FENCED`: one edge, and no logged load.
+const FENCED: &str =
+    "52545203 02904e40 20131365 00930200 08b38262 40930310 00232073 040f00f0 0f03ae02 \
+    00730000 00080800 01050007 0000";
+
+/// How that run ends.
+const FENCED_STATE: &str = "core 0 exit retired 8 pc 00000020\n\
+            core 0 x5 00000080\n\
+            core 0 x7 00000001\n\
+            core 1 exit retired 8 pc 00000020\n\
+            core 1 x5 00000040\n\
+            core 1 x6 00000040\n\
+            core 1 x7 00000001\n\
+            core 1 x10 00000001\n\
+            core 1 x28 00000001\n\
+            mem 00000040 00000001\n\
+            mem 00000080 00000001\n\
+            load 0 7 00000080 00000000\n\
+            load 1 7 00000040 00000001\n";
+
+/// The same of `PETERSON`: a count is lost.
+const BROKEN_LOCK: &str =
+    "52545203 02904e40 48930220 00131325 00934315 00139423 00930410 00232093 08232470 \
+    08832504 08638605 00032680 08e30a76 fe832600 09938616 002328d0 08232003 089382f2 \
+    ffe39a02 fc730000 001a2603 0d010c03 01080601 02040600 080e0005 04000906 00010112 \
+    00020e00 0201";
+
+/// How that run ends.
+const BROKEN_LOCK_STATE: &str = "core 0 exit retired 26 pc 00000048\n\
+            core 0 x7 00000001\n\
+            core 0 x8 00000004\n\
+            core 0 x9 00000001\n\
+            core 0 x13 00000002\n\
+            core 1 exit retired 38 pc 00000048\n\
+            core 1 x6 00000004\n\
+            core 1 x9 00000001\n\
+            core 1 x10 00000001\n\
+            core 1 x13 00000003\n\
+            mem 00000090 00000003\n\
+            load 0 8 00000084 00000000\n\
+            load 0 10 00000090 00000000\n\
+            load 0 18 00000084 00000000\n\
+            load 0 20 00000090 00000001\n\
+            load 1 8 00000080 00000001\n\
+            load 1 10 00000088 00000000\n\
+            load 1 12 00000080 00000001\n\
+            load 1 14 00000088 00000000\n\
+            load 1 16 00000080 00000001\n\
+            load 1 18 00000088 00000000\n\
+            load 1 20 00000080 00000000\n\
+            load 1 22 00000090 00000001\n\
+            load 1 30 00000080 00000000\n\
+            load 1 32 00000090 00000002\n";
+
 /// What is made of each example, what is printed of that, and how it ends.
-pub static EXAMPLES: [Row; 21] = [
+pub static EXAMPLES: [Row; 24] = [
     answered!(
         "record --cores 2 --words 32 --choices 00000001010101010101010101010101",
         HAND_OVER,
@@ -241,6 +323,43 @@ pub static EXAMPLES: [Row; 21] = [
             core 0 x5 00000080\n\
             core 0 x7 00000001\n\
             core 1 exit retired 7 pc 0000001c\n\
+            core 1 x5 00000040\n\
+            core 1 x6 00000040\n\
+            core 1 x7 00000001\n\
+            core 1 x10 00000001\n\
+            core 1 x28 00000001\n\
+            mem 00000040 00000001\n\
+            mem 00000080 00000001\n"
+    ),
+    answered!(
+        "record --cores 2 --words 64 --seed 0",
+        STORE_BUFFERING_FENCED,
+        STORE_BUFFERING_FENCED_RECORDING,
+        ""
+    ),
+    answered!(
+        "print",
+        STORE_BUFFERING_FENCED_RECORDING,
+        "",
+        "cores 2 limit 10000 words 64 image 32\n\
+            total 0 8\n\
+            total 1 8\n\
+            reduced 2\n\
+            edge 0:5 1:7\n\
+            edge 1:5 0:7\n\
+            regulated 2 vectors 2 edges\n\
+            vector 0 1 1 5 7\n\
+            vector 1 0 1 5 7\n"
+    ),
+    answered!(
+        "run --cores 2 --words 64 --seed 0",
+        STORE_BUFFERING_FENCED,
+        "",
+        "core 0 exit retired 8 pc 00000020\n\
+            core 0 x5 00000080\n\
+            core 0 x7 00000001\n\
+            core 0 x28 00000001\n\
+            core 1 exit retired 8 pc 00000020\n\
             core 1 x5 00000040\n\
             core 1 x6 00000040\n\
             core 1 x7 00000001\n\
@@ -388,7 +507,7 @@ pub static EXAMPLES: [Row; 21] = [
 ];
 
 /// The steps of the lesson.
-pub static LESSON: [Row; 20] = [
+pub static LESSON: [Row; 30] = [
     answered!(
         "record --cores 2 --words 32 --choices 000001",
         LOST_UPDATE,
@@ -503,4 +622,62 @@ pub static LESSON: [Row; 20] = [
             core 1 x10 00000001\n\
             mem 00000040 00000001\n"
     ),
+    // Stores that wait in their cores, a FENCE between store and load, and a lock that needs one.
+    answered!(
+        "run --cores 2 --words 64 --seed 0 --loads",
+        STORE_BUFFERING,
+        "",
+        "core 0 exit retired 7 pc 0000001c\n\
+            core 0 x5 00000080\n\
+            core 0 x7 00000001\n\
+            core 1 exit retired 7 pc 0000001c\n\
+            core 1 x5 00000040\n\
+            core 1 x6 00000040\n\
+            core 1 x7 00000001\n\
+            core 1 x10 00000001\n\
+            core 1 x28 00000001\n\
+            mem 00000040 00000001\n\
+            mem 00000080 00000001\n\
+            load 0 6 00000080 00000000\n\
+            load 1 6 00000040 00000001\n"
+    ),
+    answered!(
+        "tsorun --cores 2 --words 64 --seed 0 --loads",
+        STORE_BUFFERING,
+        "",
+        BUFFERED_STATE
+    ),
+    answered!(
+        "tsorecord --cores 2 --words 64 --seed 0",
+        STORE_BUFFERING,
+        BUFFERED,
+        ""
+    ),
+    answered!("tsoreplay --loads", BUFFERED, "", BUFFERED_STATE),
+    answered!(
+        "tsorun --cores 2 --words 64 --seed 0 --loads",
+        STORE_BUFFERING_FENCED,
+        "",
+        FENCED_STATE
+    ),
+    answered!(
+        "tsorecord --cores 2 --words 64 --seed 0",
+        STORE_BUFFERING_FENCED,
+        FENCED,
+        ""
+    ),
+    answered!("tsoreplay --loads", FENCED, "", FENCED_STATE),
+    answered!(
+        "tsorun --cores 2 --words 64 --seed 0 --loads",
+        PETERSON,
+        "",
+        BROKEN_LOCK_STATE
+    ),
+    answered!(
+        "tsorecord --cores 2 --words 64 --seed 0",
+        PETERSON,
+        BROKEN_LOCK,
+        ""
+    ),
+    answered!("tsoreplay --loads", BROKEN_LOCK, "", BROKEN_LOCK_STATE),
 ];

@@ -5,6 +5,10 @@
 #[cfg(test)]
 mod all_pairs;
 #[cfg(test)]
+mod buffer_tables;
+#[cfg(test)]
+mod buffer_tests;
+#[cfg(test)]
 mod calls;
 #[cfg(test)]
 mod certificate_tables;

@@ -1,3 +1,4 @@
+use crate::buffer_tables::BUFFERS;
 use crate::calls::{ask, asks, bytes, input_of, output_of, recording_of};
 use crate::certificate_tables::CERTIFICATES;
 use crate::cut_tables::STATES;
@@ -51,6 +52,11 @@ fn are_answered(
 fn each_row_is_answered(rt: HostRuntime) -> Result<(), Fail> {
     are_answered(&rt, rt.alloc(), &ROWS)?;
     are_answered(&rt, rt.alloc(), &CERTIFICATES)
+}
+
+#[test]
+fn each_recording_of_buffered_cores_is_replayed_or_refused(rt: HostRuntime) -> Result<(), Fail> {
+    are_answered(&rt, rt.alloc(), &BUFFERS)
 }
 
 #[test]

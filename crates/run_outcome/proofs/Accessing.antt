@@ -50,7 +50,8 @@ retired_more : (cores : ℕ) (f g : ℕ → ℕ) (list : List Access) (e : Event
 retired_more cores f g list e told h = record {
   rise = rise_more list (accesses_in e) h.rise (one_rises cores f e next)
       (λ a b one other same.
-      let now = (next b other).count in let before = h.retired a one in let at = ap f same in omega (arith, now, before, at));
+      let now = (next b other).count in let before = h.retired a one in let at = ap f same in
+      omega (arith, now, before, at));
   cores_are = λ a stands. elim (stands_which list (accesses_in e) a stands) [
     | inl there ↦ h.cores_are a there
     | inr there ↦ (next a there).core

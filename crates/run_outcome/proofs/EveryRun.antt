@@ -19,7 +19,8 @@ use Rattle.run_outcome.specs.EveryRun.{EveryRunLaw, StateHolds}
 state_holds : (s : PlainState) → MachineHolds none_riding none_carrying s → StateHolds s
 state_holds s h =
     record {
-      one_writer = λ b. one_writer_holds (block_in none_riding none_carrying s.memory b) (blocks_hold none_riding none_carrying s.memory h.memory b);
+      one_writer = λ b. one_writer_holds (block_in none_riding none_carrying s.memory b)
+          (blocks_hold none_riding none_carrying s.memory h.memory b);
       rows = λ m can. rows_there none_riding none_carrying s m h can;
       rooms = λ m can. rooms_there none_riding none_carrying s m h can;
       going = some_move none_riding none_carrying s h;
@@ -37,7 +38,8 @@ every_run image params choices fits =
       end = record {
         ends = end;
         in_time = end_in_time image params choices range;
-        quiet = links_left none_riding none_carrying (run image params choices t) (holds_run image params choices t fits.cores small) end.done;
+        quiet = links_left none_riding none_carrying (run image params choices t) (holds_run image params choices t
+            fits.cores small) end.done;
         memory = final_values image params choices t fits.cores small end.done;
       };
     }

@@ -1,5 +1,6 @@
 -- What a run comes to fits its image and its parameters.
-use Rattle.std.proofs.Common.{◌≡◌, refl, ap, ◌∙◌, ℕ, zero, suc, ◌+◌, ◌<◌, ◌≤◌, ◌^◌, ◌==◌, ◌&&◌, Bool, true, false, cond, List, [], ◌∷◌, length, Option, Some}
+use Rattle.std.proofs.Common.{◌≡◌, refl, ap, ◌∙◌, ℕ, zero, suc, ◌+◌, ◌<◌, ◌≤◌, ◌^◌, ◌==◌, ◌&&◌, Bool, true, false, cond}
+use Rattle.std.proofs.Common.{List, [], ◌∷◌, length, Option, Some}
 use Rattle.std.proofs.Common.{None, arith}
 use Rattle.std.specs.Prelude.{All, map}
 use Rattle.std.specs.List.{range_with_len}
@@ -30,26 +31,33 @@ image_stepped s None = refl
 image_stepped s (Some m) = refl
 
 -- the image stays
-pub run_image : (image : Contents) (params : Params) (choices : ℕ → ℕ) (t : ℕ) → (run image params choices t).image ≡ image
+pub run_image : (image : Contents) (params : Params) (choices : ℕ → ℕ) (t : ℕ) →
+    (run image params choices t).image ≡ image
 run_image image params choices zero = refl
-run_image image params choices (suc t) = image_stepped (run image params choices t) (chosen (run image params choices t) (choices t))
+run_image image params choices (suc t) = image_stepped (run image params choices t) (chosen (run image params choices t)
+    (choices t))
     ∙ run_image image params choices t
 
 -- a core's loads are of words of the memory where the accesses are
-loads_within : (words core : ℕ) (list : List Access) → All (λ a. a.word < words) list → All (λ note. note.word < words) (loads_of core list)
+loads_within : (words core : ℕ) (list : List Access) → All (λ a. a.word < words) list →
+    All (λ note. note.word < words) (loads_of core list)
 loads_within words core [] all = All-nil (λ note. note.word < words)
 loads_within words core (a ∷ later) all =
-    by_test ((a.at.core == core) && is_read a.kind) (loads_within words core later (All-tail (λ b. b.word < words) a later all))
+    by_test ((a.at.core == core) && is_read a.kind) (loads_within words core later (All-tail (λ b. b.word < words) a
+    later all))
   where
     by_test : (b : Bool) → All (λ note. note.word < words) (loads_of core later) →
         All (λ note. note.word < words) (cond b (note_of a ∷ loads_of core later) (loads_of core later))
-    by_test true rest = All-cons (λ note. note.word < words) (note_of a) (loads_of core later) (All-head (λ b. b.word < words) a later all) rest
+    by_test true rest = All-cons (λ note. note.word < words) (note_of a) (loads_of core later)
+        (All-head (λ b. b.word < words) a later all) rest
     by_test false rest = rest
 
 -- what holds of each number's value holds of the values of a range
-map_all : {X : Type 0} (P : X → Type 0) (f : ℕ → X) (from n : ℕ) → ((k : ℕ) → P (f k)) → All P (map f (range_with_len from n))
+map_all : {X : Type 0} (P : X → Type 0) (f : ℕ → X) (from n : ℕ) → ((k : ℕ) → P (f k)) →
+    All P (map f (range_with_len from n))
 map_all P f from zero each = All-nil P
-map_all P f from (suc n) each = All-cons P (f from) (map f (range_with_len (from + 1) n)) (each from) (map_all P f (from + 1) n each)
+map_all P f from (suc n) each = All-cons P (f from) (map f (range_with_len (from + 1) n)) (each from)
+    (map_all P f (from + 1) n each)
 
 pub run_fits_law : RunFitsLaw
 unfolding outcome_of
@@ -71,6 +79,8 @@ run_fits_law image params schedule fits same =
       words = length-map-range_with_len (final_word none_riding none_carrying s) 0 s.image.words
           ∙ ap (λ i. i.words) (run_image image params choices t);
       lists = length-map-range_with_len (λ c. loads_of c (accesses image params choices t)) 0 params.cores;
-      within = map_all (λ notes. All (λ note. note.word < image.words) notes) (λ c. loads_of c (accesses image params choices t)) 0 params.cores
-          (λ c. loads_within image.words c (accesses image params choices t) (each_within image params choices t fits.cores small));
+      within = map_all (λ notes. All (λ note. note.word < image.words) notes)
+          (λ c. loads_of c (accesses image params choices t)) 0 params.cores
+          (λ c. loads_within image.words c (accesses image params choices t) (each_within image params choices t
+          fits.cores small));
     }

@@ -1,5 +1,6 @@
 -- What comes later in a run, and when instructions retire.
-use Rattle.std.proofs.Common.{◌≡◌, ◌∙◌, sym, ap, subst, ℕ, zero, suc, ◌<◌, ◌≤◌, ◌^◌, List, [], ◌++◌, append-nil, append_assoc, arith, inl, inr}
+use Rattle.std.proofs.Common.{◌≡◌, ◌∙◌, sym, ap, subst, ℕ, zero, suc, ◌<◌, ◌≤◌, ◌^◌, List, [], ◌++◌, append-nil}
+use Rattle.std.proofs.Common.{append_assoc, arith, inl, inr}
 use Rattle.std.proofs.lemmas.Bool.{cases_eq, cases_lt}
 use Rattle.image_mem.specs.Contents.{Contents}
 use Rattle.rtr_types.specs.Parameters.{Fits}
@@ -11,7 +12,8 @@ use Rattle.conflict_edge.specs.Conflicts.{StandsIn}
 use Rattle.conflict_edge.proofs.Standing.{stands_which}
 use Rattle.msi_state.specs.Events.{Event}
 use Rattle.msi_state.specs.Runs.{accesses, accesses_in, event_at}
-use Rattle.run_outcome.specs.Retirement.{EarlierLaw, NextRetiresLaw, RetiresAt, RetiresOnceLaw, StaysRetiredLaw, retired_count}
+use Rattle.run_outcome.specs.Retirement.{EarlierLaw, NextRetiresLaw, RetiresAt, RetiresOnceLaw, StaysRetiredLaw}
+use Rattle.run_outcome.specs.Retirement.{retired_count}
 use Rattle.run_outcome.proofs.Accessing.{accessed}
 use Rattle.run_outcome.proofs.Retiring.{run_tells}
 
@@ -56,7 +58,8 @@ goes image params choices t zero few small le =
     subst (λ v. Goes image params choices v 0) same (goes_nowhere image params choices 0)
 goes image params choices t (suc u) few small le = elim (cases_eq t (suc u)) [
   | inl same ↦ subst (λ v. Goes image params choices v (suc u)) (sym same) (goes_nowhere image params choices (suc u))
-  | inr other ↦ goes_on image params choices t u few small (goes image params choices t u few small (omega (arith, le, other)))
+  | inr other ↦ goes_on image params choices t u few small (goes image params choices t u few small
+      (omega (arith, le, other)))
 ]
 
 -- ---- when instructions retire
@@ -73,7 +76,8 @@ next_retires image params choices t at fits has =
 pub stays_retired : StaysRetiredLaw
 stays_retired image params choices t u at fits lt has =
     let reached = (run_tells image params choices t fits.cores (small_limit params fits)).reached at has in
-    let more = (goes image params choices (suc t) u fits.cores (small_limit params fits) (omega (arith, lt))).more at.core in
+    let more = (goes image params choices (suc t) u fits.cores (small_limit params fits) (omega (arith, lt))).more
+    at.core in
     omega (arith, reached, more)
 
 -- no instruction retires again

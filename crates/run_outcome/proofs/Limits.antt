@@ -25,7 +25,8 @@ limit_set (k ∷ ks) zero (suc d) core same = refl
 limit_set (k ∷ ks) (suc c) zero core same = refl
 limit_set (k ∷ ks) (suc c) (suc d) core same = limit_set ks c d core same
 
-limit_stepped : (s : PlainState) (taken : Option Move) (d : ℕ) → (core_at (stepped_by s taken).cores d).limit ≡ (core_at s.cores d).limit
+limit_stepped : (s : PlainState) (taken : Option Move) (d : ℕ) →
+    (core_at (stepped_by s taken).cores d).limit ≡ (core_at s.cores d).limit
 limit_stepped s None d = refl
 limit_stepped s (Some m) d =
     let e : Event = plain_event s m in
@@ -37,6 +38,8 @@ limit_stepped s (Some m) d =
 pub run_limits : (image : Contents) (params : Params) (choices : ℕ → ℕ) (t c : ℕ) → c < params.cores →
     (core_at (run image params choices t).cores c).limit ≡ params.limit
 run_limits image params choices zero c within =
-    ap (λ (core : Core). core.limit) (core_start_at none_riding none_carrying image params.cores params.limit c within) ∙ (start_law c params.limit).1
+    ap (λ (core : Core). core.limit) (core_start_at none_riding none_carrying image params.cores params.limit c within)
+    ∙ (start_law c params.limit).1
 run_limits image params choices (suc t) c within =
-    limit_stepped (run image params choices t) (chosen (run image params choices t) (choices t)) c ∙ run_limits image params choices t c within
+    limit_stepped (run image params choices t) (chosen (run image params choices t) (choices t)) c
+    ∙ run_limits image params choices t c within

@@ -1,5 +1,6 @@
 -- What an event tells of, by how many instructions each core has retired before and after it.
-use Rattle.std.proofs.Common.{◌≡◌, ◌≢◌, ◌∙◌, sym, ap, subst, ℕ, suc, ◌+◌, ◌<◌, ◌≤◌, ◌^◌, List, length, Option, Some, None, arith, inl, inr}
+use Rattle.std.proofs.Common.{◌≡◌, ◌≢◌, ◌∙◌, sym, ap, subst, ℕ, suc, ◌+◌, ◌<◌, ◌≤◌, ◌^◌, List, length, Option, Some}
+use Rattle.std.proofs.Common.{None, arith, inl, inr}
 use Rattle.std.proofs.lemmas.Bool.{cases_eq}
 use Rattle.std.proofs.lemmas.List.{get_or-set_same, get_or-set_other}
 use Rattle.image_mem.specs.Contents.{Contents}
@@ -29,13 +30,15 @@ module _ (image : Contents) (old new : List Core) (at : Instr) (used : Option (K
   pub own_count : core_counts new at.core ≡ core_counts old at.core + 1
   own_count =
       ap (λ (l : List Core). core_counts l at.core) h.cores
-      ∙ ap (λ (k : Core). k.count) (get_or-set_same old at.core (after image (core_at old at.core) found) (starting 0 0) h.within)
+      ∙ ap (λ (k : Core). k.count) (get_or-set_same old at.core (after image (core_at old at.core) found) (starting 0 0)
+      h.within)
       ∙ count_law image (core_at old at.core) found
 
   pub other_counts : (c : ℕ) → c ≢ at.core → core_counts new c ≡ core_counts old c
   other_counts c other =
       ap (λ (l : List Core). core_counts l c) h.cores
-      ∙ ap (λ (k : Core). k.count) (get_or-set_other old at.core c (after image (core_at old at.core) found) (starting 0 0) other)
+      ∙ ap (λ (k : Core). k.count) (get_or-set_other old at.core c (after image (core_at old at.core) found)
+      (starting 0 0) other)
 
   more_counts : (c : ℕ) → core_counts old c ≤ core_counts new c
   more_counts c = elim (cases_eq c at.core) [
@@ -59,7 +62,8 @@ pub record Tells (cores : ℕ) (f g : ℕ → ℕ) (retired : Option Instr) : Ty
 same_instr : (x y : Instr) → ◌≡◌ {A = Option Instr} (Some x) (Some y) → x ≡ y
 same_instr x y is = grind arith
 
-retiring_tells : (image : Contents) (cores : ℕ) (old new : List Core) (at : Instr) (used : Option (Kind × ℕ)) (found : ℕ)
+retiring_tells : (image : Contents) (cores : ℕ) (old new : List Core) (at : Instr) (used : Option (Kind × ℕ))
+    (found : ℕ)
     → length old ≡ cores → Retiring image old at used found new
     → Tells cores (core_counts old) (core_counts new) (Some at)
 retiring_tells image cores old new at used found long h = record {
@@ -70,7 +74,8 @@ retiring_tells image cores old new at used found long h = record {
       (h.count ∙ sym (own_count image old new at used found h));
 }
 
-tells : (image : Contents) (cores : ℕ) (old new : List Core) (e : Event) → length old ≡ cores → CoresAfter image old e new
+tells : (image : Contents) (cores : ℕ) (old new : List Core) (e : Event) → length old ≡ cores →
+    CoresAfter image old e new
     → Tells cores (core_counts old) (core_counts new) (instr_of e)
 tells image cores old new Nothing long h = record {
   more = λ c. let same = ap (λ (l : List Core). core_counts l c) h in omega (arith, same);
@@ -88,5 +93,6 @@ pub run_tells : (image : Contents) (params : Params) (choices : ℕ → ℕ) (t 
     → Tells params.cores (retired_count image params choices t) (retired_count image params choices (suc t))
     (instr_of (event_at image params choices t))
 run_tells image params choices t few small =
-    tells image params.cores (cores_at image params choices t) (cores_at image params choices (suc t)) (event_at image params choices t)
+    tells image params.cores (cores_at image params choices t) (cores_at image params choices (suc t))
+    (event_at image params choices t)
     (run_cores image params choices t) (event_cores image params choices t few small)

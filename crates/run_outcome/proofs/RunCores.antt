@@ -19,7 +19,8 @@ abbrev pub cores_at : Contents → Params → (ℕ → ℕ) → ℕ → List Cor
 cores_at image params choices t = (run image params choices t).cores
 
 stepped_cores : (image : Contents) (s : PlainState) (taken : Option Move) → s.image ≡ image
-    → ((m : Move) → taken ≡ Some m → enabled none_riding none_carrying s m ≡ true) → MachineHolds none_riding none_carrying s
+    → ((m : Move) → taken ≡ Some m → enabled none_riding none_carrying s m ≡ true) →
+    MachineHolds none_riding none_carrying s
     → CoresAfter image s.cores (event_by s taken) (stepped_by s taken).cores
 stepped_cores image s None same can h = refl
 stepped_cores image s (Some m) same can h =
@@ -28,7 +29,8 @@ stepped_cores image s (Some m) same can h =
 
 pub event_cores : (image : Contents) (params : Params) (choices : ℕ → ℕ) (t : ℕ) → params.cores ≤ CORES_MAX
     → params.limit < 2 ^ 32
-    → CoresAfter image (cores_at image params choices t) (event_at image params choices t) (cores_at image params choices (suc t))
+    → CoresAfter image (cores_at image params choices t) (event_at image params choices t)
+    (cores_at image params choices (suc t))
 event_cores image params choices t few small =
     let s : PlainState = run image params choices t in
     stepped_cores image s (chosen s (choices t)) (run_image image params choices t)

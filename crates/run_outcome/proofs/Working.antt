@@ -14,7 +14,8 @@ use Rattle.rv_core.proofs.OpLemmas.{access_goes}
 use Rattle.msi_memory.specs.declared.port.Port.{Port}
 use Rattle.msi_memory.specs.Memories.{port_at}
 use Rattle.msi_state.specs.declared.moves.Move.{Move}
-use Rattle.msi_state.specs.declared.moves.Move.TheVariants.{Core as CoreMove, Request as RequestMove, Response as ResponseMove, FromHome as MessageMove}
+use Rattle.msi_state.specs.declared.moves.Move.TheVariants.{Core as CoreMove, Request as RequestMove}
+use Rattle.msi_state.specs.declared.moves.Move.TheVariants.{Response as ResponseMove, FromHome as MessageMove}
 use Rattle.msi_state.specs.Events.{Event, Nothing, Retires, Accesses, access_of, next_instr, port_taken}
 use Rattle.msi_state.specs.States.{State, core_at}
 use Rattle.msi_state.specs.Steps.{cores_after, enabled, event, step}
@@ -44,33 +45,37 @@ CoresAfter image old (Accesses a) new = Accessing image old a new
 
 -- ---- a core at its place retires
 
-module _ (image : Contents) (cores : List Core) (c : ℕ) (within : c < length cores) (number : (core_at cores c).id ≡ c) where
-  here : core_at cores (core_at cores c).id ≡ core_at cores c
-  here = ap (core_at cores) number
+module _ (image : Contents) (cores : List Core) (c : ℕ) (within : c < length cores) (number : (core_at cores c).id ≡ c)
+  where
+    here : core_at cores (core_at cores c).id ≡ core_at cores c
+    here = ap (core_at cores) number
 
-  retires : (used : Option (Kind × ℕ)) (found : ℕ) → is_done (need image (core_at cores c)) ≡ false → used_by (need image (core_at cores c)) ≡ used
-      → Retiring image cores (next_instr (core_at cores c)) used found (slice_set cores c (after image (core_at cores c) found))
-  retires used found going uses = record {
-    within = subst (λ (d : ℕ). d < length cores) (sym number) within;
-    count = ap (λ (k : Core). k.count + 1) (sym here);
-    going = ap (λ (k : Core). is_done (need image k)) here ∙ going;
-    uses = ap (λ (k : Core). used_by (need image k)) here ∙ uses;
-    cores =
-        ap (λ (d : ℕ). slice_set cores d (after image (core_at cores c) found)) (sym number)
-        ∙ ap (λ (k : Core). slice_set cores (core_at cores c).id (after image k found)) (sym here);
-  }
+    retires : (used : Option (Kind × ℕ)) (found : ℕ) → is_done (need image (core_at cores c)) ≡ false →
+        used_by (need image (core_at cores c)) ≡ used
+        → Retiring image cores (next_instr (core_at cores c)) used found
+        (slice_set cores c (after image (core_at cores c) found))
+    retires used found going uses = record {
+      within = subst (λ (d : ℕ). d < length cores) (sym number) within;
+      count = ap (λ (k : Core). k.count + 1) (sym here);
+      going = ap (λ (k : Core). is_done (need image k)) here ∙ going;
+      uses = ap (λ (k : Core). used_by (need image k)) here ∙ uses;
+      cores =
+          ap (λ (d : ℕ). slice_set cores d (after image (core_at cores c) found)) (sym number)
+          ∙ ap (λ (k : Core). slice_set cores (core_at cores c).id (after image k found)) (sym here);
+    }
 
-  makes_access : {R K : Type 0} (riding : Riding R) (p : Port R K) (kind : Kind) (word : ℕ)
-      → used_by (need image (core_at cores c)) ≡ Some (kind, word)
-      → Accessing image cores (access_of image riding (core_at cores c) p word kind)
-      (cores_after image c (Accesses (access_of image riding (core_at cores c) p word kind)) cores)
-  makes_access riding p kind word uses =
-      let a : Access = access_of image riding (core_at cores c) p word kind in
-      record {
-        retires = retires (Some (kind, word)) a.before (access_goes (need image (core_at cores c)) kind word uses) uses;
-        after_is = ap (λ (k : Core). wrote image k a.before) (sym here);
-        reads = λ reads. unwritten_law image (core_at cores c) kind word a.before uses reads;
-      }
+    makes_access : {R K : Type 0} (riding : Riding R) (p : Port R K) (kind : Kind) (word : ℕ)
+        → used_by (need image (core_at cores c)) ≡ Some (kind, word)
+        → Accessing image cores (access_of image riding (core_at cores c) p word kind)
+        (cores_after image c (Accesses (access_of image riding (core_at cores c) p word kind)) cores)
+    makes_access riding p kind word uses =
+        let a : Access = access_of image riding (core_at cores c) p word kind in
+        record {
+          retires = retires (Some (kind, word)) a.before (access_goes (need image (core_at cores c)) kind word uses)
+              uses;
+          after_is = ap (λ (k : Core). wrote image k a.before) (sym here);
+          reads = λ reads. unwritten_law image (core_at cores c) kind word a.before uses reads;
+        }
 
 module _ {R K : Type 0} where
   -- an enabled move of a state that has the invariant
@@ -83,12 +88,14 @@ module _ {R K : Type 0} where
       core_cases riding carrying s c (λ needed x. CoresAfter s.image s.cores x (cores_after s.image c x s.cores)) e
       (λ none. retires s.image s.cores c can.core number None 0 can.more none)
       (λ kind word uses denied. refl)
-      (λ kind word uses allowed. makes_access s.image s.cores c can.core number riding (port_at carrying s.memory.ports c) kind word uses)
+      (λ kind word uses allowed. makes_access s.image s.cores c can.core number riding (port_at carrying s.memory.ports
+      c) kind word uses)
   cores_moved riding carrying s (MessageMove c) rider e h =
       let lc = enabled_core riding carrying s (MessageMove c) e h in
       let p : Port R K = port_taken riding carrying (port_at carrying s.memory.ports c) in
       message_cases riding carrying s c (λ x. CoresAfter s.image s.cores x (cores_after s.image c x s.cores)) h lc
       (λ quiet. refl)
-      (λ kind word comes uses allowed still. makes_access s.image s.cores c lc (h.cores c lc).number riding p kind word uses)
+      (λ kind word comes uses allowed still. makes_access s.image s.cores c lc (h.cores c lc).number riding p kind word
+      uses)
   cores_moved riding carrying s (RequestMove c) rider e h = refl
   cores_moved riding carrying s (ResponseMove c) rider e h = refl

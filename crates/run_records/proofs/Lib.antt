@@ -1,5 +1,6 @@
 pub mod Reducing
 pub mod Standing
+pub mod Carrying
 pub mod Regulating
 pub mod KnownRuns
 pub mod Ends

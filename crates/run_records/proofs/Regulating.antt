@@ -1,8 +1,8 @@
 -- A retirement keeps the regulation.
-use Rattle.std.proofs.Common.{◌≡◌, ◌∙◌, refl, sym, ap, subst, ℕ, ◌+◌, ◌<◌, ◌≤◌, List, [], ◌∷◌, length, arith}
+use Rattle.std.proofs.Common.{◌≡◌, ◌∙◌, refl, sym, ap, subst, ℕ, ◌<◌, ◌≤◌, List, [], ◌∷◌, length, Some, arith}
 use Rattle.std.specs.Prelude.{All, slice_index_or}
 use Rattle.std.specs.List.{AllByRecursion}
-use Rattle.std.proofs.lemmas.List.Elements.{All-nil, All-same}
+use Rattle.std.proofs.lemmas.List.Elements.{All-nil, All-same, All-weaker}
 use Rattle.access_times.specs.Times.{times_riding}
 use Rattle.access_times.specs.declared.times.Times.{Times}
 use Rattle.image_mem.specs.Contents.{Contents}
@@ -13,47 +13,39 @@ use Rattle.rtr_types.specs.declared.instr.Edge.{Edge}
 use Rattle.rtr_types.specs.declared.instr.Instr.{Instr}
 use Rattle.rtr_types.specs.declared.params.Params.{Params}
 use Rattle.schedule_pick.specs.Choices.{Choices, choice_at}
+use Rattle.clock_core.proofs.Listed.{place_among}
 use Rattle.know_history.specs.Knowledge.{known_carrying}
-use Rattle.know_history.specs.Notes.{IsNoted, Notes, noted_count}
+use Rattle.know_history.specs.Notes.{Notes, noted_count}
+use Rattle.know_history.specs.Rows.{with_note}
 use Rattle.know_history.specs.declared.known.Known.{Known}
 use Rattle.rtr_types.specs.PairEdges.{with_edges, AreEdgesAfter}
-use Rattle.edge_regulate.specs.Regulated.{AreReady, ArePairsApart, IsNextEdge, IsRegulation, Regulation}
-use Rattle.edge_regulate.proofs.Regulations.{later_law, noted_law}
+use Rattle.edge_regulate.specs.Regulated.{AreReady, ArePairsApart, IsNextEdge, Regulation}
+use Rattle.edge_regulate.specs.Seats.{CanFollow, Follows, IsNotedNext}
+use Rattle.machine_known.specs.RunHistory.{with_event as noted_event}
+use Rattle.online_reduce.proofs.Touched.{covering_after}
 use Rattle.online_reduce.specs.Exact.{AreExactFor, IsReduction}
 use Rattle.online_reduce.specs.Reduced.{IsNext, Reduced, count_of, edges_of}
-use Rattle.msi_state.specs.Events.{Event, Nothing, Retires, Accesses}
+use Rattle.msi_state.specs.Events.{Event, Nothing, Retires, Accesses, instr_of}
 use Rattle.msi_state.specs.Runs.{accesses}
 use Rattle.msi_state.specs.States.{State}
 use Rattle.msi_state.specs.Steps.{carry_told, event, rider_found}
 use Rattle.msi_state.specs.declared.moves.Move.{Move}
 use Rattle.regulated_log.proofs.NewEdges.{new_edges_law}
-use Rattle.run_records.proofs.Standing.{Told, Turned, turned_exact}
+use Rattle.run_records.proofs.Carrying.{noted_next}
+use Rattle.run_records.proofs.Standing.{Told, Turned, counts_noted, turned_exact}
 use Rattle.run_records.specs.Clerks.{CanTell, IsTold, Noted}
 use Rattle.run_records.specs.Standing.{NotesAt, Regulates}
 
--- the reduction's lists are those that the regulation was told, with the edges that it can be told
-pub record Untold (told : List (List (ℕ × ℕ))) (d : Noted) : Type 0 where
-  pub cores : d.regulation.cores ≡ d.reduction.state.cores
-  pub regulation : IsRegulation d.history.notes told d.regulation
-  pub next : All (λ (e : Edge). IsNextEdge d.history.notes d.regulation e) d.untold
-  pub apart : ArePairsApart d.regulation.cores d.untold
-  pub lists : d.reduction.state.lists ≡ with_edges d.regulation.cores told d.untold
-
--- ---- what is noted
-
--- as many retirements are noted of a core as the reduction counts
-pub counts_noted : (image : Contents) (params : Params) (schedule : Choices) (t : ℕ) (s : State Times Known) (c : Noted) (rest : Choices) →
-    NotesAt image params schedule t s c rest → (core : ℕ) → core < c.reduction.state.cores →
-    count_of c.reduction.state core ≡ noted_count c.history.notes core
-counts_noted image params schedule t s c rest h core lt =
-    let few : length s.cores ≡ params.cores = h.run.cores in
-    let within : core < length s.cores = omega (arith, lt, few, h.cores) in
-    h.reduces.counts core lt ∙ sym (h.machine.counts core within) ∙ h.knows.retired.counts core within ∙ sym (h.knows.noted core within)
-
--- what is noted later keeps the regulation
-still_regulated : (old new : Notes) (at : Instr) (known : Known) (told : List (List (ℕ × ℕ))) (s : Regulation) →
-    at.count ≡ noted_count old at.core + 1 → IsNoted old at known new → IsRegulation old told s → IsRegulation new told s
-still_regulated old new at known told s next noted = later_law old new told s (noted_law old new at known next noted)
+-- the reduction's lists are those that the regulator was told, with the edges that it can be told, whose targets are
+-- the
+-- last that are noted
+pub record Untold (told : List (List (ℕ × ℕ))) (notes : Notes) (d : Noted) : Type 0 where
+  pub cores : d.regulation.regulation.cores ≡ d.reduction.state.cores
+  pub follows : Follows notes told d.regulation
+  pub next : All (λ (e : Edge). CanFollow d.regulation.regulation e) d.untold
+  pub noted : All (λ (e : Edge). e.to.count ≡ noted_count notes e.to.core) d.untold
+  pub apart : ArePairsApart d.regulation.regulation.cores d.untold
+  pub lists : d.reduction.state.lists ≡ with_edges d.regulation.regulation.cores told d.untold
 
 -- ---- no edge more
 
@@ -62,87 +54,130 @@ unfolding with_edges
 no_more cores told edges none = ap (with_edges cores told) (sym none)
 
 -- where no edge is new
-none_untold : (told : List (List (ℕ × ℕ))) (d : Noted) → d.untold ≡ [] → d.regulation.cores ≡ d.reduction.state.cores → d.reduction.state.lists ≡ told →
-    IsRegulation d.history.notes told d.regulation → Untold told d
-none_untold told d none cores lists kept = record {
+none_untold : (told : List (List (ℕ × ℕ))) (notes : Notes) (d : Noted) → d.untold ≡ [] →
+    d.regulation.regulation.cores ≡ d.reduction.state.cores → d.reduction.state.lists ≡ told →
+    Follows notes told d.regulation → Untold told notes d
+none_untold told notes d none cores lists kept = record {
   cores = cores;
-  regulation = kept;
-  next = All-same (λ (e : Edge). IsNextEdge d.history.notes d.regulation e) d.untold [] none
-      (All-nil (λ (e : Edge). IsNextEdge d.history.notes d.regulation e));
+  follows = kept;
+  next = All-same (λ (e : Edge). CanFollow d.regulation.regulation e) d.untold [] none
+      (All-nil (λ (e : Edge). CanFollow d.regulation.regulation e));
+  noted = All-same (λ (e : Edge). e.to.count ≡ noted_count notes e.to.core) d.untold [] none
+      (All-nil (λ (e : Edge). e.to.count ≡ noted_count notes e.to.core));
   apart = λ i j e before lt same. absurd (let long : length d.untold ≡ 0 = ap length none in omega arith);
-  lists = lists ∙ no_more d.regulation.cores told d.untold none;
+  lists = lists ∙ no_more d.regulation.regulation.cores told d.untold none;
 }
 
 -- ---- one step
 
 -- what is known of the clerk before
-record Before (list : List Access) (edges : List Edge) (c : Noted) : Type 0 where
-  regulates : Regulates c
-  noted : (at : Instr) → IsNext c.reduction.state at → at.count ≡ noted_count c.history.notes at.core + 1
-  reduction : IsReduction list c.reduction.state edges
+record Before (list : List Access) (edges : List Edge) (notes : Notes) (e : Event) (carry : Known) (c : Noted) : Type 0
+  where
+    regulates : Regulates notes c
+    noted : (at : Instr) → instr_of e ≡ Some at → IsNext c.reduction.state at →
+        IsNotedNext notes at carry (with_note notes at carry)
+    reduction : IsReduction list c.reduction.state edges
 
-told_untold : (e : Event) (carry : Known) (list : List Access) (edges : List Edge) (c d : Noted) (r q : Times) →
-    ((a : Access) → e ≡ Accesses a → AreExactFor list a r) → Told e carry c r d q → Before list edges c → Untold c.reduction.state.lists d
-told_untold Nothing carry list edges c d r q exact is h =
-    subst (λ (x : Noted). Untold c.reduction.state.lists x) (sym is)
-    (none_untold c.reduction.state.lists c h.regulates.all_told h.regulates.cores refl h.regulates.regulation)
-told_untold (Retires at) carry list edges c d r q exact is h =
-    none_untold c.reduction.state.lists d is.untold
-    (ap (λ (s : Regulation). s.cores) is.regulation ∙ h.regulates.cores ∙ ap (λ (s : Reduced). s.cores) (sym is.reduction))
+told_untold : (e : Event) (carry : Known) (list : List Access) (edges : List Edge) (notes : Notes) (c d : Noted)
+    (r q : Times) →
+    ((a : Access) → e ≡ Accesses a → AreExactFor list a r) → Told e carry c r d q → Before list edges notes e carry c →
+    Untold c.reduction.state.lists (noted_event notes e carry) d
+told_untold Nothing carry list edges notes c d r q exact is h =
+    subst (λ (x : Noted). Untold c.reduction.state.lists notes x) (sym is)
+    (none_untold c.reduction.state.lists notes c h.regulates.all_told h.regulates.cores refl h.regulates.follows)
+told_untold (Retires at) carry list edges notes c d r q exact is h =
+    none_untold c.reduction.state.lists (with_note notes at carry) d is.untold
+    (ap (λ (s : Regulation). s.cores) is.regulation.regulation ∙ h.regulates.cores
+    ∙ ap (λ (s : Reduced). s.cores) (sym is.reduction))
     (ap (λ (s : Reduced). s.lists) is.reduction)
-    (subst (λ (s : Regulation). IsRegulation d.history.notes c.reduction.state.lists s) (sym is.regulation)
-    (still_regulated c.history.notes d.history.notes at carry c.reduction.state.lists c.regulation (h.noted at is.next) is.history h.regulates.regulation))
-told_untold (Accesses a) carry list edges c d r q exact is h =
-    let kept : IsRegulation d.history.notes c.reduction.state.lists d.regulation =
-    subst (λ (s : Regulation). IsRegulation d.history.notes c.reduction.state.lists s) (sym is.regulation)
-    (still_regulated c.history.notes d.history.notes a.at carry c.reduction.state.lists c.regulation (h.noted a.at is.next) is.history
-    h.regulates.regulation) in
-    let cores : d.regulation.cores ≡ c.reduction.state.cores = ap (λ (s : Regulation). s.cores) is.regulation ∙ h.regulates.cores in
-    let can = new_edges_law d.history.notes list c.reduction.state edges a r d.regulation is.next (exact a refl) h.reduction cores kept
-    (let noted = is.history.count in omega arith) in
+    (is.regulation.follows notes (with_note notes at carry) c.reduction.state.lists (h.noted at refl is.next)
+    h.regulates.follows)
+told_untold (Accesses a) carry list edges notes c d r q exact is h =
+    let later : Notes = with_note notes a.at carry in
+    let next : IsNotedNext notes a.at carry later = h.noted a.at refl is.next in
+    let kept : Follows later c.reduction.state.lists d.regulation =
+    is.regulation.follows notes later c.reduction.state.lists next h.regulates.follows in
+    let cores : d.regulation.regulation.cores ≡ c.reduction.state.cores =
+    ap (λ (s : Regulation). s.cores) is.regulation.regulation ∙ h.regulates.cores in
+    let can = new_edges_law later list c.reduction.state edges a r d.regulation.regulation is.next (exact a refl)
+    h.reduction cores kept.regulation
+    (let noted = next.noted.count in omega arith) in
+    let targets : All (λ (e : Edge). e.to.count ≡ noted_count later e.to.core) (edges_of c.reduction.state a r) =
+    new_targets list c.reduction.state edges a r later is.next (exact a refl) h.reduction next.noted.count in
     record {
       cores = cores ∙ ap (λ (s : Reduced). s.cores) (sym is.reduction);
-      regulation = kept;
-      next = All-same (λ (e : Edge). IsNextEdge d.history.notes d.regulation e) d.untold (edges_of c.reduction.state a r) is.untold can.next;
-      apart = subst (λ (es : List Edge). ArePairsApart d.regulation.cores es) (sym is.untold) can.apart;
-      lists = ap (λ (s : Reduced). s.lists) is.reduction ∙ can.lists ∙ ap (with_edges d.regulation.cores c.reduction.state.lists) (sym is.untold);
+      follows = kept;
+      next = All-same (λ (e : Edge). CanFollow d.regulation.regulation e) d.untold (edges_of c.reduction.state a r)
+          is.untold
+          (All-weaker (λ (e : Edge). IsNextEdge later d.regulation.regulation e)
+          (λ (e : Edge). CanFollow d.regulation.regulation e)
+          (λ e it. record { pair = it.pair; some = it.some; later = it.later }) (edges_of c.reduction.state a r)
+          can.next);
+      noted = All-same (λ (e : Edge). e.to.count ≡ noted_count later e.to.core) d.untold
+          (edges_of c.reduction.state a r) is.untold targets;
+      apart = subst (λ (es : List Edge). ArePairsApart d.regulation.regulation.cores es) (sym is.untold) can.apart;
+      lists = ap (λ (s : Reduced). s.lists) is.reduction ∙ can.lists
+          ∙ ap (with_edges d.regulation.regulation.cores c.reduction.state.lists) (sym is.untold);
     }
+  where
+    -- the new edges' target is the instruction
+    new_targets : (list : List Access) (s : Reduced) (edges : List Edge) (a : Access) (t : Times) (later : Notes) →
+        IsNext s a.at →
+        AreExactFor list a t → IsReduction list s edges → noted_count later a.at.core ≡ a.at.count →
+        All (λ (e : Edge). e.to.count ≡ noted_count later e.to.core) (edges_of s a t)
+    new_targets list s edges a t later next times reduction noted k d lt =
+        let e = slice_index_or (edges_of s a t) k d in
+        let covering = covering_after s a t (edges_of s a t) refl next list reduction.exact times in
+        let at = ((covering.covering e.from e.to).0 (place_among (edges_of s a t) k d lt)).0 in
+        subst (λ (v : Instr). v.count ≡ noted_count later v.core) (sym at) (sym noted)
 
-pub turned_untold : (image : Contents) (params : Params) (schedule : Choices) (t : ℕ) (s s' : State Times Known) (m : Move) (c d : Noted)
-    (rest rest' : Choices) → Turned s s' m c d rest rest' → NotesAt image params schedule t s c rest → Regulates c → Untold c.reduction.state.lists d
-turned_untold image params schedule t s s' m c d rest rest' turned h regulates =
+pub turned_untold : (image : Contents) (params : Params) (schedule : Choices) (t : ℕ) (s s' : State Times Known)
+    (m : Move) (c d : Noted) (q : Times)
+    (notes : Notes) (rest rest' : Choices) → Turned s s' m c.reduction.state d.reduction.state rest rest' →
+    Told (event times_riding known_carrying s m) (carry_told times_riding known_carrying s m) c
+    (rider_found times_riding known_carrying s m) d q →
+    NotesAt image params schedule t s c.reduction.state notes rest → Regulates notes c →
+    Untold c.reduction.state.lists
+    (noted_event notes (event times_riding known_carrying s m) (carry_told times_riding known_carrying s m)) d
+turned_untold image params schedule t s s' m c d q notes rest rest' turned told h regulates =
     told_untold (event times_riding known_carrying s m) (carry_told times_riding known_carrying s m)
-    (accesses image params (choice_at schedule) t) h.edges c d (rider_found times_riding known_carrying s m) turned.left
-    (turned_exact (accesses image params (choice_at schedule) t) s s' m c d rest rest' h.list h.edges turned h.machine h.reduces) turned.told
+    (accesses image params (choice_at schedule) t) h.edges notes c d (rider_found times_riding known_carrying s m) q
+    (turned_exact (accesses image params (choice_at schedule) t) s s' m c.reduction.state d.reduction.state rest rest'
+    h.list h.edges turned h.machine h.reduces)
+    told
     (record {
       regulates = regulates;
-      noted = λ at next. next.count ∙ ap (λ (n : ℕ). n + 1) (counts_noted image params schedule t s c rest h at.core next.core);
+      noted = λ at is next. noted_next image params schedule t s s' m c.reduction.state d.reduction.state notes rest
+          rest' turned h at next is;
       reduction = h.reduces.reduction;
     })
 
 -- the room stays
-told_ready : (e : Event) (carry : Known) (c d : Noted) (r q : Times) → Told e carry c r d q → AreReady c.regulation → AreReady d.regulation
-told_ready Nothing carry c d r q is ready = subst (λ (x : Noted). AreReady x.regulation) (sym is) ready
-told_ready (Retires at) carry c d r q is ready = subst AreReady (sym is.regulation) ready
-told_ready (Accesses a) carry c d r q is ready = subst AreReady (sym is.regulation) ready
+told_ready : (e : Event) (carry : Known) (c d : Noted) (r q : Times) → Told e carry c r d q →
+    AreReady c.regulation.regulation →
+    AreReady d.regulation.regulation
+told_ready Nothing carry c d r q is ready = subst (λ (x : Noted). AreReady x.regulation.regulation) (sym is) ready
+told_ready (Retires at) carry c d r q is ready = subst AreReady (sym is.regulation.regulation) ready
+told_ready (Accesses a) carry c d r q is ready = subst AreReady (sym is.regulation.regulation) ready
 
-pub can_tell : (s s' : State Times Known) (m : Move) (c d : Noted) (rest rest' : Choices) → Turned s s' m c d rest rest' → AreReady c.regulation →
-    Untold c.reduction.state.lists d → CanTell d
-can_tell s s' m c d rest rest' turned ready untold = record {
-  ready = told_ready (event times_riding known_carrying s m) (carry_told times_riding known_carrying s m) c d
-      (rider_found times_riding known_carrying s m) turned.left turned.told ready;
+pub can_tell : (e : Event) (carry : Known) (told : List (List (ℕ × ℕ))) (notes : Notes) (c d : Noted) (r q : Times) →
+    Told e carry c r d q →
+    AreReady c.regulation.regulation → Untold told notes d → CanTell d
+can_tell e carry told notes c d r q is ready untold = record {
+  ready = told_ready e carry c d r q is ready;
   next = untold.next;
   apart = untold.apart;
 }
 
 -- once they are told
-pub told_regulates : (told : List (List (ℕ × ℕ))) (d e : Noted) → Untold told d → IsTold d e → Regulates e
-told_regulates told d e untold is = record {
+pub told_regulates : (told : List (List (ℕ × ℕ))) (notes : Notes) (d e : Noted) → Untold told notes d → IsTold d e →
+    Regulates notes e
+told_regulates told notes d e untold is = record {
   cores = is.cores ∙ untold.cores ∙ ap (λ (r : Reduced). r.cores) (sym is.reduction);
   all_told = is.untold;
-  regulation = subst (λ (notes : Notes). IsRegulation notes e.reduction.state.lists e.regulation) (sym is.history)
-      (subst (λ (lists : List (List (ℕ × ℕ))). IsRegulation d.history.notes lists e.regulation)
-      (sym (ap (λ (r : Reduced). r.lists) is.reduction ∙ untold.lists)) (is.regulation told untold.regulation));
+  follows = subst (λ (lists : List (List (ℕ × ℕ))). Follows notes lists e.regulation)
+      (sym (ap (λ (r : Reduced). r.lists) is.reduction ∙ untold.lists)) (is.follows notes told untold.noted
+      untold.follows);
 }
 
 -- ---- the edges that were told, by what is noted
@@ -150,30 +185,35 @@ told_regulates told d e untold is = record {
 rise_within : (most last : ℕ × ℕ) (edges : List (ℕ × ℕ)) (bound : ℕ) → most.1 ≤ bound → AreEdgesAfter most last edges →
     AllByRecursion (λ (e : ℕ × ℕ). e.1 ≤ bound) edges
 rise_within most last [] bound le rise = tt
-rise_within most last (e ∷ edges) bound le rise = (let here = rise.0.target_most in omega arith, rise_within most e edges bound le rise.1)
+rise_within most last (e ∷ edges) bound le rise = (
+  let here = rise.0.target_most in
+      omega arith,
+  rise_within most e edges bound le rise.1,
+)
 
 -- each pair's edges end within what is noted of the target
-pub edges_noted : (image : Contents) (params : Params) (schedule : Choices) (t : ℕ) (s : State Times Known) (c : Noted) (rest : Choices) →
-    NotesAt image params schedule t s c rest → (place : ℕ) → place < pair_count c.reduction.state.cores →
-    AllByRecursion (λ (e : ℕ × ℕ). e.1 ≤ noted_count c.history.notes (target_at c.reduction.state.cores place))
-    (slice_index_or c.reduction.state.lists place [])
-edges_noted image params schedule t s c rest h place below =
-    let cores = c.reduction.state.cores in
-    let pair = (places-paired c.reduction.state.cores place below).0 in
-    let counted = counts_noted image params schedule t s c rest h (target_at cores place) pair.target in
-    rise_within (count_of c.reduction.state (source_at cores place), count_of c.reduction.state (target_at cores place)) (0, 0)
-    (slice_index_or c.reduction.state.lists place []) (noted_count c.history.notes (target_at cores place)) (omega arith)
+pub edges_noted : (image : Contents) (params : Params) (schedule : Choices) (t : ℕ) (s : State Times Known)
+    (r : Reduced) (notes : Notes)
+    (rest : Choices) → NotesAt image params schedule t s r notes rest → (place : ℕ) → place < pair_count r.cores →
+    AllByRecursion (λ (e : ℕ × ℕ). e.1 ≤ noted_count notes (target_at r.cores place)) (slice_index_or r.lists place [])
+edges_noted image params schedule t s r notes rest h place below =
+    let cores = r.cores in
+    let pair = (places-paired r.cores place below).0 in
+    let counted = counts_noted image params schedule t s r notes rest h (target_at cores place) pair.target in
+    rise_within (count_of r (source_at cores place), count_of r (target_at cores place)) (0, 0)
+    (slice_index_or r.lists place []) (noted_count notes (target_at cores place)) (omega arith)
     (h.reduces.reduction.rising place below)
 
 -- the same where room was made
-pub regulates_same : (c d : Noted) → d.reduction.state ≡ c.reduction.state → d.history.notes ≡ c.history.notes → d.untold ≡ c.untold →
-    d.regulation.cores ≡ c.regulation.cores →
-    ((notes : Notes) (edges : List (List (ℕ × ℕ))) → IsRegulation notes edges c.regulation → IsRegulation notes edges d.regulation) →
-    Regulates c → Regulates d
-regulates_same c d reduction history untold cores keeps h = record {
+pub regulates_same : (notes : Notes) (c d : Noted) → d.reduction.state ≡ c.reduction.state → d.untold ≡ c.untold →
+    d.regulation.regulation.cores ≡ c.regulation.regulation.cores →
+    ((notes : Notes) (edges : List (List (ℕ × ℕ))) → Follows notes edges c.regulation →
+    Follows notes edges d.regulation) →
+    Regulates notes c → Regulates notes d
+regulates_same notes c d reduction untold cores keeps h = record {
   cores = cores ∙ h.cores ∙ ap (λ (r : Reduced). r.cores) (sym reduction);
   all_told = untold ∙ h.all_told;
-  regulation = subst (λ (notes : Notes). IsRegulation notes d.reduction.state.lists d.regulation) (sym history)
-      (subst (λ (lists : List (List (ℕ × ℕ))). IsRegulation c.history.notes lists d.regulation) (ap (λ (r : Reduced). r.lists) (sym reduction))
-      (keeps c.history.notes c.reduction.state.lists h.regulation));
+  follows = subst (λ (lists : List (List (ℕ × ℕ))). Follows notes lists d.regulation) (ap (λ (r : Reduced). r.lists)
+      (sym reduction))
+      (keeps notes c.reduction.state.lists h.follows);
 }

@@ -10,21 +10,25 @@ use Rattle.rtr_types.specs.declared.params.Params.{Params}
 use Rattle.schedule_pick.specs.Choices.{Choices, choice_at}
 use Rattle.clock_core.specs.Order.{Among, Before}
 use Rattle.conflict_edge.specs.Least.{IsLeast, Others}
-use Rattle.edge_regulate.specs.Regulated.{Knowledge, regulated}
+use Rattle.edge_regulate.specs.Regulated.{IsRegulation, Knowledge, regulated}
 use Rattle.log_codec.specs.Sources.{log_edges}
 use Rattle.machine_bound.specs.Ends.{end_of}
 use Rattle.run_records.specs.Recordings.{IsRecorded, run_accesses, recording_of}
-use Rattle.run_records.specs.Standing.{RecordsAt}
+use Rattle.run_records.specs.Standing.{NotesAt}
 use Rattle.run_records.specs.WhatIsKnown.{CountsKnown}
-use Rattle.run_records.specs.StandingAt.{Standing, standing_at}
+use Rattle.run_records.specs.StandingAt.{Standing, regulation_of, standing_at}
 
--- Until its end a run is recorded: the machine, the clerk and the choices that are left stand t choices into it.
+-- Until its end a run is recorded: the machine, the reduction, what is noted and the choices that are left stand t
+-- choices into it, and the vectors of the reduction's edges are those by what is noted, whatever is noted later.
+pub record IsStanding (image : Contents) (params : Params) (schedule : Choices) (t : ℕ) (w : Standing) : Type 0 where
+  pub notes : NotesAt image params schedule t w.state w.reduction w.notes w.rest
+  pub regulation : IsRegulation w.notes w.reduction.lists (regulation_of w.reduction w.notes)
+
 abbrev pub RecordsLaw : Type 0
 RecordsLaw =
     (image : Contents) (params : Params) (schedule : Choices) (t : ℕ) → Fits params
     → t ≤ end_of image params (choice_at schedule)
-    → let w : Standing = standing_at image params schedule t in
-    RecordsAt image params schedule t w.state w.clerk w.rest
+    → IsStanding image params schedule t (standing_at image params schedule t)
 
 abbrev pub RecordedLaw : Type 0
 RecordedLaw =

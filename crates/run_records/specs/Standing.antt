@@ -16,7 +16,8 @@ use Rattle.machine_times.specs.Retirements.{MachineStandsFor, Retirement, retire
 use Rattle.machine_times.specs.TimedSteps.{times_parts}
 use Rattle.know_history.specs.Knowledge.{known_carrying}
 use Rattle.know_history.specs.declared.known.Known.{Known}
-use Rattle.edge_regulate.specs.Regulated.{IsRegulation}
+use Rattle.know_history.specs.Notes.{Notes}
+use Rattle.edge_regulate.specs.Seats.{Follows}
 use Rattle.machine_known.specs.Events.{happening_at}
 use Rattle.machine_known.specs.Histories.{KnowsAt}
 use Rattle.online_reduce.specs.Exact.{IsReduction}
@@ -32,29 +33,31 @@ pub record Reduces (list : List Retirement) (all : List Access) (r : Reduced) (e
   pub counts : (core : ℕ) → core < r.cores → count_of r core ≡ retired_by (reverse list) core
   pub reduction : IsReduction all r edges
 
--- the regulation was told all edges of the reduction, and its vectors are theirs by what is noted
-pub record Regulates (c : Noted) : Type 0 where
-  pub cores : c.regulation.cores ≡ c.reduction.state.cores
+-- the regulator was told all edges of the reduction, and its vectors are theirs by what is noted
+pub record Regulates (notes : Notes) (c : Noted) : Type 0 where
+  pub cores : c.regulation.regulation.cores ≡ c.reduction.state.cores
   pub all_told : c.untold ≡ []
-  pub regulation : IsRegulation c.history.notes c.reduction.state.lists c.regulation
+  pub follows : Follows notes c.reduction.state.lists c.regulation
 
--- a machine in this state, a clerk that holds this and the choices that are left stand t choices into the run, which
--- hasn't ended before; whatever the regulation was told
+-- a machine in this state, a reduction that is this, what is noted of the retirements so far and the choices that are
+-- left stand t choices into the run, which hasn't ended before
 pub record NotesAt (image : Contents) (params : Params) (schedule : Choices) (t : ℕ) (s : State Times Known)
-    (clerk : Noted) (rest : Choices) : Type 0 where
+    (r : Reduced) (notes : Notes) (rest : Choices) : Type 0 where
   pub run : RunsAt image params schedule t (plain s) rest
   pub list : List Retirement
   pub edges : List Edge
   pub machine : MachineStandsFor times_parts known_carrying list s
-  pub cores : clerk.reduction.state.cores ≡ params.cores
-  pub reduces : Reduces list (accesses image params (choice_at schedule) t) clerk.reduction.state edges
-  pub knows : KnowsAt (happening_at image params (choice_at schedule)) t s clerk.history.notes
+  pub cores : r.cores ≡ params.cores
+  pub reduces : Reduces list (accesses image params (choice_at schedule) t) r edges
+  pub knows : KnowsAt (happening_at image params (choice_at schedule)) t s notes
 
--- and the regulation is that of the edges so far
+-- a machine and a clerk stand there, and the regulation is that of the edges so far, by what is known at each
+-- retirement, which nobody keeps
 pub record RecordsAt (image : Contents) (params : Params) (schedule : Choices) (t : ℕ) (s : State Times Known)
     (clerk : Noted) (rest : Choices) : Type 0 where
-  pub notes : NotesAt image params schedule t s clerk rest
-  pub regulates : Regulates clerk
+  pub history : Notes
+  pub notes : NotesAt image params schedule t s clerk.reduction.state history rest
+  pub regulates : Regulates history clerk
 
 -- they stand somewhere in a run of parameters that fit
 pub record IsRecording (s : State Times Known) (clerk : Noted) (rest : Choices) : Type 0 where

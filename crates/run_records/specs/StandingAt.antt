@@ -1,6 +1,6 @@
--- The machine whose riders record times, with what the recorder's clerk holds, along a run. The reduction chooses the
--- clocks that are noted.
-use Rattle.std.specs.Prelude.{ℕ, zero, suc, [], Option, Some, None, false}
+-- The machine whose riders record times, with the reduction that the recorder's clerk makes and what is noted, along a
+-- run. The reduction chooses the clocks that are noted.
+use Rattle.std.specs.Prelude.{ℕ, zero, suc, [], Option, Some, None}
 use Rattle.access_times.specs.Times.{fresh_times, times_noted, times_riding}
 use Rattle.access_times.specs.declared.times.Times.{Times}
 use Rattle.image_mem.specs.Contents.{Contents}
@@ -8,7 +8,6 @@ use Rattle.rtr_types.specs.declared.params.Params.{Params}
 use Rattle.schedule_pick.specs.Choices.{Choices, choice_at, choices_after}
 use Rattle.know_history.specs.Knowledge.{known_carrying}
 use Rattle.know_history.specs.Notes.{Notes, known_at, no_notes}
-use Rattle.know_history.specs.Rows.{with_note}
 use Rattle.know_history.specs.declared.known.Known.{Known}
 use Rattle.edge_regulate.specs.Regulated.{Regulation, regulated}
 use Rattle.msi_state.specs.Events.{Event, Nothing, Retires, Accesses}
@@ -18,34 +17,24 @@ use Rattle.msi_state.specs.States.{State, state_start}
 use Rattle.msi_state.specs.Steps.{carry_told, event, rider_found, step}
 use Rattle.msi_state.specs.declared.moves.Move.{Move}
 use Rattle.online_reduce.specs.Reduced.{Reduced, clock_of, counted, retired, unreduced}
-use Rattle.run_records.specs.Clerks.{Noted}
+use Rattle.machine_known.specs.RunHistory.{with_event}
 
--- the machine, what the clerk holds, and the choices that are left
+-- the machine, the reduction, what is noted of the retirements, and the choices that are left
 pub record Standing : Type 0 where
   pub state : State Times Known
-  pub clerk : Noted
+  pub reduction : Reduced
+  pub notes : Notes
   pub rest : Choices
 
--- the regulation of the reduction's edges, by what is noted
+-- the regulation of the reduction's edges, by what is noted; of room it says nothing
 abbrev pub regulation_of : Reduced → Notes → Regulation
 regulation_of r notes = record { cores = r.cores; vectors = regulated r.cores (known_at notes) r.lists; ready = [] }
 
--- what the clerk holds with this reduction and these notes; of room it says nothing
-abbrev pub holding : Reduced → Notes → Noted
-holding r notes = record {
-  reduction = record { state = r; ready = false };
-  history = record { notes = notes; ready = false };
-  untold = [];
-  regulation = regulation_of r notes;
-}
-
--- and after an event that was told with this carry, whose access found these times
-abbrev pub clerk_after : Noted → Event → Known → (found : Times) → Noted
-clerk_after c Nothing known found = c
-clerk_after c (Retires at) known found =
-    holding (counted c.reduction.state at) (with_note c.history.notes at known)
-clerk_after c (Accesses a) known found =
-    holding (retired c.reduction.state a found) (with_note c.history.notes a.at known)
+-- the reduction after an event that was told, whose access found these times
+abbrev pub reduction_after : Reduced → Event → (found : Times) → Reduced
+reduction_after r Nothing found = r
+reduction_after r (Retires at) found = counted r at
+reduction_after r (Accesses a) found = retired r a found
 
 -- the times that it leaves: the access is noted with its core's clock
 abbrev pub times_after : Reduced → Event → (found : Times) → Times
@@ -66,11 +55,11 @@ abbrev pub moved_by : Standing → Option Move → Standing
 moved_by w None = w
 moved_by w (Some m) =
     let e = event times_riding known_carrying w.state m in
-    let known = carry_told times_riding known_carrying w.state m in
-    let clerk = clerk_after w.clerk e known (found_by w (Some m)) in
+    let r = reduction_after w.reduction e (found_by w (Some m)) in
     record {
-      state = step times_riding known_carrying (times_after clerk.reduction.state e (found_by w (Some m))) w.state m;
-      clerk = clerk;
+      state = step times_riding known_carrying (times_after r e (found_by w (Some m))) w.state m;
+      reduction = r;
+      notes = with_event w.notes e (carry_told times_riding known_carrying w.state m);
       rest = choices_after w.rest;
     }
 
@@ -78,7 +67,8 @@ moved_by w (Some m) =
 abbrev pub standing_start : Contents → Params → Choices → Standing
 standing_start image params schedule = record {
   state = state_start times_riding known_carrying image params.cores params.limit;
-  clerk = holding (unreduced params.cores) (no_notes params.cores);
+  reduction = unreduced params.cores;
+  notes = no_notes params.cores;
   rest = schedule;
 }
 
@@ -94,4 +84,4 @@ times_found image params schedule t =
 
 -- the reduction after t choices
 abbrev pub reduction_at : Contents → Params → Choices → (t : ℕ) → Reduced
-reduction_at image params schedule t = (standing_at image params schedule t).clerk.reduction.state
+reduction_at image params schedule t = (standing_at image params schedule t).reduction

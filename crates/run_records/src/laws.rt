@@ -3,7 +3,8 @@ ghost use Rattle.run_records.specs.Recorded.{LeastLogLaw, RecordedLaw, RecordsLa
 ghost use Rattle.run_records.specs.Exactness.{ExactClocksLaw, FoundTimesLaw, RetiredClockLaw};
 ghost use Rattle.run_records.specs.WhatIsKnown.{KnownCountedLaw};
 
-/// After each choice of a run, until its end, the recorder's machine and clerk stand where the run does.
+/// After each choice of a run, until its end, the recorder's machine and reduction stand where the run does, and
+/// so does what is noted of its retirements, by which the reduction's edges have their vectors.
 pub fn every_run_is_recorded()
     ensures { RecordsLaw }
 {}

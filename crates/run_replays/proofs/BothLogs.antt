@@ -1,5 +1,6 @@
 -- Both logs of what a run records replay it.
-use Rattle.std.proofs.Common.{◌≡◌, ◌∙◌, refl, sym, ap, subst, ℕ, zero, suc, ◌*◌, ◌<◌, ◌≤◌, List, [], ◌++◌, length, Option, arith}
+use Rattle.std.proofs.Common.{◌≡◌, ◌∙◌, refl, sym, ap, subst, ℕ, zero, suc, ◌*◌, ◌<◌, ◌≤◌, List, [], ◌++◌, length}
+use Rattle.std.proofs.Common.{Option, arith}
 use Rattle.std.specs.Prelude.{slice_index, slice_index_or}
 use Rattle.std.proofs.lemmas.List.{map-append}
 use Rattle.access_times.specs.Riding.{none_riding}
@@ -60,19 +61,26 @@ order_happened : (image : Contents) (params : Params) (choices : ℕ → ℕ) (t
     → happened.retirements (happening_at image params choices) t ≡ cores_of (retirements image params choices t)
 order_happened image params choices zero = refl
 order_happened image params choices (suc t) =
-    ap (λ (l : List ℕ). l ++ core_of (happening_at image params choices t).retires) (order_happened image params choices t)
-    ∙ ap (λ (o : Option Instr). cores_of (retirements image params choices t) ++ core_of o) (run_retires_law image params choices t)
-    ∙ ap (λ (l : List ℕ). cores_of (retirements image params choices t) ++ l) (one_core (event_at image params choices t))
-    ∙ sym (map-append (λ (at : Instr). at.core) (retirements image params choices t) (retired_by (event_at image params choices t)))
+    ap (λ (l : List ℕ). l ++ core_of (happening_at image params choices t).retires) (order_happened image params choices
+    t)
+    ∙ ap (λ (o : Option Instr). cores_of (retirements image params choices t) ++ core_of o)
+    (run_retires_law image params choices t)
+    ∙ ap (λ (l : List ℕ). cores_of (retirements image params choices t) ++ l)
+    (one_core (event_at image params choices t))
+    ∙ sym (map-append (λ (at : Instr). at.core) (retirements image params choices t)
+    (retired_by (event_at image params choices t)))
 
 order_is : (image : Contents) (params : Params) (schedule : Choices)
-    → happened.retirements (happening_at image params (choice_at schedule)) (end_of image params (choice_at schedule)) ≡ order_of image params schedule
+    → happened.retirements (happening_at image params (choice_at schedule))
+    (end_of image params (choice_at schedule)) ≡ order_of image params schedule
 unfolding order_of
-order_is image params schedule = order_happened image params (choice_at schedule) (end_of image params (choice_at schedule))
+order_is image params schedule = order_happened image params (choice_at schedule)
+    (end_of image params (choice_at schedule))
 
 -- the vectors are those by what is known in the run
 same_recording : (image : Contents) (params : Params) (schedule : Choices)
-    → with_regulated (run_knowledge image params schedule) (recording_of image params schedule) ≡ recording_of image params schedule
+    → with_regulated (run_knowledge image params schedule) (recording_of image params schedule) ≡ recording_of image
+    params schedule
 unfolding recording_of
 same_recording image params schedule = refl
 
@@ -88,7 +96,8 @@ module _ (image : Contents) (params : Params) (schedule : Choices) (fits : Fits 
 
   -- the retirements of a core are as many as its count
   retired_is : (t core : ℕ) → t ≤ end_of image params (choice_at schedule) → core < params.cores
-      → retired_in (happening_at image params (choice_at schedule)) t core ≡ retired_count image params (choice_at schedule) t core
+      → retired_in (happening_at image params (choice_at schedule)) t core ≡ retired_count image params
+      (choice_at schedule) t core
   retired_is t core le lt =
       let h = knows_run image params schedule fits t le in
       let within = long image params schedule fits t in
@@ -99,7 +108,8 @@ module _ (image : Contents) (params : Params) (schedule : Choices) (fits : Fits 
   before_is : (x y : Instr) → x.core < params.cores → ordered.RetiresBefore (order_of image params schedule) x y
       → RetiresBefore image params (choice_at schedule) x y
   before_is x y core p t lt retires =
-      let e : EventOf events last p.front y.core = event_of events last p.front y.core p.rest (order_is image params schedule ∙ p.place) in
+      let e : EventOf events last p.front y.core =
+      event_of events last p.front y.core p.rest (order_is image params schedule ∙ p.place) in
       let here : counts nought p.front y.core ≡ retired_in events e.u y.core =
       ap (λ (l : List ℕ). counts nought l y.core) e.before ∙ counts_are events e.u y.core in
       let there : counts nought p.front x.core ≡ retired_in events e.u x.core =
@@ -110,7 +120,8 @@ module _ (image : Contents) (params : Params) (schedule : Choices) (fits : Fits 
       let count : e.y.count ≡ y.count = omega arith in
       let same : e.y ≡ y = made e.core_is count in
       let also : RetiresAt image params choices e.u y =
-      subst (λ (z : Instr). RetiresAt image params choices e.u z) same (sym (run_retires_law image params choices e.u) ∙ e.retires) in
+      subst (λ (z : Instr). RetiresAt image params choices e.u z) same (sym (run_retires_law image params choices e.u)
+      ∙ e.retires) in
       let moment : t ≡ e.u = retires_once image params choices t e.u y fits retires also in
       let within = e.within in
       let counted = retired_is e.u x.core (omega arith) core in
@@ -140,26 +151,32 @@ module _ (image : Contents) (params : Params) (schedule : Choices) (fits : Fits 
     cores_are : (recording_of image params schedule).params.cores ≡ params.cores
     cores_are = ap (λ (p : Params). p.cores) (of_run image params schedule).params_are
 
-    past : IsPast (recording_of image params schedule).params.cores (order_of image params schedule) (run_knowledge image params schedule)
+    past : IsPast (recording_of image params schedule).params.cores (order_of image params schedule)
+        (run_knowledge image params schedule)
     past =
-        subst (λ (n : ℕ). IsPast n (order_of image params schedule) (run_knowledge image params schedule)) (sym cores_are)
-        (subst (λ (l : List ℕ). IsPast params.cores l (run_knowledge image params schedule)) (order_is image params schedule)
+        subst (λ (n : ℕ). IsPast n (order_of image params schedule) (run_knowledge image params schedule))
+        (sym cores_are)
+        (subst (λ (l : List ℕ). IsPast params.cores l (run_knowledge image params schedule))
+        (order_is image params schedule)
         (run_past image params schedule fits))
 
     by_reduced : Decides (plan_of Reduced (recording_of image params schedule)) (order_of image params schedule)
     by_reduced = reduced_decides image params schedule fits words
 
-    good : IsGood (run_knowledge image params schedule) (order_of image params schedule) (recording_of image params schedule)
+    good : IsGood (run_knowledge image params schedule) (order_of image params schedule)
+        (recording_of image params schedule)
     good = regulated_law known order r valid past by_reduced.ordered by_reduced.whole
 
     forward : GoForward image params schedule (Among (log_edges Regulated (recording_of image params schedule)))
     forward x y edge =
-        let has : HasEdge Regulated (recording_of image params schedule) x y = among_contains (log_edges Regulated r) x y edge in
+        let has : HasEdge Regulated (recording_of image params schedule) x y =
+        among_contains (log_edges Regulated r) x y edge in
         let lies = edges-within Regulated r x y valid has in
         let source = lies.pair.source in
         let cores = cores_are in
         before_is x y (omega arith)
-        (good.forward x y (subst (λ (q : Recording). HasEdge Regulated q x y) (sym (same_recording image params schedule)) has))
+        (good.forward x y (subst (λ (q : Recording). HasEdge Regulated q x y)
+        (sym (same_recording image params schedule)) has))
 
     pub covers_run : CoversRun image params schedule Regulated (recording_of image params schedule)
     covers_run = record {
@@ -187,14 +204,16 @@ module _ (image : Contents) (params : Params) (schedule : Choices) (fits : Fits 
         let whole = valid.each_core in
         let all = all_retire y.core (omega arith) in
         let most = lies.target_most in
-        let there = retired_there events last (λ u lt. run_orderly_law image params choices fits.cores u) y lies.some_target (omega arith) in
+        let there = retired_there events last (λ u lt. run_orderly_law image params choices fits.cores u) y
+        lies.some_target (omega arith) in
         let t : ℕ = there.0 in
         let within : t < last = there.1 in
         let retires : RetiresAt image params choices t y = sym (run_retires_law image params choices t) ∙ there.2 in
         let cores = cores_are in
         let counted = retired_is t x.core (omega arith) (omega arith) in
         let has = forward x y edge t within retires in
-        let before = retired_there events t (λ u lt. run_orderly_law image params choices fits.cores u) x lies.some_source (omega arith) in
+        let before = retired_there events t (λ u lt. run_orderly_law image params choices fits.cores u) x
+        lies.some_source (omega arith) in
         record {
           first = before.0;
           second = t;
@@ -206,7 +225,8 @@ module _ (image : Contents) (params : Params) (schedule : Choices) (fits : Fits 
     few : (place : ℕ) → length (slice_index_or (recording_of image params schedule).regulated place [])
         ≤ length (slice_index_or (recording_of image params schedule).reduced place [])
     few place =
-        subst (λ (q : Recording). length (slice_index_or q.regulated place []) ≤ length (slice_index_or r.reduced place []))
+        subst (λ (q : Recording). length (slice_index_or q.regulated place []) ≤ length
+        (slice_index_or r.reduced place []))
         (same_recording image params schedule) (good.implies.few place)
 
 pub run_regulated : RunRegulatedLaw
@@ -222,5 +242,6 @@ both_replay image params schedule Reduced fits words room = reduced_replays imag
 both_replay image params schedule Regulated fits words room =
     run_replays image params schedule (recording_of image params schedule) Regulated fits words
     (recording_valid_law image params schedule fits words room) (of_run image params schedule)
-    (run_decides image params schedule (recording_of image params schedule) Regulated fits words (of_run image params schedule)
+    (run_decides image params schedule (recording_of image params schedule) Regulated fits words
+    (of_run image params schedule)
     (covers_run image params schedule fits words room))

@@ -28,7 +28,8 @@ run_decides image params schedule r which fits words h covers =
 pub reduced_decides : ReducedDecidesLaw
 reduced_decides image params schedule fits words =
     let reduced : Relation = Among (log_edges Reduced (recording_of image params schedule)) in
-    run_decides image params schedule (recording_of image params schedule) Reduced fits words (of_run image params schedule)
+    run_decides image params schedule (recording_of image params schedule) Reduced fits words
+    (of_run image params schedule)
     (record {
       forward = reduced_forward image params schedule fits;
       implied = λ x y edge. one reduced x y (inr edge);

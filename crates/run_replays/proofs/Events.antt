@@ -1,5 +1,6 @@
 -- What an event tells of is what the places of its cores play.
-use Rattle.std.proofs.Common.{◌≡◌, ◌∙◌, refl, sym, ap, ℕ, ◌+◌, ◌<◌, Bool, true, false, List, [], ◌∷◌, ◌++◌, append-nil, Some, None, arith}
+use Rattle.std.proofs.Common.{◌≡◌, ◌∙◌, refl, sym, ap, ℕ, ◌+◌, ◌<◌, Bool, true, false, List, [], ◌∷◌, ◌++◌, append-nil}
+use Rattle.std.proofs.Common.{Some, None, arith}
 use Rattle.std.specs.Prelude.{slice_index, slice_set, if◌then◌else◌}
 use Rattle.std.proofs.lemmas.List.{set-get_or}
 use Rattle.std.proofs.lemmas.List.FromFn.{get_or-map-range_with_len}
@@ -25,7 +26,7 @@ use Rattle.run_outcome.proofs.Working.{Retiring, Accessing, CoresAfter}
 use Rattle.run_replays.specs.Loads.{loads_by_core}
 use Rattle.run_replays.specs.Orders.{cores_of}
 use Rattle.run_replays.proofs.Loads.{loads_noted}
-use Rattle.run_replays.proofs.Memory.{memory_written, memory_read}
+use Rattle.memory_left.proofs.Memory.{memory_written, memory_read}
 
 -- ---- a place by what its instruction uses
 
@@ -38,13 +39,16 @@ placed p s c used = record {
 
 abbrev told_of : Plan → Outcome → ℕ → Use → List Access
 told_of p s c used =
-    accesses_by used (instr c ((core_at s c).count + 1)) (old_for used s.words) (wrote p.image (core_at s c) (old_for used s.words))
+    accesses_by used (instr c ((core_at s c).count + 1)) (old_for used s.words) (wrote p.image (core_at s c)
+    (old_for used s.words))
 
-place_by : (p : Plan) (s : Outcome) (c : ℕ) (used : Use) → use_of (need_at p s c) ≡ used → place p s c ≡ placed p s c used
+place_by : (p : Plan) (s : Outcome) (c : ℕ) (used : Use) → use_of (need_at p s c) ≡ used →
+    place p s c ≡ placed p s c used
 unfolding place_given
 place_by p s c used is = ap (placed p s c) is
 
-touched_by : (p : Plan) (s : Outcome) (c : ℕ) (used : Use) → use_of (need_at p s c) ≡ used → touched p s c ≡ told_of p s c used
+touched_by : (p : Plan) (s : Outcome) (c : ℕ) (used : Use) → use_of (need_at p s c) ≡ used →
+    touched p s c ≡ told_of p s c used
 unfolding touched_given
 touched_by p s c used is = ap (told_of p s c) is
 
@@ -52,7 +56,12 @@ touched_by p s c used is = ap (told_of p s c) is
 
 -- the outcome of these accesses, beside these cores
 abbrev pub outcome_with : Contents → (cores : ℕ) → List Core → List Access → Outcome
-outcome_with image cores now list = record { cores = now; words = memory_left image list; loads = loads_by_core cores list }
+outcome_with image cores now list = record {
+  cores = now;
+  words = memory_left image list;
+  loads =
+      loads_by_core cores list;
+}
 
 outcome_cores : (image : Contents) (cores : ℕ) (now later : List Core) (list : List Access) → later ≡ now
     → outcome_with image cores now list ≡ outcome_with image cores later list
@@ -93,7 +102,8 @@ module _ (p : Plan) (s : Outcome) (a : Access) (new : List Core) (h : Accessing 
 
   abbrev loads_left : List (List LoadNote)
   loads_left =
-      slice_set s.loads a.at.core (if is_read a.kind then loads_at s a.at.core ++ note_of a ∷ [] else loads_at s a.at.core)
+      slice_set s.loads a.at.core (if is_read a.kind then loads_at s a.at.core ++ note_of a ∷ [] else loads_at s
+      a.at.core)
 
   abbrev leaves : Core → (old value count : ℕ) → Outcome
   leaves k old value count = record {
@@ -114,7 +124,14 @@ module _ (p : Plan) (s : Outcome) (a : Access) (new : List Core) (h : Accessing 
       ∙ ap (λ (cores : List Core). made cores words_left loads_left) (sym h.retires.cores)
 
   abbrev tells : (old value count : ℕ) → List Access
-  tells old value count = record { at = instr a.at.core count; word = a.word; kind = a.kind; before = old; after = value } ∷ []
+  tells old value count = record {
+    at = instr a.at.core count;
+    word = a.word;
+    kind = a.kind;
+    before = old;
+    after =
+        value;
+  } ∷ []
 
   access_told : touched p s a.at.core ≡ a ∷ []
   access_told =
@@ -149,18 +166,22 @@ module _ (p : Plan) (cores : ℕ) (old new : List Core) (list : List Access) (a 
 
   finds : slice_index (memory_left p.image list) a.word ≡ a.before
   finds =
-      get_or-map-range_with_len (λ word. last_value (opening_word p.image word) word list) 0 p.image.words a.word a.word 0
+      get_or-map-range_with_len (λ word. last_value (opening_word p.image word) word list) 0 p.image.words a.word a.word
+      0
       within (omega arith)
       ∙ sym found
 
-  access_played : place p (outcome_with p.image cores old list) a.at.core ≡ outcome_with p.image cores new (list ++ a ∷ [])
+  access_played : place p (outcome_with p.image cores old list) a.at.core ≡ outcome_with p.image cores new
+      (list ++ a ∷ [])
   access_played =
       access_place p (outcome_with p.image cores old list) a new h finds
       ∙ ap (λ (words : List ℕ). made new words (loads_left p (outcome_with p.image cores old list) a new h finds))
       (words_more p.image list a found h.reads)
-      ∙ ap (λ (loads : List (List LoadNote)). made new (memory_left p.image (list ++ a ∷ [])) loads) (loads_noted list a cores)
+      ∙ ap (λ (loads : List (List LoadNote)). made new (memory_left p.image (list ++ a ∷ [])) loads)
+      (loads_noted list a cores)
 
-  access_plays : EventPlays p (outcome_with p.image cores old list) (outcome_with p.image cores new (list ++ a ∷ [])) (Accesses a)
+  access_plays : EventPlays p (outcome_with p.image cores old list) (outcome_with p.image cores new (list ++ a ∷ []))
+      (Accesses a)
   access_plays = record {
     state = access_played;
     plays = (h.retires.going, tt);
@@ -169,7 +190,8 @@ module _ (p : Plan) (cores : ℕ) (old new : List Core) (list : List Access) (a 
         ∙ access_told p (outcome_with p.image cores old list) a new h finds;
   }
 
-pub event_plays : (p : Plan) (cores : ℕ) (old new : List Core) (list : List Access) (e : Event) → CoresAfter p.image old e new
+pub event_plays : (p : Plan) (cores : ℕ) (old new : List Core) (list : List Access) (e : Event) →
+    CoresAfter p.image old e new
     → FoundIn p.image list e
     → EventPlays p (outcome_with p.image cores old list) (outcome_with p.image cores new (list ++ accesses_in e)) e
 event_plays p cores old new list Nothing h found = record {

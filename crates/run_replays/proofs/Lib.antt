@@ -1,4 +1,3 @@
-pub mod Memory
 pub mod Loads
 pub mod Events
 pub mod Played

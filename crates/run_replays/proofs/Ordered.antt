@@ -1,5 +1,6 @@
 -- The order of retirement is a replay order of each log whose edges go forward in it.
-use Rattle.std.proofs.Common.{◌≡◌, ◌≢◌, ◌∙◌, refl, sym, ap, subst, ℕ, zero, suc, ◌+◌, ◌<◌, ◌≤◌, ◌^◌, List, [], ◌∷◌, ◌++◌, length, Some, arith, inl, inr}
+use Rattle.std.proofs.Common.{◌≡◌, ◌≢◌, ◌∙◌, refl, sym, ap, subst, ℕ, zero, suc, ◌+◌, ◌<◌, ◌≤◌, ◌^◌, List, [], ◌∷◌}
+use Rattle.std.proofs.Common.{◌++◌, length, Some, arith, inl, inr}
 use Rattle.std.specs.Prelude.{map, slice_index}
 use Rattle.std.specs.List.{Contains}
 use Rattle.std.proofs.lemmas.List.{map-append, get_or-map, length-map}
@@ -39,7 +40,8 @@ pair_end (a ∷ list) x y (inl p) = (p.1, inr p.2, p.3)
 pair_end (a ∷ list) x y (inr p) = let it = pair_end list x y p in (it.0, inr it.1, it.2)
 
 -- a pair whose later access isn't in the back is one of the front
-front_pair : (xs ys : List Access) (x y : Instr) → ((b : Access) → StandsIn ys b → b.at ≢ y) → ConflictPair (xs ++ ys) x y
+front_pair : (xs ys : List Access) (x y : Instr) → ((b : Access) → StandsIn ys b → b.at ≢ y) →
+    ConflictPair (xs ++ ys) x y
     → ConflictPair xs x y
 front_pair [] ys x y none pair = let it = pair_end ys x y pair in absurd (none it.0 it.1 it.2)
 front_pair (a ∷ xs) ys x y none (inl p) = elim (stands_which xs ys p.1 p.2) [
@@ -104,7 +106,8 @@ total_is image params choices t c within =
 
 pub order_full : (image : Contents) (params : Params) (choices : ℕ → ℕ) (t : ℕ) (edges : List Edge)
     → params.cores ≤ CORES_MAX → params.limit < 2 ^ 32
-    → Full (run_plan image params (totals_at image params choices t) edges) (counts nought (order_at image params choices t))
+    → Full (run_plan image params (totals_at image params choices t) edges)
+    (counts nought (order_at image params choices t))
 order_full image params choices t edges few small = record {
   each = λ c within.
       sym (order_counts image params choices t few small c)
@@ -116,11 +119,13 @@ order_full image params choices t edges few small = record {
 -- whenever the edge's target retires its source has retired, within the first `end` choices
 abbrev pub GoForward : Contents → Params → (ℕ → ℕ) → (end : ℕ) → List Edge → Type 0
 GoForward image params choices end edges =
-    (x y : Instr) → Contains edges (record { from = x; to = y }) → (t : ℕ) → t < end → RetiresAt image params choices t y
+    (x y : Instr) → Contains edges (record { from = x; to = y }) → (t : ℕ) → t < end →
+    RetiresAt image params choices t y
     → x.count ≤ retired_count image params choices t x.core
 
 module _ (image : Contents) (params : Params) (choices : ℕ → ℕ) (end : ℕ) (edges : List Edge)
-    (few : params.cores ≤ CORES_MAX) (small : params.limit < 2 ^ 32) (forward : GoForward image params choices end edges) where
+    (few : params.cores ≤ CORES_MAX) (small : params.limit < 2 ^ 32) (forward : GoForward image params choices end
+    edges) where
   abbrev p : Plan
   p = run_plan image params (totals_at image params choices end) edges
 

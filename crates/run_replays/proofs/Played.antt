@@ -38,7 +38,8 @@ played_more p order s t list e h next =
     let more : List ℕ = cores_of (retired_in e) in
     record {
       state = play_on p (start p) order more ∙ ap (λ (u : Outcome). play p u more) h.state ∙ next.state;
-      plays = plays_join p (start p) order more h.plays (subst (λ (u : Outcome). Plays p u more) (sym h.state) next.plays);
+      plays = plays_join p (start p) order more h.plays (subst (λ (u : Outcome). Plays p u more) (sym h.state)
+          next.plays);
       accesses_are =
           accesses_on p (start p) order more
           ∙ ap (λ (u : Outcome). accesses_from p (start p) order ++ accesses_from p u more) h.state
@@ -63,7 +64,8 @@ start_is : (image : Contents) (params : Params) (choices : ℕ → ℕ) (totals 
     → length totals ≡ params.cores → start (run_plan image params totals edges) ≡ left_at image params choices 0
 start_is image params choices totals edges long =
     ap (λ n. made (map (λ c. starting c params.limit) (range_with_len 0 n)) (replicate n [])) long
-    ∙ ap (λ (loads : List (List LoadNote)). made (cores_at image params choices 0) loads) (sym (no_loads 0 params.cores))
+    ∙ ap (λ (loads : List (List LoadNote)). made (cores_at image params choices 0) loads)
+    (sym (no_loads 0 params.cores))
   where
     made : List Core → List (List LoadNote) → Outcome
     made cores loads = record { cores = cores; words = opening_words image; loads = loads }
@@ -88,7 +90,8 @@ played_to image params choices totals edges (suc t) few small long =
     let e : Event = event_at image params choices t in
     let list : List Access = runs.accesses image params choices t in
     let later : Outcome = left_at image params choices (suc t) in
-    let plays = event_plays p params.cores (cores_at image params choices t) (cores_at image params choices (suc t)) list e
+    let plays = event_plays p params.cores (cores_at image params choices t) (cores_at image params choices (suc t))
+    list e
     (event_cores image params choices t few small)
     (found_at image list e (each_finds_last image params choices (suc t) few small)) in
     subst (λ (order : List ℕ). PlayedTo p order later (runs.accesses image params choices (suc t)))

@@ -57,7 +57,8 @@ module _ (image : Contents) (params : Params) (schedule : Choices) (r : Recordin
   run : PlaysRun image params schedule (plan_of which r) (order_of image params schedule)
   run = run_is_play image params schedule r which fits words h
 
-  follows : (other : List ℕ) → IsReplayOrder (plan_of which r) other → FollowsRun image params schedule (plan_of which r) other
+  follows : (other : List ℕ) → IsReplayOrder (plan_of which r) other →
+      FollowsRun image params schedule (plan_of which r) other
   follows other ordered =
       let agrees : Agrees p order other = every_order_law which r order other valid decides ordered in
       record {

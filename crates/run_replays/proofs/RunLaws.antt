@@ -115,13 +115,16 @@ of_run image params schedule = record { params_are = refl; image_is = refl; tota
 pub conflicts_forward_law : ConflictsForwardLaw
 unfolding run_accesses
 conflicts_forward_law image params schedule fits x y pair t lt retires =
-    conflicts_forward image params (choice_at schedule) t (last image params schedule) fits.cores (small_limit params fits) lt
+    conflicts_forward image params (choice_at schedule) t (last image params schedule) fits.cores
+    (small_limit params fits) lt
     x y pair retires
 
 pub forward_law : ForwardLaw
 forward_law image params schedule r which fits words h forward =
-    subst (λ (p : Plan). IsReplayOrder p (order_of image params schedule)) (sym (plan_is image params schedule r which words h))
-    (ordered_run image params schedule fits (log_edges which r) (λ x y has. forward x y (contains_among (log_edges which r) x y has)))
+    subst (λ (p : Plan). IsReplayOrder p (order_of image params schedule))
+    (sym (plan_is image params schedule r which words h))
+    (ordered_run image params schedule fits (log_edges which r)
+    (λ x y has. forward x y (contains_among (log_edges which r) x y has)))
 
 pub reduced_forward : ReducedForwardLaw
 reduced_forward image params schedule fits x y edge =
@@ -129,5 +132,6 @@ reduced_forward image params schedule fits x y edge =
 
 pub reduced_order : ReducedOrderLaw
 reduced_order image params schedule fits words =
-    forward_law image params schedule (recording_of image params schedule) Reduced fits words (of_run image params schedule)
+    forward_law image params schedule (recording_of image params schedule) Reduced fits words
+    (of_run image params schedule)
     (reduced_forward image params schedule fits)

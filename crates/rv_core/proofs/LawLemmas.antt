@@ -5,8 +5,10 @@ use Rattle.rv_decode.specs.declared.op.Op.{Op}
 use Rattle.image_mem.specs.Contents.{Contents}
 use Rattle.rv_core.specs.declared.core_state.Core.{Core}
 use Rattle.rv_core.specs.States.{starting, retired, word_after}
-use Rattle.rv_core.specs.Steps.{need, after, wrote, is_done, access_of, instruction_at, after_instruction, word_after_instruction}
-use Rattle.rv_core.specs.Laws.{StartLaw, CountLaw, NumberLaw, LimitLaw, RoomLaw, WithinLaw, LocalLaw, UnreadLaw, WholeLaw, WholeStoreLaw, LocalValueLaw}
+use Rattle.rv_core.specs.Steps.{need, after, wrote, is_done, access_of, instruction_at, after_instruction}
+use Rattle.rv_core.specs.Steps.{word_after_instruction}
+use Rattle.rv_core.specs.Laws.{StartLaw, CountLaw, NumberLaw, LimitLaw, RoomLaw, WithinLaw, LocalLaw, UnreadLaw}
+use Rattle.rv_core.specs.Laws.{WholeLaw, WholeStoreLaw, LocalValueLaw}
 use Rattle.rv_core.specs.Laws.{UnwrittenLaw, ValueLaw}
 use Rattle.rv_core.proofs.StepLemmas.{GoesOnBy, goes_on}
 use Rattle.rv_core.proofs.OpLemmas.{Accessing, access_goes, accessing, whole_store, covering, staying, word_after-below}
@@ -57,7 +59,10 @@ unfolding wrote
 wrote-op image core op old e = rw e refl
 
 -- the instruction by which a core makes an access
-accesses_by : (image : Contents) (core : Core) (kind : Kind) (word : ℕ) → access_of (need image core) ≡ Some (kind, word)
+accesses_by : (image : Contents) (core : Core) (kind : Kind) (word : ℕ) → access_of (need image core) ≡ Some (
+  kind,
+  word,
+)
     → (op : Op) × GoesOnBy image core op × Accessing image.words core op kind word
 accesses_by image core kind word h =
     let (op, goes) = goes_on image core (access_goes _ kind word h) in
@@ -75,7 +80,8 @@ local_law image core one other h =
 pub unread_law : UnreadLaw
 unread_law image core kind word one other h blind =
     let (op, goes, accesses) = accesses_by image core kind word h in
-    after-op image core op one goes.at_pc ∙ accesses.unread blind one other ∙ sym (after-op image core op other goes.at_pc)
+    after-op image core op one goes.at_pc ∙ accesses.unread blind one other
+    ∙ sym (after-op image core op other goes.at_pc)
 
 pub whole_law : WholeLaw
 whole_law image core one other h =

@@ -1,5 +1,6 @@
 -- What each instruction does, by what it needs.
-use Rattle.std.proofs.Common.{◌≡◌, ◌<◌, ℕ, ◌/◌, ◌%◌, ◌^◌, true, false, Some, None, refl, sym, ◌∙◌, ap, arith, lit<, mod-lt}
+use Rattle.std.proofs.Common.{◌≡◌, ◌<◌, ℕ, ◌/◌, ◌%◌, ◌^◌, true, false, Some, None, refl, sym, ◌∙◌, ap, arith, lit<}
+use Rattle.std.proofs.Common.{mod-lt}
 use Rattle.std.proofs.lemmas.Bool.Decides.{nat_tests}
 use Rattle.std.proofs.lemmas.Nat.{pow_pos}
 use Rattle.std.proofs.lemmas.Option.{some_pair_parts}
@@ -17,12 +18,14 @@ use Rattle.rv_core.specs.declared.core_state.Need.{Need}
 use Rattle.rv_core.specs.declared.core_state.Need.TheVariants.{Local, Load, Store, Amo, Done}
 use Rattle.rv_core.specs.Atomics.{exchanged, combined}
 use Rattle.rv_core.specs.Operations.{size_of, moved}
-use Rattle.rv_core.specs.States.{register, address_of, register_target, branches, retired, result_of, word_after, stores_aligned}
+use Rattle.rv_core.specs.States.{register, address_of, register_target, branches, retired, result_of, word_after}
+use Rattle.rv_core.specs.States.{stores_aligned}
 use Rattle.rv_core.specs.Steps.{is_done, is_whole, is_word, access_of, need_of}
 use Rattle.rv_core.proofs.StepLemmas.{access_parts, jump_accesses, branch_accesses}
 
 -- a store that may be made is aligned
-pub store_aligned : (words : ℕ) (core : Core) (op : Op) → is_done (need_of words core op) ≡ false → stores_aligned core op ≡ true
+pub store_aligned : (words : ℕ) (core : Core) (op : Op) → is_done (need_of words core op) ≡ false →
+    stores_aligned core op ≡ true
 unfolding need_of
 store_aligned words core (Stores width rs1 rs2 immediate) h =
     let placed = access_parts words (address_of core rs1 immediate) (size_of width)
@@ -45,14 +48,17 @@ pub record Accessing (words : ℕ) (core : Core) (op : Op) (kind : Kind) (word :
   pub unread : is_read kind ≡ false → (one other : ℕ) → retired core op one ≡ retired core op other
   pub unwritten : is_write kind ≡ false → (old : ℕ) → word_after core op old ≡ old
 
-none : {A : Type 0} (need : Need) (kind : Kind) (word : ℕ) → access_of need ≡ None → access_of need ≡ Some (kind, word) → A
+none : {A : Type 0} (need : Need) (kind : Kind) (word : ℕ) → access_of need ≡ None →
+    access_of need ≡ Some (kind, word) → A
 none need kind word nothing h = let both = sym nothing ∙ h in cc
 
-pub accessing : (words : ℕ) (core : Core) (op : Op) (kind : Kind) (word : ℕ) → access_of (need_of words core op) ≡ Some (kind, word)
+pub accessing : (words : ℕ) (core : Core) (op : Op) (kind : Kind) (word : ℕ) → access_of (need_of words core op) ≡ Some
+    (kind, word)
     → Accessing words core op kind word
 unfolding need_of retired result_of word_after
 accessing words core (Jal rd offset) kind word h = none _ kind word (jump_accesses (moved core.pc offset)) h
-accessing words core (Jalr rd rs1 immediate) kind word h = none _ kind word (jump_accesses (register_target core rs1 immediate)) h
+accessing words core (Jalr rd rs1 immediate) kind word h =
+    none _ kind word (jump_accesses (register_target core rs1 immediate)) h
 accessing words core (Branch cond rs1 rs2 offset) kind word h =
     none _ kind word (branch_accesses (branches core cond rs1 rs2) (moved core.pc offset)) h
 accessing words core (Loads width rd rs1 immediate) kind word h =
@@ -66,7 +72,8 @@ accessing words core (Loads width rd rs1 immediate) kind word h =
     }
 accessing words core (Stores width rs1 rs2 immediate) kind word h =
     let address = address_of core rs1 immediate in
-    let placed = access_parts words address (size_of width) (Store (address / 4) (is_word width)) (access_goes _ kind word h) in
+    let placed = access_parts words address (size_of width) (Store (address / 4) (is_word width))
+    (access_goes _ kind word h) in
     let (stores, number) = some_pair_parts Storing kind (address / 4) word (sym (ap access_of placed.needs) ∙ h) in
     record {
       within = rw (← number) placed.within;

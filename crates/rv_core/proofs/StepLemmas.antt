@@ -1,5 +1,6 @@
 -- How a core that isn't done goes on: its instruction, and what that needs.
-use Rattle.std.proofs.Common.{◌≡◌, ◌<◌, ℕ, ◌*◌, ◌/◌, ◌%◌, Bool, true, false, Option, Some, None, nat_le, nat_eq, refl, sym, ◌∙◌, ap, arith}
+use Rattle.std.proofs.Common.{◌≡◌, ◌<◌, ℕ, ◌*◌, ◌/◌, ◌%◌, Bool, true, false, Option, Some, None, nat_le, nat_eq, refl}
+use Rattle.std.proofs.Common.{sym, ◌∙◌, ap, arith}
 use Rattle.std.specs.Prelude.{option_and_then, if◌then◌else◌, ◌==◌}
 use Rattle.std.proofs.lemmas.Bool.Decides.{nat_tests}
 use Rattle.rv_decode.specs.declared.op.Op.{Op}
@@ -11,7 +12,8 @@ use Rattle.rv_core.specs.declared.core_state.Halt.TheVariants.{Running, Exited, 
 use Rattle.rv_core.specs.declared.core_state.Need.{Need}
 use Rattle.rv_core.specs.declared.core_state.Need.TheVariants.{Local, Done}
 use Rattle.rv_core.specs.declared.core_state.Stop.TheVariants.{Align, Address, Fetch, Illegal, Jump}
-use Rattle.rv_core.specs.Steps.{need, is_done, access_of, instruction_at, need_of, need_of_word, need_of_fetch, need_at_pc, need_by, need_to_jump}
+use Rattle.rv_core.specs.Steps.{need, is_done, access_of, instruction_at, need_of, need_of_word, need_of_fetch}
+use Rattle.rv_core.specs.Steps.{need_at_pc, need_by, need_to_jump}
 use Rattle.rv_core.specs.Steps.{need_to_access}
 
 -- what a core goes on by: the instruction at pc, which is all that it needs and does, below the limit
@@ -45,21 +47,25 @@ stop_at None = Done Fetch
 stop_at (Some word) = Done Illegal
 
 -- what is needed at pc, where the instruction there is known
-op_needs : (words : ℕ) (core : Core) (word : Option ℕ) (op : Op) → option_and_then decoded word ≡ Some op → need_of_fetch words core word
+op_needs : (words : ℕ) (core : Core) (word : Option ℕ) (op : Op) → option_and_then decoded word ≡ Some op →
+    need_of_fetch words core word
     ≡ need_of words core op
 op_needs words core None op found = cc
 op_needs words core (Some word) op found = ap (need_of_word words core) found
 
-pub needs_of_op : (image : Contents) (core : Core) (op : Op) → instruction_at image core.pc ≡ Some op → need_at_pc image core ≡ need_of image.words core op
+pub needs_of_op : (image : Contents) (core : Core) (op : Op) → instruction_at image core.pc ≡ Some op →
+    need_at_pc image core ≡ need_of image.words core op
 unfolding need_at_pc instruction_at
 needs_of_op image core op found = op_needs image.words core (fetched image core.pc) op found
 
 -- no word can be fetched, or the word is no instruction
-stop_needs : (words : ℕ) (core : Core) (word : Option ℕ) → option_and_then decoded word ≡ None → need_of_fetch words core word ≡ stop_at word
+stop_needs : (words : ℕ) (core : Core) (word : Option ℕ) → option_and_then decoded word ≡ None →
+    need_of_fetch words core word ≡ stop_at word
 stop_needs words core None none = refl
 stop_needs words core (Some word) none = ap (need_of_word words core) none
 
-pub stops_without_op : (image : Contents) (core : Core) → instruction_at image core.pc ≡ None → need_at_pc image core ≡ stop_at (fetched image core.pc)
+pub stops_without_op : (image : Contents) (core : Core) → instruction_at image core.pc ≡ None →
+    need_at_pc image core ≡ stop_at (fetched image core.pc)
 unfolding need_at_pc instruction_at
 stops_without_op image core none = stop_needs image.words core (fetched image core.pc) none
 

@@ -1,5 +1,6 @@
 -- A need never stops at the total.
-use Rattle.std.proofs.Common.{◌≡◌, ℕ, ◌/◌, ◌%◌, ◌*◌, Bool, true, false, Option, Some, None, nat_le, nat_eq, refl, sym, ◌∙◌, ap}
+use Rattle.std.proofs.Common.{◌≡◌, ℕ, ◌/◌, ◌%◌, ◌*◌, Bool, true, false, Option, Some, None, nat_le, nat_eq, refl, sym}
+use Rattle.std.proofs.Common.{◌∙◌, ap}
 use Rattle.std.specs.Prelude.{if◌then◌else◌}
 use Rattle.rv_decode.specs.declared.op.Op.{Op}
 use Rattle.rv_decode.specs.declared.op.Op.TheVariants.{Jal, Jalr, Branch, Load as Loads, Store as Stores, Amo as Amos}
@@ -10,10 +11,12 @@ use Rattle.rv_core.specs.declared.core_state.Halt.{Halt}
 use Rattle.rv_core.specs.declared.core_state.Halt.TheVariants.{Running, Exited, Broke}
 use Rattle.rv_core.specs.declared.core_state.Need.{Need}
 use Rattle.rv_core.specs.declared.core_state.Need.TheVariants.{Local, Load, Store, Amo, Done}
-use Rattle.rv_core.specs.declared.core_state.Stop.TheVariants.{Exit, Break, Limit, Fetch, Illegal, Jump, Align, Address, Total}
+use Rattle.rv_core.specs.declared.core_state.Stop.TheVariants.{Exit, Break, Limit, Fetch, Illegal, Jump, Align, Address}
+use Rattle.rv_core.specs.declared.core_state.Stop.TheVariants.{Total}
 use Rattle.rv_core.specs.Operations.{moved, size_of}
 use Rattle.rv_core.specs.States.{register, address_of, register_target, branches}
-use Rattle.rv_core.specs.Steps.{need, is_word, need_of, need_of_word, need_of_fetch, need_at_pc, need_by, need_to_jump, need_to_access}
+use Rattle.rv_core.specs.Steps.{need, is_word, need_of, need_of_word, need_of_fetch, need_at_pc, need_by, need_to_jump}
+use Rattle.rv_core.specs.Steps.{need_to_access}
 use Rattle.rv_core.specs.Laws.{TotalLaw}
 
 -- stops at the total
@@ -81,7 +84,8 @@ unfolding is_total
 by_fetch words core None = refl
 by_fetch words core (Some word) = by_word words core (decoded word)
 
-by_halt : (halt : Halt) (spent : Bool) (at_pc : Need) → is_total at_pc ≡ false → is_total (need_by halt spent at_pc) ≡ false
+by_halt : (halt : Halt) (spent : Bool) (at_pc : Need) → is_total at_pc ≡ false →
+    is_total (need_by halt spent at_pc) ≡ false
 unfolding is_total
 by_halt Exited spent at_pc h = refl
 by_halt Broke spent at_pc h = refl

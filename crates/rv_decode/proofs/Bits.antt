@@ -1,5 +1,6 @@
 -- What the code's shifts, masks and sign extension compute.
-use Rattle.std.proofs.Common.{◌≡◌, ℕ, zero, suc, ◌-◌, ◌*◌, ◌/◌, ◌%◌, ◌^◌, ◌<◌, ◌≤◌, arith, ◌-ℤ◌, FitsSigned, w32, to_z, of_z}
+use Rattle.std.proofs.Common.{◌≡◌, ℕ, zero, suc, ◌-◌, ◌*◌, ◌/◌, ◌%◌, ◌^◌, ◌<◌, ◌≤◌, arith, ◌-ℤ◌, FitsSigned, w32, to_z}
+use Rattle.std.proofs.Common.{of_z}
 use Rattle.std.specs.Int.Bits.{bit_and}
 use Rattle.std.proofs.lemmas.Bool.Decides.{nat_tests}
 use Rattle.std.proofs.lemmas.Int.{ints}
@@ -8,7 +9,8 @@ use Rattle.std.proofs.Math.Nat.{pow-succ'}
 use Rattle.std.proofs.Math.Pow.{pow_mono}
 use Rattle.rv_decode.specs.Fields.{field, signed}
 
-pub masked : (word low width : ℕ) → width < 32 → bit_and (word / 2 ^ low) (1 * 2 ^ width % 2 ^ 32 - 1) ≡ field word low width
+pub masked : (word low width : ℕ) → width < 32 → bit_and (word / 2 ^ low) (1 * 2 ^ width % 2 ^ 32 - 1) ≡ field word low
+    width
 unfolding field
 masked word low width small = rw (one_shl width 32 small) (and_mask (word / 2 ^ low) width)
 

@@ -3,8 +3,10 @@ use Rattle.std.proofs.Common.{◌≡◌, ℕ, ◌+◌, ◌*◌, ◌/◌, ◌%◌
 use Rattle.std.proofs.lemmas.Bool.Decides.{nat_tests}
 use Rattle.std.proofs.lemmas.Int.{ints}
 use Rattle.std.proofs.lemmas.Nat.{pow_pos}
-use Rattle.rv_decode.specs.Fields.{field, signed, opcode, rd, funct3, rs1, rs2, funct7, upper, immediate_i, immediate_s, immediate_b, immediate_j}
-use Rattle.rv_decode.specs.Ranges.{IsRegister, IsUpper, IsImmediate, IsShiftAmount, IsEven, IsBranchOffset, IsJumpOffset}
+use Rattle.rv_decode.specs.Fields.{field, signed, opcode, rd, funct3, rs1, rs2, funct7, upper, immediate_i, immediate_s}
+use Rattle.rv_decode.specs.Fields.{immediate_b, immediate_j}
+use Rattle.rv_decode.specs.Ranges.{IsRegister, IsUpper, IsImmediate, IsShiftAmount, IsEven, IsBranchOffset}
+use Rattle.rv_decode.specs.Ranges.{IsJumpOffset}
 use Rattle.rv_decode.specs.Words.{bits_of, word_r, word_i, word_s, word_b, word_u, word_j}
 
 -- ---- the parts of an immediate make up the immediate

@@ -1,13 +1,17 @@
 -- What a word means is in its ranges.
-use Rattle.std.proofs.Common.{◌≡◌, ℕ, Bool, true, false, cond, nat_eq, ◌%◌, ◌^◌, ◌<◌, arith, Option, Some, None, IfSome, option_map, ℤ, pos}
+use Rattle.std.proofs.Common.{◌≡◌, ℕ, Bool, true, false, cond, nat_eq, ◌%◌, ◌^◌, ◌<◌, arith, Option, Some, None, IfSome}
+use Rattle.std.proofs.Common.{option_map, ℤ, pos}
 use Rattle.std.proofs.lemmas.Bool.Decides.{nat_tests}
 use Rattle.std.proofs.lemmas.Int.{ints}
 use Rattle.rv_decode.specs.declared.op.Alu.{Alu}
 use Rattle.rv_decode.specs.declared.op.Op.{Op}
 use Rattle.rv_decode.specs.Atomics.{amo_of}
-use Rattle.rv_decode.specs.Fields.{signed, opcode, funct3, funct5, funct7, rs2, immediate_i, immediate_s, immediate_b, immediate_j}
-use Rattle.rv_decode.specs.Ranges.{Fits, IsImmediate, IsShiftAmount, IsBranchOffset, IsJumpOffset, IsStored, IsAluImmediate}
-use Rattle.rv_decode.specs.Table.{decoded, condition_of, loaded_width, stored_width, shift_of, immediate_alu, register_alu, jump_and_link_register, branch}
+use Rattle.rv_decode.specs.Fields.{signed, opcode, funct3, funct5, funct7, rs2, immediate_i, immediate_s, immediate_b}
+use Rattle.rv_decode.specs.Fields.{immediate_j}
+use Rattle.rv_decode.specs.Ranges.{Fits, IsImmediate, IsShiftAmount, IsBranchOffset, IsJumpOffset, IsStored}
+use Rattle.rv_decode.specs.Ranges.{IsAluImmediate}
+use Rattle.rv_decode.specs.Table.{decoded, condition_of, loaded_width, stored_width, shift_of, immediate_alu}
+use Rattle.rv_decode.specs.Table.{register_alu, jump_and_link_register, branch}
 use Rattle.rv_decode.specs.Table.{load, store, constant_shift, alu_immediate, alu_register, atomic, fence, system}
 use Rattle.rv_decode.proofs.BuiltFields.{field_below}
 
@@ -59,7 +63,8 @@ anything None = tt
 anything (Some a) = tt
 
 stores : (code : ℕ) → IfSome (stored_width code) IsStored
-stores code = chosen IsStored (nat_eq code 0) _ _ tt (chosen IsStored (nat_eq code 1) _ _ tt (chosen IsStored (nat_eq code 2) _ _ tt tt))
+stores code = chosen IsStored (nat_eq code 0) _ _ tt (chosen IsStored (nat_eq code 1) _ _ tt
+    (chosen IsStored (nat_eq code 2) _ _ tt tt))
 
 jalr_fits : (word : ℕ) → IfSome (jump_and_link_register word) Fits
 unfolding jump_and_link_register

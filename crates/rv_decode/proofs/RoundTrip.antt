@@ -9,14 +9,18 @@ use Rattle.rv_decode.specs.declared.op.Alu.TheVariants.{Add, Sub, Sll, Slt, Sltu
 use Rattle.rv_decode.specs.declared.op.AmoOp.{AmoOp}
 use Rattle.rv_decode.specs.declared.op.AmoOp.TheVariants as amo
 use Rattle.rv_decode.specs.declared.op.Op.{Op}
-use Rattle.rv_decode.specs.declared.op.Op.TheVariants.{Lui, Auipc, Jal, Jalr, Branch, Load, Store, AluImm, AluReg, Amo, Fence, Ecall, Ebreak}
+use Rattle.rv_decode.specs.declared.op.Op.TheVariants.{Lui, Auipc, Jal, Jalr, Branch, Load, Store, AluImm, AluReg, Amo}
+use Rattle.rv_decode.specs.declared.op.Op.TheVariants.{Fence, Ecall, Ebreak}
 use Rattle.rv_decode.specs.Atomics.{amo_of, amo_code}
 use Rattle.rv_decode.specs.Fields.{field, funct5, funct7}
 use Rattle.rv_decode.specs.Ranges.{Fits, IsRegister, IsStored, IsAluImmediate}
-use Rattle.rv_decode.specs.Table.{decoded, condition_of, loaded_width, stored_width, register_alu, jump_and_link_register, branch, load, store, constant_shift}
+use Rattle.rv_decode.specs.Table.{decoded, condition_of, loaded_width, stored_width, register_alu}
+use Rattle.rv_decode.specs.Table.{jump_and_link_register, branch, load, store, constant_shift}
 use Rattle.rv_decode.specs.Table.{alu_immediate, alu_register, atomic, fence, system}
-use Rattle.rv_decode.specs.Words.{bits_of, encoding, condition_code, width_code, alu_code, alu_variant, alu_immediate_word}
-use Rattle.rv_decode.proofs.BuiltFields.{field_below, amount_whole, FieldsR, FieldsI, FieldsS, FieldsB, FieldsU, FieldsJ, fields_r, fields_i, fields_s}
+use Rattle.rv_decode.specs.Words.{bits_of, encoding, condition_code, width_code, alu_code, alu_variant}
+use Rattle.rv_decode.specs.Words.{alu_immediate_word}
+use Rattle.rv_decode.proofs.BuiltFields.{field_below, amount_whole, FieldsR, FieldsI, FieldsS, FieldsB, FieldsU}
+use Rattle.rv_decode.proofs.BuiltFields.{FieldsJ, fields_r, fields_i, fields_s}
 use Rattle.rv_decode.proofs.BuiltFields.{fields_b, fields_u, fields_j}
 
 reads_lui : (word d u : ℕ) → FieldsU word 0x37 d u → decoded word ≡ Some (Lui d u)
@@ -156,7 +160,15 @@ reads_amo : (word d a b : ℕ) (op : AmoOp)
     → FieldsR word 0x2F 2 (amo_code op * 4) d a b → decoded word ≡ Some (Amo op d a b)
 unfolding decoded atomic
 reads_amo word d a b op at =
-    simp (at.opcode_is, at.funct3_is, upper_five word (amo_code op) at.funct7_is, amo_known op, at.rd_is, at.rs1_is, at.rs2_is)
+    simp (
+      at.opcode_is,
+      at.funct3_is,
+      upper_five word (amo_code op) at.funct7_is,
+      amo_known op,
+      at.rd_is,
+      at.rs1_is,
+      at.rs2_is,
+    )
 
 -- ---- register and immediate
 
@@ -247,7 +259,8 @@ back (Store width a b imm) fits =
 back (AluImm alu d a imm) fits = immediate_back alu d a imm fits.0 fits.1 fits.2
 back (AluReg alu d a b) fits =
     reads_register _ d a b alu
-    (fields_r 0x33 (alu_code alu) (alu_variant alu) d a b (lit< tt) (alu_small alu).0 (alu_small alu).1 fits.0 fits.1 fits.2)
+    (fields_r 0x33 (alu_code alu) (alu_variant alu) d a b (lit< tt) (alu_small alu).0 (alu_small alu).1 fits.0 fits.1
+    fits.2)
 back (Amo op d a b) fits =
     reads_amo _ d a b op
     (fields_r 0x2F 2 (amo_code op * 4) d a b (lit< tt) (lit< tt) (amo_small op) fits.0 fits.1 fits.2)

@@ -1,5 +1,6 @@
 -- The first choice, and those after it.
-use Rattle.std.proofs.Common.{◌≡◌, ℕ, suc, ◌+◌, ◌-◌, ◌<◌, List, [], ◌∷◌, length, drop, get_or, ap, sym, ◌∙◌, arith, add-one, true, false, cond, nat_lt}
+use Rattle.std.proofs.Common.{◌≡◌, ℕ, suc, ◌+◌, ◌-◌, ◌<◌, List, [], ◌∷◌, length, drop, get_or, ap, sym, ◌∙◌, arith}
+use Rattle.std.proofs.Common.{add-one, true, false, cond, nat_lt}
 use Rattle.std.proofs.Math.Seq.{drop-cons}
 use Rattle.std.proofs.lemmas.Bool.Decides.{nat_tests}
 use Rattle.rand_pcg.specs.Lcg.{Lcg}
@@ -8,7 +9,8 @@ use Rattle.schedule_pick.specs.Choices.{Choices, drawn_word, choice_at, choices_
 
 -- what follows the first byte
 following-byte : (byte : ℕ) (bytes : List ℕ) (words : Lcg) (t : ℕ) →
-    choice_at (record { bytes = bytes; words = words }) t ≡ choice_at (record { bytes = byte ∷ bytes; words = words }) (t + 1)
+    choice_at (record { bytes = bytes; words = words }) t ≡ choice_at (record { bytes = byte ∷ bytes; words = words })
+    (t + 1)
 unfolding choice_at
 following-byte byte bytes words t =
     let test : nat_lt t (length bytes) ≡ nat_lt (t + 1) (length (byte ∷ bytes)) = grind (arith, nat_tests) in
@@ -16,7 +18,8 @@ following-byte byte bytes words t =
     let rest : t - length bytes ≡ t + 1 - length (byte ∷ bytes) = omega arith in
     ap (λ b. cond b (get_or bytes t 0) (drawn_word words (t - length bytes))) test
     ∙ ap (λ v. cond (nat_lt (t + 1) (length (byte ∷ bytes))) v (drawn_word words (t - length bytes))) index
-    ∙ ap (λ n. cond (nat_lt (t + 1) (length (byte ∷ bytes))) (get_or (byte ∷ bytes) (t + 1) 0) (drawn_word words n)) rest
+    ∙ ap (λ n. cond (nat_lt (t + 1) (length (byte ∷ bytes))) (get_or (byte ∷ bytes) (t + 1) 0) (drawn_word words n))
+    rest
 
 -- with no byte left the choices are the words
 words-alone : (words : Lcg) (t : ℕ) → choice_at (record { bytes = []; words = words }) t ≡ drawn_word words t
@@ -31,7 +34,11 @@ unfolding drawn_word
 following-word words t = rw add-one
 
 following : (bytes : List ℕ) (words : Lcg) (t : ℕ) →
-    choice_at (choices_after (record { bytes = bytes; words = words })) t ≡ choice_at (record { bytes = bytes; words = words }) (t + 1)
+    choice_at (choices_after (record { bytes = bytes; words = words })) t ≡ choice_at (record {
+      bytes = bytes;
+      words =
+          words;
+    }) (t + 1)
 unfolding choices_after
 following [] words t = words-alone (pcg32 words).1 t ∙ following-word words t ∙ sym (words-alone words (t + 1))
 following (byte ∷ bytes) words t = following-byte byte bytes words t
@@ -39,7 +46,8 @@ following (byte ∷ bytes) words t = following-byte byte bytes words t
 pub following_law : FollowingLaw
 following_law c t = following c.bytes c.words t
 
-at-byte : (byte : ℕ) (bytes : List ℕ) (words : Lcg) → choice_at (record { bytes = byte ∷ bytes; words = words }) 0 ≡ byte
+at-byte : (byte : ℕ) (bytes : List ℕ) (words : Lcg) → choice_at (record { bytes = byte ∷ bytes; words = words })
+    0 ≡ byte
 unfolding choice_at
 at-byte byte bytes words =
     let test : nat_lt 0 (length (byte ∷ bytes)) ≡ true = grind (arith, nat_tests) in
@@ -50,10 +58,15 @@ pub first-byte : (bytes : List ℕ) (next : ℕ) (words : Lcg) → next < length
     choice_at (record { bytes = drop next bytes; words = words }) 0 ≡ get_or bytes next 0
 first-byte bytes next words some =
     let parts : drop next bytes ≡ get_or bytes next 0 ∷ drop (suc next) bytes = drop-cons bytes next 0 some in
-    ap (λ l. choice_at (record { bytes = l; words = words }) 0) parts ∙ at-byte (get_or bytes next 0) (drop (suc next) bytes) words
+    ap (λ l. choice_at (record { bytes = l; words = words }) 0) parts
+    ∙ at-byte (get_or bytes next 0) (drop (suc next) bytes) words
 
 pub after-byte : (bytes : List ℕ) (next : ℕ) (words : Lcg) → next < length bytes →
-    record { bytes = drop (next + 1) bytes; words = words } ≡ choices_after (record { bytes = drop next bytes; words = words })
+    record { bytes = drop (next + 1) bytes; words = words } ≡ choices_after (record {
+      bytes = drop next bytes;
+      words =
+          words;
+    })
 unfolding choices_after
 after-byte bytes next words some =
     let parts : drop next bytes ≡ get_or bytes next 0 ∷ drop (suc next) bytes = drop-cons bytes next 0 some in
@@ -61,7 +74,8 @@ after-byte bytes next words some =
     ap (λ n. C (drop n bytes)) (add-one next) ∙ sym (ap (λ l. choices_after (C l)) parts)
 
 -- no byte is left
-pub first-word : (bytes : List ℕ) (words : Lcg) → bytes ≡ [] → choice_at (record { bytes = bytes; words = words }) 0 ≡ (pcg32 words).0
+pub first-word : (bytes : List ℕ) (words : Lcg) → bytes ≡ [] → choice_at (record { bytes = bytes; words = words })
+    0 ≡ (pcg32 words).0
 unfolding drawn_word
 first-word bytes words none = ap (λ l. choice_at (record { bytes = l; words = words }) 0) none ∙ words-alone words 0
 

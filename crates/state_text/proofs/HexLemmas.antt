@@ -1,5 +1,6 @@
 -- What `{:08x}` writes of a word is its eight hexadecimal digits.
-use Rattle.std.proofs.Common.{◌≡◌, ℕ, zero, suc, ◌+◌, ◌-◌, ◌/◌, ◌%◌, ◌^◌, ◌<◌, ◌≤◌, Bool, false, cond, List, [], ◌∷◌, ◌++◌, length, replicate, refl, sym, ap}
+use Rattle.std.proofs.Common.{◌≡◌, ℕ, zero, suc, ◌+◌, ◌-◌, ◌/◌, ◌%◌, ◌^◌, ◌<◌, ◌≤◌, Bool, false, cond, List, [], ◌∷◌}
+use Rattle.std.proofs.Common.{◌++◌, length, replicate, refl, sym, ap}
 use Rattle.std.proofs.Common.{◌∙◌, append_assoc, append-nil, arith}
 use Rattle.std.specs.Fmt.{digits, digits_onto, padded_integral, char_count, format_spec}
 use Rattle.std.proofs.lemmas.Bool.{eq-eqb, ne_eqb, cases_lt}
@@ -21,15 +22,18 @@ zero_digits (suc count) = ap (λ (xs : List ℕ). xs ++ 48 ∷ []) (zero_digits 
 abbrev written : (limit number : ℕ) → List ℕ → List ℕ
 written limit number after = digits_onto limit 16 false number after
 
-one_digit : (limit number : ℕ) (after : List ℕ) → number < 16 → written (suc limit) number after ≡ hex_digit (number % 16) ∷ after
+one_digit : (limit number : ℕ) (after : List ℕ) → number < 16 → written (suc limit) number after ≡ hex_digit
+    (number % 16) ∷ after
 one_digit limit number after small =
-    ap (λ (last : Bool). cond last (hex_digit (number % 16) ∷ after) (written limit (number / 16) (hex_digit (number % 16) ∷ after)))
+    ap (λ (last : Bool). cond last (hex_digit (number % 16) ∷ after)
+    (written limit (number / 16) (hex_digit (number % 16) ∷ after)))
     (eq-eqb (number / 16) 0 (omega arith))
 
 more_digits : (limit number : ℕ) (after : List ℕ) → 16 ≤ number
     → written (suc limit) number after ≡ written limit (number / 16) (hex_digit (number % 16) ∷ after)
 more_digits limit number after large =
-    ap (λ (last : Bool). cond last (hex_digit (number % 16) ∷ after) (written limit (number / 16) (hex_digit (number % 16) ∷ after)))
+    ap (λ (last : Bool). cond last (hex_digit (number % 16) ∷ after)
+    (written limit (number / 16) (hex_digit (number % 16) ∷ after)))
     (ne_eqb (number / 16) 0 (λ e. omega arith))
 
 -- zeros before a list up to a length
@@ -53,10 +57,12 @@ padded_digits : (count limit number : ℕ) (after : List ℕ) → number < 16 ^ 
     → padded_to (suc count + length after) (written (suc limit) number after) ≡ hex_digits (suc count) number ++ after
 unfolding hex_digits
 padded_digits zero limit number after small enough =
-    ap (padded_to (1 + length after)) (one_digit limit number after (omega arith)) ∙ one_padded 0 number after (omega arith)
+    ap (padded_to (1 + length after)) (one_digit limit number after (omega arith)) ∙ one_padded 0 number after
+    (omega arith)
 padded_digits (suc count) zero number after small enough = absurd (omega arith)
 padded_digits (suc count) (suc limit) number after small enough = ⊎_elim
-    (λ below. ap (padded_to (suc (suc count) + length after)) (one_digit (suc limit) number after below) ∙ one_padded (suc count) number after below)
+    (λ below. ap (padded_to (suc (suc count) + length after)) (one_digit (suc limit) number after below)
+    ∙ one_padded (suc count) number after below)
     (λ above.
     let digit : ℕ = hex_digit (number % 16) in
     let front : List ℕ = written (suc limit) (number / 16) (digit ∷ after) in
@@ -71,7 +77,8 @@ digits_are_written : (number : ℕ) → digits 16 false number ≡ written (suc 
 unfolding digits
 digits_are_written number = refl
 
-pub padded_hex_word : (word : ℕ) → word < 2 ^ 32 → padded_integral (format_spec 32 0 4 8 (2 ^ 64 - 1)) false [] (digits 16 false word) ≡ hex_word word
+pub padded_hex_word : (word : ℕ) → word < 2 ^ 32 → padded_integral (format_spec 32 0 4 8 (2 ^ 64 - 1)) false []
+    (digits 16 false word) ≡ hex_word word
 unfolding padded_integral char_count
 padded_hex_word word small =
     let text : List ℕ = digits 16 false word in

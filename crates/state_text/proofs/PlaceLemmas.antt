@@ -1,10 +1,12 @@
 -- Texts that grow by the lines of one more item of a list.
-use Rattle.std.proofs.Common.{◌≡◌, ℕ, zero, suc, ◌+◌, ◌<◌, List, [], ◌∷◌, ◌++◌, length, get_or, take, sym, ap, ◌∙◌, arith}
+use Rattle.std.proofs.Common.{◌≡◌, ℕ, zero, suc, ◌+◌, ◌<◌, List, [], ◌∷◌, ◌++◌, length, get_or, take, sym, ap, ◌∙◌}
+use Rattle.std.proofs.Common.{arith}
 use Rattle.std.specs.List.{flat_map, enumerate_from, range_with_len}
 use Rattle.std.proofs.lemmas.List.{take_more, length-take-le, flat_map_more}
 
 -- a text that was put after what stood there, and what the two make
-pub grown : {new old so_far now : List ℕ} (added : List ℕ) → new ≡ old ++ added → old ≡ so_far → so_far ++ added ≡ now → new ≡ now
+pub grown : {new old so_far now : List ℕ} (added : List ℕ) → new ≡ old ++ added → old ≡ so_far → so_far ++ added ≡ now
+    → new ≡ now
 grown added step before more = step ∙ ap (λ (bs : List ℕ). bs ++ added) before ∙ more
 
 -- one more item at the end of a list of items with their places
@@ -12,11 +14,14 @@ placed_push : {X : Type 0} (first : ℕ) (xs : List X) (x : X)
     → enumerate_from first (xs ++ x ∷ []) ≡ enumerate_from first xs ++ (first + length xs, x) ∷ []
 placed_push first [] x = ap (λ (place : ℕ). (place, x) ∷ []) (omega arith)
 placed_push first (y ∷ ys) x =
-    ap (λ ps. (first, y) ∷ ps) (placed_push (first + 1) ys x ∙ ap (λ (place : ℕ). enumerate_from (first + 1) ys ++ (place, x) ∷ []) (omega arith))
+    ap (λ ps. (first, y) ∷ ps)
+    (placed_push (first + 1) ys x ∙ ap (λ (place : ℕ). enumerate_from (first + 1) ys ++ (place, x) ∷ [])
+    (omega arith))
 
 -- the text of the items up to i, each with its place, and then that of the item at i
 pub placed_more : {X : Type 0} (f : ℕ × X → List ℕ) (before : List ℕ) (xs : List X) (i : ℕ) (d : X) → i < length xs
-    → (before ++ flat_map f (enumerate_from 0 (take i xs))) ++ f (i, get_or xs i d) ≡ before ++ flat_map f (enumerate_from 0 (take (i + 1) xs))
+    → (before ++ flat_map f (enumerate_from 0 (take i xs))) ++ f (i, get_or xs i d) ≡ before
+    ++ flat_map f (enumerate_from 0 (take (i + 1) xs))
 placed_more f before xs i d inside =
     let place : 0 + length (take i xs) ≡ i = omega (arith, length-take-le i xs) in
     flat_map_more f before (enumerate_from 0 (take i xs)) (i, get_or xs i d)
@@ -28,13 +33,15 @@ placed_more f before xs i d inside =
 pub items_more : {X : Type 0} (f : X → List ℕ) (before : List ℕ) (xs : List X) (i : ℕ) (d : X) → i < length xs
     → (before ++ flat_map f (take i xs)) ++ f (get_or xs i d) ≡ before ++ flat_map f (take (i + 1) xs)
 items_more f before xs i d inside =
-    flat_map_more f before (take i xs) (get_or xs i d) ∙ ap (λ ys. before ++ flat_map f ys) (sym (take_more xs i d inside))
+    flat_map_more f before (take i xs) (get_or xs i d) ∙ ap (λ ys. before ++ flat_map f ys)
+    (sym (take_more xs i d inside))
 
 -- one more number at the end of a range
 range_push : (first n : ℕ) → range_with_len first (suc n) ≡ range_with_len first n ++ (first + n) ∷ []
 range_push first zero = ap (λ (k : ℕ). k ∷ []) (omega arith)
 range_push first (suc n) =
-    ap (λ (ks : List ℕ). first ∷ ks) (range_push (first + 1) n ∙ ap (λ (k : ℕ). range_with_len (first + 1) n ++ k ∷ []) (omega arith))
+    ap (λ (ks : List ℕ). first ∷ ks)
+    (range_push (first + 1) n ∙ ap (λ (k : ℕ). range_with_len (first + 1) n ++ k ∷ []) (omega arith))
 
 -- the text of the numbers from `first` up to k, and then that of k
 pub range_more : (f : ℕ → List ℕ) (before : List ℕ) (first n k : ℕ) → first + n ≡ k

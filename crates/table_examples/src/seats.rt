@@ -2,7 +2,9 @@
 ghost use Rattle.std.specs.Prelude.{◌≡◌, IfSome};
 ghost use Rattle.replay_table.specs.Seats.{AllAt};
 
-use replay_table::{CoreSeat, Job, ReplayTable};
+use log_codec::Recording;
+use replay_table::{Closed, CoreSeat, Job, ReplayTable};
+use std::alloc::{AllocError, Global};
 
 /// The last two seats.
 pub(crate) fn pair<J: Job>(
@@ -15,4 +17,36 @@ pub(crate) fn pair<J: Job>(
     let second = seats.pop()?;
     let first = seats.pop()?;
     Some((first, second))
+}
+
+/// Closes the table of two seats that are at their totals.
+pub(crate) fn close_pair<J: Job>(
+    alloc: Global,
+    table: ReplayTable<J>,
+    recording: &Recording,
+    mut first: CoreSeat<J>,
+    mut second: CoreSeat<J>,
+) -> Result<Option<Closed>, AllocError>
+    requires recording { recording.now ≡ J.recording }
+    requires first { first.table_id ≡ table }
+    requires second { second.table_id ≡ table }
+{
+    let [one, two] = recording.totals.as_slice() else {
+        return Ok(None);
+    };
+    if first.core().id() != 0 || first.core().count() != *one {
+        return Ok(None);
+    }
+    if second.core().id() != 1 || second.core().count() != *two {
+        return Ok(None);
+    }
+    table.publish(&mut first);
+    table.publish(&mut second);
+    let mut seats = Vec::with_capacity(alloc, 2)?;
+    seats.push_reserved(first);
+    seats.push_reserved(second);
+    match table.close(alloc, seats) {
+        Ok(closed) => Ok(Some(closed)),
+        Err(_) => Ok(None),
+    }
 }

@@ -3,7 +3,7 @@ ghost use Rattle.std.specs.Prelude.{◌≡◌, ◌<◌, All, length};
 ghost use Rattle.log_codec.specs.Validity.{Valid};
 
 use crate::recordings::{IN_TURN, TWO_BYTES, TWO_SUMS};
-use crate::seats::pair;
+use crate::seats::{close_pair, pair};
 use log_codec::{Recording, read};
 use replay_table::{Closed, CoreSeat, Job, Raced, ReplayTable};
 use rtr_types::Which;
@@ -159,38 +159,6 @@ fn both_work<J: Job + Send + Sync, R: Threads + Sync>(
             ensures { seat.exit.now.table_id ≡ table.entry.now }
         { work(table, seat, recording) },
     );
-}
-
-/// Closes the table of two seats that are at their totals.
-fn close_pair<J: Job>(
-    alloc: Global,
-    table: ReplayTable<J>,
-    recording: &Recording,
-    mut first: CoreSeat<J>,
-    mut second: CoreSeat<J>,
-) -> Result<Option<Closed>, AllocError>
-    requires recording { recording.now ≡ J.recording }
-    requires first { first.table_id ≡ table }
-    requires second { second.table_id ≡ table }
-{
-    let [one, two] = recording.totals.as_slice() else {
-        return Ok(None);
-    };
-    if first.core().id() != 0 || first.core().count() != *one {
-        return Ok(None);
-    }
-    if second.core().id() != 1 || second.core().count() != *two {
-        return Ok(None);
-    }
-    table.publish(&mut first);
-    table.publish(&mut second);
-    let mut seats = Vec::with_capacity(alloc, 2)?;
-    seats.push_reserved(first);
-    seats.push_reserved(second);
-    match table.close(alloc, seats) {
-        Ok(closed) => Ok(Some(closed)),
-        Err(_) => Ok(None),
-    }
 }
 
 /// The end of a table whose two seats work in threads of their own.

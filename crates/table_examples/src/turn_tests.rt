@@ -1,9 +1,9 @@
-//! The turns of two workers on one thread, one after the other.
+//! The turns of two workers, one after the other on one thread, and at the same time on two.
 ghost use Rattle.std.specs.Prelude.{◌≡◌};
 ghost use Rattle.log_codec.specs.Validity.{Valid};
 
-use crate::recordings::{IN_TURN, ONE_TOO_MANY};
-use crate::seats::pair;
+use crate::recordings::{IN_TURN, MANY_SUMS, ONE_TOO_MANY};
+use crate::seats::{close_pair, pair};
 use log_codec::{Recording, read};
 use replay_table::{Job, ReplayTable};
 use replay_threads::{OpenGate, Turn, Worker};
@@ -11,6 +11,8 @@ use rtr_types::Which;
 use std::alloc::{AllocError, Global};
 use std::marker::Brand;
 use std::test::Fail;
+use std::thread;
+use std::thread::Threads;
 
 /// How a turn ended.
 #[derive(Clone, Copy, PartialEq, Eq)]
@@ -117,5 +119,109 @@ fn a_program_falls_short(rt: HostRuntime) -> Result<(), Fail> {
         after: [false, true],
     };
     assert!(rt; turns == Some(expected));
+    Ok(())
+}
+
+/// Turns until the worker's core is at its total: how many of them were raced. To each of those belongs a store of
+/// the other core, so that they come to an end.
+fn until_ended<J: Job>(table: &ReplayTable<J>, worker: &mut Worker<J>) -> Result<u32, AllocError>
+    requires { worker.old.table_id ≡ table.now }
+    ensures { worker.new.table_id ≡ worker.old.table_id }
+{
+    for raced in 0..u32::MAX {
+        if how_ended(worker.turn(table, &OpenGate)?) != Ending::Raced {
+            return Ok(raced);
+        }
+    }
+    Ok(u32::MAX)
+}
+
+/// The workers take their turns at the same time: how many of either's were raced.
+fn at_once<J: Job + Send + Sync, R: Threads + Sync>(
+    rt: &R,
+    table: &ReplayTable<J>,
+    first: &mut Worker<J>,
+    second: &mut Worker<J>,
+) -> Result<[u32; 2], AllocError>
+    requires first { first.old.table_id ≡ table.now }
+    requires second { second.old.table_id ≡ table.now }
+    ensures first { first.new.table_id ≡ first.old.table_id }
+    ensures second { second.new.table_id ≡ second.old.table_id }
+{
+    let (one, two) = thread::join_mut(
+        rt,
+        &mut ||
+            requires { first.now.table_id ≡ table.now }
+            ensures { first.exit.now.table_id ≡ first.entry.now.table_id }
+        { until_ended(table, first) },
+        &mut ||
+            requires { second.now.table_id ≡ table.now }
+            ensures { second.exit.now.table_id ≡ second.entry.now.table_id }
+        { until_ended(table, second) },
+    );
+    Ok([one?, two?])
+}
+
+/// How often turns were raced of two workers that share a word, and what it holds once both are at their totals.
+#[derive(Clone, Copy, PartialEq, Eq)]
+struct Race {
+    raced: [u32; 2],
+    word: Option<u32>,
+}
+
+/// The race of a recording's two workers for word 8.
+fn race_by<J: Job + Send + Sync, R: Threads + Sync>(
+    rt: &R,
+    alloc: Global,
+    recording: &Recording,
+    which: Which,
+) -> Result<Option<Race>, AllocError>
+    requires valid { Valid J.recording }
+    requires recording { recording.now ≡ J.recording }
+    requires which { which ≡ J.which }
+{
+    let (table, seats) = ReplayTable::<J>::make(alloc, recording, which)?;
+    let Some((first, second)) = pair(&table, seats) else {
+        return Ok(None);
+    };
+    let mut first = Worker::new(recording, which, first);
+    let mut second = Worker::new(recording, which, second);
+    let raced = at_once(rt, &table, &mut first, &mut second)?;
+    let closed = close_pair(
+        alloc,
+        table,
+        recording,
+        first.into_seat(),
+        second.into_seat(),
+    )?;
+    let word = closed.and_then(|closed| closed.outcome().words.as_slice().get(8).copied());
+    Ok(Some(Race { raced, word }))
+}
+
+fn race_of<R: Threads + Sync>(
+    rt: &R,
+    alloc: Global,
+    recording: &Recording,
+) -> Result<Option<Race>, AllocError>
+    requires { Valid recording.now }
+{
+    race_by::<Brand, R>(rt, alloc, recording, Which::Reduced)
+}
+
+// Each of the 99,998 additions is of 5 and none is lost, however often a turn is raced and taken again. That one is
+// raced needs the other core's store between its two steps, which comes soon where both work at the same time.
+#[test]
+fn a_raced_turn_is_taken_again(rt: HostRuntime) -> Result<(), Fail> {
+    let recording = read(rt.alloc(), &MANY_SUMS)?;
+    let mut raced = false;
+    for _attempt in 0..200 {
+        let race = race_of(&rt, rt.alloc(), &recording)?;
+        assert!(rt; race.and_then(|race| race.word) == Some(499_990));
+        raced = race.is_some_and(|race| race.raced != [0, 0]);
+        if raced {
+            break;
+        }
+    }
+    assert!(rt; raced);
     Ok(())
 }

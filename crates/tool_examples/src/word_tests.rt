@@ -229,7 +229,7 @@ fn words_that_mean_a_replay(rt: HostRuntime) -> Result<(), Fail> {
     Ok(())
 }
 
-static FAULTY: [&str; 94] = [
+static FAULTY: [&str; 104] = [
     "",
     "records",
     "--help",
@@ -324,6 +324,16 @@ static FAULTY: [&str; 94] = [
     "replay --threads 2 --threads 2",
     "run --threads 2",
     "at --core 0 --count 1 --threads 2",
+    "tso",
+    "tsorun --elf",
+    "tsorecord --elf",
+    "tsoreplays",
+    "tsoreplay --loads --loads",
+    "tsoreplay --loads=",
+    "tsoreplay --log reduced",
+    "tsoreplay --threads 2",
+    "tsoreplay --elf",
+    "tsoreplay --cores 2",
 ];
 
 #[test]
@@ -544,5 +554,113 @@ fn words_that_mean_fewer_vectors(rt: HostRuntime) -> Result<(), Fail> {
         )
     );
     assert!(rt; matches!(meaning_of(alloc, "checkthin")?, Some(Command::CheckThin)));
+    Ok(())
+}
+
+static BUFFERED_RUNS: [Row; 3] = [
+    Row {
+        line: "tsorun",
+        cores: 1,
+        limit: 10_000,
+        words: 16_384,
+        choices: &[],
+        seed: 0,
+        loads: false,
+        elf: false,
+    },
+    Row {
+        line: "tsorun --cores 2 --words=32 --choices 0000 --loads",
+        cores: 2,
+        limit: 10_000,
+        words: 32,
+        choices: &[0, 0],
+        seed: 0,
+        loads: true,
+        elf: false,
+    },
+    Row {
+        line: "tsorun --seed=9 --limit 250000 --cores=16",
+        cores: 16,
+        limit: 250_000,
+        words: 16_384,
+        choices: &[],
+        seed: 9,
+        loads: false,
+        elf: false,
+    },
+];
+
+/// Whether the command is the row's run of cores with store buffers.
+fn is_buffered_run(command: Option<Command>, row: &Row) -> bool {
+    let Some(Command::TsoRun { run, loads }) = command else {
+        return false;
+    };
+    is_of_row(&run, row) && loads == row.loads
+}
+
+#[test]
+fn words_that_mean_a_run_of_buffered_cores(rt: HostRuntime) -> Result<(), Fail> {
+    for row in &BUFFERED_RUNS {
+        let command = meaning_of(rt.alloc(), row.line)?;
+        assert!(rt; is_buffered_run(command, row), "{}", row.line);
+    }
+    Ok(())
+}
+
+static BUFFERED_RECORDS: [Row; 2] = [
+    Row {
+        line: "tsorecord",
+        cores: 1,
+        limit: 10_000,
+        words: 16_384,
+        choices: &[],
+        seed: 0,
+        loads: false,
+        elf: false,
+    },
+    Row {
+        line: "tsorecord --choices=07ff --words 262144 --seed 18446744073709551615 --cores 2",
+        cores: 2,
+        limit: 10_000,
+        words: 262_144,
+        choices: &[7, 255],
+        seed: 18_446_744_073_709_551_615,
+        loads: false,
+        elf: false,
+    },
+];
+
+/// Whether the command records the row's run of cores with store buffers.
+fn is_buffered_record(command: Option<Command>, row: &Row) -> bool {
+    let Some(Command::TsoRecord(run)) = command else {
+        return false;
+    };
+    is_of_row(&run, row)
+}
+
+#[test]
+fn words_that_mean_a_record_of_buffered_cores(rt: HostRuntime) -> Result<(), Fail> {
+    for row in &BUFFERED_RECORDS {
+        let command = meaning_of(rt.alloc(), row.line)?;
+        assert!(rt; is_buffered_record(command, row), "{}", row.line);
+    }
+    Ok(())
+}
+
+#[test]
+fn words_that_mean_a_replay_of_buffered_cores(rt: HostRuntime) -> Result<(), Fail> {
+    let alloc = rt.alloc();
+    assert!(rt;
+        matches!(
+            meaning_of(alloc, "tsoreplay")?,
+            Some(Command::TsoReplay { loads: false })
+        )
+    );
+    assert!(rt;
+        matches!(
+            meaning_of(alloc, "tsoreplay --loads")?,
+            Some(Command::TsoReplay { loads: true })
+        )
+    );
     Ok(())
 }

@@ -15,16 +15,21 @@ use Rattle.tool_words.specs.declared.command.Command.{Command}
 use Rattle.tool_words.specs.declared.command.Command.TheVariants.{Gen as GenImage, Soak as SoakImage}
 use Rattle.tool_words.specs.declared.command.Command.TheVariants.{At as StateAt}
 use Rattle.tool_words.specs.declared.command.Verb.{Verb}
-use Rattle.tool_words.specs.declared.command.Verb.TheVariants.{Record, Run, Print, Replay, Migrate, Certify, Check, Gen, Soak, At, Thin, CheckThin}
+use Rattle.tool_words.specs.declared.command.Verb.TheVariants.{Record, Run, Print, Replay, Migrate, Certify, Check}
+use Rattle.tool_words.specs.declared.command.Verb.TheVariants.{Gen, Soak, At, Thin, CheckThin}
+use Rattle.tool_words.specs.declared.command.Verb.TheVariants.{TsoRecord, TsoRun, TsoReplay}
 use Rattle.tool_words.specs.declared.options.Name.{Name}
-use Rattle.tool_words.specs.declared.options.Name.TheVariants.{Cores, Limit, Words, Choices, Seed, Log, Loads, Elf, Shape, Number}
+use Rattle.tool_words.specs.declared.options.Name.TheVariants.{Cores, Limit, Words, Choices, Seed, Log, Loads, Elf}
+use Rattle.tool_words.specs.declared.options.Name.TheVariants.{Shape, Number}
 use Rattle.tool_words.specs.declared.options.Name.TheVariants.{Core, Count, Latest, Certified, Threads}
 use Rattle.tool_words.specs.Settings.{Settings}
 use Rattle.tool_words.specs.Numerals.{is_numeral, number_between}
 use Rattle.tool_words.specs.Choices.{are_choices}
 use Rattle.tool_words.specs.Options.{are_together_few, is_set, log_named, no_settings, params_of, put}
-use Rattle.tool_words.specs.Options.{put_new, shape_named, which_of, whole_blocks, cores_default, limit_default, words_default, threads_max}
-use Rattle.tool_words.specs.Commands.{AreFewThreads, HasFittingParams, MayBe, command_of, instr, named_instr, shaped, verb_named}
+use Rattle.tool_words.specs.Options.{put_new, shape_named, which_of, whole_blocks, cores_default, limit_default}
+use Rattle.tool_words.specs.Options.{words_default, threads_max}
+use Rattle.tool_words.specs.Commands.{AreFewThreads, HasFittingParams, MayBe, command_of, instr, named_instr, shaped}
+use Rattle.tool_words.specs.Commands.{verb_named}
 use Rattle.tool_words.specs.Reading.{Set, settings, settled, settled_by, few_together, FittingLaw}
 
 -- a number of cores that is set is in range, and so are a limit and a number of words
@@ -55,7 +60,15 @@ record Ranged : Type 0 where
   threads : Option ℕ
 
 abbrev ranged : Settings → Ranged
-ranged s = record { cores = s.cores; limit = s.limit; words = s.words; core = s.core; count = s.count; threads = s.threads }
+ranged s = record {
+  cores = s.cores;
+  limit = s.limit;
+  words = s.words;
+  core = s.core;
+  count = s.count;
+  threads
+      = s.threads;
+}
 
 -- a count's range is that of a limit
 record AreFitting (r : Ranged) : Type 0 where
@@ -66,21 +79,26 @@ record AreFitting (r : Ranged) : Type 0 where
   count : LimitFits r.count
   threads : AreFewThreads r.threads
 
-number_between-range : (least most n : ℕ) (text : List ℕ) → number_between least most text ≡ Some n → (least ≤ n) × (n ≤ most)
+number_between-range : (least most n : ℕ) (text : List ℕ) → number_between least most text ≡ Some n → (least ≤ n)
+    × (n ≤ most)
 unfolding number_between
-number_between-range least most n text h = by-cases (is_numeral text && nat_le least (digits_value 10 text) && nat_le (digits_value 10 text) most) refl h
+number_between-range least most n text h = by-cases (is_numeral text && nat_le least (digits_value 10 text) && nat_le
+    (digits_value 10 text) most) refl h
   where
-    by-cases : (b : Bool) → (is_numeral text && nat_le least (digits_value 10 text) && nat_le (digits_value 10 text) most) ≡ b →
+    by-cases : (b : Bool) → (is_numeral text && nat_le least (digits_value 10 text) && nat_le (digits_value 10 text)
+        most) ≡ b →
         cond b (Some (digits_value 10 text)) None ≡ Some n → (least ≤ n) × (n ≤ most)
     by-cases true is e = let same : digits_value 10 text ≡ n = cc in grind (arith, nat_tests)
     by-cases false is e = absurd (cc)
 
 -- the two parts of a chain that ends with something
-and_then-some : {A B : Type 0} (f : A → Option B) (o : Option A) (b : B) → option_and_then f o ≡ Some b → (a : A) × (o ≡ Some a) × (f a ≡ Some b)
+and_then-some : {A B : Type 0} (f : A → Option B) (o : Option A) (b : B) → option_and_then f o ≡ Some b → (a : A)
+    × (o ≡ Some a) × (f a ≡ Some b)
 and_then-some f (Some a) b h = (a, refl, h)
 and_then-some f None b h = absurd (cc)
 
-map-some : {A B : Type 0} (f : A → B) (o : Option A) (b : B) → option_map f o ≡ Some b → (a : A) × (o ≡ Some a) × (f a ≡ b)
+map-some : {A B : Type 0} (f : A → B) (o : Option A) (b : B) → option_map f o ≡ Some b → (a : A) × (o ≡ Some a)
+    × (f a ≡ b)
 map-some f (Some a) b h = (a, refl, cc)
 map-some f None b h = absurd (cc)
 
@@ -106,7 +124,8 @@ whole_blocks-range text n h =
     blocks m n e = divides m n (m % 4 == 0) refl e
       where
         divides : (m n : ℕ) (b : Bool) → (m % 4 == 0) ≡ b → cond b (Some m) None ≡ Some n → n % 4 ≡ 0
-        divides m n true is e = let same : m ≡ n = cc in let zero : m % 4 ≡ 0 = grind (arith, nat_tests) in rw (← same) zero
+        divides m n true is e = let same : m ≡ n = cc in let zero : m % 4 ≡ 0 = grind (arith, nat_tests) in
+            rw (← same) zero
         divides m n false is e = absurd (cc)
 
 -- a core's number is below their number
@@ -117,7 +136,8 @@ core_range n text h = let range = number_between-range 0 (CORES_MAX - 1) n text 
 alike : (r s : Ranged) → r ≡ s → AreFitting r → AreFitting s
 alike r s same fit = let P : Ranged → Type 0 = λ u. AreFitting u in subst P same fit
 
-put_new-fits : (s t : Settings) (name : Name) (text : List ℕ) → put_new s name text ≡ Some t → AreFitting (ranged s) → AreFitting (ranged t)
+put_new-fits : (s t : Settings) (name : Name) (text : List ℕ) → put_new s name text ≡ Some t → AreFitting (ranged s)
+    → AreFitting (ranged t)
 put_new-fits s t Cores text h fit =
     let made = map-some (λ n. record s { cores = Some n }) (number_between 1 CORES_MAX text) t h in
     alike (record (ranged s) { cores = Some made.0 }) (ranged t) (ap ranged made.2)
@@ -143,7 +163,14 @@ put_new-fits s t Limit text h fit =
 put_new-fits s t Words text h fit =
     let made = map-some (λ n. record s { words = Some n }) (whole_blocks text) t h in
     alike (record (ranged s) { words = Some made.0 }) (ranged t) (ap ranged made.2)
-    (record { cores = fit.cores; limit = fit.limit; words = whole_blocks-range text made.0 made.1; core = fit.core; count = fit.count; threads = fit.threads })
+    (record {
+      cores = fit.cores;
+      limit = fit.limit;
+      words = whole_blocks-range text made.0 made.1;
+      core = fit.core;
+      count = fit.count;
+      threads = fit.threads;
+    })
 put_new-fits s t Choices text h fit =
     let is : Some (record s { choices = Some text }) ≡ Some t = if-some (are_choices text) _ t h in
     let same : record s { choices = Some text } ≡ t = cc in
@@ -169,7 +196,15 @@ put_new-fits s t Number text h fit =
 put_new-fits s t Core text h fit =
     let made = map-some (λ n. record s { core = Some n }) (number_between 0 (CORES_MAX - 1) text) t h in
     alike (record (ranged s) { core = Some made.0 }) (ranged t) (ap ranged made.2)
-    (record { cores = fit.cores; limit = fit.limit; words = fit.words; core = core_range made.0 text made.1; count = fit.count; threads = fit.threads })
+    (record {
+      cores = fit.cores;
+      limit = fit.limit;
+      words = fit.words;
+      core = core_range made.0 text made.1;
+      count
+          = fit.count;
+      threads = fit.threads;
+    })
 put_new-fits s t Count text h fit =
     let made = map-some (λ n. record s { count = Some n }) (number_between 1 LIMIT_MAX text) t h in
     alike (record (ranged s) { count = Some made.0 }) (ranged t) (ap ranged made.2)
@@ -199,20 +234,24 @@ put_new-fits s t Threads text h fit =
       threads = number_between-range 1 threads_max made.0 text made.1;
     })
 
-put-fits : (s t : Settings) (name : Name) (text : List ℕ) → put s name text ≡ Some t → AreFitting (ranged s) → AreFitting (ranged t)
+put-fits : (s t : Settings) (name : Name) (text : List ℕ) → put s name text ≡ Some t → AreFitting (ranged s)
+    → AreFitting (ranged t)
 put-fits s t name text h fit = put_new-fits s t name text (if-none (is_set s name) (put_new s name text) t h) fit
 
-settled-fits : (list : List Set) (s t : Settings) → settled s list ≡ Some t → AreFitting (ranged s) → AreFitting (ranged t)
+settled-fits : (list : List Set) (s t : Settings) → settled s list ≡ Some t → AreFitting (ranged s)
+    → AreFitting (ranged t)
 settled-fits [] s t h fit = let same : s ≡ t = cc in alike (ranged s) (ranged t) (ap ranged same) fit
 settled-fits (set ∷ rest) s t h fit =
     let parts = and_then-some (λ u. settled u rest) (put s set.name set.text) t h in
     settled-fits rest parts.0 t parts.2 (put-fits s parts.0 set.name set.text parts.1 fit)
 
-settled_by-fits : (verb : Verb) (words : List (List ℕ)) (t : Settings) → settled_by verb no_settings words ≡ Some t → AreFitting (ranged t)
+settled_by-fits : (verb : Verb) (words : List (List ℕ)) (t : Settings) → settled_by verb no_settings words ≡ Some t
+    → AreFitting (ranged t)
 unfolding settled_by
 settled_by-fits verb words t h =
     let parts = and_then-some (settled no_settings) (settings verb words) t h in
-    settled-fits parts.0 no_settings t parts.2 (record { cores = tt; limit = tt; words = tt; core = tt; count = tt; threads = tt })
+    settled-fits parts.0 no_settings t parts.2
+    (record { cores = tt; limit = tt; words = tt; core = tt; count = tt; threads = tt })
 
 -- with a default for what isn't set
 cores-in : (o : Option ℕ) → CoresFit o → (1 ≤ unwrap_or o cores_default) × (unwrap_or o cores_default ≤ CORES_MAX)
@@ -227,14 +266,17 @@ words-in : (o : Option ℕ) → WordsFit o → WordsFit (Some (unwrap_or o words
 words-in None fit = (omega arith, omega arith, refl)
 words-in (Some n) fit = fit
 
-few-together : (s t : Settings) → few_together s ≡ Some t → (s ≡ t) × ((params_of s).cores * (params_of s).limit ≤ INSTRUCTIONS_MAX)
+few-together : (s t : Settings) → few_together s ≡ Some t → (s ≡ t)
+    × ((params_of s).cores * (params_of s).limit ≤ INSTRUCTIONS_MAX)
 few-together s t h = by (are_together_few s) refl h
   where
-    by : (b : Bool) → are_together_few s ≡ b → cond b (Some s) None ≡ Some t → (s ≡ t) × ((params_of s).cores * (params_of s).limit ≤ INSTRUCTIONS_MAX)
+    by : (b : Bool) → are_together_few s ≡ b → cond b (Some s) None ≡ Some t → (s ≡ t)
+        × ((params_of s).cores * (params_of s).limit ≤ INSTRUCTIONS_MAX)
     by true is e = (cc, grind (arith, nat_tests))
     by false is e = absurd (cc)
 
-params-fit : (s : Settings) → AreFitting (ranged s) → (params_of s).cores * (params_of s).limit ≤ INSTRUCTIONS_MAX → Fits (params_of s)
+params-fit : (s : Settings) → AreFitting (ranged s) → (params_of s).cores * (params_of s).limit ≤ INSTRUCTIONS_MAX
+    → Fits (params_of s)
 params-fit s fit few =
     let cores = cores-in s.cores fit.cores in
     let limit = limit-in s.limit fit.limit in
@@ -244,11 +286,15 @@ params-fit s fit few =
 -- the shape has an image of the number
 shaped-takes : (s : Settings) (p : shapes.Shape × ℕ) → shaped s ≡ Some p → IsTrue (takes p.0 p.1)
 shaped-takes s p h =
-    let shape = and_then-some (λ shape. option_and_then (λ number. cond (takes shape number) (Some (shape, number)) None) s.number) s.shape p h in
-    let number = and_then-some (λ number. cond (takes shape.0 number) (Some (shape.0, number)) None) s.number p shape.2 in
+    let shape = and_then-some
+    (λ shape. option_and_then (λ number. cond (takes shape number) (Some (shape, number)) None) s.number)
+    s.shape p h in
+    let number = and_then-some (λ number. cond (takes shape.0 number) (Some (shape.0, number)) None) s.number p
+    shape.2 in
     by (takes shape.0 number.0) shape.0 number.0 refl number.2
   where
-    by : (b : Bool) (shape : shapes.Shape) (number : ℕ) → takes shape number ≡ b → cond b (Some (shape, number)) None ≡ Some p → IsTrue (takes p.0 p.1)
+    by : (b : Bool) (shape : shapes.Shape) (number : ℕ) → takes shape number ≡ b → cond b (Some (shape, number)) None
+        ≡ Some p → IsTrue (takes p.0 p.1)
     by true shape number is e =
         let same : (shape, number) ≡ p = cc in
         let P : shapes.Shape × ℕ → Type 0 = λ q. IsTrue (takes q.0 q.1) in
@@ -266,9 +312,11 @@ instr_may_be s at h fit =
     subst P count.2 (below, within.0, within.1)
 
 of-command : (made command : Command) → Some made ≡ Some command → HasFittingParams made → HasFittingParams command
-of-command made command h fits = let same : made ≡ command = cc in let P : Command → Type 0 = λ c. HasFittingParams c in subst P same fits
+of-command made command h fits = let same : made ≡ command = cc in
+    let P : Command → Type 0 = λ c. HasFittingParams c in subst P same fits
 
-command-fits : (verb : Verb) (s : Settings) (command : Command) → command_of verb s ≡ Some command → AreFitting (ranged s) →
+command-fits : (verb : Verb) (s : Settings) (command : Command) → command_of verb s ≡ Some command
+    → AreFitting (ranged s) →
     (params_of s).cores * (params_of s).limit ≤ INSTRUCTIONS_MAX → HasFittingParams command
 command-fits Record s command h fit few = of-command _ command h (params-fit s fit few)
 command-fits Run s command h fit few = of-command _ command h (params-fit s fit few)
@@ -282,19 +330,25 @@ command-fits Gen s command h fit few =
     let P : Command → Type 0 = λ c. HasFittingParams c in subst P made.2 (shaped-takes s made.0 made.1)
 command-fits Soak s command h fit few =
     let made = map-some (λ p. SoakImage p.0 p.1 (params_of s) (unwrap_or s.seed 0)) (shaped s) command h in
-    let P : Command → Type 0 = λ c. HasFittingParams c in subst P made.2 (params-fit s fit few, shaped-takes s made.0 made.1)
+    let P : Command → Type 0 = λ c. HasFittingParams c in
+    subst P made.2 (params-fit s fit few, shaped-takes s made.0 made.1)
 command-fits At s command h fit few =
     let made = map-some (λ at. StateAt (which_of s) at s.latest s.loads) (named_instr s) command h in
     let P : Command → Type 0 = λ c. HasFittingParams c in subst P made.2 (instr_may_be s made.0 made.1 fit)
 command-fits Thin s command h fit few = of-command _ command h tt
 command-fits CheckThin s command h fit few = of-command _ command h tt
+command-fits TsoRecord s command h fit few = of-command _ command h (params-fit s fit few, refl)
+command-fits TsoRun s command h fit few = of-command _ command h (params-fit s fit few, refl)
+command-fits TsoReplay s command h fit few = of-command _ command h tt
 
 pub fitting_law : FittingLaw
 fitting_law [] command h = absurd (cc)
 fitting_law (first ∷ rest) command h =
-    let verb = and_then-some (λ v. option_and_then (command_of v) (option_and_then few_together (settled_by v no_settings rest)))
+    let verb = and_then-some
+    (λ v. option_and_then (command_of v) (option_and_then few_together (settled_by v no_settings rest)))
     (verb_named first) command h in
-    let made = and_then-some (command_of verb.0) (option_and_then few_together (settled_by verb.0 no_settings rest)) command verb.2 in
+    let made = and_then-some (command_of verb.0) (option_and_then few_together (settled_by verb.0 no_settings rest))
+    command verb.2 in
     let set = and_then-some few_together (settled_by verb.0 no_settings rest) made.0 made.1 in
     let few = few-together set.0 made.0 set.2 in
     let meant : command_of verb.0 set.0 ≡ Some command = ap (λ s. command_of verb.0 s) few.0 ∙ made.2 in

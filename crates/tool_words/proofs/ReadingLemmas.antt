@@ -1,5 +1,6 @@
 -- The setting that words begin with is put in, and then the rest.
-use Rattle.std.proofs.Common.{◌≡◌, ℕ, List, [], ◌∷◌, Option, Some, None, refl, ap, sym, ◌∙◌, arith, ◌<◌, length, map, drop, get_or}
+use Rattle.std.proofs.Common.{◌≡◌, ℕ, List, [], ◌∷◌, Option, Some, None, refl, ap, sym, ◌∙◌, arith, ◌<◌, length, map}
+use Rattle.std.proofs.Common.{drop, get_or}
 use Rattle.std.specs.Option.{option_and_then}
 use Rattle.tool_words.specs.declared.command.Verb.{Verb}
 use Rattle.tool_words.specs.Settings.{Settings}
@@ -11,7 +12,8 @@ abbrev pub put_then : Verb → Settings → Set → List (List ℕ) → Option S
 put_then verb s set rest = option_and_then (λ t. settled_by verb t rest) (put s set.name set.text)
 
 prepended : (s : Settings) (set : Set) (others : Option (List Set)) →
-    option_and_then (settled s) (prepend (Some set) others) ≡ option_and_then (λ t. option_and_then (settled t) others) (put s set.name set.text)
+    option_and_then (settled s) (prepend (Some set) others) ≡ option_and_then
+    (λ t. option_and_then (settled t) others) (put s set.name set.text)
 prepended s set (Some others) = refl
 prepended s set None = none (put s set.name set.text)
   where
@@ -26,66 +28,81 @@ unfolding settings
 settings-alone verb word [] set h = rw h
 settings-alone verb word (next ∷ rest) set h = rw h
 
-pub settled_by-alone : (verb : Verb) (s : Settings) (word : List ℕ) (rest : List (List ℕ)) (set : Set) → alone verb word ≡ Some set →
+pub settled_by-alone : (verb : Verb) (s : Settings) (word : List ℕ) (rest : List (List ℕ)) (set : Set)
+    → alone verb word ≡ Some set →
     settled_by verb s (word ∷ rest) ≡ put_then verb s set rest
 unfolding settled_by
-settled_by-alone verb s word rest set h = rw (settings-alone verb word rest set h) (prepended s set (settings verb rest))
+settled_by-alone verb s word rest set h = rw (settings-alone verb word rest set h)
+    (prepended s set (settings verb rest))
 
 -- a name and the word after it
-pub settled_by-pair : (verb : Verb) (s : Settings) (word next : List ℕ) (rest : List (List ℕ)) (set : Set) → alone verb word ≡ None →
+pub settled_by-pair : (verb : Verb) (s : Settings) (word next : List ℕ) (rest : List (List ℕ)) (set : Set)
+    → alone verb word ≡ None →
     valued verb word next ≡ Some set →
     settled_by verb s (word ∷ next ∷ rest) ≡ put_then verb s set rest
 unfolding settled_by settings
 settled_by-pair verb s word next rest set h k = rw (h, k) (prepended s set (settings verb rest))
 
 -- a name with no value, and a word that is no name
-pub settled_by-last : (verb : Verb) (s : Settings) (word : List ℕ) → alone verb word ≡ None → settled_by verb s (word ∷ []) ≡ None
+pub settled_by-last : (verb : Verb) (s : Settings) (word : List ℕ) → alone verb word ≡ None → settled_by verb s
+    (word ∷ []) ≡ None
 unfolding settled_by settings
 settled_by-last verb s word h = rw h
 
-pub settled_by-unknown : (verb : Verb) (s : Settings) (word next : List ℕ) (rest : List (List ℕ)) → alone verb word ≡ None → valued verb word next ≡ None →
+pub settled_by-unknown : (verb : Verb) (s : Settings) (word next : List ℕ) (rest : List (List ℕ)) → alone verb word ≡
+    None → valued verb word next ≡ None →
     settled_by verb s (word ∷ next ∷ rest) ≡ None
 unfolding settled_by settings
 settled_by-unknown verb s word next rest h k = rw (h, k)
 
 -- the same of words that are known to begin so, with the settings that the first one leads to
-pub by-alone : (verb : Verb) (s : Settings) (words : List (List ℕ)) (text word : List ℕ) (rest : List (List ℕ)) (set : Set) (after : Option Settings) →
+pub by-alone : (verb : Verb) (s : Settings) (words : List (List ℕ)) (text word : List ℕ) (rest : List (List ℕ))
+    (set : Set) (after : Option Settings) →
     words ≡ text ∷ rest → word ≡ text → Some set ≡ alone verb word → after ≡ put s set.name set.text →
     settled_by verb s words ≡ option_and_then (λ t. settled_by verb t rest) after
 by-alone verb s words text word rest set after is same made put =
     rw (is, ← same, put) (settled_by-alone verb s word rest set (sym made))
 
-pub by-pair : (verb : Verb) (s : Settings) (words : List (List ℕ)) (text word value next : List ℕ) (rest : List (List ℕ)) (set : Set)
+pub by-pair : (verb : Verb) (s : Settings) (words : List (List ℕ)) (text word value next : List ℕ)
+    (rest : List (List ℕ)) (set : Set)
     (after : Option Settings) →
-    words ≡ text ∷ value ∷ rest → word ≡ text → next ≡ value → None ≡ alone verb word → Some set ≡ valued verb word next → after ≡ put s set.name set.text →
+    words ≡ text ∷ value ∷ rest → word ≡ text → next ≡ value → None ≡ alone verb word → Some set ≡ valued verb word
+    next → after ≡ put s set.name set.text →
     settled_by verb s words ≡ option_and_then (λ t. settled_by verb t rest) after
 by-pair verb s words text word value next rest set after is same also none made put =
     rw (is, ← same, ← also, put) (settled_by-pair verb s word next rest set (sym none) (sym made))
 
-pub by-last : (verb : Verb) (s : Settings) (words : List (List ℕ)) (text word : List ℕ) → words ≡ text ∷ [] → word ≡ text → None ≡ alone verb word →
+pub by-last : (verb : Verb) (s : Settings) (words : List (List ℕ)) (text word : List ℕ) → words ≡ text ∷ []
+    → word ≡ text → None ≡ alone verb word →
     settled_by verb s words ≡ None
 by-last verb s words text word is same none = rw (is, ← same) (settled_by-last verb s word (sym none))
 
-pub by-unknown : (verb : Verb) (s : Settings) (words : List (List ℕ)) (text word value next : List ℕ) (rest : List (List ℕ)) →
-    words ≡ text ∷ value ∷ rest → word ≡ text → next ≡ value → None ≡ alone verb word → None ≡ valued verb word next → settled_by verb s words ≡ None
+pub by-unknown : (verb : Verb) (s : Settings) (words : List (List ℕ)) (text word value next : List ℕ)
+    (rest : List (List ℕ)) →
+    words ≡ text ∷ value ∷ rest → word ≡ text → next ≡ value → None ≡ alone verb word → None ≡ valued verb word next
+    → settled_by verb s words ≡ None
 by-unknown verb s words text word value next rest is same also none made =
     rw (is, ← same, ← also) (settled_by-unknown verb s word next rest (sym none) (sym made))
 
 -- no words are left
-pub settled_by-none : (verb : Verb) (s : Settings) (words : List (List ℕ)) → words ≡ [] → settled_by verb s words ≡ Some s
+pub settled_by-none : (verb : Verb) (s : Settings) (words : List (List ℕ)) → words ≡ [] → settled_by verb s words ≡
+    Some s
 unfolding settled_by settings
 settled_by-none verb s words is = rw is
 
 -- the words as texts, the first or the first two apart
-pub map-first : {S T : Type 0} (f : S → T) (xs : List S) (x : S) → 0 < length xs → x ≡ get_or xs 0 x → map f xs ≡ f x ∷ map f (drop 1 xs)
+pub map-first : {S T : Type 0} (f : S → T) (xs : List S) (x : S) → 0 < length xs → x ≡ get_or xs 0 x
+    → map f xs ≡ f x ∷ map f (drop 1 xs)
 map-first f [] x some is = absurd (omega arith)
 map-first f (y ∷ ys) x some is = ap (λ v. f v ∷ map f ys) (sym is)
 
-pub map-two : {S T : Type 0} (f : S → T) (xs : List S) (x y : S) → 1 < length xs → x ≡ get_or xs 0 x → y ≡ get_or xs 1 y →
+pub map-two : {S T : Type 0} (f : S → T) (xs : List S) (x y : S) → 1 < length xs → x ≡ get_or xs 0 x
+    → y ≡ get_or xs 1 y →
     map f xs ≡ f x ∷ f y ∷ map f (drop 2 xs)
 map-two f [] x y two is also = absurd (omega arith)
 map-two f (z ∷ []) x y two is also = absurd (omega arith)
-map-two f (z ∷ w ∷ ws) x y two is also = ap (λ v. f v ∷ f w ∷ map f ws) (sym is) ∙ ap (λ v. f x ∷ f v ∷ map f ws) (sym also)
+map-two f (z ∷ w ∷ ws) x y two is also = ap (λ v. f v ∷ f w ∷ map f ws) (sym is) ∙ ap (λ v. f x ∷ f v ∷ map f ws)
+    (sym also)
 
 pub map-one : {S T : Type 0} (f : S → T) (xs : List S) (x : S) → length xs ≡ 1 → x ≡ get_or xs 0 x → map f xs ≡ f x ∷ []
 map-one f [] x one is = absurd (omega arith)

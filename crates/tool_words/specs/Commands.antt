@@ -1,5 +1,6 @@
 -- The commands.
-use Rattle.std.specs.Prelude.{ℕ, ◌<◌, ◌≤◌, IsTrue, List, Option, Some, None, codes, unwrap_or, if◌then◌else◌}
+use Rattle.std.specs.Prelude.{◌≡◌, ℕ, ◌<◌, ◌≤◌, IsTrue, false, List, Option, Some, None, codes, unwrap_or}
+use Rattle.std.specs.Prelude.{if◌then◌else◌}
 use Rattle.std.specs.Option.{option_and_then, option_map, option_or}
 use Rattle.std.specs.Str.{bytes_eq}
 use Rattle.rtr_types.specs.Parameters.{Fits}
@@ -18,10 +19,12 @@ use Rattle.tool_words.specs.declared.command.Command.TheVariants.{Check as Check
 use Rattle.tool_words.specs.declared.command.Command.TheVariants.{Gen as GenImage, Soak as SoakImage}
 use Rattle.tool_words.specs.declared.command.Command.TheVariants.{At as StateAt, Thin as ThinVectors}
 use Rattle.tool_words.specs.declared.command.Command.TheVariants.{CheckThin as CheckThinned}
+use Rattle.tool_words.specs.declared.command.Command.TheVariants.{TsoReplay as ReplayBuffered}
+use Rattle.tool_words.specs.declared.command.Command.TheVariants.{TsoRecord as RecordBuffered, TsoRun as RunBuffered}
 use Rattle.tool_words.specs.declared.command.Verb.{Verb}
 use Rattle.tool_words.specs.declared.command.Verb.TheVariants.{Record, Run, Print, Replay, Migrate}
 use Rattle.tool_words.specs.declared.command.Verb.TheVariants.{Certify, Check, Gen, Soak, At}
-use Rattle.tool_words.specs.declared.command.Verb.TheVariants.{Thin, CheckThin}
+use Rattle.tool_words.specs.declared.command.Verb.TheVariants.{Thin, CheckThin, TsoRecord, TsoRun, TsoReplay}
 use Rattle.tool_words.specs.Settings.{Settings}
 use Rattle.tool_words.specs.Choices.{bytes_of}
 use Rattle.tool_words.specs.Options.{params_of, threads_max, which_of}
@@ -50,9 +53,17 @@ need_verb word =
     if bytes_eq word (codes "thin") then Some Thin else
     if bytes_eq word (codes "checkthin") then Some CheckThin else None
 
+-- a word for a command for cores with store buffers, exactly
+abbrev pub buffer_verb : List ℕ → Option Verb
+buffer_verb word =
+    if bytes_eq word (codes "tsorecord") then Some TsoRecord else
+    if bytes_eq word (codes "tsorun") then Some TsoRun else
+    if bytes_eq word (codes "tsoreplay") then Some TsoReplay else None
+
 -- the command that a word names
 abbrev pub verb_named : List ℕ → Option Verb
-verb_named word = option_or (run_verb word) (option_or (recording_verb word) (need_verb word))
+verb_named word =
+    option_or (run_verb word) (option_or (recording_verb word) (option_or (need_verb word) (buffer_verb word)))
 
 -- the run with these settings
 abbrev pub run_of : Settings → RunWords
@@ -61,6 +72,15 @@ run_of s = record {
   choices = bytes_of s.choices;
   seed = unwrap_or s.seed 0;
   elf = s.elf;
+}
+
+-- the run with these settings, of an image as it stands
+abbrev pub flat_run_of : Settings → RunWords
+flat_run_of s = record {
+  params = params_of s;
+  choices = bytes_of s.choices;
+  seed = unwrap_or s.seed 0;
+  elf = false;
 }
 
 -- the shape and the number of an image, where both are set and the shape has an image of this number
@@ -92,6 +112,9 @@ command_of Soak s = option_map (λ p. SoakImage p.0 p.1 (params_of s) (unwrap_or
 command_of At s = option_map (λ at. StateAt (which_of s) at s.latest s.loads) (named_instr s)
 command_of Thin s = Some (ThinVectors s.certify)
 command_of CheckThin s = Some CheckThinned
+command_of TsoRecord s = Some (RecordBuffered (flat_run_of s))
+command_of TsoRun s = Some (RunBuffered (flat_run_of s) s.loads)
+command_of TsoReplay s = Some (ReplayBuffered s.loads)
 
 -- a machine may have this instruction: the core is one of the most, and the count lies within the greatest limit
 abbrev pub MayBe : Instr → Type 0
@@ -102,7 +125,9 @@ abbrev pub AreFewThreads : Option ℕ → Type 0
 AreFewThreads None = Unit {0}
 AreFewThreads (Some n) = (1 ≤ n) × (n ≤ threads_max)
 
--- the parameters of a command, where it has some, lie in their ranges, a shape that it names has an image of its
+-- the parameters of a command, where it has some, lie in their ranges, a run of cores with store buffers is of an
+-- image as
+-- it stands, a shape that it names has an image of its
 -- number, an instruction that it names may be, and so may its threads
 abbrev pub HasFittingParams : Command → Type 0
 HasFittingParams (RecordRun run) = Fits run.params
@@ -117,3 +142,6 @@ HasFittingParams (SoakImage shape number params seed) = Fits params × IsTrue (t
 HasFittingParams (StateAt which at latest loads) = MayBe at
 HasFittingParams (ThinVectors certify) = Unit {0}
 HasFittingParams CheckThinned = Unit {0}
+HasFittingParams (RecordBuffered run) = Fits run.params × (run.elf ≡ false)
+HasFittingParams (RunBuffered run loads) = Fits run.params × (run.elf ≡ false)
+HasFittingParams (ReplayBuffered loads) = Unit {0}

@@ -12,7 +12,9 @@ use Rattle.rtr_types.specs.declared.params.TheConstants.{INSTRUCTIONS_MAX, LIMIT
 use Rattle.trace_gen.specs.declared.shape.Shape as shapes
 use Rattle.trace_gen.specs.declared.shape.Shape.TheVariants.{Mix, Lock}
 use Rattle.tool_words.specs.declared.command.Verb.{Verb}
-use Rattle.tool_words.specs.declared.command.Verb.TheVariants.{Record, Run, Replay, Gen, Soak, At, Thin}
+use Rattle.tool_words.specs.declared.command.Verb.TheVariants.{Record, Run, Replay, Gen, Soak, At, Thin, TsoRecord}
+use Rattle.tool_words.specs.declared.command.Verb.TheVariants.{TsoRun}
+use Rattle.tool_words.specs.declared.command.Verb.TheVariants.{TsoReplay}
 use Rattle.tool_words.specs.declared.options.Name.{Name}
 use Rattle.tool_words.specs.declared.options.Name.TheVariants.{Cores, Limit, Words, Choices, Seed}
 use Rattle.tool_words.specs.declared.options.Name.TheVariants.{Log, Loads, Elf, Shape, Number}
@@ -89,6 +91,18 @@ takes At Log = true
 takes At Latest = true
 takes At Loads = true
 takes Thin Certified = true
+takes TsoRecord Cores = true
+takes TsoRecord Limit = true
+takes TsoRecord Words = true
+takes TsoRecord Choices = true
+takes TsoRecord Seed = true
+takes TsoRun Cores = true
+takes TsoRun Limit = true
+takes TsoRun Words = true
+takes TsoRun Choices = true
+takes TsoRun Seed = true
+takes TsoRun Loads = true
+takes TsoReplay Loads = true
 takes verb name = false
 
 -- the option that a word names, where the command takes it

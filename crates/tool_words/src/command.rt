@@ -1,7 +1,8 @@
 //! The commands, and which options each takes.
 ghost use Rattle.std.specs.Prelude.{◌≡◌, ◌≢◌, IfOk, None, OnErr};
 ghost use Rattle.tool_words.specs.Settings.{seen};
-ghost use Rattle.tool_words.specs.Commands.{command_of, need_verb, recording_verb, run_of, run_verb, verb_named};
+ghost use Rattle.tool_words.specs.Commands.{buffer_verb, command_of, flat_run_of, need_verb, recording_verb, run_of};
+ghost use Rattle.tool_words.specs.Commands.{run_verb, verb_named};
 
 use crate::choices::bytes_of;
 use crate::options::Settings;
@@ -76,6 +77,19 @@ pub enum Command {
     },
     /// Check what the thin file on the input shows.
     CheckThin,
+    /// Record a run of the image on the input, whose `elf` is false, by cores with store buffers.
+    TsoRecord(RunWords),
+    /// Run the image on the input, whose `elf` is false, by cores with store buffers, and print how the run ended; with
+    /// `loads` also what was loaded.
+    TsoRun {
+        run: RunWords,
+        loads: bool,
+    },
+    /// Replay the recording on the input, which is one of cores with store buffers, and print how the replay ended;
+    /// with `loads` also what was loaded.
+    TsoReplay {
+        loads: bool,
+    },
 }
 
 /// The first word: a command without its options.
@@ -93,6 +107,9 @@ pub(crate) enum Verb {
     At,
     Thin,
     CheckThin,
+    TsoRecord,
+    TsoRun,
+    TsoReplay,
 }
 
 impl Verb {
@@ -100,7 +117,9 @@ impl Verb {
     pub(crate) fn named(word: &str) -> Option<Verb>
         ensures { result ≡ verb_named word.now }
     {
-        Verb::of_runs(word).or(Verb::of_recordings(word).or(Verb::of_needs(word)))
+        Verb::of_runs(word).or(Verb::of_recordings(word).or(Verb::of_needs(word).or(
+            Verb::of_buffers(word),
+        )))
     }
 
     /// The command that makes an image or runs one and is named by this word, exactly.
@@ -149,6 +168,21 @@ impl Verb {
             Some(Verb::Thin)
         } else if word == "checkthin" {
             Some(Verb::CheckThin)
+        } else {
+            None
+        }
+    }
+
+    /// The command for cores with store buffers that is named by this word, exactly.
+    fn of_buffers(word: &str) -> Option<Verb>
+        ensures { result ≡ buffer_verb word.now }
+    {
+        if word == "tsorecord" {
+            Some(Verb::TsoRecord)
+        } else if word == "tsorun" {
+            Some(Verb::TsoRun)
+        } else if word == "tsoreplay" {
+            Some(Verb::TsoReplay)
         } else {
             None
         }
@@ -205,6 +239,14 @@ impl Verb {
                 certify: settings.certify,
             },
             Verb::CheckThin => Command::CheckThin,
+            Verb::TsoRecord => Command::TsoRecord(flat_run_of(alloc, settings)?),
+            Verb::TsoRun => Command::TsoRun {
+                run: flat_run_of(alloc, settings)?,
+                loads: settings.loads,
+            },
+            Verb::TsoReplay => Command::TsoReplay {
+                loads: settings.loads,
+            },
         }))
     }
 }
@@ -218,5 +260,17 @@ fn run_of(alloc: Global, settings: &Settings) -> Result<RunWords, AllocError>
         choices: bytes_of(alloc, settings.choices)?,
         seed: settings.seed.unwrap_or(0),
         elf: settings.elf,
+    })
+}
+
+/// The run with these settings, of an image as it stands.
+fn flat_run_of(alloc: Global, settings: &Settings) -> Result<RunWords, AllocError>
+    ensures { IfOk result (λ run. run ≡ flat_run_of (seen settings.now)) }
+{
+    Ok(RunWords {
+        params: settings.params(),
+        choices: bytes_of(alloc, settings.choices)?,
+        seed: settings.seed.unwrap_or(0),
+        elf: false,
     })
 }

@@ -141,11 +141,25 @@ impl Name {
     {
         match self {
             Name::Cores | Name::Limit | Name::Words | Name::Seed => {
-                matches!(verb, Verb::Record | Verb::Run | Verb::Soak)
+                matches!(
+                    verb,
+                    Verb::Record | Verb::Run | Verb::Soak | Verb::TsoRecord | Verb::TsoRun
+                )
             }
-            Name::Choices | Name::Elf => matches!(verb, Verb::Record | Verb::Run),
+            Name::Choices => {
+                matches!(
+                    verb,
+                    Verb::Record | Verb::Run | Verb::TsoRecord | Verb::TsoRun
+                )
+            }
+            Name::Elf => matches!(verb, Verb::Record | Verb::Run),
             Name::Log => matches!(verb, Verb::Replay | Verb::At),
-            Name::Loads => matches!(verb, Verb::Run | Verb::Replay | Verb::At),
+            Name::Loads => {
+                matches!(
+                    verb,
+                    Verb::Run | Verb::Replay | Verb::At | Verb::TsoRun | Verb::TsoReplay
+                )
+            }
             Name::Shape | Name::Number => matches!(verb, Verb::Gen | Verb::Soak),
             Name::Core | Name::Count | Name::Latest => matches!(verb, Verb::At),
             Name::Certified => matches!(verb, Verb::Thin),

@@ -40,7 +40,8 @@ first_word op rest fits =
     omega arith
 
 -- the words after it
-later_word : (op : Op) (rest : List ℕ) (k : ℕ) → word_from (instruction_bytes op ++ rest) (4 * suc k) ≡ word_from rest (4 * k)
+later_word : (op : Op) (rest : List ℕ) (k : ℕ) → word_from (instruction_bytes op ++ rest) (4 * suc k) ≡ word_from rest
+    (4 * k)
 later_word op rest k =
     let place : 4 + 4 * k ≡ 4 * suc k = omega arith in
     let moved : word_from rest (4 * k) ≡ word_from (instruction_bytes op ++ rest) (4 + 4 * k) =
@@ -65,6 +66,7 @@ fetches shape number words k op taken found =
     let within : 4 * k + 4 ≤ length bytes = omega (arith, found_within ops k op found, bytes_length ops) in
     let aligned : 4 * k % 4 ≡ 0 = omega arith in
     record {
-      word = fetched-some (record { bytes = bytes; words = words }) (4 * k) aligned within ∙ ap Some (word_at ops k op fits found);
+      word = fetched-some (record { bytes = bytes; words = words }) (4 * k) aligned within
+          ∙ ap Some (word_at ops k op fits found);
       meaning = back op (found_fits ops k op fits found);
     }

@@ -1,5 +1,6 @@
 -- Each instruction of a generated program has a word.
-use Rattle.std.proofs.Common.{ℕ, ◌+◌, ◌*◌, ◌/◌, ◌%◌, ◌==◌, ◌≤◌, pos, arith, Bool, true, false, cond, IsTrue, List, [], ◌∷◌, ◌++◌, length, All}
+use Rattle.std.proofs.Common.{ℕ, ◌+◌, ◌*◌, ◌/◌, ◌%◌, ◌==◌, ◌≤◌, pos, arith, Bool, true, false, cond, IsTrue, List, []}
+use Rattle.std.proofs.Common.{◌∷◌, ◌++◌, length, All}
 use Rattle.std.specs.List.{range_with_len}
 use Rattle.std.proofs.lemmas.Bool.Decides.{nat_tests}
 use Rattle.std.proofs.lemmas.Int.{ints}
@@ -16,7 +17,8 @@ use Rattle.trace_gen.proofs.Lengths.{mix_round_length, lock_round_length}
 even_back : (n : ℕ) → n ≤ 1024 → Fits (bne x5 x0 (minus (4 * n)))
 even_back n small = grind (arith, ints, nat_tests)
 
-pub repeated_fits : (rounds : ℕ) (setup round : List Op) → rounds ≤ 2047 → length round ≤ 1023 → All Fits setup → All Fits round
+pub repeated_fits : (rounds : ℕ) (setup round : List Op) → rounds ≤ 2047 → length round ≤ 1023 → All Fits setup →
+    All Fits round
     → All Fits (repeated rounds setup round)
 unfolding repeated
 repeated_fits rounds setup round few short setup_fits round_fits =
@@ -24,9 +26,14 @@ repeated_fits rounds setup round few short setup_fits round_fits =
     let count : Fits (addi x5 x5 (minus 1)) = grind (arith, ints) in
     let back : Fits (bne x5 x0 (minus (4 * (length round + 1)))) = even_back (length round + 1) (omega arith) in
     let end : All Fits (addi x5 x5 (minus 1) ∷ bne x5 x0 (minus (4 * (length round + 1))) ∷ Ecall ∷ []) =
-    All-from_recursion Fits (addi x5 x5 (minus 1) ∷ bne x5 x0 (minus (4 * (length round + 1))) ∷ Ecall ∷ []) (count, (back, (tt, tt))) in
-    let front : All Fits (addi x5 x0 (pos rounds) ∷ setup) = All-cons Fits (addi x5 x0 (pos rounds)) setup start setup_fits in
-    let body : All Fits (addi x5 x0 (pos rounds) ∷ setup ++ round) = All-append Fits (addi x5 x0 (pos rounds) ∷ setup) round front round_fits in
+    All-from_recursion Fits (addi x5 x5 (minus 1) ∷ bne x5 x0 (minus (4 * (length round + 1))) ∷ Ecall ∷ []) (
+      count,
+      (back, (tt, tt)),
+    ) in
+    let front : All Fits (addi x5 x0 (pos rounds) ∷ setup) =
+    All-cons Fits (addi x5 x0 (pos rounds)) setup start setup_fits in
+    let body : All Fits (addi x5 x0 (pos rounds) ∷ setup ++ round) =
+    All-append Fits (addi x5 x0 (pos rounds) ∷ setup) round front round_fits in
     All-append Fits (addi x5 x0 (pos rounds) ∷ setup ++ round)
     (addi x5 x5 (minus 1) ∷ bne x5 x0 (minus (4 * (length round + 1))) ∷ Ecall ∷ []) body end
 
@@ -48,7 +55,8 @@ mixed_fits word =
 
 mix_round_fits : (number : ℕ) → All Fits (mix_round number)
 unfolding mix_round
-mix_round_fits number = All-map Fits (λ k. mixed (mix_word number k)) (range_with_len 0 256) (λ k d within. mixed_fits _)
+mix_round_fits number = All-map Fits (λ k. mixed (mix_word number k)) (range_with_len 0 256)
+    (λ k d within. mixed_fits _)
 
 lock_setup_fits : All Fits lock_setup
 unfolding lock_setup
@@ -61,6 +69,8 @@ lock_round_fits = All-from_recursion Fits lock_round (grind (arith, ints))
 pub program_fits : (shape : Shape) (number : ℕ) → IsTrue (takes shape number) → All Fits (program shape number)
 unfolding program
 program_fits Mix number taken =
-    repeated_fits 100 [] (mix_round number) (omega arith) (omega (arith, mix_round_length number)) (All-nil Fits) (mix_round_fits number)
+    repeated_fits 100 [] (mix_round number) (omega arith) (omega (arith, mix_round_length number)) (All-nil Fits)
+    (mix_round_fits number)
 program_fits Lock number taken =
-    repeated_fits number lock_setup lock_round (grind (arith, nat_tests)) (omega (arith, lock_round_length)) lock_setup_fits lock_round_fits
+    repeated_fits number lock_setup lock_round (grind (arith, nat_tests)) (omega (arith, lock_round_length))
+    lock_setup_fits lock_round_fits

@@ -20,7 +20,8 @@ lock_setup_length : length lock_setup ≡ 4
 unfolding lock_setup
 lock_setup_length = refl
 
-repeated_length : (rounds : ℕ) (setup round : List Op) → length (repeated rounds setup round) ≡ length setup + length round + 4
+repeated_length : (rounds : ℕ) (setup round : List Op) → length (repeated rounds setup round) ≡ length setup + length
+    round + 4
 unfolding repeated
 repeated_length rounds setup round = simp length-append (omega arith)
 
@@ -33,7 +34,12 @@ bytes_length (op ∷ ops) =
 program_length : (shape : Shape) (number : ℕ) → 4 * length (program shape number) ≡ image_length shape
 unfolding program
 program_length Mix number = omega (arith, repeated_length 100 [] (mix_round number), mix_round_length number)
-program_length Lock number = omega (arith, repeated_length number lock_setup lock_round, lock_setup_length, lock_round_length)
+program_length Lock number = omega (
+  arith,
+  repeated_length number lock_setup lock_round,
+  lock_setup_length,
+  lock_round_length,
+)
 
 pub sized : (shape : Shape) (number : ℕ) → Sized shape number
 sized shape number =

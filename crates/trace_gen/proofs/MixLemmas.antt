@@ -27,7 +27,8 @@ pub one_more_drawn : (number n : ℕ) (words next : Lcg) (ops more : List Op) (w
     → (word, next) ≡ pcg32 words → more ≡ ops ++ mixed word ∷ [] → AreDrawn number (n + 1) next more
 one_more_drawn number n words next ops more word drawn is_next is_more =
     let same : word ≡ mix_word number n =
-    ap (λ (p : ℕ × Lcg). p.0) is_next ∙ sym (first words) ∙ drawn.left 0 ∙ ap (λ (m : ℕ). mix_word number m) (add-zero n) in
+    ap (λ (p : ℕ × Lcg). p.0) is_next ∙ sym (first words) ∙ drawn.left 0
+    ∙ ap (λ (m : ℕ). mix_word number m) (add-zero n) in
     record {
       made =
           is_more

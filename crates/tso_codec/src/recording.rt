@@ -1,4 +1,6 @@
 //! The recording, and the parts that its bytes have beyond those of version 2.
+ghost use Rattle.std.specs.Prelude.{◌≡◌};
+
 use rtr_types::{Items, Params};
 
 /// The number of the fifth part: for each core the loads that are logged, with their words.
@@ -21,6 +23,22 @@ pub struct TsoRecording {
     /// For each core its logged loads: the count that the load retired as, of 1 up to the core's total, and the
     /// word that it got. The counts rise.
     pub values: Items<Items<(u32, u32)>>,
+}
+
+impl TsoRecording {
+    /// The image, where the rest is not needed any more.
+    pub fn into_image(self) -> Items<u8>
+        ensures { result ≡ self.image }
+    {
+        let TsoRecording {
+            params: _params,
+            image,
+            totals: _totals,
+            reduced: _reduced,
+            values: _values,
+        } = self;
+        image
+    }
 }
 
 // All parts at once, so that a function that lets a recording go at several ends is short to check.

@@ -29,7 +29,7 @@ use Rattle.tso_recordings.proofs.Loads.{loads_length, loads_told as play_loads}
 use Rattle.tso_recordings.proofs.Values.{values_are_told}
 use Rattle.tso_recordings.specs.Values.{notes_told}
 use Rattle.tso_recordings.specs.Values.{values_told}
-use Rattle.tso_replay.specs.Laws.{Inside, ReplaysTold}
+use Rattle.tso_replay.specs.Laws.{Inside, IsToldRun, ReplaysTold}
 use Rattle.tso_replay.specs.Replays.{tso_given, tso_plan}
 use Rattle.tso_replay.specs.Told.{cores_told}
 use Rattle.tso_replay.proofs.Forward.{counted_play, counted_start}
@@ -44,7 +44,7 @@ use Rattle.tso_told.proofs.Told.{run_cores, told_all_reads, told_whole}
 use Rattle.told_plays.specs.Plays.{AreGiven, AreToldOf, IsPlayed, tellings_of}
 use Rattle.told_plays.proofs.Orders.{told_counts}
 use Rattle.told_plays.proofs.Plays.{played}
-use Rattle.tso_recordings.specs.Recordings.{CanRun, RunReplaysLaw, told_order, tso_recording_at}
+use Rattle.tso_recordings.specs.Recordings.{CanRun, RunReplaysLaw, RunToldLaw, told_order, tso_recording_at}
 use Rattle.tso_recordings.proofs.Tellings.{accesses_are, are_given, cores_are, notes_are}
 use Rattle.tso_recordings.proofs.Totals.{all_totals, total_told}
 use Rattle.tso_recordings.proofs.Valid.{recorded_here, run_order, run_told, run_values, valid_here}
@@ -214,23 +214,30 @@ module _ (image : Contents) (params : Params) (choices : ℕ → ℕ) (t : ℕ) 
       (cores_told (tellings_of (all_told image params choices t))) ≡ outcome_at image params choices t
   outcome_is = outcome_eq play (outcome_at image params choices t) cores_same words_same loads_same
 
+  pub told_here : IsToldRun (tso_recording_at image params choices t) (tellings_of (all_told image params choices t))
+      (outcome_at image params choices t)
+  told_here = record {
+    inside = inside;
+    whole = whole;
+    tells = plays.tells;
+    outcome_is = outcome_is;
+    least =
+        subst (λ (l : List Access). IsLeast l
+        (log_edges ReducedLog (plain_of (tso_recording_at image params choices t))))
+        (sym (accesses_are list ∙ run_accesses_told image params choices t))
+        (recorded_here image params choices t can done).least;
+  }
+
   pub replays_here : ReplaysTold (tso_recording_at image params choices t) (told_order image params choices t)
       (outcome_at image params choices t)
   replays_here =
       subst (λ (o : List ℕ). ReplaysTold (tso_recording_at image params choices t) o
       (outcome_at image params choices t)) (sym (cores_are list))
       (least_replays r (tellings_of list) (outcome_at image params choices t)
-      (valid_here image params choices t can done) (record {
-        inside = inside;
-        whole = whole;
-        tells = plays.tells;
-        outcome_is = outcome_is;
-        least =
-            subst (λ (l : List Access). IsLeast l
-            (log_edges ReducedLog (plain_of (tso_recording_at image params choices t))))
-            (sym (accesses_are list ∙ run_accesses_told image params choices t))
-            (recorded_here image params choices t can done).least;
-      }))
+      (valid_here image params choices t can done) told_here)
+
+pub run_told_so : RunToldLaw
+run_told_so image params choices t can done = told_here image params choices t can done
 
 pub run_replays : RunReplaysLaw
 run_replays image params choices t can done = replays_here image params choices t can done

@@ -12,8 +12,9 @@ use Rattle.log_codec.specs.Validity.{Valid}
 use Rattle.tso_codec.specs.declared.recording.TsoRecording.{TsoRecording}
 use Rattle.tso_codec.specs.Validity.{IsTso, plain_of}
 use Rattle.tso_records.specs.Standings.{standing_at}
-use Rattle.tso_replay.specs.Laws.{ReplaysTold}
-use Rattle.tso_state.specs.Runs.{accesses, outcome_at, retirements, run, totals, values_at}
+use Rattle.told_plays.specs.Plays.{tellings_of}
+use Rattle.tso_replay.specs.Laws.{IsToldRun, ReplaysTold}
+use Rattle.tso_state.specs.Runs.{accesses, all_told, outcome_at, retirements, run, totals, values_at}
 use Rattle.tso_state.specs.States.{all_done}
 use Rattle.tso_words.specs.Words.{OpensSmall}
 
@@ -56,6 +57,15 @@ abbrev pub ValidLaw : Type 0
 ValidLaw =
     (image : Contents) (params : Params) (choices : ℕ → ℕ) (t : ℕ) → CanRun image params
     → all_done (run image params choices t) ≡ true → IsTso (tso_recording_at image params choices t)
+
+-- What the run told plays with the recorded words and to the run's outcome, and the log is the least set of its
+-- accesses.
+abbrev pub RunToldLaw : Type 0
+RunToldLaw =
+    (image : Contents) (params : Params) (choices : ℕ → ℕ) (t : ℕ) → CanRun image params
+    → all_done (run image params choices t) ≡ true
+    → IsToldRun (tso_recording_at image params choices t) (tellings_of (all_told image params choices t))
+    (outcome_at image params choices t)
 
 -- Every replay order of the recording replays the run: it gives each core the first of the run's loads, it goes on
 -- until it is whole, and a whole one ends in the run's outcome.

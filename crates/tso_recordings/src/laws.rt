@@ -1,11 +1,12 @@
 //! What the recording of a run is, and what its replays come to.
-ghost use Rattle.tso_recordings.specs.Recordings.{RecordedLaw, RunReplaysLaw, ValidLaw};
+ghost use Rattle.tso_recordings.specs.Recordings.{RecordedLaw, RunReplaysLaw, RunToldLaw, ValidLaw};
 
 /// The recording of a run is valid. Its reduced log is the least set of the accesses that the run ordered, which the
-/// reduction comes to that is told of the run.
+/// reduction comes to that is told of the run. What was told plays with the recorded words to the run's outcome.
 pub fn every_run_is_recorded()
     ensures recorded { RecordedLaw }
     ensures valid { ValidLaw }
+    ensures told { RunToldLaw }
 {}
 
 /// Every replay order of it plays by accesses of the run and gives each core the first of the run's loads, each with

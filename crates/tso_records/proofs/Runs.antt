@@ -50,7 +50,7 @@ use Rattle.tso_told.specs.Played.{AreInside, told_of}
 use Rattle.tso_told.proofs.InOrder.{CountFrom, counts_behind, counts_from}
 use Rattle.tso_told.proofs.Sorted.{event_ordered}
 use Rattle.tso_told.proofs.Told.{told_inside, told_right}
-use Rattle.tso_records.specs.Records.{FoundTimesLaw, LeastEdgesLaw, ReductionLaw}
+use Rattle.tso_records.specs.Records.{FoundTimesLaw, LeastEdgesLaw, NextToldLaw, ReductionLaw}
 use Rattle.exact_reduction.specs.Reducing.{ReducesExactly}
 use Rattle.tso_records.specs.Standings.{Standing, TimedState, clock_told, edges_told, found_by, found_in, moved_by}
 use Rattle.tso_records.specs.Standings.{next_move, reduced_told, standing_at, standing_start, times_left}
@@ -129,6 +129,41 @@ module _ (params : Params) (s : PlainState) (all : List Access) (list : List Tol
       (λ a is. finds_exact times_parts none_carrying times_absorb (noted_accesses (reverse h.notes)) w.state m a h.holds
       can is h.stands)
 
+  -- what is told in a move goes on from what the reduction was told
+  after_move : (m : Move) → enabled times_riding none_carrying w.state m ≡ true →
+      AreInside params.cores (list ++ plain_told s m) →
+      ((c : ℕ) → c < params.cores → CountFrom 0 (told_of c (list ++ plain_told s m))) →
+      After h.notes all w.reduction w.edges (found_in w.state m) (told times_riding none_carrying w.state m)
+  after_move m can inside counts =
+      told_after h.notes all w.reduction w.edges (found_in w.state m) more
+      (local_behind (core_at w.state.cores (core_of m)) e)
+      (finds_exact_by (core_at w.state.cores (core_of m)) e all (found_in w.state m) (move_exact m can)) inside_more
+      awaits h.reduces
+    where
+      e : Event
+      e = event times_riding none_carrying w.state m
+
+      more : List Told
+      more = told times_riding none_carrying w.state m
+
+      more_is : more ≡ plain_told s m
+      more_is = forgets_told times_riding none_carrying w.state m ∙ ap (λ (u : PlainState). plain_told u m) h.plain_is
+
+      inside_more : AreInside w.reduction.cores more
+      inside_more =
+          subst (λ (n : ℕ). AreInside n more) (sym h.cores)
+          (subst (AreInside params.cores) (sym more_is) (inside_behind params.cores list (plain_told s m) inside))
+
+      awaits : Awaits w.reduction more
+      awaits c lt =
+          let below : c < params.cores = subst (λ (n : ℕ). c < n) h.cores lt in
+          let whole : CountFrom 0 (told_of c list ++ told_of c more) =
+          subst (CountFrom 0) (filter-append (λ (x : Told). (instr_told x).core == c) list more)
+          (subst (λ (l : List Told). CountFrom 0 (told_of c (list ++ l))) (sym more_is) (counts c below)) in
+          subst (λ (n : ℕ). CountFrom n (told_of c more)) (sym (h.counts c below))
+          (subst (λ (n : ℕ). CountFrom n (told_of c more)) (zero-add (length (told_of c list)))
+          (counts_behind 0 (told_of c list) (told_of c more) whole))
+
   stands_next : (o : Option Move) → ((m : Move) → o ≡ Some m → enabled times_riding none_carrying w.state m ≡ true) →
       AreInside params.cores (list ++ told_by s o) →
       ((c : ℕ) → c < params.cores → CountFrom 0 (told_of c (list ++ told_by s o))) →
@@ -185,28 +220,18 @@ module _ (params : Params) (s : PlainState) (all : List Access) (list : List Tol
       told_more : (c : ℕ) → told_of c (list ++ more) ≡ told_of c list ++ told_of c more
       told_more c = filter-append (λ (x : Told). (instr_told x).core == c) list more
 
-      inside_more : AreInside w.reduction.cores more
-      inside_more =
-          subst (λ (n : ℕ). AreInside n more) (sym h.cores)
-          (subst (AreInside params.cores) (sym more_is) (inside_behind params.cores list (plain_told s m) inside))
-
-      awaits : Awaits w.reduction more
-      awaits c lt =
-          let below : c < params.cores = subst (λ (n : ℕ). c < n) h.cores lt in
-          let whole : CountFrom 0 (told_of c list ++ told_of c more) =
-          subst (CountFrom 0) (told_more c)
-          (subst (λ (l : List Told). CountFrom 0 (told_of c (list ++ l))) (sym more_is) (counts c below)) in
-          subst (λ (n : ℕ). CountFrom n (told_of c more)) (sym (h.counts c below))
-          (subst (λ (n : ℕ). CountFrom n (told_of c more)) (zero-add (length (told_of c list)))
-          (counts_behind 0 (told_of c list) (told_of c more) whole))
-
       after : After h.notes all w.reduction w.edges found more
-      after =
-          told_after h.notes all w.reduction w.edges found more (local_behind (core_at w.state.cores (core_of m)) e)
-          (finds_exact_by (core_at w.state.cores (core_of m)) e all found (move_exact m (can m refl))) inside_more
-          awaits h.reduces
+      after = after_move m (can m refl) inside counts
 
 -- ---- along a run
+
+-- what was told of each core counts on from its first instruction
+run_counts : (image : Contents) (params : Params) (choices : ℕ → ℕ) (t : ℕ) → params.cores ≤ CORES_MAX →
+    params.limit < 2 ^ 32 → (c : ℕ) → c < params.cores → CountFrom 0 (told_of c (all_told image params choices t))
+run_counts image params choices t few small c lt =
+    subst (λ (n : ℕ). CountFrom n (told_of c (all_told image params choices t))) (start_law c params.limit).2
+    (counts_from image (starting c params.limit) (told_of c (all_told image params choices t))
+    (told_right image params choices t c few small lt))
 
 stands_more : (image : Contents) (params : Params) (choices : ℕ → ℕ) (t : ℕ) → params.cores ≤ CORES_MAX →
     params.limit < 2 ^ 32 →
@@ -225,10 +250,7 @@ stands_more image params choices t few small h =
     (subst (λ (o : Option Move). AreInside params.cores (all_told image params choices t ++ told_by s o)) (sym same)
     (told_inside image params choices (suc t) few small))
     (λ c lt. subst (λ (o : Option Move). CountFrom 0 (told_of c (all_told image params choices t ++ told_by s o)))
-    (sym same)
-    (subst (λ (n : ℕ). CountFrom n (told_of c (all_told image params choices (suc t)))) (start_law c params.limit).2
-    (counts_from image (starting c params.limit) (told_of c (all_told image params choices (suc t)))
-    (told_right image params choices (suc t) c few small lt)))))
+    (sym same) (run_counts image params choices (suc t) few small c lt)))
   where
     s : PlainState
     s = run image params choices t
@@ -248,6 +270,28 @@ stands_at image params choices (suc t) few small =
     stands_more image params choices t few small (stands_at image params choices t few small)
 
 -- ---- the laws
+
+pub next_told : NextToldLaw
+next_told image params choices t m few small is =
+    (after_move params s (accesses image params choices t) (all_told image params choices t) w h m
+    (enabled_here w.state (choices t) m is)
+    (subst (λ (o : Option Move). AreInside params.cores (all_told image params choices t ++ told_by s o)) taken
+    (told_inside image params choices (suc t) few small))
+    (λ c lt. subst (λ (o : Option Move). CountFrom 0 (told_of c (all_told image params choices t ++ told_by s o))) taken
+    (run_counts image params choices (suc t) few small c lt))).next
+  where
+    s : PlainState
+    s = run image params choices t
+
+    w : Standing
+    w = standing_at image params choices t
+
+    h : Stands params (run image params choices t) (accesses image params choices t)
+        (all_told image params choices t) (standing_at image params choices t)
+    h = stands_at image params choices t few small
+
+    taken : chosen (run image params choices t) (choices t) ≡ Some m
+    taken = ap (λ (u : PlainState). chosen u (choices t)) (sym h.plain_is) ∙ is
 
 pub reduction_is : ReductionLaw
 reduction_is image params choices t few small =

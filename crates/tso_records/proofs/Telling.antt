@@ -28,7 +28,7 @@ use Rattle.tso_told.specs.Played.{AreInside, ordered_told, told_of}
 use Rattle.tso_told.proofs.InOrder.{CountFrom, first_own, first_else}
 use Rattle.tso_told.proofs.Sorted.{none_ordered}
 use Rattle.exact_reduction.specs.Reducing.{ReducesExactly}
-use Rattle.tso_records.specs.Standings.{clock_told, edges_told, reduced_told, times_left}
+use Rattle.tso_records.specs.Standings.{AreNextOf, clock_told, edges_told, reduced_told, times_left}
 use Rattle.exact_reduction.proofs.Reducing.{Counted, access_counted, access_reduces, local_counted}
 use Rattle.tso_records.proofs.Reducing.{local_reduces, reversed_more}
 
@@ -90,6 +90,7 @@ counts_next r next e list counted is c = elim (ℕ_discrete c (instr_told e).cor
 
 record Locals (list : List Retirement) (all : List Access) (r : Reduced) (edges : List Edge) (found : Times)
     (more : List Told) : Type 0 where
+  next : AreNextOf r found more
   none : edges_told r found more ≡ []
   reduces : ReducesExactly list all (reduced_told r found more) edges
   cores : (reduced_told r found more).cores ≡ r.cores
@@ -100,6 +101,7 @@ locals_told : (list : List Retirement) (all : List Access) (r : Reduced) (edges 
     AreInside r.cores more → Awaits r more → ReducesExactly list all r edges → Locals list all r edges found more
 locals_told list all r edges found [] local inside awaits h =
     record {
+      next = tt;
       none = refl;
       reduces = h;
       cores = refl;
@@ -114,6 +116,7 @@ locals_told list all r edges found (Alone at ∷ more) local inside awaits h =
     (awaits_next r (counted r at) (Alone at) more counted_is inside awaits)
     (local_reduces list all r edges at next h) in
     record {
+      next = (next, rest.next);
       none = rest.none;
       reduces = rest.reduces;
       cores = rest.cores ∙ counted_is.cores;
@@ -131,6 +134,7 @@ locals_told list all r edges found (Logged at word value ∷ more) local inside 
     (awaits_next r (counted r at) (Logged at word value) more counted_is inside awaits)
     (local_reduces list all r edges at next h) in
     record {
+      next = (next, rest.next);
       none = rest.none;
       reduces = rest.reduces;
       cores = rest.cores ∙ counted_is.cores;
@@ -161,6 +165,7 @@ noted_told r found (Logged at word value ∷ more) h = h
 pub record After (list : List Retirement) (all : List Access) (r : Reduced) (edges : List Edge) (found : Times)
     (more : List Told) : Type 0 where
   pub later : List Retirement
+  pub next : AreNextOf r found more
   pub noted : noted_accesses (reverse later) ≡ noted_told r found more (noted_accesses (reverse list))
   pub reduces : ReducesExactly later (all ++ ordered_told more) (reduced_told r found more)
       (edges ++ edges_told r found more)
@@ -176,6 +181,7 @@ locals_after list all r edges found more local noted inside awaits h =
     let it = locals_told list all r edges found more local inside awaits h in
     record {
       later = list;
+      next = it.next;
       noted = sym noted;
       reduces = subst (λ (l : List Access). ReducesExactly list l (reduced_told r found more)
           (edges ++ edges_told r found more))
@@ -207,6 +213,7 @@ told_after list all r edges found (Ordered a ∷ more) local exact inside awaits
     (awaits_next r (retired r a found) (Ordered a) more counted_is inside awaits) first in
     record {
       later = list ++ q ∷ [];
+      next = (next, rest.next);
       noted = ap noted_accesses (sym (reversed_more list q));
       reduces = subst (λ (l : List Access). ReducesExactly (list ++ q ∷ []) l
           (reduced_told (retired r a found) found more)

@@ -1,5 +1,7 @@
 -- What is exact along every run.
-use Rattle.std.specs.Prelude.{◌≡◌, ℕ, ◌<◌, ◌≤◌, ◌^◌, List, length}
+use Rattle.std.specs.Prelude.{◌≡◌, ℕ, ◌<◌, ◌≤◌, ◌^◌, List, Some, length}
+use Rattle.access_times.specs.Riding.{none_carrying}
+use Rattle.access_times.specs.Times.{times_riding}
 use Rattle.image_mem.specs.Contents.{Contents}
 use Rattle.rtr_types.specs.declared.TheConstants.{CORES_MAX}
 use Rattle.rtr_types.specs.declared.access.Access.{Access}
@@ -12,7 +14,9 @@ use Rattle.online_reduce.specs.Reduced.{Reduced, count_of}
 use Rattle.tso_data.specs.Orders.{ordering_of}
 use Rattle.tso_state.specs.Runs.{accesses, all_told, event_at}
 use Rattle.tso_told.specs.Played.{told_of}
-use Rattle.tso_records.specs.Standings.{standing_at, times_found}
+use Rattle.tso_state.specs.declared.moves.Move.{Move}
+use Rattle.tso_state.specs.Steps.{told}
+use Rattle.tso_records.specs.Standings.{AreNextOf, found_in, next_move, standing_at, times_found}
 
 -- Whatever access is ordered at a choice of a run, the times that it finds are exact for it among the accesses that
 -- were ordered before.
@@ -41,3 +45,12 @@ abbrev pub ReductionLaw : Type 0
 ReductionLaw =
     (image : Contents) (params : Params) (choices : ℕ → ℕ) (t : ℕ) → params.cores ≤ CORES_MAX → params.limit < 2 ^ 32
     → let w = standing_at image params choices t in IsReductionOf image params choices t w.reduction w.edges
+
+-- Whatever move a choice of a run takes, what is told in it is, one instruction after the other, what the reduction
+-- awaits.
+abbrev pub NextToldLaw : Type 0
+NextToldLaw =
+    (image : Contents) (params : Params) (choices : ℕ → ℕ) (t : ℕ) (m : Move) → params.cores ≤ CORES_MAX
+    → params.limit < 2 ^ 32 → let w = standing_at image params choices t in
+    next_move w (choices t) ≡ Some m
+    → AreNextOf w.reduction (found_in w.state m) (told times_riding none_carrying w.state m)

@@ -10,7 +10,7 @@ use Rattle.image_mem.specs.Contents.{Contents}
 use Rattle.rtr_types.specs.declared.instr.Edge.{Edge}
 use Rattle.rtr_types.specs.declared.params.Params.{Params}
 use Rattle.msi_state.specs.Events.{Event as ClerkEvent, Accesses, rider_of_event}
-use Rattle.online_reduce.specs.Reduced.{Reduced, clock_of, counted, edges_of, retired, unreduced}
+use Rattle.online_reduce.specs.Reduced.{IsNext, Reduced, clock_of, counted, edges_of, retired, unreduced}
 use Rattle.tso_data.specs.Orders.{ordering_of}
 use Rattle.tso_plain.specs.Plain.{plain}
 use Rattle.tso_state.specs.Events.{Told, Alone, Ordered, Logged}
@@ -59,6 +59,13 @@ edges_told r found [] = []
 edges_told r found (Alone at ∷ list) = edges_told (counted r at) found list
 edges_told r found (Ordered a ∷ list) = edges_of r a found ++ edges_told (retired r a found) found list
 edges_told r found (Logged at word value ∷ list) = edges_told (counted r at) found list
+
+-- each of these is the next instruction of its core for the reduction, once those before it were told
+abbrev pub AreNextOf : Reduced → (found : Times) → List Told → Type 0
+AreNextOf r found [] = Unit {0}
+AreNextOf r found (Alone at ∷ list) = IsNext r at × AreNextOf (counted r at) found list
+AreNextOf r found (Ordered a ∷ list) = IsNext r a.at × AreNextOf (retired r a found) found list
+AreNextOf r found (Logged at word value ∷ list) = IsNext r at × AreNextOf (counted r at) found list
 
 -- ---- along a run
 

@@ -1,5 +1,5 @@
 //! What is exact along every run.
-ghost use Rattle.tso_records.specs.Records.{FoundTimesLaw, LeastEdgesLaw, ReductionLaw};
+ghost use Rattle.tso_records.specs.Records.{FoundTimesLaw, LeastEdgesLaw, NextToldLaw, ReductionLaw};
 
 /// The times that each ordered access of a run finds are exact for it among the accesses that were ordered before.
 pub fn times_are_exact()
@@ -11,4 +11,10 @@ pub fn times_are_exact()
 pub fn the_edges_are_least()
     ensures least { LeastEdgesLaw }
     ensures reduction { ReductionLaw }
+{}
+
+/// What is told in each move of a run is, one instruction after the other, what the reduction awaits: each is of one of
+/// its cores, and has the count behind that of the last instruction that it was told of that core.
+pub fn what_is_told_is_awaited()
+    ensures { NextToldLaw }
 {}

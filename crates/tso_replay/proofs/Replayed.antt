@@ -1,9 +1,8 @@
 -- A list that was told decides, and so every replay comes to what it came to.
-use Rattle.std.proofs.Common.{◌≡◌, ◌∙◌, ◌⊎◌, inl, inr, ℕ, ◌+◌, ◌<◌, ◌≤◌, List, [], ◌∷◌, ◌++◌, length, refl, sym, ap}
+use Rattle.std.proofs.Common.{◌≡◌, ◌∙◌, ◌⊎◌, inl, inr, ℕ, ◌+◌, ◌<◌, List, [], ◌∷◌, ◌++◌, length, refl, sym, ap}
 use Rattle.std.proofs.Common.{subst, arith}
 use Rattle.std.specs.Prelude.{Some, None, slice_index}
 use Rattle.rtr_types.specs.declared.access.Access.{Access}
-use Rattle.rtr_types.specs.declared.instr.Instr.{Instr}
 use Rattle.rtr_types.specs.declared.pairs.Which.TheVariants.{Reduced}
 use Rattle.clock_core.proofs.Listed.{contains_among}
 use Rattle.clock_core.specs.Order.{Among}
@@ -23,11 +22,10 @@ use Rattle.replay_audit.specs.Determinate.{DecidesValued}
 use Rattle.replay_audit.specs.Laws.{AgreesValued, GoesOnValued}
 use Rattle.replay_audit.proofs.Agreed.{every_valued_law, low_ordered, lowest_stuck}
 use Rattle.replay_audit.proofs.Logs.{recorded_log}
-use Rattle.tso_codec.specs.declared.recording.TsoRecording.{TsoRecording}
-use Rattle.tso_codec.specs.Validity.{IsTso, plain_of}
-use Rattle.tso_replay.specs.Laws.{Inside, IsTold, IsToldRun, ToldDecidesLaw, ReplaysTold, ToldReplaysLaw}
-use Rattle.tso_replay.specs.Laws.{LeastReplaysLaw}
-use Rattle.tso_replay.specs.Replays.{tso_plan, tso_given, TsoReplays, TsoRefuses}
+use Rattle.tso_codec.specs.Validity.{plain_of}
+use Rattle.tso_replay.specs.Laws.{Inside, IsTold, ToldDecidesLaw, ToldReplaysLaw}
+use Rattle.tso_replay.specs.Laws.{LeastReplaysLaw, OrderedAgreeLaw}
+use Rattle.tso_replay.specs.Replays.{tso_plan, tso_given, TsoRefuses}
 use Rattle.tso_replay.specs.Told.{cores_told, accesses_told}
 use Rattle.tso_replay.proofs.Forward.{conflicts_forward}
 use Rattle.tso_replay.proofs.Told.{told_plays}
@@ -132,3 +130,16 @@ least_replays r list outcome valid h =
           (λ x y edge. subst (λ (l : List Access). ConflictPair l x y) (sym plays.1) (h.least.conflict x y edge));
       suffices = h.least.suffices;
     })
+
+-- ---- where the low order's conflicts are ordered
+
+pub ordered_agree : OrderedAgreeLaw
+ordered_agree r outcome valid replays suffices order ordered =
+    let p = tso_plan r in
+    every_valued_law (tso_given r) p (low_order p) order (recorded_log Reduced (plain_of r) valid.plain)
+    (record {
+      ordered = low_ordered p;
+      whole = replays.whole;
+      plays = (valued_short_law (tso_given r) p (start p) (low_order p)).1 replays.plays;
+      suffices = suffices;
+    }) ordered

@@ -1,5 +1,6 @@
 -- Words that spell settings are cut into these, and words that are cut into settings spell them.
-use Rattle.std.proofs.Common.{◌≡◌, ℕ, ◌+◌, ◌==◌, Bool, true, false, List, [], ◌∷◌, ◌++◌, Option, Some, None, refl, sym, ap, ◌∙◌, subst}
+use Rattle.std.proofs.Common.{◌≡◌, ℕ, ◌+◌, ◌==◌, Bool, true, false, List, [], ◌∷◌, ◌++◌, Option, Some, None, refl}
+use Rattle.std.proofs.Common.{sym, ap, ◌∙◌, subst}
 use Rattle.std.proofs.Common.{cond, is_some, length, not, arith, append_assoc, get_or, inl, inr, nat_lt}
 use Rattle.std.specs.Option.{option_and_then}
 use Rattle.std.specs.List.{after_first, before_first, position_or_len}
@@ -20,7 +21,8 @@ use Rattle.words_laws.proofs.Options.{begins, one-of-two, part-is, prepend-more,
 -- the first `=` after a word without one
 seam : (word text : List ℕ) → IsPlain word → position_or_len is_equals (word ++ 61 ∷ text) ≡ length word
 seam word text plain =
-    let whole : position_or_len is_equals (word ++ 61 ∷ text) ≡ cond (position_or_len is_equals word == length word) (length word + 0)
+    let whole : position_or_len is_equals (word ++ 61 ∷ text) ≡ cond (position_or_len is_equals word == length word)
+    (length word + 0)
     (position_or_len is_equals word) = prefix_len-append (λ x. not (is_equals x)) word (61 ∷ text) in
     grind (arith, nat_tests)
 
@@ -36,18 +38,21 @@ option-name verb name h = names-are-plain name (begins (λ n. cond (takes verb n
 
 value-name : (verb : _) (name text : List ℕ) (set : Set) → valued verb name text ≡ Some set → IsPlain name
 value-name verb name text set h = option-name verb name
-    (begins {B = Set} (λ n. cond (takes_value n) (Some (record { name = n; text = text })) None) (option_of verb name) (ap is_some h))
+    (begins {B = Set} (λ n. cond (takes_value n) (Some (record { name = n; text = text })) None) (option_of verb name)
+    (ap is_some h))
 
 flag-name : (verb : _) (name : List ℕ) (set : Set) → flag verb name ≡ Some set → IsPlain name
 flag-name verb name set h = option-name verb name
-    (begins {B = Set} (λ n. cond (takes_value n) None (Some (record { name = n; text = [] }))) (option_of verb name) (ap is_some h))
+    (begins {B = Set} (λ n. cond (takes_value n) None (Some (record { name = n; text = [] }))) (option_of verb name)
+    (ap is_some h))
 
 -- a name and its value in one word
 alone-joined : (verb : _) (word text : List ℕ) → IsPlain word → alone verb (word ++ 61 ∷ text) ≡ valued verb word text
 alone-joined verb word text plain =
     let first = seam word text plain in
     let long = length-append word (61 ∷ text) in
-    let less : nat_lt (position_or_len is_equals (word ++ 61 ∷ text)) (length (word ++ 61 ∷ text)) ≡ true = grind (arith, nat_tests) in
+    let less : nat_lt (position_or_len is_equals (word ++ 61 ∷ text)) (length (word ++ 61 ∷ text)) ≡ true = grind
+    (arith, nat_tests) in
     rw (less, name-before word text plain, text-after word text plain) refl
 
 -- a word without `=` makes a setting by itself where it is a flag
@@ -58,11 +63,13 @@ alone-flag verb word plain =
 
 no-flag : (verb : _) (name text : List ℕ) (set : Set) → valued verb name text ≡ Some set → flag verb name ≡ None
 no-flag verb name text set h =
-    one-of-two {B = Set} takes_value (λ n. record { name = n; text = text }) (λ n. record { name = n; text = [] }) (option_of verb name) set h
+    one-of-two {B = Set} takes_value (λ n. record { name = n; text = text }) (λ n. record { name = n; text = [] })
+    (option_of verb name) set h
 
 value-text : (verb : _) (name text : List ℕ) (set : Set) → valued verb name text ≡ Some set → set.text ≡ text
 value-text verb name text set h =
-    part-is {B = Set} takes_value (λ n. record { name = n; text = text }) (λ (s : Set). s.text) text (λ n. refl) (option_of verb name) set h
+    part-is {B = Set} takes_value (λ n. record { name = n; text = text }) (λ (s : Set). s.text) text (λ n. refl)
+    (option_of verb name) set h
 
 -- ---- the front of words
 
@@ -72,12 +79,14 @@ unfolding settings
 by-alone verb word [] set h = rw h refl
 by-alone verb word (next ∷ rest) set h = rw h refl
 
-by-pair : (verb : _) (word next : List ℕ) (rest : List (List ℕ)) (set : Set) → alone verb word ≡ None → valued verb word next ≡ Some set →
+by-pair : (verb : _) (word next : List ℕ) (rest : List (List ℕ)) (set : Set) → alone verb word ≡ None
+    → valued verb word next ≡ Some set →
     settings verb (word ∷ next ∷ rest) ≡ prepend (Some set) (settings verb rest)
 unfolding settings
 by-pair verb word next rest set h k = rw (h, k) refl
 
-pub when-joined : (verb : _) (name text : List ℕ) (rest : List (List ℕ)) (set : Set) → valued verb name text ≡ Some set →
+pub when-joined : (verb : _) (name text : List ℕ) (rest : List (List ℕ)) (set : Set) → valued verb name text ≡ Some
+    set →
     settings verb (joined name text ++ rest) ≡ prepend (Some set) (settings verb rest)
 when-joined verb name text rest set h =
     by-alone verb (name ++ 61 ∷ text) rest set (alone-joined verb name text (value-name verb name text set h) ∙ h)
@@ -85,10 +94,12 @@ when-joined verb name text rest set h =
 pub when-apart : (verb : _) (name text : List ℕ) (rest : List (List ℕ)) (set : Set) → valued verb name text ≡ Some set →
     settings verb (apart name text ++ rest) ≡ prepend (Some set) (settings verb rest)
 when-apart verb name text rest set h =
-    by-pair verb name text rest set (alone-flag verb name (value-name verb name text set h) ∙ no-flag verb name text set h) h
+    by-pair verb name text rest set (alone-flag verb name (value-name verb name text set h) ∙ no-flag verb name text
+    set h) h
 
 -- words that spell a setting are cut into it
-pub front : (first : List ℕ) (verb : _) (piece rest : List (List ℕ)) (set : Set) → verb_named first ≡ Some verb → Spells first piece set →
+pub front : (first : List ℕ) (verb : _) (piece rest : List (List ℕ)) (set : Set) → verb_named first ≡ Some verb
+    → Spells first piece set →
     settings verb (piece ++ rest) ≡ prepend (Some set) (settings verb rest)
 front first verb piece rest set is (name, inl (made, inl shape)) =
     rw shape (when-joined verb name set.text rest set (rw is at made))
@@ -99,7 +110,8 @@ front first verb piece rest set is (name, inr (made, shape)) =
     rw shape (by-alone verb name rest set (alone-flag verb name (flag-name verb name set flagged) ∙ flagged))
 
 -- words that spell settings are cut into these
-pub fronts : (first : List ℕ) (verb : _) (sets : List Set) (before rest : List (List ℕ)) → verb_named first ≡ Some verb →
+pub fronts : (first : List ℕ) (verb : _) (sets : List Set) (before rest : List (List ℕ)) → verb_named first ≡ Some
+    verb →
     AreSpelled first before sets → settings verb (before ++ rest) ≡ prepend_all sets (settings verb rest)
 fronts first verb [] before rest is none = rw none (sym (prepend-none (settings verb rest)))
 fronts first verb (set ∷ sets) before rest is (piece, more, cut, spelled, others) =
@@ -111,12 +123,14 @@ fronts first verb (set ∷ sets) before rest is (piece, more, cut, spelled, othe
 -- ---- back
 
 -- a word that makes a setting by itself spells it
-alone-spells : (first : List ℕ) (verb : _) (word : List ℕ) (set : Set) → verb_named first ≡ Some verb → alone verb word ≡ Some set →
+alone-spells : (first : List ℕ) (verb : _) (word : List ℕ) (set : Set) → verb_named first ≡ Some verb
+    → alone verb word ≡ Some set →
     Spells first (word ∷ []) set
 alone-spells first verb word set is h = by-test (nat_lt (position_or_len is_equals word) (length word)) refl h
   where
     by-test : (b : Bool) → nat_lt (position_or_len is_equals word) (length word) ≡ b →
-        cond b (valued verb (before_first is_equals word) (after_first is_equals word)) (flag verb word) ≡ Some set → Spells first (word ∷ []) set
+        cond b (valued verb (before_first is_equals word) (after_first is_equals word)) (flag verb word) ≡ Some set
+        → Spells first (word ∷ []) set
     by-test true e k =
         let name = before_first is_equals word in
         let same = value-text verb name (after_first is_equals word) set k in
@@ -138,14 +152,24 @@ cut-spells first verb [] sets is h = let none : [] ≡ sets = cc in subst (AreSp
 cut-spells first verb (word ∷ []) sets is h =
     let p = prepended (alone verb word) (Some []) sets h in
     let none : [] ≡ p.1 = let e = p.3 in cc in
-    subst (AreSpelled first (word ∷ [])) p.4 (word ∷ [], [], refl, alone-spells first verb word p.0 is p.2, subst (AreSpelled first []) none refl)
+    subst (AreSpelled first (word ∷ [])) p.4 (
+      word ∷ [],
+      [],
+      refl,
+      alone-spells first verb word p.0 is p.2,
+      subst
+          (AreSpelled first []) none refl,
+    )
 cut-spells first verb (word ∷ next ∷ rest) sets is h =
-    by-case (alone verb word) refl h (λ s k. cut-spells first verb (next ∷ rest) s is k) (λ s k. cut-spells first verb rest s is k)
+    by-case (alone verb word) refl h (λ s k. cut-spells first verb (next ∷ rest) s is k)
+    (λ s k. cut-spells first verb rest s is k)
   where
     by-case : (o : Option Set) → alone verb word ≡ o →
-        cond (is_some o) (prepend o (settings verb (next ∷ rest))) (prepend (valued verb word next) (settings verb rest)) ≡ Some sets →
+        cond (is_some o) (prepend o (settings verb (next ∷ rest)))
+        (prepend (valued verb word next) (settings verb rest)) ≡ Some sets →
         ((s : List Set) → settings verb (next ∷ rest) ≡ Some s → AreSpelled first (next ∷ rest) s) →
-        ((s : List Set) → settings verb rest ≡ Some s → AreSpelled first rest s) → AreSpelled first (word ∷ next ∷ rest) sets
+        ((s : List Set) → settings verb rest ≡ Some s → AreSpelled first rest s)
+        → AreSpelled first (word ∷ next ∷ rest) sets
     by-case (Some set) e k longer shorter =
         let p = prepended (Some set) (settings verb (next ∷ rest)) sets k in
         subst (AreSpelled first (word ∷ next ∷ rest)) p.4

@@ -14,7 +14,8 @@ abbrev pub IsPlain : List ℕ → Type 0
 IsPlain word = position_or_len is_equals word ≡ length word
 
 -- a word that is this text, or is named further on
-or-else : {N : Type 0} (word text : List ℕ) (name : N) (others : Option N) → IsPlain text → (is_some others ≡ true → IsPlain word) →
+or-else : {N : Type 0} (word text : List ℕ) (name : N) (others : Option N) → IsPlain text
+    → (is_some others ≡ true → IsPlain word) →
     is_some (cond (bytes_eq word text) (Some name) others) ≡ true → IsPlain word
 or-else word text name others plain further h = by-test (bytes_eq word text) refl h
   where

@@ -4,7 +4,8 @@ use Rattle.std.specs.Option.{option_and_then, option_map}
 use Rattle.tool_words.specs.Reading.{Set, prepend}
 
 -- the two parts of a chain that ends with something
-pub and-then-some : {A B : Type 0} (f : A → Option B) (o : Option A) (b : B) → option_and_then f o ≡ Some b → (a : A) × (o ≡ Some a) × (f a ≡ Some b)
+pub and-then-some : {A B : Type 0} (f : A → Option B) (o : Option A) (b : B) → option_and_then f o ≡ Some b → (a : A)
+    × (o ≡ Some a) × (f a ≡ Some b)
 and-then-some f (Some a) b h = (a, refl, h)
 and-then-some f None b h = absurd (cc)
 
@@ -24,7 +25,8 @@ if-none false o a h = (refl, h)
 
 -- of two chains, of which one makes something where a test holds and the other where it doesn't, one makes nothing
 pub one-of-two : {A B : Type 0} (test : A → Bool) (f g : A → B) (o : Option A) (b : B) →
-    option_and_then (λ a. cond (test a) (Some (f a)) None) o ≡ Some b → option_and_then (λ a. cond (test a) None (Some (g a))) o ≡ None
+    option_and_then (λ a. cond (test a) (Some (f a)) None) o ≡ Some b
+    → option_and_then (λ a. cond (test a) None (Some (g a))) o ≡ None
 one-of-two test f g None b h = refl
 one-of-two test f g (Some a) b h = by-test (test a) h
   where

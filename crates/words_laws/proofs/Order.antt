@@ -1,6 +1,8 @@
--- Settings of different options may be put in in either order: each setting is settings of its own, in which one option is
+-- Settings of different options may be put in in either order: each setting is settings of its own, in which one
+-- option is
 -- set, and to put it in is to lay these over those that were there.
-use Rattle.std.proofs.Common.{◌≡◌, ◌≢◌, ℕ, Bool, true, false, ◌&&◌, ◌||◌, List, [], Option, Some, None, refl, sym, ap, ◌∙◌, cond, is_some, arith}
+use Rattle.std.proofs.Common.{◌≡◌, ◌≢◌, ℕ, Bool, true, false, ◌&&◌, ◌||◌, List, [], Option, Some, None, refl, sym, ap}
+use Rattle.std.proofs.Common.{◌∙◌, cond, is_some, arith}
 use Rattle.std.specs.Option.{option_and_then, option_map}
 use Rattle.std.proofs.Math.Bool.{or-false}
 use Rattle.rtr_types.specs.declared.pairs.Which.{Which}
@@ -18,7 +20,8 @@ abbrev pick : {A : Type 0} → Option A → Option A → Option A
 pick None old = old
 pick (Some v) old = Some v
 
-is-some-pick : {A : Type 0} (e d s : Option A) → (is_some d && is_some e) ≡ false → (is_some e && is_some (pick d s)) ≡ (is_some e && is_some s)
+is-some-pick : {A : Type 0} (e d s : Option A) → (is_some d && is_some e) ≡ false → (is_some e && is_some (pick d s))
+    ≡ (is_some e && is_some s)
 is-some-pick None d s h = refl
 is-some-pick (Some e) None s h = refl
 is-some-pick (Some e) (Some d) s h = absurd (cc)
@@ -143,7 +146,8 @@ abbrev is-threads : Set → Bool
 is-threads x = is_set (record no_settings { threads = Some 0 }) x.name
 
 over-cores : (s : Settings) (o : Option ℕ) →
-    option_map (λ d. merge d s) (option_map (λ v. record no_settings { cores = Some v }) o) ≡ option_map (λ v. record s { cores = Some v }) o
+    option_map (λ d. merge d s) (option_map (λ v. record no_settings { cores = Some v }) o) ≡
+    option_map (λ v. record s { cores = Some v }) o
 over-cores s None = refl
 over-cores s (Some v) = refl
 
@@ -157,7 +161,8 @@ lays-cores : (s : Settings) (x : Set) → is-cores x ≡ true → Lays s x
 lays-cores s x h = record { over = grind (arith, over-cores s); before = grind (arith, or-false, before-cores s) }
 
 over-limit : (s : Settings) (o : Option ℕ) →
-    option_map (λ d. merge d s) (option_map (λ v. record no_settings { limit = Some v }) o) ≡ option_map (λ v. record s { limit = Some v }) o
+    option_map (λ d. merge d s) (option_map (λ v. record no_settings { limit = Some v }) o) ≡
+    option_map (λ v. record s { limit = Some v }) o
 over-limit s None = refl
 over-limit s (Some v) = refl
 
@@ -171,7 +176,8 @@ lays-limit : (s : Settings) (x : Set) → is-limit x ≡ true → Lays s x
 lays-limit s x h = record { over = grind (arith, over-limit s); before = grind (arith, or-false, before-limit s) }
 
 over-words : (s : Settings) (o : Option ℕ) →
-    option_map (λ d. merge d s) (option_map (λ v. record no_settings { words = Some v }) o) ≡ option_map (λ v. record s { words = Some v }) o
+    option_map (λ d. merge d s) (option_map (λ v. record no_settings { words = Some v }) o) ≡
+    option_map (λ v. record s { words = Some v }) o
 over-words s None = refl
 over-words s (Some v) = refl
 
@@ -185,7 +191,8 @@ lays-words : (s : Settings) (x : Set) → is-words x ≡ true → Lays s x
 lays-words s x h = record { over = grind (arith, over-words s); before = grind (arith, or-false, before-words s) }
 
 over-choices : (s : Settings) (text : List ℕ) (b : Bool) →
-    option_map (λ d. merge d s) (cond b (Some (record no_settings { choices = Some text })) None) ≡ cond b (Some (record s { choices = Some text })) None
+    option_map (λ d. merge d s) (cond b (Some (record no_settings { choices = Some text })) None) ≡ cond b
+    (Some (record s { choices = Some text })) None
 over-choices s text true = refl
 over-choices s text false = refl
 
@@ -199,7 +206,8 @@ lays-choices : (s : Settings) (x : Set) → is-choices x ≡ true → Lays s x
 lays-choices s x h = record { over = grind (arith, over-choices s); before = grind (arith, or-false, before-choices s) }
 
 over-seed : (s : Settings) (o : Option ℕ) →
-    option_map (λ d. merge d s) (option_map (λ v. record no_settings { seed = Some v }) o) ≡ option_map (λ v. record s { seed = Some v }) o
+    option_map (λ d. merge d s) (option_map (λ v. record no_settings { seed = Some v }) o) ≡
+    option_map (λ v. record s { seed = Some v }) o
 over-seed s None = refl
 over-seed s (Some v) = refl
 
@@ -213,7 +221,8 @@ lays-seed : (s : Settings) (x : Set) → is-seed x ≡ true → Lays s x
 lays-seed s x h = record { over = grind (arith, over-seed s); before = grind (arith, or-false, before-seed s) }
 
 over-log : (s : Settings) (o : Option Which) →
-    option_map (λ d. merge d s) (option_map (λ v. record no_settings { log = Some v }) o) ≡ option_map (λ v. record s { log = Some v }) o
+    option_map (λ d. merge d s) (option_map (λ v. record no_settings { log = Some v }) o) ≡
+    option_map (λ v. record s { log = Some v }) o
 over-log s None = refl
 over-log s (Some v) = refl
 
@@ -233,7 +242,8 @@ lays-elf : (s : Settings) (x : Set) → is-elf x ≡ true → Lays s x
 lays-elf s x h = record { over = grind (arith); before = grind (arith, or-false) }
 
 over-shape : (s : Settings) (o : Option Shape) →
-    option_map (λ d. merge d s) (option_map (λ v. record no_settings { shape = Some v }) o) ≡ option_map (λ v. record s { shape = Some v }) o
+    option_map (λ d. merge d s) (option_map (λ v. record no_settings { shape = Some v }) o) ≡
+    option_map (λ v. record s { shape = Some v }) o
 over-shape s None = refl
 over-shape s (Some v) = refl
 
@@ -247,7 +257,8 @@ lays-shape : (s : Settings) (x : Set) → is-shape x ≡ true → Lays s x
 lays-shape s x h = record { over = grind (arith, over-shape s); before = grind (arith, or-false, before-shape s) }
 
 over-number : (s : Settings) (o : Option ℕ) →
-    option_map (λ d. merge d s) (option_map (λ v. record no_settings { number = Some v }) o) ≡ option_map (λ v. record s { number = Some v }) o
+    option_map (λ d. merge d s) (option_map (λ v. record no_settings { number = Some v }) o) ≡
+    option_map (λ v. record s { number = Some v }) o
 over-number s None = refl
 over-number s (Some v) = refl
 
@@ -261,7 +272,8 @@ lays-number : (s : Settings) (x : Set) → is-number x ≡ true → Lays s x
 lays-number s x h = record { over = grind (arith, over-number s); before = grind (arith, or-false, before-number s) }
 
 over-core : (s : Settings) (o : Option ℕ) →
-    option_map (λ d. merge d s) (option_map (λ v. record no_settings { core = Some v }) o) ≡ option_map (λ v. record s { core = Some v }) o
+    option_map (λ d. merge d s) (option_map (λ v. record no_settings { core = Some v }) o) ≡
+    option_map (λ v. record s { core = Some v }) o
 over-core s None = refl
 over-core s (Some v) = refl
 
@@ -275,7 +287,8 @@ lays-core : (s : Settings) (x : Set) → is-core x ≡ true → Lays s x
 lays-core s x h = record { over = grind (arith, over-core s); before = grind (arith, or-false, before-core s) }
 
 over-count : (s : Settings) (o : Option ℕ) →
-    option_map (λ d. merge d s) (option_map (λ v. record no_settings { count = Some v }) o) ≡ option_map (λ v. record s { count = Some v }) o
+    option_map (λ d. merge d s) (option_map (λ v. record no_settings { count = Some v }) o) ≡
+    option_map (λ v. record s { count = Some v }) o
 over-count s None = refl
 over-count s (Some v) = refl
 
@@ -295,7 +308,8 @@ lays-certify : (s : Settings) (x : Set) → is-certify x ≡ true → Lays s x
 lays-certify s x h = record { over = grind (arith); before = grind (arith, or-false) }
 
 over-threads : (s : Settings) (o : Option ℕ) →
-    option_map (λ d. merge d s) (option_map (λ v. record no_settings { threads = Some v }) o) ≡ option_map (λ v. record s { threads = Some v }) o
+    option_map (λ d. merge d s) (option_map (λ v. record no_settings { threads = Some v }) o) ≡
+    option_map (λ v. record s { threads = Some v }) o
 over-threads s None = refl
 over-threads s (Some v) = refl
 
@@ -348,15 +362,18 @@ laid : (s : Settings) (x : Set) (d : Settings) → single x ≡ Some d → put_n
 laid s x d p = sym (lays s x).over ∙ ap (λ o. option_map (λ d. merge d s) o) p
 
 -- to put a setting in is to lay it over the others, where it isn't set there
-put-over : (s : Settings) (x : Set) (d : Settings) → single x ≡ Some d → put s x.name x.text ≡ cond (overlaps d s) None (Some (merge d s))
+put-over : (s : Settings) (x : Set) (d : Settings) → single x ≡ Some d → put s x.name x.text ≡ cond (overlaps d s)
+    None (Some (merge d s))
 put-over s x d p =
     let same : Some (overlaps d s) ≡ Some (is_set s x.name) =
-    sym (ap (λ o. option_map (λ d. overlaps d s) o) p) ∙ (lays s x).before ∙ ap (λ o. option_map (λ (d : Settings). is_set s x.name) o) p in
+    sym (ap (λ o. option_map (λ d. overlaps d s) o) p) ∙ (lays s x).before
+    ∙ ap (λ o. option_map (λ (d : Settings). is_set s x.name) o) p in
     let before : is_set s x.name ≡ overlaps d s = cc in
     rw (before, laid s x d p) refl
 
 put-none : (s : Settings) (x : Set) → single x ≡ None → put s x.name x.text ≡ None
-put-none s x p = by-test (is_set s x.name) (put_new s x.name x.text) (sym (lays s x).over ∙ ap (λ o. option_map (λ d. merge d s) o) p)
+put-none s x p = by-test (is_set s x.name) (put_new s x.name x.text)
+    (sym (lays s x).over ∙ ap (λ o. option_map (λ d. merge d s) o) p)
   where
     by-test : (b : Bool) (o : Option Settings) → o ≡ None → cond b None o ≡ None
     by-test true o h = refl
@@ -366,7 +383,8 @@ put-none s x p = by-test (is_set s x.name) (put_new s x.name x.text) (sym (lays 
 kept : (d s : Settings) (y : Set) → is_set s y.name ≡ true → is_set (merge d s) y.name ≡ true
 kept d s y h = grind arith
 
-pub put-keeps : (s t : Settings) (x y : Set) → put s x.name x.text ≡ Some t → is_set s y.name ≡ true → is_set t y.name ≡ true
+pub put-keeps : (s t : Settings) (x y : Set) → put s x.name x.text ≡ Some t → is_set s y.name ≡ true
+    → is_set t y.name ≡ true
 put-keeps s t x y h k = by-single (single x) refl
   where
     by-single : (o : Option Settings) → single x ≡ o → is_set t y.name ≡ true
@@ -541,7 +559,8 @@ same-fields s t p0 p1 p2 p3 p4 p5 p6 p7 p8 p9 p10 p11 p12 p13 p14 =
     let f13 : Bool → Settings = λ v. record s13 { certify = v } in
     let s14 = f13 t.certify in
     let f14 : Option ℕ → Settings = λ v. record s14 { threads = v } in
-    ap f0 p0 ∙ ap f1 p1 ∙ ap f2 p2 ∙ ap f3 p3 ∙ ap f4 p4 ∙ ap f5 p5 ∙ ap f6 p6 ∙ ap f7 p7 ∙ ap f8 p8 ∙ ap f9 p9 ∙ ap f10 p10 ∙ ap f11 p11 ∙ ap f12 p12
+    ap f0 p0 ∙ ap f1 p1 ∙ ap f2 p2 ∙ ap f3 p3 ∙ ap f4 p4 ∙ ap f5 p5 ∙ ap f6 p6 ∙ ap f7 p7 ∙ ap f8 p8 ∙ ap f9 p9
+    ∙ ap f10 p10 ∙ ap f11 p11 ∙ ap f12 p12
     ∙ ap f13 p13 ∙ ap f14 p14
 
 merge-merge : (d e s : Settings) → Apart d e → merge e (merge d s) ≡ merge d (merge e s)
@@ -574,7 +593,8 @@ either-order false false m n h = ap (λ (t : Settings). Some t) h
 
 -- what the second comes to after the first
 second : (s : Settings) (x y : Set) (d e : Settings) → single x ≡ Some d → single y ≡ Some e → Apart d e →
-    option_and_then (λ t. put t y.name y.text) (put s x.name x.text) ≡ cond (overlaps d s) None (cond (overlaps e s) None (Some (merge e (merge d s))))
+    option_and_then (λ t. put t y.name y.text) (put s x.name x.text) ≡ cond (overlaps d s) None
+    (cond (overlaps e s) None (Some (merge e (merge d s))))
 second s x y d e p q h =
     ap (λ o. option_and_then (λ t. put t y.name y.text) o) (put-over s x d p) ∙ by-test (overlaps d s)
   where
@@ -585,11 +605,13 @@ second s x y d e p q h =
         put-over (merge d s) y e q ∙ ap (λ b. cond b None (Some (merge e (merge d s)))) (overlaps-before d e s h)
 
 pub put-commute : (s : Settings) (x y : Set) → x.name ≢ y.name →
-    option_and_then (λ t. put t y.name y.text) (put s x.name x.text) ≡ option_and_then (λ t. put t x.name x.text) (put s y.name y.text)
+    option_and_then (λ t. put t y.name y.text) (put s x.name x.text) ≡ option_and_then (λ t. put t x.name x.text)
+    (put s y.name y.text)
 put-commute s x y ne = by-singles (single x) (single y) refl refl
   where
     by-singles : (o p : Option Settings) → single x ≡ o → single y ≡ p →
-        option_and_then (λ t. put t y.name y.text) (put s x.name x.text) ≡ option_and_then (λ t. put t x.name x.text) (put s y.name y.text)
+        option_and_then (λ t. put t y.name y.text) (put s x.name x.text) ≡ option_and_then (λ t. put t x.name x.text)
+        (put s y.name y.text)
     by-singles None p a b =
         ap (λ o. option_and_then (λ t. put t y.name y.text) o) (put-none s x a)
         ∙ sym (then-none (λ t. put t x.name x.text) (put s y.name y.text) (λ t. put-none t x a))

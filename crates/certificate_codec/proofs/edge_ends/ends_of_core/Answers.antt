@@ -2,16 +2,17 @@ use Rattle.std.proofs.Common.{◌≡◌, ◌∙◌, ◌<◌, sym, ap, arith, Lis
 use Rattle.std.proofs.lemmas.List.{with_items_is}
 use Rattle.clock_entries.specs.Ends.{instr, is_end}
 use Rattle.clock_entries.proofs.Ends.{ends_none, ends_push, ends_keep}
+use Rattle.certificate_codec.specs.Ends.{reduced_edges}
 use Rattle.certificate_codec.proofs.Marks.{mark_at}
 use Rattle.certificate_codec.proofs.edge_ends.ends_of_core.Goals as goal
 use Rattle.certificate_codec.proofs.edge_ends.ends_of_core.Goals.{then-index+in_ok-push, else-index}
 
 pub loop-before-init : goal.loop-before-init
-loop-before-init c = c.new-ends.ensures ∙ sym (ends_none c.args.edges.now c.args.core)
+loop-before-init c = c.new-ends.ensures ∙ sym (ends_none (reduced_edges c.args.recording.now) c.args.core)
 
 pub loop-before-preserved : goal.loop-before-preserved
 loop-before-preserved c =
-    let edges = c.args.edges.now in
+    let edges = reduced_edges c.args.recording.now in
     let marks = c.mark_edges.new.marks in
     let n = c.loop-before.before in
     let old : length c.as_mut_slice.result.now ≡ c.in_ok-marks.marks.len = c.as_mut_slice.ensures.len in

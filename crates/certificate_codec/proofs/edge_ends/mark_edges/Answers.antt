@@ -1,18 +1,40 @@
-use Rattle.std.proofs.Common.{◌<◌, ◌+◌, arith, length, get_or, false}
+use Rattle.std.proofs.Common.{◌≡◌, ◌<◌, ◌+◌, ◌++◌, ◌∙◌, ap, arith, false, get_or, length, refl, sym, List}
+use Rattle.std.specs.Prelude.{map}
+use Rattle.std.specs.List.{flat_map, range_with_len}
 use Rattle.rtr_types.specs.declared.instr.Edge.{Edge}
-use Rattle.clock_entries.specs.Ends.{instr}
-use Rattle.certificate_codec.proofs.Marks.{marked_more}
+use Rattle.rtr_types.specs.declared.pairs.Which.TheVariants.{Reduced}
+use Rattle.rtr_types.specs.Pairs.{pair_count}
+use Rattle.log_codec.specs.Sources.{edge_between, edges_at}
+use Rattle.clock_entries.specs.Ends.{instr, is_end}
+use Rattle.certificate_codec.proofs.Edges.{edges_more, edges_done, pair_edges_are}
+use Rattle.certificate_codec.proofs.Marks.{pair_marked}
 use Rattle.certificate_codec.proofs.edge_ends.mark_edges.Goals as goal
 
-abbrev no_edge : Edge
-no_edge = record { from = record { core = 0; count = 0 }; to = record { core = 0; count = 0 } }
+pub loop-place-init : goal.loop-place-init
+loop-place-init c n lt = c.requires.none n lt
 
-pub loop-edge-preserved : goal.loop-edge-preserved
-loop-edge-preserved c n lt =
-    let first : n < length c.loop-edge.marks = omega (arith, c.loop-edge.auto.marks) in
-    let second : n < length c.mark.new.marks = omega (arith, c.loop-edge.auto.marks, c.mark.auto.marks) in
-    marked_more c.args.edges.now c.loop-edge.edge-index no_edge (instr c.args.core (n + 1))
-    (get_or c.loop-edge.marks n false)
-    (get_or c.mark.new.marks n false) (get_or c.mark-in-loop-edge.new.marks n false) c.loop-edge-test.true
-    (c.loop-edge.invariant n lt)
-    (c.mark.ensures n first) (c.mark-in-loop-edge.ensures n second)
+pub loop-place-preserved : goal.loop-place-preserved
+loop-place-preserved c n lt =
+    let r = c.args.recording.now in
+    let place = c.loop-place.place in
+    let pair = map (edge_between c.pair_of-from.result.0 c.pair_of-from.result.1) c.as_slice-counts.result.now in
+    let old = flat_map (edges_at Reduced r) (range_with_len 0 place) in
+    let within : place < pair_count r.params.cores =
+    omega (arith, c.loop-place-test.true, c.pair_count-place-end.ensures) in
+    let first : n < length c.loop-place.marks = omega (arith, c.loop-place.auto.marks) in
+    pair_marked old pair (flat_map (edges_at Reduced r) (range_with_len 0 (place + 1))) (instr c.args.core (n + 1))
+    (get_or c.loop-place.marks n false) (get_or c.mark_pair.new.marks n false) (c.loop-place.invariant n lt)
+    (c.mark_pair.ensures n first)
+    (sym (edges_more r place old (old ++ edges_at Reduced r place) refl refl)
+    ∙ sym (pair_edges_are r place c.pair_of-from.result c.as_slice.result.now c.index-as_slice-place.result
+    c.as_slice-counts.result.now old (old ++ pair) c.requires.valid within c.pair_of-from.ensures.pair c.as_slice.ensures
+    c.index-as_slice-place.is c.as_slice-counts.ensures refl))
+
+pub returns : goal.returns
+returns c n lt =
+    let r = c.args.recording.now in
+    let last : c.loop-place.place ≡ pair_count r.params.cores =
+    omega (arith, c.loop-place-test.false, c.loop-place.auto.place-end, c.pair_count-place-end.ensures) in
+    c.loop-place.invariant n lt
+    ∙ ap (λ (edges : List Edge). is_end edges (instr c.args.core (n + 1)))
+    (edges_done r c.loop-place.place (flat_map (edges_at Reduced r) (range_with_len 0 c.loop-place.place)) last refl)

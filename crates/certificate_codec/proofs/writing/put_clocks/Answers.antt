@@ -12,7 +12,7 @@ loop-entries-init c = refl
 pub put_entries-requires : goal.put_entries-requires
 put_entries-requires c =
     let i = c.loop-entries.entries-index in
-    let same = c.as_slice.ensures ∙ c.entries-item.is
+    let same = c.entries-item.is
     ∙ get_or_default c.args.clocks.now i c.entries-item.result [] c.loop-entries-test.true in
     subst (λ (entries : List (List ℕ)). length entries < 2 ^ 32) (sym same) (c.requires i c.loop-entries-test.true)
 
@@ -21,7 +21,7 @@ loop-entries-preserved c =
     let i = c.loop-entries.entries-index in
     let item = c.entries-item.result in
     let is : c.put_entries.new.out.items ≡ c.loop-entries.out.items ++ entries_text (get_or c.args.clocks.now i item) =
-    rw (← c.entries-item.is, ← c.as_slice.ensures) c.in_ok-put_entries.ensures in
+    rw (← c.entries-item.is) c.in_ok-put_entries.ensures in
     puts_on (alike entries_text) count_up c.loop-entries.out.items c.put_entries.new.out.items
     (c.args.out.now.items ++ clocks_text c.args.clocks.now) i c.args.clocks.now i item c.loop-entries-test.true is
     c.loop-entries.invariant

@@ -5,6 +5,6 @@ use Rattle.log_codec.specs.CoreCounts.{counts_text}
 use Rattle.certificate_codec.specs.Spelling.{entries_text}
 use Rattle.certificate_codec.proofs.writing.put_entries.Given as goal
 
-abbrev pub invariant-loop-entry : goal.invariant-loop-entry
-invariant-loop-entry l = l.out.items ++ spelled_in_turn (alike counts_text) stay (tt {0}) (drop l.entry-index l.entries)
+abbrev pub invariant-loop-place : goal.invariant-loop-place
+invariant-loop-place l = l.out.items ++ spelled_in_turn (alike counts_text) stay (tt {0}) (drop l.place l.entries)
     ≡ l.fn.out.items ++ entries_text l.entries

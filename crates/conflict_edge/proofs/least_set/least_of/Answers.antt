@@ -13,7 +13,8 @@ returns-clause-least c =
     (IsPermutation-sym _ _ c.sort_by_key.ensures.permutation)
 
 pub returns-clause-order : goal.returns-clause-order
-returns-clause-order c = c.in_ok-sort_by_key.ensures.sorted pair_and_target (answers_always _ _ _ (λ f a r g h. search rules))
+returns-clause-order c = c.in_ok-sort_by_key.ensures.sorted pair_and_target
+    (answers_always _ _ _ (λ f a r g h. search rules))
 
 pub covering_pairs-requires-clause-rise : goal.covering_pairs-requires-clause-rise
 covering_pairs-requires-clause-rise c = history_rises c.args.list.now c.requires
@@ -22,4 +23,5 @@ pub covering_pairs-requires-clause-cores : goal.covering_pairs-requires-clause-c
 covering_pairs-requires-clause-cores c = history_cores c.args.list.now c.requires
 
 pub returns-clause-once : goal.returns-clause-once
-returns-clause-once c = once_shuffled c.in_ok-edges.edges.items c.sort_by_key.new.self.items c.sort_by_key.ensures.permutation c.in_ok-edges.ensures.once
+returns-clause-once c = once_shuffled c.in_ok-edges.edges.items c.sort_by_key.new.self.items
+    c.sort_by_key.ensures.permutation c.in_ok-edges.ensures.once

@@ -1,4 +1,5 @@
-use Rattle.std.proofs.Common.{arith, ◌≡◌, ℕ, ◌<◌, ◌≤◌, ◌-◌, drop, reverse, zero, suc, length, slice_index, slice_index_or, List, [], ◌∷◌, inl, inr, sym, ◌∙◌}
+use Rattle.std.proofs.Common.{arith, ◌≡◌, ℕ, ◌<◌, ◌≤◌, ◌-◌, drop, reverse, zero, suc, length, slice_index}
+use Rattle.std.proofs.Common.{slice_index_or, List, [], ◌∷◌, inl, inr, sym, ◌∙◌}
 use Rattle.std.proofs.Common.{refl, ap, subst, Vec, Global}
 use Rattle.rtr_types.specs.declared.access.Access.{Access}
 use Rattle.rtr_types.specs.declared.access.Kind.TheVariants.{Load}
@@ -9,12 +10,15 @@ use Rattle.conflict_edge.specs.Times.{IsExactClock}
 use Rattle.conflict_edge.proofs.Once.{Noted, noted_push, noted_skip}
 use Rattle.conflict_edge.proofs.Reversed.{stands_forth}
 use Rattle.conflict_edge.proofs.Scan.{Direct, Reached, FoundFrom, stands-left, stands-right}
-use Rattle.conflict_edge.proofs.Steps.{At, at, test_no, fact_no, not_direct, stands_at, skip_reached, merge_reached, no_conflict, covered, end_clock}
+use Rattle.conflict_edge.proofs.Steps.{At, at, test_no, fact_no, not_direct, stands_at, skip_reached, merge_reached}
+use Rattle.conflict_edge.proofs.Steps.{no_conflict, covered, end_clock}
 use Rattle.conflict_edge.proofs.Steps.{end_found}
 use Rattle.conflict_edge.proofs.least_set.push_covering.Goals as goal
 use Rattle.conflict_edge.proofs.least_set.push_covering.Goals.{then-conflict+then-not-covers+in_ok-push, else-conflict}
-use Rattle.conflict_edge.proofs.least_set.push_covering.Goals.{else-conflict-via-then-conflict+else-not-covers, else-conflict-via-else-conflict}
-use Rattle.conflict_edge.proofs.least_set.push_covering.Goals.{then-conflict-2-via-then-conflict-2, then-conflict-2-via-else-conflict-2+then-source-access}
+use Rattle.conflict_edge.proofs.least_set.push_covering.Goals.{else-conflict-via-then-conflict+else-not-covers}
+use Rattle.conflict_edge.proofs.least_set.push_covering.Goals.{else-conflict-via-else-conflict}
+use Rattle.conflict_edge.proofs.least_set.push_covering.Goals.{then-conflict-2-via-then-conflict-2}
+use Rattle.conflict_edge.proofs.least_set.push_covering.Goals.{then-conflict-2-via-else-conflict-2+then-source-access}
 use Rattle.conflict_edge.proofs.Reach.{rising_next}
 
 -- what stands at an index past the end
@@ -22,13 +26,15 @@ abbrev nothing : Access
 nothing = record { at = record { core = 0; count = 0 }; word = 0; kind = Load; before = 0; after = 0 }
 
 -- a clock that is read from the list is exact where the one at its place is
-exact_clock : (list : List Access) (b : Access) (clocks : List Clock) (place : ℕ) (clock : Clock) → clock ≡ slice_index_or clocks place clock →
+exact_clock : (list : List Access) (b : Access) (clocks : List Clock) (place : ℕ) (clock : Clock) →
+    clock ≡ slice_index_or clocks place clock →
     IsExactClock list b.at (slice_index_or clocks place clock) → IsExactClock list b.at clock
 exact_clock list b clocks place clock is exact = subst (λ (read : Clock). IsExactClock list b.at read) (sym is) exact
 
 pub covers-requires : goal.covers-requires
 covers-requires c = c.requires.cores _
-    (stands-left c.args.earlier.now (c.args.access.now ∷ []) _ (stands_at c.args.earlier.now (c.loop-place.place - 1) _ (omega arith)))
+    (stands-left c.args.earlier.now (c.args.access.now ∷ []) _ (stands_at c.args.earlier.now (c.loop-place.place - 1) _
+    (omega arith)))
 
 pub loop-place-preserved-in-loop-place : goal.loop-place-preserved-in-loop-place
 loop-place-preserved-in-loop-place c =
@@ -36,10 +42,13 @@ loop-place-preserved-in-loop-place c =
     let rise = rising_next c.args.earlier.now c.args.access.now c.requires.rise in
     let lt : c.loop-place.place - 1 < length c.args.earlier.now = omega arith in
     let at_b = stands_at c.args.earlier.now (c.loop-place.place - 1) nothing lt in
-    let around : At c.args.earlier.now c.loop-place.place b = at c.args.earlier.now c.loop-place.place nothing c.loop-place-test.true c.loop-place.auto.place in
-    let fits : b.at.core < CORES_MAX = c.requires.cores b (stands-left c.args.earlier.now (c.args.access.now ∷ []) b at_b) in
+    let around : At c.args.earlier.now c.loop-place.place b =
+    at c.args.earlier.now c.loop-place.place nothing c.loop-place-test.true c.loop-place.auto.place in
+    let fits : b.at.core < CORES_MAX = c.requires.cores b (stands-left c.args.earlier.now (c.args.access.now ∷ []) b
+    at_b) in
     let kept = c.loop-place.invariant in
-    let noted : Noted c.args.earlier.now c.loop-place.place c.args.access.now c.args.edges.now.items c.if-conflict.edges.items =
+    let noted : Noted c.args.earlier.now c.loop-place.place c.args.access.now c.args.edges.now.items
+    c.if-conflict.edges.items =
     elim c.if-conflict.branch [
       | then-conflict+then-not-covers+in_ok-push w ↦
           noted_push c.args.earlier.now c.loop-place.place c.args.access.now b _ _ _ _ around rise fits
@@ -51,10 +60,12 @@ loop-place-preserved-in-loop-place c =
           elim w.else-conflict.branch [
             | else-conflict-via-then-conflict+else-not-covers v ↦
                 left (covered c.args.earlier.now c.loop-place.place c.args.access.now b _ around rise fits kept.reached
-                (v.covers.ensures.0 v.if-not-covers.false)) kept.found kept.once (ap (λ (e : Vec Edge Global). e.items) w.edges-is)
+                (v.covers.ensures.0 v.if-not-covers.false)) kept.found kept.once (ap (λ (e : Vec Edge Global). e.items)
+                w.edges-is)
             | else-conflict-via-else-conflict v ↦
                 left (no_conflict c.args.earlier.now c.args.access.now b rise (stands_forth c.args.earlier.now b at_b)
-                (fact_no _ c.conflicts-conflict.result c.conflicts-conflict.ensures.fact.1 v.if-conflict.false)) kept.found kept.once
+                (fact_no _ c.conflicts-conflict.result c.conflicts-conflict.ensures.fact.1
+                v.if-conflict.false)) kept.found kept.once
                 (ap (λ (e : Vec Edge Global). e.items) w.edges-is)
           ]
     ] in
@@ -63,10 +74,12 @@ loop-place-preserved-in-loop-place c =
       | then-conflict-2-via-then-conflict-2 w ↦ inr (c.conflicts-conflict.ensures.fact.0 w.if-conflict-2.true)
       | then-conflict-2-via-else-conflict-2+then-source-access w ↦ inl w.if-source-access.true
     ] in
-    let exact = exact_clock c.args.earlier.now b c.args.clocks.now (c.loop-place.place - 1) c.index-clocks-place.result c.index-clocks-place.is
+    let exact = exact_clock c.args.earlier.now b c.args.clocks.now (c.loop-place.place - 1) c.index-clocks-place.result
+    c.index-clocks-place.is
     (c.requires.exact (c.loop-place.place - 1) nothing c.index-clocks-place.result lt) in
     record {
-      reached = merge_reached c.args.earlier.now c.loop-place.place c.args.access.now b _ _ _ around direct exact c.merge-known.ensures.places kept.reached;
+      reached = merge_reached c.args.earlier.now c.loop-place.place c.args.access.now b _ _ _ around direct exact
+          c.merge-known.ensures.places kept.reached;
       found = noted.found;
       once = noted.once;
     }
@@ -77,10 +90,13 @@ loop-place-preserved c =
     let rise = rising_next c.args.earlier.now c.args.access.now c.requires.rise in
     let lt : c.loop-place.place - 1 < length c.args.earlier.now = omega arith in
     let at_b = stands_at c.args.earlier.now (c.loop-place.place - 1) nothing lt in
-    let around : At c.args.earlier.now c.loop-place.place b = at c.args.earlier.now c.loop-place.place nothing c.loop-place-test.true c.loop-place.auto.place in
-    let fits : b.at.core < CORES_MAX = c.requires.cores b (stands-left c.args.earlier.now (c.args.access.now ∷ []) b at_b) in
+    let around : At c.args.earlier.now c.loop-place.place b =
+    at c.args.earlier.now c.loop-place.place nothing c.loop-place-test.true c.loop-place.auto.place in
+    let fits : b.at.core < CORES_MAX = c.requires.cores b (stands-left c.args.earlier.now (c.args.access.now ∷ []) b
+    at_b) in
     let kept = c.loop-place.invariant in
-    let noted : Noted c.args.earlier.now c.loop-place.place c.args.access.now c.args.edges.now.items c.if-conflict.edges.items =
+    let noted : Noted c.args.earlier.now c.loop-place.place c.args.access.now c.args.edges.now.items
+    c.if-conflict.edges.items =
     elim c.if-conflict.branch [
       | then-conflict+then-not-covers+in_ok-push w ↦
           noted_push c.args.earlier.now c.loop-place.place c.args.access.now b _ _ _ _ around rise fits
@@ -92,10 +108,12 @@ loop-place-preserved c =
           elim w.else-conflict.branch [
             | else-conflict-via-then-conflict+else-not-covers v ↦
                 left (covered c.args.earlier.now c.loop-place.place c.args.access.now b _ around rise fits kept.reached
-                (v.covers.ensures.0 v.if-not-covers.false)) kept.found kept.once (ap (λ (e : Vec Edge Global). e.items) w.edges-is)
+                (v.covers.ensures.0 v.if-not-covers.false)) kept.found kept.once (ap (λ (e : Vec Edge Global). e.items)
+                w.edges-is)
             | else-conflict-via-else-conflict v ↦
                 left (no_conflict c.args.earlier.now c.args.access.now b rise (stands_forth c.args.earlier.now b at_b)
-                (fact_no _ c.conflicts-conflict.result c.conflicts-conflict.ensures.fact.1 v.if-conflict.false)) kept.found kept.once
+                (fact_no _ c.conflicts-conflict.result c.conflicts-conflict.ensures.fact.1
+                v.if-conflict.false)) kept.found kept.once
                 (ap (λ (e : Vec Edge Global). e.items) w.edges-is)
           ]
     ] in
@@ -108,7 +126,8 @@ loop-place-preserved c =
     }
 
 pub set-requires : goal.set-requires
-set-requires c = c.requires.cores c.args.access.now (stands-right c.args.earlier.now (c.args.access.now ∷ []) c.args.access.now (inl refl))
+set-requires c = c.requires.cores c.args.access.now (stands-right c.args.earlier.now (c.args.access.now ∷ [])
+    c.args.access.now (inl refl))
 
 -- the loop ends at the whole list
 at_zero : (P : List Access → Type 0) (e : List Access) (s : ℕ) → s ≤ 0 → P (reverse (drop s e)) → P (reverse e)
@@ -119,12 +138,14 @@ pub returns-clause-clock : goal.returns-clause-clock
 returns-clause-clock c =
     let rise = rising_next c.args.earlier.now c.args.access.now c.requires.rise in
     end_clock c.args.earlier.now c.args.access.now c.loop-place.known c.set.new.self rise
-    (at_zero (λ g. Reached (reverse c.args.earlier.now) g c.args.access.now (λ i. slice_index c.loop-place.known i)) c.args.earlier.now c.loop-place.place
+    (at_zero (λ g. Reached (reverse c.args.earlier.now) g c.args.access.now (λ i. slice_index c.loop-place.known i))
+    c.args.earlier.now c.loop-place.place
     (omega arith) c.loop-place.invariant.reached)
     c.set.ensures.at c.set.ensures.others
 
 pub returns-clause-edges : goal.returns-clause-edges
 returns-clause-edges c =
     end_found c.args.earlier.now c.args.access.now _ _ c.requires.rise
-    (at_zero (λ g. FoundFrom (reverse c.args.earlier.now) g c.args.access.now c.args.edges.now.items c.loop-place.edges.items) c.args.earlier.now
+    (at_zero (λ g. FoundFrom (reverse c.args.earlier.now) g c.args.access.now c.args.edges.now.items
+    c.loop-place.edges.items) c.args.earlier.now
     c.loop-place.place (omega arith) c.loop-place.invariant.found)

@@ -6,5 +6,6 @@ use Rattle.image_elf.proofs.flattening.accepts_entry.Goals as goal
 
 pub returns-else-entry-eq0-2 : goal.returns-else-entry-eq0-2
 returns-else-entry-eq0-2 c =
-    let taken = taken_is c.args.file.now (header_count c.args.file.now) c.args.cells.now 0 4 c.requires.loaded c.is_free.result c.is_free.ensures in
+    let taken = taken_is c.args.file.now (header_count c.args.file.now) c.args.cells.now 0 4 c.requires.loaded
+    c.is_free.result c.is_free.ensures in
     grind (arith, nat_tests)

@@ -19,7 +19,8 @@ returns-in_err-cells-clause-answer c =
     let p = err_from_is_err_and c.from_residual.result c.from_residual.ensures.1 in
     rw (p.1, p.2) (elim c.in_err-cells.ensures [
       | inl memory ↦ inl memory
-      | inr found ↦ inr (bad_headers c.args.file.now c.args.words c.in_err-cells.field-0.0 (rw c.is_elf.ensures at c.if-not-is_elf.false)
+      | inr found ↦ inr (bad_headers c.args.file.now c.args.words c.in_err-cells.field-0.0
+          (rw c.is_elf.ensures at c.if-not-is_elf.false)
           (rw c.accepts_header.ensures at c.if-not-accepts_header.false) found)
     ])
 

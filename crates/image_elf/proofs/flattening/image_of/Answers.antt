@@ -22,13 +22,15 @@ loop-address-preserved c =
     let byte : c.if-address-jump_length.byte ≡ flat_byte file address =
     elim c.if-address-jump_length.branch [
       | then-address-jump_length w ↦
-          let below : address < jump_length file = rw c.jump_length-jump_length.ensures at w.if-address-jump_length.true in
+          let below : address < jump_length file =
+          rw c.jump_length-jump_length.ensures at w.if-address-jump_length.true in
           w.byte-is ∙ ap (λ (bs : List ℕ). get_or bs address 0) bytes ∙ sym (jump_byte file address below)
       | else-address-jump_length w ↦
           let past : c.jump_length-jump_length.result ≤ address = omega arith in
           let after : jump_length file ≤ address = rw c.jump_length-jump_length.ensures at past in
           let cell = w.get.ensures ∙ c.requires.loaded.bytes address in
-          w.byte-is ∙ w.unwrap_or-byte.ensures ∙ ap (λ (b : Option ℕ). unwrap_or b 0) cell ∙ sym (other_byte file address after)
+          w.byte-is ∙ w.unwrap_or-byte.ensures ∙ ap (λ (b : Option ℕ). unwrap_or b 0) cell
+          ∙ sym (other_byte file address after)
     ] in
     rw (c.in_ok-push.ensures.items, c.loop-address.invariant, byte) (sym more)
 

@@ -10,5 +10,6 @@ returns-then-size-eq4 c =
 pub returns : goal.returns
 returns c =
     let copied = is_merge c.args.old c.args.value c.args.address c.args.size c.requires.size c.requires.aligned in
-    let read = rw (c.copy_from_slice.ensures.after, c.to_le_bytes.ensures, c.to_le_bytes-lanes.ensures) at c.from_le_bytes.ensures in
+    let read = rw (c.copy_from_slice.ensures.after, c.to_le_bytes.ensures, c.to_le_bytes-lanes.ensures) at
+    c.from_le_bytes.ensures in
     read ∙ copied

@@ -13,17 +13,23 @@ no_change = record { count = 0; known = 0 }
 pub returns-then-within-eq0 : goal.returns-then-within-eq0
 returns-then-within-eq0 c =
     let parted = IsPartitionedBy-leb (λ (d : Change). d.count) c.args.changes.now c.args.count c.requires in
-    let point = IsPartitionPoint-from_clause (λ (d : Change). nat_le d.count c.args.count) _ _ c.partition_point-within.ensures.partitioned parted
+    let point = IsPartitionPoint-from_clause (λ (d : Change). nat_le d.count c.args.count) _ _
+    c.partition_point-within.ensures.partitioned parted
     (λ a r q k. search rules) in
-    let none : nat_lt 0 c.partition_point-within.result ≡ false = (let e = c.if-within-eq0.true in grind (arith, nat_tests)) in
-    sym (searched c.args.changes.now 0 c.args.count c.partition_point-within.result no_change point c.partition_point-within.ensures.bound
+    let none : nat_lt 0 c.partition_point-within.result ≡ false = (let e = c.if-within-eq0.true in
+    grind (arith, nat_tests)) in
+    sym (searched c.args.changes.now 0 c.args.count c.partition_point-within.result no_change point
+    c.partition_point-within.ensures.bound
     ∙ cond-false (nat_lt 0 c.partition_point-within.result) _ 0 none)
 
 pub returns : goal.returns
 returns c =
     let parted = IsPartitionedBy-leb (λ (d : Change). d.count) c.args.changes.now c.args.count c.requires in
-    let point = IsPartitionPoint-from_clause (λ (d : Change). nat_le d.count c.args.count) _ _ c.partition_point-within.ensures.partitioned parted
+    let point = IsPartitionPoint-from_clause (λ (d : Change). nat_le d.count c.args.count) _ _
+    c.partition_point-within.ensures.partitioned parted
     (λ a r q k. search rules) in
-    let some : nat_lt 0 c.partition_point-within.result ≡ true = (let e = c.if-within-eq0.false in grind (arith, nat_tests)) in
-    sym (searched c.args.changes.now 0 c.args.count c.partition_point-within.result no_change point c.partition_point-within.ensures.bound
+    let some : nat_lt 0 c.partition_point-within.result ≡ true = (let e = c.if-within-eq0.false in
+    grind (arith, nat_tests)) in
+    sym (searched c.args.changes.now 0 c.args.count c.partition_point-within.result no_change point
+    c.partition_point-within.ensures.bound
     ∙ cond-true (nat_lt 0 c.partition_point-within.result) _ 0 some)

@@ -4,5 +4,6 @@ use Rattle.machine_invariant.proofs.laws.every_state_from_a_start_has_it.Goals a
 
 pub returns : goal.returns
 returns g c = λ image cores limit few small taken.
-    holds_walked g.R.Rider.riding g.K.Carry.carrying (state_start g.R.Rider.riding g.K.Carry.carrying image cores limit) taken
+    holds_walked g.R.Rider.riding g.K.Carry.carrying (state_start g.R.Rider.riding g.K.Carry.carrying image cores limit)
+    taken
     (holds_start g.R.Rider.riding g.K.Carry.carrying image cores limit few small)

@@ -9,4 +9,5 @@ loop-block-preserved g c =
     let four : length c.final_words.result ≡ 4 = grind arith in
     c.in_ok-extend_from_slice.ensures.items
     ∙ ap (λ (list : List ℕ). list ++ c.final_words.result) c.loop-block.invariant
-    ∙ block_more none_riding none_carrying (plain c.args.machine.now.state) c.loop-block.block c.final_words.result four c.final_words.ensures.plain
+    ∙ block_more none_riding none_carrying (plain c.args.machine.now.state) c.loop-block.block c.final_words.result four
+    c.final_words.ensures.plain

@@ -18,23 +18,35 @@ loop-machine-init c = record {
 pub turn-requires-clause-numbered : goal.turn-requires-clause-numbered
 turn-requires-clause-numbered c =
     let stands = c.loop-machine.invariant.stands in
-    all_numbered c.args.machine.now.state.image c.args.params c.args.schedule stands.0 c.loop-machine.machine.state c.loop-machine.clerk.lists c.loop-machine.choices
+    all_numbered c.args.machine.now.state.image c.args.params c.args.schedule stands.0 c.loop-machine.machine.state
+    c.loop-machine.clerk.lists c.loop-machine.choices
     c.requires.fits stands.1
 
 pub loop-machine-preserved : goal.loop-machine-preserved
 loop-machine-preserved c =
     let stands = c.loop-machine.invariant.stands in
     record {
-      stands = (suc stands.0, c.in_ok-turn.ensures.stands c.args.machine.now.state.image c.args.params c.args.schedule stands.0 stands.1);
+      stands = (
+        suc stands.0,
+        c.in_ok-turn.ensures.stands c.args.machine.now.state.image c.args.params c.args.schedule
+            stands.0 stands.1,
+      );
       image = c.in_ok-turn.ensures.image ∙ c.loop-machine.invariant.image;
     }
 
 pub returns-clause-outcome : goal.returns-clause-outcome
 returns-clause-outcome c =
     let stands = c.loop-machine.invariant.stands in
-    let made : List Core → List ℕ → List (List LoadNote) → Outcome = λ cs ws ls. record { cores = cs; words = ws; loads = ls } in
+    let made : List Core → List ℕ → List (List LoadNote) → Outcome = λ cs ws ls. record {
+      cores = cs;
+      words =
+          ws;
+      loads = ls;
+    } in
     ap (λ cs. made cs c.in_ok-words_of.field-0 c.into_loads.result) c.in_ok-cores_of.ensures
     ∙ ap (λ ws. made c.loop-machine.machine.state.cores ws c.into_loads.result) c.in_ok-words_of.ensures
-    ∙ ap (made c.loop-machine.machine.state.cores (final_memory none_riding none_carrying (plain c.loop-machine.machine.state))) c.into_loads.ensures
-    ∙ outcome_is c.args.machine.now.state.image c.args.params c.args.schedule stands.0 c.loop-machine.machine.state c.loop-machine.clerk.lists c.loop-machine.choices
+    ∙ ap (made c.loop-machine.machine.state.cores (final_memory none_riding none_carrying
+    (plain c.loop-machine.machine.state))) c.into_loads.ensures
+    ∙ outcome_is c.args.machine.now.state.image c.args.params c.args.schedule stands.0 c.loop-machine.machine.state
+    c.loop-machine.clerk.lists c.loop-machine.choices
     c.requires.fits (sym c.loop-machine-test.ensures.done) stands.1

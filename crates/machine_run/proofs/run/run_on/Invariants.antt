@@ -8,7 +8,8 @@ use Rattle.machine_run.proofs.run.run_on.Given as goal
 -- the machine stands at some moment of the run of the image
 abbrev pub invariant-loop-machine : goal.invariant-loop-machine
 invariant-loop-machine l = record {
-  stands : (t : ℕ) × StandsAt l.fn.machine.state.image l.params l.fn.schedule t (plain l.machine.state) l.clerk.lists l.choices;
+  stands : (t : ℕ) × StandsAt l.fn.machine.state.image l.params l.fn.schedule t (plain l.machine.state) l.clerk.lists
+      l.choices;
   image : l.machine.state.image ≡ l.fn.machine.state.image;
 }
 

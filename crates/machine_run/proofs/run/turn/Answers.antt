@@ -28,10 +28,12 @@ returns-clause-stands c =
     } in
     let told : c.step.new.clerk.lists ≡ lists_told c.args.clerk.now.lists (plain_event (plain s) m) =
     told_lists _ _ c.make_room-2.new.self c.step.new.clerk _ _ c.step.ensures.told
-    ∙ ap (λ (e : Event). lists_told c.make_room-2.new.self.lists e) (c.step.ensures.moved.tells ∙ ap (λ u. plain_event (plain u) m) same)
+    ∙ ap (λ (e : Event). lists_told c.make_room-2.new.self.lists e) (c.step.ensures.moved.tells
+    ∙ ap (λ u. plain_event (plain u) m) same)
     ∙ ap (λ lists. lists_told lists (plain_event (plain s) m)) c.make_room-2.ensures.lists in
     λ image params schedule t stands. stands_next image params schedule t _ _ _ _ _ _ m going steps told stands
 
 pub returns-clause-nearer : goal.returns-clause-nearer
 returns-clause-nearer c =
-    subst (λ (s : State NoRider NoCarry). left no_riding c.step.new.self.state < left no_riding s) c.make_room.ensures.state c.step.ensures.keeps.nearer
+    subst (λ (s : State NoRider NoCarry). left no_riding c.step.new.self.state < left no_riding s)
+    c.make_room.ensures.state c.step.ensures.keeps.nearer

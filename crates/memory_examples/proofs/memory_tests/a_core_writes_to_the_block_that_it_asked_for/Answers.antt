@@ -8,9 +8,11 @@ use Rattle.rtr_types.specs.declared.access.Kind.TheVariants.{Store}
 use Rattle.msi_memory.specs.Acts.{TakeMessage, TakeRequest, allows, retire, take_message, take_request, touch, want}
 use Rattle.msi_memory.specs.Memories.{Memory, memory_start, port_at, rider_at}
 use Rattle.msi_memory.specs.Rests.{HasRoomFor, HeadsFit, NamesFit, has_row_for}
-use Rattle.memory_examples.proofs.FirstActs.{allowed_retired, asked, heads_asked, here_retired, here_served, here_taken, names_asked}
+use Rattle.memory_examples.proofs.FirstActs.{allowed_retired, asked, heads_asked, here_retired, here_served, here_taken}
+use Rattle.memory_examples.proofs.FirstActs.{names_asked}
 use Rattle.msi_memory.specs.Finals.{at_hand}
-use Rattle.memory_examples.proofs.FirstActs.{at_hand_written, within_written, room_served, row_asked, row_served, waits_served}
+use Rattle.memory_examples.proofs.FirstActs.{at_hand_written, within_written, room_served, row_asked, row_served}
+use Rattle.memory_examples.proofs.FirstActs.{waits_served}
 use Rattle.memory_examples.proofs.memory_tests.a_core_writes_to_the_block_that_it_asked_for.Goals as goal
 
 abbrev riding : Riding NoRider
@@ -25,8 +27,13 @@ Tried = Memory NoRider NoCarry
 
 -- it after the acts so far, from what each call ensures
 module _ (bytes : List ℕ) (image : Contents) (start wanted roomy : Tried) where
-  is_asked : roomy ≡ wanted → wanted ≡ want riding carrying start 0 0 Store → start ≡ memory_start riding carrying image 2
-      → image ≡ record { bytes = bytes; words = 4 } → roomy ≡ asked riding carrying bytes (record { bytes = bytes; words = 4 })
+  is_asked : roomy ≡ wanted → wanted ≡ want riding carrying start 0 0 Store →
+      start ≡ memory_start riding carrying image 2
+      → image ≡ record { bytes = bytes; words = 4 } → roomy ≡ asked riding carrying bytes (record {
+        bytes =
+            bytes;
+        words = 4;
+      })
   is_asked room ask begins flat =
       room
       ∙ ask
@@ -36,21 +43,24 @@ module _ (bytes : List ℕ) (image : Contents) (start wanted roomy : Tried) wher
 pub has_room-requires : goal.has_room-requires
 has_room-requires g c =
     subst (λ (m : Tried). HeadsFit m)
-    (sym (is_asked c.in_ok-to_vec.field-0.items c.in_ok-image.image c.in_ok-system.system.memory c.want.new.self.memory c.make_room.new.self.memory
+    (sym (is_asked c.in_ok-to_vec.field-0.items c.in_ok-image.image c.in_ok-system.system.memory c.want.new.self.memory
+    c.make_room.new.self.memory
     c.make_room.ensures.memory c.want.ensures.memory c.in_ok-system.ensures.memory c.in_ok-image.ensures.image))
     (heads_asked riding carrying c.in_ok-to_vec.field-0.items)
 
 pub take_request-requires-clause-names : goal.take_request-requires-clause-names
 take_request-requires-clause-names g c =
     subst (λ (m : Tried). NamesFit m)
-    (sym (is_asked c.in_ok-to_vec.field-0.items c.in_ok-image.image c.in_ok-system.system.memory c.want.new.self.memory c.make_room.new.self.memory
+    (sym (is_asked c.in_ok-to_vec.field-0.items c.in_ok-image.image c.in_ok-system.system.memory c.want.new.self.memory
+    c.make_room.new.self.memory
     c.make_room.ensures.memory c.want.ensures.memory c.in_ok-system.ensures.memory c.in_ok-image.ensures.image))
     (names_asked riding carrying c.in_ok-to_vec.field-0.items)
 
 pub take_request-requires-clause-row : goal.take_request-requires-clause-row
 take_request-requires-clause-row g c =
     subst (λ (m : Tried). IsTrue (has_row_for riding carrying m (TakeRequest 0)))
-    (sym (is_asked c.in_ok-to_vec.field-0.items c.in_ok-image.image c.in_ok-system.system.memory c.want.new.self.memory c.make_room.new.self.memory
+    (sym (is_asked c.in_ok-to_vec.field-0.items c.in_ok-image.image c.in_ok-system.system.memory c.want.new.self.memory
+    c.make_room.new.self.memory
     c.make_room.ensures.memory c.want.ensures.memory c.in_ok-system.ensures.memory c.in_ok-image.ensures.image))
     (row_asked riding carrying c.in_ok-to_vec.field-0.items)
 
@@ -59,7 +69,8 @@ take_message-requires-clause-here g c =
     subst (λ (m : Tried). 0 < length m.ports)
     (sym (c.take_request.ensures.memory
     ∙ ap (λ (m : Tried). take_request riding carrying m 0)
-    (is_asked c.in_ok-to_vec.field-0.items c.in_ok-image.image c.in_ok-system.system.memory c.want.new.self.memory c.make_room.new.self.memory
+    (is_asked c.in_ok-to_vec.field-0.items c.in_ok-image.image c.in_ok-system.system.memory c.want.new.self.memory
+    c.make_room.new.self.memory
     c.make_room.ensures.memory c.want.ensures.memory c.in_ok-system.ensures.memory c.in_ok-image.ensures.image)))
     (here_served riding carrying c.in_ok-to_vec.field-0.items)
 
@@ -68,7 +79,8 @@ take_message-requires-clause-row g c =
     subst (λ (m : Tried). IsTrue (has_row_for riding carrying m (TakeMessage 0)))
     (sym (c.take_request.ensures.memory
     ∙ ap (λ (m : Tried). take_request riding carrying m 0)
-    (is_asked c.in_ok-to_vec.field-0.items c.in_ok-image.image c.in_ok-system.system.memory c.want.new.self.memory c.make_room.new.self.memory
+    (is_asked c.in_ok-to_vec.field-0.items c.in_ok-image.image c.in_ok-system.system.memory c.want.new.self.memory
+    c.make_room.new.self.memory
     c.make_room.ensures.memory c.want.ensures.memory c.in_ok-system.ensures.memory c.in_ok-image.ensures.image)))
     (row_served riding carrying c.in_ok-to_vec.field-0.items)
 
@@ -77,7 +89,8 @@ take_message-requires-clause-room g c =
     subst (λ (m : Tried). HasRoomFor riding carrying m (TakeMessage 0))
     (sym (c.take_request.ensures.memory
     ∙ ap (λ (m : Tried). take_request riding carrying m 0)
-    (is_asked c.in_ok-to_vec.field-0.items c.in_ok-image.image c.in_ok-system.system.memory c.want.new.self.memory c.make_room.new.self.memory
+    (is_asked c.in_ok-to_vec.field-0.items c.in_ok-image.image c.in_ok-system.system.memory c.want.new.self.memory
+    c.make_room.new.self.memory
     c.make_room.ensures.memory c.want.ensures.memory c.in_ok-system.ensures.memory c.in_ok-image.ensures.image)))
     (room_served riding carrying c.in_ok-to_vec.field-0.items)
 
@@ -86,7 +99,8 @@ take_message-requires-clause-waits g c =
     subst (λ (m : Tried). true ≡ waits (port_at carrying m.ports 0).cache)
     (sym (c.take_request.ensures.memory
     ∙ ap (λ (m : Tried). take_request riding carrying m 0)
-    (is_asked c.in_ok-to_vec.field-0.items c.in_ok-image.image c.in_ok-system.system.memory c.want.new.self.memory c.make_room.new.self.memory
+    (is_asked c.in_ok-to_vec.field-0.items c.in_ok-image.image c.in_ok-system.system.memory c.want.new.self.memory
+    c.make_room.new.self.memory
     c.make_room.ensures.memory c.want.ensures.memory c.in_ok-system.ensures.memory c.in_ok-image.ensures.image)))
     (waits_served riding carrying c.in_ok-to_vec.field-0.items)
 
@@ -97,7 +111,8 @@ allows-requires g c =
     ∙ ap (λ (m : Tried). take_message riding carrying m 0)
     (c.take_request.ensures.memory
     ∙ ap (λ (m : Tried). take_request riding carrying m 0)
-    (is_asked c.in_ok-to_vec.field-0.items c.in_ok-image.image c.in_ok-system.system.memory c.want.new.self.memory c.make_room.new.self.memory
+    (is_asked c.in_ok-to_vec.field-0.items c.in_ok-image.image c.in_ok-system.system.memory c.want.new.self.memory
+    c.make_room.new.self.memory
     c.make_room.ensures.memory c.want.ensures.memory c.in_ok-system.ensures.memory c.in_ok-image.ensures.image))))
     (here_taken riding carrying c.in_ok-to_vec.field-0.items)
 
@@ -110,7 +125,8 @@ touch-requires-clause-here g c =
     ∙ ap (λ (m : Tried). take_message riding carrying m 0)
     (c.take_request.ensures.memory
     ∙ ap (λ (m : Tried). take_request riding carrying m 0)
-    (is_asked c.in_ok-to_vec.field-0.items c.in_ok-image.image c.in_ok-system.system.memory c.want.new.self.memory c.make_room.new.self.memory
+    (is_asked c.in_ok-to_vec.field-0.items c.in_ok-image.image c.in_ok-system.system.memory c.want.new.self.memory
+    c.make_room.new.self.memory
     c.make_room.ensures.memory c.want.ensures.memory c.in_ok-system.ensures.memory c.in_ok-image.ensures.image)))))
     (here_retired riding carrying c.in_ok-to_vec.field-0.items (record { core = 0; count = 1 }))
 
@@ -123,7 +139,8 @@ touch-requires-clause-allowed g c =
     ∙ ap (λ (m : Tried). take_message riding carrying m 0)
     (c.take_request.ensures.memory
     ∙ ap (λ (m : Tried). take_request riding carrying m 0)
-    (is_asked c.in_ok-to_vec.field-0.items c.in_ok-image.image c.in_ok-system.system.memory c.want.new.self.memory c.make_room.new.self.memory
+    (is_asked c.in_ok-to_vec.field-0.items c.in_ok-image.image c.in_ok-system.system.memory c.want.new.self.memory
+    c.make_room.new.self.memory
     c.make_room.ensures.memory c.want.ensures.memory c.in_ok-system.ensures.memory c.in_ok-image.ensures.image)))))
     (allowed_retired riding carrying c.in_ok-to_vec.field-0.items (record { core = 0; count = 1 }))
 
@@ -131,14 +148,16 @@ pub final_words-requires-clause-within : goal.final_words-requires-clause-within
 final_words-requires-clause-within g c =
     subst (λ (m : Tried). 0 < length m.home)
     (sym (c.touch.ensures.memory
-    ∙ ap (λ (m : Tried). touch riding carrying m 0 0 1 Store 9 (rider_at riding (port_at carrying c.touch.new.self.memory.ports 0) 1))
+    ∙ ap (λ (m : Tried). touch riding carrying m 0 0 1 Store 9
+    (rider_at riding (port_at carrying c.touch.new.self.memory.ports 0) 1))
     (c.retire.ensures.memory
     ∙ ap (λ (m : Tried). retire carrying m 0 (record { core = 0; count = 1 }))
     (c.take_message.ensures.memory
     ∙ ap (λ (m : Tried). take_message riding carrying m 0)
     (c.take_request.ensures.memory
     ∙ ap (λ (m : Tried). take_request riding carrying m 0)
-    (is_asked c.in_ok-to_vec.field-0.items c.in_ok-image.image c.in_ok-system.system.memory c.want.new.self.memory c.make_room.new.self.memory
+    (is_asked c.in_ok-to_vec.field-0.items c.in_ok-image.image c.in_ok-system.system.memory c.want.new.self.memory
+    c.make_room.new.self.memory
     c.make_room.ensures.memory c.want.ensures.memory c.in_ok-system.ensures.memory c.in_ok-image.ensures.image))))))
     (within_written riding carrying c.in_ok-to_vec.field-0.items (record { core = 0; count = 1 })
     (rider_at riding (port_at carrying c.touch.new.self.memory.ports 0) 1))
@@ -147,14 +166,16 @@ pub final_words-requires-clause-at_hand : goal.final_words-requires-clause-at_ha
 final_words-requires-clause-at_hand g c =
     subst (λ (m : Tried). IsTrue (at_hand riding carrying m 0))
     (sym (c.touch.ensures.memory
-    ∙ ap (λ (m : Tried). touch riding carrying m 0 0 1 Store 9 (rider_at riding (port_at carrying c.touch.new.self.memory.ports 0) 1))
+    ∙ ap (λ (m : Tried). touch riding carrying m 0 0 1 Store 9
+    (rider_at riding (port_at carrying c.touch.new.self.memory.ports 0) 1))
     (c.retire.ensures.memory
     ∙ ap (λ (m : Tried). retire carrying m 0 (record { core = 0; count = 1 }))
     (c.take_message.ensures.memory
     ∙ ap (λ (m : Tried). take_message riding carrying m 0)
     (c.take_request.ensures.memory
     ∙ ap (λ (m : Tried). take_request riding carrying m 0)
-    (is_asked c.in_ok-to_vec.field-0.items c.in_ok-image.image c.in_ok-system.system.memory c.want.new.self.memory c.make_room.new.self.memory
+    (is_asked c.in_ok-to_vec.field-0.items c.in_ok-image.image c.in_ok-system.system.memory c.want.new.self.memory
+    c.make_room.new.self.memory
     c.make_room.ensures.memory c.want.ensures.memory c.in_ok-system.ensures.memory c.in_ok-image.ensures.image))))))
     (at_hand_written riding carrying c.in_ok-to_vec.field-0.items (record { core = 0; count = 1 })
     (rider_at riding (port_at carrying c.touch.new.self.memory.ports 0) 1))

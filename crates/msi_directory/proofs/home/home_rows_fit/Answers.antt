@@ -5,4 +5,5 @@ pub returns-clause-request : goal.returns-clause-request
 returns-clause-request g c = λ e from request h fits. request_keeps_fit g.R.Rider.riding.absorbed e from request h fits
 
 pub returns-clause-response : goal.returns-clause-response
-returns-clause-response g c = λ e from response h fits. response_keeps_fit g.R.Rider.riding.absorbed e from response h fits
+returns-clause-response g c = λ e from response h fits. response_keeps_fit g.R.Rider.riding.absorbed e from response h
+    fits

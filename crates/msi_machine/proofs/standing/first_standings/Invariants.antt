@@ -5,4 +5,5 @@ use Rattle.msi_machine.specs.Standings.{standing_with}
 use Rattle.msi_machine.proofs.standing.first_standings.Given as goal
 
 abbrev pub invariant-loop-core : goal.invariant-loop-core
-invariant-loop-core l = l.found.items ≡ map (λ (core : Core). standing_with l.program core false) (take l.core-index l.cores)
+invariant-loop-core l = l.found.items ≡ map (λ (core : Core). standing_with l.program core false)
+    (take l.core-index l.cores)

@@ -7,17 +7,22 @@ use Rattle.msi_memory.proofs.memory.askers.Goals as goal
 
 pub loop-n-init : goal.loop-n-init
 loop-n-init g c =
-    subst (λ (set : CoreSet). AskedBelow c.args.ports.now 0 c.args.block set) (sym c.empty-set.ensures) (asked_none c.args.ports.now c.args.block)
+    subst (λ (set : CoreSet). AskedBelow c.args.ports.now 0 c.args.block set) (sym c.empty-set.ensures)
+    (asked_none c.args.ports.now c.args.block)
 
 pub loop-n-preserved : goal.loop-n-preserved
 loop-n-preserved g c =
     let port : Port g.row.R.Denot g.row.K.Denot = c.index-ports-n.result in
     elim c.if-asks.branch [
-      | then-asks w ↦ subst (λ (set : CoreSet). AskedBelow c.args.ports.now (c.loop-n.n + 1) c.args.block set) (sym (w.set-is ∙ w.with-set.ensures))
-          (asked_yes c.args.ports.now c.loop-n.n c.args.block c.loop-n.set port (omega (arith, c.requires.few)) c.loop-n-test.true (sym c.index-ports-n.is)
+      | then-asks w ↦ subst (λ (set : CoreSet). AskedBelow c.args.ports.now (c.loop-n.n + 1) c.args.block set)
+          (sym (w.set-is ∙ w.with-set.ensures))
+          (asked_yes c.args.ports.now c.loop-n.n c.args.block c.loop-n.set port (omega (arith, c.requires.few))
+          c.loop-n-test.true (sym c.index-ports-n.is)
           (sym c.asks.ensures ∙ w.if-asks.true) c.loop-n.invariant)
-      | else-asks w ↦ subst (λ (set : CoreSet). AskedBelow c.args.ports.now (c.loop-n.n + 1) c.args.block set) (sym w.set-is)
-          (asked_no c.args.ports.now c.loop-n.n c.args.block c.loop-n.set port c.loop-n-test.true (sym c.index-ports-n.is)
+      | else-asks w ↦ subst (λ (set : CoreSet). AskedBelow c.args.ports.now (c.loop-n.n + 1) c.args.block set)
+          (sym w.set-is)
+          (asked_no c.args.ports.now c.loop-n.n c.args.block c.loop-n.set port c.loop-n-test.true
+          (sym c.index-ports-n.is)
           (sym c.asks.ensures ∙ w.if-asks.false) c.loop-n.invariant)
     ]
 

@@ -16,7 +16,8 @@ returns-in_default-head-clause-ok g c =
 pub returns-clause-rooms : goal.returns-clause-rooms
 returns-clause-rooms g c =
     let made =
-    one_made c.args.ports.now c.args.core c.in-Some.port.now c.in-Some-head.mail.now c.in-Some-head.ensures.item.0 c.args.home.now c.make_room.new.self
+    one_made c.args.ports.now c.args.core c.in-Some.port.now c.in-Some-head.mail.now c.in-Some-head.ensures.item.0
+    c.args.home.now c.make_room.new.self
     c.block.result c.requires.others c.in-Some.ensures.lookup.3.0
     (sym c.in-Some.ensures.lookup.1) c.in-Some-head.ensures.item.1 c.block.ensures c.in_ok-free.ensures.ok
     c.in_ok-free.ensures.room in
@@ -25,7 +26,8 @@ returns-clause-rooms g c =
 pub returns-clause-others : goal.returns-clause-others
 returns-clause-others g c =
     let made =
-    one_made c.args.ports.now c.args.core c.in-Some.port.now c.in-Some-head.mail.now c.in-Some-head.ensures.item.0 c.args.home.now c.make_room.new.self
+    one_made c.args.ports.now c.args.core c.in-Some.port.now c.in-Some-head.mail.now c.in-Some-head.ensures.item.0
+    c.args.home.now c.make_room.new.self
     c.block.result c.requires.others c.in-Some.ensures.lookup.3.0
     (sym c.in-Some.ensures.lookup.1) c.in-Some-head.ensures.item.1 c.block.ensures c.in_ok-free.ensures.ok
     c.in_ok-free.ensures.room in
@@ -34,7 +36,8 @@ returns-clause-others g c =
 pub returns-clause-ok : goal.returns-clause-ok
 returns-clause-ok g c =
     let made =
-    one_made c.args.ports.now c.args.core c.in-Some.port.now c.in-Some-head.mail.now c.in-Some-head.ensures.item.0 c.args.home.now c.make_room.new.self
+    one_made c.args.ports.now c.args.core c.in-Some.port.now c.in-Some-head.mail.now c.in-Some-head.ensures.item.0
+    c.args.home.now c.make_room.new.self
     c.block.result c.requires.others c.in-Some.ensures.lookup.3.0
     (sym c.in-Some.ensures.lookup.1) c.in-Some-head.ensures.item.1 c.block.ensures c.in_ok-free.ensures.ok
     c.in_ok-free.ensures.room in

@@ -1,8 +1,9 @@
-use Rattle.std.proofs.Common.{ap, sym, subst, ◌∙◌, arith}
+use Rattle.std.proofs.Common.{refl, ap, sym, subst, ◌∙◌, arith}
 use Rattle.rtr_types.specs.declared.pairs.Which.TheVariants.{Reduced}
 use Rattle.conflict_edge.specs.Least.{IsLeast}
 use Rattle.edge_regulate.specs.Regulated.{regulated}
 use Rattle.image_mem.specs.Contents.{Contents}
+use Rattle.know_history.specs.Notes.{no_notes}
 use Rattle.log_codec.specs.Sources.{log_edges}
 use Rattle.log_codec.specs.Validity.{Valid}
 use Rattle.log_codec.specs.declared.recording.Recording.{Recording}
@@ -17,31 +18,42 @@ use Rattle.recorder.proofs.run.record_image.Goals as goal
 pub record_on-requires-clause-stands : goal.record_on-requires-clause-stands
 record_on-requires-clause-stands c =
     let image_is = ap (λ s. s.image) c.in_ok-machine.ensures.start in
-    subst (λ (i : Contents). RecordsAt i c.args.params c.args.schedule 0 c.in_ok-machine.machine.state c.in_ok-clerk.clerk c.args.schedule)
+    subst (λ (i : Contents). RecordsAt i c.args.params c.args.schedule 0 c.in_ok-machine.machine.state
+    c.in_ok-clerk.clerk c.args.schedule)
     (sym image_is)
     (record {
-      notes = notes_start c.args.image c.args.params c.args.schedule c.in_ok-machine.machine.state c.in_ok-clerk.clerk c.requires.fits
-          c.in_ok-machine.ensures.start c.in_ok-machine.ensures.plain c.in_ok-clerk.ensures.reduction c.in_ok-clerk.ensures.history;
-      regulates = regulates_start c.args.params.cores c.in_ok-clerk.clerk c.in_ok-clerk.ensures.reduction c.in_ok-clerk.ensures.untold
-          c.in_ok-clerk.ensures.cores c.in_ok-clerk.ensures.regulation;
+      history = no_notes c.args.params.cores;
+      notes = notes_start c.args.image c.args.params c.args.schedule c.in_ok-machine.machine.state
+          c.in_ok-clerk.clerk.reduction.state
+          (no_notes c.args.params.cores) c.requires.fits c.in_ok-machine.ensures.start c.in_ok-machine.ensures.plain
+          c.in_ok-clerk.ensures.reduction refl;
+      regulates = regulates_start c.args.params.cores c.in_ok-clerk.clerk c.in_ok-clerk.ensures.reduction
+          c.in_ok-clerk.ensures.untold
+          c.in_ok-clerk.ensures.cores c.in_ok-clerk.ensures.follows;
     })
 
 pub returns : goal.returns
 returns c =
     let image_is = ap (λ s. s.image) c.in_ok-machine.ensures.start in
-    let made = recording_made c.args.image c.args.params c.args.schedule c.from_vec.result c.in_ok-run_end.run_end.totals
+    let made = recording_made c.args.image c.args.params c.args.schedule c.from_vec.result
+    c.in_ok-run_end.run_end.totals
     c.in_ok-run_end.run_end.logs.reduced c.in_ok-run_end.run_end.logs.regulated
-    (c.from_vec.ensures ∙ c.into_bytes.ensures ∙ ap (λ (i : Contents). i.bytes) (c.into_image.ensures ∙ c.in_ok-run_end.ensures.image ∙ image_is))
-    (c.in_ok-run_end.ensures.totals ∙ ap (λ (i : Contents). totals_of (outcome_of i c.args.params c.args.schedule).cores) image_is)
+    (c.from_vec.ensures ∙ c.into_bytes.ensures ∙ ap (λ (i : Contents). i.bytes) (c.into_image.ensures
+    ∙ c.in_ok-run_end.ensures.image ∙ image_is))
+    (c.in_ok-run_end.ensures.totals ∙ ap (λ (i : Contents). totals_of
+    (outcome_of i c.args.params c.args.schedule).cores) image_is)
     (c.in_ok-run_end.ensures.reduced ∙ ap (λ (i : Contents). reduced_of i c.args.params c.args.schedule) image_is)
-    (c.in_ok-run_end.ensures.regulated ∙ ap (λ (i : Contents). regulated_of i c.args.params c.args.schedule) image_is) in
+    (c.in_ok-run_end.ensures.regulated ∙ ap (λ (i : Contents). regulated_of i c.args.params c.args.schedule)
+    image_is) in
     record {
       recording = made;
-      valid = subst Valid (sym made) (recording_valid_law c.args.image c.args.params c.args.schedule c.requires.fits c.requires.words
+      valid = subst Valid (sym made) (recording_valid_law c.args.image c.args.params c.args.schedule c.requires.fits
+          c.requires.words
           (omega (arith, c.words-words.ensures.value, c.words-words.ensures.room, c.requires.words)));
       regulated = λ known counts. ap (λ (r : Recording). r.regulated) made
           ∙ regulated_log_law c.args.image c.args.params c.args.schedule known c.requires.fits counts
           ∙ ap (λ (r : Recording). regulated c.args.params.cores known r.reduced) (sym made);
-      least = subst (λ (r : Recording). IsLeast (run_accesses c.args.image c.args.params c.args.schedule) (log_edges Reduced r)) (sym made)
+      least = subst (λ (r : Recording). IsLeast (run_accesses c.args.image c.args.params c.args.schedule)
+          (log_edges Reduced r)) (sym made)
           (least c.args.image c.args.params c.args.schedule c.requires.fits);
     }

@@ -21,8 +21,10 @@ returns c =
       regulated = λ known counts. c.in_ok-recording.ensures.regulated known
           (subst (λ (s : Choices). CountsKnown c.in_ok-ran.ran.image c.args.params s known) (sym again_is)
           (subst (λ (i : Contents). CountsKnown i c.args.params c.args.schedule known) (sym image_is) counts));
-      least = subst (λ (s : Choices). IsLeast (run_accesses c.args.image c.args.params s) (log_edges Reduced c.in_ok-recording.recording))
+      least = subst (λ (s : Choices). IsLeast (run_accesses c.args.image c.args.params s)
+          (log_edges Reduced c.in_ok-recording.recording))
           again_is
-          (subst (λ (i : Contents). IsLeast (run_accesses i c.args.params c.in_ok-again.again) (log_edges Reduced c.in_ok-recording.recording))
+          (subst (λ (i : Contents). IsLeast (run_accesses i c.args.params c.in_ok-again.again)
+          (log_edges Reduced c.in_ok-recording.recording))
           image_is c.in_ok-recording.ensures.least);
     }

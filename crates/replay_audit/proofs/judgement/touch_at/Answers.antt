@@ -1,35 +1,36 @@
-use Rattle.std.proofs.Common.{get_or, Ok, Err, Some, ap, ◌∙◌, rules}
+use Rattle.std.proofs.Common.{get_or, Some, ap}
 use Rattle.std.proofs.lemmas.List.{get_or_default}
-use Rattle.std.proofs.lemmas.List.Sorted.{answers_always}
 use Rattle.rtr_types.specs.declared.access.Kind.TheVariants.{Load}
-use Rattle.log_codec.proofs.Looked.{searched}
 use Rattle.replay_audit.specs.declared.touch.Touch.{Touch}
-use Rattle.replay_audit.proofs.Touching.{rising_at, one_at}
+use Rattle.replay_audit.proofs.Touching.{none_there, one_at, place_after, place_same}
 use Rattle.replay_audit.proofs.judgement.touch_at.Goals as goal
 
 abbrev no_touch : Touch
 no_touch = record { at = record { core = 0; count = 0 }; word = 0; kind = Load }
 
-pub returns-in-Ok-clause-found : goal.returns-in-Ok-clause-found
-returns-in-Ok-clause-found c =
+pub returns-then-is_at-clause-found : goal.returns-then-is_at-clause-found
+returns-then-is_at-clause-found c =
     let list = c.args.list.now in
-    let by_key = c.in-Ok.ensures.position (λ a. a.at.count) (answers_always _ _ _ (λ f a r g called. search rules)) in
-    let at = (searched (λ (a : Touch). a.at.count) list no_touch c.args.count (rising_at list no_touch c.requires)
-    (Ok c.in-Ok.k) c.in-Ok.ensures.bound by_key).found in
-    ((c.in-Ok.k, at.0, get_or_default list c.in-Ok.k (get_or list c.in-Ok.k no_touch) no_touch at.0), at.1)
+    let k = c.args.place.now in
+    let at = c.is_at.ensures.at c.if-is_at.true in
+    ((k, at.within, get_or_default list k (get_or list k no_touch) no_touch at.within), at.is no_touch)
 
-pub returns-in-Ok-clause-only : goal.returns-in-Ok-clause-only
-returns-in-Ok-clause-only c a has e =
-    let list = c.args.list.now in
-    let by_key = c.in-Ok.ensures.position (λ a. a.at.count) (answers_always _ _ _ (λ f a r g called. search rules)) in
-    let at = (searched (λ (a : Touch). a.at.count) list no_touch c.args.count (rising_at list no_touch c.requires)
-    (Ok c.in-Ok.k) c.in-Ok.ensures.bound by_key).found in
-    ap (λ (x : Touch). Some x) (one_at list c.in-Ok.k c.args.count no_touch a c.requires at.0 at.1 has e)
+pub returns-then-is_at-clause-only : goal.returns-then-is_at-clause-only
+returns-then-is_at-clause-only c t has e =
+    let at = c.is_at.ensures.at c.if-is_at.true in
+    ap (λ (x : Touch). Some x)
+    (one_at c.args.list.now c.args.place.now c.args.count no_touch t c.requires.rising at.within (at.is no_touch) has e)
 
-pub returns-in-Err-clause-only : goal.returns-in-Err-clause-only
-returns-in-Err-clause-only c a has e =
-    let list = c.args.list.now in
-    let by_key = c.in-Err.ensures.position (λ a. a.at.count) (answers_always _ _ _ (λ f a r g called. search rules)) in
-    let none = (searched (λ (a : Touch). a.at.count) list no_touch c.args.count (rising_at list no_touch c.requires)
-    (Err c.in-Err.field-0) c.in-Err.ensures.bound by_key).absent in
-    absurd (none has.0 has.1 (ap (λ (x : Touch). x.at.count) (get_or_default list has.0 no_touch a has.1 ∙ has.2) ∙ e))
+pub returns-then-is_at-clause-place : goal.returns-then-is_at-clause-place
+returns-then-is_at-clause-place c =
+    place_after c.args.list.now c.args.count c.args.place.now c.requires.rising c.requires.place
+    (c.is_at.ensures.at c.if-is_at.true)
+
+pub returns-clause-only : goal.returns-clause-only
+returns-clause-only c t has e =
+    absurd (none_there c.args.list.now c.args.count c.args.place.now no_touch t c.requires.rising c.requires.place
+    (c.is_at.ensures.other c.if-is_at.false no_touch) has e)
+
+pub returns-clause-place : goal.returns-clause-place
+returns-clause-place c =
+    place_same c.args.list.now c.args.count c.args.place.now c.requires.place (c.is_at.ensures.other c.if-is_at.false)

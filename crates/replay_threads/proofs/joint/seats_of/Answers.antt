@@ -3,7 +3,8 @@ use Rattle.std.specs.Prelude.{All, []}
 use Rattle.std.specs.List.{range_with_len}
 use Rattle.std.proofs.lemmas.Nat.{mod_below}
 use Rattle.replay_table.specs.Seats.{Sitting}
-use Rattle.replay_threads.specs.Groups.{Grouped, AllAt, AllDone, AreAt, AreGrouped, IsDone, IsGivenTo, ids_of, workers_at}
+use Rattle.replay_threads.specs.Groups.{Grouped, AllAt, AllDone, AreAt, AreGrouped, IsDone, IsGivenTo, ids_of}
+use Rattle.replay_threads.specs.Groups.{workers_at}
 use Rattle.replay_threads.proofs.Dealing.{written, range_more, all_cons, all_seats, at_less, some_last, taken_last}
 use Rattle.replay_threads.proofs.joint.seats_of.Goals as goal
 
@@ -30,8 +31,10 @@ loop-core-preserved g c =
     let x : Sitting = c.into_seat.result in
     let seats : List Sitting = c.loop-core.seats.items in
     let given0 : IsGivenTo new (k % n) c.in-Some.worker items =
-    subst (λ (l : List Grouped). IsGivenTo new (k % n) c.in-Some.worker l) c.as_mut_slice.ensures.value c.in-Some.ensures.some in
-    let given : IsGivenTo new (k % n) x items = subst (λ (y : Sitting). IsGivenTo new (k % n) y items) (sym c.into_seat.ensures) given0 in
+    subst (λ (l : List Grouped). IsGivenTo new (k % n) c.in-Some.worker l) c.as_mut_slice.ensures.value
+    c.in-Some.ensures.some in
+    let given : IsGivenTo new (k % n) x items = subst (λ (y : Sitting). IsGivenTo new (k % n) y items)
+    (sym c.into_seat.ensures) given0 in
     let w = written c.loop-core.groups.len new items (sym given.all) c.loop-core.groups.ok.0 in
     let more : core ≡ k + 1 = omega (arith, up) in
     let within : k % n < n = mod_below k n i.some in
@@ -52,7 +55,8 @@ loop-core-preserved g c =
           let a = i.at table h in
           let q = at_less table (k % n) items new x a.0 given (omega (arith, within, count)) in (
             subst (λ (l : List Grouped). AreAt table l) (sym w) q.0,
-            subst (λ (l : List Sitting). AllAt table l) (sym put) (all_cons (λ (y : Sitting). y.table_id ≡ table) x seats q.1 a.1),
+            subst (λ (l : List Sitting). AllAt table l) (sym put)
+                (all_cons (λ (y : Sitting). y.table_id ≡ table) x seats q.1 a.1),
           );
       ended = subst (λ (l : List Sitting). All (IsDone r) l) (sym put) (all_cons (IsDone r) x seats taken.done i.ended);
     }
@@ -65,5 +69,6 @@ returns g c = λ table h.
     let zero-left : c.loop-core.core ≡ 0 = omega (arith, stop) in
     let cores = c.requires.cores in
     all_seats g.J.Job.which r table c.loop-core.seats.items
-    (i.ids ∙ ap (λ (k : ℕ). range_with_len k (c.args.cores - k)) zero-left ∙ ap (λ (m : ℕ). range_with_len 0 m) (omega (arith, cores)))
+    (i.ids ∙ ap (λ (k : ℕ). range_with_len k (c.args.cores - k)) zero-left ∙ ap (λ (m : ℕ). range_with_len 0 m)
+    (omega (arith, cores)))
     (i.at table h).1 i.ended

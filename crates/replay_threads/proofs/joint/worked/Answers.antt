@@ -15,9 +15,11 @@ seats_of-requires-clause-grouped g c =
     let t = c.args.table.now in
     let old : List Grouped = c.args.groups.items in
     let new : List Grouped = c.rounds.new.groups in
-    let kept : AreKept t old new = subst (λ (l : List Grouped). AreKept t l new) c.as_mut_slice.ensures.value c.rounds.ensures.kept in
+    let kept : AreKept t old new = subst (λ (l : List Grouped). AreKept t l new) c.as_mut_slice.ensures.value
+    c.rounds.ensures.kept in
     let w = written c.args.groups.len new old kept.all c.args.groups.ok.0 in
-    let grouped : AreGrouped (length old) c.args.cores new = kept_grouped t (length old) c.args.cores old new c.requires.grouped kept in
+    let grouped : AreGrouped (length old) c.args.cores new = kept_grouped t (length old) c.args.cores old new
+    c.requires.grouped kept in
     subst (λ (l : List Grouped). AreGrouped (length l) c.args.cores l) (sym w)
     (subst (λ (k : ℕ). AreGrouped k c.args.cores new) (sym grouped.all) grouped)
 
@@ -26,15 +28,18 @@ seats_of-requires-clause-done g c =
     let t = c.args.table.now in
     let old : List Grouped = c.args.groups.items in
     let new : List Grouped = c.rounds.new.groups in
-    let kept : AreKept t old new = subst (λ (l : List Grouped). AreKept t l new) c.as_mut_slice.ensures.value c.rounds.ensures.kept in
+    let kept : AreKept t old new = subst (λ (l : List Grouped). AreKept t l new) c.as_mut_slice.ensures.value
+    c.rounds.ensures.kept in
     let w = written c.args.groups.len new old kept.all c.args.groups.ok.0 in
-    subst (λ (l : List Grouped). AllDone g.J.Job.recording l) (sym w) (c.in_ok-rounds.ensures.ended c.if-not-branch.false)
+    subst (λ (l : List Grouped). AllDone g.J.Job.recording l) (sym w)
+    (c.in_ok-rounds.ensures.ended c.if-not-branch.false)
 
 pub returns-clause-seats : goal.returns-clause-seats
 returns-clause-seats g c =
     let t = c.args.table.now in
     let old : List Grouped = c.args.groups.items in
     let new : List Grouped = c.rounds.new.groups in
-    let kept : AreKept t old new = subst (λ (l : List Grouped). AreKept t l new) c.as_mut_slice.ensures.value c.rounds.ensures.kept in
+    let kept : AreKept t old new = subst (λ (l : List Grouped). AreKept t l new) c.as_mut_slice.ensures.value
+    c.rounds.ensures.kept in
     let w = written c.args.groups.len new old kept.all c.args.groups.ok.0 in
     c.in_ok-seats.ensures t (subst (λ (l : List Grouped). AreAt t l) (sym w) kept.at)

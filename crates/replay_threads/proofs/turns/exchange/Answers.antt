@@ -9,7 +9,8 @@ use Rattle.replay_threads.proofs.turns.exchange.Goals as goal
 pub store_word-requires-clause-ready : goal.store_word-requires-clause-ready
 store_word-requires-clause-ready g c =
     let e = c.hold_word.ensures in
-    held_due (plan_of g.J.Job.which g.J.Job.recording) _ c.hold_word.result c.args.seat.now c.hold_word.new.seat e.step e.core c.requires.due
+    held_due (plan_of g.J.Job.which g.J.Job.recording) _ c.hold_word.result c.args.seat.now c.hold_word.new.seat
+    e.told.step e.core c.requires.due
 
 pub returns-in-Ok-clause-goes_on : goal.returns-in-Ok-clause-goes_on
 returns-in-Ok-clause-goes_on g c =
@@ -17,9 +18,11 @@ returns-in-Ok-clause-goes_on g c =
     let e = c.hold_word.ensures in
     let part : is_whole (need (recorded_image g.J.Job.recording) c.hold_word.new.seat.core) ≡ false =
     ap (λ (k : Core). is_whole (need (recorded_image g.J.Job.recording) k)) e.core ∙ c.requires.part in
-    (held_retires p _ c.hold_word.result c.hold_word.result c.args.seat.now c.hold_word.new.seat c.store_word.new.seat e.table e.core e.step
+    (held_retires p _ c.hold_word.result c.hold_word.result c.args.seat.now c.hold_word.new.seat c.store_word.new.seat
+    e.table e.core e.told.step
     c.in-Ok.ensures.table
-    (c.in-Ok.ensures.change part c.hold_word.result (is_held p _ c.hold_word.result c.args.seat.now c.hold_word.new.seat e.step))).goes_on
+    (c.in-Ok.ensures.change part c.hold_word.result
+    (is_held p _ c.hold_word.result c.args.seat.now c.hold_word.new.seat e.told.step))).goes_on
 
 pub returns-in-Ok-clause-more : goal.returns-in-Ok-clause-more
 returns-in-Ok-clause-more g c =
@@ -27,9 +30,11 @@ returns-in-Ok-clause-more g c =
     let e = c.hold_word.ensures in
     let part : is_whole (need (recorded_image g.J.Job.recording) c.hold_word.new.seat.core) ≡ false =
     ap (λ (k : Core). is_whole (need (recorded_image g.J.Job.recording) k)) e.core ∙ c.requires.part in
-    (held_retires p _ c.hold_word.result c.hold_word.result c.args.seat.now c.hold_word.new.seat c.store_word.new.seat e.table e.core e.step
+    (held_retires p _ c.hold_word.result c.hold_word.result c.args.seat.now c.hold_word.new.seat c.store_word.new.seat
+    e.table e.core e.told.step
     c.in-Ok.ensures.table
-    (c.in-Ok.ensures.change part c.hold_word.result (is_held p _ c.hold_word.result c.args.seat.now c.hold_word.new.seat e.step))).more
+    (c.in-Ok.ensures.change part c.hold_word.result
+    (is_held p _ c.hold_word.result c.args.seat.now c.hold_word.new.seat e.told.step))).more
 
 ok_err : {A B : Type 0} (a : A) (b : B) → Err b ≡ Ok a → ⊥
 ok_err a b e = cc
@@ -40,9 +45,12 @@ returns-in-Err-clause-goes_on g c =
     let e = c.hold_word.ensures in
     let part : is_whole (need (recorded_image g.J.Job.recording) c.hold_word.new.seat.core) ≡ false =
     ap (λ (k : Core). is_whole (need (recorded_image g.J.Job.recording) k)) e.core ∙ c.requires.part in
-    (held_fails g.J.Job.which g.J.Job.recording p _ c.hold_word.result c.hold_word.result _ c.args.seat.now c.hold_word.new.seat c.store_word.new.seat
-    e.table e.core e.step
-    c.in-Err.ensures.table (c.in-Err.ensures.change part c.hold_word.result (is_held p _ c.hold_word.result c.args.seat.now c.hold_word.new.seat e.step))
+    (held_fails g.J.Job.which g.J.Job.recording p _ c.hold_word.result c.hold_word.result _ c.args.seat.now
+    c.hold_word.new.seat c.store_word.new.seat
+    e.table e.core e.told.step
+    c.in-Err.ensures.table
+    (c.in-Err.ensures.change part c.hold_word.result
+    (is_held p _ c.hold_word.result c.args.seat.now c.hold_word.new.seat e.told.step))
     (λ d. ok_err _ _ (c.in-Err.ensures.sure d))).0
 
 pub returns-in-Err-clause-ends : goal.returns-in-Err-clause-ends
@@ -51,7 +59,10 @@ returns-in-Err-clause-ends g c =
     let e = c.hold_word.ensures in
     let part : is_whole (need (recorded_image g.J.Job.recording) c.hold_word.new.seat.core) ≡ false =
     ap (λ (k : Core). is_whole (need (recorded_image g.J.Job.recording) k)) e.core ∙ c.requires.part in
-    (held_fails g.J.Job.which g.J.Job.recording p _ c.hold_word.result c.hold_word.result _ c.args.seat.now c.hold_word.new.seat c.store_word.new.seat
-    e.table e.core e.step
-    c.in-Err.ensures.table (c.in-Err.ensures.change part c.hold_word.result (is_held p _ c.hold_word.result c.args.seat.now c.hold_word.new.seat e.step))
+    (held_fails g.J.Job.which g.J.Job.recording p _ c.hold_word.result c.hold_word.result _ c.args.seat.now
+    c.hold_word.new.seat c.store_word.new.seat
+    e.table e.core e.told.step
+    c.in-Err.ensures.table
+    (c.in-Err.ensures.change part c.hold_word.result
+    (is_held p _ c.hold_word.result c.args.seat.now c.hold_word.new.seat e.told.step))
     (λ d. ok_err _ _ (c.in-Err.ensures.sure d))).1

@@ -8,7 +8,8 @@ use Rattle.replay_threads.proofs.turns.retire.Goals as goal
 pub returns-in-Done-clause-ends : goal.returns-in-Done-clause-ends
 returns-in-Done-clause-ends g c =
     let e = c.publish.ensures in
-    short_ends g.J.Job.which g.J.Job.recording c.args.seat.now c.publish.new.seat c.requires.valid e.published e.reached c.core-core.ensures.inside
+    short_ends g.J.Job.which g.J.Job.recording c.args.seat.now c.publish.new.seat c.requires.valid e.published
+    e.reached c.core-core.ensures.inside
     c.requires.due
     (ap (λ (n : Need). is_done n) (sym c.need-need.ensures ∙ c.in-Done.is))
 
@@ -25,11 +26,13 @@ returns-in-Local-clause-more g c =
 pub returns-in-Load-clause-goes_on : goal.returns-in-Load-clause-goes_on
 returns-in-Load-clause-goes_on g c =
     let e = c.load_word.ensures in
-    (load_retires (plan_of g.J.Job.which g.J.Job.recording) (recorded_image g.J.Job.recording) _ c.load_word.result c.args.seat.now c.load_word.new.seat
-    e.table e.core e.step).goes_on
+    (load_retires (plan_of g.J.Job.which g.J.Job.recording) (recorded_image g.J.Job.recording) _ c.load_word.result
+    c.args.seat.now c.load_word.new.seat
+    e.table e.core e.told.step).goes_on
 
 pub returns-in-Load-clause-more : goal.returns-in-Load-clause-more
 returns-in-Load-clause-more g c =
     let e = c.load_word.ensures in
-    (load_retires (plan_of g.J.Job.which g.J.Job.recording) (recorded_image g.J.Job.recording) _ c.load_word.result c.args.seat.now c.load_word.new.seat
-    e.table e.core e.step).more
+    (load_retires (plan_of g.J.Job.which g.J.Job.recording) (recorded_image g.J.Job.recording) _ c.load_word.result
+    c.args.seat.now c.load_word.new.seat
+    e.table e.core e.told.step).more

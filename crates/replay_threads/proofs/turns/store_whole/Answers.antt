@@ -6,12 +6,14 @@ pub returns-clause-goes_on : goal.returns-clause-goes_on
 returns-clause-goes_on g c =
     let e = c.store_word.ensures in
     let w = e.whole c.requires.whole in
-    (store_retires (plan_of g.J.Job.which g.J.Job.recording) (recorded_image g.J.Job.recording) _ _ c.args.seat.now c.store_word.new.seat e.table w.1
-    w.2).goes_on
+    (store_retires (plan_of g.J.Job.which g.J.Job.recording) (recorded_image g.J.Job.recording) _ _ c.args.seat.now
+    c.store_word.new.seat e.table w.1
+    w.2.step).goes_on
 
 pub returns-clause-more : goal.returns-clause-more
 returns-clause-more g c =
     let e = c.store_word.ensures in
     let w = e.whole c.requires.whole in
-    (store_retires (plan_of g.J.Job.which g.J.Job.recording) (recorded_image g.J.Job.recording) _ _ c.args.seat.now c.store_word.new.seat e.table w.1
-    w.2).more
+    (store_retires (plan_of g.J.Job.which g.J.Job.recording) (recorded_image g.J.Job.recording) _ _ c.args.seat.now
+    c.store_word.new.seat e.table w.1
+    w.2.step).more

@@ -8,6 +8,7 @@ abbrev pub invariant-loop-idle : goal.invariant-loop-idle
 invariant-loop-idle g l = record {
   table : l.seat.table_id ≡ l.table;
   looks : Looks l.fn.seat l.seat;
+  seen : l.seen ≡ seen_of l.seat.view l.of.core;
   unseen : seen_of l.seat.view l.of.core < l.of.count;
   polls : slice_index l.fn.seat.view.polls l.of.core + l.idle ≤ slice_index l.seat.view.polls l.of.core;
   less : to_see l.seat.view ≤ to_see l.fn.seat.view;

@@ -9,5 +9,7 @@ use Rattle.rtr_cli.proofs.soaks.replayed.Goals as goal
 pub returns-clause-outcome : goal.returns-clause-outcome
 returns-clause-outcome c =
     c.into_parts.ensures.outcome
-    ∙ run_audited c.args.image c.args.params c.args.schedule c.in_ok-audited.audited c.requires.fits c.requires.words c.requires.room
-    (subst (λ (r : Recording). IsAuditOf Reduced r c.in_ok-audited.audited) c.in_ok-recorded.ensures.recording c.in_ok-audited.ensures)
+    ∙ run_audited c.args.image c.args.params c.args.schedule c.in_ok-audited.audited c.requires.fits c.requires.words
+    c.requires.room
+    (subst (λ (r : Recording). IsAuditOf Reduced r c.in_ok-audited.audited) c.in_ok-recording.ensures.recording
+    c.in_ok-audited.ensures)

@@ -15,12 +15,15 @@ pub returns-clause-made : goal.returns-clause-made
 returns-clause-made c =
     let bytes : List ℕ = generated c.args.shape c.args.number in
     let of_bytes : List ℕ → Contents = λ items. image_of c.args.params items in
-    let image : c.image.result ≡ image_of c.args.params bytes = c.image.ensures ∙ ap of_bytes c.in_ok-bytes.ensures.image in
-    let opening : c.image-opening.result ≡ image_of c.args.params bytes = c.image-opening.ensures ∙ ap of_bytes c.in_ok-again.ensures.image in
+    let image : c.image.result ≡ image_of c.args.params bytes = c.image.ensures
+    ∙ ap of_bytes c.in_ok-bytes.ensures.image in
+    let opening : c.image-opening.result ≡ image_of c.args.params bytes = c.image-opening.ensures
+    ∙ ap of_bytes c.in_ok-again.ensures.image in
     let schedule : c.new-schedule.result ≡ choices_of [] c.args.seed =
     c.new-schedule.ensures ∙ ap (λ (choices : List ℕ). choices_of choices c.args.seed) c.new.ensures.items in
     let recording : c.in_ok-recording.recording ≡ recording_of_bytes c.args.params [] c.args.seed bytes =
-    c.in_ok-recording.ensures.recording ∙ ap (λ (i : Contents). recording_of i c.args.params c.new-schedule.result) image
+    c.in_ok-recording.ensures.recording ∙ ap (λ (i : Contents). recording_of i c.args.params c.new-schedule.result)
+    image
     ∙ ap (λ (s : Choices). recording_of (image_of c.args.params bytes) c.args.params s) schedule in
     let outcome : c.in_ok-recording.outcome ≡ outcome_of_bytes c.args.params [] c.args.seed bytes =
     c.in_ok-recording.ensures.outcome ∙ ap (λ (i : Contents). outcome_of i c.args.params c.new-schedule.result) image
@@ -36,5 +39,6 @@ returns-clause-made c =
       room,
       c.in_ok-soak_text.ensures
           ∙ ap (λ (r : Recording). soak_lines c.args.shape c.args.number r c.changed_words-changed.result) recording
-          ∙ ap (λ (n : ℕ). soak_lines c.args.shape c.args.number (recording_of_bytes c.args.params [] c.args.seed bytes) n) changed,
+          ∙ ap (λ (n : ℕ). soak_lines c.args.shape c.args.number
+          (recording_of_bytes c.args.params [] c.args.seed bytes) n) changed,
     )

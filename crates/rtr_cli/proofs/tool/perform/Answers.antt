@@ -7,7 +7,8 @@ use Rattle.rtr_cli.proofs.tool.perform.Goals as goal
 pub returns-in-Err-clause-answered : goal.returns-in-Err-clause-answered
 returns-in-Err-clause-answered g c =
     let taken = rw c.most_of.ensures at c.in-Ok.ensures.bytes in
-    refused_answers c.args.command c.in-Ok.bytes.items c.in-Err.exit _ _ _ _ taken c.in-Err.ensures.refused (search rules)
+    refused_answers c.args.command c.in-Ok.bytes.items c.in-Err.exit _ _ _ _ taken c.in-Err.ensures.refused
+    (search rules)
 
 -- so memory ran out where the command accepts it
 pub returns-in-Err-clause-complete : goal.returns-in-Err-clause-complete

@@ -13,6 +13,7 @@ returns c =
         | inr beyond ↦
             (let long = c.loop-k.invariant.long in get_or_past c.loop-k.ops.items k None (omega arith))
             ∙ sym (none_past c.args.image.now (4 * k)
-            (let end = c.loop-k-test.false in let least = c.min-count.ensures in let bytes = c.bytes.ensures.value in grind (arith)))
+            (let end = c.loop-k-test.false in let least = c.min-count.ensures in let bytes = c.bytes.ensures.value in
+            grind (arith)))
       ];
     }

@@ -6,4 +6,5 @@ use Rattle.state_text.proofs.logs.put_vectors.Given as goal
 
 abbrev pub invariant-loop-place : goal.invariant-loop-place
 invariant-loop-place l =
-    string_bytes l.text ≡ string_bytes l.initial.text ++ flat_map (vector_lines l.cores) (enumerate_from 0 (take l.place l.regulated))
+    string_bytes l.text ≡ string_bytes l.initial.text ++ flat_map (vector_lines l.cores)
+    (enumerate_from 0 (take l.place l.regulated))

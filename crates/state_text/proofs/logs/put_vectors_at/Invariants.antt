@@ -6,4 +6,5 @@ use Rattle.state_text.proofs.logs.put_vectors_at.Given as goal
 
 abbrev pub invariant-loop-vector : goal.invariant-loop-vector
 invariant-loop-vector l =
-    string_bytes l.text ≡ string_bytes l.initial.text ++ flat_map (vector_line l.from l.to) (take l.vector-index l.vectors)
+    string_bytes l.text ≡ string_bytes l.initial.text ++ flat_map (vector_line l.from l.to)
+    (take l.vector-index l.vectors)

@@ -6,4 +6,5 @@ use Rattle.state_text.proofs.states.put_cores.Given as goal
 
 abbrev pub invariant-loop-number : goal.invariant-loop-number
 invariant-loop-number l =
-    string_bytes l.text ≡ string_bytes l.initial.text ++ flat_map (core_lines l.image) (enumerate_from 0 (take l.number l.cores))
+    string_bytes l.text ≡ string_bytes l.initial.text ++ flat_map (core_lines l.image)
+    (enumerate_from 0 (take l.number l.cores))

@@ -6,4 +6,5 @@ use Rattle.state_text.proofs.states.put_memory.Given as goal
 
 abbrev pub invariant-loop-word : goal.invariant-loop-word
 invariant-loop-word l =
-    string_bytes l.text ≡ string_bytes l.initial.text ++ flat_map (memory_line l.image) (enumerate_from 0 (take l.word l.words))
+    string_bytes l.text ≡ string_bytes l.initial.text ++ flat_map (memory_line l.image)
+    (enumerate_from 0 (take l.word l.words))

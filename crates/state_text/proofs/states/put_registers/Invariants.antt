@@ -7,4 +7,5 @@ use Rattle.state_text.proofs.states.put_registers.Given as goal
 
 abbrev pub invariant-loop-k : goal.invariant-loop-k
 invariant-loop-k l =
-    string_bytes l.text ≡ string_bytes l.initial.text ++ flat_map (λ k. register_line l.number k (register l.core k)) (range_with_len 1 (l.k - 1))
+    string_bytes l.text ≡ string_bytes l.initial.text ++ flat_map (λ k. register_line l.number k (register l.core k))
+    (range_with_len 1 (l.k - 1))

@@ -9,7 +9,8 @@ use Rattle.trace_gen.proofs.programs.mix_round.Goals as goal
 
 pub loop-count-preserved : goal.loop-count-preserved
 loop-count-preserved c =
-    one_more_drawn c.args.number c.loop-count._count c.loop-count.words c.next_word.new.self c.loop-count.ops.items c.push.new.self.items
+    one_more_drawn c.args.number c.loop-count._count c.loop-count.words c.next_word.new.self c.loop-count.ops.items
+    c.push.new.self.items
     c.next_word.result c.loop-count.invariant c.next_word.ensures
     (c.in_ok-push.ensures.items ∙ ap (λ (op : Op). c.loop-count.ops.items ++ op ∷ []) c.mixed.ensures)
 

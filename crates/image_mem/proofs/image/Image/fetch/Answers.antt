@@ -1,7 +1,8 @@
 use Rattle.std.proofs.Common.{◌+◌, ◌<◌, ◌≤◌, length, arith, inl, inr, sym, ap, Some, ◌∙◌}
 use Rattle.image_mem.proofs.WordLemmas.{fetched-none, fetched-some, word_from-part}
 use Rattle.image_mem.proofs.image.Image.fetch.Goals as goal
-use Rattle.image_mem.proofs.image.Image.fetch.Goals.{then-pc-ne0-via-then-pc-ne0, then-pc-ne0-via-else-pc-ne0+then-start-bytes}
+use Rattle.image_mem.proofs.image.Image.fetch.Goals.{then-pc-ne0-via-then-pc-ne0}
+use Rattle.image_mem.proofs.image.Image.fetch.Goals.{then-pc-ne0-via-else-pc-ne0+then-start-bytes}
 
 pub returns-then-pc-ne0-clause-value : goal.returns-then-pc-ne0-clause-value
 returns-then-pc-ne0-clause-value c = elim c.then-pc-ne0.branch [

@@ -6,7 +6,8 @@ use Rattle.image_mem.proofs.memory.Memory.new.Goals as goal
 
 pub loop-word-preserved : goal.loop-word-preserved
 loop-word-preserved c =
-    let more = map-range_with_len_more (opening_word c.args.image.now) 0 c.loop-word.word c.loop-word.word (omega arith) in
+    let more = map-range_with_len_more (opening_word c.args.image.now) 0 c.loop-word.word c.loop-word.word
+    (omega arith) in
     grind (arith, common_steps, more)
 
 pub returns-clause-length : goal.returns-clause-length

@@ -14,18 +14,22 @@ list_is c = c.list.ensures ∙ ap (λ (p : ℕ). items_at c.self.inside.changes 
 
 pub list-requires : goal.list-requires
 list-requires c =
-    let within = core_within c.self.inside.newest.items (items_in c.self.inside.changes) c.args.self.now.notes c.args.core
+    let within = core_within c.self.inside.newest.items (items_in c.self.inside.changes) c.args.self.now.notes
+    c.args.core
     (ap (λ v. v.notes) c.self.view_is) c.requires.core in
-    let lt = list_within c.self.inside.newest.items c.self.inside.changes c.args.core c.args.of c.self.invariant within c.requires.place in
+    let lt = list_within c.self.inside.newest.items c.self.inside.changes c.args.core c.args.of c.self.invariant within
+    c.requires.place in
     let e = c.list_place.ensures in
     omega arith
 
 pub known_by-requires : goal.known_by-requires
 known_by-requires c =
-    let within = core_within c.self.inside.newest.items (items_in c.self.inside.changes) c.args.self.now.notes c.args.core
+    let within = core_within c.self.inside.newest.items (items_in c.self.inside.changes) c.args.self.now.notes
+    c.args.core
     (ap (λ v. v.notes) c.self.view_is) c.requires.core in
     subst (λ (cs : List Change). IsNonDecreasingBy (λ (d : Change). d.count) cs) (sym (list_is c))
-    (sorted 0 (newest_at c.self.inside.newest.items c.args.core).count (changes_at (items_in c.self.inside.changes) c.args.core c.args.of)
+    (sorted 0 (newest_at c.self.inside.newest.items c.args.core).count (changes_at (items_in c.self.inside.changes)
+    c.args.core c.args.of)
     (c.self.invariant.changes c.args.core c.args.of within c.requires.place).rising)
 
 pub returns : goal.returns
@@ -35,8 +39,10 @@ returns c =
     let is = ap (λ v. v.notes) c.self.view_is in
     let within = core_within newest lists c.args.self.now.notes c.args.core is c.requires.core in
     let count : c.args.count ≤ (newest_at newest c.args.core).count =
-    (let a = count_is newest lists c.args.core within in let b = ap (λ (h : Notes). noted_count h c.args.core) is in let d = c.requires.noted in omega arith) in
+    (let a = count_is newest lists c.args.core within in let b = ap (λ (h : Notes). noted_count h c.args.core) is in
+    let d = c.requires.noted in omega arith) in
     c.known_by.ensures
-    ∙ ap (λ (cs : List Change). known_by 0 cs c.args.count) (c.list.ensures ∙ ap (λ (p : ℕ). items_at c.self.inside.changes p) c.list_place.ensures)
+    ∙ ap (λ (cs : List Change). known_by 0 cs c.args.count) (c.list.ensures
+    ∙ ap (λ (p : ℕ). items_at c.self.inside.changes p) c.list_place.ensures)
     ∙ sym (known_is newest lists c.args.core c.args.count c.args.of c.self.invariant within count c.requires.place)
     ∙ ap (λ (h : Notes). known_at h c.args.core c.args.count c.args.of) is

@@ -9,32 +9,41 @@ use Rattle.know_history.proofs.history.History.changes.Goals as goal
 
 pub list-changes-requires : goal.list-changes-requires
 list-changes-requires c =
-    let within = core_within c.self.inside.newest.items (items_in c.self.inside.changes) c.args.self.now.notes c.args.core
+    let within = core_within c.self.inside.newest.items (items_in c.self.inside.changes) c.args.self.now.notes
+    c.args.core
     (ap (λ v. v.notes) c.self.view_is) c.requires.core in
-    let lt = list_within c.self.inside.newest.items c.self.inside.changes c.args.core c.args.of c.self.invariant within c.requires.place in
+    let lt = list_within c.self.inside.newest.items c.self.inside.changes c.args.core c.args.of c.self.invariant within
+    c.requires.place in
     let e = c.list_place.ensures in
     omega arith
 
 pub index-requires : goal.index-requires
 index-requires c =
-    let within = core_within c.self.inside.newest.items (items_in c.self.inside.changes) c.args.self.now.notes c.args.core
+    let within = core_within c.self.inside.newest.items (items_in c.self.inside.changes) c.args.self.now.notes
+    c.args.core
     (ap (λ v. v.notes) c.self.view_is) c.requires.core in
     omega arith
 
 pub prove-unreachable-requires : goal.prove-unreachable-requires
 prove-unreachable-requires c =
     let newest = c.self.inside.newest.items in
-    let within = core_within newest (items_in c.self.inside.changes) c.args.self.now.notes c.args.core (ap (λ v. v.notes) c.self.view_is) c.requires.core in
-    let few = changes_few newest (items_in c.self.inside.changes) c.args.core c.args.of c.self.invariant within c.requires.place in
-    let long = ap length (c.list-changes.ensures ∙ ap (λ (p : ℕ). items_at c.self.inside.changes p) c.list_place.ensures) in
-    let count = ap (λ (n : Newest). n.count) (c.index.ensures ∙ get_or_default newest c.args.core c.index.result.now no_newest within) in
+    let within = core_within newest (items_in c.self.inside.changes) c.args.self.now.notes c.args.core
+    (ap (λ v. v.notes) c.self.view_is) c.requires.core in
+    let few = changes_few newest (items_in c.self.inside.changes) c.args.core c.args.of c.self.invariant within
+    c.requires.place in
+    let long = ap length (c.list-changes.ensures
+    ∙ ap (λ (p : ℕ). items_at c.self.inside.changes p) c.list_place.ensures) in
+    let count = ap (λ (n : Newest). n.count) (c.index.ensures ∙ get_or_default newest c.args.core c.index.result.now
+    no_newest within) in
     let more = c.if-prove.true in
     omega arith
 
 pub returns : goal.returns
 returns c =
     let is = ap (λ v. v.notes) c.self.view_is in
-    let within = core_within c.self.inside.newest.items (items_in c.self.inside.changes) c.args.self.now.notes c.args.core is c.requires.core in
+    let within = core_within c.self.inside.newest.items (items_in c.self.inside.changes) c.args.self.now.notes
+    c.args.core is c.requires.core in
     ap length (c.list-changes.ensures ∙ ap (λ (p : ℕ). items_at c.self.inside.changes p) c.list_place.ensures)
-    ∙ changes_are c.self.inside.newest.items (items_in c.self.inside.changes) c.args.core c.args.of c.self.invariant within c.requires.place
+    ∙ changes_are c.self.inside.newest.items (items_in c.self.inside.changes) c.args.core c.args.of c.self.invariant
+    within c.requires.place
     ∙ ap (λ (h : Notes). change_count h c.args.core c.args.of) is

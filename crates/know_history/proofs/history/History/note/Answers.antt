@@ -6,13 +6,15 @@ use Rattle.know_history.proofs.history.History.note.Goals as goal
 
 pub index_mut-newest-requires : goal.index_mut-newest-requires
 index_mut-newest-requires c =
-    let within = core_within c.self.inside.newest.items (items_in c.self.inside.changes) c.args.self.now.notes c.args.at.core
+    let within = core_within c.self.inside.newest.items (items_in c.self.inside.changes) c.args.self.now.notes
+    c.args.at.core
     (ap (λ v. v.notes) c.self.view_is) c.requires.core in
     omega arith
 
 pub put_down-requires-clause-lists : goal.put_down-requires-clause-lists
 put_down-requires-clause-lists c =
-    let within = core_within c.self.inside.newest.items (items_in c.self.inside.changes) c.args.self.now.notes c.args.at.core
+    let within = core_within c.self.inside.newest.items (items_in c.self.inside.changes) c.args.self.now.notes
+    c.args.at.core
     (ap (λ v. v.notes) c.self.view_is) c.requires.core in
     let places = c.self.invariant.places in
     let long = length-items c.self.inside.changes in
@@ -24,7 +26,8 @@ invariant_of-self c =
     let lists = items_in c.self.inside.changes in
     let new = items_in c.put_down.new.changes in
     holds_more c.args.at c.args.known.now newest lists _ new
-    (one_more c.args.at c.args.known.now newest lists new c.args.self.now.notes c.index_mut-newest.result.now c.args.known.now.counts c.put_down.new.newest
+    (one_more c.args.at c.args.known.now newest lists new c.args.self.now.notes c.index_mut-newest.result.now
+    c.args.known.now.counts c.put_down.new.newest
     (ap (λ v. v.notes) c.self.view_is) c.self.invariant c.requires.core c.requires.next
     c.put_down.ensures.places refl c.index_mut-newest.ensures.value c.put_down.ensures.changed)
 
@@ -34,6 +37,7 @@ returns c =
     let lists = items_in c.self.inside.changes in
     let new = items_in c.put_down.new.changes in
     is_noted_as c.args.at c.args.known.now newest lists _ new c.args.self.now.notes (ap (λ v. v.notes) c.self.view_is)
-    (one_more c.args.at c.args.known.now newest lists new c.args.self.now.notes c.index_mut-newest.result.now c.args.known.now.counts c.put_down.new.newest
+    (one_more c.args.at c.args.known.now newest lists new c.args.self.now.notes c.index_mut-newest.result.now
+    c.args.known.now.counts c.put_down.new.newest
     (ap (λ v. v.notes) c.self.view_is) c.self.invariant c.requires.core c.requires.next
     c.put_down.ensures.places refl c.index_mut-newest.ensures.value c.put_down.ensures.changed)

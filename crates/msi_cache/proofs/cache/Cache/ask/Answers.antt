@@ -9,5 +9,6 @@ use Rattle.msi_cache.proofs.cache.Cache.ask.Goals as goal
 pub returns-clause-waits : goal.returns-clause-waits
 returns-clause-waits g c =
     let low : c.args.block % 16 < 16 = mod_below c.args.block 16 (omega arith) in
-    any_put (λ (line : Line g.row.R.Denot). is_transient line.state) c.self.inside.lines.items (c.args.block % 16) c.ask.new.self
+    any_put (λ (line : Line g.row.R.Denot). is_transient line.state) c.self.inside.lines.items (c.args.block % 16)
+    c.ask.new.self
     (omega (arith, low, c.self.invariant)) c.ask.ensures.waits

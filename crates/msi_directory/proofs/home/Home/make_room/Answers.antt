@@ -59,7 +59,8 @@ returns-clause-room g c =
     let after = c.in_ok-add.ensures.ok ∙ ap (kept_more home.kept c.args.block) c.opening_entry-entry.ensures
     ∙ ap (more_opened home c.args.block) c.copied.ensures in
     let here = room_within home c.args.block none c.place.ensures.even within in
-    rw (after, rooms_more home c.args.block none c.place.ensures.even) (get_or-set_same (blocks_in home).rooms c.args.block true false here)
+    rw (after, rooms_more home c.args.block none c.place.ensures.even) (get_or-set_same (blocks_in home).rooms
+    c.args.block true false here)
 
 pub returns-clause-touched : goal.returns-clause-touched
 returns-clause-touched g c =
@@ -69,19 +70,22 @@ returns-clause-touched g c =
     let after = c.in_ok-add.ensures.ok ∙ ap (kept_more home.kept c.args.block) c.opening_entry-entry.ensures
     ∙ ap (more_opened home c.args.block) c.copied.ensures in
     let here = room_within home c.args.block none c.place.ensures.even within in
-    rw (after, rooms_more home c.args.block none c.place.ensures.even, ← c.self.view_is) (touched_more (blocks_in home).rooms c.args.block here)
+    rw (after, rooms_more home c.args.block none c.place.ensures.even, ← c.self.view_is)
+    (touched_more (blocks_in home).rooms c.args.block here)
 
 pub returns-in-Some-clause-free : goal.returns-in-Some-clause-free
 returns-in-Some-clause-free g c =
     let home = home_of c.self.inside.opening c.self.inside.fresh c.self.inside.kept in
     let within = rw (← c.self.view_is) at c.requires in
     let opens = opening_entry home.fresh home.opening c.args.block in
-    let read = reads_kept home c.args.block within (no_entry g.R.Rider.riding.fresh) c.in-Some.place (sym c.place.ensures.place ∙ c.in-Some.is) in
+    let read = reads_kept home c.args.block within (no_entry g.R.Rider.riding.fresh) c.in-Some.place
+    (sym c.place.ensures.place ∙ c.in-Some.is) in
     c.is_free.ensures ∙ rw (← c.self.view_is, read) (ap is_free (c.stage.ensures opens.stage))
 
 pub returns-clause-free : goal.returns-clause-free
 returns-clause-free g c =
     let home = home_of c.self.inside.opening c.self.inside.fresh c.self.inside.kept in
     let within = rw (← c.self.view_is) at c.requires in
-    let read = reads_opening home c.args.block within (no_entry g.R.Rider.riding.fresh) (sym c.place.ensures.place ∙ c.in_default.is) in
+    let read = reads_opening home c.args.block within (no_entry g.R.Rider.riding.fresh) (sym c.place.ensures.place
+    ∙ c.in_default.is) in
     rw (← c.self.view_is, read)

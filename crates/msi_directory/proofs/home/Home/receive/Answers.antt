@@ -9,7 +9,8 @@ use Rattle.msi_directory.specs.Table.{is_free}
 use Rattle.msi_directory.specs.declared.entry.Entry.{Entry}
 use Rattle.msi_directory.specs.declared.entry.Stage.{Stage}
 use Rattle.msi_directory.proofs.Fits.{response_keeps_all}
-use Rattle.msi_directory.proofs.Rows.{blocks_after, copy_after, fits_after, is_found, place_after, rider_after, row_answers, same_elsewhere, stage_after}
+use Rattle.msi_directory.proofs.Rows.{blocks_after, copy_after, fits_after, is_found, place_after, rider_after}
+use Rattle.msi_directory.proofs.Rows.{row_answers, same_elsewhere, stage_after}
 use Rattle.msi_directory.proofs.Sparse.{reads_kept, stage_kept}
 use Rattle.msi_directory.proofs.home.Home.receive.Goals as goal
 
@@ -43,7 +44,8 @@ receive-answer-requires-clause-fits g c =
     is_found home c.block.result block c.unwrap-place.result c.place.result (c.block.ensures)
     c.place.ensures.place c.place.ensures.stage c.place.ensures.copy c.unwrap-place.ensures in
     let past = no_entry g.R.Rider.riding.fresh in
-    rw (reads_kept home block within past c.unwrap-place.result found.stands) at (c.self.invariant.stages block past within)
+    rw (reads_kept home block within past c.unwrap-place.result found.stands) at (c.self.invariant.stages block past
+    within)
 
 pub invariant_of-self : goal.invariant_of-self
 invariant_of-self g c =
@@ -58,9 +60,11 @@ invariant_of-self g c =
     let entries = (blocks_in home).entries in
     let old = slice_index_or entries block past in
     let stages =
-    response_keeps_all g.R.Rider.riding.absorbed entries block old (row old) c.args.from c.args.response.now c.self.invariant.stages within
+    response_keeps_all g.R.Rider.riding.absorbed entries block old (row old) c.args.from c.args.response.now
+    c.self.invariant.stages within
     (get_or_default entries block past old within) c.requires.from refl in
-    fits_after home block c.unwrap-place.result found within past row c.receive-answer.new.self c.receive-answer.ensures.kept stages c.self.invariant
+    fits_after home block c.unwrap-place.result found within past row c.receive-answer.new.self
+    c.receive-answer.ensures.kept stages c.self.invariant
 
 pub stage-requires : goal.stage-requires
 stage-requires g c =
@@ -72,7 +76,8 @@ stage-requires g c =
     c.place.ensures.place c.place.ensures.stage c.place.ensures.copy c.unwrap-place.ensures in
     let past = no_entry g.R.Rider.riding.fresh in
     let row = λ (e : Entry _). entry_after_response g.R.Rider.riding.absorbed e c.args.from c.args.response.now in
-    place_after home block c.unwrap-place.result found within past row c.receive-answer.new.self c.receive-answer.ensures.kept
+    place_after home block c.unwrap-place.result found within past row c.receive-answer.new.self
+    c.receive-answer.ensures.kept
 
 pub copy-requires : goal.copy-requires
 copy-requires g c =
@@ -84,7 +89,8 @@ copy-requires g c =
     c.place.ensures.place c.place.ensures.stage c.place.ensures.copy c.unwrap-place.ensures in
     let past = no_entry g.R.Rider.riding.fresh in
     let row = λ (e : Entry _). entry_after_response g.R.Rider.riding.absorbed e c.args.from c.args.response.now in
-    copy_after home block c.unwrap-place.result found within past row c.receive-answer.new.self c.receive-answer.ensures.kept
+    copy_after home block c.unwrap-place.result found within past row c.receive-answer.new.self
+    c.receive-answer.ensures.kept
 
 pub returns : goal.returns
 returns g c =
@@ -107,14 +113,17 @@ returns g c =
         record {
           blocks = blocks_after home block place found within past row after changes;
           elsewhere = same_elsewhere home block place found within past row after changes;
-          rider = c.get-rider.ensures ∙ rider_after home block place found within past row after changes c.copy.result.now c.copy.ensures;
+          rider = c.get-rider.ensures ∙ rider_after home block place found within past row after changes
+              c.copy.result.now c.copy.ensures;
         },
       ),
       record {
         home = tt;
         answer = ap (λ rider. answer_riding rider c.receive-answer.result) c.get-rider.ensures
-            ∙ row_answers home block place found within past row after changes _ (λ rider. answer_riding rider c.receive-answer.result) wanted
+            ∙ row_answers home block place found within past row after changes _
+            (λ rider. answer_riding rider c.receive-answer.result) wanted
             c.copy.result.now c.copy.ensures c.receive-answer.ensures.answer;
-        free = c.is_free-free.ensures ∙ ap is_free (stage_after home block place found within past row after changes c.stage.result c.stage.ensures);
+        free = c.is_free-free.ensures ∙ ap is_free (stage_after home block place found within past row after changes
+            c.stage.result c.stage.ensures);
       },
     )

@@ -10,7 +10,8 @@ returns-in-Some-clause-words g c =
     let home = home_of c.self.inside.opening c.self.inside.fresh c.self.inside.kept in
     let within = rw (← c.self.view_is) at c.requires in
     let opens = opening_entry home.fresh home.opening c.args.block in
-    let read = reads_kept home c.args.block within (no_entry g.R.Rider.riding.fresh) c.in-Some.place (sym c.place.ensures.place ∙ c.in-Some.is) in
+    let read = reads_kept home c.args.block within (no_entry g.R.Rider.riding.fresh) c.in-Some.place
+    (sym c.place.ensures.place ∙ c.in-Some.is) in
     rw (← c.self.view_is, read, c.copy.ensures (copy_of opens))
 
 pub returns-in-Some-clause-owner : goal.returns-in-Some-clause-owner
@@ -18,7 +19,8 @@ returns-in-Some-clause-owner g c =
     let home = home_of c.self.inside.opening c.self.inside.fresh c.self.inside.kept in
     let within = rw (← c.self.view_is) at c.requires in
     let opens = opening_entry home.fresh home.opening c.args.block in
-    let read = reads_kept home c.args.block within (no_entry g.R.Rider.riding.fresh) c.in-Some.place (sym c.place.ensures.place ∙ c.in-Some.is) in
+    let read = reads_kept home c.args.block within (no_entry g.R.Rider.riding.fresh) c.in-Some.place
+    (sym c.place.ensures.place ∙ c.in-Some.is) in
     rw (← c.self.view_is, read) (c.owner-owner.ensures ∙ ap owner_of (c.stage.ensures opens.stage))
 
 pub opening_entry-requires : goal.opening_entry-requires
@@ -31,12 +33,14 @@ pub returns-in-None-clause-words : goal.returns-in-None-clause-words
 returns-in-None-clause-words g c =
     let home = home_of c.self.inside.opening c.self.inside.fresh c.self.inside.kept in
     let within = rw (← c.self.view_is) at c.requires in
-    let read = reads_opening home c.args.block within (no_entry g.R.Rider.riding.fresh) (sym c.place.ensures.place ∙ c.in-None.is) in
+    let read = reads_opening home c.args.block within (no_entry g.R.Rider.riding.fresh) (sym c.place.ensures.place
+    ∙ c.in-None.is) in
     rw (← c.self.view_is, read) (ap (λ e. e.words) c.opening_entry.ensures)
 
 pub returns-in-None-clause-owner : goal.returns-in-None-clause-owner
 returns-in-None-clause-owner g c =
     let home = home_of c.self.inside.opening c.self.inside.fresh c.self.inside.kept in
     let within = rw (← c.self.view_is) at c.requires in
-    let read = reads_opening home c.args.block within (no_entry g.R.Rider.riding.fresh) (sym c.place.ensures.place ∙ c.in-None.is) in
+    let read = reads_opening home c.args.block within (no_entry g.R.Rider.riding.fresh) (sym c.place.ensures.place
+    ∙ c.in-None.is) in
     rw (← c.self.view_is, read)

@@ -13,39 +13,50 @@ use Rattle.msi_machine.proofs.machine.Machine.done.Goals as goal
 pub returns-clause-done : goal.returns-clause-done
 returns-clause-done g c =
     c.are_done.ensures
-    ∙ done_stands c.self.inside.parts.state c.self.inside.standings.items c.as_slice.result.now c.as_slice.ensures.value c.self.invariant.stands
+    ∙ done_stands c.self.inside.parts.state c.self.inside.standings.items c.as_slice.result.now c.as_slice.ensures.value
+    c.self.invariant.stands
     ∙ ap (λ (m : Machinery g.row.R.Denot g.row.K.Denot). all_done m.state) c.self.view_is
 
 pub returns-clause-plain : goal.returns-clause-plain
 returns-clause-plain g c =
     let s : State g.row.R.Denot g.row.K.Denot = c.self.inside.parts.state in
     let done : c.are_done.result ≡ all_done s =
-    c.are_done.ensures ∙ done_stands s c.self.inside.standings.items c.as_slice.result.now c.as_slice.ensures.value c.self.invariant.stands in
+    c.are_done.ensures ∙ done_stands s c.self.inside.standings.items c.as_slice.result.now c.as_slice.ensures.value
+    c.self.invariant.stands in
     rw (← c.self.view_is) (done ∙ plain_done s)
 
 pub returns-clause-links : goal.returns-clause-links
 returns-clause-links g c = λ e.
     let s : State g.row.R.Denot g.row.K.Denot = c.self.inside.parts.state in
     let done : c.are_done.result ≡ all_done s =
-    c.are_done.ensures ∙ done_stands s c.self.inside.standings.items c.as_slice.result.now c.as_slice.ensures.value c.self.invariant.stands in
-    rw (← c.self.view_is) (links_left g.R.Rider.riding g.K.Carry.carrying s c.self.invariant.holds (sym done ∙ true_is c.are_done.result e))
+    c.are_done.ensures ∙ done_stands s c.self.inside.standings.items c.as_slice.result.now c.as_slice.ensures.value
+    c.self.invariant.stands in
+    rw (← c.self.view_is) (links_left g.R.Rider.riding g.K.Carry.carrying s c.self.invariant.holds (sym done
+    ∙ true_is c.are_done.result e))
 
 pub returns-clause-paid : goal.returns-clause-paid
 returns-clause-paid g c = λ e.
     let s : State g.row.R.Denot g.row.K.Denot = c.self.inside.parts.state in
     let done : c.are_done.result ≡ all_done s =
-    c.are_done.ensures ∙ done_stands s c.self.inside.standings.items c.as_slice.result.now c.as_slice.ensures.value c.self.invariant.stands in
-    rw (← c.self.view_is) (done_earned s.image g.R.Rider.riding (length s.cores) s.cores s.memory.ports c.self.invariant.holds.ports_there
+    c.are_done.ensures ∙ done_stands s c.self.inside.standings.items c.as_slice.result.now c.as_slice.ensures.value
+    c.self.invariant.stands in
+    rw (← c.self.view_is) (done_earned s.image g.R.Rider.riding (length s.cores) s.cores s.memory.ports
+    c.self.invariant.holds.ports_there
     (sym done ∙ true_is c.are_done.result e))
 
 pub returns-clause-last : goal.returns-clause-last
 returns-clause-last g c = λ memory e k b.
     let s : State g.row.R.Denot g.row.K.Denot = c.self.inside.parts.state in
     let done : c.are_done.result ≡ all_done s =
-    c.are_done.ensures ∙ done_stands s c.self.inside.standings.items c.as_slice.result.now c.as_slice.ensures.value c.self.invariant.stands in
-    let same : c.self.inside.parts.state ≡ c.args.self.now.state = ap (λ (m : Machinery g.row.R.Denot g.row.K.Denot). m.state) c.self.view_is in
+    c.are_done.ensures ∙ done_stands s c.self.inside.standings.items c.as_slice.result.now c.as_slice.ensures.value
+    c.self.invariant.stands in
+    let same : c.self.inside.parts.state ≡ c.args.self.now.state =
+    ap (λ (m : Machinery g.row.R.Denot g.row.K.Denot). m.state) c.self.view_is in
     let old : Coherent g.R.Rider.riding g.K.Carry.carrying s memory =
-    subst (λ (x : State g.row.R.Denot g.row.K.Denot). Coherent g.R.Rider.riding g.K.Carry.carrying x memory) (sym same) k in
-    subst (λ (x : State g.row.R.Denot g.row.K.Denot). final_words g.R.Rider.riding g.K.Carry.carrying x b ≡ memory b) same
+    subst (λ (x : State g.row.R.Denot g.row.K.Denot). Coherent g.R.Rider.riding g.K.Carry.carrying x memory) (sym same)
+    k in
+    subst (λ (x : State g.row.R.Denot g.row.K.Denot). final_words g.R.Rider.riding g.K.Carry.carrying x b ≡ memory b)
+    same
     (final_current g.R.Rider.riding g.K.Carry.carrying s memory c.self.invariant.holds
-    (links_left g.R.Rider.riding g.K.Carry.carrying s c.self.invariant.holds (sym done ∙ true_is c.are_done.result e)) old b)
+    (links_left g.R.Rider.riding g.K.Carry.carrying s c.self.invariant.holds (sym done ∙ true_is c.are_done.result e))
+    old b)

@@ -12,31 +12,39 @@ use Rattle.msi_machine.proofs.machine.Machine.final_words.Goals as goal
 pub final_words-requires-clause-at_hand : goal.final_words-requires-clause-at_hand
 final_words-requires-clause-at_hand g c =
     let held = ends_at_hand g.R.Rider.riding g.K.Carry.carrying c.self.inside.parts.state c.self.invariant.holds
-    (ap (λ (m : Machinery g.row.R.Denot g.row.K.Denot). all_done m.state) c.self.view_is ∙ c.requires.done) c.args.block in
+    (ap (λ (m : Machinery g.row.R.Denot g.row.K.Denot). all_done m.state) c.self.view_is
+    ∙ c.requires.done) c.args.block in
     rw (← c.parts.view_is) at held
 
 pub returns-clause-value : goal.returns-clause-value
 returns-clause-value g c = λ slot low.
     c.final_words.ensures slot low
-    ∙ ap (λ (m : Machinery g.row.R.Denot g.row.K.Denot). slice_index (final_words g.R.Rider.riding g.K.Carry.carrying m.state c.args.block) slot)
+    ∙ ap (λ (m : Machinery g.row.R.Denot g.row.K.Denot). slice_index (final_words g.R.Rider.riding g.K.Carry.carrying
+    m.state c.args.block) slot)
     (c.parts.view_is ∙ c.self.view_is)
 
 pub returns-clause-plain : goal.returns-clause-plain
 returns-clause-plain g c = λ slot low.
     c.final_words.ensures slot low
-    ∙ ap (λ (m : Machinery g.row.R.Denot g.row.K.Denot). slice_index (final_words g.R.Rider.riding g.K.Carry.carrying m.state c.args.block) slot)
+    ∙ ap (λ (m : Machinery g.row.R.Denot g.row.K.Denot). slice_index (final_words g.R.Rider.riding g.K.Carry.carrying
+    m.state c.args.block) slot)
     (c.parts.view_is ∙ c.self.view_is)
-    ∙ ap (λ (words : List ℕ). slice_index words slot) (plain_words g.R.Rider.riding g.K.Carry.carrying c.args.self.now.state c.args.block)
+    ∙ ap (λ (words : List ℕ). slice_index words slot) (plain_words g.R.Rider.riding g.K.Carry.carrying
+    c.args.self.now.state c.args.block)
 
 pub returns-clause-last : goal.returns-clause-last
 returns-clause-last g c = λ memory k slot low.
-    let same : c.self.inside.parts.state ≡ c.args.self.now.state = ap (λ (m : Machinery g.row.R.Denot g.row.K.Denot). m.state) c.self.view_is in
+    let same : c.self.inside.parts.state ≡ c.args.self.now.state =
+    ap (λ (m : Machinery g.row.R.Denot g.row.K.Denot). m.state) c.self.view_is in
     let old : Coherent g.R.Rider.riding g.K.Carry.carrying c.self.inside.parts.state memory =
-    subst (λ (s : State g.row.R.Denot g.row.K.Denot). Coherent g.R.Rider.riding g.K.Carry.carrying s memory) (sym same) k in
+    subst (λ (s : State g.row.R.Denot g.row.K.Denot). Coherent g.R.Rider.riding g.K.Carry.carrying s memory) (sym same)
+    k in
     c.final_words.ensures slot low
-    ∙ ap (λ (m : Machinery g.row.R.Denot g.row.K.Denot). slice_index (final_words g.R.Rider.riding g.K.Carry.carrying m.state c.args.block) slot)
+    ∙ ap (λ (m : Machinery g.row.R.Denot g.row.K.Denot). slice_index (final_words g.R.Rider.riding g.K.Carry.carrying
+    m.state c.args.block) slot)
     c.parts.view_is
     ∙ ap (λ (words : List ℕ). slice_index words slot)
     (final_current g.R.Rider.riding g.K.Carry.carrying c.self.inside.parts.state memory c.self.invariant.holds
-    (links_left g.R.Rider.riding g.K.Carry.carrying c.self.inside.parts.state c.self.invariant.holds (ap all_done same ∙ c.requires.done)) old
+    (links_left g.R.Rider.riding g.K.Carry.carrying c.self.inside.parts.state c.self.invariant.holds (ap all_done same
+    ∙ c.requires.done)) old
     c.args.block)

@@ -38,14 +38,18 @@ invariant_of-result g c =
     ∙ ap (λ (s : State g.row.R.Denot g.row.K.Denot). s.image) c.in_ok-parts.ensures.state in
     let cores : c.as_slice.result.now ≡ c.in_ok-parts.parts.state.cores =
     c.as_slice.ensures.value ∙ ap (λ (m : Machinery g.row.R.Denot g.row.K.Denot). m.state.cores) c.parts.view_is in
-    notes_begin g.R.Rider.riding g.K.Carry.carrying c.args.image c.args.params.cores c.args.params.limit c.in_ok-parts.parts
+    notes_begin g.R.Rider.riding g.K.Carry.carrying c.args.image c.args.params.cores c.args.params.limit
+    c.in_ok-parts.parts
     c.in_ok-standings.standings.items c.first_marks-marks.result c.in_ok-parts.ensures.state
-    (subst (λ (s : State g.row.R.Denot g.row.K.Denot). MachineHolds g.R.Rider.riding g.K.Carry.carrying s) (sym c.in_ok-parts.ensures.state)
-    (holds_start g.R.Rider.riding g.K.Carry.carrying c.args.image c.args.params.cores c.args.params.limit c.requires.fits.cores (omega arith)))
+    (subst (λ (s : State g.row.R.Denot g.row.K.Denot). MachineHolds g.R.Rider.riding g.K.Carry.carrying s)
+    (sym c.in_ok-parts.ensures.state)
+    (holds_start g.R.Rider.riding g.K.Carry.carrying c.args.image c.args.params.cores c.args.params.limit
+    c.requires.fits.cores (omega arith)))
     (c.in_ok-standings.ensures
     ∙ ap (λ (x : Contents). map (λ (core : Core). standing_with x core false) c.as_slice.result.now) image
     ∙ ap (map (λ (core : Core). standing_with c.args.image core false)) cores)
-    (c.first_marks-marks.ensures.cores ∙ ap (λ (xs : List Standing). length xs) c.as_slice-2.ensures.value) c.first_marks-marks.ensures.within
+    (c.first_marks-marks.ensures.cores ∙ ap (λ (xs : List Standing). length xs) c.as_slice-2.ensures.value)
+    c.first_marks-marks.ensures.within
     (λ m. c.first_marks-marks.ensures.marked m ∙ ap (λ (xs : List Standing). may_begin xs m) c.as_slice-2.ensures.value)
 
 pub returns-clause-plain : goal.returns-clause-plain
@@ -55,9 +59,11 @@ returns-clause-plain g c =
 
 pub returns-clause-coherent : goal.returns-clause-coherent
 returns-clause-coherent g c =
-    subst (λ (s : State g.row.R.Denot g.row.K.Denot). Coherent g.R.Rider.riding g.K.Carry.carrying s (opening_memory c.args.image))
+    subst (λ (s : State g.row.R.Denot g.row.K.Denot). Coherent g.R.Rider.riding g.K.Carry.carrying s
+    (opening_memory c.args.image))
     (sym c.in_ok-parts.ensures.state)
-    (start_coherent g.R.Rider.riding g.K.Carry.carrying c.args.image c.args.params.cores c.args.params.limit (omega arith))
+    (start_coherent g.R.Rider.riding g.K.Carry.carrying c.args.image c.args.params.cores c.args.params.limit
+    (omega arith))
 
 pub returns-clause-idle : goal.returns-clause-idle
 returns-clause-idle g c =
@@ -67,5 +73,7 @@ returns-clause-idle g c =
 pub returns-clause-one_writer : goal.returns-clause-one_writer
 returns-clause-one_writer g c =
     one_writer g.R.Rider.riding g.K.Carry.carrying c.in_ok-parts.parts.state
-    (subst (λ (s : State g.row.R.Denot g.row.K.Denot). MachineHolds g.R.Rider.riding g.K.Carry.carrying s) (sym c.in_ok-parts.ensures.state)
-    (holds_start g.R.Rider.riding g.K.Carry.carrying c.args.image c.args.params.cores c.args.params.limit c.requires.fits.cores (omega arith)))
+    (subst (λ (s : State g.row.R.Denot g.row.K.Denot). MachineHolds g.R.Rider.riding g.K.Carry.carrying s)
+    (sym c.in_ok-parts.ensures.state)
+    (holds_start g.R.Rider.riding g.K.Carry.carrying c.args.image c.args.params.cores c.args.params.limit
+    c.requires.fits.cores (omega arith)))

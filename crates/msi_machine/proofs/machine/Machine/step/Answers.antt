@@ -26,17 +26,20 @@ use Rattle.msi_machine.proofs.machine.Machine.step.Goals as goal
 pub nonzero_rem-choice : goal.nonzero_rem-choice
 nonzero_rem-choice g c =
     let holds : MachineHolds g.R.Rider.riding g.K.Carry.carrying c.args.self.now.state =
-    subst (λ (m : Machinery g.row.R.Denot g.row.K.Denot). MachineHolds g.R.Rider.riding g.K.Carry.carrying m.state) c.self.view_is c.self.invariant.holds in
+    subst (λ (m : Machinery g.row.R.Denot g.row.K.Denot). MachineHolds g.R.Rider.riding g.K.Carry.carrying m.state)
+    c.self.view_is c.self.invariant.holds in
     subst (λ (n : ℕ). 0 < n) (sym (c.count.ensures ∙ ap length c.all_marks-marks.ensures.moves))
     (some_move g.R.Rider.riding g.K.Carry.carrying c.args.self.now.state holds c.requires.more)
 
 pub pick-taken-requires-clause-some : goal.pick-taken-requires-clause-some
 pick-taken-requires-clause-some g c =
-    subst (λ (n : ℕ). c.args.choice % c.count.result < n) c.count.ensures (mod_below c.args.choice c.count.result (nonzero_rem-choice g c))
+    subst (λ (n : ℕ). c.args.choice % c.count.result < n) c.count.ensures (mod_below c.args.choice c.count.result
+    (nonzero_rem-choice g c))
 
 pub make_move-retired-requires-clause-enabled : goal.make_move-retired-requires-clause-enabled
 make_move-retired-requires-clause-enabled g c =
-    found_enabled g.R.Rider.riding g.K.Carry.carrying c.self.inside.parts c.args.self.now c.args.choice c.count.result c.pick-taken.result c.self.view_is
+    found_enabled g.R.Rider.riding g.K.Carry.carrying c.self.inside.parts c.args.self.now c.args.choice c.count.result
+    c.pick-taken.result c.self.view_is
     c.self.invariant.holds c.requires.more c.all_marks-marks.ensures.moves c.count.ensures c.pick-taken.ensures
 
 pub invariant_of-self : goal.invariant_of-self
@@ -44,29 +47,37 @@ invariant_of-self g c =
     let s : State g.row.R.Denot g.row.K.Denot = c.self.inside.parts.state in
     let t : State g.row.R.Denot g.row.K.Denot = c.make_move-retired.new.self.state in
     let can_be : enabled g.R.Rider.riding g.K.Carry.carrying s c.pick-taken.result ≡ true =
-    found_enabled g.R.Rider.riding g.K.Carry.carrying c.self.inside.parts c.args.self.now c.args.choice c.count.result c.pick-taken.result c.self.view_is
+    found_enabled g.R.Rider.riding g.K.Carry.carrying c.self.inside.parts c.args.self.now c.args.choice c.count.result
+    c.pick-taken.result c.self.view_is
     c.self.invariant.holds c.requires.more c.all_marks-marks.ensures.moves c.count.ensures c.pick-taken.ensures in
     let roomy = rw (← c.self.view_is) at c.requires.roomy in
     let long : length c.make_move-retired.new.standings ≡ c.self.inside.standings.len =
     standings_long t c.make_move-retired.new.standings c.make_move-retired.ensures.stands
     ∙ ap (λ (x : State g.row.R.Denot g.row.K.Denot). length x.cores) c.make_move-retired.ensures.state
-    ∙ step_cores g.R.Rider.riding g.K.Carry.carrying (rider_left g.R.Rider.riding g.K.Carry.carrying s t c.pick-taken.result) s c.pick-taken.result
+    ∙ step_cores g.R.Rider.riding g.K.Carry.carrying (rider_left g.R.Rider.riding g.K.Carry.carrying s t
+    c.pick-taken.result) s c.pick-taken.result
     ∙ sym (standings_long s c.self.inside.standings.items c.self.invariant.stands)
     ∙ ap (λ (xs : List Standing). length xs) (sym c.as_mut_slice-standings.ensures.value)
     ∙ c.as_mut_slice-standings.ensures.len in
-    notes_kept g.R.Rider.riding g.K.Carry.carrying c.self.inside.parts c.make_move-retired.new.self c.pick-taken.result _ c.make_move-retired.new.standings
-    c.make_move-retired.new.marks c.core-self-inside.result roomy c.self.invariant.holds can_be c.make_move-retired.ensures.state
+    notes_kept g.R.Rider.riding g.K.Carry.carrying c.self.inside.parts c.make_move-retired.new.self c.pick-taken.result
+    _ c.make_move-retired.new.standings
+    c.make_move-retired.new.marks c.core-self-inside.result roomy c.self.invariant.holds can_be
+    c.make_move-retired.ensures.state
     c.make_move-retired.ensures.rooms c.make_move-retired.ensures.stands
-    (with_items_is c.self.inside.standings c.make_move-retired.new.standings long) c.make_move-retired.ensures.marked c.core-self-inside.ensures
+    (with_items_is c.self.inside.standings c.make_move-retired.new.standings long) c.make_move-retired.ensures.marked
+    c.core-self-inside.ensures
 
 pub returns-clause-taken : goal.returns-clause-taken
 returns-clause-taken g c =
     let s : State g.row.R.Denot g.row.K.Denot = c.args.self.now.state in
     let holds : MachineHolds g.R.Rider.riding g.K.Carry.carrying s =
-    subst (λ (m : Machinery g.row.R.Denot g.row.K.Denot). MachineHolds g.R.Rider.riding g.K.Carry.carrying m.state) c.self.view_is c.self.invariant.holds in
-    let some : 0 < length (moves g.R.Rider.riding g.K.Carry.carrying s) = some_move g.R.Rider.riding g.K.Carry.carrying s holds c.requires.more in
+    subst (λ (m : Machinery g.row.R.Denot g.row.K.Denot). MachineHolds g.R.Rider.riding g.K.Carry.carrying m.state)
+    c.self.view_is c.self.invariant.holds in
+    let some : 0 < length (moves g.R.Rider.riding g.K.Carry.carrying s) =
+    some_move g.R.Rider.riding g.K.Carry.carrying s holds c.requires.more in
     let is : IsNumbered (moves g.R.Rider.riding g.K.Carry.carrying s) c.args.choice c.pick-taken.result =
-    numbered c.args.choice c.count.result c.pick-taken.result c.all_marks-marks.ensures.moves c.count.ensures c.pick-taken.ensures in
+    numbered c.args.choice c.count.result c.pick-taken.result c.all_marks-marks.ensures.moves c.count.ensures
+    c.pick-taken.ensures in
     let can_be = taken_enabled g.R.Rider.riding g.K.Carry.carrying s c.args.choice c.pick-taken.result some is in
     record {
       some = some;
@@ -79,8 +90,10 @@ returns-clause-taken g c =
 pub returns-clause-moved : goal.returns-clause-moved
 returns-clause-moved g c =
     let s : State g.row.R.Denot g.row.K.Denot = c.self.inside.parts.state in
-    let rider = rider_left g.R.Rider.riding g.K.Carry.carrying s c.make_move-retired.new.self.state c.pick-taken.result in
-    subst (λ (m : Machinery g.row.R.Denot g.row.K.Denot). HasMoved g.R.Rider.riding g.K.Carry.carrying m c.make_move-retired.new.self c.pick-taken.result)
+    let rider = rider_left g.R.Rider.riding g.K.Carry.carrying s c.make_move-retired.new.self.state
+    c.pick-taken.result in
+    subst (λ (m : Machinery g.row.R.Denot g.row.K.Denot). HasMoved g.R.Rider.riding g.K.Carry.carrying m
+    c.make_move-retired.new.self c.pick-taken.result)
     c.self.view_is
     (record {
       state = c.make_move-retired.ensures.state;
@@ -97,22 +110,29 @@ pub returns-clause-keeps : goal.returns-clause-keeps
 returns-clause-keeps g c =
     let s : State g.row.R.Denot g.row.K.Denot = c.self.inside.parts.state in
     let can_be : enabled g.R.Rider.riding g.K.Carry.carrying s c.pick-taken.result ≡ true =
-    found_enabled g.R.Rider.riding g.K.Carry.carrying c.self.inside.parts c.args.self.now c.args.choice c.count.result c.pick-taken.result c.self.view_is
+    found_enabled g.R.Rider.riding g.K.Carry.carrying c.self.inside.parts c.args.self.now c.args.choice c.count.result
+    c.pick-taken.result c.self.view_is
     c.self.invariant.holds c.requires.more c.all_marks-marks.ensures.moves c.count.ensures c.pick-taken.ensures in
-    let rider = rider_left g.R.Rider.riding g.K.Carry.carrying s c.make_move-retired.new.self.state c.pick-taken.result in
+    let rider = rider_left g.R.Rider.riding g.K.Carry.carrying s c.make_move-retired.new.self.state
+    c.pick-taken.result in
     let e : Event = event g.R.Rider.riding g.K.Carry.carrying s c.pick-taken.result in
-    let after : MachineHolds g.R.Rider.riding g.K.Carry.carrying (step g.R.Rider.riding g.K.Carry.carrying rider s c.pick-taken.result) =
+    let after : MachineHolds g.R.Rider.riding g.K.Carry.carrying (step g.R.Rider.riding g.K.Carry.carrying rider s
+    c.pick-taken.result) =
     holds_kept g.R.Rider.riding g.K.Carry.carrying s c.pick-taken.result rider can_be c.self.invariant.holds in
-    subst (λ (m : Machinery g.row.R.Denot g.row.K.Denot). KeepsPromises g.R.Rider.riding g.K.Carry.carrying m.state c.make_move-retired.new.self.state
+    subst (λ (m : Machinery g.row.R.Denot g.row.K.Denot). KeepsPromises g.R.Rider.riding g.K.Carry.carrying m.state
+    c.make_move-retired.new.self.state
     (event g.R.Rider.riding g.K.Carry.carrying m.state c.pick-taken.result)) c.self.view_is
     (subst (λ (t : State g.row.R.Denot g.row.K.Denot). KeepsPromises g.R.Rider.riding g.K.Carry.carrying s t e)
     (sym c.make_move-retired.ensures.state)
     (record {
       earns = earns g.R.Rider.riding g.K.Carry.carrying s c.pick-taken.result rider can_be c.self.invariant.holds;
-      nearer = nearer g.R.Rider.riding g.K.Carry.carrying s c.pick-taken.result rider can_be c.self.invariant.holds after;
+      nearer = nearer g.R.Rider.riding g.K.Carry.carrying s c.pick-taken.result rider can_be c.self.invariant.holds
+          after;
       coherent = λ memory k.
-          (step_works g.R.Rider.riding g.K.Carry.carrying s c.pick-taken.result rider memory can_be c.self.invariant.holds k).coherent;
-      finds = λ memory k. (step_works g.R.Rider.riding g.K.Carry.carrying s c.pick-taken.result rider memory can_be c.self.invariant.holds k).finds;
+          (step_works g.R.Rider.riding g.K.Carry.carrying s c.pick-taken.result rider memory can_be
+          c.self.invariant.holds k).coherent;
+      finds = λ memory k. (step_works g.R.Rider.riding g.K.Carry.carrying s c.pick-taken.result rider memory can_be
+          c.self.invariant.holds k).finds;
       one_writer = one_writer g.R.Rider.riding g.K.Carry.carrying
           (step g.R.Rider.riding g.K.Carry.carrying rider s c.pick-taken.result) after;
     }))

@@ -17,7 +17,8 @@ returns-clause-this c =
     let at : number_of c.args.self.now.cores c.args.taken < 4 * c.args.self.now.cores =
     number_below c.args.self.now.cores c.args.taken c.requires.here in
     set_this c.args.self.now.cores _ c.args.taken _ c.requires.here
-    (rw (← c.number.ensures) (bit_at_set_same w64 c.args.self.now.bits c.number.result (omega (arith, at, c.number.ensures, c.requires.few))))
+    (rw (← c.number.ensures) (bit_at_set_same w64 c.args.self.now.bits c.number.result
+    (omega (arith, at, c.number.ensures, c.requires.few))))
 
 pub returns-clause-others : goal.returns-clause-others
 returns-clause-others c = λ m other.

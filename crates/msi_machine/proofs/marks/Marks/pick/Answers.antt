@@ -8,12 +8,14 @@ loop-passed-init c = begin c.args.self.now (omega arith) c.requires.few c.requir
 
 pub overflow_sub-rest : goal.overflow_sub-rest
 overflow_sub-rest c =
-    more_left c.args.self.now c.loop-passed._passed c.args.number c.loop-passed.rest c.requires.some (omega arith) c.loop-passed.invariant
+    more_left c.args.self.now c.loop-passed._passed c.args.number c.loop-passed.rest c.requires.some (omega arith)
+    c.loop-passed.invariant
 
 pub loop-passed-preserved : goal.loop-passed-preserved
 loop-passed-preserved c =
     one_less c.args.self.now c.loop-passed._passed c.loop-passed.rest
-    (more_left c.args.self.now c.loop-passed._passed c.args.number c.loop-passed.rest c.requires.some (omega arith) c.loop-passed.invariant)
+    (more_left c.args.self.now c.loop-passed._passed c.args.number c.loop-passed.rest c.requires.some (omega arith)
+    c.loop-passed.invariant)
     c.loop-passed.invariant
 
 pub candidate-requires-clause-within : goal.candidate-requires-clause-within

@@ -9,7 +9,8 @@ pub returns-clause-within : goal.returns-clause-within
 returns-clause-within c = λ before k past below.
     let at : number_of c.args.self.now.cores c.args.taken < 4 * c.args.self.now.cores =
     number_below c.args.self.now.cores c.args.taken c.requires.here in
-    bit_at_clear_other w64 c.args.self.now.bits c.number.result (omega (arith, at, c.number.ensures, c.requires.few)) k below
+    bit_at_clear_other w64 c.args.self.now.bits c.number.result (omega (arith, at, c.number.ensures, c.requires.few)) k
+    below
     (omega (arith, at, c.number.ensures)) ∙ before k past below
 
 pub returns-clause-this : goal.returns-clause-this
@@ -17,12 +18,14 @@ returns-clause-this c =
     let at : number_of c.args.self.now.cores c.args.taken < 4 * c.args.self.now.cores =
     number_below c.args.self.now.cores c.args.taken c.requires.here in
     set_this c.args.self.now.cores _ c.args.taken _ c.requires.here
-    (rw (← c.number.ensures) (bit_at_clear_same w64 c.args.self.now.bits c.number.result (omega (arith, at, c.number.ensures, c.requires.few))))
+    (rw (← c.number.ensures) (bit_at_clear_same w64 c.args.self.now.bits c.number.result
+    (omega (arith, at, c.number.ensures, c.requires.few))))
 
 pub returns-clause-others : goal.returns-clause-others
 returns-clause-others c = λ m other.
     let at : number_of c.args.self.now.cores c.args.taken < 4 * c.args.self.now.cores =
     number_below c.args.self.now.cores c.args.taken c.requires.here in
     set_others c.args.self.now.cores c.args.self.now.bits _ m c.args.taken c.requires.here other (λ i below apart.
-    bit_at_clear_other w64 c.args.self.now.bits c.number.result (omega (arith, at, c.number.ensures, c.requires.few)) i (omega arith)
+    bit_at_clear_other w64 c.args.self.now.bits c.number.result (omega (arith, at, c.number.ensures, c.requires.few)) i
+    (omega arith)
     (λ same. apart (same ∙ c.number.ensures)))

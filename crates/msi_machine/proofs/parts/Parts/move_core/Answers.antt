@@ -9,14 +9,17 @@ use Rattle.msi_machine.proofs.parts.Parts.move_core.Goals as goal
 
 pub work-retired-requires-clause-room : goal.work-retired-requires-clause-room
 work-retired-requires-clause-room g c =
-    rooms_there g.R.Rider.riding g.K.Carry.carrying c.args.self.now.state (Core c.args.c) c.requires.holds c.requires.enabled
+    rooms_there g.R.Rider.riding g.K.Carry.carrying c.args.self.now.state (Core c.args.c) c.requires.holds
+    c.requires.enabled
 
 pub returns-clause-marked : goal.returns-clause-marked
 returns-clause-marked g c =
     let s : State g.row.R.Denot g.row.K.Denot = c.args.self.now.state in
     let t : State g.row.R.Denot g.row.K.Denot = c.work-retired.new.self.state in
-    let here : c.args.c < length s.cores = enabled_core g.R.Rider.riding g.K.Carry.carrying s (Core c.args.c) c.requires.enabled c.requires.holds in
-    core_marks g.R.Rider.riding g.K.Carry.carrying (rider_left g.R.Rider.riding g.K.Carry.carrying s t (Core c.args.c)) s t c.args.marks.now
+    let here : c.args.c < length s.cores = enabled_core g.R.Rider.riding g.K.Carry.carrying s (Core c.args.c)
+    c.requires.enabled c.requires.holds in
+    core_marks g.R.Rider.riding g.K.Carry.carrying (rider_left g.R.Rider.riding g.K.Carry.carrying s t (Core c.args.c))
+    s t c.args.marks.now
     c.set.new.self c.args.c c.work-retired.new.standing c.requires.marked c.work-retired.ensures.state here
     (core_port g.R.Rider.riding g.K.Carry.carrying s c.args.c c.requires.holds here) c.work-retired.ensures.renewed
     c.set.ensures.cores c.set.ensures.within (c.set.ensures.this ∙ c.may_move.ensures) c.set.ensures.others

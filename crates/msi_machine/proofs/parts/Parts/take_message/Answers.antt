@@ -11,11 +11,13 @@ use Rattle.msi_machine.proofs.parts.Parts.take_message.Goals as goal
 
 pub receive-retired-requires-clause-row : goal.receive-retired-requires-clause-row
 receive-retired-requires-clause-row g c =
-    rows_there g.R.Rider.riding g.K.Carry.carrying c.args.self.now.state (FromHome c.args.c) c.requires.holds c.requires.enabled
+    rows_there g.R.Rider.riding g.K.Carry.carrying c.args.self.now.state (FromHome c.args.c) c.requires.holds
+    c.requires.enabled
 
 pub receive-retired-requires-clause-room : goal.receive-retired-requires-clause-room
 receive-retired-requires-clause-room g c =
-    (memory_ready g.R.Rider.riding g.K.Carry.carrying c.args.self.now.state.memory c.requires.holds.memory).rooms (TakeMessage c.args.c) c.requires.enabled
+    (memory_ready g.R.Rider.riding g.K.Carry.carrying c.args.self.now.state.memory c.requires.holds.memory).rooms
+    (TakeMessage c.args.c) c.requires.enabled
 
 pub returns-clause-marked : goal.returns-clause-marked
 returns-clause-marked g c =
@@ -25,7 +27,8 @@ returns-clause-marked g c =
     enabled_core g.R.Rider.riding g.K.Carry.carrying s (FromHome c.args.c) c.requires.enabled c.requires.holds in
     let can_then : Act g.row.R.Denot → Machinery g.row.R.Denot g.row.K.Denot → Bool =
     λ act m. can g.R.Rider.riding g.K.Carry.carrying m.state.memory act in
-    message_marks g.R.Rider.riding g.K.Carry.carrying (rider_left g.R.Rider.riding g.K.Carry.carrying s t (FromHome c.args.c)) s t c.args.marks.now
+    message_marks g.R.Rider.riding g.K.Carry.carrying (rider_left g.R.Rider.riding g.K.Carry.carrying s t
+    (FromHome c.args.c)) s t c.args.marks.now
     c.mark_core.new.marks c.args.c c.receive-retired.new.standing c.requires.marked c.receive-retired.ensures.state here
     (core_port g.R.Rider.riding g.K.Carry.carrying s c.args.c c.requires.holds here) c.receive-retired.ensures.renewed
     c.mark_core.ensures.cores c.mark_core.ensures.within c.mark_core.ensures.own

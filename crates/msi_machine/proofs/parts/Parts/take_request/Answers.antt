@@ -16,7 +16,8 @@ pub take_request-turn-requires-clause-room : goal.take_request-turn-requires-cla
 take_request-turn-requires-clause-room g c =
     let holds = rw (← c.self.view_is) at c.requires.holds in
     let enabled = rw (← c.self.view_is) at c.requires.enabled in
-    (memory_ready g.R.Rider.riding g.K.Carry.carrying c.self.inside.memory.memory holds.memory).rooms (TakeRequest c.args.c) enabled
+    (memory_ready g.R.Rider.riding g.K.Carry.carrying c.self.inside.memory.memory holds.memory).rooms
+    (TakeRequest c.args.c) enabled
 
 pub mark_turn-requires-clause-ports : goal.mark_turn-requires-clause-ports
 mark_turn-requires-clause-ports g c =
@@ -33,6 +34,7 @@ returns-clause-marked g c =
     let holds = rw (← c.self.view_is) at c.requires.holds in
     let enabled = rw (← c.self.view_is) at c.requires.enabled in
     let all = rw (← c.self.view_is) at c.requires.marked in
-    request_others g.R.Rider.riding g.K.Carry.carrying s c.take_request-turn.new.self.memory c.args.marks.now c.mark_turn.new.marks c.args.c
+    request_others g.R.Rider.riding g.K.Carry.carrying s c.take_request-turn.new.self.memory c.args.marks.now
+    c.mark_turn.new.marks c.args.c
     c.take_request-turn.result c.take_request-turn.ensures.memory holds enabled c.take_request-turn.ensures.turn all
     c.mark_turn.ensures.cores c.mark_turn.ensures.within c.mark_turn.ensures.marked

@@ -18,7 +18,8 @@ pub take_response-turn-requires-clause-room : goal.take_response-turn-requires-c
 take_response-turn-requires-clause-room g c =
     let holds = rw (← c.self.view_is) at c.requires.holds in
     let enabled = rw (← c.self.view_is) at c.requires.enabled in
-    (memory_ready g.R.Rider.riding g.K.Carry.carrying c.self.inside.memory.memory holds.memory).rooms (TakeResponse c.args.c) enabled
+    (memory_ready g.R.Rider.riding g.K.Carry.carrying c.self.inside.memory.memory holds.memory).rooms
+    (TakeResponse c.args.c) enabled
 
 pub has_response-requires : goal.has_response-requires
 has_response-requires g c =
@@ -26,7 +27,8 @@ has_response-requires g c =
     let long : length c.take_response-turn.new.self.memory.ports ≡ length c.self.inside.memory.memory.ports =
     ap (λ (m : Memory g.row.R.Denot g.row.K.Denot). length m.ports) c.take_response-turn.ensures.memory
     ∙ ports_after_acts g.R.Rider.riding g.K.Carry.carrying c.self.inside.memory.memory (TakeResponse c.args.c ∷ []) in
-    rw long (lt_of c.args.c (length c.self.inside.memory.memory.ports) (left_is (nat_lt c.args.c (length c.self.inside.memory.memory.ports)) _ enabled))
+    rw long (lt_of c.args.c (length c.self.inside.memory.memory.ports)
+    (left_is (nat_lt c.args.c (length c.self.inside.memory.memory.ports)) _ enabled))
 
 pub mark_turn-requires-clause-ports : goal.mark_turn-requires-clause-ports
 mark_turn-requires-clause-ports g c =
@@ -43,7 +45,8 @@ returns-clause-marked g c =
     let holds = rw (← c.self.view_is) at c.requires.holds in
     let enabled = rw (← c.self.view_is) at c.requires.enabled in
     let all = rw (← c.self.view_is) at c.requires.marked in
-    response_others g.R.Rider.riding g.K.Carry.carrying s c.take_response-turn.new.self.memory c.args.marks.now c.set.new.self c.mark_turn.new.marks c.args.c
+    response_others g.R.Rider.riding g.K.Carry.carrying s c.take_response-turn.new.self.memory c.args.marks.now
+    c.set.new.self c.mark_turn.new.marks c.args.c
     c.take_response-turn.result c.take_response-turn.ensures.memory holds enabled c.take_response-turn.ensures.turn all
     c.set.ensures.cores c.set.ensures.within c.set.ensures.others (c.set.ensures.this ∙ c.has_response.ensures)
     c.mark_turn.ensures.cores c.mark_turn.ensures.within c.mark_turn.ensures.marked

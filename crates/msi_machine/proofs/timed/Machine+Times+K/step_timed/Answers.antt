@@ -17,35 +17,45 @@ use Rattle.msi_machine.proofs.timed.Machine+Times+K.step_timed.Goals as goal
 pub returns-clause-stands : goal.returns-clause-stands
 returns-clause-stands g c = λ list f.
     let holds : MachineHolds times_riding g.K.Carry.carrying c.args.self.now.state =
-    subst (λ (m : Machinery Times g.row.K.Denot). MachineHolds times_riding g.K.Carry.carrying m.state) c.self.view_is c.self.invariant.holds in
+    subst (λ (m : Machinery Times g.row.K.Denot). MachineHolds times_riding g.K.Carry.carrying m.state) c.self.view_is
+    c.self.invariant.holds in
     subst (λ (s : State Times g.row.K.Denot). MachineStandsFor times_parts g.K.Carry.carrying
-    (with_step g.K.Carry.carrying c.args.self.now.state c.step.result.taken (g.C.TimesClerk.clock c.step.new.clerk) list) s)
+    (with_step g.K.Carry.carrying c.args.self.now.state c.step.result.taken (g.C.TimesClerk.clock c.step.new.clerk)
+    list) s)
     (sym c.step.ensures.moved.state)
-    (timed_told g.C.Clerk.told_local g.C.Clerk.told_touch g.C.TimesClerk.clock g.met.C.TimesClerk.touch_notes g.K.Carry.carrying list c.args.self.now.state
+    (timed_told g.C.Clerk.told_local g.C.Clerk.told_touch g.C.TimesClerk.clock g.met.C.TimesClerk.touch_notes
+    g.K.Carry.carrying list c.args.self.now.state
     c.step.result.taken c.args.clerk.now c.step.new.clerk
     (rider_left times_riding g.K.Carry.carrying c.args.self.now.state c.step.new.self.state c.step.result.taken)
     (carry_told times_riding g.K.Carry.carrying c.args.self.now.state c.step.result.taken)
-    holds (taken_enabled times_riding g.K.Carry.carrying c.args.self.now.state c.args.choice c.step.result.taken c.step.ensures.taken.some
+    holds (taken_enabled times_riding g.K.Carry.carrying c.args.self.now.state c.args.choice c.step.result.taken
+    c.step.ensures.taken.some
     c.step.ensures.taken.numbered) c.step.ensures.told f)
 
 pub returns-clause-times : goal.returns-clause-times
 returns-clause-times g c = λ list f a is.
     let holds : MachineHolds times_riding g.K.Carry.carrying c.args.self.now.state =
-    subst (λ (m : Machinery Times g.row.K.Denot). MachineHolds times_riding g.K.Carry.carrying m.state) c.self.view_is c.self.invariant.holds in
-    finds_exact times_parts g.K.Carry.carrying times_absorb (reverse list) c.args.self.now.state c.step.result.taken a holds
-    (taken_enabled times_riding g.K.Carry.carrying c.args.self.now.state c.args.choice c.step.result.taken c.step.ensures.taken.some
+    subst (λ (m : Machinery Times g.row.K.Denot). MachineHolds times_riding g.K.Carry.carrying m.state) c.self.view_is
+    c.self.invariant.holds in
+    finds_exact times_parts g.K.Carry.carrying times_absorb (reverse list) c.args.self.now.state c.step.result.taken a
+    holds
+    (taken_enabled times_riding g.K.Carry.carrying c.args.self.now.state c.args.choice c.step.result.taken
+    c.step.ensures.taken.some
     c.step.ensures.taken.numbered) is f
 
 pub returns-clause-alike : goal.returns-clause-alike
 returns-clause-alike g c = λ list f.
     let holds : MachineHolds times_riding g.K.Carry.carrying c.args.self.now.state =
-    subst (λ (m : Machinery Times g.row.K.Denot). MachineHolds times_riding g.K.Carry.carrying m.state) c.self.view_is c.self.invariant.holds in
+    subst (λ (m : Machinery Times g.row.K.Denot). MachineHolds times_riding g.K.Carry.carrying m.state) c.self.view_is
+    c.self.invariant.holds in
     meet_alike times_parts g.K.Carry.carrying list c.args.self.now.state c.step.result.taken holds
-    (taken_enabled times_riding g.K.Carry.carrying c.args.self.now.state c.args.choice c.step.result.taken c.step.ensures.taken.some
+    (taken_enabled times_riding g.K.Carry.carrying c.args.self.now.state c.args.choice c.step.result.taken
+    c.step.ensures.taken.some
     c.step.ensures.taken.numbered) f
 
 pub returns-clause-clocks : goal.returns-clause-clocks
 returns-clause-clocks g c = λ list last.
-    clocks_told g.C.Clerk.told_local g.C.Clerk.told_touch g.C.TimesClerk.clock g.met.C.TimesClerk.local_keeps g.met.C.TimesClerk.touch_keeps list
+    clocks_told g.C.Clerk.told_local g.C.Clerk.told_touch g.C.TimesClerk.clock g.met.C.TimesClerk.local_keeps
+    g.met.C.TimesClerk.touch_keeps list
     (event times_riding g.K.Carry.carrying c.args.self.now.state c.step.result.taken)
     _ c.args.clerk.now c.step.new.clerk _ _ c.step.ensures.told last

@@ -11,5 +11,6 @@ returns-clause-covering c =
 
 pub returns-clause-reduction : goal.returns-clause-reduction
 returns-clause-reduction c list edges kept times =
-    subst (λ (es : List Edge). IsReduction (list ++ c.args.access.now ∷ []) c.retire_into.new.self.state (edges ++ es)) (sym c.to_list.ensures.items)
+    subst (λ (es : List Edge). IsReduction (list ++ c.args.access.now ∷ []) c.retire_into.new.self.state
+    (edges ++ es)) (sym c.to_list.ensures.items)
     (c.retire_into.ensures.reduction list edges kept times)

@@ -1,36 +1,15 @@
 use Rattle.std.proofs.Common.{◌≡◌, ◌∙◌, ◌<◌, ℕ, List, length, ap, sym, subst, arith}
-use Rattle.std.specs.Prelude.{Option}
 use Rattle.std.proofs.lemmas.List.{get_or_default}
-use Rattle.clock_core.specs.Counts.{no_counts}
 use Rattle.log_codec.specs.Sources.{log_edges}
 use Rattle.replay_core.specs.Plans.{Plan}
 use Rattle.replay_core.specs.declared.coming.Coming.{Coming}
 use Rattle.replay_core.specs.Sources.{AreSources, sources_in}
 use Rattle.replay_core.specs.Coming.{IsComing, coming_at, no_coming}
-use Rattle.replay_core.proofs.Awaited.{coming_step, no_sources}
+use Rattle.replay_core.proofs.Awaited.{coming_step}
 use Rattle.replay_core.proofs.coming.Sources.find.Goals as goal
 
-pub returns-then-is_early-clause-sources : goal.returns-then-is_early-clause-sources
-returns-then-is_early-clause-sources c =
-    let all = c.self.invariant in
-    let r = c.self.inside.recording.now in
-    let cores = all.valid.each_core in
-    let totals = ap (λ (q : Plan). length q.totals) c.self.view_is in
-    let below : c.args.at.core < r.params.cores = omega (arith, c.requires.core) in
-    let inside : c.args.at.core < length c.self.inside.coming.items = let a = all.all in omega arith in
-    let is : c.index.result.now ≡ coming_at c.self.inside.coming.items c.args.at.core =
-    c.index.ensures ∙ get_or_default c.self.inside.coming.items c.args.at.core c.index.result.now no_coming inside in
-    let k = subst (λ (x : Coming). IsComing (log_edges c.self.inside.which r) c.args.at.core r.params.cores x) (sym is)
-    (all.each c.args.at.core below) in
-    let early = c.is_early.ensures c.if-is_early.true in
-    let none : AreSources c.args.self.now.edges c.args.at no_counts =
-    subst (λ (q : Plan). AreSources q.edges c.args.at no_counts) c.self.view_is
-    (no_sources c.self.inside.which r all.valid c.index.result.now c.args.at k early.0 early.1) in
-    subst (λ (o : Option (List ℕ)). AreSources c.args.self.now.edges c.args.at (sources_in o)) (sym c.clear.ensures)
-    none
-
-pub pass-requires-clause-coming : goal.pass-requires-clause-coming
-pass-requires-clause-coming c =
+pub find-requires-clause-coming : goal.find-requires-clause-coming
+find-requires-clause-coming c =
     let all = c.self.invariant in
     let r = c.self.inside.recording.now in
     let cores = all.valid.each_core in
@@ -45,15 +24,15 @@ pass-requires-clause-coming c =
 
 pub invariant_of-self : goal.invariant_of-self
 invariant_of-self c =
-    let known = subst (λ (q : Plan). IsComing q.edges c.args.at.core (length q.totals) c.pass.new.self) c.self.view_is
+    let known = subst (λ (q : Plan). IsComing q.edges c.args.at.core (length q.totals) c.find.new.self) c.self.view_is
     (subst (λ (n : ℕ). IsComing (log_edges c.self.inside.which c.self.inside.recording.now) c.args.at.core n
-    c.pass.new.self)
-    (sym c.self.invariant.valid.each_core) c.pass.ensures.coming) in
+    c.find.new.self)
+    (sym c.self.invariant.valid.each_core) c.find.ensures.coming) in
     coming_step c.self.inside.which c.self.inside.recording.now c.args.self.now c.self.inside.coming.items
-    c.args.at.core c.pass.new.self
+    c.args.at.core c.find.new.self
     c.self.invariant c.self.view_is c.requires.core known
 
 pub returns-clause-sources : goal.returns-clause-sources
 returns-clause-sources c =
-    subst (λ (q : Plan). AreSources q.edges c.args.at (sources_in c.pass.new.sources)) c.self.view_is
-    c.pass.ensures.sources
+    subst (λ (q : Plan). AreSources q.edges c.args.at (sources_in c.find.new.sources)) c.self.view_is
+    c.find.ensures.sources

@@ -1,8 +1,11 @@
-use Rattle.std.proofs.Common.{◌≡◌, ◌∙◌, ◌<◌, ◌≤◌, length, slice_index, ℕ, List, ap, sym, subst, arith}
+use Rattle.std.proofs.Common.{◌≡◌, ◌∙◌, ◌<◌, length, slice_index, ℕ, List, ap, sym, subst, arith}
+use Rattle.std.specs.Prelude.{Option}
 use Rattle.std.proofs.lemmas.List.{get_or_default}
-use native.Mathlib.Decide.{ℕ_discrete}
+use Rattle.rtr_types.specs.declared.TheConstants.{CORES_MAX}
+use Rattle.rtr_types.proofs.Ranges.{zero_at}
 use Rattle.replay_core.specs.Plans.{Plan, plan_of}
 use Rattle.replay_core.specs.Play.{instr}
+use Rattle.replay_core.specs.Sources.{sources_in}
 use Rattle.replay_table.specs.Aheads.{Due}
 use Rattle.replay_table.specs.declared.view.View.{View}
 use Rattle.replay_table.specs.Rule.{seen_of}
@@ -10,22 +13,21 @@ use Rattle.replay_table.specs.Seats.{IsUnmet, Sitting}
 use Rattle.replay_table.proofs.Lookups.{due_by, unmet_is}
 use Rattle.replay_table.proofs.seat.CoreSeat.unmet.Goals as goal
 
-pub loop-of-init : goal.loop-of-init
-loop-of-init g c = λ i lt. absurd (omega arith)
-
-pub loop-of-preserved : goal.loop-of-preserved
-loop-of-preserved g c = λ i lt. elim (ℕ_discrete i c.loop-of.of) [
-  | yes e ↦
-      let seen : List ℕ = c.self.inside.seen.items in
-      let ok = c.self.inside.seen.ok.0 in
-      let all = c.len-of-end.ensures in
-      let test : c.loop-of.of < c.len-of-end.result = c.loop-of-test.true in
-      let inside : c.loop-of.of < length seen = omega arith in
-      let is : c.index.result.now ≡ slice_index seen c.loop-of.of = c.index.ensures ∙ get_or_default seen c.loop-of.of c.index.result.now 0 inside in
-      let least = c.if-index-count.false in
-      subst (λ (k : ℕ). slice_index c.self.inside.upcoming.sources k ≤ slice_index seen k) (sym e) (omega arith)
-  | no ne ↦ c.loop-of.invariant i (omega arith)
-]
+-- without sources
+pub returns-in_default-clause-none : goal.returns-in_default-clause-none
+returns-in_default-clause-none g c =
+    let p : Plan = plan_of g.J.Job.which g.J.Job.recording in
+    let k = c.self.inside.past.core in
+    let v : View = c.self.inside.seat.me.0 in
+    let below : k.count < slice_index p.totals k.id = subst
+    (λ (x : Sitting). x.core.count < slice_index p.totals x.core.id) (sym c.self.view_is)
+    c.requires.below in
+    subst (λ (x : Sitting). Due p (seen_of x.view) x.core) c.self.view_is
+    (due_by g.J.Job.which g.J.Job.recording (seen_of v) k c.self.inside.upcoming c.self.invariant.1.valid
+    c.self.invariant.1.upcoming below
+    (λ i lt.
+    let none = ap (λ (o : Option (List ℕ)). slice_index (sources_in o) i) c.in_default.is ∙ zero_at CORES_MAX i in
+    omega arith))
 
 pub returns-then-index-count-clause-some : goal.returns-then-index-count-clause-some
 returns-then-index-count-clause-some g c =
@@ -41,11 +43,18 @@ returns-then-index-count-clause-some g c =
     let wide = t.wide in
     let within : of < length seen = omega arith in
     let inside : of < length p.totals = omega arith in
-    let is : c.index.result.now ≡ slice_index seen of = c.index.ensures ∙ get_or_default seen of c.index.result.now 0 within in
+    let is : c.index.result.now ≡ slice_index seen of = c.index.ensures ∙ get_or_default seen of c.index.result.now 0
+    within in
     let same : seen_of v of ≡ slice_index seen of = ap (λ (l : List ℕ). slice_index l of) t.sees_is in
+    let count : slice_index (sources_in c.self.inside.upcoming.sources) of ≡ c.get-count.result =
+    ap (λ (o : Option (List ℕ)). slice_index (sources_in o) of) c.in-Some.is ∙ sym c.get-count.ensures in
     let less = c.if-index-count.true in
-    subst (λ (x : Sitting). IsUnmet g.J.Job.which g.J.Job.recording x.view x.core (instr of (slice_index c.self.inside.upcoming.sources of))) c.self.view_is
-    (unmet_is g.J.Job.which g.J.Job.recording v k c.self.inside.upcoming of c.self.invariant.1.upcoming inside (omega arith))
+    subst (λ (n : ℕ). IsUnmet g.J.Job.which g.J.Job.recording c.args.self.now.view c.args.self.now.core (instr of n))
+    count
+    (subst (λ (x : Sitting). IsUnmet g.J.Job.which g.J.Job.recording x.view x.core
+    (instr of (slice_index (sources_in c.self.inside.upcoming.sources) of)))
+    c.self.view_is (unmet_is g.J.Job.which g.J.Job.recording v k c.self.inside.upcoming of c.self.invariant.1.upcoming
+    inside (omega arith)))
 
 pub returns-clause-none : goal.returns-clause-none
 returns-clause-none g c =
@@ -57,8 +66,14 @@ returns-clause-none g c =
     let all = c.len-of-end.ensures in
     let test = c.loop-of-test.false in
     let wide = t.wide in
-    let below : k.count < slice_index p.totals k.id = subst (λ (x : Sitting). x.core.count < slice_index p.totals x.core.id) (sym c.self.view_is)
+    let below : k.count < slice_index p.totals k.id = subst
+    (λ (x : Sitting). x.core.count < slice_index p.totals x.core.id) (sym c.self.view_is)
     c.requires.below in
     subst (λ (x : Sitting). Due p (seen_of x.view) x.core) c.self.view_is
-    (due_by g.J.Job.which g.J.Job.recording (seen_of v) k c.self.inside.upcoming c.self.invariant.1.valid c.self.invariant.1.upcoming below
-    (λ i lt. let met = c.loop-of.invariant i (omega arith) in let same = ap (λ (l : List ℕ). slice_index l i) t.sees_is in omega arith))
+    (due_by g.J.Job.which g.J.Job.recording (seen_of v) k c.self.inside.upcoming c.self.invariant.1.valid
+    c.self.invariant.1.upcoming below
+    (λ i lt.
+    let source = ap (λ (o : Option (List ℕ)). slice_index (sources_in o) i) c.in-Some.is in
+    let met = c.loop-of.invariant i (omega arith) in
+    let same = ap (λ (l : List ℕ). slice_index l i) t.sees_is in
+    omega arith))

@@ -16,13 +16,15 @@ returns-clause-items g c =
 pub returns-clause-ready : goal.returns-clause-ready
 returns-clause-ready g c other =
     ap (λ bs. get_or bs other false)
-    (same_ready c.self.inside.lists.items c.args.place c.index_mut.result.now c.set_last.new.self c.index_mut.ensures.value c.set_last.ensures.ready)
+    (same_ready c.self.inside.lists.items c.args.place c.index_mut.result.now c.set_last.new.self
+    c.index_mut.ensures.value c.set_last.ensures.ready)
     ∙ ap (λ all. is_ready_at all other) c.self.view_is
 
 pub invariant_of-self : goal.invariant_of-self
 invariant_of-self g c = (
   c.self.invariant.0,
   c.self.invariant.1,
-  λ e. known_still c.self.inside.lists.items c.args.place c.index_mut.result.now c.set_last.new.self c.index_mut.ensures.value c.set_last.ensures.ready
+  λ e. known_still c.self.inside.lists.items c.args.place c.index_mut.result.now c.set_last.new.self
+      c.index_mut.ensures.value c.set_last.ensures.ready
       (c.self.invariant.2 e),
 )

@@ -14,6 +14,7 @@ returns-clause-bytes c =
     ) at c.min-n.ensures in
     let within : c.min-n.result ≤ length c.self.inside.bytes.items - c.self.inside.next = omega arith in (
       ap (λ r. r.left) (sym c.self.view_is)
-          ∙ left-is c.self.inside.bytes.items c.args.into.now c.copy_from_slice.new.self c.self.inside.next c.min-n.result copied within,
+          ∙ left-is c.self.inside.bytes.items c.args.into.now c.copy_from_slice.new.self c.self.inside.next
+          c.min-n.result copied within,
       λ none some. none-left c.self.inside.bytes.items c.self.inside.next c.min-n.result (omega arith),
     )

@@ -10,7 +10,8 @@ pub returns-then-self-len-clause-choice : goal.returns-then-self-len-clause-choi
 returns-then-self-len-clause-choice c =
     let s = c.self.inside in
     let some : s.next < length s.bytes.items = search rules in
-    let read : c.index-choice.result.now ≡ get_or s.bytes.items s.next 0 = get_or_read s.bytes.items s.next _ some c.index-choice.ensures 0 in
+    let read : c.index-choice.result.now ≡ get_or s.bytes.items s.next 0 =
+    get_or_read s.bytes.items s.next _ some c.index-choice.ensures 0 in
     c.into.ensures ∙ read ∙ sym (first-byte s.bytes.items s.next s.words some) ∙ ap (λ v. choice_at v 0) c.self.view_is
 
 pub returns-then-self-len-clause-rest : goal.returns-then-self-len-clause-rest
@@ -32,4 +33,5 @@ returns-else-self-len-clause-rest c =
     let none : drop s.next s.bytes.items ≡ [] = drop_of_length-le s.bytes.items {i = s.next} (search rules) in
     let words : c.next_word.new.self ≡ (pcg32 s.words).1 = ap (λ r. r.1) c.next_word.ensures in
     let left : Choices = record { bytes = drop s.next s.bytes.items; words = c.next_word.new.self } in
-    ap (λ w. record left { words = w }) words ∙ after-word (drop s.next s.bytes.items) s.words none ∙ ap choices_after c.self.view_is
+    ap (λ w. record left { words = w }) words ∙ after-word (drop s.next s.bytes.items) s.words none
+    ∙ ap choices_after c.self.view_is

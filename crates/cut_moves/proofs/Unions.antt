@@ -1,0 +1,170 @@
+-- Unions and intersections of closed cuts. A count of a union is one of the two counts, so each source of what the
+-- union holds is held by the one or the other; likewise of an intersection.
+use Rattle.std.proofs.Common.{◌≡◌, ℕ, ◌<◌, ◌≤◌, ◌⊎◌, inl, inr, max, min, sym, ◌∙◌, subst, arith}
+use Rattle.std.proofs.lemmas.Bool.{cases_lt}
+use Rattle.std.proofs.lemmas.List.{get_or_past}
+use Rattle.std.proofs.lemmas.List.FromFn.{length-map-range_with_len, get_or-map-range_with_len}
+use Rattle.std.specs.Prelude.{slice_index}
+use Rattle.rtr_types.specs.declared.TheConstants.{CORES_MAX}
+use Rattle.rtr_types.specs.declared.cut.Cut.{Cut}
+use Rattle.rtr_types.specs.declared.instr.Instr.{Instr}
+use Rattle.rtr_types.specs.declared.pairs.Which.{Which}
+use Rattle.log_codec.specs.declared.recording.Recording.{Recording}
+use Rattle.log_codec.specs.Sources.{HasEdge}
+use Rattle.cut_replay.specs.ClosedCuts.{count_in, Holds, IsClosed, IsCutOf}
+use Rattle.cut_moves.specs.Unions.{union_of, intersection_of, UnionClosedLaw, UnionLeastLaw, IntersectionClosedLaw}
+use Rattle.cut_moves.specs.Unions.{IntersectionGreatestLaw}
+
+-- one of two counts, which is at least both
+pub record IsGreater (a b m : ℕ) : Type 0 where
+  pub first : a ≤ m
+  pub second : b ≤ m
+  pub one : (m ≡ a) ⊎ (m ≡ b)
+
+-- or at most
+pub record IsLesser (a b m : ℕ) : Type 0 where
+  pub first : m ≤ a
+  pub second : m ≤ b
+  pub one : (m ≡ a) ⊎ (m ≡ b)
+
+greater_of : (a b : ℕ) → IsGreater a b (max a b)
+greater_of a b = by (cases_lt a b)
+  where
+    by : (a < b) ⊎ (b ≤ a) → IsGreater a b (max a b)
+    by (inl lt) = record { first = omega arith; second = omega arith; one = inr (omega arith) }
+    by (inr le) = record { first = omega arith; second = omega arith; one = inl (omega arith) }
+
+lesser_of : (a b : ℕ) → IsLesser a b (min a b)
+lesser_of a b = by (cases_lt a b)
+  where
+    by : (a < b) ⊎ (b ≤ a) → IsLesser a b (min a b)
+    by (inl lt) = record { first = omega arith; second = omega arith; one = inl (omega arith) }
+    by (inr le) = record { first = omega arith; second = omega arith; one = inr (omega arith) }
+
+-- past the last place a cut has no count
+none_past : (r : Recording) (cut : Cut) → IsCutOf r cut → (i : ℕ) → CORES_MAX ≤ i → count_in cut i ≡ 0
+none_past r cut is i past = get_or_past cut.counts i 0 (let e = is.places in omega arith)
+
+module _ (r : Recording) (a b : Cut) (h : IsCutOf r a) (k : IsCutOf r b) where
+  pub greater : (i : ℕ) → IsGreater (count_in a i) (count_in b i) (count_in (union_of a b) i)
+  greater i = by (cases_lt i CORES_MAX)
+    where
+      by : (i < CORES_MAX) ⊎ (CORES_MAX ≤ i) → IsGreater (count_in a i) (count_in b i) (count_in (union_of a b) i)
+      by (inl lt) = subst (λ (m : ℕ). IsGreater (count_in a i) (count_in b i) m)
+          (sym (get_or-map-range_with_len (λ c. max (count_in a c) (count_in b c)) 0 CORES_MAX i i 0 lt (omega arith)))
+          (greater_of (count_in a i) (count_in b i))
+      by (inr past) =
+          let x = none_past r a h i past in
+          let y = none_past r b k i past in
+          let long = length-map-range_with_len (λ c. max (count_in a c) (count_in b c)) 0 CORES_MAX in
+          let z = get_or_past (union_of a b).counts i 0 (omega arith) in
+          record { first = omega arith; second = omega arith; one = inl (z ∙ sym x) }
+
+  pub lesser : (i : ℕ) → IsLesser (count_in a i) (count_in b i) (count_in (intersection_of a b) i)
+  lesser i = by (cases_lt i CORES_MAX)
+    where
+      by : (i < CORES_MAX) ⊎ (CORES_MAX ≤ i) →
+          IsLesser (count_in a i) (count_in b i) (count_in (intersection_of a b) i)
+      by (inl lt) = subst (λ (m : ℕ). IsLesser (count_in a i) (count_in b i) m)
+          (sym (get_or-map-range_with_len (λ c. min (count_in a c) (count_in b c)) 0 CORES_MAX i i 0 lt (omega arith)))
+          (lesser_of (count_in a i) (count_in b i))
+      by (inr past) =
+          let x = none_past r a h i past in
+          let y = none_past r b k i past in
+          let long = length-map-range_with_len (λ c. min (count_in a c) (count_in b c)) 0 CORES_MAX in
+          let z = get_or_past (intersection_of a b).counts i 0 (omega arith) in
+          record { first = omega arith; second = omega arith; one = inl (z ∙ sym x) }
+
+pub union_least : UnionLeastLaw
+union_least r a b h k = record {
+  first = λ core. (greater r a b h k core).first;
+  second = λ core. (greater r a b h k core).second;
+  least = λ c f s core. by c core (f core) (s core) (greater r a b h k core).one;
+}
+  where
+    by : (c : Cut) (core : ℕ) → count_in a core ≤ count_in c core → count_in b core ≤ count_in c core →
+        (count_in (union_of a b) core ≡ count_in a core) ⊎ (count_in (union_of a b) core ≡ count_in b core) →
+        count_in (union_of a b) core ≤ count_in c core
+    by c core f s (inl e) = omega arith
+    by c core f s (inr e) = omega arith
+
+pub intersection_greatest : IntersectionGreatestLaw
+intersection_greatest r a b h k = record {
+  first = λ core. (lesser r a b h k core).first;
+  second = λ core. (lesser r a b h k core).second;
+  greatest = λ c f s core. by c core (f core) (s core) (lesser r a b h k core).one;
+}
+  where
+    by : (c : Cut) (core : ℕ) → count_in c core ≤ count_in a core → count_in c core ≤ count_in b core →
+        (count_in (intersection_of a b) core ≡ count_in a core) ⊎
+        (count_in (intersection_of a b) core ≡ count_in b core) →
+        count_in c core ≤ count_in (intersection_of a b) core
+    by c core f s (inl e) = omega arith
+    by c core f s (inr e) = omega arith
+
+module _ (which : Which) (r : Recording) (a b : Cut) (h : IsClosed which r a) (k : IsClosed which r b) where
+  abbrev both : Cut
+  both = union_of a b
+
+  abbrev common : Cut
+  common = intersection_of a b
+
+  up : (core : ℕ) → IsGreater (count_in a core) (count_in b core) (count_in both core)
+  up core = greater r a b h.is_cut k.is_cut core
+
+  down : (core : ℕ) → IsLesser (count_in a core) (count_in b core) (count_in common core)
+  down core = lesser r a b h.is_cut k.is_cut core
+
+  pub union_is_closed : IsClosed which r (union_of a b)
+  union_is_closed = record {
+    is_cut = record {
+      cores = h.is_cut.cores;
+      places = length-map-range_with_len (λ c. max (count_in a c) (count_in b c)) 0 CORES_MAX;
+      most = λ core lt. most core lt (up core).one;
+      rest = λ core le. rest core le (up core).one;
+    };
+    sources = λ from to has holds. held from to has holds (up to.core).one;
+  }
+    where
+      most : (core : ℕ) → core < r.params.cores →
+          (count_in both core ≡ count_in a core) ⊎ (count_in both core ≡ count_in b core) →
+          count_in both core ≤ slice_index r.totals core
+      most core lt (inl e) = let x = h.is_cut.most core lt in omega arith
+      most core lt (inr e) = let x = k.is_cut.most core lt in omega arith
+
+      rest : (core : ℕ) → r.params.cores ≤ core →
+          (count_in both core ≡ count_in a core) ⊎ (count_in both core ≡ count_in b core) → count_in both core ≡ 0
+      rest core le (inl e) = e ∙ h.is_cut.rest core le
+      rest core le (inr e) = e ∙ k.is_cut.rest core le
+
+      held : (from to : Instr) → HasEdge which r from to → Holds both to →
+          (count_in both to.core ≡ count_in a to.core) ⊎ (count_in both to.core ≡ count_in b to.core) → Holds both from
+      held from to has le (inl e) =
+          let x = h.sources from to has (omega arith) in let y = (up from.core).first in omega arith
+      held from to has le (inr e) =
+          let x = k.sources from to has (omega arith) in let y = (up from.core).second in omega arith
+
+  pub intersection_is_closed : IsClosed which r (intersection_of a b)
+  intersection_is_closed = record {
+    is_cut = record {
+      cores = h.is_cut.cores;
+      places = length-map-range_with_len (λ c. min (count_in a c) (count_in b c)) 0 CORES_MAX;
+      most = λ core lt. let x = h.is_cut.most core lt in let y = (down core).first in omega arith;
+      rest = λ core le. let x = h.is_cut.rest core le in let y = (down core).first in omega arith;
+    };
+    sources = λ from to has holds. held from to has holds (down from.core).one;
+  }
+    where
+      held : (from to : Instr) → HasEdge which r from to → Holds common to →
+          (count_in common from.core ≡ count_in a from.core) ⊎ (count_in common from.core ≡ count_in b from.core) →
+          Holds common from
+      held from to has le (inl e) =
+          let y = (down to.core).first in let x = h.sources from to has (omega arith) in omega arith
+      held from to has le (inr e) =
+          let y = (down to.core).second in let x = k.sources from to has (omega arith) in omega arith
+
+pub union_closed : UnionClosedLaw
+union_closed which r a b h k = union_is_closed which r a b h k
+
+pub intersection_closed : IntersectionClosedLaw
+intersection_closed which r a b h k = intersection_is_closed which r a b h k

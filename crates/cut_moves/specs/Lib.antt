@@ -1,0 +1,4 @@
+pub mod Unions
+pub mod Steps
+pub mod Rounds
+pub mod Ways

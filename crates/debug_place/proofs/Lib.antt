@@ -1,0 +1,5 @@
+pub mod OwnCuts
+pub mod Walking
+pub mod Stopping
+pub mod Looking
+pub mod Backing

@@ -1,0 +1,90 @@
+-- A replay takes the places of a way: each is due, each goes on, and at the end the replay is at the cut.
+use Rattle.std.proofs.Common.{◌≡◌, ℕ, ◌+◌, ◌<◌, List, [], ◌∷◌, length, drop, get_or, refl, sym, ap, subst, ◌∙◌}
+use Rattle.std.proofs.Common.{add-one, arith}
+use Rattle.std.specs.Prelude.{Option}
+use Rattle.std.proofs.Math.Seq.{drop-cons}
+use Rattle.rtr_types.specs.declared.access.Access.{Access}
+use Rattle.rtr_types.specs.declared.cut.Cut.{Cut}
+use Rattle.rtr_types.specs.declared.pairs.Which.{Which}
+use Rattle.rv_core.specs.declared.outcome.Outcome.{Outcome}
+use Rattle.log_codec.specs.declared.recording.Recording.{Recording}
+use Rattle.log_codec.specs.Validity.{Valid}
+use Rattle.replay_core.specs.Answers.{Retires, UnderWay}
+use Rattle.replay_core.specs.Orders.{Ordered, Ready, bump, counts_in}
+use Rattle.replay_core.specs.Plans.{Plan, plan_of}
+use Rattle.replay_core.specs.Play.{place}
+use Rattle.replay_core.proofs.Counts.{bump_here, counts_more}
+use Rattle.replay_core.proofs.Places.{place_known}
+use Rattle.replay_core.proofs.Ready.{ready_is}
+use Rattle.replay_audit.specs.Determinate.{Decides}
+use Rattle.cut_replay.specs.ClosedCuts.{count_in, IsClosed, IsContained}
+use Rattle.cut_replay.specs.Dues.{IsDue}
+use Rattle.cut_replay.proofs.Ways.{state_at, way_on}
+use Rattle.cut_moves.specs.Ways.{LeadsTo}
+use Rattle.debug_place.specs.Places.{IsReplayAt}
+use Rattle.debug_place.specs.Walks.{IsWalking}
+use Rattle.debug_place.proofs.OwnCuts.{its_counts, known, on_the_way}
+
+-- from a cut to one that contains it
+pub set_out : {which : Which} {r : Recording} {low : Cut} {u : UnderWay} → IsReplayAt which r low u → (high : Cut) →
+    Valid r → IsClosed which r high → IsContained low high → (places : List ℕ) →
+    Ordered (plan_of which r) (count_in low) places → LeadsTo (count_in low) (count_in high) places →
+    IsWalking which r high u places
+set_out {which} {r} at high valid closed within places ordered leads = record {
+  way = on_the_way at high valid closed within;
+  ordered = subst (λ (g : ℕ → ℕ). Ordered (plan_of which r) g places) (its_counts at) ordered;
+  leads = subst (λ (g : ℕ → ℕ). LeadsTo g (count_in high) places) (its_counts at) leads;
+}
+
+-- the places from the next one on
+pub next_first : {which : Which} {r : Recording} {to : Cut} {u : UnderWay} (places : List ℕ) (i : ℕ) →
+    i < length places →
+    IsWalking which r to u (drop i places) → IsWalking which r to u (get_or places i 0 ∷ drop (i + 1) places)
+next_first {which} {r} {to} {u} places i within walking =
+    subst (λ (rest : List ℕ). IsWalking which r to u rest)
+    (drop-cons places i 0 within ∙ ap (λ k. get_or places i 0 ∷ drop k places) (sym (add-one i))) walking
+
+module _ {which : Which} {r : Recording} {to : Cut} {u : UnderWay} (core : ℕ) (rest : List ℕ)
+    (walking : IsWalking which r to u (core ∷ rest)) where
+  abbrev p : Plan
+  p = plan_of which r
+
+  abbrev f : ℕ → ℕ
+  f = counts_in u.state
+
+  pub due : IsDue to u core
+  due = record {
+    inside = subst (λ (q : Plan). core < length q.totals) (sym walking.way.plan_is) walking.ordered.0.inside;
+    below = let last = walking.leads core in let more = counts_more (bump f core) rest core in
+        let here = bump_here f core in omega arith;
+    ready = ready_is u.plan f core
+        (subst (λ (q : Plan). Ready q f core) (sym walking.way.plan_is) walking.ordered.0);
+  }
+
+  module _ (whole : List ℕ) (decides : Decides (plan_of which r) whole) (v : UnderWay) (same_plan : v.plan ≡ u.plan)
+      (same_state : v.state ≡ u.state) (w : UnderWay) (kept : w.plan ≡ v.plan) (access : Option Access)
+      (retires : Retires v.plan v.state core access w.state) where
+    pub placed : w.state ≡ place (plan_of which r) u.state core
+    placed = retires.state ∙ ap (λ (s : Outcome). place v.plan s core) same_state
+        ∙ ap (λ (q : Plan). place q u.state core) (same_plan ∙ walking.way.plan_is)
+
+    one_more : counts_in w.state ≡ bump f core
+    one_more = ap (λ (s : Outcome). counts_in s) placed
+        ∙ (place_known p f u.state core (known walking.way) walking.ordered.0).counts
+
+    pub walk_on : IsWalking which r to w rest
+    walk_on = record {
+      way = way_on walking.way whole decides core due v same_plan same_state w kept access retires;
+      ordered = subst (λ (g : ℕ → ℕ). Ordered p g rest) (sym one_more) walking.ordered.1;
+      leads = subst (λ (g : ℕ → ℕ). LeadsTo g (count_in to) rest) (sym one_more) walking.leads;
+    }
+
+-- no place is left
+pub arrived : {which : Which} {r : Recording} {to : Cut} {u : UnderWay} → IsWalking which r to u [] → (whole : List ℕ) →
+    Decides (plan_of which r) whole → IsReplayAt which r to u
+arrived {u = u} walking whole decides = record {
+  plan_is = walking.way.plan_is;
+  closed = walking.way.closed;
+  state = state_at walking.way whole decides
+      (λ core is_due. let there = walking.leads core in let below = is_due.below in absurd (omega arith)) u.state refl;
+}

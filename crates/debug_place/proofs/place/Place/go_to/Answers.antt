@@ -1,0 +1,61 @@
+use Rattle.std.proofs.Common.{◌≡◌, List, ℕ, sym, ap, subst, ◌∙◌}
+use Rattle.std.specs.Prelude.{IfOk}
+use Rattle.rtr_types.specs.declared.cut.Cut.{Cut}
+use Rattle.replay_core.specs.Answers.{cut_of}
+use Rattle.replay_core.specs.Orders.{counts_in}
+use Rattle.replay_core.specs.Plans.{plan_of}
+use Rattle.cut_replay.specs.ClosedCuts.{IsContained, count_in}
+use Rattle.cut_moves.specs.Rounds.{rounds_of}
+use Rattle.cut_moves.specs.Ways.{way_of}
+use Rattle.debug_place.specs.Places.{IsReplayAt, Placed, cut_at}
+use Rattle.debug_place.specs.Stops.{GoesOn}
+use Rattle.debug_place.specs.Walks.{EndsWalk}
+use Rattle.debug_place.proofs.Stopping.{at_walked, walk_wanted}
+use Rattle.debug_place.proofs.place.Place.go_to.Goals as goal
+
+pub go_until-requires-clause-at : goal.go_until-requires-clause-at
+go_until-requires-clause-at g c =
+    let a = c.self.inside.audited.now in
+    let replay = c.self.inside.replay in
+    subst (λ cut. IsReplayAt a.which a.recording cut replay)
+    (sym (c.cut-low.ensures ∙ ap (λ plan. cut_of plan (counts_in replay.state)) c.self.invariant.at.plan_is))
+    c.self.invariant.at
+
+pub go_until-requires-clause-within : goal.go_until-requires-clause-within
+go_until-requires-clause-within g c =
+    let replay = c.self.inside.replay in
+    subst (λ cut. IsContained cut c.args.to.now)
+    (sym (c.cut-low.ensures ∙ ap (λ plan. cut_of plan (counts_in replay.state)) c.self.invariant.at.plan_is
+    ∙ ap cut_at c.self.view_is)) c.requires.within
+
+pub invariant_of-self : goal.invariant_of-self
+invariant_of-self g c =
+    let a = c.self.inside.audited.now in
+    record {
+      valid = c.self.invariant.valid;
+      determinate = c.self.invariant.determinate;
+      timeline_is = c.self.invariant.timeline_is;
+      at = at_walked (g.S.Stops.stops c.args.stops.now) a.which a.recording c.args.to.now c.self.inside.replay
+          c.go_until.new.replay _ c.self.invariant.valid c.go_until.result c.go_until.ensures.ok c.go_until.ensures.err;
+    }
+
+pub returns-clause-ok : goal.returns-clause-ok
+returns-clause-ok g c =
+    let a = c.self.inside.audited.now in
+    let old = c.self.inside.replay in
+    let new = c.go_until.new.replay in
+    let to = c.args.to.now in
+    let test = g.S.Stops.stops c.args.stops.now in
+    let cut : Cut = cut_of (plan_of a.which a.recording) (counts_in old.state) in
+    let places : List ℕ = way_of (count_in cut) (count_in to) (rounds_of a.which a.recording) in
+    let low_is : c.cut-low.result ≡ cut =
+    c.cut-low.ensures ∙ ap (λ plan. cut_of plan (counts_in old.state)) c.self.invariant.at.plan_is in
+    let way_is : way_of (count_in c.cut-low.result) (count_in to) c.as_slice.result.now ≡ places =
+    ap (λ (k : Cut). way_of (count_in k) (count_in to) c.as_slice.result.now) low_is
+    ∙ ap (λ (line : List ℕ). way_of (count_in cut) (count_in to) line)
+    (c.as_slice.ensures ∙ c.self.invariant.timeline_is) in
+    let after : Placed = record { recording = a.recording; which = a.which; state = new.state } in
+    subst (λ (place : Placed). IfOk c.go_until.result (GoesOn test place to after)) c.self.view_is
+    (walk_wanted test a.which a.recording to old new places c.self.invariant.valid c.go_until.result
+    (subst (λ (line : List ℕ). IfOk c.go_until.result
+    (λ stopped. EndsWalk test a.which a.recording to old line new stopped)) way_is c.go_until.ensures.ok))

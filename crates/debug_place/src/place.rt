@@ -1,0 +1,260 @@
+//! A place that moves.
+ghost use Rattle.std.specs.Prelude.{◌≡◌, ◌<◌, ◌↔◌, ℕ, IfOk, IsTrue, OnErr, OnOk, slice_index};
+ghost use Rattle.replay_core.specs.Answers.{UsesWithin};
+ghost use Rattle.replay_core.specs.Play.{core_at, need_at, use_of};
+ghost use Rattle.replay_audit.specs.Audits.{IsInstrOf};
+ghost use Rattle.cut_replay.specs.ClosedCuts.{IsClosed, IsContained, count_in};
+ghost use Rattle.cut_moves.specs.Steps.{IsStep, IsStepBack, last_in, next_in};
+ghost use Rattle.debug_place.specs.Places.{Stands, cut_at, plan_at};
+ghost use Rattle.debug_place.specs.Backs.{GoesBack};
+ghost use Rattle.debug_place.specs.Stops.{GoesOn};
+
+use crate::looks::last_stop;
+use crate::stops::Stops;
+use crate::walks::{go_on, go_until};
+use cut_moves::{step, step_back, timeline};
+use replay_audit::Audited;
+use replay_core::Replay;
+use rtr_types::{CORES_MAX, Cut, Items, Kind};
+use rv_core::Core;
+use std::alloc::{AllocError, Global};
+use std::marker::Model;
+
+/// A place for each core, as the length of an array.
+const PLACES: usize = CORES_MAX as usize;
+
+/// A place in a recorded run: a cut that is closed under the audit's log, with the state that every replay order has
+/// that comes there. It holds one live replay, and the timeline by rounds.
+pub struct Place<'a> {
+    audited: &'a Audited,
+    timeline: Items<u8>,
+    replay: Replay<'a>,
+}
+
+impl Drop for Place<'_> {
+    fn drop(self) {
+        let Place {
+            audited: _audited,
+            timeline: _timeline,
+            replay: _replay,
+        } = self;
+    }
+}
+
+impl<'a> Model for Place<'a> {
+    ghost use Rattle.debug_place.specs.Places.{Fits, Placed};
+
+    ghost Value = { Placed };
+
+    ghost view = { λ a. record {
+      recording = a.audited.now.recording;
+      which = a.audited.now.which;
+      state = a.replay.state;
+    } };
+
+    ghost invariant = { λ a. Fits a.audited.now.which a.audited.now.recording a.timeline a.replay };
+}
+
+impl<'a> Place<'a> {
+    /// The place before the first instruction. It is refused for want of memory alone.
+    pub fn begin(alloc: Global, audited: &'a Audited) -> Result<Place<'a>, AllocError>
+        ensures recording { IfOk result (λ place. place.recording ≡ audited.now.recording) }
+        ensures which { IfOk result (λ place. place.which ≡ audited.now.which) }
+        ensures nothing { IfOk result (λ place. (core : ℕ) → count_in (cut_at place) core ≡ 0) }
+    {
+        // The audit passed, so the recording is determinate.
+        let _ = audited.outcome();
+        let timeline = timeline(alloc, audited)?;
+        let replay = Replay::new(alloc, audited.recording(), audited.which())?;
+        Ok(Place {
+            audited,
+            timeline,
+            replay,
+        })
+    }
+
+    /// The cut: how many instructions of each core are done. It is closed, and the place's state is the one that
+    /// every replay order has that comes there.
+    pub fn cut(&self) -> Cut
+        ensures cut { result ≡ cut_at self.now }
+        ensures stands { Stands self.now }
+    {
+        self.replay.cut()
+    }
+
+    /// How many cores there are.
+    pub fn cores(&self) -> u8
+        ensures { result ≡ self.now.recording.params.cores }
+    {
+        self.audited.recording().params.cores
+    }
+
+    /// A core, as it stands in the place's state.
+    pub fn core(&self, core: u8) -> &Core
+        requires { core < self.now.recording.params.cores }
+        ensures { result.now ≡ core_at self.now.state core }
+    {
+        self.replay.core(core)
+    }
+
+    /// A word of memory in the place's state, by its index.
+    pub fn word(&self, word: u32) -> u32
+        requires { word < self.now.recording.params.words }
+        ensures { result ≡ slice_index self.now.state.words word }
+    {
+        self.replay.word(word)
+    }
+
+    /// The access that the core's next instruction makes, and the index of its word. None for a local instruction,
+    /// and where the core's program is done.
+    pub fn next_use(&self, core: u8) -> Option<(Kind, u32)>
+        requires { core < self.now.recording.params.cores }
+        ensures used { result ≡ use_of (need_at (plan_at self.now) self.now.state core) }
+        ensures within { UsesWithin result self.now.recording.params.words }
+    {
+        self.replay.next_use(core)
+    }
+
+    /// Goes to a closed cut, wherever it lies, by a replay from the beginning. A refusal, which comes for want of
+    /// memory alone, leaves the place as it was.
+    pub fn seek(&mut self, alloc: Global, to: &Cut) -> Result<(), AllocError>
+        requires { IsClosed self.old.which self.old.recording to.now }
+        ensures recording { self.new.recording ≡ self.old.recording }
+        ensures which { self.new.which ≡ self.old.which }
+        ensures ok { OnOk result (cut_at self.new ≡ to.now) }
+        ensures err { OnErr result (self.new ≡ self.old) }
+    {
+        let nothing = Cut {
+            cores: self.audited.recording().params.cores,
+            counts: [0; PLACES],
+        };
+        let mut replay = Replay::new(alloc, self.audited.recording(), self.audited.which())?;
+        go_on(
+            alloc,
+            self.audited,
+            self.timeline.as_slice(),
+            &mut replay,
+            &nothing,
+            to,
+        )?;
+        self.replay = replay;
+        Ok(())
+    }
+
+    /// Goes on to a closed cut that contains the present one, without replaying anything again. It is refused for
+    /// want of memory alone, and then the place is at a closed cut between the two.
+    pub fn move_on(&mut self, alloc: Global, to: &Cut) -> Result<(), AllocError>
+        requires closed { IsClosed self.old.which self.old.recording to.now }
+        requires within { IsContained (cut_at self.old) to.now }
+        ensures recording { self.new.recording ≡ self.old.recording }
+        ensures which { self.new.which ≡ self.old.which }
+        ensures ok { OnOk result (cut_at self.new ≡ to.now) }
+    {
+        let low = self.replay.cut();
+        go_on(
+            alloc,
+            self.audited,
+            self.timeline.as_slice(),
+            &mut self.replay,
+            &low,
+            to,
+        )
+    }
+
+    /// Whether a core has a next instruction.
+    pub fn has_next(&self, core: u8) -> bool
+        requires { core < self.now.recording.params.cores }
+        ensures { IsTrue result ↔ IsInstrOf self.now.recording (next_in (cut_at self.now) core) }
+    {
+        self.replay.count(core) < self.replay.total(core)
+    }
+
+    /// Whether a core has done an instruction.
+    pub fn has_last(&self, core: u8) -> bool
+        requires { core < self.now.recording.params.cores }
+        ensures { IsTrue result ↔ IsInstrOf self.now.recording (last_in (cut_at self.now) core) }
+    {
+        self.replay.count(core) > 0
+    }
+
+    /// Goes on to a closed cut that contains the present one, place by place along the timeline, until the test stops
+    /// it before a core takes its next instruction. It answers which core that is, or that it came to the cut. It is
+    /// refused for want of memory alone, and then the place is at a closed cut between the two.
+    pub fn go_to<S: Stops>(
+        &mut self,
+        alloc: Global,
+        stops: &S,
+        to: &Cut,
+    ) -> Result<Option<u8>, AllocError>
+        requires closed { IsClosed self.old.which self.old.recording to.now }
+        requires within { IsContained (cut_at self.old) to.now }
+        ensures recording { self.new.recording ≡ self.old.recording }
+        ensures which { self.new.which ≡ self.old.which }
+        ensures ok { IfOk result (GoesOn (S.stops stops.now) self.old to.now self.new) }
+    {
+        let low = self.replay.cut();
+        go_until(
+            alloc,
+            self.audited,
+            self.timeline.as_slice(),
+            stops,
+            &mut self.replay,
+            &low,
+            to,
+        )
+    }
+
+    /// Goes back along the timeline until the test stops it: to the last cut of the way here at which it stops before
+    /// a core takes its next instruction. It answers which core that is, or that it came to the beginning. A refusal,
+    /// which comes for want of memory alone, leaves the place as it was.
+    pub fn back<S: Stops>(&mut self, alloc: Global, stops: &S) -> Result<Option<u8>, AllocError>
+        ensures recording { self.new.recording ≡ self.old.recording }
+        ensures which { self.new.which ≡ self.old.which }
+        ensures ok { IfOk result (GoesBack (S.stops stops.now) self.old self.new) }
+        ensures err { OnErr result (self.new ≡ self.old) }
+    {
+        let here = self.replay.cut();
+        match last_stop(alloc, self.audited, self.timeline.as_slice(), stops, &here)? {
+            Some(seen) => {
+                self.seek(alloc, &seen.cut)?;
+                let _ = self.cut();
+                Ok(Some(seen.core))
+            }
+            None => {
+                let nothing = Cut {
+                    cores: here.cores,
+                    counts: [0; PLACES],
+                };
+                self.seek(alloc, &nothing)?;
+                Ok(None)
+            }
+        }
+    }
+
+    /// Steps a core: to the least closed cut that contains the present one and holds the core's next instruction. It is
+    /// refused for want of memory alone, and then the place is at a closed cut between the two.
+    pub fn step(&mut self, alloc: Global, core: u8) -> Result<(), AllocError>
+        requires { IsInstrOf self.old.recording (next_in (cut_at self.old) core) }
+        ensures recording { self.new.recording ≡ self.old.recording }
+        ensures which { self.new.which ≡ self.old.which }
+        ensures ok { OnOk result (IsStep self.old.which self.old.recording (cut_at self.old)
+            (next_in (cut_at self.old) core) (cut_at self.new)) }
+    {
+        let to = step(self.audited, &self.cut(), core)?;
+        self.move_on(alloc, &to)
+    }
+
+    /// Steps a core back: to the greatest closed cut within the present one that lacks the core's last instruction. A
+    /// refusal, which comes for want of memory alone, leaves the place as it was.
+    pub fn step_back(&mut self, alloc: Global, core: u8) -> Result<(), AllocError>
+        requires { IsInstrOf self.old.recording (last_in (cut_at self.old) core) }
+        ensures recording { self.new.recording ≡ self.old.recording }
+        ensures which { self.new.which ≡ self.old.which }
+        ensures ok { OnOk result (IsStepBack self.old.which self.old.recording (cut_at self.old)
+            (last_in (cut_at self.old) core) (cut_at self.new)) }
+        ensures err { OnErr result (self.new ≡ self.old) }
+    {
+        let to = step_back(self.audited, &self.cut(), core)?;
+        self.seek(alloc, &to)
+    }
+}

@@ -1,0 +1,115 @@
+//! A replay that goes on along a way.
+ghost use Rattle.std.specs.Prelude.{◌≡◌, IfOk, OnErr, OnOk};
+ghost use Rattle.replay_core.specs.Answers.{cut_of};
+ghost use Rattle.replay_core.specs.Orders.{counts_in};
+ghost use Rattle.replay_core.specs.Plans.{plan_of};
+ghost use Rattle.cut_replay.specs.ClosedCuts.{IsClosed, IsContained, count_in};
+ghost use Rattle.cut_moves.specs.Rounds.{rounds_of};
+ghost use Rattle.cut_moves.specs.Ways.{way_of};
+ghost use Rattle.debug_place.specs.Places.{IsReplayAt};
+ghost use Rattle.debug_place.specs.Walks.{EndsWalk, IsWalking};
+
+use crate::stops::Stops;
+use cut_moves::way;
+use replay_audit::Audited;
+use replay_core::{Advanced, Replay};
+use rtr_types::Cut;
+use std::alloc::{AllocError, Global};
+
+/// The replay goes on from one closed cut to another that contains it, along the timeline. After want of memory it
+/// stands at a closed cut between the two.
+pub(crate) fn go_on(
+    alloc: Global,
+    audited: &Audited,
+    timeline: &[u8],
+    replay: &mut Replay,
+    low: &Cut,
+    high: &Cut,
+) -> Result<(), AllocError>
+    requires timeline { timeline.now ≡ rounds_of audited.now.which audited.now.recording }
+    requires at { IsReplayAt audited.now.which audited.now.recording low.now replay.old }
+    requires within { IsContained low.now high.now }
+    requires closed { IsClosed audited.now.which audited.now.recording high.now }
+    ensures ok { OnOk result (IsReplayAt audited.now.which audited.now.recording high.now replay.new) }
+    ensures err { OnErr result (IsReplayAt audited.now.which audited.now.recording
+        (cut_of (plan_of audited.now.which audited.now.recording) (counts_in replay.new.state)) replay.new) }
+{
+    // The audit passed, so each order plays.
+    let _ = audited.outcome();
+    let _ = audited.recording();
+    let places = way(alloc, audited, timeline, low, high)?;
+    walk(audited, replay, high, places.as_slice())
+}
+
+/// The replay takes the places of a way one after the other.
+fn walk(audited: &Audited, replay: &mut Replay, to: &Cut, places: &[u8]) -> Result<(), AllocError>
+    requires { IsWalking audited.now.which audited.now.recording to.now replay.old places.now }
+    ensures ok { OnOk result (IsReplayAt audited.now.which audited.now.recording to.now replay.new) }
+    ensures err { OnErr result (IsReplayAt audited.now.which audited.now.recording
+        (cut_of (plan_of audited.now.which audited.now.recording) (counts_in replay.new.state)) replay.new) }
+{
+    // The audit passed, so each order plays.
+    let _ = audited.outcome();
+    for core in places {
+        replay.make_room()?;
+        let Advanced::Retired { .. } = replay.advance(*core) else {
+            unreachable!()
+        };
+    }
+    Ok(())
+}
+
+/// The replay goes on as far as to another closed cut, along the timeline, and answers before which core's place it
+/// stopped. After want of memory it stands at a closed cut between the two.
+pub(crate) fn go_until<S: Stops>(
+    alloc: Global,
+    audited: &Audited,
+    timeline: &[u8],
+    stops: &S,
+    replay: &mut Replay,
+    low: &Cut,
+    high: &Cut,
+) -> Result<Option<u8>, AllocError>
+    requires timeline { timeline.now ≡ rounds_of audited.now.which audited.now.recording }
+    requires at { IsReplayAt audited.now.which audited.now.recording low.now replay.old }
+    requires within { IsContained low.now high.now }
+    requires closed { IsClosed audited.now.which audited.now.recording high.now }
+    ensures ok { IfOk result (λ stopped. EndsWalk (S.stops stops.now) audited.now.which audited.now.recording high.now
+        replay.old (way_of (count_in low.now) (count_in high.now) timeline.now) replay.new stopped) }
+    ensures err { OnErr result (IsReplayAt audited.now.which audited.now.recording
+        (cut_of (plan_of audited.now.which audited.now.recording) (counts_in replay.new.state)) replay.new) }
+{
+    // The audit passed, so each order plays.
+    let _ = audited.outcome();
+    let _ = audited.recording();
+    let places = way(alloc, audited, timeline, low, high)?;
+    walk_until(audited, stops, replay, high, places.as_slice())
+}
+
+/// The replay takes the places of a way until it stops before one, and answers which core's place that is.
+fn walk_until<S: Stops>(
+    audited: &Audited,
+    stops: &S,
+    replay: &mut Replay,
+    to: &Cut,
+    places: &[u8],
+) -> Result<Option<u8>, AllocError>
+    requires { IsWalking audited.now.which audited.now.recording to.now replay.old places.now }
+    ensures ok { IfOk result (λ stopped. EndsWalk (S.stops stops.now) audited.now.which audited.now.recording to.now
+        replay.old places.now replay.new stopped) }
+    ensures err { OnErr result (IsReplayAt audited.now.which audited.now.recording
+        (cut_of (plan_of audited.now.which audited.now.recording) (counts_in replay.new.state)) replay.new) }
+{
+    // The audit passed, so each order plays.
+    let _ = audited.outcome();
+    for core in places {
+        if stops.stops(replay, *core) {
+            return Ok(Some(*core));
+        }
+        replay.make_room()?;
+        let Advanced::Retired { .. } = replay.advance(*core) else {
+            unreachable!()
+        };
+    }
+    Ok(None)
+}

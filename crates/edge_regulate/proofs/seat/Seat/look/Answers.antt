@@ -1,0 +1,31 @@
+use Rattle.std.proofs.Common.{arith}
+use Rattle.edge_regulate.proofs.Looking.{looking_next}
+use Rattle.edge_regulate.proofs.seat.Seat.look.Goals as goal
+use Rattle.edge_regulate.proofs.seat.Seat.look.Goals.{then-target-next, else-target-next}
+
+pub loop-source-preserved : goal.loop-source-preserved
+loop-source-preserved c =
+    let at = c.look_at-target.ensures.at in
+    let target = c.look_at-target.ensures.target in
+    elim c.if-target-next.branch [
+      | then-target-next w ↦
+          let less = w.if-target-next.true in
+          rw (w.next-is)
+          (looking_next c.args.self.now c.loop-source.self c.look_at-target.new.self c.args.count c.args.known.now
+          c.loop-source.next c.look_at-target.result c.loop-source.source c.loop-source.invariant
+          (let known = c.count.ensures in rw known at at) c.look_at-target.ensures.others (omega arith) (omega arith)
+          (λ bound before here. omega arith))
+      | else-target-next w ↦
+          let more = w.if-target-next.false in
+          rw (w.next-is)
+          (looking_next c.args.self.now c.loop-source.self c.look_at-target.new.self c.args.count c.args.known.now
+          c.loop-source.next c.loop-source.next c.loop-source.source c.loop-source.invariant
+          (let known = c.count.ensures in rw known at at) c.look_at-target.ensures.others (omega arith) (omega arith)
+          (λ bound before here. before))
+    ]
+
+pub returns-clause-least : goal.returns-clause-least
+returns-clause-least c = record {
+  lower = λ source lt. c.loop-source.invariant.lower source (omega arith);
+  greatest = λ bound le each. c.loop-source.invariant.greatest bound le (λ source lt. each source (omega arith));
+}

@@ -1,0 +1,80 @@
+//! From the words of a command line and three streams to an exit status.
+ghost use Rattle.std.specs.Prelude.{IfErr, IfOk, map, string_bytes};
+ghost use Rattle.std.specs.Io.KnownBytes.{Keeps};
+ghost use Rattle.std.specs.Process.{exit_status};
+ghost use Rattle.gdb_cli.specs.Answers.{EndsBy, IsAnswerOf};
+ghost use Rattle.gdb_cli.specs.Words.{moment_in};
+ghost use Rattle.state_text.specs.declared.exit.Exit.{Exit};
+
+use crate::tool::write_core;
+use rtr_cli::tell;
+use rtr_io::{Sink, Source, StdSink, StdSource};
+use state_text::Exit;
+use std::alloc::Global;
+use std::io::{Stderr, Stdin, Stdout};
+use std::process::ExitCode;
+use std::rt::Env;
+use std::{env, io};
+
+/// Runs the program on the standard streams and the words of the command line, and answers the status that the process
+/// ends with. The three streams have types of their own, so that none can stand for another.
+pub fn run_program<R: AllocGlobal + Env>(
+    rt: &R,
+    input: Stdin,
+    output: Stdout,
+    report: Stderr,
+) -> ExitCode {
+    conclude(
+        rt.alloc(),
+        words(rt),
+        &mut StdSource::new(input),
+        &mut StdSink::new(output),
+        &mut StdSink::new(report),
+    )
+}
+
+/// Does what the words ask for, and answers the status that the process ends with: that of the exit, whose text goes to
+/// the report alone. `words` leaves out the program's name; where they couldn't be had they are the exit for that, and
+/// neither input nor output is touched.
+pub fn conclude<I: Source, O: Sink, E: Sink>(
+    alloc: Global,
+    words: Result<Vec<String>, Exit>,
+    input: &mut I,
+    output: &mut O,
+    report: &mut E,
+) -> ExitCode
+    ensures answered { IfOk words (λ list. (exit : Exit)
+        × EndsBy exit (exit_status result) (E.got report.old) (E.got report.new) (E.faults report.old)
+        (E.faults report.new)
+        × IsAnswerOf (moment_in (map string_bytes list.items)) exit (I.left input.old) (I.left input.new)
+        (O.got output.old) (O.got output.new) (I.faults input.old) (I.faults input.new) (O.faults output.old)
+        (O.faults output.new)) }
+
+    // The words couldn't be had.
+    ensures wordless { IfErr words (λ exit. EndsBy exit (exit_status result) (E.got report.old) (E.got report.new)
+        (E.faults report.old) (E.faults report.new)) }
+    ensures untouched { IfErr words (λ _. Keeps (I.left input.old) (I.left input.new)
+        × Keeps (O.got output.old) (O.got output.new)) }
+{
+    let exit = match words {
+        Ok(words) => write_core(alloc, words.as_slice(), input, output, report),
+        Err(exit) => {
+            tell(report, &exit);
+            exit
+        }
+    };
+    ExitCode::from(exit.status())
+}
+
+/// The words after the program's name. One that isn't UTF-8 makes the command line a faulty one.
+fn words<R: Env + AllocGlobal>(rt: &R) -> Result<Vec<String>, Exit> {
+    let args = match env::args(rt) {
+        Ok(args) => args,
+        Err(error) if error.kind() == io::ErrorKind::OutOfMemory => return Err(Exit::OutOfMemory),
+        Err(_) => return Err(Exit::Usage),
+    };
+    match args.skip(1).collect(rt.alloc()) {
+        Ok(words) => Ok(words),
+        Err(_) => Err(Exit::OutOfMemory),
+    }
+}

@@ -1,0 +1,52 @@
+-- How the cores' programs end, by the audit's outcome and the image at hand.
+use Rattle.std.proofs.Common.{◌≡◌, ℕ, List, ap, ◌∙◌}
+use Rattle.image_mem.specs.Contents.{Contents}
+use Rattle.rtr_types.specs.declared.core_set.CoreSet.{CoreSet}
+use Rattle.rtr_types.specs.declared.pairs.Which.{Which}
+use Rattle.log_codec.specs.declared.recording.Recording.{Recording}
+use Rattle.log_codec.specs.Validity.{Valid}
+use Rattle.rv_core.specs.declared.core_state.Stop.{Stop}
+use Rattle.rv_core.specs.declared.outcome.Outcome.{Outcome}
+use Rattle.replay_core.specs.Plans.{recorded_image}
+use Rattle.replay_audit.specs.Audits.{Findings, PassesOf}
+use Rattle.replay_audit.specs.Determinate.{low_outcome}
+use Rattle.cut_replay.specs.ClosedCuts.{IsClosed}
+use Rattle.cut_moves.proofs.Hulls.{whole_closed}
+use Rattle.cut_moves.specs.Steps.{IsWholeCut}
+use Rattle.debug_place.specs.Places.{Placed}
+use Rattle.rtr_types.specs.declared.cut.Cut.{Cut}
+use Rattle.std.proofs.Common.{subst}
+use Rattle.gdb_session.specs.declared.points.Point.{Point}
+use Rattle.gdb_session.specs.Ends.{end_in, end_of}
+use Rattle.gdb_session.specs.Seats.{IsOf, Sees}
+use Rattle.gdb_session.specs.Stopping.{Stopping}
+
+pub same_ends : (a : Findings) (image : Contents) (place : Placed) (outcome : Outcome) → Sees a image place →
+    PassesOf a → outcome ≡ a.outcome → ◌≡◌ {A = ℕ → Stop} (end_in image outcome) (end_of place)
+same_ends a image place outcome sees passed is =
+    let outcome_is : outcome ≡ low_outcome place.which place.recording =
+    is ∙ passed.outcome_is ∙ ap (λ (w : Which). low_outcome w a.recording) sees.run.which
+    ∙ ap (λ (r : Recording). low_outcome place.which r) sees.run.recording in
+    ap (λ (i : Contents). end_in i outcome) sees.image_is
+    ∙ ap (λ (o : Outcome). end_in (recorded_image place.recording) o) outcome_is
+
+abbrev pub stopped_by : List Point → CoreSet → CoreSet → (ℕ → Stop) → Stopping
+stopped_by points paused heard ends = record { points = points; paused = paused; heard = heard; ends = ends }
+
+pub same_stopping : (points : List Point) (paused other heard more : CoreSet) (ends later : ℕ → Stop) →
+    paused ≡ other → heard ≡ more → ends ≡ later →
+    stopped_by points paused heard ends ≡ stopped_by points other more later
+same_stopping points paused other heard more ends later p h e =
+    ap (λ (s : CoreSet). stopped_by points s heard ends) p ∙ ap (λ (s : CoreSet). stopped_by points other s ends) h
+    ∙ ap (λ (f : ℕ → Stop). stopped_by points other more f) e
+
+-- the whole cut, said of the place's recording
+pub whole_at : (a : Findings) (place : Placed) (to : Cut) → IsOf a place → IsWholeCut a.recording to →
+    IsWholeCut place.recording to
+whole_at a place to run all = subst (λ (r : Recording). IsWholeCut r to) run.recording all
+
+pub closed_at : (a : Findings) (place : Placed) (to : Cut) → IsOf a place → Valid a.recording →
+    IsWholeCut a.recording to → IsClosed place.which place.recording to
+closed_at a place to run valid all =
+    subst (λ (w : Which). IsClosed w place.recording to) run.which
+    (subst (λ (r : Recording). IsClosed a.which r to) run.recording (whole_closed a.which a.recording to valid all))

@@ -1,0 +1,92 @@
+-- What a packet is answered, and where the session stands behind it.
+use Rattle.std.specs.Prelude.{◌≡◌, List, [], ◌∷◌, Option, Some, None, ℕ}
+use Rattle.gdb_packets.specs.Replies.{spelled}
+use Rattle.gdb_packets.specs.declared.asks.Ask as asks
+use Rattle.gdb_packets.specs.declared.asks.Ask.TheVariants as whole_asks
+use Rattle.gdb_packets.specs.declared.asks.Plain.{Plain}
+use Rattle.gdb_packets.specs.declared.asks.Plain.TheVariants as plain
+use Rattle.gdb_packets.specs.declared.replies.Reply.TheVariants as reply
+use Rattle.gdb_packets.specs.declared.replies.Stop as stops
+use Rattle.gdb_session.specs.declared.answer.Answer as answers
+use Rattle.gdb_session.specs.declared.answer.Next.{Next}
+use Rattle.gdb_session.specs.declared.answer.Next.TheVariants.{Listen, StopAcks, End}
+use Rattle.gdb_session.specs.declared.orders.Order.{Order}
+use Rattle.gdb_session.specs.declared.points.Point.{Point}
+use Rattle.gdb_session.specs.Moves.{Obeys}
+use Rattle.gdb_session.specs.Orders.{go_back_order, resume_order, step_back_order}
+use Rattle.gdb_session.specs.Points.{point_of, takes, with_point, without_point}
+use Rattle.gdb_session.specs.Seats.{Seat}
+use Rattle.gdb_session.specs.Told.{still_reply, there_reply}
+use Rattle.gdb_session.specs.Wishes.{told_wishes, wishes_after}
+
+-- ---- packets that move nothing
+
+-- the points behind a packet
+abbrev pub points_after : List Point → Plain → List Point
+points_after points (plain.SetPoint kind span) = with_point (point_of kind span) points
+points_after points (plain.ClearPoint kind span) = without_point (point_of kind span) points
+points_after points _ = points
+
+-- the payloads that it is answered: none where the debugger leaves and wants none
+abbrev pub payloads_of : Seat → Plain → List (List ℕ)
+payloads_of seat plain.Quit = []
+payloads_of seat (plain.SetPoint kind span) = spelled (there_reply (takes (point_of kind span) seat.points)) ∷ []
+payloads_of seat (plain.ClearPoint kind span) = spelled reply.Done ∷ []
+payloads_of seat other = spelled (still_reply seat.place seat.wishes other) ∷ []
+
+-- the place stays, the rest is what the packet makes of it, and this is answered
+pub record Tells (old : Seat) (packet : Plain) (new : Seat) (payloads : List (List ℕ)) : Type 0 where
+  pub place : new.place ≡ old.place
+  pub wishes : new.wishes ≡ wishes_after old.wishes packet old.place.recording.params.cores
+  pub points : new.points ≡ points_after old.points packet
+  pub payloads_are : payloads ≡ payloads_of old packet
+
+-- nothing changes, and it is refused
+pub record Refuses (old new : Seat) (payloads : List (List ℕ)) : Type 0 where
+  pub seat : new ≡ old
+  pub payloads_are : payloads ≡ spelled reply.Refused ∷ []
+
+-- ---- packets that move
+
+-- an order is obeyed, and the stop told
+pub record Moves (old : Seat) (order : Order) (new : Seat) (payloads : List (List ℕ)) : Type 0 where
+  pub stop : stops.Stop
+  pub obeys : Obeys old.points order old.place new.place stop
+  pub wishes : new.wishes ≡ told_wishes old.wishes stop.core
+  pub points : new.points ≡ old.points
+  pub payloads_are : payloads ≡ spelled (reply.Stopped stop) ∷ []
+
+-- without one it is refused
+abbrev pub MovesBy : Option Order → (old new : Seat) → List (List ℕ) → Type 0
+MovesBy None old new payloads = Refuses old new payloads
+MovesBy (Some order) old new payloads = Moves old order new payloads
+
+-- ---- all packets
+
+abbrev pub AnswersPlain : Plain → (old new : Seat) → List (List ℕ) → Type 0
+AnswersPlain plain.StepBack old new payloads = MovesBy (step_back_order old.wishes) old new payloads
+AnswersPlain plain.GoBack old new payloads = MovesBy (go_back_order old.wishes) old new payloads
+AnswersPlain other old new payloads = Tells old other new payloads
+
+abbrev pub AnswersWith : asks.Ask → (old new : Seat) → List (List ℕ) → Type 0
+AnswersWith (whole_asks.Resume actions) old new payloads =
+    MovesBy (resume_order old.wishes old.place.recording.params.cores actions) old new payloads
+AnswersWith (whole_asks.Command text) old new payloads = Refuses old new payloads
+AnswersWith (whole_asks.Plain packet) old new payloads = AnswersPlain packet old new payloads
+
+-- what is to be done behind the answer
+abbrev pub next_after_plain : Plain → Next
+next_after_plain plain.Detach = End
+next_after_plain plain.Kill = End
+next_after_plain plain.Quit = End
+next_after_plain plain.StopAcks = StopAcks
+next_after_plain _ = Listen
+
+abbrev pub next_after : asks.Ask → Next
+next_after (whole_asks.Resume actions) = Listen
+next_after (whole_asks.Command text) = Listen
+next_after (whole_asks.Plain packet) = next_after_plain packet
+
+-- the answer to what a packet asks
+abbrev pub Answers : (old : Seat) → asks.Ask → (new : Seat) → answers.Answer → Type 0
+Answers old ask new answer = AnswersWith ask old new answer.payloads

@@ -1,0 +1,15 @@
+pub mod Points
+pub mod Wishes
+pub mod Registers
+pub mod Memory
+pub mod Ends
+pub mod Waits
+pub mod Threads
+pub mod Parts
+pub mod Target
+pub mod Stopping
+pub mod Orders
+pub mod Moves
+pub mod Seats
+pub mod Told
+pub mod Answers

@@ -1,0 +1,170 @@
+-- Moves of a place, and the stops that end them. Each comes to a closed cut: a place is at none other.
+use Rattle.std.specs.Prelude.{◌≡◌, ℕ, true, false, List, Option, Some, None, MatchOption, unwrap_or}
+use Rattle.std.specs.Prelude.{if◌then◌else◌}
+use Rattle.rtr_types.specs.CoreSets.{has, no_cores, without_core}
+use Rattle.rtr_types.specs.declared.core_set.CoreSet.{CoreSet}
+use Rattle.rtr_types.specs.declared.cut.Cut.{Cut}
+use Rattle.gdb_packets.specs.declared.replies.Signal.TheVariants.{Interrupt, Trap}
+use Rattle.gdb_packets.specs.declared.replies.Stop as stops
+use Rattle.gdb_packets.specs.declared.replies.Why.{Why}
+use Rattle.gdb_packets.specs.declared.replies.Why.TheVariants.{Nothing, Breakpoint, End, Begin}
+use Rattle.replay_audit.specs.Audits.{IsInstrOf}
+use Rattle.replay_core.specs.Play.{Use, core_at, need_at, use_of}
+use Rattle.cut_replay.specs.ClosedCuts.{IsClosed}
+use Rattle.cut_moves.specs.Steps.{IsStep, IsStepBack, IsWholeCut, last_in, next_in}
+use Rattle.debug_place.specs.Backs.{GoesBack}
+use Rattle.debug_place.specs.Places.{Placed, cut_at, plan_at}
+use Rattle.debug_place.specs.Stops.{GoesOn}
+use Rattle.gdb_session.specs.declared.orders.Order.{Order}
+use Rattle.gdb_session.specs.declared.orders.Order.TheVariants.{Rest, Step, Go, StepBack, GoBack}
+use Rattle.gdb_session.specs.declared.points.Point.{Point}
+use Rattle.gdb_session.specs.Ends.{end_of, signal_of}
+use Rattle.gdb_session.specs.Orders.{every_core}
+use Rattle.gdb_session.specs.Points.{breaks_at, touched, why_of}
+use Rattle.gdb_session.specs.Stopping.{Stopping, breaks, stops_at, watched}
+
+-- ---- stops
+
+-- by a trap
+abbrev pub plain_stop : (core : ℕ) → Why → stops.Stop
+plain_stop core why = record { signal = Trap; core = core; why = why }
+
+abbrev pub interrupt_stop : (core : ℕ) → stops.Stop
+interrupt_stop core = record { signal = Interrupt; core = core; why = Nothing }
+
+-- behind the last instruction of a core
+abbrev pub fault_stop : Stopping → (core : ℕ) → stops.Stop
+fault_stop stopping core =
+    record { signal = unwrap_or (signal_of (stopping.ends core)) Trap; core = core; why = Nothing }
+
+-- who is told of a core's access: the core, or the one that leads where the core isn't heard
+abbrev pub teller : CoreSet → (lead core : ℕ) → ℕ
+teller heard lead core = if has heard core then core else lead
+
+-- ---- what is the same, and what is left as it was
+
+-- the two are places of one recording, by one log
+pub record IsKept (old new : Placed) : Type 0 where
+  pub recording : new.recording ≡ old.recording
+  pub which : new.which ≡ old.which
+
+-- nothing moves, and this is told
+pub record Stays (old new : Placed) (stop told : stops.Stop) : Type 0 where
+  pub place : new ≡ old
+  pub stop_is : stop ≡ told
+
+-- a core takes its next instruction, and this is told
+pub record Takes (old new : Placed) (core : ℕ) (stop told : stops.Stop) : Type 0 where
+  pub step : IsStep old.which old.recording (cut_at old) (next_in (cut_at old) core) (cut_at new)
+  pub stop_is : stop ≡ told
+
+-- ---- forwards
+
+-- stopped before a core's next instruction: by a breakpoint, or else by a watched range that its access touches; or
+-- else the core takes it, and its program ends by a fault
+pub record Halts (stopping : Stopping) (lead core : ℕ) (old new : Placed) (stop : stops.Stop) : Type 0 where
+  pub on_break : breaks stopping old.state core ≡ true → Stays old new stop (plain_stop core Breakpoint)
+  pub on_watch : breaks stopping old.state core ≡ false → (point : Point) →
+      watched stopping (plan_at old) old.state core ≡ Some point →
+      Stays old new stop (plain_stop (teller stopping.heard lead core) (why_of point))
+  pub on_fault : breaks stopping old.state core ≡ false → watched stopping (plan_at old) old.state core ≡ None →
+      Takes old new core stop (fault_stop stopping core)
+
+-- the way to a cut is gone until something stops it, or to the cut, where this is told
+pub record Walks (stopping : Stopping) (lead : ℕ) (old : Placed) (to : Cut) (new : Placed) (stop told : stops.Stop)
+    : Type 0 where
+  pub mid : Placed
+  pub kept : IsKept old mid
+  pub before : Option ℕ
+  pub goes : GoesOn (stops_at stopping) old to mid before
+  pub ends : MatchOption before (Stays mid new stop told) (λ core. Halts stopping lead core mid new stop)
+
+-- a core steps: the way is gone to the least closed cut that contains the place's and has the core's next instruction
+pub record StepsOn (stopping : Stopping) (core : ℕ) (old new : Placed) (stop : stops.Stop) : Type 0 where
+  pub to : Cut
+  pub step : IsStep old.which old.recording (cut_at old) (next_in (cut_at old) core) to
+  pub walks : Walks stopping core old to new stop (plain_stop core Nothing)
+
+-- unless it has none: then the end is told
+pub record Steps (stopping : Stopping) (core : ℕ) (old new : Placed) (stop : stops.Stop) : Type 0 where
+  pub goes : IsInstrOf old.recording (next_in (cut_at old) core) → StepsOn stopping core old new stop
+  pub ends : (IsInstrOf old.recording (next_in (cut_at old) core) → ⊥) → Stays old new stop (plain_stop core End)
+
+-- all cores go on: the way is gone to the cut with all instructions, where the end is told
+pub record Goes (stopping : Stopping) (lead : ℕ) (old new : Placed) (stop : stops.Stop) : Type 0 where
+  pub to : Cut
+  pub closed : IsClosed old.which old.recording to
+  pub all : IsWholeCut old.recording to
+  pub walks : Walks stopping lead old to new stop (plain_stop lead End)
+
+-- ---- backwards
+
+-- stopped at a core's instruction: behind it, where its access touches a watched range, or else before it
+pub record HaltsBack (stopping : Stopping) (core : ℕ) (old new : Placed) (stop : stops.Stop) : Type 0 where
+  pub on_watch : (point : Point) → watched stopping (plan_at old) old.state core ≡ Some point →
+      Takes old new core stop (plain_stop core (why_of point))
+  pub on_break : watched stopping (plan_at old) old.state core ≡ None →
+      Stays old new stop (plain_stop core Breakpoint)
+
+-- all cores go back: the way here is gone back to the last stop, or to the beginning, which is told
+pub record GoesBackward (stopping : Stopping) (lead : ℕ) (old new : Placed) (stop : stops.Stop) : Type 0 where
+  pub mid : Placed
+  pub kept : IsKept old mid
+  pub before : Option ℕ
+  pub goes : GoesBack (stops_at stopping) old mid before
+  pub ends : MatchOption before (Stays mid new stop (plain_stop lead Begin))
+      (λ core. HaltsBack stopping core mid new stop)
+
+-- why a core that has stepped back stops: at a breakpoint, or since it has stepped
+abbrev pub why_back : List Point → (pc : ℕ) → Why
+why_back points pc = if breaks_at points pc then Breakpoint else Nothing
+
+-- the access that a core's next instruction makes
+abbrev pub next_use : Placed → (core : ℕ) → Use
+next_use place core = use_of (need_at (plan_at place) place.state core)
+
+-- a core's last instruction was given up, with what needs it; but where its access touches a watched range, it's the
+-- same cut again
+pub record HaltsBehind (points : List Point) (core : ℕ) (old mid new : Placed) (stop : stops.Stop) : Type 0 where
+  pub on_watch : (point : Point) → touched points (next_use mid core) ≡ Some point →
+      (cut_at new ≡ cut_at old) × (stop ≡ plain_stop core (why_of point))
+  pub on_step : touched points (next_use mid core) ≡ None →
+      Stays mid new stop (plain_stop core (why_back points (core_at mid.state core).pc))
+
+pub record StepsBackOn (points : List Point) (core : ℕ) (old new : Placed) (stop : stops.Stop) : Type 0 where
+  pub mid : Placed
+  pub kept : IsKept old mid
+  pub step : IsStepBack old.which old.recording (cut_at old) (last_in (cut_at old) core) (cut_at mid)
+  pub halts : HaltsBehind points core old mid new stop
+
+-- a core steps back, unless it has done nothing: then the beginning is told
+pub record StepsBackward (points : List Point) (core : ℕ) (old new : Placed) (stop : stops.Stop) : Type 0 where
+  pub goes : IsInstrOf old.recording (last_in (cut_at old) core) → StepsBackOn points core old new stop
+  pub ends : (IsInstrOf old.recording (last_in (cut_at old) core) → ⊥) → Stays old new stop (plain_stop core Begin)
+
+-- ---- orders
+
+-- a core that steps isn't stopped by a breakpoint at its own instruction
+abbrev pub stepping : Placed → List Point → (core : ℕ) → CoreSet → Stopping
+stepping place points core heard =
+    record { points = points; paused = without_core heard core; heard = heard; ends = end_of place }
+
+abbrev pub going : Placed → List Point → CoreSet → Stopping
+going place points heard = record { points = points; paused = heard; heard = heard; ends = end_of place }
+
+-- backwards no fault is told
+abbrev pub going_back : Placed → List Point → Stopping
+going_back place points = record {
+  points = points;
+  paused = every_core place.recording.params.cores;
+  heard = no_cores;
+  ends = end_of place;
+}
+
+-- what an order comes to
+abbrev pub Obeys : List Point → Order → (old new : Placed) → stops.Stop → Type 0
+Obeys points (Rest core) old new stop = Stays old new stop (interrupt_stop core)
+Obeys points (Step core heard) old new stop = Steps (stepping old points core heard) core old new stop
+Obeys points (Go lead heard) old new stop = Goes (going old points heard) lead old new stop
+Obeys points (StepBack core) old new stop = StepsBackward points core old new stop
+Obeys points (GoBack lead) old new stop = GoesBackward (going_back old points) lead old new stop

@@ -1,0 +1,112 @@
+-- Which move a packet orders.
+use Rattle.std.specs.Prelude.{ℕ, zero, suc, ◌<◌, ◌&&◌, Bool, true, false, is_some, nat_eq, not, List, [], ◌∷◌}
+use Rattle.std.specs.Prelude.{Option, Some, None, unwrap_or, if◌then◌else◌}
+use Rattle.std.specs.List.{list_all}
+use Rattle.std.specs.Option.{option_or}
+use Rattle.rtr_types.specs.CoreSets.{no_cores, with_core}
+use Rattle.rtr_types.specs.declared.core_set.CoreSet.{CoreSet}
+use Rattle.gdb_packets.specs.declared.asks.Action.{Action}
+use Rattle.gdb_packets.specs.declared.asks.Thread.{Thread}
+use Rattle.gdb_packets.specs.declared.asks.Thread.TheVariants.{All, Any, Core}
+use Rattle.gdb_session.specs.declared.orders.Order.{Order}
+use Rattle.gdb_session.specs.declared.orders.Order.TheVariants.{Rest, Step, Go, StepBack, GoBack}
+use Rattle.gdb_session.specs.declared.wishes.Wishes.{Wishes}
+use Rattle.gdb_session.specs.Wishes.{core_of, is_there}
+
+-- ---- cores that pass a test
+
+-- the set of those among the first cores
+unfoldable pub cores_where : (ℕ → Bool) → (cores : ℕ) → CoreSet
+cores_where test zero = no_cores
+cores_where test (suc cores) =
+    if test cores then with_core (cores_where test cores) cores else cores_where test cores
+
+-- the lowest so far, or else this one where it passes
+abbrev pub lower_of : Option ℕ → Bool → (core : ℕ) → Option ℕ
+lower_of None passes core = if passes then Some core else None
+lower_of (Some other) passes core = Some other
+
+-- the lowest of them
+unfoldable pub lowest_where : (ℕ → Bool) → (cores : ℕ) → Option ℕ
+lowest_where test zero = None
+lowest_where test (suc cores) = lower_of (lowest_where test cores) (test cores) cores
+
+-- they are all
+unfoldable pub all_where : (ℕ → Bool) → (cores : ℕ) → Bool
+all_where test zero = true
+all_where test (suc cores) = all_where test cores && test cores
+
+-- ---- what actions ask of a core
+
+-- the name means the core
+abbrev pub names : Thread → (core : ℕ) → Bool
+names All core = true
+names Any core = true
+names (Core other) core = nat_eq other core
+
+-- whether it is to step, by the first action that names it
+unfoldable pub asked_of : List Action → (core : ℕ) → Option Bool
+asked_of [] core = None
+asked_of (action ∷ actions) core = if names action.who core then Some action.step else asked_of actions core
+
+abbrev pub steps : List Action → (core : ℕ) → Bool
+steps actions core = unwrap_or (asked_of actions core) false
+
+abbrev pub acts : List Action → (core : ℕ) → Bool
+acts actions core = is_some (asked_of actions core)
+
+-- each thread that is named is there
+abbrev pub are_there : List Action → (cores : ℕ) → Bool
+are_there actions cores = list_all (λ action. is_there action.who cores) actions
+
+-- the first core that is named
+unfoldable pub named : List Action → (cores : ℕ) → Option ℕ
+named [] cores = None
+named (action ∷ actions) cores = option_or (core_of action.who cores) (named actions cores)
+
+abbrev pub heard_of : List Action → (cores : ℕ) → CoreSet
+heard_of actions cores = cores_where (acts actions) cores
+
+abbrev pub every_core : (cores : ℕ) → CoreSet
+every_core cores = cores_where (λ core. true) cores
+
+abbrev pub all_go : List Action → (cores : ℕ) → Bool
+all_go actions cores = all_where (acts actions) cores
+
+-- ---- the orders
+
+-- a step of the lowest core that is to step; where none is, and each is to move, all go on
+abbrev pub go_order : Wishes → (cores : ℕ) → List Action → Option ℕ → Option Order
+go_order wishes cores actions None =
+    if all_go actions cores then Some (Go wishes.looked (heard_of actions cores)) else None
+go_order wishes cores actions (Some core) = Some (Step core (heard_of actions cores))
+
+-- the move that actions order: none where they name a thread that isn't there, and where no core steps and only some
+-- go on. After an interrupt nothing moves, and the first core that is named is told
+abbrev pub resume_order : Wishes → (cores : ℕ) → List Action → Option Order
+resume_order wishes cores actions =
+    if not (are_there actions cores) then None else
+    if wishes.interrupted then Some (Rest (unwrap_or (named actions cores) wishes.looked)) else
+    go_order wishes cores actions (lowest_where (steps actions) cores)
+
+-- the core that goes back, or that is looked at where all do
+abbrev pub mover : Wishes → ℕ
+mover wishes = unwrap_or wishes.moving wishes.looked
+
+abbrev pub step_back_order : Wishes → Option Order
+step_back_order wishes =
+    if wishes.interrupted then Some (Rest (mover wishes)) else Some (StepBack (mover wishes))
+
+-- where one core alone is to go back, none
+abbrev pub go_back_order : Wishes → Option Order
+go_back_order wishes =
+    if wishes.interrupted then Some (Rest (mover wishes)) else
+    if is_some wishes.moving then None else Some (GoBack wishes.looked)
+
+-- the core that an order names is there
+abbrev pub IsWithin : Order → (cores : ℕ) → Type 0
+IsWithin (Rest core) cores = core < cores
+IsWithin (Step core heard) cores = core < cores
+IsWithin (Go core heard) cores = core < cores
+IsWithin (StepBack core) cores = core < cores
+IsWithin (GoBack core) cores = core < cores

@@ -1,0 +1,69 @@
+//! What stops a move.
+ghost use Rattle.std.specs.Prelude.{◌≡◌, ◌<◌, ◌+◌, ◌&&◌, is_some, nat_eq};
+ghost use Rattle.rtr_types.specs.CoreSets.{has};
+ghost use Rattle.rtr_types.specs.declared.TheConstants.{CORES_MAX};
+ghost use Rattle.gdb_session.specs.Ends.{end_in, signal_of};
+ghost use Rattle.gdb_session.specs.Points.{breaks_at};
+ghost use Rattle.gdb_session.specs.Stopping.{stopping_of, stops_at};
+
+use crate::ends::{end_of, signal_of};
+use crate::points::{Point, breaks_at, touched};
+use debug_place::Stops;
+use image_mem::Image;
+use replay_core::Replay;
+use rtr_types::CoreSet;
+use rv_core::Outcome;
+
+/// What stops a move: points, and programs that end by a fault.
+#[derive(Clone, Copy)]
+pub(crate) struct Hearing<'a> {
+    /// The points that are set.
+    pub points: &'a [Point],
+    /// The cores that breakpoints stop.
+    pub paused: CoreSet,
+    /// The cores whose faults stop.
+    pub heard: CoreSet,
+    /// What the whole run comes to.
+    pub outcome: &'a Outcome,
+    /// The recording's image.
+    pub image: &'a Image,
+}
+
+impl Hearing<'_> {
+    /// Whether a breakpoint stops the core before the instruction at the address.
+    pub(crate) fn breaks(&self, core: u8, pc: u32) -> bool
+        requires { core < CORES_MAX }
+        ensures { result ≡ (has self.now.paused core && breaks_at self.now.points.now pc) }
+    {
+        self.paused.has(core) && breaks_at(self.points, pc)
+    }
+
+    /// Whether the core, which has retired so many instructions of all its own, takes its last one next, and then its
+    /// program ends by a fault that is heard.
+    fn faults(&self, core: u8, count: u32, total: u32) -> bool
+        requires { core < CORES_MAX }
+        ensures { result ≡ (has self.now.heard core && (nat_eq (count + 1) total
+            && is_some (signal_of (end_in self.now.image.now self.now.outcome.now core)))) }
+    {
+        if !self.heard.has(core) || count as u64 + 1 != total as u64 {
+            return false;
+        }
+        signal_of(end_of(self.outcome, self.image, core)).is_some()
+    }
+}
+
+impl Stops for Hearing<'_> {
+    ghost stops = { λ hearing plan state core. stops_at (stopping_of hearing) plan state core };
+
+    fn stops(&self, replay: &Replay, core: u8) -> bool {
+        // There are no more cores than there may be.
+        let _ = replay.cores();
+        if self.breaks(core, replay.core(core).pc()) {
+            return true;
+        }
+        if touched(self.points, replay.next_use(core)).is_some() {
+            return true;
+        }
+        self.faults(core, replay.count(core), replay.total(core))
+    }
+}

@@ -1,0 +1,306 @@
+//! Moves of a place, and the stops that end them.
+ghost use Rattle.std.specs.Prelude.{◌≡◌, ◌<◌, IfOk};
+ghost use Rattle.rtr_types.specs.declared.TheConstants.{CORES_MAX};
+ghost use Rattle.log_codec.specs.Validity.{Valid};
+ghost use Rattle.replay_audit.specs.Audits.{IsInstrOf};
+ghost use Rattle.cut_replay.specs.ClosedCuts.{IsClosed, IsContained};
+ghost use Rattle.cut_moves.specs.Steps.{IsWholeCut, next_in};
+ghost use Rattle.debug_place.specs.Places.{cut_at};
+ghost use Rattle.gdb_session.specs.Moves.{Goes, GoesBackward, Halts, HaltsBack, IsKept, Obeys, Steps, StepsBackward};
+ghost use Rattle.gdb_session.specs.Moves.{Walks, fault_stop, plain_stop, teller, why_back};
+ghost use Rattle.gdb_session.specs.Orders.{IsWithin};
+ghost use Rattle.gdb_session.specs.Seats.{IsOf, Sees};
+ghost use Rattle.gdb_session.specs.Stopping.{stopping_of};
+
+use crate::ends::{end_of, signal_of};
+use crate::hearing::Hearing;
+use crate::orders::{Order, every_core};
+use crate::points::{Point, breaks_at, touched, why_of};
+use cut_moves::step;
+use debug_place::Place;
+use gdb_packets::{Signal, Stop, Why};
+use image_mem::Image;
+use replay_audit::Audited;
+use rtr_types::{CORES_MAX, CoreSet, Cut};
+use std::alloc::{AllocError, Global};
+
+/// A place for each core, as the length of an array.
+const PLACES: usize = CORES_MAX as usize;
+
+/// A stop by a trap.
+fn plain_stop(core: u8, why: Why) -> Stop
+    ensures { result ≡ plain_stop core why }
+{
+    Stop {
+        signal: Signal::Trap,
+        core,
+        why,
+    }
+}
+
+/// Obeys an order, and answers what stopped it. It is refused for want of memory alone.
+pub(crate) fn obey(
+    alloc: Global,
+    audited: &Audited,
+    image: &Image,
+    place: &mut Place,
+    points: &[Point],
+    order: Order,
+) -> Result<Stop, AllocError>
+    requires sees { Sees audited.now image.now place.old }
+    requires within { IsWithin order place.old.recording.params.cores }
+    ensures kept { IsKept place.old place.new }
+    ensures obeys { IfOk result (Obeys points.now order place.old place.new) }
+    ensures core { IfOk result (λ stop. stop.core < place.old.recording.params.cores) }
+{
+    // A valid recording has no more cores than there may be.
+    let _ = audited.recording();
+    match order {
+        Order::Rest(core) => Ok(Stop {
+            signal: Signal::Interrupt,
+            core,
+            why: Why::Nothing,
+        }),
+        Order::Step(core, heard) => {
+            let hearing = Hearing {
+                points,
+                paused: heard.without(core),
+                heard,
+                outcome: audited.outcome(),
+                image,
+            };
+            step_core(alloc, audited, place, &hearing, core)
+        }
+        Order::Go(lead, heard) => {
+            let hearing = Hearing {
+                points,
+                paused: heard,
+                heard,
+                outcome: audited.outcome(),
+                image,
+            };
+            go(alloc, audited, place, &hearing, lead)
+        }
+        Order::StepBack(core) => step_back_core(alloc, place, points, core),
+        Order::GoBack(lead) => {
+            let hearing = Hearing {
+                points,
+                paused: every_core(place.cores()),
+                heard: CoreSet::empty(),
+                outcome: audited.outcome(),
+                image,
+            };
+            go_back(alloc, place, &hearing, lead)
+        }
+    }
+}
+
+/// A step of a core.
+fn step_core(
+    alloc: Global,
+    audited: &Audited,
+    place: &mut Place,
+    hearing: &Hearing,
+    core: u8,
+) -> Result<Stop, AllocError>
+    requires run { IsOf audited.now place.old }
+    requires core { core < place.old.recording.params.cores }
+    ensures kept { IsKept place.old place.new }
+    ensures steps { IfOk result (Steps (stopping_of hearing.now) core place.old place.new) }
+    ensures core { IfOk result (λ stop. stop.core < place.old.recording.params.cores) }
+{
+    let _ = audited.recording();
+    if !place.has_next(core) {
+        return Ok(plain_stop(core, Why::End));
+    }
+    let to = step(audited, &place.cut(), core)?;
+    walk(
+        alloc,
+        place,
+        hearing,
+        core,
+        &to,
+        plain_stop(core, Why::Nothing),
+    )
+}
+
+/// All cores go on.
+fn go(
+    alloc: Global,
+    audited: &Audited,
+    place: &mut Place,
+    hearing: &Hearing,
+    lead: u8,
+) -> Result<Stop, AllocError>
+    requires run { IsOf audited.now place.old }
+    requires lead { lead < place.old.recording.params.cores }
+    ensures kept { IsKept place.old place.new }
+    ensures goes { IfOk result (Goes (stopping_of hearing.now) lead place.old place.new) }
+    ensures core { IfOk result (λ stop. stop.core < place.old.recording.params.cores) }
+{
+    // The place is at a closed cut, which the whole one contains.
+    let _ = place.cut();
+    let _ = audited.recording();
+    let to = whole(audited);
+    walk(alloc, place, hearing, lead, &to, plain_stop(lead, Why::End))
+}
+
+/// Goes the way to a closed cut until something stops it.
+fn walk(
+    alloc: Global,
+    place: &mut Place,
+    hearing: &Hearing,
+    lead: u8,
+    to: &Cut,
+    done: Stop,
+) -> Result<Stop, AllocError>
+    requires valid { Valid place.old.recording }
+    requires closed { IsClosed place.old.which place.old.recording to.now }
+    requires within { IsContained (cut_at place.old) to.now }
+    requires lead { lead < place.old.recording.params.cores }
+    requires told { done.core < place.old.recording.params.cores }
+    ensures kept { IsKept place.old place.new }
+    ensures walks { IfOk result (λ stop.
+        Walks (stopping_of hearing.now) lead place.old to.now place.new stop done) }
+    ensures core { IfOk result (λ stop. stop.core < place.old.recording.params.cores) }
+{
+    // The place is at a closed cut, so each core of the way is ready where its place comes.
+    let _ = place.cut();
+    match place.go_to(alloc, hearing, to)? {
+        None => Ok(done),
+        Some(core) => halt(alloc, place, hearing, lead, core),
+    }
+}
+
+/// What stopped it before a core's next instruction. A fault is told behind that.
+fn halt(
+    alloc: Global,
+    place: &mut Place,
+    hearing: &Hearing,
+    lead: u8,
+    core: u8,
+) -> Result<Stop, AllocError>
+    requires valid { Valid place.old.recording }
+    requires lead { lead < place.old.recording.params.cores }
+    requires next { IsInstrOf place.old.recording (next_in (cut_at place.old) core) }
+    ensures kept { IsKept place.old place.new }
+    ensures halts { IfOk result (Halts (stopping_of hearing.now) lead core place.old place.new) }
+    ensures core { IfOk result (λ stop. stop.core < place.old.recording.params.cores) }
+{
+    if hearing.breaks(core, place.core(core).pc()) {
+        return Ok(plain_stop(core, Why::Breakpoint));
+    }
+    if let Some(point) = touched(hearing.points, place.next_use(core)) {
+        return Ok(plain_stop(teller(hearing.heard, lead, core), why_of(point)));
+    }
+    place.step(alloc, core)?;
+    Ok(fault_stop(hearing, core))
+}
+
+/// Who is told of an access: the core, or the one that leads where the core isn't heard.
+fn teller(heard: CoreSet, lead: u8, core: u8) -> u8
+    requires { core < CORES_MAX }
+    ensures { result ≡ teller heard lead core }
+{
+    if heard.has(core) { core } else { lead }
+}
+
+/// The stop behind a core's last instruction.
+fn fault_stop(hearing: &Hearing, core: u8) -> Stop
+    ensures { result ≡ fault_stop (stopping_of hearing.now) core }
+{
+    let end = end_of(hearing.outcome, hearing.image, core);
+    Stop {
+        signal: signal_of(end).unwrap_or(Signal::Trap),
+        core,
+        why: Why::Nothing,
+    }
+}
+
+/// A step back of a core.
+fn step_back_core(
+    alloc: Global,
+    place: &mut Place,
+    points: &[Point],
+    core: u8,
+) -> Result<Stop, AllocError>
+    requires { core < place.old.recording.params.cores }
+    ensures kept { IsKept place.old place.new }
+    ensures steps { IfOk result (StepsBackward points.now core place.old place.new) }
+    ensures core { IfOk result (λ stop. stop.core < place.old.recording.params.cores) }
+{
+    if !place.has_last(core) {
+        return Ok(plain_stop(core, Why::Begin));
+    }
+    let here = place.cut();
+    place.step_back(alloc, core)?;
+    if let Some(point) = touched(points, place.next_use(core)) {
+        place.seek(alloc, &here)?;
+        return Ok(plain_stop(core, why_of(point)));
+    }
+    Ok(plain_stop(core, why_back(points, place.core(core).pc())))
+}
+
+/// Why a core that has stepped back to this address stops.
+fn why_back(points: &[Point], pc: u32) -> Why
+    ensures { result ≡ why_back points.now pc }
+{
+    if breaks_at(points, pc) {
+        Why::Breakpoint
+    } else {
+        Why::Nothing
+    }
+}
+
+/// All cores go back.
+fn go_back(
+    alloc: Global,
+    place: &mut Place,
+    hearing: &Hearing,
+    lead: u8,
+) -> Result<Stop, AllocError>
+    requires valid { Valid place.old.recording }
+    requires lead { lead < place.old.recording.params.cores }
+    ensures kept { IsKept place.old place.new }
+    ensures goes { IfOk result (GoesBackward (stopping_of hearing.now) lead place.old place.new) }
+    ensures core { IfOk result (λ stop. stop.core < place.old.recording.params.cores) }
+{
+    // The place is at a closed cut, so each core of the way here was ready where its place came.
+    let _ = place.cut();
+    match place.back(alloc, hearing)? {
+        None => Ok(plain_stop(lead, Why::Begin)),
+        Some(core) => halt_back(alloc, place, hearing, core),
+    }
+}
+
+/// What stopped it behind a core's access, or before the core's instruction.
+fn halt_back(
+    alloc: Global,
+    place: &mut Place,
+    hearing: &Hearing,
+    core: u8,
+) -> Result<Stop, AllocError>
+    requires valid { Valid place.old.recording }
+    requires next { IsInstrOf place.old.recording (next_in (cut_at place.old) core) }
+    ensures kept { IsKept place.old place.new }
+    ensures halts { IfOk result (HaltsBack (stopping_of hearing.now) core place.old place.new) }
+    ensures core { IfOk result (λ stop. stop.core < place.old.recording.params.cores) }
+{
+    if let Some(point) = touched(hearing.points, place.next_use(core)) {
+        place.step(alloc, core)?;
+        return Ok(plain_stop(core, why_of(point)));
+    }
+    Ok(plain_stop(core, Why::Breakpoint))
+}
+
+/// The cut with all instructions of each core.
+fn whole(audited: &Audited) -> Cut
+    ensures { IsWholeCut audited.now.recording result }
+{
+    let cores = audited.recording().params.cores;
+    let mut counts = [0; PLACES];
+    for core in 0..cores {
+        counts[core as usize] = audited.recording().totals.as_slice()[core as usize];
+    }
+    Cut { cores, counts }
+}

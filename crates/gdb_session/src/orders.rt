@@ -1,0 +1,199 @@
+//! Which move a packet orders.
+ghost use Rattle.std.specs.Prelude.{◌≡◌, ◌<◌, ◌≤◌, IfSome};
+ghost use Rattle.rtr_types.specs.declared.TheConstants.{CORES_MAX};
+ghost use Rattle.gdb_session.specs.Orders.{IsWithin, acts, all_go, are_there, asked_of, every_core, go_back_order};
+ghost use Rattle.gdb_session.specs.Orders.{heard_of, lower_of, lowest_where, mover, named, names};
+ghost use Rattle.gdb_session.specs.Orders.{resume_order, step_back_order, steps};
+ghost use Rattle.gdb_session.specs.Wishes.{Fit};
+
+use crate::wishes::{Wishes, core_of, is_there};
+use gdb_packets::{Action, Thread};
+use rtr_types::CoreSet;
+
+/// A move.
+#[derive(Clone, Copy)]
+pub(crate) enum Order {
+    /// None, since it was interrupted; this core is told.
+    Rest(u8),
+    /// A step of this core; those of the set are heard.
+    Step(u8, CoreSet),
+    /// All cores go on, and are heard; at the end this one is told.
+    Go(u8, CoreSet),
+    /// A step back of this core.
+    StepBack(u8),
+    /// All cores go back; at the beginning this one is told.
+    GoBack(u8),
+}
+
+/// Whether the name means the core.
+fn names(thread: Thread, core: u8) -> bool
+    ensures { result ≡ names thread core }
+{
+    match thread {
+        Thread::All | Thread::Any => true,
+        Thread::Core(other) => other == core as u64,
+    }
+}
+
+/// Whether a core is to step, by the first action that names it; none where none does.
+fn asked_of(actions: &[Action], core: u8) -> Option<bool>
+    ensures { result ≡ asked_of actions.now core }
+{
+    for action in actions {
+        if names(action.who, core) {
+            return Some(action.step);
+        }
+    }
+    None
+}
+
+/// Whether a core is to step.
+fn steps(actions: &[Action], core: u8) -> bool
+    ensures { result ≡ steps actions.now core }
+{
+    asked_of(actions, core).unwrap_or(false)
+}
+
+/// Whether a core is to move.
+fn acts(actions: &[Action], core: u8) -> bool
+    ensures { result ≡ acts actions.now core }
+{
+    asked_of(actions, core).is_some()
+}
+
+/// Whether each thread that an action names is there.
+fn are_there(actions: &[Action], cores: u8) -> bool
+    ensures { result ≡ are_there actions.now cores }
+{
+    actions.iter().all(|action| is_there(action.who, cores))
+}
+
+/// The first core that is named.
+fn named(actions: &[Action], cores: u8) -> Option<u8>
+    ensures core { result ≡ named actions.now cores }
+    ensures within { IfSome result (λ core. core < cores) }
+{
+    for action in actions {
+        if let Some(core) = core_of(action.who, cores) {
+            return Some(core);
+        }
+    }
+    None
+}
+
+/// The cores that are to move.
+fn heard_of(actions: &[Action], cores: u8) -> CoreSet
+    requires { cores ≤ CORES_MAX }
+    ensures { result ≡ heard_of actions.now cores }
+{
+    let mut set = CoreSet::empty();
+    for core in 0..cores {
+        if acts(actions, core) {
+            set = set.with(core);
+        }
+    }
+    set
+}
+
+/// All cores.
+pub(crate) fn every_core(cores: u8) -> CoreSet
+    requires { cores ≤ CORES_MAX }
+    ensures { result ≡ every_core cores }
+{
+    let mut set = CoreSet::empty();
+    for core in 0..cores {
+        set = set.with(core);
+    }
+    set
+}
+
+/// The lowest core that is to step.
+fn lowest_step(actions: &[Action], cores: u8) -> Option<u8>
+    ensures core { result ≡ lowest_where (steps actions.now) cores }
+    ensures within { IfSome result (λ core. core < cores) }
+{
+    let mut lowest = None;
+    for core in 0..cores {
+        lowest = lower_of(lowest, steps(actions, core), core);
+    }
+    lowest
+}
+
+/// The lowest core so far, or else this one where it is to step.
+fn lower_of(lowest: Option<u8>, steps: bool, core: u8) -> Option<u8>
+    ensures { result ≡ lower_of lowest steps core }
+{
+    match lowest {
+        Some(other) => Some(other),
+        None if steps => Some(core),
+        None => None,
+    }
+}
+
+/// Whether each core is to move.
+fn all_go(actions: &[Action], cores: u8) -> bool
+    ensures { result ≡ all_go actions.now cores }
+{
+    let mut all = true;
+    for core in 0..cores {
+        all = all && acts(actions, core);
+    }
+    all
+}
+
+/// The move that actions order; none where they name a thread that isn't there, or let only some cores go on.
+pub(crate) fn resume_order(wishes: Wishes, cores: u8, actions: &[Action]) -> Option<Order>
+    requires fit { Fit wishes cores }
+    requires few { cores ≤ CORES_MAX }
+    ensures order { result ≡ resume_order wishes cores actions.now }
+    ensures within { IfSome result (λ order. IsWithin order cores) }
+{
+    if !are_there(actions, cores) {
+        return None;
+    }
+    if wishes.interrupted {
+        return Some(Order::Rest(named(actions, cores).unwrap_or(wishes.looked)));
+    }
+    let heard = heard_of(actions, cores);
+    match lowest_step(actions, cores) {
+        Some(core) => Some(Order::Step(core, heard)),
+        None if all_go(actions, cores) => Some(Order::Go(wishes.looked, heard)),
+        None => None,
+    }
+}
+
+/// The core that goes back, or that is looked at where all do.
+fn mover(wishes: Wishes) -> u8
+    ensures { result ≡ mover wishes }
+{
+    wishes.moving.unwrap_or(wishes.looked)
+}
+
+/// The move that a step back orders.
+pub(crate) fn step_back_order(wishes: Wishes, cores: u8) -> Option<Order>
+    requires { Fit wishes cores }
+    ensures order { result ≡ step_back_order wishes }
+    ensures within { IfSome result (λ order. IsWithin order cores) }
+{
+    let core = mover(wishes);
+    if wishes.interrupted {
+        Some(Order::Rest(core))
+    } else {
+        Some(Order::StepBack(core))
+    }
+}
+
+/// The move that going back orders; none where only one core is to go back.
+pub(crate) fn go_back_order(wishes: Wishes, cores: u8) -> Option<Order>
+    requires { Fit wishes cores }
+    ensures order { result ≡ go_back_order wishes }
+    ensures within { IfSome result (λ order. IsWithin order cores) }
+{
+    if wishes.interrupted {
+        return Some(Order::Rest(mover(wishes)));
+    }
+    match wishes.moving {
+        Some(_) => None,
+        None => Some(Order::GoBack(wishes.looked)),
+    }
+}

@@ -1,0 +1,91 @@
+//! What is told of a core's registers.
+ghost use Rattle.std.specs.Prelude.{◌≡◌, ◌<◌, ◌++◌, IfOk, OnOk};
+ghost use Rattle.std.specs.Int.{to_le_bytes, w32};
+ghost use Rattle.gdb_session.specs.Registers.{general_words, register_reply, register_words, registers_reply};
+ghost use Rattle.gdb_session.specs.Registers.{spelled, word_reply};
+
+use debug_place::Place;
+use gdb_packets::Reply;
+use rtr_types::Items;
+use rv_core::{Core, REGISTERS};
+use std::alloc::{AllocError, Global};
+
+/// The words of a core's registers: x0 to x31, pc, how many instructions it has retired, and how many it retired in
+/// all.
+fn register_words(alloc: Global, core: &Core, total: u32) -> Result<Items<u32>, AllocError>
+    ensures { IfOk result (λ words. words ≡ register_words core.now total) }
+{
+    let mut words = Vec::new(alloc);
+    put_registers(&mut words, core)?;
+    words.push(core.pc())?;
+    words.push(core.count())?;
+    words.push(total)?;
+    Ok(Items::from_vec(words))
+}
+
+/// Puts the registers x0 to x31.
+fn put_registers(words: &mut Vec<u32>, core: &Core) -> Result<(), AllocError>
+    ensures { OnOk result (words.new.items ≡ words.old.items ++ general_words core.now) }
+{
+    for k in 0..REGISTERS as u8 {
+        words.push(core.reg(k))?;
+    }
+    Ok(())
+}
+
+/// All registers of a core of the place, whose total this is.
+pub(crate) fn registers_reply(
+    alloc: Global,
+    place: &Place,
+    core: u8,
+    total: u32,
+) -> Result<Reply, AllocError>
+    requires { core < place.now.recording.params.cores }
+    ensures { IfOk result (λ reply. reply ≡ registers_reply place.now core total) }
+{
+    let words = register_words(alloc, place.core(core), total)?;
+    Ok(Reply::Bytes(spelled(alloc, words.as_slice())?))
+}
+
+/// One register of a core of the place, whose total this is.
+pub(crate) fn register_reply(
+    alloc: Global,
+    place: &Place,
+    core: u8,
+    total: u32,
+    number: u64,
+) -> Result<Reply, AllocError>
+    requires { core < place.now.recording.params.cores }
+    ensures { IfOk result (λ reply. reply ≡ register_reply place.now core total number) }
+{
+    let words = register_words(alloc, place.core(core), total)?;
+    word_reply(alloc, words.as_slice(), number)
+}
+
+/// One of the words.
+fn word_reply(alloc: Global, words: &[u32], number: u64) -> Result<Reply, AllocError>
+    ensures { IfOk result (λ reply. reply ≡ word_reply words.now number) }
+{
+    match words.get(number as usize) {
+        Some(word) => Ok(Reply::Bytes(word_bytes(alloc, *word)?)),
+        None => Ok(Reply::Refused),
+    }
+}
+
+/// The bytes of a word, the lowest first.
+fn word_bytes(alloc: Global, word: u32) -> Result<Items<u8>, AllocError>
+    ensures { IfOk result (λ bytes. bytes ≡ to_le_bytes w32 word) }
+{
+    Ok(Items::from_vec(Vec::from_slice(alloc, &word.to_le_bytes())?))
+}
+
+/// The bytes of words, of each the lowest first.
+fn spelled(alloc: Global, words: &[u32]) -> Result<Items<u8>, AllocError>
+    ensures { IfOk result (λ bytes. bytes ≡ spelled words.now) }
+{
+    let mut bytes = Vec::new(alloc);
+    for word in words {
+        bytes.extend_from_slice(&word.to_le_bytes())?;
+    }
+    Ok(Items::from_vec(bytes))
+}

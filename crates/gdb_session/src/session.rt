@@ -1,0 +1,294 @@
+//! A session.
+ghost use Rattle.std.specs.Prelude.{◌≡◌, ◌∷◌, [], IfOk, IfSome, OnOk};
+ghost use Rattle.debug_place.specs.Places.{Stands, cut_at};
+ghost use Rattle.gdb_packets.specs.Asks.{ask_of};
+ghost use Rattle.gdb_packets.specs.Replies.{spelled};
+ghost use Rattle.gdb_packets.specs.declared.replies.Reply.TheVariants.{Done};
+ghost use Rattle.gdb_session.specs.Answers.{Answers, AnswersPlain, AnswersWith, MovesBy, next_after};
+ghost use Rattle.gdb_session.specs.Moves.{IsKept};
+ghost use Rattle.gdb_session.specs.Orders.{IsWithin};
+ghost use Rattle.gdb_session.specs.Points.{takes, with_point, without_point};
+ghost use Rattle.gdb_session.specs.Seats.{Begins, Sees, Sits, interrupted, seat_of};
+ghost use Rattle.gdb_session.specs.Told.{still_reply, there_reply};
+ghost use Rattle.gdb_session.specs.Wishes.{Fit, wishes_after};
+
+use crate::answer::{Answer, Next, one, silent};
+use crate::moves::obey;
+use crate::orders::{Order, go_back_order, resume_order, step_back_order};
+use crate::points::{Point, clear_point, point_of, set_point};
+use crate::told::{still_reply, there_reply};
+use crate::wishes::{Wishes, told_wishes, wishes_after};
+use debug_place::Place;
+use gdb_packets::{Ask, Plain, Reply, ask_of};
+use image_mem::Image;
+use replay_audit::Audited;
+use rtr_types::{Cut, Items};
+use std::alloc::{AllocError, Global};
+use std::marker::Model;
+
+/// A debugger's session on an audited recording: where it stands in the run, which is always a cut that is closed under
+/// the audit's log, and what the debugger has asked for.
+pub struct Session<'a> {
+    audited: &'a Audited,
+    image: Image,
+    place: Place<'a>,
+    wishes: Wishes,
+    points: Items<Point>,
+}
+
+impl Drop for Session<'_> {
+    fn drop(self) {
+        let Session {
+            audited: _audited,
+            image: _image,
+            place: _place,
+            wishes: _wishes,
+            points: _points,
+        } = self;
+    }
+}
+
+impl<'a> Model for Session<'a> {
+    ghost use Rattle.gdb_session.specs.Seats.{Seat, Sits, seat_of};
+
+    ghost Value = { Seat };
+
+    ghost view = { λ a. seat_of a.place a.wishes a.points };
+
+    ghost invariant = { λ a. Sits a.audited.now a.image (seat_of a.place a.wishes a.points) };
+}
+
+impl<'a> Session<'a> {
+    /// A session before the first instruction. It is refused for want of memory alone.
+    pub fn begin(alloc: Global, audited: &'a Audited) -> Result<Session<'a>, AllocError>
+        ensures { IfOk result (λ session. Begins audited.now session) }
+    {
+        let params = audited.recording().params;
+        let bytes = Vec::from_slice(alloc, audited.recording().image.as_slice())?;
+        let Ok(image) = Image::flat(bytes, params.words) else {
+            unreachable!()
+        };
+        let place = Place::begin(alloc, audited)?;
+        Ok(Session {
+            audited,
+            image,
+            place,
+            wishes: Wishes {
+                looked: 0,
+                told: 0,
+                moving: None,
+                interrupted: false,
+            },
+            points: Items::new(alloc),
+        })
+    }
+
+    /// The cut at which it stands: how many instructions of each core are done.
+    pub fn cut(&self) -> Cut
+        ensures cut { result ≡ cut_at self.now.place }
+        ensures stands { Stands self.now.place }
+    {
+        self.place.cut()
+    }
+
+    /// An interrupt came. The next move is left out, unless the debugger asks for the threads before.
+    pub fn interrupt(&mut self)
+        ensures { self.new ≡ interrupted self.old }
+    {
+        self.wishes.interrupted = true;
+    }
+
+    /// The answer to the packet with this payload. It is refused for want of memory alone; then it stands at a closed
+    /// cut still.
+    pub fn answer(&mut self, alloc: Global, packet: &[u8]) -> Result<Answer, AllocError>
+        ensures answered { IfOk result (λ answer. Answers self.old (ask_of packet.now) self.new answer) }
+        ensures recording { self.new.place.recording ≡ self.old.place.recording }
+        ensures which { self.new.place.which ≡ self.old.place.which }
+        ensures next { IfOk result (λ answer. answer.next ≡ next_after (ask_of packet.now)) }
+    {
+        let ask = ask_of(alloc, packet)?;
+        let payloads = answered(
+            alloc,
+            self.audited,
+            &self.image,
+            &mut self.place,
+            &mut self.wishes,
+            &mut self.points,
+            &ask,
+        )?;
+        Ok(Answer {
+            payloads,
+            next: next_after(&ask),
+        })
+    }
+}
+
+/// What is to be done behind an answer.
+fn next_after(ask: &Ask) -> Next
+    ensures { result ≡ next_after ask.now }
+{
+    match ask {
+        Ask::Plain(Plain::Detach | Plain::Kill | Plain::Quit) => Next::End,
+        Ask::Plain(Plain::StopAcks) => Next::StopAcks,
+        _ => Next::Listen,
+    }
+}
+
+/// The payloads that a packet is answered.
+fn answered(
+    alloc: Global,
+    audited: &Audited,
+    image: &Image,
+    place: &mut Place,
+    wishes: &mut Wishes,
+    points: &mut Items<Point>,
+    ask: &Ask,
+) -> Result<Items<Items<u8>>, AllocError>
+    requires { Sits audited.now image.now (seat_of place.old wishes.old points.old) }
+    ensures sits { Sits audited.now image.now (seat_of place.new wishes.new points.new) }
+    ensures kept { IsKept place.old place.new }
+    ensures answers { IfOk result (AnswersWith ask.now (seat_of place.old wishes.old points.old)
+        (seat_of place.new wishes.new points.new)) }
+{
+    match ask {
+        Ask::Resume(actions) => {
+            // A valid recording has no more cores than there may be.
+            let _ = audited.recording();
+            let order = resume_order(*wishes, place.cores(), actions.as_slice());
+            moved(
+                alloc,
+                audited,
+                image,
+                place,
+                wishes,
+                points.as_slice(),
+                order,
+            )
+        }
+        Ask::Plain(plain) => answered_plain(alloc, audited, image, place, wishes, points, *plain),
+        Ask::Command(_) => one(alloc, &Reply::Refused),
+    }
+}
+
+/// The payloads that a packet without a list is answered.
+fn answered_plain(
+    alloc: Global,
+    audited: &Audited,
+    image: &Image,
+    place: &mut Place,
+    wishes: &mut Wishes,
+    points: &mut Items<Point>,
+    plain: Plain,
+) -> Result<Items<Items<u8>>, AllocError>
+    requires { Sits audited.now image.now (seat_of place.old wishes.old points.old) }
+    ensures sits { Sits audited.now image.now (seat_of place.new wishes.new points.new) }
+    ensures kept { IsKept place.old place.new }
+    ensures answers { IfOk result (AnswersPlain plain (seat_of place.old wishes.old points.old)
+        (seat_of place.new wishes.new points.new)) }
+{
+    match plain {
+        Plain::StepBack => {
+            let order = step_back_order(*wishes, place.cores());
+            moved(
+                alloc,
+                audited,
+                image,
+                place,
+                wishes,
+                points.as_slice(),
+                order,
+            )
+        }
+        Plain::GoBack => {
+            let order = go_back_order(*wishes, place.cores());
+            moved(
+                alloc,
+                audited,
+                image,
+                place,
+                wishes,
+                points.as_slice(),
+                order,
+            )
+        }
+        Plain::SetPoint(kind, span) => set_one(alloc, points, point_of(kind, span)),
+        Plain::ClearPoint(kind, span) => clear_one(alloc, points, point_of(kind, span)),
+        Plain::Quit => Ok(silent(alloc)),
+        _ => answered_still(alloc, audited, image, place, wishes, plain),
+    }
+}
+
+/// Sets a point.
+fn set_one(
+    alloc: Global,
+    points: &mut Items<Point>,
+    point: Point,
+) -> Result<Items<Items<u8>>, AllocError>
+    ensures points { OnOk result (points.new ≡ with_point point points.old) }
+    ensures told { IfOk result (λ payloads. payloads ≡ spelled (there_reply (takes point points.old)) ∷ []) }
+{
+    let set = set_point(points, point)?;
+    one(alloc, &there_reply(set))
+}
+
+/// Takes a point away.
+fn clear_one(
+    alloc: Global,
+    points: &mut Items<Point>,
+    point: Point,
+) -> Result<Items<Items<u8>>, AllocError>
+    ensures points { OnOk result (points.new ≡ without_point point points.old) }
+    ensures told { IfOk result (λ payloads. payloads ≡ spelled Done ∷ []) }
+{
+    clear_point(alloc, points, point)?;
+    one(alloc, &Reply::Done)
+}
+
+/// The payload that a packet is answered that moves nothing, sets no point and wants an answer.
+fn answered_still(
+    alloc: Global,
+    audited: &Audited,
+    image: &Image,
+    place: &Place,
+    wishes: &mut Wishes,
+    plain: Plain,
+) -> Result<Items<Items<u8>>, AllocError>
+    requires sees { Sees audited.now image.now place.now }
+    requires fit { Fit wishes.old place.now.recording.params.cores }
+    ensures fit { Fit wishes.new place.now.recording.params.cores }
+    ensures wishes { OnOk result (wishes.new ≡ wishes_after wishes.old plain place.now.recording.params.cores) }
+    ensures told { IfOk result (λ payloads. payloads ≡ spelled (still_reply place.now wishes.old plain) ∷ []) }
+{
+    let reply = still_reply(alloc, audited, image, place, *wishes, plain)?;
+    let payloads = one(alloc, &reply)?;
+    *wishes = wishes_after(*wishes, plain, place.cores());
+    Ok(payloads)
+}
+
+/// Obeys an order, if there is one, and tells the stop.
+fn moved(
+    alloc: Global,
+    audited: &Audited,
+    image: &Image,
+    place: &mut Place,
+    wishes: &mut Wishes,
+    points: &[Point],
+    order: Option<Order>,
+) -> Result<Items<Items<u8>>, AllocError>
+    requires sits { Sits audited.now image.now (seat_of place.old wishes.old points.now) }
+    requires within { IfSome order (λ order. IsWithin order place.old.recording.params.cores) }
+    ensures sits { Sits audited.now image.now (seat_of place.new wishes.new points.now) }
+    ensures kept { IsKept place.old place.new }
+    ensures moves { IfOk result (MovesBy order (seat_of place.old wishes.old points.now)
+        (seat_of place.new wishes.new points.now)) }
+{
+    match order {
+        None => one(alloc, &Reply::Refused),
+        Some(order) => {
+            let stop = obey(alloc, audited, image, place, points, order)?;
+            let payloads = one(alloc, &Reply::Stopped(stop))?;
+            *wishes = told_wishes(*wishes, stop.core, place.cores());
+            Ok(payloads)
+        }
+    }
+}

@@ -1,0 +1,108 @@
+//! What the debugger has asked for that lasts.
+ghost use Rattle.std.specs.Prelude.{◌≡◌, ◌<◌, IfSome};
+ghost use Rattle.gdb_session.specs.Wishes.{Fit, core_of, is_there, looks_at, moves_with, told_wishes, wishes_after};
+
+use gdb_packets::{Plain, Thread};
+
+/// What the debugger has asked for that lasts, and what it was told last. Cores are counted from 0.
+#[derive(Clone, Copy, Debug, PartialEq, Eq)]
+pub struct Wishes {
+    /// The core whose registers are asked for.
+    pub looked: u8,
+    /// The core that was told last.
+    pub told: u8,
+    /// The core that goes back; none where all do.
+    pub moving: Option<u8>,
+    /// Whether the next move is to be left out, since it was interrupted.
+    pub interrupted: bool,
+}
+
+/// The core that a thread's name means, if it is one of so many.
+pub(crate) fn core_of(thread: Thread, cores: u8) -> Option<u8>
+    ensures core { result ≡ core_of thread cores }
+    ensures within { IfSome result (λ core. core < cores) }
+{
+    match thread {
+        Thread::Core(core) if core < cores as u64 => Some(core as u8),
+        _ => None,
+    }
+}
+
+/// Whether the name is of a thread that is there, or of all threads, or of any.
+pub(crate) fn is_there(thread: Thread, cores: u8) -> bool
+    ensures { result ≡ is_there thread cores }
+{
+    match thread {
+        Thread::All | Thread::Any => true,
+        Thread::Core(core) => core < cores as u64,
+    }
+}
+
+/// The core that is looked at from here on.
+fn looks_at(wishes: Wishes, thread: Thread, cores: u8) -> Wishes
+    requires { Fit wishes cores }
+    ensures wishes { result ≡ looks_at wishes thread cores }
+    ensures fit { Fit result cores }
+{
+    let mut wishes = wishes;
+    match thread {
+        Thread::All | Thread::Any => wishes.looked = wishes.told,
+        Thread::Core(_) => {
+            if let Some(core) = core_of(thread, cores) {
+                wishes.looked = core;
+            }
+        }
+    }
+    wishes
+}
+
+/// The cores that go back from here on.
+fn moves_with(wishes: Wishes, thread: Thread, cores: u8) -> Wishes
+    requires { Fit wishes cores }
+    ensures wishes { result ≡ moves_with wishes thread cores }
+    ensures fit { Fit result cores }
+{
+    let mut wishes = wishes;
+    match thread {
+        Thread::All | Thread::Any => wishes.moving = None,
+        Thread::Core(_) => {
+            if let Some(core) = core_of(thread, cores) {
+                wishes.moving = Some(core);
+            }
+        }
+    }
+    wishes
+}
+
+/// The wishes behind a packet that moves nothing.
+pub(crate) fn wishes_after(wishes: Wishes, plain: Plain, cores: u8) -> Wishes
+    requires { Fit wishes cores }
+    ensures wishes { result ≡ wishes_after wishes plain cores }
+    ensures fit { Fit result cores }
+{
+    let mut wishes = wishes;
+    match plain {
+        Plain::LookAt(thread) => looks_at(wishes, thread, cores),
+        Plain::MoveWith(thread) => moves_with(wishes, thread, cores),
+        Plain::ThreadsPart(_) | Plain::ThreadsFirst => {
+            wishes.interrupted = false;
+            wishes
+        }
+        _ => wishes,
+    }
+}
+
+/// The wishes behind a move, at whose end a core was told.
+pub(crate) fn told_wishes(wishes: Wishes, core: u8, cores: u8) -> Wishes
+    requires fit { Fit wishes cores }
+    requires core { core < cores }
+    ensures wishes { result ≡ told_wishes wishes core }
+    ensures fit { Fit result cores }
+{
+    Wishes {
+        looked: core,
+        told: core,
+        moving: wishes.moving,
+        interrupted: false,
+    }
+}

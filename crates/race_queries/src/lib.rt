@@ -1,0 +1,12 @@
+//! What a debugger of races asks of an audited recording: who wrote a word last, who has read it since, what comes
+//! before what, and which edges of the log lead to an instruction and from it.
+#![tactic(auto)]
+
+pub mod laws;
+mod ordered;
+mod sources;
+mod words;
+
+pub use ordered::leads_to;
+pub use sources::{edges_into, edges_out_of};
+pub use words::{history, last_write, reads_since};

@@ -1,0 +1,134 @@
+//! Sessions on a recording of two cores.
+use crate::handed_over::handed_over;
+use crate::rows::{Row, plays};
+use crate::session_rows::{BREAKS, STEPS, STILL, WATCHES};
+use gdb_session::{Next, Session};
+use std::alloc::{AllocError, Global};
+use std::test::Fail;
+
+/// The first packet whose answer isn't that of its row.
+fn first_wrong(alloc: Global, rows: &[Row]) -> Result<&'static str, Fail> {
+    let audited = handed_over(alloc)?;
+    let mut session = Session::begin(alloc, &audited)?;
+    for row in rows {
+        if !plays(alloc, &mut session, row)? {
+            return Ok(row.packet);
+        }
+    }
+    Ok("none")
+}
+
+#[test]
+fn steps_go_forth_and_back(rt: HostRuntime) -> Result<(), Fail> {
+    assert_eq!(rt; first_wrong(rt.alloc(), &STEPS)?, "none");
+    Ok(())
+}
+
+#[test]
+fn breakpoints_stop_before_their_instruction(rt: HostRuntime) -> Result<(), Fail> {
+    assert_eq!(rt; first_wrong(rt.alloc(), &BREAKS)?, "none");
+    Ok(())
+}
+
+#[test]
+fn watched_ranges_stop_before_the_access(rt: HostRuntime) -> Result<(), Fail> {
+    assert_eq!(rt; first_wrong(rt.alloc(), &WATCHES)?, "none");
+    Ok(())
+}
+
+#[test]
+fn other_packets_move_nothing(rt: HostRuntime) -> Result<(), Fail> {
+    assert_eq!(rt; first_wrong(rt.alloc(), &STILL)?, "none");
+    Ok(())
+}
+
+/// What is to be done behind the packet, and how many payloads it is answered.
+fn done(alloc: Global, session: &mut Session, packet: &str) -> Result<(Next, usize), AllocError> {
+    let answer = session.answer(alloc, packet.as_bytes())?;
+    Ok((answer.next, answer.payloads.len()))
+}
+
+#[test]
+fn a_session_ends_where_it_is_asked_to(rt: HostRuntime) -> Result<(), Fail> {
+    let audited = handed_over(rt.alloc())?;
+    let mut session = Session::begin(rt.alloc(), &audited)?;
+    assert_eq!(rt;
+        done(rt.alloc(), &mut session, "QStartNoAckMode")?,
+        (Next::StopAcks, 1)
+    );
+    assert_eq!(rt; done(rt.alloc(), &mut session, "!")?, (Next::Listen, 1));
+    assert_eq!(rt; done(rt.alloc(), &mut session, "D;1")?, (Next::End, 1));
+    assert_eq!(rt; done(rt.alloc(), &mut session, "vKill;1")?, (Next::End, 1));
+    assert_eq!(rt; done(rt.alloc(), &mut session, "k")?, (Next::End, 0));
+    Ok(())
+}
+
+/// What a packet is answered, if that is the text.
+fn says(
+    alloc: Global,
+    session: &mut Session,
+    packet: &'static str,
+    answer: &'static str,
+) -> Result<bool, AllocError> {
+    plays(alloc, session, &Row { packet, answer })
+}
+
+// The interrupt is told once, and not where the threads were asked for before.
+#[test]
+fn an_interrupt_leaves_out_one_move(rt: HostRuntime) -> Result<(), Fail> {
+    let audited = handed_over(rt.alloc())?;
+    let mut session = Session::begin(rt.alloc(), &audited)?;
+    session.interrupt();
+    assert!(rt; says(rt.alloc(), &mut session, "vCont;c:2;c", "T02thread:2;")?);
+    assert!(rt;
+        says(
+            rt.alloc(),
+            &mut session,
+            "vCont;c",
+            "T05thread:2;replaylog:end;"
+        )?
+    );
+    session.interrupt();
+    assert!(rt;
+        says(
+            rt.alloc(),
+            &mut session,
+            "qXfer:threads:read::0,5",
+            "m<?xml"
+        )?
+    );
+    assert!(rt;
+        says(
+            rt.alloc(),
+            &mut session,
+            "bc",
+            "T05thread:2;replaylog:begin;"
+        )?
+    );
+    Ok(())
+}
+
+/// Sets breakpoints at the first `count` addresses, and answers how many of them were taken.
+fn taken(alloc: Global, session: &mut Session, count: u32) -> Result<u32, AllocError> {
+    let mut all = 0;
+    for at in 0..count {
+        let packet = format!(in alloc; "Z0,{at:x},4")?;
+        let answer = session.answer(alloc, packet.as_bytes())?;
+        match answer.payloads.as_slice() {
+            [one] if one.as_slice() == b"OK".as_slice() => all += 1,
+            _ => {}
+        }
+    }
+    Ok(all)
+}
+
+#[test]
+fn so_many_breakpoints_are_kept(rt: HostRuntime) -> Result<(), Fail> {
+    let audited = handed_over(rt.alloc())?;
+    let mut session = Session::begin(rt.alloc(), &audited)?;
+    assert_eq!(rt; taken(rt.alloc(), &mut session, 257)?, 256);
+    assert!(rt; says(rt.alloc(), &mut session, "Z0,ff,4", "OK")?);
+    assert!(rt; says(rt.alloc(), &mut session, "Z0,100,4", "E01")?);
+    assert!(rt; says(rt.alloc(), &mut session, "Z1,100,4", "OK")?);
+    Ok(())
+}

@@ -1,0 +1,335 @@
+-- What each move leaves of cores, ports and what is noted beside them.
+use Rattle.std.proofs.Common.{◌≡◌, ◌≢◌, ◌∙◌, refl, sym, subst, ap, ℕ, ◌<◌, true, List, length, get_or, arith}
+use Rattle.std.specs.Prelude.{slice_set}
+use Rattle.std.proofs.lemmas.List.{get_or_read, set-get_or}
+use Rattle.access_times.specs.Riding.{Riding, Carrying}
+use Rattle.rv_core.specs.Steps.{need, access_of as need_access}
+use Rattle.msi_cache.specs.Lines.{waits}
+use Rattle.msi_memory.specs.Acts.{TakeMessage, TakeResponse, can}
+use Rattle.msi_memory.specs.Memories.{Memory, port_at}
+use Rattle.msi_memory.specs.Rests.{OthersRoomy, head_roomy, requests_at}
+use Rattle.msi_memory.proofs.Roomy.{each_roomy}
+use Rattle.memory_laws.proofs.Spaces.{no_requests}
+use Rattle.tso_state.specs.declared.moves.Move.{Move}
+use Rattle.tso_state.specs.declared.moves.Move.TheVariants.{
+  Core as CoreMove,
+  Order as OrderMove,
+  Request as RequestMove,
+}
+use Rattle.tso_state.specs.declared.moves.Move.TheVariants.{Response as ResponseMove, FromHome as MessageMove}
+use Rattle.tso_state.specs.Moves.{core_of}
+use Rattle.tso_state.specs.States.{BufferedCore, State, buffered_start, core_at}
+use Rattle.tso_state.specs.Steps.{acts, acts_told, can_order, core_left, enabled, event, head_access, step, told}
+use Rattle.tso_invariant.specs.Holds.{TsoHolds, is_asking}
+use Rattle.tso_invariant.proofs.Kept.{core_port, enabled_core, holds_kept, step_cores}
+use Rattle.tso_core.specs.declared.marks.Marks.{Marks}
+use Rattle.tso_core.specs.declared.standing.Standing.{Standing}
+use Rattle.tso_core.specs.Machineries.{Machinery, heads_roomy}
+use Rattle.tso_core.specs.Marks.{AllMarked, IsWithin, OthersMarked, is_marked}
+use Rattle.tso_core.specs.Moving.{StepsTo, rider_left}
+use Rattle.tso_core.specs.Standings.{NotesFit, StandingsFit, may_execute, standing_at}
+use Rattle.tso_core.specs.Workings.{MayAsk}
+use Rattle.tso_core.proofs.AtPort.{
+  AreHere,
+  acts_here,
+  asking_here,
+  here_append,
+  own_messages,
+  own_responses,
+  port_acts,
+  telling_here,
+}
+use Rattle.tso_core.proofs.Elsewhere.{MovedAt, moved_cores, requests_other}
+use Rattle.tso_core.proofs.Heads.{order_standing}
+use Rattle.tso_core.proofs.Renewed.{core_marked, moved_marked, order_marked, own_marked}
+use Rattle.tso_core.proofs.Standings.{moved_stands, stands_at}
+use Rattle.tso_core.proofs.Turns.{request_stays, response_stays}
+
+module _ {R K : Type 0} where
+  -- ---- a core's own move, the ordering of an access, and a message
+
+  core_here : (riding : Riding R) (carrying : Carrying K) (rider : R) (s : State R K) (c : ℕ) →
+      AreHere c (acts riding carrying rider s (CoreMove c))
+  core_here riding carrying rider s c =
+      let e = event riding carrying s (CoreMove c) in
+      here_append c _ (acts_told c rider (told riding carrying s (CoreMove c)))
+      (asking_here R c (need_access (need s.image (core_at s.cores c).core)) e)
+      (telling_here c rider (told riding carrying s (CoreMove c)))
+
+  order_here : (riding : Riding R) (carrying : Carrying K) (rider : R) (s : State R K) (c : ℕ) →
+      AreHere c (acts riding carrying rider s (OrderMove c))
+  order_here riding carrying rider s c =
+      let e = event riding carrying s (OrderMove c) in
+      here_append c _ (acts_told c rider (told riding carrying s (OrderMove c)))
+      (asking_here R c (head_access (core_at s.cores c).queue) e)
+      (telling_here c rider (told riding carrying s (OrderMove c)))
+
+  message_here : (riding : Riding R) (carrying : Carrying K) (rider : R) (s : State R K) (c : ℕ) →
+      AreHere c (acts riding carrying rider s (MessageMove c))
+  message_here riding carrying rider s c = (refl, telling_here c rider (told riding carrying s (MessageMove c)))
+
+  -- such acts change their core's port alone
+  memory_is : (riding : Riding R) (carrying : Carrying K) (rider : R) (s t : State R K) (m : Move) →
+      core_of m < length s.memory.ports →
+      AreHere (core_of m) (acts riding carrying rider s m) → t ≡ step riding carrying rider s m →
+      t.memory ≡ record s.memory {
+        ports = slice_set s.memory.ports (core_of m)
+            (port_acts riding carrying (acts riding carrying rider s m) (port_at carrying s.memory.ports (core_of m)));
+      }
+  memory_is riding carrying rider s t m within here is =
+      ap (λ (x : State R K). x.memory) is ∙ acts_here riding carrying s.memory (core_of m)
+      (acts riding carrying rider s m) here within
+
+  moves_by : (riding : Riding R) (carrying : Carrying K) (rider : R) (s t : State R K) (m : Move) →
+      core_of m < length s.memory.ports →
+      AreHere (core_of m) (acts riding carrying rider s m) → t ≡ step riding carrying rider s m →
+      (step riding carrying rider s m).cores ≡ slice_set s.cores (core_of m) (core_left riding carrying s m) →
+      MovedAt s t (core_of m)
+  moves_by riding carrying rider s t m within here is cores =
+      let memory = memory_is riding carrying rider s t m within here is in
+      record {
+        core = core_left riding carrying s m;
+        port = port_acts riding carrying (acts riding carrying rider s m) (port_at carrying s.memory.ports (core_of m));
+        image = ap (λ (x : State R K). x.image) is;
+        cores = ap (λ (x : State R K). x.cores) is ∙ cores;
+        ports = ap (λ (n : Memory R K). n.ports) memory;
+        home = ap (λ (n : Memory R K). n.home) memory;
+      }
+
+  pub core_moves : (riding : Riding R) (carrying : Carrying K) (rider : R) (s t : State R K) (c : ℕ) →
+      c < length s.memory.ports →
+      t ≡ step riding carrying rider s (CoreMove c) → MovedAt s t c
+  core_moves riding carrying rider s t c within is = moves_by riding carrying rider s t (CoreMove c) within
+      (core_here riding carrying rider s c) is refl
+
+  pub order_moves : (riding : Riding R) (carrying : Carrying K) (rider : R) (s t : State R K) (c : ℕ) →
+      c < length s.memory.ports →
+      t ≡ step riding carrying rider s (OrderMove c) → MovedAt s t c
+  order_moves riding carrying rider s t c within is = moves_by riding carrying rider s t (OrderMove c) within
+      (order_here riding carrying rider s c) is refl
+
+  pub message_moves : (riding : Riding R) (carrying : Carrying K) (rider : R) (s t : State R K) (c : ℕ) →
+      c < length s.memory.ports →
+      t ≡ step riding carrying rider s (MessageMove c) → MovedAt s t c
+  message_moves riding carrying rider s t c within is =
+      moves_by riding carrying rider s t (MessageMove c) within (message_here riding carrying rider s c) is refl
+
+  -- ---- the marks after them
+
+  pub core_marks : (riding : Riding R) (carrying : Carrying K) (rider : R) (s t : State R K) (old new : Marks) (c : ℕ)
+      (kept : Standing) →
+      AllMarked riding carrying s old → t ≡ step riding carrying rider s (CoreMove c) → c < length s.cores →
+      c < length s.memory.ports →
+      kept ≡ standing_at t c → new.cores ≡ old.cores → (IsWithin old → IsWithin new) →
+      is_marked new (CoreMove c) ≡ may_execute riding kept (core_at t.cores c) (port_at carrying t.memory.ports c) →
+      is_marked new (OrderMove c) ≡ can_order (core_at t.cores c).queue riding (port_at carrying t.memory.ports c) →
+      ((m : Move) → m ≢ CoreMove c → m ≢ OrderMove c → is_marked new m ≡ is_marked old m) →
+      OthersMarked riding carrying t new c
+  unfolding core_moves moves_by
+  core_marks riding carrying rider s t old new c kept all is here port stands cores within this order others =
+      let wanted = need_access (need s.image (core_at s.cores c).core) in
+      let e = event riding carrying s (CoreMove c) in
+      let list = told riding carrying s (CoreMove c) in
+      let p = port_at carrying s.memory.ports c in
+      core_marked riding carrying s t old new c kept all (core_moves riding carrying rider s t c port is) here port
+      (own_responses riding carrying c rider wanted e list p) (own_messages riding carrying c rider wanted e list p)
+      stands cores within this order others
+
+  pub order_marks : (riding : Riding R) (carrying : Carrying K) (rider : R) (s t : State R K) (old new : Marks) (c : ℕ)
+      (kept : Standing) →
+      AllMarked riding carrying s old → t ≡ step riding carrying rider s (OrderMove c) → c < length s.cores →
+      c < length s.memory.ports →
+      kept ≡ standing_at t c → new.cores ≡ old.cores → (IsWithin old → IsWithin new) →
+      is_marked new (CoreMove c) ≡ may_execute riding kept (core_at t.cores c) (port_at carrying t.memory.ports c) →
+      is_marked new (OrderMove c) ≡ can_order (core_at t.cores c).queue riding (port_at carrying t.memory.ports c) →
+      ((m : Move) → m ≢ CoreMove c → m ≢ OrderMove c → is_marked new m ≡ is_marked old m) →
+      OthersMarked riding carrying t new c
+  unfolding order_moves moves_by
+  order_marks riding carrying rider s t old new c kept all is here port stands cores within this order others =
+      let wanted = head_access (core_at s.cores c).queue in
+      let e = event riding carrying s (OrderMove c) in
+      let list = told riding carrying s (OrderMove c) in
+      let p = port_at carrying s.memory.ports c in
+      core_marked riding carrying s t old new c kept all (order_moves riding carrying rider s t c port is) here port
+      (own_responses riding carrying c rider wanted e list p) (own_messages riding carrying c rider wanted e list p)
+      stands cores within this order others
+
+  pub message_marks : (riding : Riding R) (carrying : Carrying K) (rider : R) (s t : State R K) (old new : Marks)
+      (c : ℕ) (kept : Standing) →
+      AllMarked riding carrying s old → t ≡ step riding carrying rider s (MessageMove c) → c < length s.cores →
+      c < length s.memory.ports →
+      kept ≡ standing_at t c → new.cores ≡ old.cores → (IsWithin old → IsWithin new) →
+      is_marked new (CoreMove c) ≡ may_execute riding kept (core_at t.cores c) (port_at carrying t.memory.ports c) →
+      is_marked new (OrderMove c) ≡ can_order (core_at t.cores c).queue riding (port_at carrying t.memory.ports c) →
+      is_marked new (ResponseMove c) ≡ can riding carrying t.memory (TakeResponse c) →
+      is_marked new (MessageMove c) ≡ can riding carrying t.memory (TakeMessage c) →
+      ((m : Move) → core_of m ≢ c → is_marked new m ≡ is_marked old m) → OthersMarked riding carrying t new c
+  message_marks riding carrying rider s t old new c kept all is here port stands cores within own order response message
+      others =
+      let moved = message_moves riding carrying rider s t c port is in
+      let there = subst (λ (n : ℕ). c < n) (sym (moved_cores carrying s t c moved)) here in
+      moved_marked riding carrying s t old new c all moved cores within (own
+      ∙ own_marked riding carrying t c kept there stands)
+      (order ∙ order_marked riding carrying t c there) response message others
+
+  -- ---- a move changes no requests but those of its own core
+  requests_stay : (riding : Riding R) (carrying : Carrying K) (rider : R) (s : State R K) (m : Move) (d : ℕ) →
+      core_of m < length s.memory.ports →
+      d ≢ core_of m → requests_at (step riding carrying rider s m).memory.ports d ≡ requests_at s.memory.ports d
+  requests_stay riding carrying rider s (CoreMove c) d within other =
+      requests_other carrying s (step riding carrying rider s (CoreMove c)) c
+      (core_moves riding carrying rider s (step riding carrying rider s (CoreMove c)) c within refl) d other
+  requests_stay riding carrying rider s (OrderMove c) d within other =
+      requests_other carrying s (step riding carrying rider s (OrderMove c)) c
+      (order_moves riding carrying rider s (step riding carrying rider s (OrderMove c)) c within refl) d other
+  requests_stay riding carrying rider s (MessageMove c) d within other =
+      requests_other carrying s (step riding carrying rider s (MessageMove c)) c
+      (message_moves riding carrying rider s (step riding carrying rider s (MessageMove c)) c within refl) d other
+  requests_stay riding carrying rider s (RequestMove c) d within other =
+      request_stays riding carrying s.memory c d other
+  requests_stay riding carrying rider s (ResponseMove c) d within other =
+      response_stays riding carrying s.memory c d other
+
+  -- so where each head's block had room, only the mover's may have none
+  pub others_roomy : (riding : Riding R) (carrying : Carrying K) (rider : R) (old new : Machinery R K) (m : Move) →
+      core_of m < length old.state.memory.ports → heads_roomy old ≡ true →
+      new.state ≡ step riding carrying rider old.state m → new.rooms ≡ old.rooms →
+      OthersRoomy new.state.memory.ports (core_of m) new.rooms
+  others_roomy riding carrying rider old new m within roomy is same d other =
+      (λ i. head_roomy (requests_at (is i).memory.ports d) (same i))
+      ∙ (λ i. head_roomy (requests_stay riding carrying rider old.state m d within other i) old.rooms)
+      ∙ each_roomy old.state.memory.ports old.rooms roomy d
+
+  -- ---- what is kept of each core follows a move that can be made
+  pub kept_here : (riding : Riding R) (carrying : Carrying K) (s : State R K) (taken : Move) (c : ℕ)
+      (standings : List Standing) (d : Standing) →
+      TsoHolds riding carrying s → enabled riding carrying s taken ≡ true → core_of taken ≡ c →
+      StandingsFit s standings →
+      get_or standings c d ≡ standing_at s c
+  kept_here riding carrying s taken c standings d holds can_be at fit =
+      stands_at s standings c d fit (subst (λ (k : ℕ). k < length s.cores) at (enabled_core riding carrying s taken
+      can_be holds))
+
+  pub core_stands : (riding : Riding R) (carrying : Carrying K) (rider : R) (s t : State R K) (taken : Move) (c : ℕ)
+      (standings : List Standing)
+      (kept : Standing) → TsoHolds riding carrying s → enabled riding carrying s taken ≡ true → taken ≡ CoreMove c →
+      StandingsFit s standings →
+      t ≡ step riding carrying rider s (CoreMove c) → kept ≡ standing_at t c →
+      StandingsFit t (slice_set standings c kept)
+  core_stands riding carrying rider s t taken c standings kept holds can_be at fit is stands =
+      let here : c < length s.cores = subst (λ (m : Move). core_of m < length s.cores) at
+      (enabled_core riding carrying s taken can_be holds) in
+      let port : c < length s.memory.ports = core_port riding carrying s c holds here in
+      moved_stands carrying s t standings c kept (core_moves riding carrying rider s t c port is) fit here stands
+
+  pub order_stands : (riding : Riding R) (carrying : Carrying K) (rider : R) (s t : State R K) (taken : Move) (c : ℕ)
+      (standings : List Standing)
+      (d : Standing) → TsoHolds riding carrying s → enabled riding carrying s taken ≡ true → taken ≡ OrderMove c →
+      StandingsFit s standings →
+      t ≡ step riding carrying rider s (OrderMove c) → StandingsFit t standings
+  order_stands riding carrying rider s t taken c standings d holds can_be at fit is =
+      let here : c < length s.cores = subst (λ (m : Move). core_of m < length s.cores) at
+      (enabled_core riding carrying s taken can_be holds) in
+      let port : c < length s.memory.ports = core_port riding carrying s c holds here in
+      let same : get_or standings c d ≡ standing_at t c = stands_at s standings c d fit here
+      ∙ order_standing riding carrying rider s t c is here in
+      subst (λ (xs : List Standing). StandingsFit t xs) (set-get_or standings c d)
+      (moved_stands carrying s t standings c (get_or standings c d) (order_moves riding carrying rider s t c port is)
+      fit here same)
+
+  pub message_stands : (riding : Riding R) (carrying : Carrying K) (rider : R) (s t : State R K) (taken : Move) (c : ℕ)
+      (standings : List Standing)
+      (kept : Standing) → TsoHolds riding carrying s → enabled riding carrying s taken ≡ true → taken ≡ MessageMove c →
+      StandingsFit s standings →
+      t ≡ step riding carrying rider s (MessageMove c) → kept ≡ standing_at t c →
+      StandingsFit t (slice_set standings c kept)
+  message_stands riding carrying rider s t taken c standings kept holds can_be at fit is stands =
+      let here : c < length s.cores = subst (λ (m : Move). core_of m < length s.cores) at
+      (enabled_core riding carrying s taken can_be holds) in
+      let port : c < length s.memory.ports = core_port riding carrying s c holds here in
+      moved_stands carrying s t standings c kept (message_moves riding carrying rider s t c port is) fit here stands
+
+  -- a machine's notes follow a move
+  pub notes_kept : (riding : Riding R) (carrying : Carrying K) (old new : Machinery R K) (m : Move)
+      (standings kept : List Standing) (marks : Marks)
+      (mover : ℕ) → heads_roomy old ≡ true → TsoHolds riding carrying old.state →
+      enabled riding carrying old.state m ≡ true →
+      StepsTo riding carrying old.state new.state m → new.rooms ≡ old.rooms → StandingsFit new.state kept →
+      standings ≡ kept →
+      OthersMarked riding carrying new.state marks (core_of m) → mover ≡ core_of m →
+      NotesFit riding carrying new standings marks mover
+  notes_kept riding carrying old new m standings kept marks mover roomy holds can_be is same fit all others mine =
+      let rider : R = rider_left riding carrying old.state new.state m in
+      let here : core_of m < length old.state.memory.ports =
+      core_port riding carrying old.state (core_of m) holds (enabled_core riding carrying old.state m can_be holds) in
+      record {
+        holds = subst (λ (s : State R K). TsoHolds riding carrying s) (sym is) (holds_kept riding carrying old.state m
+            rider can_be holds);
+        stands = subst (λ (xs : List Standing). StandingsFit new.state xs) (sym all) fit;
+        marked = subst (λ (c : ℕ). OthersMarked riding carrying new.state marks c) (sym mine) others;
+        roomy = subst (λ (c : ℕ). OthersRoomy new.state.memory.ports c new.rooms) (sym mine)
+            (others_roomy riding carrying rider old new m here roomy is same);
+      }
+
+  -- ---- what is seen of the machine after a move that can be made
+  module _ (riding : Riding R) (carrying : Carrying K) (s : State R K) (m : Move) (seen now : Machinery R K) (c : ℕ)
+      (view : seen ≡ now)
+      (holds : TsoHolds riding carrying s) (can_be : enabled riding carrying s m ≡ true)
+      (is : StepsTo riding carrying s now.state m)
+      (mine : core_of m ≡ c) where
+    after : TsoHolds riding carrying now.state
+    after = subst (λ (t : State R K). TsoHolds riding carrying t) (sym is)
+        (holds_kept riding carrying s m (rider_left riding carrying s now.state m) can_be holds)
+
+    pub core_before : c < length s.cores
+    core_before = subst (λ (d : ℕ). d < length s.cores) mine (enabled_core riding carrying s m can_be holds)
+
+    pub port_before : c < length s.memory.ports
+    port_before = core_port riding carrying s c holds core_before
+
+    core_after : c < length now.state.cores
+    core_after = subst (λ (n : ℕ). c < n)
+        (sym (ap (λ (t : State R K). length t.cores) is
+        ∙ step_cores riding carrying (rider_left riding carrying s now.state m) s m)) core_before
+
+    pub port_seen : c < length seen.state.memory.ports
+    port_seen = subst (λ (x : Machinery R K). c < length x.state.memory.ports) (sym view)
+        (core_port riding carrying now.state c after core_after)
+
+    -- the core that is found in its place
+    pub core_seen : (t : BufferedCore) → t ≡ get_or seen.state.cores c t → t ≡ core_at now.state.cores c
+    core_seen t read =
+        get_or_read seen.state.cores c t (subst (λ (x : Machinery R K). c < length x.state.cores) (sym view) core_after)
+        read (buffered_start 0 0)
+        ∙ ap (λ (x : Machinery R K). core_at x.state.cores c) view
+
+    pub asked_seen : (t : BufferedCore) → t ≡ get_or seen.state.cores c t →
+        waits (port_at carrying seen.state.memory.ports c).cache ≡ is_asking t.asker
+    asked_seen t read =
+        ap (λ (x : Machinery R K). waits (port_at carrying x.state.memory.ports c).cache) view
+        ∙ (after.cores c core_after).waiting
+        ∙ ap (λ (u : BufferedCore). is_asking u.asker) (sym (core_seen t read))
+
+    -- what was seen to be possible
+    pub executes_seen : (kept : Standing) (t : BufferedCore) → t ≡ get_or seen.state.cores c t →
+        may_execute riding kept t (port_at carrying seen.state.memory.ports c)
+        ≡ may_execute riding kept (core_at now.state.cores c) (port_at carrying now.state.memory.ports c)
+    executes_seen kept t read = λ i. may_execute riding kept (core_seen t read i)
+        (port_at carrying (view i).state.memory.ports c)
+
+    pub orders_seen : (t : BufferedCore) → t ≡ get_or seen.state.cores c t →
+        can_order t.queue riding (port_at carrying seen.state.memory.ports c)
+        ≡ can_order (core_at now.state.cores c).queue riding (port_at carrying now.state.memory.ports c)
+    orders_seen t read = λ i. can_order (core_seen t read i).queue riding (port_at carrying (view i).state.memory.ports
+        c)
+
+  -- a port that doesn't wait has room for a request
+  pub room_still : (riding : Riding R) (carrying : Carrying K) (s : State R K) (m : Move) (c : ℕ) →
+      TsoHolds riding carrying s →
+      enabled riding carrying s m ≡ true → core_of m ≡ c → MayAsk carrying s c
+  room_still riding carrying s m c h can_be mine still =
+      let within : c < length s.cores = subst (λ (d : ℕ). d < length s.cores) mine (enabled_core riding carrying s m
+      can_be h) in
+      let there : c < length s.memory.ports = core_port riding carrying s c h within in
+      rw (no_requests riding carrying s.memory c h.memory there still, (h.memory.ports c there).requests_room)
+      (omega arith)

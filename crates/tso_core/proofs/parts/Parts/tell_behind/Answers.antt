@@ -1,0 +1,84 @@
+use Rattle.std.proofs.Common.{◌≡◌, ◌∙◌, ◌<◌, ◌-◌, ◌+◌, sym, subst, ap, ℕ, List, length, arith}
+use Rattle.std.proofs.lemmas.List.{get_or_read, length-set}
+use Rattle.msi_memory.specs.Memories.{Memory, port_at}
+use Rattle.tso_clerk.specs.Telling.{TellsAll}
+use Rattle.tso_state.specs.Events.{count_before}
+use Rattle.tso_state.specs.States.{BufferedCore, buffered_start, core_at}
+use Rattle.tso_core.specs.Machineries.{Machinery}
+use Rattle.tso_core.specs.Workings.{HasTold, locals_of}
+use Rattle.tso_core.proofs.Telling.{Behind, instr, one_told, told_many}
+use Rattle.tso_core.proofs.parts.Parts.tell_behind.Goals as goal
+
+pub loop-last-preserved : goal.loop-last-preserved
+loop-last-preserved g c =
+    let core : ℕ = (core_at c.args.self.now.state.cores c.args.c).core.id in
+    let before = subst (λ (m : Machinery g.row.R.Denot g.row.K.Denot). Behind g.C.Clerk.accepts
+    g.C.TsoClerk.accepts_alone g.C.Clerk.told_local
+    g.C.Clerk.told_touch g.C.TsoClerk.told_logged g.R.Rider.riding g.K.Carry.carrying c.args.self.now.state m.state
+    c.args.c core c.args.count
+    c.loop-last.last c.count_before-until.result c.args.clerk.now c.loop-last.clerk) (sym
+    c.self-in-loop-last.view_is) c.loop-last.invariant.behind in
+    let at_is : c.instr-at.result ≡ instr core (c.loop-last.last + 1) =
+    c.instr-at.ensures
+    ∙ ap (λ (cores : List BufferedCore). instr (core_at cores c.args.c).core.id (c.loop-last.last + 1))
+    c.loop-last.invariant.cores in
+    record {
+      behind = one_told g.C.Clerk.accepts g.C.TsoClerk.accepts_alone g.C.Clerk.told_local g.C.Clerk.told_touch
+          g.C.TsoClerk.told_logged
+          g.R.Rider.riding g.K.Carry.carrying c.args.self.now.state _ c.args.c core c.args.count c.loop-last.last
+          c.count_before-until.result
+          c.args.clerk.now c.loop-last.clerk before c.loop-last-test.true c.instr-at.result at_is
+          c.retire.new.self.memory _ c.alone.new.self
+          c.retire.ensures.memory c.retire.ensures.carry c.carry.ensures c.alone.ensures;
+      cores = ap (λ (m : Machinery g.row.R.Denot g.row.K.Denot). m.state.cores) c.self-in-loop-last.view_is
+          ∙ c.loop-last.invariant.cores;
+      port = subst (λ (m : Memory g.row.R.Denot g.row.K.Denot). c.args.c < length m.ports) (sym c.retire.ensures.memory)
+          (subst (λ (n : ℕ). c.args.c < n) (sym (length-set c.self-in-loop-last.inside.memory.memory.ports c.args.c _))
+          (subst (λ (m : Machinery g.row.R.Denot g.row.K.Denot). c.args.c < length m.state.memory.ports)
+          (sym c.self-in-loop-last.view_is)
+          c.loop-last.invariant.port));
+      few = λ past. absurd (let started = c.loop-last.invariant.behind.started in
+          omega (arith, c.loop-last-test.true, started, past));
+      rooms = c.retire.ensures.rooms ∙ ap (λ (m : Machinery g.row.R.Denot g.row.K.Denot). m.rooms)
+          c.self-in-loop-last.view_is
+          ∙ c.loop-last.invariant.rooms;
+    }
+
+pub returns-clause-state : goal.returns-clause-state
+returns-clause-state g c = λ rider.
+    let t : BufferedCore = core_at c.args.self.now.state.cores c.args.c in
+    let here : c.args.c < length c.self.inside.cores.items =
+    subst (λ (m : Machinery g.row.R.Denot g.row.K.Denot). c.args.c < length m.state.cores) (sym c.self.view_is)
+    c.requires.here in
+    let station : c.index.result.now ≡ t =
+    get_or_read c.self.inside.cores.items c.args.c c.index.result.now here c.index.ensures (buffered_start 0 0)
+    ∙ ap (λ (m : Machinery g.row.R.Denot g.row.K.Denot). core_at m.state.cores c.args.c) c.self.view_is in
+    let until : c.count_before-until.result ≡ count_before t.core t.queue =
+    c.count_before-until.ensures ∙ ap (λ (x : BufferedCore). count_before x.core x.queue) station in
+    let many : c.loop-last.last - c.args.count ≡ count_before t.core t.queue - c.args.count =
+    told_many c.args.count c.loop-last.last c.count_before-until.result c.loop-last-test.false c.loop-last.auto.last-end
+    c.loop-last.invariant.few
+    ∙ ap (λ (n : ℕ). n - c.args.count) until in
+    subst (λ (n : ℕ). HasTold g.R.Rider.riding g.K.Carry.carrying c.args.self.now.state c.loop-last.self.state c.args.c
+    rider
+    (locals_of t.core.id c.args.count n)) many (c.loop-last.invariant.behind.state rider)
+
+pub returns-clause-told : goal.returns-clause-told
+returns-clause-told g c = λ found left.
+    let t : BufferedCore = core_at c.args.self.now.state.cores c.args.c in
+    let here : c.args.c < length c.self.inside.cores.items =
+    subst (λ (m : Machinery g.row.R.Denot g.row.K.Denot). c.args.c < length m.state.cores) (sym c.self.view_is)
+    c.requires.here in
+    let station : c.index.result.now ≡ t =
+    get_or_read c.self.inside.cores.items c.args.c c.index.result.now here c.index.ensures (buffered_start 0 0)
+    ∙ ap (λ (m : Machinery g.row.R.Denot g.row.K.Denot). core_at m.state.cores c.args.c) c.self.view_is in
+    let until : c.count_before-until.result ≡ count_before t.core t.queue =
+    c.count_before-until.ensures ∙ ap (λ (x : BufferedCore). count_before x.core x.queue) station in
+    let many : c.loop-last.last - c.args.count ≡ count_before t.core t.queue - c.args.count =
+    told_many c.args.count c.loop-last.last c.count_before-until.result c.loop-last-test.false c.loop-last.auto.last-end
+    c.loop-last.invariant.few
+    ∙ ap (λ (n : ℕ). n - c.args.count) until in
+    subst (λ (n : ℕ). TellsAll g.C.Clerk.told_local g.C.Clerk.told_touch g.C.TsoClerk.told_logged g.K.Carry.carrying
+    (locals_of t.core.id c.args.count n) (port_at g.K.Carry.carrying c.args.self.now.state.memory.ports c.args.c).carry
+    c.args.clerk.now found
+    c.loop-last.clerk left) many (c.loop-last.invariant.behind.told found left)

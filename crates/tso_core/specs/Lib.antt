@@ -1,0 +1,10 @@
+pub mod Machineries
+pub mod Numbers
+pub mod Queues
+pub mod Moving
+pub mod Writers
+pub mod Steppings
+pub mod TimedSteps
+pub mod Marks
+pub mod Standings
+pub mod Workings

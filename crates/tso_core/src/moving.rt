@@ -1,0 +1,155 @@
+//! Each kind of move, with what is noted beside the state.
+ghost use Rattle.std.specs.Prelude.{◌≡◌, IsTrue};
+ghost use Rattle.tso_invariant.specs.Holds.{TsoHolds};
+ghost use Rattle.tso_state.specs.declared.moves.Move.{Move};
+ghost use Rattle.tso_state.specs.Moves.{core_of};
+ghost use Rattle.tso_state.specs.Steps.{enabled};
+ghost use Rattle.tso_core.specs.Machineries.{heads_roomy};
+ghost use Rattle.tso_core.specs.Marks.{AllMarked, OthersMarked};
+ghost use Rattle.tso_core.specs.Moving.{AcceptsOf, StepsTo, TellsOf};
+ghost use Rattle.tso_core.specs.Standings.{StandingsFit, standing_at};
+
+use crate::marking::{mark_core, mark_own, mark_turn};
+use crate::marks::Marks;
+use crate::parts::Parts;
+use crate::standing::Standing;
+use access_times::{Carry, Rider};
+use tso_clerk::TsoClerk;
+use tso_state::Move;
+
+impl<R: Rider, K: Carry> Parts<R, K> {
+    /// Makes a move that can be made. What was kept of its core is renewed, and the marks of the moves that
+    /// can be made become those of the moves that can be then, but perhaps for the core's own request.
+    pub(crate) fn make_move<C: TsoClerk<R, K>>(
+        &mut self,
+        taken: Move,
+        standings: &mut [Standing],
+        marks: &mut Marks,
+        clerk: &mut C,
+    )
+        requires holds { TsoHolds R.riding K.carrying self.old.state }
+        requires enabled { IsTrue (enabled R.riding K.carrying self.old.state taken) }
+        requires stands { StandingsFit self.old.state standings.old }
+        requires marked { AllMarked R.riding K.carrying self.old.state marks.old }
+        requires roomy { IsTrue (heads_roomy self.old) }
+        requires accepts { AcceptsOf C.accepts C.accepts_alone C.told_local C.told_touch C.told_logged R.riding
+            K.carrying self.old.state taken clerk.old }
+        ensures state { StepsTo R.riding K.carrying self.old.state self.new.state taken }
+        ensures rooms { self.new.rooms ≡ self.old.rooms }
+        ensures told { TellsOf C.told_local C.told_touch C.told_logged R.riding K.carrying self.old.state
+            self.new.state taken clerk.old clerk.new }
+        ensures stands { StandingsFit self.new.state standings.new }
+        ensures marked { OthersMarked R.riding K.carrying self.new.state marks.new (core_of taken) }
+    {
+        match taken {
+            Move::Core(c) => self.move_core(c, &mut standings[c as usize], marks, clerk),
+            Move::Order(c) => self.move_order(c, standings[c as usize], marks, clerk),
+            Move::Request(c) => self.take_request(c, marks),
+            Move::Response(c) => self.take_response(c, marks),
+            Move::FromHome(c) => self.take_message(c, &mut standings[c as usize], marks, clerk),
+        }
+    }
+
+    /// Core `c` moves.
+    fn move_core<C: TsoClerk<R, K>>(
+        &mut self,
+        c: u8,
+        standing: &mut Standing,
+        marks: &mut Marks,
+        clerk: &mut C,
+    )
+        requires holds { TsoHolds R.riding K.carrying self.old.state }
+        requires enabled { IsTrue (enabled R.riding K.carrying self.old.state (Move.Core c)) }
+        requires stands { standing.old ≡ standing_at self.old.state c }
+        requires marked { AllMarked R.riding K.carrying self.old.state marks.old }
+        requires accepts { AcceptsOf C.accepts C.accepts_alone C.told_local C.told_touch C.told_logged R.riding
+            K.carrying self.old.state (Move.Core c) clerk.old }
+        ensures state { StepsTo R.riding K.carrying self.old.state self.new.state (Move.Core c) }
+        ensures rooms { self.new.rooms ≡ self.old.rooms }
+        ensures told { TellsOf C.told_local C.told_touch C.told_logged R.riding K.carrying self.old.state
+            self.new.state (Move.Core c) clerk.old clerk.new }
+        ensures renewed { standing.new ≡ standing_at self.new.state c }
+        ensures marked { OthersMarked R.riding K.carrying self.new.state marks.new c }
+    {
+        self.work(c, standing, clerk);
+        mark_own(&self.memory, c, &self.cores[c as usize], *standing, marks);
+    }
+
+    /// The oldest pending access of core `c` is ordered, or asks.
+    fn move_order<C: TsoClerk<R, K>>(
+        &mut self,
+        c: u8,
+        standing: Standing,
+        marks: &mut Marks,
+        clerk: &mut C,
+    )
+        requires holds { TsoHolds R.riding K.carrying self.old.state }
+        requires enabled { IsTrue (enabled R.riding K.carrying self.old.state (Move.Order c)) }
+        requires stands { standing ≡ standing_at self.old.state c }
+        requires marked { AllMarked R.riding K.carrying self.old.state marks.old }
+        requires accepts { AcceptsOf C.accepts C.accepts_alone C.told_local C.told_touch C.told_logged R.riding
+            K.carrying self.old.state (Move.Order c) clerk.old }
+        ensures state { StepsTo R.riding K.carrying self.old.state self.new.state (Move.Order c) }
+        ensures rooms { self.new.rooms ≡ self.old.rooms }
+        ensures told { TellsOf C.told_local C.told_touch C.told_logged R.riding K.carrying self.old.state
+            self.new.state (Move.Order c) clerk.old clerk.new }
+        ensures marked { OthersMarked R.riding K.carrying self.new.state marks.new c }
+    {
+        self.order(c, clerk);
+        mark_own(&self.memory, c, &self.cores[c as usize], standing, marks);
+    }
+
+    /// Core `c` takes the oldest message from home.
+    fn take_message<C: TsoClerk<R, K>>(
+        &mut self,
+        c: u8,
+        standing: &mut Standing,
+        marks: &mut Marks,
+        clerk: &mut C,
+    )
+        requires holds { TsoHolds R.riding K.carrying self.old.state }
+        requires enabled { IsTrue (enabled R.riding K.carrying self.old.state (Move.FromHome c)) }
+        requires stands { standing.old ≡ standing_at self.old.state c }
+        requires marked { AllMarked R.riding K.carrying self.old.state marks.old }
+        requires accepts { AcceptsOf C.accepts C.accepts_alone C.told_local C.told_touch C.told_logged R.riding
+            K.carrying self.old.state (Move.FromHome c) clerk.old }
+        ensures state { StepsTo R.riding K.carrying self.old.state self.new.state (Move.FromHome c) }
+        ensures rooms { self.new.rooms ≡ self.old.rooms }
+        ensures told { TellsOf C.told_local C.told_touch C.told_logged R.riding K.carrying self.old.state
+            self.new.state (Move.FromHome c) clerk.old clerk.new }
+        ensures renewed { standing.new ≡ standing_at self.new.state c }
+        ensures marked { OthersMarked R.riding K.carrying self.new.state marks.new c }
+    {
+        self.receive(c, standing, clerk);
+        mark_core(&self.memory, c, &self.cores[c as usize], *standing, marks);
+    }
+
+    /// The home takes core `c`'s oldest request.
+    fn take_request(&mut self, c: u8, marks: &mut Marks)
+        requires holds { TsoHolds R.riding K.carrying self.old.state }
+        requires enabled { IsTrue (enabled R.riding K.carrying self.old.state (Move.Request c)) }
+        requires marked { AllMarked R.riding K.carrying self.old.state marks.old }
+        requires roomy { IsTrue (heads_roomy self.old) }
+        ensures state { StepsTo R.riding K.carrying self.old.state self.new.state (Move.Request c) }
+        ensures rooms { self.new.rooms ≡ self.old.rooms }
+        ensures marked { OthersMarked R.riding K.carrying self.new.state marks.new c }
+    {
+        // a request is taken only where its block is free, and a response only where it isn't
+        let turn = self.memory.take_request(c);
+        mark_turn(&self.memory, turn, true, marks);
+    }
+
+    /// The home takes core `c`'s oldest response.
+    fn take_response(&mut self, c: u8, marks: &mut Marks)
+        requires holds { TsoHolds R.riding K.carrying self.old.state }
+        requires enabled { IsTrue (enabled R.riding K.carrying self.old.state (Move.Response c)) }
+        requires marked { AllMarked R.riding K.carrying self.old.state marks.old }
+        ensures state { StepsTo R.riding K.carrying self.old.state self.new.state (Move.Response c) }
+        ensures rooms { self.new.rooms ≡ self.old.rooms }
+        ensures marked { OthersMarked R.riding K.carrying self.new.state marks.new c }
+    {
+        let turn = self.memory.take_response(c);
+        marks.set(Move::Response(c), self.memory.has_response(c));
+        mark_turn(&self.memory, turn, false, marks);
+    }
+}

@@ -1,0 +1,246 @@
+//! Runs of two cores by choices that a plain program computed: the same that `tso_examples` computes from the
+//! definitions, and what they leave.
+ghost use Rattle.std.specs.Prelude.{◌≡◌, length};
+ghost use Rattle.tso_machine_examples.specs.declared.images.TheConstants.{WORDS};
+
+use crate::again::{machine_of, make_room};
+use crate::images::{
+    ALL_ZERO, BYTES_BUFFERED, BYTES_OF_A_WORD, HANDED_OVER, MIXED, MIXED_ENDS, ONE_LOGGED,
+    OWN_STORE_SEEN, STORE_BUFFERING, SUM, WORDS, choice_at,
+};
+use access_times::{Carry, Clerk, NoCarry, NoRider, Rider};
+use rtr_types::{Access, CORES_MAX, Instr, Params};
+use std::alloc::Global;
+use std::test::Fail;
+use tso_clerk::TsoClerk;
+use tso_core::BufferedMachine;
+
+/// The most logged loads that a clerk keeps. No run here logs as many.
+const ROOM: usize = 4;
+
+/// A load that is logged: its core, the count of its instruction, the index of its word, and the value that it got.
+type Logged = (u8, u32, u32, u32);
+
+/// Accepts each instruction, counts those without data and the ordered accesses, and keeps the logged loads.
+#[derive(Drop)]
+struct Keeper {
+    alone: u32,
+    ordered: u32,
+    logged: [Logged; ROOM],
+    logs: usize,
+}
+
+impl<R: Rider, K: Carry> Clerk<R, K> for Keeper {
+    ghost accepts = { λ c i. Unit {0} };
+
+    ghost told_local = { λ c i k d. Unit {0} };
+
+    ghost told_touch = { λ c r a k d q. q ≡ r };
+
+    fn local(&mut self, _at: Instr, _carry: &K) {
+        self.alone = self.alone.saturating_add(1);
+    }
+
+    fn touched(&mut self, _access: Access, _rider: &mut R, _carry: &K) {
+        self.ordered = self.ordered.saturating_add(1);
+    }
+}
+
+impl<R: Rider, K: Carry> TsoClerk<R, K> for Keeper {
+    ghost accepts_alone = { λ c i. Unit {0} };
+
+    ghost told_logged = { λ c i w v k d. Unit {0} };
+
+    fn alone(&mut self, _at: Instr, _carry: &K) {
+        self.alone = self.alone.saturating_add(1);
+    }
+
+    fn logged(&mut self, at: Instr, word: u32, value: u32, _carry: &K) {
+        if self.logs < ROOM {
+            self.logged[self.logs] = (at.core, at.count, word, value);
+            self.logs += 1;
+        }
+    }
+}
+
+/// A run of two cores: its choices, behind the last of which all are 0; after how many steps it ends; how many
+/// instructions without data the cores execute; how many accesses are ordered; the loads that are logged; a
+/// register of each core, by its number, and its value; and two words of the memory, by their indices, with their
+/// values.
+struct Run {
+    image: &'static [u8],
+    choices: &'static [u32],
+    steps: u32,
+    alone: u32,
+    ordered: u32,
+    logged: [Logged; 2],
+    logs: usize,
+    registers: [(u8, u32); 2],
+    memory: [(u32, u32); 2],
+}
+
+static RUNS: [Run; 6] = [
+    // each core runs up to its load before any store is ordered: both loads find 0, and both are logged
+    Run {
+        image: &STORE_BUFFERING,
+        choices: &ALL_ZERO,
+        steps: 30,
+        alone: 10,
+        ordered: 2,
+        logged: [(0, 6, 20, 0), (1, 6, 16, 0)],
+        logs: 2,
+        registers: [(11, 0), (11, 0)],
+        memory: [(16, 1), (20, 1)],
+    },
+    // one load finds the new word and is ordered, the other is logged
+    Run {
+        image: &STORE_BUFFERING,
+        choices: &ONE_LOGGED,
+        steps: 29,
+        alone: 10,
+        ordered: 3,
+        logged: [(0, 6, 20, 0), (0, 0, 0, 0)],
+        logs: 1,
+        registers: [(11, 0), (11, 1)],
+        memory: [(16, 1), (20, 1)],
+    },
+    // a load sees its core's own pending store, and is logged, as the word is another's by the time it is ordered
+    Run {
+        image: &HANDED_OVER,
+        choices: &OWN_STORE_SEEN,
+        steps: 24,
+        alone: 5,
+        ordered: 3,
+        logged: [(0, 4, 16, 7), (0, 0, 0, 0)],
+        logs: 1,
+        registers: [(6, 7), (7, 0)],
+        memory: [(16, 1), (17, 0)],
+    },
+    // the word has both bytes
+    Run {
+        image: &BYTES_OF_A_WORD,
+        choices: &BYTES_BUFFERED,
+        steps: 14,
+        alone: 4,
+        ordered: 2,
+        logged: [(0, 0, 0, 0), (0, 0, 0, 0)],
+        logs: 0,
+        registers: [(5, 5), (5, 6)],
+        memory: [(8, 1541), (9, 0)],
+    },
+    // the second sum finds the first
+    Run {
+        image: &SUM,
+        choices: &BYTES_BUFFERED,
+        steps: 14,
+        alone: 6,
+        ordered: 2,
+        logged: [(0, 0, 0, 0), (0, 0, 0, 0)],
+        logs: 0,
+        registers: [(6, 0), (6, 1)],
+        memory: [(8, 3), (9, 0)],
+    },
+    // the fence and the addition wait for the pending stores
+    Run {
+        image: &MIXED,
+        choices: &MIXED_ENDS,
+        steps: 64,
+        alone: 8,
+        ordered: 9,
+        logged: [(1, 5, 16, 19), (0, 0, 0, 0)],
+        logs: 1,
+        registers: [(9, 10), (9, 19)],
+        memory: [(16, 29), (80, 2560)],
+    },
+];
+
+/// Whether the clerk kept exactly the run's logged loads.
+fn has_logged(clerk: &Keeper, run: &Run) -> bool {
+    let [first, second, ..] = clerk.logged;
+    clerk.logs == run.logs && [first, second] == run.logged
+}
+
+/// Whether the machine ends with these registers and these words of its memory.
+fn leaves(machine: &BufferedMachine<NoRider, NoCarry>, run: &Run) -> bool
+    requires cores { length machine.now.state.cores ≡ 2 }
+    requires words { machine.now.state.image.words ≡ WORDS }
+{
+    let [first, second] = run.registers;
+    if machine.core(0).reg(first.0) != first.1 || machine.core(1).reg(second.0) != second.1 {
+        return false;
+    }
+    for (word, value) in run.memory {
+        if !machine.done() || word >= WORDS || machine.final_word(word) != value {
+            return false;
+        }
+    }
+    true
+}
+
+/// Makes the run: how many steps it takes, how many instructions without data and how many accesses the clerk was
+/// told of, whether these loads were logged, and whether it leaves what it should.
+fn made(alloc: Global, run: &Run) -> Result<(u32, u32, u32, bool, bool), Fail> {
+    let params = Params {
+        cores: 2,
+        limit: 10_000,
+        words: WORDS,
+    };
+    let mut machine = machine_of::<NoRider>(alloc, run.image, params)?;
+    let mut clerk = Keeper {
+        alone: 0,
+        ordered: 0,
+        logged: [(0, 0, 0, 0); ROOM],
+        logs: 0,
+    };
+    let mut steps = 0u32;
+    for number in 0..100usize {
+        make_room(&mut machine)?;
+        if !machine.done() && machine.has_room() {
+            let _taken = machine.step(choice_at(run.choices, number), &mut clerk);
+            steps = steps.saturating_add(1);
+        }
+    }
+    let logged = has_logged(&clerk, run);
+    let left = leaves(&machine, run);
+    Ok((steps, clerk.alone, clerk.ordered, logged, left))
+}
+
+#[test]
+fn runs_are_those_of_the_definitions(rt: HostRuntime) -> Result<(), Fail> {
+    for run in &RUNS {
+        let wanted = (run.steps, run.alone, run.ordered, true, true);
+        assert_eq!(rt; made(rt.alloc(), run)?, wanted);
+    }
+    Ok(())
+}
+
+// Each core adds its number and one to the word, which ends as the sum of these numbers from 1 on.
+#[test]
+fn every_core_that_there_may_be_adds_to_one_word(rt: HostRuntime) -> Result<(), Fail> {
+    let params = Params {
+        cores: CORES_MAX,
+        limit: 10,
+        words: WORDS,
+    };
+    let mut machine = machine_of::<NoRider>(rt.alloc(), &SUM, params)?;
+    let mut clerk = Keeper {
+        alone: 0,
+        ordered: 0,
+        logged: [(0, 0, 0, 0); ROOM],
+        logs: 0,
+    };
+    for choice in 0..2_000 {
+        make_room(&mut machine)?;
+        if !machine.done() && machine.has_room() {
+            let _taken = machine.step(choice, &mut clerk);
+        }
+    }
+    assert_eq!(rt; machine.done(), true);
+    assert_eq!(rt; clerk.alone, 48);
+    assert_eq!(rt; clerk.ordered, 16);
+    if machine.done() {
+        assert_eq!(rt; machine.final_word(8), 136);
+    }
+    assert_eq!(rt; machine.into_image().words(), WORDS);
+    Ok(())
+}

@@ -1,0 +1,4 @@
+pub mod ByCore
+pub mod ToldLoads
+pub mod Turns
+pub mod Behind

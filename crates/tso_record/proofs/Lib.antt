@@ -1,0 +1,3 @@
+pub mod ToldValues
+pub mod Telling
+pub mod Standing

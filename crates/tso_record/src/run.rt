@@ -1,0 +1,215 @@
+//! The run of an image by cores with store buffers, recorded.
+ghost use Rattle.std.specs.Prelude.{◌≡◌, ◌<◌, ℕ, suc, IfOk, IsTrue, OnOk, false, length, map, slice_index};
+ghost use Rattle.conflict_edge.specs.Least.{IsLeast};
+ghost use Rattle.image_mem.specs.Contents.{Contents};
+ghost use Rattle.log_codec.specs.Sources.{log_edges};
+ghost use Rattle.rtr_types.specs.Parameters.{Fits};
+ghost use Rattle.rtr_types.specs.declared.pairs.Which.TheVariants.{Reduced};
+ghost use Rattle.rtr_types.specs.declared.params.Params.{Params};
+ghost use Rattle.schedule_pick.specs.Choices.{Choices};
+ghost use Rattle.tso_answers.specs.Logged.{AreLogged};
+ghost use Rattle.tso_answers.specs.Schedules.{tso_accesses_of, tso_order_of, tso_recording_of};
+ghost use Rattle.tso_bound.specs.Bound.{left};
+ghost use Rattle.tso_codec.specs.Validity.{IsTso, plain_of};
+ghost use Rattle.tso_core.specs.Machineries.{heads_roomy};
+ghost use Rattle.tso_outcome.specs.Outcomes.{tso_outcome_of};
+ghost use Rattle.tso_record.specs.Standing.{IsRecording, RecordsAt, last_lists};
+ghost use Rattle.tso_replay.specs.Laws.{ReplaysTold};
+ghost use Rattle.tso_state.specs.States.{all_done};
+
+use crate::run_clerk::{RunClerk, RunLogs};
+use crate::uncarried::Uncarried;
+use access_times::Times;
+use image_mem::Image;
+use rtr_types::{Items, Params};
+use rv_core::Outcome;
+use schedule_pick::Schedule;
+use std::alloc::{AllocError, Global};
+use tso_codec::TsoRecording;
+use tso_core::BufferedMachine;
+use tso_run::tso_run;
+
+/// The recording of a run, and what the run came to.
+#[derive(Drop)]
+pub struct TsoRecorded {
+    pub recording: TsoRecording,
+    pub outcome: Outcome,
+}
+
+/// What a run leaves that its recording is made of: how many instructions each core executed, the reduced log, and the
+/// logged loads.
+#[derive(Drop)]
+struct RunEnd {
+    totals: Items<u32>,
+    logs: RunLogs,
+}
+
+/// Runs the image on cores with store buffers to its end, under the schedule, and records the run. The only refusal is
+/// want of memory.
+///
+/// The recording is one function of image, parameters and schedule. Its reduced log is the least set of the accesses
+/// that the run ordered: each of its edges is a conflict, they imply the order of every two of them that conflict, and
+/// no set of conflicts that does lacks one of them. Its values are the words of the loads that the run logged: of each
+/// load that left its core's queue where the core's port couldn't read the word, or where the word differed from the
+/// value that the load got, and of no other. Every replay order of it replays the run: it gives each core the first of
+/// the run's loads, each with its word, can go on until it is whole, and a whole one ends with the run's cores, memory
+/// and loads.
+pub fn tso_record_image(
+    alloc: Global,
+    image: Image,
+    params: Params,
+    schedule: Schedule,
+) -> Result<TsoRecording, AllocError>
+    requires fits { Fits params }
+    requires words { image.words ≡ params.words }
+    ensures recording { IfOk result (λ recording. recording ≡ tso_recording_of image params schedule) }
+    ensures valid { IfOk result (λ recording. IsTso recording) }
+    ensures least { IfOk result (λ recording. IsLeast (tso_accesses_of image params schedule)
+        (log_edges Reduced (plain_of recording))) }
+    ensures logged { IfOk result (λ recording. AreLogged image params schedule recording.values) }
+    ensures replayed { IfOk result (λ recording. ReplaysTold recording (tso_order_of image params schedule)
+        (tso_outcome_of image params schedule)) }
+{
+    let words = image.words();
+    prove!(words == params.words);
+    are_bytes(image.bytes());
+    let clerk = RunClerk::new(alloc, params.cores)?;
+    let mut machine = BufferedMachine::<Times, Uncarried>::new(alloc, image, params)?;
+    let run_end = record_on(alloc, &mut machine, clerk, schedule, params)?;
+    Ok(TsoRecording {
+        params,
+        image: Items::from_vec(machine.into_image().into_bytes()),
+        totals: run_end.totals,
+        reduced: run_end.logs.reduced,
+        values: run_end.logs.values,
+    })
+}
+
+/// Records the run, as `tso_record_image` does, and tells what it came to: its cores, its memory, and all loads and
+/// atomic memory operations with the words that they got. It makes the run twice, so that neither run keeps what the
+/// other is for. The only refusal is want of memory.
+///
+/// The outcome and the recording are one function of image, parameters and schedule; of the recording holds what
+/// `tso_record_image` says.
+pub fn tso_record(
+    alloc: Global,
+    image: Image,
+    params: Params,
+    schedule: Schedule,
+) -> Result<TsoRecorded, AllocError>
+    requires fits { Fits params }
+    requires words { image.words ≡ params.words }
+    ensures outcome { IfOk result (λ run. run.outcome ≡ tso_outcome_of image params schedule) }
+    ensures recording { IfOk result (λ run. run.recording ≡ tso_recording_of image params schedule) }
+    ensures valid { IfOk result (λ run. IsTso run.recording) }
+    ensures least { IfOk result (λ run. IsLeast (tso_accesses_of image params schedule)
+        (log_edges Reduced (plain_of run.recording))) }
+    ensures logged { IfOk result (λ run. AreLogged image params schedule run.recording.values) }
+    ensures replayed { IfOk result (λ run. ReplaysTold run.recording (tso_order_of image params schedule)
+        run.outcome) }
+{
+    let again = schedule.copied(alloc)?;
+    let ran = tso_run(alloc, image, params, schedule)?;
+    let recording = tso_record_image(alloc, ran.image, params, again)?;
+    Ok(TsoRecorded {
+        recording,
+        outcome: ran.outcome,
+    })
+}
+
+/// Bytes are below 256.
+fn are_bytes(bytes: &[u8])
+    ensures { (i : ℕ) → slice_index bytes.now i < 256 }
+{
+    let _ = bytes;
+}
+
+/// Runs a machine that stands at its start to the end.
+fn record_on(
+    alloc: Global,
+    machine: &mut BufferedMachine<Times, Uncarried>,
+    clerk: RunClerk,
+    schedule: Schedule,
+    params: Params,
+) -> Result<RunEnd, AllocError>
+    requires fits { Fits params }
+    requires stands { RecordsAt machine.old.state.image params schedule 0 machine.old.state clerk schedule }
+    ensures totals { IfOk result (λ end.
+        end.totals ≡ (tso_recording_of machine.old.state.image params schedule).totals) }
+    ensures reduced { IfOk result (λ end.
+        end.logs.reduced ≡ last_lists machine.old.state.image params schedule) }
+    ensures values { IfOk result (λ end.
+        end.logs.values ≡ (tso_recording_of machine.old.state.image params schedule).values) }
+    ensures image { OnOk result (machine.new.state.image ≡ machine.old.state.image) }
+{
+    let mut clerk = clerk;
+    let mut choices = schedule;
+    make_rooms(machine, &mut clerk)?;
+    while !machine.done() {
+        turn(machine, &mut clerk, &mut choices)?;
+    }
+    let totals = totals_of(alloc, machine, params.cores)?;
+    Ok(RunEnd {
+        totals,
+        logs: clerk.finish(),
+    })
+}
+
+/// How many instructions each core of the machine executed.
+fn totals_of(
+    alloc: Global,
+    machine: &BufferedMachine<Times, Uncarried>,
+    cores: u8,
+) -> Result<Items<u32>, AllocError>
+    requires { cores ≡ length machine.now.state.cores }
+    ensures { IfOk result (λ totals. totals ≡ map (λ t. t.core.count) machine.now.state.cores) }
+{
+    let mut totals = Items::new(alloc);
+    for core in 0..cores {
+        totals.push(machine.core(core).count())?;
+    }
+    Ok(totals)
+}
+
+/// Makes room for the next step, in the machine and in the clerk.
+///
+/// It is made behind each step, so that the machine tells without another look at the home whether a move is left.
+fn make_rooms(
+    machine: &mut BufferedMachine<Times, Uncarried>,
+    clerk: &mut RunClerk,
+) -> Result<(), AllocError>
+    ensures state { machine.new.state ≡ machine.old.state }
+    ensures reduction { clerk.new.reduction.state ≡ clerk.old.reduction.state }
+    ensures values { clerk.new.values ≡ clerk.old.values }
+    ensures heads { OnOk result (IsTrue (heads_roomy machine.new)) }
+    ensures ready { OnOk result (IsTrue clerk.new.reduction.ready) }
+    ensures roomy { OnOk result (IsTrue clerk.new.roomy) }
+{
+    machine.make_room()?;
+    clerk.make_room()
+}
+
+/// One step of the machine, for which room was made; then room is made for the next.
+fn turn(
+    machine: &mut BufferedMachine<Times, Uncarried>,
+    clerk: &mut RunClerk,
+    choices: &mut Schedule,
+) -> Result<(), AllocError>
+    requires going { all_done machine.old.state ≡ false }
+    requires recording { IsRecording machine.old.state clerk.old choices.old }
+    requires heads { IsTrue (heads_roomy machine.old) }
+    requires ready { IsTrue clerk.old.reduction.ready }
+    requires roomy { IsTrue clerk.old.roomy }
+    ensures stands { (image : Contents) (params : Params) (schedule : Choices) (t : ℕ) → OnOk result
+        (RecordsAt image params schedule t machine.old.state clerk.old choices.old →
+        RecordsAt image params schedule (suc t) machine.new.state clerk.new choices.new) }
+    ensures image { OnOk result (machine.new.state.image ≡ machine.old.state.image) }
+    ensures nearer { OnOk result (left machine.new.state < left machine.old.state) }
+    ensures heads { OnOk result (IsTrue (heads_roomy machine.new)) }
+    ensures ready { OnOk result (IsTrue clerk.new.reduction.ready) }
+    ensures roomy { OnOk result (IsTrue clerk.new.roomy) }
+{
+    machine.step_timed(choices.next(), clerk);
+    make_rooms(machine, clerk)?;
+    Ok(())
+}

@@ -1,0 +1,258 @@
+//! Small programs whose outcomes tell one order of memory from another, over many schedules: each outcome that total
+//! store order allows is seen, and no other. Word 16 is x, and word 20, of another block, is y.
+ghost use Rattle.std.specs.Prelude.{◌≡◌, ◌≤◌, IfOk};
+
+use image_mem::Image;
+use rtr_types::Params;
+use rv_core::Outcome;
+use schedule_pick::Schedule;
+use std::alloc::Global;
+use std::test::Fail;
+use tso_run::tso_run;
+
+/// slli x6,x10,4; xori x7,x10,1; slli x8,x7,4; addi x9,x0,1; sw x9,64(x6); lw x11,64(x8); ecall: each of two
+/// cores writes a word of its own and then reads the other's.
+const STORE_BUFFERING: [u32; 7] = [
+    0x0045_1313,
+    0x0015_4393,
+    0x0043_9413,
+    0x0010_0493,
+    0x0493_2023,
+    0x0404_2583,
+    0x0000_0073,
+];
+
+/// The same with a FENCE between store and load.
+const STORE_BUFFERING_FENCED: [u32; 8] = [
+    0x0045_1313,
+    0x0015_4393,
+    0x0043_9413,
+    0x0010_0493,
+    0x0493_2023,
+    0x0ff0_000f,
+    0x0404_2583,
+    0x0000_0073,
+];
+
+/// bne x10,x0,+20; addi x9,x0,1; sw x9,64(x0); sw x9,80(x0); ecall; addi x0,x0,0; addi x0,x0,0;
+/// lw x11,80(x0); lw x12,64(x0); ecall: core 0 writes x and then y, core 1 reads y and then x.
+const MESSAGE_PASSING: [u32; 10] = [
+    0x0005_1a63,
+    0x0010_0493,
+    0x0490_2023,
+    0x0490_2823,
+    0x0000_0073,
+    0x0000_0013,
+    0x0000_0013,
+    0x0500_2583,
+    0x0400_2603,
+    0x0000_0073,
+];
+
+/// The same with a FENCE between the stores and one between the loads.
+const MESSAGE_PASSING_FENCED: [u32; 12] = [
+    0x0005_1c63,
+    0x0010_0493,
+    0x0490_2023,
+    0x0ff0_000f,
+    0x0490_2823,
+    0x0000_0073,
+    0x0000_0013,
+    0x0000_0013,
+    0x0500_2583,
+    0x0ff0_000f,
+    0x0400_2603,
+    0x0000_0073,
+];
+
+/// slli x6,x10,4; xori x7,x10,1; slli x8,x7,4; addi x9,x0,1; lw x11,64(x8); sw x9,64(x6); ecall: each of two
+/// cores reads the other's word and then writes its own.
+const LOAD_BUFFERING: [u32; 7] = [
+    0x0045_1313,
+    0x0015_4393,
+    0x0043_9413,
+    0x0010_0493,
+    0x0404_2583,
+    0x0493_2023,
+    0x0000_0073,
+];
+
+/// The same with a FENCE between load and store.
+const LOAD_BUFFERING_FENCED: [u32; 8] = [
+    0x0045_1313,
+    0x0015_4393,
+    0x0043_9413,
+    0x0010_0493,
+    0x0404_2583,
+    0x0ff0_000f,
+    0x0493_2023,
+    0x0000_0073,
+];
+
+/// slli x6,x10,4; srli x5,x10,1; addi x9,x0,1; bne x5,x0,+12; sw x9,64(x6); ecall; xori x7,x6,16; lw x11,32(x6); lw
+/// x12,32(x7); ecall: cores 0 and 1 write x and y, core 2 reads x and then y, and core 3 reads y and then x.
+const TWO_READERS: [u32; 10] = [
+    0x0045_1313,
+    0x0015_5293,
+    0x0010_0493,
+    0x0002_9663,
+    0x0493_2023,
+    0x0000_0073,
+    0x0103_4393,
+    0x0203_2583,
+    0x0203_a603,
+    0x0000_0073,
+];
+
+/// The same with a FENCE between the loads.
+const TWO_READERS_FENCED: [u32; 11] = [
+    0x0045_1313,
+    0x0015_5293,
+    0x0010_0493,
+    0x0002_9663,
+    0x0493_2023,
+    0x0000_0073,
+    0x0103_4393,
+    0x0203_2583,
+    0x0ff0_000f,
+    0x0203_a603,
+    0x0000_0073,
+];
+
+/// How many schedules of each kind each program runs under.
+const SCHEDULES: u64 = 100;
+
+/// Choices by which the four cores of the readers and writers go one after the other: 2, 1, 3, 0; then 3, 0, 2, 1; then
+/// 0, 2, 1, 3; then 1, 3, 0, 2. A plain program chose them, since their outcomes are rare.
+static TURNS: [[u8; 52]; 4] = [
+    [
+        2, 2, 2, 2, 2, 2, 3, 3, 2, 2, 3, 3, 2, 1, 1, 1, 1, 1, 1, 2, 2, 2, 2, 2, 1, 1, 1, 1, 1, 1,
+        1, 1, 1, 1, 1, 1, 1, 1, 1, 0, 0, 0, 0, 0, 0, 0, 0, 0, 0, 0, 0, 0,
+    ],
+    [
+        3, 3, 3, 3, 3, 3, 3, 3, 3, 3, 3, 3, 3, 0, 0, 0, 0, 0, 0, 2, 2, 2, 2, 2, 1, 1, 1, 1, 1, 1,
+        1, 1, 1, 1, 1, 1, 1, 1, 1, 0, 0, 0, 0, 0, 0, 0, 0, 1, 0, 0, 0, 0,
+    ],
+    [
+        0, 0, 0, 0, 0, 0, 3, 3, 3, 1, 1, 1, 1, 1, 1, 2, 2, 2, 2, 1, 1, 2, 2, 1, 0, 0, 0, 0, 0, 0,
+        1, 1, 1, 1, 1, 0, 0, 0, 0, 0, 0, 0, 0, 0, 0, 0, 0, 0, 0, 0, 0, 0,
+    ],
+    [
+        1, 1, 1, 1, 1, 1, 3, 3, 3, 2, 2, 2, 2, 2, 2, 2, 2, 2, 2, 2, 2, 2, 2, 2, 0, 0, 0, 0, 0, 0,
+        1, 1, 1, 1, 1, 0, 0, 0, 0, 0, 0, 0, 0, 0, 0, 0, 0, 0, 0, 0, 0, 0,
+    ],
+];
+
+/// The image of the code over 32 words.
+fn image(alloc: Global, code: &[u32]) -> Result<Image, Fail>
+    ensures { IfOk result (λ image. image.words ≡ 32) }
+{
+    let mut bytes = Vec::new(alloc);
+    for word in code {
+        bytes.extend_from_slice(&word.to_le_bytes())?;
+    }
+    Ok(Image::flat(bytes, 32)?)
+}
+
+/// The generator's schedule from this state on; or, where some core is to go ahead, one that begins with up to 23 times
+/// one of the choices 0 to 3.
+fn schedule(alloc: Global, seed: u64, ahead: bool) -> Result<Schedule, Fail> {
+    let mut bytes = Vec::new(alloc);
+    if ahead {
+        for _ in 0..seed / 4 % 24 {
+            bytes.push((seed % 4) as u8)?;
+        }
+    }
+    Ok(Schedule::new(bytes, seed))
+}
+
+/// The number of an outcome: a bit for each load, 1 where it got the value that was written, of core 0 and the first
+/// load highest.
+fn number_of(outcome: &Outcome) -> u32 {
+    let mut number = 0u32;
+    for loads in outcome.loads.as_slice() {
+        for load in loads.as_slice() {
+            number = number << 1 | load.value & 1;
+        }
+    }
+    number
+}
+
+/// The outcome of the program under the schedule, by the bit of its number.
+fn outcome(alloc: Global, code: &[u32], cores: u8, schedule: Schedule) -> Result<u32, Fail>
+    requires some { 1 ≤ cores }
+    requires few { cores ≤ 4 }
+{
+    let params = Params {
+        cores,
+        limit: 100,
+        words: 32,
+    };
+    let ran = tso_run(alloc, image(alloc, code)?, params, schedule)?;
+    let number = number_of(&ran.outcome);
+    Ok(if number < 32 { 1 << number } else { 0 })
+}
+
+/// The outcomes of the program under the schedules of both kinds, each by the bit of its number.
+fn outcomes(alloc: Global, code: &[u32], cores: u8) -> Result<u32, Fail>
+    requires some { 1 ≤ cores }
+    requires few { cores ≤ 4 }
+{
+    let mut seen = 0u32;
+    for seed in 0..SCHEDULES {
+        seen |= outcome(alloc, code, cores, schedule(alloc, seed, false)?)?;
+        seen |= outcome(alloc, code, cores, schedule(alloc, seed, true)?)?;
+    }
+    Ok(seen)
+}
+
+// Each core's load may pass its own store, so that both get 0; a FENCE between them forbids that.
+#[test]
+fn store_buffering(rt: HostRuntime) -> Result<(), Fail> {
+    let seen = outcomes(rt.alloc(), &STORE_BUFFERING, 2)?;
+    assert_eq!(rt; seen, 0b1111);
+    let fenced = outcomes(rt.alloc(), &STORE_BUFFERING_FENCED, 2)?;
+    assert_eq!(rt; fenced, 0b1110);
+    Ok(())
+}
+
+// Stores are ordered as their core has them, and so are loads: whoever has read the new y reads the new x.
+#[test]
+fn message_passing(rt: HostRuntime) -> Result<(), Fail> {
+    let seen = outcomes(rt.alloc(), &MESSAGE_PASSING, 2)?;
+    assert_eq!(rt; seen, 0b1011);
+    let fenced = outcomes(rt.alloc(), &MESSAGE_PASSING_FENCED, 2)?;
+    assert_eq!(rt; fenced, 0b1011);
+    Ok(())
+}
+
+// No store is ordered before a load of its core that comes first, so not both loads get what was written.
+#[test]
+fn load_buffering(rt: HostRuntime) -> Result<(), Fail> {
+    let seen = outcomes(rt.alloc(), &LOAD_BUFFERING, 2)?;
+    assert_eq!(rt; seen, 0b0111);
+    let fenced = outcomes(rt.alloc(), &LOAD_BUFFERING_FENCED, 2)?;
+    assert_eq!(rt; fenced, 0b0111);
+    Ok(())
+}
+
+/// The outcomes of a program of four cores, of which each takes its turn.
+fn outcomes_in_turn(alloc: Global, code: &[u32]) -> Result<u32, Fail> {
+    let mut seen = 0u32;
+    for choices in &TURNS {
+        let schedule = Schedule::new(choices.as_slice().to_vec(alloc)?, 0);
+        seen |= outcome(alloc, code, 4, schedule)?;
+    }
+    Ok(seen)
+}
+
+// All cores see the stores in one order: never one reader x without y and the other y without x.
+#[test]
+fn two_readers_of_two_writers(rt: HostRuntime) -> Result<(), Fail> {
+    let seen = outcomes(rt.alloc(), &TWO_READERS, 4)? | outcomes_in_turn(rt.alloc(), &TWO_READERS)?;
+    assert_eq!(rt; seen, 0xfbff);
+    let fenced = outcomes(rt.alloc(), &TWO_READERS_FENCED, 4)?;
+    let in_turn = outcomes_in_turn(rt.alloc(), &TWO_READERS_FENCED)?;
+    assert_eq!(rt; fenced | in_turn, 0xfbff);
+    Ok(())
+}

@@ -1,0 +1,5 @@
+use Rattle.tso_records.proofs.Runs.{next_told}
+use Rattle.tso_records.proofs.laws.what_is_told_is_awaited.Goals as goal
+
+pub returns : goal.returns
+returns c = next_told

@@ -1,0 +1,5 @@
+use Rattle.tso_replay.proofs.Replayed as laws_of
+use Rattle.tso_replay.proofs.laws.orders_agree_where_conflicts_are_ordered.Goals as goal
+
+pub returns : goal.returns
+returns c = laws_of.ordered_agree

@@ -1,0 +1,5 @@
+use Rattle.tso_replay.proofs.Fitting as laws_of
+use Rattle.tso_replay.proofs.laws.replays_with_values_fit_their_plan.Goals as goal
+
+pub returns : goal.returns
+returns c = laws_of.valued_fits

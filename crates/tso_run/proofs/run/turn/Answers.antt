@@ -1,0 +1,49 @@
+use Rattle.std.proofs.Common.{◌≡◌, ◌<◌, ap, sym, subst, ◌∙◌, false, List}
+use Rattle.access_times.specs.declared.carry.NoCarry.{NoCarry}
+use Rattle.access_times.specs.declared.rider.NoRider.{NoRider}
+use Rattle.schedule_pick.specs.Choices.{choice_at}
+use Rattle.tso_bound.specs.Bound.{left}
+use Rattle.tso_outcome.proofs.Turns.{Steps, stands_next}
+use Rattle.tso_outcome.specs.Loads.{loads_told}
+use Rattle.tso_plain.specs.Plain.{plain}
+use Rattle.tso_plain.proofs.Steps.{plain_done}
+use Rattle.tso_state.specs.Events.{Told}
+use Rattle.tso_state.specs.Runs.{chosen, plain_step, plain_told}
+use Rattle.tso_state.specs.States.{State, all_done}
+use Rattle.tso_run.proofs.Telling.{accepts_next, all_told_loads}
+use Rattle.tso_run.specs.Clerks.{IsRunning}
+use Rattle.tso_run.proofs.run.turn.Goals as goal
+
+pub step-requires-clause-accepts : goal.step-requires-clause-accepts
+step-requires-clause-accepts c =
+    let same = c.make_room.ensures.state in
+    λ m is. accepts_next _ _ c.make_room.new.self.state m _ _ c.make_room-2.new.self c.args.clerk.now.lists
+    c.args.choices.now
+    (subst (λ (u : State NoRider NoCarry). IsRunning (plain u) c.args.clerk.now.lists c.args.choices.now) (sym same)
+    c.requires.running)
+    (ap (chosen (plain c.make_room.new.self.state)) (sym c.next.ensures.choice) ∙ is) c.make_room-2.ensures.lists
+    c.in_ok-make_room-2.ensures.roomy
+
+pub returns-clause-stands : goal.returns-clause-stands
+returns-clause-stands c =
+    let s = c.args.machine.now.state in
+    let m = c.step.result in
+    let same = c.make_room.ensures.state in
+    let going : all_done (plain s) ≡ false = sym (plain_done s) ∙ c.requires.going in
+    let steps : Steps (plain s) (plain c.step.new.self.state) c.args.choices.now c.next.new.self m = record {
+      taken = ap (λ u. chosen (plain u) (choice_at c.args.choices.now 0)) (sym same)
+          ∙ ap (chosen (plain c.make_room.new.self.state)) (sym c.next.ensures.choice) ∙ c.step.ensures.taken.plainly;
+      state = c.step.ensures.moved.plainly ∙ ap (λ u. plain_step (plain u) m) same;
+      left = c.next.ensures.rest;
+    } in
+    let told : c.step.new.clerk.lists ≡ loads_told c.args.clerk.now.lists (plain_told (plain s) m) =
+    all_told_loads _ _ _ _ c.make_room-2.new.self c.step.new.clerk _ c.step.ensures.told
+    ∙ ap (λ (list : List Told). loads_told c.make_room-2.new.self.lists list)
+    (c.step.ensures.moved.tells ∙ ap (λ u. plain_told (plain u) m) same)
+    ∙ ap (λ lists. loads_told lists (plain_told (plain s) m)) c.make_room-2.ensures.lists in
+    λ image params schedule t stands. stands_next image params schedule t _ _ _ _ m _ _ going steps told stands
+
+pub returns-clause-nearer : goal.returns-clause-nearer
+returns-clause-nearer c =
+    subst (λ (s : State NoRider NoCarry). left c.step.new.self.state < left s) c.make_room.ensures.state
+    c.step.ensures.keeps.nearer
