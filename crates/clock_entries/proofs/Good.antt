@@ -1,5 +1,6 @@
 -- Good entries grow along paths.
-use Rattle.std.proofs.Common.{inl, inr, ◌≡◌, ◌≢◌, ◌⊎◌, ℕ, zero, suc, ◌+◌, ◌-◌, ◌≤◌, List, refl, sym, ap, ◌∙◌, arith, true, false}
+use Rattle.std.proofs.Common.{inl, inr, ◌≡◌, ◌≢◌, ◌⊎◌, ℕ, zero, suc, ◌+◌, ◌-◌, ◌≤◌, List, refl, sym, ap, ◌∙◌, arith}
+use Rattle.std.proofs.Common.{true, false}
 use Rattle.std.proofs.lemmas.Bool.{cases_Bool, cases_eq}
 use Rattle.rtr_types.specs.declared.instr.Instr.{Instr}
 use Rattle.rtr_types.specs.declared.instr.Edge.{Edge}
@@ -18,22 +19,29 @@ rises_once edges entry last good c n i ne = by (cases_Bool (is_end edges (instr 
     same : entry (instr c (suc n - 1)) i ≡ entry (instr c n) i
     same = ap (λ (k : ℕ). entry (instr c k) i) (minus_one n)
 
-    by : (is_end edges (instr c (suc n)) ≡ true) ⊎ (is_end edges (instr c (suc n)) ≡ false) → entry (instr c n) i ≤ entry (instr c (suc n)) i
+    by : (is_end edges (instr c (suc n)) ≡ true) ⊎ (is_end edges (instr c (suc n)) ≡ false) →
+        entry (instr c n) i ≤ entry (instr c (suc n)) i
     by (inl t) = let le = (good (instr c (suc n)) t).rises i ne in let e = same in omega arith
-    by (inr f) = let e = same in let q = last.stays (instr c (suc n)) (omega arith) (not_end edges (instr c (suc n)) f) i in omega arith
+    by (inr f) =
+        let e = same in
+        let q = last.stays (instr c (suc n)) (omega arith) (not_end edges (instr c (suc n)) f) i in
+        omega arith
 
 rises_by : (edges : List Edge) (entry : Entry) → IsLastEntry edges entry → AreGood edges entry → (c m d i : ℕ) → i ≢ c →
     entry (instr c m) i ≤ entry (instr c (m + d)) i
-rises_by edges entry last good c m zero i ne = let e : entry (instr c (m + 0)) i ≡ entry (instr c m) i = ap (λ (k : ℕ). entry (instr c k) i) (omega arith) in
+rises_by edges entry last good c m zero i ne =
+    let e : entry (instr c (m + 0)) i ≡ entry (instr c m) i = ap (λ (k : ℕ). entry (instr c k) i) (omega arith) in
     omega arith
 rises_by edges entry last good c m (suc d) i ne =
     let le = rises_by edges entry last good c m d i ne in
     let once = rises_once edges entry last good c (m + d) i ne in
-    let e : entry (instr c (m + suc d)) i ≡ entry (instr c (suc (m + d))) i = ap (λ (k : ℕ). entry (instr c k) i) (omega arith) in
+    let e : entry (instr c (m + suc d)) i ≡ entry (instr c (suc (m + d))) i =
+    ap (λ (k : ℕ). entry (instr c k) i) (omega arith) in
     omega arith
 
 -- along a core
-pub rises : (edges : List Edge) (entry : Entry) → IsLastEntry edges entry → AreGood edges entry → (c m n i : ℕ) → m ≤ n → i ≢ c →
+pub rises : (edges : List Edge) (entry : Entry) → IsLastEntry edges entry → AreGood edges entry → (c m n i : ℕ) →
+    m ≤ n → i ≢ c →
     entry (instr c m) i ≤ entry (instr c n) i
 rises edges entry last good c m n i le ne =
     let r = rises_by edges entry last good c m (n - m) i ne in
@@ -41,15 +49,16 @@ rises edges entry last good c m n i le ne =
     omega arith
 
 -- at an edge end the own count stands in the entry
-pub own_stands : (edges : List Edge) (entry : Entry) (x : Instr) (i : ℕ) → AreGood edges entry → IsEnd edges x → with_own x (entry x) i ≡ entry x i
+pub own_stands : (edges : List Edge) (entry : Entry) (x : Instr) (i : ℕ) → AreGood edges entry → IsEnd edges x →
+    with_own x (entry x) i ≡ entry x i
 own_stands edges entry x i good end = by (cases_eq i x.core)
   where
     by : (i ≡ x.core) ⊎ (i ≢ x.core) → with_own x (entry x) i ≡ entry x i
     by (inl e) = own_same x (entry x) i e ∙ sym (good x end).own ∙ ap (λ (k : ℕ). entry x k) (sym e)
     by (inr ne) = own_other x (entry x) i ne
 
-step_up : (edges : List Edge) (entry : Entry) → IsLastEntry edges entry → AreGood edges entry → (z y : Instr) (i : ℕ) → Step (Among edges) z y →
-    with_own z (entry z) i ≤ with_own y (entry y) i
+step_up : (edges : List Edge) (entry : Entry) → IsLastEntry edges entry → AreGood edges entry → (z y : Instr) (i : ℕ) →
+    Step (Among edges) z y → with_own z (entry z) i ≤ with_own y (entry y) i
 step_up edges entry last good z y i (inr a) =
     let s = end_source edges z y a in
     let t = end_target edges z y a in
@@ -72,7 +81,8 @@ step_up edges entry last good z y i (inl s) = by (cases_eq i y.core)
         let e : entry z i ≡ entry (instr y.core z.count) i = ap (λ (c : ℕ). entry (instr c z.count) i) s.0 in
         omega arith
 
-path_up : (edges : List Edge) (entry : Entry) → IsLastEntry edges entry → AreGood edges entry → (n : ℕ) (z y : Instr) (i : ℕ) → Path (Among edges) n z y →
+path_up : (edges : List Edge) (entry : Entry) → IsLastEntry edges entry → AreGood edges entry →
+    (n : ℕ) (z y : Instr) (i : ℕ) → Path (Among edges) n z y →
     with_own z (entry z) i ≤ with_own y (entry y) i
 path_up edges entry last good zero z y i s = step_up edges entry last good z y i s
 path_up edges entry last good (suc n) z y i p =
@@ -81,11 +91,14 @@ path_up edges entry last good (suc n) z y i p =
     omega arith
 
 -- whatever leads to y is in y's entry, or is of y's core and not later
-pub known : (edges : List Edge) (entry : Entry) → IsLastEntry edges entry → AreGood edges entry → (z y : Instr) → IsOrLeads (Among edges) z y →
-    z.count ≤ with_own y (entry y) z.core
+pub known : (edges : List Edge) (entry : Entry) → IsLastEntry edges entry → AreGood edges entry → (z y : Instr) →
+    IsOrLeads (Among edges) z y → z.count ≤ with_own y (entry y) z.core
 known edges entry last good z y (inl e) = let f = own_same y (entry y) z.core (ap (λ (x : Instr). x.core) e) in
     let g : z.count ≡ y.count = ap (λ (x : Instr). x.count) e in omega arith
-known edges entry last good z y (inr p) = let f = own_same z (entry z) z.core refl in let le = path_up edges entry last good p.0 z y z.core p.1 in omega arith
+known edges entry last good z y (inr p) =
+    let f = own_same z (entry z) z.core refl in
+    let le = path_up edges entry last good p.0 z y z.core p.1 in
+    omega arith
 
 pub good_is_at_least : GoodIsAtLeastLaw
 good_is_at_least edges entry exact last good is_exact x end i = by (at_least_one (exact x i))
@@ -97,6 +110,8 @@ good_is_at_least edges entry exact last good is_exact x end i = by (at_least_one
     by (inl e) = omega arith
     by (inr pos) =
         let z : Instr = instr i (exact x i) in
-        let le = known edges entry last good (instr i (exact x i)) x ((is_exact x end (instr i (exact x i)) pos).0 (omega arith)) in
+        let le =
+        known edges entry last good (instr i (exact x i)) x
+        ((is_exact x end (instr i (exact x i)) pos).0 (omega arith)) in
         let e = own_stands edges entry x i good end in
         omega arith

@@ -14,7 +14,8 @@ use Rattle.clock_entries.specs.Laws.{GoodShowsLeastLaw, LeastIsNeededLaw, AmissL
 use Rattle.clock_entries.proofs.Exact.{needed, needed_or_known, implied_law}
 
 pub good_shows_least : GoodShowsLeastLaw
-good_shows_least list edges entry rise log last conflict suffices good each = (independent_law list edges rise conflict suffices).1
+good_shows_least list edges entry rise log last conflict suffices good each =
+    (independent_law list edges rise conflict suffices).1
     (λ x y a p. needed edges entry x y log last good a (each x y a) p)
 
 pub least_is_needed : LeastIsNeededLaw
@@ -31,11 +32,12 @@ later_decided [] a y = inr (λ q. absurd q.1)
 later_decided (b ∷ later) a y = by (later_decided later a y) (cases_instr b.at y) (cases_Bool (do_conflict a b))
   where
     none : ((b.at ≡ y) → Conflicts a b → ⊥) → (HasLater later a y → ⊥) → HasLater (b ∷ later) a y → ⊥
-    none f g (c, inl e, p, q) = f (subst (λ (d : Access). d.at ≡ y) (sym e) p) (subst (λ (d : Access). Conflicts a d) (sym e) q)
+    none f g (c, inl e, p, q) =
+        f (subst (λ (d : Access). d.at ≡ y) (sym e) p) (subst (λ (d : Access). Conflicts a d) (sym e) q)
     none f g (c, inr s, p, q) = g (c, s, p, q)
 
-    by : HasLater later a y ⊎ (HasLater later a y → ⊥) → (b.at ≡ y) ⊎ (b.at ≢ y) → (do_conflict a b ≡ true) ⊎ (do_conflict a b ≡ false) →
-        HasLater (b ∷ later) a y ⊎ (HasLater (b ∷ later) a y → ⊥)
+    by : HasLater later a y ⊎ (HasLater later a y → ⊥) → (b.at ≡ y) ⊎ (b.at ≢ y) →
+        (do_conflict a b ≡ true) ⊎ (do_conflict a b ≡ false) → HasLater (b ∷ later) a y ⊎ (HasLater (b ∷ later) a y → ⊥)
     by (inl q) _ _ = inl (q.0, inr q.1, q.2, q.3)
     by (inr g) (inl e) (inl t) = inl (b, inl refl, e, do_conflict-true a b t)
     by (inr g) (inr ne) _ = inr (none (λ e _. ne e) g)
@@ -45,13 +47,15 @@ pub pair_decided : (list : List Access) (x y : Instr) → ConflictPair list x y 
 pair_decided [] x y = inr (λ p. absurd p)
 pair_decided (a ∷ later) x y = by (pair_decided later x y) (cases_instr a.at x) (later_decided later a y)
   where
-    by : ConflictPair later x y ⊎ (ConflictPair later x y → ⊥) → (a.at ≡ x) ⊎ (a.at ≢ x) → HasLater later a y ⊎ (HasLater later a y → ⊥) →
+    by : ConflictPair later x y ⊎ (ConflictPair later x y → ⊥) → (a.at ≡ x) ⊎ (a.at ≢ x) →
+        HasLater later a y ⊎ (HasLater later a y → ⊥) →
         ConflictPair (a ∷ later) x y ⊎ (ConflictPair (a ∷ later) x y → ⊥)
     by (inl p) _ _ = inl (inr p)
     by (inr g) (inl e) (inl q) = inl (inl (e, q.0, q.1, q.2, q.3))
     by (inr g) (inr ne) _ = inr (none (λ p. ne p.0))
       where
-        none : ((a.at ≡ x) × (b : Access) × StandsIn later b × (b.at ≡ y) × Conflicts a b → ⊥) → ConflictPair (a ∷ later) x y → ⊥
+        none : ((a.at ≡ x) × (b : Access) × StandsIn later b × (b.at ≡ y) × Conflicts a b → ⊥) →
+            ConflictPair (a ∷ later) x y → ⊥
         none f (inl p) = f p
         none f (inr p) = g p
     by (inr g) (inl e) (inr h) = inr none
@@ -75,4 +79,6 @@ amiss_law list edges rise suffices = (to, back)
     to l x y a (inr p) = (independent_law list edges rise l.conflict l.suffices).0 l x y a p
 
     back : ((x y : Instr) → Among edges x y → IsAmiss list edges x y → ⊥) → IsLeast list edges
-    back f = (independent_law list edges rise (λ x y a. is_pair list x y (λ nc. f x y a (inl nc))) suffices).1 (λ x y a p. f x y a (inr p))
+    back f =
+        (independent_law list edges rise (λ x y a. is_pair list x y (λ nc. f x y a (inl nc))) suffices).1
+        (λ x y a p. f x y a (inr p))

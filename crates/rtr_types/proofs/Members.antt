@@ -1,7 +1,8 @@
 -- What the words on sets of cores mean.
 use Rattle.std.proofs.Common.{◌≡◌, ◌∙◌, ◌≢◌, refl, sym, ℕ, ◌<◌, ◌*◌, ◌%◌, ◌^◌, arith, Bool, true, false, IsTrue}
 use Rattle.std.specs.Int.{bit_not, trailing_zeros}
-use Rattle.std.proofs.lemmas.Nat.Bits.{bit_at_set_same, bit_at_set_other, bit_at_clear_same, bit_at_clear_other, bit_at-zero, bit_at-trailing_zeros}
+use Rattle.std.proofs.lemmas.Nat.Bits.{bit_at_set_same, bit_at_set_other, bit_at_clear_same, bit_at_clear_other}
+use Rattle.std.proofs.lemmas.Nat.Bits.{bit_at-zero, bit_at-trailing_zeros}
 use Rattle.std.proofs.lemmas.Nat.{or_lt, and_le_l}
 use Rattle.std.proofs.lemmas.Bool.Decides.{nat_tests}
 use Rattle.rtr_types.specs.declared.TheConstants.{CORES_MAX}
@@ -20,7 +21,8 @@ pub has-without_same : (s : CoreSet) (c : ℕ) → c < CORES_MAX → has (withou
 unfolding has without_core
 has-without_same s c h = rw (bit_at_clear_same set_width s.bits c h)
 
-pub has-without_other : (s : CoreSet) (c d : ℕ) → c < CORES_MAX → d < CORES_MAX → d ≢ c → has (without_core s c) d ≡ has s d
+pub has-without_other : (s : CoreSet) (c d : ℕ) → c < CORES_MAX → d < CORES_MAX → d ≢ c →
+    has (without_core s c) d ≡ has s d
 unfolding has without_core
 has-without_other s c d h k n = rw (bit_at_clear_other set_width s.bits c h d k n)
 

@@ -14,10 +14,14 @@ own-below : (cores from to : ℕ) → IsPair cores from to → own from to < cor
 unfolding own
 own-below cores from to pair = elim (cases_lt to from) [
   | inl before ↦ let t : nat_lt to from ≡ true = grind (arith, nat_tests) in rw t (omega arith)
-  | inr after ↦ let t : nat_lt to from ≡ false = grind (arith, nat_tests) in let more : from < to = omega arith in rw t (omega arith)
+  | inr after ↦
+      let t : nat_lt to from ≡ false = grind (arith, nat_tests) in
+      let more : from < to = omega arith in
+      rw t (omega arith)
 ]
 
-own-back : (cores from to : ℕ) → IsPair cores from to → cond (nat_lt (own from to) from) (own from to) (own from to + 1) ≡ to
+own-back : (cores from to : ℕ) → IsPair cores from to →
+    cond (nat_lt (own from to) from) (own from to) (own from to + 1) ≡ to
 unfolding own
 own-back cores from to pair = elim (cases_lt to from) [
   | inl before ↦ let t : nat_lt to from ≡ true = grind (arith, nat_tests) in rw (t, t) refl
@@ -34,13 +38,15 @@ pairs-placed cores from to pair =
     let below = own-below cores from to pair in
     let above = mul-le-mul_left {m = from + 1} {n = cores} (cores - 1) (omega arith) in
     let source : source_at cores (pair_place cores from to) ≡ from = div-mul-add from (cores - 1) (own from to) below in
-    let rest : pair_place cores from to % (cores - 1) ≡ own from to = mod-mul-add from (cores - 1) (own from to) below in
+    let rest : pair_place cores from to % (cores - 1) ≡ own from to =
+    mod-mul-add from (cores - 1) (own from to) below in
     (omega arith, source, rw (source, rest) (own-back cores from to pair))
 
 pub places-paired : PlacesPaired
 places-paired cores place below =
     let some : 0 < cores - 1 = grind arith in
-    let source : place / (cores - 1) < cores = (div-lt_iff_lt-mul {k = cores - 1} {x = place} {y = cores} some).1 below in
+    let source : place / (cores - 1) < cores =
+    (div-lt_iff_lt-mul {k = cores - 1} {x = place} {y = cores} some).1 below in
     let rest : place % (cores - 1) < cores - 1 = omega arith in
     let whole = div-add-mod' place (cores - 1) in
     elim (cases_lt (place % (cores - 1)) (place / (cores - 1))) [
@@ -66,7 +72,10 @@ targets-rise cores from to later pair second before = elim (cases_lt to from) [
       let t : nat_lt to from ≡ true = grind (arith, nat_tests) in
       elim (cases_lt later from) [
         | inl also ↦ let u : nat_lt later from ≡ true = grind (arith, nat_tests) in rw (t, u) (omega arith)
-        | inr high ↦ let u : nat_lt later from ≡ false = grind (arith, nat_tests) in let more : from < later = omega arith in rw (t, u) (omega arith)
+        | inr high ↦
+            let u : nat_lt later from ≡ false = grind (arith, nat_tests) in
+            let more : from < later = omega arith in
+            rw (t, u) (omega arith)
       ]
   | inr high ↦
       let t : nat_lt to from ≡ false = grind (arith, nat_tests) in

@@ -1,4 +1,5 @@
-use Rattle.rtr_types.proofs.Members.{has-with_same, has-with_other, has-without_same, has-without_other, has-no_cores, has-none, has-some}
+use Rattle.rtr_types.proofs.Members.{has-with_same, has-with_other, has-without_same, has-without_other, has-no_cores}
+use Rattle.rtr_types.proofs.Members.{has-none, has-some}
 use Rattle.rtr_types.proofs.Members.{no_cores_below, with_nonempty, with_below, without_below}
 use Rattle.rtr_types.proofs.core_set.core_set_laws.Goals as goal
 
