@@ -1,5 +1,6 @@
 -- Where in a list of edges that rise the first edge to a count or a later one is.
-use Rattle.std.proofs.Common.{◌≡◌, ◌∙◌, ℕ, ◌+◌, ◌-◌, ◌<◌, ◌≤◌, ◌⊎◌, inl, inr, List, length, get_or, ap, sym, arith, ltb, true, false}
+use Rattle.std.proofs.Common.{◌≡◌, ◌∙◌, ℕ, ◌+◌, ◌-◌, ◌<◌, ◌≤◌, ◌⊎◌, inl, inr, List, length, get_or, ap, sym, arith, ltb}
+use Rattle.std.proofs.Common.{true, false}
 use Rattle.std.specs.List.{Contains}
 use Rattle.std.specs.List.Sorted.{IsPartitionPoint}
 use Rattle.std.proofs.lemmas.Bool.{ltb-true, ltb-false, cases_lt}
@@ -12,7 +13,8 @@ use Rattle.log_codec.proofs.Rises.{no_edge, targets-rise}
 
 module _ (edges : List (ℕ × ℕ)) (rises : StandInTurn EdgeRises follow (0, 0) edges) where
   -- two neighbours tell of all
-  pub from_neighbours : (target place : ℕ) → place ≤ length edges → ((k : ℕ) → k + 1 ≡ place → (get_or edges k (0, 0)).1 < target) →
+  pub from_neighbours : (target place : ℕ) → place ≤ length edges →
+      ((k : ℕ) → k + 1 ≡ place → (get_or edges k (0, 0)).1 < target) →
       (place < length edges → target ≤ (get_or edges place (0, 0)).1) → IsFrom edges target place
   from_neighbours target place most past up =
       record {
@@ -55,7 +57,8 @@ module _ (edges : List (ℕ × ℕ)) (rises : StandInTurn EdgeRises follow (0, 0
       (omega arith, ap (λ (n : ℕ). get_or edges n (0, 0)) here ∙ is)
 
   pub from_partition : (target place : ℕ) → place ≤ length edges →
-      IsPartitionPoint (λ e. ltb e.1 target ≡ true) (λ e. ltb e.1 target ≡ false) edges place → IsFrom edges target place
+      IsPartitionPoint (λ e. ltb e.1 target ≡ true) (λ e. ltb e.1 target ≡ false) edges place →
+      IsFrom edges target place
   from_partition target place most parted =
       record {
         most = most;

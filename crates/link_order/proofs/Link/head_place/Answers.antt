@@ -8,12 +8,15 @@ returns g c = (
   (
     refl,
     λ w.
-        head_lent c.args.self.now c.self.inside.slots.items c.self.inside.capacity c.self.inside.first c.self.inside.count c.self.view_is
+        head_lent c.args.self.now c.self.inside.slots.items c.self.inside.capacity c.self.inside.first
+        c.self.inside.count c.self.view_is
         c.self.invariant.0 c.self.invariant.1 c.self.invariant.2 c.requires w,
   ),
   record {
     lends = tt;
-    item = head_read c.args.self.now c.self.inside.slots.items c.self.inside.capacity c.self.inside.first c.self.inside.count
-        c.index_mut.result.now c.self.view_is c.self.invariant.0 c.self.invariant.1 c.self.invariant.2 c.requires c.index_mut.ensures.value;
+    item =
+        head_read c.args.self.now c.self.inside.slots.items c.self.inside.capacity c.self.inside.first
+        c.self.inside.count c.index_mut.result.now c.self.view_is
+        c.self.invariant.0 c.self.invariant.1 c.self.invariant.2 c.requires c.index_mut.ensures.value;
   },
 )

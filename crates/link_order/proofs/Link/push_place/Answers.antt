@@ -4,5 +4,6 @@ use Rattle.link_order.proofs.Link.push_place.Goals as goal
 
 pub invariant_of-self-lent : goal.invariant_of-self-lent
 invariant_of-self-lent g c =
-    lent_fits c.args.self.now c.self.inside.slots.items c.place-place.result c.self.inside.capacity c.self.inside.first c.self.inside.count c.self.view_is
+    lent_fits c.args.self.now c.self.inside.slots.items c.place-place.result c.self.inside.capacity c.self.inside.first
+    c.self.inside.count c.self.view_is
     c.self.invariant.0 c.self.invariant.1 c.self.invariant.2 c.requires

@@ -9,11 +9,14 @@ use Rattle.log_codec.proofs.core_counts.counts_into.Goals as goal
 
 pub loop-core-init : goal.loop-core-init
 loop-core-init c =
-    let none : drop (length c.args.found.now) c.args.found.now ≡ [] = drop_all (length c.args.found.now) c.args.found.now (omega arith) in
+    let none : drop (length c.args.found.now) c.args.found.now ≡ [] =
+    drop_all (length c.args.found.now) c.args.found.now (omega arith) in
     record {
       all = omega arith;
       kept = take_all (length c.args.found.now) c.args.found.now (omega arith);
-      read = rw none (begins (count_at c.args.part c.args.totals.now) count_up (length c.args.totals.now) 0 c.args.bytes.now);
+      read =
+          rw none
+          (begins (count_at c.args.part c.args.totals.now) count_up (length c.args.totals.now) 0 c.args.bytes.now);
     }
 
 pub returns-in_err-next-clause-read : goal.returns-in_err-next-clause-read
@@ -31,9 +34,12 @@ loop-core-preserved c =
     let list = c.loop-core.found in
     let i = c.loop-core.invariant in
     let next = c.in_ok-next.next in
-    let read = read_in_turn (count_at c.args.part c.args.totals.now) count_up (length c.args.totals.now) 0 c.args.bytes.now in
-    let on = goes_on (count_at c.args.part c.args.totals.now) count_up (drop (length before) list) (length c.args.totals.now) c.loop-core.core
-    c.loop-core.core c.loop-core.rest.now next c.in_ok-next.after.now read c.loop-core-test.true c.in_ok-next.ensures i.read in
+    let read =
+    read_in_turn (count_at c.args.part c.args.totals.now) count_up (length c.args.totals.now) 0 c.args.bytes.now in
+    let on =
+    goes_on (count_at c.args.part c.args.totals.now) count_up (drop (length before) list) (length c.args.totals.now)
+    c.loop-core.core c.loop-core.core c.loop-core.rest.now next c.in_ok-next.after.now read
+    c.loop-core-test.true c.in_ok-next.ensures i.read in
     let behind : drop (length before) (list ++ next ∷ []) ≡ drop (length before) list ++ next ∷ [] =
     drop-append-le (length before) list (next ∷ []) (omega (arith, i.all)) in
     rw (c.in_ok-push.ensures.ok) (

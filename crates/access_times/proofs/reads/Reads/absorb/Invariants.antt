@@ -8,7 +8,8 @@ use Rattle.access_times.proofs.reads.Reads.absorb.Given as goal
 abbrev pub invariant-loop-other : goal.invariant-loop-other
 invariant-loop-other l =
     (length l.self-inside.places ≡ CORES_MAX)
-    × Filling l.left (λ k. read_of l.self-inside k ≡ newer_read (read_of l.initial.self-inside k) (read_of l.other-inside k))
+    × Filling l.left
+    (λ k. read_of l.self-inside k ≡ newer_read (read_of l.initial.self-inside k) (read_of l.other-inside k))
     (λ k. (has l.other-inside.readers k ≡ true) × (read_of l.self-inside k ≡ read_of l.initial.self-inside k))
 
 abbrev pub decreases-loop-other : goal.decreases-loop-other

@@ -12,5 +12,6 @@ returns c none =
     let empty : is_none c.other.inside.readers ≡ true = sym c.is_empty.ensures ∙ (grind (arith, nat_tests)) in
     let own = reads_kept c.self.inside.readers c.self.inside.places in
     sym (ap (reads_absorbed c.args.self.now) c.other.view_is)
-    ∙ sym (ap (λ (a : List (Option (ℕ × Clock))). reads_absorbed a (reads_kept c.other.inside.readers c.other.inside.places)) c.self.view_is)
+    ∙ sym (ap (λ (a : List (Option (ℕ × Clock))). reads_absorbed a
+    (reads_kept c.other.inside.readers c.other.inside.places)) c.self.view_is)
     ∙ absorbs_none c.self.inside c.other.inside empty ∙ c.self.view_is

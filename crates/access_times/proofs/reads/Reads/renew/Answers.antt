@@ -6,14 +6,16 @@ use Rattle.access_times.specs.Reads.{reads_kept}
 use Rattle.std.proofs.lemmas.List.{length-set}
 use Rattle.rtr_types.specs.CoreSets.{has}
 use Rattle.rtr_types.specs.declared.core_set.CoreSet.{CoreSet}
-use Rattle.access_times.proofs.Kept.{all_seen, fewer, view_absorbed, read_of, taken, stays, is_mine, if_true, if_false, ends_renewing}
+use Rattle.access_times.proofs.Kept.{all_seen, fewer, view_absorbed, read_of, taken, stays, is_mine, if_true, if_false}
+use Rattle.access_times.proofs.Kept.{ends_renewing}
 use Rattle.access_times.proofs.reads.Reads.renew.Goals as goal
 
 pub returns : goal.returns
 returns c =
     view_absorbed c.loop-other.self-inside c.other.inside c.self.inside
     (all_seen c.loop-other.invariant.1 (sym c.is_empty.ensures ∙ c.loop-other-test.false))
-    ∙ ap (λ (a : List (Option (ℕ × Clock))). reads_absorbed a (reads_kept c.self.inside.readers c.self.inside.places)) c.other.view_is
+    ∙ ap (λ (a : List (Option (ℕ × Clock))). reads_absorbed a (reads_kept c.self.inside.readers c.self.inside.places))
+    c.other.view_is
     ∙ ap (reads_absorbed c.args.other.now) c.self.view_is
 
 pub loop-other-preserved-then-is_no_older : goal.loop-other-preserved-then-is_no_older
@@ -23,11 +25,13 @@ loop-other-preserved-then-is_no_older c =
     let rest = c.loop-other.invariant.1.rest core within c.first_of-core.ensures.there in
     rw (c.without-left.ensures, c.with-self-inside.ensures) (
       length-set c.loop-other.self-inside.places core _ ∙ c.loop-other.invariant.0,
-      taken c.self.inside c.loop-other.self-inside c.other.inside (λ k. newer_read (read_of c.other.inside k) (read_of c.self.inside k))
+      taken c.self.inside c.loop-other.self-inside c.other.inside
+          (λ k. newer_read (read_of c.other.inside k) (read_of c.self.inside k))
           c.loop-other.left core _
           c.loop-other.invariant.0 within
-          (ends_renewing c.self.inside c.loop-other.self-inside c.other.inside core _ _ c.has.result _ c.loop-other.invariant.0
-          c.other.invariant within c.has.ensures rest (c.is_no_older.ensures ∙ if_true c.is_no_older.result _ _ c.if-is_no_older.true))
+          (ends_renewing c.self.inside c.loop-other.self-inside c.other.inside core _ _ c.has.result _
+          c.loop-other.invariant.0 c.other.invariant within c.has.ensures rest
+          (c.is_no_older.ensures ∙ if_true c.is_no_older.result _ _ c.if-is_no_older.true))
           c.loop-other.invariant.1,
     )
 
@@ -39,11 +43,14 @@ loop-other-preserved c =
     rw (c.without-left.ensures) (
       c.loop-other.invariant.0,
       stays (λ k. read_of c.loop-other.self-inside k ≡ newer_read (read_of c.other.inside k) (read_of c.self.inside k))
-          (λ k. (has c.other.inside.readers k ≡ true) × (read_of c.loop-other.self-inside k ≡ read_of c.self.inside k)) c.loop-other.left core within
-          (rest.1 ∙ sym (is_mine c.self.inside c.loop-other.self-inside c.other.inside core _ (0, no_counts) c.has.result None
+          (λ k. (has c.other.inside.readers k ≡ true) × (read_of c.loop-other.self-inside k ≡ read_of c.self.inside k))
+          c.loop-other.left core within
+          (rest.1
+          ∙ sym (is_mine c.self.inside c.loop-other.self-inside c.other.inside core _ (0, no_counts) c.has.result None
           c.loop-other.invariant.0 within c.has.ensures rest.1)
-          ∙ (ends_renewing c.self.inside c.loop-other.self-inside c.other.inside core _ _ c.has.result _ c.loop-other.invariant.0
-          c.other.invariant within c.has.ensures rest (c.is_no_older.ensures ∙ if_false c.is_no_older.result _ _ c.if-is_no_older.false)))
+          ∙ (ends_renewing c.self.inside c.loop-other.self-inside c.other.inside core _ _ c.has.result _
+          c.loop-other.invariant.0 c.other.invariant within c.has.ensures rest
+          (c.is_no_older.ensures ∙ if_false c.is_no_older.result _ _ c.if-is_no_older.false)))
           c.loop-other.invariant.1,
     )
 

@@ -6,5 +6,6 @@ use Rattle.access_times.proofs.times.SlotTimes.on_load.Goals as goal
 
 pub returns : goal.returns
 returns c =
-    ap (λ (r : List (Option (ℕ × Clock))). (let s : SlotTimes = record { write = c.args.self.now.write; reads = r } in s)) c.set.ensures.reads
+    ap (λ (r : List (Option (ℕ × Clock))).
+    (let s : SlotTimes = record { write = c.args.self.now.write; reads = r } in s)) c.set.ensures.reads
     ∙ read_set c.args.self.now c.args.at c.args.clock c.set.ensures.places c.requires

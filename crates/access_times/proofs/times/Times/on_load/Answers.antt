@@ -12,4 +12,6 @@ returns c =
     let long : length c.args.self.now.slots ≡ BLOCK_WORDS = grind (arith, common_steps) in
     let within : c.args.slot < length c.args.self.now.slots = (let slot = c.requires.slot in omega arith) in
     load_set c.args.self.now c.args.slot c.args.at c.args.clock _ long c.requires.slot
-    (c.on_load.ensures ∙ ap (λ (x : SlotTimes). slot_loaded x c.args.at c.args.clock) (get_or_default c.args.self.now.slots c.args.slot _ missing_slot within))
+    (c.on_load.ensures
+    ∙ ap (λ (x : SlotTimes). slot_loaded x c.args.at c.args.clock)
+    (get_or_default c.args.self.now.slots c.args.slot _ missing_slot within))

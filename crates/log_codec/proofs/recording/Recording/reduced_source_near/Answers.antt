@@ -2,8 +2,12 @@ use Rattle.std.proofs.Common.{arith}
 use Rattle.rtr_types.specs.declared.pairs.Which.TheVariants.{Reduced}
 use Rattle.rtr_types.specs.declared.instr.Instr.{Instr}
 use Rattle.log_codec.proofs.SourceLaws.{edges-are-paired}
-use Rattle.log_codec.proofs.recording.Recording.reduced_source_near.Goals.{else-of-number-via-then-of-number+then-at-number+else-of-at}
-use Rattle.log_codec.proofs.recording.Recording.reduced_source_near.Goals.{else-of-number-via-then-of-number+else-at-number}
+use Rattle.log_codec.proofs.recording.Recording.reduced_source_near.Goals.{
+  else-of-number-via-then-of-number+then-at-number+else-of-at,
+}
+use Rattle.log_codec.proofs.recording.Recording.reduced_source_near.Goals.{
+  else-of-number-via-then-of-number+else-at-number,
+}
 use Rattle.log_codec.proofs.recording.Recording.reduced_source_near.Goals.{else-of-number-via-else-of-number}
 use Rattle.log_codec.proofs.recording.Recording.reduced_source_near.Goals as goal
 
@@ -15,5 +19,6 @@ returns-else-of-number-clause-only c a has =
       | else-of-number-via-then-of-number+then-at-number+else-of-at w ↦ absurd (pair.differ w.if-of-at.false)
       | else-of-number-via-then-of-number+else-at-number w ↦ absurd
           (let t = pair.target in let f = w.if-at-number.false in omega arith)
-      | else-of-number-via-else-of-number w ↦ absurd (let s = pair.source in let f = w.if-of-number.false in omega arith)
+      | else-of-number-via-else-of-number w ↦
+          absurd (let s = pair.source in let f = w.if-of-number.false in omega arith)
     ]
