@@ -43,9 +43,11 @@ or_four false false c d = refl
 
 module _ (from to : ℕ) where
   -- both ends of one edge more are marked
-  pub marked_more : (counts : List (ℕ × ℕ)) (i : ℕ) (item d : ℕ × ℕ) (x : Instr) (before old first second : Bool) → i < length counts →
-      item ≡ get_or counts i d → old ≡ is_end (map (edge_between from to) (take i counts)) x || before →
-      first ≡ is_same (edge_between from to item).from x || old → second ≡ is_same (edge_between from to item).to x || first →
+  pub marked_more : (counts : List (ℕ × ℕ)) (i : ℕ) (item d : ℕ × ℕ) (x : Instr) (before old first second : Bool) →
+      i < length counts → item ≡ get_or counts i d →
+      old ≡ is_end (map (edge_between from to) (take i counts)) x || before →
+      first ≡ is_same (edge_between from to item).from x || old →
+      second ≡ is_same (edge_between from to item).to x || first →
       second ≡ is_end (map (edge_between from to) (take (i + 1) counts)) x || before
   marked_more counts i item d x before old first second lt is was one two =
       let edge = edge_between from to in
@@ -53,14 +55,16 @@ module _ (from to : ℕ) where
       let so_far = map edge (take i counts) in
       let next : i + 1 ≡ suc i = omega arith in
       let more : map edge (take (i + 1) counts) ≡ so_far ++ e ∷ [] =
-      ap (λ (k : ℕ). map edge (take k counts)) next ∙ ap (map edge) (take-suc counts i d lt) ∙ map-append edge (take i counts) (get_or counts i d ∷ [])
+      ap (λ (k : ℕ). map edge (take k counts)) next ∙ ap (map edge) (take-suc counts i d lt)
+      ∙ map-append edge (take i counts) (get_or counts i d ∷ [])
       ∙ ap (λ (p : ℕ × ℕ). so_far ++ edge p ∷ []) (sym is) in
       two ∙ ap (λ (b : Bool). is_same e.to x || b) (one ∙ ap (λ (b : Bool). is_same e.from x || b) was)
       ∙ or_four (is_same e.from x) (is_same e.to x) (is_end so_far x) before
       ∙ ap (λ (b : Bool). b || before) (sym (is_end-push so_far e x) ∙ ap (λ (l : List Edge). is_end l x) (sym more))
 
   -- an instruction of another core is the end of none
-  pub none_there : (counts : List (ℕ × ℕ)) (core n : ℕ) → from ≢ core → to ≢ core → is_end (map (edge_between from to) counts) (instr core n) ≡ false
+  pub none_there : (counts : List (ℕ × ℕ)) (core n : ℕ) → from ≢ core → to ≢ core →
+      is_end (map (edge_between from to) counts) (instr core n) ≡ false
   none_there [] core n not_from not_to = refl
   none_there (p ∷ counts) core n not_from not_to =
       let one : nat_eq from core ≡ false = grind (arith, nat_tests) in
@@ -75,10 +79,12 @@ is_end-append (e ∷ xs) ys x =
     ap (λ (b : Bool). ends_here e x || b) (is_end-append xs ys x) ∙ or_last (ends_here e x) (is_end ys x) (is_end xs x)
 
 -- the ends of one pair more are marked
-pub pair_marked : (old pair new : List Edge) (x : Instr) (before after : Bool) → before ≡ is_end old x → after ≡ is_end pair x || before →
-    new ≡ old ++ pair → after ≡ is_end new x
+pub pair_marked : (old pair new : List Edge) (x : Instr) (before after : Bool) → before ≡ is_end old x →
+    after ≡ is_end pair x || before → new ≡ old ++ pair →
+    after ≡ is_end new x
 pair_marked old pair new x before after was more is =
-    more ∙ ap (λ (b : Bool). is_end pair x || b) was ∙ sym (is_end-append old pair x) ∙ ap (λ (l : List Edge). is_end l x) (sym is)
+    more ∙ ap (λ (b : Bool). is_end pair x || b) was ∙ sym (is_end-append old pair x)
+    ∙ ap (λ (l : List Edge). is_end l x) (sym is)
 
 -- a mark that is looked up
 pub mark_at : (items marks : List Bool) (n : ℕ) (b : Bool) → items ≡ marks → b ≡ get_or items n b → n < length marks →

@@ -1,5 +1,6 @@
 -- Rows of one width in one list: how many, the row at a place, and one row more.
-use Rattle.std.proofs.Common.{◌≡◌, ◌∙◌, ℕ, zero, suc, ◌+◌, ◌*◌, ◌<◌, ◌≤◌, List, [], ◌∷◌, ◌++◌, length, get_or, refl, sym}
+use Rattle.std.proofs.Common.{◌≡◌, ◌∙◌, ℕ, zero, suc, ◌+◌, ◌*◌, ◌<◌, ◌≤◌, List, [], ◌∷◌, ◌++◌, length, get_or, refl}
+use Rattle.std.proofs.Common.{sym}
 use Rattle.std.proofs.Common.{ap, arith, drop, suc-mul, take, zero-mul}
 use Rattle.std.proofs.lemmas.List.{drop-append-le, drop-drop, length-drop, take-append-le, take_all}
 use Rattle.certificate_codec.specs.Rows.{rows}
@@ -39,4 +40,5 @@ one_row_more width (suc number) counts row long wide =
     let fits : width ≤ length counts = omega arith in
     let shorter : length (drop width counts) ≡ number * width = omega (arith, length-drop width counts) in
     rw (take-append-le width counts row fits, drop-append-le width counts row fits)
-    (ap (λ (xs : List (List ℕ)). take width counts ∷ xs) (one_row_more width number (drop width counts) row shorter wide))
+    (ap (λ (xs : List (List ℕ)). take width counts ∷ xs)
+    (one_row_more width number (drop width counts) row shorter wide))

@@ -27,7 +27,8 @@ loop-place-preserved c n lt =
     (c.mark_pair.ensures n first)
     (sym (edges_more r place old (old ++ edges_at Reduced r place) refl refl)
     ∙ sym (pair_edges_are r place c.pair_of-from.result c.as_slice.result.now c.index-as_slice-place.result
-    c.as_slice-counts.result.now old (old ++ pair) c.requires.valid within c.pair_of-from.ensures.pair c.as_slice.ensures
+    c.as_slice-counts.result.now old (old ++ pair) c.requires.valid within
+    c.pair_of-from.ensures.pair c.as_slice.ensures
     c.index-as_slice-place.is c.as_slice-counts.ensures refl))
 
 pub returns : goal.returns

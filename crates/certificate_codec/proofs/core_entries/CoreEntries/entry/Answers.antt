@@ -5,7 +5,8 @@ use Rattle.certificate_codec.proofs.core_entries.CoreEntries.entry.Goals as goal
 
 pub returns-then-place-self : goal.returns-then-place-self
 returns-then-place-self c =
-    sym (no_row c.self.inside.width c.self.inside.number c.args.place c.self.inside.counts (omega (arith, c.if-place-self.true)))
+    sym (no_row c.self.inside.width c.self.inside.number c.args.place c.self.inside.counts
+    (omega (arith, c.if-place-self.true)))
     ∙ ap (λ (rows : List (List ℕ)). get_or rows c.args.place []) c.self.view_is
 
 pub returns : goal.returns

@@ -6,7 +6,9 @@ use Rattle.std.proofs.Common.{None}
 use Rattle.min_certificate.proofs.First.{no_edge, edge_at, fails_first, holds_more, holds_all}
 use Rattle.min_certificate.proofs.entries.Entries.first_amiss.Goals as goal
 use Rattle.min_certificate.proofs.entries.Entries.first_amiss.Goals.{then-not-is_conflict-via-then-not-is_conflict}
-use Rattle.min_certificate.proofs.entries.Entries.first_amiss.Goals.{then-not-is_conflict-via-else-not-is_conflict+then-not-is_needed}
+use Rattle.min_certificate.proofs.entries.Entries.first_amiss.Goals.{
+  then-not-is_conflict-via-else-not-is_conflict+then-not-is_needed,
+}
 
 pub is_needed-requires-clause-within : goal.is_needed-requires-clause-within
 is_needed-requires-clause-within c =
