@@ -34,14 +34,16 @@ pair_yes from to e t = ap (λ (b : Bool). map counts (cond b (e ∷ []) [])) t
 pair_no : (from to : ℕ) (e : Edge) (edges : List Edge) → is_between from to e ≡ false → pair_edges from to (e ∷ edges)
     ≡ pair_edges from to edges
 unfolding pair_edges
-pair_no from to e edges t
-    = ap (λ (b : Bool). map counts (cond b (e ∷ filter (is_between from to) edges) (filter (is_between from to) edges))) t
+pair_no from to e edges t =
+    ap (λ (b : Bool). map counts (cond b (e ∷ filter (is_between from to) edges) (filter (is_between from to) edges)))
+    t
 
 pair_first : (from to : ℕ) (e : Edge) (edges : List Edge) → is_between from to e ≡ true → pair_edges from to
     (e ∷ edges) ≡ counts e ∷ pair_edges from to edges
 unfolding pair_edges
-pair_first from to e edges t
-    = ap (λ (b : Bool). map counts (cond b (e ∷ filter (is_between from to) edges) (filter (is_between from to) edges))) t
+pair_first from to e edges t =
+    ap (λ (b : Bool). map counts (cond b (e ∷ filter (is_between from to) edges) (filter (is_between from to) edges)))
+    t
 
 pair_nil : (from to : ℕ) → pair_edges from to [] ≡ []
 unfolding pair_edges

@@ -108,7 +108,8 @@ fn live_cores(cores: u8, before: &Clock, access: &Access, times: &Times) -> Core
     requires cores { cores ≤ CORES_MAX }
     requires own { access.now.at.core < CORES_MAX }
     ensures { (core : ℕ) → core < CORES_MAX →
-        has result core ≡ is_live_read cores before.now access.now core (read_at times.now (access.now.word % BLOCK_WORDS) core) }
+        has result core ≡ is_live_read cores before.now access.now core
+        (read_at times.now (access.now.word % BLOCK_WORDS) core) }
 {
     let slot = slot_of(access.word);
     let mut live = times.readers(slot).without(access.at.core);

@@ -9,5 +9,6 @@ pub returns-then-is_early-clause-sources : goal.returns-then-is_early-clause-sou
 returns-then-is_early-clause-sources c =
     let r = c.args.recording.now in
     let early = c.is_early.ensures c.if-is_early.true in
-    subst (λ (o : Option (List ℕ)). AreSources (log_edges c.args.which r) c.args.at (sources_in o)) (sym c.clear.ensures)
+    subst (λ (o : Option (List ℕ)). AreSources (log_edges c.args.which r) c.args.at (sources_in o))
+    (sym c.clear.ensures)
     (no_sources c.args.which r c.requires.valid c.args.self.now c.args.at c.requires.coming early.0 early.1)

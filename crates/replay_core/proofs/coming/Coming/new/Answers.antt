@@ -2,4 +2,5 @@ use Rattle.replay_core.proofs.Awaited.{coming_unknown}
 use Rattle.replay_core.proofs.coming.Coming.new.Goals as goal
 
 pub returns : goal.returns
-returns c which r core valid = coming_unknown which r valid core r.params.cores c.none.result c.none.ensures.from c.none.ensures.edges
+returns c which r core valid =
+    coming_unknown which r valid core r.params.cores c.none.result c.none.ensures.from c.none.ensures.edges
