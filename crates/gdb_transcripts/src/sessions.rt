@@ -9,13 +9,25 @@ pub struct Stored {
 }
 
 /// The sessions, by their names.
-pub static SESSIONS: [Stored; 5] = [
+pub static SESSIONS: [Stored; 9] = [
     Stored {
         name: "attach",
         recording: "count",
     },
     Stored {
+        name: "barrier_of_sixteen",
+        recording: "barrier",
+    },
+    Stored {
         name: "break_and_step",
+        recording: "count",
+    },
+    Stored {
+        name: "crash",
+        recording: "crash",
+    },
+    Stored {
+        name: "ends",
         recording: "count",
     },
     Stored {
@@ -29,5 +41,9 @@ pub static SESSIONS: [Stored; 5] = [
     Stored {
         name: "spin_lock",
         recording: "lock",
+    },
+    Stored {
+        name: "watch",
+        recording: "count",
     },
 ];
