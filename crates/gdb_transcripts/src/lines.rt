@@ -1,4 +1,6 @@
 //! The lines of a stored session.
+ghost use Rattle.std.specs.Prelude.{◌≡◌, ◌++◌, codes};
+ghost use Rattle.gdb_transcripts.specs.Lines.{Says};
 
 /// A line of a stored session.
 #[derive(Clone, Copy)]
@@ -17,8 +19,22 @@ pub enum Line<'a> {
     Unknown,
 }
 
+impl Line<'_> {
+    /// Whether it is a packet.
+    pub fn is_packet(&self) -> bool {
+        matches!(self, Line::Packet(_))
+    }
+
+    /// Whether it is an answer.
+    pub fn is_answer(&self) -> bool {
+        matches!(self, Line::Answer(_))
+    }
+}
+
 /// What a line says.
-pub fn line_of(text: &[u8]) -> Line<'_> {
+pub fn line_of(text: &[u8]) -> Line<'_>
+    ensures { Says text.now result }
+{
     if let Some(payload) = text.strip_prefix(b"> ") {
         to_server(payload)
     } else if let Some(payload) = text.strip_prefix(b"< ") {
@@ -31,7 +47,9 @@ pub fn line_of(text: &[u8]) -> Line<'_> {
 }
 
 /// What is sent to the server.
-fn to_server(payload: &[u8]) -> Line<'_> {
+fn to_server(payload: &[u8]) -> Line<'_>
+    ensures { Says (codes "> " ++ payload.now) result }
+{
     if payload.starts_with(b"(") {
         Line::Interrupt
     } else {
@@ -40,7 +58,9 @@ fn to_server(payload: &[u8]) -> Line<'_> {
 }
 
 /// What is sent to gdb.
-fn to_gdb(payload: &[u8]) -> Line<'_> {
+fn to_gdb(payload: &[u8]) -> Line<'_>
+    ensures { Says (codes "< " ++ payload.now) result }
+{
     if payload == b"None".as_slice() {
         Line::Silence
     } else {

@@ -1,5 +1,5 @@
 //! What a stored session comes to.
-use crate::lines::{Line, line_of};
+use crate::lines::line_of;
 use crate::player::Player;
 use gdb_session::Session;
 use log_codec::{CodecFault, read};
@@ -37,35 +37,38 @@ pub fn audited(alloc: Global, bytes: &[u8]) -> io::Result<Audited> {
 pub fn play(alloc: Global, audited: &Audited, text: &[u8]) -> Result<Played, AllocError> {
     let session = Session::begin(alloc, audited)?;
     Ok(Played {
-        packets: count(text, |line| matches!(line, Line::Packet(_))),
-        answers: count(text, |line| matches!(line, Line::Answer(_))),
+        packets: packets(text),
+        answers: answers(text),
         other: first_other(alloc, Player::new(alloc, session), text)?,
     })
 }
 
-/// How many lines are so.
-fn count<F: Fn(Line) -> bool>(text: &[u8], is_so: F) -> usize {
+/// How many packets there are.
+fn packets(text: &[u8]) -> usize {
     text.split(|byte| *byte == b'\n')
-        .filter(|line| is_so(line_of(line)))
+        .filter(|line| line_of(line).is_packet())
         .count()
 }
 
-/// The number of the first line that the session doesn't do.
+/// How many answers there are.
+fn answers(text: &[u8]) -> usize {
+    text.split(|byte| *byte == b'\n')
+        .filter(|line| line_of(line).is_answer())
+        .count()
+}
+
+/// The number of the first line that the session doesn't do, or of the last one where an answer is left after it.
 fn first_other(
     alloc: Global,
     mut player: Player,
     text: &[u8],
 ) -> Result<Option<usize>, AllocError> {
-    let mut number = 0;
-    for line in text.split(|byte| *byte == b'\n') {
-        number += 1;
+    let mut last = 0;
+    for (number, line) in (1..=usize::MAX).zip(text.split(|byte| *byte == b'\n')) {
+        last = number;
         if !player.plays(alloc, line_of(line))? {
-            return Ok(Some(number));
+            return Ok(Some(last));
         }
     }
-    Ok(if player.is_heard() {
-        None
-    } else {
-        Some(number)
-    })
+    Ok(if player.is_heard() { None } else { Some(last) })
 }
