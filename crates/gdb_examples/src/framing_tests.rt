@@ -21,7 +21,8 @@ static CHUNKS: [Chunk; 21] = [
     },
     Chunk {
         sent: b"$qSupported:swbreak+#8b",
-        written: b"+$PacketSize=1000;QStartNoAckMode+;vContSupported+;swbreak+;hwbreak+;ReverseStep+;ReverseContinue+;qXfer:features:read+;qXfer:threads:read+#83",
+        written: b"+$PacketSize=1000;QStartNoAckMode+;vContSupported+;swbreak+;hwbreak+;ReverseStep+;ReverseContinue+;\
+            qXfer:features:read+;qXfer:threads:read+#83",
     },
     Chunk {
         sent: b"$vMustReplyEmpty#3a",

@@ -416,7 +416,8 @@ pub static SESSIONS: [Row; 100] = [
         asks: Plain::Unknown,
     },
     Row {
-        payload: "qSupported:multiprocess+;swbreak+;hwbreak+;qRelocInsn+;fork-events+;vfork-events+;exec-events+;vContSupported+;QThreadEvents+;no-resumed+;memory-tagging+;xmlRegisters=i386",
+        payload: "qSupported:multiprocess+;swbreak+;hwbreak+;qRelocInsn+;fork-events+;vfork-events+;exec-events+;\
+            vContSupported+;QThreadEvents+;no-resumed+;memory-tagging+;xmlRegisters=i386",
         asks: Plain::Features,
     },
     Row {

@@ -2,8 +2,8 @@
 //! `rtr at` prints.
 
 /// A call: its words and its input in hexadecimal digits; the call of the input and of the output that fails (0 for
-/// none), and the most bytes that a call of the output takes; then the status, how many bytes were given with their sum,
-/// and the report.
+/// none), and the most bytes that a call of the output takes; then the status, how many bytes were given with their
+/// sum, and the report.
 pub struct Row {
     pub words: &'static str,
     pub input: &'static str,

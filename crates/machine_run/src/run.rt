@@ -59,7 +59,8 @@ fn run_on(
 ) -> Result<Outcome, AllocError>
     requires fits { Fits params }
     requires words { machine.old.state.image.words ≡ params.words }
-    requires stands { StandsAt machine.old.state.image params schedule 0 (plain machine.old.state) clerk.lists schedule }
+    requires stands { StandsAt machine.old.state.image params schedule 0 (plain machine.old.state)
+        clerk.lists schedule }
     ensures outcome { IfOk result (λ outcome. outcome ≡ outcome_of machine.old.state.image params schedule) }
     ensures image { OnOk result (machine.new.state.image ≡ machine.old.state.image) }
 {

@@ -32,7 +32,8 @@ use Rattle.replay_audit.specs.Determinate.{IsDeterminate}
 use Rattle.replay_audit.specs.Judges.{IsAlike, AreAlike}
 use Rattle.replay_audit.specs.declared.touch.Touch.{Touch}
 use Rattle.replay_audit.specs.declared.unordered.Unordered.{Unordered}
-use Rattle.replay_audit.specs.Touches.{IsAccessOf, touches_of, as_touch, as_access, AreRising, ArePlayed, IsAt, IsPlaceOf}
+use Rattle.replay_audit.specs.Touches.{IsAccessOf, touches_of, as_touch, as_access, AreRising, ArePlayed, IsAt}
+use Rattle.replay_audit.specs.Touches.{IsPlaceOf}
 use Rattle.replay_audit.specs.Clocks.{Kept}
 use Rattle.replay_audit.specs.Marks.{first_mark, mark_at, IsMark}
 use Rattle.replay_audit.specs.Trails.{Trailed, Watches, IsFinding, IsTrailOf}

@@ -1,5 +1,6 @@
 //! Whether a recording is determinate, by the accesses of a play in any whole replay order.
-ghost use Rattle.std.specs.Prelude.{◌≡◌, ◌≢◌, ◌+◌, ◌<◌, ◌↔◌, ℕ, IfOk, IfSome, IsTrue, Some, false, length, slice_index_or};
+ghost use Rattle.std.specs.Prelude.{◌≡◌, ◌≢◌, ◌+◌, ◌<◌, ◌↔◌, ℕ, IfOk, IfSome, IsTrue, Some, false, length};
+ghost use Rattle.std.specs.Prelude.{slice_index_or};
 ghost use Rattle.std.specs.List.{Contains};
 ghost use Rattle.log_codec.specs.Validity.{Valid};
 ghost use Rattle.replay_core.specs.Plans.{plan_of};

@@ -152,7 +152,8 @@ access_ties p past new sees holds holds' v w o at word word' old writes whole wr
           (t.loads_is ∙ ap (λ (x : Own). x.loads) e.0)
           ∙ ap (λ (m : ℕ). loads_after u o.loads m old) count;
       touched_is = notes.touched
-          ∙ ap (λ (l : List Touch). touched_after u l (after p.image k old).id (after p.image k old).count) (t.touched_is
+          ∙ ap (λ (l : List Touch). touched_after u l (after p.image k old).id (after p.image k old).count)
+          (t.touched_is
           ∙ ap (λ (x : Own). x.touched) e.0) ∙ ap (λ (i : ℕ). touched_after u o.touched i (after p.image k old).count)
           id
           ∙ ap (λ (m : ℕ). touched_after u o.touched k.id m) count;

@@ -112,8 +112,8 @@ fn ran_text(
     state_text(alloc, &ran.outcome, &ran.image, loads)
 }
 
-/// The text of how the low order of the recording's reduced log ends, in which each logged load takes its recorded word.
-/// Whether the log orders each two accesses that conflict isn't asked.
+/// The text of how the low order of the recording's reduced log ends, in which each logged load takes its recorded
+/// word. Whether the log orders each two accesses that conflict isn't asked.
 pub(crate) fn tso_replayed(
     alloc: Global,
     recording: TsoRecording,

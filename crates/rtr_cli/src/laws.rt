@@ -18,9 +18,9 @@ pub fn certify_laws()
     ensures { CertifiedIsAccepted }
 {}
 
-/// What a command makes of an input is one output. That is so of `certify`, since exact clocks are one, of `at`, since an
-/// instruction has one cut of each kind and a cut one state, and of `thin`, since vectors have one thinning, of which each
-/// is shown by its first edge that the others don't imply and the least cut.
+/// What a command makes of an input is one output. That is so of `certify`, since exact clocks are one, of `at`, since
+/// an instruction has one cut of each kind and a cut one state, and of `thin`, since vectors have one thinning, of
+/// which each is shown by its first edge that the others don't imply and the least cut.
 pub fn each_command_makes_one_output()
     ensures { MakesOne }
 {

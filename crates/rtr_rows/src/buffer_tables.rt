@@ -140,7 +140,8 @@ pub static BUFFERS: [Row; 38] = [
             load 0 6 00000050 ffffffff\n\
             load 1 6 00000040 00000001\n"
     ),
-    // Both cores go as far as they can, core 0 first: their loads are before either store is written, and each is logged.
+    // Both cores go as far as they can, core 0 first: their loads are before either store is written, and each is
+    // logged.
     recorded!(
         "tsorecord --cores 2 --words 32 --choices \
             000000000000000000000000000000000000000000000000000000000000",

@@ -1,7 +1,8 @@
 //! What holds of every run, with no premise but that its parameters lie in their ranges, and what it comes to.
 ghost use Rattle.run_outcome.specs.EveryRun.{EveryRunLaw};
 ghost use Rattle.run_outcome.specs.Outcomes.{RunFitsLaw};
-ghost use Rattle.run_outcome.specs.Retirement.{AccessesLaw, EarlierLaw, NextRetiresLaw, RetiresOnceLaw, StaysRetiredLaw};
+ghost use Rattle.run_outcome.specs.Retirement.{AccessesLaw, EarlierLaw, NextRetiresLaw, RetiresOnceLaw};
+ghost use Rattle.run_outcome.specs.Retirement.{StaysRetiredLaw};
 
 /// The machine over every run. In each state at most one cache may write a block, and then no other may
 /// read it; what an enabled move brings has a row in its receiver's table, and what it sends has room;
