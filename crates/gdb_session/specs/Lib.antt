@@ -12,4 +12,5 @@ pub mod Orders
 pub mod Moves
 pub mod Seats
 pub mod Told
+pub mod Commanded
 pub mod Answers
