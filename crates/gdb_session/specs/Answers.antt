@@ -13,6 +13,7 @@ use Rattle.gdb_server.specs.declared.partner.Next.{Next}
 use Rattle.gdb_server.specs.declared.partner.Next.TheVariants.{Listen, StopAcks, End}
 use Rattle.gdb_session.specs.declared.orders.Order.{Order}
 use Rattle.gdb_session.specs.declared.points.Point.{Point}
+use Rattle.gdb_session.specs.Commanded.{IsCommanded}
 use Rattle.gdb_session.specs.Moves.{Obeys}
 use Rattle.gdb_session.specs.Orders.{go_back_order, resume_order, step_back_order}
 use Rattle.gdb_session.specs.Points.{point_of, takes, with_point, without_point}
@@ -62,6 +63,14 @@ abbrev pub MovesBy : Option Order → (old new : Seat) → List (List ℕ) → T
 MovesBy None old new payloads = Refuses old new payloads
 MovesBy (Some order) old new payloads = Moves old order new payloads
 
+-- ---- commands
+
+-- a command is obeyed, and what is told is answered; what the debugger has asked for stays
+pub record Commands (old : Seat) (text : List ℕ) (new : Seat) (payloads : List (List ℕ)) : Type 0 where
+  pub done : IsCommanded text old.place new.place payloads
+  pub wishes : new.wishes ≡ old.wishes
+  pub points : new.points ≡ old.points
+
 -- ---- all packets
 
 abbrev pub AnswersPlain : Plain → (old new : Seat) → List (List ℕ) → Type 0
@@ -72,7 +81,7 @@ AnswersPlain other old new payloads = Tells old other new payloads
 abbrev pub AnswersWith : asks.Ask → (old new : Seat) → List (List ℕ) → Type 0
 AnswersWith (whole_asks.Resume actions) old new payloads =
     MovesBy (resume_order old.wishes old.place.recording.params.cores actions) old new payloads
-AnswersWith (whole_asks.Command text) old new payloads = Refuses old new payloads
+AnswersWith (whole_asks.Command text) old new payloads = Commands old text new payloads
 AnswersWith (whole_asks.Plain packet) old new payloads = AnswersPlain packet old new payloads
 
 -- what is to be done behind the answer

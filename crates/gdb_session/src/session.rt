@@ -12,6 +12,7 @@ ghost use Rattle.gdb_session.specs.Told.{still_reply, there_reply};
 ghost use Rattle.gdb_session.specs.Wishes.{Fit, wishes_after};
 
 use crate::answer::{one, silent};
+use crate::commanded::commanded;
 use crate::moves::obey;
 use crate::orders::{Order, go_back_order, resume_order, step_back_order};
 use crate::points::{Point, clear_point, point_of, set_point};
@@ -171,7 +172,7 @@ fn answered(
             )
         }
         Ask::Plain(plain) => answered_plain(alloc, audited, image, place, wishes, points, *plain),
-        Ask::Command(_) => one(alloc, &Reply::Refused),
+        Ask::Command(text) => commanded(alloc, audited, place, text.as_slice()),
     }
 }
 

@@ -1,0 +1,139 @@
+//! What a command's text means.
+ghost use Rattle.std.specs.Prelude.{◌≡◌, IfOk};
+ghost use Rattle.std.specs.Option.{option_and_then, option_map};
+ghost use Rattle.gdb_monitor.specs.Commands.{command_of, counts_of, cut_of, goto_of, meaning, named, one_core, only};
+ghost use Rattle.gdb_monitor.specs.Commands.{order_of};
+ghost use Rattle.gdb_monitor.specs.Numbers.{named_instr};
+
+use crate::numbers::{core_of, count_of, named_instr};
+use crate::words::words_of;
+use gdb_packets::is;
+use rtr_types::{Instr, Items};
+use std::alloc::{AllocError, Global};
+
+/// A command of a debugger's user.
+#[derive(Drop)]
+pub enum Command {
+    /// `cut`: where the place is.
+    Cut,
+    /// `goto C:N`: to the least closed cut with this instruction.
+    GoTo(Instr),
+    /// `goto N N ..`: to the cut with these counts, a count for each core.
+    GoToCut(Items<u32>),
+    /// `earliest C`: this core stays, and the others go back as far as the log lets them.
+    Earliest(u8),
+    /// `latest C`: this core stays, and the others go on as far as the log lets them.
+    Latest(u8),
+    /// `order C:N C:N`: which of the two instructions comes before the other.
+    Order(Instr, Instr),
+    /// Every other text.
+    Unknown,
+}
+
+/// What a text means: words between spaces, the command's name first. It is refused for want of memory alone.
+pub fn command_of(alloc: Global, text: &[u8]) -> Result<Command, AllocError>
+    ensures { IfOk result (λ command. command ≡ command_of text.now) }
+{
+    let words = words_of(alloc, text)?;
+    Ok(meaning(alloc, words.as_slice())?.unwrap_or(Command::Unknown))
+}
+
+/// What words mean, if they mean a command.
+fn meaning(alloc: Global, words: &[Items<u8>]) -> Result<Option<Command>, AllocError>
+    ensures { IfOk result (λ command. command ≡ meaning words.now) }
+{
+    match words.split_first() {
+        Some((name, arguments)) if is(name.as_slice(), "goto") => goto_of(alloc, arguments),
+        Some((name, arguments)) => Ok(named(name.as_slice(), arguments)),
+        None => Ok(None),
+    }
+}
+
+/// A command by its name, if it has one that takes no list.
+fn named(name: &[u8], arguments: &[Items<u8>]) -> Option<Command>
+    ensures { result ≡ named name.now arguments.now }
+{
+    if is(name, "cut") {
+        cut_of(arguments)
+    } else if is(name, "earliest") {
+        one_core(arguments).map(Command::Earliest)
+    } else if is(name, "latest") {
+        one_core(arguments).map(Command::Latest)
+    } else if is(name, "order") {
+        order_of(arguments)
+    } else {
+        None
+    }
+}
+
+/// `cut`, which has no argument.
+fn cut_of(arguments: &[Items<u8>]) -> Option<Command>
+    ensures { result ≡ cut_of arguments.now }
+{
+    match arguments {
+        [] => Some(Command::Cut),
+        _ => None,
+    }
+}
+
+/// `goto` with an instruction, or with counts.
+fn goto_of(alloc: Global, arguments: &[Items<u8>]) -> Result<Option<Command>, AllocError>
+    ensures { IfOk result (λ command. command ≡ goto_of arguments.now) }
+{
+    match one_instr(arguments) {
+        Some(at) => Ok(Some(Command::GoTo(at))),
+        None => Ok(counts_of(alloc, arguments)?.map(Command::GoToCut)),
+    }
+}
+
+/// `order` with two instructions.
+fn order_of(arguments: &[Items<u8>]) -> Option<Command>
+    ensures { result ≡ order_of arguments.now }
+{
+    match arguments {
+        [at, other] => {
+            let at = named_instr(at.as_slice())?;
+            let other = named_instr(other.as_slice())?;
+            Some(Command::Order(at, other))
+        }
+        _ => None,
+    }
+}
+
+/// The one argument, a core.
+fn one_core(arguments: &[Items<u8>]) -> Option<u8>
+    ensures { result ≡ one_core arguments.now }
+{
+    core_of(only(arguments)?)
+}
+
+/// The one argument, an instruction.
+fn one_instr(arguments: &[Items<u8>]) -> Option<Instr>
+    ensures { result ≡ option_and_then named_instr (only arguments.now) }
+{
+    named_instr(only(arguments)?)
+}
+
+/// The one argument.
+fn only(arguments: &[Items<u8>]) -> Option<&[u8]>
+    ensures { option_map (λ word. word.now) result ≡ only arguments.now }
+{
+    match arguments {
+        [word] => Some(word.as_slice()),
+        _ => None,
+    }
+}
+
+/// The arguments as counts, unless one is none.
+fn counts_of(alloc: Global, arguments: &[Items<u8>]) -> Result<Option<Items<u32>>, AllocError>
+    ensures { IfOk result (λ counts. counts ≡ counts_of arguments.now) }
+{
+    let mut counts = Items::new(alloc);
+    for word in arguments {
+        match count_of(word.as_slice()) {
+            Some(count) => counts.push(count)?,
+            None => return Ok(None),
+        }
+    }
+    Ok(Some(counts))
+}
