@@ -9,7 +9,7 @@ pub struct Stored {
 }
 
 /// The sessions, by their names.
-pub static SESSIONS: [Stored; 9] = [
+pub static SESSIONS: [Stored; 10] = [
     Stored {
         name: "attach",
         recording: "count",
@@ -29,6 +29,10 @@ pub static SESSIONS: [Stored; 9] = [
     Stored {
         name: "ends",
         recording: "count",
+    },
+    Stored {
+        name: "lesson",
+        recording: "lost_count",
     },
     Stored {
         name: "refused_writes",
