@@ -8,6 +8,7 @@ use Rattle.std.proofs.lemmas.List.{get_or-map, get_or_past, length-map}
 use Rattle.std.proofs.lemmas.List.FromFn.{length-map-range_with_len}
 use Rattle.access_times.specs.Riding.{Riding, Carrying}
 use Rattle.image_mem.specs.Contents.{Contents}
+use Rattle.rtr_types.specs.declared.TheConstants.{CORES_MAX}
 use Rattle.rv_core.specs.declared.core_state.Core.{Core}
 use Rattle.rv_core.specs.States.{starting}
 use Rattle.msi_cache.specs.Lines.{waits}
@@ -113,7 +114,7 @@ module _ {R K : Type 0} where
       (marks : Marks) → m.state ≡ state_start riding carrying image cores limit → MachineHolds riding carrying m.state →
       standings ≡ map (λ (core : Core). standing_with image core false) m.state.cores → marks.cores ≡ length standings →
       IsWithin marks →
-      ((x : Move) → is_marked marks x ≡ may_begin standings x) → NotesFit riding carrying m standings marks 0
+      ((x : Move) → is_marked marks x ≡ may_begin standings x) → NotesFit riding carrying m standings marks CORES_MAX
   notes_begin riding carrying image cores limit m standings marks is holds made count within first =
       record {
         holds = holds;

@@ -49,11 +49,11 @@ module _ {R K : Type 0} where
     pub waits : map (λ x. x.waits) standings ≡ map (λ p. waits p.cache) s.memory.ports
 
   -- the state has the machine's invariant, and what a machine notes beside it fits: what each core stands at, which
-  -- moves can be made, and the one core for whose oldest request neither is noted whether it can be taken nor is there
-  -- room for sure
+  -- moves can be made, and the one core that asked last, for whose oldest request neither is noted whether it can be
+  -- taken nor is there room for sure
   pub record NotesFit (riding : Riding R) (carrying : Carrying K) (m : Machinery R K) (standings : List Standing)
-      (marks : Marks) (mover : ℕ) : Type 0 where
+      (marks : Marks) (asker : ℕ) : Type 0 where
     pub holds : MachineHolds riding carrying m.state
     pub stands : StandingsFit m.state standings
-    pub marked : OthersMarked riding carrying m.state marks mover
-    pub roomy : OthersRoomy m.state.memory.ports mover m.rooms
+    pub marked : OthersMarked riding carrying m.state marks asker
+    pub roomy : OthersRoomy m.state.memory.ports asker m.rooms
