@@ -27,6 +27,7 @@ use Rattle.msi_machine.specs.declared.standing.Standing.{Standing}
 use Rattle.msi_machine.specs.Marks.{IsWithin, is_marked}
 use Rattle.msi_machine.specs.Standings.{NotesFit, StandingsFit, may_begin, may_work, next_in, next_of, standing_at}
 use Rattle.msi_machine.specs.Standings.{standing_with}
+use Rattle.msi_machine.proofs.Bits.{none_past}
 use Rattle.msi_machine.proofs.Delivered.{past_is, split}
 use Rattle.msi_machine.proofs.Elsewhere.{can_here, can_past}
 use Rattle.msi_machine.proofs.Renewed.{own_marked}
@@ -125,6 +126,9 @@ module _ {R K : Type 0} where
           marked =
               λ x other. every x;
         };
+        unmarked = none_past marks (RequestMove CORES_MAX)
+            (subst (λ (n : ℕ). n ≤ CORES_MAX) (holds.ports_there ∙ sym (count ∙ standings_long m.state standings fit))
+            holds.memory.cores);
         roomy = λ c other. ap (λ (s : State R K). head_roomy (requests_at s.memory.ports c) m.rooms) is
             ∙ ap (λ items. head_roomy items m.rooms) (no_requests riding carrying cores c);
       }

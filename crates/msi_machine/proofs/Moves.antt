@@ -1,5 +1,5 @@
 -- What each move leaves of cores, ports and what is noted beside them.
-use Rattle.std.proofs.Common.{◌≡◌, ◌≢◌, ◌∙◌, ◌⊎◌, inl, inr, refl, sym, subst, ap, ℕ, ◌<◌, Bool, true, List, [], ◌∷◌}
+use Rattle.std.proofs.Common.{◌≡◌, ◌≢◌, ◌∙◌, ◌⊎◌, inl, inr, refl, sym, subst, ap, ℕ, ◌<◌, Bool, true, false, List, [], ◌∷◌}
 use Rattle.std.proofs.Common.{length, get_or, Option, Some, None}
 use Rattle.std.specs.Prelude.{is_some, slice_set}
 use Rattle.std.proofs.lemmas.Bool.{cases_eq}
@@ -360,11 +360,12 @@ module _ {R K : Type 0} where
       enabled riding carrying old.state m ≡ true →
       StepsTo riding carrying old.state new.state m → new.rooms ≡ old.rooms → StandingsFit new.state kept →
       standings ≡ kept →
-      OthersMarked riding carrying new.state marks asker → asker ≡ asker_of m retired →
+      OthersMarked riding carrying new.state marks asker → is_marked marks (RequestMove asker) ≡ false →
+      asker ≡ asker_of m retired →
       retired ≡ instr_of (event riding carrying old.state m) →
       NotesFit riding carrying new standings marks asker
-  notes_kept riding carrying old new m standings kept marks asker retired roomy holds can_be is same fit all others asks
-      told =
+  notes_kept riding carrying old new m standings kept marks asker retired roomy holds can_be is same fit all others
+      unmarked asks told =
       let rider : R = rider_left riding carrying old.state new.state m in
       let here : core_of m < length old.state.memory.ports =
       core_port riding carrying old.state (core_of m) holds (enabled_core riding carrying old.state m can_be holds) in
@@ -373,6 +374,7 @@ module _ {R K : Type 0} where
             m rider can_be holds);
         stands = subst (λ (xs : List Standing). StandingsFit new.state xs) (sym all) fit;
         marked = others;
+        unmarked = unmarked;
         roomy = subst (λ (c : ℕ). OthersRoomy new.state.memory.ports c new.rooms)
             (sym (asks ∙ ap (asker_of m) told))
             (others_roomy riding carrying rider old new m holds here roomy is same);

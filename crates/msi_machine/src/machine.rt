@@ -114,6 +114,10 @@ impl<R: Rider, K: Carry> Machine<R, K> {
         ensures last { (memory : ℕ → List ℕ) → IsTrue result → Coherent R.riding K.carrying self.now.state memory
             → (block : ℕ) → final_words R.riding K.carrying self.now.state block ≡ memory block }
     {
+        // where a move can be made some core isn't done
+        if self.marks.count() > 0 {
+            return false;
+        }
         are_done(self.standings.as_slice())
     }
 

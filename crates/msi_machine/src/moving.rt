@@ -1,8 +1,8 @@
 //! Each kind of move, with what is noted beside the state.
-ghost use Rattle.std.specs.Prelude.{◌≡◌, IsTrue};
+ghost use Rattle.std.specs.Prelude.{◌≡◌, IsTrue, false};
 ghost use Rattle.rtr_types.specs.declared.TheConstants.{CORES_MAX};
 ghost use Rattle.machine_invariant.specs.Holds.{MachineHolds};
-ghost use Rattle.msi_machine.specs.Marks.{AllMarked, OthersMarked, asker_of};
+ghost use Rattle.msi_machine.specs.Marks.{AllMarked, OthersMarked, asker_of, is_marked};
 ghost use Rattle.msi_machine.specs.Standings.{StandingsFit, standing_at};
 ghost use Rattle.msi_state.specs.declared.moves.Move.{Move};
 ghost use Rattle.msi_state.specs.Events.{instr_of};
@@ -43,6 +43,7 @@ impl<R: Rider, K: Carry> Parts<R, K> {
         ensures stands { StandingsFit self.new.state standings.new }
         ensures asker { asker.new ≡ asker_of taken result }
         ensures marked { OthersMarked R.riding K.carrying self.new.state marks.new asker.new }
+        ensures unmarked { is_marked marks.new (Move.Request asker.new) ≡ false }
     {
         *asker = CORES_MAX;
         match taken {
@@ -82,6 +83,7 @@ impl<R: Rider, K: Carry> Parts<R, K> {
         ensures renewed { standing.new ≡ standing_at K.carrying self.new.state c }
         ensures asker { asker.new ≡ asker_of (Move.Core c) result }
         ensures marked { OthersMarked R.riding K.carrying self.new.state marks.new asker.new }
+        ensures unmarked { is_marked marks.new (Move.Request asker.new) ≡ false }
     {
         let retired = self.work(c, standing, clerk);
         marks.set(Move::Core(c), standing.may_move());

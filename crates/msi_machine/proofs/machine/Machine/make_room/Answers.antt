@@ -37,7 +37,7 @@ invariant_of-self-then-asker-self g c =
     ∙ ap (λ (m : Machinery g.row.R.Denot g.row.K.Denot). head_free (requests_at m.state.memory.ports asker)
     g.R.Rider.riding m.state.memory.home)
     c.parts.view_is
-    ∙ head_can g.R.Rider.riding g.K.Carry.carrying s.memory asker here) c.set.ensures.others 16
+    ∙ head_can g.R.Rider.riding g.K.Carry.carrying s.memory asker here) c.set.ensures.others
 
 pub returns-else-asker-self-clause-ok : goal.returns-else-asker-self-clause-ok
 returns-else-asker-self-clause-ok g c =

@@ -66,7 +66,7 @@ invariant_of-self g c =
     c.make_move-retired.ensures.state
     c.make_move-retired.ensures.rooms c.make_move-retired.ensures.stands
     (with_items_is c.self.inside.standings c.make_move-retired.new.standings long) c.make_move-retired.ensures.marked
-    c.make_move-retired.ensures.asker c.make_move-retired.ensures.retired
+    c.make_move-retired.ensures.unmarked c.make_move-retired.ensures.asker c.make_move-retired.ensures.retired
 
 pub returns-clause-taken : goal.returns-clause-taken
 returns-clause-taken g c =
