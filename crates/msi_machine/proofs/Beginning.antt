@@ -8,6 +8,7 @@ use Rattle.std.proofs.lemmas.List.{get_or-map, get_or_past, length-map}
 use Rattle.std.proofs.lemmas.List.FromFn.{length-map-range_with_len}
 use Rattle.access_times.specs.Riding.{Riding, Carrying}
 use Rattle.image_mem.specs.Contents.{Contents}
+use Rattle.rtr_types.specs.declared.TheConstants.{CORES_MAX}
 use Rattle.rv_core.specs.declared.core_state.Core.{Core}
 use Rattle.rv_core.specs.States.{starting}
 use Rattle.msi_cache.specs.Lines.{waits}
@@ -26,6 +27,7 @@ use Rattle.msi_machine.specs.declared.standing.Standing.{Standing}
 use Rattle.msi_machine.specs.Marks.{IsWithin, is_marked}
 use Rattle.msi_machine.specs.Standings.{NotesFit, StandingsFit, may_begin, may_work, next_in, next_of, standing_at}
 use Rattle.msi_machine.specs.Standings.{standing_with}
+use Rattle.msi_machine.proofs.Bits.{none_past}
 use Rattle.msi_machine.proofs.Delivered.{past_is, split}
 use Rattle.msi_machine.proofs.Elsewhere.{can_here, can_past}
 use Rattle.msi_machine.proofs.Renewed.{own_marked}
@@ -113,7 +115,7 @@ module _ {R K : Type 0} where
       (marks : Marks) → m.state ≡ state_start riding carrying image cores limit → MachineHolds riding carrying m.state →
       standings ≡ map (λ (core : Core). standing_with image core false) m.state.cores → marks.cores ≡ length standings →
       IsWithin marks →
-      ((x : Move) → is_marked marks x ≡ may_begin standings x) → NotesFit riding carrying m standings marks 0
+      ((x : Move) → is_marked marks x ≡ may_begin standings x) → NotesFit riding carrying m standings marks CORES_MAX
   notes_begin riding carrying image cores limit m standings marks is holds made count within first =
       record {
         holds = holds;
@@ -124,6 +126,9 @@ module _ {R K : Type 0} where
           marked =
               λ x other. every x;
         };
+        unmarked = none_past marks (RequestMove CORES_MAX)
+            (subst (λ (n : ℕ). n ≤ CORES_MAX) (holds.ports_there ∙ sym (count ∙ standings_long m.state standings fit))
+            holds.memory.cores);
         roomy = λ c other. ap (λ (s : State R K). head_roomy (requests_at s.memory.ports c) m.rooms) is
             ∙ ap (λ items. head_roomy items m.rooms) (no_requests riding carrying cores c);
       }

@@ -12,3 +12,4 @@ pub mod Roomed
 pub mod Standings
 pub mod Touched
 pub mod Turns
+pub mod Ended

@@ -1,23 +1,31 @@
 -- What each move leaves of cores, ports and what is noted beside them.
-use Rattle.std.proofs.Common.{◌≡◌, ◌≢◌, ◌∙◌, refl, sym, subst, ap, ℕ, ◌<◌, true, List, length, get_or, Option, Some}
-use Rattle.std.proofs.Common.{None}
-use Rattle.std.specs.Prelude.{slice_set}
+use Rattle.std.proofs.Common.{◌≡◌, ◌≢◌, ◌∙◌, ◌⊎◌, inl, inr, refl, sym, subst, ap, ℕ, ◌<◌, Bool, true, false, List, [], ◌∷◌}
+use Rattle.std.proofs.Common.{length, get_or, Option, Some, None}
+use Rattle.std.specs.Prelude.{is_some, slice_set}
+use Rattle.std.proofs.lemmas.Bool.{cases_eq}
 use Rattle.std.proofs.lemmas.List.{set-get_or}
 use Rattle.access_times.specs.Riding.{Riding, Carrying}
 use Rattle.image_mem.specs.Contents.{Contents}
 use Rattle.rtr_types.specs.declared.access.Kind.{Kind}
+use Rattle.rtr_types.specs.declared.instr.Instr.{Instr}
+use Rattle.link_order.specs.Queue.{Queue}
+use Rattle.msi_cache.specs.declared.messages.FromHome.{FromHome}
+use Rattle.msi_cache.specs.declared.messages.Request.{Request}
+use Rattle.msi_cache.specs.declared.messages.Response.{Response}
 use Rattle.rv_core.specs.declared.core_state.Core.{Core}
 use Rattle.rv_core.specs.States.{starting}
 use Rattle.rv_core.specs.Steps.{need, access_of as need_access}
+use Rattle.msi_memory.specs.declared.port.Mail.{Mail}
 use Rattle.msi_memory.specs.declared.port.Port.{Port}
-use Rattle.msi_memory.specs.Acts.{TakeMessage, TakeResponse, can, take_request, take_response}
+use Rattle.msi_memory.specs.Acts.{TakeMessage, TakeResponse, answer_to, can, port_answering, port_hearing, port_taking}
+use Rattle.msi_memory.specs.Acts.{take_request, take_response}
 use Rattle.msi_memory.specs.Memories.{Memory, port_at}
 use Rattle.msi_memory.specs.Rests.{OthersRoomy, head_roomy, requests_at}
 use Rattle.msi_memory.proofs.Roomy.{each_roomy}
 use Rattle.msi_state.specs.declared.moves.Move.{Move}
 use Rattle.msi_state.specs.declared.moves.Move.TheVariants.{Core as CoreMove, Request as RequestMove}
 use Rattle.msi_state.specs.declared.moves.Move.TheVariants.{Response as ResponseMove, FromHome as MessageMove}
-use Rattle.msi_state.specs.Events.{Event, Nothing, Retires, Accesses, port_taken}
+use Rattle.msi_state.specs.Events.{Event, Nothing, Retires, Accesses, instr_of, port_taken}
 use Rattle.msi_state.specs.Moves.{core_of}
 use Rattle.msi_state.specs.Rests.{heads_roomy}
 use Rattle.msi_state.specs.States.{Machinery, State, core_at}
@@ -28,12 +36,14 @@ use Rattle.machine_invariant.proofs.Kept.{holds_kept}
 use Rattle.machine_invariant.proofs.Stepping.{core_after, core_memory, message_memory, port_told, port_worked}
 use Rattle.msi_machine.specs.declared.marks.Marks.{Marks}
 use Rattle.msi_machine.specs.declared.standing.Standing.{Standing}
-use Rattle.msi_machine.specs.Marks.{AllMarked, IsWithin, OthersMarked, is_marked}
+use Rattle.msi_machine.specs.Marks.{AllMarked, IsWithin, OthersMarked, asker_of, is_marked}
 use Rattle.msi_machine.specs.Standings.{NotesFit, StandingsFit, may_work, standing_at}
-use Rattle.msi_machine.proofs.Elsewhere.{MovedAt, moved_cores, requests_other}
-use Rattle.msi_machine.proofs.Renewed.{core_marked, moved_marked, own_marked}
+use Rattle.msi_machine.proofs.Delivered.{false_true}
+use Rattle.msi_machine.proofs.Elsewhere.{MovedAt, moved_cores, moved_ports, port_now, requests_other, requests_within}
+use Rattle.msi_machine.proofs.Renewed.{core_marked, moved_marked, one_request, own_marked}
+use Rattle.msi_machine.proofs.Renewed.{own_request_marked, request_as_before}
 use Rattle.msi_machine.proofs.Standings.{moved_stands, stands_at, turned_stands}
-use Rattle.msi_machine.proofs.Turns.{request_stays, response_stays}
+use Rattle.msi_machine.proofs.Turns.{request_leaves_none, request_stays, response_requests, response_stays}
 
 one_core : (image : Contents) (c : ℕ) (e : Event) (cores : List Core) → cores_after image c e cores ≡ slice_set cores c
     (core_after image e (core_at cores c))
@@ -93,6 +103,42 @@ module _ {R K : Type 0} where
       (worked_responses riding carrying rider needed e p) (worked_messages riding carrying rider needed e p) stands
       cores within this others
 
+  -- nor, where an instruction retires, its requests
+  worked_requests : (riding : Riding R) (carrying : Carrying K) (rider : R) (needed : Option (Kind × ℕ)) (e : Event)
+      (p : Port R K) → is_some (instr_of e) ≡ true →
+      (port_worked riding carrying rider needed e p).requests ≡ p.requests
+  worked_requests riding carrying rider needed Nothing p some = false_true some
+  worked_requests riding carrying rider needed (Retires at) p some = refl
+  worked_requests riding carrying rider needed (Accesses a) p some = refl
+
+  request_kept : (riding : Riding R) (carrying : Carrying K) (rider : R) (s t : State R K) (c : ℕ) →
+      t ≡ step riding carrying rider s (CoreMove c) → c < length s.memory.ports →
+      is_some (instr_of (event riding carrying s (CoreMove c))) ≡ true →
+      enabled riding carrying t (RequestMove c) ≡ enabled riding carrying s (RequestMove c)
+  unfolding core_moves
+  request_kept riding carrying rider s t c is port some =
+      request_as_before riding carrying s t c (core_moves riding carrying rider s t c port is) port
+      (worked_requests riding carrying rider (need_access (need s.image (core_at s.cores c)))
+      (event riding carrying s (CoreMove c)) (port_at carrying s.memory.ports c) some)
+
+  -- so no move is left open then
+  pub core_retired_marks : (riding : Riding R) (carrying : Carrying K) (rider : R) (s t : State R K) (old new : Marks)
+      (c : ℕ) (kept : Standing) (retired : Option Instr) →
+      retired ≡ instr_of (event riding carrying s (CoreMove c)) → is_some retired ≡ true →
+      AllMarked riding carrying s old → t ≡ step riding carrying rider s (CoreMove c) → c < length s.cores →
+      c < length s.memory.ports →
+      kept ≡ standing_at carrying t c → new.cores ≡ old.cores → (IsWithin old → IsWithin new) →
+      is_marked new (CoreMove c) ≡ may_work kept →
+      ((m : Move) → m ≢ CoreMove c → is_marked new m ≡ is_marked old m) → AllMarked riding carrying t new
+  core_retired_marks riding carrying rider s t old new c kept retired told some all is here port stands cores within
+      this others =
+      own_request_marked riding carrying t new c
+      (core_marks riding carrying rider s t old new c kept all is here port stands cores within this others)
+      (others (RequestMove c) (λ (e : RequestMove c ≡ CoreMove c). cc)
+      ∙ all.marked (RequestMove c)
+      ∙ sym (request_kept riding carrying rider s t c is port
+      (subst (λ (o : Option Instr). is_some o ≡ true) told some)))
+
   -- a core takes a message
   pub message_moves : (riding : Riding R) (carrying : Carrying K) (rider : R) (s t : State R K) (c : ℕ) →
       c < length s.memory.ports →
@@ -111,6 +157,29 @@ module _ {R K : Type 0} where
             ∙ ap (λ (m : Memory R K). m.home) (message_memory riding carrying rider s c within);
       }
 
+  -- it puts down no request
+  answered_requests : (p : Port R K) (answer : Option (Response R)) → (port_answering p answer).requests ≡ p.requests
+  answered_requests p None = refl
+  answered_requests p (Some response) = refl
+
+  taken_requests : (riding : Riding R) (carrying : Carrying K) (p : Port R K)
+      (items : List (Mail (FromHome R) K)) → (port_taking riding carrying p items).requests ≡ p.requests
+  taken_requests riding carrying p [] = refl
+  taken_requests riding carrying p (mail ∷ rest) =
+      answered_requests (port_hearing riding carrying p mail rest) (answer_to riding p mail.item)
+
+  told_requests : (riding : Riding R) (carrying : Carrying K) (rider : R) (e : Event) (p : Port R K) →
+      (port_told riding carrying rider e p).requests ≡ p.requests
+  told_requests riding carrying rider Nothing p = refl
+  told_requests riding carrying rider (Retires at) p = refl
+  told_requests riding carrying rider (Accesses a) p = refl
+
+  message_requests : (riding : Riding R) (carrying : Carrying K) (rider : R) (e : Event) (p : Port R K) →
+      (port_told riding carrying rider e (port_taken riding carrying p)).requests ≡ p.requests
+  message_requests riding carrying rider e p =
+      told_requests riding carrying rider e (port_taken riding carrying p)
+      ∙ taken_requests riding carrying p p.messages.items
+
   pub message_marks : (riding : Riding R) (carrying : Carrying K) (rider : R) (s t : State R K) (old new : Marks)
       (c : ℕ) (kept : Standing) →
       AllMarked riding carrying s old → t ≡ step riding carrying rider s (MessageMove c) → c < length s.cores →
@@ -119,14 +188,21 @@ module _ {R K : Type 0} where
       is_marked new (CoreMove c) ≡ may_work kept →
       is_marked new (ResponseMove c) ≡ can riding carrying t.memory (TakeResponse c) →
       is_marked new (MessageMove c) ≡ can riding carrying t.memory (TakeMessage c) →
-      ((m : Move) → core_of m ≢ c → is_marked new m ≡ is_marked old m) → OthersMarked riding carrying t new c
+      is_marked new (RequestMove c) ≡ is_marked old (RequestMove c) →
+      ((m : Move) → core_of m ≢ c → is_marked new m ≡ is_marked old m) → AllMarked riding carrying t new
+  unfolding message_moves
   message_marks riding carrying rider s t old new c kept all is here port stands cores within own response message
-      others =
+      request others =
       let moved = message_moves riding carrying rider s t c port is in
-      moved_marked riding carrying s t old new c all moved cores within
+      own_request_marked riding carrying t new c
+      (moved_marked riding carrying s t old new c all moved cores within
       (own ∙ own_marked riding carrying t c kept (subst (λ (n : ℕ). c < n) (sym (moved_cores carrying s t c moved))
       here) stands)
-      response message others
+      response message others)
+      (request ∙ all.marked (RequestMove c)
+      ∙ sym (request_as_before riding carrying s t c moved port
+      (message_requests riding carrying rider (event riding carrying s (MessageMove c))
+      (port_at carrying s.memory.ports c))))
 
   -- ---- a move changes no requests but those of its own core
   requests_stay : (riding : Riding R) (carrying : Carrying K) (rider : R) (s : State R K) (m : Move) (d : ℕ) →
@@ -143,15 +219,80 @@ module _ {R K : Type 0} where
   requests_stay riding carrying rider s (ResponseMove c) d within other =
       (response_stays riding carrying s.memory c).requests d other
 
-  -- so where each head's block had room, only the mover's may have none
+  -- and its own stay, or none is left, but where the core asks
+  moved_requests : (carrying : Carrying K) (s t : State R K) (c : ℕ) → (moved : MovedAt s t c) →
+      c < length s.memory.ports → moved.port.requests ≡ (port_at carrying s.memory.ports c).requests →
+      requests_at t.memory.ports c ≡ requests_at s.memory.ports c
+  moved_requests carrying s t c moved within same =
+      requests_within carrying t.memory.ports c
+      (subst (λ (n : ℕ). c < n) (sym (moved_ports carrying s t c moved)) within)
+      ∙ ap (λ (p : Port R K). p.requests.items) (port_now carrying s t c moved within)
+      ∙ ap (λ (q : Queue (Mail (Request R) K)). q.items) same
+      ∙ sym (requests_within carrying s.memory.ports c within)
+
+  core_requests : (riding : Riding R) (carrying : Carrying K) (rider : R) (s : State R K) (c : ℕ) →
+      c < length s.memory.ports → is_some (instr_of (event riding carrying s (CoreMove c))) ≡ true →
+      requests_at (step riding carrying rider s (CoreMove c)).memory.ports c ≡ requests_at s.memory.ports c
+  unfolding core_moves
+  core_requests riding carrying rider s c within some =
+      moved_requests carrying s (step riding carrying rider s (CoreMove c)) c
+      (core_moves riding carrying rider s (step riding carrying rider s (CoreMove c)) c within refl) within
+      (worked_requests riding carrying rider (need_access (need s.image (core_at s.cores c)))
+      (event riding carrying s (CoreMove c)) (port_at carrying s.memory.ports c) some)
+
+  heard_requests : (riding : Riding R) (carrying : Carrying K) (rider : R) (s : State R K) (c : ℕ) →
+      c < length s.memory.ports →
+      requests_at (step riding carrying rider s (MessageMove c)).memory.ports c ≡ requests_at s.memory.ports c
+  unfolding message_moves
+  heard_requests riding carrying rider s c within =
+      moved_requests carrying s (step riding carrying rider s (MessageMove c)) c
+      (message_moves riding carrying rider s (step riding carrying rider s (MessageMove c)) c within refl) within
+      (message_requests riding carrying rider (event riding carrying s (MessageMove c))
+      (port_at carrying s.memory.ports c))
+
+  own_roomy : (riding : Riding R) (carrying : Carrying K) (rider : R) (s : State R K) (m : Move) (rooms : List Bool) →
+      MachineHolds riding carrying s → core_of m < length s.memory.ports →
+      core_of m ≢ asker_of m (instr_of (event riding carrying s m)) →
+      head_roomy (requests_at s.memory.ports (core_of m)) rooms ≡ true →
+      head_roomy (requests_at (step riding carrying rider s m).memory.ports (core_of m)) rooms ≡ true
+  own_roomy riding carrying rider s (CoreMove c) rooms holds within other roomy =
+      by (instr_of (event riding carrying s (CoreMove c))) refl other
+    where
+      by : (retired : Option Instr) → retired ≡ instr_of (event riding carrying s (CoreMove c)) →
+          c ≢ asker_of (CoreMove c) retired →
+          head_roomy (requests_at (step riding carrying rider s (CoreMove c)).memory.ports c) rooms ≡ true
+      by None told other = absurd (other refl)
+      by (Some at) told other =
+          ap (λ items. head_roomy items rooms) (core_requests riding carrying rider s c within
+          (sym (ap is_some told))) ∙ roomy
+  own_roomy riding carrying rider s (MessageMove c) rooms holds within other roomy =
+      ap (λ items. head_roomy items rooms) (heard_requests riding carrying rider s c within) ∙ roomy
+  own_roomy riding carrying rider s (RequestMove c) rooms holds within other roomy =
+      ap (λ items. head_roomy items rooms)
+      (request_leaves_none riding carrying s.memory c within
+      (one_request riding carrying s.memory c holds.memory within))
+  own_roomy riding carrying rider s (ResponseMove c) rooms holds within other roomy =
+      ap (λ items. head_roomy items rooms) (response_requests riding carrying s.memory c c) ∙ roomy
+
+  -- so where each head's block had room, only that of a core that asked may have none
   pub others_roomy : (riding : Riding R) (carrying : Carrying K) (rider : R) (old new : Machinery R K) (m : Move) →
-      core_of m < length old.state.memory.ports → heads_roomy old ≡ true →
+      MachineHolds riding carrying old.state → core_of m < length old.state.memory.ports → heads_roomy old ≡ true →
       new.state ≡ step riding carrying rider old.state m → new.rooms ≡ old.rooms →
-      OthersRoomy new.state.memory.ports (core_of m) new.rooms
-  others_roomy riding carrying rider old new m within roomy is same d other =
-      (λ i. head_roomy (requests_at (is i).memory.ports d) (same i))
-      ∙ (λ i. head_roomy (requests_stay riding carrying rider old.state m d within other i) old.rooms)
-      ∙ each_roomy old.state.memory.ports old.rooms roomy d
+      OthersRoomy new.state.memory.ports (asker_of m (instr_of (event riding carrying old.state m))) new.rooms
+  others_roomy riding carrying rider old new m holds within roomy is same d other =
+      (λ i. head_roomy (requests_at (is i).memory.ports d) (same i)) ∙ by d other (cases_eq d (core_of m))
+    where
+      by : (d : ℕ) → d ≢ asker_of m (instr_of (event riding carrying old.state m)) →
+          (d ≡ core_of m) ⊎ (d ≡ core_of m → ⊥) →
+          head_roomy (requests_at (step riding carrying rider old.state m).memory.ports d) old.rooms ≡ true
+      by d other (inl its) =
+          ap (λ (k : ℕ). head_roomy (requests_at (step riding carrying rider old.state m).memory.ports k) old.rooms) its
+          ∙ own_roomy riding carrying rider old.state m old.rooms holds within (λ asks. other (its ∙ asks))
+          (each_roomy old.state.memory.ports old.rooms roomy (core_of m))
+      by d other (inr elsewhere) =
+          ap (λ items. head_roomy items old.rooms)
+          (requests_stay riding carrying rider old.state m d within elsewhere)
+          ∙ each_roomy old.state.memory.ports old.rooms roomy d
 
   -- ---- what is kept of each core follows a move that can be made
   kept_before : (riding : Riding R) (carrying : Carrying K) (s : State R K) (taken : Move) (standings : List Standing)
@@ -215,13 +356,16 @@ module _ {R K : Type 0} where
   -- a machine's notes follow a move
   pub notes_kept : (riding : Riding R) (carrying : Carrying K) (old new : Machinery R K) (m : Move)
       (standings kept : List Standing) (marks : Marks)
-      (mover : ℕ) → heads_roomy old ≡ true → MachineHolds riding carrying old.state →
+      (asker : ℕ) (retired : Option Instr) → heads_roomy old ≡ true → MachineHolds riding carrying old.state →
       enabled riding carrying old.state m ≡ true →
       StepsTo riding carrying old.state new.state m → new.rooms ≡ old.rooms → StandingsFit new.state kept →
       standings ≡ kept →
-      OthersMarked riding carrying new.state marks (core_of m) → mover ≡ core_of m →
-      NotesFit riding carrying new standings marks mover
-  notes_kept riding carrying old new m standings kept marks mover roomy holds can_be is same fit all others mine =
+      OthersMarked riding carrying new.state marks asker → is_marked marks (RequestMove asker) ≡ false →
+      asker ≡ asker_of m retired →
+      retired ≡ instr_of (event riding carrying old.state m) →
+      NotesFit riding carrying new standings marks asker
+  notes_kept riding carrying old new m standings kept marks asker retired roomy holds can_be is same fit all others
+      unmarked asks told =
       let rider : R = rider_left riding carrying old.state new.state m in
       let here : core_of m < length old.state.memory.ports =
       core_port riding carrying old.state (core_of m) holds (enabled_core riding carrying old.state m can_be holds) in
@@ -229,7 +373,9 @@ module _ {R K : Type 0} where
         holds = subst (λ (s : State R K). MachineHolds riding carrying s) (sym is) (holds_kept riding carrying old.state
             m rider can_be holds);
         stands = subst (λ (xs : List Standing). StandingsFit new.state xs) (sym all) fit;
-        marked = subst (λ (c : ℕ). OthersMarked riding carrying new.state marks c) (sym mine) others;
-        roomy = subst (λ (c : ℕ). OthersRoomy new.state.memory.ports c new.rooms) (sym mine)
-            (others_roomy riding carrying rider old new m here roomy is same);
+        marked = others;
+        unmarked = unmarked;
+        roomy = subst (λ (c : ℕ). OthersRoomy new.state.memory.ports c new.rooms)
+            (sym (asks ∙ ap (asker_of m) told))
+            (others_roomy riding carrying rider old new m holds here roomy is same);
       }

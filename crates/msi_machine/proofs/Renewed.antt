@@ -12,10 +12,13 @@ use Rattle.msi_cache.specs.declared.messages.Response.{Response}
 use Rattle.msi_memory.specs.declared.port.Mail.{Mail}
 use Rattle.msi_memory.specs.declared.port.Port.{Port}
 use Rattle.msi_memory.specs.declared.turn.Turn.{Turn}
-use Rattle.msi_memory.specs.Acts.{TakeMessage, TakeRequest, TakeResponse, can, take_request, take_response}
+use Rattle.msi_memory.specs.Acts.{TakeMessage, TakeRequest, TakeResponse, can, head_free, take_request, take_response}
 use Rattle.msi_memory.specs.Memories.{Memory, port_at}
+use Rattle.msi_memory.specs.Rests.{requests_at}
 use Rattle.msi_memory.specs.Turns.{IsRequestTurn, IsResponseTurn}
+use Rattle.memory_laws.specs.Holds.{MemoryHolds}
 use Rattle.memory_laws.proofs.Ready.{memory_ready}
+use Rattle.memory_laws.proofs.Spaces.{port_links_hold}
 use Rattle.machine_invariant.specs.Holds.{MachineHolds}
 use Rattle.msi_state.specs.declared.moves.Move.{Move}
 use Rattle.msi_state.specs.declared.moves.Move.TheVariants.{Core as CoreMove, Request as RequestMove}
@@ -30,7 +33,8 @@ use Rattle.msi_machine.specs.Standings.{may_work, standing_at}
 use Rattle.msi_machine.proofs.Bits.{none_past}
 use Rattle.msi_machine.proofs.Delivered.{below_is, right_of}
 use Rattle.msi_machine.proofs.Elsewhere.{MovedAt, can_by, can_past, elsewhere, moved_cores, moved_ports, port_now}
-use Rattle.msi_machine.proofs.Turns.{TurnFits, request_fits, response_fits, same_responses}
+use Rattle.msi_machine.proofs.Turns.{TurnFits, none_left, request_fits, request_leaves_none, response_fits}
+use Rattle.msi_machine.proofs.Turns.{response_requests, same_responses}
 
 module _ {R K : Type 0} where
   pub all_moves : (riding : Riding R) (carrying : Carrying K) (s : State R K) (marks : Marks) →
@@ -41,13 +45,13 @@ module _ {R K : Type 0} where
       ∙ filter_agree (is_marked marks) (enabled riding carrying s) all.marked (candidates (length s.cores)
       (4 * length s.cores))
 
-  -- the mover's oldest request is marked too
-  pub mover_marked : (riding : Riding R) (carrying : Carrying K) (s : State R K) (old new : Marks) (c : ℕ) →
+  -- the request of the core that asked is marked too
+  pub asker_marked : (riding : Riding R) (carrying : Carrying K) (s : State R K) (old new : Marks) (c : ℕ) →
       OthersMarked riding carrying s old c →
       new.cores ≡ old.cores → (IsWithin old → IsWithin new) → is_marked new (RequestMove c) ≡ enabled riding carrying s
       (RequestMove c) →
       ((m : Move) → m ≢ RequestMove c → is_marked new m ≡ is_marked old m) → AllMarked riding carrying s new
-  mover_marked riding carrying s old new c others cores within this kept =
+  asker_marked riding carrying s old new c others cores within this kept =
       record { cores = cores ∙ others.cores; within = within others.within; marked = every }
     where
       plain : (m : Move) → m ≢ RequestMove c → is_marked new m ≡ enabled riding carrying s m
@@ -65,12 +69,36 @@ module _ {R K : Type 0} where
               (sym same) this
           by d (inr other) = plain (RequestMove d) (λ (e : RequestMove d ≡ RequestMove c). other (ap core_of e))
 
+  -- nothing is left open where the core's own request is marked too
+  pub own_request_marked : (riding : Riding R) (carrying : Carrying K) (s : State R K) (marks : Marks) (c : ℕ) →
+      OthersMarked riding carrying s marks c →
+      is_marked marks (RequestMove c) ≡ enabled riding carrying s (RequestMove c) → AllMarked riding carrying s marks
+  own_request_marked riding carrying s marks c others this =
+      asker_marked riding carrying s marks marks c others refl (λ within. within) this (λ m other. refl)
+
+  -- then no core is left open, whichever it is
+  pub all_others : (riding : Riding R) (carrying : Carrying K) (s : State R K) (marks : Marks) →
+      AllMarked riding carrying s marks → (c : ℕ) → OthersMarked riding carrying s marks c
+  all_others riding carrying s marks all c =
+      record { cores = all.cores; within = all.within; marked = λ m other. all.marked m }
+
+  -- the home can take the request of a core that put down none exactly where it could before
+  pub request_as_before : (riding : Riding R) (carrying : Carrying K) (s t : State R K) (c : ℕ) →
+      (moved : MovedAt s t c) → c < length s.memory.ports →
+      moved.port.requests ≡ (port_at carrying s.memory.ports c).requests →
+      enabled riding carrying t (RequestMove c) ≡ enabled riding carrying s (RequestMove c)
+  request_as_before riding carrying s t c moved within same =
+      let now : (port_at carrying t.memory.ports c).requests ≡ (port_at carrying s.memory.ports c).requests =
+      ap (λ (p : Port R K). p.requests) (port_now carrying s t c moved within) ∙ same in
+      can_by riding carrying s.memory t.memory (TakeRequest c) (moved_ports carrying s t c moved)
+      (λ there. λ i. head_free (now i).items riding (moved.home i))
+
   -- a core that isn't there has no request
-  pub no_mover_marked : (riding : Riding R) (carrying : Carrying K) (s : State R K) (marks : Marks) (c : ℕ) →
+  pub no_asker_marked : (riding : Riding R) (carrying : Carrying K) (s : State R K) (marks : Marks) (c : ℕ) →
       OthersMarked riding carrying s marks c →
       length s.memory.ports ≡ length s.cores → marks.cores ≤ c → AllMarked riding carrying s marks
-  no_mover_marked riding carrying s marks c others ports past =
-      mover_marked riding carrying s marks marks c others refl (λ within. within)
+  no_asker_marked riding carrying s marks c others ports past =
+      asker_marked riding carrying s marks marks c others refl (λ within. within)
       (none_past marks (RequestMove c) past
       ∙ sym (can_past riding carrying s.memory (TakeRequest c) (subst (λ (n : ℕ). n ≤ c) (others.cores
       ∙ sym ports) past)))
@@ -206,3 +234,59 @@ module _ {R K : Type 0} where
       (response_fits riding carrying s c turn ((memory_ready riding carrying s.memory holds.memory).rows
       (TakeResponse c) can_be) about))
       all holds.ports_there cores within kept own cores_after within_after after
+
+  -- and after it took a response nothing is left open, since its core has the requests that it had
+  pub response_all : (riding : Riding R) (carrying : Carrying K) (s : State R K) (n : Memory R K)
+      (old mid new : Marks) (c : ℕ) (turn : Turn) →
+      n ≡ take_response riding carrying s.memory c → MachineHolds riding carrying s →
+      enabled riding carrying s (ResponseMove c) ≡ true →
+      IsResponseTurn (port_at carrying s.memory.ports c).responses.items riding s.memory c turn →
+      AllMarked riding carrying s old →
+      mid.cores ≡ old.cores → (IsWithin old → IsWithin mid) → ((m : Move) → m ≢ ResponseMove c →
+      is_marked mid m ≡ is_marked old m) →
+      is_marked mid (ResponseMove c) ≡ can riding carrying n (TakeResponse c) →
+      new.cores ≡ mid.cores → (IsWithin mid → IsWithin new) →
+      ((m : Move) → is_marked new m ≡ after_turn riding n turn false mid m) →
+      AllMarked riding carrying (record s { memory = n }) new
+  response_all riding carrying s n old mid new c turn is holds can_be about all cores within kept own cores_after
+      within_after after =
+      let fits : TurnFits riding carrying s n c turn false =
+      subst (λ (x : Memory R K). TurnFits riding carrying s x c turn false) (sym is)
+      (response_fits riding carrying s c turn ((memory_ready riding carrying s.memory holds.memory).rows
+      (TakeResponse c) can_be) about) in
+      own_request_marked riding carrying (record s { memory = n }) new c
+      (response_others riding carrying s n old mid new c turn is holds can_be about all cores within kept own
+      cores_after within_after after)
+      (after (RequestMove c)
+      ∙ fits.request mid (cores ∙ all.cores ∙ sym holds.ports_there)
+      (ap (λ (x : Memory R K). requests_at x.ports c) is ∙ response_requests riding carrying s.memory c c)
+      (kept (RequestMove c) (λ (e : RequestMove c ≡ ResponseMove c). cc) ∙ all.marked (RequestMove c)))
+
+  -- a core has at most one request under way, for which its link has room
+  pub one_request : (riding : Riding R) (carrying : Carrying K) (m : Memory R K) (c : ℕ) →
+      MemoryHolds riding carrying m → c < length m.ports → length (port_at carrying m.ports c).requests.items ≤ 1
+  one_request riding carrying m c holds here =
+      subst (λ (k : ℕ). length (port_at carrying m.ports c).requests.items ≤ k)
+      (holds.ports c here).requests_room (port_links_hold riding carrying m c holds here).requests
+
+  -- nor is it after it took a request, once that is marked no longer: its core has none then
+  pub request_all : (riding : Riding R) (carrying : Carrying K) (s : State R K) (n : Memory R K)
+      (old mid new : Marks) (c : ℕ) (turn : Turn) →
+      n ≡ take_request riding carrying s.memory c → MachineHolds riding carrying s →
+      enabled riding carrying s (RequestMove c) ≡ true → c < length s.memory.ports →
+      IsRequestTurn (port_at carrying s.memory.ports c).requests.items riding s.memory c turn →
+      AllMarked riding carrying s old →
+      mid.cores ≡ old.cores → (IsWithin old → IsWithin mid) →
+      ((m : Move) → is_marked mid m ≡ after_turn riding n turn true old m) →
+      new.cores ≡ mid.cores → (IsWithin mid → IsWithin new) → is_marked new (RequestMove c) ≡ false →
+      ((m : Move) → m ≢ RequestMove c → is_marked new m ≡ is_marked mid m) →
+      AllMarked riding carrying (record s { memory = n }) new
+  request_all riding carrying s n old mid new c turn is holds can_be here about all cores within after cores_after
+      within_after gone kept =
+      asker_marked riding carrying (record s { memory = n }) mid new c
+      (request_others riding carrying s n old mid c turn is holds can_be about all cores within after) cores_after
+      within_after
+      (gone ∙ sym (none_left riding carrying n c
+      (ap (λ (x : Memory R K). requests_at x.ports c) is ∙ request_leaves_none riding carrying s.memory c here
+      (one_request riding carrying s.memory c holds.memory here))))
+      kept

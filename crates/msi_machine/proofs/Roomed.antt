@@ -1,6 +1,7 @@
--- Room was made for the mover's oldest request, and it was marked where the home can take it: nothing is left open.
+-- Room was made for the request of the core that asked, and it was marked where the home can take it: nothing is left open.
 use Rattle.std.proofs.Common.{◌≡◌, ◌≢◌, ◌∙◌, ap, sym, subst, ℕ, ◌<◌, ◌≤◌, Bool, true, List, length}
 use Rattle.access_times.specs.Riding.{Riding, Carrying}
+use Rattle.rtr_types.specs.declared.TheConstants.{CORES_MAX}
 use Rattle.msi_cache.specs.declared.messages.Request.{Request}
 use Rattle.msi_memory.specs.declared.port.Mail.{Mail}
 use Rattle.msi_memory.specs.declared.port.Port.{Port}
@@ -14,10 +15,11 @@ use Rattle.msi_state.specs.Rests.{heads_roomy}
 use Rattle.msi_state.specs.States.{Machinery, State}
 use Rattle.msi_machine.specs.declared.marks.Marks.{Marks}
 use Rattle.msi_machine.specs.declared.standing.Standing.{Standing}
-use Rattle.msi_machine.specs.Marks.{AllMarked, IsWithin, OthersMarked, is_marked}
+use Rattle.msi_machine.specs.Marks.{AllMarked, IsWithin, is_marked}
 use Rattle.msi_machine.specs.Standings.{NotesFit}
+use Rattle.msi_machine.proofs.Bits.{none_past}
 use Rattle.msi_machine.proofs.Elsewhere.{can_here, requests_within}
-use Rattle.msi_machine.proofs.Renewed.{mover_marked}
+use Rattle.msi_machine.proofs.Renewed.{asker_marked}
 
 module _ {R K : Type 0} where
   -- the home can take the core's oldest request exactly where that one's block is free
@@ -33,25 +35,27 @@ module _ {R K : Type 0} where
       are_heads_roomy ports rooms ≡ true
   all_past ports core rooms others past = (none_made ports core rooms others (past_ports ports core past)).all
 
-  -- what is noted fits then, whichever core is left out
+  -- what is noted fits then, and no core is left out
   pub room_made : (riding : Riding R) (carrying : Carrying K) (old new : Machinery R K) (standings : List Standing)
-      (before after : Marks) (mover : ℕ) →
-      NotesFit riding carrying old standings before mover → new.state ≡ old.state → heads_roomy new ≡ true →
+      (before after : Marks) (asker : ℕ) →
+      NotesFit riding carrying old standings before asker → new.state ≡ old.state → heads_roomy new ≡ true →
       after.cores ≡ before.cores →
-      (IsWithin before → IsWithin after) → is_marked after (RequestMove mover) ≡ can riding carrying old.state.memory
-      (TakeRequest mover) →
-      ((m : Move) → m ≢ RequestMove mover → is_marked after m ≡ is_marked before m) → (later : ℕ) →
-      NotesFit riding carrying new standings after later
-  room_made riding carrying old new standings before after mover fit same roomy cores within asked others later =
+      (IsWithin before → IsWithin after) → is_marked after (RequestMove asker) ≡ can riding carrying old.state.memory
+      (TakeRequest asker) →
+      ((m : Move) → m ≢ RequestMove asker → is_marked after m ≡ is_marked before m) →
+      NotesFit riding carrying new standings after CORES_MAX
+  room_made riding carrying old new standings before after asker fit same roomy cores within asked others =
       let all : AllMarked riding carrying old.state after =
-      mover_marked riding carrying old.state before after mover fit.marked cores within asked others in
-      let kept : NotesFit riding carrying (record old { rooms = new.rooms }) standings after later =
+      asker_marked riding carrying old.state before after asker fit.marked cores within asked others in
+      let kept : NotesFit riding carrying (record old { rooms = new.rooms }) standings after CORES_MAX =
       record {
         holds = fit.holds;
         stands = fit.stands;
         marked = record { cores = all.cores; within = all.within; marked = λ m other. all.marked m };
+        unmarked = none_past after (RequestMove CORES_MAX)
+            (subst (λ (n : ℕ). n ≤ CORES_MAX) (fit.holds.ports_there ∙ sym all.cores) fit.holds.memory.cores);
         roomy = λ c other. each_roomy old.state.memory.ports new.rooms
             (subst (λ (s : State R K). are_heads_roomy s.memory.ports new.rooms ≡ true) same roomy) c;
       } in
-      subst (λ (s : State R K). NotesFit riding carrying (record new { state = s }) standings after later) (sym same)
+      subst (λ (s : State R K). NotesFit riding carrying (record new { state = s }) standings after CORES_MAX) (sym same)
       kept

@@ -1,6 +1,6 @@
 -- What a turn of the home changes of what can be done next.
 use Rattle.std.proofs.Common.{◌≡◌, ◌≢◌, ◌∙◌, ◌⊎◌, inl, inr, refl, sym, subst, ap, ℕ, ◌<◌, ◌≤◌, Bool, true, false, cond}
-use Rattle.std.proofs.Common.{List, [], ◌∷◌}
+use Rattle.std.proofs.Common.{List, [], ◌∷◌, arith}
 use Rattle.std.proofs.Common.{length, get_or, nat_lt, ◌&&◌, ◌==◌}
 use Rattle.std.specs.Prelude.{map, not, slice_set}
 use Rattle.std.proofs.Math.Seq.{map-set_same}
@@ -133,6 +133,52 @@ module _ {R K : Type 0} where
           ∙ ap (λ (f : Bool). cond (head_is block items) f (head_free items riding old)) (sym is)
           ∙ free_after riding old new block items home
 
+  -- after the turn the oldest request is marked of a core whose requests stay where the home can take it
+  request_marked : (riding : Riding R) (carrying : Carrying K) (s : State R K) (n : Memory R K) (c block : ℕ)
+      (hearing : ℕ → Bool) (turn : Turn) (was : Bool) (marks : Marks) →
+      Turned riding carrying s.memory n c block hearing →
+      is_free (entry_at riding.fresh s.memory.home block).stage ≡ was →
+      turn.block ≡ block → marks.cores ≡ length s.memory.ports →
+      (d : ℕ) → requests_at n.ports d ≡ requests_at s.memory.ports d →
+      is_marked marks (RequestMove d) ≡ can riding carrying s.memory (TakeRequest d) →
+      after_turn riding n turn was marks (RequestMove d) ≡ can riding carrying n (TakeRequest d)
+  request_marked riding carrying s n c block hearing turn was marks turned before about cores d same marked =
+      ap (λ (b : Bool). cond ((nat_lt d marks.cores && head_is turn.block (requests_at n.ports d))
+      && differ (is_free (entry_at riding.fresh n.home turn.block).stage) was) (is_free
+      (entry_at riding.fresh n.home turn.block).stage) b)
+      marked
+      ∙ (λ i. cond ((nat_lt d (cores i) && head_is (about i) (requests_at n.ports d)) && differ
+      (is_free (entry_at riding.fresh n.home (about i)).stage) was)
+      (is_free (entry_at riding.fresh n.home (about i)).stage)
+      (can riding carrying s.memory (TakeRequest d)))
+      ∙ by (split d (length s.memory.ports))
+    where
+      by : (d < length s.memory.ports) ⊎ (length s.memory.ports ≤ d) →
+          cond ((nat_lt d (length s.memory.ports) && head_is block (requests_at n.ports d))
+          && differ (is_free (entry_at riding.fresh n.home block).stage) was)
+          (is_free (entry_at riding.fresh n.home block).stage)
+          (can riding carrying s.memory (TakeRequest d)) ≡ can riding carrying n (TakeRequest d)
+      by (inl within) =
+          (λ i. cond ((below_is d (length s.memory.ports) within i && head_is block (requests_at n.ports d)) && differ
+          (is_free
+          (entry_at riding.fresh n.home block).stage) was) (is_free (entry_at riding.fresh n.home block).stage)
+          (can_here riding carrying s.memory (TakeRequest d) within i))
+          ∙ ap (λ (xs : List (Mail (Request R) K)). cond (head_is block (requests_at n.ports d) && differ (is_free
+          (entry_at riding.fresh n.home block).stage) was) (is_free (entry_at riding.fresh n.home block).stage)
+          (head_free xs riding s.memory.home)) (sym (requests_within carrying s.memory.ports d within)
+          ∙ sym same)
+          ∙ free_by riding s.memory.home n.home block (requests_at n.ports d) was turned.home before
+          ∙ ap (λ (xs : List (Mail (Request R) K)). head_free xs riding n.home)
+          (requests_within carrying n.ports d (subst (λ (k : ℕ). d < k) (sym turned.count) within))
+          ∙ sym (can_here riding carrying n (TakeRequest d) (subst (λ (k : ℕ). d < k) (sym turned.count) within))
+      by (inr past) =
+          ap (λ (b : Bool). cond ((b && head_is block (requests_at n.ports d)) && differ
+          (is_free (entry_at riding.fresh n.home block).stage) was) (is_free
+          (entry_at riding.fresh n.home block).stage)
+          (can riding carrying s.memory (TakeRequest d))) (past_is d (length s.memory.ports) past)
+          ∙ can_past riding carrying s.memory (TakeRequest d) past
+          ∙ sym (can_past riding carrying n (TakeRequest d) (subst (λ (k : ℕ). k ≤ d) (sym turned.count) past))
+
   -- what is marked after the turn can be done
   turn_marked : (riding : Riding R) (carrying : Carrying K) (s : State R K) (n : Memory R K) (c block : ℕ)
       (hearing : ℕ → Bool) (turn : Turn)
@@ -181,44 +227,9 @@ module _ {R K : Type 0} where
           ∙ sym (can_past riding carrying n (TakeMessage d) (subst (λ (k : ℕ). k ≤ d) (sym turned.count) past))
   turn_marked riding carrying s n c block hearing turn was marks turned before about heard cores others own
       (RequestMove d) not_asked =
-      ap (λ (b : Bool). cond ((nat_lt d marks.cores && head_is turn.block (requests_at n.ports d))
-      && differ (is_free (entry_at riding.fresh n.home turn.block).stage) was) (is_free
-      (entry_at riding.fresh n.home turn.block).stage) b)
+      request_marked riding carrying s n c block hearing turn was marks turned before about cores d
+      (turned.requests d (λ same. not_asked (ap (λ (k : ℕ). RequestMove k) same)))
       (others (RequestMove d) (λ (e : RequestMove d ≡ ResponseMove c). cc))
-      ∙ (λ i. cond ((nat_lt d (cores i) && head_is (about i) (requests_at n.ports d)) && differ
-      (is_free (entry_at riding.fresh n.home (about i)).stage) was)
-      (is_free (entry_at riding.fresh n.home (about i)).stage)
-      (can riding carrying s.memory (TakeRequest d)))
-      ∙ by (split d (length s.memory.ports))
-    where
-      other : d ≢ c
-      other same = not_asked (ap (λ (k : ℕ). RequestMove k) same)
-
-      by : (d < length s.memory.ports) ⊎ (length s.memory.ports ≤ d) →
-          cond ((nat_lt d (length s.memory.ports) && head_is block (requests_at n.ports d))
-          && differ (is_free (entry_at riding.fresh n.home block).stage) was)
-          (is_free (entry_at riding.fresh n.home block).stage)
-          (can riding carrying s.memory (TakeRequest d)) ≡ can riding carrying n (TakeRequest d)
-      by (inl within) =
-          (λ i. cond ((below_is d (length s.memory.ports) within i && head_is block (requests_at n.ports d)) && differ
-          (is_free
-          (entry_at riding.fresh n.home block).stage) was) (is_free (entry_at riding.fresh n.home block).stage)
-          (can_here riding carrying s.memory (TakeRequest d) within i))
-          ∙ ap (λ (xs : List (Mail (Request R) K)). cond (head_is block (requests_at n.ports d) && differ (is_free
-          (entry_at riding.fresh n.home block).stage) was) (is_free (entry_at riding.fresh n.home block).stage)
-          (head_free xs riding s.memory.home)) (sym (requests_within carrying s.memory.ports d within)
-          ∙ sym (turned.requests d other))
-          ∙ free_by riding s.memory.home n.home block (requests_at n.ports d) was turned.home before
-          ∙ ap (λ (xs : List (Mail (Request R) K)). head_free xs riding n.home)
-          (requests_within carrying n.ports d (subst (λ (k : ℕ). d < k) (sym turned.count) within))
-          ∙ sym (can_here riding carrying n (TakeRequest d) (subst (λ (k : ℕ). d < k) (sym turned.count) within))
-      by (inr past) =
-          ap (λ (b : Bool). cond ((b && head_is block (requests_at n.ports d)) && differ
-          (is_free (entry_at riding.fresh n.home block).stage) was) (is_free
-          (entry_at riding.fresh n.home block).stage)
-          (can riding carrying s.memory (TakeRequest d))) (past_is d (length s.memory.ports) past)
-          ∙ can_past riding carrying s.memory (TakeRequest d) past
-          ∙ sym (can_past riding carrying n (TakeRequest d) (subst (λ (k : ℕ). k ≤ d) (sym turned.count) past))
 
   -- one port gives way to another with the same messages that waits as it did, and then the home's answer goes on its
   -- way
@@ -291,6 +302,10 @@ pub record TurnFits {R K : Type 0} (riding : Riding R) (carrying : Carrying K) (
       is_marked marks m ≡ enabled riding carrying s m) →
       is_marked marks (ResponseMove c) ≡ can riding carrying n (TakeResponse c) → (m : Move) → m ≢ RequestMove c →
       after_turn riding n turn was marks m ≡ enabled riding carrying (record s { memory = n }) m
+  pub request : (marks : Marks) → marks.cores ≡ length s.memory.ports →
+      requests_at n.ports c ≡ requests_at s.memory.ports c →
+      is_marked marks (RequestMove c) ≡ can riding carrying s.memory (TakeRequest c) →
+      after_turn riding n turn was marks (RequestMove c) ≡ can riding carrying n (TakeRequest c)
 
 module _ {R K : Type 0} where
   turn_fits : (riding : Riding R) (carrying : Carrying K) (s : State R K) (n : Memory R K) (c about : ℕ)
@@ -307,6 +322,8 @@ module _ {R K : Type 0} where
             λ marks cores others own. turn_marked riding carrying s n c about (hears answer) turn was marks turned
             before is.block
             (turn_heard about answer turn is) cores others own;
+        request = λ marks cores same marked. request_marked riding carrying s n c about (hears answer) turn was marks
+            turned before is.block cores c same marked;
       }
 
   pub request_fits : (riding : Riding R) (carrying : Carrying K) (s : State R K) (c : ℕ) (turn : Turn) →
@@ -404,3 +421,55 @@ module _ {R K : Type 0} where
           (λ within. ap not (same_at f carrying (delivered carrying answer block carry base) m.ports
           (delivered_same f (λ p mail k. refl) carrying answer.send answer.invalidate block carry base
           ∙ map-set_same f m.ports c port (no_port carrying) refl) c))
+
+  -- no core has other requests after the home took a response
+  pub response_requests : (riding : Riding R) (carrying : Carrying K) (m : Memory R K) (c d : ℕ) →
+      requests_at (take_response riding carrying m c).ports d ≡ requests_at m.ports d
+  response_requests riding carrying m c d = by (port_at carrying m.ports c).responses.items
+    where
+      by : (items : List (Mail (Response R) K)) →
+          requests_at (take_response_in items riding carrying m c).ports d ≡ requests_at m.ports d
+      by [] = refl
+      by (mail ∷ rest) =
+          let f = λ (p : Port R K). p.requests.items in
+          let block = response_block mail.item in
+          let answer = answer_to_response riding.absorbed (entry_at riding.fresh m.home block) c mail.item in
+          let port = port_responded (port_at carrying m.ports c) rest in
+          ap (λ (xs : List (List (Mail (Request R) K))). get_or xs d [])
+          (delivered_same f (λ p mail k. refl) carrying answer.send answer.invalidate block
+          (carrying.joined m.carry mail.carry) (slice_set m.ports c port)
+          ∙ map-set_same f m.ports c port (no_port carrying) refl)
+
+  -- a core has at most one request under way, so none is left after the home took it
+  pub request_leaves_none : (riding : Riding R) (carrying : Carrying K) (m : Memory R K) (c : ℕ) →
+      c < length m.ports → length (port_at carrying m.ports c).requests.items ≤ 1 →
+      requests_at (take_request riding carrying m c).ports c ≡ []
+  request_leaves_none riding carrying m c within one = by (port_at carrying m.ports c).requests.items refl one
+    where
+      by : (items : List (Mail (Request R) K)) → (port_at carrying m.ports c).requests.items ≡ items →
+          length items ≤ 1 → requests_at (take_request_in items riding carrying m c).ports c ≡ []
+      by [] is one = requests_within carrying m.ports c within ∙ is
+      by (mail ∷ []) is one =
+          let f = λ (p : Port R K). p.requests.items in
+          let block = request_block mail.item in
+          let answer = answer_to_request riding.absorbed (entry_at riding.fresh m.home block) c mail.item in
+          let port = port_requested (port_at carrying m.ports c) [] in
+          let base = slice_set m.ports c port in
+          ap (λ (xs : List (List (Mail (Request R) K))). get_or xs c [])
+          (delivered_same f (λ p mail k. refl) carrying answer.send answer.invalidate block
+          (carrying.joined m.carry mail.carry) base)
+          ∙ requests_within carrying base c (subst (λ (k : ℕ). c < k) (sym (length-set m.ports c port)) within)
+          ∙ ap f (get_or-set_same m.ports c port (no_port carrying) within)
+      by (mail ∷ next ∷ rest) is one = absurd (omega arith)
+
+  -- where no request is left the home can take none
+  pub none_left : (riding : Riding R) (carrying : Carrying K) (m : Memory R K) (c : ℕ) →
+      requests_at m.ports c ≡ [] → can riding carrying m (TakeRequest c) ≡ false
+  none_left riding carrying m c none = by (split c (length m.ports))
+    where
+      by : (c < length m.ports) ⊎ (length m.ports ≤ c) → can riding carrying m (TakeRequest c) ≡ false
+      by (inl within) =
+          can_here riding carrying m (TakeRequest c) within
+          ∙ ap (λ (xs : List (Mail (Request R) K)). head_free xs riding m.home)
+          (sym (requests_within carrying m.ports c within) ∙ none)
+      by (inr past) = can_past riding carrying m (TakeRequest c) past

@@ -1,11 +1,13 @@
 -- Which moves can be made, one bit a move.
 use Rattle.std.specs.Prelude.{◌≡◌, ◌≢◌, ◌==◌, ◌<◌, ◌≤◌, ℕ, ◌*◌, Bool}
-use Rattle.std.specs.Prelude.{true, false, not, ◌&&◌, List, length, nat_lt, if◌then◌else◌}
+use Rattle.std.specs.Prelude.{true, false, not, ◌&&◌, List, length, nat_lt, if◌then◌else◌, Option, Some, None}
 use Rattle.std.specs.Int.{bit_at}
 use Rattle.std.specs.List.{filter}
 use Rattle.access_times.specs.Riding.{Riding, Carrying}
 use Rattle.rtr_types.specs.CoreSets.{has}
+use Rattle.rtr_types.specs.declared.TheConstants.{CORES_MAX}
 use Rattle.rtr_types.specs.declared.core_set.CoreSet.{CoreSet}
+use Rattle.rtr_types.specs.declared.instr.Instr.{Instr}
 use Rattle.msi_directory.specs.Blocks.{entry_at}
 use Rattle.msi_directory.specs.Table.{is_free}
 use Rattle.msi_directory.specs.declared.entry.HomeAnswer.{HomeAnswer}
@@ -14,7 +16,8 @@ use Rattle.msi_memory.specs.declared.turn.Turn.{Turn}
 use Rattle.msi_memory.specs.Memories.{Memory}
 use Rattle.msi_memory.specs.Rests.{head_is, hears, requests_at}
 use Rattle.msi_state.specs.declared.moves.Move.{Move}
-use Rattle.msi_state.specs.declared.moves.Move.TheVariants.{Request as RequestMove, FromHome as MessageMove}
+use Rattle.msi_state.specs.declared.moves.Move.TheVariants.{Core as CoreMove, Request as RequestMove}
+use Rattle.msi_state.specs.declared.moves.Move.TheVariants.{Response as ResponseMove, FromHome as MessageMove}
 use Rattle.msi_state.specs.Moves.{candidates, core_of, number_of}
 use Rattle.msi_state.specs.States.{State}
 use Rattle.msi_state.specs.Steps.{enabled}
@@ -47,6 +50,15 @@ abbrev pub is_hearing : {R : Type 0} → HomeAnswer R → (cores : ℕ) → Move
 is_hearing answer cores (MessageMove d) = nat_lt d cores && hears answer d
 is_hearing answer cores _ = false
 
+-- the core that asked the home for a block in a move in which this retired: one that moved by itself and retired
+-- nothing. No other move asks; the number is none of a core then
+abbrev pub asker_of : Move → Option Instr → ℕ
+asker_of (CoreMove c) None = c
+asker_of (CoreMove c) (Some at) = CORES_MAX
+asker_of (RequestMove c) retired = CORES_MAX
+asker_of (ResponseMove c) retired = CORES_MAX
+asker_of (MessageMove c) retired = CORES_MAX
+
 abbrev pub differ : Bool → Bool → Bool
 differ true b = not b
 differ false b = b
@@ -72,9 +84,9 @@ module _ {R K : Type 0} where
     pub within : IsWithin marks
     pub marked : (m : Move) → is_marked marks m ≡ enabled riding carrying s m
 
-  -- so is it but perhaps for this core's oldest request, whose block may be another than it was
-  pub record OthersMarked (riding : Riding R) (carrying : Carrying K) (s : State R K) (marks : Marks) (mover : ℕ)
+  -- so is it but perhaps for this core's oldest request, which it put down last
+  pub record OthersMarked (riding : Riding R) (carrying : Carrying K) (s : State R K) (marks : Marks) (asker : ℕ)
       : Type 0 where
     pub cores : marks.cores ≡ length s.cores
     pub within : IsWithin marks
-    pub marked : (m : Move) → m ≢ RequestMove mover → is_marked marks m ≡ enabled riding carrying s m
+    pub marked : (m : Move) → m ≢ RequestMove asker → is_marked marks m ≡ enabled riding carrying s m

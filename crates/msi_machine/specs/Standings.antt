@@ -10,12 +10,12 @@ use Rattle.msi_cache.specs.Lines.{waits}
 use Rattle.msi_memory.specs.Memories.{port_at}
 use Rattle.msi_memory.specs.Rests.{OthersRoomy}
 use Rattle.msi_state.specs.declared.moves.Move.{Move}
-use Rattle.msi_state.specs.declared.moves.Move.TheVariants.{Core as CoreMove}
+use Rattle.msi_state.specs.declared.moves.Move.TheVariants.{Core as CoreMove, Request as RequestMove}
 use Rattle.msi_state.specs.States.{Machinery, State, core_at}
 use Rattle.machine_invariant.specs.Holds.{MachineHolds}
 use Rattle.msi_machine.specs.declared.marks.Marks.{Marks}
 use Rattle.msi_machine.specs.declared.standing.Standing.{Standing}
-use Rattle.msi_machine.specs.Marks.{OthersMarked}
+use Rattle.msi_machine.specs.Marks.{OthersMarked, is_marked}
 
 -- a core's next instruction and what that needs, beside whether its port waits
 abbrev pub standing_with : Contents → Core → Bool → Standing
@@ -49,11 +49,12 @@ module _ {R K : Type 0} where
     pub waits : map (λ x. x.waits) standings ≡ map (λ p. waits p.cache) s.memory.ports
 
   -- the state has the machine's invariant, and what a machine notes beside it fits: what each core stands at, which
-  -- moves can be made, and the one core for whose oldest request neither is noted whether it can be taken nor is there
-  -- room for sure
+  -- moves can be made, and the one core that asked last, for whose oldest request neither is noted whether it can be
+  -- taken nor is there room for sure; it isn't marked
   pub record NotesFit (riding : Riding R) (carrying : Carrying K) (m : Machinery R K) (standings : List Standing)
-      (marks : Marks) (mover : ℕ) : Type 0 where
+      (marks : Marks) (asker : ℕ) : Type 0 where
     pub holds : MachineHolds riding carrying m.state
     pub stands : StandingsFit m.state standings
-    pub marked : OthersMarked riding carrying m.state marks mover
-    pub roomy : OthersRoomy m.state.memory.ports mover m.rooms
+    pub marked : OthersMarked riding carrying m.state marks asker
+    pub unmarked : is_marked marks (RequestMove asker) ≡ false
+    pub roomy : OthersRoomy m.state.memory.ports asker m.rooms

@@ -44,14 +44,14 @@ pub struct Stepped {
 /// A machine of some cores in a state of a run. Contracts see that state, and which of the home's blocks
 /// have room for a request.
 ///
-/// Beside the state it keeps what each core stands at, which moves can be made, and which core moved last, or
-/// none once room was made. Room is made before each step, so that only that core may have a request for whose
-/// block there is none; and the home is asked only then whether that block is free.
+/// Beside the state it keeps what each core stands at, which moves can be made, and which core asked for a block in
+/// the last step, if one did and no room was made since. Room is made before each step, so that only that core may have
+/// a request for whose block there is none; and the home is asked only then whether that block is free.
 pub struct Machine<R: Rider, K: Carry> {
     pub(crate) parts: Parts<R, K>,
     standings: Vec<Standing>,
     marks: Marks,
-    mover: u8,
+    asker: u8,
 }
 
 impl<R: Rider, K: Carry> Drop for Machine<R, K> {
@@ -60,7 +60,7 @@ impl<R: Rider, K: Carry> Drop for Machine<R, K> {
             parts: _parts,
             standings: _standings,
             marks: _marks,
-            mover: _mover,
+            asker: _asker,
         } = self;
     }
 }
@@ -73,7 +73,7 @@ impl<R: Rider, K: Carry> Model for Machine<R, K> {
 
     ghost view = { λ a. a.parts };
 
-    ghost invariant = { λ a. NotesFit R.riding K.carrying a.parts a.standings.items a.marks a.mover };
+    ghost invariant = { λ a. NotesFit R.riding K.carrying a.parts a.standings.items a.marks a.asker };
 }
 
 impl<R: Rider, K: Carry> Machine<R, K> {
@@ -98,7 +98,7 @@ impl<R: Rider, K: Carry> Machine<R, K> {
             parts,
             standings,
             marks,
-            mover: 0,
+            asker: CORES_MAX,
         })
     }
 
@@ -114,6 +114,10 @@ impl<R: Rider, K: Carry> Machine<R, K> {
         ensures last { (memory : ℕ → List ℕ) → IsTrue result → Coherent R.riding K.carrying self.now.state memory
             → (block : ℕ) → final_words R.riding K.carrying self.now.state block ≡ memory block }
     {
+        // where a move can be made some core isn't done
+        if self.marks.count() > 0 {
+            return false;
+        }
         are_done(self.standings.as_slice())
     }
 
@@ -132,12 +136,12 @@ impl<R: Rider, K: Carry> Machine<R, K> {
         ensures rooms { RoomsMade self.old.state.memory.ports self.old.rooms self.new.rooms }
         ensures ok { OnOk result (heads_roomy self.new ≡ true) }
     {
-        let mover = self.mover;
-        if (mover as u32) < self.marks.cores {
+        let asker = self.asker;
+        if (asker as u32) < self.marks.cores {
             let parts = &mut self.parts;
-            let can = parts.memory.make_room(mover)?;
-            self.marks.set(Move::Request(mover), can);
-            self.mover = CORES_MAX;
+            let can = parts.memory.make_room(asker)?;
+            self.marks.set(Move::Request(asker), can);
+            self.asker = CORES_MAX;
         }
         Ok(())
     }
@@ -173,9 +177,10 @@ impl<R: Rider, K: Carry> Machine<R, K> {
         let mut marks = self.all_marks();
         let taken = marks.pick(choice % marks.count());
         let standings = self.standings.as_mut_slice();
-        let retired = self.parts.make_move(taken, standings, &mut marks, clerk);
+        let retired = self
+            .parts
+            .make_move(taken, standings, &mut marks, &mut self.asker, clerk);
         self.marks = marks;
-        self.mover = taken.core();
         Stepped { taken, retired }
     }
 
@@ -185,11 +190,11 @@ impl<R: Rider, K: Carry> Machine<R, K> {
         ensures moves { marked result ≡ moves R.riding K.carrying self.now.state }
     {
         let mut marks = self.marks;
-        // no move asked the home about the block of the mover's oldest request yet
-        if (self.mover as u32) < marks.cores {
+        // nobody looked yet whether the block is free that the asker's request is for
+        if (self.asker as u32) < marks.cores {
             let parts = &self.parts;
-            let can = parts.memory.has_free_head(self.mover);
-            marks.set(Move::Request(self.mover), can);
+            let can = parts.memory.has_free_head(self.asker);
+            marks.set(Move::Request(self.asker), can);
         }
         marks
     }
@@ -230,7 +235,7 @@ impl<R: Rider, K: Carry> Machine<R, K> {
             parts,
             standings: _standings,
             marks: _marks,
-            mover: _mover,
+            asker: _asker,
         } = self;
         parts.into_image()
     }

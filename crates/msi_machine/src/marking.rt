@@ -35,6 +35,7 @@ pub(crate) fn mark_core<R: Rider, K: Carry>(
         ≡ can R.riding K.carrying memory.now.memory (TakeResponse core) }
     ensures message { is_marked marks.new (Move.FromHome core)
         ≡ can R.riding K.carrying memory.now.memory (TakeMessage core) }
+    ensures request { is_marked marks.new (Move.Request core) ≡ is_marked marks.old (Move.Request core) }
     ensures others { (m : Move) → core_of m ≢ core → is_marked marks.new m ≡ is_marked marks.old m }
 {
     marks.set(Move::Core(core), standing.may_move());

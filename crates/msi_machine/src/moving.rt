@@ -1,11 +1,11 @@
 //! Each kind of move, with what is noted beside the state.
-ghost use Rattle.std.specs.Prelude.{◌≡◌, IsTrue};
+ghost use Rattle.std.specs.Prelude.{◌≡◌, IsTrue, false};
+ghost use Rattle.rtr_types.specs.declared.TheConstants.{CORES_MAX};
 ghost use Rattle.machine_invariant.specs.Holds.{MachineHolds};
-ghost use Rattle.msi_machine.specs.Marks.{AllMarked, OthersMarked};
+ghost use Rattle.msi_machine.specs.Marks.{AllMarked, OthersMarked, asker_of, is_marked};
 ghost use Rattle.msi_machine.specs.Standings.{StandingsFit, standing_at};
 ghost use Rattle.msi_state.specs.declared.moves.Move.{Move};
 ghost use Rattle.msi_state.specs.Events.{instr_of};
-ghost use Rattle.msi_state.specs.Moves.{core_of};
 ghost use Rattle.msi_state.specs.Rests.{heads_roomy};
 ghost use Rattle.msi_state.specs.Steps.{AcceptsNext, StepsTo, TellsOf, enabled, event};
 
@@ -15,16 +15,18 @@ use crate::parts::Parts;
 use crate::standing::Standing;
 use access_times::{Carry, Clerk, Rider};
 use msi_state::Move;
-use rtr_types::Instr;
+use rtr_types::{CORES_MAX, Instr};
 
 impl<R: Rider, K: Carry> Parts<R, K> {
     /// Makes a move that can be made. What was kept of its core is renewed, and the marks of the moves that
-    /// can be made become those of the moves that can be then, but perhaps for the core's own request.
+    /// can be made become those of the moves that can be then, but for the request of the core that asked, which
+    /// is noted.
     pub(crate) fn make_move<C: Clerk<R, K>>(
         &mut self,
         taken: Move,
         standings: &mut [Standing],
         marks: &mut Marks,
+        asker: &mut u8,
         clerk: &mut C,
     ) -> Option<Instr>
         requires holds { MachineHolds R.riding K.carrying self.old.state }
@@ -39,10 +41,13 @@ impl<R: Rider, K: Carry> Parts<R, K> {
         ensures told { TellsOf C.told_local C.told_touch R.riding K.carrying self.old.state self.new.state
             taken clerk.old clerk.new }
         ensures stands { StandingsFit self.new.state standings.new }
-        ensures marked { OthersMarked R.riding K.carrying self.new.state marks.new (core_of taken) }
+        ensures asker { asker.new ≡ asker_of taken result }
+        ensures marked { OthersMarked R.riding K.carrying self.new.state marks.new asker.new }
+        ensures unmarked { is_marked marks.new (Move.Request asker.new) ≡ false }
     {
+        *asker = CORES_MAX;
         match taken {
-            Move::Core(c) => self.move_core(c, &mut standings[c as usize], marks, clerk),
+            Move::Core(c) => self.move_core(c, &mut standings[c as usize], marks, asker, clerk),
             Move::Request(c) => {
                 self.take_request(c, marks);
                 None
@@ -55,18 +60,20 @@ impl<R: Rider, K: Carry> Parts<R, K> {
         }
     }
 
-    /// Core `c` moves.
+    /// Core `c` moves, and is noted where it asks.
     fn move_core<C: Clerk<R, K>>(
         &mut self,
         c: u8,
         standing: &mut Standing,
         marks: &mut Marks,
+        asker: &mut u8,
         clerk: &mut C,
     ) -> Option<Instr>
         requires holds { MachineHolds R.riding K.carrying self.old.state }
         requires enabled { IsTrue (enabled R.riding K.carrying self.old.state (Move.Core c)) }
         requires stands { standing.old ≡ standing_at K.carrying self.old.state c }
         requires marked { AllMarked R.riding K.carrying self.old.state marks.old }
+        requires none { asker.old ≡ CORES_MAX }
         requires accepts { AcceptsNext C.accepts clerk.old self.old.state }
         ensures state { StepsTo R.riding K.carrying self.old.state self.new.state (Move.Core c) }
         ensures rooms { self.new.rooms ≡ self.old.rooms }
@@ -74,10 +81,15 @@ impl<R: Rider, K: Carry> Parts<R, K> {
         ensures told { TellsOf C.told_local C.told_touch R.riding K.carrying self.old.state self.new.state
             (Move.Core c) clerk.old clerk.new }
         ensures renewed { standing.new ≡ standing_at K.carrying self.new.state c }
-        ensures marked { OthersMarked R.riding K.carrying self.new.state marks.new c }
+        ensures asker { asker.new ≡ asker_of (Move.Core c) result }
+        ensures marked { OthersMarked R.riding K.carrying self.new.state marks.new asker.new }
+        ensures unmarked { is_marked marks.new (Move.Request asker.new) ≡ false }
     {
         let retired = self.work(c, standing, clerk);
         marks.set(Move::Core(c), standing.may_move());
+        if retired.is_none() {
+            *asker = c;
+        }
         retired
     }
 
@@ -100,7 +112,7 @@ impl<R: Rider, K: Carry> Parts<R, K> {
         ensures told { TellsOf C.told_local C.told_touch R.riding K.carrying self.old.state self.new.state
             (Move.FromHome c) clerk.old clerk.new }
         ensures renewed { standing.new ≡ standing_at K.carrying self.new.state c }
-        ensures marked { OthersMarked R.riding K.carrying self.new.state marks.new c }
+        ensures marked { AllMarked R.riding K.carrying self.new.state marks.new }
     {
         let retired = self.receive(c, standing, clerk);
         mark_core(&self.memory, c, *standing, marks);
@@ -115,11 +127,13 @@ impl<R: Rider, K: Carry> Parts<R, K> {
         requires roomy { IsTrue (heads_roomy self.old) }
         ensures state { StepsTo R.riding K.carrying self.old.state self.new.state (Move.Request c) }
         ensures rooms { self.new.rooms ≡ self.old.rooms }
-        ensures marked { OthersMarked R.riding K.carrying self.new.state marks.new c }
+        ensures marked { AllMarked R.riding K.carrying self.new.state marks.new }
     {
         // a request is taken only where its block is free, and a response only where it isn't
         let turn = self.memory.take_request(c);
         mark_turn(&self.memory, turn, true, marks);
+        // its link has room for one request, so none is left
+        marks.unmark(Move::Request(c));
     }
 
     /// The home takes core `c`'s oldest response.
@@ -129,7 +143,7 @@ impl<R: Rider, K: Carry> Parts<R, K> {
         requires marked { AllMarked R.riding K.carrying self.old.state marks.old }
         ensures state { StepsTo R.riding K.carrying self.old.state self.new.state (Move.Response c) }
         ensures rooms { self.new.rooms ≡ self.old.rooms }
-        ensures marked { OthersMarked R.riding K.carrying self.new.state marks.new c }
+        ensures marked { AllMarked R.riding K.carrying self.new.state marks.new }
     {
         let turn = self.memory.take_response(c);
         marks.set(Move::Response(c), self.memory.has_response(c));

@@ -1,11 +1,11 @@
--- The mover's oldest request is looked at, and then all moves that can be made are marked.
+-- The request of the core that asked is looked at, and then all moves that can be made are marked.
 use Rattle.std.proofs.Common.{◌∙◌, ap, subst}
 use Rattle.memory_laws.proofs.Ready.{memory_ready}
 use Rattle.msi_memory.specs.Acts.{TakeRequest, can}
 use Rattle.msi_state.specs.States.{Machinery}
 use Rattle.msi_state.specs.Steps.{moves}
 use Rattle.msi_machine.specs.Marks.{AllMarked}
-use Rattle.msi_machine.proofs.Renewed.{all_moves, mover_marked, no_mover_marked}
+use Rattle.msi_machine.proofs.Renewed.{all_moves, asker_marked, no_asker_marked}
 use Rattle.msi_machine.proofs.machine.Machine.all_marks.Goals as goal
 
 pub has_free_head-can-requires-clause-heads : goal.has_free_head-can-requires-clause-heads
@@ -17,12 +17,12 @@ has_free_head-can-requires-clause-heads g c =
 pub returns-then-self-marks-clause-moves : goal.returns-then-self-marks-clause-moves
 returns-then-self-marks-clause-moves g c =
     all_moves g.R.Rider.riding g.K.Carry.carrying c.self.inside.parts.state c.set.new.self
-    (mover_marked g.R.Rider.riding g.K.Carry.carrying c.self.inside.parts.state c.self.inside.marks c.set.new.self
-    c.self.inside.mover
+    (asker_marked g.R.Rider.riding g.K.Carry.carrying c.self.inside.parts.state c.self.inside.marks c.set.new.self
+    c.self.inside.asker
     c.self.invariant.marked c.set.ensures.cores c.set.ensures.within
     (c.set.ensures.this ∙ c.has_free_head-can.ensures
     ∙ ap (λ (m : Machinery g.row.R.Denot g.row.K.Denot). can g.R.Rider.riding g.K.Carry.carrying m.state.memory
-    (TakeRequest c.self.inside.mover)) c.parts.view_is) c.set.ensures.others)
+    (TakeRequest c.self.inside.asker)) c.parts.view_is) c.set.ensures.others)
     ∙ ap (λ (m : Machinery g.row.R.Denot g.row.K.Denot). moves g.R.Rider.riding g.K.Carry.carrying m.state)
     c.self.view_is
 
@@ -30,15 +30,15 @@ pub returns-else-self-marks-clause-all : goal.returns-else-self-marks-clause-all
 returns-else-self-marks-clause-all g c =
     subst (λ (m : Machinery g.row.R.Denot g.row.K.Denot). AllMarked g.R.Rider.riding g.K.Carry.carrying m.state
     c.self.inside.marks) c.self.view_is
-    (no_mover_marked g.R.Rider.riding g.K.Carry.carrying c.self.inside.parts.state c.self.inside.marks
-    c.self.inside.mover
+    (no_asker_marked g.R.Rider.riding g.K.Carry.carrying c.self.inside.parts.state c.self.inside.marks
+    c.self.inside.asker
     c.self.invariant.marked c.self.invariant.holds.ports_there c.if-self-marks.false)
 
 pub returns-else-self-marks-clause-moves : goal.returns-else-self-marks-clause-moves
 returns-else-self-marks-clause-moves g c =
     all_moves g.R.Rider.riding g.K.Carry.carrying c.self.inside.parts.state c.self.inside.marks
-    (no_mover_marked g.R.Rider.riding g.K.Carry.carrying c.self.inside.parts.state c.self.inside.marks
-    c.self.inside.mover
+    (no_asker_marked g.R.Rider.riding g.K.Carry.carrying c.self.inside.parts.state c.self.inside.marks
+    c.self.inside.asker
     c.self.invariant.marked c.self.invariant.holds.ports_there c.if-self-marks.false)
     ∙ ap (λ (m : Machinery g.row.R.Denot g.row.K.Denot). moves g.R.Rider.riding g.K.Carry.carrying m.state)
     c.self.view_is

@@ -14,15 +14,15 @@ make_room-requires-clause-heads g c =
     c.self.invariant.holds.memory).heads in
     rw (← c.parts.view_is) at fit
 
-pub invariant_of-self-then-mover-self : goal.invariant_of-self-then-mover-self
-invariant_of-self-then-mover-self g c =
-    let mover : ℕ = c.self.inside.mover in
+pub invariant_of-self-then-asker-self : goal.invariant_of-self-then-asker-self
+invariant_of-self-then-asker-self g c =
+    let asker : ℕ = c.self.inside.asker in
     let s : State g.row.R.Denot g.row.K.Denot = c.self.inside.parts.state in
-    let here : mover < length s.memory.ports =
-    subst (λ (n : ℕ). mover < n) (c.self.invariant.marked.cores ∙ sym c.self.invariant.holds.ports_there)
-    c.if-mover-self.true in
+    let here : asker < length s.memory.ports =
+    subst (λ (n : ℕ). asker < n) (c.self.invariant.marked.cores ∙ sym c.self.invariant.holds.ports_there)
+    c.if-asker-self.true in
     room_made g.R.Rider.riding g.K.Carry.carrying c.self.inside.parts _ c.self.inside.standings.items
-    c.self.inside.marks c.set.new.self mover
+    c.self.inside.marks c.set.new.self asker
     c.self.invariant
     (ap (λ (m : Memory g.row.R.Denot g.row.K.Denot). record {
       image = c.parts.inside.program;
@@ -34,16 +34,16 @@ invariant_of-self-then-mover-self g c =
     ∙ ap (λ (m : Machinery g.row.R.Denot g.row.K.Denot). m.state) c.parts.view_is)
     c.in_ok-can.ensures.ok c.set.ensures.cores c.set.ensures.within
     (c.set.ensures.this ∙ c.in_ok-can.ensures.free
-    ∙ ap (λ (m : Machinery g.row.R.Denot g.row.K.Denot). head_free (requests_at m.state.memory.ports mover)
+    ∙ ap (λ (m : Machinery g.row.R.Denot g.row.K.Denot). head_free (requests_at m.state.memory.ports asker)
     g.R.Rider.riding m.state.memory.home)
     c.parts.view_is
-    ∙ head_can g.R.Rider.riding g.K.Carry.carrying s.memory mover here) c.set.ensures.others 16
+    ∙ head_can g.R.Rider.riding g.K.Carry.carrying s.memory asker here) c.set.ensures.others
 
-pub returns-else-mover-self-clause-ok : goal.returns-else-mover-self-clause-ok
-returns-else-mover-self-clause-ok g c =
+pub returns-else-asker-self-clause-ok : goal.returns-else-asker-self-clause-ok
+returns-else-asker-self-clause-ok g c =
     let s : State g.row.R.Denot g.row.K.Denot = c.self.inside.parts.state in
-    let past : length s.memory.ports ≤ c.self.inside.mover =
-    subst (λ (n : ℕ). n ≤ c.self.inside.mover) (c.self.invariant.marked.cores ∙ sym c.self.invariant.holds.ports_there)
-    c.if-mover-self.false in
+    let past : length s.memory.ports ≤ c.self.inside.asker =
+    subst (λ (n : ℕ). n ≤ c.self.inside.asker) (c.self.invariant.marked.cores ∙ sym c.self.invariant.holds.ports_there)
+    c.if-asker-self.false in
     subst (λ (m : Machinery g.row.R.Denot g.row.K.Denot). heads_roomy m ≡ true) c.self.view_is
-    (all_past s.memory.ports c.self.inside.mover c.self.inside.parts.rooms c.self.invariant.roomy past)
+    (all_past s.memory.ports c.self.inside.asker c.self.inside.parts.rooms c.self.invariant.roomy past)

@@ -61,11 +61,12 @@ invariant_of-self g c =
     ∙ c.as_mut_slice-standings.ensures.len in
     notes_kept g.R.Rider.riding g.K.Carry.carrying c.self.inside.parts c.make_move-retired.new.self c.pick-taken.result
     _ c.make_move-retired.new.standings
-    c.make_move-retired.new.marks c.core-self-inside.result roomy c.self.invariant.holds can_be
+    c.make_move-retired.new.marks c.make_move-retired.new.asker c.make_move-retired.result roomy
+    c.self.invariant.holds can_be
     c.make_move-retired.ensures.state
     c.make_move-retired.ensures.rooms c.make_move-retired.ensures.stands
     (with_items_is c.self.inside.standings c.make_move-retired.new.standings long) c.make_move-retired.ensures.marked
-    c.core-self-inside.ensures
+    c.make_move-retired.ensures.unmarked c.make_move-retired.ensures.asker c.make_move-retired.ensures.retired
 
 pub returns-clause-taken : goal.returns-clause-taken
 returns-clause-taken g c =

@@ -3,6 +3,7 @@ use Rattle.std.proofs.Common.{ap}
 use Rattle.msi_state.specs.declared.moves.Move.TheVariants.{Core, FromHome, Request, Response}
 use Rattle.msi_state.specs.Moves.{core_of}
 use Rattle.msi_state.specs.Steps.{rider_left}
+use Rattle.msi_machine.proofs.Ended.{no_asker}
 use Rattle.msi_machine.proofs.Moves.{core_stands, kept_here, message_stands, request_stands, response_stands}
 use Rattle.msi_machine.proofs.parts.Parts.make_move.Goals as goal
 
@@ -50,3 +51,19 @@ returns-in-FromHome-clause-stands g c =
     c.args.self.now.state c.take_message.new.self.state c.args.taken c.in-FromHome.c c.args.standings.now
     c.take_message.new.standing c.requires.holds
     c.requires.enabled c.in-FromHome.is c.requires.stands c.take_message.ensures.state c.take_message.ensures.renewed
+
+pub returns-in-Request-clause-unmarked : goal.returns-in-Request-clause-unmarked
+returns-in-Request-clause-unmarked g c =
+    no_asker g.R.Rider.riding g.K.Carry.carrying
+    (rider_left g.R.Rider.riding g.K.Carry.carrying c.args.self.now.state c.take_request.new.self.state
+    (Request c.in-Request.c))
+    c.args.self.now.state c.take_request.new.self.state (Request c.in-Request.c) c.take_request.new.marks
+    c.requires.holds c.take_request.ensures.state c.take_request.ensures.marked.cores
+
+pub returns-in-Response-clause-unmarked : goal.returns-in-Response-clause-unmarked
+returns-in-Response-clause-unmarked g c =
+    no_asker g.R.Rider.riding g.K.Carry.carrying
+    (rider_left g.R.Rider.riding g.K.Carry.carrying c.args.self.now.state c.take_response.new.self.state
+    (Response c.in-Response.c))
+    c.args.self.now.state c.take_response.new.self.state (Response c.in-Response.c) c.take_response.new.marks
+    c.requires.holds c.take_response.ensures.state c.take_response.ensures.marked.cores

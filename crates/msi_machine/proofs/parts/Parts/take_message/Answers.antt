@@ -33,4 +33,5 @@ returns-clause-marked g c =
     (core_port g.R.Rider.riding g.K.Carry.carrying s c.args.c c.requires.holds here) c.receive-retired.ensures.renewed
     c.mark_core.ensures.cores c.mark_core.ensures.within c.mark_core.ensures.own
     (c.mark_core.ensures.response ∙ ap (can_then (TakeResponse c.args.c)) c.self.view_is)
-    (c.mark_core.ensures.message ∙ ap (can_then (TakeMessage c.args.c)) c.self.view_is) c.mark_core.ensures.others
+    (c.mark_core.ensures.message ∙ ap (can_then (TakeMessage c.args.c)) c.self.view_is) c.mark_core.ensures.request
+    c.mark_core.ensures.others

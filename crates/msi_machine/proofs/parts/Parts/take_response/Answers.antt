@@ -1,12 +1,11 @@
-use Rattle.std.proofs.Common.{◌≡◌, ◌<◌, ◌∙◌, ap, [], ◌∷◌, length, nat_lt, sym, subst}
+use Rattle.std.proofs.Common.{◌≡◌, ◌∙◌, ap, [], ◌∷◌, length, nat_lt}
 use Rattle.memory_laws.proofs.Ready.{memory_ready}
 use Rattle.msi_memory.specs.Acts.{TakeResponse}
 use Rattle.msi_memory.specs.Memories.{Memory}
 use Rattle.msi_state.specs.States.{State}
 use Rattle.machine_invariant.proofs.Acting.{ports_after_acts}
 use Rattle.msi_machine.proofs.Delivered.{left_is, lt_of}
-use Rattle.msi_machine.proofs.Renewed.{response_others}
-use Rattle.msi_machine.proofs.Turns.{response_fits}
+use Rattle.msi_machine.proofs.Renewed.{response_all}
 use Rattle.msi_machine.proofs.parts.Parts.take_response.Goals as goal
 
 pub take_response-turn-requires-clause-names : goal.take_response-turn-requires-clause-names
@@ -45,7 +44,7 @@ returns-clause-marked g c =
     let holds = rw (← c.self.view_is) at c.requires.holds in
     let enabled = rw (← c.self.view_is) at c.requires.enabled in
     let all = rw (← c.self.view_is) at c.requires.marked in
-    response_others g.R.Rider.riding g.K.Carry.carrying s c.take_response-turn.new.self.memory c.args.marks.now
+    response_all g.R.Rider.riding g.K.Carry.carrying s c.take_response-turn.new.self.memory c.args.marks.now
     c.set.new.self c.mark_turn.new.marks c.args.c
     c.take_response-turn.result c.take_response-turn.ensures.memory holds enabled c.take_response-turn.ensures.turn all
     c.set.ensures.cores c.set.ensures.within c.set.ensures.others (c.set.ensures.this ∙ c.has_response.ensures)

@@ -1,0 +1,100 @@
+-- Where a move is marked some core isn't done: what is marked can be made, and at the end nothing can.
+use Rattle.std.proofs.Common.{◌≡◌, ◌∙◌, ◌⊎◌, inl, inr, refl, sym, subst, ap, ℕ, ◌*◌, ◌<◌, ◌≤◌, Bool, true, false, cond}
+use Rattle.std.proofs.Common.{List, [], ◌∷◌, length, nat_lt, arith}
+use Rattle.std.specs.Prelude.{not}
+use Rattle.std.specs.List.{filter}
+use Rattle.std.proofs.lemmas.Bool.{cases_eq}
+use Rattle.access_times.specs.Riding.{Riding, Carrying}
+use Rattle.rtr_types.specs.declared.TheConstants.{CORES_MAX}
+use Rattle.rv_core.specs.Steps.{need, is_done}
+use Rattle.msi_cache.specs.Lines.{waits}
+use Rattle.msi_memory.specs.Memories.{port_at}
+use Rattle.memory_laws.proofs.Spaces.{no_requests}
+use Rattle.msi_state.specs.declared.moves.Move.{Move}
+use Rattle.msi_state.specs.declared.moves.Move.TheVariants.{Core as CoreMove, Request as RequestMove}
+use Rattle.msi_state.specs.declared.moves.Move.TheVariants.{Response as ResponseMove, FromHome as MessageMove}
+use Rattle.msi_state.specs.Moves.{candidates, core_of}
+use Rattle.msi_state.specs.States.{State, all_done, core_at}
+use Rattle.msi_state.specs.Steps.{enabled, step}
+use Rattle.machine_invariant.specs.Holds.{MachineHolds}
+use Rattle.machine_invariant.proofs.Stepping.{step_cores}
+use Rattle.machine_progress.proofs.Ending.{moves_left}
+use Rattle.msi_machine.specs.declared.marks.Marks.{Marks}
+use Rattle.msi_machine.specs.Marks.{OthersMarked, is_marked, marked}
+use Rattle.msi_machine.proofs.Bits.{none_past}
+use Rattle.msi_machine.proofs.Delivered.{false_true, right_of}
+use Rattle.msi_machine.proofs.Elsewhere.{requests_within}
+use Rattle.msi_machine.proofs.Turns.{none_left}
+
+not_true : (a : Bool) → not a ≡ true → a ≡ false
+not_true true is = false_true is
+not_true false is = refl
+
+filter_fewer : {X : Type 0} (p q : X → Bool) (xs : List X) → ((x : X) → p x ≡ true → q x ≡ true) →
+    filter q xs ≡ [] → filter p xs ≡ []
+filter_fewer p q [] passes none = refl
+filter_fewer {X} p q (x ∷ xs) passes none = by (p x) (q x) refl refl (filter_fewer p q xs passes) none
+  where
+    by : (b d : Bool) → p x ≡ b → q x ≡ d → (filter q xs ≡ [] → filter p xs ≡ []) → cond d (x ∷ filter q xs) (filter q xs) ≡ [] →
+        cond b (x ∷ filter p xs) (filter p xs) ≡ []
+    by b true isp isq rest none = absurd (cc)
+    by true false isp isq rest none = false_true (sym isq ∙ passes x isp)
+    by false false isp isq rest none = rest none
+
+module _ {R K : Type 0} where
+  -- a core that may move by itself has no request that the home could take
+  pub asks_first : (riding : Riding R) (carrying : Carrying K) (s : State R K) (c : ℕ) →
+      MachineHolds riding carrying s → c < length s.memory.ports →
+      enabled riding carrying s (CoreMove c) ≡ true → enabled riding carrying s (RequestMove c) ≡ false
+  asks_first riding carrying s c holds within can_be =
+      let waiting : Bool = waits (port_at carrying s.memory.ports c).cache in
+      let still : waiting ≡ false =
+      not_true waiting (right_of (not (is_done (need s.image (core_at s.cores c)))) (not waiting)
+      (right_of (nat_lt c (length s.cores)) _ can_be)) in
+      none_left riding carrying s.memory c
+      (requests_within carrying s.memory.ports c within
+      ∙ no_requests riding carrying s.memory c holds.memory within still)
+
+  -- no request of a core is left open where no core asked
+  pub no_asker : (riding : Riding R) (carrying : Carrying K) (rider : R) (s t : State R K) (m : Move) (marks : Marks) →
+      MachineHolds riding carrying s → t ≡ step riding carrying rider s m → marks.cores ≡ length t.cores →
+      is_marked marks (RequestMove CORES_MAX) ≡ false
+  no_asker riding carrying rider s t m marks holds is cores =
+      none_past marks (RequestMove CORES_MAX)
+      (subst (λ (n : ℕ). n ≤ CORES_MAX)
+      (sym (cores ∙ ap (λ (x : State R K). length x.cores) is ∙ step_cores riding carrying rider s m
+      ∙ sym holds.ports_there))
+      holds.memory.cores)
+
+  marked_can : (riding : Riding R) (carrying : Carrying K) (s : State R K) (marks : Marks) (asker : ℕ) →
+      OthersMarked riding carrying s marks asker → is_marked marks (RequestMove asker) ≡ false → (m : Move) →
+      is_marked marks m ≡ true → enabled riding carrying s m ≡ true
+  marked_can riding carrying s marks asker others unmarked (CoreMove d) is =
+      sym (others.marked (CoreMove d) (λ (e : CoreMove d ≡ RequestMove asker). cc)) ∙ is
+  marked_can riding carrying s marks asker others unmarked (ResponseMove d) is =
+      sym (others.marked (ResponseMove d) (λ (e : ResponseMove d ≡ RequestMove asker). cc)) ∙ is
+  marked_can riding carrying s marks asker others unmarked (MessageMove d) is =
+      sym (others.marked (MessageMove d) (λ (e : MessageMove d ≡ RequestMove asker). cc)) ∙ is
+  marked_can riding carrying s marks asker others unmarked (RequestMove d) is = by (cases_eq d asker)
+    where
+      by : (d ≡ asker) ⊎ (d ≡ asker → ⊥) → enabled riding carrying s (RequestMove d) ≡ true
+      by (inl same) =
+          false_true (sym unmarked ∙ ap (λ (k : ℕ). is_marked marks (RequestMove k)) (sym same) ∙ is)
+      by (inr other) =
+          sym (others.marked (RequestMove d) (λ (e : RequestMove d ≡ RequestMove asker). other (ap core_of e))) ∙ is
+
+  pub marked_goes_on : (riding : Riding R) (carrying : Carrying K) (s : State R K) (marks : Marks) (asker : ℕ) →
+      MachineHolds riding carrying s → OthersMarked riding carrying s marks asker →
+      is_marked marks (RequestMove asker) ≡ false → 0 < length (marked marks) → all_done s ≡ false
+  marked_goes_on riding carrying s marks asker holds others unmarked some = by (all_done s) refl
+    where
+      by : (done : Bool) → all_done s ≡ done → done ≡ false
+      by false is = refl
+      by true is =
+          let none : marked marks ≡ [] =
+          (λ i. filter (is_marked marks) (candidates (others.cores i) (4 * others.cores i)))
+          ∙ filter_fewer (is_marked marks) (enabled riding carrying s)
+          (candidates (length s.cores) (4 * length s.cores))
+          (marked_can riding carrying s marks asker others unmarked) (moves_left riding carrying s holds is) in
+          let long : length (marked marks) ≡ 0 = ap length none in
+          absurd (omega arith)
