@@ -1,5 +1,6 @@
 -- What a packet is answered, and where the session stands behind it.
 use Rattle.std.specs.Prelude.{◌≡◌, List, [], ◌∷◌, Option, Some, None, ℕ}
+use Rattle.gdb_packets.specs.Asks.{ask_of}
 use Rattle.gdb_packets.specs.Replies.{spelled}
 use Rattle.gdb_packets.specs.declared.asks.Ask as asks
 use Rattle.gdb_packets.specs.declared.asks.Ask.TheVariants as whole_asks
@@ -7,9 +8,9 @@ use Rattle.gdb_packets.specs.declared.asks.Plain.{Plain}
 use Rattle.gdb_packets.specs.declared.asks.Plain.TheVariants as plain
 use Rattle.gdb_packets.specs.declared.replies.Reply.TheVariants as reply
 use Rattle.gdb_packets.specs.declared.replies.Stop as stops
-use Rattle.gdb_session.specs.declared.answer.Answer as answers
-use Rattle.gdb_session.specs.declared.answer.Next.{Next}
-use Rattle.gdb_session.specs.declared.answer.Next.TheVariants.{Listen, StopAcks, End}
+use Rattle.gdb_server.specs.declared.partner.Answer.{Answer}
+use Rattle.gdb_server.specs.declared.partner.Next.{Next}
+use Rattle.gdb_server.specs.declared.partner.Next.TheVariants.{Listen, StopAcks, End}
 use Rattle.gdb_session.specs.declared.orders.Order.{Order}
 use Rattle.gdb_session.specs.declared.points.Point.{Point}
 use Rattle.gdb_session.specs.Moves.{Obeys}
@@ -87,6 +88,11 @@ next_after (whole_asks.Resume actions) = Listen
 next_after (whole_asks.Command text) = Listen
 next_after (whole_asks.Plain packet) = next_after_plain packet
 
--- the answer to what a packet asks
-abbrev pub Answers : (old : Seat) → asks.Ask → (new : Seat) → answers.Answer → Type 0
-Answers old ask new answer = AnswersWith ask old new answer.payloads
+-- the answer to what a packet asks: its payloads, and what is to be done behind them
+pub record Answers (old : Seat) (ask : asks.Ask) (new : Seat) (answer : Answer) : Type 0 where
+  pub payloads : AnswersWith ask old new answer.payloads
+  pub next_is : answer.next ≡ next_after ask
+
+-- the answer to a packet, by what it asks
+abbrev pub AnswersPacket : (old : Seat) (packet : List ℕ) (new : Seat) → Answer → Type 0
+AnswersPacket old packet new answer = Answers old (ask_of packet) new answer

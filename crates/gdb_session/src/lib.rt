@@ -18,7 +18,6 @@ mod told;
 mod waits;
 mod wishes;
 
-pub use answer::{Answer, Next};
 pub use points::Point;
 pub use session::Session;
 pub use wishes::Wishes;

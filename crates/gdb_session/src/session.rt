@@ -1,10 +1,9 @@
 //! A session.
 ghost use Rattle.std.specs.Prelude.{◌≡◌, ◌∷◌, [], IfOk, IfSome, OnOk};
 ghost use Rattle.debug_place.specs.Places.{Stands, cut_at};
-ghost use Rattle.gdb_packets.specs.Asks.{ask_of};
 ghost use Rattle.gdb_packets.specs.Replies.{spelled};
 ghost use Rattle.gdb_packets.specs.declared.replies.Reply.TheVariants.{Done};
-ghost use Rattle.gdb_session.specs.Answers.{Answers, AnswersPlain, AnswersWith, MovesBy, next_after};
+ghost use Rattle.gdb_session.specs.Answers.{AnswersPacket, AnswersPlain, AnswersWith, MovesBy, next_after};
 ghost use Rattle.gdb_session.specs.Moves.{IsKept};
 ghost use Rattle.gdb_session.specs.Orders.{IsWithin};
 ghost use Rattle.gdb_session.specs.Points.{takes, with_point, without_point};
@@ -12,7 +11,7 @@ ghost use Rattle.gdb_session.specs.Seats.{Begins, Sees, Sits, interrupted, seat_
 ghost use Rattle.gdb_session.specs.Told.{still_reply, there_reply};
 ghost use Rattle.gdb_session.specs.Wishes.{Fit, wishes_after};
 
-use crate::answer::{Answer, Next, one, silent};
+use crate::answer::{one, silent};
 use crate::moves::obey;
 use crate::orders::{Order, go_back_order, resume_order, step_back_order};
 use crate::points::{Point, clear_point, point_of, set_point};
@@ -20,6 +19,7 @@ use crate::told::{still_reply, there_reply};
 use crate::wishes::{Wishes, told_wishes, wishes_after};
 use debug_place::Place;
 use gdb_packets::{Ask, Plain, Reply, ask_of};
+use gdb_server::{Answer, Next, Partner};
 use image_mem::Image;
 use replay_audit::Audited;
 use rtr_types::{Cut, Items};
@@ -90,21 +90,19 @@ impl<'a> Session<'a> {
     {
         self.place.cut()
     }
+}
 
-    /// An interrupt came. The next move is left out, unless the debugger asks for the threads before.
-    pub fn interrupt(&mut self)
-        ensures { self.new ≡ interrupted self.old }
-    {
-        self.wishes.interrupted = true;
-    }
+impl Partner for Session<'_> {
+    ghost answers = { λ old packet new answer. AnswersPacket old packet new answer };
+
+    ghost interrupts = { λ old new. new ≡ interrupted old };
 
     /// The answer to the packet with this payload. It is refused for want of memory alone; then it stands at a closed
     /// cut still.
-    pub fn answer(&mut self, alloc: Global, packet: &[u8]) -> Result<Answer, AllocError>
-        ensures answered { IfOk result (λ answer. Answers self.old (ask_of packet.now) self.new answer) }
+    fn answer(&mut self, alloc: Global, packet: &[u8]) -> Result<Answer, AllocError>
+        ensures answered { IfOk result (λ answer. AnswersPacket self.old packet.now self.new answer) }
         ensures recording { self.new.place.recording ≡ self.old.place.recording }
         ensures which { self.new.place.which ≡ self.old.place.which }
-        ensures next { IfOk result (λ answer. answer.next ≡ next_after (ask_of packet.now)) }
     {
         let ask = ask_of(alloc, packet)?;
         let payloads = answered(
@@ -120,6 +118,13 @@ impl<'a> Session<'a> {
             payloads,
             next: next_after(&ask),
         })
+    }
+
+    /// An interrupt came. The next move is left out, unless the debugger asks for the threads before.
+    fn interrupt(&mut self)
+        ensures { self.new ≡ interrupted self.old }
+    {
+        self.wishes.interrupted = true;
     }
 }
 

@@ -1,5 +1,6 @@
 //! What a packet is answered.
-use gdb_session::{Answer, Session};
+use gdb_server::{Answer, Partner};
+use gdb_session::Session;
 use std::alloc::{AllocError, Global};
 
 /// A packet, and its answer.

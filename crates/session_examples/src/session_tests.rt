@@ -2,7 +2,8 @@
 use crate::handed_over::handed_over;
 use crate::rows::{Row, plays};
 use crate::session_rows::{BREAKS, STEPS, STILL, WATCHES};
-use gdb_session::{Next, Session};
+use gdb_server::{Next, Partner};
+use gdb_session::Session;
 use std::alloc::{AllocError, Global};
 use std::test::Fail;
 
