@@ -46,7 +46,7 @@ refused_core moment input exit left left' got got' was h keeps =
 
 -- ---- what is said of what the words ask for
 
-keeps : (known : Option (List ℕ)) → Keeps known known
+pub keeps : (known : Option (List ℕ)) → Keeps known known
 keeps None = tt
 keeps (Some bytes) = refl
 

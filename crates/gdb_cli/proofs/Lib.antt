@@ -1,2 +1,4 @@
 pub mod CoreLemmas
 pub mod AnswerLemmas
+pub mod SessionLemmas
+pub mod WordLemmas

@@ -11,6 +11,9 @@ use Rattle.state_text.specs.declared.exit.Exit.{Exit}
 use Rattle.state_text.specs.declared.exit.Exit.TheVariants as exits
 use Rattle.gdb_cli.specs.declared.words.Moment.{Moment}
 use Rattle.gdb_cli.specs.Cores.{MakesCore, printed_by}
+use Rattle.gdb_cli.specs.Sessions.{Debugs, replayed_by}
+use Rattle.gdb_cli.specs.Words.{file_name, moment_in}
+use Rattle.rtr_types.specs.declared.pairs.Which.{Which}
 
 -- at Done the output got exactly the core file of the moment in the recording on the input, and at WriteFault a part of
 -- it; at both the recording is as promised. Every other exit says what it says of the command that prints the state
@@ -45,3 +48,37 @@ pub record IsAnswerOf (asked : Option Moment) (exit : Exit) (left left' got got'
   pub complete : (moment : Moment) (bytes : List ℕ) → asked ≡ Some moment
       → HasLeft (most_of (printed_by moment)) left bytes → Accepts (printed_by moment) bytes
       → IsFaultless read read' → IsFaultless written written' → EndsWell exit
+
+-- the exit of a session, by what became of the recording's source, of input and output, and of their counts of faults.
+-- A fault is told only where the count of its stream rose; and on a recording that `rtr replay` accepts there is a
+-- session to its end, unless memory runs out or a stream fails
+pub record IsSessionOf (which : Which) (exit : Exit) (file file' left left' got got' : Option (List ℕ))
+    (opened opened' read read' written written' : ℕ) : Type 0 where
+  pub debugs : Debugs which exit file file' left left' got got'
+  pub read_fault : exit ≡ exits.ReadFault → HasRisen opened opened' ⊎ HasRisen read read'
+  pub write_fault : exit ≡ exits.WriteFault → HasRisen written written'
+  pub complete : (bytes : List ℕ) → HasLeft (most_of (replayed_by which)) file bytes
+      → Accepts (replayed_by which) bytes → IsFaultless opened opened' → IsFaultless read read'
+      → IsFaultless written written' → EndsWell exit
+
+module _ {F : Type 0} where
+  -- the same of a file. One that can't be opened is a read fault, and then nothing was heard or said
+  abbrev pub IsSessionIn : (left_of : F → Option (List ℕ)) (faults_of : F → ℕ) → Which → Exit → (file : Option F)
+      → (left left' got got' : Option (List ℕ)) (read read' written written' : ℕ) → Type 0
+  IsSessionIn left_of faults_of which exit None left left' got got' read read' written written' =
+      (exit ≡ exits.ReadFault) × Keeps left left' × Keeps got got'
+  IsSessionIn left_of faults_of which exit (Some file) left left' got got' read read' written written' =
+      (file' : F) × IsSessionOf which exit (left_of file) (left_of file') left left' got got' (faults_of file)
+      (faults_of file') read read' written written'
+
+  -- the exit of words that ask for a session, if they do, or else for a core file. Opening the file that the words name
+  -- comes to this file, or to none; before that memory may run out, and then nothing was heard or said
+  abbrev pub IsAnswerIn : (opens : List ℕ → Option F → Type 0) (left_of : F → Option (List ℕ)) (faults_of : F → ℕ)
+      → (words : List (List ℕ)) → (log : Option Which) → Exit → (left left' got got' : Option (List ℕ))
+      (read read' written written' : ℕ) → Type 0
+  IsAnswerIn opens left_of faults_of words None exit left left' got got' read read' written written' =
+      IsAnswerOf (moment_in words) exit left left' got got' read read' written written'
+  IsAnswerIn opens left_of faults_of words (Some which) exit left left' got got' read read' written written' =
+      ((exit ≡ exits.OutOfMemory) × Keeps left left' × Keeps got got')
+      ⊎ ((file : Option F) × opens (file_name words) file
+      × IsSessionIn left_of faults_of which exit file left left' got got' read read' written written')

@@ -1,3 +1,4 @@
 pub mod Words
 pub mod Cores
+pub mod Sessions
 pub mod Answers

@@ -5,13 +5,14 @@ ghost use Rattle.replay_audit.specs.Audits.{IsAuditOf, IsInstrOf};
 ghost use Rattle.rtr_cli.specs.Commands.{AtEnds, AuditEnds, IsCutAt, IsReplayed, Promised, Refuses};
 ghost use Rattle.gdb_cli.specs.Cores.{IsCoreAt, MakesCore, printed_by};
 
+use crate::recordings::audited;
 use crate::words::Moment;
 use core_file::core_file;
 use cut_replay::{cut_with, cut_without, has_instr, state_of};
 use log_codec::{Recording, read};
+use replay_audit::Audited;
 use replay_audit::laws::replays_fit_their_plan;
-use replay_audit::{AuditFault, Audited, audit};
-use rtr_types::{Cut, Items, Which};
+use rtr_types::{Cut, Items};
 use state_text::Exit;
 use std::alloc::{AllocError, Global};
 
@@ -42,23 +43,6 @@ fn core_at(alloc: Global, recording: Recording, moment: Moment) -> Result<Items<
     let cut = cut_at(&audited, moment)?;
     let outcome = state_of(alloc, &audited, &cut)?;
     Ok(core_file(alloc, &outcome, at.core)?)
-}
-
-/// The audit of the recording by one of its logs, or how the program ends without it.
-fn audited(alloc: Global, recording: Recording, which: Which) -> Result<Audited, Exit>
-    requires { Valid recording }
-    ensures { MatchResult result (IsAuditOf which recording) (AuditEnds which recording) }
-{
-    match audit(alloc, recording, which) {
-        Ok(audited) => Ok(audited),
-        Err(AuditFault::Stuck { cut }) => Err(Exit::Stuck { cut }),
-        Err(AuditFault::Short { core, count }) => Err(Exit::Short { core, count }),
-        Err(AuditFault::Undetermined { first, second }) => Err(Exit::Undetermined {
-            first,
-            second,
-        }),
-        Err(AuditFault::OutOfMemory) => Err(Exit::OutOfMemory),
-    }
 }
 
 /// The closed cut of the moment.

@@ -2,12 +2,17 @@
 #![tactic(auto)]
 
 mod cores;
+mod debugger;
 mod laws;
 mod program;
+mod recordings;
+mod sessions;
 mod tool;
 mod words;
 
+pub use debugger::run_debugger;
 pub use laws::one_core_file;
 pub use program::{conclude, run_program};
+pub use sessions::debug;
 pub use tool::write_core;
-pub use words::{Moment, moment_in};
+pub use words::{Moment, file_name, moment_in, session_log};

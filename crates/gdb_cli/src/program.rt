@@ -2,23 +2,24 @@
 ghost use Rattle.std.specs.Prelude.{IfErr, IfOk, map, string_bytes};
 ghost use Rattle.std.specs.Io.KnownBytes.{Keeps};
 ghost use Rattle.std.specs.Process.{exit_status};
-ghost use Rattle.gdb_cli.specs.Answers.{EndsBy, IsAnswerOf};
-ghost use Rattle.gdb_cli.specs.Words.{moment_in};
+ghost use Rattle.std.specs.Fn.{FnOnceReturnsAt};
+ghost use Rattle.gdb_cli.specs.Answers.{EndsBy, IsAnswerIn};
+ghost use Rattle.gdb_cli.specs.Words.{session_log};
 ghost use Rattle.state_text.specs.declared.exit.Exit.{Exit};
 
-use crate::tool::write_core;
+use crate::debugger::run_debugger;
 use rtr_cli::tell;
 use rtr_io::{Sink, Source, StdSink, StdSource};
 use state_text::Exit;
 use std::alloc::Global;
 use std::io::{Stderr, Stdin, Stdout};
 use std::process::ExitCode;
-use std::rt::Env;
-use std::{env, io};
+use std::rt::{Env, Files};
+use std::{env, fs, io};
 
 /// Runs the program on the standard streams and the words of the command line, and answers the status that the process
 /// ends with. The three streams have types of their own, so that none can stand for another.
-pub fn run_program<R: AllocGlobal + Env>(
+pub fn run_program<R: AllocGlobal + Env + Files>(
     rt: &R,
     input: Stdin,
     output: Stdout,
@@ -27,6 +28,10 @@ pub fn run_program<R: AllocGlobal + Env>(
     conclude(
         rt.alloc(),
         words(rt),
+        |name: &str| match fs::open(rt, name) {
+            Ok(file) => Some(StdSource::new(file)),
+            Err(_) => None,
+        },
         &mut StdSource::new(input),
         &mut StdSink::new(output),
         &mut StdSink::new(report),
@@ -36,19 +41,21 @@ pub fn run_program<R: AllocGlobal + Env>(
 /// Does what the words ask for, and answers the status that the process ends with: that of the exit, whose text goes to
 /// the report alone. `words` leaves out the program's name; where they couldn't be had they are the exit for that, and
 /// neither input nor output is touched.
-pub fn conclude<I: Source, O: Sink, E: Sink>(
+pub fn conclude<F: Source + Drop, P: FnOnce(&str) -> Option<F>, I: Source, O: Sink, E: Sink>(
     alloc: Global,
     words: Result<Vec<String>, Exit>,
+    opener: P,
     input: &mut I,
     output: &mut O,
     report: &mut E,
 ) -> ExitCode
+    requires { P.IsAlwaysCallable opener }
     ensures answered { IfOk words (λ list. (exit : Exit)
         × EndsBy exit (exit_status result) (E.got report.old) (E.got report.new) (E.faults report.old)
         (E.faults report.new)
-        × IsAnswerOf (moment_in (map string_bytes list.items)) exit (I.left input.old) (I.left input.new)
-        (O.got output.old) (O.got output.new) (I.faults input.old) (I.faults input.new) (O.faults output.old)
-        (O.faults output.new)) }
+        × IsAnswerIn (FnOnceReturnsAt P.FnOnce opener) F.left F.faults (map string_bytes list.items)
+        (session_log (map string_bytes list.items)) exit (I.left input.old) (I.left input.new) (O.got output.old)
+        (O.got output.new) (I.faults input.old) (I.faults input.new) (O.faults output.old) (O.faults output.new)) }
 
     // The words couldn't be had.
     ensures wordless { IfErr words (λ exit. EndsBy exit (exit_status result) (E.got report.old) (E.got report.new)
@@ -57,7 +64,7 @@ pub fn conclude<I: Source, O: Sink, E: Sink>(
         × Keeps (O.got output.old) (O.got output.new)) }
 {
     let exit = match words {
-        Ok(words) => write_core(alloc, words.as_slice(), input, output, report),
+        Ok(words) => run_debugger(alloc, words.as_slice(), opener, input, output, report),
         Err(exit) => {
             tell(report, &exit);
             exit

@@ -11,14 +11,13 @@ ghost use Rattle.gdb_cli.specs.Words.{moment_in};
 ghost use Rattle.gdb_cli.specs.declared.words.Moment.{Moment};
 
 use crate::cores::core_of;
-use crate::words::{Moment, moment_in};
+use crate::recordings::FILE_BYTES_MAX;
+use crate::sessions::debug;
+use crate::words::{Moment, moment_in, session_log};
 use rtr_cli::tell;
 use rtr_io::{ReadEnd, Sink, Source, WriteFault, read_all, write_all};
 use state_text::Exit;
 use std::alloc::{AllocError, Global};
-
-/// The most bytes of a recording: 512 MiB.
-const FILE_BYTES_MAX: usize = 536_870_912;
 
 /// Does what the words ask for, and tells the report how it ended. `words` leaves out the program's name.
 ///

@@ -1,5 +1,6 @@
 //! A session that is played line by line.
 use crate::lines::Line;
+use gdb_server::Partner;
 use gdb_session::Session;
 use rtr_types::Items;
 use std::alloc::{AllocError, Global};

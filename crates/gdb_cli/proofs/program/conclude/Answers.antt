@@ -6,19 +6,14 @@ use Rattle.gdb_cli.proofs.program.conclude.Goals.{in-Ok, in-Err}
 pub returns-clause-answered : goal.returns-clause-answered
 returns-clause-answered g c = elim c.match-words.branch [
   | in-Ok w ↦
-      let e = w.write_core-exit.ensures in
+      let e = w.run_debugger-exit.ensures in
       rw w.in-Ok.is (rw w.input-is (rw w.output-is (rw w.report-is (
-        w.write_core-exit.result,
+        w.run_debugger-exit.result,
         record {
           status_is = c.from.ensures ∙ c.status.ensures ∙ ap status_of w.exit-is;
           tells = e.told;
         },
-        rw (sym w.as_slice.ensures.value) (record {
-          answers = e.answered;
-          read_fault = e.read_fault;
-          write_fault = e.write_fault;
-          complete = e.complete;
-        }),
+        rw (sym w.as_slice.ensures.value) e.answered,
       ))))
   | in-Err w ↦ rw w.in-Err.is tt
 ]

@@ -1,0 +1,63 @@
+//! From words to a core file or a session, and a report.
+ghost use Rattle.std.specs.Prelude.{map, string_bytes};
+ghost use Rattle.std.specs.Fn.{FnOnceReturnsAt};
+ghost use Rattle.rtr_cli.specs.Answers.{Tells};
+ghost use Rattle.state_text.specs.Exits.{fault_line};
+ghost use Rattle.gdb_cli.specs.Answers.{IsAnswerIn, IsSessionIn};
+ghost use Rattle.gdb_cli.specs.Words.{file_name, session_log};
+
+use crate::sessions::debug;
+use crate::tool::write_core;
+use crate::words::{file_name, session_log};
+use rtr_cli::tell;
+use rtr_io::{Sink, Source};
+use rtr_types::Which;
+use state_text::Exit;
+use std::alloc::{AllocError, Global};
+
+/// Does what the words ask for, and tells the report how it ended: a session on the recording of a file, as `debug` has
+/// it, or else a core file, as `write_core` has it. `words` leaves out the program's name, and `opener` opens a file by
+/// its name. One that can't be opened is a `ReadFault`, before anything was heard or said.
+pub fn run_debugger<F: Source + Drop, P: FnOnce(&str) -> Option<F>, I: Source, O: Sink, E: Sink>(
+    alloc: Global,
+    words: &[String],
+    opener: P,
+    input: &mut I,
+    output: &mut O,
+    report: &mut E,
+) -> Exit
+    requires { P.IsAlwaysCallable opener }
+    ensures answered { IsAnswerIn (FnOnceReturnsAt P.FnOnce opener) F.left F.faults (map string_bytes words.now)
+        (session_log (map string_bytes words.now)) result (I.left input.old) (I.left input.new) (O.got output.old)
+        (O.got output.new) (I.faults input.old) (I.faults input.new) (O.faults output.old) (O.faults output.new) }
+    ensures told { Tells (fault_line result) (E.got report.old) (E.got report.new) (E.faults report.old)
+        (E.faults report.new) }
+{
+    let exit = match session_log(alloc, words) {
+        Ok(Some(which)) => debug_file(alloc, which, file_name(words), opener, input, output),
+        Ok(None) => return write_core(alloc, words, input, output, report),
+        Err(AllocError) => Exit::OutOfMemory,
+    };
+    tell(report, &exit);
+    exit
+}
+
+/// Opens the file with this name, and holds a session on its recording.
+fn debug_file<F: Source + Drop, P: FnOnce(&str) -> Option<F>, I: Source, O: Sink>(
+    alloc: Global,
+    which: Which,
+    name: &str,
+    opener: P,
+    input: &mut I,
+    output: &mut O,
+) -> Exit
+    requires { P.IsAlwaysCallable opener }
+    ensures { (file : _) × FnOnceReturnsAt P.FnOnce opener name.now file
+        × IsSessionIn F.left F.faults which result file (I.left input.old) (I.left input.new) (O.got output.old)
+        (O.got output.new) (I.faults input.old) (I.faults input.new) (O.faults output.old) (O.faults output.new) }
+{
+    match opener(name) {
+        Some(mut file) => debug(alloc, which, &mut file, input, output),
+        None => Exit::ReadFault,
+    }
+}
