@@ -6,7 +6,8 @@ use rtr_types::{Cut, Items};
 use std::alloc::{AllocError, Global};
 
 /// The commands that there are.
-pub const USAGE: &[u8] = b"rtr_gdb: monitor cut | goto N .. | goto C:N | earliest C | latest C | lead C | lead all | \
+pub const USAGE: &[u8] =
+    b"rtr_gdb: monitor cut | goto N .. | goto C:N | earliest C | latest C | lead C | lead all | \
 edges C:N | writer ADDR | readers ADDR | history ADDR | conflicts C:N | order C:N C:N\n";
 
 /// The commands that there are, as a text.

@@ -21,11 +21,7 @@ pub(crate) fn words_of(alloc: Global, text: &[u8]) -> Result<Items<Items<u8>>, A
 }
 
 /// Puts a piece behind others, if it is a word.
-fn put_word(
-    alloc: Global,
-    words: &mut Items<Items<u8>>,
-    piece: &[u8],
-) -> Result<(), AllocError>
+fn put_word(alloc: Global, words: &mut Items<Items<u8>>, piece: &[u8]) -> Result<(), AllocError>
     ensures { OnOk result (words.new ≡ words.old ++ words_in (piece.now ∷ [])) }
 {
     if piece.is_empty() {
