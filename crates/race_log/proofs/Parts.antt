@@ -110,7 +110,7 @@ vectors-stand r v = places-stand (λ place vs. AreVectors (bound_at r.totals pla
     subst (λ (k : ℕ). AreVectors (bound_at r.totals k) (get_or r.regulated i [])) same
     (v.regulated i (subst (λ (n : ℕ). i < n) v.each_regulated lt)))
 
--- ---- what the writer needs
+-- ---- how many there are, and how large they are
 
 pub edges_listed : (r : Recording) → Valid r → (place : ℕ) → place < length r.reduced →
     IsListed (get_or r.reduced place [])
