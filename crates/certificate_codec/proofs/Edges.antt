@@ -8,9 +8,9 @@ use Rattle.rtr_types.specs.declared.instr.Edge.{Edge}
 use Rattle.rtr_types.specs.declared.pairs.Which.TheVariants.{Reduced}
 use Rattle.rtr_types.specs.Pairs.{pair_count, source_at, target_at}
 use Rattle.rtr_types.proofs.Ranges.{range_more}
-use Rattle.log_codec.specs.declared.recording.Recording.{Recording}
-use Rattle.log_codec.specs.Sources.{log_edges, edges_at, edge_between}
-use Rattle.log_codec.specs.Validity.{Valid}
+use Rattle.race_log.specs.declared.recording.Recording.{Recording}
+use Rattle.race_log.specs.Sources.{log_edges, edges_at, edge_between}
+use Rattle.race_log.specs.Validity.{Valid}
 use Rattle.certificate_codec.specs.Ends.{reduced_edges}
 
 -- the edges of one pair more

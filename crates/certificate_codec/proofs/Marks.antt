@@ -7,7 +7,7 @@ use Rattle.std.proofs.lemmas.List.{get_or_default, map-append}
 use Rattle.rtr_types.specs.declared.instr.Instr.{Instr}
 use Rattle.rtr_types.specs.declared.instr.Edge.{Edge}
 use Rattle.std.proofs.lemmas.Bool.Decides.{nat_tests}
-use Rattle.log_codec.specs.Sources.{edge_between}
+use Rattle.race_log.specs.Sources.{edge_between}
 use Rattle.clock_entries.specs.Ends.{instr, is_same, is_end}
 
 abbrev ends_here : Edge → Instr → Bool

@@ -4,7 +4,7 @@ use Rattle.std.proofs.Common.{Ok, Err, refl}
 use Rattle.std.proofs.Common.{sym, ap, subst, ◌∙◌, append_assoc, arith}
 use Rattle.std.specs.Prelude.{slice_index}
 use Rattle.std.proofs.lemmas.Bool.Decides.{nat_tests}
-use Rattle.log_codec.specs.declared.recording.Recording.{Recording}
+use Rattle.race_log.specs.declared.recording.Recording.{Recording}
 use Rattle.log_codec.specs.CoreCounts.{counts_text}
 use Rattle.log_codec.specs.Faults.{◌>>=◌}
 use Rattle.log_codec.specs.Laws.{IsBytes}
@@ -12,12 +12,13 @@ use Rattle.log_codec.specs.Reading.{number_at}
 use Rattle.log_codec.specs.Spelling.{number}
 use Rattle.rtr_types.specs.Turns.{StandInTurn, stay, count_up}
 use Rattle.log_codec.specs.Turns.{read_in_turn, spelled_in_turn, alike}
-use Rattle.log_codec.specs.Validity.{Valid}
+use Rattle.race_log.specs.Validity.{Valid}
 use Rattle.log_codec.proofs.Steps.{bind_ok, guard_ok, Takes, Takes-then}
 use Rattle.log_codec.proofs.CoreCountLaws.{counts_again, counts_take}
 use Rattle.log_codec.proofs.FieldLaws.{number_again, number_takes}
-use Rattle.log_codec.proofs.InTurn.{turns_take, turns_again, stand-places}
-use Rattle.log_codec.proofs.Counted.{totals_small}
+use Rattle.log_codec.proofs.InTurn.{turns_take, turns_again}
+use Rattle.race_log.proofs.InTurn.{stand-places}
+use Rattle.race_log.proofs.Counted.{totals_small}
 use Rattle.clock_entries.proofs.Numbers.{few}
 use Rattle.certificate_codec.specs.declared.certificate.TheConstants.{CLOCKS}
 use Rattle.certificate_codec.specs.Ends.{reduced_edges, end_count}

@@ -5,7 +5,7 @@ use Rattle.std.specs.Prelude.{IfOk}
 use Rattle.std.proofs.lemmas.Bool.{eqb-true}
 use Rattle.std.proofs.lemmas.List.{nil_from_length}
 use Rattle.log_codec.specs.declared.codec_fault.CodecFault.{CodecFault}
-use Rattle.log_codec.specs.declared.recording.Recording.{Recording}
+use Rattle.race_log.specs.declared.recording.Recording.{Recording}
 use Rattle.log_codec.specs.Faults.{◌>>=◌, Gives}
 use Rattle.log_codec.specs.Laws.{IsBytes}
 use Rattle.log_codec.specs.Reading.{front_at}

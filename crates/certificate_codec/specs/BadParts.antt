@@ -1,7 +1,7 @@
 -- The first part of a certificate that has no reading, in the grammar's own words: the parts below it are spelled by a
 -- front of the bytes, and no valid part follows there. The first five parts are a recording's, of either version.
 use Rattle.std.specs.Prelude.{◌≡◌, ◌≢◌, ℕ, ◌≤◌, ◌↔◌, List, [], ◌++◌, length, Err}
-use Rattle.log_codec.specs.declared.recording.Recording.{Recording}
+use Rattle.race_log.specs.declared.recording.Recording.{Recording}
 use Rattle.log_codec.specs.BadParts.{FrontNames, UpToRegulated, recording_up_to}
 use Rattle.log_codec.specs.Laws.{IsBytes}
 use Rattle.log_codec.specs.Reading.{front_at}

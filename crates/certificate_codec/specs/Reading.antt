@@ -1,6 +1,6 @@
 -- Reading a certificate from left to right. A number that doesn't fit is a fault of the part in which it stands.
 use Rattle.std.specs.Prelude.{ℕ, List, length, Result, Ok, Err, nat_eq, ◌==◌, if◌then◌else◌}
-use Rattle.log_codec.specs.declared.recording.Recording.{Recording}
+use Rattle.race_log.specs.declared.recording.Recording.{Recording}
 use Rattle.log_codec.specs.CoreCounts.{counts_at}
 use Rattle.log_codec.specs.Faults.{◌>>=◌}
 use Rattle.log_codec.specs.Reading.{number_at, front_at}

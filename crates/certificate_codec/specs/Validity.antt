@@ -1,9 +1,9 @@
 -- Which certificates have a spelling.
 use Rattle.std.specs.Prelude.{◌≡◌, ℕ, List, length}
-use Rattle.log_codec.specs.declared.recording.Recording.{Recording}
+use Rattle.race_log.specs.declared.recording.Recording.{Recording}
 use Rattle.rtr_types.specs.Turns.{StandInTurn, stay, count_up}
 use Rattle.log_codec.specs.CoreCounts.{AreCounts}
-use Rattle.log_codec.specs.Validity.{Valid}
+use Rattle.race_log.specs.Validity.{Valid}
 use Rattle.certificate_codec.specs.declared.certificate.Certificate.{Certificate}
 use Rattle.certificate_codec.specs.Ends.{end_count}
 

@@ -1,6 +1,6 @@
 //! The certificate, and the parts that its bytes have beyond a recording's first five.
 use crate::core_entries::CoreEntries;
-use log_codec::Recording;
+use race_log::Recording;
 use rtr_types::Items;
 
 /// The sixth part: for each core the number of its edge ends and then a clock for each.

@@ -1,13 +1,13 @@
 //! The instructions at which reduced edges begin or end.
 ghost use Rattle.std.specs.Prelude.{◌≡◌, ◌+◌, ◌<◌, ◌||◌, ℕ, IfOk, IfSome, IsTrue, false, length, map};
 ghost use Rattle.std.specs.Prelude.{slice_index, slice_index_or};
-ghost use Rattle.log_codec.specs.Sources.{edge_between};
-ghost use Rattle.log_codec.specs.Validity.{Valid};
+ghost use Rattle.race_log.specs.Sources.{edge_between};
+ghost use Rattle.race_log.specs.Validity.{Valid};
 ghost use Rattle.clock_entries.specs.Ends.{instr, is_same, is_end, ends_to};
 ghost use Rattle.certificate_codec.specs.Ends.{reduced_edges, ends_in, IsWithin, IsNumber};
 
 use crate::edge_lists::edges_of;
-use log_codec::Recording;
+use race_log::Recording;
 use rtr_types::{Edge, Instr, Items, pair_count, pair_of};
 use std::alloc::{AllocError, Global};
 use std::marker::Model;
@@ -24,7 +24,7 @@ pub struct EdgeEnds<'a> {
 }
 
 impl<'a> Model for EdgeEnds<'a> {
-    ghost use Rattle.log_codec.specs.declared.recording.Recording.{Recording};
+    ghost use Rattle.race_log.specs.declared.recording.Recording.{Recording};
     ghost use Rattle.certificate_codec.specs.Ends.{HasEnds};
 
     ghost Value = { Recording };

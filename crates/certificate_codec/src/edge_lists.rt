@@ -1,10 +1,10 @@
 //! The edges of the reduced log, as one list.
 ghost use Rattle.std.specs.Prelude.{◌≡◌, ◌++◌, IfOk, OnOk, map};
-ghost use Rattle.log_codec.specs.Sources.{edge_between};
-ghost use Rattle.log_codec.specs.Validity.{Valid};
+ghost use Rattle.race_log.specs.Sources.{edge_between};
+ghost use Rattle.race_log.specs.Validity.{Valid};
 ghost use Rattle.certificate_codec.specs.Ends.{reduced_edges};
 
-use log_codec::Recording;
+use race_log::Recording;
 use rtr_types::{Edge, Instr, Items, pair_count, pair_of};
 use std::alloc::{AllocError, Global};
 

@@ -3,7 +3,7 @@ ghost use Rattle.std.specs.Prelude.{◌≡◌, ◌<◌, IfOk, Ok};
 ghost use Rattle.log_codec.specs.Faults.{Gives};
 ghost use Rattle.rtr_types.specs.Turns.{stay};
 ghost use Rattle.log_codec.specs.Turns.{read_in_turn};
-ghost use Rattle.log_codec.specs.Validity.{Valid};
+ghost use Rattle.race_log.specs.Validity.{Valid};
 ghost use Rattle.certificate_codec.specs.Reading.{entry_at, entries_at, clocks_at, parts_at, certificate_at};
 ghost use Rattle.certificate_codec.specs.Spelling.{Spells};
 ghost use Rattle.certificate_codec.specs.Validity.{IsCertificate};
@@ -12,7 +12,8 @@ ghost use Rattle.certificate_codec.specs.declared.certificate.Certificate.{Certi
 use crate::certificate::{CLOCKS, Certificate, END};
 use crate::core_entries::CoreEntries;
 use crate::edge_ends::EdgeEnds;
-use log_codec::{CodecFault, Recording, counts_into, number, read_front};
+use log_codec::{CodecFault, counts_into, number, read_front};
+use race_log::Recording;
 use rtr_types::Items;
 use std::alloc::Global;
 

@@ -1,5 +1,5 @@
 //! What a check says of certificates that were damaged.
-ghost use Rattle.log_codec.specs.Validity.{Valid};
+ghost use Rattle.race_log.specs.Validity.{Valid};
 
 use crate::slow_judge::SlowJudge;
 use certificate_codec::EdgeEnds;

@@ -1,10 +1,11 @@
 //! Certificates that were worked out by hand.
-ghost use Rattle.log_codec.specs.Validity.{Valid};
+ghost use Rattle.race_log.specs.Validity.{Valid};
 ghost use Rattle.certificate_codec.specs.Validity.{IsCertificate};
 
 use crate::bytes::joined;
 use certificate_codec::{CLOCKS, Certificate, END, EdgeEnds, read_certificate, spell_certificate};
-use log_codec::{CodecFault, REGULATED, Recording, fits_old, spell, spell_v1};
+use log_codec::{CodecFault, REGULATED, fits_old, spell, spell_v1};
+use race_log::Recording;
 use rtr_types::{Edge, Instr};
 use std::alloc::{AllocError, Global};
 use std::test::Fail;

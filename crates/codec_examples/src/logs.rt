@@ -1,9 +1,10 @@
 //! What recordings hold: their edges, where each comes from, and copies of them.
 ghost use Rattle.std.specs.Prelude.{IfOk};
-ghost use Rattle.log_codec.specs.Validity.{Valid};
+ghost use Rattle.race_log.specs.Validity.{Valid};
 
 use crate::bytes::{TWO_CORES, joined};
-use log_codec::{Recording, read, read_front, spell};
+use log_codec::{read, read_front, spell};
+use race_log::Recording;
 use rtr_types::{Instr, Which};
 use std::alloc::{AllocError, Global};
 use std::test::Fail;

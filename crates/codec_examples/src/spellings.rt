@@ -1,8 +1,9 @@
 //! Recordings and the bytes that spell them in each version.
-ghost use Rattle.log_codec.specs.Validity.{Valid};
+ghost use Rattle.race_log.specs.Validity.{Valid};
 
 use crate::bytes::joined;
-use log_codec::{Recording, fits_old, read, spell, spell_v1};
+use log_codec::{fits_old, read, spell, spell_v1};
+use race_log::Recording;
 use rtr_types::CORES_MAX;
 use std::alloc::{AllocError, Global};
 use std::test::Fail;

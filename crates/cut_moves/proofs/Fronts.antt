@@ -13,9 +13,9 @@ use Rattle.rtr_types.specs.declared.cut.Cut.{Cut}
 use Rattle.rtr_types.specs.declared.instr.Instr.{Instr}
 use Rattle.rtr_types.specs.declared.pairs.Which.{Which}
 use Rattle.clock_core.proofs.Listed.{contains_among}
-use Rattle.log_codec.specs.declared.recording.Recording.{Recording}
-use Rattle.log_codec.specs.Sources.{log_edges}
-use Rattle.log_codec.specs.Validity.{Valid}
+use Rattle.race_log.specs.declared.recording.Recording.{Recording}
+use Rattle.race_log.specs.Sources.{log_edges}
+use Rattle.race_log.specs.Validity.{Valid}
 use Rattle.replay_core.specs.Answers.{cut_counts, cut_of}
 use Rattle.replay_core.specs.Laws.{PlaceOf}
 use Rattle.replay_core.specs.Orders.{counts, nought, IsReplayOrder}

@@ -8,8 +8,8 @@ use Rattle.rtr_types.specs.declared.TheConstants.{CORES_MAX}
 use Rattle.rtr_types.specs.declared.cut.Cut.{Cut}
 use Rattle.rtr_types.specs.declared.pairs.Which.{Which}
 use Rattle.rtr_types.proofs.Ranges.{zero_at}
-use Rattle.log_codec.specs.declared.recording.Recording.{Recording}
-use Rattle.log_codec.specs.Validity.{Valid}
+use Rattle.race_log.specs.declared.recording.Recording.{Recording}
+use Rattle.race_log.specs.Validity.{Valid}
 use Rattle.replay_core.specs.Play.{instr}
 use Rattle.cut_replay.specs.ClosedCuts.{count_in, IsClosed, IsContained, IsCutOf, IsGreatestWithout, IsLeastWith}
 use Rattle.cut_replay.proofs.Cuts.{has_within}

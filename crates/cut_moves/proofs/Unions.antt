@@ -9,8 +9,8 @@ use Rattle.rtr_types.specs.declared.TheConstants.{CORES_MAX}
 use Rattle.rtr_types.specs.declared.cut.Cut.{Cut}
 use Rattle.rtr_types.specs.declared.instr.Instr.{Instr}
 use Rattle.rtr_types.specs.declared.pairs.Which.{Which}
-use Rattle.log_codec.specs.declared.recording.Recording.{Recording}
-use Rattle.log_codec.specs.Sources.{HasEdge}
+use Rattle.race_log.specs.declared.recording.Recording.{Recording}
+use Rattle.race_log.specs.Sources.{HasEdge}
 use Rattle.cut_replay.specs.ClosedCuts.{count_in, Holds, IsClosed, IsCutOf}
 use Rattle.cut_moves.specs.Unions.{union_of, intersection_of, UnionClosedLaw, UnionLeastLaw, IntersectionClosedLaw}
 use Rattle.cut_moves.specs.Unions.{IntersectionGreatestLaw}

@@ -13,9 +13,9 @@ use Rattle.clock_core.specs.Order.{Before, IsOrLeads, Among}
 use Rattle.clock_core.specs.Reach.{IsClock}
 use Rattle.clock_core.proofs.Listed.{among_contains, contains_among}
 use Rattle.clock_core.proofs.Paths.{joined, one}
-use Rattle.log_codec.specs.declared.recording.Recording.{Recording}
-use Rattle.log_codec.specs.Sources.{HasEdge, EdgeWithin, log_edges}
-use Rattle.log_codec.specs.Validity.{Valid}
+use Rattle.race_log.specs.declared.recording.Recording.{Recording}
+use Rattle.race_log.specs.Sources.{HasEdge, EdgeWithin, log_edges}
+use Rattle.race_log.specs.Validity.{Valid}
 use Rattle.replay_core.specs.Play.{instr}
 use Rattle.replay_audit.specs.Audits.{IsInstrOf}
 use Rattle.replay_audit.proofs.Logs.{Closed, edge_within, leads_back}

@@ -12,8 +12,8 @@ use Rattle.rtr_types.specs.declared.access.Access.{Access}
 use Rattle.rtr_types.specs.declared.pairs.Which.{Which}
 use Rattle.conflict_edge.specs.Conflicts.{ConflictPair}
 use Rattle.rv_core.specs.declared.outcome.Outcome.{Outcome}
-use Rattle.log_codec.specs.declared.recording.Recording.{Recording}
-use Rattle.log_codec.specs.Validity.{Valid}
+use Rattle.race_log.specs.declared.recording.Recording.{Recording}
+use Rattle.race_log.specs.Validity.{Valid}
 use Rattle.replay_core.specs.Plans.{Plan, plan_of}
 use Rattle.replay_core.specs.Play.{instr, start, play, played, accesses_of, accesses_from, Plays}
 use Rattle.replay_core.specs.Orders.{bump, counts, nought, Ready, Ordered, Full, IsReplayOrder, IsWhole}

@@ -2,7 +2,7 @@
 use Rattle.std.proofs.Common.{◌≡◌, ℕ, List, sym, ap, ◌∙◌, arith}
 use Rattle.std.proofs.lemmas.List.{ext_get_or}
 use Rattle.rtr_types.specs.declared.cut.Cut.{Cut}
-use Rattle.log_codec.specs.declared.recording.Recording.{Recording}
+use Rattle.race_log.specs.declared.recording.Recording.{Recording}
 use Rattle.cut_replay.specs.CutStates.{OneStateLaw}
 use Rattle.cut_replay.specs.ClosedCuts.{IsContained, IsCutOf, OneLeastCutLaw, OneGreatestCutLaw}
 

@@ -1,11 +1,11 @@
 //! The two closed cuts of an instruction, by the clocks of an audit.
 ghost use Rattle.std.specs.Prelude.{◌<◌, ◌↔◌, IsOkAnd, IsTrue};
-ghost use Rattle.log_codec.specs.Validity.{Valid};
+ghost use Rattle.race_log.specs.Validity.{Valid};
 ghost use Rattle.replay_audit.specs.Audits.{IsInstrOf};
 ghost use Rattle.cut_replay.specs.ClosedCuts.{IsGreatestWithout, IsLeastWith};
 ghost use Rattle.cut_replay.specs.Frees.{AreFree};
 
-use log_codec::Recording;
+use race_log::Recording;
 use replay_audit::Audited;
 use rtr_types::{CORES_MAX, Cut, Instr};
 use std::alloc::AllocError;

@@ -1,9 +1,10 @@
 //! Three cores that hand a word on, and cuts of their run.
 ghost use Rattle.std.specs.Prelude.{◌≡◌, IfOk, IfSome};
-ghost use Rattle.log_codec.specs.Validity.{Valid};
+ghost use Rattle.race_log.specs.Validity.{Valid};
 ghost use Rattle.cut_replay.specs.ClosedCuts.{IsCutOf};
 
-use log_codec::{Recording, read};
+use log_codec::read;
+use race_log::Recording;
 use replay_audit::{Audited, audit};
 use rtr_types::{CORES_MAX, Cut, Which};
 use std::alloc::Global;

@@ -5,8 +5,8 @@ use Rattle.core_file.specs.CoreFiles.{core_bytes_of}
 use Rattle.cut_replay.specs.ClosedCuts.{OneGreatestCutLaw, OneLeastCutLaw}
 use Rattle.cut_replay.specs.CutStates.{IsStateAt, OneStateLaw}
 use Rattle.log_codec.specs.Reading.{whole_at}
-use Rattle.log_codec.specs.Validity.{Valid}
-use Rattle.log_codec.specs.declared.recording.Recording.{Recording}
+use Rattle.race_log.specs.Validity.{Valid}
+use Rattle.race_log.specs.declared.recording.Recording.{Recording}
 use Rattle.replay_audit.specs.Audits.{Findings, IsAuditOf, IsInstrOf}
 use Rattle.replay_audit.specs.Laws.{OutcomeFits, ReplayFitsLaw}
 use Rattle.replay_core.specs.Plans.{plan_of}

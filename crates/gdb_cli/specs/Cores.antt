@@ -3,7 +3,7 @@ use Rattle.std.specs.Prelude.{◌≡◌, ℕ, false, List}
 use Rattle.core_file.specs.CoreFiles.{core_bytes_of}
 use Rattle.cut_replay.specs.CutStates.{IsStateAt}
 use Rattle.log_codec.specs.Reading.{whole_at}
-use Rattle.log_codec.specs.declared.recording.Recording.{Recording}
+use Rattle.race_log.specs.declared.recording.Recording.{Recording}
 use Rattle.replay_audit.specs.Audits.{IsInstrOf}
 use Rattle.rtr_cli.specs.Commands.{IsCutAt, SpellsSome}
 use Rattle.rtr_types.specs.declared.cut.Cut.{Cut}

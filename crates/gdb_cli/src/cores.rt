@@ -1,6 +1,6 @@
 //! The core file of a moment.
 ghost use Rattle.std.specs.Prelude.{IfErr, IfOk, MatchResult, OnOk};
-ghost use Rattle.log_codec.specs.Validity.{Valid};
+ghost use Rattle.race_log.specs.Validity.{Valid};
 ghost use Rattle.replay_audit.specs.Audits.{IsAuditOf, IsInstrOf};
 ghost use Rattle.rtr_cli.specs.Commands.{AtEnds, AuditEnds, IsCutAt, IsReplayed, Promised, Refuses};
 ghost use Rattle.gdb_cli.specs.Cores.{IsCoreAt, MakesCore, printed_by};
@@ -9,7 +9,8 @@ use crate::recordings::audited;
 use crate::words::Moment;
 use core_file::core_file;
 use cut_replay::{cut_with, cut_without, has_instr, state_of};
-use log_codec::{Recording, read};
+use log_codec::read;
+use race_log::Recording;
 use replay_audit::Audited;
 use replay_audit::laws::replays_fit_their_plan;
 use rtr_types::{Cut, Items};

@@ -1,14 +1,15 @@
 //! A recording, read to its end and audited.
 ghost use Rattle.std.specs.Prelude.{ℕ, IfErr, IfOk, IsErrOf, List, MatchResult, OnOk};
 ghost use Rattle.log_codec.specs.Reading.{whole_at};
-ghost use Rattle.log_codec.specs.Validity.{Valid};
+ghost use Rattle.race_log.specs.Validity.{Valid};
 ghost use Rattle.replay_audit.specs.Audits.{IsAuditOf};
 ghost use Rattle.rtr_cli.specs.Commands.{AuditEnds, Promised, Refuses, SpellsSome, most_of};
 ghost use Rattle.rtr_cli.specs.Completeness.{Accepts, EndsWell, HasLeft, IsFaultless};
 ghost use Rattle.rtr_io.specs.Faults.{HasRisen, IsUnlessFault};
 ghost use Rattle.gdb_cli.specs.Sessions.{Declines, IsAudited, replayed_by};
 
-use log_codec::{Recording, read};
+use log_codec::read;
+use race_log::Recording;
 use replay_audit::{AuditFault, Audited, audit};
 use rtr_io::{ReadEnd, Source, read_all};
 use rtr_types::Which;

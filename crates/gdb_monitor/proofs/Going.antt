@@ -10,8 +10,8 @@ use Rattle.rtr_types.specs.declared.TheConstants.{CORES_MAX}
 use Rattle.rtr_types.specs.declared.cut.Cut.{Cut}
 use Rattle.rtr_types.specs.declared.instr.Instr.{Instr}
 use Rattle.rtr_types.specs.declared.pairs.Which.{Which}
-use Rattle.log_codec.specs.declared.recording.Recording.{Recording}
-use Rattle.log_codec.specs.Validity.{Valid}
+use Rattle.race_log.specs.declared.recording.Recording.{Recording}
+use Rattle.race_log.specs.Validity.{Valid}
 use Rattle.replay_audit.specs.Audits.{Findings, IsInstrOf}
 use Rattle.cut_replay.specs.ClosedCuts.{IsClosed, IsCutOf, IsGreatestWithout, IsLeastWith, count_in}
 use Rattle.cut_replay.proofs.Unique.{one_cut}

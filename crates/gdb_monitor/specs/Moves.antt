@@ -4,7 +4,7 @@ use Rattle.std.specs.List.{range_with_len}
 use Rattle.rtr_types.specs.declared.TheConstants.{CORES_MAX}
 use Rattle.rtr_types.specs.declared.cut.Cut.{Cut}
 use Rattle.rtr_types.specs.declared.instr.Instr.{Instr}
-use Rattle.log_codec.specs.declared.recording.Recording.{Recording}
+use Rattle.race_log.specs.declared.recording.Recording.{Recording}
 use Rattle.replay_audit.specs.Audits.{Findings, IsInstrOf}
 use Rattle.cut_replay.specs.ClosedCuts.{IsClosed, IsGreatestWithout, IsLeastWith, count_in}
 use Rattle.cut_moves.specs.Steps.{IsHull, last_in, next_in}

@@ -1,6 +1,6 @@
 //! Moves that a command asks for.
 ghost use Rattle.std.specs.Prelude.{◌≡◌, ◌↔◌, IfOk, IsTrue, OnErr};
-ghost use Rattle.log_codec.specs.Validity.{Valid};
+ghost use Rattle.race_log.specs.Validity.{Valid};
 ghost use Rattle.cut_replay.specs.ClosedCuts.{IsClosed, IsCutOf};
 ghost use Rattle.debug_place.specs.Places.{cut_at};
 ghost use Rattle.gdb_monitor.specs.Moves.{AreCounts, Comes, GoesEarliest, GoesIfClosed, GoesLatest, GoesTo, GoesToCut};
@@ -10,7 +10,7 @@ use crate::texts::{cut_text, open_text, usage};
 use cut_moves::{earliest, hull, latest};
 use cut_replay::{cut_with, has_instr};
 use debug_place::Place;
-use log_codec::Recording;
+use race_log::Recording;
 use replay_audit::Audited;
 use rtr_types::{CORES_MAX, Cut, Instr, Items};
 use std::alloc::{AllocError, Global};

@@ -20,8 +20,8 @@ use Rattle.replay_core.specs.Tallies.{count_of}
 use Rattle.replay_core.proofs.Counts.{bump_else, bump_same, counts_on}
 use Rattle.replay_core.proofs.Lists.{ordered_on}
 use Rattle.replay_audit.specs.Audits.{Findings, IsInstrOf}
-use Rattle.log_codec.specs.declared.recording.Recording.{Recording}
-use Rattle.log_codec.specs.Validity.{Valid}
+use Rattle.race_log.specs.declared.recording.Recording.{Recording}
+use Rattle.race_log.specs.Validity.{Valid}
 use Rattle.cut_replay.specs.ClosedCuts.{count_in, IsContained}
 use Rattle.cut_moves.specs.Steps.{IsStep, next_in}
 use Rattle.cut_moves.specs.Rounds.{rounds_of}

@@ -3,7 +3,7 @@ use Rattle.std.proofs.Common.{◌≡◌, ℕ, ◌+◌, [], ap, add-one, refl}
 use Rattle.rtr_types.specs.declared.cut.Cut.{Cut}
 use Rattle.rtr_types.specs.declared.instr.Instr.{Instr}
 use Rattle.rtr_types.specs.declared.pairs.Which.{Which}
-use Rattle.log_codec.specs.declared.recording.Recording.{Recording}
+use Rattle.race_log.specs.declared.recording.Recording.{Recording}
 use Rattle.gdb_session.specs.Waits.{wait_of, waits_below, with_wait}
 
 pub waits_none : (which : Which) (r : Recording) (cut : Cut) (at : Instr) → [] ≡ waits_below which r cut at 0

@@ -1,7 +1,7 @@
 //! Moves of a place, and the stops that end them.
 ghost use Rattle.std.specs.Prelude.{◌≡◌, ◌<◌, IfOk};
 ghost use Rattle.rtr_types.specs.declared.TheConstants.{CORES_MAX};
-ghost use Rattle.log_codec.specs.Validity.{Valid};
+ghost use Rattle.race_log.specs.Validity.{Valid};
 ghost use Rattle.replay_audit.specs.Audits.{IsInstrOf};
 ghost use Rattle.cut_replay.specs.ClosedCuts.{IsClosed, IsContained};
 ghost use Rattle.cut_moves.specs.Steps.{IsWholeCut, next_in};

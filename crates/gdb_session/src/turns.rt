@@ -1,6 +1,6 @@
 //! Moves of only some cores, turn by turn.
 ghost use Rattle.std.specs.Prelude.{◌≡◌, ◌<◌, IfOk, IfSome, MatchOption, nat_le};
-ghost use Rattle.log_codec.specs.Validity.{Valid};
+ghost use Rattle.race_log.specs.Validity.{Valid};
 ghost use Rattle.replay_audit.specs.Audits.{IsInstrOf};
 ghost use Rattle.cut_replay.specs.ClosedCuts.{count_in};
 ghost use Rattle.cut_moves.specs.Steps.{last_in, next_in};

@@ -1,11 +1,11 @@
 //! What a core waits for.
 ghost use Rattle.std.specs.Prelude.{◌≡◌, IfOk, OnOk, nat_le};
 ghost use Rattle.cut_replay.specs.ClosedCuts.{count_in};
-ghost use Rattle.log_codec.specs.Sources.{log_edges};
-ghost use Rattle.log_codec.specs.Validity.{Valid};
+ghost use Rattle.race_log.specs.Sources.{log_edges};
+ghost use Rattle.race_log.specs.Validity.{Valid};
 ghost use Rattle.gdb_session.specs.Waits.{source_in, wait_of, waits_below, with_wait};
 
-use log_codec::Recording;
+use race_log::Recording;
 use rtr_types::{Cut, Instr, Items, Which};
 use std::alloc::{AllocError, Global};
 

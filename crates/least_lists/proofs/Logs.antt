@@ -10,8 +10,8 @@ use Rattle.clock_core.proofs.Listed.{contains_among, among_contains}
 use Rattle.clock_core.specs.Order.{Among}
 use Rattle.conflict_edge.proofs.TwoForms.{covering_law}
 use Rattle.conflict_edge.specs.Least.{Covering}
-use Rattle.log_codec.proofs.SourceLaws.{edges-are-paired}
-use Rattle.log_codec.specs.Sources.{log_edges}
+use Rattle.race_log.proofs.SourceLaws.{edges-are-paired}
+use Rattle.race_log.specs.Sources.{log_edges}
 use Rattle.least_lists.proofs.LeastLists.{least_lists_law}
 use Rattle.least_lists.specs.LeastLists.{LeastLogLaw}
 

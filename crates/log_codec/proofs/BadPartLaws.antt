@@ -7,7 +7,7 @@ use Rattle.std.proofs.lemmas.List.{nil_from_length}
 use Rattle.rtr_types.specs.declared.params.Params.{Params}
 use Rattle.stride_vector.specs.declared.StrideVector.{StrideVector}
 use Rattle.log_codec.specs.declared.codec_fault.TheConstants.{HEADER, IMAGE, TOTALS, REDUCED, REGULATED, END}
-use Rattle.log_codec.specs.declared.recording.Recording.{Recording}
+use Rattle.race_log.specs.declared.recording.Recording.{Recording}
 use Rattle.log_codec.specs.declared.version.Version.{Version}
 use Rattle.log_codec.specs.BadParts.{BadPart, FrontNames, IsHeader, IsImage, IsReduced, IsRegulated, IsTotals, NoHeader}
 use Rattle.log_codec.specs.BadParts.{NoImage}
@@ -18,15 +18,16 @@ use Rattle.log_codec.specs.Faults.{◌>>=◌}
 use Rattle.log_codec.specs.Laws.{IsBytes}
 use Rattle.log_codec.specs.Reading.{front_at, header_at, image_at, reduced_at, regulated_at, totals_at, whole_at}
 use Rattle.log_codec.specs.Spelling.{header_text, reduced_text, totals_text}
-use Rattle.log_codec.specs.Validity.{AreVectors, bound_at}
+use Rattle.race_log.specs.Validity.{AreVectors, bound_at}
 use Rattle.log_codec.specs.Versions.{FitsIn}
 use Rattle.log_codec.proofs.FieldLaws.{header_again, header_takes, image_again, image_takes}
-use Rattle.log_codec.proofs.InTurn.{places-stand, stand-places}
+use Rattle.race_log.proofs.InTurn.{places-stand, stand-places}
 use Rattle.log_codec.proofs.Named.{Names, bind-err, guard-names, header-names, image-names, reduced-names}
 use Rattle.log_codec.proofs.Named.{regulated-names, totals-name}
 use Rattle.log_codec.proofs.ReducedLaws.{reduced_again, reduced_takes}
 use Rattle.log_codec.proofs.Steps.{bind_ok, ok_is}
-use Rattle.log_codec.proofs.Whole.{after_header, after_image, after_reduced, after_totals, made_of, regulated_again}
+use Rattle.log_codec.proofs.Whole.{after_header, after_image, after_reduced, after_totals, regulated_again}
+use Rattle.race_log.proofs.Parts.{made_of}
 use Rattle.log_codec.proofs.Whole.{regulated_takes, totals_again, totals_take}
 use Rattle.log_codec.proofs.Whole.{within-new}
 

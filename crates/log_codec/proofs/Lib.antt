@@ -13,10 +13,3 @@ pub mod Whole
 pub mod Named
 pub mod BadPartLaws
 pub mod CoreCountLaws
-pub mod Tested
-pub mod Counted
-pub mod Looked
-pub mod Rises
-pub mod SourceLaws
-pub mod EdgeCounts
-pub mod Near

@@ -23,7 +23,7 @@ use Rattle.log_codec.specs.Reading.{vectors_at}
 use Rattle.log_codec.specs.Reading.{regulated_at}
 use Rattle.rtr_types.specs.Turns.{stay, follow, count_up}
 use Rattle.log_codec.specs.Turns.{read_in_turn}
-use Rattle.log_codec.specs.Validity.{bound_at, end_of, vector_stands}
+use Rattle.race_log.specs.Validity.{bound_at, end_of, vector_stands}
 use Rattle.log_codec.specs.Versions.{magic, fits_in}
 
 -- whatever a reading names is this part

@@ -6,7 +6,7 @@ use Rattle.std.specs.Prelude.{All, slice_index}
 use Rattle.std.specs.List.{AllByRecursion, range_with_len}
 use Rattle.std.proofs.lemmas.Bool.{cases_eq, cases_lt, and_parts}
 use Rattle.std.proofs.lemmas.Bool.Decides.{nat_tests}
-use Rattle.std.proofs.lemmas.List.{get_or_default, get_or_past}
+use Rattle.std.proofs.lemmas.List.{get_or_default}
 use Rattle.std.proofs.lemmas.List.FromFn.{length-map-range_with_len, get_or-map-range_with_len, fill_by_all}
 use Rattle.rtr_types.specs.Pairs.{IsPair, pair_count, pair_place, source_at, target_at}
 use Rattle.rtr_types.proofs.PairPlaces.{pairs-placed, places-paired}
@@ -22,69 +22,25 @@ use Rattle.log_codec.specs.Laws.{IsBytes}
 use Rattle.rtr_types.specs.Turns.{StandInTurn, follow, count_up}
 use Rattle.log_codec.specs.Turns.{alike, read_in_turn, spelled_in_turn}
 use Rattle.rtr_types.specs.PairEdges.{AreEdges, EdgeRises, EdgeStands}
-use Rattle.log_codec.specs.Validity.{bound_at}
+use Rattle.race_log.specs.Validity.{bound_at}
 use Rattle.log_codec.specs.Spelling.{number, edges_text, incoming_text, into_text, pairs_text, targets_text}
 use Rattle.log_codec.specs.Spelling.{reduced_text}
 use Rattle.log_codec.specs.Reading.{number_at, edges_at, incoming_at, into_at, pairs_at, reduced_at, standing_into}
 use Rattle.log_codec.specs.Reading.{targets_at}
 use Rattle.log_codec.proofs.FieldLaws.{number_takes, number_again}
-use Rattle.log_codec.proofs.InTurn.{turns_take, turns_again, stand-map, stand-places, places-stand}
-use Rattle.log_codec.proofs.Logs.{edges_take, edges_again, few_edges}
+use Rattle.log_codec.proofs.InTurn.{turns_take, turns_again}
+use Rattle.race_log.proofs.InTurn.{stand-map, stand-places, places-stand}
+use Rattle.log_codec.proofs.Logs.{edges_take, edges_again}
+use Rattle.race_log.proofs.Logs.{few_edges}
 use Rattle.log_codec.proofs.Merges.{Merges, Rises, all-map, merge-is, merged-merges, length-merged}
 use Rattle.log_codec.proofs.Ordered.{InOrder, ReachesAll, last_counts, rises-turn, turn-order, each, from-all, all-from}
 use Rattle.log_codec.proofs.Ordered.{from-none, bounded, rises-of}
 use Rattle.log_codec.proofs.Ordered.{length-joined}
 use Rattle.log_codec.proofs.Steps.{bind_ok, guard_ok, ok_is, Takes, Takes-then}
-
--- ---- bounds
-
--- a total that is looked up is at most the limit
-pub total-small : (limit : ℕ) (totals : List ℕ) (j : ℕ) → All (λ t. t ≤ limit) totals → get_or totals j 0 ≤ limit
-total-small limit totals j h = elim (cases_lt j (length totals)) [
-  | inl lt ↦ h j 0 lt
-  | inr le ↦ rw (get_or_past totals j 0 le) (omega arith)
-]
-
--- the bounds of a pair are numbers that can be spelled
-pub record BoundSmall (most : ℕ × ℕ) : Type 0 where
-  pub source : most.0 < 2 ^ 32
-  pub target : most.1 < 2 ^ 32
-
-pub bound-small : (limit : ℕ) (totals : List ℕ) (place : ℕ) → limit < 2 ^ 32 → All (λ t. t ≤ limit) totals →
-    BoundSmall (bound_at totals place)
-bound-small limit totals place small h =
-    let a = total-small limit totals (source_at (length totals) place) h in
-    let b = total-small limit totals (target_at (length totals) place) h in
-    record { source = omega arith; target = omega arith }
+use Rattle.race_log.proofs.Parts.{AllEdges, AllStand, all-placed, bound-small, placed-all}
+use Rattle.race_log.proofs.Parts.{total-small}
 
 -- ---- pair by pair
-
--- the edges of each pair stand in turn
-abbrev pub AllStand : List ℕ → List (List (ℕ × ℕ)) → Type 0
-AllStand totals reduced = StandInTurn (λ place es. AreEdges (bound_at totals place) es) count_up 0 reduced
-
--- the edges of each pair, by place
-abbrev pub AllEdges : List ℕ → List (List (ℕ × ℕ)) → Type 0
-AllEdges totals reduced = (place : ℕ) → place < pair_count (length totals) →
-    AreEdges (bound_at totals place) (get_or reduced place [])
-
-pub all-placed : (totals : List ℕ) (reduced : List (List (ℕ × ℕ))) → length reduced ≡ pair_count (length totals) →
-    AllStand totals reduced →
-    AllEdges totals reduced
-all-placed totals reduced long h place below =
-    let same : 0 + place ≡ place = omega arith in
-    subst (λ (k : ℕ). AreEdges (bound_at totals k) (get_or reduced place [])) same
-    (stand-places (λ place es. AreEdges (bound_at totals place) es) 0 reduced h place []
-    (subst (λ (n : ℕ). place < n) (sym long) below))
-
-pub placed-all : (totals : List ℕ) (reduced : List (List (ℕ × ℕ))) → length reduced ≡ pair_count (length totals) →
-    AllEdges totals reduced →
-    AllStand totals reduced
-placed-all totals reduced long are =
-    places-stand (λ place es. AreEdges (bound_at totals place) es) 0 reduced [] (λ i lt.
-    let same : i ≡ 0 + i = omega arith in
-    subst (λ (k : ℕ). AreEdges (bound_at totals k) (get_or reduced i [])) same
-    (are i (subst (λ (n : ℕ). i < n) long lt)))
 
 pairs_take : (totals bytes : List ℕ) (reduced : List (List (ℕ × ℕ))) (rest : List ℕ) → IsBytes bytes →
     pairs_at totals bytes ≡ Ok (reduced, rest) →

@@ -1,24 +1,24 @@
 -- A recording that is read is the one that is spelled, and what is spelled is read again.
 use Rattle.std.proofs.Common.{◌≡◌, ℕ, ◌+◌, ◌-◌, ◌*◌, ◌^◌, ◌<◌, ◌≤◌, cond, eqb, List, [], ◌++◌, length, take, drop}
-use Rattle.std.proofs.Common.{get_or, Result, Ok, Err, refl, sym}
+use Rattle.std.proofs.Common.{Result, Ok, Err, refl, sym}
 use Rattle.std.proofs.Common.{ap, subst, ◌∙◌, append_assoc, arith}
 use Rattle.std.specs.Prelude.{All, IfOk}
 use Rattle.std.proofs.lemmas.Bool.{eqb-true}
 use Rattle.std.proofs.lemmas.List.{append-nil, nil_from_length, take_at, drop_at, length-append}
 use Rattle.rtr_types.specs.declared.params.Params.{Params}
-use Rattle.rtr_types.specs.Pairs.{pair_count, source_at}
+use Rattle.rtr_types.specs.Pairs.{pair_count}
 use Rattle.stride_vector.specs.declared.StrideVector.{StrideVector}
 use Rattle.log_codec.specs.declared.codec_fault.TheConstants.{END}
-use Rattle.log_codec.specs.declared.recording.Recording.{Recording}
+use Rattle.race_log.specs.declared.recording.Recording.{Recording}
 use Rattle.log_codec.specs.declared.codec_fault.CodecFault.{CodecFault}
 use Rattle.log_codec.specs.Faults.{◌>>=◌, Fails, Gives}
-use Rattle.rtr_types.specs.Turns.{StandInTurn, stay, follow, count_up}
+use Rattle.rtr_types.specs.Turns.{StandInTurn, stay, count_up}
 use Rattle.log_codec.specs.Turns.{alike, read_in_turn}
 use Rattle.log_codec.specs.declared.version.Version.{Version}
 use Rattle.log_codec.specs.declared.version.Version.TheVariants.{One, Two}
 use Rattle.log_codec.specs.Incoming.{IncomingStands, incoming_edges, remember}
-use Rattle.rtr_types.specs.PairEdges.{EdgeRises, EdgeStands}
-use Rattle.log_codec.specs.Validity.{Valid, AreVectors, IsListed, IsLog, bound_at}
+use Rattle.race_log.specs.Validity.{Valid, AreVectors, bound_at}
+use Rattle.log_codec.specs.Incoming.{IsLog}
 use Rattle.log_codec.specs.Versions.{FitsIn}
 use Rattle.rtr_types.specs.Parameters.{Fits}
 use Rattle.log_codec.specs.Spelling.{Spells, header_text, totals_text, reduced_text, vectors_text, regulated_text}
@@ -28,15 +28,18 @@ use Rattle.log_codec.specs.Reading.{front_at, whole_at}
 use Rattle.log_codec.specs.Laws.{IsBytes, ReadIsSpelled, SpelledIsRead, SpelledIsFront, FrontIsSpelled, PrefixFree}
 use Rattle.log_codec.specs.Laws.{ReadAndSpelled, IntoTheTarget}
 use Rattle.log_codec.proofs.Steps.{bind_ok, guard_ok, ok_is, Takes, Takes-then}
-use Rattle.log_codec.proofs.InTurn.{turns_take, turns_again, stand-places, places-stand, stand-all, all-stand}
-use Rattle.log_codec.proofs.InTurn.{stand-map}
+use Rattle.log_codec.proofs.InTurn.{turns_take, turns_again}
+use Rattle.race_log.proofs.InTurn.{stand-all, all-stand}
 use Rattle.log_codec.proofs.Limits.{limits_nest}
-use Rattle.log_codec.proofs.ReducedLaws.{AllEdges, AllRise, total-small, bound-small, reduced_takes, reduced_again}
+use Rattle.race_log.proofs.Parts.{bound-small}
+use Rattle.log_codec.proofs.ReducedLaws.{AllRise, reduced_takes, reduced_again}
 use Rattle.log_codec.proofs.ReducedLaws.{edges-rise, into-stands, into-pair}
 use Rattle.log_codec.proofs.ReducedLaws.{few-into}
 use Rattle.log_codec.proofs.FieldLaws.{Headed, header_takes, header_again, image_takes, image_again, total_takes}
 use Rattle.log_codec.proofs.FieldLaws.{total_again}
-use Rattle.log_codec.proofs.Logs.{few_edges, few_vectors, vectors_take, vectors_again}
+use Rattle.log_codec.proofs.Logs.{vectors_take, vectors_again}
+use Rattle.race_log.proofs.Parts.{edges-placed, edges_listed, made_of, valid-made}
+use Rattle.race_log.proofs.Parts.{vectors-stand}
 
 -- ---- part by part
 
@@ -80,10 +83,6 @@ regulated_again limit totals regulated rest small most each h =
 
 -- ---- the parts together
 
-abbrev pub made_of : Params → List ℕ → List ℕ → List (List (ℕ × ℕ)) → List (List StrideVector) → Recording
-made_of params image totals reduced regulated =
-    record { params = params; image = image; totals = totals; reduced = reduced; regulated = regulated }
-
 abbrev pub after_reduced : Params → List ℕ → List ℕ → List (List (ℕ × ℕ)) × List ℕ → Result (Recording × List ℕ) ℕ
 after_reduced params image totals reduced =
     regulated_at totals reduced.1 >>= λ regulated. Ok (made_of params image totals reduced.0 regulated.0, regulated.1)
@@ -96,44 +95,6 @@ after_image v params image = totals_at params.limit params.cores image.1 >>= aft
 
 abbrev pub after_header : Headed → Result (Recording × List ℕ) ℕ
 after_header header = image_at header.2 header.3 >>= after_image header.0 header.1
-
--- a recording of valid parts
-pub valid-made : (p : Params) (image totals : List ℕ) (reduced : List (List (ℕ × ℕ)))
-    (regulated : List (List StrideVector)) → Fits p →
-    length image ≤ 4 * p.words → length totals ≡ p.cores → All (λ t. t ≤ p.limit) totals
-    → length reduced ≡ pair_count (length totals) → AllEdges totals reduced
-    → length regulated ≡ pair_count (length totals) →
-    StandInTurn (λ place vs. AreVectors (bound_at totals place) vs) count_up 0 regulated →
-    Valid (made_of p image totals reduced regulated)
-valid-made p image totals reduced regulated fits room each most each_reduced edges each_regulated vectors =
-    let pairs_are : pair_count (length totals) ≡ pair_count p.cores = ap (λ (n : ℕ). pair_count n) each in
-    let regulated_is : length regulated ≡ pair_count p.cores = each_regulated ∙ pairs_are in
-    record {
-      params = fits;
-      image = room;
-      each_core = each;
-      totals = most;
-      each_reduced = each_reduced ∙ pairs_are;
-      reduced = λ place lt. edges place (subst (λ (n : ℕ). place < n) (sym pairs_are) lt);
-      each_regulated = regulated_is;
-      regulated = λ place lt. subst (λ (k : ℕ). AreVectors (bound_at totals k) (get_or regulated place []))
-          (zero-plus place)
-          (stand-places (λ place vs. AreVectors (bound_at totals place) vs) 0 regulated vectors place []
-          (subst (λ (n : ℕ). place < n) (sym regulated_is) lt));
-    }
-  where
-    zero-plus : (k : ℕ) → 0 + k ≡ k
-    zero-plus k = omega arith
-
-pub edges-placed : (r : Recording) → Valid r → AllEdges r.totals r.reduced
-edges-placed r v place lt = v.reduced place (subst (λ (n : ℕ). place < pair_count n) v.each_core lt)
-
-pub vectors-stand : (r : Recording) → Valid r →
-    StandInTurn (λ place vs. AreVectors (bound_at r.totals place) vs) count_up 0 r.regulated
-vectors-stand r v = places-stand (λ place vs. AreVectors (bound_at r.totals place) vs) 0 r.regulated []
-    (λ i lt. let same : i ≡ 0 + i = omega arith in
-    subst (λ (k : ℕ). AreVectors (bound_at r.totals k) (get_or r.regulated i [])) same
-    (v.regulated i (subst (λ (n : ℕ). i < n) v.each_regulated lt)))
 
 -- the limits of either version lie within those of version 2
 pub within-new : (v : Version) (p : Params) → FitsIn v p → Fits p
@@ -322,22 +283,6 @@ no_fault bytes e w r rest valid fits is fails =
 
 -- ---- what the writer needs
 
-pub edges_listed : (r : Recording) → Valid r → (place : ℕ) → place < length r.reduced →
-    IsListed (get_or r.reduced place [])
-edges_listed r v place lt =
-    let edges = get_or r.reduced place [] in
-    let most = bound_at r.totals place in
-    let are = v.reduced place (subst (λ (n : ℕ). place < n) v.each_reduced lt) in
-    let params = v.params in
-    let small = bound-small r.params.limit r.totals place (omega arith) v.totals in
-    let few = few_edges most edges are in
-    let least = small.source in
-    record {
-      few = omega arith;
-      rising =
-          stand-map (EdgeStands most) EdgeRises follow (λ s x h. h.rises) (0, 0) edges are;
-    }
-
 -- the reduced log can be spelled in either version
 pub is_log : (r : Recording) → Valid r → IsLog r.params.cores r.reduced
 is_log r v =
@@ -365,27 +310,3 @@ into_the_target r target v inside =
       λ source pair. into-pair r.params.cores r.reduced source target pair
           (subst (λ (n : ℕ). AllRise n r.reduced) cores (edges-rise r.totals r.reduced (edges-placed r v))),
     )
-
-pub vectors_listed : (r : Recording) → Valid r → (place : ℕ) → place < length r.regulated →
-    length (get_or r.regulated place []) < 2 ^ 32
-vectors_listed r v place lt =
-    let vectors = get_or r.regulated place [] in
-    let most = bound_at r.totals place in
-    let are = v.regulated place (subst (λ (n : ℕ). place < n) v.each_regulated lt) in
-    let params = v.params in
-    let small = bound-small r.params.limit r.totals place (omega arith) v.totals in
-    let few = few_vectors most vectors are in
-    let least = small.source in
-    omega arith
-
--- the source of a pair retires at most as many instructions as it may
-pub bound-most : (r : Recording) (place : ℕ) → Valid r → (bound_at r.totals place).0 ≤ r.params.limit
-bound-most r place v = total-small r.params.limit r.totals (source_at (length r.totals) place) v.totals
-
--- both totals of a pair are numbers that can be spelled
-pub totals_small : (r : Recording) (place : ℕ) → Valid r → ((bound_at r.totals place).0 < 2 ^ 32) ×
-    ((bound_at r.totals place).1 < 2 ^ 32)
-totals_small r place v =
-    let params = v.params in
-    let small = bound-small r.params.limit r.totals place (omega arith) v.totals in
-    (small.source, small.target)

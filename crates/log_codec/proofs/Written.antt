@@ -10,7 +10,7 @@ use Rattle.log_codec.specs.Incoming.{AreFronts, IncomingRises, IsFirst, IsFront,
 use Rattle.log_codec.specs.Incoming.{last_source, last_target, left, merged_edges, remember}
 use Rattle.log_codec.specs.Incoming.{target_of}
 use Rattle.log_codec.specs.Spelling.{incoming_text, number}
-use Rattle.log_codec.specs.Validity.{IsLog}
+use Rattle.log_codec.specs.Incoming.{IsLog}
 use Rattle.rtr_types.specs.Turns.{StandInTurn}
 use Rattle.rtr_types.proofs.Ranges.{zero_at}
 use Rattle.log_codec.specs.Turns.{spelled_in_turn}

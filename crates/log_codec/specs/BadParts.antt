@@ -4,13 +4,13 @@ use Rattle.std.specs.Prelude.{◌≡◌, ◌≢◌, ℕ, ◌*◌, ◌<◌, ◌�
 use Rattle.rtr_types.specs.declared.params.Params.{Params}
 use Rattle.rtr_types.specs.Pairs.{pair_count}
 use Rattle.stride_vector.specs.declared.StrideVector.{StrideVector}
-use Rattle.log_codec.specs.declared.recording.Recording.{Recording}
+use Rattle.race_log.specs.declared.recording.Recording.{Recording}
 use Rattle.log_codec.specs.declared.version.Version.{Version}
 use Rattle.log_codec.specs.Laws.{IsBytes}
 use Rattle.log_codec.specs.Reading.{front_at, whole_at}
 use Rattle.log_codec.specs.Spelling.{header_text, totals_text, reduced_text, regulated_text}
 use Rattle.rtr_types.specs.PairEdges.{AreEdges}
-use Rattle.log_codec.specs.Validity.{AreVectors, bound_at}
+use Rattle.race_log.specs.Validity.{AreVectors, bound_at}
 use Rattle.log_codec.specs.Versions.{FitsIn}
 
 -- ---- a valid part at the front of the bytes, before the rest

@@ -1,5 +1,5 @@
 -- The edges into one core as version 2 has them: by the target's count, and at one count by the source core.
-use Rattle.std.specs.Prelude.{◌≡◌, ℕ, ◌<◌, ◌≤◌, ◌⊎◌, List, [], ◌∷◌, ◌++◌, map, Option, None, Some, slice_index}
+use Rattle.std.specs.Prelude.{◌≡◌, ◌^◌, ℕ, ◌<◌, ◌≤◌, ◌⊎◌, List, [], ◌∷◌, ◌++◌, map, Option, None, Some, slice_index}
 use Rattle.std.specs.Prelude.{slice_index_or, slice_get, drop, length, false, Bool, ◌&&◌, ◌||◌, not, ◌==◌, nat_lt}
 use Rattle.std.specs.Prelude.{nat_le, if◌then◌else◌}
 use Rattle.std.specs.List.{filter, flat_map, range_with_len}
@@ -7,6 +7,7 @@ use Rattle.rtr_types.specs.declared.TheConstants.{CORES_MAX}
 use Rattle.rtr_types.specs.Pairs.{IsPair, pair_count, pair_place, source_at, target_at}
 use Rattle.log_codec.specs.declared.incoming.Incoming.{Incoming}
 use Rattle.log_codec.specs.declared.merging.TheConstants.{PAST}
+use Rattle.race_log.specs.Validity.{IsListed}
 
 -- ---- by target
 
@@ -162,3 +163,12 @@ pub record IsLeast (cores : ℕ) (fronts : List ℕ) (source : ℕ) : Type 0 whe
   pub some : slice_index fronts source < PAST
   pub least : (other : ℕ) → other < cores → slice_index fronts source ≤ slice_index fronts other
   pub first : (other : ℕ) → other < source → slice_index fronts source < slice_index fronts other
+
+-- ---- what can be written
+
+-- the edges of each pair of so many cores, which can be spelled by pair and by target
+pub record IsLog (cores : ℕ) (reduced : List (List (ℕ × ℕ))) : Type 0 where
+  pub few : cores ≤ CORES_MAX
+  pub pairs : length reduced ≡ pair_count cores
+  pub listed : (place : ℕ) → place < length reduced → IsListed (slice_index_or reduced place [])
+  pub into : (target : ℕ) → target < cores → length (incoming_edges cores reduced target) < 2 ^ 32

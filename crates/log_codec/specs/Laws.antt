@@ -1,15 +1,14 @@
 -- Readings and spellings are the same.
-use Rattle.std.specs.Prelude.{◌≡◌, ℕ, ◌<◌, ◌↔◌, IsTrue, List, [], ◌++◌, slice_index, slice_index_or, Ok}
+use Rattle.std.specs.Prelude.{◌≡◌, ℕ, ◌<◌, List, [], ◌++◌, slice_index_or, Ok}
 use Rattle.std.specs.List.{AllByRecursion}
 use Rattle.rtr_types.specs.declared.params.Params.{Params}
 use Rattle.rtr_types.specs.Pairs.{IsPair, pair_place}
 use Rattle.rtr_types.specs.Parameters.{Fits}
-use Rattle.log_codec.specs.declared.recording.Recording.{Recording}
+use Rattle.race_log.specs.declared.recording.Recording.{Recording}
 use Rattle.log_codec.specs.declared.version.Version.{Version}
 use Rattle.log_codec.specs.Incoming.{IncomingStands, incoming_edges, from_source, remember}
 use Rattle.rtr_types.specs.Turns.{StandInTurn}
-use Rattle.rtr_types.specs.PairEdges.{AreEdges}
-use Rattle.log_codec.specs.Validity.{Valid, is_valid, AreVectors}
+use Rattle.race_log.specs.Validity.{Valid}
 use Rattle.log_codec.specs.Versions.{FitsIn, FitsOld}
 use Rattle.log_codec.specs.Spelling.{Spells, spelling, spelling_in}
 use Rattle.log_codec.specs.Reading.{front_at, whole_at}
@@ -57,19 +56,3 @@ IntoTheTarget = (r : Recording) (target : ℕ) → Valid r → target < r.params
     × ((source : ℕ) → IsPair r.params.cores source target →
     from_source source (incoming_edges r.params.cores r.reduced target)
     ≡ slice_index_or r.reduced (pair_place r.params.cores source target) [])
-
--- a recording is valid just where the test says so
-abbrev pub ValidTest : Type 0
-ValidTest = (r : Recording) → IsTrue (is_valid r) ↔ Valid r
-
--- the edges of each pair rise, and are at most the totals of its two cores
-abbrev pub EdgesByPair : Type 0
-EdgesByPair = (r : Recording) (from to : ℕ) → Valid r → IsPair r.params.cores from to →
-    AreEdges (slice_index r.totals from, slice_index r.totals to)
-    (slice_index_or r.reduced (pair_place r.params.cores from to) [])
-
--- the vectors of each pair rise, and end at most at the totals of its two cores
-abbrev pub VectorsByPair : Type 0
-VectorsByPair = (r : Recording) (from to : ℕ) → Valid r → IsPair r.params.cores from to →
-    AreVectors (slice_index r.totals from, slice_index r.totals to)
-    (slice_index_or r.regulated (pair_place r.params.cores from to) [])

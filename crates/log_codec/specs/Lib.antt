@@ -1,12 +1,10 @@
 pub mod Faults
 pub mod Turns
 pub mod Versions
-pub mod Validity
 pub mod Incoming
 pub mod Spelling
 pub mod Reading
 pub mod CoreCounts
-pub mod Counts
 pub mod Laws
-pub mod Sources
 pub mod BadParts
+pub use Rattle.race_log.specs.Validity

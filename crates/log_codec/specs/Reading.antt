@@ -9,7 +9,7 @@ use Rattle.stride_vector.specs.declared.StrideVector.{StrideVector}
 use Rattle.varint_core.specs.declared.Varint.{Varint}
 use Rattle.varint_core.specs.Leb128 as leb128
 use Rattle.log_codec.specs.declared.codec_fault.TheConstants.{HEADER, IMAGE, TOTALS, REDUCED, REGULATED, END}
-use Rattle.log_codec.specs.declared.recording.Recording.{Recording}
+use Rattle.race_log.specs.declared.recording.Recording.{Recording}
 use Rattle.log_codec.specs.Faults.{◌>>=◌}
 use Rattle.rtr_types.specs.Turns.{stay, follow, count_up}
 use Rattle.log_codec.specs.Turns.{read_in_turn}
@@ -18,7 +18,7 @@ use Rattle.log_codec.specs.declared.version.Version.{Version}
 use Rattle.log_codec.specs.declared.version.Version.TheVariants.{One, Two}
 use Rattle.log_codec.specs.Incoming.{pairs_of, target_count, with_into, remember, last_target, last_source}
 use Rattle.log_codec.specs.Incoming.{incoming_stands}
-use Rattle.log_codec.specs.Validity.{bound_at, end_of, vector_stands}
+use Rattle.race_log.specs.Validity.{bound_at, end_of, vector_stands}
 use Rattle.log_codec.specs.Versions.{magic, fits_in}
 
 -- the number that the bytes begin with, and the bytes after it

@@ -5,14 +5,14 @@ use Rattle.std.specs.List.{range_with_len}
 use Rattle.rtr_types.specs.declared.params.Params.{Params}
 use Rattle.stride_vector.specs.declared.StrideVector.{StrideVector}
 use Rattle.varint_core.specs.Leb128 as leb128
-use Rattle.log_codec.specs.declared.recording.Recording.{Recording}
+use Rattle.race_log.specs.declared.recording.Recording.{Recording}
 use Rattle.log_codec.specs.declared.incoming.Incoming.{Incoming}
 use Rattle.log_codec.specs.declared.version.Version.{Version}
 use Rattle.log_codec.specs.declared.version.Version.TheVariants.{One, Two}
 use Rattle.log_codec.specs.Incoming.{incoming_edges, target_count, remember, last_target, last_source}
 use Rattle.rtr_types.specs.Turns.{stay, follow, count_up}
 use Rattle.log_codec.specs.Turns.{alike, spelled_in_turn}
-use Rattle.log_codec.specs.Validity.{end_of}
+use Rattle.race_log.specs.Validity.{end_of}
 use Rattle.log_codec.specs.Versions.{magic, FitsIn}
 
 -- a number as LEB128

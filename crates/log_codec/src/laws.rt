@@ -1,8 +1,7 @@
-//! What the spellings and the readings have in common, and what validity says.
+//! What the spellings and the readings have in common.
 ghost use Rattle.log_codec.specs.Laws.{ReadIsSpelled, SpelledIsRead, SpelledIsFront, FrontIsSpelled, ReadAndSpelled};
-ghost use Rattle.log_codec.specs.Laws.{PrefixFree, ValidTest, EdgesByPair, VectorsByPair, LimitsNest, IntoTheTarget};
+ghost use Rattle.log_codec.specs.Laws.{PrefixFree, LimitsNest, IntoTheTarget};
 ghost use Rattle.log_codec.specs.BadParts.{BadPart};
-ghost use Rattle.log_codec.specs.Sources.{EdgesArePaired, EdgesCounted, EdgesWithin, OneSource};
 
 /// What is read is valid and is spelled so in a version whose limits it keeps, by all bytes or by those
 /// before the rest. What is spelled in either version is read, also before a rest. What is read and
@@ -31,20 +30,4 @@ pub fn bad_part_law()
 pub fn version_laws()
     ensures limits { LimitsNest }
     ensures into { IntoTheTarget }
-{}
-
-/// Validity can be tested by computing, and says what each pair's lists are.
-pub fn validity_laws()
-    ensures test { ValidTest }
-    ensures edges { EdgesByPair }
-    ensures vectors { VectorsByPair }
-{}
-
-/// The edges of a log are those of its pairs of cores, lie within the totals, and at most one of them
-/// leads from a core to an instruction. There are as many as are counted.
-pub fn source_laws()
-    ensures paired { EdgesArePaired }
-    ensures within { EdgesWithin }
-    ensures one { OneSource }
-    ensures counted { EdgesCounted }
 {}

@@ -3,7 +3,6 @@
 #![tactic(auto)]
 
 mod codec_fault;
-mod copies;
 mod core_counts;
 mod fields;
 mod incoming;
@@ -11,8 +10,6 @@ mod laws;
 mod merging;
 mod pairs;
 mod reading;
-mod recording;
-mod sources;
 mod targets;
 mod vectors;
 mod version;
@@ -21,12 +18,10 @@ mod writing;
 pub use codec_fault::{CodecFault, END, HEADER, IMAGE, REDUCED, REGULATED, TOTALS};
 pub use core_counts::{counts, counts_into, put_counts};
 pub use fields::{image, number, sizes, totals};
-pub use laws::{
-    bad_part_law, prefix_free, source_laws, spelling_laws, validity_laws, version_laws,
-};
+pub use laws::{bad_part_law, prefix_free, spelling_laws, version_laws};
 pub use merging::put_targets;
+pub use race_log::Recording;
 pub use reading::{read, read_front};
-pub use recording::Recording;
 pub use targets::by_targets;
 pub use version::{Version, fits_old};
 pub use writing::{put_sizes, put_totals, spell, spell_v1};

@@ -6,7 +6,7 @@ ghost use Rattle.rtr_types.specs.declared.TheConstants.{CORES_MAX};
 ghost use Rattle.log_codec.specs.Incoming.{AreFronts, IsFirst, IsFront, IsLeast, edges_out_of, incoming_edges, left};
 ghost use Rattle.log_codec.specs.Incoming.{target_of};
 ghost use Rattle.log_codec.specs.Spelling.{into_text, number, targets_text};
-ghost use Rattle.log_codec.specs.Validity.{IsLog};
+ghost use Rattle.log_codec.specs.Incoming.{IsLog};
 
 use crate::incoming::{Incoming, PLACES, target_of};
 use crate::targets::target_count;

@@ -4,7 +4,7 @@ ghost use Rattle.rtr_types.specs.Pairs.{pair_count};
 ghost use Rattle.log_codec.specs.Faults.{Gives};
 ghost use Rattle.rtr_types.specs.Turns.{follow};
 ghost use Rattle.log_codec.specs.Turns.{read_in_turn};
-ghost use Rattle.log_codec.specs.Validity.{bound_at};
+ghost use Rattle.race_log.specs.Validity.{bound_at};
 ghost use Rattle.log_codec.specs.Reading.{edge_at, edges_at, pairs_at};
 
 use crate::codec_fault::{CodecFault, REDUCED};

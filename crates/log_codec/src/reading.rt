@@ -3,18 +3,18 @@ ghost use Rattle.std.specs.Prelude.{◌≡◌, ◌≤◌, ◌++◌, length, drop
 ghost use Rattle.log_codec.specs.Faults.{Gives};
 ghost use Rattle.log_codec.specs.Reading.{front_at, reduced_at, whole_at};
 ghost use Rattle.log_codec.specs.Spelling.{Spells, spelling_in};
-ghost use Rattle.log_codec.specs.Validity.{Valid};
+ghost use Rattle.race_log.specs.Validity.{Valid};
 ghost use Rattle.log_codec.specs.Versions.{FitsIn};
-ghost use Rattle.log_codec.specs.declared.recording.Recording.{Recording};
+ghost use Rattle.race_log.specs.declared.recording.Recording.{Recording};
 ghost use Rattle.log_codec.specs.declared.version.Version.{Version};
 
 use crate::codec_fault::{CodecFault, END};
 use crate::fields::{header, image, totals};
 use crate::pairs::by_pairs;
-use crate::recording::Recording;
 use crate::targets::by_targets;
 use crate::vectors::regulated;
 use crate::version::Version;
+use race_log::Recording;
 use rtr_types::{CORES_MAX, Items};
 use std::alloc::Global;
 

@@ -3,7 +3,7 @@ ghost use Rattle.std.specs.Prelude.{◌≡◌, ◌+◌, ◌*◌, ◌≤◌, leng
 ghost use Rattle.stride_vector.specs.Vectors.{IsVector};
 ghost use Rattle.log_codec.specs.Faults.{Gives};
 ghost use Rattle.log_codec.specs.Turns.{read_in_turn};
-ghost use Rattle.log_codec.specs.Validity.{end_of, strides_stand, vector_stands};
+ghost use Rattle.race_log.specs.Validity.{end_of, strides_stand, vector_stands};
 ghost use Rattle.log_codec.specs.Reading.{strides_at, vector_at, vectors_at, regulated_at};
 
 use crate::codec_fault::{CodecFault, REGULATED};

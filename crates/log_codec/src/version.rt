@@ -1,6 +1,7 @@
 //! The versions of the format.
 ghost use Rattle.std.specs.Prelude.{◌≡◌, ◌↔◌, IsTrue};
-ghost use Rattle.log_codec.specs.Versions.{FitsOld, fits_in, fits_old, has_blocks, magic};
+ghost use Rattle.log_codec.specs.Versions.{FitsOld, fits_in, fits_old, magic};
+ghost use Rattle.race_log.specs.Validity.{has_blocks};
 
 use rtr_types::{Params, WORDS_MAX, WORDS_MIN};
 

@@ -3,7 +3,8 @@ ghost use Rattle.std.specs.Prelude.{◌≡◌, ◌++◌, ◌<◌, ◌≤◌, ◌
 ghost use Rattle.rtr_types.specs.Parameters.{Fits};
 ghost use Rattle.rtr_types.specs.Turns.{StandInTurn, follow};
 ghost use Rattle.rtr_types.specs.PairEdges.{EdgeRises};
-ghost use Rattle.log_codec.specs.Validity.{Valid, IsListed, IsLog};
+ghost use Rattle.race_log.specs.Validity.{Valid, IsListed};
+ghost use Rattle.log_codec.specs.Incoming.{IsLog};
 ghost use Rattle.log_codec.specs.Versions.{FitsOld};
 ghost use Rattle.log_codec.specs.declared.version.Version.TheVariants.{One};
 ghost use Rattle.log_codec.specs.Spelling.{header_text, totals_text, edges_text, pairs_text, reduced_text};
@@ -11,8 +12,8 @@ ghost use Rattle.log_codec.specs.Spelling.{strides_text, vector_text, vectors_te
 ghost use Rattle.log_codec.specs.Spelling.{sizes_text, spelling_in};
 
 use crate::merging::put_targets;
-use crate::recording::Recording;
 use crate::version::Version;
+use race_log::Recording;
 use rtr_types::{Items, Params};
 use std::alloc::{AllocError, Global};
 use stride_vector::StrideVector;

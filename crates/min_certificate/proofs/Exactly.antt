@@ -9,9 +9,9 @@ use Rattle.rtr_types.specs.declared.instr.Instr.{Instr}
 use Rattle.rtr_types.specs.declared.pairs.Which.TheVariants.{Reduced}
 use Rattle.clock_core.specs.Order.{Among, IsOrLeads}
 use Rattle.clock_core.specs.Reach.{IsClock}
-use Rattle.log_codec.specs.declared.recording.Recording.{Recording}
-use Rattle.log_codec.specs.Validity.{Valid}
-use Rattle.log_codec.proofs.InTurn.{places-stand, all-stand}
+use Rattle.race_log.specs.declared.recording.Recording.{Recording}
+use Rattle.race_log.specs.Validity.{Valid}
+use Rattle.race_log.proofs.InTurn.{places-stand, all-stand}
 use Rattle.clock_entries.specs.Ends.{Clocks, instr, ends_to, entry_at}
 use Rattle.clock_entries.proofs.Ends.{end_counts}
 use Rattle.replay_audit.proofs.Logs.{recorded_log, leads_back}

@@ -12,8 +12,8 @@ use Rattle.rtr_types.specs.declared.instr.Edge.{Edge}
 use Rattle.rtr_types.specs.declared.pairs.Which.TheVariants.{Reduced}
 use Rattle.clock_core.specs.Order.{Among}
 use Rattle.clock_core.proofs.Listed.{place_among}
-use Rattle.log_codec.specs.declared.recording.Recording.{Recording}
-use Rattle.log_codec.specs.Validity.{Valid}
+use Rattle.race_log.specs.declared.recording.Recording.{Recording}
+use Rattle.race_log.specs.Validity.{Valid}
 use Rattle.clock_entries.specs.Ends.{instr, is_end, IsEnd, ends_to}
 use Rattle.clock_entries.proofs.Ends.{ends_more, end_counts}
 use Rattle.clock_entries.proofs.Numbers.{few, at_low, ends_rise, fronted, longer}

@@ -12,8 +12,8 @@ use Rattle.clock_core.proofs.Listed.{among_left}
 use Rattle.conflict_edge.specs.Conflicts.{CountsRise}
 use Rattle.conflict_edge.proofs.Independent.{cases_instr}
 use Rattle.conflict_edge.proofs.TwoForms.{least_independent}
-use Rattle.log_codec.specs.declared.recording.Recording.{Recording}
-use Rattle.log_codec.specs.Validity.{Valid}
+use Rattle.race_log.specs.declared.recording.Recording.{Recording}
+use Rattle.race_log.specs.Validity.{Valid}
 use Rattle.clock_entries.specs.Ends.{Clocks, instr}
 use Rattle.clock_entries.specs.Entries.{IsKnownOtherwise, Entry}
 use Rattle.clock_entries.proofs.Exact.{needed_or_known}

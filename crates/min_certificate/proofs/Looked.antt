@@ -9,10 +9,10 @@ use Rattle.rtr_types.specs.declared.pairs.Which.TheVariants.{Reduced}
 use Rattle.clock_core.specs.Order.{Among}
 use Rattle.clock_core.proofs.Listed.{among_contains, contains_among}
 use Rattle.clock_core.proofs.Paths.{instr_eq}
-use Rattle.log_codec.specs.declared.recording.Recording.{Recording}
-use Rattle.log_codec.specs.Sources.{HasEdge}
-use Rattle.log_codec.specs.Validity.{Valid}
-use Rattle.log_codec.proofs.SourceLaws.{edges-within, one-source}
+use Rattle.race_log.specs.declared.recording.Recording.{Recording}
+use Rattle.race_log.specs.Sources.{HasEdge}
+use Rattle.race_log.specs.Validity.{Valid}
+use Rattle.race_log.proofs.SourceLaws.{edges-within, one-source}
 use Rattle.clock_entries.specs.Ends.{instr, Clocks, entry_at, last_entry}
 use Rattle.replay_audit.proofs.Logs.{edge_within}
 use Rattle.certificate_codec.specs.declared.certificate.Certificate.{Certificate}

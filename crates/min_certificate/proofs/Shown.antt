@@ -5,8 +5,8 @@ use Rattle.std.proofs.Math.Nat.{eq-zero-or-pos}
 use Rattle.rtr_types.specs.declared.instr.Instr.{Instr}
 use Rattle.rtr_types.specs.declared.pairs.Which.TheVariants.{Reduced}
 use Rattle.clock_core.specs.Order.{Among}
-use Rattle.log_codec.specs.declared.recording.Recording.{Recording}
-use Rattle.log_codec.specs.Validity.{Valid}
+use Rattle.race_log.specs.declared.recording.Recording.{Recording}
+use Rattle.race_log.specs.Validity.{Valid}
 use Rattle.clock_entries.specs.Ends.{instr, IsEnd}
 use Rattle.clock_entries.proofs.Ends.{last_entry_law, end_edge}
 use Rattle.clock_entries.proofs.Exact.{exact_is_good, implied_law}

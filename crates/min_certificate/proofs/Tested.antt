@@ -9,9 +9,9 @@ use Rattle.rtr_types.specs.declared.instr.Instr.{Instr}
 use Rattle.rtr_types.specs.declared.pairs.Which.TheVariants.{Reduced}
 use Rattle.clock_core.specs.Order.{Among}
 use Rattle.clock_core.specs.Reach.{IsClock}
-use Rattle.log_codec.specs.declared.recording.Recording.{Recording}
-use Rattle.log_codec.specs.Validity.{Valid}
-use Rattle.log_codec.proofs.InTurn.{stand-all, stand-places}
+use Rattle.race_log.specs.declared.recording.Recording.{Recording}
+use Rattle.race_log.specs.Validity.{Valid}
+use Rattle.race_log.proofs.InTurn.{stand-all, stand-places}
 use Rattle.replay_core.specs.Orders.{bump, counts, nought, Ordered, Ready}
 use Rattle.replay_core.specs.Plans.{plan_of}
 use Rattle.replay_core.proofs.Counts.{bump_same, bump_else}

@@ -3,7 +3,7 @@ use Rattle.std.specs.Prelude.{◌≡◌, ℕ, ◌<◌, List, [], length, slice_i
 use Rattle.clock_core.specs.Order.{Among}
 use Rattle.clock_core.specs.Reach.{IsClock}
 use Rattle.clock_entries.specs.Ends.{Clocks, instr, ends_to}
-use Rattle.log_codec.specs.declared.recording.Recording.{Recording}
+use Rattle.race_log.specs.declared.recording.Recording.{Recording}
 use Rattle.certificate_codec.specs.Ends.{reduced_edges, end_count}
 
 -- the k-th edge end of a core, from 0

@@ -5,8 +5,8 @@ use Rattle.rtr_types.specs.declared.pairs.Which.TheVariants.{Reduced}
 use Rattle.clock_core.specs.Order.{Within, Among}
 use Rattle.conflict_edge.specs.Conflicts.{ConflictPair}
 use Rattle.conflict_edge.specs.Least.{IsLeast}
-use Rattle.log_codec.specs.declared.recording.Recording.{Recording}
-use Rattle.log_codec.specs.Validity.{Valid}
+use Rattle.race_log.specs.declared.recording.Recording.{Recording}
+use Rattle.race_log.specs.Validity.{Valid}
 use Rattle.replay_core.specs.Plans.{plan_of}
 use Rattle.replay_core.specs.Play.{accesses_of}
 use Rattle.replay_core.specs.Orders.{IsReplayOrder, IsWhole}

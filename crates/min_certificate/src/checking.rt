@@ -1,7 +1,7 @@
 //! Checking a certificate.
 ghost use Rattle.std.specs.Prelude.{◌≡◌, IfOk, IsOkUnless, MatchOption, MatchResult};
 ghost use Rattle.rtr_types.specs.declared.pairs.Which.TheVariants.{Reduced};
-ghost use Rattle.log_codec.specs.Validity.{Valid};
+ghost use Rattle.race_log.specs.Validity.{Valid};
 ghost use Rattle.replay_audit.specs.Audits.{IsAuditOf};
 ghost use Rattle.replay_audit.specs.Determinate.{IsDeterminate, low_accesses};
 ghost use Rattle.certificate_codec.specs.Validity.{IsCertificate};

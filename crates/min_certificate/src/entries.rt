@@ -2,7 +2,7 @@
 ghost use Rattle.std.specs.Prelude.{◌≡◌, ◌≢◌, ◌≤◌, ◌<◌, ◌-◌, ◌↔◌, IfSome, IsTrue, Some, slice_index};
 ghost use Rattle.rtr_types.specs.Pairs.{IsPair};
 ghost use Rattle.rtr_types.specs.declared.instr.Instr.{Instr as SomeInstr};
-ghost use Rattle.log_codec.specs.Validity.{Valid};
+ghost use Rattle.race_log.specs.Validity.{Valid};
 ghost use Rattle.clock_core.specs.Order.{Among};
 ghost use Rattle.clock_entries.specs.Ends.{ends_to, instr, last_entry};
 ghost use Rattle.certificate_codec.specs.Ends.{reduced_edges, IsWithin};

@@ -8,9 +8,9 @@ use Rattle.std.proofs.lemmas.Bool.Decides.{nat_tests}
 use Rattle.rtr_types.specs.declared.instr.Instr.{Instr}
 use Rattle.rtr_types.specs.declared.pairs.Which.{Which}
 use Rattle.clock_core.specs.Reach.{IsOneOf}
-use Rattle.log_codec.specs.declared.recording.Recording.{Recording}
-use Rattle.log_codec.specs.Sources.{HasEdge}
-use Rattle.log_codec.specs.Validity.{Valid}
+use Rattle.race_log.specs.declared.recording.Recording.{Recording}
+use Rattle.race_log.specs.Sources.{HasEdge}
+use Rattle.race_log.specs.Validity.{Valid}
 use Rattle.replay_core.specs.Play.{instr}
 use Rattle.cut_replay.proofs.Cuts.{has_within}
 use Rattle.race_queries.specs.Places.{AreSourcesUpTo, AreTargetsUpTo, IsUpTo}

@@ -21,7 +21,7 @@ use Rattle.conflict_edge.specs.Conflicts.{ConflictPair, CountsRise, StandsIn}
 use Rattle.conflict_edge.specs.Least.{Suffices}
 use Rattle.conflict_edge.proofs.Standing.{one_access, stands_which}
 use Rattle.clock_entries.specs.Laws.{IsAcyclic}
-use Rattle.log_codec.specs.Sources.{log_edges}
+use Rattle.race_log.specs.Sources.{log_edges}
 use Rattle.replay_audit.specs.Audits.{Findings}
 use Rattle.replay_audit.specs.Determinate.{low_order_of}
 use Rattle.replay_audit.proofs.Logs.{acyclic_law}

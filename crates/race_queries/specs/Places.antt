@@ -5,8 +5,8 @@ use Rattle.rtr_types.specs.declared.cut.Cut.{Cut}
 use Rattle.rtr_types.specs.declared.instr.Instr.{Instr}
 use Rattle.rtr_types.specs.declared.pairs.Which.{Which}
 use Rattle.clock_core.specs.Reach.{IsOneOf}
-use Rattle.log_codec.specs.declared.recording.Recording.{Recording}
-use Rattle.log_codec.specs.Sources.{HasEdge}
+use Rattle.race_log.specs.declared.recording.Recording.{Recording}
+use Rattle.race_log.specs.Sources.{HasEdge}
 use Rattle.race_queries.specs.Queries.{InstrsRise, is_write_of, NoWriteIn}
 
 -- the last place of the list with a write of the word in the cut

@@ -10,9 +10,9 @@ use Rattle.rtr_types.specs.declared.pairs.Which.{Which}
 use Rattle.clock_core.specs.Order.{Among, Before, IsOrLeads}
 use Rattle.clock_core.specs.Reach.{IsOneOf}
 use Rattle.conflict_edge.specs.Conflicts.{CountsRise, StandsIn}
-use Rattle.log_codec.specs.declared.recording.Recording.{Recording}
-use Rattle.log_codec.specs.Sources.{HasEdge, log_edges}
-use Rattle.log_codec.specs.Validity.{Valid}
+use Rattle.race_log.specs.declared.recording.Recording.{Recording}
+use Rattle.race_log.specs.Sources.{HasEdge, log_edges}
+use Rattle.race_log.specs.Validity.{Valid}
 use Rattle.replay_audit.specs.Audits.{Findings, PassesOf}
 use Rattle.cut_replay.specs.ClosedCuts.{count_in}
 

@@ -1,10 +1,10 @@
 //! The edges of the log at an instruction.
 ghost use Rattle.std.specs.Prelude.{◌+◌, ◌<◌, IfOk, OnOk};
-ghost use Rattle.log_codec.specs.Validity.{Valid};
+ghost use Rattle.race_log.specs.Validity.{Valid};
 ghost use Rattle.race_queries.specs.Places.{AreTargetsUpTo};
 ghost use Rattle.race_queries.specs.Queries.{AreEdgesInto, AreEdgesOutOf};
 
-use log_codec::Recording;
+use race_log::Recording;
 use replay_audit::Audited;
 use rtr_types::{Instr, Items, Which};
 use std::alloc::{AllocError, Global};

@@ -2,7 +2,7 @@
 ghost use Rattle.std.specs.Prelude.{◌≤◌};
 
 use image_mem::Image;
-use log_codec::Recording;
+use race_log::Recording;
 use recorder::{Recorded, record_run};
 use rtr_types::Params;
 use rv_core::LoadNote;

@@ -16,10 +16,10 @@ use Rattle.clock_core.proofs.Paths.{joined, one, instr_eq, mapped}
 use Rattle.clock_core.proofs.Listed.{contains_among, among_contains}
 use Rattle.stride_vector.specs.declared.StrideVector.{StrideVector}
 use Rattle.stride_vector.specs.Vectors.{edges_of}
-use Rattle.log_codec.specs.declared.recording.Recording.{Recording}
-use Rattle.log_codec.specs.Sources.{HasEdge, log_edges}
-use Rattle.log_codec.specs.Validity.{Valid, bound_at, AreVectors}
-use Rattle.log_codec.proofs.SourceLaws.{edges-are-paired}
+use Rattle.race_log.specs.declared.recording.Recording.{Recording}
+use Rattle.race_log.specs.Sources.{HasEdge, log_edges}
+use Rattle.race_log.specs.Validity.{Valid, bound_at, AreVectors}
+use Rattle.race_log.proofs.SourceLaws.{edges-are-paired}
 use Rattle.edge_regulate.specs.Greedy.{greedy}
 use Rattle.edge_regulate.specs.Regulated.{Knowledge, knows_by, regulated}
 use Rattle.edge_regulate.proofs.Regulations.{length-regulated, regulated_at}

@@ -11,11 +11,11 @@ use Rattle.rtr_types.specs.declared.instr.Instr.{Instr}
 use Rattle.rtr_types.specs.declared.pairs.Which.TheVariants.{Reduced, Regulated}
 use Rattle.stride_vector.specs.declared.StrideVector.{StrideVector}
 use Rattle.stride_vector.specs.Vectors.{edges_of}
-use Rattle.log_codec.specs.declared.recording.Recording.{Recording}
-use Rattle.log_codec.specs.Sources.{HasEdge, log_edges}
-use Rattle.log_codec.specs.Validity.{Valid, bound_at}
-use Rattle.log_codec.proofs.SourceLaws.{edges-are-paired, edges-within}
-use Rattle.log_codec.proofs.Rises.{no_vector, position_at}
+use Rattle.race_log.specs.declared.recording.Recording.{Recording}
+use Rattle.race_log.specs.Sources.{HasEdge, log_edges}
+use Rattle.race_log.specs.Validity.{Valid, bound_at}
+use Rattle.race_log.proofs.SourceLaws.{edges-are-paired, edges-within}
+use Rattle.race_log.proofs.Rises.{no_vector, position_at}
 use Rattle.replay_core.specs.Plans.{plan_of}
 use Rattle.replay_core.specs.Orders.{bump, counts, nought, Sourced}
 use Rattle.replay_core.proofs.Counts.{bump_same, bump_else, counts_on, counts_more}

@@ -5,7 +5,7 @@ use Rattle.rtr_types.specs.declared.pairs.Which.TheVariants.{Reduced, Regulated}
 use Rattle.clock_core.specs.Order.{Among}
 use Rattle.conflict_edge.specs.Least.{Suffices}
 use Rattle.image_mem.specs.Contents.{Contents}
-use Rattle.log_codec.specs.Sources.{log_edges}
+use Rattle.race_log.specs.Sources.{log_edges}
 use Rattle.rv_core.specs.declared.outcome.Outcome.{Outcome}
 use Rattle.replay_core.specs.Plans.{Plan, plan_of}
 use Rattle.replay_core.specs.Play.{place_given, touched_given, place, touched, play, accesses_from, Plays, start}

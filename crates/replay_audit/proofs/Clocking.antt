@@ -15,9 +15,9 @@ use Rattle.clock_core.specs.Counts.{no_counts}
 use Rattle.clock_core.specs.Order.{Step, Path, IsOrLeads, Among, previous}
 use Rattle.clock_core.specs.Reach.{IsClock, IsOneOf, merged_over, with_own}
 use Rattle.clock_core.proofs.Reach.{merge_law, own_same, own_other, clock_same}
-use Rattle.log_codec.specs.declared.recording.Recording.{Recording}
-use Rattle.log_codec.specs.Sources.{log_edges}
-use Rattle.log_codec.specs.Validity.{Valid}
+use Rattle.race_log.specs.declared.recording.Recording.{Recording}
+use Rattle.race_log.specs.Sources.{log_edges}
+use Rattle.race_log.specs.Validity.{Valid}
 use Rattle.replay_core.specs.Plans.{plan_of}
 use Rattle.replay_core.specs.Play.{instr}
 use Rattle.replay_core.specs.Orders.{bump, nought, Ready}

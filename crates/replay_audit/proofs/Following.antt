@@ -8,9 +8,9 @@ use Rattle.rtr_types.specs.declared.access.Access.{Access}
 use Rattle.rtr_types.specs.declared.pairs.Which.{Which}
 use Rattle.conflict_edge.specs.Conflicts.{CountsRise, StandsIn}
 use Rattle.conflict_edge.proofs.Standing.{stands_which}
-use Rattle.log_codec.specs.declared.recording.Recording.{Recording}
-use Rattle.log_codec.specs.Sources.{log_edges}
-use Rattle.log_codec.specs.Validity.{Valid}
+use Rattle.race_log.specs.declared.recording.Recording.{Recording}
+use Rattle.race_log.specs.Sources.{log_edges}
+use Rattle.race_log.specs.Validity.{Valid}
 use Rattle.replay_core.specs.Plans.{Plan, plan_of}
 use Rattle.replay_core.specs.Play.{instr}
 use Rattle.replay_core.specs.Orders.{counts, nought, Ready, lowest_ready}

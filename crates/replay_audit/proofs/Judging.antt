@@ -10,7 +10,7 @@ use Rattle.clock_core.specs.Order.{Before, Among}
 use Rattle.conflict_edge.specs.Conflicts.{Conflicts, ConflictPair, StandsIn}
 use Rattle.conflict_edge.specs.Least.{Suffices}
 use Rattle.conflict_edge.proofs.Standing.{one_first}
-use Rattle.log_codec.specs.Sources.{log_edges}
+use Rattle.race_log.specs.Sources.{log_edges}
 use Rattle.replay_core.specs.Plans.{plan_of}
 use Rattle.replay_core.specs.Play.{accesses_of}
 use Rattle.replay_audit.specs.Laws.{IsSettled}

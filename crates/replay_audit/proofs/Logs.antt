@@ -7,9 +7,9 @@ use Rattle.rtr_types.specs.declared.instr.Edge.{Edge}
 use Rattle.rtr_types.specs.declared.pairs.Which.{Which}
 use Rattle.clock_core.specs.Order.{Relation, Step, Path, Before, IsOrLeads, Among}
 use Rattle.clock_core.proofs.Paths.{joined, one, last_at}
-use Rattle.log_codec.specs.declared.recording.Recording.{Recording}
-use Rattle.log_codec.specs.Sources.{log_edges, EdgeWithin}
-use Rattle.log_codec.specs.Validity.{Valid}
+use Rattle.race_log.specs.declared.recording.Recording.{Recording}
+use Rattle.race_log.specs.Sources.{log_edges, EdgeWithin}
+use Rattle.race_log.specs.Validity.{Valid}
 use Rattle.replay_core.specs.Plans.{Plan, plan_of}
 use Rattle.replay_core.specs.Orders.{bump, counts, nought, Sourced, Ready, Ordered}
 use Rattle.replay_core.proofs.Sources.{edge_within as core_edge_within}

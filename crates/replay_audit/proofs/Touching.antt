@@ -16,10 +16,10 @@ use Rattle.clock_core.proofs.Paths.{instr_eq}
 use Rattle.conflict_edge.specs.Conflicts.{ConflictPair, CountsRise, StandsIn}
 use Rattle.conflict_edge.specs.Least.{Suffices}
 use Rattle.conflict_edge.proofs.Standing.{stands_which}
-use Rattle.log_codec.specs.declared.recording.Recording.{Recording}
-use Rattle.log_codec.specs.Sources.{log_edges}
-use Rattle.log_codec.specs.Validity.{Valid}
-use Rattle.log_codec.proofs.Looked.{Rising, one_place}
+use Rattle.race_log.specs.declared.recording.Recording.{Recording}
+use Rattle.race_log.specs.Sources.{log_edges}
+use Rattle.race_log.specs.Validity.{Valid}
+use Rattle.race_log.proofs.Looked.{Rising, one_place}
 use Rattle.rv_core.specs.declared.outcome.Outcome.{Outcome}
 use Rattle.replay_core.specs.Plans.{Plan, plan_of}
 use Rattle.replay_core.specs.Play.{instr, core_at, place, touched, accesses_from, start, accesses_of}

@@ -21,9 +21,9 @@ use Rattle.conflict_edge.proofs.History.{do_conflict-true, do_conflict-yes}
 use Rattle.conflict_edge.proofs.Online.{candidate_source, last_read-is}
 use Rattle.conflict_edge.proofs.Reversed.{stands_back, reverse-next}
 use Rattle.conflict_edge.proofs.Standing.{positive}
-use Rattle.log_codec.specs.declared.recording.Recording.{Recording}
-use Rattle.log_codec.specs.Sources.{log_edges}
-use Rattle.log_codec.specs.Validity.{Valid}
+use Rattle.race_log.specs.declared.recording.Recording.{Recording}
+use Rattle.race_log.specs.Sources.{log_edges}
+use Rattle.race_log.specs.Validity.{Valid}
 use Rattle.replay_core.specs.Plans.{plan_of}
 use Rattle.replay_core.specs.Play.{instr}
 use Rattle.replay_core.specs.Orders.{bump, nought, Ready}

@@ -5,9 +5,9 @@ use Rattle.std.specs.Prelude.{slice_set, Some, None}
 use Rattle.rtr_types.specs.declared.TheConstants.{CORES_MAX}
 use Rattle.rtr_types.specs.declared.instr.Instr.{Instr}
 use Rattle.rtr_types.specs.declared.pairs.Which.{Which}
-use Rattle.log_codec.specs.declared.recording.Recording.{Recording}
-use Rattle.log_codec.specs.Sources.{log_edges}
-use Rattle.log_codec.specs.Validity.{Valid}
+use Rattle.race_log.specs.declared.recording.Recording.{Recording}
+use Rattle.race_log.specs.Sources.{log_edges}
+use Rattle.race_log.specs.Validity.{Valid}
 use Rattle.replay_core.specs.Plans.{Plan, plan_of}
 use Rattle.replay_core.specs.Play.{instr}
 use Rattle.replay_core.specs.Orders.{bump, counts, nought, Full, IsWhole, Ready, Ordered, lowest_ready, low_order}

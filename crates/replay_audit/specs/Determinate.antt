@@ -5,7 +5,7 @@ use Rattle.rtr_types.specs.declared.pairs.Which.{Which}
 use Rattle.clock_core.specs.Order.{Among}
 use Rattle.conflict_edge.specs.Least.{Suffices}
 use Rattle.rv_core.specs.declared.outcome.Outcome.{Outcome}
-use Rattle.log_codec.specs.declared.recording.Recording.{Recording}
+use Rattle.race_log.specs.declared.recording.Recording.{Recording}
 use Rattle.replay_core.specs.Plans.{Plan, plan_of}
 use Rattle.replay_core.specs.Play.{Given, no_values, ValuedPlays, start, played, accesses_of, valued_accesses}
 use Rattle.replay_core.specs.Orders.{IsReplayOrder, IsWhole, low_order}

@@ -14,9 +14,9 @@ use Rattle.rv_core.specs.declared.outcome.Outcome.{Outcome}
 use Rattle.rv_core.specs.declared.core_state.Core.{Core}
 use Rattle.rv_core.specs.declared.core_state.Need.TheVariants.{Local}
 use Rattle.rv_core.specs.Steps.{need, after, is_done}
-use Rattle.log_codec.specs.declared.recording.Recording.{Recording}
-use Rattle.log_codec.specs.Sources.{log_edges}
-use Rattle.log_codec.specs.Validity.{Valid}
+use Rattle.race_log.specs.declared.recording.Recording.{Recording}
+use Rattle.race_log.specs.Sources.{log_edges}
+use Rattle.race_log.specs.Validity.{Valid}
 use Rattle.replay_core.specs.Plans.{Plan, recorded_image, plan_of}
 use Rattle.replay_core.specs.Play.{Given, no_values, Use, use_of, core_at, need_at, loads_at, touched, start, Plays}
 use Rattle.replay_core.specs.Play.{ValuedPlays}

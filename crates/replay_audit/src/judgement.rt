@@ -2,7 +2,7 @@
 ghost use Rattle.std.specs.Prelude.{◌≡◌, ◌≢◌, ◌+◌, ◌<◌, ◌↔◌, ℕ, IfOk, IfSome, IsTrue, Some, false, length};
 ghost use Rattle.std.specs.Prelude.{slice_index_or};
 ghost use Rattle.std.specs.List.{Contains};
-ghost use Rattle.log_codec.specs.Validity.{Valid};
+ghost use Rattle.race_log.specs.Validity.{Valid};
 ghost use Rattle.replay_core.specs.Plans.{plan_of};
 ghost use Rattle.replay_core.specs.Orders.{IsWhole};
 ghost use Rattle.replay_audit.specs.Determinate.{IsDeterminate, low_order_of};
@@ -12,7 +12,7 @@ ghost use Rattle.replay_audit.specs.Touches.{touches_of};
 
 use crate::touch::Touch;
 use crate::whole_order::WholeOrder;
-use log_codec::Recording;
+use race_log::Recording;
 use rtr_types::{Access, Instr, Items, Which};
 use std::alloc::{AllocError, Global};
 

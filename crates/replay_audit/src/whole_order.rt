@@ -1,6 +1,6 @@
 //! The low order of a log where it is whole: a play is judged along it.
 ghost use Rattle.std.specs.Prelude.{◌↔◌, IfOk, IsTrue};
-ghost use Rattle.log_codec.specs.Validity.{Valid};
+ghost use Rattle.race_log.specs.Validity.{Valid};
 ghost use Rattle.replay_core.specs.Orders.{IsWhole};
 ghost use Rattle.replay_core.specs.Plans.{plan_of};
 ghost use Rattle.replay_audit.specs.Determinate.{IsDeterminate, low_order_of};
@@ -11,7 +11,7 @@ use crate::judgement::access_at;
 use crate::log_clocks::LogClocks;
 use crate::touch::Touch;
 use crate::trail::Trail;
-use log_codec::Recording;
+use race_log::Recording;
 use replay_core::LowOrder;
 use rtr_types::{CORES_MAX, Instr, Items, Which};
 use std::alloc::{AllocError, Global};

@@ -14,10 +14,10 @@ use Rattle.rtr_types.specs.declared.pairs.Which.{Which}
 use Rattle.rtr_types.proofs.Ranges.{zero_at}
 use Rattle.clock_core.specs.Counts.{no_counts}
 use Rattle.clock_core.proofs.Listed.{among_contains}
-use Rattle.log_codec.specs.declared.recording.Recording.{Recording}
-use Rattle.log_codec.specs.Sources.{log_edges}
-use Rattle.log_codec.specs.Validity.{Valid}
-use Rattle.log_codec.proofs.SourceLaws.{edges-within, one-source}
+use Rattle.race_log.specs.declared.recording.Recording.{Recording}
+use Rattle.race_log.specs.Sources.{log_edges}
+use Rattle.race_log.specs.Validity.{Valid}
+use Rattle.race_log.proofs.SourceLaws.{edges-within, one-source}
 use Rattle.replay_core.specs.Plans.{Plan, plan_of}
 use Rattle.replay_core.specs.Play.{instr}
 use Rattle.replay_core.specs.declared.coming.Coming.{Coming}

@@ -10,10 +10,10 @@ use Rattle.rtr_types.specs.declared.instr.Edge.{Edge}
 use Rattle.rtr_types.specs.declared.instr.Instr.{Instr}
 use Rattle.rtr_types.specs.declared.pairs.Which.{Which}
 use Rattle.rv_core.specs.declared.outcome.Outcome.{Outcome}
-use Rattle.log_codec.specs.declared.recording.Recording.{Recording}
-use Rattle.log_codec.specs.Validity.{Valid}
-use Rattle.log_codec.specs.Sources.{log_edges, EdgeWithin, HasEdge}
-use Rattle.log_codec.proofs.SourceLaws.{edges-within}
+use Rattle.race_log.specs.declared.recording.Recording.{Recording}
+use Rattle.race_log.specs.Validity.{Valid}
+use Rattle.race_log.specs.Sources.{log_edges, EdgeWithin, HasEdge}
+use Rattle.race_log.proofs.SourceLaws.{edges-within}
 use Rattle.clock_core.specs.Order.{Among}
 use Rattle.clock_core.proofs.Listed.{among_contains}
 use Rattle.replay_core.specs.Plans.{Plan, plan_of}

@@ -11,9 +11,9 @@ use Rattle.clock_core.specs.Order.{Among}
 use Rattle.clock_core.specs.Reach.{IsOneOf}
 use Rattle.clock_core.proofs.Listed.{among_contains, contains_among}
 use Rattle.clock_core.proofs.Paths.{instr_eq}
-use Rattle.log_codec.specs.declared.recording.Recording.{Recording}
-use Rattle.log_codec.specs.Sources.{log_edges, HasEdge}
-use Rattle.log_codec.specs.Validity.{Valid}
+use Rattle.race_log.specs.declared.recording.Recording.{Recording}
+use Rattle.race_log.specs.Sources.{log_edges, HasEdge}
+use Rattle.race_log.specs.Validity.{Valid}
 use Rattle.replay_core.specs.Play.{instr}
 use Rattle.replay_core.specs.Sources.{AreSources, listed}
 use Rattle.replay_core.proofs.Sources.{edge_within}

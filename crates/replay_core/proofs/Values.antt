@@ -3,7 +3,7 @@ use Rattle.std.proofs.Common.{◌≡◌, ◌≢◌, ℕ, zero, suc, ◌<◌, ◌
 use Rattle.std.proofs.Common.{subst, eq-eqb, ne_eqb, arith}
 use Rattle.std.specs.Prelude.{Option, Some, None}
 use Rattle.rtr_types.specs.Turns.{StandInTurn}
-use Rattle.log_codec.proofs.Looked.{Rising}
+use Rattle.race_log.proofs.Looked.{Rising}
 use Rattle.replay_core.specs.Play.{value_at, count_of, AreRising}
 
 abbrev pub no_value : ℕ × ℕ

@@ -3,18 +3,18 @@ ghost use Rattle.std.specs.Prelude.{◌≡◌, ◌≢◌, ◌<◌, ◌≤◌, �
 ghost use Rattle.std.specs.Prelude.{None as NoneThere};
 ghost use Rattle.rtr_types.specs.declared.TheConstants.{CORES_MAX};
 ghost use Rattle.rtr_types.specs.declared.pairs.Which.{Which};
-ghost use Rattle.log_codec.specs.declared.recording.Recording.{Recording};
+ghost use Rattle.race_log.specs.declared.recording.Recording.{Recording};
 ghost use Rattle.replay_core.specs.Plans.{plan_of};
 ghost use Rattle.replay_core.specs.Play.{instr};
 ghost use Rattle.rtr_types.specs.Pairs.{IsPair};
-ghost use Rattle.log_codec.specs.Sources.{log_edges};
-ghost use Rattle.log_codec.specs.Validity.{Valid};
+ghost use Rattle.race_log.specs.Sources.{log_edges};
+ghost use Rattle.race_log.specs.Validity.{Valid};
 ghost use Rattle.replay_core.specs.Sources.{AreSources, sources_in};
 ghost use Rattle.replay_core.specs.Coming.{IsComing, IsNextInto, IsSource, IsSourceIn, IsStillNext, edge_of};
 
 use crate::next_edge::next_edge;
 use clock_core::Clock;
-use log_codec::Recording;
+use race_log::Recording;
 use rtr_types::{CORES_MAX, Instr, Which};
 use std::alloc::{AllocError, Global};
 use std::marker::Model;

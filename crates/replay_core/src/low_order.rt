@@ -2,7 +2,7 @@
 ghost use Rattle.std.specs.Prelude.{◌≡◌, ◌<◌, ◌≤◌, ◌+◌, ◌-◌, ◌↔◌, ℕ, Some, length, slice_index, slice_set, replicate};
 ghost use Rattle.std.specs.Prelude.{IfOk, IsTrue};
 ghost use Rattle.rtr_types.specs.declared.TheConstants.{CORES_MAX};
-ghost use Rattle.log_codec.specs.Validity.{Valid};
+ghost use Rattle.race_log.specs.Validity.{Valid};
 ghost use Rattle.replay_core.specs.Plans.{plan_of};
 ghost use Rattle.replay_core.specs.Orders.{Full, lowest, lowest_ready};
 ghost use Rattle.replay_core.specs.Sources.{AreSources, sources_in};
@@ -10,7 +10,7 @@ ghost use Rattle.replay_core.specs.Tallies.{AreAwaited, count_of, next_of};
 
 use crate::sourced::Sourced;
 use crate::tally::Tally;
-use log_codec::Recording;
+use race_log::Recording;
 use rtr_types::{CORES_MAX, Which};
 use std::alloc::{AllocError, Global};
 use std::marker::Model;

@@ -3,13 +3,13 @@ ghost use Rattle.std.specs.Prelude.{◌≡◌, ◌≤◌, IsTrue, slice_get};
 ghost use Rattle.std.specs.List.{flat_map};
 ghost use Rattle.rtr_types.specs.Pairs.{IsPair};
 ghost use Rattle.stride_vector.specs.Vectors.{IsVector, edges_of};
-ghost use Rattle.log_codec.specs.Sources.{AreApart, log_edges};
+ghost use Rattle.race_log.specs.Sources.{AreApart, log_edges};
 ghost use Rattle.rtr_types.specs.Turns.{StandInTurn, follow};
 ghost use Rattle.rtr_types.specs.PairEdges.{EdgeRises};
-ghost use Rattle.log_codec.specs.Validity.{Valid};
+ghost use Rattle.race_log.specs.Validity.{Valid};
 ghost use Rattle.replay_core.specs.Coming.{IsBeginning, IsFirstPlace, IsNextEdge, IsNextInto, IsNextPosition};
 
-use log_codec::Recording;
+use race_log::Recording;
 use rtr_types::{Instr, Which, pair_at};
 use stride_vector::StrideVector;
 

@@ -3,7 +3,7 @@ ghost use Rattle.std.specs.Prelude.{◌≡◌, ◌<◌, ◌≤◌, ◌+◌, ◌�
 ghost use Rattle.std.specs.Prelude.{IsTrue};
 ghost use Rattle.rtr_types.specs.declared.TheConstants.{CORES_MAX};
 ghost use Rattle.clock_core.specs.Order.{Among};
-ghost use Rattle.log_codec.specs.Validity.{Valid};
+ghost use Rattle.race_log.specs.Validity.{Valid};
 ghost use Rattle.replay_core.specs.Plans.{plan_of};
 ghost use Rattle.replay_core.specs.Play.{instr};
 ghost use Rattle.replay_core.specs.Orders.{Full, is_ready, is_sourced};
@@ -13,7 +13,7 @@ ghost use Rattle.replay_core.specs.Tallies.{AreWanted, count_of, next_of};
 use crate::coming::Sources;
 use crate::sourced::Sourced;
 use clock_core::Clock;
-use log_codec::Recording;
+use race_log::Recording;
 use rtr_types::{CORES_MAX, Instr, Which};
 use std::alloc::{AllocError, Global};
 use std::marker::Model;

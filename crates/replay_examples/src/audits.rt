@@ -1,9 +1,10 @@
 //! Audits by either log, and judgements by what an audit's low order touched.
 ghost use Rattle.std.specs.Prelude.{◌≡◌, [], ◌∷◌, IfOk};
-ghost use Rattle.log_codec.specs.Validity.{Valid};
+ghost use Rattle.race_log.specs.Validity.{Valid};
 ghost use Rattle.replay_audit.specs.Touches.{AreTouches, as_touch};
 
-use log_codec::{Recording, read};
+use log_codec::read;
+use race_log::Recording;
 use replay_audit::{AuditFault, Audited, Touch, audit, judge, ordered};
 use rtr_types::{Access, CORES_MAX, Cut, Instr, Items, Which};
 use std::alloc::{AllocError, Global};

@@ -1,8 +1,9 @@
 //! Replays by either log, in the low order and in another one.
 ghost use Rattle.std.specs.Prelude.{IfOk};
-ghost use Rattle.log_codec.specs.Validity.{Valid};
+ghost use Rattle.race_log.specs.Validity.{Valid};
 
-use log_codec::{Recording, read};
+use log_codec::read;
+use race_log::Recording;
 use replay_core::{Advanced, Replay, ReplayFault};
 use rtr_types::{CORES_MAX, Cut, Which};
 use rv_core::{LoadNote, Outcome};

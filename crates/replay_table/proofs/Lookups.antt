@@ -5,9 +5,9 @@ use Rattle.image_mem.specs.Contents.{Contents}
 use Rattle.rtr_types.specs.declared.pairs.Which.{Which}
 use Rattle.clock_core.proofs.Listed.{among_contains, contains_among}
 use Rattle.rv_core.specs.declared.core_state.Core.{Core}
-use Rattle.log_codec.specs.declared.recording.Recording.{Recording}
-use Rattle.log_codec.specs.Sources.{log_edges}
-use Rattle.log_codec.specs.Validity.{Valid}
+use Rattle.race_log.specs.declared.recording.Recording.{Recording}
+use Rattle.race_log.specs.Sources.{log_edges}
+use Rattle.race_log.specs.Validity.{Valid}
 use Rattle.replay_core.specs.Plans.{plan_of, recorded_image}
 use Rattle.replay_core.specs.Coming.{IsComing}
 use Rattle.replay_core.specs.Play.{instr}

@@ -13,8 +13,8 @@ use Rattle.rv_core.specs.declared.outcome.LoadNote.{LoadNote}
 use Rattle.rv_core.specs.Needs.{is_of_kind, is_reading}
 use Rattle.rv_core.specs.Steps.{need}
 use Rattle.rv_core.proofs.LawLemmas.{number_law}
-use Rattle.log_codec.specs.declared.recording.Recording.{Recording}
-use Rattle.log_codec.specs.Validity.{Valid}
+use Rattle.race_log.specs.declared.recording.Recording.{Recording}
+use Rattle.race_log.specs.Validity.{Valid}
 use Rattle.replay_core.specs.Plans.{Plan, plan_of}
 use Rattle.replay_core.specs.Play.{Use, use_of, loads_after, loads_at, played}
 use Rattle.replay_core.specs.Orders.{low_order}

@@ -5,7 +5,7 @@ use Rattle.rtr_types.specs.declared.access.Kind.{Kind}
 use Rattle.rtr_types.specs.Accesses.{is_write}
 use Rattle.rv_core.specs.declared.core_state.Core.{Core}
 use Rattle.rv_core.specs.Steps.{need}
-use Rattle.log_codec.proofs.Counted.{totals_small}
+use Rattle.race_log.proofs.Counted.{totals_small}
 use Rattle.replay_core.specs.Plans.{Plan, plan_of}
 use Rattle.replay_core.specs.Play.{Use, use_of}
 use Rattle.replay_core.specs.Orders.{counts, nought, IsReplayOrder, low_order}

@@ -9,7 +9,7 @@ use lib.ListN.{get_elem?}
 use Rattle.atomic_table.specs.Table.{State}
 use Rattle.rtr_types.specs.declared.pairs.Which.{Which}
 use Rattle.image_mem.specs.Contents.{opening_words}
-use Rattle.log_codec.specs.declared.recording.Recording.{Recording}
+use Rattle.race_log.specs.declared.recording.Recording.{Recording}
 use Rattle.replay_core.specs.Plans.{Plan, plan_of}
 use Rattle.replay_audit.specs.Touches.{ArePlayed}
 use Rattle.replay_table.specs.declared.view.Own.{Own}

@@ -4,7 +4,7 @@ use std::marker::Brand;
 
 /// A recording and one of its logs, as contracts name them.
 pub trait Job {
-    ghost use Rattle.log_codec.specs.declared.recording.Recording.{Recording};
+    ghost use Rattle.race_log.specs.declared.recording.Recording.{Recording};
     ghost use Rattle.rtr_types.specs.declared.pairs.Which.{Which};
 
     ghost recording: { Recording };

@@ -1,7 +1,7 @@
 //! The table, and the calls that seats make on it.
 ghost use Rattle.std.specs.Prelude.{◌≡◌, ◌<◌, ◌≤◌, ◌+◌, ℕ, [], length, slice_index, false};
 ghost use Rattle.std.specs.Prelude.{IfOk, IsSome, IsTrue, Ok, Some};
-ghost use Rattle.log_codec.specs.Validity.{Valid};
+ghost use Rattle.race_log.specs.Validity.{Valid};
 ghost use Rattle.rv_core.specs.declared.core_state.Need.TheVariants.{Local};
 ghost use Rattle.rv_core.specs.Needs.{is_reading, is_writing};
 ghost use Rattle.rv_core.specs.Steps.{need, after, wrote, is_whole};
@@ -24,7 +24,7 @@ use crate::upcoming::Upcoming;
 use crate::view::View;
 use atomic_table::Table;
 use image_mem::{Image, Memory};
-use log_codec::Recording;
+use race_log::Recording;
 use rtr_types::Which;
 use rv_core::{Core, Program};
 use std::alloc::{AllocError, Global};

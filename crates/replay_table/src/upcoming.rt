@@ -1,13 +1,13 @@
 //! What a seat keeps of its core's next instruction.
 ghost use Rattle.std.specs.Prelude.{◌≡◌, ◌<◌, ◌≤◌, length, slice_index};
-ghost use Rattle.log_codec.specs.Sources.{log_edges};
-ghost use Rattle.log_codec.specs.Validity.{Valid};
+ghost use Rattle.race_log.specs.Sources.{log_edges};
+ghost use Rattle.race_log.specs.Validity.{Valid};
 ghost use Rattle.replay_core.specs.Coming.{IsComing};
 ghost use Rattle.replay_core.specs.Plans.{recorded_image};
 ghost use Rattle.replay_table.specs.Seats.{IsUpcoming};
 
 use clock_core::Clock;
-use log_codec::Recording;
+use race_log::Recording;
 use replay_core::Coming;
 use rtr_types::{Instr, Which};
 use rv_core::{Core, Need, Program};

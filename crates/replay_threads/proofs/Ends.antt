@@ -2,8 +2,8 @@
 use Rattle.std.proofs.Common.{ℕ, List, refl, ap, ◌∙◌, arith}
 use Rattle.std.specs.Prelude.{slice_index}
 use Rattle.rtr_types.specs.declared.pairs.Which.{Which}
-use Rattle.log_codec.specs.declared.recording.Recording.{Recording}
-use Rattle.log_codec.specs.Validity.{Valid}
+use Rattle.race_log.specs.declared.recording.Recording.{Recording}
+use Rattle.race_log.specs.Validity.{Valid}
 use Rattle.replay_core.specs.Plans.{plan_of}
 use Rattle.replay_core.specs.Orders.{low_order}
 use Rattle.replay_audit.specs.Determinate.{IsDeterminate}

@@ -1,7 +1,7 @@
 -- What a replay on several threads answers.
 use Rattle.std.specs.Prelude.{◌≡◌}
 use Rattle.rtr_types.specs.declared.pairs.Which.{Which}
-use Rattle.log_codec.specs.declared.recording.Recording.{Recording}
+use Rattle.race_log.specs.declared.recording.Recording.{Recording}
 use Rattle.replay_core.specs.Plans.{plan_of}
 use Rattle.replay_audit.specs.Determinate.{IsDeterminate, low_outcome}
 use Rattle.replay_table.specs.Seats.{Ended, IsEnd}

@@ -3,9 +3,9 @@ use Rattle.std.specs.Prelude.{◌≡◌, ℕ, ◌+◌, ◌-◌, ◌^◌, ◌<◌
 use Rattle.rtr_types.specs.declared.instr.Instr.{Instr}
 use Rattle.rtr_types.specs.declared.pairs.Which.{Which}
 use Rattle.rv_core.specs.Steps.{need, is_done}
-use Rattle.log_codec.specs.declared.recording.Recording.{Recording}
-use Rattle.log_codec.specs.Sources.{HasEdge}
-use Rattle.log_codec.specs.Validity.{Valid}
+use Rattle.race_log.specs.declared.recording.Recording.{Recording}
+use Rattle.race_log.specs.Sources.{HasEdge}
+use Rattle.race_log.specs.Validity.{Valid}
 use Rattle.replay_core.specs.Plans.{recorded_image, plan_of}
 use Rattle.replay_core.specs.Play.{instr}
 use Rattle.replay_audit.specs.Determinate.{IsDeterminate}

@@ -1,7 +1,7 @@
 //! The replay of a recording on several threads.
 ghost use Rattle.std.specs.Prelude.{◌≡◌, ◌<◌, ◌≤◌, IfNone, IfOk, IfSome, length};
 ghost use Rattle.atomic_table.specs.Seated.{TableId};
-ghost use Rattle.log_codec.specs.Validity.{Valid};
+ghost use Rattle.race_log.specs.Validity.{Valid};
 ghost use Rattle.replay_core.specs.Plans.{plan_of};
 ghost use Rattle.replay_audit.specs.Determinate.{IsDeterminate};
 ghost use Rattle.replay_table.specs.Seats.{Finished};
@@ -12,7 +12,7 @@ use crate::gate::Gate;
 use crate::groups::{Group, give, no_groups, take_last};
 use crate::rounds::rounds;
 use crate::worker::Worker;
-use log_codec::Recording;
+use race_log::Recording;
 use replay_audit::WholeOrder;
 use replay_table::laws::an_end_was_played;
 use replay_table::{Closed, CoreSeat, Job, ReplayTable};

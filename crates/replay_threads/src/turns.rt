@@ -2,7 +2,7 @@
 ghost use Rattle.std.specs.Prelude.{◌≡◌, ◌<◌, ◌+◌, false, IfNone, IfOk, IfSome, IsTrue, slice_index};
 ghost use Rattle.rv_core.specs.Needs.{is_writing};
 ghost use Rattle.rv_core.specs.Steps.{need as need_of_core, is_whole};
-ghost use Rattle.log_codec.specs.Validity.{Valid};
+ghost use Rattle.race_log.specs.Validity.{Valid};
 ghost use Rattle.replay_core.specs.Plans.{plan_of, recorded_image};
 ghost use Rattle.replay_table.specs.Aheads.{Due};
 ghost use Rattle.replay_table.specs.Rule.{seen_of};
@@ -12,7 +12,7 @@ ghost use Rattle.replay_threads.specs.Turns.{Continues, EndsBy, IsReached};
 use crate::gate::Gate;
 use crate::waits::{publish, wait};
 use crate::wanted::Wanted;
-use log_codec::Recording;
+use race_log::Recording;
 use replay_table::{CoreSeat, Job, ReplayTable};
 use rtr_types::{Instr, Which};
 use rv_core::Need;

@@ -1,6 +1,6 @@
 //! How a worker waits for the sources of its next instruction.
 ghost use Rattle.std.specs.Prelude.{◌≡◌, ◌<◌, ◌≤◌, ◌+◌, false, length, IfNone, IfSome, IsTrue, slice_index};
-ghost use Rattle.log_codec.specs.Validity.{Valid};
+ghost use Rattle.race_log.specs.Validity.{Valid};
 ghost use Rattle.replay_core.specs.Plans.{plan_of};
 ghost use Rattle.replay_table.specs.Aheads.{Due};
 ghost use Rattle.replay_table.specs.Rule.{seen_of};

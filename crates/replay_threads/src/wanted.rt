@@ -1,8 +1,8 @@
 //! Which of a core's counts other cores wait for.
 ghost use Rattle.std.specs.Prelude.{◌<◌};
-ghost use Rattle.log_codec.specs.Validity.{Valid};
+ghost use Rattle.race_log.specs.Validity.{Valid};
 
-use log_codec::Recording;
+use race_log::Recording;
 use rtr_types::{CORES_MAX, Which, pair_at};
 use stride_vector::StrideVector;
 

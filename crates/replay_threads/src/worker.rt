@@ -1,13 +1,13 @@
 //! Workers, which take turns.
 ghost use Rattle.std.specs.Prelude.{◌≡◌, ◌↔◌, IfOk, IsTrue};
-ghost use Rattle.log_codec.specs.Validity.{Valid};
+ghost use Rattle.race_log.specs.Validity.{Valid};
 ghost use Rattle.replay_table.specs.Seats.{AtRest};
 ghost use Rattle.replay_threads.specs.Turns.{Continues, EndsBy, HasEnded, IsReached};
 
 use crate::gate::Gate;
 use crate::turns::{Turn, run};
 use crate::wanted::Wanted;
-use log_codec::Recording;
+use race_log::Recording;
 use replay_table::{CoreSeat, Job, ReplayTable};
 use rtr_types::Which;
 use std::alloc::AllocError;

@@ -5,8 +5,8 @@ use Rattle.certificate_codec.specs.declared.certificate.Certificate.{Certificate
 use Rattle.certificate_codec.specs.Reading.{certificate_at}
 use Rattle.conflict_edge.specs.Least.{IsLeast}
 use Rattle.log_codec.specs.Reading.{whole_at}
-use Rattle.log_codec.specs.Sources.{log_edges}
-use Rattle.log_codec.specs.declared.recording.Recording.{Recording}
+use Rattle.race_log.specs.Sources.{log_edges}
+use Rattle.race_log.specs.declared.recording.Recording.{Recording}
 use Rattle.min_certificate.specs.Answers.{CheckFails}
 use Rattle.min_certificate.specs.Laws.{IsLeastIn}
 use Rattle.min_certificate.specs.declared.answers.CertFault.TheVariants as certs

@@ -1,7 +1,7 @@
 -- What certify makes is a certificate that check accepts.
 use Rattle.std.proofs.Common.{◌≡◌, ◌∙◌, ℕ, List, Result, Ok, sym, ap, subst}
 use Rattle.rtr_types.specs.declared.pairs.Which.TheVariants.{Reduced}
-use Rattle.log_codec.specs.declared.recording.Recording.{Recording}
+use Rattle.race_log.specs.declared.recording.Recording.{Recording}
 use Rattle.log_codec.specs.Reading.{whole_at}
 use Rattle.replay_audit.specs.Determinate.{IsDeterminate}
 use Rattle.certificate_codec.specs.declared.certificate.Certificate.{Certificate}

@@ -10,7 +10,7 @@ use Rattle.image_elf.specs.Faults.{elf_fault}
 use Rattle.image_elf.specs.FlatImage.{flat_image}
 use Rattle.image_elf.proofs.RoomLemmas.{flat_image_fits}
 use Rattle.log_codec.specs.Reading.{whole_at}
-use Rattle.log_codec.specs.declared.recording.Recording.{Recording}
+use Rattle.race_log.specs.declared.recording.Recording.{Recording}
 use Rattle.run_records.proofs.Recordings.{recorded_law}
 use Rattle.replay_audit.specs.Audits.{IsInstrOf}
 use Rattle.rtr_types.specs.Parameters.{Fits}

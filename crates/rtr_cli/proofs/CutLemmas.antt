@@ -5,8 +5,8 @@ use Rattle.rtr_types.specs.declared.instr.Instr.{Instr}
 use Rattle.rtr_types.specs.declared.pairs.Which.{Which}
 use Rattle.image_mem.specs.Contents.{Contents}
 use Rattle.rv_core.specs.declared.outcome.Outcome.{Outcome}
-use Rattle.log_codec.specs.declared.recording.Recording.{Recording}
-use Rattle.log_codec.specs.Validity.{Valid}
+use Rattle.race_log.specs.declared.recording.Recording.{Recording}
+use Rattle.race_log.specs.Validity.{Valid}
 use Rattle.replay_core.specs.Plans.{plan_of, recorded_image}
 use Rattle.replay_core.specs.Play.{played}
 use Rattle.replay_audit.specs.Audits.{Findings, IsAuditOf, IsInstrOf}

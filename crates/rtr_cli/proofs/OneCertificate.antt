@@ -7,9 +7,9 @@ use Rattle.clock_core.proofs.Reach.{one_clock_law}
 use Rattle.clock_entries.specs.Ends.{Clocks, IsEnd, ends_to, entry_at, entry_of, instr}
 use Rattle.clock_entries.proofs.Numbers.{at_low}
 use Rattle.log_codec.specs.CoreCounts.{AreCounts}
-use Rattle.log_codec.specs.Validity.{Valid}
-use Rattle.log_codec.specs.declared.recording.Recording.{Recording}
-use Rattle.log_codec.proofs.InTurn.{stand-places}
+use Rattle.race_log.specs.Validity.{Valid}
+use Rattle.race_log.specs.declared.recording.Recording.{Recording}
+use Rattle.race_log.proofs.InTurn.{stand-places}
 use Rattle.certificate_codec.specs.Ends.{end_count, reduced_edges}
 use Rattle.certificate_codec.specs.Validity.{AreEntries, IsCertificate}
 use Rattle.certificate_codec.specs.declared.certificate.Certificate.{Certificate}

@@ -4,7 +4,7 @@ use Rattle.certificate_codec.specs.declared.certificate.Certificate.{Certificate
 use Rattle.certificate_codec.specs.Spelling.{spelling as certificate_spelling}
 use Rattle.cut_replay.specs.ClosedCuts.{OneGreatestCutLaw, OneLeastCutLaw}
 use Rattle.cut_replay.specs.CutStates.{OneStateLaw}
-use Rattle.log_codec.specs.declared.recording.Recording.{Recording}
+use Rattle.race_log.specs.declared.recording.Recording.{Recording}
 use Rattle.log_codec.specs.Reading.{whole_at}
 use Rattle.log_codec.specs.Spelling.{spelling}
 use Rattle.tool_words.specs.declared.command.Command.TheVariants.{Record, Run, Print, Replay, Migrate, Certify, Check}

@@ -16,8 +16,8 @@ use Rattle.rtr_types.specs.declared.params.Params.{Params}
 use Rattle.rtr_types.proofs.PairPlaces.{places-paired}
 use Rattle.rtr_types.proofs.Ranges.{range_more}
 use Rattle.stride_vector.specs.declared.StrideVector.{StrideVector}
-use Rattle.log_codec.specs.Validity.{Valid}
-use Rattle.log_codec.specs.declared.recording.Recording.{Recording}
+use Rattle.race_log.specs.Validity.{Valid}
+use Rattle.race_log.specs.declared.recording.Recording.{Recording}
 use Rattle.vector_reduce.specs.Answers.{IsThinningOf}
 use Rattle.vector_reduce.specs.Cuts.{counts_in}
 use Rattle.vector_reduce.specs.Showing.{EachLeastShown, IsLeastShown, no_shown}

@@ -12,19 +12,19 @@ use Rattle.schedule_pick.specs.Choices.{choice_at, choices_of}
 use Rattle.machine_bound.specs.Ends.{end_of}
 use Rattle.msi_state.specs.Runs.{IsRunEnd}
 use Rattle.run_outcome.specs.Outcomes.{outcome_of}
-use Rattle.log_codec.specs.declared.recording.Recording.{Recording}
+use Rattle.race_log.specs.declared.recording.Recording.{Recording}
 use Rattle.rtr_types.specs.declared.cut.Cut.{Cut}
 use Rattle.rtr_types.specs.declared.instr.Instr.{Instr}
 use Rattle.rtr_types.specs.declared.params.Params.{Params}
 use Rattle.rtr_types.specs.declared.pairs.Which.{Which}
 use Rattle.rtr_types.specs.declared.pairs.Which.TheVariants.{Reduced, Regulated}
-use Rattle.log_codec.specs.Counts.{edge_count_of}
+use Rattle.race_log.specs.Counts.{edge_count_of}
 use Rattle.log_codec.specs.declared.codec_fault.TheConstants.{HEADER}
 use Rattle.log_codec.specs.declared.version.Version.{Version}
 use Rattle.log_codec.specs.Laws.{IsBytes}
 use Rattle.log_codec.specs.Reading.{whole_at}
 use Rattle.log_codec.specs.Spelling.{spelling}
-use Rattle.log_codec.specs.Validity.{Valid}
+use Rattle.race_log.specs.Validity.{Valid}
 use Rattle.log_codec.specs.Versions.{magic}
 use Rattle.replay_core.specs.declared.answers.ReplayFault.{ReplayFault}
 use Rattle.replay_core.specs.declared.answers.ReplayFault.TheVariants as replays

@@ -5,7 +5,7 @@ use Rattle.certificate_codec.specs.declared.certificate.Certificate.{Certificate
 use Rattle.certificate_codec.specs.Reading.{certificate_at}
 use Rattle.log_codec.specs.Laws.{IsBytes}
 use Rattle.log_codec.specs.Reading.{whole_at}
-use Rattle.log_codec.specs.declared.recording.Recording.{Recording}
+use Rattle.race_log.specs.declared.recording.Recording.{Recording}
 use Rattle.min_certificate.specs.Answers.{Certifies}
 use Rattle.replay_audit.specs.Audits.{IsInstrOf}
 use Rattle.replay_audit.specs.Determinate.{IsDeterminate}

@@ -1,7 +1,7 @@
 -- Replays that words ask for on several threads, and how they end.
 use Rattle.std.specs.Prelude.{ℕ, Bool, List, Option, Some, None}
 use Rattle.std.specs.Io.KnownBytes.{Appends}
-use Rattle.log_codec.specs.declared.recording.Recording.{Recording}
+use Rattle.race_log.specs.declared.recording.Recording.{Recording}
 use Rattle.log_codec.specs.Reading.{whole_at}
 use Rattle.replay_core.specs.Plans.{plan_of, recorded_image}
 use Rattle.replay_table.specs.Seats.{Ended as TableEnd, IsEnd}

@@ -2,8 +2,8 @@
 use Rattle.std.specs.Prelude.{ℕ, zero, suc, ◌+◌, ◌==◌, if◌then◌else◌, List, ◌++◌, length, sum_by, slice_index}
 use Rattle.std.specs.Prelude.{codes, decimal}
 use Rattle.image_mem.specs.Contents.{Contents, opening_word}
-use Rattle.log_codec.specs.Counts.{edge_count_of}
-use Rattle.log_codec.specs.declared.recording.Recording.{Recording}
+use Rattle.race_log.specs.Counts.{edge_count_of}
+use Rattle.race_log.specs.declared.recording.Recording.{Recording}
 use Rattle.rtr_types.specs.declared.pairs.Which.TheVariants.{Reduced, Regulated}
 use Rattle.state_text.specs.Pieces.{line}
 use Rattle.trace_gen.specs.declared.shape.Shape.{Shape}

@@ -1,6 +1,6 @@
 //! The state at an instruction of a recording.
 ghost use Rattle.std.specs.Prelude.{◌≡◌, IfErr, IfOk, OnOk};
-ghost use Rattle.log_codec.specs.Validity.{Valid};
+ghost use Rattle.race_log.specs.Validity.{Valid};
 ghost use Rattle.replay_audit.specs.Audits.{IsInstrOf};
 ghost use Rattle.replay_core.specs.Plans.{recorded_image};
 ghost use Rattle.state_text.specs.Cuts.{cut_state_lines};
@@ -9,7 +9,7 @@ ghost use Rattle.rtr_cli.specs.Commands.{AtEnds, IsCutAt, IsReplayed, IsToldAt};
 
 use crate::commands::{audited, image};
 use cut_replay::{cut_with, cut_without, has_instr, state_of};
-use log_codec::Recording;
+use race_log::Recording;
 use replay_audit::Audited;
 use replay_audit::laws::replays_fit_their_plan;
 use rtr_types::{Cut, Instr, Which};

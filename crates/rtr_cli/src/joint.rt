@@ -1,7 +1,7 @@
 //! Replays on several threads.
 ghost use Rattle.std.specs.Prelude.{◌≡◌, ◌≢◌, ◌⊎◌, ℕ, List, IfErr, IfNone, IfOk, IfSome, OnOk, Some};
 ghost use Rattle.log_codec.specs.Reading.{whole_at};
-ghost use Rattle.log_codec.specs.Validity.{Valid};
+ghost use Rattle.race_log.specs.Validity.{Valid};
 ghost use Rattle.replay_audit.specs.Determinate.{IsDeterminate};
 ghost use Rattle.replay_core.specs.Plans.{plan_of};
 ghost use Rattle.replay_table.specs.Seats.{IsEnd};
@@ -15,7 +15,8 @@ ghost use Rattle.rtr_cli.specs.Joints.{PrintsJoint, asked_by, command_of, joint_
 
 use crate::commands::{FILE_BYTES_MAX, audited, image};
 use crate::tool::take;
-use log_codec::{Recording, read};
+use log_codec::read;
+use race_log::Recording;
 use replay_audit::laws::{every_order_agrees, replays_fit_their_plan};
 use replay_table::Closed;
 use replay_threads::{Gate, Joint, replay_parallel};

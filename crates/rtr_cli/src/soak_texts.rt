@@ -1,11 +1,11 @@
 //! The text of a soak.
 ghost use Rattle.std.specs.Prelude.{◌≡◌, ◌<◌, ◌≤◌, ◌^◌, ◌++◌, IfOk, OnOk, length, string_bytes, sum_by};
-ghost use Rattle.log_codec.specs.Validity.{Valid};
+ghost use Rattle.race_log.specs.Validity.{Valid};
 ghost use Rattle.state_text.specs.Pieces.{line};
 ghost use Rattle.rtr_cli.specs.Soaks.{changed_count, shape_name, soak_lines};
 
 use image_mem::Image;
-use log_codec::Recording;
+use race_log::Recording;
 use rtr_types::{Items, WORDS_MAX, Which};
 use std::alloc::{AllocError, Global};
 use stride_vector::StrideVector;

@@ -2,7 +2,7 @@
 ghost use Rattle.std.specs.Prelude.{◌≡◌, ◌*◌, ◌≤◌, IfErr, IfOk, IsTrue, length};
 ghost use Rattle.run_outcome.specs.Outcomes.{outcome_of};
 ghost use Rattle.run_records.specs.Recordings.{recording_of};
-ghost use Rattle.log_codec.specs.Validity.{Valid};
+ghost use Rattle.race_log.specs.Validity.{Valid};
 ghost use Rattle.rtr_types.specs.Parameters.{Fits};
 ghost use Rattle.trace_gen.specs.Programs.{takes};
 ghost use Rattle.rtr_cli.specs.Commands.{IsSoaked, SoakEnds};
@@ -10,7 +10,7 @@ ghost use Rattle.rtr_cli.specs.Commands.{IsSoaked, SoakEnds};
 use crate::commands::{audited, image};
 use crate::soak_texts::{changed_words, soak_text};
 use image_mem::Image;
-use log_codec::Recording;
+use race_log::Recording;
 use recorder::record_image;
 use rtr_types::{Params, Which};
 use run_outcome::laws::a_run_fits_its_image;

@@ -1,6 +1,6 @@
 //! Recordings whose regulated log has fewer vectors, and what shows that each of them is needed.
 ghost use Rattle.std.specs.Prelude.{◌≡◌, IfErr, IfOk, OnOk};
-ghost use Rattle.log_codec.specs.Validity.{Valid};
+ghost use Rattle.race_log.specs.Validity.{Valid};
 ghost use Rattle.rtr_types.specs.declared.pairs.Which.TheVariants.{Regulated};
 ghost use Rattle.vector_reduce.specs.Answers.{IsAccepted};
 ghost use Rattle.vector_reduce.specs.Validity.{IsThin};
@@ -8,7 +8,8 @@ ghost use Rattle.rtr_cli.specs.Commands.{CheckThinEnds, IsReplayed, IsThinnedTo,
 ghost use Rattle.rtr_cli.specs.Commands.{thinned_bytes};
 
 use crate::commands::{audited, exit_of_audit};
-use log_codec::{Recording, spell};
+use log_codec::spell;
+use race_log::Recording;
 use rtr_types::Which;
 use state_text::{Exit, needed_text};
 use std::alloc::{AllocError, Global};

@@ -17,8 +17,8 @@ use Rattle.rv_core.specs.States.{starting}
 use Rattle.rv_core.specs.declared.core_state.Core.{Core}
 use Rattle.schedule_pick.specs.Choices.{Choices, choice_at}
 use Rattle.rtr_types.specs.PairEdges.{AreEdges}
-use Rattle.log_codec.specs.Validity.{AreVectors, Valid, bound_at}
-use Rattle.log_codec.specs.declared.recording.Recording.{Recording}
+use Rattle.race_log.specs.Validity.{AreVectors, Valid, bound_at}
+use Rattle.race_log.specs.declared.recording.Recording.{Recording}
 use Rattle.stride_vector.specs.declared.StrideVector.{StrideVector}
 use Rattle.machine_bound.specs.Ends.{end_of}
 use Rattle.msi_state.specs.Runs.{accesses}

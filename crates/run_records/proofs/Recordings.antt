@@ -11,9 +11,9 @@ use Rattle.conflict_edge.specs.Least.{IsLeast}
 use Rattle.log_codec.proofs.Whole.{spelled_is_read}
 use Rattle.log_codec.specs.declared.version.Version.TheVariants.{Two}
 use Rattle.edge_regulate.specs.Regulated.{Knowledge, regulated}
-use Rattle.log_codec.specs.Sources.{log_edges}
-use Rattle.log_codec.specs.declared.recording.Recording.{Recording}
-use Rattle.log_codec.specs.Validity.{Valid}
+use Rattle.race_log.specs.Sources.{log_edges}
+use Rattle.race_log.specs.declared.recording.Recording.{Recording}
+use Rattle.race_log.specs.Validity.{Valid}
 use Rattle.machine_bound.specs.Ends.{end_of}
 use Rattle.machine_bound.proofs.Ends.{run_ends}
 use Rattle.machine_plain.proofs.Shows.{plain_done}

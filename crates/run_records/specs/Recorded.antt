@@ -11,7 +11,7 @@ use Rattle.schedule_pick.specs.Choices.{Choices, choice_at}
 use Rattle.clock_core.specs.Order.{Among, Before}
 use Rattle.conflict_edge.specs.Least.{IsLeast, Others}
 use Rattle.edge_regulate.specs.Regulated.{IsRegulation, Knowledge, regulated}
-use Rattle.log_codec.specs.Sources.{log_edges}
+use Rattle.race_log.specs.Sources.{log_edges}
 use Rattle.machine_bound.specs.Ends.{end_of}
 use Rattle.run_records.specs.Recordings.{IsRecorded, run_accesses, recording_of}
 use Rattle.run_records.specs.Standing.{NotesAt}

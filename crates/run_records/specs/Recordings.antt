@@ -11,10 +11,10 @@ use Rattle.conflict_edge.specs.Least.{IsLeast}
 use Rattle.know_history.specs.Notes.{Notes, known_at}
 use Rattle.edge_regulate.specs.Regulated.{Knowledge, regulated}
 use Rattle.log_codec.specs.Reading.{whole_at}
-use Rattle.log_codec.specs.Sources.{log_edges}
+use Rattle.race_log.specs.Sources.{log_edges}
 use Rattle.log_codec.specs.Spelling.{spelling}
-use Rattle.log_codec.specs.Validity.{Valid}
-use Rattle.log_codec.specs.declared.recording.Recording.{Recording}
+use Rattle.race_log.specs.Validity.{Valid}
+use Rattle.race_log.specs.declared.recording.Recording.{Recording}
 use Rattle.machine_bound.specs.Ends.{end_of}
 use Rattle.machine_known.specs.RunHistory.{notes_at}
 use Rattle.msi_state.specs.Runs.{accesses}

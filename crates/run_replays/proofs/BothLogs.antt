@@ -16,10 +16,10 @@ use Rattle.know_history.specs.Happenings.{Happening}
 use Rattle.know_history.specs.Knowing.{retired_in}
 use Rattle.know_history.proofs.Counting.{retired_there}
 use Rattle.edge_regulate.specs.Regulated.{Knowledge}
-use Rattle.log_codec.specs.Sources.{HasEdge, log_edges}
-use Rattle.log_codec.specs.Validity.{Valid}
-use Rattle.log_codec.specs.declared.recording.Recording.{Recording}
-use Rattle.log_codec.proofs.SourceLaws.{edges-within}
+use Rattle.race_log.specs.Sources.{HasEdge, log_edges}
+use Rattle.race_log.specs.Validity.{Valid}
+use Rattle.race_log.specs.declared.recording.Recording.{Recording}
+use Rattle.race_log.proofs.SourceLaws.{edges-within}
 use Rattle.machine_bound.specs.Ends.{end_of}
 use Rattle.machine_known.specs.Events.{happening_at}
 use Rattle.machine_known.specs.Known.{RetiresEarlier}

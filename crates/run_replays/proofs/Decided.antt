@@ -5,7 +5,7 @@ use Rattle.rtr_types.specs.declared.pairs.Which.TheVariants.{Reduced}
 use Rattle.clock_core.specs.Order.{Among, Relation}
 use Rattle.clock_core.proofs.Paths.{mapped, one}
 use Rattle.conflict_edge.specs.Conflicts.{ConflictPair}
-use Rattle.log_codec.specs.Sources.{log_edges}
+use Rattle.race_log.specs.Sources.{log_edges}
 use Rattle.run_records.specs.Recordings.{recording_of}
 use Rattle.run_replays.proofs.RunLaws.{forward_law, of_run, reduced_forward, run_is_play}
 use Rattle.run_records.proofs.Recordings.{least}

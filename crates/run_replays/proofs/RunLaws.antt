@@ -10,8 +10,8 @@ use Rattle.rtr_types.specs.declared.params.Params.{Params}
 use Rattle.rv_core.specs.declared.outcome.Outcome.{Outcome}
 use Rattle.schedule_pick.specs.Choices.{Choices, choice_at}
 use Rattle.clock_core.proofs.Listed.{contains_among}
-use Rattle.log_codec.specs.Sources.{log_edges}
-use Rattle.log_codec.specs.declared.recording.Recording.{Recording}
+use Rattle.race_log.specs.Sources.{log_edges}
+use Rattle.race_log.specs.declared.recording.Recording.{Recording}
 use Rattle.machine_bound.specs.Ends.{end_of}
 use Rattle.machine_bound.proofs.Ends.{run_ends}
 use Rattle.machine_data.proofs.Remembers.{final_values}

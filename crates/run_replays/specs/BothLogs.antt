@@ -8,8 +8,8 @@ use Rattle.rtr_types.specs.declared.pairs.Which.TheVariants.{Regulated}
 use Rattle.rtr_types.specs.declared.params.Params.{Params}
 use Rattle.schedule_pick.specs.Choices.{Choices, choice_at}
 use Rattle.clock_core.specs.Order.{Among, Within}
-use Rattle.log_codec.specs.Sources.{log_edges}
-use Rattle.log_codec.specs.declared.recording.Recording.{Recording}
+use Rattle.race_log.specs.Sources.{log_edges}
+use Rattle.race_log.specs.declared.recording.Recording.{Recording}
 use Rattle.edge_regulate.specs.Regulated.{Knowledge, regulated}
 use Rattle.run_records.specs.Recordings.{recording_of}
 use Rattle.run_records.specs.WhatIsKnown.{CountsKnown}

@@ -7,8 +7,8 @@ use Rattle.rtr_types.specs.declared.pairs.Which.TheVariants.{Reduced}
 use Rattle.rtr_types.specs.declared.params.Params.{Params}
 use Rattle.schedule_pick.specs.Choices.{Choices}
 use Rattle.clock_core.specs.Order.{Among, Before, Within}
-use Rattle.log_codec.specs.Sources.{log_edges}
-use Rattle.log_codec.specs.declared.recording.Recording.{Recording}
+use Rattle.race_log.specs.Sources.{log_edges}
+use Rattle.race_log.specs.declared.recording.Recording.{Recording}
 use Rattle.run_records.specs.Recordings.{recording_of}
 use Rattle.replay_core.specs.Plans.{plan_of}
 use Rattle.replay_audit.specs.Determinate.{Decides}

@@ -8,8 +8,8 @@ use Rattle.rtr_types.specs.declared.params.Params.{Params}
 use Rattle.schedule_pick.specs.Choices.{Choices, choice_at}
 use Rattle.clock_core.specs.Order.{Among, Relation, Within}
 use Rattle.conflict_edge.specs.Conflicts.{ConflictPair}
-use Rattle.log_codec.specs.Sources.{log_edges}
-use Rattle.log_codec.specs.declared.recording.Recording.{Recording}
+use Rattle.race_log.specs.Sources.{log_edges}
+use Rattle.race_log.specs.declared.recording.Recording.{Recording}
 use Rattle.run_records.specs.Recordings.{run_accesses, recording_of}
 use Rattle.replay_core.specs.Orders.{IsReplayOrder}
 use Rattle.replay_core.specs.Plans.{plan_of}

@@ -10,8 +10,8 @@ use Rattle.rv_core.specs.declared.outcome.LoadNote.{LoadNote}
 use Rattle.rv_core.specs.declared.outcome.Outcome.{Outcome}
 use Rattle.schedule_pick.specs.Choices.{Choices}
 use Rattle.conflict_edge.specs.Conflicts.{StandsIn}
-use Rattle.log_codec.specs.Validity.{Valid}
-use Rattle.log_codec.specs.declared.recording.Recording.{Recording}
+use Rattle.race_log.specs.Validity.{Valid}
+use Rattle.race_log.specs.declared.recording.Recording.{Recording}
 use Rattle.run_outcome.specs.Outcomes.{outcome_of}
 use Rattle.run_records.specs.Recordings.{run_accesses, recording_of}
 use Rattle.replay_core.specs.Answers.{Refuses, Replays}

@@ -5,8 +5,8 @@ use Rattle.std.specs.List.{flat_map, enumerate_from}
 use Rattle.rtr_types.specs.Pairs.{pair_count, source_at, target_at}
 use Rattle.rtr_types.specs.declared.params.Params.{Params}
 use Rattle.stride_vector.specs.declared.StrideVector.{StrideVector}
-use Rattle.log_codec.specs.Counts.{position_count}
-use Rattle.log_codec.specs.declared.recording.Recording.{Recording}
+use Rattle.race_log.specs.Counts.{position_count}
+use Rattle.race_log.specs.declared.recording.Recording.{Recording}
 use Rattle.state_text.specs.Pieces.{line}
 
 -- the parameters of the run, and the length of the image

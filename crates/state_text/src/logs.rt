@@ -2,12 +2,12 @@
 ghost use Rattle.std.specs.Prelude.{◌≡◌, ◌<◌, ◌≤◌, ◌^◌, ◌++◌, OnOk, IfOk, length, string_bytes, sum_by};
 ghost use Rattle.std.specs.List.{flat_map, enumerate_from};
 ghost use Rattle.rtr_types.specs.Pairs.{pair_count};
-ghost use Rattle.log_codec.specs.Counts.{position_count};
+ghost use Rattle.race_log.specs.Counts.{position_count};
 ghost use Rattle.state_text.specs.Logs.{params_line, total_line, edge_line, edge_lines, reduced_lines, strides_text};
 ghost use Rattle.state_text.specs.Logs.{vector_start, vector_line, vector_lines, regulated_lines, logs_lines};
 ghost use Rattle.state_text.specs.Logs.{item_count, vector_edges, IsByPair};
 
-use log_codec::Recording;
+use race_log::Recording;
 use rtr_types::{Items, Params, pair_of};
 use std::alloc::{AllocError, Global};
 use stride_vector::StrideVector;

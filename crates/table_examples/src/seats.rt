@@ -2,7 +2,7 @@
 ghost use Rattle.std.specs.Prelude.{◌≡◌, IfSome};
 ghost use Rattle.replay_table.specs.Seats.{AllAt};
 
-use log_codec::Recording;
+use race_log::Recording;
 use replay_table::{Closed, CoreSeat, Job, ReplayTable};
 use std::alloc::{AllocError, Global};
 

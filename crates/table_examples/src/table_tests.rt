@@ -1,10 +1,11 @@
 //! Two seats, turn by turn, and in two threads.
 ghost use Rattle.std.specs.Prelude.{◌≡◌, ◌<◌, All, length};
-ghost use Rattle.log_codec.specs.Validity.{Valid};
+ghost use Rattle.race_log.specs.Validity.{Valid};
 
 use crate::recordings::{IN_TURN, TWO_BYTES, TWO_SUMS};
 use crate::seats::{close_pair, pair};
-use log_codec::{Recording, read};
+use log_codec::read;
+use race_log::Recording;
 use replay_table::{Closed, CoreSeat, Job, Raced, ReplayTable};
 use rtr_types::Which;
 use rv_core::{Need, Outcome};

@@ -1,10 +1,11 @@
 //! The turns of two workers, one after the other on one thread, and at the same time on two.
 ghost use Rattle.std.specs.Prelude.{◌≡◌};
-ghost use Rattle.log_codec.specs.Validity.{Valid};
+ghost use Rattle.race_log.specs.Validity.{Valid};
 
 use crate::recordings::{IN_TURN, MANY_SUMS, ONE_TOO_MANY};
 use crate::seats::{close_pair, pair};
-use log_codec::{Recording, read};
+use log_codec::read;
+use race_log::Recording;
 use replay_table::{Job, ReplayTable};
 use replay_threads::{OpenGate, Turn, Worker};
 use rtr_types::Which;

@@ -1,8 +1,9 @@
 //! How many vectors and positions are thinned.
 ghost use Rattle.std.specs.Prelude.{IfOk};
-ghost use Rattle.log_codec.specs.Validity.{Valid};
+ghost use Rattle.race_log.specs.Validity.{Valid};
 
-use log_codec::{Recording, read};
+use log_codec::read;
+use race_log::Recording;
 use replay_audit::audit;
 use rtr_types::Which;
 use std::alloc::Global;

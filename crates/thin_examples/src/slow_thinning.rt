@@ -1,6 +1,6 @@
 //! Thinning by its definition alone: each vector is tried once, against the others that aren't left out so far, by what
 //! is reached from an edge's source along their edges.
-use log_codec::Recording;
+use race_log::Recording;
 use rtr_types::{CORES_MAX, Edge, Instr, pair_count, pair_of};
 use std::alloc::{AllocError, Global};
 use stride_vector::StrideVector;

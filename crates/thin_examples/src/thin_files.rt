@@ -1,9 +1,10 @@
 //! What is thinned, and what is said of thin files.
-ghost use Rattle.log_codec.specs.Validity.{Valid};
+ghost use Rattle.race_log.specs.Validity.{Valid};
 ghost use Rattle.vector_reduce.specs.Validity.{IsThin};
 
 use crate::bytes::{FRONT, ROWS, Row, joined, thinned};
-use log_codec::{CodecFault, Recording, spell};
+use log_codec::{CodecFault, spell};
+use race_log::Recording;
 use std::alloc::{AllocError, Global};
 use std::test::Fail;
 use vector_reduce::{ThinCheckFault, Thinned, check_thin, read_thin, spell_thin};

@@ -3,8 +3,8 @@ ghost use Rattle.std.specs.Prelude.{◌≡◌, ◌≤◌, ◌∷◌, [], IfOk, l
 
 use image_elf::ElfFault;
 use image_mem::Image;
-use log_codec::Recording;
 use min_certificate::CheckFailure;
+use race_log::Recording;
 use rtr_types::{CORES_MAX, Cut, Edge, Instr, Items, Params, WORDS_MAX};
 use rv_core::{Core, Halt, LoadNote, Outcome};
 use state_text::{

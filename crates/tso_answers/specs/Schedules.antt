@@ -8,7 +8,7 @@ use Rattle.rtr_types.specs.declared.params.Params.{Params}
 use Rattle.rv_core.specs.declared.outcome.Outcome.{Outcome}
 use Rattle.schedule_pick.specs.Choices.{Choices, choice_at}
 use Rattle.conflict_edge.specs.Least.{IsLeast}
-use Rattle.log_codec.specs.Sources.{log_edges}
+use Rattle.race_log.specs.Sources.{log_edges}
 use Rattle.replay_core.specs.declared.answers.ReplayFault.{ReplayFault}
 use Rattle.replay_core.specs.declared.answers.ReplayFault.TheVariants as replaying
 use Rattle.tso_bound.specs.Ends.{end_of}

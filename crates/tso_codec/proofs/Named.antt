@@ -16,7 +16,7 @@ use Rattle.log_codec.proofs.BadPartLaws.{read-reduced, no-reading, never-both}
 use Rattle.log_codec.proofs.BadPartLaws.{at_end, end-names, end-some, some-end}
 use Rattle.log_codec.proofs.FieldLaws.{sizes_take, sizes_again}
 use Rattle.log_codec.proofs.Named.{bind-err, bind-names, sizes-name, image-names, totals-name, reduced-names}
-use Rattle.log_codec.proofs.ReducedLaws.{total-small}
+use Rattle.race_log.proofs.Parts.{total-small}
 use Rattle.log_codec.proofs.Steps.{bind_ok, ok_is}
 use Rattle.tso_codec.specs.declared.recording.TheConstants.{VALUES, END}
 use Rattle.tso_codec.specs.declared.recording.TsoRecording.{TsoRecording}

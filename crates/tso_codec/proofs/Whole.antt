@@ -19,12 +19,14 @@ use Rattle.log_codec.specs.Faults.{◌>>=◌, Gives}
 use Rattle.log_codec.specs.Laws.{IsBytes}
 use Rattle.log_codec.specs.Reading.{sizes_at, image_at, totals_at, targets_at}
 use Rattle.log_codec.specs.Spelling.{sizes_text, totals_text, targets_text}
-use Rattle.log_codec.specs.Validity.{Valid, AreVectors, bound_at}
+use Rattle.race_log.specs.Validity.{Valid, AreVectors, bound_at}
 use Rattle.log_codec.proofs.FieldLaws.{sizes_take, sizes_again, image_takes, image_again}
 use Rattle.log_codec.proofs.Named.{Names}
-use Rattle.log_codec.proofs.ReducedLaws.{reduced_takes, reduced_again, total-small}
+use Rattle.log_codec.proofs.ReducedLaws.{reduced_takes, reduced_again}
+use Rattle.race_log.proofs.Parts.{total-small}
 use Rattle.log_codec.proofs.Steps.{bind_ok, guard_ok, ok_is, bytes-drop, Takes, Takes-then}
-use Rattle.log_codec.proofs.Whole.{totals_take, totals_again, valid-made, edges-placed}
+use Rattle.log_codec.proofs.Whole.{totals_take, totals_again}
+use Rattle.race_log.proofs.Parts.{valid-made, edges-placed}
 use Rattle.tso_codec.specs.declared.recording.TheConstants.{END}
 use Rattle.tso_codec.specs.declared.recording.TsoRecording.{TsoRecording}
 use Rattle.tso_codec.specs.Laws.{ReadIsSpelled, SpelledIsRead, PrefixFree}

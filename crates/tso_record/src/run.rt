@@ -2,7 +2,7 @@
 ghost use Rattle.std.specs.Prelude.{◌≡◌, ◌<◌, ℕ, suc, IfOk, IsTrue, OnOk, false, length, map, slice_index};
 ghost use Rattle.conflict_edge.specs.Least.{IsLeast};
 ghost use Rattle.image_mem.specs.Contents.{Contents};
-ghost use Rattle.log_codec.specs.Sources.{log_edges};
+ghost use Rattle.race_log.specs.Sources.{log_edges};
 ghost use Rattle.rtr_types.specs.Parameters.{Fits};
 ghost use Rattle.rtr_types.specs.declared.pairs.Which.TheVariants.{Reduced};
 ghost use Rattle.rtr_types.specs.declared.params.Params.{Params};

@@ -16,7 +16,7 @@ use Rattle.rv_core.specs.declared.outcome.LoadNote.{LoadNote}
 use Rattle.rv_core.specs.declared.outcome.Outcome.{Outcome}
 use Rattle.rv_core.specs.States.{starting}
 use Rattle.conflict_edge.specs.Least.{IsLeast}
-use Rattle.log_codec.specs.Sources.{log_edges}
+use Rattle.race_log.specs.Sources.{log_edges}
 use Rattle.machine_data.specs.LastValues.{EachFindsLast, memory_left}
 use Rattle.replay_core.specs.Orders.{IsWhole, nought}
 use Rattle.replay_core.specs.Plans.{Plan}

@@ -13,7 +13,7 @@ use Rattle.rtr_types.specs.declared.params.Params.{Params}
 use Rattle.least_lists.proofs.LeastLists.{reduced_lists}
 use Rattle.least_lists.proofs.Logs.{least_log}
 use Rattle.least_lists.specs.LeastLists.{AreOf, least_lists}
-use Rattle.log_codec.specs.Validity.{AreVectors, Valid, bound_at}
+use Rattle.race_log.specs.Validity.{AreVectors, Valid, bound_at}
 use Rattle.online_reduce.proofs.ByPair.{length-by_pair}
 use Rattle.online_reduce.specs.Reduced.{Reduced, count_of}
 use Rattle.replay_core.specs.Orders.{nought}

@@ -6,7 +6,7 @@ use Rattle.std.specs.Prelude.{slice_index}
 use Rattle.std.proofs.lemmas.List.FromFn.{length-map-range_with_len, get_or-map-range_with_len}
 use native.Mathlib.Decide.{ℕ_discrete}
 use Rattle.rtr_types.specs.Turns.{StandInTurn}
-use Rattle.log_codec.proofs.InTurn.{places-stand}
+use Rattle.race_log.proofs.InTurn.{places-stand}
 use Rattle.replay_core.specs.Orders.{bump, counts, nought}
 use Rattle.replay_core.proofs.Counts.{bump_same, bump_more, counts_more}
 use Rattle.tso_codec.specs.Validity.{ValueStands, AreValues, AreValuesOf, count_of}

@@ -7,8 +7,8 @@ use Rattle.rtr_types.specs.declared.pairs.Which.TheVariants.{Reduced as ReducedL
 use Rattle.rtr_types.specs.declared.params.Params.{Params}
 use Rattle.conflict_edge.specs.Least.{IsLeast}
 use Rattle.least_lists.specs.LeastLists.{least_lists}
-use Rattle.log_codec.specs.Sources.{log_edges}
-use Rattle.log_codec.specs.Validity.{Valid}
+use Rattle.race_log.specs.Sources.{log_edges}
+use Rattle.race_log.specs.Validity.{Valid}
 use Rattle.tso_codec.specs.declared.recording.TsoRecording.{TsoRecording}
 use Rattle.tso_codec.specs.Validity.{IsTso, plain_of}
 use Rattle.tso_records.specs.Standings.{standing_at}

@@ -4,7 +4,7 @@ use Rattle.std.specs.Prelude.{slice_index, slice_index_or, if◌then◌else◌}
 use Rattle.std.specs.List.{range_with_len}
 use Rattle.rtr_types.specs.Accesses.{is_read}
 use Rattle.rtr_types.specs.declared.access.Access.{Access}
-use Rattle.log_codec.specs.Validity.{Valid}
+use Rattle.race_log.specs.Validity.{Valid}
 use Rattle.rv_core.specs.declared.outcome.LoadNote.{LoadNote}
 use Rattle.rv_core.specs.declared.outcome.Outcome.{Outcome}
 use Rattle.replay_core.specs.Orders.{counts, nought}

@@ -3,7 +3,7 @@ ghost use Rattle.std.specs.Prelude.{◌≡◌, [], IfOk, MatchResult, replicate}
 ghost use Rattle.tso_codec.specs.Validity.{IsTso, plain_of};
 ghost use Rattle.tso_replay.specs.Replays.{TsoReplays, TsoRefuses};
 
-use log_codec::Recording;
+use race_log::Recording;
 use replay_core::{Replay, ReplayFault};
 use rtr_types::{Items, Which, pair_count};
 use rv_core::Outcome;

@@ -12,12 +12,12 @@ use Rattle.rtr_types.specs.declared.instr.Edge.{Edge}
 use Rattle.rtr_types.specs.declared.pairs.Which.TheVariants.{Regulated}
 use Rattle.clock_core.specs.Order.{Among, Before}
 use Rattle.clock_core.proofs.Listed.{among_contains}
-use Rattle.log_codec.specs.declared.recording.Recording.{Recording}
-use Rattle.log_codec.specs.Sources.{EdgeWithin}
+use Rattle.race_log.specs.declared.recording.Recording.{Recording}
+use Rattle.race_log.specs.Sources.{EdgeWithin}
 use Rattle.rtr_types.specs.Turns.{StandInTurn, stay}
-use Rattle.log_codec.specs.Validity.{Valid}
-use Rattle.log_codec.proofs.InTurn.{places-stand}
-use Rattle.log_codec.proofs.SourceLaws.{edges-within}
+use Rattle.race_log.specs.Validity.{Valid}
+use Rattle.race_log.proofs.InTurn.{places-stand}
+use Rattle.race_log.proofs.SourceLaws.{edges-within}
 use Rattle.replay_audit.specs.Determinate.{IsDeterminate}
 use Rattle.vector_reduce.specs.declared.pair_vector.PairVector.{PairVector}
 use Rattle.vector_reduce.specs.declared.thinned.Shown.{Shown}

@@ -1,7 +1,7 @@
 -- What a check answers.
 use Rattle.std.proofs.Common.{◌≡◌, ℕ, ◌+◌, ◌-◌, ◌^◌, ◌<◌, List, length, None, Some, refl, subst, arith}
 use Rattle.rtr_types.specs.declared.pairs.Which.TheVariants.{Regulated}
-use Rattle.log_codec.specs.declared.recording.Recording.{Recording}
+use Rattle.race_log.specs.declared.recording.Recording.{Recording}
 use Rattle.replay_audit.specs.declared.audit_fault.AuditFault.{AuditFault}
 use Rattle.replay_audit.specs.declared.audit_fault.AuditFault.TheVariants as audits
 use Rattle.replay_audit.specs.Audits.{AuditRefuses, Findings, IsAuditOf, Passed}

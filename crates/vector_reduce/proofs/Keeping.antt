@@ -17,15 +17,15 @@ use Rattle.rtr_types.specs.Parameters.{Fits}
 use Rattle.rtr_types.proofs.PairPlaces.{places-paired}
 use Rattle.stride_vector.specs.declared.StrideVector.{StrideVector}
 use Rattle.stride_vector.specs.Vectors.{last_of}
-use Rattle.log_codec.specs.declared.recording.Recording.{Recording}
+use Rattle.race_log.specs.declared.recording.Recording.{Recording}
 use Rattle.rtr_types.specs.Turns.{StandInTurn}
 use Rattle.rtr_types.specs.PairEdges.{AreEdges}
 use Rattle.rtr_types.proofs.Ranges.{range_more}
-use Rattle.log_codec.specs.Validity.{AreVectors, Valid, VectorStands, bound_at, end_of}
-use Rattle.log_codec.proofs.Logs.{few_vectors, vector_small}
-use Rattle.log_codec.proofs.Looked.{contains-flat, map-contains}
-use Rattle.log_codec.proofs.Whole as whole
-use Rattle.log_codec.proofs.Counted.{few-pairs}
+use Rattle.race_log.specs.Validity.{AreVectors, Valid, VectorStands, bound_at, end_of}
+use Rattle.race_log.proofs.Logs.{few_vectors, vector_small}
+use Rattle.race_log.proofs.Looked.{contains-flat, map-contains}
+use Rattle.race_log.proofs.Parts as parts
+use Rattle.race_log.proofs.Counted.{few-pairs}
 use Rattle.vector_reduce.specs.declared.pair_vector.PairVector.{PairVector}
 use Rattle.vector_reduce.specs.Arrivals.{AreBetween, IsBetween}
 use Rattle.vector_reduce.specs.Kept.{IsKeptOf, kept, kept_lists}
@@ -253,7 +253,7 @@ between_placed r v valid p = record {
 }
   where
     small : ((bound_at r.totals p.place).0 < 2 ^ 32) × ((bound_at r.totals p.place).1 < 2 ^ 32)
-    small = whole.totals_small r p.place valid
+    small = parts.totals_small r p.place valid
 
 pub vectors_between : (r : Recording) → Valid r → AreBetween r.params.cores (vectors_of r)
 vectors_between r valid k lt =
@@ -267,7 +267,7 @@ positions_small r k valid lt =
     let v = vector_at (vectors_of r) k in
     let p = placed r v valid (Contains-get_or (vectors_of r) k no_vector lt) in
     let n = (vector_small (bound_at r.totals p.place) p.before v.vector p.stands).n in
-    let small = (whole.totals_small r p.place valid).0 in
+    let small = (parts.totals_small r p.place valid).0 in
     omega (arith, n, small)
 
 -- more cores
@@ -321,7 +321,7 @@ sum_small : (r : Recording) → Valid r →
 sum_small r v = sum_by-le (λ (vs : List StrideVector). length vs) r.params.limit r.regulated (λ place d lt.
     let are = v.regulated place (subst (λ (n : ℕ). place < n) v.each_regulated lt) in
     let count = few_vectors (bound_at r.totals place) (get_or r.regulated place []) are in
-    let most = whole.bound-most r place v in
+    let most = parts.bound-most r place v in
     subst (λ (vs : List StrideVector). length vs ≤ r.params.limit) (get_or_default r.regulated place [] d lt)
     (omega (arith, count, most)))
 

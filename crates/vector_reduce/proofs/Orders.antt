@@ -12,8 +12,8 @@ use Rattle.clock_core.proofs.Paths.{one, instr_eq}
 use Rattle.clock_entries.specs.Laws.{IsLog}
 use Rattle.conflict_edge.specs.Least.{Suffices}
 use Rattle.rv_core.specs.declared.outcome.Outcome.{Outcome}
-use Rattle.log_codec.specs.declared.recording.Recording.{Recording}
-use Rattle.log_codec.specs.Validity.{Valid}
+use Rattle.race_log.specs.declared.recording.Recording.{Recording}
+use Rattle.race_log.specs.Validity.{Valid}
 use Rattle.replay_core.specs.Laws.{PlaceOf}
 use Rattle.replay_core.specs.Orders.{bump, counts, nought, IsReplayOrder, IsWhole, Ready}
 use Rattle.replay_core.specs.Plans.{Plan, plan_of}

@@ -9,7 +9,7 @@ use Rattle.std.proofs.lemmas.List.{get_or_past}
 use Rattle.std.proofs.lemmas.List.FromFn.{fill_by_all, take-map-range_with_len}
 use Rattle.rtr_types.specs.declared.TheConstants.{CORES_MAX}
 use Rattle.rtr_types.specs.declared.cut.Cut.{Cut}
-use Rattle.log_codec.specs.declared.recording.Recording.{Recording}
+use Rattle.race_log.specs.declared.recording.Recording.{Recording}
 use Rattle.log_codec.specs.CoreCounts.{AreCounts, count_at, counts_at, counts_text}
 use Rattle.log_codec.specs.Faults.{◌>>=◌}
 use Rattle.log_codec.specs.Laws.{IsBytes}
@@ -17,12 +17,12 @@ use Rattle.log_codec.specs.Reading.{number_at}
 use Rattle.log_codec.specs.Spelling.{number}
 use Rattle.rtr_types.specs.Turns.{StandInTurn, stay, count_up}
 use Rattle.log_codec.specs.Turns.{read_in_turn, spelled_in_turn, alike}
-use Rattle.log_codec.specs.Validity.{Valid}
+use Rattle.race_log.specs.Validity.{Valid}
 use Rattle.log_codec.proofs.Steps.{bind_ok, ok_is, Takes, Takes-then}
 use Rattle.log_codec.proofs.CoreCountLaws.{counts_again, counts_take}
 use Rattle.log_codec.proofs.FieldLaws.{number_again, number_takes}
 use Rattle.log_codec.proofs.InTurn.{turns_take, turns_again}
-use Rattle.log_codec.proofs.Counted.{totals_small}
+use Rattle.race_log.proofs.Counted.{totals_small}
 use Rattle.vector_reduce.specs.declared.thinned.Shown.{Shown}
 use Rattle.vector_reduce.specs.declared.thinned.TheConstants.{SHOWN}
 use Rattle.vector_reduce.specs.declared.thinned.Thinned.{Thinned}

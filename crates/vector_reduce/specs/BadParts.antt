@@ -4,7 +4,7 @@ use Rattle.std.specs.Prelude.{◌≡◌, ◌≢◌, ℕ, ◌≤◌, ◌↔◌, L
 use Rattle.rtr_types.specs.declared.params.Params.{Params}
 use Rattle.rtr_types.specs.Turns.{StandInTurn, stay}
 use Rattle.stride_vector.specs.declared.StrideVector.{StrideVector}
-use Rattle.log_codec.specs.declared.recording.Recording.{Recording}
+use Rattle.race_log.specs.declared.recording.Recording.{Recording}
 use Rattle.log_codec.specs.declared.version.Version.TheVariants.{Two}
 use Rattle.log_codec.specs.BadParts.{IsHeader, IsImage, IsReduced, IsRegulated, IsTotals, UpToHeader, UpToImage}
 use Rattle.log_codec.specs.BadParts.{UpToReduced, UpToRegulated, UpToTotals, recording_up_to}

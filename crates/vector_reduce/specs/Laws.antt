@@ -2,9 +2,9 @@
 use Rattle.std.specs.Prelude.{◌≡◌, ℕ, ◌↔◌, List, ◌++◌, Ok}
 use Rattle.rtr_types.specs.declared.instr.Instr.{Instr}
 use Rattle.clock_core.specs.Order.{Before, Among}
-use Rattle.log_codec.specs.declared.recording.Recording.{Recording}
+use Rattle.race_log.specs.declared.recording.Recording.{Recording}
 use Rattle.log_codec.specs.Laws.{IsBytes}
-use Rattle.log_codec.specs.Validity.{Valid}
+use Rattle.race_log.specs.Validity.{Valid}
 use Rattle.vector_reduce.specs.declared.pair_vector.PairVector.{PairVector}
 use Rattle.vector_reduce.specs.declared.thinned.Shown.{Shown}
 use Rattle.vector_reduce.specs.declared.thinned.Thinned.{Thinned}

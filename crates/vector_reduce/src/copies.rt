@@ -2,7 +2,7 @@
 ghost use Rattle.std.specs.Prelude.{◌≡◌, ◌≤◌, length, sum_by, IfOk};
 ghost use Rattle.vector_reduce.specs.Kept.{IsKeptOf, kept, kept_lists};
 
-use log_codec::Recording;
+use race_log::Recording;
 use rtr_types::Items;
 use std::alloc::{AllocError, Global};
 use stride_vector::StrideVector;

@@ -1,10 +1,10 @@
 //! Vectors with the cores between which they lead.
 ghost use Rattle.std.specs.Prelude.{◌≡◌, ◌<◌, ◌++◌, IfOk, OnOk, map};
 ghost use Rattle.stride_vector.specs.Vectors.{IsVector};
-ghost use Rattle.log_codec.specs.Validity.{Valid};
+ghost use Rattle.race_log.specs.Validity.{Valid};
 ghost use Rattle.vector_reduce.specs.Vectors.{edge_at, led_between, vectors_of};
 
-use log_codec::Recording;
+use race_log::Recording;
 use rtr_types::{Edge, Instr, Items, pair_count, pair_of};
 use std::alloc::{AllocError, Global};
 use stride_vector::StrideVector;

@@ -4,7 +4,7 @@ ghost use Rattle.rtr_types.specs.declared.TheConstants.{CORES_MAX};
 ghost use Rattle.log_codec.specs.Faults.{Gives};
 ghost use Rattle.rtr_types.specs.Turns.{stay};
 ghost use Rattle.log_codec.specs.Turns.{read_in_turn};
-ghost use Rattle.log_codec.specs.Validity.{Valid};
+ghost use Rattle.race_log.specs.Validity.{Valid};
 ghost use Rattle.vector_reduce.specs.Reading.{front_two_at, one_at, parts_at, thinned_at};
 ghost use Rattle.vector_reduce.specs.Spelling.{Spells};
 ghost use Rattle.vector_reduce.specs.Validity.{IsThin, cut_of};
@@ -12,7 +12,8 @@ ghost use Rattle.vector_reduce.specs.declared.thinned.Thinned.{Thinned as SomeTh
 
 use crate::pair_vector::vectors_of;
 use crate::thinned::{END, SHOWN, Shown, Thinned};
-use log_codec::{CodecFault, HEADER, Recording, counts, number, read_front};
+use log_codec::{CodecFault, HEADER, counts, number, read_front};
+use race_log::Recording;
 use rtr_types::{CORES_MAX, Cut, Items};
 use std::alloc::Global;
 

@@ -1,5 +1,5 @@
 //! The thinned recording, and the parts that its bytes have beyond a recording's first five.
-use log_codec::Recording;
+use race_log::Recording;
 use rtr_types::{Cut, Items};
 
 /// The sixth part: for each vector the number of an edge, and a count of each core.

@@ -1,7 +1,7 @@
 //! Leaving out whole vectors.
 ghost use Rattle.std.specs.Prelude.{◌≡◌, ◌<◌, ◌^◌, length, sum_by, Err, IfOk, IsOkUnless, MatchOption, MatchResult};
 ghost use Rattle.rtr_types.specs.declared.pairs.Which.TheVariants.{Regulated};
-ghost use Rattle.log_codec.specs.Validity.{Valid};
+ghost use Rattle.race_log.specs.Validity.{Valid};
 ghost use Rattle.vector_reduce.specs.Answers.{AreFew, AreTooMany, IsRefusedFor, IsThinningOf, ThinRefuses, too_many_of};
 ghost use Rattle.vector_reduce.specs.Kept.{IsLeftOf, IsShownLeft, kept};
 ghost use Rattle.vector_reduce.specs.Showing.{AreFormed, AreLeastShown};
@@ -13,7 +13,7 @@ use crate::arrivals::Arrivals;
 use crate::copies::kept_of;
 use crate::pair_vector::vectors_of;
 use crate::thinned::{Shown, Thinned};
-use log_codec::Recording;
+use race_log::Recording;
 use replay_audit::Audited;
 use rtr_types::{Items, Which};
 use std::alloc::{AllocError, Global};

@@ -4,7 +4,7 @@ use Rattle.std.specs.List.{flat_map, range_with_len}
 use Rattle.rtr_types.specs.declared.instr.Edge.{Edge}
 use Rattle.rtr_types.specs.declared.pairs.Which.TheVariants.{Reduced}
 use Rattle.rtr_types.specs.Pairs.{pair_count}
-use Rattle.log_codec.specs.Sources.{edge_between, edges_at}
+use Rattle.race_log.specs.Sources.{edge_between, edges_at}
 use Rattle.clock_entries.specs.Ends.{instr, is_end}
 use Rattle.certificate_codec.proofs.Edges.{edges_more, edges_done, pair_edges_are}
 use Rattle.certificate_codec.proofs.Marks.{pair_marked}

@@ -1,7 +1,7 @@
 use Rattle.std.proofs.Common.{◌≡◌, ◌+◌, ◌<◌, ℕ, length, get_or, false}
 use Rattle.std.specs.List.{flat_map, range_with_len}
 use Rattle.rtr_types.specs.declared.pairs.Which.TheVariants.{Reduced}
-use Rattle.log_codec.specs.Sources.{edges_at}
+use Rattle.race_log.specs.Sources.{edges_at}
 use Rattle.clock_entries.specs.Ends.{instr, is_end}
 use Rattle.certificate_codec.proofs.edge_ends.mark_edges.Given as goal
 

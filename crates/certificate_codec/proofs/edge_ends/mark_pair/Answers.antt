@@ -1,7 +1,7 @@
 use Rattle.std.proofs.Common.{◌<◌, ◌+◌, ◌||◌, ◌∙◌, ap, arith, false, get_or, length, refl, sym, take, List, Bool, ℕ}
 use Rattle.std.specs.Prelude.{map}
 use Rattle.std.proofs.lemmas.List.{take_all}
-use Rattle.log_codec.specs.Sources.{edge_between}
+use Rattle.race_log.specs.Sources.{edge_between}
 use Rattle.clock_entries.specs.Ends.{instr, is_end}
 use Rattle.certificate_codec.proofs.Marks.{marked_more, none_there}
 use Rattle.certificate_codec.proofs.edge_ends.mark_pair.Goals as goal

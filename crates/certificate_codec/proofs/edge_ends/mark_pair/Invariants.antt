@@ -1,6 +1,6 @@
 use Rattle.std.proofs.Common.{◌≡◌, ◌+◌, ◌<◌, ◌||◌, ℕ, take, length, get_or, false}
 use Rattle.std.specs.Prelude.{map}
-use Rattle.log_codec.specs.Sources.{edge_between}
+use Rattle.race_log.specs.Sources.{edge_between}
 use Rattle.clock_entries.specs.Ends.{instr, is_end}
 use Rattle.certificate_codec.proofs.edge_ends.mark_pair.Given as goal
 

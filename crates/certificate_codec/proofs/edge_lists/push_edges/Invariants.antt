@@ -1,6 +1,6 @@
 use Rattle.std.proofs.Common.{◌≡◌, ◌++◌, take}
 use Rattle.std.specs.Prelude.{map}
-use Rattle.log_codec.specs.Sources.{edge_between}
+use Rattle.race_log.specs.Sources.{edge_between}
 use Rattle.certificate_codec.proofs.edge_lists.push_edges.Given as goal
 
 abbrev pub invariant-loop-a : goal.invariant-loop-a

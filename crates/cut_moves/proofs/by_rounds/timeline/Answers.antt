@@ -1,6 +1,6 @@
 use Rattle.std.proofs.Common.{ℕ, List, ap, sym, subst, ◌∙◌, length, replicate}
 use Rattle.rtr_types.specs.declared.pairs.Which.{Which}
-use Rattle.log_codec.specs.declared.recording.Recording.{Recording}
+use Rattle.race_log.specs.declared.recording.Recording.{Recording}
 use Rattle.replay_core.specs.Orders.{IsReplayOrder, IsWhole}
 use Rattle.replay_core.specs.Plans.{plan_of}
 use Rattle.cut_moves.proofs.Rounds.{rounds_ordered, rounds_whole}

@@ -1,6 +1,6 @@
 use Rattle.std.proofs.Common.{ap, sym, subst, ◌+◌}
 use Rattle.rtr_types.specs.declared.cut.Cut.{Cut}
-use Rattle.log_codec.specs.declared.recording.Recording.{Recording}
+use Rattle.race_log.specs.declared.recording.Recording.{Recording}
 use Rattle.cut_moves.proofs.Hulls.{IsHullUpTo, hull_on, hull_start}
 use Rattle.cut_moves.proofs.moves.hull.Goals as goal
 

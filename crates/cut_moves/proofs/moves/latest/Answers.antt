@@ -1,5 +1,5 @@
 use Rattle.std.proofs.Common.{ℕ, List, ap, ◌∙◌, arith, slice_index}
-use Rattle.log_codec.specs.declared.recording.Recording.{Recording}
+use Rattle.race_log.specs.declared.recording.Recording.{Recording}
 use Rattle.cut_moves.proofs.Hulls.{whole_greatest}
 use Rattle.cut_moves.proofs.moves.latest.Goals as goal
 

@@ -1,5 +1,5 @@
 use Rattle.std.proofs.Common.{ap, arith}
-use Rattle.log_codec.specs.declared.recording.Recording.{Recording}
+use Rattle.race_log.specs.declared.recording.Recording.{Recording}
 use Rattle.cut_moves.proofs.Hulls.{empty_least}
 use Rattle.cut_moves.proofs.moves.least_with.Goals as goal
 

@@ -1,6 +1,6 @@
 use Rattle.std.proofs.Common.{ap, arith}
 use Rattle.std.specs.Prelude.{slice_index}
-use Rattle.log_codec.specs.declared.recording.Recording.{Recording}
+use Rattle.race_log.specs.declared.recording.Recording.{Recording}
 use Rattle.cut_replay.proofs.Cuts.{least_with}
 use Rattle.cut_replay.proofs.closed_cuts.cut_with.Goals as goal
 

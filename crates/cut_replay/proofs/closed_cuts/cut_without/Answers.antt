@@ -1,7 +1,7 @@
 use Rattle.std.proofs.Common.{◌<◌, ◌≡◌, ◌∙◌, ap, arith, length, length-set, refl}
 use Rattle.std.specs.Prelude.{slice_index}
 use Rattle.rtr_types.specs.declared.TheConstants.{CORES_MAX}
-use Rattle.log_codec.specs.declared.recording.Recording.{Recording}
+use Rattle.race_log.specs.declared.recording.Recording.{Recording}
 use Rattle.cut_replay.specs.Frees.{AreFree}
 use Rattle.cut_replay.proofs.Cuts.{filled, greatest_without, unfilled}
 use Rattle.cut_replay.proofs.closed_cuts.cut_without.Goals as goal

@@ -2,8 +2,8 @@ use Rattle.std.proofs.Common.{subst, arith}
 use Rattle.std.specs.Prelude.{IfOk}
 use Rattle.std.proofs.lemmas.Result.{IfOk-weaker}
 use Rattle.gdb_packets.specs.declared.replies.Stop as stops
-use Rattle.log_codec.specs.declared.recording.Recording.{Recording}
-use Rattle.log_codec.specs.Validity.{Valid}
+use Rattle.race_log.specs.declared.recording.Recording.{Recording}
+use Rattle.race_log.specs.Validity.{Valid}
 use Rattle.cut_moves.proofs.Hulls.{empty_closed, empty_cut}
 use Rattle.debug_place.proofs.OwnCuts.{none_in}
 use Rattle.gdb_session.specs.Moves.{WalksBack}

@@ -2,8 +2,8 @@ use Rattle.std.proofs.Common.{◌∙◌, ◌<◌, ◌+◌, List, ℕ, get_or, re
 use Rattle.std.specs.Prelude.{Option, Some, MatchOption, slice_index, slice_set}
 use Rattle.std.proofs.lemmas.Bool.{leb-false, leb-true}
 use Rattle.gdb_packets.specs.declared.replies.Stop as stops
-use Rattle.log_codec.specs.declared.recording.Recording.{Recording}
-use Rattle.log_codec.specs.Validity.{Valid}
+use Rattle.race_log.specs.declared.recording.Recording.{Recording}
+use Rattle.race_log.specs.Validity.{Valid}
 use Rattle.debug_place.specs.Places.{Placed}
 use Rattle.gdb_session.specs.Moves.{StepsFree, StepsInto}
 use Rattle.gdb_session.specs.Stopping.{stopping_of}

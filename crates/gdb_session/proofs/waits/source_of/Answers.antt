@@ -1,4 +1,4 @@
-use Rattle.log_codec.specs.Sources.{log_edges}
+use Rattle.race_log.specs.Sources.{log_edges}
 use Rattle.gdb_session.proofs.WaitLemmas.{looked_up}
 use Rattle.gdb_session.proofs.waits.source_of.Goals as goal
 

@@ -3,7 +3,7 @@ use Rattle.std.proofs.lemmas.Result.{err_from_is_err_and}
 use Rattle.rtr_types.specs.Pairs.{pair_count}
 use Rattle.rtr_types.specs.Turns.{count_up}
 use Rattle.log_codec.specs.Turns.{read_in_turn}
-use Rattle.log_codec.specs.Validity.{bound_at}
+use Rattle.race_log.specs.Validity.{bound_at}
 use Rattle.log_codec.specs.Reading.{edges_at}
 use Rattle.log_codec.proofs.InTurn.{begins, goes_on, ends, is_done}
 use Rattle.log_codec.proofs.pairs.by_pairs.Goals as goal

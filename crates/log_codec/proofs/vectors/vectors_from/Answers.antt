@@ -1,6 +1,6 @@
 use Rattle.std.proofs.lemmas.Result.{err_from_is_err_and}
 use Rattle.log_codec.specs.Turns.{read_in_turn}
-use Rattle.log_codec.specs.Validity.{end_of}
+use Rattle.race_log.specs.Validity.{end_of}
 use Rattle.log_codec.specs.Reading.{vector_at}
 use Rattle.log_codec.proofs.InTurn.{begins, goes_on, ends, is_done}
 use Rattle.log_codec.proofs.vectors.vectors_from.Goals as goal

@@ -1,6 +1,6 @@
 use Rattle.std.proofs.Common.{◌≡◌, ◌-◌}
 use Rattle.log_codec.specs.Turns.{read_in_turn}
-use Rattle.log_codec.specs.Validity.{end_of}
+use Rattle.race_log.specs.Validity.{end_of}
 use Rattle.log_codec.specs.Reading.{vector_at}
 use Rattle.log_codec.proofs.InTurn.{with_front}
 use Rattle.log_codec.proofs.vectors.vectors_from.Given as goal

@@ -3,7 +3,8 @@ use Rattle.rtr_types.specs.Turns.{follow}
 use Rattle.log_codec.specs.Turns.{spelled_in_turn}
 use Rattle.rtr_types.specs.PairEdges.{EdgeRises}
 use Rattle.log_codec.specs.Spelling.{number, edge_text, edges_text}
-use Rattle.log_codec.proofs.InTurn.{puts_on, puts_done, stand-drop}
+use Rattle.log_codec.proofs.InTurn.{puts_on, puts_done}
+use Rattle.race_log.proofs.InTurn.{stand-drop}
 use Rattle.log_codec.proofs.writing.put_edges.Goals as goal
 
 pub loop-edge-init : goal.loop-edge-init

@@ -2,7 +2,7 @@ use Rattle.std.proofs.Common.{◌++◌, length, get_or, append_assoc}
 use Rattle.stride_vector.specs.declared.StrideVector.{StrideVector}
 use Rattle.stride_vector.specs.Vectors.{last_of}
 use Rattle.log_codec.specs.Turns.{alike, spelled_in_turn}
-use Rattle.log_codec.specs.Validity.{end_of}
+use Rattle.race_log.specs.Validity.{end_of}
 use Rattle.log_codec.specs.Spelling.{number, vector_text, vectors_text}
 use Rattle.log_codec.proofs.InTurn.{puts_on, puts_done}
 use Rattle.log_codec.proofs.writing.put_vectors.Goals as goal

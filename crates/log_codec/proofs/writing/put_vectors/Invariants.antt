@@ -1,6 +1,6 @@
 use Rattle.std.proofs.Common.{◌≡◌, ◌++◌, ℕ, drop}
 use Rattle.log_codec.specs.Turns.{alike, spelled_in_turn}
-use Rattle.log_codec.specs.Validity.{end_of}
+use Rattle.race_log.specs.Validity.{end_of}
 use Rattle.log_codec.specs.Spelling.{vector_text, vectors_text}
 use Rattle.log_codec.proofs.writing.put_vectors.Given as goal
 

@@ -1,4 +1,5 @@
-use Rattle.log_codec.proofs.Whole.{is_log, vectors_listed}
+use Rattle.log_codec.proofs.Whole.{is_log}
+use Rattle.race_log.proofs.Parts.{vectors_listed}
 use Rattle.log_codec.proofs.writing.spell_in.Goals as goal
 
 pub put_reduced-requires : goal.put_reduced-requires

@@ -2,7 +2,7 @@ use Rattle.std.proofs.Common.{◌≡◌, ◌∙◌, sym, subst}
 use Rattle.std.specs.Prelude.{Option, MatchOption}
 use Rattle.rtr_types.specs.declared.instr.Edge.{Edge}
 use Rattle.rtr_types.specs.declared.pairs.Which.TheVariants.{Reduced}
-use Rattle.log_codec.specs.declared.recording.Recording.{Recording}
+use Rattle.race_log.specs.declared.recording.Recording.{Recording}
 use Rattle.clock_entries.specs.Ends.{Clocks}
 use Rattle.replay_audit.specs.Determinate.{IsDeterminate, low_accesses}
 use Rattle.min_certificate.specs.declared.answers.CertFault.TheVariants.{NotLeast}

@@ -1,6 +1,6 @@
 use Rattle.std.proofs.Common.{◌≡◌, List, ap, sym, subst}
 use Rattle.rtr_types.specs.declared.access.Access.{Access}
-use Rattle.log_codec.specs.declared.recording.Recording.{Recording}
+use Rattle.race_log.specs.declared.recording.Recording.{Recording}
 use Rattle.clock_entries.specs.Ends.{Clocks}
 use Rattle.certificate_codec.specs.declared.certificate.Certificate.{Certificate}
 use Rattle.min_certificate.specs.Clocks.{HasClocks}

@@ -5,8 +5,8 @@ use Rattle.std.proofs.lemmas.List.{get_or-take, length-append}
 use Rattle.rtr_types.specs.declared.pairs.Which.{Which}
 use Rattle.clock_core.specs.Order.{Among}
 use Rattle.clock_core.specs.Reach.{IsClock}
-use Rattle.log_codec.specs.declared.recording.Recording.{Recording}
-use Rattle.log_codec.specs.Sources.{log_edges}
+use Rattle.race_log.specs.declared.recording.Recording.{Recording}
+use Rattle.race_log.specs.Sources.{log_edges}
 use Rattle.clock_entries.specs.Ends.{instr}
 use Rattle.certificate_codec.specs.Ends.{reduced_edges}
 use Rattle.certificate_codec.specs.Rows.{rows}

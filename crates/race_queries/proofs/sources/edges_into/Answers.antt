@@ -1,6 +1,6 @@
 use Rattle.std.proofs.Common.{Global, Vec, List, ◌+◌, ◌∙◌, ap, sym, subst, arith}
 use Rattle.rtr_types.specs.declared.instr.Instr.{Instr}
-use Rattle.log_codec.specs.declared.recording.Recording.{Recording}
+use Rattle.race_log.specs.declared.recording.Recording.{Recording}
 use Rattle.race_queries.specs.Places.{AreSourcesUpTo}
 use Rattle.race_queries.specs.Queries.{AreEdgesInto}
 use Rattle.race_queries.proofs.Edges.{edge_as, sources_end, sources_next, sources_on}

@@ -1,6 +1,6 @@
 use Rattle.std.proofs.Common.{List, ap, sym, subst, arith}
 use Rattle.rtr_types.specs.declared.instr.Instr.{Instr}
-use Rattle.log_codec.specs.declared.recording.Recording.{Recording}
+use Rattle.race_log.specs.declared.recording.Recording.{Recording}
 use Rattle.race_queries.specs.Places.{AreTargetsUpTo}
 use Rattle.race_queries.specs.Queries.{AreEdgesOutOf}
 use Rattle.race_queries.proofs.Edges.{targets_end, targets_start}

@@ -1,7 +1,7 @@
 use Rattle.std.proofs.Common.{Global, Vec, ℕ, List, ◌+◌, ◌∙◌, ap, sym, subst, arith}
 use Rattle.std.specs.Prelude.{slice_index}
 use Rattle.rtr_types.specs.declared.instr.Instr.{Instr}
-use Rattle.log_codec.specs.Sources.{HasEdge}
+use Rattle.race_log.specs.Sources.{HasEdge}
 use Rattle.replay_core.specs.Play.{instr}
 use Rattle.race_queries.specs.Places.{AreTargetsUpTo}
 use Rattle.race_queries.proofs.Edges.{found_of, not_found, targets_by, targets_next, targets_on}

@@ -4,9 +4,9 @@ use Rattle.conflict_edge.specs.Least.{IsLeast}
 use Rattle.edge_regulate.specs.Regulated.{regulated}
 use Rattle.image_mem.specs.Contents.{Contents}
 use Rattle.know_history.specs.Notes.{no_notes}
-use Rattle.log_codec.specs.Sources.{log_edges}
-use Rattle.log_codec.specs.Validity.{Valid}
-use Rattle.log_codec.specs.declared.recording.Recording.{Recording}
+use Rattle.race_log.specs.Sources.{log_edges}
+use Rattle.race_log.specs.Validity.{Valid}
+use Rattle.race_log.specs.declared.recording.Recording.{Recording}
 use Rattle.run_outcome.specs.Outcomes.{outcome_of}
 use Rattle.run_records.proofs.Ends.{recording_made}
 use Rattle.run_records.proofs.Recordings.{least, recording_valid_law, regulated_log_law}

@@ -2,7 +2,7 @@ use Rattle.std.proofs.Common.{◌≡◌, ap, sym, subst, ◌∙◌}
 use Rattle.rtr_types.specs.declared.pairs.Which.TheVariants.{Reduced}
 use Rattle.conflict_edge.specs.Least.{IsLeast}
 use Rattle.image_mem.specs.Contents.{Contents}
-use Rattle.log_codec.specs.Sources.{log_edges}
+use Rattle.race_log.specs.Sources.{log_edges}
 use Rattle.schedule_pick.specs.Choices.{Choices}
 use Rattle.run_records.specs.Recordings.{recording_of, run_accesses}
 use Rattle.run_records.specs.WhatIsKnown.{CountsKnown}

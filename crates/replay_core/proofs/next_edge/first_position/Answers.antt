@@ -1,7 +1,7 @@
 use Rattle.std.proofs.Common.{ℕ, ◌-◌, subst, arith, rules, leb}
 use Rattle.std.proofs.lemmas.List.Sorted.{IsPartitionPoint-from_clause, IsPartitionedBy-leb}
 use Rattle.stride_vector.specs.declared.StrideVector.{StrideVector}
-use Rattle.log_codec.proofs.SourceLaws.{begins-rise}
+use Rattle.race_log.proofs.SourceLaws.{begins-rise}
 use Rattle.replay_core.proofs.NextEdges.{Begun, ended_none, from_last, from_next, from_beginning, begins_before}
 use Rattle.replay_core.proofs.next_edge.first_position.Goals as goal
 

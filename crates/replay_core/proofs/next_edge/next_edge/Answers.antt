@@ -6,9 +6,9 @@ use Rattle.stride_vector.specs.declared.StrideVector.{StrideVector}
 use Rattle.stride_vector.specs.Vectors.{edges_of}
 use Rattle.rtr_types.specs.Turns.{StandInTurn, follow}
 use Rattle.rtr_types.specs.PairEdges.{EdgeRises}
-use Rattle.log_codec.specs.Sources.{AreApart, edges_of_pair}
-use Rattle.log_codec.proofs.Whole.{edges_listed}
-use Rattle.log_codec.proofs.SourceLaws.{list_at, vectors_apart}
+use Rattle.race_log.specs.Sources.{AreApart, edges_of_pair}
+use Rattle.race_log.proofs.Parts.{edges_listed}
+use Rattle.race_log.proofs.SourceLaws.{list_at, vectors_apart}
 use Rattle.replay_core.proofs.NextEdges.{next_into}
 use Rattle.replay_core.proofs.next_edge.next_edge.Goals as goal
 

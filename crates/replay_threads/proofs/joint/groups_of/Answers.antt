@@ -2,7 +2,7 @@ use Rattle.std.proofs.Common.{◌≡◌, ◌+◌, ◌<◌, ◌%◌, List, drop, 
 use Rattle.std.proofs.Common.{get_or}
 use Rattle.std.proofs.lemmas.Option.{get_or_from_slice_get}
 use Rattle.std.proofs.lemmas.Nat.{mod_below}
-use Rattle.log_codec.specs.declared.recording.Recording.{Recording}
+use Rattle.race_log.specs.declared.recording.Recording.{Recording}
 use Rattle.replay_table.specs.Seats.{Sitting}
 use Rattle.replay_threads.specs.Groups.{Grouped, AreAt, AreGrouped, IsGivenTo}
 use Rattle.replay_threads.proofs.Dealing.{written, drop_next, first_get, grouped_more, at_more}

@@ -2,7 +2,7 @@ use Rattle.std.proofs.Common.{◌≡◌, ℕ, List, length, get_or, ap, sym, sub
 use Rattle.std.proofs.lemmas.Option.{slice_get-get_or}
 use Rattle.rv_core.specs.declared.core_state.Core.{Core}
 use Rattle.rv_core.proofs.LawLemmas.{start_law}
-use Rattle.log_codec.specs.declared.recording.Recording.{Recording}
+use Rattle.race_log.specs.declared.recording.Recording.{Recording}
 use Rattle.replay_threads.specs.Groups.{Grouped, AreGrouped}
 use Rattle.replay_threads.proofs.joint.run.Goals as goal
 

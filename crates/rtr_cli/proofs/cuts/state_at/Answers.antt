@@ -1,5 +1,5 @@
 use Rattle.std.proofs.Common.{ap}
-use Rattle.log_codec.specs.declared.recording.Recording.{Recording}
+use Rattle.race_log.specs.declared.recording.Recording.{Recording}
 use Rattle.replay_core.specs.Plans.{recorded_image}
 use Rattle.rtr_cli.proofs.CutLemmas.{replayed_of, state_fits}
 use Rattle.rtr_cli.proofs.cuts.state_at.Goals as goal

@@ -1,6 +1,6 @@
 use Rattle.std.proofs.Common.{◌≡◌, ◌≤◌, ◌*◌, ◌∙◌, ap, ℕ, List, [], arith}
 use Rattle.image_mem.specs.Contents.{Contents}
-use Rattle.log_codec.specs.declared.recording.Recording.{Recording}
+use Rattle.race_log.specs.declared.recording.Recording.{Recording}
 use Rattle.rv_core.specs.declared.outcome.Outcome.{Outcome}
 use Rattle.run_outcome.specs.Outcomes.{outcome_of}
 use Rattle.run_records.specs.Recordings.{recording_of}

@@ -1,6 +1,6 @@
 -- the count so far, with less than 2 ^ 32 for each vector
 use Rattle.std.proofs.Common.{◌≡◌, ◌≤◌, ◌*◌, ◌^◌, take}
-use Rattle.log_codec.specs.Counts.{position_count}
+use Rattle.race_log.specs.Counts.{position_count}
 use Rattle.state_text.proofs.logs.count_edges.Given as goal
 
 abbrev pub invariant-loop-vector : goal.invariant-loop-vector

@@ -1,7 +1,7 @@
 use Rattle.std.proofs.Common.{arith, ◌≡◌, ◌∙◌, ℕ, List, [], ◌∷◌, ◌++◌, length, ap, sym, subst}
 use Rattle.std.specs.Prelude.{slice_index}
 use Rattle.rv_core.specs.declared.core_state.Core.{Core}
-use Rattle.log_codec.specs.declared.recording.Recording.{Recording}
+use Rattle.race_log.specs.declared.recording.Recording.{Recording}
 use Rattle.replay_core.specs.Plans.{Plan, plan_of}
 use Rattle.replay_table.specs.Seats.{Finished, Sitting}
 use Rattle.table_examples.proofs.Two.{Ended, two_finished}

@@ -2,7 +2,8 @@ use Rattle.std.proofs.Common.{◌≡◌, ◌<◌, ◌+◌, ◌++◌, ◌∙◌, 
 use Rattle.std.proofs.lemmas.List.{get_or_default}
 use Rattle.rtr_types.specs.Turns.{count_up}
 use Rattle.log_codec.specs.Turns.{alike}
-use Rattle.log_codec.proofs.InTurn.{puts_on, puts_done, stand-places}
+use Rattle.log_codec.proofs.InTurn.{puts_on, puts_done}
+use Rattle.race_log.proofs.InTurn.{stand-places}
 use Rattle.tso_codec.specs.Spelling.{values_text, all_values_text}
 use Rattle.tso_codec.specs.Validity.{AreValuesOf}
 use Rattle.tso_codec.proofs.writing.put_all_values.Goals as goal

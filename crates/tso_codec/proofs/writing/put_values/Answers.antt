@@ -1,7 +1,8 @@
 use Rattle.std.proofs.Common.{◌≡◌, ◌-◌, ◌++◌, length, get_or, ap, ◌∙◌, append_assoc, arith, List, ℕ}
 use Rattle.log_codec.specs.Spelling.{number}
 use Rattle.log_codec.specs.Turns.{spelled_in_turn}
-use Rattle.log_codec.proofs.InTurn.{puts_on, puts_done, stand-drop}
+use Rattle.log_codec.proofs.InTurn.{puts_on, puts_done}
+use Rattle.race_log.proofs.InTurn.{stand-drop}
 use Rattle.tso_codec.specs.Spelling.{value_text, values_text}
 use Rattle.tso_codec.specs.Validity.{ValueStands, count_of}
 use Rattle.tso_codec.proofs.Values.{few_values}

@@ -2,7 +2,7 @@ use Rattle.std.proofs.Common.{◌<◌, ◌*◌, ◌≤◌, ℕ, List, ap, sym, s
 use Rattle.std.specs.Prelude.{slice_index}
 use Rattle.conflict_edge.specs.Least.{IsLeast}
 use Rattle.image_mem.specs.Contents.{Contents}
-use Rattle.log_codec.specs.Sources.{log_edges}
+use Rattle.race_log.specs.Sources.{log_edges}
 use Rattle.rtr_types.specs.declared.pairs.Which.TheVariants.{Reduced}
 use Rattle.tso_answers.proofs.Logged.{logged_law}
 use Rattle.tso_answers.proofs.Schedules.{held, replayed}

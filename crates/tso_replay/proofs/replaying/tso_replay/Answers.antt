@@ -1,6 +1,6 @@
 use Rattle.std.proofs.Common.{◌≡◌, ◌<◌, ◌+◌, ℕ, List, [], length, get_or, sym, subst, arith}
 use Rattle.std.specs.Prelude.{slice_index}
-use Rattle.log_codec.proofs.InTurn.{stand-map, stand-places}
+use Rattle.race_log.proofs.InTurn.{stand-map, stand-places}
 use Rattle.replay_core.specs.Play.{EachRising}
 use Rattle.tso_codec.specs.Validity.{AreValuesOf, ValueStands, count_of}
 use Rattle.tso_replay.proofs.replaying.tso_replay.Goals as goal

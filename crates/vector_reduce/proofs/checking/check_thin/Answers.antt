@@ -2,7 +2,7 @@ use Rattle.std.proofs.Common.{◌∙◌, ℕ, subst}
 use Rattle.std.specs.Prelude.{Option}
 use Rattle.std.proofs.lemmas.Result.{err_from_is_err_and}
 use Rattle.rtr_types.specs.declared.pairs.Which.TheVariants.{Regulated}
-use Rattle.log_codec.specs.declared.recording.Recording.{Recording}
+use Rattle.race_log.specs.declared.recording.Recording.{Recording}
 use Rattle.replay_audit.specs.Audits.{AuditRefuses, IsAuditOf}
 use Rattle.vector_reduce.specs.Showing.{FirstNotShown}
 use Rattle.vector_reduce.specs.Vectors.{vectors_of}

@@ -1,6 +1,6 @@
 use Rattle.std.proofs.Common.{◌≡◌, Err, None, Some, ap, subst}
 use Rattle.std.specs.Prelude.{MatchOption, Option}
-use Rattle.log_codec.specs.declared.recording.Recording.{Recording}
+use Rattle.race_log.specs.declared.recording.Recording.{Recording}
 use Rattle.vector_reduce.specs.declared.answers.ThinFault.{ThinFault}
 use Rattle.vector_reduce.specs.Answers.{AreFew, IsRefusedFor}
 use Rattle.vector_reduce.specs.Kept.{IsShownLeft}

@@ -1,7 +1,7 @@
 use Rattle.std.proofs.Common.{◌∙◌, List, Ok, Err, ap, length, subst, sym}
 use Rattle.std.specs.Prelude.{Bool, IfOk, Result}
-use Rattle.log_codec.specs.declared.recording.Recording.{Recording}
-use Rattle.log_codec.specs.Validity.{Valid}
+use Rattle.race_log.specs.declared.recording.Recording.{Recording}
+use Rattle.race_log.specs.Validity.{Valid}
 use Rattle.vector_reduce.specs.declared.pair_vector.PairVector.{PairVector}
 use Rattle.vector_reduce.specs.Kept.{IsKeptOf, IsLeftOf, kept}
 use Rattle.vector_reduce.specs.Thinning.{IsThinned}

@@ -1,5 +1,5 @@
 use Rattle.std.proofs.Common.{◌≡◌, ◌∙◌, ◌<◌, ap, sym, subst, List, ℕ, length, get_or}
-use Rattle.log_codec.specs.declared.recording.Recording.{Recording}
+use Rattle.race_log.specs.declared.recording.Recording.{Recording}
 use Rattle.certificate_codec.specs.Ends.{HasEnds}
 use Rattle.certificate_codec.proofs.Ends.{ends_of_one, length-ends_in}
 use Rattle.certificate_codec.proofs.edge_ends.EdgeEnds.of_core.Goals as goal

@@ -1,7 +1,7 @@
 use Rattle.std.proofs.Common.{length, sym, ap, subst, ◌∙◌}
 use Rattle.std.specs.Prelude.{Option, Some, None}
 use Rattle.rtr_types.specs.declared.cut.Cut.{Cut}
-use Rattle.log_codec.specs.Validity.{Valid}
+use Rattle.race_log.specs.Validity.{Valid}
 use Rattle.replay_core.specs.Answers.{cut_of}
 use Rattle.replay_core.specs.Orders.{counts_in}
 use Rattle.cut_replay.specs.ClosedCuts.{IsClosed, IsContained}

@@ -1,5 +1,5 @@
 use Rattle.std.proofs.Common.{◌≡◌, ◌+◌, ℕ, List, sym, subst, refl, arith}
-use Rattle.log_codec.specs.Sources.{log_edges}
+use Rattle.race_log.specs.Sources.{log_edges}
 use Rattle.replay_core.specs.declared.coming.Coming.{Coming}
 use Rattle.replay_core.proofs.Awaited.{IsPut, PassedTo, pass_own, pass_more, pass_known, pass_start, passed_coming}
 use Rattle.replay_core.proofs.Awaited.{passed_sources, taken_none, taken_some}

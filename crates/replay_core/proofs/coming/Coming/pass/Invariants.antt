@@ -1,5 +1,5 @@
 -- what each core so far has as a source, and as its next edge
-use Rattle.log_codec.specs.Sources.{log_edges}
+use Rattle.race_log.specs.Sources.{log_edges}
 use Rattle.replay_core.proofs.Awaited.{PassedTo}
 use Rattle.replay_core.proofs.coming.Coming.pass.Given as goal
 

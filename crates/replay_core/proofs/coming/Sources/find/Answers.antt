@@ -1,6 +1,6 @@
 use Rattle.std.proofs.Common.{◌≡◌, ◌∙◌, ◌<◌, ℕ, List, length, ap, sym, subst, arith}
 use Rattle.std.proofs.lemmas.List.{get_or_default}
-use Rattle.log_codec.specs.Sources.{log_edges}
+use Rattle.race_log.specs.Sources.{log_edges}
 use Rattle.replay_core.specs.Plans.{Plan}
 use Rattle.replay_core.specs.declared.coming.Coming.{Coming}
 use Rattle.replay_core.specs.Sources.{AreSources, sources_in}

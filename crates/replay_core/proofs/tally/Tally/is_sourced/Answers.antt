@@ -3,7 +3,7 @@ use Rattle.std.specs.Prelude.{Option}
 use Rattle.rtr_types.specs.declared.TheConstants.{CORES_MAX}
 use Rattle.rtr_types.proofs.Ranges.{zero_at}
 use Rattle.clock_core.specs.Counts.{no_counts}
-use Rattle.log_codec.specs.Sources.{log_edges}
+use Rattle.race_log.specs.Sources.{log_edges}
 use Rattle.replay_core.specs.Play.{instr}
 use Rattle.replay_core.specs.Sources.{AreSources, sources_in}
 use Rattle.replay_core.specs.Tallies.{Tallied, count_of, next_of}

@@ -4,7 +4,7 @@ use Rattle.rv_core.specs.declared.core_state.Core.{Core}
 use Rattle.rv_core.specs.States.{starting}
 use Rattle.rv_core.proofs.LawLemmas.{start_law}
 use Rattle.atomic_table.specs.Table.{Me}
-use Rattle.log_codec.specs.declared.recording.Recording.{Recording}
+use Rattle.race_log.specs.declared.recording.Recording.{Recording}
 use Rattle.replay_core.specs.Plans.{Plan, plan_of, recorded_image}
 use Rattle.replay_table.specs.declared.view.Own.{Own}
 use Rattle.replay_table.specs.declared.view.View.{View}

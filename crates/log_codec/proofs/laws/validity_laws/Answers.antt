@@ -1,5 +1,0 @@
-use Rattle.log_codec.proofs.Tested as validity
-use Rattle.log_codec.proofs.laws.validity_laws.Goals as goal
-
-pub returns : goal.returns
-returns c = record { test = validity.valid_test; edges = validity.edges_by_pair; vectors = validity.vectors_by_pair }

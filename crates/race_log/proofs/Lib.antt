@@ -1,0 +1,11 @@
+pub mod InTurn
+pub mod Limits
+pub mod Logs
+pub mod Parts
+pub mod Tested
+pub mod Counted
+pub mod Looked
+pub mod Rises
+pub mod SourceLaws
+pub mod EdgeCounts
+pub mod Near

@@ -1,0 +1,4 @@
+pub mod Validity
+pub mod Counts
+pub mod Laws
+pub mod Sources
