@@ -251,8 +251,9 @@ fn replay(alloc: Global, recording: Recording, which: Which, loads: bool) -> Res
     Ok(state_text(alloc, &outcome, &image, loads)?)
 }
 
-/// The audit of the recording by one of its logs, or how a command ends that needs it.
-pub(crate) fn audited(alloc: Global, recording: Recording, which: Which) -> Result<Audited, Exit>
+/// The audit of the recording by one of its logs, or how a command ends that needs it. It is refused where the audit
+/// is, and for its reason.
+pub fn audited(alloc: Global, recording: Recording, which: Which) -> Result<Audited, Exit>
     requires { Valid recording }
     ensures { MatchResult result (IsAuditOf which recording) (AuditEnds which recording) }
 {

@@ -61,8 +61,9 @@ fn told(
     cut_state_text(alloc, cut, outcome, &image, loads)
 }
 
-/// The closed cut that is asked for at the instruction.
-fn cut_at(audited: &Audited, at: Instr, latest: bool) -> Result<Cut, AllocError>
+/// The closed cut that is asked for at an instruction of the recording: the least that has it, or with `latest` the
+/// greatest that doesn't. It is refused for want of memory alone.
+pub fn cut_at(audited: &Audited, at: Instr, latest: bool) -> Result<Cut, AllocError>
     requires { IsInstrOf audited.now.recording at }
     ensures { IfOk result (IsCutAt audited.now.which audited.now.recording at latest) }
 {

@@ -4,6 +4,7 @@
 mod buffers;
 mod commands;
 mod cuts;
+mod environment;
 mod joint;
 mod laws;
 mod soak_texts;
@@ -11,6 +12,9 @@ mod soaks;
 mod thins;
 mod tool;
 
+pub use commands::audited;
+pub use cuts::cut_at;
+pub use environment::arguments;
 pub use joint::Ended;
 pub use laws::{
     certify_laws, completeness_laws, each_command_makes_one_output, migrate_laws, thin_laws,

@@ -8,7 +8,7 @@ ghost use Rattle.state_text.specs.declared.exit.Exit.{Exit};
 
 use crate::progress;
 use replay_threads::OpenGate;
-use rtr_cli::{Ended, run_tool, tell};
+use rtr_cli::{Ended, arguments, run_tool, tell};
 use rtr_io::{Sink, Source, StdSink, StdSource};
 use state_text::Exit;
 use std::alloc::Global;
@@ -17,7 +17,6 @@ use std::process::ExitCode;
 use std::rt::{Clock, Env};
 use std::sync::Wait;
 use std::thread::Threads;
-use std::{env, io};
 
 /// Runs the tool on the standard streams and the words of the command line, and answers the status that the process
 /// ends with. The three streams have types of their own, so that none can stand for another. Where standard error is a
@@ -30,7 +29,7 @@ where
     conclude(
         rt,
         rt.alloc(),
-        words(rt),
+        arguments(rt),
         &mut StdSource::new(input),
         &mut StdSink::new(output),
         &mut StdSink::new(report),
@@ -80,17 +79,4 @@ pub fn conclude<R: Threads + Wait + Sync, I: Source, O: Sink, E: Sink>(
         }
     };
     ExitCode::from(exit.status())
-}
-
-/// The words after the program's name. One that isn't UTF-8 makes the command line a faulty one.
-fn words<R: Env + AllocGlobal>(rt: &R) -> Result<Vec<String>, Exit> {
-    let args = match env::args(rt) {
-        Ok(args) => args,
-        Err(error) if error.kind() == io::ErrorKind::OutOfMemory => return Err(Exit::OutOfMemory),
-        Err(_) => return Err(Exit::Usage),
-    };
-    match args.skip(1).collect(rt.alloc()) {
-        Ok(words) => Ok(words),
-        Err(_) => Err(Exit::OutOfMemory),
-    }
 }
