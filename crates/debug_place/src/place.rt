@@ -4,6 +4,7 @@ ghost use Rattle.replay_core.specs.Answers.{UsesWithin};
 ghost use Rattle.replay_core.specs.Play.{core_at, need_at, use_of};
 ghost use Rattle.replay_audit.specs.Audits.{IsInstrOf};
 ghost use Rattle.cut_replay.specs.ClosedCuts.{IsClosed, IsContained, count_in};
+ghost use Rattle.cut_moves.specs.Rounds.{rounds_of};
 ghost use Rattle.cut_moves.specs.Steps.{IsStep, IsStepBack, last_in, next_in};
 ghost use Rattle.debug_place.specs.Places.{Stands, cut_at, plan_at};
 ghost use Rattle.debug_place.specs.Backs.{GoesBack};
@@ -87,6 +88,13 @@ impl<'a> Place<'a> {
         ensures { result ≡ self.now.recording.params.cores }
     {
         self.audited.recording().params.cores
+    }
+
+    /// The timeline by rounds: a whole replay order, a core each place.
+    pub fn timeline(&self) -> &[u8]
+        ensures { result.now ≡ rounds_of self.now.which self.now.recording }
+    {
+        self.timeline.as_slice()
     }
 
     /// A core, as it stands in the place's state.

@@ -2,6 +2,7 @@ pub mod OnWays
 pub mod WaitLemmas
 pub mod WaitsMore
 pub mod SetLemmas
+pub mod TurnLemmas
 pub mod FrontLemmas
 pub mod RowsMore
 pub mod EndLemmas

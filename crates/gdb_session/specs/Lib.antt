@@ -9,6 +9,7 @@ pub mod Parts
 pub mod Target
 pub mod Stopping
 pub mod Orders
+pub mod Turns
 pub mod Moves
 pub mod Seats
 pub mod Told

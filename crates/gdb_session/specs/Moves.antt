@@ -1,5 +1,5 @@
 -- Moves of a place, and the stops that end them. Each comes to a closed cut: a place is at none other.
-use Rattle.std.specs.Prelude.{◌≡◌, ℕ, true, false, List, Option, Some, None, MatchOption, unwrap_or}
+use Rattle.std.specs.Prelude.{◌≡◌, ℕ, zero, suc, true, false, List, Option, Some, None, MatchOption, unwrap_or}
 use Rattle.std.specs.Prelude.{if◌then◌else◌}
 use Rattle.rtr_types.specs.CoreSets.{has, no_cores, without_core}
 use Rattle.rtr_types.specs.declared.core_set.CoreSet.{CoreSet}
@@ -14,14 +14,15 @@ use Rattle.cut_replay.specs.ClosedCuts.{IsClosed}
 use Rattle.cut_moves.specs.Steps.{IsStep, IsStepBack, IsWholeCut, last_in, next_in}
 use Rattle.debug_place.specs.Backs.{GoesBack}
 use Rattle.debug_place.specs.Places.{Placed, cut_at, plan_at}
-use Rattle.debug_place.specs.Stops.{GoesOn}
+use Rattle.debug_place.specs.Stops.{GoesOn, IsFirstStop, NoneStops, way_to}
 use Rattle.gdb_session.specs.declared.orders.Order.{Order}
-use Rattle.gdb_session.specs.declared.orders.Order.TheVariants.{Rest, Step, Go, StepBack, GoBack}
+use Rattle.gdb_session.specs.declared.orders.Order.TheVariants.{Rest, Step, Go, GoWith, StepBack, GoBack}
 use Rattle.gdb_session.specs.declared.points.Point.{Point}
 use Rattle.gdb_session.specs.Ends.{end_of, signal_of}
 use Rattle.gdb_session.specs.Orders.{every_core}
 use Rattle.gdb_session.specs.Points.{breaks_at, touched, why_of}
 use Rattle.gdb_session.specs.Stopping.{Stopping, breaks, stops_at, watched}
+use Rattle.gdb_session.specs.Turns.{IsTurn, NoTurn, timeline_at}
 
 -- ---- stops
 
@@ -97,6 +98,52 @@ pub record Goes (stopping : Stopping) (lead : ℕ) (old new : Placed) (stop : st
   pub all : IsWholeCut old.recording to
   pub walks : Walks stopping lead old to new stop (plain_stop lead End)
 
+-- ---- only some cores forwards
+
+-- so many moves of a kind, one after the other
+abbrev pub Follow : (move : Placed → Placed → Type 0) → (count : ℕ) → (old new : Placed) → Type 0
+Follow move zero old new = new ≡ old
+Follow move (suc count) old new = (mid : Placed) × Follow move count old mid × move mid new
+
+-- a core steps, and nothing stops it on its way
+pub record StepsFree (stopping : Stopping) (core : ℕ) (old new : Placed) : Type 0 where
+  pub kept : IsKept old new
+  pub step : IsStep old.which old.recording (cut_at old) (next_in (cut_at old) core) (cut_at new)
+  pub free : NoneStops (stops_at stopping) (plan_at old) old.state (way_to old (cut_at new))
+
+-- a core steps, and something stops it on its way
+pub record StepsInto (stopping : Stopping) (core : ℕ) (old new : Placed) (stop : stops.Stop) : Type 0 where
+  pub to : Cut
+  pub step : IsStep old.which old.recording (cut_at old) (next_in (cut_at old) core) to
+  pub mid : Placed
+  pub kept : IsKept old mid
+  pub before : ℕ
+  pub first : IsFirstStop (stops_at stopping) (plan_at old) old.state (way_to old to) before mid.state
+  pub halts : Halts stopping core before mid new stop
+
+-- the one of these cores whose turn it is steps, and nothing stops it
+pub record TakesTurn (stopping : Stopping) (cores : CoreSet) (old new : Placed) : Type 0 where
+  pub core : ℕ
+  pub turn : IsTurn cores (cut_at old) (timeline_at old) core
+  pub steps : StepsFree stopping core old new
+
+-- the one whose turn it is steps, and is stopped
+pub record StopsTurn (stopping : Stopping) (cores : CoreSet) (core : ℕ) (old new : Placed) (stop : stops.Stop)
+    : Type 0 where
+  pub turn : IsTurn cores (cut_at old) (timeline_at old) core
+  pub steps : StepsInto stopping core old new stop
+
+-- only these cores go on, turn by turn, and others as the log demands, until something stops the one whose turn it is,
+-- or they have nothing left, where the end is told
+pub record GoesWith (stopping : Stopping) (cores : CoreSet) (lead : ℕ) (old new : Placed) (stop : stops.Stop)
+    : Type 0 where
+  pub turns : ℕ
+  pub mid : Placed
+  pub free : Follow (TakesTurn stopping cores) turns old mid
+  pub next : Option ℕ
+  pub ends : MatchOption next (NoTurn cores (cut_at mid) (timeline_at mid) × Stays mid new stop (plain_stop lead End))
+      (λ core. StopsTurn stopping cores core mid new stop)
+
 -- ---- backwards
 
 -- stopped at a core's instruction: behind it, where its access touches a watched range, or else before it
@@ -166,5 +213,6 @@ abbrev pub Obeys : List Point → Order → (old new : Placed) → stops.Stop �
 Obeys points (Rest core) old new stop = Stays old new stop (interrupt_stop core)
 Obeys points (Step core heard) old new stop = Steps (stepping old points core heard) core old new stop
 Obeys points (Go lead heard) old new stop = Goes (going old points heard) lead old new stop
+Obeys points (GoWith lead cores heard) old new stop = GoesWith (going old points heard) cores lead old new stop
 Obeys points (StepBack core) old new stop = StepsBackward points core old new stop
 Obeys points (GoBack lead) old new stop = GoesBackward (going_back old points) lead old new stop

@@ -3,13 +3,13 @@ use Rattle.std.specs.Prelude.{ℕ, zero, suc, ◌<◌, ◌&&◌, Bool, true, fal
 use Rattle.std.specs.Prelude.{Option, Some, None, unwrap_or, if◌then◌else◌}
 use Rattle.std.specs.List.{list_all}
 use Rattle.std.specs.Option.{option_or}
-use Rattle.rtr_types.specs.CoreSets.{no_cores, with_core}
+use Rattle.rtr_types.specs.CoreSets.{has, no_cores, with_core}
 use Rattle.rtr_types.specs.declared.core_set.CoreSet.{CoreSet}
 use Rattle.gdb_packets.specs.declared.asks.Action.{Action}
 use Rattle.gdb_packets.specs.declared.asks.Thread.{Thread}
 use Rattle.gdb_packets.specs.declared.asks.Thread.TheVariants.{All, Any, Core}
 use Rattle.gdb_session.specs.declared.orders.Order.{Order}
-use Rattle.gdb_session.specs.declared.orders.Order.TheVariants.{Rest, Step, Go, StepBack, GoBack}
+use Rattle.gdb_session.specs.declared.orders.Order.TheVariants.{Rest, Step, Go, GoWith, StepBack, GoBack}
 use Rattle.gdb_session.specs.declared.wishes.Wishes.{Wishes}
 use Rattle.gdb_session.specs.Wishes.{core_of, is_there}
 
@@ -75,14 +75,21 @@ all_go actions cores = all_where (acts actions) cores
 
 -- ---- the orders
 
--- a step of the lowest core that is to step; where none is, and each is to move, all go on
+-- only these cores go on; at the end the one that is looked at is told if it's one of them, or else the lowest
+abbrev pub some_order : Wishes → CoreSet → (lowest : Option ℕ) → Option Order
+some_order wishes heard None = None
+some_order wishes heard (Some lowest) =
+    Some (GoWith (if has heard wishes.looked then wishes.looked else lowest) heard heard)
+
+-- a step of the lowest core that is to step; where none is, those that are to move go on
 abbrev pub go_order : Wishes → (cores : ℕ) → List Action → Option ℕ → Option Order
 go_order wishes cores actions None =
-    if all_go actions cores then Some (Go wishes.looked (heard_of actions cores)) else None
+    if all_go actions cores then Some (Go wishes.looked (heard_of actions cores)) else
+    some_order wishes (heard_of actions cores) (lowest_where (acts actions) cores)
 go_order wishes cores actions (Some core) = Some (Step core (heard_of actions cores))
 
--- the move that actions order: none where they name a thread that isn't there, and where no core steps and only some
--- go on. After an interrupt nothing moves, and the first core that is named is told
+-- the move that actions order: none where they name a thread that isn't there, or no core is to move. After an
+-- interrupt nothing moves, and the first core that is named is told
 abbrev pub resume_order : Wishes → (cores : ℕ) → List Action → Option Order
 resume_order wishes cores actions =
     if not (are_there actions cores) then None else
@@ -108,5 +115,6 @@ abbrev pub IsWithin : Order → (cores : ℕ) → Type 0
 IsWithin (Rest core) cores = core < cores
 IsWithin (Step core heard) cores = core < cores
 IsWithin (Go core heard) cores = core < cores
+IsWithin (GoWith core movers heard) cores = core < cores
 IsWithin (StepBack core) cores = core < cores
 IsWithin (GoBack core) cores = core < cores

@@ -15,6 +15,7 @@ mod session;
 mod target;
 mod threads;
 mod told;
+mod turns;
 mod waits;
 mod wishes;
 

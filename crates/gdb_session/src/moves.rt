@@ -16,6 +16,7 @@ use crate::ends::{end_of, signal_of};
 use crate::hearing::Hearing;
 use crate::orders::{Order, every_core};
 use crate::points::{Point, breaks_at, touched, why_of};
+use crate::turns::go_with;
 use cut_moves::step;
 use debug_place::Place;
 use gdb_packets::{Signal, Stop, Why};
@@ -28,7 +29,7 @@ use std::alloc::{AllocError, Global};
 const PLACES: usize = CORES_MAX as usize;
 
 /// A stop by a trap.
-fn plain_stop(core: u8, why: Why) -> Stop
+pub(crate) fn plain_stop(core: u8, why: Why) -> Stop
     ensures { result ≡ plain_stop core why }
 {
     Stop {
@@ -80,6 +81,16 @@ pub(crate) fn obey(
                 image,
             };
             go(alloc, audited, place, &hearing, lead)
+        }
+        Order::GoWith(lead, cores, heard) => {
+            let hearing = Hearing {
+                points,
+                paused: heard,
+                heard,
+                outcome: audited.outcome(),
+                image,
+            };
+            go_with(alloc, audited, place, &hearing, cores, lead)
         }
         Order::StepBack(core) => step_back_core(alloc, place, points, core),
         Order::GoBack(lead) => {
@@ -173,7 +184,7 @@ fn walk(
 }
 
 /// What stopped it before a core's next instruction. A fault is told behind that.
-fn halt(
+pub(crate) fn halt(
     alloc: Global,
     place: &mut Place,
     hearing: &Hearing,

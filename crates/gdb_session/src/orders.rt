@@ -3,7 +3,7 @@ ghost use Rattle.std.specs.Prelude.{◌≡◌, ◌<◌, ◌≤◌, IfSome};
 ghost use Rattle.rtr_types.specs.declared.TheConstants.{CORES_MAX};
 ghost use Rattle.gdb_session.specs.Orders.{IsWithin, acts, all_go, are_there, asked_of, every_core, go_back_order};
 ghost use Rattle.gdb_session.specs.Orders.{heard_of, lower_of, lowest_where, mover, named, names};
-ghost use Rattle.gdb_session.specs.Orders.{resume_order, step_back_order, steps};
+ghost use Rattle.gdb_session.specs.Orders.{resume_order, some_order, step_back_order, steps};
 ghost use Rattle.gdb_session.specs.Wishes.{Fit};
 
 use crate::wishes::{Wishes, core_of, is_there};
@@ -19,6 +19,8 @@ pub(crate) enum Order {
     Step(u8, CoreSet),
     /// All cores go on, and are heard; at the end this one is told.
     Go(u8, CoreSet),
+    /// Only the cores of the first set go on; those of the second are heard, and at the end this core is told.
+    GoWith(u8, CoreSet, CoreSet),
     /// A step back of this core.
     StepBack(u8),
     /// All cores go back; at the beginning this one is told.
@@ -107,6 +109,18 @@ pub(crate) fn every_core(cores: u8) -> CoreSet
     set
 }
 
+/// The lowest core that is to move.
+fn lowest_acting(actions: &[Action], cores: u8) -> Option<u8>
+    ensures core { result ≡ lowest_where (acts actions.now) cores }
+    ensures within { IfSome result (λ core. core < cores) }
+{
+    let mut lowest = None;
+    for core in 0..cores {
+        lowest = lower_of(lowest, acts(actions, core), core);
+    }
+    lowest
+}
+
 /// The lowest core that is to step.
 fn lowest_step(actions: &[Action], cores: u8) -> Option<u8>
     ensures core { result ≡ lowest_where (steps actions.now) cores }
@@ -119,13 +133,13 @@ fn lowest_step(actions: &[Action], cores: u8) -> Option<u8>
     lowest
 }
 
-/// The lowest core so far, or else this one where it is to step.
-fn lower_of(lowest: Option<u8>, steps: bool, core: u8) -> Option<u8>
-    ensures { result ≡ lower_of lowest steps core }
+/// The lowest core so far, or else this one where it passes.
+fn lower_of(lowest: Option<u8>, passes: bool, core: u8) -> Option<u8>
+    ensures { result ≡ lower_of lowest passes core }
 {
     match lowest {
         Some(other) => Some(other),
-        None if steps => Some(core),
+        None if passes => Some(core),
         None => None,
     }
 }
@@ -141,7 +155,24 @@ fn all_go(actions: &[Action], cores: u8) -> bool
     all
 }
 
-/// The move that actions order; none where they name a thread that isn't there, or let only some cores go on.
+/// The move of only some cores, of which this is the lowest, if there is one: they go on.
+fn some_order(wishes: Wishes, heard: CoreSet, lowest: Option<u8>, cores: u8) -> Option<Order>
+    requires fit { Fit wishes cores }
+    requires few { cores ≤ CORES_MAX }
+    requires lowest { IfSome lowest (λ core. core < cores) }
+    ensures order { result ≡ some_order wishes heard lowest }
+    ensures within { IfSome result (λ order. IsWithin order cores) }
+{
+    let lowest = lowest?;
+    let told = if heard.has(wishes.looked) {
+        wishes.looked
+    } else {
+        lowest
+    };
+    Some(Order::GoWith(told, heard, heard))
+}
+
+/// The move that actions order; none where they name a thread that isn't there, or no core is to move.
 pub(crate) fn resume_order(wishes: Wishes, cores: u8, actions: &[Action]) -> Option<Order>
     requires fit { Fit wishes cores }
     requires few { cores ≤ CORES_MAX }
@@ -158,7 +189,7 @@ pub(crate) fn resume_order(wishes: Wishes, cores: u8, actions: &[Action]) -> Opt
     match lowest_step(actions, cores) {
         Some(core) => Some(Order::Step(core, heard)),
         None if all_go(actions, cores) => Some(Order::Go(wishes.looked, heard)),
-        None => None,
+        None => some_order(wishes, heard, lowest_acting(actions, cores), cores),
     }
 }
 

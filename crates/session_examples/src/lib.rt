@@ -16,3 +16,5 @@ mod session_rows;
 mod session_tests;
 #[cfg(test)]
 mod transcript_tests;
+#[cfg(test)]
+mod turn_rows;

@@ -227,7 +227,7 @@ pub static WATCHES: [Row; 18] = [
 ];
 
 /// Packets that move nothing, and ones that are refused.
-pub static STILL: [Row; 36] = [
+pub static STILL: [Row; 35] = [
     Row {
         packet: "m80,4",
         answer: "E01",
@@ -294,10 +294,6 @@ pub static STILL: [Row; 36] = [
     },
     Row {
         packet: "vCont;s:3",
-        answer: "E01",
-    },
-    Row {
-        packet: "vCont;c:1",
         answer: "E01",
     },
     Row {

@@ -2,6 +2,7 @@
 use crate::handed_over::handed_over;
 use crate::rows::{Row, plays};
 use crate::session_rows::{BREAKS, STEPS, STILL, WATCHES};
+use crate::turn_rows::{ONE_CORE, TOLD, UNHEARD};
 use gdb_server::{Next, Partner};
 use gdb_session::Session;
 use std::alloc::{AllocError, Global};
@@ -34,6 +35,14 @@ fn breakpoints_stop_before_their_instruction(rt: HostRuntime) -> Result<(), Fail
 #[test]
 fn watched_ranges_stop_before_the_access(rt: HostRuntime) -> Result<(), Fail> {
     assert_eq!(rt; first_wrong(rt.alloc(), &WATCHES)?, "none");
+    Ok(())
+}
+
+#[test]
+fn some_cores_go_on_alone(rt: HostRuntime) -> Result<(), Fail> {
+    assert_eq!(rt; first_wrong(rt.alloc(), &ONE_CORE)?, "none");
+    assert_eq!(rt; first_wrong(rt.alloc(), &UNHEARD)?, "none");
+    assert_eq!(rt; first_wrong(rt.alloc(), &TOLD)?, "none");
     Ok(())
 }
 

@@ -3,7 +3,7 @@ use Rattle.std.specs.Prelude.{IfOk}
 use Rattle.log_codec.specs.declared.recording.Recording.{Recording}
 use Rattle.gdb_session.specs.declared.orders.Order.{Order}
 use Rattle.gdb_session.specs.Ends.{end_in, end_of}
-use Rattle.gdb_session.specs.Moves.{Goes, GoesBackward, Obeys, Steps}
+use Rattle.gdb_session.specs.Moves.{Goes, GoesBackward, GoesWith, Obeys, Steps}
 use Rattle.gdb_session.specs.Orders.{IsWithin, every_core}
 use Rattle.gdb_session.specs.Stopping.{Stopping}
 use Rattle.gdb_session.proofs.EndLemmas.{same_ends, same_stopping}
@@ -50,6 +50,19 @@ returns-in-Go-clause-obeys c =
     (end_in c.args.image.now c.outcome-in-Go.result.now) (end_of old) refl refl same in
     subst (λ (o : Order). IfOk c.go.result (Obeys points o old new)) (sym c.in-Go.is)
     (subst (λ (s : Stopping). IfOk c.go.result (Goes s c.in-Go.lead old new)) stopping_is c.go.ensures.goes)
+
+pub returns-in-GoWith-clause-obeys : goal.returns-in-GoWith-clause-obeys
+returns-in-GoWith-clause-obeys c =
+    let old = c.args.place.now in
+    let points = c.args.points.now in
+    let new = c.go_with.new.place in
+    let same = same_ends c.args.audited.now c.args.image.now old c.outcome-in-GoWith.result.now c.requires.sees
+    c.outcome-in-GoWith.ensures.passed c.outcome-in-GoWith.ensures.outcome in
+    let stopping_is = same_stopping points c.in-GoWith.heard _ c.in-GoWith.heard _
+    (end_in c.args.image.now c.outcome-in-GoWith.result.now) (end_of old) refl refl same in
+    subst (λ (o : Order). IfOk c.go_with.result (Obeys points o old new)) (sym c.in-GoWith.is)
+    (subst (λ (s : Stopping). IfOk c.go_with.result (GoesWith s c.in-GoWith.cores c.in-GoWith.lead old new)) stopping_is
+    c.go_with.ensures.goes)
 
 pub returns-in-GoBack-clause-obeys : goal.returns-in-GoBack-clause-obeys
 returns-in-GoBack-clause-obeys c =
