@@ -1,5 +1,6 @@
--- A place that went back to a noted stop has the state that the places before it play to.
-use Rattle.std.proofs.Common.{◌≡◌, inl, inr, ℕ, Bool, List, length, sym, ap, subst, ◌∙◌, arith}
+-- A place that went back to a noted stop has the state that the places before it play to, from the cut where the way
+-- begins.
+use Rattle.std.proofs.Common.{◌≡◌, inl, inr, ℕ, Bool, List, ◌++◌, take, sym, ap, subst, ◌∙◌, arith}
 use Rattle.std.specs.Prelude.{slice_index, Option}
 use Rattle.std.proofs.lemmas.Bool.{cases_lt}
 use Rattle.std.proofs.lemmas.List.{get_or_past}
@@ -9,16 +10,17 @@ use Rattle.rv_core.specs.declared.outcome.Outcome.{Outcome}
 use Rattle.log_codec.specs.declared.recording.Recording.{Recording}
 use Rattle.log_codec.specs.Validity.{Valid}
 use Rattle.replay_core.specs.Answers.{UnderWay, cut_of}
-use Rattle.replay_core.specs.Orders.{IsReplayOrder, counts, counts_in, nought}
+use Rattle.replay_core.specs.Orders.{IsReplayOrder, Ordered, counts, counts_in, nought}
 use Rattle.replay_core.specs.Plans.{Plan, plan_of}
-use Rattle.replay_core.specs.Play.{played}
+use Rattle.replay_core.specs.Play.{play, played, start}
+use Rattle.replay_core.proofs.Counts.{counts_on}
+use Rattle.replay_core.proofs.Lists.{ordered_join, play_on}
 use Rattle.replay_core.proofs.Places.{play_law}
 use Rattle.cut_replay.specs.ClosedCuts.{count_in}
 use Rattle.cut_replay.specs.CutStates.{IsStateAt}
 use Rattle.cut_moves.proofs.Fronts.{count_is, order_cut}
 use Rattle.cut_moves.specs.Rounds.{rounds_of}
-use Rattle.cut_moves.specs.Ways.{way_of}
-use Rattle.debug_place.specs.Backs.{IsLastStop, IsNoted, NotesLast, way_here}
+use Rattle.debug_place.specs.Backs.{IsLastStop, IsNoted, NotesOnWay}
 use Rattle.debug_place.specs.Places.{Fits, Placed, Stands, cut_at, plan_at}
 use Rattle.debug_place.specs.declared.backs.Seen.{Seen}
 
@@ -46,11 +48,44 @@ module _ (which : Which) (r : Recording) (valid : Valid r) (order : List ℕ)
         counts_are = λ core. order_counts core ∙ ap (λ (k : Cut). count_in k core) (sym cut_is);
       })).outcome_is
 
-pub came_back : (test : Plan → Outcome → ℕ → Bool) (old new : Placed) (places : List ℕ) (past : ℕ) (seen : Seen) →
-    new.recording ≡ old.recording → new.which ≡ old.which → Valid old.recording → Stands new →
-    cut_at new ≡ seen.cut → IsNoted test old.which old.recording places past seen →
-    IsLastStop test (plan_at old) places past seen.core new.state
-came_back test old new places past seen same_recording same_which valid stands cut_is noted =
+-- from the state at a cut a list plays as behind an order that reaches the cut
+module _ (which : Which) (r : Recording) (from : Cut) (s : Outcome) (at : IsStateAt which r from s) (front : List ℕ)
+    (ordered : Ordered (plan_of which r) (counts_in s) front) where
+  abbrev q : Plan
+  q = plan_of which r
+
+  abbrev base : List ℕ
+  base = at.some_order.0
+
+  state_is : s ≡ played (plan_of which r) at.some_order.0
+  state_is = (at.every_order base at.some_order.1).outcome_is
+
+  counts_are : counts_in s ≡ counts nought at.some_order.0
+  counts_are = ap (λ (t : Outcome). counts_in t) state_is ∙ (play_law q base at.some_order.1.ordered).counts
+
+  joined : IsReplayOrder (plan_of which r) (at.some_order.0 ++ front)
+  joined = ordered_join q nought base front at.some_order.1.ordered
+      (subst (λ (f : ℕ → ℕ). Ordered q f front) counts_are ordered)
+
+  counts_joined : counts (counts_in s) front ≡ counts nought (at.some_order.0 ++ front)
+  counts_joined = ap (λ (f : ℕ → ℕ). counts f front) counts_are ∙ sym (counts_on nought base front)
+
+  played_joined : played (plan_of which r) (at.some_order.0 ++ front) ≡ play (plan_of which r) s front
+  played_joined = play_on q (start q) base front ∙ ap (λ (t : Outcome). play q t front) (sym state_is)
+
+  state_behind : Valid r → (cut : Cut) (state : Outcome) → IsStateAt which r cut state →
+      cut ≡ cut_of (plan_of which r) (counts (counts_in s) front) → state ≡ play (plan_of which r) s front
+  state_behind valid cut state there cut_is =
+      state_there which r valid (base ++ front) joined cut state there
+      (cut_is ∙ ap (λ (f : ℕ → ℕ). cut_of q f) counts_joined)
+      ∙ played_joined
+
+pub came_back : (test : Plan → Outcome → ℕ → Bool) (old new : Placed) (from : Cut) (s : Outcome) (places : List ℕ)
+    (past : ℕ) (seen : Seen) → new.recording ≡ old.recording → new.which ≡ old.which → Valid old.recording →
+    Stands new → cut_at new ≡ seen.cut → IsStateAt old.which old.recording from s →
+    IsNoted test old.which old.recording s places past seen →
+    IsLastStop test (plan_at old) s places past seen.core new.state
+came_back test old new from s places past seen same_recording same_which valid stands cut_is begins noted =
     let at : IsStateAt old.which old.recording seen.cut new.state =
     subst (λ (w : Which). IsStateAt w old.recording seen.cut new.state) same_which
     (subst (λ (r : Recording). IsStateAt new.which r seen.cut new.state) same_recording
@@ -61,25 +96,22 @@ came_back test old new places past seen same_recording same_which valid stands c
       core_is = noted.stop.core_is;
       here = noted.stop.here;
       behind = noted.stop.behind;
-      state = state_there old.which old.recording valid _ noted.ordered seen.cut new.state at noted.cut_is
+      state = state_behind old.which old.recording from s begins (take noted.number places) noted.ordered valid
+          seen.cut new.state at noted.cut_is
           ∙ noted.stop.state;
     }
 
 -- what was noted along the way to here, said of the place
-pub notes_here : (test : Plan → Outcome → ℕ → Bool) (which : Which) (r : Recording) (old : Placed) (here : Cut)
+pub notes_here : (test : Plan → Outcome → ℕ → Bool) (which : Which) (r : Recording) (old : Placed) (from here : Cut)
     (line timeline : List ℕ) (u : UnderWay) → Fits which r timeline u →
     record { recording = r; which = which; state = u.state } ≡ old → here ≡ cut_of u.plan (counts_in u.state) →
-    line ≡ timeline → (seen : Option Seen) →
-    NotesLast test which r (way_of nought (count_in here) line) (length (way_of nought (count_in here) line)) seen →
-    NotesLast test old.which old.recording (way_here old) (length (way_here old)) seen
-notes_here test which r old here line timeline u fits view_is here_is line_is seen noted =
+    line ≡ timeline → (seen : Option Seen) → NotesOnWay test which r from here line seen →
+    NotesOnWay test old.which old.recording from (cut_at old) (rounds_of old.which old.recording) seen
+notes_here test which r old from here line timeline u fits view_is here_is line_is seen noted =
     let cut_is : here ≡ cut_of (plan_of which r) (counts_in u.state) =
-    here_is ∙ ap (λ (q : Plan). cut_of q (counts_in u.state)) fits.at.plan_is in
-    let way_is : way_of nought (count_in here) line
-    ≡ way_of nought (count_in (cut_of (plan_of which r) (counts_in u.state))) (rounds_of which r) =
-    ap (λ (k : Cut). way_of nought (count_in k) line) cut_is
-    ∙ ap (λ (l : List ℕ). way_of nought (count_in (cut_of (plan_of which r) (counts_in u.state))) l)
-    (line_is ∙ fits.timeline_is) in
+    here_is ∙ ap (λ (p : Plan). cut_of p (counts_in u.state)) fits.at.plan_is in
     subst (λ (place : Placed).
-    NotesLast test place.which place.recording (way_here place) (length (way_here place)) seen) view_is
-    (subst (λ (places : List ℕ). NotesLast test which r places (length places) seen) way_is noted)
+    NotesOnWay test place.which place.recording from (cut_at place) (rounds_of place.which place.recording) seen)
+    view_is
+    (subst (λ (k : Cut). NotesOnWay test which r from k (rounds_of which r) seen) cut_is
+    (subst (λ (l : List ℕ). NotesOnWay test which r from here l seen) (line_is ∙ fits.timeline_is) noted))

@@ -1,50 +1,44 @@
 //! Looking for the last stop of a way.
 ghost use Rattle.std.specs.Prelude.{◌≡◌, ◌<◌, IfOk, length};
-ghost use Rattle.replay_core.specs.Orders.{nought};
-ghost use Rattle.replay_core.specs.Play.{start};
-ghost use Rattle.replay_core.specs.Plans.{plan_of};
-ghost use Rattle.cut_replay.specs.ClosedCuts.{IsClosed, count_in};
+ghost use Rattle.cut_replay.specs.ClosedCuts.{IsClosed, IsContained};
 ghost use Rattle.cut_moves.specs.Rounds.{rounds_of};
-ghost use Rattle.cut_moves.specs.Ways.{way_of};
-ghost use Rattle.debug_place.specs.Backs.{NotesLast, noted};
+ghost use Rattle.debug_place.specs.Backs.{NotesLast, NotesOnWay, noted};
 ghost use Rattle.debug_place.specs.Walks.{IsWalking};
 
 use crate::backs::Seen;
 use crate::stops::Stops;
+use crate::walks::replay_at;
 use cut_moves::way;
 use replay_audit::Audited;
 use replay_core::{Advanced, Replay};
-use rtr_types::{CORES_MAX, Cut};
+use rtr_types::Cut;
 use std::alloc::{AllocError, Global};
 
-/// A place for each core, as the length of an array.
-const PLACES: usize = CORES_MAX as usize;
-
-/// The last stop on the way from the beginning to a closed cut, along the timeline.
+/// The last stop on the way from one closed cut to another that contains it, along the timeline.
 pub(crate) fn last_stop<S: Stops>(
     alloc: Global,
     audited: &Audited,
     timeline: &[u8],
     stops: &S,
+    from: &Cut,
     to: &Cut,
 ) -> Result<Option<Seen>, AllocError>
     requires timeline { timeline.now ≡ rounds_of audited.now.which audited.now.recording }
-    requires closed { IsClosed audited.now.which audited.now.recording to.now }
-    ensures { let places = way_of nought (count_in to.now) timeline.now in
-        IfOk result (NotesLast (S.stops stops.now) audited.now.which audited.now.recording places (length places)) }
+    requires from { IsClosed audited.now.which audited.now.recording from.now }
+    requires to { IsClosed audited.now.which audited.now.recording to.now }
+    requires within { IsContained from.now to.now }
+    ensures { IfOk result (NotesOnWay (S.stops stops.now) audited.now.which audited.now.recording from.now to.now
+        timeline.now) }
 {
     // The audit passed, so each order plays.
     let _ = audited.outcome();
-    let nothing = Cut {
-        cores: audited.recording().params.cores,
-        counts: [0; PLACES],
-    };
-    let places = way(alloc, audited, timeline, &nothing, to)?;
-    let mut replay = Replay::new(alloc, audited.recording(), audited.which())?;
+    let _ = audited.recording();
+    let mut replay = replay_at(alloc, audited, timeline, from)?;
+    let places = way(alloc, audited, timeline, from, to)?;
     look(audited, stops, &mut replay, to, places.as_slice())
 }
 
-/// The last of the places before which it stops, played from the start.
+/// The last of the places before which it stops, played from where the replay stands.
 fn look<S: Stops>(
     audited: &Audited,
     stops: &S,
@@ -52,10 +46,9 @@ fn look<S: Stops>(
     to: &Cut,
     places: &[u8],
 ) -> Result<Option<Seen>, AllocError>
-    requires walking { IsWalking audited.now.which audited.now.recording to.now replay.old places.now }
-    requires begins { replay.old.state ≡ start (plan_of audited.now.which audited.now.recording) }
-    ensures { IfOk result (NotesLast (S.stops stops.now) audited.now.which audited.now.recording places.now
-        (length places.now)) }
+    requires { IsWalking audited.now.which audited.now.recording to.now replay.old places.now }
+    ensures { IfOk result (NotesLast (S.stops stops.now) audited.now.which audited.now.recording replay.old.state
+        places.now (length places.now)) }
 {
     // The audit passed, so each order plays.
     let _ = audited.outcome();

@@ -12,17 +12,14 @@ ghost use Rattle.debug_place.specs.Stops.{GoesOn};
 
 use crate::looks::last_stop;
 use crate::stops::Stops;
-use crate::walks::{go_on, go_until};
+use crate::walks::{go_on, go_until, replay_at};
 use cut_moves::{step, step_back, timeline};
 use replay_audit::Audited;
 use replay_core::Replay;
-use rtr_types::{CORES_MAX, Cut, Items, Kind};
+use rtr_types::{Cut, Items, Kind};
 use rv_core::Core;
 use std::alloc::{AllocError, Global};
 use std::marker::Model;
-
-/// A place for each core, as the length of an array.
-const PLACES: usize = CORES_MAX as usize;
 
 /// A place in a recorded run: a cut that is closed under the audit's log, with the state that every replay order has
 /// that comes there. It holds one live replay, and the timeline by rounds.
@@ -132,19 +129,7 @@ impl<'a> Place<'a> {
         ensures ok { OnOk result (cut_at self.new ≡ to.now) }
         ensures err { OnErr result (self.new ≡ self.old) }
     {
-        let nothing = Cut {
-            cores: self.audited.recording().params.cores,
-            counts: [0; PLACES],
-        };
-        let mut replay = Replay::new(alloc, self.audited.recording(), self.audited.which())?;
-        go_on(
-            alloc,
-            self.audited,
-            self.timeline.as_slice(),
-            &mut replay,
-            &nothing,
-            to,
-        )?;
+        let replay = replay_at(alloc, self.audited, self.timeline.as_slice(), to)?;
         self.replay = replay;
         Ok(())
     }
@@ -212,28 +197,33 @@ impl<'a> Place<'a> {
         )
     }
 
-    /// Goes back along the timeline until the test stops it: to the last cut of the way here at which it stops before
-    /// a core takes its next instruction. It answers which core that is, or that it came to the beginning. A refusal,
-    /// which comes for want of memory alone, leaves the place as it was.
-    pub fn back<S: Stops>(&mut self, alloc: Global, stops: &S) -> Result<Option<u8>, AllocError>
+    /// Goes back to a closed cut within the present one, place by place along the timeline, until the test stops it: to
+    /// the last cut of the way from there to here at which it stops before a core takes its next instruction. It answers
+    /// which core that is, or that it came to the cut. A refusal, which comes for want of memory alone, leaves the place
+    /// as it was.
+    pub fn back<S: Stops>(
+        &mut self,
+        alloc: Global,
+        stops: &S,
+        to: &Cut,
+    ) -> Result<Option<u8>, AllocError>
+        requires closed { IsClosed self.old.which self.old.recording to.now }
+        requires within { IsContained to.now (cut_at self.old) }
         ensures recording { self.new.recording ≡ self.old.recording }
         ensures which { self.new.which ≡ self.old.which }
-        ensures ok { IfOk result (GoesBack (S.stops stops.now) self.old self.new) }
+        ensures ok { IfOk result (GoesBack (S.stops stops.now) self.old to.now self.new) }
         ensures err { OnErr result (self.new ≡ self.old) }
     {
         let here = self.replay.cut();
-        match last_stop(alloc, self.audited, self.timeline.as_slice(), stops, &here)? {
+        let timeline = self.timeline.as_slice();
+        match last_stop(alloc, self.audited, timeline, stops, to, &here)? {
             Some(seen) => {
                 self.seek(alloc, &seen.cut)?;
                 let _ = self.cut();
                 Ok(Some(seen.core))
             }
             None => {
-                let nothing = Cut {
-                    cores: here.cores,
-                    counts: [0; PLACES],
-                };
-                self.seek(alloc, &nothing)?;
+                self.seek(alloc, to)?;
                 Ok(None)
             }
         }

@@ -13,8 +13,33 @@ use crate::stops::Stops;
 use cut_moves::way;
 use replay_audit::Audited;
 use replay_core::{Advanced, Replay};
-use rtr_types::Cut;
+use rtr_types::{CORES_MAX, Cut};
 use std::alloc::{AllocError, Global};
+
+/// A place for each core, as the length of an array.
+const PLACES: usize = CORES_MAX as usize;
+
+/// A replay from the beginning to a closed cut.
+pub(crate) fn replay_at<'a>(
+    alloc: Global,
+    audited: &'a Audited,
+    timeline: &[u8],
+    to: &Cut,
+) -> Result<Replay<'a>, AllocError>
+    requires timeline { timeline.now ≡ rounds_of audited.now.which audited.now.recording }
+    requires closed { IsClosed audited.now.which audited.now.recording to.now }
+    ensures { IfOk result (IsReplayAt audited.now.which audited.now.recording to.now) }
+{
+    // The audit passed, so each order plays.
+    let _ = audited.outcome();
+    let nothing = Cut {
+        cores: audited.recording().params.cores,
+        counts: [0; PLACES],
+    };
+    let mut replay = Replay::new(alloc, audited.recording(), audited.which())?;
+    go_on(alloc, audited, timeline, &mut replay, &nothing, to)?;
+    Ok(replay)
+}
 
 /// The replay goes on from one closed cut to another that contains it, along the timeline. After want of memory it
 /// stands at a closed cut between the two.

@@ -1,5 +1,5 @@
 -- How the cores' programs end, by the audit's outcome and the image at hand.
-use Rattle.std.proofs.Common.{◌≡◌, ℕ, List, ap, ◌∙◌}
+use Rattle.std.proofs.Common.{◌≡◌, ℕ, List, ap, refl, ◌∙◌}
 use Rattle.image_mem.specs.Contents.{Contents}
 use Rattle.rtr_types.specs.declared.core_set.CoreSet.{CoreSet}
 use Rattle.rtr_types.specs.declared.pairs.Which.{Which}
@@ -19,7 +19,7 @@ use Rattle.std.proofs.Common.{subst}
 use Rattle.gdb_session.specs.declared.points.Point.{Point}
 use Rattle.gdb_session.specs.Ends.{end_in, end_of}
 use Rattle.gdb_session.specs.Seats.{IsOf, Sees}
-use Rattle.gdb_session.specs.Stopping.{Stopping}
+use Rattle.gdb_session.specs.Stopping.{stopping_by}
 
 pub same_ends : (a : Findings) (image : Contents) (place : Placed) (outcome : Outcome) → Sees a image place →
     PassesOf a → outcome ≡ a.outcome → ◌≡◌ {A = ℕ → Stop} (end_in image outcome) (end_of place)
@@ -30,15 +30,14 @@ same_ends a image place outcome sees passed is =
     ap (λ (i : Contents). end_in i outcome) sees.image_is
     ∙ ap (λ (o : Outcome). end_in (recorded_image place.recording) o) outcome_is
 
-abbrev pub stopped_by : List Point → CoreSet → CoreSet → (ℕ → Stop) → Stopping
-stopped_by points paused heard ends = record { points = points; paused = paused; heard = heard; ends = ends }
-
-pub same_stopping : (points : List Point) (paused other heard more : CoreSet) (ends later : ℕ → Stop) →
-    paused ≡ other → heard ≡ more → ends ≡ later →
-    stopped_by points paused heard ends ≡ stopped_by points other more later
-same_stopping points paused other heard more ends later p h e =
-    ap (λ (s : CoreSet). stopped_by points s heard ends) p ∙ ap (λ (s : CoreSet). stopped_by points other s ends) h
-    ∙ ap (λ (f : ℕ → Stop). stopped_by points other more f) e
+-- what stops a move, by the audit, said of the place
+pub same_stopping : (a : Findings) (image : Contents) (place : Placed) (points : List Point) (paused other : CoreSet)
+    (heard more : CoreSet) → Sees a image place → PassesOf a → paused ≡ other → heard ≡ more →
+    stopping_by points paused heard (end_in image a.outcome) ≡ stopping_by points other more (end_of place)
+same_stopping a image place points paused other heard more sees passes p h =
+    ap (λ (s : CoreSet). stopping_by points s heard (end_in image a.outcome)) p
+    ∙ ap (λ (s : CoreSet). stopping_by points other s (end_in image a.outcome)) h
+    ∙ ap (λ (f : ℕ → Stop). stopping_by points other more f) (same_ends a image place a.outcome sees passes refl)
 
 -- the whole cut, said of the place's recording
 pub whole_at : (a : Findings) (place : Placed) (to : Cut) → IsOf a place → IsWholeCut a.recording to →

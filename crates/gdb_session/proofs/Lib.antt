@@ -3,6 +3,7 @@ pub mod WaitLemmas
 pub mod WaitsMore
 pub mod SetLemmas
 pub mod TurnLemmas
+pub mod BackLemmas
 pub mod FrontLemmas
 pub mod RowsMore
 pub mod EndLemmas

@@ -1,7 +1,7 @@
 -- A core before whose place of a way something stopped has a next instruction: it's ready there.
 use Rattle.std.proofs.Common.{◌≡◌, ℕ, ◌+◌, ◌<◌, List, ◌∷◌, ◌++◌, length, take, drop, get_or, refl, sym, ap, subst}
 use Rattle.std.proofs.Common.{◌∙◌, add-one, arith}
-use Rattle.std.specs.Prelude.{Bool, true}
+use Rattle.std.specs.Prelude.{Bool, true, Some}
 use Rattle.std.proofs.Math.Seq.{drop-cons}
 use Rattle.std.proofs.lemmas.List.{take-append-drop}
 use Rattle.rtr_types.specs.declared.cut.Cut.{Cut}
@@ -11,20 +11,21 @@ use Rattle.log_codec.specs.declared.recording.Recording.{Recording}
 use Rattle.log_codec.specs.Validity.{Valid}
 use Rattle.replay_core.specs.Answers.{UnderWay, cut_of}
 use Rattle.replay_core.specs.Laws.{PlayKnown}
-use Rattle.replay_core.specs.Orders.{Ordered, Ready, counts_in, nought}
+use Rattle.replay_core.specs.Orders.{Ordered, Ready, counts_in}
 use Rattle.replay_core.specs.Plans.{Plan, plan_of}
-use Rattle.replay_core.specs.Play.{play, played}
+use Rattle.replay_core.specs.Play.{play}
 use Rattle.replay_core.proofs.Lists.{ordered_on}
-use Rattle.replay_core.proofs.Places.{play_known, play_law}
+use Rattle.replay_core.proofs.Places.{play_known}
 use Rattle.replay_audit.specs.Audits.{IsInstrOf}
 use Rattle.cut_replay.specs.ClosedCuts.{IsClosed, IsContained, count_in}
+use Rattle.cut_replay.specs.CutStates.{IsStateAt}
 use Rattle.cut_moves.proofs.Along.{way_ordered}
 use Rattle.cut_moves.proofs.Fronts.{count_is}
 use Rattle.cut_moves.proofs.Rounds.{rounds_ordered}
 use Rattle.cut_moves.specs.Rounds.{rounds_of}
 use Rattle.cut_moves.specs.Steps.{next_in}
 use Rattle.cut_moves.specs.Ways.{ClosedUnder}
-use Rattle.debug_place.specs.Backs.{IsLastStop, way_here}
+use Rattle.debug_place.specs.Backs.{GoesBack, way_back}
 use Rattle.debug_place.specs.Places.{IsReplayAt, Placed, Stands, cut_at, plan_at}
 use Rattle.debug_place.specs.Stops.{IsFirstStop, way_to}
 use Rattle.debug_place.proofs.OwnCuts.{its_counts, known, on_the_way}
@@ -87,33 +88,51 @@ next_forward test old mid to core stands valid closed within same_recording same
     (subst (λ (r : Recording). IsInstrOf r (next_in (cut_of (plan_of old.which r) (counts_in mid.state)) core))
     (sym same_recording) next)
 
--- and so at a place of the way here
-ready_behind : (old : Placed) (i : ℕ) → Stands old → Valid old.recording → i < length (way_here old) →
-    Ready (plan_at old) (counts_in (played (plan_at old) (take i (way_here old)))) (get_or (way_here old) i 0)
-ready_behind old i stands valid inside =
-    let p : Plan = plan_at old in
-    let places : List ℕ = way_here old in
-    let along : Ordered p nought places =
-    way_ordered p nought (count_in (cut_at old)) (rounds_of old.which old.recording) (rounds_ordered p)
-    (closed_under old.which old.recording (cut_at old) stands.closed) (λ core. omega arith) in
-    let split : places ≡ take i places ++ get_or places i 0 ∷ drop (i + 1) places =
-    sym (take-append-drop i places)
-    ∙ ap (λ rest. take i places ++ rest)
-    (drop-cons places i 0 inside ∙ ap (λ k. get_or places i 0 ∷ drop k places) (sym (add-one i))) in
-    let both = (ordered_on p nought (take i places) (get_or places i 0 ∷ drop (i + 1) places)).0
-    (subst (λ (l : List ℕ). Ordered p nought l) split along) in
-    subst (λ (f : ℕ → ℕ). Ready p f (get_or places i 0)) (sym (play_law p (take i places) both.0).counts) both.1.0
+-- and so at a place of the way back to a closed cut, by the places before, from the state there
+module _ (old : Placed) (to : Cut) (there : Outcome) (stands : Stands old) (valid : Valid old.recording)
+    (closed : IsClosed old.which old.recording to) (within : IsContained to (cut_at old))
+    (state : IsStateAt old.which old.recording to there) where
+  abbrev begins : UnderWay
+  begins = record { plan = plan_at old; state = there; roomy = true }
 
-pub next_backward : (test : Plan → Outcome → ℕ → Bool) (old mid : Placed) (core : ℕ) → Stands old →
-    Valid old.recording → mid.recording ≡ old.recording → mid.which ≡ old.which →
-    IsLastStop test (plan_at old) (way_here old) (length (way_here old)) core mid.state →
+  at_there : IsReplayAt old.which old.recording to begins
+  at_there = record { plan_is = refl; closed = closed; state = state }
+
+  known_there : PlayKnown (plan_at old) (counts_in there) there
+  known_there = known (on_the_way at_there (cut_at old) valid stands.closed within)
+
+  ready_behind : (i : ℕ) → i < length (way_back old to) →
+      Ready (plan_at old) (counts_in (play (plan_at old) there (take i (way_back old to))))
+      (get_or (way_back old to) i 0)
+  ready_behind i inside =
+      let p : Plan = plan_at old in
+      let places : List ℕ = way_back old to in
+      let along : Ordered p (count_in to) places =
+      way_ordered p (count_in to) (count_in (cut_at old)) (rounds_of old.which old.recording) (rounds_ordered p)
+      (closed_under old.which old.recording (cut_at old) stands.closed) within in
+      let split : places ≡ take i places ++ get_or places i 0 ∷ drop (i + 1) places =
+      sym (take-append-drop i places)
+      ∙ ap (λ rest. take i places ++ rest)
+      (drop-cons places i 0 inside ∙ ap (λ k. get_or places i 0 ∷ drop k places) (sym (add-one i))) in
+      let parted : Ordered p (counts_in there) (take i places ++ get_or places i 0 ∷ drop (i + 1) places) =
+      subst (λ (f : ℕ → ℕ). Ordered p f (take i places ++ get_or places i 0 ∷ drop (i + 1) places))
+      (its_counts at_there)
+      (subst (λ (l : List ℕ). Ordered p (count_in to) l) split along) in
+      let both = (ordered_on p (counts_in there) (take i places) (get_or places i 0 ∷ drop (i + 1) places)).0 parted in
+      let known = play_known p (counts_in there) there (take i places) known_there both.0 in
+      subst (λ (f : ℕ → ℕ). Ready p f (get_or places i 0)) (sym known.counts) both.1.0
+
+pub next_backward : (test : Plan → Outcome → ℕ → Bool) (old mid : Placed) (to : Cut) (core : ℕ) → Stands old →
+    Valid old.recording → IsClosed old.which old.recording to → IsContained to (cut_at old) →
+    mid.recording ≡ old.recording → mid.which ≡ old.which → GoesBack test old to mid (Some core) →
     IsInstrOf mid.recording (next_in (cut_at mid) core)
-next_backward test old mid core stands valid same_recording same_which last =
+next_backward test old mid to core stands valid closed within same_recording same_which goes =
     let p : Plan = plan_at old in
+    let last = goes.ends in
     let ready : Ready p (counts_in mid.state) core =
     subst (λ (s : Outcome). Ready p (counts_in s) core) (sym last.state)
-    (subst (λ (c : ℕ). Ready p (counts_in (played p (take last.number (way_here old)))) c) last.core_is
-    (ready_behind old last.number stands valid last.inside)) in
+    (subst (λ (c : ℕ). Ready p (counts_in (play p goes.there (take last.number (way_back old to)))) c) last.core_is
+    (ready_behind old to goes.there stands valid closed within goes.state last.number last.inside)) in
     let next = ready_next old.which old.recording mid.state core valid ready in
     subst (λ (w : Which).
     IsInstrOf mid.recording (next_in (cut_of (plan_of w mid.recording) (counts_in mid.state)) core))

@@ -1,8 +1,8 @@
 -- Turn by turn along the timeline: of the cores that move the place has what stands at the places so far, and at least
 -- as many instructions as the timeline has come to.
-use Rattle.std.proofs.Common.{◌≡◌, inl, inr, ℕ, ◌+◌, ◌<◌, ◌≤◌, true, false, List, ◌∷◌, ◌++◌, length, take, drop, get_or}
+use Rattle.std.proofs.Common.{◌≡◌, inl, inr, ℕ, ◌+◌, ◌<◌, ◌≤◌, true, List, ◌∷◌, ◌++◌, length, take, drop, get_or}
 use Rattle.std.proofs.Common.{replicate, suc, refl, sym, ap, subst, ◌∙◌, add-one, arith, length-set}
-use Rattle.std.specs.Prelude.{slice_index, slice_set, Option, Some, None, MatchOption, IfOk, Result}
+use Rattle.std.specs.Prelude.{slice_index, slice_set, None}
 use Rattle.std.proofs.Math.Path.{fun_ext}
 use Rattle.std.proofs.Math.Seq.{drop-cons}
 use Rattle.std.proofs.lemmas.Bool.{cases_lt}
@@ -14,10 +14,10 @@ use Rattle.rtr_types.specs.declared.TheConstants.{CORES_MAX}
 use Rattle.rtr_types.specs.declared.core_set.CoreSet.{CoreSet}
 use Rattle.rtr_types.specs.declared.cut.Cut.{Cut}
 use Rattle.rtr_types.specs.declared.pairs.Which.{Which}
-use Rattle.replay_core.specs.Orders.{IsReplayOrder, Ordered, Ready, bump, counts, nought}
+use Rattle.replay_core.specs.Orders.{Ordered, Ready, bump, counts, nought}
 use Rattle.replay_core.specs.Plans.{Plan}
 use Rattle.replay_core.specs.Tallies.{count_of}
-use Rattle.replay_core.proofs.Counts.{bump_here, bump_else, bump_same, counts_on}
+use Rattle.replay_core.proofs.Counts.{bump_else, bump_same, counts_on}
 use Rattle.replay_core.proofs.Lists.{ordered_on}
 use Rattle.replay_audit.specs.Audits.{Findings, IsInstrOf}
 use Rattle.log_codec.specs.declared.recording.Recording.{Recording}
@@ -33,7 +33,7 @@ use Rattle.debug_place.specs.Stops.{GoesOn, NoneStops, way_to}
 use Rattle.gdb_session.specs.Moves.{Follow, IsKept, StepsFree, TakesTurn}
 use Rattle.gdb_session.specs.Seats.{IsOf}
 use Rattle.gdb_session.specs.Stopping.{Stopping, stops_at}
-use Rattle.gdb_session.specs.Turns.{AreDone, IsDone, IsTurn, NoTurn, timeline_at}
+use Rattle.gdb_session.specs.Turns.{AreDone, IsDone, IsTurn, timeline_at}
 
 -- ---- steps
 
@@ -76,7 +76,7 @@ ready_at place i inside =
     (subst (λ (l : List ℕ). Ordered p nought l) (split_at line i inside) (rounds_ordered p))).1.0
 
 -- one place more
-counted_more : (timeline : List ℕ) (i : ℕ) → i < length timeline →
+pub counted_more : (timeline : List ℕ) (i : ℕ) → i < length timeline →
     counts nought (take (i + 1) timeline) ≡ bump (counts nought (take i timeline)) (get_or timeline i 0)
 counted_more timeline i inside =
     ap (λ (l : List ℕ). counts nought l) (take_more timeline i 0 inside)

@@ -65,8 +65,10 @@ MovesBy (Some order) old new payloads = Moves old order new payloads
 -- ---- all packets
 
 abbrev pub AnswersPlain : Plain → (old new : Seat) → List (List ℕ) → Type 0
-AnswersPlain plain.StepBack old new payloads = MovesBy (step_back_order old.wishes) old new payloads
-AnswersPlain plain.GoBack old new payloads = MovesBy (go_back_order old.wishes) old new payloads
+AnswersPlain plain.StepBack old new payloads =
+    Moves old (step_back_order old.wishes old.place.recording.params.cores) new payloads
+AnswersPlain plain.GoBack old new payloads =
+    Moves old (go_back_order old.wishes old.place.recording.params.cores) new payloads
 AnswersPlain other old new payloads = Tells old other new payloads
 
 abbrev pub AnswersWith : asks.Ask → (old new : Seat) → List (List ℕ) → Type 0

@@ -9,20 +9,20 @@ use Rattle.gdb_packets.specs.declared.replies.Stop as stops
 use Rattle.gdb_packets.specs.declared.replies.Why.{Why}
 use Rattle.gdb_packets.specs.declared.replies.Why.TheVariants.{Nothing, Breakpoint, End, Begin}
 use Rattle.replay_audit.specs.Audits.{IsInstrOf}
-use Rattle.replay_core.specs.Play.{Use, core_at, need_at, use_of}
-use Rattle.cut_replay.specs.ClosedCuts.{IsClosed}
+use Rattle.cut_replay.specs.ClosedCuts.{count_in, IsClosed}
 use Rattle.cut_moves.specs.Steps.{IsStep, IsStepBack, IsWholeCut, last_in, next_in}
 use Rattle.debug_place.specs.Backs.{GoesBack}
 use Rattle.debug_place.specs.Places.{Placed, cut_at, plan_at}
 use Rattle.debug_place.specs.Stops.{GoesOn, IsFirstStop, NoneStops, way_to}
 use Rattle.gdb_session.specs.declared.orders.Order.{Order}
 use Rattle.gdb_session.specs.declared.orders.Order.TheVariants.{Rest, Step, Go, GoWith, StepBack, GoBack}
+use Rattle.gdb_session.specs.declared.orders.Order.TheVariants.{GoBackWith}
 use Rattle.gdb_session.specs.declared.points.Point.{Point}
 use Rattle.gdb_session.specs.Ends.{end_of, signal_of}
 use Rattle.gdb_session.specs.Orders.{every_core}
-use Rattle.gdb_session.specs.Points.{breaks_at, touched, why_of}
-use Rattle.gdb_session.specs.Stopping.{Stopping, breaks, stops_at, watched}
-use Rattle.gdb_session.specs.Turns.{IsTurn, NoTurn, timeline_at}
+use Rattle.gdb_session.specs.Points.{why_of}
+use Rattle.gdb_session.specs.Stopping.{Stopping, breaks, stopping_by, stops_at, watched}
+use Rattle.gdb_session.specs.Turns.{IsTurn, IsTurnBack, NoTurn, NoTurnBack, timeline_at}
 
 -- ---- stops
 
@@ -147,66 +147,94 @@ pub record GoesWith (stopping : Stopping) (cores : CoreSet) (lead : ℕ) (old ne
 -- ---- backwards
 
 -- stopped at a core's instruction: behind it, where its access touches a watched range, or else before it
-pub record HaltsBack (stopping : Stopping) (core : ℕ) (old new : Placed) (stop : stops.Stop) : Type 0 where
+pub record HaltsBack (stopping : Stopping) (lead core : ℕ) (old new : Placed) (stop : stops.Stop) : Type 0 where
   pub on_watch : (point : Point) → watched stopping (plan_at old) old.state core ≡ Some point →
-      Takes old new core stop (plain_stop core (why_of point))
+      Takes old new core stop (plain_stop (teller stopping.paused lead core) (why_of point))
   pub on_break : watched stopping (plan_at old) old.state core ≡ None →
       Stays old new stop (plain_stop core Breakpoint)
 
--- all cores go back: the way here is gone back to the last stop, or to the beginning, which is told
-pub record GoesBackward (stopping : Stopping) (lead : ℕ) (old new : Placed) (stop : stops.Stop) : Type 0 where
+-- the way from a cut to here is gone back until something stops it, or to the cut, where this is told
+pub record WalksBack (stopping : Stopping) (lead : ℕ) (old : Placed) (to : Cut) (new : Placed) (stop told : stops.Stop)
+    : Type 0 where
   pub mid : Placed
   pub kept : IsKept old mid
   pub before : Option ℕ
-  pub goes : GoesBack (stops_at stopping) old mid before
-  pub ends : MatchOption before (Stays mid new stop (plain_stop lead Begin))
-      (λ core. HaltsBack stopping core mid new stop)
+  pub goes : GoesBack (stops_at stopping) old to mid before
+  pub ends : MatchOption before (Stays mid new stop told) (λ core. HaltsBack stopping lead core mid new stop)
 
--- why a core that has stepped back stops: at a breakpoint, or since it has stepped
-abbrev pub why_back : List Point → (pc : ℕ) → Why
-why_back points pc = if breaks_at points pc then Breakpoint else Nothing
+-- a core steps back: the way is gone back to the greatest closed cut within the place's that lacks the core's last
+-- instruction
+pub record StepsBackOn (stopping : Stopping) (core : ℕ) (old new : Placed) (stop : stops.Stop) : Type 0 where
+  pub to : Cut
+  pub step : IsStepBack old.which old.recording (cut_at old) (last_in (cut_at old) core) to
+  pub walks : WalksBack stopping core old to new stop (plain_stop core Nothing)
 
--- the access that a core's next instruction makes
-abbrev pub next_use : Placed → (core : ℕ) → Use
-next_use place core = use_of (need_at (plan_at place) place.state core)
+-- unless it has done nothing: then the beginning is told
+pub record StepsBackward (stopping : Stopping) (core : ℕ) (old new : Placed) (stop : stops.Stop) : Type 0 where
+  pub goes : IsInstrOf old.recording (last_in (cut_at old) core) → StepsBackOn stopping core old new stop
+  pub ends : (IsInstrOf old.recording (last_in (cut_at old) core) → ⊥) → Stays old new stop (plain_stop core Begin)
 
--- a core's last instruction was given up, with what needs it; but where its access touches a watched range, it's the
--- same cut again
-pub record HaltsBehind (points : List Point) (core : ℕ) (old mid new : Placed) (stop : stops.Stop) : Type 0 where
-  pub on_watch : (point : Point) → touched points (next_use mid core) ≡ Some point →
-      (cut_at new ≡ cut_at old) × (stop ≡ plain_stop core (why_of point))
-  pub on_step : touched points (next_use mid core) ≡ None →
-      Stays mid new stop (plain_stop core (why_back points (core_at mid.state core).pc))
+-- all cores go back: the way is gone back to the cut with nothing, where the beginning is told
+pub record GoesBackward (stopping : Stopping) (lead : ℕ) (old new : Placed) (stop : stops.Stop) : Type 0 where
+  pub to : Cut
+  pub closed : IsClosed old.which old.recording to
+  pub none : (core : ℕ) → count_in to core ≡ 0
+  pub walks : WalksBack stopping lead old to new stop (plain_stop lead Begin)
 
-pub record StepsBackOn (points : List Point) (core : ℕ) (old new : Placed) (stop : stops.Stop) : Type 0 where
+-- ---- only some cores backwards
+
+-- a core steps back, and nothing stops it on its way
+pub record StepsBackFree (stopping : Stopping) (core : ℕ) (old new : Placed) : Type 0 where
+  pub kept : IsKept old new
+  pub step : IsStepBack old.which old.recording (cut_at old) (last_in (cut_at old) core) (cut_at new)
+  pub free : GoesBack (stops_at stopping) old (cut_at new) new None
+
+-- a core steps back, and something stops it on its way
+pub record StepsBackInto (stopping : Stopping) (core : ℕ) (old new : Placed) (stop : stops.Stop) : Type 0 where
+  pub to : Cut
+  pub step : IsStepBack old.which old.recording (cut_at old) (last_in (cut_at old) core) to
   pub mid : Placed
   pub kept : IsKept old mid
-  pub step : IsStepBack old.which old.recording (cut_at old) (last_in (cut_at old) core) (cut_at mid)
-  pub halts : HaltsBehind points core old mid new stop
+  pub before : ℕ
+  pub last : GoesBack (stops_at stopping) old to mid (Some before)
+  pub halts : HaltsBack stopping core before mid new stop
 
--- a core steps back, unless it has done nothing: then the beginning is told
-pub record StepsBackward (points : List Point) (core : ℕ) (old new : Placed) (stop : stops.Stop) : Type 0 where
-  pub goes : IsInstrOf old.recording (last_in (cut_at old) core) → StepsBackOn points core old new stop
-  pub ends : (IsInstrOf old.recording (last_in (cut_at old) core) → ⊥) → Stays old new stop (plain_stop core Begin)
+-- the one of these cores whose turn it is steps back, and nothing stops it
+pub record TakesTurnBack (stopping : Stopping) (cores : CoreSet) (old new : Placed) : Type 0 where
+  pub core : ℕ
+  pub turn : IsTurnBack cores (cut_at old) (timeline_at old) core
+  pub steps : StepsBackFree stopping core old new
+
+-- the one whose turn it is steps back, and is stopped
+pub record StopsTurnBack (stopping : Stopping) (cores : CoreSet) (core : ℕ) (old new : Placed) (stop : stops.Stop)
+    : Type 0 where
+  pub turn : IsTurnBack cores (cut_at old) (timeline_at old) core
+  pub steps : StepsBackInto stopping core old new stop
+
+-- only these cores go back, turn by turn, and others as the log demands, until something stops the one whose turn it
+-- is, or they have done nothing, where the beginning is told
+pub record GoesBackWith (stopping : Stopping) (cores : CoreSet) (lead : ℕ) (old new : Placed) (stop : stops.Stop)
+    : Type 0 where
+  pub turns : ℕ
+  pub mid : Placed
+  pub free : Follow (TakesTurnBack stopping cores) turns old mid
+  pub next : Option ℕ
+  pub ends : MatchOption next
+      (NoTurnBack cores (cut_at mid) (timeline_at mid) × Stays mid new stop (plain_stop lead Begin))
+      (λ core. StopsTurnBack stopping cores core mid new stop)
 
 -- ---- orders
 
 -- a core that steps isn't stopped by a breakpoint at its own instruction
 abbrev pub stepping : Placed → List Point → (core : ℕ) → CoreSet → Stopping
-stepping place points core heard =
-    record { points = points; paused = without_core heard core; heard = heard; ends = end_of place }
+stepping place points core heard = stopping_by points (without_core heard core) heard (end_of place)
 
 abbrev pub going : Placed → List Point → CoreSet → Stopping
-going place points heard = record { points = points; paused = heard; heard = heard; ends = end_of place }
+going place points heard = stopping_by points heard heard (end_of place)
 
 -- backwards no fault is told
-abbrev pub going_back : Placed → List Point → Stopping
-going_back place points = record {
-  points = points;
-  paused = every_core place.recording.params.cores;
-  heard = no_cores;
-  ends = end_of place;
-}
+abbrev pub going_back : Placed → List Point → CoreSet → Stopping
+going_back place points heard = stopping_by points heard no_cores (end_of place)
 
 -- what an order comes to
 abbrev pub Obeys : List Point → Order → (old new : Placed) → stops.Stop → Type 0
@@ -214,5 +242,8 @@ Obeys points (Rest core) old new stop = Stays old new stop (interrupt_stop core)
 Obeys points (Step core heard) old new stop = Steps (stepping old points core heard) core old new stop
 Obeys points (Go lead heard) old new stop = Goes (going old points heard) lead old new stop
 Obeys points (GoWith lead cores heard) old new stop = GoesWith (going old points heard) cores lead old new stop
-Obeys points (StepBack core) old new stop = StepsBackward points core old new stop
-Obeys points (GoBack lead) old new stop = GoesBackward (going_back old points) lead old new stop
+Obeys points (StepBack core heard) old new stop = StepsBackward (going_back old points heard) core old new stop
+Obeys points (GoBack lead) old new stop =
+    GoesBackward (going_back old points (every_core old.recording.params.cores)) lead old new stop
+Obeys points (GoBackWith lead cores heard) old new stop =
+    GoesBackWith (going_back old points heard) cores lead old new stop

@@ -10,6 +10,7 @@ use Rattle.gdb_packets.specs.declared.asks.Thread.{Thread}
 use Rattle.gdb_packets.specs.declared.asks.Thread.TheVariants.{All, Any, Core}
 use Rattle.gdb_session.specs.declared.orders.Order.{Order}
 use Rattle.gdb_session.specs.declared.orders.Order.TheVariants.{Rest, Step, Go, GoWith, StepBack, GoBack}
+use Rattle.gdb_session.specs.declared.orders.Order.TheVariants.{GoBackWith}
 use Rattle.gdb_session.specs.declared.wishes.Wishes.{Wishes}
 use Rattle.gdb_session.specs.Wishes.{core_of, is_there}
 
@@ -75,6 +76,15 @@ all_go actions cores = all_where (acts actions) cores
 
 -- ---- the orders
 
+-- one core alone
+abbrev pub only : (core : ℕ) → CoreSet
+only core = with_core no_cores core
+
+-- all cores go on: by the one that leads alone, where one does
+abbrev pub all_on : (lead : Option ℕ) → (told : ℕ) → CoreSet → Order
+all_on None told heard = Go told heard
+all_on (Some lead) told heard = GoWith told (only lead) heard
+
 -- only these cores go on; at the end the one that is looked at is told if it's one of them, or else the lowest
 abbrev pub some_order : Wishes → CoreSet → (lowest : Option ℕ) → Option Order
 some_order wishes heard None = None
@@ -84,7 +94,7 @@ some_order wishes heard (Some lowest) =
 -- a step of the lowest core that is to step; where none is, those that are to move go on
 abbrev pub go_order : Wishes → (cores : ℕ) → List Action → Option ℕ → Option Order
 go_order wishes cores actions None =
-    if all_go actions cores then Some (Go wishes.looked (heard_of actions cores)) else
+    if all_go actions cores then Some (all_on wishes.lead wishes.looked (heard_of actions cores)) else
     some_order wishes (heard_of actions cores) (lowest_where (acts actions) cores)
 go_order wishes cores actions (Some core) = Some (Step core (heard_of actions cores))
 
@@ -100,15 +110,28 @@ resume_order wishes cores actions =
 abbrev pub mover : Wishes → ℕ
 mover wishes = unwrap_or wishes.moving wishes.looked
 
-abbrev pub step_back_order : Wishes → Option Order
-step_back_order wishes =
-    if wishes.interrupted then Some (Rest (mover wishes)) else Some (StepBack (mover wishes))
+-- the cores that go back: the one, or all
+abbrev pub movers_of : (moving : Option ℕ) → (cores : ℕ) → CoreSet
+movers_of None cores = every_core cores
+movers_of (Some core) cores = only core
 
--- where one core alone is to go back, none
-abbrev pub go_back_order : Wishes → Option Order
-go_back_order wishes =
-    if wishes.interrupted then Some (Rest (mover wishes)) else
-    if is_some wishes.moving then None else Some (GoBack wishes.looked)
+abbrev pub step_back_order : Wishes → (cores : ℕ) → Order
+step_back_order wishes cores =
+    if wishes.interrupted then Rest (mover wishes) else StepBack (mover wishes) (movers_of wishes.moving cores)
+
+-- all cores go back: by the one that leads alone, where one does
+abbrev pub all_back : (lead : Option ℕ) → (told cores : ℕ) → Order
+all_back None told cores = GoBack told
+all_back (Some lead) told cores = GoBackWith told (only lead) (every_core cores)
+
+-- one core goes back, or all
+abbrev pub back_by : (moving : Option ℕ) → Wishes → (cores : ℕ) → Order
+back_by None wishes cores = all_back wishes.lead wishes.looked cores
+back_by (Some core) wishes cores = GoBackWith core (only core) (only core)
+
+abbrev pub go_back_order : Wishes → (cores : ℕ) → Order
+go_back_order wishes cores =
+    if wishes.interrupted then Rest (mover wishes) else back_by wishes.moving wishes cores
 
 -- the core that an order names is there
 abbrev pub IsWithin : Order → (cores : ℕ) → Type 0
@@ -116,5 +139,6 @@ IsWithin (Rest core) cores = core < cores
 IsWithin (Step core heard) cores = core < cores
 IsWithin (Go core heard) cores = core < cores
 IsWithin (GoWith core movers heard) cores = core < cores
-IsWithin (StepBack core) cores = core < cores
+IsWithin (StepBack core heard) cores = core < cores
 IsWithin (GoBack core) cores = core < cores
+IsWithin (GoBackWith core movers heard) cores = core < cores

@@ -1,5 +1,5 @@
 -- What a session shows: where it stands in the run, what the debugger has asked for, and the points that are set.
-use Rattle.std.specs.Prelude.{◌≡◌, ℕ, true, false, List, [], None}
+use Rattle.std.specs.Prelude.{◌≡◌, ℕ, true, false, List, [], Option, None, if◌then◌else◌}
 use Rattle.image_mem.specs.Contents.{Contents}
 use Rattle.replay_core.specs.Plans.{recorded_image}
 use Rattle.replay_audit.specs.Audits.{Findings}
@@ -7,7 +7,7 @@ use Rattle.cut_replay.specs.ClosedCuts.{count_in}
 use Rattle.debug_place.specs.Places.{Placed, cut_at}
 use Rattle.gdb_session.specs.declared.points.Point.{Point}
 use Rattle.gdb_session.specs.declared.wishes.Wishes.{Wishes}
-use Rattle.gdb_session.specs.Wishes.{Fit}
+use Rattle.gdb_session.specs.Wishes.{Fit, can_lead, led_by}
 
 pub record Seat : Type 0 where
   pub place : Placed
@@ -35,7 +35,7 @@ pub record Sits (a : Findings) (image : Contents) (seat : Seat) : Type 0 where
 
 -- before anything was asked for: core 0 is looked at, and was told
 abbrev pub first_wishes : Wishes
-first_wishes = record { looked = 0; told = 0; moving = None; interrupted = false }
+first_wishes = record { looked = 0; told = 0; moving = None; lead = None; interrupted = false }
 
 -- a session begins before the first instruction
 pub record Begins (a : Findings) (seat : Seat) : Type 0 where
@@ -48,3 +48,8 @@ pub record Begins (a : Findings) (seat : Seat) : Type 0 where
 -- an interrupt came
 abbrev pub interrupted : Seat → Seat
 interrupted seat = record seat { wishes = record seat.wishes { interrupted = true } }
+
+-- a core leads from here on, if it's there; or none does
+abbrev pub led : Seat → (core : Option ℕ) → Seat
+led seat core =
+    if can_lead core seat.place.recording.params.cores then record seat { wishes = led_by seat.wishes core } else seat

@@ -20,6 +20,10 @@ pub record Stopping : Type 0 where
   pub heard : CoreSet
   pub ends : ℕ → Stop
 
+abbrev pub stopping_by : List Point → (paused heard : CoreSet) → (ends : ℕ → Stop) → Stopping
+stopping_by points paused heard ends =
+    record { points = points; paused = paused; heard = heard; ends = ends }
+
 -- what the code has of it
 abbrev pub stopping_of : Hearing → Stopping
 stopping_of hearing = record {

@@ -1,5 +1,5 @@
 -- Whose turn it is where only some cores move: by the timeline, one place after the other.
-use Rattle.std.specs.Prelude.{◌≡◌, ℕ, ◌<◌, true, List, length, take, slice_index}
+use Rattle.std.specs.Prelude.{◌≡◌, ℕ, ◌+◌, ◌<◌, ◌≤◌, true, List, length, take, slice_index}
 use Rattle.rtr_types.specs.CoreSets.{has}
 use Rattle.rtr_types.specs.declared.core_set.CoreSet.{CoreSet}
 use Rattle.rtr_types.specs.declared.cut.Cut.{Cut}
@@ -33,3 +33,25 @@ pub record IsTurn (cores : CoreSet) (cut : Cut) (timeline : List ℕ) (core : �
 -- they have nothing left
 abbrev pub NoTurn : CoreSet → Cut → List ℕ → Type 0
 NoTurn cores cut timeline = AreDone cores cut timeline (length timeline)
+
+-- ---- backwards
+
+-- of these cores it has nothing that stands at the places from the first one on
+abbrev pub AreGone : CoreSet → Cut → List ℕ → (first : ℕ) → Type 0
+AreGone cores cut timeline first =
+    (number : ℕ) → first ≤ number → number < length timeline → has cores (slice_index timeline number) ≡ true →
+    IsDone cut timeline number → ⊥
+
+-- it's this core's turn to go back: of these cores' instructions that the cut has its last one stands last in the
+-- timeline
+pub record IsTurnBack (cores : CoreSet) (cut : Cut) (timeline : List ℕ) (core : ℕ) : Type 0 where
+  pub number : ℕ
+  pub inside : number < length timeline
+  pub core_is : slice_index timeline number ≡ core
+  pub one : has cores core ≡ true
+  pub here : IsDone cut timeline number
+  pub behind : AreGone cores cut timeline (number + 1)
+
+-- they have done nothing
+abbrev pub NoTurnBack : CoreSet → Cut → List ℕ → Type 0
+NoTurnBack cores cut timeline = AreGone cores cut timeline 0

@@ -11,6 +11,7 @@ pub record Fit (wishes : Wishes) (cores : ℕ) : Type 0 where
   pub looked : wishes.looked < cores
   pub told : wishes.told < cores
   pub moving : IfSome wishes.moving (λ core. core < cores)
+  pub lead : IfSome wishes.lead (λ core. core < cores)
 
 -- the core that a thread's name means, if it's there
 abbrev pub core_of : Thread → (cores : ℕ) → Option ℕ
@@ -47,3 +48,12 @@ wishes_after wishes _ cores = wishes
 -- and behind a move, at whose end a core was told
 abbrev pub told_wishes : Wishes → (core : ℕ) → Wishes
 told_wishes wishes core = record wishes { looked = core; told = core; interrupted = false }
+
+-- whether such a core can lead: each that is there, and none
+abbrev pub can_lead : Option ℕ → (cores : ℕ) → Bool
+can_lead None cores = true
+can_lead (Some core) cores = nat_lt core cores
+
+-- the core that leads from here on; without one none does
+abbrev pub led_by : Wishes → Option ℕ → Wishes
+led_by wishes core = record wishes { lead = core }

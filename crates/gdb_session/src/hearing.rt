@@ -4,12 +4,13 @@ ghost use Rattle.rtr_types.specs.CoreSets.{has};
 ghost use Rattle.rtr_types.specs.declared.TheConstants.{CORES_MAX};
 ghost use Rattle.gdb_session.specs.Ends.{end_in, signal_of};
 ghost use Rattle.gdb_session.specs.Points.{breaks_at};
-ghost use Rattle.gdb_session.specs.Stopping.{stopping_of, stops_at};
+ghost use Rattle.gdb_session.specs.Stopping.{stopping_by, stopping_of, stops_at};
 
 use crate::ends::{end_of, signal_of};
 use crate::points::{Point, breaks_at, touched};
 use debug_place::Stops;
 use image_mem::Image;
+use replay_audit::Audited;
 use replay_core::Replay;
 use rtr_types::CoreSet;
 use rv_core::Outcome;
@@ -27,6 +28,28 @@ pub(crate) struct Hearing<'a> {
     pub outcome: &'a Outcome,
     /// The recording's image.
     pub image: &'a Image,
+}
+
+impl<'a> Hearing<'a> {
+    /// Of an audited recording with this image.
+    pub(crate) fn new(
+        audited: &'a Audited,
+        image: &'a Image,
+        points: &'a [Point],
+        paused: CoreSet,
+        heard: CoreSet,
+    ) -> Hearing<'a>
+        ensures { stopping_of result
+            ≡ stopping_by points.now paused heard (end_in image.now audited.now.outcome) }
+    {
+        Hearing {
+            points,
+            paused,
+            heard,
+            outcome: audited.outcome(),
+            image,
+        }
+    }
 }
 
 impl Hearing<'_> {

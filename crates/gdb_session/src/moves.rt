@@ -7,7 +7,7 @@ ghost use Rattle.cut_replay.specs.ClosedCuts.{IsClosed, IsContained};
 ghost use Rattle.cut_moves.specs.Steps.{IsWholeCut, next_in};
 ghost use Rattle.debug_place.specs.Places.{cut_at};
 ghost use Rattle.gdb_session.specs.Moves.{Goes, GoesBackward, Halts, HaltsBack, IsKept, Obeys, Steps, StepsBackward};
-ghost use Rattle.gdb_session.specs.Moves.{Walks, fault_stop, plain_stop, teller, why_back};
+ghost use Rattle.gdb_session.specs.Moves.{Walks, WalksBack, fault_stop, plain_stop, teller};
 ghost use Rattle.gdb_session.specs.Orders.{IsWithin};
 ghost use Rattle.gdb_session.specs.Seats.{IsOf, Sees};
 ghost use Rattle.gdb_session.specs.Stopping.{stopping_of};
@@ -15,9 +15,9 @@ ghost use Rattle.gdb_session.specs.Stopping.{stopping_of};
 use crate::ends::{end_of, signal_of};
 use crate::hearing::Hearing;
 use crate::orders::{Order, every_core};
-use crate::points::{Point, breaks_at, touched, why_of};
-use crate::turns::go_with;
-use cut_moves::step;
+use crate::points::{Point, touched, why_of};
+use crate::turns::{go_back_with, go_with};
+use cut_moves::{step, step_back};
 use debug_place::Place;
 use gdb_packets::{Signal, Stop, Why};
 use image_mem::Image;
@@ -54,7 +54,8 @@ pub(crate) fn obey(
     ensures obeys { IfOk result (Obeys points.now order place.old place.new) }
     ensures core { IfOk result (λ stop. stop.core < place.old.recording.params.cores) }
 {
-    // A valid recording has no more cores than there may be.
+    // The audit passed, and a valid recording has no more cores than there may be.
+    let _ = audited.outcome();
     let _ = audited.recording();
     match order {
         Order::Rest(core) => Ok(Stop {
@@ -63,45 +64,29 @@ pub(crate) fn obey(
             why: Why::Nothing,
         }),
         Order::Step(core, heard) => {
-            let hearing = Hearing {
-                points,
-                paused: heard.without(core),
-                heard,
-                outcome: audited.outcome(),
-                image,
-            };
+            let hearing = Hearing::new(audited, image, points, heard.without(core), heard);
             step_core(alloc, audited, place, &hearing, core)
         }
         Order::Go(lead, heard) => {
-            let hearing = Hearing {
-                points,
-                paused: heard,
-                heard,
-                outcome: audited.outcome(),
-                image,
-            };
+            let hearing = Hearing::new(audited, image, points, heard, heard);
             go(alloc, audited, place, &hearing, lead)
         }
         Order::GoWith(lead, cores, heard) => {
-            let hearing = Hearing {
-                points,
-                paused: heard,
-                heard,
-                outcome: audited.outcome(),
-                image,
-            };
+            let hearing = Hearing::new(audited, image, points, heard, heard);
             go_with(alloc, audited, place, &hearing, cores, lead)
         }
-        Order::StepBack(core) => step_back_core(alloc, place, points, core),
+        Order::StepBack(core, heard) => {
+            let hearing = Hearing::new(audited, image, points, heard, CoreSet::empty());
+            step_back_core(alloc, audited, place, &hearing, core)
+        }
         Order::GoBack(lead) => {
-            let hearing = Hearing {
-                points,
-                paused: every_core(place.cores()),
-                heard: CoreSet::empty(),
-                outcome: audited.outcome(),
-                image,
-            };
-            go_back(alloc, place, &hearing, lead)
+            let every = every_core(place.cores());
+            let hearing = Hearing::new(audited, image, points, every, CoreSet::empty());
+            go_back(alloc, audited, place, &hearing, lead)
+        }
+        Order::GoBackWith(lead, cores, heard) => {
+            let hearing = Hearing::new(audited, image, points, heard, CoreSet::empty());
+            go_back_with(alloc, audited, place, &hearing, cores, lead)
         }
     }
 }
@@ -231,81 +216,112 @@ fn fault_stop(hearing: &Hearing, core: u8) -> Stop
 /// A step back of a core.
 fn step_back_core(
     alloc: Global,
+    audited: &Audited,
     place: &mut Place,
-    points: &[Point],
+    hearing: &Hearing,
     core: u8,
 ) -> Result<Stop, AllocError>
-    requires { core < place.old.recording.params.cores }
+    requires run { IsOf audited.now place.old }
+    requires core { core < place.old.recording.params.cores }
     ensures kept { IsKept place.old place.new }
-    ensures steps { IfOk result (StepsBackward points.now core place.old place.new) }
+    ensures steps { IfOk result (StepsBackward (stopping_of hearing.now) core place.old place.new) }
     ensures core { IfOk result (λ stop. stop.core < place.old.recording.params.cores) }
 {
+    let _ = audited.recording();
     if !place.has_last(core) {
         return Ok(plain_stop(core, Why::Begin));
     }
-    let here = place.cut();
-    place.step_back(alloc, core)?;
-    if let Some(point) = touched(points, place.next_use(core)) {
-        place.seek(alloc, &here)?;
-        return Ok(plain_stop(core, why_of(point)));
-    }
-    Ok(plain_stop(core, why_back(points, place.core(core).pc())))
-}
-
-/// Why a core that has stepped back to this address stops.
-fn why_back(points: &[Point], pc: u32) -> Why
-    ensures { result ≡ why_back points.now pc }
-{
-    if breaks_at(points, pc) {
-        Why::Breakpoint
-    } else {
-        Why::Nothing
-    }
+    let to = step_back(audited, &place.cut(), core)?;
+    walk_back(
+        alloc,
+        place,
+        hearing,
+        core,
+        &to,
+        plain_stop(core, Why::Nothing),
+    )
 }
 
 /// All cores go back.
 fn go_back(
     alloc: Global,
+    audited: &Audited,
     place: &mut Place,
     hearing: &Hearing,
     lead: u8,
 ) -> Result<Stop, AllocError>
-    requires valid { Valid place.old.recording }
+    requires run { IsOf audited.now place.old }
     requires lead { lead < place.old.recording.params.cores }
     ensures kept { IsKept place.old place.new }
     ensures goes { IfOk result (GoesBackward (stopping_of hearing.now) lead place.old place.new) }
     ensures core { IfOk result (λ stop. stop.core < place.old.recording.params.cores) }
 {
-    // The place is at a closed cut, so each core of the way here was ready where its place came.
+    let _ = audited.recording();
+    let to = Cut {
+        cores: place.cores(),
+        counts: [0; PLACES],
+    };
+    walk_back(
+        alloc,
+        place,
+        hearing,
+        lead,
+        &to,
+        plain_stop(lead, Why::Begin),
+    )
+}
+
+/// Goes the way from a closed cut to here back until something stops it.
+fn walk_back(
+    alloc: Global,
+    place: &mut Place,
+    hearing: &Hearing,
+    lead: u8,
+    to: &Cut,
+    done: Stop,
+) -> Result<Stop, AllocError>
+    requires valid { Valid place.old.recording }
+    requires closed { IsClosed place.old.which place.old.recording to.now }
+    requires within { IsContained to.now (cut_at place.old) }
+    requires lead { lead < place.old.recording.params.cores }
+    requires told { done.core < place.old.recording.params.cores }
+    ensures kept { IsKept place.old place.new }
+    ensures walks { IfOk result (λ stop.
+        WalksBack (stopping_of hearing.now) lead place.old to.now place.new stop done) }
+    ensures core { IfOk result (λ stop. stop.core < place.old.recording.params.cores) }
+{
+    // The place is at a closed cut, so each core of the way was ready where its place came.
     let _ = place.cut();
-    match place.back(alloc, hearing)? {
-        None => Ok(plain_stop(lead, Why::Begin)),
-        Some(core) => halt_back(alloc, place, hearing, core),
+    match place.back(alloc, hearing, to)? {
+        None => Ok(done),
+        Some(core) => halt_back(alloc, place, hearing, lead, core),
     }
 }
 
 /// What stopped it behind a core's access, or before the core's instruction.
-fn halt_back(
+pub(crate) fn halt_back(
     alloc: Global,
     place: &mut Place,
     hearing: &Hearing,
+    lead: u8,
     core: u8,
 ) -> Result<Stop, AllocError>
     requires valid { Valid place.old.recording }
+    requires lead { lead < place.old.recording.params.cores }
     requires next { IsInstrOf place.old.recording (next_in (cut_at place.old) core) }
     ensures kept { IsKept place.old place.new }
-    ensures halts { IfOk result (HaltsBack (stopping_of hearing.now) core place.old place.new) }
+    ensures halts { IfOk result (HaltsBack (stopping_of hearing.now) lead core place.old place.new) }
     ensures core { IfOk result (λ stop. stop.core < place.old.recording.params.cores) }
 {
     if let Some(point) = touched(hearing.points, place.next_use(core)) {
         place.step(alloc, core)?;
-        return Ok(plain_stop(core, why_of(point)));
+        return Ok(plain_stop(teller(hearing.paused, lead, core), why_of(point)));
     }
     Ok(plain_stop(core, Why::Breakpoint))
 }
 
 /// The cut with all instructions of each core.
-fn whole(audited: &Audited) -> Cut
+pub(crate) fn whole(audited: &Audited) -> Cut
     ensures { IsWholeCut audited.now.recording result }
 {
     let cores = audited.recording().params.cores;

@@ -1,8 +1,9 @@
 //! Which move a packet orders.
 ghost use Rattle.std.specs.Prelude.{◌≡◌, ◌<◌, ◌≤◌, IfSome};
 ghost use Rattle.rtr_types.specs.declared.TheConstants.{CORES_MAX};
-ghost use Rattle.gdb_session.specs.Orders.{IsWithin, acts, all_go, are_there, asked_of, every_core, go_back_order};
-ghost use Rattle.gdb_session.specs.Orders.{heard_of, lower_of, lowest_where, mover, named, names};
+ghost use Rattle.gdb_session.specs.Orders.{IsWithin, acts, all_back, all_go, all_on, are_there, asked_of, every_core};
+ghost use Rattle.gdb_session.specs.Orders.{go_back_order, heard_of, lower_of, lowest_where, mover, movers_of, named};
+ghost use Rattle.gdb_session.specs.Orders.{names, only};
 ghost use Rattle.gdb_session.specs.Orders.{resume_order, some_order, step_back_order, steps};
 ghost use Rattle.gdb_session.specs.Wishes.{Fit};
 
@@ -21,10 +22,12 @@ pub(crate) enum Order {
     Go(u8, CoreSet),
     /// Only the cores of the first set go on; those of the second are heard, and at the end this core is told.
     GoWith(u8, CoreSet, CoreSet),
-    /// A step back of this core.
-    StepBack(u8),
+    /// A step back of this core; those of the set are heard.
+    StepBack(u8, CoreSet),
     /// All cores go back; at the beginning this one is told.
     GoBack(u8),
+    /// Only the cores of the first set go back; those of the second are heard, and at the beginning this core is told.
+    GoBackWith(u8, CoreSet, CoreSet),
 }
 
 /// Whether the name means the core.
@@ -155,6 +158,25 @@ fn all_go(actions: &[Action], cores: u8) -> bool
     all
 }
 
+/// One core alone.
+fn only(core: u8) -> CoreSet
+    requires { core < CORES_MAX }
+    ensures { result ≡ only core }
+{
+    CoreSet::empty().with(core)
+}
+
+/// All cores go on: by the one that leads alone, where one does.
+fn all_on(lead: Option<u8>, told: u8, heard: CoreSet) -> Order
+    requires { IfSome lead (λ core. core < CORES_MAX) }
+    ensures { result ≡ all_on lead told heard }
+{
+    match lead {
+        Some(lead) => Order::GoWith(told, only(lead), heard),
+        None => Order::Go(told, heard),
+    }
+}
+
 /// The move of only some cores, of which this is the lowest, if there is one: they go on.
 fn some_order(wishes: Wishes, heard: CoreSet, lowest: Option<u8>, cores: u8) -> Option<Order>
     requires fit { Fit wishes cores }
@@ -188,7 +210,7 @@ pub(crate) fn resume_order(wishes: Wishes, cores: u8, actions: &[Action]) -> Opt
     let heard = heard_of(actions, cores);
     match lowest_step(actions, cores) {
         Some(core) => Some(Order::Step(core, heard)),
-        None if all_go(actions, cores) => Some(Order::Go(wishes.looked, heard)),
+        None if all_go(actions, cores) => Some(all_on(wishes.lead, wishes.looked, heard)),
         None => some_order(wishes, heard, lowest_acting(actions, cores), cores),
     }
 }
@@ -200,31 +222,59 @@ fn mover(wishes: Wishes) -> u8
     wishes.moving.unwrap_or(wishes.looked)
 }
 
-/// The move that a step back orders.
-pub(crate) fn step_back_order(wishes: Wishes, cores: u8) -> Option<Order>
-    requires { Fit wishes cores }
-    ensures order { result ≡ step_back_order wishes }
-    ensures within { IfSome result (λ order. IsWithin order cores) }
+/// The cores that go back: the one, or all.
+fn movers_of(moving: Option<u8>, cores: u8) -> CoreSet
+    requires few { cores ≤ CORES_MAX }
+    requires moving { IfSome moving (λ core. core < cores) }
+    ensures { result ≡ movers_of moving cores }
 {
-    let core = mover(wishes);
-    if wishes.interrupted {
-        Some(Order::Rest(core))
-    } else {
-        Some(Order::StepBack(core))
+    match moving {
+        Some(core) => only(core),
+        None => every_core(cores),
     }
 }
 
-/// The move that going back orders; none where only one core is to go back.
-pub(crate) fn go_back_order(wishes: Wishes, cores: u8) -> Option<Order>
-    requires { Fit wishes cores }
-    ensures order { result ≡ go_back_order wishes }
-    ensures within { IfSome result (λ order. IsWithin order cores) }
+/// The move that a step back orders.
+pub(crate) fn step_back_order(wishes: Wishes, cores: u8) -> Order
+    requires fit { Fit wishes cores }
+    requires few { cores ≤ CORES_MAX }
+    ensures order { result ≡ step_back_order wishes cores }
+    ensures within { IsWithin result cores }
+{
+    let core = mover(wishes);
+    if wishes.interrupted {
+        Order::Rest(core)
+    } else {
+        Order::StepBack(core, movers_of(wishes.moving, cores))
+    }
+}
+
+/// All cores go back: by the one that leads alone, where one does.
+fn all_back(lead: Option<u8>, told: u8, cores: u8) -> Order
+    requires few { cores ≤ CORES_MAX }
+    requires lead { IfSome lead (λ core. core < cores) }
+    requires told { told < cores }
+    ensures order { result ≡ all_back lead told cores }
+    ensures within { IsWithin result cores }
+{
+    match lead {
+        Some(lead) => Order::GoBackWith(told, only(lead), every_core(cores)),
+        None => Order::GoBack(told),
+    }
+}
+
+/// The move that going back orders.
+pub(crate) fn go_back_order(wishes: Wishes, cores: u8) -> Order
+    requires fit { Fit wishes cores }
+    requires few { cores ≤ CORES_MAX }
+    ensures order { result ≡ go_back_order wishes cores }
+    ensures within { IsWithin result cores }
 {
     if wishes.interrupted {
-        return Some(Order::Rest(mover(wishes)));
+        return Order::Rest(mover(wishes));
     }
     match wishes.moving {
-        Some(_) => None,
-        None => Some(Order::GoBack(wishes.looked)),
+        Some(core) => Order::GoBackWith(core, only(core), only(core)),
+        None => all_back(wishes.lead, wishes.looked, cores),
     }
 }

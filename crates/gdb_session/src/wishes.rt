@@ -1,6 +1,7 @@
 //! What the debugger has asked for that lasts.
-ghost use Rattle.std.specs.Prelude.{◌≡◌, ◌<◌, IfSome};
-ghost use Rattle.gdb_session.specs.Wishes.{Fit, core_of, is_there, looks_at, moves_with, told_wishes, wishes_after};
+ghost use Rattle.std.specs.Prelude.{◌≡◌, ◌<◌, true, IfSome};
+ghost use Rattle.gdb_session.specs.Wishes.{Fit, can_lead, core_of, is_there, led_by, looks_at, moves_with};
+ghost use Rattle.gdb_session.specs.Wishes.{told_wishes, wishes_after};
 
 use gdb_packets::{Plain, Thread};
 
@@ -13,6 +14,8 @@ pub struct Wishes {
     pub told: u8,
     /// The core that goes back; none where all do.
     pub moving: Option<u8>,
+    /// The core by which alone all go on and back; none where each does.
+    pub lead: Option<u8>,
     /// Whether the next move is to be left out, since it was interrupted.
     pub interrupted: bool,
 }
@@ -103,6 +106,29 @@ pub(crate) fn told_wishes(wishes: Wishes, core: u8, cores: u8) -> Wishes
         looked: core,
         told: core,
         moving: wishes.moving,
+        lead: wishes.lead,
         interrupted: false,
     }
+}
+
+/// Whether such a core can lead: each that is there, and none.
+pub(crate) fn can_lead(core: Option<u8>, cores: u8) -> bool
+    ensures { result ≡ can_lead core cores }
+{
+    match core {
+        Some(core) => core < cores,
+        None => true,
+    }
+}
+
+/// The wishes from which on this core leads; without one none does.
+pub(crate) fn led_by(wishes: Wishes, core: Option<u8>, cores: u8) -> Wishes
+    requires fit { Fit wishes cores }
+    requires there { can_lead core cores ≡ true }
+    ensures wishes { result ≡ led_by wishes core }
+    ensures fit { Fit result cores }
+{
+    let mut wishes = wishes;
+    wishes.lead = core;
+    wishes
 }

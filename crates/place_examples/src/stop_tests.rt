@@ -65,12 +65,13 @@ fn went_back(
     point: u32,
 ) -> Result<(Option<u8>, (u32, u32)), AllocError> {
     let mut place = Place::begin(alloc, audited)?;
+    let nothing = place.cut();
     let totals = audited.recording().totals.as_slice();
     let mut core = None;
     if totals.len() == 2 && totals[0] >= 5 {
         let to = cut_with(audited, Instr { core: 0, count: 5 })?;
         place.seek(alloc, &to)?;
-        core = place.back(alloc, &Breakpoint(point))?;
+        core = place.back(alloc, &Breakpoint(point), &nothing)?;
     }
     Ok((core, counts(&place)))
 }

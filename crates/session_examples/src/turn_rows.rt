@@ -121,3 +121,167 @@ pub static TOLD: [Row; 12] = [
         answer: "726574697265642033206f662034",
     },
 ];
+
+/// Core 1 alone goes back, and takes core 0 back with it where it gives up its store; then core 0.
+pub static BACK_ALONE: [Row; 14] = [
+    Row {
+        packet: "vCont;c",
+        answer: "T05thread:1;replaylog:end;",
+    },
+    Row {
+        packet: "Hc2",
+        answer: "OK",
+    },
+    Row {
+        packet: "bc",
+        answer: "T05thread:2;replaylog:begin;",
+    },
+    Row {
+        packet: "qThreadExtraInfo,1",
+        answer: "726574697265642033206f6620352c20776169747320666f7220313a33",
+    },
+    Row {
+        packet: "qThreadExtraInfo,2",
+        answer: "726574697265642030206f662034",
+    },
+    Row {
+        packet: "vCont;c",
+        answer: "T05thread:2;replaylog:end;",
+    },
+    Row {
+        packet: "Z0,c,4",
+        answer: "OK",
+    },
+    Row {
+        packet: "Z0,18,4",
+        answer: "OK",
+    },
+    Row {
+        packet: "bc",
+        answer: "T05thread:2;swbreak:;",
+    },
+    Row {
+        packet: "qThreadExtraInfo,1",
+        answer: "726574697265642033206f6620352c20776169747320666f7220313a33",
+    },
+    Row {
+        packet: "qThreadExtraInfo,2",
+        answer: "726574697265642032206f662034",
+    },
+    Row {
+        packet: "Hc1",
+        answer: "OK",
+    },
+    Row {
+        packet: "bc",
+        answer: "T05thread:1;replaylog:begin;",
+    },
+    Row {
+        packet: "qThreadExtraInfo,2",
+        answer: "726574697265642031206f6620342c20776169747320666f7220303a33",
+    },
+];
+
+/// A step back stops where it takes another core back over its access or to its breakpoint.
+pub static OTHERS_BACK: [Row; 18] = [
+    Row {
+        packet: "vCont;c",
+        answer: "T05thread:1;replaylog:end;",
+    },
+    Row {
+        packet: "Z0,c,4",
+        answer: "OK",
+    },
+    Row {
+        packet: "bs",
+        answer: "T05thread:1;",
+    },
+    Row {
+        packet: "bs",
+        answer: "T05thread:1;swbreak:;",
+    },
+    Row {
+        packet: "qThreadExtraInfo,2",
+        answer: "726574697265642034206f6620342c2065786974",
+    },
+    Row {
+        packet: "Z2,40,4",
+        answer: "OK",
+    },
+    Row {
+        packet: "bs",
+        answer: "T05thread:2;watch:40;",
+    },
+    Row {
+        packet: "qThreadExtraInfo,1",
+        answer: "726574697265642033206f662035",
+    },
+    Row {
+        packet: "qThreadExtraInfo,2",
+        answer: "726574697265642033206f662034",
+    },
+    Row {
+        packet: "z2,40,4",
+        answer: "OK",
+    },
+    Row {
+        packet: "Z0,18,4",
+        answer: "OK",
+    },
+    Row {
+        packet: "Hg1",
+        answer: "OK",
+    },
+    Row {
+        packet: "bs",
+        answer: "T05thread:2;swbreak:;",
+    },
+    Row {
+        packet: "qThreadExtraInfo,1",
+        answer: "726574697265642033206f6620352c20776169747320666f7220313a33",
+    },
+    Row {
+        packet: "Hc1",
+        answer: "OK",
+    },
+    Row {
+        packet: "bs",
+        answer: "T05thread:1;",
+    },
+    Row {
+        packet: "qThreadExtraInfo,1",
+        answer: "726574697265642032206f662035",
+    },
+    Row {
+        packet: "qThreadExtraInfo,2",
+        answer: "726574697265642031206f6620342c20776169747320666f7220303a33",
+    },
+];
+
+/// A watched access of a core that isn't resumed is told of the one that goes back.
+pub static UNASKED: [Row; 6] = [
+    Row {
+        packet: "vCont;c",
+        answer: "T05thread:1;replaylog:end;",
+    },
+    Row {
+        packet: "Z2,40,4",
+        answer: "OK",
+    },
+    Row {
+        packet: "Hc1",
+        answer: "OK",
+    },
+    Row {
+        packet: "bc",
+        answer: "T05thread:1;watch:40;",
+    },
+    Row {
+        packet: "qThreadExtraInfo,1",
+        answer: "726574697265642033206f662035",
+    },
+    Row {
+        packet: "qThreadExtraInfo,2",
+        answer: "726574697265642033206f662034",
+    },
+];

@@ -11,7 +11,7 @@ pub loop-core-init : goal.loop-core-init
 loop-core-init g c =
     let a = c.args.audited.now in
     look_first (g.S.Stops.stops c.args.stops.now) a.which a.recording c.args.to.now c.args.places.now c.args.replay.now
-    c.requires.walking c.requires.begins
+    c.requires
 
 pub advance-requires-clause-ready : goal.advance-requires-clause-ready
 advance-requires-clause-ready g c =
@@ -51,14 +51,15 @@ loop-core-preserved g c =
     let here = placed core rest walking (low_order_of a.which a.recording) c.outcome.ensures.passed.determinate
     c.make_room.new.self c.make_room.ensures.plan c.make_room.ensures.state c.advance.new.self
     c.advance.ensures.plan c.in-Retired.access c.in-Retired.ensures.place in
-    subst (λ (last : Option Seen). IsLooking test a.which a.recording c.args.to.now places (i + 1)
-    c.advance.new.self last)
+    subst (λ (last : Option Seen). IsLooking test a.which a.recording c.args.to.now c.args.replay.now.state places
+    (i + 1) c.advance.new.self last)
     (sym c.or-last.ensures)
-    (looks_on test a.which a.recording c.args.to.now places i c.loop-core.replay c.loop-core.last past (omega arith)
+    (looks_on test a.which a.recording c.args.to.now c.args.replay.now.state places i c.loop-core.replay c.loop-core.last past (omega arith)
     walking.ordered.0 c.noted.result c.noted.ensures c.advance.new.self on here)
 
 pub returns : goal.returns
 returns g c =
     let a = c.args.audited.now in
-    looked (g.S.Stops.stops c.args.stops.now) a.which a.recording c.args.to.now c.args.places.now c.loop-core.core-index
+    looked (g.S.Stops.stops c.args.stops.now) a.which a.recording c.args.to.now c.args.replay.now.state
+    c.args.places.now c.loop-core.core-index
     c.loop-core.replay c.loop-core.last c.loop-core.invariant c.loop-core-test.false

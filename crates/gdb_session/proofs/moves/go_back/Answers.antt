@@ -1,32 +1,35 @@
-use Rattle.std.proofs.Common.{ℕ, subst}
-use Rattle.std.specs.Prelude.{Option, Some}
+use Rattle.std.proofs.Common.{subst, arith}
+use Rattle.std.specs.Prelude.{IfOk}
 use Rattle.std.proofs.lemmas.Result.{IfOk-weaker}
-use Rattle.debug_place.specs.Backs.{GoesBack}
-use Rattle.gdb_session.specs.Stopping.{stopping_of, stops_at}
-use Rattle.gdb_session.proofs.OnWays.{next_backward}
+use Rattle.gdb_packets.specs.declared.replies.Stop as stops
+use Rattle.log_codec.specs.declared.recording.Recording.{Recording}
+use Rattle.log_codec.specs.Validity.{Valid}
+use Rattle.cut_moves.proofs.Hulls.{empty_closed, empty_cut}
+use Rattle.debug_place.proofs.OwnCuts.{none_in}
+use Rattle.gdb_session.specs.Moves.{WalksBack}
+use Rattle.gdb_session.specs.Stopping.{stopping_of}
 use Rattle.gdb_session.proofs.moves.go_back.Goals as goal
 
-pub halt_back-requires-clause-next : goal.halt_back-requires-clause-next
-halt_back-requires-clause-next c =
-    let test = stops_at (stopping_of c.args.hearing.now) in
+pub walk_back-requires-clause-closed : goal.walk_back-requires-clause-closed
+walk_back-requires-clause-closed c =
     let old = c.args.place.now in
-    let mid = c.back.new.self in
-    let goes : GoesBack test old mid (Some c.in-Some.core) =
-    subst (λ (o : Option ℕ). GoesBack test old mid o) c.in-Some.is c.in_ok-back.ensures.ok in
-    next_backward test old mid c.in-Some.core c.cut.ensures.stands c.requires.valid c.back.ensures.recording
-    c.back.ensures.which goes
+    empty_closed old.which old.recording c.cores.result
+    (subst (λ (r : Recording). Valid r) c.requires.run.recording c.recording.ensures.valid) c.cores.ensures
 
-pub returns-in-Some-clause-goes : goal.returns-in-Some-clause-goes
-returns-in-Some-clause-goes c =
-    let test = stops_at (stopping_of c.args.hearing.now) in
+pub walk_back-requires-clause-within : goal.walk_back-requires-clause-within
+walk_back-requires-clause-within c = λ core. let none = none_in c.cores.result core in omega arith
+
+pub returns-clause-goes : goal.returns-clause-goes
+returns-clause-goes c =
     let old = c.args.place.now in
-    let mid = c.back.new.self in
-    let goes : GoesBack test old mid (Some c.in-Some.core) =
-    subst (λ (o : Option ℕ). GoesBack test old mid o) c.in-Some.is c.in_ok-back.ensures.ok in
-    IfOk-weaker c.halt_back.result _ _ (λ stop halts. record {
-      mid = mid;
-      kept = record { recording = c.back.ensures.recording; which = c.back.ensures.which };
-      before = Some c.in-Some.core;
-      goes = goes;
-      ends = halts;
-    }) c.halt_back.ensures.halts
+    let cores = c.cores.result in
+    let walks = subst (λ (told : stops.Stop). IfOk c.walk_back.result (λ stop.
+    WalksBack (stopping_of c.args.hearing.now) c.args.lead old (empty_cut cores) c.walk_back.new.place stop told))
+    c.plain_stop.ensures c.walk_back.ensures.walks in
+    IfOk-weaker c.walk_back.result _ _ (λ stop way. record {
+      to = empty_cut cores;
+      closed = empty_closed old.which old.recording cores
+          (subst (λ (r : Recording). Valid r) c.requires.run.recording c.recording.ensures.valid) c.cores.ensures;
+      none = λ core. none_in cores core;
+      walks = way;
+    }) walks

@@ -1,5 +1,5 @@
 use Rattle.std.proofs.Common.{◌∙◌, ◌<◌, ◌+◌, List, ℕ, get_or, refl, sym, subst, arith}
-use Rattle.std.specs.Prelude.{Option, Some, None, MatchOption, slice_index, slice_set}
+use Rattle.std.specs.Prelude.{Option, Some, MatchOption, slice_index, slice_set}
 use Rattle.std.proofs.lemmas.Bool.{leb-false, leb-true}
 use Rattle.gdb_packets.specs.declared.replies.Stop as stops
 use Rattle.log_codec.specs.declared.recording.Recording.{Recording}

@@ -1,9 +1,7 @@
-use Rattle.std.proofs.Common.{ℕ, sym, subst}
+use Rattle.std.proofs.Common.{ℕ, subst}
 use Rattle.std.specs.Prelude.{Option, Some, None}
 use Rattle.log_codec.specs.declared.recording.Recording.{Recording}
 use Rattle.log_codec.specs.Validity.{Valid}
-use Rattle.cut_moves.specs.Steps.{IsStep, next_in}
-use Rattle.debug_place.specs.Places.{cut_at}
 use Rattle.debug_place.specs.Stops.{GoesOn}
 use Rattle.gdb_session.specs.Stopping.{stopping_of, stops_at}
 use Rattle.gdb_session.proofs.OnWays.{next_forward}
