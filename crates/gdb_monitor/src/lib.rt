@@ -3,12 +3,15 @@
 //! the place stands behind it.
 #![tactic(auto)]
 
+mod asking;
 mod commands;
+mod instrs;
 mod moves;
 mod numbers;
 mod obeying;
 mod ordering;
 mod payloads;
+mod pcs;
 mod texts;
 mod words;
 
