@@ -65,17 +65,21 @@ pub record IsHistoryTold (a : Findings) (cut : Cut) (word : ℕ) (told : List �
 
 -- ---- edges
 
--- an instruction from which an edge leads, and whether it is still to come
+-- whether an instruction from which an edge leads is still to come
+abbrev pub source_mark : Cut → Instr → List ℕ
+source_mark cut at = if is_held cut at then [] else codes "  (not yet)"
+
+-- whether one to which an edge leads is done already
+abbrev pub target_mark : Cut → Instr → List ℕ
+target_mark cut at = if is_held cut at then codes "  (already)" else []
+
 abbrev pub source_row : Cut → (pcs : List (List ℕ)) → List Access → Instr → List ℕ
 source_row cut pcs accesses at =
-    line (codes "  after  " ++ instr_text pcs accesses at
-    ++ (if is_held cut at then [] else codes "  (not yet)"))
+    codes "  after  " ++ instr_text pcs accesses at ++ line (source_mark cut at)
 
--- one to which an edge leads, and whether it is done already
 abbrev pub target_row : Cut → (pcs : List (List ℕ)) → List Access → Instr → List ℕ
 target_row cut pcs accesses at =
-    line (codes "  before " ++ instr_text pcs accesses at
-    ++ (if is_held cut at then codes "  (already)" else []))
+    codes "  before " ++ instr_text pcs accesses at ++ line (target_mark cut at)
 
 -- the instruction, the sources of the edges into it and the targets of those out of it
 pub record AreEdges (a : Findings) (cut : Cut) (at : Instr) (told : List ℕ) : Type 0 where

@@ -43,5 +43,5 @@ accessed_text None = []
 accessed_text (Some access) = access_text access
 
 -- an instruction, with its access
-abbrev pub instr_text : (pcs : List (List ℕ)) → (accesses : List Access) → Instr → List ℕ
+unfoldable pub instr_text : (pcs : List (List ℕ)) → (accesses : List Access) → Instr → List ℕ
 instr_text pcs accesses at = place_text pcs at ++ accessed_text (access_at at accesses)

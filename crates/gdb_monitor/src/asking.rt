@@ -1,4 +1,4 @@
-//! What is told of a word, of the edges at an instruction and of its conflicts.
+//! What is told of a word.
 ghost use Rattle.std.specs.Prelude.{◌≡◌, ◌++◌, IfOk, OnOk, string_bytes};
 ghost use Rattle.std.specs.List.{flat_map};
 ghost use Rattle.roomy_lists.specs.Lists.{items_in};
@@ -11,7 +11,6 @@ ghost use Rattle.gdb_monitor.specs.Texts.{line};
 use crate::instrs::put_row;
 use crate::pcs::pcs_of;
 use crate::texts::{bytes_of, line};
-
 use race_queries::{history, holds, last_write, reads_since};
 use replay_audit::Audited;
 use roomy_lists::RoomyLists;
@@ -44,7 +43,7 @@ fn row_told(alloc: Global, audited: &Audited, access: Access) -> Result<Items<u8
 }
 
 /// Puts an access in a line.
-fn put_line(
+pub(crate) fn put_line(
     alloc: Global,
     text: &mut String,
     pcs: &RoomyLists<u32>,
@@ -75,11 +74,7 @@ pub(crate) fn readers_told(
 }
 
 /// Several accesses.
-fn rows_told(
-    alloc: Global,
-    audited: &Audited,
-    list: &[Access],
-) -> Result<Items<u8>, AllocError>
+fn rows_told(alloc: Global, audited: &Audited, list: &[Access]) -> Result<Items<u8>, AllocError>
     ensures { IfOk result (AreRowsTold audited.now list.now) }
 {
     let pcs = pcs_of(alloc, audited)?;

@@ -80,6 +80,7 @@ pub(crate) fn put_row(
 }
 
 /// Puts an instruction, with its access if it has one.
+#[tactic(auto, unfolding(crate::specs::Instrs::instr_text))]
 pub(crate) fn put_instr(
     alloc: Global,
     text: &mut String,

@@ -5,6 +5,8 @@
 
 mod asking;
 mod commands;
+mod conflicts;
+mod edges;
 mod instrs;
 mod moves;
 mod numbers;
