@@ -5,4 +5,7 @@ pub mod Texts
 pub mod Payloads
 pub mod Moves
 pub mod Ordering
+pub mod Pcs
+pub mod Instrs
+pub mod Asking
 pub mod Obeying

@@ -1,11 +1,10 @@
 //! What a command's text means.
 ghost use Rattle.std.specs.Prelude.{◌≡◌, IfOk};
-ghost use Rattle.std.specs.Option.{option_and_then, option_map};
+ghost use Rattle.std.specs.Option.{option_map};
 ghost use Rattle.gdb_monitor.specs.Commands.{command_of, counts_of, cut_of, goto_of, meaning, named, one_core, only};
-ghost use Rattle.gdb_monitor.specs.Commands.{order_of};
-ghost use Rattle.gdb_monitor.specs.Numbers.{named_instr};
+ghost use Rattle.gdb_monitor.specs.Commands.{one_instr, one_word, order_of, place_named, run_named};
 
-use crate::numbers::{core_of, count_of, named_instr};
+use crate::numbers::{core_of, count_of, named_instr, word_of};
 use crate::words::words_of;
 use gdb_packets::is;
 use rtr_types::{Instr, Items};
@@ -24,6 +23,16 @@ pub enum Command {
     Earliest(u8),
     /// `latest C`: this core stays, and the others go on as far as the log lets them.
     Latest(u8),
+    /// `edges C:N`: the edges of the log into this instruction, and out of it.
+    Edges(Instr),
+    /// `writer ADDR`: the last write of this word, by its index, so far.
+    Writer(u32),
+    /// `readers ADDR`: the loads of this word since then.
+    Readers(u32),
+    /// `history ADDR`: all accesses to this word.
+    History(u32),
+    /// `conflicts C:N`: the accesses around this instruction's with which it conflicts.
+    Conflicts(Instr),
     /// `order C:N C:N`: which of the two instructions comes before the other.
     Order(Instr, Instr),
     /// Every other text.
@@ -53,6 +62,16 @@ fn meaning(alloc: Global, words: &[Items<u8>]) -> Result<Option<Command>, AllocE
 fn named(name: &[u8], arguments: &[Items<u8>]) -> Option<Command>
     ensures { result ≡ named name.now arguments.now }
 {
+    match place_named(name, arguments) {
+        Some(command) => Some(command),
+        None => run_named(name, arguments),
+    }
+}
+
+/// The commands that say where the place is, or move it, and `order`.
+fn place_named(name: &[u8], arguments: &[Items<u8>]) -> Option<Command>
+    ensures { result ≡ place_named name.now arguments.now }
+{
     if is(name, "cut") {
         cut_of(arguments)
     } else if is(name, "earliest") {
@@ -61,6 +80,25 @@ fn named(name: &[u8], arguments: &[Items<u8>]) -> Option<Command>
         one_core(arguments).map(Command::Latest)
     } else if is(name, "order") {
         order_of(arguments)
+    } else {
+        None
+    }
+}
+
+/// The commands that ask for a word or an instruction of the run.
+fn run_named(name: &[u8], arguments: &[Items<u8>]) -> Option<Command>
+    ensures { result ≡ run_named name.now arguments.now }
+{
+    if is(name, "edges") {
+        one_instr(arguments).map(Command::Edges)
+    } else if is(name, "writer") {
+        one_word(arguments).map(Command::Writer)
+    } else if is(name, "readers") {
+        one_word(arguments).map(Command::Readers)
+    } else if is(name, "history") {
+        one_word(arguments).map(Command::History)
+    } else if is(name, "conflicts") {
+        one_instr(arguments).map(Command::Conflicts)
     } else {
         None
     }
@@ -109,9 +147,16 @@ fn one_core(arguments: &[Items<u8>]) -> Option<u8>
 
 /// The one argument, an instruction.
 fn one_instr(arguments: &[Items<u8>]) -> Option<Instr>
-    ensures { result ≡ option_and_then named_instr (only arguments.now) }
+    ensures { result ≡ one_instr arguments.now }
 {
     named_instr(only(arguments)?)
+}
+
+/// The one argument, an address: the index of its word.
+fn one_word(arguments: &[Items<u8>]) -> Option<u32>
+    ensures { result ≡ one_word arguments.now }
+{
+    word_of(only(arguments)?)
 }
 
 /// The one argument.

@@ -3,12 +3,17 @@
 //! the place stands behind it.
 #![tactic(auto)]
 
+mod asking;
 mod commands;
+mod conflicts;
+mod edges;
+mod instrs;
 mod moves;
 mod numbers;
 mod obeying;
 mod ordering;
 mod payloads;
+mod pcs;
 mod texts;
 mod words;
 
