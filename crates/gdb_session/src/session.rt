@@ -113,20 +113,6 @@ impl Partner for Session<'_> {
 
     ghost interrupts = { λ old new. new ≡ interrupted old };
 
-    /// From here on this core leads: where all cores go on, or back, it goes alone, and others as the log demands. Without
-    /// one all go. It answers whether the core is there; where it isn't nothing changes.
-    pub fn lead(&mut self, core: Option<u8>) -> bool
-        ensures there { result ≡ can_lead core self.old.place.recording.params.cores }
-        ensures led { self.new ≡ led self.old core }
-    {
-        let cores = self.place.cores();
-        if !can_lead(core, cores) {
-            return false;
-        }
-        self.wishes = led_by(self.wishes, core, cores);
-        true
-    }
-
     /// The answer to the packet with this payload. It is refused for want of memory alone; then it stands at a closed
     /// cut still.
     fn answer(&mut self, alloc: Global, packet: &[u8]) -> Result<Answer, AllocError>
