@@ -2,6 +2,7 @@
 use crate::command_rows::{PLACES, Told, UNKNOWN, USAGE};
 use crate::lock::lock;
 use crate::rows::{Row, plays};
+use gdb_server::Partner;
 use gdb_session::Session;
 use std::alloc::Global;
 use std::test::Fail;
