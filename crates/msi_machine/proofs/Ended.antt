@@ -35,7 +35,8 @@ filter_fewer : {X : Type 0} (p q : X → Bool) (xs : List X) → ((x : X) → p 
 filter_fewer p q [] passes none = refl
 filter_fewer {X} p q (x ∷ xs) passes none = by (p x) (q x) refl refl (filter_fewer p q xs passes) none
   where
-    by : (b d : Bool) → p x ≡ b → q x ≡ d → (filter q xs ≡ [] → filter p xs ≡ []) → cond d (x ∷ filter q xs) (filter q xs) ≡ [] →
+    by : (b d : Bool) → p x ≡ b → q x ≡ d → (filter q xs ≡ [] → filter p xs ≡ []) →
+        cond d (x ∷ filter q xs) (filter q xs) ≡ [] →
         cond b (x ∷ filter p xs) (filter p xs) ≡ []
     by b true isp isq rest none = absurd (cc)
     by true false isp isq rest none = false_true (sym isq ∙ passes x isp)

@@ -1,4 +1,5 @@
--- Room was made for the request of the core that asked, and it was marked where the home can take it: nothing is left open.
+-- Room was made for the request of the core that asked, and it was marked where the home can take it: nothing is left
+-- open.
 use Rattle.std.proofs.Common.{◌≡◌, ◌≢◌, ◌∙◌, ap, sym, subst, ℕ, ◌<◌, ◌≤◌, Bool, true, List, length}
 use Rattle.access_times.specs.Riding.{Riding, Carrying}
 use Rattle.rtr_types.specs.declared.TheConstants.{CORES_MAX}
@@ -57,5 +58,5 @@ module _ {R K : Type 0} where
         roomy = λ c other. each_roomy old.state.memory.ports new.rooms
             (subst (λ (s : State R K). are_heads_roomy s.memory.ports new.rooms ≡ true) same roomy) c;
       } in
-      subst (λ (s : State R K). NotesFit riding carrying (record new { state = s }) standings after CORES_MAX) (sym same)
-      kept
+      subst (λ (s : State R K). NotesFit riding carrying (record new { state = s }) standings after CORES_MAX)
+      (sym same) kept
