@@ -1,5 +1,5 @@
 -- A place that has come to the cut that was asked for.
-use Rattle.std.proofs.Common.{◌≡◌, ℕ, ◌<◌, ◌≤◌, List, length, sym, ap, subst, ◌∙◌, arith}
+use Rattle.std.proofs.Common.{◌≡◌, ℕ, ◌<◌, ◌≤◌, List, sym, ap, subst, ◌∙◌, arith}
 use Rattle.std.proofs.lemmas.Bool.{cases_Bool, cases_lt}
 use Rattle.std.proofs.lemmas.List.{get_or_past}
 use Rattle.std.proofs.lemmas.List.FromFn.{length-map-range_with_len, get_or-map-range_with_len}
@@ -13,12 +13,12 @@ use Rattle.rtr_types.specs.declared.pairs.Which.{Which}
 use Rattle.race_log.specs.declared.recording.Recording.{Recording}
 use Rattle.race_log.specs.Validity.{Valid}
 use Rattle.replay_audit.specs.Audits.{Findings, IsInstrOf}
-use Rattle.cut_replay.specs.ClosedCuts.{IsClosed, IsCutOf, IsGreatestWithout, IsLeastWith, count_in}
+use Rattle.cut_replay.specs.ClosedCuts.{IsCutOf, IsGreatestWithout, IsLeastWith, count_in}
 use Rattle.cut_replay.proofs.Unique.{one_cut}
 use Rattle.cut_moves.specs.Steps.{IsHull, last_in, next_in}
 use Rattle.debug_place.specs.Places.{Placed, cut_at}
 use Rattle.gdb_monitor.specs.Moves.{AreCounts, Comes, GoesEarliest, GoesIfClosed, GoesLatest, GoesTo, GoesToCut}
-use Rattle.gdb_monitor.specs.Moves.{GoesWith, GoesWithout, IsOf, Tells, cut_with_counts}
+use Rattle.gdb_monitor.specs.Moves.{GoesWith, GoesWithout, IsOf, cut_with_counts}
 use Rattle.gdb_monitor.specs.Texts.{open_text}
 
 -- two cuts that a test tells apart

@@ -1,17 +1,15 @@
 -- The pcs of a run are noted place by place: before a place its core is at a closed cut of which the replay has the
 -- state, so its pc there is that of its next instruction.
 use Rattle.std.proofs.Common.{◌≡◌, ◌≢◌, ◌⊎◌, inl, inr, ℕ, ◌+◌, ◌-◌, ◌<◌, ◌≤◌, List, [], ◌∷◌, ◌++◌, length, replicate, drop}
-use Rattle.std.proofs.Common.{refl, sym, ap, subst, ◌∙◌, arith, get_or-set_same, get_or-set_other, length-append}
+use Rattle.std.proofs.Common.{sym, ap, subst, ◌∙◌, arith, get_or-set_same, get_or-set_other, length-append}
 use Rattle.std.specs.Prelude.{slice_index, slice_index_or}
 use Rattle.std.proofs.lemmas.Bool.{cases_lt}
 use Rattle.std.proofs.lemmas.List.{get_or_append_left, get_or_past, get_or-replicate, length-map, length-replicate}
 use Rattle.std.proofs.lemmas.List.{length-set}
-use Rattle.std.proofs.Math.ListN.{drop_of_length-le}
 use Rattle.std.proofs.Math.Seq.{get_or-append_seam}
 use native.Mathlib.Decide.{ℕ_discrete}
 use Rattle.rtr_types.specs.declared.access.Access.{Access}
 use Rattle.rtr_types.specs.declared.cut.Cut.{Cut}
-use Rattle.rtr_types.specs.declared.instr.Instr.{Instr}
 use Rattle.rtr_types.specs.declared.pairs.Which.{Which}
 use Rattle.rv_core.specs.declared.outcome.Outcome.{Outcome}
 use Rattle.std.specs.Prelude.{Option}
@@ -20,17 +18,15 @@ use Rattle.race_log.specs.declared.recording.Recording.{Recording}
 use Rattle.race_log.specs.Validity.{Valid}
 use Rattle.replay_core.specs.Answers.{Retires, UnderWay, cut_of}
 use Rattle.replay_core.specs.Orders.{IsReplayOrder, IsWhole, Ordered, bump, counts, counts_in, nought}
-use Rattle.replay_core.specs.Plans.{Plan, plan_of}
-use Rattle.replay_core.specs.Play.{core_at, instr, place, start}
+use Rattle.replay_core.specs.Plans.{plan_of}
+use Rattle.replay_core.specs.Play.{core_at, instr, start}
 use Rattle.replay_core.proofs.Counts.{bump_else, bump_here}
 use Rattle.replay_core.proofs.Places.{place_known, play_law, start_known}
-use Rattle.replay_audit.specs.Audits.{IsInstrOf}
 use Rattle.replay_audit.specs.Determinate.{Decides}
 use Rattle.cut_replay.specs.ClosedCuts.{count_in}
 use Rattle.cut_replay.specs.Dues.{IsOnTheWay}
 use Rattle.cut_replay.proofs.Ways.{way_start}
 use Rattle.cut_moves.proofs.Fronts.{count_is, order_cut}
-use Rattle.debug_place.specs.Walks.{IsWalking}
 use Rattle.debug_place.proofs.OwnCuts.{at_own, known, own_count, own_cut}
 use Rattle.debug_place.proofs.Walking.{next_first, placed, walk_on}
 use Rattle.gdb_monitor.specs.Pcs.{AreNoted, ArePcs, IsNoting, IsPcOf, pc_in}

@@ -6,7 +6,7 @@ use Rattle.rtr_types.specs.declared.cut.Cut.{Cut}
 use Rattle.rtr_types.specs.declared.instr.Instr.{Instr}
 use Rattle.race_log.specs.declared.recording.Recording.{Recording}
 use Rattle.replay_audit.specs.Audits.{Findings, IsInstrOf}
-use Rattle.cut_replay.specs.ClosedCuts.{IsClosed, IsGreatestWithout, IsLeastWith, count_in}
+use Rattle.cut_replay.specs.ClosedCuts.{IsClosed, IsGreatestWithout, IsLeastWith}
 use Rattle.cut_moves.specs.Steps.{IsHull, last_in, next_in}
 use Rattle.debug_place.specs.Places.{Placed, cut_at}
 use Rattle.gdb_monitor.specs.Texts.{here_text, open_text, usage_text}

@@ -5,10 +5,12 @@ use Rattle.rtr_types.specs.declared.instr.Instr.{Instr}
 use Rattle.rtr_types.specs.declared.pairs.Which.{Which}
 use Rattle.rv_core.specs.declared.outcome.Outcome.{Outcome}
 use Rattle.race_log.specs.declared.recording.Recording.{Recording}
+use Rattle.race_log.specs.Validity.{Valid}
 use Rattle.replay_core.specs.Answers.{UnderWay}
 use Rattle.replay_core.specs.Orders.{counts_in}
 use Rattle.replay_core.specs.Play.{core_at, instr}
 use Rattle.replay_audit.specs.Audits.{IsInstrOf}
+use Rattle.replay_audit.specs.Determinate.{IsDeterminate}
 use Rattle.cut_replay.specs.ClosedCuts.{IsClosed, count_in}
 use Rattle.cut_replay.specs.CutStates.{IsStateAt}
 use Rattle.debug_place.specs.Walks.{IsWalking}
@@ -47,3 +49,10 @@ pub record IsNoting (which : Which) (r : Recording) (replay : UnderWay) (places 
   pub walking : IsWalking which r to replay places
   pub ends : (core : ℕ) → core < r.params.cores → count_in to core ≡ slice_index r.totals core
   pub so_far : AreNoted which r (counts_in replay.state) pcs
+
+-- ---- law
+
+-- an instruction has one pc, whichever closed cut is looked at
+abbrev pub OnePcLaw : Type 0
+OnePcLaw = (which : Which) (r : Recording) (at : Instr) (pc other : ℕ) → Valid r → IsDeterminate which r →
+    IsPcOf which r at pc → IsPcOf which r at other → pc ≡ other

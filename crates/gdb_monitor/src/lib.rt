@@ -8,6 +8,7 @@ mod commands;
 mod conflicts;
 mod edges;
 mod instrs;
+pub mod laws;
 mod moves;
 mod numbers;
 mod obeying;

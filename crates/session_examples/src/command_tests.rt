@@ -1,9 +1,12 @@
 //! Commands of a debugger's user.
-use crate::command_rows::{PLACES, Told, UNKNOWN, USAGE};
+use crate::command_rows::{PLACES, RUN, Told, UNKNOWN, USAGE};
+use crate::handed_over::handed_over;
 use crate::lock::lock;
 use crate::rows::{Row, plays};
+use gdb_monitor::payloads_of;
 use gdb_server::Partner;
 use gdb_session::Session;
+use rtr_types::Items;
 use std::alloc::Global;
 use std::test::Fail;
 
@@ -48,6 +51,42 @@ fn commands_go_and_tell_where(rt: HostRuntime) -> Result<(), Fail> {
     let mut session = Session::begin(rt.alloc(), &audited)?;
     assert!(rt; goes_on(rt.alloc(), &mut session)?);
     assert_eq!(rt; first_wrong(rt.alloc(), &mut session, &PLACES)?, "none");
+    Ok(())
+}
+
+#[test]
+fn commands_tell_what_a_run_did(rt: HostRuntime) -> Result<(), Fail> {
+    let audited = handed_over(rt.alloc())?;
+    let mut session = Session::begin(rt.alloc(), &audited)?;
+    assert_eq!(rt; first_wrong(rt.alloc(), &mut session, &RUN)?, "none");
+    Ok(())
+}
+
+/// How long the payloads of a text of so many bytes are.
+fn lengths(alloc: Global, count: usize) -> Result<Items<usize>, Fail> {
+    let mut text = Items::new(alloc);
+    for _ in 0..count {
+        text.push(b'a')?;
+    }
+    let mut lengths = Items::new(alloc);
+    for payload in payloads_of(alloc, text)?.as_slice() {
+        lengths.push(payload.len())?;
+    }
+    Ok(lengths)
+}
+
+// One frame, or frames with a letter before and one frame behind them.
+#[test]
+fn long_texts_are_cut(rt: HostRuntime) -> Result<(), Fail> {
+    assert_eq!(rt; lengths(rt.alloc(), 1000)?.as_slice(), [2000].as_slice());
+    assert_eq!(rt;
+        lengths(rt.alloc(), 1001)?.as_slice(),
+        [2001, 3, 2].as_slice()
+    );
+    assert_eq!(rt;
+        lengths(rt.alloc(), 2000)?.as_slice(),
+        [2001, 2001, 2].as_slice()
+    );
     Ok(())
 }
 
