@@ -9,7 +9,7 @@ use Rattle.gdb_cli.specs.Answers.{IsAnswerIn, IsAnswerOf, IsSessionIn}
 use Rattle.gdb_cli.specs.Words.{file_name, moment_in}
 
 module _ {F : Type 0} where
-  pub core_answers : (opens : List ℕ → Option F → Type 0) (left_of : F → Option (List ℕ)) (faults_of : F → ℕ)
+  pub core_answers : (opens : List ℕ → F → Type 0) (left_of : F → Option (List ℕ)) (faults_of : F → ℕ)
       (words : List (List ℕ)) (log : Option Which) (exit : Exit) (left left' got got' : Option (List ℕ))
       (read read' written written' : ℕ) → None ≡ log
       → IsAnswerOf (moment_in words) exit left left' got got' read read' written written'
@@ -18,10 +18,10 @@ module _ {F : Type 0} where
       subst (λ (o : Option Which).
       IsAnswerIn opens left_of faults_of words o exit left left' got got' read read' written written') is h
 
-  pub session_answers : (opens : List ℕ → Option F → Type 0) (left_of : F → Option (List ℕ)) (faults_of : F → ℕ)
+  pub session_answers : (opens : List ℕ → F → Type 0) (left_of : F → Option (List ℕ)) (faults_of : F → ℕ)
       (words : List (List ℕ)) (log : Option Which) (which : Which) (exit : Exit)
       (left left' got got' : Option (List ℕ)) (read read' written written' : ℕ) → Some which ≡ log
-      → (file : Option F) → opens (file_name words) file
+      → (file : F) → opens (file_name words) file
       → IsSessionIn left_of faults_of which exit file left left' got got' read read' written written'
       → IsAnswerIn opens left_of faults_of words log exit left left' got got' read read' written written'
   session_answers opens left_of faults_of words log which exit left left' got got' read read' written written' is
@@ -31,7 +31,7 @@ module _ {F : Type 0} where
       (inr (file, opened, h))
 
   -- for want of memory before anything was opened
-  pub memory_answers : (opens : List ℕ → Option F → Type 0) (left_of : F → Option (List ℕ)) (faults_of : F → ℕ)
+  pub memory_answers : (opens : List ℕ → F → Type 0) (left_of : F → Option (List ℕ)) (faults_of : F → ℕ)
       (words : List (List ℕ)) (log : Option Which) (left got : Option (List ℕ)) (read written : ℕ)
       → IsAnswerIn opens left_of faults_of words log exits.OutOfMemory left left got got read read written written
   memory_answers opens left_of faults_of words None left got read written = record {

@@ -62,23 +62,21 @@ pub record IsSessionOf (which : Which) (exit : Exit) (file file' left left' got 
       → IsFaultless written written' → EndsWell exit
 
 module _ {F : Type 0} where
-  -- the same of a file. One that can't be opened is a read fault, and then nothing was heard or said
-  abbrev pub IsSessionIn : (left_of : F → Option (List ℕ)) (faults_of : F → ℕ) → Which → Exit → (file : Option F)
+  -- the same of a file, whatever becomes of it
+  abbrev pub IsSessionIn : (left_of : F → Option (List ℕ)) (faults_of : F → ℕ) → Which → Exit → (file : F)
       → (left left' got got' : Option (List ℕ)) (read read' written written' : ℕ) → Type 0
-  IsSessionIn left_of faults_of which exit None left left' got got' read read' written written' =
-      (exit ≡ exits.ReadFault) × Keeps left left' × Keeps got got'
-  IsSessionIn left_of faults_of which exit (Some file) left left' got got' read read' written written' =
+  IsSessionIn left_of faults_of which exit file left left' got got' read read' written written' =
       (file' : F) × IsSessionOf which exit (left_of file) (left_of file') left left' got got' (faults_of file)
       (faults_of file') read read' written written'
 
   -- the exit of words that ask for a session, if they do, or else for a core file. Opening the file that the words name
-  -- comes to this file, or to none; before that memory may run out, and then nothing was heard or said
-  abbrev pub IsAnswerIn : (opens : List ℕ → Option F → Type 0) (left_of : F → Option (List ℕ)) (faults_of : F → ℕ)
+  -- comes to this one; before that memory may run out, and then nothing was heard or said
+  abbrev pub IsAnswerIn : (opens : List ℕ → F → Type 0) (left_of : F → Option (List ℕ)) (faults_of : F → ℕ)
       → (words : List (List ℕ)) → (log : Option Which) → Exit → (left left' got got' : Option (List ℕ))
       (read read' written written' : ℕ) → Type 0
   IsAnswerIn opens left_of faults_of words None exit left left' got got' read read' written written' =
       IsAnswerOf (moment_in words) exit left left' got got' read read' written written'
   IsAnswerIn opens left_of faults_of words (Some which) exit left left' got got' read read' written written' =
       ((exit ≡ exits.OutOfMemory) × Keeps left left' × Keeps got got')
-      ⊎ ((file : Option F) × opens (file_name words) file
+      ⊎ ((file : F) × opens (file_name words) file
       × IsSessionIn left_of faults_of which exit file left left' got got' read read' written written')

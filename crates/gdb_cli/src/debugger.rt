@@ -16,9 +16,9 @@ use state_text::Exit;
 use std::alloc::{AllocError, Global};
 
 /// Does what the words ask for, and tells the report how it ended: a session on the recording of a file, as `debug` has
-/// it, or else a core file, as `write_core` has it. `words` leaves out the program's name, and `opener` opens a file by
-/// its name. One that can't be opened is a `ReadFault`, before anything was heard or said.
-pub fn run_debugger<F: Source + Drop, P: FnOnce(&str) -> Option<F>, I: Source, O: Sink, E: Sink>(
+/// it, or else a core file, as `write_core` has it. `words` leaves out the program's name. `opener` makes a source of
+/// the file with a name; where that can't be opened, a source that fails.
+pub fn run_debugger<F: Source + Drop, P: FnOnce(&str) -> F, I: Source, O: Sink, E: Sink>(
     alloc: Global,
     words: &[String],
     opener: P,
@@ -43,7 +43,7 @@ pub fn run_debugger<F: Source + Drop, P: FnOnce(&str) -> Option<F>, I: Source, O
 }
 
 /// Opens the file with this name, and holds a session on its recording.
-fn debug_file<F: Source + Drop, P: FnOnce(&str) -> Option<F>, I: Source, O: Sink>(
+fn debug_file<F: Source + Drop, P: FnOnce(&str) -> F, I: Source, O: Sink>(
     alloc: Global,
     which: Which,
     name: &str,
@@ -52,12 +52,10 @@ fn debug_file<F: Source + Drop, P: FnOnce(&str) -> Option<F>, I: Source, O: Sink
     output: &mut O,
 ) -> Exit
     requires { P.IsAlwaysCallable opener }
-    ensures { (file : _) × FnOnceReturnsAt P.FnOnce opener name.now file
+    ensures { (file : F) × FnOnceReturnsAt P.FnOnce opener name.now file
         × IsSessionIn F.left F.faults which result file (I.left input.old) (I.left input.new) (O.got output.old)
         (O.got output.new) (I.faults input.old) (I.faults input.new) (O.faults output.old) (O.faults output.new) }
 {
-    match opener(name) {
-        Some(mut file) => debug(alloc, which, &mut file, input, output),
-        None => Exit::ReadFault,
-    }
+    let mut file = opener(name);
+    debug(alloc, which, &mut file, input, output)
 }

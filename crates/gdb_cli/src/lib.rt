@@ -4,6 +4,7 @@
 mod cores;
 mod debugger;
 mod laws;
+mod opened;
 mod program;
 mod recordings;
 mod sessions;

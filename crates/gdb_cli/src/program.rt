@@ -8,6 +8,7 @@ ghost use Rattle.gdb_cli.specs.Words.{session_log};
 ghost use Rattle.state_text.specs.declared.exit.Exit.{Exit};
 
 use crate::debugger::run_debugger;
+use crate::opened::Opened;
 use rtr_cli::tell;
 use rtr_io::{Sink, Source, StdSink, StdSource};
 use state_text::Exit;
@@ -28,10 +29,7 @@ pub fn run_program<R: AllocGlobal + Env + Files>(
     conclude(
         rt.alloc(),
         words(rt),
-        |name: &str| match fs::open(rt, name) {
-            Ok(file) => Some(StdSource::new(file)),
-            Err(_) => None,
-        },
+        |name: &str| Opened::new(fs::open(rt, name).ok()),
         &mut StdSource::new(input),
         &mut StdSink::new(output),
         &mut StdSink::new(report),
@@ -41,7 +39,7 @@ pub fn run_program<R: AllocGlobal + Env + Files>(
 /// Does what the words ask for, and answers the status that the process ends with: that of the exit, whose text goes to
 /// the report alone. `words` leaves out the program's name; where they couldn't be had they are the exit for that, and
 /// neither input nor output is touched.
-pub fn conclude<F: Source + Drop, P: FnOnce(&str) -> Option<F>, I: Source, O: Sink, E: Sink>(
+pub fn conclude<F: Source + Drop, P: FnOnce(&str) -> F, I: Source, O: Sink, E: Sink>(
     alloc: Global,
     words: Result<Vec<String>, Exit>,
     opener: P,
