@@ -198,9 +198,9 @@ impl<'a> Place<'a> {
     }
 
     /// Goes back to a closed cut within the present one, place by place along the timeline, until the test stops it: to
-    /// the last cut of the way from there to here at which it stops before a core takes its next instruction. It answers
-    /// which core that is, or that it came to the cut. A refusal, which comes for want of memory alone, leaves the place
-    /// as it was.
+    /// the last cut of the way from there to here at which it stops before a core takes its next instruction. It
+    /// answers which core that is, or that it came to the cut. A refusal, which comes for want of memory alone, leaves
+    /// the place as it was.
     pub fn back<S: Stops>(
         &mut self,
         alloc: Global,

@@ -1,7 +1,7 @@
--- Turn by turn backwards along the timeline: of the cores that move the place has nothing that stands at the places from
--- here on, and at most as many instructions as the timeline has before.
-use Rattle.std.proofs.Common.{◌≡◌, inl, inr, ℕ, ◌+◌, ◌-◌, ◌<◌, ◌≤◌, ◌≢◌, true, List, length, take, get_or, suc, refl, sym}
-use Rattle.std.proofs.Common.{ap, subst, ◌∙◌, arith, length-set, get_or-set_same, get_or-set_other}
+-- Turn by turn backwards along the timeline: of the cores that move the place has nothing that stands at the places
+-- from here on, and at most as many instructions as the timeline has before.
+use Rattle.std.proofs.Common.{◌≡◌, inl, inr, ℕ, ◌+◌, ◌-◌, ◌<◌, ◌≤◌, ◌≢◌, true, List, length, take, get_or, suc, refl}
+use Rattle.std.proofs.Common.{sym, ap, subst, ◌∙◌, arith, length-set, get_or-set_same, get_or-set_other}
 use Rattle.std.specs.Prelude.{slice_index, slice_set, None}
 use Rattle.std.proofs.lemmas.Bool.{cases_lt}
 use Rattle.std.proofs.lemmas.List.{take_all}
@@ -56,10 +56,12 @@ free_back stopping core old new to kept step goes =
 -- ---- turns
 
 -- the timeline has come back to this place, and the cores that move to their counts there
-pub record IsTurningBack (stopping : Stopping) (cores : CoreSet) (old : Placed) (at : List ℕ) (number : ℕ) (now : Placed)
+pub record IsTurningBack (stopping : Stopping) (cores : CoreSet) (old : Placed) (at : List ℕ) (number : ℕ)
+    (now : Placed)
     : Type 0 where
   pub wide : length at ≡ CORES_MAX
-  pub counted : (c : ℕ) → c < old.recording.params.cores → count_of at c ≡ counts nought (take number (timeline_at old)) c
+  pub counted : (c : ℕ) → c < old.recording.params.cores → count_of at c ≡
+      counts nought (take number (timeline_at old)) c
   pub kept : IsKept old now
   pub reached : (c : ℕ) → has cores c ≡ true → count_in (cut_at now) c ≤ count_of at c
   pub gone : AreGone cores (cut_at now) (timeline_at old) number

@@ -93,8 +93,8 @@ impl<'a> Session<'a> {
         self.place.cut()
     }
 
-    /// From here on this core leads: where all cores go on, or back, it goes alone, and others as the log demands. Without
-    /// one all go. It answers whether the core is there; where it isn't nothing changes.
+    /// From here on this core leads: where all cores go on, or back, it goes alone, and others as the log demands.
+    /// Without one all go. It answers whether the core is there; where it isn't nothing changes.
     pub fn lead(&mut self, core: Option<u8>) -> bool
         ensures there { result ≡ can_lead core self.old.place.recording.params.cores }
         ensures led { self.new ≡ led self.old core }

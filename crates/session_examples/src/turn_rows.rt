@@ -1,5 +1,5 @@
-//! Moves of only some cores on the recording of two cores, worked out by hand. The timeline takes the cores in the order
-//! 0 1 0 0 1 1 0 1 0. Places are told by how far the cores have come, in digits.
+//! Moves of only some cores on the recording of two cores, worked out by hand. The timeline takes the cores in the
+//! order 0 1 0 0 1 1 0 1 0. Places are told by how far the cores have come, in digits.
 use crate::rows::Row;
 
 /// Core 1 alone goes on, and takes core 0 with it only where it loads; then core 0.

@@ -54,7 +54,8 @@ loop-core-preserved g c =
     subst (λ (last : Option Seen). IsLooking test a.which a.recording c.args.to.now c.args.replay.now.state places
     (i + 1) c.advance.new.self last)
     (sym c.or-last.ensures)
-    (looks_on test a.which a.recording c.args.to.now c.args.replay.now.state places i c.loop-core.replay c.loop-core.last past (omega arith)
+    (looks_on test a.which a.recording c.args.to.now c.args.replay.now.state places i c.loop-core.replay
+    c.loop-core.last past (omega arith)
     walking.ordered.0 c.noted.result c.noted.ensures c.advance.new.self on here)
 
 pub returns : goal.returns

@@ -75,7 +75,8 @@ returns-in-GoBack-clause-obeys c =
     let points = c.args.points.now in
     let new = c.go_back.new.place in
     let same = same_stopping c.args.audited.now c.args.image.now old points _ _ _ _ c.requires.sees
-    c.outcome.ensures.passed (c.every_core-every.ensures ∙ ap (λ (n : ℕ). every_core n) c.cores.ensures) c.empty-in-GoBack.ensures in
+    c.outcome.ensures.passed (c.every_core-every.ensures ∙ ap (λ (n : ℕ). every_core n) c.cores.ensures)
+    c.empty-in-GoBack.ensures in
     subst (λ (o : Order). IfOk c.go_back.result (Obeys points o old new)) (sym c.in-GoBack.is)
     (subst (λ (s : Stopping). IfOk c.go_back.result (GoesBackward s c.in-GoBack.lead old new))
     (c.new-hearing-in-GoBack.ensures ∙ same) c.go_back.ensures.goes)
@@ -88,5 +89,6 @@ returns-in-GoBackWith-clause-obeys c =
     let same = same_stopping c.args.audited.now c.args.image.now old points _ _ _ _ c.requires.sees
     c.outcome.ensures.passed refl c.empty-in-GoBackWith.ensures in
     subst (λ (o : Order). IfOk c.go_back_with.result (Obeys points o old new)) (sym c.in-GoBackWith.is)
-    (subst (λ (s : Stopping). IfOk c.go_back_with.result (GoesBackWith s c.in-GoBackWith.cores c.in-GoBackWith.lead old new))
+    (subst (λ (s : Stopping). IfOk c.go_back_with.result
+    (GoesBackWith s c.in-GoBackWith.cores c.in-GoBackWith.lead old new))
     (c.new-hearing-in-GoBackWith.ensures ∙ same) c.go_back_with.ensures.goes)

@@ -25,7 +25,8 @@ loop-number-init c =
     subst (λ (r : Recording). Valid r) c.requires.run.recording c.recording.ensures.valid in
     let determinate : IsDeterminate place.which place.recording =
     subst (λ (w : Which). IsDeterminate w place.recording) c.requires.run.which
-    (subst (λ (r : Recording). IsDeterminate a.which r) c.requires.run.recording c.outcome.ensures.passed.determinate) in
+    (subst (λ (r : Recording). IsDeterminate a.which r) c.requires.run.recording
+    c.outcome.ensures.passed.determinate) in
     turning_last (stopping_of c.args.hearing.now) c.args.cores place c.whole.result c.timeline-number.result.now valid
     determinate c.cut.ensures.stands (whole_at a place c.whole.result c.requires.run c.whole.ensures)
     c.timeline-number.ensures
@@ -57,7 +58,8 @@ overflow_sub-count c =
     let number_is : number ≡ number - 1 + 1 = omega arith in
     let inside = line_inside c.args.place.now c.loop-number.place h.kept line c.timeline-number.result.now
     c.timeline.ensures c.timeline-number.ensures (number - 1) (omega arith) in
-    let is = back_count (stopping_of c.args.hearing.now) c.args.cores c.args.place.now c.loop-number.at number c.loop-number.place
+    let is = back_count (stopping_of c.args.hearing.now) c.args.cores c.args.place.now c.loop-number.at number
+    c.loop-number.place
     h valid line c.timeline.ensures (number - 1) number_is inside in
     omega arith
 
@@ -89,7 +91,8 @@ lacks-requires-clause-core c =
     let inside = line_inside c.args.place.now c.loop-number.place h.kept line c.timeline-number.result.now
     c.timeline.ensures c.timeline-number.ensures (number - 1) (omega arith) in
     subst (λ (r : Recording). get_or line (number - 1) 0 < r.params.cores) (sym h.kept.recording)
-    (back_inside (stopping_of c.args.hearing.now) c.args.cores c.args.place.now c.loop-number.at number c.loop-number.place
+    (back_inside (stopping_of c.args.hearing.now) c.args.cores c.args.place.now c.loop-number.at number
+    c.loop-number.place
     h valid line c.timeline.ensures (number - 1) number_is inside)
 
 pub step_back_until-requires-clause-last : goal.step_back_until-requires-clause-last
@@ -128,7 +131,8 @@ returns-in-Some-clause-goes c =
       free = h.free;
       next = Some core;
       ends = record {
-        turn = back_there (stopping_of c.args.hearing.now) c.args.cores c.args.place.now c.loop-number.at number c.loop-number.place
+        turn = back_there (stopping_of c.args.hearing.now) c.args.cores c.args.place.now c.loop-number.at number
+            c.loop-number.place
             h valid line c.timeline.ensures (number - 1) number_is inside
             (sym c.has.ensures ∙ c.if-has.true) (leb-false _ _ (sym c.lacks.ensures ∙ c.if-not-lacks.true));
         steps = subst (λ (s : Option stops.Stop). MatchOption s
@@ -174,7 +178,8 @@ loop-number-preserved c =
       | then-has+then-not-lacks+in_ok-stop+in_default w ↦
           subst (λ (p : Placed). IsTurningBack stopping c.args.cores c.args.place.now new (number - 1) p)
           (sym w.place-is)
-          (back_taken (stopping_of c.args.hearing.now) c.args.cores c.args.place.now c.loop-number.at number c.loop-number.place
+          (back_taken (stopping_of c.args.hearing.now) c.args.cores c.args.place.now c.loop-number.at number
+          c.loop-number.place
           h valid line c.timeline.ensures (number - 1) number_is inside new refl
           w.step_back_until.new.place
           (sym c.has.ensures ∙ w.if-has.true) (leb-false _ _ (sym w.lacks.ensures ∙ w.if-not-lacks.true))
@@ -184,7 +189,8 @@ loop-number-preserved c =
       | else-has w ↦
           subst (λ (p : Placed). IsTurningBack stopping c.args.cores c.args.place.now new (number - 1) p)
           (sym w.place-is)
-          (back_passed (stopping_of c.args.hearing.now) c.args.cores c.args.place.now c.loop-number.at number c.loop-number.place
+          (back_passed (stopping_of c.args.hearing.now) c.args.cores c.args.place.now c.loop-number.at number
+          c.loop-number.place
           h valid line c.timeline.ensures (number - 1) number_is inside new refl
           (λ one. elim w.else-has.branch [
             | else-has-via-then-has+else-not-lacks v ↦ leb-true _ _ (sym v.lacks.ensures ∙ v.if-not-lacks.false)

@@ -77,7 +77,8 @@ overflow_add-at c =
     let line = c.timeline.result.now in
     let inside = line_inside c.args.place.now c.loop-number.place h.kept line c.timeline-number-end.result.now
     c.timeline.ensures c.timeline-number-end.ensures c.loop-number.number c.loop-number-test.true in
-    let room = turn_room (stopping_of c.args.hearing.now) c.args.cores c.args.place.now c.loop-number.at c.loop-number.number
+    let room = turn_room (stopping_of c.args.hearing.now) c.args.cores c.args.place.now c.loop-number.at
+    c.loop-number.number
     c.loop-number.place h valid line c.timeline.ensures inside in
     omega arith
 
@@ -108,7 +109,8 @@ returns-in-Some-clause-goes c =
       free = h.free;
       next = Some core;
       ends = record {
-        turn = turn_there (stopping_of c.args.hearing.now) c.args.cores c.args.place.now c.loop-number.at c.loop-number.number
+        turn = turn_there (stopping_of c.args.hearing.now) c.args.cores c.args.place.now c.loop-number.at
+            c.loop-number.number
             c.loop-number.place h valid line c.timeline.ensures inside
             (sym c.has.ensures ∙ c.if-has.true) (leb-true _ _ (sym c.lacks.ensures ∙ c.if-lacks.true));
         steps = subst (λ (s : Option stops.Stop). MatchOption s
@@ -135,7 +137,8 @@ loop-number-preserved c =
       | then-has+then-lacks+in_ok-stop+in_default w ↦
           subst (λ (p : Placed). IsTurning stopping c.args.cores c.args.place.now new (c.loop-number.number + 1) p)
           (sym w.place-is)
-          (turn_taken (stopping_of c.args.hearing.now) c.args.cores c.args.place.now c.loop-number.at c.loop-number.number
+          (turn_taken (stopping_of c.args.hearing.now) c.args.cores c.args.place.now c.loop-number.at
+          c.loop-number.number
           c.loop-number.place h valid line c.timeline.ensures inside new refl w.step_until.new.place
           (sym c.has.ensures ∙ w.if-has.true) (leb-true _ _ (sym w.lacks.ensures ∙ w.if-lacks.true))
           (subst (λ (s : Option stops.Stop). MatchOption s (StepsFree stopping core now w.step_until.new.place)
@@ -143,7 +146,8 @@ loop-number-preserved c =
       | else-has w ↦
           subst (λ (p : Placed). IsTurning stopping c.args.cores c.args.place.now new (c.loop-number.number + 1) p)
           (sym w.place-is)
-          (turn_passed (stopping_of c.args.hearing.now) c.args.cores c.args.place.now c.loop-number.at c.loop-number.number
+          (turn_passed (stopping_of c.args.hearing.now) c.args.cores c.args.place.now c.loop-number.at
+          c.loop-number.number
           c.loop-number.place h valid line c.timeline.ensures inside new refl
           (λ one. elim w.else-has.branch [
             | else-has-via-then-has+else-lacks v ↦ leb-false _ _ (sym v.lacks.ensures ∙ v.if-lacks.false)

@@ -34,7 +34,8 @@ returns-in_ok-seek-in-Some-clause-ok g c =
     let to = c.args.to.now in
     let seen : Option Seen = Some c.in-Some.seen in
     let found : NotesOnWay test a.which a.recording to c.cut-here.result c.as_slice-timeline.result.now seen =
-    subst (λ (s : Option Seen). NotesOnWay test a.which a.recording to c.cut-here.result c.as_slice-timeline.result.now s)
+    subst (λ (s : Option Seen). NotesOnWay test a.which a.recording to c.cut-here.result
+    c.as_slice-timeline.result.now s)
     c.in-Some.is c.in_ok-seen.ensures in
     let here = notes_here test a.which a.recording old to c.cut-here.result c.as_slice-timeline.result.now
     c.self.inside.timeline c.self.inside.replay c.self.invariant c.self.view_is c.cut-here.ensures
@@ -42,7 +43,8 @@ returns-in_ok-seek-in-Some-clause-ok g c =
     record {
       there = here.there;
       state = here.state;
-      ends = came_back test old c.seek.new.self to here.there (way_back old to) (length (way_back old to)) c.in-Some.seen
+      ends = came_back test old c.seek.new.self to here.there (way_back old to) (length (way_back old to))
+          c.in-Some.seen
           c.in_ok-seek-in-Some.ensures.recording c.in_ok-seek-in-Some.ensures.which
           (subst (λ (place : Placed). Valid place.recording) c.self.view_is c.self.invariant.valid) c.cut.ensures.stands
           c.in_ok-seek-in-Some.ensures.ok here.state here.notes;
@@ -56,7 +58,8 @@ returns-in_ok-seek-in-None-clause-ok g c =
     let to = c.args.to.now in
     let seen : Option Seen = None in
     let found : NotesOnWay test a.which a.recording to c.cut-here.result c.as_slice-timeline.result.now seen =
-    subst (λ (s : Option Seen). NotesOnWay test a.which a.recording to c.cut-here.result c.as_slice-timeline.result.now s)
+    subst (λ (s : Option Seen). NotesOnWay test a.which a.recording to c.cut-here.result
+    c.as_slice-timeline.result.now s)
     c.in-None.is c.in_ok-seen.ensures in
     let here = notes_here test a.which a.recording old to c.cut-here.result c.as_slice-timeline.result.now
     c.self.inside.timeline c.self.inside.replay c.self.invariant c.self.view_is c.cut-here.ensures
