@@ -1,7 +1,7 @@
 -- The pcs of a run are noted place by place: before a place its core is at a closed cut of which the replay has the
 -- state, so its pc there is that of its next instruction.
-use Rattle.std.proofs.Common.{◌≡◌, ◌≢◌, ◌⊎◌, inl, inr, ℕ, ◌+◌, ◌-◌, ◌<◌, ◌≤◌, List, [], ◌∷◌, ◌++◌, length, replicate, drop}
-use Rattle.std.proofs.Common.{sym, ap, subst, ◌∙◌, arith, get_or-set_same, get_or-set_other, length-append}
+use Rattle.std.proofs.Common.{◌≡◌, ◌≢◌, ◌⊎◌, inl, inr, ℕ, ◌+◌, ◌-◌, ◌<◌, ◌≤◌, List, [], ◌∷◌, ◌++◌, length, replicate}
+use Rattle.std.proofs.Common.{drop, sym, ap, subst, ◌∙◌, arith, get_or-set_same, get_or-set_other, length-append}
 use Rattle.std.specs.Prelude.{slice_index, slice_index_or}
 use Rattle.std.proofs.lemmas.Bool.{cases_lt}
 use Rattle.std.proofs.lemmas.List.{get_or_append_left, get_or_past, get_or-replicate, length-map, length-replicate}
@@ -87,7 +87,8 @@ module _ (which : Which) (r : Recording) (f : ℕ → ℕ) (pcs : List (List ℕ
       IsPcOf which r (instr c (k + 1)) (slice_index (slice_index_or (with_item pcs core pc) c []) k)
   all_pcs c k lt below = elim (ℕ_discrete c core) [
     | yes e ↦
-        subst (λ (i : ℕ). IsPcOf which r (instr i (k + 1)) (slice_index (slice_index_or (with_item pcs core pc) i []) k))
+        subst
+        (λ (i : ℕ). IsPcOf which r (instr i (k + 1)) (slice_index (slice_index_or (with_item pcs core pc) i []) k))
         (sym e)
         (own_pcs k
         (let here = bump_here f core in
@@ -130,8 +131,8 @@ module _ (which : Which) (r : Recording) (u : UnderWay) (places : List ℕ) (val
   begins_noting pcs pcs_are = record {
     to = cut_of (plan_of which r) (counts nought places);
     walking = record {
-      way = way_start which r (cut_of (plan_of which r) (counts nought places)) u (order_cut which r places valid ordered)
-          plan_is state_is valid;
+      way = way_start which r (cut_of (plan_of which r) (counts nought places)) u
+          (order_cut which r places valid ordered) plan_is state_is valid;
       ordered = subst (λ (g : ℕ → ℕ). Ordered (plan_of which r) g places) (sym none) ordered;
       leads = λ core. ap (λ (g : ℕ → ℕ). counts g places core) none ∙ end_count core;
     };

@@ -1,5 +1,5 @@
--- An instruction has one pc. Two closed cuts with the same count of a core have that count in common, and from what they
--- have in common the way to each has no place of the core, so the core stays where it is.
+-- An instruction has one pc. Two closed cuts with the same count of a core have that count in common, and from what
+-- they have in common the way to each has no place of the core, so the core stays where it is.
 use Rattle.std.proofs.Common.{◌≡◌, inl, inr, ℕ, List, [], ◌∷◌, ◌++◌, refl, sym, ap, subst, ◌∙◌, arith}
 use Rattle.std.proofs.Math.Path.{fun_ext}
 use Rattle.std.specs.Prelude.{None}

@@ -15,8 +15,8 @@ use Rattle.cut_replay.specs.ClosedCuts.{IsClosed, count_in}
 use Rattle.cut_replay.specs.CutStates.{IsStateAt}
 use Rattle.debug_place.specs.Walks.{IsWalking}
 
--- the pc of an instruction: a closed cut has all of the core's instructions before it, and not it, and in the cut's state
--- the core is there
+-- the pc of an instruction: a closed cut has all of the core's instructions before it, and not it, and in the cut's
+-- state the core is there
 pub record IsPcOf (which : Which) (r : Recording) (at : Instr) (pc : ℕ) : Type 0 where
   pub cut : Cut
   pub closed : IsClosed which r cut

@@ -73,7 +73,8 @@ fn digit_value(byte: u8) -> u8
 /// The number that the digits spell, where it's below another.
 fn value_below(past: u64, text: &[u8]) -> Option<u64>
     requires { past ≤ 2 ^ 32 }
-    ensures value { result ≡ (if nat_lt (digits_value 10 text.now) past then Some (digits_value 10 text.now) else None) }
+    ensures value { result
+        ≡ (if nat_lt (digits_value 10 text.now) past then Some (digits_value 10 text.now) else None) }
     ensures within { IfSome result (λ n. n < past) }
 {
     let mut value = 0u64;

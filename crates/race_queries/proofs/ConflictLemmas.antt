@@ -119,7 +119,8 @@ behind_nothing : (at : Instr) → behind at [] ≡ []
 unfolding behind
 behind_nothing at = refl
 
-module _ (at : Instr) (list : List Access) (k : ℕ) (d : Access) (so_far : behind at list ≡ behind at (drop k list)) where
+module _ (at : Instr) (list : List Access) (k : ℕ) (d : Access)
+    (so_far : behind at list ≡ behind at (drop k list)) where
   pub behind_here : k < length list → is_same (get_or list k d).at at ≡ true → (n : ℕ) →
       length (drop (k + 1) list) ≤ n → take n (drop (k + 1) list) ≡ behind at list
   behind_here inside so n long =

@@ -1,4 +1,5 @@
-//! Commands of a debugger's user, and what is told, on the recording of a lock. They are in the order of a session of gdb.
+//! Commands of a debugger's user, and what is told: on the recording of a lock, in the order of a session of gdb, and on
+//! one of two cores.
 
 /// A command, and what is told.
 pub struct Told {
