@@ -9,7 +9,7 @@ pub struct Stored {
 }
 
 /// The sessions, by their names.
-pub static SESSIONS: [Stored; 10] = [
+pub static SESSIONS: [Stored; 12] = [
     Stored {
         name: "attach",
         recording: "count",
@@ -35,11 +35,19 @@ pub static SESSIONS: [Stored; 10] = [
         recording: "lost_count",
     },
     Stored {
+        name: "monitor",
+        recording: "lock",
+    },
+    Stored {
         name: "refused_writes",
         recording: "count",
     },
     Stored {
         name: "reverse",
+        recording: "count",
+    },
+    Stored {
+        name: "scheduler_locking",
         recording: "count",
     },
     Stored {
