@@ -1,21 +1,19 @@
 //! The core file of a moment.
-ghost use Rattle.std.specs.Prelude.{IfErr, IfOk, MatchResult, OnOk};
+ghost use Rattle.std.specs.Prelude.{IfErr, IfOk, OnOk};
 ghost use Rattle.race_log.specs.Validity.{Valid};
-ghost use Rattle.replay_audit.specs.Audits.{IsAuditOf, IsInstrOf};
-ghost use Rattle.rtr_cli.specs.Commands.{AtEnds, AuditEnds, IsCutAt, IsReplayed, Promised, Refuses};
+ghost use Rattle.rtr_cli.specs.Commands.{AtEnds, IsReplayed, Promised, Refuses};
 ghost use Rattle.gdb_cli.specs.Cores.{IsCoreAt, MakesCore, printed_by};
 
-use crate::recordings::audited;
 use crate::words::Moment;
 use core_file::core_file;
-use cut_replay::{cut_with, cut_without, has_instr, state_of};
+use cut_replay::{has_instr, state_of};
 use log_codec::read;
 use race_log::Recording;
-use replay_audit::Audited;
 use replay_audit::laws::replays_fit_their_plan;
-use rtr_types::{Cut, Items};
+use rtr_cli::{audited, cut_at};
+use rtr_types::Items;
 use state_text::Exit;
-use std::alloc::{AllocError, Global};
+use std::alloc::Global;
 
 /// The core file of the moment in the recording that the bytes spell, or how the command ends without one.
 pub(crate) fn core_of(alloc: Global, bytes: Vec<u8>, moment: Moment) -> Result<Items<u8>, Exit>
@@ -41,19 +39,7 @@ fn core_at(alloc: Global, recording: Recording, moment: Moment) -> Result<Items<
         return Err(Exit::NoInstr { at });
     }
     let audited = audited(alloc, recording, moment.which)?;
-    let cut = cut_at(&audited, moment)?;
+    let cut = cut_at(&audited, at, moment.latest)?;
     let outcome = state_of(alloc, &audited, &cut)?;
     Ok(core_file(alloc, &outcome, at.core)?)
-}
-
-/// The closed cut of the moment.
-fn cut_at(audited: &Audited, moment: Moment) -> Result<Cut, AllocError>
-    requires { IsInstrOf audited.now.recording moment.at }
-    ensures { IfOk result (IsCutAt audited.now.which audited.now.recording moment.at moment.latest) }
-{
-    if moment.latest {
-        cut_without(audited, moment.at)
-    } else {
-        cut_with(audited, moment.at)
-    }
 }

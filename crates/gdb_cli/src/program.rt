@@ -9,14 +9,14 @@ ghost use Rattle.state_text.specs.declared.exit.Exit.{Exit};
 
 use crate::debugger::run_debugger;
 use crate::opened::Opened;
-use rtr_cli::tell;
+use rtr_cli::{arguments, tell};
 use rtr_io::{Sink, Source, StdSink, StdSource};
 use state_text::Exit;
 use std::alloc::Global;
+use std::fs;
 use std::io::{Stderr, Stdin, Stdout};
 use std::process::ExitCode;
 use std::rt::{Env, Files};
-use std::{env, fs, io};
 
 /// Runs the program on the standard streams and the words of the command line, and answers the status that the process
 /// ends with. The three streams have types of their own, so that none can stand for another.
@@ -28,7 +28,7 @@ pub fn run_program<R: AllocGlobal + Env + Files>(
 ) -> ExitCode {
     conclude(
         rt.alloc(),
-        words(rt),
+        arguments(rt),
         |name: &str| Opened::new(fs::open(rt, name).ok()),
         &mut StdSource::new(input),
         &mut StdSink::new(output),
@@ -69,17 +69,4 @@ pub fn conclude<F: Source + Drop, P: FnOnce(&str) -> F, I: Source, O: Sink, E: S
         }
     };
     ExitCode::from(exit.status())
-}
-
-/// The words after the program's name. One that isn't UTF-8 makes the command line a faulty one.
-fn words<R: Env + AllocGlobal>(rt: &R) -> Result<Vec<String>, Exit> {
-    let args = match env::args(rt) {
-        Ok(args) => args,
-        Err(error) if error.kind() == io::ErrorKind::OutOfMemory => return Err(Exit::OutOfMemory),
-        Err(_) => return Err(Exit::Usage),
-    };
-    match args.skip(1).collect(rt.alloc()) {
-        Ok(words) => Ok(words),
-        Err(_) => Err(Exit::OutOfMemory),
-    }
 }

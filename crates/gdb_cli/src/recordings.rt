@@ -1,16 +1,15 @@
 //! A recording, read to its end and audited.
-ghost use Rattle.std.specs.Prelude.{ℕ, IfErr, IfOk, IsErrOf, List, MatchResult, OnOk};
+ghost use Rattle.std.specs.Prelude.{ℕ, IfErr, IfOk, IsErrOf, List, OnOk};
 ghost use Rattle.log_codec.specs.Reading.{whole_at};
-ghost use Rattle.race_log.specs.Validity.{Valid};
 ghost use Rattle.replay_audit.specs.Audits.{IsAuditOf};
-ghost use Rattle.rtr_cli.specs.Commands.{AuditEnds, Promised, Refuses, SpellsSome, most_of};
+ghost use Rattle.rtr_cli.specs.Commands.{Promised, Refuses, SpellsSome, most_of};
 ghost use Rattle.rtr_cli.specs.Completeness.{Accepts, EndsWell, HasLeft, IsFaultless};
 ghost use Rattle.rtr_io.specs.Faults.{HasRisen, IsUnlessFault};
 ghost use Rattle.gdb_cli.specs.Sessions.{Declines, IsAudited, replayed_by};
 
 use log_codec::read;
-use race_log::Recording;
-use replay_audit::{AuditFault, Audited, audit};
+use replay_audit::Audited;
+use rtr_cli::audited;
 use rtr_io::{ReadEnd, Source, read_all};
 use rtr_types::Which;
 use state_text::Exit;
@@ -18,23 +17,6 @@ use std::alloc::Global;
 
 /// The most bytes of a recording: 512 MiB.
 pub(crate) const FILE_BYTES_MAX: usize = 536_870_912;
-
-/// The audit of the recording by one of its logs, or how the program ends without it.
-pub(crate) fn audited(alloc: Global, recording: Recording, which: Which) -> Result<Audited, Exit>
-    requires { Valid recording }
-    ensures { MatchResult result (IsAuditOf which recording) (AuditEnds which recording) }
-{
-    match audit(alloc, recording, which) {
-        Ok(audited) => Ok(audited),
-        Err(AuditFault::Stuck { cut }) => Err(Exit::Stuck { cut }),
-        Err(AuditFault::Short { core, count }) => Err(Exit::Short { core, count }),
-        Err(AuditFault::Undetermined { first, second }) => Err(Exit::Undetermined {
-            first,
-            second,
-        }),
-        Err(AuditFault::OutOfMemory) => Err(Exit::OutOfMemory),
-    }
-}
 
 /// The audit of the recording that the bytes spell, or how the program ends without it.
 fn audited_by(alloc: Global, which: Which, bytes: Vec<u8>) -> Result<Audited, Exit>
