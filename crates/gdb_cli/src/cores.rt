@@ -1,8 +1,8 @@
 //! The core file of a moment.
-ghost use Rattle.std.specs.Prelude.{IfErr, IfOk, MatchResult, OnOk};
+ghost use Rattle.std.specs.Prelude.{IfErr, IfOk, OnOk};
 ghost use Rattle.log_codec.specs.Validity.{Valid};
-ghost use Rattle.replay_audit.specs.Audits.{IsAuditOf, IsInstrOf};
-ghost use Rattle.rtr_cli.specs.Commands.{AtEnds, AuditEnds, IsCutAt, IsReplayed, Promised, Refuses};
+ghost use Rattle.replay_audit.specs.Audits.{IsInstrOf};
+ghost use Rattle.rtr_cli.specs.Commands.{AtEnds, IsCutAt, IsReplayed, Promised, Refuses};
 ghost use Rattle.gdb_cli.specs.Cores.{IsCoreAt, MakesCore, printed_by};
 
 use crate::recordings::audited;
