@@ -4,7 +4,7 @@ ghost use Rattle.std.specs.Fn.{FnOnceReturnsAt};
 ghost use Rattle.rtr_cli.specs.Answers.{Tells};
 ghost use Rattle.state_text.specs.Exits.{fault_line};
 ghost use Rattle.gdb_cli.specs.Answers.{IsAnswerIn, IsSessionIn};
-ghost use Rattle.gdb_cli.specs.Words.{file_name, session_log};
+ghost use Rattle.gdb_cli.specs.Words.{session_log};
 
 use crate::sessions::debug;
 use crate::tool::write_core;

@@ -12,8 +12,7 @@ ghost use Rattle.gdb_cli.specs.declared.words.Moment.{Moment};
 
 use crate::cores::core_of;
 use crate::recordings::FILE_BYTES_MAX;
-use crate::sessions::debug;
-use crate::words::{Moment, moment_in, session_log};
+use crate::words::{Moment, moment_in};
 use rtr_cli::tell;
 use rtr_io::{ReadEnd, Sink, Source, WriteFault, read_all, write_all};
 use state_text::Exit;

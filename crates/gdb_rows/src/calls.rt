@@ -18,7 +18,7 @@ pub struct Answer {
 }
 
 /// The words of a line, which are parted by single spaces.
-fn words(alloc: Global, line: &str) -> Result<Vec<String>, AllocError> {
+pub fn words(alloc: Global, line: &str) -> Result<Vec<String>, AllocError> {
     let mut words = Vec::new(alloc);
     for word in line.split(' ') {
         if !line.is_empty() {
@@ -29,7 +29,7 @@ fn words(alloc: Global, line: &str) -> Result<Vec<String>, AllocError> {
 }
 
 /// The bytes that hexadecimal digits spell; spaces between them are passed over.
-fn bytes(alloc: Global, digits: &str) -> Result<Vec<u8>, AllocError> {
+pub fn bytes(alloc: Global, digits: &str) -> Result<Vec<u8>, AllocError> {
     let mut bytes = Vec::new(alloc);
     let mut high = None;
     for digit in digits.bytes() {
@@ -50,7 +50,7 @@ fn bytes(alloc: Global, digits: &str) -> Result<Vec<u8>, AllocError> {
 }
 
 /// The list of one call that fails, or of none for 0.
-fn failing(alloc: Global, call: u64) -> Result<Vec<u64>, AllocError> {
+pub fn failing(alloc: Global, call: u64) -> Result<Vec<u64>, AllocError> {
     let mut calls = Vec::new(alloc);
     if call > 0 {
         calls.push(call)?;

@@ -7,3 +7,9 @@ mod calls;
 mod core_rows;
 #[cfg(test)]
 mod core_tests;
+#[cfg(test)]
+mod session_calls;
+#[cfg(test)]
+mod session_rows;
+#[cfg(test)]
+mod session_tests;

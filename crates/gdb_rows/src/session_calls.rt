@@ -1,0 +1,88 @@
+//! One session of the program over streams in memory.
+
+use crate::calls::{bytes, failing, words};
+use crate::session_rows::{File, Row};
+use gdb_cli::run_debugger;
+use rtr_io::{MemSink, MemSource};
+use std::alloc::{AllocError, Global};
+
+/// Room for the longest output of a row, and the most bytes that a call of a stream moves.
+const ROOM: usize = 10_000;
+
+/// The bytes of a file.
+fn bytes_of(alloc: Global, file: File) -> Result<Vec<u8>, AllocError> {
+    let File(front, zeros, back) = file;
+    let mut all = bytes(alloc, front)?;
+    for _ in 0..zeros {
+        all.push(0)?;
+    }
+    let back = bytes(alloc, back)?;
+    all.extend_from_slice(back.as_slice())?;
+    Ok(all)
+}
+
+/// A source of these bytes, of which the call with this number fails.
+fn source(alloc: Global, bytes: Vec<u8>, fails: u64) -> Result<MemSource, AllocError> {
+    Ok(MemSource::new(bytes, failing(alloc, fails)?, ROOM))
+}
+
+/// A sink of which the call with this number fails.
+fn sink(alloc: Global, fails: u64) -> Result<MemSink, AllocError> {
+    MemSink::new(alloc, ROOM, failing(alloc, fails)?, ROOM)
+}
+
+/// What there is before a row's call: its words, the one file, and what is sent.
+#[derive(Drop)]
+struct Given {
+    words: Vec<String>,
+    file: MemSource,
+    input: MemSource,
+}
+
+/// That of a row.
+fn prepared(alloc: Global, row: &Row) -> Result<Given, AllocError> {
+    let words = words(alloc, row.words)?;
+    let file = source(alloc, bytes_of(alloc, row.file)?, row.file_fails)?;
+    let input = source(alloc, row.sent.to_vec(alloc)?, row.input_fails)?;
+    Ok(Given { words, file, input })
+}
+
+/// The status with which the call ends. A file of another name is empty.
+fn status(
+    alloc: Global,
+    given: Given,
+    there: &str,
+    output: &mut MemSink,
+    report: &mut MemSink,
+) -> u8 {
+    let Given {
+        words,
+        file,
+        mut input,
+    } = given;
+    run_debugger(
+        alloc,
+        words.as_slice(),
+        move |name: &str| {
+            if name.as_bytes() == there.as_bytes() {
+                file
+            } else {
+                MemSource::new(Vec::new(alloc), Vec::new(alloc), ROOM)
+            }
+        },
+        &mut input,
+        output,
+        report,
+    )
+    .status()
+}
+
+/// Whether the row's call comes to what the row says.
+pub fn is_held(alloc: Global, row: &Row) -> Result<bool, AllocError> {
+    let given = prepared(alloc, row)?;
+    let mut output = sink(alloc, row.output_fails)?;
+    let mut report = sink(alloc, 0)?;
+    let status = status(alloc, given, row.name, &mut output, &mut report);
+    let said = output.bytes() == row.said && report.bytes() == row.report.as_bytes();
+    Ok(status == row.status && said)
+}
