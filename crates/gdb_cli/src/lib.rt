@@ -1,4 +1,5 @@
-//! The debugger's program but for its `main`: the core file of a moment of a recorded run, whose state `rtr at` prints.
+//! The debugger's program but for its `main`: a debugger's session on a recording, over two streams, and the core file
+//! of a moment of a recorded run, whose state `rtr at` prints.
 #![tactic(auto)]
 
 mod cores;
