@@ -3,10 +3,10 @@
 
 usage: bench/debugger.py [RTR RTR_GDB]
 
-The programs are the built ones where none are named. For each work it prints a line: the instructions and the bytes of the
-recording, and the milliseconds of processor time of `rtr at` half way, of the session until its first answer, of a step at the
-beginning, of `continue` to the end, of a step back from there, of `reverse-continue` to the last store to a word, and of
-`reverse-continue` to the beginning. Each is the median of five.
+The programs are the built ones where none are named. For each work it prints a line: the instructions and the bytes of
+the recording, and the milliseconds of processor time of `rtr at` half way, of the session until its first answer, of a
+step at the beginning, of `continue` to the end, of a step back from there, of `reverse-continue` to the last store to a
+word, and of `reverse-continue` to the beginning. Each is the median of five.
 """
 import os
 import resource
@@ -18,12 +18,13 @@ import tempfile
 
 TOP = os.path.dirname(os.path.dirname(os.path.abspath(__file__)))
 ROUNDS = 5
-# Four cores that each count up a word of their own, and every eighth time a word of all (0x40), until the limit stops them.
+# Cores that each count up a word of their own, and every eighth time a word of all (0x40), until the limit stops them.
 COUNTERS = [
     0x000F42B7, 0x24028293, 0x00451313, 0x10032383, 0x00138393, 0x10732023, 0x0073F413,
     0x00041863, 0x04002483, 0x00148493, 0x04902023, 0xFFF28293, 0xFC029EE3, 0x00000073,
 ]  # fmt: skip
-# A name, what makes the image (words of `gen`, or none), the words of `record`, the cores, and a word whose value stores change.
+# A name, what makes the image (words of `gen`, or none), the words of `record`, the cores, and a word whose value
+# stores change.
 WORKS = [
     ("lock, 500 rounds", "--shape lock --number 500", "--cores 2 --limit 100000 --words 128 --seed 7", 2, 0x130),
     ("mix 3", "--shape mix --number 3", "--cores 8 --limit 100000 --seed 5", 8, 0x510),
