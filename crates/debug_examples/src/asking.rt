@@ -1,7 +1,9 @@
 //! What is asked of the word that three cores hand on.
 use crate::recordings::{Counts, cut_of, three};
 use cut_replay::has_instr;
-use race_queries::{edges_into, edges_out_of, history, last_write, leads_to, reads_since};
+use race_queries::{
+    conflicts_of, edges_into, edges_out_of, history, last_write, leads_to, reads_since,
+};
 use replay_audit::Audited;
 use rtr_types::{Access, Instr, Which};
 use std::alloc::{AllocError, Global};
@@ -84,6 +86,37 @@ fn histories(rt: HostRuntime) -> Result<(), Fail> {
     ];
     assert!(rt; are_at(list.as_slice(), &all));
     assert!(rt; history(rt.alloc(), &audited, 17)?.len() == 0);
+    Ok(())
+}
+
+/// Whether the instruction's access conflicts with those of these instructions, before it and behind it.
+fn conflicts(
+    alloc: Global,
+    audited: &Audited,
+    at: Instr,
+    earlier: &[Instr],
+    later: &[Instr],
+) -> Result<bool, AllocError> {
+    match conflicts_of(alloc, audited, at)? {
+        Some(found) => Ok(
+            found.access.at == at
+                && are_at(found.earlier.as_slice(), earlier)
+                && are_at(found.later.as_slice(), later),
+        ),
+        None => Ok(false),
+    }
+}
+
+// A store conflicts with the last write and the loads since, a load with writes alone, a core's own accesses with none
+// of them, and an instruction without an access with nothing.
+#[test]
+fn conflicting(rt: HostRuntime) -> Result<(), Fail> {
+    let audited = three(rt.alloc(), Which::Reduced)?;
+    let front = [instr(0, 3), instr(2, 2)];
+    assert!(rt; conflicts(rt.alloc(), &audited, instr(1, 3), &front, &[instr(2, 3)])?);
+    assert!(rt; conflicts(rt.alloc(), &audited, instr(1, 2), &[instr(0, 3)], &[])?);
+    assert!(rt; conflicts(rt.alloc(), &audited, instr(0, 4), &[instr(2, 3)], &[])?);
+    assert!(rt; conflicts_of(rt.alloc(), &audited, instr(0, 1))?.is_none());
     Ok(())
 }
 

@@ -10,7 +10,7 @@ use std::alloc::{AllocError, Global};
 /// The number that hexadecimal digits spell, small or capital; `None` where there is none, where another byte is
 /// among them, or where the number isn't below 2^64.
 #[tactic(auto, unfolding(crate::specs::Numbers::number_of))]
-pub(crate) fn number_of(text: &[u8]) -> Option<u64>
+pub fn number_of(text: &[u8]) -> Option<u64>
     ensures { result ≡ number_of text.now }
 {
     if is_numeral(text) {

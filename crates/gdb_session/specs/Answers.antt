@@ -2,6 +2,7 @@
 use Rattle.std.specs.Prelude.{◌≡◌, List, [], ◌∷◌, Option, Some, None, ℕ}
 use Rattle.gdb_packets.specs.Asks.{ask_of}
 use Rattle.gdb_packets.specs.Replies.{spelled}
+use Rattle.gdb_monitor.specs.Commands.{command_of}
 use Rattle.gdb_packets.specs.declared.asks.Ask as asks
 use Rattle.gdb_packets.specs.declared.asks.Ask.TheVariants as whole_asks
 use Rattle.gdb_packets.specs.declared.asks.Plain.{Plain}
@@ -13,12 +14,13 @@ use Rattle.gdb_server.specs.declared.partner.Next.{Next}
 use Rattle.gdb_server.specs.declared.partner.Next.TheVariants.{Listen, StopAcks, End}
 use Rattle.gdb_session.specs.declared.orders.Order.{Order}
 use Rattle.gdb_session.specs.declared.points.Point.{Point}
+use Rattle.gdb_session.specs.Commanded.{IsCommanded}
 use Rattle.gdb_session.specs.Moves.{Obeys}
 use Rattle.gdb_session.specs.Orders.{go_back_order, resume_order, step_back_order}
 use Rattle.gdb_session.specs.Points.{point_of, takes, with_point, without_point}
 use Rattle.gdb_session.specs.Seats.{Seat}
 use Rattle.gdb_session.specs.Told.{still_reply, there_reply}
-use Rattle.gdb_session.specs.Wishes.{told_wishes, wishes_after}
+use Rattle.gdb_session.specs.Wishes.{commanded_wishes, told_wishes, wishes_after}
 
 -- ---- packets that move nothing
 
@@ -62,6 +64,14 @@ abbrev pub MovesBy : Option Order → (old new : Seat) → List (List ℕ) → T
 MovesBy None old new payloads = Refuses old new payloads
 MovesBy (Some order) old new payloads = Moves old order new payloads
 
+-- ---- commands
+
+-- a command is obeyed, and what is told is answered; what the debugger has asked for stays
+pub record Commands (old : Seat) (text : List ℕ) (new : Seat) (payloads : List (List ℕ)) : Type 0 where
+  pub done : IsCommanded text old.place new.place payloads
+  pub wishes : new.wishes ≡ commanded_wishes old.wishes (command_of text) old.place.recording.params.cores
+  pub points : new.points ≡ old.points
+
 -- ---- all packets
 
 abbrev pub AnswersPlain : Plain → (old new : Seat) → List (List ℕ) → Type 0
@@ -74,7 +84,7 @@ AnswersPlain other old new payloads = Tells old other new payloads
 abbrev pub AnswersWith : asks.Ask → (old new : Seat) → List (List ℕ) → Type 0
 AnswersWith (whole_asks.Resume actions) old new payloads =
     MovesBy (resume_order old.wishes old.place.recording.params.cores actions) old new payloads
-AnswersWith (whole_asks.Command text) old new payloads = Refuses old new payloads
+AnswersWith (whole_asks.Command text) old new payloads = Commands old text new payloads
 AnswersWith (whole_asks.Plain packet) old new payloads = AnswersPlain packet old new payloads
 
 -- what is to be done behind the answer

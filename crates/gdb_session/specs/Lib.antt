@@ -13,4 +13,5 @@ pub mod Turns
 pub mod Moves
 pub mod Seats
 pub mod Told
+pub mod Commanded
 pub mod Answers

@@ -3,6 +3,7 @@
 #![tactic(auto)]
 
 mod answer;
+mod commanded;
 mod ends;
 mod hearing;
 mod memory;

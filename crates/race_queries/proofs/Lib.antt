@@ -1,2 +1,4 @@
 pub mod Writes
 pub mod Edges
+pub mod AccessLemmas
+pub mod ConflictLemmas

@@ -110,7 +110,7 @@ fn is_load_of(cut: &Cut, word: u32, access: Access) -> bool
 }
 
 /// Whether the cut holds the instruction.
-fn holds(cut: &Cut, at: Instr) -> bool
+pub fn holds(cut: &Cut, at: Instr) -> bool
     ensures { result ≡ is_held cut.now at }
 {
     match cut.counts.get(at.core as usize) {

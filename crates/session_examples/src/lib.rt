@@ -3,11 +3,17 @@
 #![tactic(auto)]
 
 #[cfg(test)]
+mod command_rows;
+#[cfg(test)]
+mod command_tests;
+#[cfg(test)]
 mod crash;
 #[cfg(test)]
 mod crash_rows;
 #[cfg(test)]
 mod handed_over;
+#[cfg(test)]
+mod lock;
 #[cfg(test)]
 mod rows;
 #[cfg(test)]

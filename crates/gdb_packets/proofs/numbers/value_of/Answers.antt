@@ -11,7 +11,7 @@ returns-then-more c =
     let more = digits_value_more 16 text i (omega arith) in
     let much : 2 ^ 64 ≤ digits_value 16 (take (i + 1) text) =
     omega (arith, more, c.loop-b.invariant, c.digit_value.ensures, c.if-more.true) in
-    too_much text (i + 1) much
+    too_much 16 (2 ^ 64) text (i + 1) (omega arith) much
 
 pub loop-b-preserved : goal.loop-b-preserved
 loop-b-preserved c =

@@ -1,0 +1,123 @@
+-- A place that has come to the cut that was asked for.
+use Rattle.std.proofs.Common.{◌≡◌, ℕ, ◌<◌, ◌≤◌, List, sym, ap, subst, ◌∙◌, arith}
+use Rattle.std.proofs.lemmas.Bool.{cases_Bool, cases_lt}
+use Rattle.std.proofs.lemmas.List.{get_or_past}
+use Rattle.std.proofs.lemmas.List.FromFn.{length-map-range_with_len, get_or-map-range_with_len}
+use Rattle.std.proofs.Common.{◌⊎◌, inl, inr, Bool, true, false, eq-eqb}
+use Rattle.std.specs.Prelude.{◌&&◌, nat_eq, slice_index}
+use Rattle.std.specs.Cmp.Lexicographic.{other_text, pointwise}
+use Rattle.rtr_types.specs.declared.TheConstants.{CORES_MAX}
+use Rattle.rtr_types.specs.declared.cut.Cut.{Cut}
+use Rattle.rtr_types.specs.declared.instr.Instr.{Instr}
+use Rattle.rtr_types.specs.declared.pairs.Which.{Which}
+use Rattle.log_codec.specs.declared.recording.Recording.{Recording}
+use Rattle.log_codec.specs.Validity.{Valid}
+use Rattle.replay_audit.specs.Audits.{Findings, IsInstrOf}
+use Rattle.cut_replay.specs.ClosedCuts.{IsCutOf, IsGreatestWithout, IsLeastWith, count_in}
+use Rattle.cut_replay.proofs.Unique.{one_cut}
+use Rattle.cut_moves.specs.Steps.{IsHull, last_in, next_in}
+use Rattle.debug_place.specs.Places.{Placed, cut_at}
+use Rattle.gdb_monitor.specs.Moves.{AreCounts, Comes, GoesEarliest, GoesIfClosed, GoesLatest, GoesTo, GoesToCut}
+use Rattle.gdb_monitor.specs.Moves.{GoesWith, GoesWithout, IsOf, cut_with_counts}
+use Rattle.gdb_monitor.specs.Texts.{open_text}
+
+-- two cuts that a test tells apart
+pub cuts_differ : (x y : Cut) → false ≡ (nat_eq x.cores y.cores && pointwise nat_eq x.counts y.counts) → x ≡ y → ⊥
+cuts_differ x y off e = elim (cases_Bool (pointwise nat_eq x.counts y.counts)) [
+  | inl alike ↦
+      let all : false ≡ true =
+      off
+      ∙ ap (λ (b : Bool). b && pointwise nat_eq x.counts y.counts)
+      (eq-eqb x.cores y.cores (ap (λ (c : Cut). c.cores) e))
+      ∙ alike in
+      cc
+  | inr unlike ↦ other_text x.counts y.counts (sym unlike) (ap (λ (c : Cut). c.counts) e)
+]
+
+module _ (a : Findings) (old : Placed) (run : IsOf a old) (new : Placed) (told : List ℕ) where
+  least_here : (at : Instr) (to : Cut) → IsLeastWith a.which a.recording at to → Comes to new told →
+      GoesWith at old new told
+  least_here at to least comes = record {
+    cut = subst (λ (c : Cut). IsLeastWith old.which old.recording at c) (sym comes.cut)
+        (subst (λ (r : Recording). IsLeastWith old.which r at to) run.recording
+        (subst (λ (w : Which). IsLeastWith w a.recording at to) run.which least));
+    told_is = comes.told_is;
+  }
+
+  greatest_here : (at : Instr) (to : Cut) → IsGreatestWithout a.which a.recording at to → Comes to new told →
+      GoesWithout at old new told
+  greatest_here at to greatest comes = record {
+    cut = subst (λ (c : Cut). IsGreatestWithout old.which old.recording at c) (sym comes.cut)
+        (subst (λ (r : Recording). IsGreatestWithout old.which r at to) run.recording
+        (subst (λ (w : Which). IsGreatestWithout w a.recording at to) run.which greatest));
+    told_is = comes.told_is;
+  }
+
+  pub goes_to : (at : Instr) (to : Cut) (r : Recording) → r ≡ a.recording → IsInstrOf r at →
+      IsLeastWith a.which a.recording at to → Comes to new told → GoesTo at old new told
+  goes_to at to r same there least comes = record {
+    there = λ is. least_here at to least comes;
+    missing = λ no. absurd (no (subst (λ (q : Recording). IsInstrOf q at) (same ∙ run.recording) there));
+  }
+
+  pub goes_earliest : (core : ℕ) (here to : Cut) → here ≡ cut_at old → core < old.recording.params.cores →
+      IsLeastWith a.which a.recording (last_in here core) to → Comes to new told → GoesEarliest core old new told
+  goes_earliest core here to is_here there least comes = record {
+    there = λ is. least_here (last_in (cut_at old) core) to
+        (subst (λ (c : Cut). IsLeastWith a.which a.recording (last_in c core) to) is_here least) comes;
+    missing = λ past. absurd (omega arith);
+  }
+
+  pub goes_latest : (core : ℕ) (here to : Cut) → here ≡ cut_at old → core < old.recording.params.cores →
+      IsGreatestWithout a.which a.recording (next_in here core) to → Comes to new told → GoesLatest core old new told
+  goes_latest core here to is_here there greatest comes = record {
+    there = λ is. greatest_here (next_in (cut_at old) core) to
+        (subst (λ (c : Cut). IsGreatestWithout a.which a.recording (next_in c core) to) is_here greatest) comes;
+    missing = λ past. absurd (omega arith);
+  }
+
+  -- a closed cut is the least one that contains it
+  pub not_closed : (to hull : Cut) → IsCutOf old.recording to → IsHull a.which a.recording to hull →
+      (hull ≡ to → ⊥) → new ≡ old → told ≡ open_text hull → GoesIfClosed to old new told
+  not_closed to hull is_cut is_hull differ same told_is = record {
+    hull = hull;
+    is_hull = here;
+    closed = λ closed. absurd (differ (one_cut old.recording hull to here.closed.is_cut is_cut
+        (here.least to closed (λ core. omega arith)) here.contains));
+    not_closed = λ no. record { place = same; told_is = told_is };
+  }
+    where
+      here : IsHull old.which old.recording to hull
+      here = subst (λ (r : Recording). IsHull old.which r to hull) run.recording
+          (subst (λ (w : Which). IsHull w a.recording to hull) run.which is_hull)
+
+  pub goes_to_cut : (counts : List ℕ) (r : Recording) → r ≡ a.recording → AreCounts r counts → (cores : ℕ) →
+      cores ≡ old.recording.params.cores → (to : Cut) → to ≡ cut_with_counts cores counts →
+      GoesIfClosed to old new told → GoesToCut counts old new told
+  goes_to_cut counts r same are cores is_cores to is goes = record {
+    there = λ h. subst (λ (c : Cut). GoesIfClosed c old new told)
+        (is ∙ ap (λ (n : ℕ). cut_with_counts n counts) is_cores) goes;
+    missing = λ no. absurd (no (subst (λ (q : Recording). AreCounts q counts) (same ∙ run.recording) are));
+  }
+
+-- counts that fit a recording are those of a cut of it
+module _ (r : Recording) (valid : Valid r) (counts : List ℕ) (are : AreCounts r counts) (cores : ℕ)
+    (is : cores ≡ r.params.cores) where
+  here : (core : ℕ) → count_in (cut_with_counts cores counts) core ≡ slice_index counts core
+  here core = by (cases_lt core CORES_MAX)
+    where
+      by : (core < CORES_MAX) ⊎ (CORES_MAX ≤ core) →
+          count_in (cut_with_counts cores counts) core ≡ slice_index counts core
+      by (inl lt) = get_or-map-range_with_len (λ c. slice_index counts c) 0 CORES_MAX core core 0 lt (omega arith)
+      by (inr past) =
+          let long = length-map-range_with_len (λ c. slice_index counts c) 0 CORES_MAX in
+          get_or_past (cut_with_counts cores counts).counts core 0 (omega arith)
+          ∙ sym (get_or_past counts core 0 (let all = are.all in let few = valid.params.cores in omega arith))
+
+  pub counted_cut : IsCutOf r (cut_with_counts cores counts)
+  counted_cut = record {
+    cores = is;
+    places = length-map-range_with_len (λ c. slice_index counts c) 0 CORES_MAX;
+    most = λ core lt. let e = here core in let most = are.most core lt in omega arith;
+    rest = λ core past. here core ∙ get_or_past counts core 0 (let all = are.all in omega arith);
+  }

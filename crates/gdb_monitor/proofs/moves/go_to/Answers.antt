@@ -1,0 +1,11 @@
+use Rattle.std.proofs.Common.{refl}
+use Rattle.gdb_monitor.proofs.Answered.{if_ok}
+use Rattle.gdb_monitor.proofs.Going.{goes_to}
+use Rattle.gdb_monitor.proofs.moves.go_to.Goals as goal
+
+pub returns-clause-ok : goal.returns-clause-ok
+returns-clause-ok c =
+    if_ok c.go.result
+    (λ told comes. goes_to c.args.audited.now c.args.place.now c.requires c.go.new.place told c.args.at c.in_ok-to.to
+    c.recording.result.now c.recording.ensures.recording (c.if-not-has_instr.ensures.0 refl) c.in_ok-to.ensures comes)
+    c.go.ensures.ok

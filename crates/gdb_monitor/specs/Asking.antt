@@ -1,0 +1,125 @@
+-- What is told of a word, of the edges at an instruction and of its conflicts, by the audit of a recording.
+use Rattle.std.specs.Prelude.{◌≡◌, ℕ, ◌≤◌, List, [], ◌++◌, length, codes, Option, Some, None, MatchOption}
+use Rattle.std.specs.Prelude.{if◌then◌else◌}
+use Rattle.std.specs.List.{flat_map}
+use Rattle.rtr_types.specs.declared.access.Access.{Access}
+use Rattle.rtr_types.specs.declared.cut.Cut.{Cut}
+use Rattle.rtr_types.specs.declared.instr.Instr.{Instr}
+use Rattle.replay_audit.specs.Audits.{Findings, IsInstrOf}
+use Rattle.race_queries.specs.declared.conflicts.Conflicts.{Conflicts}
+use Rattle.race_queries.specs.Conflicts.{conflicts_at}
+use Rattle.race_queries.specs.Queries.{AreEdgesInto, AreEdgesOutOf, AreReadsSince, IsLastWrite, NoWriteIn, accesses_to}
+use Rattle.race_queries.specs.Queries.{is_held}
+use Rattle.gdb_monitor.specs.Instrs.{instr_text, row_text}
+use Rattle.gdb_monitor.specs.Pcs.{ArePcs}
+use Rattle.gdb_monitor.specs.Texts.{line, usage_text}
+
+-- ---- a word
+
+-- one access
+pub record IsRowTold (a : Findings) (access : Access) (told : List ℕ) : Type 0 where
+  pub pcs : List (List ℕ)
+  pub are : ArePcs a.which a.recording pcs
+  pub told_is : told ≡ line (row_text pcs access)
+
+abbrev pub IsWriteTold : Findings → Option Access → (told : List ℕ) → Type 0
+IsWriteTold a None told = told ≡ line (codes "no write: the opening value")
+IsWriteTold a (Some access) told = IsRowTold a access told
+
+-- `writer ADDR`: the last write of the word in the cut
+pub record IsWriterTold (a : Findings) (cut : Cut) (word : ℕ) (told : List ℕ) : Type 0 where
+  pub written : Option Access
+  pub is : MatchOption written (NoWriteIn a.accesses cut word) (IsLastWrite a cut word)
+  pub told_is : IsWriteTold a written told
+
+-- several accesses
+abbrev pub rows_text : (pcs : List (List ℕ)) → List Access → List ℕ
+rows_text pcs list = flat_map (λ access. line (row_text pcs access)) list
+
+pub record AreRowsTold (a : Findings) (list : List Access) (told : List ℕ) : Type 0 where
+  pub pcs : List (List ℕ)
+  pub are : ArePcs a.which a.recording pcs
+  pub told_is : told ≡ rows_text pcs list
+
+-- `readers ADDR`: the loads of the word in the cut since that write
+pub record AreReadersTold (a : Findings) (cut : Cut) (word : ℕ) (told : List ℕ) : Type 0 where
+  pub list : List Access
+  pub reads : AreReadsSince a cut word list
+  pub none : length list ≡ 0 → told ≡ line (codes "no read since the last write")
+  pub some : 1 ≤ length list → AreRowsTold a list told
+
+-- an access, and whether it is in the cut
+abbrev pub history_row : Cut → (pcs : List (List ℕ)) → Access → List ℕ
+history_row cut pcs access =
+    (if is_held cut access.at then codes "  " else codes "+ ") ++ line (row_text pcs access)
+
+pub record IsHistory (a : Findings) (cut : Cut) (list : List Access) (told : List ℕ) : Type 0 where
+  pub pcs : List (List ℕ)
+  pub are : ArePcs a.which a.recording pcs
+  pub told_is : told ≡ flat_map (history_row cut pcs) list
+
+-- `history ADDR`: all accesses to the word, in an order that the log allows
+pub record IsHistoryTold (a : Findings) (cut : Cut) (word : ℕ) (told : List ℕ) : Type 0 where
+  pub none : length (accesses_to word a.accesses) ≡ 0 → told ≡ line (codes "no access")
+  pub some : 1 ≤ length (accesses_to word a.accesses) → IsHistory a cut (accesses_to word a.accesses) told
+
+-- ---- edges
+
+-- whether an instruction from which an edge leads is still to come
+abbrev pub source_mark : Cut → Instr → List ℕ
+source_mark cut at = if is_held cut at then [] else codes "  (not yet)"
+
+-- whether one to which an edge leads is done already
+abbrev pub target_mark : Cut → Instr → List ℕ
+target_mark cut at = if is_held cut at then codes "  (already)" else []
+
+abbrev pub source_row : Cut → (pcs : List (List ℕ)) → List Access → Instr → List ℕ
+source_row cut pcs accesses at =
+    codes "  after  " ++ instr_text pcs accesses at ++ line (source_mark cut at)
+
+abbrev pub target_row : Cut → (pcs : List (List ℕ)) → List Access → Instr → List ℕ
+target_row cut pcs accesses at =
+    codes "  before " ++ instr_text pcs accesses at ++ line (target_mark cut at)
+
+-- the instruction, the sources of the edges into it and the targets of those out of it
+pub record AreEdges (a : Findings) (cut : Cut) (at : Instr) (told : List ℕ) : Type 0 where
+  pub pcs : List (List ℕ)
+  pub are : ArePcs a.which a.recording pcs
+  pub into : List Instr
+  pub into_are : AreEdgesInto a.which a.recording at into
+  pub out : List Instr
+  pub out_are : AreEdgesOutOf a.which a.recording at out
+  pub told_is : told
+      ≡ line (instr_text pcs a.accesses at) ++ flat_map (source_row cut pcs a.accesses) into
+      ++ flat_map (target_row cut pcs a.accesses) out
+
+-- `edges C:N`
+pub record AreEdgesTold (a : Findings) (cut : Cut) (at : Instr) (told : List ℕ) : Type 0 where
+  pub there : IsInstrOf a.recording at → AreEdges a cut at told
+  pub missing : (IsInstrOf a.recording at → ⊥) → told ≡ usage_text
+
+-- ---- conflicts
+
+abbrev pub earlier_row : (pcs : List (List ℕ)) → Access → List ℕ
+earlier_row pcs access = codes "  earlier " ++ line (row_text pcs access)
+
+abbrev pub later_row : (pcs : List (List ℕ)) → Access → List ℕ
+later_row pcs access = codes "  later   " ++ line (row_text pcs access)
+
+-- an access, and those with which it conflicts
+pub record AreConflicts (a : Findings) (conflicts : Conflicts) (told : List ℕ) : Type 0 where
+  pub pcs : List (List ℕ)
+  pub are : ArePcs a.which a.recording pcs
+  pub told_is : told
+      ≡ line (row_text pcs conflicts.access) ++ flat_map (earlier_row pcs) conflicts.earlier
+      ++ flat_map (later_row pcs) conflicts.later
+
+-- unless there is no access
+abbrev pub IsConflictTold : Findings → Option Conflicts → (told : List ℕ) → Type 0
+IsConflictTold a None told = told ≡ line (codes "no access")
+IsConflictTold a (Some conflicts) told = AreConflicts a conflicts told
+
+-- `conflicts C:N`
+pub record AreConflictsTold (a : Findings) (at : Instr) (told : List ℕ) : Type 0 where
+  pub there : IsInstrOf a.recording at → IsConflictTold a (conflicts_at a.accesses at) told
+  pub missing : (IsInstrOf a.recording at → ⊥) → told ≡ usage_text

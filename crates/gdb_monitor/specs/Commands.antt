@@ -1,0 +1,88 @@
+-- What a command's text means. Each has a meaning: one that is no command is unknown.
+use Rattle.std.specs.Prelude.{ℕ, List, [], ◌∷◌, Option, Some, None, codes, unwrap_or, if◌then◌else◌}
+use Rattle.std.specs.Option.{option_and_then, option_map, option_or}
+use Rattle.std.specs.Str.{bytes_eq}
+use Rattle.rtr_types.specs.declared.instr.Instr.{Instr}
+use Rattle.gdb_monitor.specs.declared.commands.Command.{Command}
+use Rattle.gdb_monitor.specs.declared.commands.Command.TheVariants.{Cut, GoTo, GoToCut, Earliest, Latest, Edges}
+use Rattle.gdb_monitor.specs.declared.commands.Command.TheVariants.{Writer, Readers, History, Conflicts, Order, Lead, Unknown}
+use Rattle.gdb_monitor.specs.Numbers.{core_of, count_of, named_instr, word_of}
+use Rattle.gdb_monitor.specs.Words.{words_of}
+
+-- one argument, and no other
+abbrev pub only : List (List ℕ) → Option (List ℕ)
+only [] = None
+only (word ∷ []) = Some word
+only (word ∷ other ∷ rest) = None
+
+-- the counts of a cut
+abbrev pub counts_of : List (List ℕ) → Option (List ℕ)
+counts_of [] = Some []
+counts_of (word ∷ rest) = option_and_then (λ n. option_map (λ counts. n ∷ counts) (counts_of rest)) (count_of word)
+
+-- `C`, `C:N` and `ADDR`
+abbrev pub one_core : List (List ℕ) → Option ℕ
+one_core arguments = option_and_then core_of (only arguments)
+
+abbrev pub one_instr : List (List ℕ) → Option Instr
+one_instr arguments = option_and_then named_instr (only arguments)
+
+abbrev pub one_word : List (List ℕ) → Option ℕ
+one_word arguments = option_and_then word_of (only arguments)
+
+-- `goto C:N` and `goto N N ..`
+abbrev pub goto_of : List (List ℕ) → Option Command
+goto_of arguments =
+    option_or (option_map GoTo (one_instr arguments)) (option_map GoToCut (counts_of arguments))
+
+-- `cut`
+abbrev pub cut_of : List (List ℕ) → Option Command
+cut_of [] = Some Cut
+cut_of (word ∷ rest) = None
+
+-- `order C:N C:N`
+abbrev pub order_of : List (List ℕ) → Option Command
+order_of [] = None
+order_of (word ∷ []) = None
+order_of (word ∷ other ∷ []) =
+    option_and_then (λ x. option_map (λ y. Order x y) (named_instr other)) (named_instr word)
+order_of (word ∷ other ∷ more ∷ rest) = None
+
+-- `lead C` and `lead all`
+abbrev pub leader_of : List ℕ → Option Command
+leader_of word =
+    if bytes_eq word (codes "all") then Some (Lead None) else option_map (λ core. Lead (Some core)) (core_of word)
+
+abbrev pub lead_of : List (List ℕ) → Option Command
+lead_of arguments = option_and_then leader_of (only arguments)
+
+-- the commands that say where the place is, or move it, `order` and `lead`
+abbrev pub place_named : (name : List ℕ) → (arguments : List (List ℕ)) → Option Command
+place_named name arguments =
+    if bytes_eq name (codes "cut") then cut_of arguments else
+    if bytes_eq name (codes "earliest") then option_map Earliest (one_core arguments) else
+    if bytes_eq name (codes "latest") then option_map Latest (one_core arguments) else
+    if bytes_eq name (codes "order") then order_of arguments else
+    if bytes_eq name (codes "lead") then lead_of arguments else None
+
+-- the commands that ask for a word or an instruction of the run
+abbrev pub run_named : (name : List ℕ) → (arguments : List (List ℕ)) → Option Command
+run_named name arguments =
+    if bytes_eq name (codes "edges") then option_map Edges (one_instr arguments) else
+    if bytes_eq name (codes "writer") then option_map Writer (one_word arguments) else
+    if bytes_eq name (codes "readers") then option_map Readers (one_word arguments) else
+    if bytes_eq name (codes "history") then option_map History (one_word arguments) else
+    if bytes_eq name (codes "conflicts") then option_map Conflicts (one_instr arguments) else None
+
+-- a command by its name
+abbrev pub named : (name : List ℕ) → (arguments : List (List ℕ)) → Option Command
+named name arguments = option_or (place_named name arguments) (run_named name arguments)
+
+-- the words of a command
+abbrev pub meaning : List (List ℕ) → Option Command
+meaning [] = None
+meaning (name ∷ arguments) = if bytes_eq name (codes "goto") then goto_of arguments else named name arguments
+
+-- what a text means
+abbrev pub command_of : List ℕ → Command
+command_of text = unwrap_or (meaning (words_of text)) Unknown

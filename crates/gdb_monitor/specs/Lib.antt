@@ -1,0 +1,12 @@
+pub mod Numbers
+pub mod Words
+pub mod Commands
+pub mod Texts
+pub mod Leading
+pub mod Payloads
+pub mod Moves
+pub mod Ordering
+pub mod Pcs
+pub mod Instrs
+pub mod Asking
+pub mod Obeying

@@ -1,0 +1,88 @@
+-- What a command does to a place, and what it tells.
+use Rattle.std.specs.Prelude.{◌≡◌, ℕ, ◌<◌, ◌≤◌, List, length, map, slice_index}
+use Rattle.std.specs.List.{range_with_len}
+use Rattle.rtr_types.specs.declared.TheConstants.{CORES_MAX}
+use Rattle.rtr_types.specs.declared.cut.Cut.{Cut}
+use Rattle.rtr_types.specs.declared.instr.Instr.{Instr}
+use Rattle.log_codec.specs.declared.recording.Recording.{Recording}
+use Rattle.replay_audit.specs.Audits.{Findings, IsInstrOf}
+use Rattle.cut_replay.specs.ClosedCuts.{IsClosed, IsGreatestWithout, IsLeastWith}
+use Rattle.cut_moves.specs.Steps.{IsHull, last_in, next_in}
+use Rattle.debug_place.specs.Places.{Placed, cut_at}
+use Rattle.gdb_monitor.specs.Texts.{here_text, open_text, usage_text}
+
+-- the place is one of this audited recording
+pub record IsOf (a : Findings) (place : Placed) : Type 0 where
+  pub recording : a.recording ≡ place.recording
+  pub which : a.which ≡ place.which
+
+-- the two are places of one recording, by one log
+pub record IsKept (old new : Placed) : Type 0 where
+  pub recording : new.recording ≡ old.recording
+  pub which : new.which ≡ old.which
+
+-- ---- commands that move nothing
+
+-- nothing moves, and this is told
+pub record Tells (old new : Placed) (told text : List ℕ) : Type 0 where
+  pub place : new ≡ old
+  pub told_is : told ≡ text
+
+-- what is asked for isn't there: nothing moves, and the commands are told
+abbrev pub Refuses : (old new : Placed) → (told : List ℕ) → Type 0
+Refuses old new told = Tells old new told usage_text
+
+-- ---- commands that move
+
+-- the place comes to the least closed cut with an instruction, and it's told
+pub record GoesWith (at : Instr) (old new : Placed) (told : List ℕ) : Type 0 where
+  pub cut : IsLeastWith old.which old.recording at (cut_at new)
+  pub told_is : told ≡ here_text new
+
+-- to the greatest closed cut without one
+pub record GoesWithout (at : Instr) (old new : Placed) (told : List ℕ) : Type 0 where
+  pub cut : IsGreatestWithout old.which old.recording at (cut_at new)
+  pub told_is : told ≡ here_text new
+
+-- `goto C:N`
+pub record GoesTo (at : Instr) (old new : Placed) (told : List ℕ) : Type 0 where
+  pub there : IsInstrOf old.recording at → GoesWith at old new told
+  pub missing : (IsInstrOf old.recording at → ⊥) → Refuses old new told
+
+-- `earliest C`: the core's last instruction is kept, and only what it needs
+pub record GoesEarliest (core : ℕ) (old new : Placed) (told : List ℕ) : Type 0 where
+  pub there : core < old.recording.params.cores → GoesWith (last_in (cut_at old) core) old new told
+  pub missing : old.recording.params.cores ≤ core → Refuses old new told
+
+-- `latest C`: all comes that doesn't need the core's next instruction
+pub record GoesLatest (core : ℕ) (old new : Placed) (told : List ℕ) : Type 0 where
+  pub there : core < old.recording.params.cores → GoesWithout (next_in (cut_at old) core) old new told
+  pub missing : old.recording.params.cores ≤ core → Refuses old new told
+
+-- one count for each core, at most its total
+pub record AreCounts (r : Recording) (counts : List ℕ) : Type 0 where
+  pub all : length counts ≡ r.params.cores
+  pub most : (core : ℕ) → core < r.params.cores → slice_index counts core ≤ slice_index r.totals core
+
+-- the cut with these counts
+abbrev pub cut_with_counts : (cores : ℕ) → List ℕ → Cut
+cut_with_counts cores counts =
+    record { cores = cores; counts = map (λ core. slice_index counts core) (range_with_len 0 CORES_MAX) }
+
+-- the place comes to a cut, and it's told
+pub record Comes (to : Cut) (new : Placed) (told : List ℕ) : Type 0 where
+  pub cut : cut_at new ≡ to
+  pub told_is : told ≡ here_text new
+
+-- to a cut that is closed; where it isn't, the least closed cut that contains it is told, and nothing moves
+pub record GoesIfClosed (to : Cut) (old new : Placed) (told : List ℕ) : Type 0 where
+  pub hull : Cut
+  pub is_hull : IsHull old.which old.recording to hull
+  pub closed : IsClosed old.which old.recording to → Comes to new told
+  pub not_closed : (IsClosed old.which old.recording to → ⊥) → Tells old new told (open_text hull)
+
+-- `goto N N ..`
+pub record GoesToCut (counts : List ℕ) (old new : Placed) (told : List ℕ) : Type 0 where
+  pub there : AreCounts old.recording counts →
+      GoesIfClosed (cut_with_counts old.recording.params.cores counts) old new told
+  pub missing : (AreCounts old.recording counts → ⊥) → Refuses old new told

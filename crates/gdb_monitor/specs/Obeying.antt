@@ -1,0 +1,45 @@
+-- What each command does, and what it tells.
+use Rattle.std.specs.Prelude.{◌≡◌, ℕ, List}
+use Rattle.rtr_types.specs.declared.cut.Cut as cuts
+use Rattle.replay_audit.specs.Audits.{Findings, PassesOf}
+use Rattle.debug_place.specs.Places.{Placed, cut_at}
+use Rattle.gdb_monitor.specs.declared.commands.Command.{Command}
+use Rattle.gdb_monitor.specs.declared.commands.Command.TheVariants.{Cut, GoTo, GoToCut, Earliest, Latest, Edges}
+use Rattle.gdb_monitor.specs.declared.commands.Command.TheVariants.{Writer, Readers, History, Conflicts, Order, Lead, Unknown}
+use Rattle.gdb_monitor.specs.Asking.{AreConflictsTold, AreEdgesTold, AreReadersTold, IsHistoryTold, IsWriterTold}
+use Rattle.gdb_monitor.specs.Leading.{lead_told}
+use Rattle.gdb_monitor.specs.Moves.{GoesEarliest, GoesLatest, GoesTo, GoesToCut, IsOf, Refuses, Tells}
+use Rattle.gdb_monitor.specs.Ordering.{IsOrderTold}
+use Rattle.gdb_monitor.specs.Texts.{here_text, usage_text}
+
+-- what a command that asks for a word or an instruction is told, by the audit, at a cut
+abbrev pub AuditTells : Command → Findings → cuts.Cut → (told : List ℕ) → Type 0
+AuditTells (Edges at) a cut told = AreEdgesTold a cut at told
+AuditTells (Writer word) a cut told = IsWriterTold a cut word told
+AuditTells (Readers word) a cut told = AreReadersTold a cut word told
+AuditTells (History word) a cut told = IsHistoryTold a cut word told
+AuditTells (Conflicts at) a cut told = AreConflictsTold a at told
+AuditTells _ a cut told = told ≡ usage_text
+
+-- by the audit of the place's recording, at its cut, and nothing moves
+pub record Asks (command : Command) (old new : Placed) (told : List ℕ) : Type 0 where
+  pub place : new ≡ old
+  pub audit : Findings
+  pub run : IsOf audit old
+  pub passed : PassesOf audit
+  pub tells : AuditTells command audit (cut_at old) told
+
+abbrev pub Obeys : Command → (old new : Placed) → (told : List ℕ) → Type 0
+Obeys Cut old new told = Tells old new told (here_text old)
+Obeys (GoTo at) old new told = GoesTo at old new told
+Obeys (GoToCut counts) old new told = GoesToCut counts old new told
+Obeys (Earliest core) old new told = GoesEarliest core old new told
+Obeys (Latest core) old new told = GoesLatest core old new told
+Obeys (Edges at) old new told = Asks (Edges at) old new told
+Obeys (Writer word) old new told = Asks (Writer word) old new told
+Obeys (Readers word) old new told = Asks (Readers word) old new told
+Obeys (History word) old new told = Asks (History word) old new told
+Obeys (Conflicts at) old new told = Asks (Conflicts at) old new told
+Obeys (Order at other) old new told = (new ≡ old) × IsOrderTold at other old told
+Obeys (Lead core) old new told = Tells old new told (lead_told core old.recording.params.cores)
+Obeys Unknown old new told = Refuses old new told

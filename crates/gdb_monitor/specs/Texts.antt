@@ -1,0 +1,32 @@
+-- What is told of a place.
+use Rattle.std.specs.Prelude.{ℕ, List, [], ◌∷◌, ◌++◌, take, codes, decimal}
+use Rattle.std.specs.List.{flat_map}
+use Rattle.rtr_types.specs.declared.cut.Cut.{Cut}
+use Rattle.debug_place.specs.Places.{Placed, cut_at}
+use Rattle.gdb_monitor.specs.declared.texts.TheConstants.{USAGE}
+
+-- the commands that there are: a text of the code
+abbrev pub usage_text : List ℕ
+usage_text = USAGE.now
+
+-- a line: its text and one line feed
+abbrev pub line : List ℕ → List ℕ
+line text = text ++ 10 ∷ []
+
+-- how many instructions of each core a cut has
+abbrev pub count_text : ℕ → List ℕ
+count_text n = codes " " ++ decimal n
+
+abbrev pub counts_text : Cut → List ℕ
+counts_text cut = flat_map count_text (take cut.cores cut.counts)
+
+abbrev pub cut_text : Cut → List ℕ
+cut_text cut = line (codes "cut" ++ counts_text cut)
+
+-- where the place is
+abbrev pub here_text : Placed → List ℕ
+here_text place = cut_text (cut_at place)
+
+-- the cut that was asked for isn't closed; this one is the least that is, and contains it
+abbrev pub open_text : Cut → List ℕ
+open_text hull = line (codes "rtr_gdb: not closed; the least closed cut that contains it is" ++ counts_text hull)

@@ -1,0 +1,163 @@
+//! What is told of a word.
+ghost use Rattle.std.specs.Prelude.{◌≡◌, ◌++◌, IfOk, OnOk, string_bytes};
+ghost use Rattle.std.specs.List.{flat_map};
+ghost use Rattle.roomy_lists.specs.Lists.{items_in};
+ghost use Rattle.gdb_monitor.specs.Asking.{AreReadersTold};
+ghost use Rattle.gdb_monitor.specs.Asking.{AreRowsTold, IsHistory, IsHistoryTold, IsRowTold, IsWriterTold};
+ghost use Rattle.gdb_monitor.specs.Asking.{history_row, rows_text};
+ghost use Rattle.gdb_monitor.specs.Instrs.{row_text};
+ghost use Rattle.gdb_monitor.specs.Texts.{line};
+
+use crate::instrs::put_row;
+use crate::pcs::pcs_of;
+use crate::texts::{bytes_of, line};
+use race_queries::{history, holds, last_write, reads_since};
+use replay_audit::Audited;
+use roomy_lists::RoomyLists;
+use rtr_types::{Access, Cut, Items};
+use std::alloc::{AllocError, Global};
+
+/// The last write of a word in the cut.
+pub(crate) fn writer_told(
+    alloc: Global,
+    audited: &Audited,
+    cut: &Cut,
+    word: u32,
+) -> Result<Items<u8>, AllocError>
+    ensures { IfOk result (IsWriterTold audited.now cut.now word) }
+{
+    match last_write(audited, cut, word) {
+        Some(access) => row_told(alloc, audited, access),
+        None => line(alloc, "no write: the opening value"),
+    }
+}
+
+/// One access.
+fn row_told(alloc: Global, audited: &Audited, access: Access) -> Result<Items<u8>, AllocError>
+    ensures { IfOk result (IsRowTold audited.now access) }
+{
+    let pcs = pcs_of(alloc, audited)?;
+    let mut text = String::new(alloc);
+    put_line(alloc, &mut text, &pcs, access)?;
+    Ok(bytes_of(text))
+}
+
+/// Puts an access in a line.
+pub(crate) fn put_line(
+    alloc: Global,
+    text: &mut String,
+    pcs: &RoomyLists<u32>,
+    access: Access,
+) -> Result<(), AllocError>
+    ensures { OnOk result (string_bytes text.new
+        ≡ string_bytes text.old ++ line (row_text (items_in pcs.now) access)) }
+{
+    put_row(alloc, text, pcs, access)?;
+    writeln!(text)
+}
+
+/// The loads of a word in the cut since its last write in the cut.
+pub(crate) fn readers_told(
+    alloc: Global,
+    audited: &Audited,
+    cut: &Cut,
+    word: u32,
+) -> Result<Items<u8>, AllocError>
+    ensures { IfOk result (AreReadersTold audited.now cut.now word) }
+{
+    let list = reads_since(alloc, audited, cut, word)?;
+    if list.len() == 0 {
+        line(alloc, "no read since the last write")
+    } else {
+        rows_told(alloc, audited, list.as_slice())
+    }
+}
+
+/// Several accesses.
+fn rows_told(alloc: Global, audited: &Audited, list: &[Access]) -> Result<Items<u8>, AllocError>
+    ensures { IfOk result (AreRowsTold audited.now list.now) }
+{
+    let pcs = pcs_of(alloc, audited)?;
+    let mut text = String::new(alloc);
+    put_rows(alloc, &mut text, &pcs, list)?;
+    Ok(bytes_of(text))
+}
+
+/// Puts accesses, each in a line.
+fn put_rows(
+    alloc: Global,
+    text: &mut String,
+    pcs: &RoomyLists<u32>,
+    list: &[Access],
+) -> Result<(), AllocError>
+    ensures { OnOk result (string_bytes text.new ≡ string_bytes text.old ++ rows_text (items_in pcs.now) list.now) }
+{
+    for access in list {
+        put_line(alloc, text, pcs, *access)?;
+    }
+    Ok(())
+}
+
+/// All accesses to a word.
+pub(crate) fn history_told(
+    alloc: Global,
+    audited: &Audited,
+    cut: &Cut,
+    word: u32,
+) -> Result<Items<u8>, AllocError>
+    ensures { IfOk result (IsHistoryTold audited.now cut.now word) }
+{
+    let list = history(alloc, audited, word)?;
+    if list.len() == 0 {
+        line(alloc, "no access")
+    } else {
+        marked_told(alloc, audited, cut, list.as_slice())
+    }
+}
+
+/// Several accesses, those marked that aren't in the cut.
+fn marked_told(
+    alloc: Global,
+    audited: &Audited,
+    cut: &Cut,
+    list: &[Access],
+) -> Result<Items<u8>, AllocError>
+    ensures { IfOk result (IsHistory audited.now cut.now list.now) }
+{
+    let pcs = pcs_of(alloc, audited)?;
+    let mut text = String::new(alloc);
+    put_marked(alloc, &mut text, &pcs, cut, list)?;
+    Ok(bytes_of(text))
+}
+
+/// Puts accesses, each in a line, those marked that aren't in the cut.
+fn put_marked(
+    alloc: Global,
+    text: &mut String,
+    pcs: &RoomyLists<u32>,
+    cut: &Cut,
+    list: &[Access],
+) -> Result<(), AllocError>
+    ensures { OnOk result (string_bytes text.new
+        ≡ string_bytes text.old ++ flat_map (history_row cut.now (items_in pcs.now)) list.now) }
+{
+    for access in list {
+        put_marked_row(alloc, text, pcs, cut, *access)?;
+    }
+    Ok(())
+}
+
+/// Puts an access in a line, marked where it isn't in the cut.
+fn put_marked_row(
+    alloc: Global,
+    text: &mut String,
+    pcs: &RoomyLists<u32>,
+    cut: &Cut,
+    access: Access,
+) -> Result<(), AllocError>
+    ensures { OnOk result (string_bytes text.new
+        ≡ string_bytes text.old ++ history_row cut.now (items_in pcs.now) access) }
+{
+    text.push_str(if holds(cut, access.at) { "  " } else { "+ " })?;
+    put_line(alloc, text, pcs, access)
+}

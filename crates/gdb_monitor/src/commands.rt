@@ -1,0 +1,207 @@
+//! What a command's text means.
+ghost use Rattle.std.specs.Prelude.{◌≡◌, IfOk};
+ghost use Rattle.std.specs.Option.{option_map};
+ghost use Rattle.gdb_monitor.specs.Commands.{command_of, counts_of, cut_of, goto_of, meaning, named, one_core, only};
+ghost use Rattle.gdb_monitor.specs.Commands.{lead_of, leader_of, one_instr, one_word, order_of, place_named};
+ghost use Rattle.gdb_monitor.specs.Commands.{run_named};
+
+use crate::numbers::{core_of, count_of, named_instr, word_of};
+use crate::words::words_of;
+use gdb_packets::is;
+use rtr_types::{Instr, Items};
+use std::alloc::{AllocError, Global};
+
+/// A command of a debugger's user.
+#[derive(Drop)]
+pub enum Command {
+    /// `cut`: where the place is.
+    Cut,
+    /// `goto C:N`: to the least closed cut with this instruction.
+    GoTo(Instr),
+    /// `goto N N ..`: to the cut with these counts, a count for each core.
+    GoToCut(Items<u32>),
+    /// `earliest C`: this core stays, and the others go back as far as the log lets them.
+    Earliest(u8),
+    /// `latest C`: this core stays, and the others go on as far as the log lets them.
+    Latest(u8),
+    /// `edges C:N`: the edges of the log into this instruction, and out of it.
+    Edges(Instr),
+    /// `writer ADDR`: the last write of this word, by its index, so far.
+    Writer(u32),
+    /// `readers ADDR`: the loads of this word since then.
+    Readers(u32),
+    /// `history ADDR`: all accesses to this word.
+    History(u32),
+    /// `conflicts C:N`: the accesses around this instruction's with which it conflicts.
+    Conflicts(Instr),
+    /// `order C:N C:N`: which of the two instructions comes before the other.
+    Order(Instr, Instr),
+    /// `lead C` and `lead all`: all cores go on, and back, by this core alone, or each goes.
+    Lead(Option<u8>),
+    /// Every other text.
+    Unknown,
+}
+
+/// What a text means: words between spaces, the command's name first. It is refused for want of memory alone.
+pub fn command_of(alloc: Global, text: &[u8]) -> Result<Command, AllocError>
+    ensures { IfOk result (λ command. command ≡ command_of text.now) }
+{
+    let words = words_of(alloc, text)?;
+    Ok(meaning(alloc, words.as_slice())?.unwrap_or(Command::Unknown))
+}
+
+/// What words mean, if they mean a command.
+fn meaning(alloc: Global, words: &[Items<u8>]) -> Result<Option<Command>, AllocError>
+    ensures { IfOk result (λ command. command ≡ meaning words.now) }
+{
+    match words.split_first() {
+        Some((name, arguments)) if is(name.as_slice(), "goto") => goto_of(alloc, arguments),
+        Some((name, arguments)) => Ok(named(name.as_slice(), arguments)),
+        None => Ok(None),
+    }
+}
+
+/// A command by its name, if it has one that takes no list.
+fn named(name: &[u8], arguments: &[Items<u8>]) -> Option<Command>
+    ensures { result ≡ named name.now arguments.now }
+{
+    match place_named(name, arguments) {
+        Some(command) => Some(command),
+        None => run_named(name, arguments),
+    }
+}
+
+/// The commands that say where the place is, or move it, `order` and `lead`.
+fn place_named(name: &[u8], arguments: &[Items<u8>]) -> Option<Command>
+    ensures { result ≡ place_named name.now arguments.now }
+{
+    if is(name, "cut") {
+        cut_of(arguments)
+    } else if is(name, "earliest") {
+        one_core(arguments).map(Command::Earliest)
+    } else if is(name, "latest") {
+        one_core(arguments).map(Command::Latest)
+    } else if is(name, "order") {
+        order_of(arguments)
+    } else if is(name, "lead") {
+        lead_of(arguments)
+    } else {
+        None
+    }
+}
+
+/// The commands that ask for a word or an instruction of the run.
+fn run_named(name: &[u8], arguments: &[Items<u8>]) -> Option<Command>
+    ensures { result ≡ run_named name.now arguments.now }
+{
+    if is(name, "edges") {
+        one_instr(arguments).map(Command::Edges)
+    } else if is(name, "writer") {
+        one_word(arguments).map(Command::Writer)
+    } else if is(name, "readers") {
+        one_word(arguments).map(Command::Readers)
+    } else if is(name, "history") {
+        one_word(arguments).map(Command::History)
+    } else if is(name, "conflicts") {
+        one_instr(arguments).map(Command::Conflicts)
+    } else {
+        None
+    }
+}
+
+/// `cut`, which has no argument.
+fn cut_of(arguments: &[Items<u8>]) -> Option<Command>
+    ensures { result ≡ cut_of arguments.now }
+{
+    match arguments {
+        [] => Some(Command::Cut),
+        _ => None,
+    }
+}
+
+/// `goto` with an instruction, or with counts.
+fn goto_of(alloc: Global, arguments: &[Items<u8>]) -> Result<Option<Command>, AllocError>
+    ensures { IfOk result (λ command. command ≡ goto_of arguments.now) }
+{
+    match one_instr(arguments) {
+        Some(at) => Ok(Some(Command::GoTo(at))),
+        None => Ok(counts_of(alloc, arguments)?.map(Command::GoToCut)),
+    }
+}
+
+/// `order` with two instructions.
+fn order_of(arguments: &[Items<u8>]) -> Option<Command>
+    ensures { result ≡ order_of arguments.now }
+{
+    match arguments {
+        [at, other] => {
+            let at = named_instr(at.as_slice())?;
+            let other = named_instr(other.as_slice())?;
+            Some(Command::Order(at, other))
+        }
+        _ => None,
+    }
+}
+
+/// `lead` with a core, or with `all`.
+fn lead_of(arguments: &[Items<u8>]) -> Option<Command>
+    ensures { result ≡ lead_of arguments.now }
+{
+    leader_of(only(arguments)?)
+}
+
+/// The core that the word says is to lead, or none where it is `all`.
+fn leader_of(word: &[u8]) -> Option<Command>
+    ensures { result ≡ leader_of word.now }
+{
+    if is(word, "all") {
+        return Some(Command::Lead(None));
+    }
+    let core = core_of(word)?;
+    Some(Command::Lead(Some(core)))
+}
+
+/// The one argument, a core.
+fn one_core(arguments: &[Items<u8>]) -> Option<u8>
+    ensures { result ≡ one_core arguments.now }
+{
+    core_of(only(arguments)?)
+}
+
+/// The one argument, an instruction.
+fn one_instr(arguments: &[Items<u8>]) -> Option<Instr>
+    ensures { result ≡ one_instr arguments.now }
+{
+    named_instr(only(arguments)?)
+}
+
+/// The one argument, an address: the index of its word.
+fn one_word(arguments: &[Items<u8>]) -> Option<u32>
+    ensures { result ≡ one_word arguments.now }
+{
+    word_of(only(arguments)?)
+}
+
+/// The one argument.
+fn only(arguments: &[Items<u8>]) -> Option<&[u8]>
+    ensures { option_map (λ word. word.now) result ≡ only arguments.now }
+{
+    match arguments {
+        [word] => Some(word.as_slice()),
+        _ => None,
+    }
+}
+
+/// The arguments as counts, unless one is none.
+fn counts_of(alloc: Global, arguments: &[Items<u8>]) -> Result<Option<Items<u32>>, AllocError>
+    ensures { IfOk result (λ counts. counts ≡ counts_of arguments.now) }
+{
+    let mut counts = Items::new(alloc);
+    for word in arguments {
+        match count_of(word.as_slice()) {
+            Some(count) => counts.push(count)?,
+            None => return Ok(None),
+        }
+    }
+    Ok(Some(counts))
+}

@@ -1,0 +1,99 @@
+//! How an instruction is told.
+ghost use Rattle.std.specs.Prelude.{◌≡◌, ◌++◌, OnOk, string_bytes};
+ghost use Rattle.roomy_lists.specs.Lists.{items_in};
+ghost use Rattle.gdb_monitor.specs.Instrs.{access_text, hex_word, instr_text, kind_text, left_text};
+ghost use Rattle.gdb_monitor.specs.Instrs.{place_text, row_text};
+
+use crate::pcs::pc_in;
+use race_queries::access_at;
+use roomy_lists::RoomyLists;
+use rtr_types::{Access, Instr, Kind};
+use std::alloc::{AllocError, Global};
+
+/// Puts a word as eight digits.
+fn put_word(alloc: Global, text: &mut String, word: u32) -> Result<(), AllocError>
+    ensures { OnOk result (string_bytes text.new ≡ string_bytes text.old ++ hex_word word) }
+{
+    let digits = hex::encode(alloc, &word.to_be_bytes())?;
+    text.push_str(&digits)
+}
+
+/// The word for what an access does, between spaces.
+fn kind_text(kind: Kind) -> &'static str
+    ensures { result.now ≡ kind_text kind }
+{
+    match kind {
+        Kind::Load => " load ",
+        Kind::Store => " store ",
+        Kind::Amo => " amo ",
+    }
+}
+
+/// Puts what an access left, where it may have changed its word.
+fn put_left(alloc: Global, text: &mut String, access: Access) -> Result<(), AllocError>
+    ensures { OnOk result (string_bytes text.new ≡ string_bytes text.old ++ left_text access) }
+{
+    if access.kind.is_write() {
+        text.push_str(" -> ")?;
+        put_word(alloc, text, access.after)?;
+    }
+    Ok(())
+}
+
+/// Puts an access: what it does, its word's address, what it found and what it left.
+fn put_access(alloc: Global, text: &mut String, access: Access) -> Result<(), AllocError>
+    ensures { OnOk result (string_bytes text.new ≡ string_bytes text.old ++ access_text access) }
+{
+    text.push_str(kind_text(access.kind))?;
+    put_word(alloc, text, access.word.wrapping_mul(4))?;
+    text.push_str(" ")?;
+    put_word(alloc, text, access.before)?;
+    put_left(alloc, text, access)
+}
+
+/// Puts an instruction, and its pc.
+fn put_place(
+    alloc: Global,
+    text: &mut String,
+    pcs: &RoomyLists<u32>,
+    at: Instr,
+) -> Result<(), AllocError>
+    ensures { OnOk result (string_bytes text.new ≡ string_bytes text.old ++ place_text (items_in pcs.now) at) }
+{
+    let core = at.core;
+    let count = at.count;
+    write!(text, "{core}:{count} pc ")?;
+    put_word(alloc, text, pc_in(pcs, at))
+}
+
+/// Puts an access, with its instruction.
+pub(crate) fn put_row(
+    alloc: Global,
+    text: &mut String,
+    pcs: &RoomyLists<u32>,
+    access: Access,
+) -> Result<(), AllocError>
+    ensures { OnOk result (string_bytes text.new ≡ string_bytes text.old ++ row_text (items_in pcs.now) access) }
+{
+    put_place(alloc, text, pcs, access.at)?;
+    put_access(alloc, text, access)
+}
+
+/// Puts an instruction, with its access if it has one.
+#[tactic(auto, unfolding(crate::specs::Instrs::instr_text))]
+pub(crate) fn put_instr(
+    alloc: Global,
+    text: &mut String,
+    pcs: &RoomyLists<u32>,
+    accesses: &[Access],
+    at: Instr,
+) -> Result<(), AllocError>
+    ensures { OnOk result (string_bytes text.new
+        ≡ string_bytes text.old ++ instr_text (items_in pcs.now) accesses.now at) }
+{
+    put_place(alloc, text, pcs, at)?;
+    match access_at(accesses, at) {
+        Some(access) => put_access(alloc, text, access),
+        None => Ok(()),
+    }
+}

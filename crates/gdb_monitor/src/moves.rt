@@ -1,0 +1,156 @@
+//! Moves that a command asks for.
+ghost use Rattle.std.specs.Prelude.{◌≡◌, ◌↔◌, IfOk, IsTrue, OnErr};
+ghost use Rattle.log_codec.specs.Validity.{Valid};
+ghost use Rattle.cut_replay.specs.ClosedCuts.{IsClosed, IsCutOf};
+ghost use Rattle.debug_place.specs.Places.{cut_at};
+ghost use Rattle.gdb_monitor.specs.Moves.{AreCounts, Comes, GoesEarliest, GoesIfClosed, GoesLatest, GoesTo, GoesToCut};
+ghost use Rattle.gdb_monitor.specs.Moves.{IsKept, IsOf, cut_with_counts};
+
+use crate::texts::{cut_text, open_text, usage};
+use cut_moves::{earliest, hull, latest};
+use cut_replay::{cut_with, has_instr};
+use debug_place::Place;
+use log_codec::Recording;
+use replay_audit::Audited;
+use rtr_types::{CORES_MAX, Cut, Instr, Items};
+use std::alloc::{AllocError, Global};
+
+/// A place for each core, as the length of an array.
+const PLACES: usize = CORES_MAX as usize;
+
+/// To a closed cut, which is told. A refusal, which comes for want of memory alone, leaves the place as it was.
+fn go(alloc: Global, place: &mut Place, to: &Cut) -> Result<Items<u8>, AllocError>
+    requires { IsClosed place.old.which place.old.recording to.now }
+    ensures kept { IsKept place.old place.new }
+    ensures ok { IfOk result (Comes to.now place.new) }
+    ensures err { OnErr result (place.new ≡ place.old) }
+{
+    let told = cut_text(alloc, to)?;
+    place.seek(alloc, to)?;
+    Ok(told)
+}
+
+/// To the least closed cut with an instruction.
+pub(crate) fn go_to(
+    alloc: Global,
+    audited: &Audited,
+    place: &mut Place,
+    at: Instr,
+) -> Result<Items<u8>, AllocError>
+    requires { IsOf audited.now place.old }
+    ensures kept { IsKept place.old place.new }
+    ensures ok { IfOk result (GoesTo at place.old place.new) }
+    ensures err { OnErr result (place.new ≡ place.old) }
+{
+    if !has_instr(audited.recording(), at) {
+        return usage(alloc);
+    }
+    let to = cut_with(audited, at)?;
+    go(alloc, place, &to)
+}
+
+/// The core stays, and the others go back as far as the log lets them.
+pub(crate) fn go_earliest(
+    alloc: Global,
+    audited: &Audited,
+    place: &mut Place,
+    core: u8,
+) -> Result<Items<u8>, AllocError>
+    requires { IsOf audited.now place.old }
+    ensures kept { IsKept place.old place.new }
+    ensures ok { IfOk result (GoesEarliest core place.old place.new) }
+    ensures err { OnErr result (place.new ≡ place.old) }
+{
+    if core >= place.cores() {
+        return usage(alloc);
+    }
+    let to = earliest(audited, &place.cut(), core)?;
+    go(alloc, place, &to)
+}
+
+/// The core stays, and the others go on as far as the log lets them.
+pub(crate) fn go_latest(
+    alloc: Global,
+    audited: &Audited,
+    place: &mut Place,
+    core: u8,
+) -> Result<Items<u8>, AllocError>
+    requires { IsOf audited.now place.old }
+    ensures kept { IsKept place.old place.new }
+    ensures ok { IfOk result (GoesLatest core place.old place.new) }
+    ensures err { OnErr result (place.new ≡ place.old) }
+{
+    if core >= place.cores() {
+        return usage(alloc);
+    }
+    let to = latest(audited, &place.cut(), core)?;
+    go(alloc, place, &to)
+}
+
+/// To the cut with these counts, if it's closed.
+pub(crate) fn go_to_cut(
+    alloc: Global,
+    audited: &Audited,
+    place: &mut Place,
+    counts: &[u32],
+) -> Result<Items<u8>, AllocError>
+    requires { IsOf audited.now place.old }
+    ensures kept { IsKept place.old place.new }
+    ensures ok { IfOk result (GoesToCut counts.now place.old place.new) }
+    ensures err { OnErr result (place.new ≡ place.old) }
+{
+    if !are_counts(audited.recording(), counts) {
+        return usage(alloc);
+    }
+    let to = cut_with_counts(place.cores(), counts);
+    go_if_closed(alloc, audited, place, &to)
+}
+
+/// To a cut, if it's closed. Where it isn't, the least closed cut that contains it is told.
+fn go_if_closed(
+    alloc: Global,
+    audited: &Audited,
+    place: &mut Place,
+    to: &Cut,
+) -> Result<Items<u8>, AllocError>
+    requires run { IsOf audited.now place.old }
+    requires cut { IsCutOf place.old.recording to.now }
+    ensures kept { IsKept place.old place.new }
+    ensures ok { IfOk result (GoesIfClosed to.now place.old place.new) }
+    ensures err { OnErr result (place.new ≡ place.old) }
+{
+    let hull = hull(audited, to)?;
+    if hull == *to {
+        go(alloc, place, to)
+    } else {
+        open_text(alloc, &hull)
+    }
+}
+
+/// Whether there is one count for each core, at most its total.
+fn are_counts(recording: &Recording, counts: &[u32]) -> bool
+    requires { Valid recording.now }
+    ensures { IsTrue result ↔ AreCounts recording.now counts.now }
+{
+    if counts.len() != recording.params.cores as usize {
+        return false;
+    }
+    let totals = recording.totals.as_slice();
+    for core in 0..counts.len() {
+        if counts[core] > totals[core] {
+            return false;
+        }
+    }
+    true
+}
+
+/// The cut with these counts, a count for each core.
+fn cut_with_counts(cores: u8, given: &[u32]) -> Cut
+    ensures { result ≡ cut_with_counts cores given.now }
+{
+    let mut counts = [0; PLACES];
+    for core in 0..PLACES {
+        counts[core] = given.get(core).copied().unwrap_or(0);
+    }
+    Cut { cores, counts }
+}

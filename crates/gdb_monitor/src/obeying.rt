@@ -1,0 +1,82 @@
+//! What each command does.
+ghost use Rattle.std.specs.Prelude.{◌≡◌, IfOk, OnErr};
+ghost use Rattle.gdb_monitor.specs.Moves.{IsKept, IsOf};
+ghost use Rattle.gdb_monitor.specs.Obeying.{Asks, AuditTells, Obeys};
+
+use crate::asking::{history_told, readers_told, writer_told};
+use crate::commands::Command;
+use crate::conflicts::conflicts_told;
+use crate::edges::edges_told;
+use crate::leading::lead_told;
+use crate::moves::{go_earliest, go_latest, go_to, go_to_cut};
+use crate::ordering::order_told;
+use crate::texts::{cut_text, usage};
+use debug_place::Place;
+use replay_audit::Audited;
+use rtr_types::{Cut, Items};
+use std::alloc::{AllocError, Global};
+
+/// Does what a command asks for at a place of this audited recording, and answers what is told. An instruction, a core
+/// or a cut that isn't there has the answer of a command that isn't known, which names the commands that there are. A
+/// refusal, which comes for want of memory alone, leaves the place as it was.
+pub fn obey(
+    alloc: Global,
+    audited: &Audited,
+    place: &mut Place,
+    command: &Command,
+) -> Result<Items<u8>, AllocError>
+    requires { IsOf audited.now place.old }
+    ensures kept { IsKept place.old place.new }
+    ensures ok { IfOk result (Obeys command.now place.old place.new) }
+    ensures err { OnErr result (place.new ≡ place.old) }
+{
+    match command {
+        Command::Cut => cut_text(alloc, &place.cut()),
+        Command::GoTo(at) => go_to(alloc, audited, place, *at),
+        Command::GoToCut(counts) => go_to_cut(alloc, audited, place, counts.as_slice()),
+        Command::Earliest(core) => go_earliest(alloc, audited, place, *core),
+        Command::Latest(core) => go_latest(alloc, audited, place, *core),
+        Command::Edges(_) => ask(alloc, audited, place, command),
+        Command::Writer(_) => ask(alloc, audited, place, command),
+        Command::Readers(_) => ask(alloc, audited, place, command),
+        Command::History(_) => ask(alloc, audited, place, command),
+        Command::Conflicts(_) => ask(alloc, audited, place, command),
+        Command::Order(at, other) => order_told(alloc, audited, place, *at, *other),
+        Command::Lead(core) => lead_told(alloc, *core, place.cores()),
+        Command::Unknown => usage(alloc),
+    }
+}
+
+/// What a command that asks for a word or an instruction is told.
+fn ask(
+    alloc: Global,
+    audited: &Audited,
+    place: &Place,
+    command: &Command,
+) -> Result<Items<u8>, AllocError>
+    requires { IsOf audited.now place.now }
+    ensures { IfOk result (Asks command.now place.now place.now) }
+{
+    // The audit passed.
+    let _ = audited.outcome();
+    audit_tells(alloc, audited, &place.cut(), command)
+}
+
+/// The same, at a cut.
+fn audit_tells(
+    alloc: Global,
+    audited: &Audited,
+    cut: &Cut,
+    command: &Command,
+) -> Result<Items<u8>, AllocError>
+    ensures { IfOk result (AuditTells command.now audited.now cut.now) }
+{
+    match command {
+        Command::Edges(at) => edges_told(alloc, audited, cut, *at),
+        Command::Writer(word) => writer_told(alloc, audited, cut, *word),
+        Command::Readers(word) => readers_told(alloc, audited, cut, *word),
+        Command::History(word) => history_told(alloc, audited, cut, *word),
+        Command::Conflicts(at) => conflicts_told(alloc, audited, *at),
+        _ => usage(alloc),
+    }
+}

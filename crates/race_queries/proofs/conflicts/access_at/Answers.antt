@@ -1,0 +1,15 @@
+use Rattle.std.proofs.Common.{sym, ◌∙◌}
+use Rattle.race_queries.proofs.AccessLemmas.{accessed_here, accessed_nowhere, accessed_on}
+use Rattle.race_queries.proofs.conflicts.access_at.Goals as goal
+
+pub returns-then-eq : goal.returns-then-eq
+returns-then-eq c =
+    sym (c.loop-access.invariant
+    ∙ accessed_here _ _ _ _ c.loop-access-test.true (sym c.eq.ensures ∙ c.if-eq.true))
+
+pub loop-access-preserved : goal.loop-access-preserved
+loop-access-preserved c =
+    c.loop-access.invariant ∙ accessed_on _ _ _ _ c.loop-access-test.true (sym c.eq.ensures ∙ c.if-eq.false)
+
+pub returns : goal.returns
+returns c = sym (c.loop-access.invariant ∙ accessed_nowhere _ _ _ c.loop-access-test.false)

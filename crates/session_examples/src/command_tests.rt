@@ -1,0 +1,104 @@
+//! Commands of a debugger's user.
+use crate::command_rows::{PLACES, RUN, Told, UNKNOWN, USAGE};
+use crate::handed_over::handed_over;
+use crate::lock::lock;
+use crate::rows::{Row, plays};
+use gdb_monitor::payloads_of;
+use gdb_session::Session;
+use rtr_types::Items;
+use std::alloc::Global;
+use std::test::Fail;
+
+/// Whether the session tells this of a command.
+fn tells(alloc: Global, session: &mut Session, command: &str, told: &str) -> Result<bool, Fail> {
+    let digits = hex::encode(alloc, command)?;
+    let packet = format!(in alloc; "qRcmd,{digits}")?;
+    let answer = session.answer(alloc, packet.as_bytes())?;
+    let digits = hex::encode(alloc, told)?;
+    match answer.payloads.as_slice() {
+        [one] => Ok(one.as_slice() == digits.as_bytes()),
+        _ => Ok(false),
+    }
+}
+
+/// The first command of which something else is told.
+fn first_wrong(alloc: Global, session: &mut Session, rows: &[Told]) -> Result<&'static str, Fail> {
+    for row in rows {
+        if !tells(alloc, session, row.command, row.told)? {
+            return Ok(row.command);
+        }
+    }
+    Ok("none")
+}
+
+/// Goes on to the load of the counter.
+fn goes_on(alloc: Global, session: &mut Session) -> Result<bool, Fail> {
+    let set = Row {
+        packet: "Z0,98,4",
+        answer: "OK",
+    };
+    let stopped = Row {
+        packet: "vCont;c",
+        answer: "T05thread:3;swbreak:;",
+    };
+    Ok(plays(alloc, session, &set)? && plays(alloc, session, &stopped)?)
+}
+
+#[test]
+fn commands_go_and_tell_where(rt: HostRuntime) -> Result<(), Fail> {
+    let audited = lock(rt.alloc())?;
+    let mut session = Session::begin(rt.alloc(), &audited)?;
+    assert!(rt; goes_on(rt.alloc(), &mut session)?);
+    assert_eq!(rt; first_wrong(rt.alloc(), &mut session, &PLACES)?, "none");
+    Ok(())
+}
+
+#[test]
+fn commands_tell_what_a_run_did(rt: HostRuntime) -> Result<(), Fail> {
+    let audited = handed_over(rt.alloc())?;
+    let mut session = Session::begin(rt.alloc(), &audited)?;
+    assert_eq!(rt; first_wrong(rt.alloc(), &mut session, &RUN)?, "none");
+    Ok(())
+}
+
+/// How long the payloads of a text of so many bytes are.
+fn lengths(alloc: Global, count: usize) -> Result<Items<usize>, Fail> {
+    let mut text = Items::new(alloc);
+    for _ in 0..count {
+        text.push(b'a')?;
+    }
+    let mut lengths = Items::new(alloc);
+    for payload in payloads_of(alloc, text)?.as_slice() {
+        lengths.push(payload.len())?;
+    }
+    Ok(lengths)
+}
+
+// One frame, or frames with a letter before and one frame behind them.
+#[test]
+fn long_texts_are_cut(rt: HostRuntime) -> Result<(), Fail> {
+    assert_eq!(rt; lengths(rt.alloc(), 1000)?.as_slice(), [2000].as_slice());
+    assert_eq!(rt;
+        lengths(rt.alloc(), 1001)?.as_slice(),
+        [2001, 3, 2].as_slice()
+    );
+    assert_eq!(rt;
+        lengths(rt.alloc(), 2000)?.as_slice(),
+        [2001, 2001, 2].as_slice()
+    );
+    Ok(())
+}
+
+// What is refused leaves the place as it was.
+#[test]
+fn other_commands_are_refused(rt: HostRuntime) -> Result<(), Fail> {
+    let audited = lock(rt.alloc())?;
+    let mut session = Session::begin(rt.alloc(), &audited)?;
+    assert!(rt; goes_on(rt.alloc(), &mut session)?);
+    for command in &UNKNOWN {
+        let right = tells(rt.alloc(), &mut session, command, USAGE)?;
+        assert!(rt; right, "{command}");
+    }
+    assert!(rt; tells(rt.alloc(), &mut session, "cut", "cut 32 26 32 26\n")?);
+    Ok(())
+}
