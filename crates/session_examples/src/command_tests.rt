@@ -4,6 +4,7 @@ use crate::handed_over::handed_over;
 use crate::lock::lock;
 use crate::rows::{Row, plays};
 use gdb_monitor::payloads_of;
+use gdb_server::Partner;
 use gdb_session::Session;
 use rtr_types::Items;
 use std::alloc::Global;
