@@ -2,6 +2,7 @@ pub mod Numbers
 pub mod Words
 pub mod Commands
 pub mod Texts
+pub mod Leading
 pub mod Payloads
 pub mod Moves
 pub mod Ordering

@@ -2,7 +2,8 @@
 ghost use Rattle.std.specs.Prelude.{◌≡◌, IfOk};
 ghost use Rattle.std.specs.Option.{option_map};
 ghost use Rattle.gdb_monitor.specs.Commands.{command_of, counts_of, cut_of, goto_of, meaning, named, one_core, only};
-ghost use Rattle.gdb_monitor.specs.Commands.{one_instr, one_word, order_of, place_named, run_named};
+ghost use Rattle.gdb_monitor.specs.Commands.{lead_of, leader_of, one_instr, one_word, order_of, place_named};
+ghost use Rattle.gdb_monitor.specs.Commands.{run_named};
 
 use crate::numbers::{core_of, count_of, named_instr, word_of};
 use crate::words::words_of;
@@ -35,6 +36,8 @@ pub enum Command {
     Conflicts(Instr),
     /// `order C:N C:N`: which of the two instructions comes before the other.
     Order(Instr, Instr),
+    /// `lead C` and `lead all`: all cores go on, and back, by this core alone, or each goes.
+    Lead(Option<u8>),
     /// Every other text.
     Unknown,
 }
@@ -68,7 +71,7 @@ fn named(name: &[u8], arguments: &[Items<u8>]) -> Option<Command>
     }
 }
 
-/// The commands that say where the place is, or move it, and `order`.
+/// The commands that say where the place is, or move it, `order` and `lead`.
 fn place_named(name: &[u8], arguments: &[Items<u8>]) -> Option<Command>
     ensures { result ≡ place_named name.now arguments.now }
 {
@@ -80,6 +83,8 @@ fn place_named(name: &[u8], arguments: &[Items<u8>]) -> Option<Command>
         one_core(arguments).map(Command::Latest)
     } else if is(name, "order") {
         order_of(arguments)
+    } else if is(name, "lead") {
+        lead_of(arguments)
     } else {
         None
     }
@@ -136,6 +141,24 @@ fn order_of(arguments: &[Items<u8>]) -> Option<Command>
         }
         _ => None,
     }
+}
+
+/// `lead` with a core, or with `all`.
+fn lead_of(arguments: &[Items<u8>]) -> Option<Command>
+    ensures { result ≡ lead_of arguments.now }
+{
+    leader_of(only(arguments)?)
+}
+
+/// The core that the word says is to lead, or none where it is `all`.
+fn leader_of(word: &[u8]) -> Option<Command>
+    ensures { result ≡ leader_of word.now }
+{
+    if is(word, "all") {
+        return Some(Command::Lead(None));
+    }
+    let core = core_of(word)?;
+    Some(Command::Lead(Some(core)))
 }
 
 /// The one argument, a core.

@@ -9,6 +9,7 @@ mod conflicts;
 mod edges;
 mod instrs;
 pub mod laws;
+mod leading;
 mod moves;
 mod numbers;
 mod obeying;
@@ -19,6 +20,7 @@ mod texts;
 mod words;
 
 pub use commands::{Command, command_of};
+pub use leading::can_lead;
 pub use obeying::obey;
 pub use payloads::payloads_of;
 

@@ -7,6 +7,7 @@ use crate::asking::{history_told, readers_told, writer_told};
 use crate::commands::Command;
 use crate::conflicts::conflicts_told;
 use crate::edges::edges_told;
+use crate::leading::lead_told;
 use crate::moves::{go_earliest, go_latest, go_to, go_to_cut};
 use crate::ordering::order_told;
 use crate::texts::{cut_text, usage};
@@ -41,6 +42,7 @@ pub fn obey(
         Command::History(_) => ask(alloc, audited, place, command),
         Command::Conflicts(_) => ask(alloc, audited, place, command),
         Command::Order(at, other) => order_told(alloc, audited, place, *at, *other),
+        Command::Lead(core) => lead_told(alloc, *core, place.cores()),
         Command::Unknown => usage(alloc),
     }
 }

@@ -2,6 +2,7 @@
 use Rattle.std.specs.Prelude.{◌≡◌, List, [], ◌∷◌, Option, Some, None, ℕ}
 use Rattle.gdb_packets.specs.Asks.{ask_of}
 use Rattle.gdb_packets.specs.Replies.{spelled}
+use Rattle.gdb_monitor.specs.Commands.{command_of}
 use Rattle.gdb_packets.specs.declared.asks.Ask as asks
 use Rattle.gdb_packets.specs.declared.asks.Ask.TheVariants as whole_asks
 use Rattle.gdb_packets.specs.declared.asks.Plain.{Plain}
@@ -19,7 +20,7 @@ use Rattle.gdb_session.specs.Orders.{go_back_order, resume_order, step_back_orde
 use Rattle.gdb_session.specs.Points.{point_of, takes, with_point, without_point}
 use Rattle.gdb_session.specs.Seats.{Seat}
 use Rattle.gdb_session.specs.Told.{still_reply, there_reply}
-use Rattle.gdb_session.specs.Wishes.{told_wishes, wishes_after}
+use Rattle.gdb_session.specs.Wishes.{commanded_wishes, told_wishes, wishes_after}
 
 -- ---- packets that move nothing
 
@@ -68,7 +69,7 @@ MovesBy (Some order) old new payloads = Moves old order new payloads
 -- a command is obeyed, and what is told is answered; what the debugger has asked for stays
 pub record Commands (old : Seat) (text : List ℕ) (new : Seat) (payloads : List (List ℕ)) : Type 0 where
   pub done : IsCommanded text old.place new.place payloads
-  pub wishes : new.wishes ≡ old.wishes
+  pub wishes : new.wishes ≡ commanded_wishes old.wishes (command_of text) old.place.recording.params.cores
   pub points : new.points ≡ old.points
 
 -- ---- all packets

@@ -1,5 +1,5 @@
 -- What a session shows: where it stands in the run, what the debugger has asked for, and the points that are set.
-use Rattle.std.specs.Prelude.{◌≡◌, ℕ, true, false, List, [], Option, None, if◌then◌else◌}
+use Rattle.std.specs.Prelude.{◌≡◌, ℕ, true, false, List, [], None}
 use Rattle.image_mem.specs.Contents.{Contents}
 use Rattle.replay_core.specs.Plans.{recorded_image}
 use Rattle.replay_audit.specs.Audits.{Findings}
@@ -7,7 +7,7 @@ use Rattle.cut_replay.specs.ClosedCuts.{count_in}
 use Rattle.debug_place.specs.Places.{Placed, cut_at}
 use Rattle.gdb_session.specs.declared.points.Point.{Point}
 use Rattle.gdb_session.specs.declared.wishes.Wishes.{Wishes}
-use Rattle.gdb_session.specs.Wishes.{Fit, can_lead, led_by}
+use Rattle.gdb_session.specs.Wishes.{Fit}
 
 pub record Seat : Type 0 where
   pub place : Placed
@@ -48,8 +48,3 @@ pub record Begins (a : Findings) (seat : Seat) : Type 0 where
 -- an interrupt came
 abbrev pub interrupted : Seat → Seat
 interrupted seat = record seat { wishes = record seat.wishes { interrupted = true } }
-
--- a core leads from here on, if it's there; or none does
-abbrev pub led : Seat → (core : Option ℕ) → Seat
-led seat core =
-    if can_lead core seat.place.recording.params.cores then record seat { wishes = led_by seat.wishes core } else seat

@@ -4,6 +4,9 @@ use Rattle.gdb_packets.specs.declared.asks.Plain.{Plain}
 use Rattle.gdb_packets.specs.declared.asks.Plain.TheVariants as plain
 use Rattle.gdb_packets.specs.declared.asks.Thread.{Thread}
 use Rattle.gdb_packets.specs.declared.asks.Thread.TheVariants.{All, Any, Core}
+use Rattle.gdb_monitor.specs.Leading.{can_lead}
+use Rattle.gdb_monitor.specs.declared.commands.Command.{Command}
+use Rattle.gdb_monitor.specs.declared.commands.Command.TheVariants.{Lead}
 use Rattle.gdb_session.specs.declared.wishes.Wishes.{Wishes}
 
 -- the cores that wishes name are there
@@ -49,11 +52,11 @@ wishes_after wishes _ cores = wishes
 abbrev pub told_wishes : Wishes → (core : ℕ) → Wishes
 told_wishes wishes core = record wishes { looked = core; told = core; interrupted = false }
 
--- whether such a core can lead: each that is there, and none
-abbrev pub can_lead : Option ℕ → (cores : ℕ) → Bool
-can_lead None cores = true
-can_lead (Some core) cores = nat_lt core cores
-
 -- the core that leads from here on; without one none does
 abbrev pub led_by : Wishes → Option ℕ → Wishes
 led_by wishes core = record wishes { lead = core }
+
+-- the wishes behind a command of the debugger's user
+abbrev pub commanded_wishes : Wishes → Command → (cores : ℕ) → Wishes
+commanded_wishes wishes (Lead core) cores = if can_lead core cores then led_by wishes core else wishes
+commanded_wishes wishes _ cores = wishes

@@ -1,9 +1,12 @@
 //! Commands of the debugger's user.
-ghost use Rattle.std.specs.Prelude.{IfOk};
+ghost use Rattle.std.specs.Prelude.{◌≡◌, IfOk, OnOk};
+ghost use Rattle.gdb_monitor.specs.Commands.{command_of};
 ghost use Rattle.gdb_session.specs.Commanded.{IsCommanded};
 ghost use Rattle.gdb_session.specs.Moves.{IsKept};
 ghost use Rattle.gdb_session.specs.Seats.{IsOf};
+ghost use Rattle.gdb_session.specs.Wishes.{Fit, commanded_wishes};
 
+use crate::wishes::{Wishes, commanded_wishes};
 use debug_place::Place;
 use gdb_monitor::{command_of, obey, payloads_of};
 use replay_audit::Audited;
@@ -15,13 +18,21 @@ pub(crate) fn commanded(
     alloc: Global,
     audited: &Audited,
     place: &mut Place,
+    wishes: &mut Wishes,
     text: &[u8],
 ) -> Result<Items<Items<u8>>, AllocError>
-    requires { IsOf audited.now place.old }
+    requires run { IsOf audited.now place.old }
+    requires fit { Fit wishes.old place.old.recording.params.cores }
     ensures kept { IsKept place.old place.new }
+    ensures fit { Fit wishes.new place.old.recording.params.cores }
+    ensures wishes { OnOk result (wishes.new
+        ≡ commanded_wishes wishes.old (command_of text.now) place.old.recording.params.cores) }
     ensures done { IfOk result (IsCommanded text.now place.old place.new) }
 {
+    let cores = place.cores();
     let command = command_of(alloc, text)?;
     let told = obey(alloc, audited, place, &command)?;
-    payloads_of(alloc, told)
+    let payloads = payloads_of(alloc, told)?;
+    *wishes = commanded_wishes(*wishes, &command, cores);
+    Ok(payloads)
 }

@@ -7,9 +7,9 @@ ghost use Rattle.gdb_session.specs.Answers.{AnswersPacket, AnswersPlain, Answers
 ghost use Rattle.gdb_session.specs.Moves.{IsKept};
 ghost use Rattle.gdb_session.specs.Orders.{IsWithin};
 ghost use Rattle.gdb_session.specs.Points.{takes, with_point, without_point};
-ghost use Rattle.gdb_session.specs.Seats.{Begins, Sees, Sits, interrupted, led, seat_of};
+ghost use Rattle.gdb_session.specs.Seats.{Begins, Sees, Sits, interrupted, seat_of};
 ghost use Rattle.gdb_session.specs.Told.{still_reply, there_reply};
-ghost use Rattle.gdb_session.specs.Wishes.{Fit, can_lead, wishes_after};
+ghost use Rattle.gdb_session.specs.Wishes.{Fit, wishes_after};
 
 use crate::answer::{one, silent};
 use crate::commanded::commanded;
@@ -17,7 +17,7 @@ use crate::moves::obey;
 use crate::orders::{Order, go_back_order, resume_order, step_back_order};
 use crate::points::{Point, clear_point, point_of, set_point};
 use crate::told::{still_reply, there_reply};
-use crate::wishes::{Wishes, can_lead, led_by, told_wishes, wishes_after};
+use crate::wishes::{Wishes, told_wishes, wishes_after};
 use debug_place::Place;
 use gdb_packets::{Ask, Plain, Reply, ask_of};
 use gdb_server::{Answer, Next, Partner};
@@ -91,20 +91,6 @@ impl<'a> Session<'a> {
         ensures stands { Stands self.now.place }
     {
         self.place.cut()
-    }
-
-    /// From here on this core leads: where all cores go on, or back, it goes alone, and others as the log demands.
-    /// Without one all go. It answers whether the core is there; where it isn't nothing changes.
-    pub fn lead(&mut self, core: Option<u8>) -> bool
-        ensures there { result ≡ can_lead core self.old.place.recording.params.cores }
-        ensures led { self.new ≡ led self.old core }
-    {
-        let cores = self.place.cores();
-        if !can_lead(core, cores) {
-            return false;
-        }
-        self.wishes = led_by(self.wishes, core, cores);
-        true
     }
 }
 
@@ -187,7 +173,7 @@ fn answered(
             )
         }
         Ask::Plain(plain) => answered_plain(alloc, audited, image, place, wishes, points, *plain),
-        Ask::Command(text) => commanded(alloc, audited, place, text.as_slice()),
+        Ask::Command(text) => commanded(alloc, audited, place, wishes, text.as_slice()),
     }
 }
 

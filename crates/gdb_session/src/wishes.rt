@@ -1,8 +1,10 @@
 //! What the debugger has asked for that lasts.
 ghost use Rattle.std.specs.Prelude.{◌≡◌, ◌<◌, true, IfSome};
-ghost use Rattle.gdb_session.specs.Wishes.{Fit, can_lead, core_of, is_there, led_by, looks_at, moves_with};
+ghost use Rattle.gdb_monitor.specs.Leading.{can_lead};
+ghost use Rattle.gdb_session.specs.Wishes.{Fit, commanded_wishes, core_of, is_there, led_by, looks_at, moves_with};
 ghost use Rattle.gdb_session.specs.Wishes.{told_wishes, wishes_after};
 
+use gdb_monitor::{Command, can_lead};
 use gdb_packets::{Plain, Thread};
 
 /// What the debugger has asked for that lasts, and what it was told last. Cores are counted from 0.
@@ -111,16 +113,6 @@ pub(crate) fn told_wishes(wishes: Wishes, core: u8, cores: u8) -> Wishes
     }
 }
 
-/// Whether such a core can lead: each that is there, and none.
-pub(crate) fn can_lead(core: Option<u8>, cores: u8) -> bool
-    ensures { result ≡ can_lead core cores }
-{
-    match core {
-        Some(core) => core < cores,
-        None => true,
-    }
-}
-
 /// The wishes from which on this core leads; without one none does.
 pub(crate) fn led_by(wishes: Wishes, core: Option<u8>, cores: u8) -> Wishes
     requires fit { Fit wishes cores }
@@ -131,4 +123,16 @@ pub(crate) fn led_by(wishes: Wishes, core: Option<u8>, cores: u8) -> Wishes
     let mut wishes = wishes;
     wishes.lead = core;
     wishes
+}
+
+/// The wishes behind a command of the debugger's user.
+pub(crate) fn commanded_wishes(wishes: Wishes, command: &Command, cores: u8) -> Wishes
+    requires { Fit wishes cores }
+    ensures wishes { result ≡ commanded_wishes wishes command.now cores }
+    ensures fit { Fit result cores }
+{
+    match command {
+        Command::Lead(core) if can_lead(*core, cores) => led_by(wishes, *core, cores),
+        _ => wishes,
+    }
 }

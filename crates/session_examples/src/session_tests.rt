@@ -2,7 +2,7 @@
 use crate::handed_over::handed_over;
 use crate::rows::{Row, plays};
 use crate::session_rows::{BREAKS, STEPS, STILL, WATCHES};
-use crate::turn_rows::{BACK_ALONE, ONE_CORE, OTHERS_BACK, TOLD, UNASKED, UNHEARD};
+use crate::turn_rows::{BACK_ALONE, LEADS, ONE_CORE, OTHERS_BACK, TOLD, UNASKED, UNHEARD};
 use gdb_server::{Next, Partner};
 use gdb_session::Session;
 use std::alloc::{AllocError, Global};
@@ -59,44 +59,10 @@ fn a_step_back_stops_for_the_others(rt: HostRuntime) -> Result<(), Fail> {
     Ok(())
 }
 
-/// Whether the core leads then, and what the packet is answered, if that is the text.
-fn leads(
-    alloc: Global,
-    session: &mut Session,
-    core: Option<u8>,
-    packet: &'static str,
-    answer: &'static str,
-) -> Result<(bool, bool), AllocError> {
-    let there = session.lead(core);
-    Ok((there, says(alloc, session, packet, answer)?))
-}
-
 // Core 1 leads on, and core 0 back; without a core that leads, all go.
 #[test]
 fn a_core_leads_all(rt: HostRuntime) -> Result<(), Fail> {
-    let audited = handed_over(rt.alloc())?;
-    let mut session = Session::begin(rt.alloc(), &audited)?;
-    let end = "T05thread:1;replaylog:end;";
-    assert_eq!(rt;
-        leads(rt.alloc(), &mut session, Some(1), "vCont;c", end)?,
-        (true, true)
-    );
-    let begin = "T05thread:1;replaylog:begin;";
-    assert_eq!(rt;
-        leads(rt.alloc(), &mut session, Some(0), "bc", begin)?,
-        (true, true)
-    );
-    let far = "726574697265642031206f6620342c20776169747320666f7220303a33";
-    assert_eq!(rt;
-        leads(rt.alloc(), &mut session, Some(2), "qThreadExtraInfo,2", far)?,
-        (false, true)
-    );
-    assert_eq!(rt;
-        leads(rt.alloc(), &mut session, None, "vCont;c", end)?,
-        (true, true)
-    );
-    let exit = "726574697265642035206f6620352c2065786974";
-    assert!(rt; says(rt.alloc(), &mut session, "qThreadExtraInfo,1", exit)?);
+    assert_eq!(rt; first_wrong(rt.alloc(), &LEADS)?, "none");
     Ok(())
 }
 

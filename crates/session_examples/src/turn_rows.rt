@@ -285,3 +285,47 @@ pub static UNASKED: [Row; 6] = [
         answer: "726574697265642033206f662034",
     },
 ];
+
+/// Core 1 leads on, core 0 leads back, and all go on.
+pub static LEADS: [Row; 10] = [
+    Row {
+        packet: "qRcmd,6c6561642031",
+        answer: "6c65616420310a",
+    },
+    Row {
+        packet: "vCont;c",
+        answer: "T05thread:1;replaylog:end;",
+    },
+    Row {
+        packet: "qThreadExtraInfo,1",
+        answer: "726574697265642033206f662035",
+    },
+    Row {
+        packet: "qThreadExtraInfo,2",
+        answer: "726574697265642034206f6620342c2065786974",
+    },
+    Row {
+        packet: "qRcmd,6c6561642030",
+        answer: "6c65616420300a",
+    },
+    Row {
+        packet: "bc",
+        answer: "T05thread:1;replaylog:begin;",
+    },
+    Row {
+        packet: "qThreadExtraInfo,2",
+        answer: "726574697265642031206f6620342c20776169747320666f7220303a33",
+    },
+    Row {
+        packet: "qRcmd,6c65616420616c6c",
+        answer: "6c65616420616c6c0a",
+    },
+    Row {
+        packet: "vCont;c",
+        answer: "T05thread:1;replaylog:end;",
+    },
+    Row {
+        packet: "qThreadExtraInfo,1",
+        answer: "726574697265642035206f6620352c2065786974",
+    },
+];

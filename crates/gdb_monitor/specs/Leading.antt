@@ -1,0 +1,16 @@
+-- The core that leads: by which alone all go on, and back.
+use Rattle.std.specs.Prelude.{ℕ, Bool, true, nat_lt, List, ◌++◌, codes, decimal, Option, Some, None, if◌then◌else◌}
+use Rattle.gdb_monitor.specs.Texts.{line, usage_text}
+
+-- whether such a core can lead: each that is there, and none
+abbrev pub can_lead : Option ℕ → (cores : ℕ) → Bool
+can_lead None cores = true
+can_lead (Some core) cores = nat_lt core cores
+
+abbrev pub lead_text : Option ℕ → List ℕ
+lead_text None = line (codes "lead all")
+lead_text (Some core) = line (codes "lead " ++ decimal core)
+
+-- what is told where a core is asked to lead
+abbrev pub lead_told : Option ℕ → (cores : ℕ) → List ℕ
+lead_told core cores = if can_lead core cores then lead_text core else usage_text
