@@ -9,7 +9,7 @@ pub struct Stored {
 }
 
 /// The sessions, by their names.
-pub static SESSIONS: [Stored; 12] = [
+pub static SESSIONS: [Stored; 13] = [
     Stored {
         name: "attach",
         recording: "count",
@@ -28,6 +28,10 @@ pub static SESSIONS: [Stored; 12] = [
     },
     Stored {
         name: "ends",
+        recording: "count",
+    },
+    Stored {
+        name: "lead",
         recording: "count",
     },
     Stored {
