@@ -41,7 +41,8 @@ pub refused_declines : (which : Which) (input : List ℕ) (exit : Exit) (file fi
     → IsTaken (most_of (replayed_by which)) file file' input → Refuses (replayed_by which) input exit
     → Declines which exit file file'
 refused_declines which input exit file file' was h =
-    declines which input exit file file' h (refused_answers (replayed_by which) input exit file file' None None was h tt)
+    declines which input exit file file' h
+    (refused_answers (replayed_by which) input exit file file' None None was h tt)
 
 -- and of a recording that `replay` accepts memory ran out
 pub lacked : {A : Type 0} (result : Result A Exit) (which : Which) (file file' : Option (List ℕ))

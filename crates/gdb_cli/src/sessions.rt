@@ -19,14 +19,15 @@ use std::alloc::{AllocError, Global};
 /// Holds a session with a debugger that speaks GDB's remote protocol over `input` and `output`, on the recording that
 /// its source has left, as the log has it.
 ///
-/// The first packet is heard and acknowledged before anything is asked of the recording's source: a debugger that has
-/// no acknowledgement in two seconds sends its packet again, and the audit of a long recording may take longer. Then the
-/// recording is read to its end and audited, and the session begins before the first instruction: it answers that
-/// packet, and then each that comes.
+/// The first packet is heard and acknowledged before anything is asked of the recording's source: a debugger that
+/// has no acknowledgement in two seconds sends its packet again, and the audit of a long recording may take longer.
+/// Then the recording is read to its end and audited, and the session begins before the first instruction: it
+/// answers that packet, and then each that comes.
 ///
-/// `Done` comes where a packet has ended the session, or the input has. Where it ends before a first packet, nothing was
-/// asked of the recording. Everything else ends just as `rtr replay` ends, and where it ends there; but for `ReadFault`,
-/// `WriteFault` and `OutOfMemory` nothing was said then beside acknowledgements. `ReadFault` is of either source.
+/// `Done` comes where a packet has ended the session, or the input has. Where it ends before a first packet,
+/// nothing was asked of the recording. Everything else ends just as `rtr replay` ends, and where it ends there; but
+/// for `ReadFault`, `WriteFault` and `OutOfMemory` nothing was said then beside acknowledgements. `ReadFault` is of
+/// either source.
 pub fn debug<F: Source, I: Source, O: Sink>(
     alloc: Global,
     which: Which,

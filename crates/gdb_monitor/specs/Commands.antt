@@ -5,7 +5,8 @@ use Rattle.std.specs.Str.{bytes_eq}
 use Rattle.rtr_types.specs.declared.instr.Instr.{Instr}
 use Rattle.gdb_monitor.specs.declared.commands.Command.{Command}
 use Rattle.gdb_monitor.specs.declared.commands.Command.TheVariants.{Cut, GoTo, GoToCut, Earliest, Latest, Edges}
-use Rattle.gdb_monitor.specs.declared.commands.Command.TheVariants.{Writer, Readers, History, Conflicts, Order, Lead, Unknown}
+use Rattle.gdb_monitor.specs.declared.commands.Command.TheVariants.{Writer, Readers, History, Conflicts}
+use Rattle.gdb_monitor.specs.declared.commands.Command.TheVariants.{Order, Lead, Unknown}
 use Rattle.gdb_monitor.specs.Numbers.{core_of, count_of, named_instr, word_of}
 use Rattle.gdb_monitor.specs.Words.{words_of}
 

@@ -5,7 +5,8 @@ use Rattle.replay_audit.specs.Audits.{Findings, PassesOf}
 use Rattle.debug_place.specs.Places.{Placed, cut_at}
 use Rattle.gdb_monitor.specs.declared.commands.Command.{Command}
 use Rattle.gdb_monitor.specs.declared.commands.Command.TheVariants.{Cut, GoTo, GoToCut, Earliest, Latest, Edges}
-use Rattle.gdb_monitor.specs.declared.commands.Command.TheVariants.{Writer, Readers, History, Conflicts, Order, Lead, Unknown}
+use Rattle.gdb_monitor.specs.declared.commands.Command.TheVariants.{Writer, Readers, History, Conflicts}
+use Rattle.gdb_monitor.specs.declared.commands.Command.TheVariants.{Order, Lead, Unknown}
 use Rattle.gdb_monitor.specs.Asking.{AreConflictsTold, AreEdgesTold, AreReadersTold, IsHistoryTold, IsWriterTold}
 use Rattle.gdb_monitor.specs.Leading.{lead_told}
 use Rattle.gdb_monitor.specs.Moves.{GoesEarliest, GoesLatest, GoesTo, GoesToCut, IsOf, Refuses, Tells}

@@ -4,8 +4,9 @@
 #[derive(Clone, Copy)]
 pub struct File(pub &'static str, pub usize, pub &'static str);
 
-/// A call: its words; the name of the one file that there is, the file, and the call of it that fails (0 for none); what
-/// is sent, and the calls of the input and of the output that fail; then the status, what was said, and the report.
+/// A call: its words; the name of the one file that there is, the file, and the call of it that fails (0 for none);
+/// what is sent, and the calls of the input and of the output that fail; then the status, what was said, and the
+/// report.
 pub struct Row {
     pub words: &'static str,
     pub name: &'static str,
@@ -57,17 +58,21 @@ const FIRST: &[u8] = b"+$qSupported:swbreak+#8b";
 
 /// What is said to that.
 const FEATURES: &[u8] =
-    b"+$PacketSize=1000;QStartNoAckMode+;vContSupported+;swbreak+;hwbreak+;ReverseStep+;ReverseContinue+;qXfer:features:read+;qXfer:threads:read+#83";
+    b"+$PacketSize=1000;QStartNoAckMode+;vContSupported+;swbreak+;hwbreak+;ReverseStep+;ReverseContinue+;qXf\
+        er:features:read+;qXfer:threads:read+#83";
 
 /// The name of the file.
 const NAME: &str = "a.recording";
 
 /// What a debugger sends, and is said, in a session whose bytes were worked out from the protocol.
 const SENT: &[u8] =
-    b"+$qSupported:swbreak+#8b$vMustReplyEmpty#3a$Hg0#00$Hg0#df-$m0,4#fd$m0,4#FDxyz\x03+$qC#b4$m0,4#fd$m4,4#01$qRcmd,637574}\x03#e3$m0,4#zz$QStartNoAckMode#b0+$Hg0#00$Hg0#df$D#44$m0,4#fd";
+    b"+$qSupported:swbreak+#8b$vMustReplyEmpty#3a$Hg0#00$Hg0#df-$m0,4#fd$m0,4#FDxyz\x03+$qC#b4$m0,4#fd$m4,4#\
+        01$qRcmd,637574}\x03#e3$m0,4#zz$QStartNoAckMode#b0+$Hg0#00$Hg0#df$D#44$m0,4#fd";
 
 const SAID: &[u8] =
-    b"+$PacketSize=1000;QStartNoAckMode+;vContSupported+;swbreak+;hwbreak+;ReverseStep+;ReverseContinue+;qXfer:features:read+;qXfer:threads:read+#83+$#00-+$OK#9a$OK#9a+$1311a500#bc+$1311a500#bc+$QC1#c5+$1311a500#bc+$b7820000#c3+$E01#a6-+$OK#9a$OK#9a$OK#9a";
+    b"+$PacketSize=1000;QStartNoAckMode+;vContSupported+;swbreak+;hwbreak+;ReverseStep+;ReverseContinue+;qXf\
+        er:features:read+;qXfer:threads:read+#83+$#00-+$OK#9a$OK#9a+$1311a500#bc+$1311a500#bc+$QC1#c5+$1311a50\
+        0#bc+$b7820000#c3+$E01#a6-+$OK#9a$OK#9a$OK#9a";
 
 /// A row in which no stream fails.
 macro_rules! held {

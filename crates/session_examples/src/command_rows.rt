@@ -1,5 +1,5 @@
-//! Commands of a debugger's user, and what is told: on the recording of a lock, in the order of a session of gdb, and on
-//! one of two cores.
+//! Commands of a debugger's user, and what is told: on the recording of a lock, in the order of a session of gdb,
+//! and on one of two cores.
 
 /// A command, and what is told.
 pub struct Told {
