@@ -88,6 +88,14 @@ impl SlotTimes {
         }
     }
 
+    /// Becomes the times of no access.
+    fn forget(&mut self)
+        ensures { self.new ≡ no_times }
+    {
+        self.write = None;
+        self.reads.clear();
+    }
+
     /// Notes the read.
     fn on_load(&mut self, at: Instr, clock: Clock)
         requires { at.core < CORES_MAX }
@@ -139,6 +147,13 @@ impl Rider for Times {
         for slot in 0..BLOCK_WORDS {
             self.slots[slot].renew(&other.slots[slot]);
         }
+    }
+
+    fn forget(&mut self) {
+        self.slots[0].forget();
+        self.slots[1].forget();
+        self.slots[2].forget();
+        self.slots[3].forget();
     }
 }
 

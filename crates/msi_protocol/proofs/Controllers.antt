@@ -80,11 +80,11 @@ module _ {R : Type 0} where
       (response_words response e.words)
       (response_rider response) (response_alone e.stage c (reply_of response))
 
-  row_moves : (absorbed : R → R → R) (r : Option Row) (line : Line R) (m : FromHome R) (requests : List Ask)
+  row_moves : (riding : Riding R) (r : Option Row) (line : Line R) (m : FromHome R) (requests : List Ask)
       (responses : List Reply) (rest : List Signal) →
       is_some r ≡ true → message_row_taken r rest (view line.state requests responses (signal m ∷ rest))
-      ≡ view (line_by absorbed r m line).state requests (responses ++ kind_replied (answer_by r line)) rest
-  row_moves absorbed r line m requests responses rest some = grind arith
+      ≡ view (line_by riding r m line).state requests (responses ++ kind_replied (answer_by r line)) rest
+  row_moves riding r line m requests responses rest some = grind arith
 
   row_there : (line : Line R) (m : FromHome R) → IsTrue (has_row line m) → is_some (row (signal m) line.state) ≡ true
   row_there line m has = both (line.block == block_of m) (is_some (row (signal m) line.state)) has
@@ -94,7 +94,7 @@ module _ {R : Type 0} where
 
   pub takes_as_moved : (riding : Riding R) (line : Line R) (m : FromHome R) → TakesAsMoved riding line m
   takes_as_moved riding line m requests responses rest has =
-      row_moves riding.absorbed (row (signal m) line.state) line m requests responses rest (row_there line m has)
+      row_moves riding (row (signal m) line.state) line m requests responses rest (row_there line m has)
 
 own_wish : (s : State) (writes : Bool) → want_row s true writes ≡ wish_row s (access_wish writes)
 own_wish s writes = grind arith

@@ -1,5 +1,5 @@
 -- Each move of the tables leads from a block that is shown to one that is shown.
-use Rattle.std.proofs.Common.{◌≡◌, ◌≢◌, ◌∙◌, ◌⊎◌, inl, inr, ap, refl, sym, subst, ℕ, ◌<◌, ◌==◌, true, false, List, []}
+use Rattle.std.proofs.Common.{◌≡◌, ◌≢◌, ◌∙◌, ◌⊎◌, inl, inr, ap, refl, sym, subst, ℕ, ◌<◌, ◌==◌, Bool, true, false, List, []}
 use Rattle.std.proofs.Common.{◌∷◌, arith}
 use Rattle.rtr_types.specs.Accesses.{is_write}
 use Rattle.msi_directory.specs.Entries.{entry_after_request, entry_after_response}
@@ -21,6 +21,7 @@ use Rattle.msi_directory.specs.declared.entry.Entry.{Entry}
 use Rattle.msi_directory.specs.Table.{is_free}
 use Rattle.msi_directory.specs.declared.entry.Stage.{Stage}
 use Rattle.msi_protocol.specs.Block.{Wish, View, view}
+use Rattle.msi_protocol.specs.Counting.{line_counts}
 use Rattle.msi_protocol.specs.Phases.{Phase, picture}
 use Rattle.msi_protocol.specs.NextPhases.{after_other, after_others_response}
 use Rattle.msi_protocol.proofs.Keeps.{response_has_row}
@@ -32,20 +33,17 @@ use Rattle.msi_protocol.specs.Shown.{Payload, payload_absorbed, ask_with, reply_
 use Rattle.msi_protocol.specs.Shown.{shown, entry_with, sight_received}
 use Rattle.msi_protocol.specs.Shown.{sight_asking, sight_accessed, after_request_at, after_response_at, wish_in}
 use Rattle.msi_protocol.proofs.Found.{at_core}
-use Rattle.msi_protocol.proofs.Shown.{shown_received, shown_asked, shown_own, shown_entry, shown_other, shown_replied}
+use Rattle.msi_protocol.proofs.Shown.{copy_in, seat_hearing, shown_received, hearing_counts, shown_asked, shown_own}
+use Rattle.msi_protocol.proofs.Shown.{shown_entry, shown_other, shown_replied}
 use Rattle.msi_protocol.proofs.Shown.{shown_responder, shown_response_entry}
 use Rattle.msi_protocol.proofs.Shown.{shown_others, shown_wish, shown_allows}
 use Rattle.msi_protocol.proofs.Moves.{stands_request, stands_response, stands_message, stands_wish, stands_access}
 use Rattle.msi_protocol.specs.Seats.{allows}
-use Rattle.msi_protocol.specs.Showing.{KeptBy, Shows}
+use Rattle.msi_protocol.specs.Showing.{KeptBy, Shows, relined}
 
 -- the sights with another one of core c
 abbrev pub sight_at : {R : Type 0} → ℕ → Sight R → (ℕ → Sight R) → ℕ → Sight R
 sight_at c v sights d = if d == c then v else sights d
-
--- the copy in a line
-abbrev pub copy_in : {R : Type 0} → Line R → Payload R
-copy_in l = record { words = l.words; rider = l.rider }
 
 -- a sight after a choice by core
 at_sight : {R : Type 0} (b c d : ℕ) (s t : Seat (Payload R)) (v : Sight R) → (d ≡ c → shown b s ≡ v) →
@@ -193,6 +191,28 @@ module _ {R : Type 0} where
   messages_cons b x m rest [] e = absurd cc
   messages_cons b x m rest (g ∷ more) e = (g, more, refl)
 
+  -- and only its line is another than in a seat in which it counts
+  line_at : (c d : ℕ) (f g : Seat (Payload R) → Seat (Payload R)) (seats : ℕ → Seat (Payload R)) →
+      (line_counts (g (seats c)).phase ≡ true → (f (seats c)).line ≡ (g (seats c)).line) →
+      line_counts (seat_if (d == c) (g (seats d)) (seats d)).phase ≡ true →
+      (seat_if (d == c) (f (seats d)) (seats d)).line ≡ (seat_if (d == c) (g (seats d)) (seats d)).line
+  line_at c d f g seats here = by (cases_eq d c)
+    where
+      by : (d ≡ c) ⊎ (d ≢ c) → line_counts (seat_if (d == c) (g (seats d)) (seats d)).phase ≡ true →
+          (seat_if (d == c) (f (seats d)) (seats d)).line ≡ (seat_if (d == c) (g (seats d)) (seats d)).line
+      by (inl e) = let t : (d == c) ≡ true = grind (arith, nat_tests) in
+          rw t (subst (λ (x : ℕ). line_counts (g (seats x)).phase ≡ true → (f (seats x)).line ≡ (g (seats x)).line)
+          (sym e) here)
+      by (inr n) = let t : (d == c) ≡ false = grind (arith, nat_tests) in rw t (λ counts. refl)
+
+  -- a seat with the line of what it then is
+  with_line : (riding : Riding R) (b : ℕ) (m : FromHome R) (k : Bool) (s : Seat (Payload R)) →
+      ◌≡◌ {A = Seat (Payload R)} (record (seat_if k (seat_received (payload_absorbed riding) s) s) {
+        line = (seat_if k (seat_hearing riding b m s) s).line;
+      }) (seat_if k (seat_hearing riding b m s) s)
+  with_line riding b m true s = refl
+  with_line riding b m false s = refl
+
   pub for_message : (riding : Riding R) (Q : FullBlock (Payload R) → Type 0) → KeptBy (payload_absorbed riding) Q →
       (b : ℕ) (entry : Entry R)
       (sights : ℕ → Sight R) (c : ℕ) (m : FromHome R) (rest : List (FromHome R)) → c < CORES_MAX →
@@ -203,16 +223,22 @@ module _ {R : Type 0} where
       let s : Seat (Payload R) = bl.seats c in
       let head : (shown b s).messages ≡ m ∷ rest = ap (λ (v : Sight R). v.messages) (f.shows c lc) ∙ asks in
       let q = messages_cons b s.sent m rest (picture s.phase).messages head in
-      let here : shown b (seat_received (payload_absorbed riding) s) ≡ sight_received riding m rest (sights c) =
+      let here : shown b (seat_hearing riding b m s) ≡ sight_received riding m rest (sights c) =
       sym (shown_received riding b s m rest head)
       ∙ ap (λ (v : Sight R). sight_received riding m rest v) (f.shows c lc) in
+      let heard : FullBlock (Payload R) = messaged (payload_absorbed riding) c bl in
+      let lines : ℕ → Payload R = λ d. (seat_if (d == c) (seat_hearing riding b m (bl.seats d)) (bl.seats d)).line in
+      let fits : PhasesFit heard = stands_message (payload_absorbed riding) c q.0 q.1 bl q.2 f.fits in
       record {
-        block = messaged (payload_absorbed riding) c bl;
+        block = relined lines heard;
         entry_is = f.entry_is;
-        shows = λ d ld. seen_at b c (seat_received (payload_absorbed riding)) bl.seats (sight_received riding m rest
-            (sights c)) sights here d (f.shows d ld);
-        fits = stands_message (payload_absorbed riding) c q.0 q.1 bl q.2 f.fits;
-        has = well.message c q.0 q.1 bl lc q.2 f.fits f.has;
+        shows = λ d ld. ap (λ (u : Seat (Payload R)). shown b u) (with_line riding b m (d == c) (bl.seats d))
+            ∙ seen_at b c (seat_hearing riding b m) bl.seats (sight_received riding m rest (sights c)) sights here d
+            (f.shows d ld);
+        fits = record { fits = fits.fits; roles = fits.roles };
+        has = well.reline heard lines (λ d ld. line_at c d (seat_hearing riding b m)
+            (seat_received (payload_absorbed riding)) bl.seats (hearing_counts riding b s m rest head)) fits
+            (well.message c q.0 q.1 bl lc q.2 f.fits f.has);
       }
 
   -- a core asks for this block or, where the line has this one, for another

@@ -58,7 +58,7 @@ module _ {R : Type 0} where
   TakesAsMoved riding line m =
       (requests : List Ask) (responses : List Reply) (rest : List Signal) → IsTrue (has_row line m)
       → after_message (signal m) rest (view line.state requests responses (signal m ∷ rest))
-      ≡ view (line_after riding.absorbed line m).state requests (responses ++ kind_replied (answer line m)) rest
+      ≡ view (line_after riding line m).state requests (responses ++ kind_replied (answer line m)) rest
 
 -- an access wants to write or to read
 abbrev pub access_wish : Bool → Wish
