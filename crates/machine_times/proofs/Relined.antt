@@ -1,14 +1,14 @@
--- What a line carries whose copy doesn't count doesn't matter to the reads that a block has.
+-- What a line carries, or the home, whose copy doesn't count doesn't matter to the reads that a block has.
 use Rattle.std.proofs.Common.{◌≡◌, ◌∙◌, inl, ap, refl, ℕ, ◌<◌, Bool, true, false, arith}
 use Rattle.rtr_types.specs.declared.TheConstants.{CORES_MAX}
 use Rattle.std.proofs.lemmas.Bool.Decides.{nat_tests}
 use Rattle.msi_directory.specs.declared.entry.Stage.{Stage}
 use Rattle.msi_directory.specs.declared.entry.Stage.TheVariants.{Unshared, Shared, Owned, Acks, Data}
-use Rattle.msi_protocol.specs.Counting.{line_counts}
+use Rattle.msi_protocol.specs.Counting.{home_counts, line_counts}
 use Rattle.msi_protocol.specs.Phases.{Phase, role, role_in}
 use Rattle.msi_protocol.specs.Seats.{Seat, main_in, main_of, main_at, place, count_at, own_count, FullBlock, PhasesFit}
 use Rattle.msi_protocol.specs.Seats.{Found, main, is_main}
-use Rattle.msi_protocol.specs.Showing.{relined}
+use Rattle.msi_protocol.specs.Showing.{rehomed, relined}
 use Rattle.msi_protocol.proofs.Found.{main_below, found_in}
 
 main_idle : {X : Type 0} (p : Phase) (x y sent reply : X) → is_main (role_in p) ≡ true → line_counts p ≡ false →
@@ -53,3 +53,17 @@ found_relined {X} r n d b lines ld same st f =
     main_same = main_relined b.stage b.home b.seats lines (λ (o : ℕ) (is : is_main (role b.stage o) ≡ true). let lo =
         main_below b.stage o st.fits is in
         by o lo (ap is_main (st.roles o lo) ∙ is) (line_counts (b.seats o).phase) refl)
+
+main_rehomed : {X : Type 0} (stage : Stage) (home other : X) (seats : ℕ → Seat X) →
+    (home_counts stage ≡ true → other ≡ home) → main_at stage other seats ≡ main_at stage home seats
+main_rehomed Unshared home other seats same = same refl
+main_rehomed (Shared by) home other seats same = same refl
+main_rehomed (Acks owing q) home other seats same = same refl
+main_rehomed (Owned o) home other seats same = refl
+main_rehomed (Data owing q s) home other seats same = refl
+
+pub found_rehomed : {X : Type 0} (r : X → ℕ) (n d : ℕ) (b : FullBlock X) (home : X) →
+    (home_counts b.stage ≡ true → home ≡ b.home) → Found r n d b → Found r n d (rehomed home b)
+found_rehomed r n d b home same f =
+    let k = ap r (main_rehomed b.stage b.home home b.seats same) in
+    found_in r n (main b) (main (rehomed home b)) (b.seats d) ((rehomed home b).seats d) (omega arith) (inl (omega arith)) f

@@ -33,6 +33,7 @@ module _ {R : Type 0} where
         message = λ c m rest bl lc asks st e slot ls. (kept slot ls).message c m rest bl lc asks st (e slot ls);
         wish = λ c w bl st e slot ls. (kept slot ls).wish c w bl st (e slot ls);
         reline = λ bl lines same st e slot ls. (kept slot ls).reline bl lines same st (e slot ls);
+        rehome = λ bl home same st e slot ls. (kept slot ls).rehome bl home same st (e slot ls);
       }
     where
       kept : (slot : ℕ) → slot < BLOCK_WORDS → KeptBy (payload_absorbed parts.riding) (Exact (slot_times parts slot) h

@@ -3,8 +3,8 @@
 ghost use Rattle.std.specs.Prelude.{◌≡◌};
 ghost use Rattle.msi_cache.specs.Handing.{owner_rider, owner_words};
 ghost use Rattle.msi_cache.specs.Lines.{rider_of, words_of};
-ghost use Rattle.msi_cache.specs.Messages.{block_of, message_seen, request_block, request_seen, response_block};
-ghost use Rattle.msi_cache.specs.Messages.{response_seen, response_with, signal};
+ghost use Rattle.msi_cache.specs.Messages.{block_of, message_seen, message_with, request_block, request_seen};
+ghost use Rattle.msi_cache.specs.Messages.{response_block, response_seen, response_with, signal};
 ghost use Rattle.msi_cache.specs.Table.{Signal};
 
 use crate::held::Held;
@@ -220,12 +220,22 @@ impl<R: Rider> FromHomeSlot<R> {
         }
     }
 
+    /// Puts the message here with the rider that is in hand, where it has data. What is in hand afterwards means
+    /// nothing.
+    pub fn put_handed(&mut self, message: FromHome<()>, hand: &mut Held<R>)
+        ensures { self.new ≡ message_with (λ own. hand.old) message }
+    {
+        self.bare = message;
+        mem::swap(&mut self.rider, hand);
+    }
+
     /// The message that lies here, with its rider lent.
     pub fn open(&self) -> FromHome<&R>
         ensures { message_seen result ≡ self.now }
     {
         self.bare.riding(self.rider.get())
     }
+
     /// The block that the message is about.
     pub fn block(&self) -> u32
         ensures { result ≡ block_of self.now }

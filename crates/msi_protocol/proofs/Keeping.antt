@@ -27,4 +27,8 @@ holders_kept P absorbed both =
               put = λ counts. q.put counts ∙ sym (same d ld (put_line s.phase counts));
             };
       };
+      rehome = λ bl home same st h. record {
+        home = λ counts. subst P (sym (same counts)) (h.home counts);
+        seats = h.seats;
+      };
     }

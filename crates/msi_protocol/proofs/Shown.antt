@@ -1,7 +1,7 @@
 -- What the cache's and the home's tables do is what the seats do.
 use Rattle.std.proofs.Common.{◌≡◌, ◌≢◌, ◌∙◌, refl, sym, ℕ, ◌<◌, ◌==◌, true, false, List, [], ◌∷◌, arith}
 use Rattle.rtr_types.specs.Accesses.{is_write}
-use Rattle.msi_directory.specs.Entries.{entry_after_request, entry_after_response}
+use Rattle.msi_directory.specs.Entries.{entry_for_request, entry_for_response}
 use Rattle.rtr_types.specs.declared.TheConstants.{CORES_MAX}
 use Rattle.std.specs.Prelude.{map}
 use Rattle.std.proofs.lemmas.Bool.Decides.{nat_tests}
@@ -87,7 +87,7 @@ module _ {R : Type 0} where
   pub shown_entry : (riding : Riding R) (b c : ℕ) (a : Ask) (rest : List Ask) (bl : FullBlock (Payload R)) →
       is_free bl.stage ≡ true →
       (picture (bl.seats c).phase).requests ≡ a ∷ rest → role_in (bl.seats c).phase ≡ role bl.stage c
-      → entry_after_request riding.absorbed (entry_with bl) c (ask_with b (bl.seats c).put a) ≡ entry_with
+      → entry_for_request riding.absorbed (entry_with bl) c (ask_with b (bl.seats c).put a) ≡ entry_with
       (requested (payload_absorbed riding) c a bl)
   shown_entry riding b c a rest bl free asks is = grind (arith, nat_tests)
 
@@ -129,7 +129,7 @@ module _ {R : Type 0} where
   pub shown_response_entry : (riding : Riding R) (b c : ℕ) (a : Reply) (rest : List Reply)
       (bl : FullBlock (Payload R)) →
       (picture (bl.seats c).phase).responses ≡ a ∷ rest → role_in (bl.seats c).phase ≡ role bl.stage c
-      → entry_after_response riding.absorbed (entry_with bl) c (reply_with b (bl.seats c).reply a) ≡ entry_with
+      → entry_for_response riding.absorbed (entry_with bl) c (reply_with b (bl.seats c).reply a) ≡ entry_with
       (responded (payload_absorbed riding) c a bl)
   shown_response_entry riding b c a rest bl asks is = grind (arith, nat_tests)
 

@@ -40,13 +40,13 @@ module _ {R : Type 0} where
   abbrev pub RequestAsMoved : Riding R → Entry R → ℕ → Request R → Type 0
   RequestAsMoved riding e c request =
       MakesStep (request_step e.stage c (ask_of request)) (request_block request)
-      (entry_after_request riding.absorbed e c request) (answer_to_request riding.absorbed e c request)
+      (entry_after_request riding e c request) (answer_to_request riding.absorbed e c request)
 
   -- a response from core c does at home what the step of its kind says
   abbrev pub ResponseAsMoved : Riding R → Entry R → ℕ → Response R → Type 0
   ResponseAsMoved riding e c response =
       MakesStep (response_step e.stage c (reply_of response)) (response_block response)
-      (entry_after_response riding.absorbed e c response) (answer_to_response riding.absorbed e c response)
+      (entry_after_response riding e c response) (answer_to_response riding.absorbed e c response)
 
   abbrev pub kind_replied : Option (Response R) → List Reply
   kind_replied None = []

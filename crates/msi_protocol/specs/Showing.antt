@@ -8,7 +8,7 @@ use Rattle.msi_cache.specs.Table.{Signal, Ask, Reply}
 use Rattle.msi_directory.specs.Table.{is_free}
 use Rattle.msi_directory.specs.declared.entry.Entry.{Entry}
 use Rattle.msi_protocol.specs.Block.{Wish}
-use Rattle.msi_protocol.specs.Counting.{line_counts}
+use Rattle.msi_protocol.specs.Counting.{home_counts, line_counts}
 use Rattle.msi_protocol.specs.Phases.{picture}
 use Rattle.msi_protocol.specs.Seats.{FullBlock, PhasesFit, requested, responded, messaged, wishing}
 use Rattle.msi_protocol.specs.Shown.{Payload, Sight, shown, entry_with}
@@ -26,7 +26,11 @@ pub record Shows {R : Type 0} (Q : FullBlock (Payload R) → Type 0) (b : ℕ) (
 abbrev pub relined : {X : Type 0} → (ℕ → X) → FullBlock X → FullBlock X
 relined lines b = record b { seats = λ d. record (b.seats d) { line = lines d } }
 
--- each move of a block keeps the property, and what a line has whose copy doesn't count doesn't matter to it
+-- the block with another copy at home
+abbrev pub rehomed : {X : Type 0} → X → FullBlock X → FullBlock X
+rehomed home b = record b { home = home }
+
+-- each move of a block keeps the property, and what a line has, or the home, whose copy doesn't count doesn't matter to it
 pub record KeptBy {X : Type 0} (absorbed : X → X → X) (Q : FullBlock X → Type 0) : Type 0 where
   pub request : (c : ℕ) (a : Ask) (rest : List Ask) (b : FullBlock X) → c < CORES_MAX → is_free b.stage ≡ true
       → (picture (b.seats c).phase).requests ≡ a ∷ rest → PhasesFit b → Q b → Q (requested absorbed c a b)
@@ -38,3 +42,5 @@ pub record KeptBy {X : Type 0} (absorbed : X → X → X) (Q : FullBlock X → T
   pub reline : (b : FullBlock X) (lines : ℕ → X)
       → ((d : ℕ) → d < CORES_MAX → line_counts (b.seats d).phase ≡ true → lines d ≡ (b.seats d).line)
       → PhasesFit b → Q b → Q (relined lines b)
+  pub rehome : (b : FullBlock X) (home : X) → (home_counts b.stage ≡ true → home ≡ b.home) → PhasesFit b → Q b
+      → Q (rehomed home b)
