@@ -4,6 +4,7 @@
 
 mod carry;
 mod clerk;
+mod last_write;
 mod reads;
 mod rider;
 mod times;

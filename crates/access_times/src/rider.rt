@@ -23,6 +23,10 @@ pub trait Rider: Drop {
     /// Becomes the other once that has absorbed what this rider was.
     fn renew(&mut self, other: &Self)
         ensures { self.new ≡ riding.absorbed other.now self.old };
+
+    /// Becomes a rider that holds nothing, whatever it was.
+    fn forget(&mut self)
+        ensures { self.new ≡ riding.fresh };
 }
 
 /// A rider that is equal to this one.
@@ -50,4 +54,6 @@ impl Rider for NoRider {
     fn copy_from(&mut self, _other: &Self) {}
 
     fn renew(&mut self, _other: &Self) {}
+
+    fn forget(&mut self) {}
 }

@@ -3,9 +3,11 @@ ghost use Rattle.std.specs.Prelude.{◌≡◌, ℕ, ◌<◌, is_some};
 ghost use Rattle.rtr_types.specs.CoreSets.{has};
 ghost use Rattle.rtr_types.specs.declared.TheConstants.{BLOCK_WORDS, CORES_MAX};
 ghost use Rattle.access_times.specs.Reads.{read_seen};
-ghost use Rattle.access_times.specs.Times.{is_same_write, no_times, read_at, slot_absorbed, slot_loaded, slot_stored};
+ghost use Rattle.access_times.specs.Times.{no_times, read_at, slot_absorbed, slot_loaded, slot_stored};
 ghost use Rattle.access_times.specs.Times.{times_loaded, times_stored, write_at};
+ghost use Rattle.access_times.specs.Writes.{write_seen};
 
+use crate::last_write::LastWrite;
 use crate::reads::Reads;
 use crate::rider::Rider;
 use clock_core::Clock;
@@ -15,7 +17,7 @@ use rtr_types::{BLOCK_WORDS, CORES_MAX, CoreSet, Instr};
 /// clock that was noted for it. An access that reads and writes is a write here.
 #[derive(Drop)]
 struct SlotTimes {
-    write: Option<(Instr, Clock)>,
+    write: LastWrite,
     reads: Reads,
 }
 
@@ -26,26 +28,13 @@ pub struct Times {
     slots: [SlotTimes; BLOCK_WORDS],
 }
 
-/// Whether the two are one write with one clock, or both are none.
-fn is_same_write(one: &Option<(Instr, Clock)>, other: &Option<(Instr, Clock)>) -> bool
-    ensures { result ≡ is_same_write one.now other.now }
-{
-    match (one, other) {
-        (None, None) => true,
-        (Some((at, clock)), Some((other_at, other_clock))) => {
-            at.core == other_at.core && at.count == other_at.count && *clock == *other_clock
-        }
-        _ => false,
-    }
-}
-
 impl SlotTimes {
     /// The times of no access.
     fn none() -> SlotTimes
         ensures { result ≡ no_times }
     {
         SlotTimes {
-            write: None,
+            write: LastWrite::none(),
             reads: Reads::none(),
         }
     }
@@ -58,7 +47,7 @@ impl SlotTimes {
         if self.reads.learn_nothing_from(&other.reads) {
             return;
         }
-        if is_same_write(&self.write, &other.write) {
+        if self.write.is_same(&other.write) {
             self.reads.absorb(&other.reads);
         }
     }
@@ -67,11 +56,7 @@ impl SlotTimes {
     fn copy_from(&mut self, other: &SlotTimes)
         ensures { self.new ≡ other.now }
     {
-        if other.write.is_some() {
-            self.write = other.write;
-        } else {
-            self.write = None;
-        }
+        self.write.copy_from(&other.write);
         self.reads.copy_from(&other.reads);
     }
 
@@ -81,11 +66,19 @@ impl SlotTimes {
     {
         if other.reads.learn_nothing_from(&self.reads) {
             self.copy_from(other);
-        } else if is_same_write(&other.write, &self.write) {
+        } else if other.write.is_same(&self.write) {
             self.reads.renew(&other.reads);
         } else {
             self.copy_from(other);
         }
+    }
+
+    /// Becomes the times of no access.
+    fn forget(&mut self)
+        ensures { self.new ≡ no_times }
+    {
+        self.write.clear();
+        self.reads.clear();
     }
 
     /// Notes the read.
@@ -100,7 +93,7 @@ impl SlotTimes {
     fn on_store(&mut self, at: Instr, clock: Clock)
         ensures { self.new ≡ slot_stored at clock }
     {
-        self.write = Some((at, clock));
+        self.write.set(at, clock);
         self.reads.clear();
     }
 }
@@ -140,6 +133,13 @@ impl Rider for Times {
             self.slots[slot].renew(&other.slots[slot]);
         }
     }
+
+    fn forget(&mut self) {
+        self.slots[0].forget();
+        self.slots[1].forget();
+        self.slots[2].forget();
+        self.slots[3].forget();
+    }
 }
 
 impl Times {
@@ -148,15 +148,15 @@ impl Times {
         requires { slot < BLOCK_WORDS }
         ensures { result ≡ write_at self.now slot }
     {
-        *self.last_write(slot)
+        self.last_write(slot).copied()
     }
 
     /// The same where it lies, for a caller that needs no copy.
-    pub fn last_write(&self, slot: u8) -> &Option<(Instr, Clock)>
+    pub fn last_write(&self, slot: u8) -> Option<&(Instr, Clock)>
         requires { slot < BLOCK_WORDS }
-        ensures { result.now ≡ write_at self.now slot }
+        ensures { write_seen result ≡ write_at self.now slot }
     {
-        &self.slots[slot as usize].write
+        self.slots[slot as usize].write.get()
     }
 
     /// The count of the core's last read of the slot's word since that write, with its clock.

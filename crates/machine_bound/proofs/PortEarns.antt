@@ -128,12 +128,12 @@ data_silent : {R : Type 0} (l : Line R) (m : FromHome R) → is_data m ≡ true 
 data_silent l m d = grind arith
 
 -- at the line that is needed
-message_base : {R : Type 0} (absorbed : R → R → R) (l : Line R) (m : FromHome R) (same taken : Bool) (cores : ℕ) →
+message_base : {R : Type 0} (riding : Riding R) (l : Line R) (m : FromHome R) (same taken : Bool) (cores : ℕ) →
     is_data m ≡ false →
     is_some (row (signal m) l.state) ≡ true →
     line_base l.state same taken cores + answers (answer_by (row (signal m) l.state) l) + 1 ≤ line_base
-    (line_after absorbed l m).state same taken cores + debt m
-message_base absorbed l m same taken cores d e = grind (arith, nat_tests)
+    (line_after riding l m).state same taken cores + debt m
+message_base riding l m same taken cores d e = grind (arith, nat_tests)
 
 -- at another line, unless it is an acknowledgement
 message_debt : {R : Type 0} (l : Line R) (m : FromHome R) → is_data m ≡ false →
@@ -177,7 +177,7 @@ module _ {R K : Type 0} where
       ≤ block_base (line_for riding.fresh (port_hearing riding carrying p mail rest).cache block) block
       (is_nil p.requests.items) cores + debt mail.item
   hearing_block riding carrying cores blocks p mail rest block kind d there h awaited =
-      rw (set_at p.cache (block_of mail.item % LINES) (block % LINES) (line_after riding.absorbed l mail.item)
+      rw (set_at p.cache (block_of mail.item % LINES) (block % LINES) (line_after riding l mail.item)
       (empty_line riding.fresh)
       (rw h.all_lines (omega arith))) (by_place (block % LINES == block_of mail.item % LINES) refl)
     where
@@ -187,14 +187,14 @@ module _ {R K : Type 0} where
       by_place : (t : Bool) → (block % LINES == block_of mail.item % LINES) ≡ t →
           block_base (line_for riding.fresh p.cache block) block (is_nil p.requests.items) cores + answers
           (answer_to riding p mail.item) + 1 ≤ block_base
-          (if t then line_after riding.absorbed l mail.item else line_for riding.fresh p.cache block) block
+          (if t then line_after riding l mail.item else line_for riding.fresh p.cache block) block
           (is_nil p.requests.items) cores + debt mail.item
       by_place true e =
           let place : block % LINES ≡ block_of mail.item % LINES = grind (arith, nat_tests) in
           let same : line_for riding.fresh p.cache block ≡ l =
           ap (λ (i : ℕ). slice_index_or p.cache i (empty_line riding.fresh)) place in
-          let kept = after_block riding.absorbed l mail.item in
-          rw (same, kept) (message_base riding.absorbed l mail.item (l.block == block) (is_nil p.requests.items) cores d
+          let kept = after_block riding l mail.item in
+          rw (same, kept) (message_base riding l mail.item (l.block == block) (is_nil p.requests.items) cores d
           there)
       by_place false e =
           elim (message_debt_or l mail.item d there) [

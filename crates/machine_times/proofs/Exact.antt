@@ -23,7 +23,7 @@ use Rattle.msi_protocol.proofs.Keeping.{holders_kept}
 use Rattle.msi_protocol.proofs.Moves.{stands_request, stands_response, stands_message, stands_wish, stands_access}
 use Rattle.msi_protocol.proofs.Moves.{has_load, has_store, still_has}
 use Rattle.msi_protocol.proofs.Moves.{allows_read, reads_line, writer_away}
-use Rattle.machine_times.proofs.Relined.{found_relined}
+use Rattle.machine_times.proofs.Relined.{found_rehomed, found_relined}
 
 -- each move of a block keeps its riders right
 pub exact_kept : {X : Type 0} (t : WordTimes X) → AbsorbsWell t → (h : List NotedAccess) (word : ℕ) →
@@ -58,6 +58,11 @@ exact_kept {X} t well h word =
         holders = holders.reline b lines same st e.holders;
         found = λ d ld. found_relined (read_rank t d) (rank (last_noted_read h word d)) d b lines ld same st
             (e.found d ld);
+      };
+      rehome = λ b home same st e. record {
+        stands = record { fits = st.fits; roles = st.roles };
+        holders = holders.rehome b home same st e.holders;
+        found = λ d ld. found_rehomed (read_rank t d) (rank (last_noted_read h word d)) d b home same (e.found d ld);
       };
     }
   where

@@ -12,7 +12,7 @@ use Rattle.msi_protocol.specs.Seats.{Seat, allows as phase_allows}
 use Rattle.msi_protocol.specs.Showing.{KeptBy, Shows}
 use Rattle.msi_protocol.specs.Shown.{Payload, Sight, line_with, payload_absorbed}
 use Rattle.msi_protocol.proofs.Shown.{shown_allows}
-use Rattle.msi_protocol.proofs.Shows.{copy_in}
+use Rattle.msi_protocol.proofs.Shown.{copy_in}
 use Rattle.msi_memory.specs.Acts.{allows}
 use Rattle.msi_memory.specs.Memories.{Memory, port_at, rider_at}
 use Rattle.memory_laws.specs.Links.{TouchGives, line_if, payload_at, port_sight}
@@ -33,6 +33,7 @@ module _ {R : Type 0} where
         message = λ c m rest bl lc asks st e slot ls. (kept slot ls).message c m rest bl lc asks st (e slot ls);
         wish = λ c w bl st e slot ls. (kept slot ls).wish c w bl st (e slot ls);
         reline = λ bl lines same st e slot ls. (kept slot ls).reline bl lines same st (e slot ls);
+        rehome = λ bl home same st e slot ls. (kept slot ls).rehome bl home same st (e slot ls);
       }
     where
       kept : (slot : ℕ) → slot < BLOCK_WORDS → KeptBy (payload_absorbed parts.riding) (Exact (slot_times parts slot) h

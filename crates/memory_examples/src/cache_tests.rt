@@ -213,10 +213,11 @@ fn takes_data_and_acknowledgements(rt: HostRuntime) -> Result<(), Fail> {
         &stalled,
         Step::Ack,
         silent(),
-        (State::I, 1, 1),
+        (State::I, 1, 0),
     )
 }
 
+// A copy that ends gives its rider away, and a copy that stays keeps it.
 #[test]
 fn gives_copies_up(rt: HostRuntime) -> Result<(), Fail> {
     row(
@@ -225,7 +226,7 @@ fn gives_copies_up(rt: HostRuntime) -> Result<(), Fail> {
         &SHARED,
         Step::Inv,
         inv_ack(1),
-        (State::I, 1, 1),
+        (State::I, 1, 0),
     )?;
     let upgrade = [Step::Load(4), Step::Data(1), Step::Store(4)];
     row(
@@ -234,7 +235,7 @@ fn gives_copies_up(rt: HostRuntime) -> Result<(), Fail> {
         &upgrade,
         Step::Inv,
         inv_ack(1),
-        (State::ImD, 1, 1),
+        (State::ImD, 1, 0),
     )?;
     let put_s = [Step::Load(4), Step::Data(1), Step::Load(20)];
     row(
@@ -243,7 +244,7 @@ fn gives_copies_up(rt: HostRuntime) -> Result<(), Fail> {
         &put_s,
         Step::Inv,
         inv_ack(1),
-        (State::IiA, 1, 1),
+        (State::IiA, 1, 0),
     )?;
     let put_m = [Step::Store(4), Step::Data(1), Step::Load(20)];
     row(
@@ -268,7 +269,7 @@ fn gives_copies_up(rt: HostRuntime) -> Result<(), Fail> {
         &OWNED,
         Step::FwdGetM,
         owner_data(1, 1),
-        (State::I, 1, 1),
+        (State::I, 1, 0),
     )?;
     row(
         &rt,
@@ -276,7 +277,7 @@ fn gives_copies_up(rt: HostRuntime) -> Result<(), Fail> {
         &put_m,
         Step::FwdGetM,
         owner_data(1, 1),
-        (State::IiA, 1, 1),
+        (State::IiA, 1, 0),
     )
 }
 

@@ -2,7 +2,7 @@
 //! out by hand from the table of the protocol.
 use crate::trail::Trail;
 use image_mem::Image;
-use msi_cache::{FromHome, Request, Response};
+use msi_cache::{FromHome, Held, Request, Response};
 use msi_directory::{Home, HomeAnswer, HomeWords, Stage};
 use rtr_types::{CORES_MAX, CoreSet};
 use std::alloc::Global;
@@ -24,34 +24,41 @@ enum Step {
 fn ask(
     rt: &impl Abort,
     home: &mut Home<Trail>,
+    hand: &mut Held<Trail>,
     from: u8,
     request: Request<Trail>,
 ) -> HomeAnswer<Trail> {
     assert!(rt; from < CORES_MAX && (request.block() as usize) < home.blocks());
     assert!(rt; home.has_room(request.block()) && home.expects_request(from, &request));
-    home.on_request(from, request)
+    home.on_request(from, request, hand)
 }
 
 fn reply(
     rt: &impl Abort,
     home: &mut Home<Trail>,
+    hand: &mut Held<Trail>,
     from: u8,
     response: Response<Trail>,
 ) -> HomeAnswer<Trail> {
     assert!(rt; from < CORES_MAX && (response.block() as usize) < home.blocks());
     assert!(rt; home.expects_response(from, &response));
-    home.on_response(from, response)
+    home.on_response(from, response, hand)
 }
 
-fn take(rt: &impl Abort, home: &mut Home<Trail>, step: Step) -> HomeAnswer<Trail> {
+fn take(
+    rt: &impl Abort,
+    home: &mut Home<Trail>,
+    hand: &mut Held<Trail>,
+    step: Step,
+) -> HomeAnswer<Trail> {
     let block = 2;
     let rider = |digits: u32| Trail { digits };
     match step {
-        Step::GetS(from) => ask(rt, home, from, Request::GetS { block }),
-        Step::GetM(from) => ask(rt, home, from, Request::GetM { block }),
+        Step::GetS(from) => ask(rt, home, hand, from, Request::GetS { block }),
+        Step::GetM(from) => ask(rt, home, hand, from, Request::GetM { block }),
         Step::PutS(from, mark) => {
             let rider = rider(mark);
-            ask(rt, home, from, Request::PutS { block, rider })
+            ask(rt, home, hand, from, Request::PutS { block, rider })
         }
         Step::PutM(from, mark) => {
             let (words, rider) = ([mark; 4], rider(mark));
@@ -60,11 +67,11 @@ fn take(rt: &impl Abort, home: &mut Home<Trail>, step: Step) -> HomeAnswer<Trail
                 words,
                 rider,
             };
-            ask(rt, home, from, put)
+            ask(rt, home, hand, from, put)
         }
         Step::InvAck(from, mark) => {
             let rider = rider(mark);
-            reply(rt, home, from, Response::InvAck { block, rider })
+            reply(rt, home, hand, from, Response::InvAck { block, rider })
         }
         Step::OwnerData(from, mark) => {
             let (words, rider) = ([mark; 4], rider(mark));
@@ -73,7 +80,7 @@ fn take(rt: &impl Abort, home: &mut Home<Trail>, step: Step) -> HomeAnswer<Trail
                 words,
                 rider,
             };
-            reply(rt, home, from, given)
+            reply(rt, home, hand, from, given)
         }
     }
 }
@@ -90,12 +97,13 @@ fn row(
 ) -> Result<(), Fail> {
     let image = Image::flat(Vec::new(alloc), 16)?;
     let mut home = Home::new(alloc, &image)?;
+    let mut hand = Held::fresh(alloc)?;
     assert!(rt; home.blocks() == 4);
     home.make_room(2)?;
     for before in path {
-        take(rt, &mut home, *before);
+        take(rt, &mut home, &mut hand, *before);
     }
-    assert!(rt; take(rt, &mut home, step) == answer, "{step:?}");
+    assert!(rt; take(rt, &mut home, &mut hand, step) == answer, "{step:?}");
     assert!(rt; home.blocks() == 4);
     let now = (home.stage(2), home.word(8), home.rider(2).digits);
     assert!(rt; now == left, "{step:?}");
@@ -292,6 +300,7 @@ fn takes_requests_for_an_owned_block(rt: HostRuntime) -> Result<(), Fail> {
     )
 }
 
+// The home gives its rider to an owner, and keeps it where it sends it to a core that only reads.
 #[test]
 fn takes_responses(rt: HostRuntime) -> Result<(), Fail> {
     let alloc = rt.alloc();
@@ -321,7 +330,7 @@ fn takes_responses(rt: HostRuntime) -> Result<(), Fail> {
         &path,
         Step::InvAck(0, 6),
         data(2, 0, 56),
-        (owned, 0, 56),
+        (owned, 0, 0),
     )?;
     let path = [Step::GetM(0), Step::GetS(2)];
     row(
@@ -339,28 +348,36 @@ fn takes_responses(rt: HostRuntime) -> Result<(), Fail> {
         &path,
         Step::OwnerData(0, 5),
         data(2, 5, 5),
-        (owned, 5, 5),
+        (owned, 5, 0),
     )
 }
 
 /// Room is made for block 2, and cores 0 and 1 come to share it.
-fn shared_by_two(rt: &impl Abort, home: &mut Home<Trail>) -> Result<(), Fail> {
+fn shared_by_two(
+    rt: &impl Abort,
+    home: &mut Home<Trail>,
+    hand: &mut Held<Trail>,
+) -> Result<(), Fail> {
     assert!(rt; home.blocks() == 4);
     assert_eq!(rt; (home.touched(), home.has_room(2)), (0, false));
     home.make_room(2)?;
     assert_eq!(rt; (home.touched(), home.has_room(2)), (1, true));
-    assert!(rt; take(rt, home, Step::GetS(0)) == data(0, 0, 0));
+    assert!(rt; take(rt, home, hand, Step::GetS(0)) == data(0, 0, 0));
     assert!(rt; home.blocks() == 4);
     home.make_room(2)?;
-    assert!(rt; take(rt, home, Step::GetS(1)) == data(1, 0, 0));
+    assert!(rt; take(rt, home, hand, Step::GetS(1)) == data(1, 0, 0));
     Ok(())
 }
 
 /// Core 1 asks to own it, and the home waits.
-fn waits_for_core_0(rt: &impl Abort, home: &mut Home<Trail>) -> Result<(), Fail> {
+fn waits_for_core_0(
+    rt: &impl Abort,
+    home: &mut Home<Trail>,
+    hand: &mut Held<Trail>,
+) -> Result<(), Fail> {
     assert!(rt; home.blocks() == 4);
     home.make_room(2)?;
-    assert!(rt; take(rt, home, Step::GetM(1)) == invalidates(1));
+    assert!(rt; take(rt, home, hand, Step::GetM(1)) == invalidates(1));
     assert!(rt; home.blocks() == 4);
     assert_eq!(rt; home.can_take(&Request::GetS { block: 2 }), false);
     assert_eq!(rt; home.is_free(2), false);
@@ -369,21 +386,22 @@ fn waits_for_core_0(rt: &impl Abort, home: &mut Home<Trail>) -> Result<(), Fail>
 }
 
 /// Core 0 has let it go.
-fn owned_by_core_1(rt: &impl Abort, home: &mut Home<Trail>) {
-    assert!(rt; take(rt, home, Step::InvAck(0, 7)) == data(1, 0, 7));
+fn owned_by_core_1(rt: &impl Abort, home: &mut Home<Trail>, hand: &mut Held<Trail>) {
+    assert!(rt; take(rt, home, hand, Step::InvAck(0, 7)) == data(1, 0, 7));
     assert!(rt; home.blocks() == 4);
     assert_eq!(rt; (home.owner(2), home.words(2).owner), (Some(1), Some(1)));
     assert_eq!(rt; (home.is_free(2), home.touched()), (true, 1));
-    assert_eq!(rt; (home.rider(2).digits, home.rider(3).digits), (7, 0));
+    assert_eq!(rt; (home.rider(2).digits, home.rider(3).digits), (0, 0));
 }
 
 #[test]
 fn hands_a_shared_block_to_one_owner(rt: HostRuntime) -> Result<(), Fail> {
     let image = Image::flat(Vec::new(rt.alloc()), 16)?;
     let mut home = Home::new(rt.alloc(), &image)?;
-    shared_by_two(&rt, &mut home)?;
-    waits_for_core_0(&rt, &mut home)?;
-    owned_by_core_1(&rt, &mut home);
+    let mut hand = Held::fresh(rt.alloc())?;
+    shared_by_two(&rt, &mut home, &mut hand)?;
+    waits_for_core_0(&rt, &mut home, &mut hand)?;
+    owned_by_core_1(&rt, &mut home, &mut hand);
     Ok(())
 }
 
@@ -418,8 +436,9 @@ fn has_the_words_of_a_put(rt: HostRuntime) -> Result<(), Fail> {
     let mut home = Home::new(rt.alloc(), &image)?;
     assert!(rt; home.blocks() == 4);
     home.make_room(2)?;
-    take(&rt, &mut home, Step::GetM(0));
-    take(&rt, &mut home, Step::PutM(0, 5));
+    let mut hand = Held::fresh(rt.alloc())?;
+    take(&rt, &mut home, &mut hand, Step::GetM(0));
+    take(&rt, &mut home, &mut hand, Step::PutM(0, 5));
     assert!(rt; home.blocks() == 4);
     assert_eq!(rt; (home.word(7), home.word(8), home.word(11)), (0, 5, 5));
     assert_eq!(rt; home.owner(2), None);

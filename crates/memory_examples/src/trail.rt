@@ -30,4 +30,8 @@ impl Rider for Trail {
     fn renew(&mut self, other: &Self) {
         self.digits = other.digits.wrapping_mul(10).wrapping_add(self.digits);
     }
+
+    fn forget(&mut self) {
+        self.digits = 0;
+    }
 }

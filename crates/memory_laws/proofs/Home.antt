@@ -181,12 +181,12 @@ module _ {R K : Type 0} where
           let moved = for_request riding (Q block) (well block) block entry (old_sight block) c mail.item
           (of_block request_block block rest)
           (omega arith) free asked old in
-          same_sights (Q block) block (entry_after_request riding.absorbed entry c mail.item)
+          same_sights (Q block) block (entry_after_request riding entry c mail.item)
           (entry_at riding.fresh new.home block)
           (λ d. after_request_at riding entry block c mail.item (of_block request_block block rest) d
           (old_sight block d))
           (λ d. port_sight riding block (port_at carrying new.ports d))
-          (sym (get_or-set_same m.home block (entry_after_request riding.absorbed entry c mail.item)
+          (sym (get_or-set_same m.home block (entry_after_request riding entry c mail.item)
           (no_entry riding.fresh) lb))
           (λ d ld. at d ld asked old (cases_lt d (length m.ports))) moved
         where
@@ -216,7 +216,7 @@ module _ {R K : Type 0} where
       by_block b (inr other) =
           same_sights (Q b) b (entry_at riding.fresh m.home b) (entry_at riding.fresh new.home b) (old_sight b)
           (λ d. port_sight riding b (port_at carrying new.ports d))
-          (sym (get_or-set_other m.home block b (entry_after_request riding.absorbed entry c mail.item)
+          (sym (get_or-set_other m.home block b (entry_after_request riding entry c mail.item)
           (no_entry riding.fresh) other))
           (λ d ld. at d (cases_lt d (length m.ports))) (f.blocks b)
         where
@@ -347,12 +347,12 @@ module _ {R K : Type 0} where
           let moved = for_response riding (Q block) (well block) block entry (old_sight block) c mail.item
           (of_block response_block block rest)
           (omega arith) asked old in
-          same_sights (Q block) block (entry_after_response riding.absorbed entry c mail.item)
+          same_sights (Q block) block (entry_after_response riding entry c mail.item)
           (entry_at riding.fresh new.home block)
           (λ d. after_response_at riding entry block c mail.item (of_block response_block block rest) d
           (old_sight block d))
           (λ d. port_sight riding block (port_at carrying new.ports d))
-          (sym (get_or-set_same m.home block (entry_after_response riding.absorbed entry c mail.item)
+          (sym (get_or-set_same m.home block (entry_after_response riding entry c mail.item)
           (no_entry riding.fresh) lb))
           (λ d ld. at d ld asked old (cases_lt d (length m.ports))) moved
         where
@@ -382,7 +382,7 @@ module _ {R K : Type 0} where
       by_block b (inr other) =
           same_sights (Q b) b (entry_at riding.fresh m.home b) (entry_at riding.fresh new.home b) (old_sight b)
           (λ d. port_sight riding b (port_at carrying new.ports d))
-          (sym (get_or-set_other m.home block b (entry_after_response riding.absorbed entry c mail.item)
+          (sym (get_or-set_other m.home block b (entry_after_response riding entry c mail.item)
           (no_entry riding.fresh) other))
           (λ d ld. at d (cases_lt d (length m.ports))) (f.blocks b)
         where

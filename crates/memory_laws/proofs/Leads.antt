@@ -29,7 +29,8 @@ use Rattle.msi_memory.specs.Acts.{port_taking, port_asking, port_touched, with_p
 use Rattle.memory_laws.proofs.Views.{port_at-set}
 use Rattle.msi_protocol.specs.Showing.{KeptBy, Shows}
 use Rattle.memory_laws.specs.Links.{AllShow, TouchGives, payload_at, words_left, port_sight}
-use Rattle.msi_protocol.proofs.Shows.{for_message, for_wish, for_touch, copy_in, same_sights}
+use Rattle.msi_protocol.proofs.Shows.{for_message, for_wish, for_touch, same_sights}
+use Rattle.msi_protocol.proofs.Shown.{copy_in}
 use Rattle.msi_protocol.proofs.Relined.{SameSight, alike_sights}
 use Rattle.memory_laws.proofs.Ports.{sight-received, sight-received_other, sight-asking, sight-asking_other}
 use Rattle.memory_laws.proofs.Ports.{asked_needed, asked_place, left_line, left_other}

@@ -293,48 +293,48 @@ module _ {R K : Type 0} where
 
 -- ---- the port takes a message
 
-received_fits : {R : Type 0} (absorbed : R → R → R) (blocks : ℕ) (i : ℕ) (l : Line R) (m : FromHome R) →
+received_fits : {R : Type 0} (riding : Riding R) (blocks : ℕ) (i : ℕ) (l : Line R) (m : FromHome R) →
     is_some (row (signal m) l.state) ≡ true →
-    LineHolds blocks i l → LineHolds blocks i (line_after absorbed l m)
-received_fits absorbed blocks i l m e h = record {
+    LineHolds blocks i l → LineHolds blocks i (line_after riding l m)
+received_fits riding blocks i l m e h = record {
   place = grind (arith, nat_tests, h.place);
   within =
       grind (arith, nat_tests, h.within);
 }
 
 -- a line that waits after a message waited before it
-received_waits : {R : Type 0} (absorbed : R → R → R) (l : Line R) (m : FromHome R) →
+received_waits : {R : Type 0} (riding : Riding R) (l : Line R) (m : FromHome R) →
     is_some (row (signal m) l.state) ≡ true →
-    is_transient (line_after absorbed l m).state ≡ true → is_transient l.state ≡ true
-received_waits absorbed l m e f = grind arith
+    is_transient (line_after riding l m).state ≡ true → is_transient l.state ≡ true
+received_waits riding l m e f = grind arith
 
 -- and for the same access
-received_serves : {R : Type 0} (absorbed : R → R → R) (l : Line R) (m : FromHome R) (writes : Bool) (i b : ℕ) →
+received_serves : {R : Type 0} (riding : Riding R) (l : Line R) (m : FromHome R) (writes : Bool) (i b : ℕ) →
     is_some (row (signal m) l.state) ≡ true →
-    serves l.state writes l.block i b ≡ true → serves (line_after absorbed l m).state writes
-    (line_after absorbed l m).block i b ≡ true
-received_serves absorbed l m writes i b e f = grind (arith, nat_tests)
+    serves l.state writes l.block i b ≡ true → serves (line_after riding l m).state writes
+    (line_after riding l m).block i b ≡ true
+received_serves riding l m writes i b e f = grind (arith, nat_tests)
 
 -- data come to a line that waits for them, which then waits no more
 data_transient : {R : Type 0} (l : Line R) (m : FromHome R) → is_data m ≡ true →
     is_some (row (signal m) l.state) ≡ true → is_transient l.state ≡ true
 data_transient l m d e = grind arith
 
-data_still : {R : Type 0} (absorbed : R → R → R) (l : Line R) (m : FromHome R) → is_data m ≡ true →
+data_still : {R : Type 0} (riding : Riding R) (l : Line R) (m : FromHome R) → is_data m ≡ true →
     is_some (row (signal m) l.state) ≡ true →
-    is_transient (line_after absorbed l m).state ≡ false
-data_still absorbed l m d e = grind arith
+    is_transient (line_after riding l m).state ≡ false
+data_still riding l m d e = grind arith
 
 data_serves : {R : Type 0} (l : Line R) (m : FromHome R) (writes : Bool) (i b : ℕ) → is_data m ≡ true →
     is_some (row (signal m) l.state) ≡ true →
     serves l.state writes l.block i b ≡ true → l.block ≡ b
 data_serves l m writes i b d e f = grind (arith, nat_tests)
 
-data_allows : {R : Type 0} (absorbed : R → R → R) (l : Line R) (m : FromHome R) (kind : Kind) (i b : ℕ) →
+data_allows : {R : Type 0} (riding : Riding R) (l : Line R) (m : FromHome R) (kind : Kind) (i b : ℕ) →
     is_data m ≡ true →
     is_some (row (signal m) l.state) ≡ true → serves l.state (is_write kind) l.block i b ≡ true →
-    is_allowed (line_after absorbed l m) b kind ≡ true
-data_allows absorbed l m kind i b d e f = grind (arith, nat_tests)
+    is_allowed (line_after riding l m) b kind ≡ true
+data_allows riding l m kind i b d e f = grind (arith, nat_tests)
 
 module _ {R K : Type 0} where
   pub taking_fits : (riding : Riding R) (carrying : Carrying K) (blocks : ℕ) (p : Port R K) (mail : Mail (FromHome R) K)
@@ -344,13 +344,13 @@ module _ {R K : Type 0} where
       PortHolds riding blocks (port_hearing riding carrying p mail rest)
   taking_fits riding carrying blocks p mail rest there h =
       one_line_fits riding blocks p (port_hearing riding carrying p mail rest) (block_of mail.item % LINES)
-      (line_after riding.absorbed (line_for riding.fresh p.cache (block_of mail.item)) mail.item)
+      (line_after riding (line_for riding.fresh p.cache (block_of mail.item)) mail.item)
       (record { within = omega arith; lines = refl; requests = refl; responses = refl; messages = refl })
-      (received_fits riding.absorbed blocks (block_of mail.item % LINES) (line_for riding.fresh p.cache
+      (received_fits riding blocks (block_of mail.item % LINES) (line_for riding.fresh p.cache
       (block_of mail.item)) mail.item there
       (h.lines (block_of mail.item % LINES)))
       (λ waits i e. h.one_waits i (block_of mail.item % LINES) e
-      (received_waits riding.absorbed (line_for riding.fresh p.cache (block_of mail.item)) mail.item there waits))
+      (received_waits riding (line_for riding.fresh p.cache (block_of mail.item)) mail.item there waits))
       h
 
   pub taking_waits : (riding : Riding R) (carrying : Carrying K) (p : Port R K) (mail : Mail (FromHome R) K)
@@ -360,9 +360,9 @@ module _ {R K : Type 0} where
       WaitsFor riding p block kind → WaitsFor riding (port_hearing riding carrying p mail rest) block kind
   taking_waits riding carrying p mail rest block kind long there h =
       one_line_waits riding p (port_hearing riding carrying p mail rest) (block_of mail.item % LINES)
-      (line_after riding.absorbed (line_for riding.fresh p.cache (block_of mail.item)) mail.item) block kind
+      (line_after riding (line_for riding.fresh p.cache (block_of mail.item)) mail.item) block kind
       (record { within = omega arith; lines = refl; requests = refl; responses = refl; messages = refl }) long
-      (received_serves riding.absorbed (line_for riding.fresh p.cache (block_of mail.item)) mail.item (is_write kind)
+      (received_serves riding (line_for riding.fresh p.cache (block_of mail.item)) mail.item (is_write kind)
       (block_of mail.item % LINES) block there
       (h (block_of mail.item % LINES)))
       (λ i other. h i)
@@ -377,16 +377,16 @@ module _ {R K : Type 0} where
   taking_still riding carrying blocks p mail rest d there h i =
       ap (λ (x : Line R). is_transient x.state) (one_line_at riding p (port_hearing riding carrying p mail rest)
       (block_of mail.item % LINES)
-      (line_after riding.absorbed (line_for riding.fresh p.cache (block_of mail.item)) mail.item) i
+      (line_after riding (line_for riding.fresh p.cache (block_of mail.item)) mail.item) i
       (record { within = omega arith; lines = refl; requests = refl; responses = refl; messages = refl }) h.all_lines)
       ∙ by_test (i == block_of mail.item % LINES) refl (is_transient (place_at riding p i).state) refl
     where
       by_test : (t : Bool) → (i == block_of mail.item % LINES) ≡ t → (u : Bool) →
           is_transient (place_at riding p i).state ≡ u →
-          is_transient (if t then line_after riding.absorbed (line_for riding.fresh p.cache (block_of mail.item))
+          is_transient (if t then line_after riding (line_for riding.fresh p.cache (block_of mail.item))
           mail.item else place_at riding p i).state
           ≡ false
-      by_test true e u f = data_still riding.absorbed (line_for riding.fresh p.cache (block_of mail.item)) mail.item d
+      by_test true e u f = data_still riding (line_for riding.fresh p.cache (block_of mail.item)) mail.item d
           there
       by_test false e false f = f
       by_test false e true f = absurd (let at : i ≡ block_of mail.item % LINES =
@@ -408,11 +408,11 @@ module _ {R K : Type 0} where
       (data_serves old mail.item (is_write kind) (block_of mail.item % LINES) block d there
       (h (block_of mail.item % LINES))) ∙ at in
       let here : line_for riding.fresh (port_hearing riding carrying p mail rest).cache block ≡ line_after
-      riding.absorbed old mail.item =
+      riding old mail.item =
       ap (λ (x : ℕ). line_for riding.fresh (port_hearing riding carrying p mail rest).cache x) same
-      ∙ get_or-set_same p.cache (block_of mail.item % LINES) (line_after riding.absorbed old mail.item)
+      ∙ get_or-set_same p.cache (block_of mail.item % LINES) (line_after riding old mail.item)
       (empty_line riding.fresh) (rw long (omega arith)) in
-      ap (λ (x : Line R). is_allowed x block kind) here ∙ data_allows riding.absorbed old mail.item kind
+      ap (λ (x : Line R). is_allowed x block kind) here ∙ data_allows riding old mail.item kind
       (block_of mail.item % LINES) block d there
       (h (block_of mail.item % LINES))
 

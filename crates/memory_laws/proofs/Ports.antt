@@ -146,10 +146,10 @@ module _ {R K : Type 0} where
       before : line_here b l ≡ l
       before = let t : (l.block == b) ≡ true = grind (arith, nat_tests) in ap (λ (u : Bool). line_if u b l) t
 
-      after : line_here b (line_after riding.absorbed l mail.item) ≡ line_after riding.absorbed l mail.item
-      after = let k = after_block riding.absorbed l mail.item in
-          let t : ((line_after riding.absorbed l mail.item).block == b) ≡ true = grind
-          (arith, nat_tests) in ap (λ (u : Bool). line_if u b (line_after riding.absorbed l mail.item)) t
+      after : line_here b (line_after riding l mail.item) ≡ line_after riding l mail.item
+      after = let k = after_block riding l mail.item in
+          let t : ((line_after riding l mail.item).block == b) ≡ true = grind
+          (arith, nat_tests) in ap (λ (u : Bool). line_if u b (line_after riding l mail.item)) t
 
       new : Port R K
       new = port_taking riding carrying p (mail ∷ rest)
@@ -157,11 +157,11 @@ module _ {R K : Type 0} where
       taken : Port R K
       taken = port_hearing riding carrying p mail rest
 
-      line : line_here b (line_for riding.fresh new.cache b) ≡ line_after riding.absorbed (line_here b l) mail.item
+      line : line_here b (line_for riding.fresh new.cache b) ≡ line_after riding (line_here b l) mail.item
       line = ap (λ (c : List (Line R)). line_here b (line_for riding.fresh c b))
           (answering_same taken (answer_to riding p mail.item)).0
-          ∙ (ap (line_here b) (set_here riding.fresh p.cache (line_after riding.absorbed l mail.item) b long)
-          ∙ (after ∙ ap (λ (x : Line R). line_after riding.absorbed x mail.item) (sym before)))
+          ∙ (ap (line_here b) (set_here riding.fresh p.cache (line_after riding l mail.item) b long)
+          ∙ (after ∙ ap (λ (x : Line R). line_after riding x mail.item) (sym before)))
 
       q : of_block request_block b new.requests.items ≡ of_block request_block b p.requests.items
       q = ap (λ (x : _). of_block request_block b x.items) (answering_same taken (answer_to riding p mail.item)).1
@@ -204,13 +204,13 @@ module _ {R K : Type 0} where
       (line_here b (line_for riding.fresh new.cache b)) =
       subst (λ (c : List (Line R)). SameLine (line_here b (line_for riding.fresh p.cache b))
       (line_here b (line_for riding.fresh c b))) (sym same.0)
-      (set_line riding.fresh p.cache (k % LINES) (line_after riding.absorbed l mail.item) b (omega arith)
+      (set_line riding.fresh p.cache (k % LINES) (line_after riding l mail.item) b (omega arith)
       (λ (place : b % LINES ≡ k % LINES). off_block b
-      (line_for riding.fresh p.cache b) (line_after riding.absorbed l mail.item)
+      (line_for riding.fresh p.cache b) (line_after riding l mail.item)
       (inl (λ (e : (line_for riding.fresh p.cache b).block ≡ b). other (sym at
       ∙ ap (λ (i : ℕ). (slice_index_or p.cache i (empty_line riding.fresh)).block)
-      (sym place) ∙ e))) (inl (λ (e : (line_after riding.absorbed l mail.item).block ≡ b). other (sym at
-      ∙ sym (after_block riding.absorbed l mail.item)
+      (sym place) ∙ e))) (inl (λ (e : (line_after riding l mail.item).block ≡ b). other (sym at
+      ∙ sym (after_block riding l mail.item)
       ∙ e))))) in
       record {
         state = line.state;

@@ -36,6 +36,7 @@ module _ {R : Type 0} where
         λ c m rest bl lc asks st h. tt;
     wish = λ c w bl st h. tt;
     reline = λ bl lines same st h. tt;
+    rehome = λ bl home same st h. tt;
   }
 
   pub anything_touched : (c block : ℕ) (kind : Kind) (old new : Payload R) →

@@ -27,8 +27,8 @@ module _ {R : Type 0} where
   plain_block m = search rules
 
   pub plain_line_after : (riding : Riding R) (line : Line R) (m : FromHome R) →
-      plain_line (line_after riding.absorbed line m)
-      ≡ line_after none_riding.absorbed (plain_line line) (plain_message m)
+      plain_line (line_after riding line m)
+      ≡ line_after none_riding (plain_line line) (plain_message m)
   plain_line_after riding line m = search rules
 
   pub plain_row : (line : Line R) (m : FromHome R) → has_row line m ≡ has_row (plain_line line) (plain_message m)
@@ -56,7 +56,7 @@ module _ {R : Type 0} where
     same_row = rw (plain_line_for riding.fresh lines (block_of m)) (plain_row (line_for riding.fresh lines (block_of m))
         m);
     same_lines = rw (
-      plain_lines_with lines (block_of m) (line_after riding.absorbed (line_for riding.fresh lines (block_of m)) m),
+      plain_lines_with lines (block_of m) (line_after riding (line_for riding.fresh lines (block_of m)) m),
       plain_block m,
       plain_line_for riding.fresh lines (block_of m),
       plain_line_after riding (line_for riding.fresh lines (block_of m)) m,

@@ -5,7 +5,7 @@ use Rattle.std.specs.List.{list_any}
 use Rattle.access_times.specs.Riding.{Riding}
 use Rattle.rtr_types.specs.Accesses.{is_write}
 use Rattle.rtr_types.specs.declared.access.Kind.{Kind}
-use Rattle.msi_cache.specs.Table.{Effect, Keep, Take, TakeAbsorbing, Row, row, Reply, Ask, WantRow, want_row}
+use Rattle.msi_cache.specs.Table.{Effect, Keep, Take, TakeAbsorbing, Give, Row, row, Reply, Ask, WantRow, want_row}
 use Rattle.msi_cache.specs.Table.{is_readable, is_writable, is_transient}
 use Rattle.msi_cache.specs.Messages.{signal, block_of}
 use Rattle.rtr_types.specs.declared.TheConstants.{LINES}
@@ -37,25 +37,27 @@ module _ {R : Type 0} where
   words_after Keep m old = old
   words_after Take m old = words_of m old
   words_after TakeAbsorbing m old = words_of m old
+  words_after Give m old = old
 
-  abbrev pub rider_after : (R → R → R) → Effect → FromHome R → R → R
-  rider_after absorbed Keep m old = old
-  rider_after absorbed Take m old = rider_of m old
-  rider_after absorbed TakeAbsorbing m old = absorbed (rider_of m old) old
+  abbrev pub rider_after : Riding R → Effect → FromHome R → R → R
+  rider_after riding Keep m old = old
+  rider_after riding Take m old = rider_of m old
+  rider_after riding TakeAbsorbing m old = riding.absorbed (rider_of m old) old
+  rider_after riding Give m old = riding.fresh
 
-  abbrev pub line_by : (R → R → R) → Option Row → FromHome R → Line R → Line R
-  line_by absorbed None m line = line
-  line_by absorbed (Some r) m line =
+  abbrev pub line_by : Riding R → Option Row → FromHome R → Line R → Line R
+  line_by riding None m line = line
+  line_by riding (Some r) m line =
       record {
         state = r.next;
         block = line.block;
         words = words_after r.effect m line.words;
-        rider = rider_after absorbed r.effect m line.rider;
+        rider = rider_after riding r.effect m line.rider;
       }
 
   -- the line after a message: another state, words and rider, and the same block
-  abbrev pub line_after : (R → R → R) → Line R → FromHome R → Line R
-  line_after absorbed line m = line_by absorbed (row (signal m) line.state) m line
+  abbrev pub line_after : Riding R → Line R → FromHome R → Line R
+  line_after riding line m = line_by riding (row (signal m) line.state) m line
 
   -- a response has the words and the rider that the line had before the message
   abbrev pub response_of : Reply → Line R → Response R
@@ -138,7 +140,7 @@ module _ {R : Type 0} where
   -- the lines after a message from home
   abbrev pub lines_after : Riding R → List (Line R) → FromHome R → List (Line R)
   lines_after riding lines m =
-      lines_with lines (block_of m) (line_after riding.absorbed (line_for riding.fresh lines (block_of m)) m)
+      lines_with lines (block_of m) (line_after riding (line_for riding.fresh lines (block_of m)) m)
 
   -- the lines after a request for the block was made
   abbrev pub lines_asking : Riding R → List (Line R) → ℕ → Kind → List (Line R)

@@ -27,11 +27,13 @@ pub data Reply : Type 0 where
   OwnerData : Reply
 
 -- what a message does to the line's words and rider: nothing; both are replaced by the message's;
--- or they are replaced, and the new rider absorbs the old one
+-- they are replaced, and the new rider absorbs the old one; or the copy ends here, its rider goes with
+-- the answer, and nothing rides on the line from then on
 pub data Effect : Type 0 where
   Keep : Effect
   Take : Effect
   TakeAbsorbing : Effect
+  Give : Effect
 
 -- the state after the message, what is answered, and the effect
 pub record Row : Type 0 where
@@ -42,8 +44,8 @@ pub record Row : Type 0 where
 abbrev pub silent : State → Effect → Option Row
 silent next effect = Some (record { next = next; answer = None; effect = effect })
 
-abbrev pub replying : Reply → State → Option Row
-replying reply next = Some (record { next = next; answer = Some reply; effect = Keep })
+abbrev pub replying : Reply → State → Effect → Option Row
+replying reply next effect = Some (record { next = next; answer = Some reply; effect = effect })
 
 -- what a message does to the line that holds its block. A pair with no row never comes in a run.
 abbrev pub row : Signal → State → Option Row
@@ -53,13 +55,13 @@ row BlockData SmD = silent M TakeAbsorbing
 row PutAck MiA = silent I Keep
 row PutAck SiA = silent I Keep
 row PutAck IiA = silent I Keep
-row Inv S = replying InvAck I
-row Inv SmD = replying InvAck ImD
-row Inv SiA = replying InvAck IiA
-row FwdGetS M = replying OwnerData S
-row FwdGetS MiA = replying OwnerData SiA
-row FwdGetM M = replying OwnerData I
-row FwdGetM MiA = replying OwnerData IiA
+row Inv S = replying InvAck I Give
+row Inv SmD = replying InvAck ImD Give
+row Inv SiA = replying InvAck IiA Give
+row FwdGetS M = replying OwnerData S Keep
+row FwdGetS MiA = replying OwnerData SiA Keep
+row FwdGetM M = replying OwnerData I Give
+row FwdGetM MiA = replying OwnerData IiA Give
 row _ _ = None
 
 -- what is asked for, and the line's state after it

@@ -1,6 +1,6 @@
 //! A core's cache.
 ghost use Rattle.std.specs.Prelude.{◌≡◌, ◌<◌, ℕ, List, IfOk, IsTrue, false, true, length, replicate, slice_index};
-ghost use Rattle.std.specs.Prelude.{is_some};
+ghost use Rattle.std.specs.Prelude.{Some, is_some};
 ghost use Rattle.std.specs.Borrow.{sem};
 ghost use Rattle.msi_cache.specs.Lent.{LendsRider};
 ghost use Rattle.msi_cache.specs.Lines.{answer, asks, can_read, can_write, empty_line, has_row, is_allowed, line_for};
@@ -13,7 +13,7 @@ ghost use Rattle.rtr_types.specs.declared.access.Kind.{Kind};
 
 use crate::line::Line;
 use crate::messages::{FromHome, Request, Response};
-use crate::slots::FromHomeSlot;
+use crate::slots::{FromHomeSlot, ResponseSlot};
 use access_times::Rider;
 use rtr_types::{BLOCK_WORDS, Kind, LINES};
 use std::alloc::{AllocError, Global};
@@ -199,6 +199,20 @@ impl<R: Rider> Cache<R> {
         ensures elsewhere { SameElsewhere R.riding.fresh self.old self.new (block_of (message_seen message.entry)) }
     {
         self.lines[message.block() as usize % LINES].hear(message);
+    }
+
+    /// Takes a message that the table answers, as `on_home` does, and puts the answer there. Where the copy ends, its
+    /// rider is handed over to the answer.
+    pub fn respond(&mut self, message: FromHome<&R>, reply: &mut ResponseSlot<R>)
+        requires row { let seen = message_seen message in
+            IsTrue (has_row (line_for R.riding.fresh self.old (block_of seen)) seen) }
+        requires answered { let seen = message_seen message in
+            IsTrue (is_some (answer (line_for R.riding.fresh self.old (block_of seen)) seen)) }
+        ensures lines { self.new ≡ lines_after R.riding self.old (message_seen message.entry) }
+        ensures reply { let seen = message_seen message.entry in
+            Some reply.new ≡ answer (line_for R.riding.fresh self.old (block_of seen)) seen }
+    {
+        self.lines[message.block() as usize % LINES].respond(message, reply);
     }
 
     /// Takes the message that lies here as `hear` does. What is left here means nothing: a rider that the line takes

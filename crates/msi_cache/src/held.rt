@@ -59,6 +59,13 @@ impl<R: Rider> Held<R> {
         &mut *self.apart
     }
 
+    /// Becomes a rider that holds nothing.
+    pub fn forget(&mut self)
+        ensures { self.new ≡ R.riding.fresh }
+    {
+        self.apart.forget();
+    }
+
     /// Takes over what another rider holds.
     pub fn absorb(&mut self, other: &R)
         ensures { self.new ≡ R.riding.absorbed self.old other.now }

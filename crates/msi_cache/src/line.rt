@@ -1,5 +1,5 @@
 //! One line of a cache: a block's copy and the state that it is in.
-ghost use Rattle.std.specs.Prelude.{◌≡◌, IfOk, IsTrue, false, true, is_some};
+ghost use Rattle.std.specs.Prelude.{◌≡◌, IfOk, IsTrue, Some, false, true, is_some};
 ghost use Rattle.msi_cache.specs.Lines.{answer, asks, can_read, can_write, empty_line, has_row, is_allowed, line_after};
 ghost use Rattle.msi_cache.specs.Lines.{line_asking, wanted};
 ghost use Rattle.msi_cache.specs.Messages.{answer_seen, message_seen, request_seen};
@@ -10,7 +10,7 @@ ghost use Rattle.msi_cache.specs.declared.messages.Response.{Response};
 
 use crate::held::Held;
 use crate::messages::{FromHome, Request, Response};
-use crate::slots::FromHomeSlot;
+use crate::slots::{FromHomeSlot, ResponseSlot};
 use access_times::Rider;
 use rtr_types::{BLOCK_WORDS, Kind};
 use std::alloc::{AllocError, Global};
@@ -176,30 +176,67 @@ impl<R: Rider> Line<R> {
     /// Takes a message from home about this line's block.
     pub(crate) fn hear(&mut self, message: FromHome<&R>)
         requires { IsTrue (has_row self.old (message_seen message)) }
-        ensures { self.new ≡ line_after R.riding.absorbed self.old (message_seen message.entry) }
+        ensures { self.new ≡ line_after R.riding self.old (message_seen message.entry) }
     {
         match message {
             FromHome::BlockData { words, rider, .. } => self.fill(words, rider),
             FromHome::PutAck { .. } => self.state = State::I,
-            FromHome::Inv { .. } => {
-                self.state = match self.state {
-                    State::SmD => State::ImD,
-                    State::SiA => State::IiA,
-                    _ => State::I,
-                };
+            FromHome::FwdGetS { .. } => self.state = self.state_after(message),
+            FromHome::Inv { .. } | FromHome::FwdGetM { .. } => {
+                self.state = self.state_after(message);
+                self.rider.forget();
             }
-            FromHome::FwdGetS { .. } => {
-                self.state = match self.state {
-                    State::MiA => State::SiA,
-                    _ => State::S,
-                };
+        }
+    }
+
+    /// Takes a message from home about this line's block, which the table answers, and puts the answer there. Where the
+    /// copy ends, its rider is handed over to the answer.
+    pub(crate) fn respond(&mut self, message: FromHome<&R>, reply: &mut ResponseSlot<R>)
+        requires row { IsTrue (has_row self.old (message_seen message)) }
+        requires answered { IsTrue (is_some (answer self.old (message_seen message))) }
+        ensures line { self.new ≡ line_after R.riding self.old (message_seen message.entry) }
+        ensures reply { Some reply.new ≡ answer self.old (message_seen message.entry) }
+    {
+        let (block, words) = (self.block, self.words);
+        let next = self.state_after(message);
+        match message {
+            FromHome::Inv { .. } => {
+                let ack = Response::InvAck { block, rider: () };
+                reply.put_given(ack, &mut self.rider);
             }
             FromHome::FwdGetM { .. } => {
-                self.state = match self.state {
-                    State::MiA => State::IiA,
-                    _ => State::I,
+                let rider = ();
+                let data = Response::OwnerData {
+                    block,
+                    words,
+                    rider,
                 };
+                reply.put_given(data, &mut self.rider);
             }
+            _ => {
+                let rider = self.rider.get();
+                reply.put(Response::OwnerData {
+                    block,
+                    words,
+                    rider,
+                });
+            }
+        }
+        self.state = next;
+    }
+
+    /// The line's state once it has taken such a message about its block, which the table answers.
+    fn state_after(&self, message: FromHome<&R>) -> State
+        requires row { IsTrue (has_row self.now (message_seen message)) }
+        requires answered { IsTrue (is_some (answer self.now (message_seen message))) }
+        ensures { result ≡ (line_after R.riding self.now (message_seen message.entry)).state }
+    {
+        match (message, self.state) {
+            (FromHome::FwdGetS { .. }, State::MiA) => State::SiA,
+            (FromHome::FwdGetS { .. }, _) => State::S,
+            (FromHome::Inv { .. }, State::SmD) => State::ImD,
+            (_, State::SiA | State::MiA) => State::IiA,
+            _ => State::I,
         }
     }
 
@@ -207,7 +244,7 @@ impl<R: Rider> Line<R> {
     /// is handed over.
     pub(crate) fn take(&mut self, slot: &mut FromHomeSlot<R>)
         requires { IsTrue (has_row self.old slot.old) }
-        ensures { self.new ≡ line_after R.riding.absorbed self.old slot.old }
+        ensures { self.new ≡ line_after R.riding self.old slot.old }
     {
         match self.state {
             State::IsD => {
@@ -218,6 +255,10 @@ impl<R: Rider> Line<R> {
                 slot.hand_over(&mut self.words, &mut self.rider);
                 self.state = State::M;
             }
+            State::SmD if matches!(slot.open(), FromHome::BlockData { .. }) => {
+                slot.hand_over_absorbing(&mut self.words, &mut self.rider);
+                self.state = State::M;
+            }
             _ => self.hear(slot.open()),
         }
     }
@@ -226,7 +267,7 @@ impl<R: Rider> Line<R> {
     /// so the new rider absorbs the old one.
     fn fill(&mut self, words: [u32; BLOCK_WORDS], rider: &R)
         requires { IsTrue (is_some (row Signal.BlockData self.old.state)) }
-        ensures { self.new ≡ line_after R.riding.absorbed self.old (FromHome.BlockData self.old.block words rider.now) }
+        ensures { self.new ≡ line_after R.riding self.old (FromHome.BlockData self.old.block words rider.now) }
     {
         self.words = words;
         match self.state {

@@ -3,8 +3,9 @@
 ghost use Rattle.std.specs.Prelude.{◌≡◌};
 ghost use Rattle.msi_cache.specs.Handing.{owner_rider, owner_words};
 ghost use Rattle.msi_cache.specs.Lines.{rider_of, words_of};
-ghost use Rattle.msi_cache.specs.Messages.{block_of, message_seen, request_block, request_seen, response_block};
-ghost use Rattle.msi_cache.specs.Messages.{response_seen};
+ghost use Rattle.msi_cache.specs.Messages.{block_of, message_seen, message_with, request_block, request_seen};
+ghost use Rattle.msi_cache.specs.Messages.{response_block, response_seen, response_with, signal};
+ghost use Rattle.msi_cache.specs.Table.{Signal};
 
 use crate::held::Held;
 use crate::messages::{FromHome, Request, Response};
@@ -140,6 +141,16 @@ impl<R: Rider> ResponseSlot<R> {
         }
     }
 
+    /// Puts the response here with a rider that is handed over: the giver keeps one that holds nothing.
+    pub fn put_given(&mut self, response: Response<()>, rider: &mut Held<R>)
+        ensures place { self.new ≡ response_with (λ own. rider.old) response }
+        ensures giver { rider.new ≡ R.riding.fresh }
+    {
+        self.bare = response;
+        mem::swap(&mut self.rider, rider);
+        rider.forget();
+    }
+
     /// The block that the response is about.
     pub fn block(&self) -> u32
         ensures { result ≡ response_block self.now }
@@ -209,12 +220,22 @@ impl<R: Rider> FromHomeSlot<R> {
         }
     }
 
+    /// Puts the message here with the rider that is in hand, where it has data. What is in hand afterwards means
+    /// nothing.
+    pub fn put_handed(&mut self, message: FromHome<()>, hand: &mut Held<R>)
+        ensures { self.new ≡ message_with (λ own. hand.old) message }
+    {
+        self.bare = message;
+        mem::swap(&mut self.rider, hand);
+    }
+
     /// The message that lies here, with its rider lent.
     pub fn open(&self) -> FromHome<&R>
         ensures { message_seen result ≡ self.now }
     {
         self.bare.riding(self.rider.get())
     }
+
     /// The block that the message is about.
     pub fn block(&self) -> u32
         ensures { result ≡ block_of self.now }
@@ -231,6 +252,20 @@ impl<R: Rider> FromHomeSlot<R> {
         if let FromHome::BlockData { words: sent, .. } = self.bare {
             *words = sent;
             mem::swap(&mut self.rider, rider);
+        }
+    }
+
+    /// Hands the data's words and rider over to a copy that has a rider of its own, which the new one absorbs. The
+    /// place is to be dropped: contracts see some message in it afterwards.
+    pub fn hand_over_absorbing(&mut self, words: &mut [u32; BLOCK_WORDS], rider: &mut Held<R>)
+        requires { signal self.old ≡ Signal.BlockData }
+        ensures words { words.new ≡ words_of self.old words.old }
+        ensures rider { rider.new ≡ R.riding.absorbed (rider_of self.old rider.old) rider.old }
+    {
+        if let FromHome::BlockData { words: sent, .. } = self.bare {
+            *words = sent;
+            mem::swap(&mut self.rider, rider);
+            rider.absorb(self.rider.get());
         }
     }
 }

@@ -3,6 +3,7 @@ use Rattle.std.proofs.Common.{◌≡◌, ℕ, ◌<◌, arith, refl, ap, not, Boo
 use Rattle.std.specs.Prelude.{if◌then◌else◌, ◌==◌, All, length, slice_index_or, slice_set}
 use Rattle.std.proofs.lemmas.List.Elements.{All-set}
 use Rattle.std.proofs.lemmas.Bool.Decides.{nat_tests}
+use Rattle.access_times.specs.Riding.{Riding}
 use Rattle.rtr_types.proofs.Members.{no_cores_below, with_nonempty, with_below, without_below}
 use Rattle.rtr_types.specs.declared.TheConstants.{CORES_MAX}
 use Rattle.rtr_types.specs.declared.core_set.CoreSet.{CoreSet}
@@ -110,25 +111,25 @@ response_fits (Acks «of» requester) c Reply.OwnerData h fits = refl
 response_fits (Data «of» requester share) c Reply.InvAck h fits = refl
 
 module _ {R : Type 0} where
-  entry_by_fits : (absorbed : R → R → R) (row : Option HomeRow) (e : Entry R) (words : List ℕ) (rider : R) →
+  entry_by_fits : (riding : Riding R) (row : Option HomeRow) (e : Entry R) (words : List ℕ) (rider : R) →
       IsTrue (row_fits row) →
-      IsTrue (stage_fits e.stage) → IsTrue (stage_fits (entry_by absorbed row e words rider).stage)
-  entry_by_fits absorbed None e words rider fits old = old
-  entry_by_fits absorbed (Some r) e words rider fits old = fits
+      IsTrue (stage_fits e.stage) → IsTrue (stage_fits (entry_by riding row e words rider).stage)
+  entry_by_fits riding None e words rider fits old = old
+  entry_by_fits riding (Some r) e words rider fits old = fits
 
-  pub request_keeps_fit : (absorbed : R → R → R) (e : Entry R) (c : ℕ) (request : Request R) → c < CORES_MAX →
+  pub request_keeps_fit : (riding : Riding R) (e : Entry R) (c : ℕ) (request : Request R) → c < CORES_MAX →
       IsTrue (stage_fits e.stage) →
-      IsTrue (stage_fits (entry_after_request absorbed e c request).stage)
-  request_keeps_fit absorbed e c request h fits =
-      entry_by_fits absorbed (request_row e.stage c (ask_of request)) e (request_words request e.words)
+      IsTrue (stage_fits (entry_after_request riding e c request).stage)
+  request_keeps_fit riding e c request h fits =
+      entry_by_fits riding (request_row e.stage c (ask_of request)) e (request_words request e.words)
       (request_rider request e.rider)
       (request_fits e.stage c (ask_of request) h fits) fits
 
-  pub response_keeps_fit : (absorbed : R → R → R) (e : Entry R) (c : ℕ) (response : Response R) → c < CORES_MAX →
+  pub response_keeps_fit : (riding : Riding R) (e : Entry R) (c : ℕ) (response : Response R) → c < CORES_MAX →
       IsTrue (stage_fits e.stage) →
-      IsTrue (stage_fits (entry_after_response absorbed e c response).stage)
-  response_keeps_fit absorbed e c response h fits =
-      entry_by_fits absorbed (response_row e.stage c (reply_of response)) e (response_words response e.words)
+      IsTrue (stage_fits (entry_after_response riding e c response).stage)
+  response_keeps_fit riding e c response h fits =
+      entry_by_fits riding (response_row e.stage c (reply_of response)) e (response_words response e.words)
       (response_rider response)
       (response_fits e.stage c (reply_of response) h fits) fits
 
@@ -141,20 +142,20 @@ module _ {R : Type 0} where
       IsTrue (stage_fits e.stage)
   one_fits entries block e fits within is = rw is (fits block e within)
 
-  pub request_keeps_all : (absorbed : R → R → R) (entries : List (Entry R)) (block : ℕ) (old new : Entry R) (c : ℕ)
+  pub request_keeps_all : (riding : Riding R) (entries : List (Entry R)) (block : ℕ) (old new : Entry R) (c : ℕ)
       (request : Request R) → AllFit entries →
       block < length entries → old ≡ slice_index_or entries block old → c < CORES_MAX →
-      new ≡ entry_after_request absorbed old c request →
+      new ≡ entry_after_request riding old c request →
       AllFit (slice_set entries block new)
-  request_keeps_all absorbed entries block old new c request fits within is h row =
+  request_keeps_all riding entries block old new c request fits within is h row =
       All-set (λ (e : Entry R). IsTrue (stage_fits e.stage)) entries block new
-      (rw row (request_keeps_fit absorbed old c request h (one_fits entries block old fits within is))) fits
+      (rw row (request_keeps_fit riding old c request h (one_fits entries block old fits within is))) fits
 
-  pub response_keeps_all : (absorbed : R → R → R) (entries : List (Entry R)) (block : ℕ) (old new : Entry R) (c : ℕ)
+  pub response_keeps_all : (riding : Riding R) (entries : List (Entry R)) (block : ℕ) (old new : Entry R) (c : ℕ)
       (response : Response R) → AllFit entries →
       block < length entries → old ≡ slice_index_or entries block old → c < CORES_MAX →
-      new ≡ entry_after_response absorbed old c response →
+      new ≡ entry_after_response riding old c response →
       AllFit (slice_set entries block new)
-  response_keeps_all absorbed entries block old new c response fits within is h row =
+  response_keeps_all riding entries block old new c response fits within is h row =
       All-set (λ (e : Entry R). IsTrue (stage_fits e.stage)) entries block new
-      (rw row (response_keeps_fit absorbed old c response h (one_fits entries block old fits within is))) fits
+      (rw row (response_keeps_fit riding old c response h (one_fits entries block old fits within is))) fits

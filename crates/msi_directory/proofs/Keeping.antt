@@ -6,7 +6,7 @@ use Rattle.std.specs.Cmp.{nat_eq_equiv}
 use Rattle.std.specs.List.{IsDistinct}
 use Rattle.std.specs.Map.{keys_of, values_of}
 use Rattle.std.specs.Prelude.{nat_eq}
-use Rattle.std.proofs.lemmas.List.{get_or-set_same, get_or_read, length_push, map_push}
+use Rattle.std.proofs.lemmas.List.{get_or_read, length_push, map_push}
 use Rattle.std.proofs.lemmas.Option.{get_or_from_slice_get}
 use Rattle.indexmap.specs.IndexMap.{IndexMap, insert_entry, keys, set_value_at, values, with_value_at}
 use Rattle.indexmap.proofs.CallerLemmas.{keys-with_value_at}
@@ -91,9 +91,6 @@ module _ {R S : Type 0} (m : IndexMap ℕ Stage S) (copies : List (HomeCopy R)) 
   changed row stage' copy' after past =
       rw (here past, ← after, ← is, keys-with_value_at m place stage', values_set m.entries place stage')
 
-  pub answered : (X : Type 0) (answer : R → X) (wanted : Entry R → X) (copy' : HomeCopy R)
-      → answer copy'.rider ≡ wanted (entry_of stage copy) → (past : Entry R)
-      → answer (slice_index_or (slice_set copies place copy') place (copy_of past)).rider ≡ wanted
-      (kept_at now place past)
-  answered X answer wanted copy' after past = rw (here past, get_or-set_same copies place copy' (copy_of past) within)
-      after
+  pub answered : (X : Type 0) (answer : X) (wanted : Entry R → X) → answer ≡ wanted (entry_of stage copy) →
+      (past : Entry R) → answer ≡ wanted (kept_at now place past)
+  answered X answer wanted after past = rw (here past) after

@@ -4,11 +4,10 @@ use Rattle.std.specs.Prelude.{All, IfSome, length, slice_index_or, slice_set}
 use Rattle.std.proofs.lemmas.List.{get_or-set_other, get_or-set_same, length-set}
 use Rattle.msi_directory.specs.Blocks.{Blocks, opening_entry}
 use Rattle.msi_directory.specs.Fitting.{stage_fits}
-use Rattle.msi_directory.specs.Kept.{HomeFits, Kept, Sparse, blocks_in, copy_of, kept_at, kept_with, place_of}
+use Rattle.msi_directory.specs.Kept.{HomeFits, Kept, Sparse, blocks_in, kept_at, kept_with, place_of}
 use Rattle.msi_directory.specs.declared.entry.Entry.{Entry}
 use Rattle.msi_directory.specs.declared.entry.Stage.{Stage}
-use Rattle.msi_directory.specs.declared.home_copies.HomeCopy.{HomeCopy}
-use Rattle.msi_directory.proofs.Sparse.{entries_counted, entries_with, fits_with, reads_kept}
+use Rattle.msi_directory.proofs.Sparse.{entries_with, fits_with, reads_kept}
 
 -- where the block that was asked for was found
 pub record IsFound {R : Type 0} (home : Sparse R) (block place : ℕ) : Type 0 where
@@ -58,13 +57,6 @@ module _ {R : Type 0} (home : Sparse R) (block place : ℕ) (found : IsFound hom
       ap (λ (b : Blocks R). slice_index_or b.entries other past) blocks_after
       ∙ get_or-set_other (blocks_in home).entries block other (row entry_before) past apart
 
-  -- a copy that is read where the block's is by now
-  abbrev pub ReadsAfter : HomeCopy R → Type 0
-  ReadsAfter copy = (d : HomeCopy R) → copy ≡ slice_index_or after.copies place d
-
-  pub copy_after : place < length after.copies
-  copy_after = rw (row_is, length-set home.kept.copies place (copy_of (row entry_before))) found.copy
-
   pub place_after : place < length after.stages
   place_after = rw (row_is, length-set home.kept.stages place (row entry_before).stage) found.stage
 
@@ -77,23 +69,10 @@ module _ {R : Type 0} (home : Sparse R) (block place : ℕ) (found : IsFound hom
       ∙ ap (λ (k : Kept R). slice_index_or k.stages place next) row_is
       ∙ get_or-set_same home.kept.stages place next next found.stage
 
-  pub rider_after : (copy : HomeCopy R) → ReadsAfter copy →
-      copy.rider ≡ (slice_index_or (blocks_in home_after).entries block past).rider
-  rider_after copy reads =
-      let within_after : block < length (blocks_in home_after).entries =
-      rw (entries_counted home_after, ← entries_counted home) within in
-      let stands_after : place_of after.blocks block ≡ Some place = ap (λ (k : Kept R). place_of k.blocks block) row_is
-      ∙ found.stands in
-      ap (λ (c : HomeCopy R). c.rider) (reads (copy_of (opening_entry home.fresh home.opening block)))
-      ∙ ap (λ (e : Entry R). e.rider) (sym (reads_kept home_after block within_after past place stands_after))
-
-  pub row_answers : (X : Type 0) (answer : R → X) (wanted : Entry R → X) (copy : HomeCopy R) → ReadsAfter copy
-      → ((e : Entry R) → answer (kept_at after place e).rider ≡ wanted (kept_at home.kept place e)) →
-      answer copy.rider ≡ wanted entry_before
-  row_answers X answer wanted copy reads says =
-      let opens = opening_entry home.fresh home.opening block in
-      ap (λ (c : HomeCopy R). answer c.rider) (reads (copy_of opens))
-      ∙ says opens
+  pub row_answers : (X : Type 0) (answer : X) (wanted : Entry R → X)
+      → ((e : Entry R) → answer ≡ wanted (kept_at home.kept place e)) → answer ≡ wanted entry_before
+  row_answers X answer wanted says =
+      says (opening_entry home.fresh home.opening block)
       ∙ ap wanted (sym (reads_kept home block within past place found.stands))
 
   pub fits_after : All (λ (o : Entry R). IsTrue (stage_fits o.stage)) (slice_set (blocks_in home).entries block

@@ -63,13 +63,13 @@ module _ {R : Type 0} where
   abbrev pub entries_after_request : Riding R → List (Entry R) → ℕ → Request R → List (Entry R)
   entries_after_request riding entries c request =
       slice_set entries (request_block request)
-      (entry_after_request riding.absorbed (entry_at riding.fresh entries (request_block request)) c request)
+      (entry_after_request riding (entry_at riding.fresh entries (request_block request)) c request)
 
   -- the entries after a response from core c: that of its block alone is another
   abbrev pub entries_after_response : Riding R → List (Entry R) → ℕ → Response R → List (Entry R)
   entries_after_response riding entries c response =
       slice_set entries (response_block response)
-      (entry_after_response riding.absorbed (entry_at riding.fresh entries (response_block response)) c response)
+      (entry_after_response riding (entry_at riding.fresh entries (response_block response)) c response)
 
   -- the two homes differ at most at the block's entry
   abbrev pub SameElsewhere : R → List (Entry R) → List (Entry R) → ℕ → Type 0

@@ -4,4 +4,3 @@ pub mod Blocks
 pub mod Kept
 pub mod PlainPart
 pub mod Fitting
-pub mod Lent

@@ -97,6 +97,12 @@ is_free (Acks «of» requester) = false
 is_free (Data «of» requester share) = false
 is_free _ = true
 
+-- the home's copy of a block that a cache owns is an old one, and nothing rides on it: a row that sends the block's
+-- data to its new owner gives the home's rider away with them
+abbrev pub gives : Stage → Send → Bool
+gives (Owned owner) (BlockData core) = true
+gives stage send = false
+
 -- the core that owns the block
 abbrev pub owner_of : Stage → Option ℕ
 owner_of (Owned owner) = Some owner

@@ -142,11 +142,10 @@ pub struct HomeWords {
     pub owner: Option<u8>,
 }
 
-/// What the home answers to a message whose rider was lent, and beside it, lent too, the rider of the message's
-/// block as the home has it by then: data are sent with it. The block is free where it isn't busy by then.
-#[derive(Drop)]
-pub struct Served<'a, R> {
+/// What the home answers to a message whose rider was lent: the rider of data which are sent is in hand. The message's
+/// block is free where it isn't busy by then.
+#[derive(Clone, Copy)]
+pub struct Served {
     pub answer: HomeAnswer<()>,
-    pub rider: &'a R,
     pub free: bool,
 }

@@ -18,7 +18,7 @@ use crate::entry::{Entry, HomeAnswer, HomeWords, Served, Stage};
 use crate::kept_entries::KeptEntries;
 use access_times::{Rider, copied};
 use image_mem::Image;
-use msi_cache::{Request, Response, ResponseSlot};
+use msi_cache::{Held, Request, Response, ResponseSlot};
 use rtr_types::{BLOCK_WORDS, CORES_MAX};
 use std::alloc::{AllocError, Global};
 use std::marker::Model;
@@ -54,9 +54,6 @@ impl<R> Model for Home<R> {
 }
 
 impl<R: Rider> Home<R> {
-    ghost use Rattle.std.specs.Borrow.{sem};
-    ghost use Rattle.msi_directory.specs.Lent.{EndsAs, TookRequest, TookResponse};
-
     /// A home over the image: each block is held by no cache, and has its opening words and a fresh
     /// rider. A last block that the memory's words fill only in part is filled up with zeros.
     pub fn new(alloc: Global, image: &Image) -> Result<Home<R>, AllocError>
@@ -151,8 +148,13 @@ impl<R: Rider> Home<R> {
     }
 
     /// Takes a request from core `from`, for a block that has room and at which the table has a row for
-    /// it, so that it isn't busy. Only that block's entry changes.
-    pub fn on_request(&mut self, from: u8, request: Request<R>) -> HomeAnswer<R>
+    /// it, so that it isn't busy. Only that block's entry changes. What was in hand means nothing, before and after.
+    pub fn on_request(
+        &mut self,
+        from: u8,
+        request: Request<R>,
+        hand: &mut Held<R>,
+    ) -> HomeAnswer<R>
         requires from { from < CORES_MAX }
         requires within { request_block request < length self.old.entries }
         requires room { IsTrue (has_room self.old.rooms (request_block request)) }
@@ -166,42 +168,46 @@ impl<R: Rider> Home<R> {
         ensures answer { result ≡ answer_to_request R.riding.absorbed
             (entry_at R.riding.fresh self.old.entries (request_block request)) from request }
     {
-        let Served { answer, rider, .. } = self.serve(from, request.lent());
-        answer.riding(copied(rider))
+        let Served { answer, .. } = self.serve(from, request.lent(), hand);
+        answer.riding(copied(hand.get()))
     }
 
-    /// Takes a request as `on_request` does, with its rider lent, and lends the block's rider as it is
-    /// after the call: data are sent with it. So the block is looked up once.
-    pub fn serve<'a>(&'a mut self, from: u8, request: Request<&R>) -> Served<'a, R>
+    /// Takes a request as `on_request` does, with its rider lent. Where data are sent, their rider is in hand
+    /// afterwards: so it goes to its place without being copied on the way.
+    pub fn serve(&mut self, from: u8, request: Request<&R>, hand: &mut Held<R>) -> Served
         requires from { from < CORES_MAX }
         requires within { request_block (request_seen request) < length self.old.entries }
         requires room { IsTrue (has_room self.old.rooms (request_block (request_seen request))) }
         requires row { IsTrue (has_request_row
             (entry_at R.riding.fresh self.old.entries (request_block (request_seen request))).stage from
             (request_seen request)) }
-        ensures* home { sem 𝓛 (EndsAs R.row self.entry
-            (TookRequest R.riding self.old from (request_seen request.entry) result.rider.now)) }
-        ensures answer { answer_riding result.rider.now result.answer ≡ answer_to_request R.riding.absorbed
+        ensures blocks { self.new ≡ record self.old {
+          entries =
+              entries_after_request R.riding self.old.entries from (request_seen request.entry);
+        } }
+        ensures elsewhere { SameElsewhere R.riding.fresh self.old.entries self.new.entries
+            (request_block (request_seen request.entry)) }
+        ensures answer { answer_riding hand.new result.answer ≡ answer_to_request R.riding.absorbed
             (entry_at R.riding.fresh self.old.entries (request_block (request_seen request.entry))) from
             (request_seen request.entry) }
         ensures free { let seen = request_seen request.entry in
             let old = entry_at R.riding.fresh self.old.entries (request_block seen) in
-            result.free ≡ is_free (entry_after_request R.riding.absorbed old from seen).stage }
+            result.free ≡ is_free (entry_after_request R.riding old from seen).stage }
     {
         let place = self.kept.place(request.block()).unwrap();
-        let answer = self.kept.serve(place, from, request);
+        let answer = self.kept.serve(place, from, request, hand);
         let free = self.kept.stage(place).is_free();
-        let rider = self.kept.copy(place).rider.get();
-        Served {
-            answer,
-            rider,
-            free,
-        }
+        Served { answer, free }
     }
 
     /// Takes a response from core `from`, about a block at which the table has a row for it. Only that
-    /// block's entry changes.
-    pub fn on_response(&mut self, from: u8, response: Response<R>) -> HomeAnswer<R>
+    /// block's entry changes. What was in hand means nothing, before and after.
+    pub fn on_response(
+        &mut self,
+        from: u8,
+        response: Response<R>,
+        hand: &mut Held<R>,
+    ) -> HomeAnswer<R>
         requires from { from < CORES_MAX }
         requires within { response_block response < length self.old.entries }
         requires row { IsTrue (has_response_row
@@ -214,61 +220,64 @@ impl<R: Rider> Home<R> {
         ensures answer { result ≡ answer_to_response R.riding.absorbed
             (entry_at R.riding.fresh self.old.entries (response_block response)) from response }
     {
-        let Served { answer, rider, .. } = self.collect(from, response.lent());
-        answer.riding(copied(rider))
+        let Served { answer, .. } = self.collect(from, response.lent(), hand);
+        answer.riding(copied(hand.get()))
     }
 
-    /// Takes a response as `on_response` does, with its rider lent, and lends the block's rider as it
-    /// is after the call: data are sent with it. So the block is looked up once.
-    pub fn collect<'a>(&'a mut self, from: u8, response: Response<&R>) -> Served<'a, R>
+    /// Takes a response as `on_response` does, with its rider lent. Where data are sent, their rider is in hand
+    /// afterwards.
+    pub fn collect(&mut self, from: u8, response: Response<&R>, hand: &mut Held<R>) -> Served
         requires from { from < CORES_MAX }
         requires within { response_block (response_seen response) < length self.old.entries }
         requires row { IsTrue (has_response_row
             (entry_at R.riding.fresh self.old.entries (response_block (response_seen response))).stage from
             (response_seen response)) }
-        ensures* home { sem 𝓛 (EndsAs R.row self.entry
-            (TookResponse R.riding self.old from (response_seen response.entry) result.rider.now)) }
-        ensures answer { answer_riding result.rider.now result.answer ≡ answer_to_response R.riding.absorbed
+        ensures blocks { self.new ≡ record self.old {
+          entries =
+              entries_after_response R.riding self.old.entries from (response_seen response.entry);
+        } }
+        ensures elsewhere { SameElsewhere R.riding.fresh self.old.entries self.new.entries
+            (response_block (response_seen response.entry)) }
+        ensures answer { answer_riding hand.new result.answer ≡ answer_to_response R.riding.absorbed
             (entry_at R.riding.fresh self.old.entries (response_block (response_seen response.entry))) from
             (response_seen response.entry) }
         ensures free { let seen = response_seen response.entry in
             let old = entry_at R.riding.fresh self.old.entries (response_block seen) in
-            result.free ≡ is_free (entry_after_response R.riding.absorbed old from seen).stage }
+            result.free ≡ is_free (entry_after_response R.riding old from seen).stage }
     {
         let place = self.kept.place(response.block()).unwrap();
-        let answer = self.kept.collect(place, from, response);
+        let answer = self.kept.collect(place, from, response, hand);
         let free = self.kept.stage(place).is_free();
-        let rider = self.kept.copy(place).rider.get();
-        Served {
-            answer,
-            rider,
-            free,
-        }
+        Served { answer, free }
     }
 
     /// Takes the response that lies here, as `collect` does. What is left here means nothing: an owner's rider is
     /// handed over, not copied.
-    pub fn receive<'a>(&'a mut self, from: u8, response: &mut ResponseSlot<R>) -> Served<'a, R>
+    pub fn receive(
+        &mut self,
+        from: u8,
+        response: &mut ResponseSlot<R>,
+        hand: &mut Held<R>,
+    ) -> Served
         requires from { from < CORES_MAX }
         requires within { response_block response.old < length self.old.entries }
         requires row { IsTrue (has_response_row
             (entry_at R.riding.fresh self.old.entries (response_block response.old)).stage from response.old) }
-        ensures* home { sem 𝓛 (EndsAs R.row self.entry
-            (TookResponse R.riding self.old from response.old result.rider.now)) }
-        ensures answer { answer_riding result.rider.now result.answer ≡ answer_to_response R.riding.absorbed
+        ensures blocks { self.new ≡ record self.old {
+          entries =
+              entries_after_response R.riding self.old.entries from response.old;
+        } }
+        ensures elsewhere { SameElsewhere R.riding.fresh self.old.entries self.new.entries
+            (response_block response.old) }
+        ensures answer { answer_riding hand.new result.answer ≡ answer_to_response R.riding.absorbed
             (entry_at R.riding.fresh self.old.entries (response_block response.old)) from response.old }
         ensures free { let old = entry_at R.riding.fresh self.old.entries (response_block response.old) in
-            result.free ≡ is_free (entry_after_response R.riding.absorbed old from response.old).stage }
+            result.free ≡ is_free (entry_after_response R.riding old from response.old).stage }
     {
         let place = self.kept.place(response.block()).unwrap();
-        let answer = self.kept.receive(place, from, response);
+        let answer = self.kept.receive(place, from, response, hand);
         let free = self.kept.stage(place).is_free();
-        let rider = self.kept.copy(place).rider.get();
-        Served {
-            answer,
-            rider,
-            free,
-        }
+        Served { answer, free }
     }
 
     /// The rider on the home's copy of the block, one of the memory's.
@@ -355,9 +364,9 @@ fn opening_entry<R>(image: &Image, block: u32, rider: R) -> Entry<R>
 /// that it keeps has some core.
 pub fn home_rows_fit<R: Rider>()
     ensures request { (e : Entry R) (c : ℕ) (request : Request R) → c < CORES_MAX → IsTrue (stage_fits e.stage) →
-        IsTrue (stage_fits (entry_after_request R.riding.absorbed e c request).stage) }
+        IsTrue (stage_fits (entry_after_request R.riding e c request).stage) }
     ensures response { (e : Entry R) (c : ℕ) (response : Response R) → c < CORES_MAX → IsTrue (stage_fits e.stage) →
-        IsTrue (stage_fits (entry_after_response R.riding.absorbed e c response).stage) }
+        IsTrue (stage_fits (entry_after_response R.riding e c response).stage) }
 {}
 
 /// What rides changes nothing else: with the riders forgotten, each call does to a home what it does

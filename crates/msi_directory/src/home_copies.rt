@@ -5,8 +5,8 @@ ghost use Rattle.msi_cache.specs.Table.{Ask, Reply};
 ghost use Rattle.msi_cache.specs.declared.messages.FromHome.{FromHome};
 ghost use Rattle.msi_cache.specs.declared.messages.Request.{Request};
 ghost use Rattle.msi_directory.specs.Entries.{answer_by, answer_riding, answer_to_request, answer_to_response};
-ghost use Rattle.msi_directory.specs.Entries.{entry_after_request, entry_after_response, entry_by, has_request_row};
-ghost use Rattle.msi_directory.specs.Entries.{has_response_row};
+ghost use Rattle.msi_directory.specs.Entries.{entry_after_request, entry_after_response, entry_by, entry_left};
+ghost use Rattle.msi_directory.specs.Entries.{entry_met, has_request_row, has_response_row};
 ghost use Rattle.msi_directory.specs.Fitting.{stage_fits};
 ghost use Rattle.msi_directory.specs.Kept.{entry_of};
 ghost use Rattle.msi_directory.specs.Table.{own_from, request_row, response_row};
@@ -16,6 +16,7 @@ use crate::entry::{HomeAnswer, Stage};
 use access_times::Rider;
 use msi_cache::{FromHome, Held, Request, Response, ResponseSlot};
 use rtr_types::{BLOCK_WORDS, CORES_MAX, CoreSet};
+use std::mem;
 
 /// The home's own copy of a block: its words, and what rides on it. While a cache owns the block the copy is
 /// an old one. The block's stage lies apart, so that a look at a stage touches no copy.
@@ -25,27 +26,27 @@ pub(crate) struct HomeCopy<R> {
     pub(crate) rider: Held<R>,
 }
 
-// Each row of the table, on a block's stage and copy. An answer has no rider: data are sent with the copy's own, as
-// it is afterwards.
+// Each row of the table, on a block's stage and copy. An answer has no rider: that of data which are sent is put in
+// hand. An owner gets the copy's own, and the copy is left with none; a core that only reads gets an equal one.
 impl<R: Rider> HomeCopy<R> {
-    /// Takes a request for this block. The answer has no rider: data are sent with the entry's own, as
-    /// it is afterwards.
+    /// Takes a request for this block. The rider of data which are sent is in hand afterwards.
     pub(crate) fn serve(
         &mut self,
         stage: &mut Stage,
         from: u8,
         request: Request<&R>,
+        hand: &mut Held<R>,
     ) -> HomeAnswer<()>
         requires from { from < CORES_MAX }
         requires row { IsTrue (has_request_row stage.old from (request_seen request)) }
         ensures entry { entry_of stage.new self.new
-            ≡ entry_after_request R.riding.absorbed (entry_of stage.old self.old) from (request_seen request.entry) }
-        ensures answer { answer_riding self.new.rider result
+            ≡ entry_after_request R.riding (entry_of stage.old self.old) from (request_seen request.entry) }
+        ensures answer { answer_riding hand.new result
             ≡ answer_to_request R.riding.absorbed (entry_of stage.old self.old) from (request_seen request.entry) }
     {
         match request {
-            Request::GetS { block } => self.get_shared(stage, from, block),
-            Request::GetM { block } => self.get_owned(stage, from, block),
+            Request::GetS { block } => self.get_shared(stage, from, block, hand),
+            Request::GetM { block } => self.get_owned(stage, from, block, hand),
             Request::PutS { block, rider } => self.put_shared(stage, from, block, rider),
             Request::PutM {
                 block,
@@ -55,21 +56,21 @@ impl<R: Rider> HomeCopy<R> {
         }
     }
 
-    /// Takes a response about this block. The answer has no rider: data are sent with the entry's own,
-    /// as it is afterwards.
+    /// Takes a response about this block. The rider of data which are sent is in hand afterwards.
     pub(crate) fn collect(
         &mut self,
         stage: &mut Stage,
         from: u8,
         response: Response<&R>,
+        hand: &mut Held<R>,
     ) -> HomeAnswer<()>
         requires from { from < CORES_MAX }
         requires fits { IsTrue (stage_fits stage.old) }
         requires row { IsTrue (has_response_row stage.old from (response_seen response)) }
         ensures entry { entry_of stage.new self.new
-            ≡ entry_after_response R.riding.absorbed (entry_of stage.old self.old) from
+            ≡ entry_after_response R.riding (entry_of stage.old self.old) from
             (response_seen response.entry) }
-        ensures answer { answer_riding self.new.rider result
+        ensures answer { answer_riding hand.new result
             ≡ answer_to_response R.riding.absorbed (entry_of stage.old self.old) from
             (response_seen response.entry) }
     {
@@ -79,7 +80,7 @@ impl<R: Rider> HomeCopy<R> {
                 rider: reads,
             } => {
                 self.rider.absorb(reads);
-                self.acknowledge(stage, from, block)
+                self.acknowledge(stage, from, block, hand)
             }
             Response::OwnerData {
                 block,
@@ -88,7 +89,7 @@ impl<R: Rider> HomeCopy<R> {
             } => {
                 self.words = words;
                 self.rider.copy_from(rider);
-                self.hand_over(stage, from, block)
+                self.hand_over(stage, from, block, hand)
             }
         }
     }
@@ -99,13 +100,14 @@ impl<R: Rider> HomeCopy<R> {
         stage: &mut Stage,
         from: u8,
         response: &mut ResponseSlot<R>,
+        hand: &mut Held<R>,
     ) -> HomeAnswer<()>
         requires from { from < CORES_MAX }
         requires fits { IsTrue (stage_fits stage.old) }
         requires row { IsTrue (has_response_row stage.old from response.old) }
         ensures entry { entry_of stage.new self.new
-            ≡ entry_after_response R.riding.absorbed (entry_of stage.old self.old) from response.old }
-        ensures answer { answer_riding self.new.rider result
+            ≡ entry_after_response R.riding (entry_of stage.old self.old) from response.old }
+        ensures answer { answer_riding hand.new result
             ≡ answer_to_response R.riding.absorbed (entry_of stage.old self.old) from response.old }
     {
         match response.open() {
@@ -114,22 +116,28 @@ impl<R: Rider> HomeCopy<R> {
                 rider: reads,
             } => {
                 self.rider.absorb(reads);
-                self.acknowledge(stage, from, block)
+                self.acknowledge(stage, from, block, hand)
             }
             Response::OwnerData { block, .. } => {
                 response.hand_over(&mut self.words, &mut self.rider);
-                self.hand_over(stage, from, block)
+                self.hand_over(stage, from, block, hand)
             }
         }
     }
 
     /// A core wants to share the block.
-    fn get_shared(&mut self, stage: &mut Stage, from: u8, block: u32) -> HomeAnswer<()>
+    fn get_shared(
+        &mut self,
+        stage: &mut Stage,
+        from: u8,
+        block: u32,
+        hand: &mut Held<R>,
+    ) -> HomeAnswer<()>
         requires from { from < CORES_MAX }
         requires row { IsTrue (is_some (request_row stage.old from Ask.GetS)) }
         ensures entry { entry_of stage.new self.new
-            ≡ entry_after_request R.riding.absorbed (entry_of stage.old self.old) from (Request.GetS block) }
-        ensures answer { answer_riding self.new.rider result
+            ≡ entry_after_request R.riding (entry_of stage.old self.old) from (Request.GetS block) }
+        ensures answer { answer_riding hand.new result
             ≡ answer_to_request R.riding.absorbed (entry_of stage.old self.old) from (Request.GetS block) }
     {
         match *stage {
@@ -143,24 +151,30 @@ impl<R: Rider> HomeCopy<R> {
             }
             Stage::Shared { by } => {
                 *stage = Stage::Shared { by: by.with(from) };
-                self.give(from, block)
+                self.lend(from, block, hand)
             }
             _ => {
                 *stage = Stage::Shared {
                     by: CoreSet::empty().with(from),
                 };
-                self.give(from, block)
+                self.lend(from, block, hand)
             }
         }
     }
 
     /// A core wants to own the block.
-    fn get_owned(&mut self, stage: &mut Stage, from: u8, block: u32) -> HomeAnswer<()>
+    fn get_owned(
+        &mut self,
+        stage: &mut Stage,
+        from: u8,
+        block: u32,
+        hand: &mut Held<R>,
+    ) -> HomeAnswer<()>
         requires from { from < CORES_MAX }
         requires row { IsTrue (is_some (request_row stage.old from Ask.GetM)) }
         ensures entry { entry_of stage.new self.new
-            ≡ entry_after_request R.riding.absorbed (entry_of stage.old self.old) from (Request.GetM block) }
-        ensures answer { answer_riding self.new.rider result
+            ≡ entry_after_request R.riding (entry_of stage.old self.old) from (Request.GetM block) }
+        ensures answer { answer_riding hand.new result
             ≡ answer_to_request R.riding.absorbed (entry_of stage.old self.old) from (Request.GetM block) }
     {
         match *stage {
@@ -172,10 +186,12 @@ impl<R: Rider> HomeCopy<R> {
                 };
                 HomeAnswer::one(owner, FromHome::FwdGetM { block })
             }
-            Stage::Shared { by } => self.take_from(stage, by.without(from), from, block),
+            Stage::Shared { by } => {
+                self.take_from(stage, by.without(from), from, block, hand)
+            }
             _ => {
                 *stage = Stage::Owned { owner: from };
-                self.give(from, block)
+                self.give(from, block, hand)
             }
         }
     }
@@ -187,16 +203,17 @@ impl<R: Rider> HomeCopy<R> {
         others: CoreSet,
         requester: u8,
         block: u32,
+        hand: &mut Held<R>,
     ) -> HomeAnswer<()>
-        ensures entry { entry_of stage.new self.new
-            ≡ entry_by R.riding.absorbed (own_from others requester)
+        ensures entry { entry_of stage.new self.new ≡ entry_by R.riding (own_from others requester)
             (entry_of stage.old self.old) self.old.words self.old.rider }
-        ensures answer { answer_riding self.new.rider result
-            ≡ answer_by (own_from others requester) block (entry_of stage.new self.new) }
+        ensures answer { answer_riding hand.new result ≡ answer_by (own_from others requester) block
+            (entry_met R.riding.absorbed (own_from others requester) (entry_of stage.old self.old) self.old.words
+            self.old.rider) }
     {
         if others.is_empty() {
             *stage = Stage::Owned { owner: requester };
-            return self.give(requester, block);
+            return self.give(requester, block, hand);
         }
         *stage = Stage::Acks {
             of: others,
@@ -213,9 +230,9 @@ impl<R: Rider> HomeCopy<R> {
         requires from { from < CORES_MAX }
         requires row { IsTrue (has_request_row stage.old from (Request.PutS block rider.now)) }
         ensures entry { entry_of stage.new self.new
-            ≡ entry_after_request R.riding.absorbed (entry_of stage.old self.old) from
+            ≡ entry_after_request R.riding (entry_of stage.old self.old) from
             (Request.PutS block rider.now) }
-        ensures answer { answer_riding self.new.rider result
+        ensures answer { (lent : R) → answer_riding lent result
             ≡ answer_to_request R.riding.absorbed (entry_of stage.old self.old) from
             (Request.PutS block rider.now) }
     {
@@ -241,9 +258,9 @@ impl<R: Rider> HomeCopy<R> {
         requires from { from < CORES_MAX }
         requires row { IsTrue (has_request_row stage.old from (Request.PutM block words rider.now)) }
         ensures entry { entry_of stage.new self.new
-            ≡ entry_after_request R.riding.absorbed (entry_of stage.old self.old)
+            ≡ entry_after_request R.riding (entry_of stage.old self.old)
             from (Request.PutM block words rider.now) }
-        ensures answer { answer_riding self.new.rider result
+        ensures answer { (lent : R) → answer_riding lent result
             ≡ answer_to_request R.riding.absorbed (entry_of stage.old self.old)
             from (Request.PutM block words rider.now) }
     {
@@ -262,14 +279,21 @@ impl<R: Rider> HomeCopy<R> {
     }
 
     /// A core has given up its shared copy. At the last one the requester owns the block.
-    fn acknowledge(&mut self, stage: &mut Stage, from: u8, block: u32) -> HomeAnswer<()>
+    fn acknowledge(
+        &mut self,
+        stage: &mut Stage,
+        from: u8,
+        block: u32,
+        hand: &mut Held<R>,
+    ) -> HomeAnswer<()>
         requires from { from < CORES_MAX }
         requires row { IsTrue (is_some (response_row stage.old from Reply.InvAck)) }
-        ensures entry { entry_of stage.new self.new
-            ≡ entry_by (λ old other. old) (response_row stage.old from Reply.InvAck)
-            (entry_of stage.old self.old) self.old.words self.old.rider }
-        ensures answer { answer_riding self.new.rider result
-            ≡ answer_by (response_row stage.old from Reply.InvAck) block (entry_of stage.new self.new) }
+        ensures entry { entry_of stage.new self.new ≡ entry_left R.riding.fresh
+            (response_row stage.old from Reply.InvAck) (entry_met (λ old other. old)
+            (response_row stage.old from Reply.InvAck) (entry_of stage.old self.old) self.old.words self.old.rider) }
+        ensures answer { answer_riding hand.new result ≡ answer_by (response_row stage.old from Reply.InvAck) block
+            (entry_met (λ old other. old) (response_row stage.old from Reply.InvAck) (entry_of stage.old self.old)
+            self.old.words self.old.rider) }
     {
         let Stage::Acks { of, requester } = *stage else {
             return HomeAnswer::nothing();
@@ -277,7 +301,7 @@ impl<R: Rider> HomeCopy<R> {
         let left = of.without(from);
         if left.is_empty() {
             *stage = Stage::Owned { owner: requester };
-            return self.give(requester, block);
+            return self.give(requester, block, hand);
         }
         *stage = Stage::Acks {
             of: left,
@@ -287,15 +311,23 @@ impl<R: Rider> HomeCopy<R> {
     }
 
     /// The owner has given its data, which the entry has by now. The requester gets the block.
-    fn hand_over(&mut self, stage: &mut Stage, from: u8, block: u32) -> HomeAnswer<()>
+    fn hand_over(
+        &mut self,
+        stage: &mut Stage,
+        from: u8,
+        block: u32,
+        hand: &mut Held<R>,
+    ) -> HomeAnswer<()>
         requires from { from < CORES_MAX }
         requires fits { IsTrue (stage_fits stage.old) }
         requires row { IsTrue (is_some (response_row stage.old from Reply.OwnerData)) }
-        ensures entry { entry_of stage.new self.new
-            ≡ entry_by (λ old other. old) (response_row stage.old from Reply.OwnerData)
-            (entry_of stage.old self.old) self.old.words self.old.rider }
-        ensures answer { answer_riding self.new.rider result
-            ≡ answer_by (response_row stage.old from Reply.OwnerData) block (entry_of stage.new self.new) }
+        ensures entry { entry_of stage.new self.new ≡ entry_left R.riding.fresh
+            (response_row stage.old from Reply.OwnerData) (entry_met (λ old other. old)
+            (response_row stage.old from Reply.OwnerData) (entry_of stage.old self.old) self.old.words
+            self.old.rider) }
+        ensures answer { answer_riding hand.new result ≡ answer_by (response_row stage.old from Reply.OwnerData) block
+            (entry_met (λ old other. old) (response_row stage.old from Reply.OwnerData) (entry_of stage.old self.old)
+            self.old.words self.old.rider) }
     {
         let Stage::Data {
             requester,
@@ -305,18 +337,41 @@ impl<R: Rider> HomeCopy<R> {
         else {
             return HomeAnswer::nothing();
         };
-        *stage = if share {
-            Stage::Shared {
+        if share {
+            *stage = Stage::Shared {
                 by: CoreSet::empty().with(from).with(requester),
-            }
-        } else {
-            Stage::Owned { owner: requester }
-        };
-        self.give(requester, block)
+            };
+            return self.lend(requester, block, hand);
+        }
+        *stage = Stage::Owned { owner: requester };
+        self.give(requester, block, hand)
     }
 
-    /// Sends the home's copy, as it is now. Its rider is left to whoever sends the answer.
-    fn give(&self, to: u8, block: u32) -> HomeAnswer<()>
+    /// Sends the home's copy, as it is now, to a core that is to own the block. The rider goes with it: nothing rides
+    /// on the home's copy from then on.
+    fn give(&mut self, to: u8, block: u32, hand: &mut Held<R>) -> HomeAnswer<()>
+        ensures copy { self.new ≡ record self.old { rider = R.riding.fresh } }
+        ensures hand { hand.new ≡ self.old.rider }
+        ensures answer { result
+            ≡ record { invalidate = no_cores; send = Some (to, FromHome.BlockData block self.old.words tt) } }
+    {
+        mem::swap(&mut self.rider, hand);
+        self.rider.forget();
+        self.data(to, block)
+    }
+
+    /// Sends the home's copy, as it is now, to a core that only reads it. Both have its rider then.
+    fn lend(&self, to: u8, block: u32, hand: &mut Held<R>) -> HomeAnswer<()>
+        ensures hand { hand.new ≡ self.now.rider }
+        ensures answer { result
+            ≡ record { invalidate = no_cores; send = Some (to, FromHome.BlockData block self.now.words tt) } }
+    {
+        hand.copy_from(self.rider.get());
+        self.data(to, block)
+    }
+
+    /// The words of the home's copy on their way, without a rider.
+    fn data(&self, to: u8, block: u32) -> HomeAnswer<()>
         ensures { result
             ≡ record { invalidate = no_cores; send = Some (to, FromHome.BlockData block self.now.words tt) } }
     {

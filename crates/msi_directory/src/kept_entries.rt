@@ -132,28 +132,35 @@ impl<R> KeptEntries<R> {
 
 // The table's rows, on the entry at a place.
 impl<R: Rider> KeptEntries<R> {
-    /// Takes a request for the block there. Data are sent with the copy's rider, as it is afterwards.
-    pub(crate) fn serve(&mut self, place: usize, from: u8, request: Request<&R>) -> HomeAnswer<()>
+    /// Takes a request for the block there. The rider of data which are sent is in hand afterwards.
+    pub(crate) fn serve(
+        &mut self,
+        place: usize,
+        from: u8,
+        request: Request<&R>,
+        hand: &mut Held<R>,
+    ) -> HomeAnswer<()>
         requires from { from < CORES_MAX }
         requires stage { place < length self.old.stages }
         requires copy { place < length self.old.copies }
         requires row { IsTrue (has_request_row (slice_index_or self.old.stages place Unshared) from
             (request_seen request)) }
         ensures kept { (past : Entry R) → self.new ≡ kept_with self.old place
-            (entry_after_request R.riding.absorbed (kept_at self.old place past) from (request_seen request.entry)) }
-        ensures answer { (past : Entry R) → answer_riding (kept_at self.new place past).rider result
+            (entry_after_request R.riding (kept_at self.old place past) from (request_seen request.entry)) }
+        ensures answer { (past : Entry R) → answer_riding hand.new result
             ≡ answer_to_request R.riding.absorbed (kept_at self.old place past) from (request_seen request.entry) }
     {
         let stage = &mut self.stages[place];
-        self.copies[place].serve(stage, from, request)
+        self.copies[place].serve(stage, from, request, hand)
     }
 
-    /// Takes a response about the block there. Data are sent with the copy's rider, as it is afterwards.
+    /// Takes a response about the block there. The rider of data which are sent is in hand afterwards.
     pub(crate) fn collect(
         &mut self,
         place: usize,
         from: u8,
         response: Response<&R>,
+        hand: &mut Held<R>,
     ) -> HomeAnswer<()>
         requires from { from < CORES_MAX }
         requires stage { place < length self.old.stages }
@@ -162,12 +169,12 @@ impl<R: Rider> KeptEntries<R> {
         requires row { IsTrue (has_response_row (slice_index_or self.old.stages place Unshared) from
             (response_seen response)) }
         ensures kept { (past : Entry R) → self.new ≡ kept_with self.old place
-            (entry_after_response R.riding.absorbed (kept_at self.old place past) from (response_seen response.entry)) }
-        ensures answer { (past : Entry R) → answer_riding (kept_at self.new place past).rider result
+            (entry_after_response R.riding (kept_at self.old place past) from (response_seen response.entry)) }
+        ensures answer { (past : Entry R) → answer_riding hand.new result
             ≡ answer_to_response R.riding.absorbed (kept_at self.old place past) from (response_seen response.entry) }
     {
         let stage = &mut self.stages[place];
-        self.copies[place].collect(stage, from, response)
+        self.copies[place].collect(stage, from, response, hand)
     }
     /// Takes the response that lies here, as `collect` does. An owner's rider is handed over.
     pub(crate) fn receive(
@@ -175,6 +182,7 @@ impl<R: Rider> KeptEntries<R> {
         place: usize,
         from: u8,
         response: &mut ResponseSlot<R>,
+        hand: &mut Held<R>,
     ) -> HomeAnswer<()>
         requires from { from < CORES_MAX }
         requires stage { place < length self.old.stages }
@@ -182,11 +190,11 @@ impl<R: Rider> KeptEntries<R> {
         requires fits { IsTrue (stage_fits (slice_index_or self.old.stages place Unshared)) }
         requires row { IsTrue (has_response_row (slice_index_or self.old.stages place Unshared) from response.old) }
         ensures kept { (past : Entry R) → self.new ≡ kept_with self.old place
-            (entry_after_response R.riding.absorbed (kept_at self.old place past) from response.old) }
-        ensures answer { (past : Entry R) → answer_riding (kept_at self.new place past).rider result
+            (entry_after_response R.riding (kept_at self.old place past) from response.old) }
+        ensures answer { (past : Entry R) → answer_riding hand.new result
             ≡ answer_to_response R.riding.absorbed (kept_at self.old place past) from response.old }
     {
         let stage = &mut self.stages[place];
-        self.copies[place].receive(stage, from, response)
+        self.copies[place].receive(stage, from, response, hand)
     }
 }

@@ -20,9 +20,8 @@ use Rattle.msi_cache.specs.declared.messages.Request.{Request}
 use Rattle.msi_cache.specs.declared.messages.Response.{Response}
 use Rattle.msi_directory.specs.Blocks.{Blocks, no_entry, entry_at, entries_after_request, entries_after_response}
 use Rattle.msi_directory.specs.Entries.{answer_by, answer_to_request, answer_to_response, entry_after_request}
-use Rattle.msi_directory.specs.Entries.{entry_after_response}
+use Rattle.msi_directory.specs.Entries.{entry_after_response, entry_for_request, entry_for_response}
 use Rattle.msi_directory.specs.Entries.{has_request_row, has_response_row, sent}
-use Rattle.msi_directory.specs.Lent.{TookRequest, TookResponse}
 use Rattle.msi_directory.specs.Table.{Send, NoMessage, HomeRow, is_free, request_row, response_row}
 use Rattle.msi_directory.specs.declared.entry.Stage.TheVariants.{Unshared, Shared, Owned, Acks, Data}
 use Rattle.msi_directory.specs.declared.entry.Stage.{Stage}
@@ -122,7 +121,7 @@ module _ {R : Type 0} where
       let e : Entry R = entry_at riding.fresh home (request_block request) in
       subst (λ (a : HomeAnswer R). IfSome a.send (λ s. s.0 < n)) (sym is)
       (answer_below (request_row e.stage c (ask_of request)) (request_block request)
-      (entry_after_request riding.absorbed e c request) n
+      (entry_for_request riding.absorbed e c request) n
       (request_below e.stage c (ask_of request) n h (names_at riding.fresh home n (request_block request) names
       within)))
 
@@ -135,40 +134,31 @@ module _ {R : Type 0} where
       let e : Entry R = entry_at riding.fresh home (response_block response) in
       subst (λ (a : HomeAnswer R). IfSome a.send (λ s. s.0 < n)) (sym is)
       (answer_below (response_row e.stage c (reply_of response)) (response_block response)
-      (entry_after_response riding.absorbed e c response) n
+      (entry_for_response riding.absorbed e c response) n
       (response_below e.stage c (reply_of response) n (names_at riding.fresh home n (response_block response) names
       within)))
 
 module _ {R : Type 0} (riding : Riding R) (old : Blocks R) (c : ℕ) where
-  -- the entries of a home that took a request, and of one that took a response
-  pub request_kept : (request : Request R) (lent : R) (new : Blocks R) → TookRequest riding old c request lent new
-      → new.entries ≡ entries_after_request riding old.entries c request
-  request_kept request lent new took = ap (λ (b : Blocks R). b.entries) took.blocks
-
-  pub response_kept : (response : Response R) (lent : R) (new : Blocks R) → TookResponse riding old c response lent new
-      → new.entries ≡ entries_after_response riding old.entries c response
-  response_kept response lent new took = ap (λ (b : Blocks R). b.entries) took.blocks
-
   -- whether the block is free then is whether its new stage is
   pub request_frees : (block : ℕ) (request : Request R) (home : List (Entry R)) (free : Bool) →
       request_block request < length old.entries →
       block ≡ request_block request → home ≡ entries_after_request riding old.entries c request →
-      free ≡ is_free (entry_after_request riding.absorbed (entry_at riding.fresh old.entries (request_block request)) c
+      free ≡ is_free (entry_after_request riding (entry_at riding.fresh old.entries (request_block request)) c
       request).stage →
       free ≡ is_free (entry_at riding.fresh home block).stage
   request_frees block request home free within about kept is =
-      let e : Entry R = entry_after_request riding.absorbed (entry_at riding.fresh old.entries (request_block request))
+      let e : Entry R = entry_after_request riding (entry_at riding.fresh old.entries (request_block request))
       c request in
       rw (about, kept, get_or-set_same old.entries (request_block request) e (no_entry riding.fresh) within) is
 
   pub response_frees : (block : ℕ) (response : Response R) (home : List (Entry R)) (free : Bool) →
       response_block response < length old.entries →
       block ≡ response_block response → home ≡ entries_after_response riding old.entries c response →
-      free ≡ is_free (entry_after_response riding.absorbed (entry_at riding.fresh old.entries (response_block response))
+      free ≡ is_free (entry_after_response riding (entry_at riding.fresh old.entries (response_block response))
       c response).stage →
       free ≡ is_free (entry_at riding.fresh home block).stage
   response_frees block response home free within about kept is =
-      let e : Entry R = entry_after_response riding.absorbed (entry_at riding.fresh old.entries
+      let e : Entry R = entry_after_response riding (entry_at riding.fresh old.entries
       (response_block response)) c response in
       rw (about, kept, get_or-set_same old.entries (response_block response) e (no_entry riding.fresh) within) is
 

@@ -2,15 +2,16 @@
 use Rattle.std.proofs.Common.{◌≡◌, refl, ap, ℕ, ◌%◌, Bool, false, ◌||◌, Option, Some, None, List, [], ◌∷◌, zero, suc}
 use Rattle.std.proofs.Common.{get_or, arith}
 use Rattle.std.proofs.Common.{◌∙◌}
-use Rattle.std.specs.Prelude.{slice_set, slice_index_or}
+use Rattle.std.specs.Prelude.{slice_set, slice_index_or, ◌==◌, is_some, IsTrue}
 use Rattle.std.specs.List.{list_any}
 use Rattle.access_times.specs.Riding.{Riding}
 use Rattle.msi_cache.specs.Table.{Row, Signal, is_transient, row}
 use Rattle.msi_cache.specs.declared.line.State.{State}
 use Rattle.rtr_types.specs.declared.TheConstants.{LINES}
+use Rattle.rtr_types.proofs.Truths.{second_true}
 use Rattle.msi_cache.specs.declared.line.Line.{Line}
 use Rattle.msi_cache.specs.declared.messages.FromHome.{FromHome}
-use Rattle.msi_cache.specs.Lines.{empty_line, line_after, line_by, lines_after, lines_put, lines_riding, waits}
+use Rattle.msi_cache.specs.Lines.{answer, empty_line, has_row, line_after, line_by, lines_after, lines_put, lines_riding, waits}
 use Rattle.msi_cache.specs.Messages.{block_of, signal}
 use Rattle.msi_memory.specs.Waiting.{ends_wait}
 
@@ -48,10 +49,10 @@ module _ {R : Type 0} where
       any_set_same (λ (line : Line R). is_transient line.state) lines (block % LINES)
       (record (slice_index_or lines (block % LINES) (empty_line fresh)) { rider = rider }) (empty_line fresh) refl
 
-  state_after : (absorbed : R → R → R) (r : Option Row) (m : FromHome R) (line : Line R) →
-      (line_by absorbed r m line).state ≡ next_of r line.state
-  state_after absorbed None m line = refl
-  state_after absorbed (Some r) m line = refl
+  state_after : (riding : Riding R) (r : Option Row) (m : FromHome R) (line : Line R) →
+      (line_by riding r m line).state ≡ next_of r line.state
+  state_after riding None m line = refl
+  state_after riding (Some r) m line = refl
 
   -- only two kinds of messages end a wait, and none begins one
   pub waits_kept : (riding : Riding R) (lines : List (Line R)) (m : FromHome R) → ends_wait (signal m) ≡ false →
@@ -59,7 +60,18 @@ module _ {R : Type 0} where
       ≡ waits lines
   waits_kept riding lines m other =
       let line : Line R = slice_index_or lines (block_of m % LINES) (empty_line riding.fresh) in
-      any_set_same (λ (x : Line R). is_transient x.state) lines (block_of m % LINES) (line_after riding.absorbed line m)
+      any_set_same (λ (x : Line R). is_transient x.state) lines (block_of m % LINES) (line_after riding line m)
       (empty_line riding.fresh)
-      (ap is_transient (state_after riding.absorbed (row (signal m) line.state) m line)
+      (ap is_transient (state_after riding (row (signal m) line.state) m line)
       ∙ same_wait (signal m) line.state other)
+
+  -- what ends a wait isn't answered, and what ends none is, where the table has a row for it
+  pub unanswered : (line : Line R) (m : FromHome R) → IsTrue (ends_wait (signal m)) → answer line m ≡ None
+  unanswered line m ends = grind arith
+
+  pub is_answered : (line : Line R) (m : FromHome R) → ends_wait (signal m) ≡ false → IsTrue (has_row line m) →
+      IsTrue (is_some (answer line m))
+  is_answered line m other there =
+      let has : IsTrue (is_some (row (signal m) line.state)) =
+      second_true (line.block == block_of m) (is_some (row (signal m) line.state)) there in
+      grind arith

@@ -22,14 +22,15 @@ use crate::sending::deliver;
 use crate::turn::Turn;
 use access_times::{Carry, Clerk, Rider};
 use image_mem::Image;
-use msi_cache::Cache;
+use msi_cache::{Cache, Held};
 use msi_directory::{Home, Served};
 use rtr_types::{Access, BLOCK_WORDS, CORES_MAX, CoreSet, Instr, Kind};
 use std::alloc::{AllocError, Global};
 use std::marker::Model;
 
-/// The ports of some cores, the home, and the home's carry. Contracts see the memory system's state, and
-/// which of the home's blocks have room for a request.
+/// The ports of some cores, the home, the home's carry, and a rider in hand, which goes from the home to the place of
+/// its message and means nothing between two acts. Contracts see the memory system's state, and which of the home's
+/// blocks have room for a request.
 ///
 /// It has no invariant: what an act needs is a clause of its call, and holds in each state that acts lead to
 /// from the start.
@@ -37,6 +38,7 @@ pub struct MemorySystem<R, K> {
     ports: Vec<Port<R, K>>,
     home: Home<R>,
     carry: K,
+    hand: Held<R>,
 }
 
 impl<R: Drop, K: Drop> Drop for MemorySystem<R, K> {
@@ -45,6 +47,7 @@ impl<R: Drop, K: Drop> Drop for MemorySystem<R, K> {
             ports: _ports,
             home: _home,
             carry: _carry,
+            hand: _hand,
         } = self;
     }
 }
@@ -69,10 +72,12 @@ impl<R: Rider, K: Carry> MemorySystem<R, K> {
     {
         let ports = first_ports(alloc, cores)?;
         let home = Home::new(alloc, image)?;
+        let hand = Held::fresh(alloc)?;
         Ok(MemorySystem {
             ports,
             home,
             carry: K::none(),
+            hand,
         })
     }
 
@@ -282,13 +287,15 @@ impl<R: Rider, K: Carry> MemorySystem<R, K> {
         };
         let block = mail.item.block();
         self.carry.join(&mail.carry);
-        let Served {
-            answer,
-            rider,
-            free,
-        } = serve(&mut self.home, core, &mail.item);
+        let Served { answer, free } = serve(&mut self.home, core, &mail.item, &mut self.hand);
         self.ports[core as usize].requests.drop_head();
-        deliver(self.ports.as_mut_slice(), answer, block, rider, &self.carry);
+        deliver(
+            self.ports.as_mut_slice(),
+            answer,
+            block,
+            &mut self.hand,
+            &self.carry,
+        );
         Turn {
             block,
             answer,
@@ -314,16 +321,19 @@ impl<R: Rider, K: Carry> MemorySystem<R, K> {
         };
         let block = mail.item.block();
         self.carry.join(&mail.carry);
-        let Served {
-            answer,
-            rider,
-            free,
-        } = collect(
+        let Served { answer, free } = collect(
             &mut self.home,
             core,
             &mut self.ports[core as usize].responses,
+            &mut self.hand,
         );
-        deliver(self.ports.as_mut_slice(), answer, block, rider, &self.carry);
+        deliver(
+            self.ports.as_mut_slice(),
+            answer,
+            block,
+            &mut self.hand,
+            &self.carry,
+        );
         Turn {
             block,
             answer,

@@ -1,7 +1,7 @@
 //! A core's side of the memory system.
-ghost use Rattle.std.specs.Prelude.{◌≡◌, ◌<◌, IfOk, IsTrue, length};
-ghost use Rattle.msi_cache.specs.Lines.{has_row, line_for, lines_after, waits};
-ghost use Rattle.msi_cache.specs.Messages.{block_of, signal};
+ghost use Rattle.std.specs.Prelude.{◌≡◌, ◌<◌, IfOk, IsTrue, None, Some, false, length};
+ghost use Rattle.msi_cache.specs.Lines.{answer, has_row, line_for, lines_after, waits};
+ghost use Rattle.msi_cache.specs.Messages.{block_of, message_seen, signal};
 ghost use Rattle.msi_memory.specs.Acts.{data_next, port_taking};
 ghost use Rattle.msi_memory.specs.Memories.{port_start};
 ghost use Rattle.msi_memory.specs.Waiting.{ends_wait};
@@ -101,13 +101,14 @@ impl<R: Rider, K: Carry> Port<R, K> {
         let mail = self.messages.head_place();
         self.carry.join(&mail.carry);
         let message = mail.item.open();
-        if let Some(response) = self.cache.answer(message) {
+        let is_data = matches!(message, FromHome::BlockData { .. });
+        if ends_wait(message) {
+            hear(&mut self.cache, &mut mail.item, waiting);
+        } else {
             let reply = self.responses.push_place();
-            reply.item.put(response);
+            respond(&mut self.cache, message, &mut reply.item);
             reply.carry = self.carry;
         }
-        let is_data = matches!(message, FromHome::BlockData { .. });
-        hear(&mut self.cache, &mut mail.item, waiting);
         self.messages.drop_head();
         is_data
     }
@@ -123,18 +124,31 @@ fn ends_wait<R>(message: FromHome<&R>) -> bool
     )
 }
 
-/// The cache takes the message from home that lies here, and what was kept of its waiting is renewed.
-#[tactic(auto, using(crate::proofs::Waiting::waits_kept))]
+/// The cache takes the message from home that lies here, which ends a wait and isn't answered. What was kept of its
+/// waiting is renewed.
+#[tactic(auto, using(crate::proofs::Waiting::unanswered))]
 fn hear<R: Rider>(cache: &mut Cache<R>, message: &mut FromHomeSlot<R>, waiting: &mut bool)
     requires row { IsTrue (has_row (line_for R.riding.fresh cache.old (block_of message.old)) message.old) }
-    requires waits { waiting.old ≡ waits cache.old }
+    requires ends { IsTrue (ends_wait (signal message.old)) }
     ensures lines { cache.new ≡ lines_after R.riding cache.old message.old }
+    ensures unanswered { answer (line_for R.riding.fresh cache.old (block_of message.old)) message.old ≡ None }
     ensures waits { waiting.new ≡ waits cache.new }
 {
-    let ends = ends_wait(message.open());
     cache.take(message);
-    // no other message changes whether a line waits
-    if ends {
-        *waiting = cache.waits();
-    }
+    *waiting = cache.waits();
+}
+
+/// The cache takes a message from home that ends no wait, and answers it in this place. No line begins to wait, and
+/// none stops.
+#[tactic(auto, using(crate::proofs::Waiting::is_answered))]
+fn respond<R: Rider>(cache: &mut Cache<R>, message: FromHome<&R>, reply: &mut ResponseSlot<R>)
+    requires row { let seen = message_seen message in
+        IsTrue (has_row (line_for R.riding.fresh cache.old (block_of seen)) seen) }
+    requires ends { ends_wait (signal (message_seen message)) ≡ false }
+    ensures lines { cache.new ≡ lines_after R.riding cache.old (message_seen message.entry) }
+    ensures reply { let seen = message_seen message.entry in
+        Some reply.new ≡ answer (line_for R.riding.fresh cache.old (block_of seen)) seen }
+    ensures waits { waits cache.new ≡ waits cache.old }
+{
+    cache.respond(message, reply);
 }

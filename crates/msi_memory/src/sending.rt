@@ -1,6 +1,6 @@
 //! Messages go on links.
 ghost use Rattle.std.specs.Prelude.{◌≡◌, ◌<◌, ◌≤◌, IfSome, length};
-ghost use Rattle.msi_cache.specs.Messages.{message_seen};
+ghost use Rattle.msi_cache.specs.Messages.{message_seen, message_with};
 ghost use Rattle.msi_directory.specs.Entries.{answer_riding};
 ghost use Rattle.rtr_types.specs.declared.TheConstants.{CORES_MAX};
 ghost use Rattle.msi_memory.specs.Acts.{delivered, ports_told, pushed};
@@ -9,7 +9,7 @@ ghost use Rattle.msi_memory.specs.Rests.{HasRoomIn, HasRoomTo};
 use crate::port::{Mail, Port};
 use access_times::{Carry, Rider};
 use link_order::Link;
-use msi_cache::{FromHome, FromHomeSlot};
+use msi_cache::{FromHome, FromHomeSlot, Held};
 use msi_directory::HomeAnswer;
 use rtr_types::{CORES_MAX, CoreSet};
 
@@ -24,6 +24,22 @@ fn send<R: Rider, K: Carry>(
 {
     let mail = link.push_place();
     mail.item.put(message);
+    mail.carry = *carry;
+}
+
+/// An answer of the home's goes on a link that has room, with the rider in hand where it has data, and with the
+/// home's carry. What is in hand afterwards means nothing.
+fn send_handed<R: Rider, K: Carry>(
+    link: &mut Link<Mail<FromHomeSlot<R>, K>>,
+    message: FromHome<()>,
+    hand: &mut Held<R>,
+    carry: &K,
+)
+    requires { length link.old.items < link.old.room }
+    ensures { link.new ≡ pushed link.old (message_with (λ own. hand.old) message) carry.now }
+{
+    let mail = link.push_place();
+    mail.item.put_handed(message, hand);
     mail.carry = *carry;
 }
 
@@ -46,28 +62,28 @@ fn tell<R: Rider, K: Carry>(
     }
 }
 
-/// The home's answer goes on its way, with this rider where it has one: one message to its core, or else
-/// to each core of the set that its copy of the block is no longer valid.
+/// The home's answer goes on its way, with the rider in hand where it has one: one message to its core, or else
+/// to each core of the set that its copy of the block is no longer valid. What is in hand afterwards means nothing.
 pub(crate) fn deliver<R: Rider, K: Carry>(
     ports: &mut [Port<R, K>],
     answer: HomeAnswer<()>,
     block: u32,
-    rider: &R,
+    hand: &mut Held<R>,
     carry: &K,
 )
     requires cores { length ports.old ≤ CORES_MAX }
-    requires room { HasRoomTo K.carrying (answer_riding rider.now answer) ports.old }
-    requires to { IfSome (answer_riding rider.now answer).send (λ s. s.0 < length ports.old) }
-    ensures { ports.new ≡ delivered K.carrying (answer_riding rider.now answer) block carry.now ports.old }
+    requires room { HasRoomTo K.carrying (answer_riding hand.old answer) ports.old }
+    requires to { IfSome (answer_riding hand.old answer).send (λ s. s.0 < length ports.old) }
+    ensures { ports.new ≡ delivered K.carrying (answer_riding hand.old answer) block carry.now ports.old }
 {
     match answer.send {
         Some((to, message)) => {
             let link = &mut ports[to as usize].messages;
-            send(link, message.riding(rider), carry);
+            send_handed(link, message, hand, carry);
         }
         None => {
             let inv = FromHome::<()>::Inv { block };
-            tell(ports, answer.invalidate, inv.riding(rider), carry);
+            tell(ports, answer.invalidate, inv.riding(hand.get()), carry);
         }
     }
 }

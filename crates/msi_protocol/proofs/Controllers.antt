@@ -16,7 +16,7 @@ use Rattle.msi_cache.specs.Lines.{has_row, line_by, answer_by}
 use Rattle.msi_directory.specs.declared.entry.Stage.{Stage}
 use Rattle.msi_directory.specs.declared.entry.Entry.{Entry}
 use Rattle.msi_directory.specs.Table.{Send, HomeRow, request_row, response_row}
-use Rattle.msi_directory.specs.Entries.{entry_by, sent, answer_by as home_answer_by, request_words, request_rider}
+use Rattle.msi_directory.specs.Entries.{entry_by, entry_met, sent, answer_by as home_answer_by, request_words, request_rider}
 use Rattle.msi_directory.specs.Entries.{response_words, response_rider}
 use Rattle.msi_protocol.specs.Block.{home_step, signalled, view, message_row_taken, ToEvict, wish_row}
 use Rattle.msi_protocol.specs.Controllers.{RequestAsMoved, ResponseAsMoved, kind_sent, MakesStep, kind_replied}
@@ -46,45 +46,46 @@ module _ {R : Type 0} where
       × (block_of m ≡ block)
   sent_block send block e to m is = grind arith
 
-  makes_step : (absorbed : R → R → R) (row : Option HomeRow) (e : Entry R) (block : ℕ) (words : List ℕ) (rider : R) →
+  makes_step : (riding : Riding R) (row : Option HomeRow) (e : Entry R) (block : ℕ) (words : List ℕ) (rider : R) →
       InvAlone row →
-      MakesStep (home_step e.stage row) block (entry_by absorbed row e words rider) (home_answer_by row block
-      (entry_by absorbed row e words rider))
-  makes_step absorbed None e block words rider alone = record {
+      MakesStep (home_step e.stage row) block (entry_by riding row e words rider) (home_answer_by row block
+      (entry_met riding.absorbed row e words rider))
+  makes_step riding None e block words rider alone = record {
     stage = refl;
     invalidate = refl;
     send = refl;
     alone =
         λ to m is. grind arith;
   }
-  makes_step absorbed (Some r) e block words rider alone =
+  makes_step riding (Some r) e block words rider alone =
       record {
         stage = refl;
         invalidate = refl;
-        send = sent_kind r.send block (entry_by absorbed (Some r) e words rider);
-        alone = λ to m is. let one = sent_block r.send block (entry_by absorbed (Some r) e words rider) to m is in
+        send = sent_kind r.send block (entry_met riding.absorbed (Some r) e words rider);
+        alone = λ to m is.
+            let one = sent_block r.send block (entry_met riding.absorbed (Some r) e words rider) to m is in
             (alone one.0, one.1);
       }
 
   pub request_makes_step : (riding : Riding R) (e : Entry R) (c : ℕ) (request : Request R) →
       RequestAsMoved riding e c request
   request_makes_step riding e c request =
-      makes_step riding.absorbed (request_row e.stage c (ask_of request)) e (request_block request)
+      makes_step riding (request_row e.stage c (ask_of request)) e (request_block request)
       (request_words request e.words)
       (request_rider request e.rider) (request_alone e.stage c (ask_of request))
 
   pub response_makes_step : (riding : Riding R) (e : Entry R) (c : ℕ) (response : Response R) →
       ResponseAsMoved riding e c response
   response_makes_step riding e c response =
-      makes_step riding.absorbed (response_row e.stage c (reply_of response)) e (response_block response)
+      makes_step riding (response_row e.stage c (reply_of response)) e (response_block response)
       (response_words response e.words)
       (response_rider response) (response_alone e.stage c (reply_of response))
 
-  row_moves : (absorbed : R → R → R) (r : Option Row) (line : Line R) (m : FromHome R) (requests : List Ask)
+  row_moves : (riding : Riding R) (r : Option Row) (line : Line R) (m : FromHome R) (requests : List Ask)
       (responses : List Reply) (rest : List Signal) →
       is_some r ≡ true → message_row_taken r rest (view line.state requests responses (signal m ∷ rest))
-      ≡ view (line_by absorbed r m line).state requests (responses ++ kind_replied (answer_by r line)) rest
-  row_moves absorbed r line m requests responses rest some = grind arith
+      ≡ view (line_by riding r m line).state requests (responses ++ kind_replied (answer_by r line)) rest
+  row_moves riding r line m requests responses rest some = grind arith
 
   row_there : (line : Line R) (m : FromHome R) → IsTrue (has_row line m) → is_some (row (signal m) line.state) ≡ true
   row_there line m has = both (line.block == block_of m) (is_some (row (signal m) line.state)) has
@@ -94,7 +95,7 @@ module _ {R : Type 0} where
 
   pub takes_as_moved : (riding : Riding R) (line : Line R) (m : FromHome R) → TakesAsMoved riding line m
   takes_as_moved riding line m requests responses rest has =
-      row_moves riding.absorbed (row (signal m) line.state) line m requests responses rest (row_there line m has)
+      row_moves riding (row (signal m) line.state) line m requests responses rest (row_there line m has)
 
 own_wish : (s : State) (writes : Bool) → want_row s true writes ≡ wish_row s (access_wish writes)
 own_wish s writes = grind arith

@@ -4,7 +4,7 @@ use Rattle.msi_protocol.specs.Seats.{HoldersHave}
 use Rattle.msi_protocol.specs.Showing.{KeptBy}
 use Rattle.msi_protocol.proofs.Holders.{Closed}
 use Rattle.msi_protocol.proofs.Moves.{has_request, has_response, has_message, has_wish}
-use Rattle.msi_protocol.proofs.Relined.{relined_counts, put_line}
+use Rattle.msi_protocol.proofs.Relined.{put_line}
 
 -- a property of the copies that count is kept where one that absorbs another keeps it
 pub holders_kept : {X : Type 0} (P : X → Type 0) (absorbed : X → X → X) → Closed P absorbed →
@@ -21,10 +21,14 @@ holders_kept P absorbed both =
             let s = bl.seats d in
             let q = h.seats d ld in
             record {
-              line = λ counts. subst P (sym (same d ld (relined_counts s.phase counts))) (q.line counts);
+              line = λ counts. subst P (sym (same d ld counts)) (q.line counts);
               sent = q.sent;
               reply = q.reply;
-              put = λ counts. q.put counts ∙ sym (same d ld (relined_counts s.phase (put_line s.phase counts)));
+              put = λ counts. q.put counts ∙ sym (same d ld (put_line s.phase counts));
             };
+      };
+      rehome = λ bl home same st h. record {
+        home = λ counts. subst P (sym (same counts)) (h.home counts);
+        seats = h.seats;
       };
     }

@@ -1,4 +1,4 @@
--- What an invalid line carries doesn't matter.
+-- What a line carries whose copy doesn't count doesn't matter, and so what an invalid one does.
 use Rattle.std.proofs.Common.{◌≡◌, ◌≢◌, ◌∙◌, ap, sym, ℕ, ◌<◌, true, List, arith}
 use Rattle.access_times.specs.Riding.{Riding}
 use Rattle.rtr_types.specs.declared.TheConstants.{CORES_MAX}
@@ -13,10 +13,10 @@ use Rattle.msi_protocol.specs.Counting.{line_counts}
 use Rattle.msi_protocol.specs.Seats.{Seat, FullBlock, put_counts}
 use Rattle.msi_protocol.specs.Shown.{Payload, payload_absorbed, Sight, shown}
 use Rattle.msi_protocol.specs.Showing.{relined, KeptBy, Shows}
-use Rattle.msi_protocol.proofs.Shows.{copy_in}
+use Rattle.msi_protocol.proofs.Shown.{copy_in}
 
-pub relined_counts : (p : Phase) → line_counts p ≡ true → (picture p).line ≢ I
-relined_counts p e = grind arith
+counts_valid : (p : Phase) → line_counts p ≡ true → (picture p).line ≢ I
+counts_valid p e = grind arith
 
 pub put_line : (p : Phase) → put_counts p ≡ true → line_counts p ≡ true
 put_line p e = grind arith
@@ -41,8 +41,8 @@ module _ {R : Type 0} where
         shows = λ d ld. at d (f.block.seats d) (f.shows d ld) (alike d ld);
         fits = record { fits = f.fits.fits; roles = f.fits.roles };
         has = well.reline f.block (λ d. copy_in (w d).line)
-            (λ d ld valid. ap copy_in (sym ((alike d ld).payload (λ (e : (v d).line.state ≡ I). valid
-            (ap (λ (x : Sight R). x.line.state) (f.shows d ld) ∙ e)))
+            (λ d ld counts. ap copy_in (sym ((alike d ld).payload (λ (e : (v d).line.state ≡ I).
+            counts_valid (f.block.seats d).phase counts (ap (λ (x : Sight R). x.line.state) (f.shows d ld) ∙ e)))
             ∙ ap (λ (x : Sight R). x.line) (sym (f.shows d ld)))) f.fits f.has;
       }
     where

@@ -1,7 +1,7 @@
 -- What the cache's and the home's tables do is what the seats do.
 use Rattle.std.proofs.Common.{◌≡◌, ◌≢◌, ◌∙◌, refl, sym, ℕ, ◌<◌, ◌==◌, true, false, List, [], ◌∷◌, arith}
 use Rattle.rtr_types.specs.Accesses.{is_write}
-use Rattle.msi_directory.specs.Entries.{entry_after_request, entry_after_response}
+use Rattle.msi_directory.specs.Entries.{entry_for_request, entry_for_response}
 use Rattle.rtr_types.specs.declared.TheConstants.{CORES_MAX}
 use Rattle.std.specs.Prelude.{map}
 use Rattle.std.proofs.lemmas.Bool.Decides.{nat_tests}
@@ -12,13 +12,16 @@ use Rattle.rtr_types.specs.CoreSets.{has, without_core, is_none}
 use Rattle.msi_cache.specs.declared.messages.FromHome.{FromHome}
 use Rattle.msi_cache.specs.declared.messages.Response.{Response}
 use Rattle.msi_cache.specs.declared.messages.Request.{Request}
-use Rattle.msi_cache.specs.Lines.{asks, is_allowed}
+use Rattle.msi_cache.specs.Lines.{asks, is_allowed, line_after}
+use Rattle.msi_cache.specs.declared.line.Line.{Line}
 use Rattle.msi_cache.specs.Table.{is_transient, Ask, Reply}
 use Rattle.msi_directory.specs.declared.entry.Entry.{Entry}
 use Rattle.msi_directory.specs.Table.{is_free}
 use Rattle.rtr_types.proofs.Members.{has-with_same, has-with_other, has-without_same, has-without_other, has-none}
 use Rattle.rtr_types.proofs.Members.{has-no_cores}
 use Rattle.msi_protocol.specs.Block.{has_reply_row}
+use Rattle.msi_protocol.specs.Counting.{line_counts}
+use Rattle.msi_protocol.specs.NextPhases.{received}
 use Rattle.msi_protocol.specs.Phases.{role, role_in, picture, StageFits}
 use Rattle.msi_protocol.specs.Seats.{Seat, FullBlock, seat_received, seat_wished, home_requested, seat_own, seat_other}
 use Rattle.msi_protocol.specs.Seats.{home_responded, seat_answered}
@@ -31,11 +34,25 @@ use Rattle.msi_protocol.specs.Shown.{after_response_at, wish_in, sight_accessed}
 use Rattle.msi_cache.specs.declared.line.State.TheVariants.{I}
 use Rattle.msi_protocol.specs.Seats.{allows}
 
+-- the copy in a line
+abbrev pub copy_in : {R : Type 0} → Line R → Payload R
+copy_in l = record { words = l.words; rider = l.rider }
+
 module _ {R : Type 0} where
+  -- the seat of a core that took this message, with the copy that its line then has. It differs from the seat that
+  -- received in what rides on a copy that has ended
+  abbrev pub seat_hearing : Riding R → ℕ → FromHome R → Seat (Payload R) → Seat (Payload R)
+  seat_hearing riding b m s =
+      record (seat_received (payload_absorbed riding) s) { line = copy_in (line_after riding (line_with b s) m) }
+
   pub shown_received : (riding : Riding R) (b : ℕ) (s : Seat (Payload R)) (m : FromHome R) (rest : List (FromHome R)) →
-      (shown b s).messages ≡ m ∷ rest →
-      sight_received riding m rest (shown b s) ≡ shown b (seat_received (payload_absorbed riding) s)
+      (shown b s).messages ≡ m ∷ rest → sight_received riding m rest (shown b s) ≡ shown b (seat_hearing riding b m s)
   shown_received riding b s m rest is = grind arith
+
+  pub hearing_counts : (riding : Riding R) (b : ℕ) (s : Seat (Payload R)) (m : FromHome R) (rest : List (FromHome R)) →
+      (shown b s).messages ≡ m ∷ rest → line_counts (received s.phase) ≡ true →
+      (seat_hearing riding b m s).line ≡ (seat_received (payload_absorbed riding) s).line
+  hearing_counts riding b s m rest is counts = grind arith
 
   -- ---- a request
 
@@ -70,7 +87,7 @@ module _ {R : Type 0} where
   pub shown_entry : (riding : Riding R) (b c : ℕ) (a : Ask) (rest : List Ask) (bl : FullBlock (Payload R)) →
       is_free bl.stage ≡ true →
       (picture (bl.seats c).phase).requests ≡ a ∷ rest → role_in (bl.seats c).phase ≡ role bl.stage c
-      → entry_after_request riding.absorbed (entry_with bl) c (ask_with b (bl.seats c).put a) ≡ entry_with
+      → entry_for_request riding.absorbed (entry_with bl) c (ask_with b (bl.seats c).put a) ≡ entry_with
       (requested (payload_absorbed riding) c a bl)
   shown_entry riding b c a rest bl free asks is = grind (arith, nat_tests)
 
@@ -112,7 +129,7 @@ module _ {R : Type 0} where
   pub shown_response_entry : (riding : Riding R) (b c : ℕ) (a : Reply) (rest : List Reply)
       (bl : FullBlock (Payload R)) →
       (picture (bl.seats c).phase).responses ≡ a ∷ rest → role_in (bl.seats c).phase ≡ role bl.stage c
-      → entry_after_response riding.absorbed (entry_with bl) c (reply_with b (bl.seats c).reply a) ≡ entry_with
+      → entry_for_response riding.absorbed (entry_with bl) c (reply_with b (bl.seats c).reply a) ≡ entry_with
       (responded (payload_absorbed riding) c a bl)
   shown_response_entry riding b c a rest bl asks is = grind (arith, nat_tests)
 

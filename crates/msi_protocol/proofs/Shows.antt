@@ -1,8 +1,10 @@
 -- Each move of the tables leads from a block that is shown to one that is shown.
-use Rattle.std.proofs.Common.{◌≡◌, ◌≢◌, ◌∙◌, ◌⊎◌, inl, inr, ap, refl, sym, subst, ℕ, ◌<◌, ◌==◌, true, false, List, []}
-use Rattle.std.proofs.Common.{◌∷◌, arith}
+use Rattle.std.proofs.Common.{◌≡◌, ◌≢◌, ◌∙◌, ◌⊎◌, inl, inr, ap, refl, sym, subst, ℕ, ◌<◌, ◌==◌, Bool, true, false, List, []}
+use Rattle.std.proofs.Common.{◌∷◌, Option, Some, None, arith}
 use Rattle.rtr_types.specs.Accesses.{is_write}
-use Rattle.msi_directory.specs.Entries.{entry_after_request, entry_after_response}
+use Rattle.msi_directory.specs.Entries.{entry_after_request, entry_after_response, entry_by, entry_for_request}
+use Rattle.msi_directory.specs.Entries.{entry_for_response, entry_left, entry_met, request_rider, request_words}
+use Rattle.msi_directory.specs.Entries.{response_rider, response_words}
 use Rattle.rtr_types.specs.declared.TheConstants.{CORES_MAX}
 use Rattle.std.specs.Prelude.{map, if◌then◌else◌}
 use Rattle.std.proofs.lemmas.Bool.{cases_eq}
@@ -18,9 +20,11 @@ use Rattle.msi_cache.specs.declared.messages.Request.{Request}
 use Rattle.msi_cache.specs.Table.{Signal, is_transient, Ask, Reply}
 use Rattle.msi_cache.specs.Lines.{is_allowed}
 use Rattle.msi_directory.specs.declared.entry.Entry.{Entry}
-use Rattle.msi_directory.specs.Table.{is_free}
+use Rattle.msi_cache.specs.Messages.{ask_of, reply_of}
+use Rattle.msi_directory.specs.Table.{HomeRow, Send, gives, is_free, request_row, response_row}
 use Rattle.msi_directory.specs.declared.entry.Stage.{Stage}
 use Rattle.msi_protocol.specs.Block.{Wish, View, view}
+use Rattle.msi_protocol.specs.Counting.{home_counts, line_counts}
 use Rattle.msi_protocol.specs.Phases.{Phase, picture}
 use Rattle.msi_protocol.specs.NextPhases.{after_other, after_others_response}
 use Rattle.msi_protocol.proofs.Keeps.{response_has_row}
@@ -32,26 +36,27 @@ use Rattle.msi_protocol.specs.Shown.{Payload, payload_absorbed, ask_with, reply_
 use Rattle.msi_protocol.specs.Shown.{shown, entry_with, sight_received}
 use Rattle.msi_protocol.specs.Shown.{sight_asking, sight_accessed, after_request_at, after_response_at, wish_in}
 use Rattle.msi_protocol.proofs.Found.{at_core}
-use Rattle.msi_protocol.proofs.Shown.{shown_received, shown_asked, shown_own, shown_entry, shown_other, shown_replied}
+use Rattle.msi_protocol.proofs.Shown.{copy_in, seat_hearing, shown_received, hearing_counts, shown_asked, shown_own}
+use Rattle.msi_protocol.proofs.Shown.{shown_entry, shown_other, shown_replied}
 use Rattle.msi_protocol.proofs.Shown.{shown_responder, shown_response_entry}
 use Rattle.msi_protocol.proofs.Shown.{shown_others, shown_wish, shown_allows}
 use Rattle.msi_protocol.proofs.Moves.{stands_request, stands_response, stands_message, stands_wish, stands_access}
 use Rattle.msi_protocol.specs.Seats.{allows}
-use Rattle.msi_protocol.specs.Showing.{KeptBy, Shows}
+use Rattle.msi_protocol.specs.Showing.{KeptBy, Shows, rehomed, relined}
 
 -- the sights with another one of core c
 abbrev pub sight_at : {R : Type 0} → ℕ → Sight R → (ℕ → Sight R) → ℕ → Sight R
 sight_at c v sights d = if d == c then v else sights d
-
--- the copy in a line
-abbrev pub copy_in : {R : Type 0} → Line R → Payload R
-copy_in l = record { words = l.words; rider = l.rider }
 
 -- a sight after a choice by core
 at_sight : {R : Type 0} (b c d : ℕ) (s t : Seat (Payload R)) (v : Sight R) → (d ≡ c → shown b s ≡ v) →
     (d ≢ c → shown b t ≡ v) → shown b (seat_if (d == c) s t)
     ≡ v
 at_sight {R} b c d s t v here there = at_core (λ (u : Seat (Payload R)). shown b u ≡ v) c d s t here there
+
+-- a row after which the home's copy counts gives nothing away
+keeps : (next : Stage) (send : Send) → home_counts next ≡ true → gives next send ≡ false
+keeps next send counts = grind arith
 
 module _ {R : Type 0} where
   request_cong : (riding : Riding R) (b c d : ℕ) (e f : Entry R) (q r : Request R) (qs rs : List (Request R))
@@ -72,13 +77,45 @@ module _ {R : Type 0} where
       ∙ ap (λ (x : List (Response R)). after_response_at riding f b c r x d v) (sym qrs)
       ∙ ap (λ (x : Sight R). after_response_at riding f b c r rs d x) vw
 
+  -- the copy at home
+  abbrev home_copy : Entry R → Payload R
+  home_copy e = record { words = e.words; rider = e.rider }
+
+  -- a block whose home sends its copy so, with what the row leaves of that
+  home_left : (fresh : R) (row : Option HomeRow) (bl : FullBlock (Payload R)) (sent : Entry R) → entry_with bl ≡ sent →
+      entry_with (rehomed (home_copy (entry_left fresh row sent)) bl) ≡ entry_left fresh row sent
+  home_left fresh None bl sent is =
+      ap (λ (stage : Stage). (let x : Entry R = record { stage = stage; words = sent.words; rider = sent.rider } in x))
+      (ap (λ (e : Entry R). e.stage) is)
+  home_left fresh (Some r) bl sent is =
+      let left : Entry R = entry_left fresh (Some r) sent in
+      ap (λ (stage : Stage). (let x : Entry R = record { stage = stage; words = left.words; rider = left.rider } in x))
+      (ap (λ (e : Entry R). e.stage) is)
+
+  left_same : (riding : Riding R) (row : Option HomeRow) (e : Entry R) (words : List ℕ) (rider : R) →
+      home_counts (entry_met riding.absorbed row e words rider).stage ≡ true →
+      entry_by riding row e words rider ≡ entry_met riding.absorbed row e words rider
+  left_same riding None e words rider counts = refl
+  left_same riding (Some r) e words rider counts =
+      let met : Entry R = entry_met riding.absorbed (Some r) e words rider in
+      ap (λ (k : Bool). (let x : Entry R = record met { rider = if k then riding.fresh else met.rider } in x))
+      (keeps r.next r.send counts)
+
+  -- where the home's copy counts, the row gave nothing away
+  home_stays : (riding : Riding R) (row : Option HomeRow) (e : Entry R) (words : List ℕ) (rider : R)
+      (bl : FullBlock (Payload R)) → entry_with bl ≡ entry_met riding.absorbed row e words rider →
+      home_counts bl.stage ≡ true → home_copy (entry_by riding row e words rider) ≡ bl.home
+  home_stays riding row e words rider bl is counts =
+      ap home_copy (left_same riding row e words rider (ap (λ (x : Entry R). home_counts x.stage) (sym is) ∙ counts)
+      ∙ sym is)
+
   pub for_request : (riding : Riding R) (Q : FullBlock (Payload R) → Type 0) → KeptBy (payload_absorbed riding) Q →
       (b : ℕ) (entry : Entry R)
       (sights : ℕ → Sight R) (c : ℕ) (request : Request R) (rest : List (Request R)) → c < CORES_MAX →
       is_free entry.stage ≡ true → (sights c).requests
       ≡ request ∷ rest →
       Shows Q b entry sights
-      → Shows Q b (entry_after_request riding.absorbed entry c request) (λ d. after_request_at riding entry b c request
+      → Shows Q b (entry_after_request riding entry c request) (λ d. after_request_at riding entry b c request
       rest d (sights d))
   for_request riding Q well b entry sights c request rest lc free asks f =
       let bl : FullBlock (Payload R) = f.block in
@@ -86,14 +123,22 @@ module _ {R : Type 0} where
       let st = f.fits in
       let q = shown_asked b s request rest (ap (λ (v : Sight R). v.requests) (f.shows c lc) ∙ asks) in
       let free' : is_free bl.stage ≡ true = ap (λ (e : Entry R). is_free e.stage) f.entry_is ∙ free in
+      let taken : FullBlock (Payload R) = requested (payload_absorbed riding) c q.0 bl in
+      let fits : PhasesFit taken = stands_request (payload_absorbed riding) c q.0 q.1 bl lc free' q.2 f.fits in
+      let left : Entry R = entry_after_request riding entry c request in
+      let sends : entry_with taken ≡ entry_for_request riding.absorbed entry c request =
+      sym (shown_entry riding b c q.0 q.1 bl free' q.2 (st.roles c lc))
+            ∙ ap (λ (e : Entry R). (entry_for_request riding.absorbed e c (ask_with b s.put q.0))) f.entry_is
+            ∙ ap (λ (r : Request R). (entry_for_request riding.absorbed entry c r)) (sym q.3) in
       record {
-        block = requested (payload_absorbed riding) c q.0 bl;
-        entry_is = sym (shown_entry riding b c q.0 q.1 bl free' q.2 (st.roles c lc))
-            ∙ ap (λ (e : Entry R). (entry_after_request riding.absorbed e c (ask_with b s.put q.0))) f.entry_is
-            ∙ ap (λ (r : Request R). (entry_after_request riding.absorbed entry c r)) (sym q.3);
+        block = rehomed (home_copy left) taken;
+        entry_is = home_left riding.fresh (request_row entry.stage c (ask_of request)) taken
+            (entry_for_request riding.absorbed entry c request) sends;
         shows = λ d ld. seen f.block f.entry_is f.shows q.0 q.1 q.2 q.3 q.4 free' st d ld;
-        fits = stands_request (payload_absorbed riding) c q.0 q.1 bl lc free' q.2 f.fits;
-        has = well.request c q.0 q.1 bl lc free' q.2 f.fits f.has;
+        fits = record { fits = fits.fits; roles = fits.roles };
+        has = well.rehome taken (home_copy left) (home_stays riding (request_row entry.stage c (ask_of request)) entry
+            (request_words request entry.words) (request_rider request entry.rider) taken sends) fits
+            (well.request c q.0 q.1 bl lc free' q.2 f.fits f.has);
       }
     where
       seen : (bl : FullBlock (Payload R)) → entry_with bl ≡ entry →
@@ -129,21 +174,29 @@ module _ {R : Type 0} where
       (sights : ℕ → Sight R) (c : ℕ) (response : Response R) (rest : List (Response R)) → c < CORES_MAX →
       (sights c).responses ≡ response ∷ rest →
       Shows Q b entry sights
-      → Shows Q b (entry_after_response riding.absorbed entry c response) (λ d. after_response_at riding entry b c
+      → Shows Q b (entry_after_response riding entry c response) (λ d. after_response_at riding entry b c
       response rest d (sights d))
   for_response riding Q well b entry sights c response rest lc asks f =
       let bl : FullBlock (Payload R) = f.block in
       let s : Seat (Payload R) = bl.seats c in
       let st = f.fits in
       let q = shown_replied b s response rest (ap (λ (v : Sight R). v.responses) (f.shows c lc) ∙ asks) in
+      let taken : FullBlock (Payload R) = responded (payload_absorbed riding) c q.0 bl in
+      let fits : PhasesFit taken = stands_response (payload_absorbed riding) c q.0 q.1 bl lc q.2 f.fits in
+      let left : Entry R = entry_after_response riding entry c response in
+      let sends : entry_with taken ≡ entry_for_response riding.absorbed entry c response =
+      sym (shown_response_entry riding b c q.0 q.1 bl q.2 (st.roles c lc))
+            ∙ ap (λ (e : Entry R). (entry_for_response riding.absorbed e c (reply_with b s.reply q.0))) f.entry_is
+            ∙ ap (λ (r : Response R). (entry_for_response riding.absorbed entry c r)) (sym q.3) in
       record {
-        block = responded (payload_absorbed riding) c q.0 bl;
-        entry_is = sym (shown_response_entry riding b c q.0 q.1 bl q.2 (st.roles c lc))
-            ∙ ap (λ (e : Entry R). (entry_after_response riding.absorbed e c (reply_with b s.reply q.0))) f.entry_is
-            ∙ ap (λ (r : Response R). (entry_after_response riding.absorbed entry c r)) (sym q.3);
+        block = rehomed (home_copy left) taken;
+        entry_is = home_left riding.fresh (response_row entry.stage c (reply_of response)) taken
+            (entry_for_response riding.absorbed entry c response) sends;
         shows = λ d ld. seen f.block f.entry_is f.shows q.0 q.1 q.2 q.3 q.4 st d ld;
-        fits = stands_response (payload_absorbed riding) c q.0 q.1 bl lc q.2 f.fits;
-        has = well.response c q.0 q.1 bl lc q.2 f.fits f.has;
+        fits = record { fits = fits.fits; roles = fits.roles };
+        has = well.rehome taken (home_copy left) (home_stays riding (response_row entry.stage c (reply_of response))
+            entry (response_words response entry.words) (response_rider response) taken sends) fits
+            (well.response c q.0 q.1 bl lc q.2 f.fits f.has);
       }
     where
       seen : (bl : FullBlock (Payload R)) → entry_with bl ≡ entry →
@@ -193,6 +246,28 @@ module _ {R : Type 0} where
   messages_cons b x m rest [] e = absurd cc
   messages_cons b x m rest (g ∷ more) e = (g, more, refl)
 
+  -- and only its line is another than in a seat in which it counts
+  line_at : (c d : ℕ) (f g : Seat (Payload R) → Seat (Payload R)) (seats : ℕ → Seat (Payload R)) →
+      (line_counts (g (seats c)).phase ≡ true → (f (seats c)).line ≡ (g (seats c)).line) →
+      line_counts (seat_if (d == c) (g (seats d)) (seats d)).phase ≡ true →
+      (seat_if (d == c) (f (seats d)) (seats d)).line ≡ (seat_if (d == c) (g (seats d)) (seats d)).line
+  line_at c d f g seats here = by (cases_eq d c)
+    where
+      by : (d ≡ c) ⊎ (d ≢ c) → line_counts (seat_if (d == c) (g (seats d)) (seats d)).phase ≡ true →
+          (seat_if (d == c) (f (seats d)) (seats d)).line ≡ (seat_if (d == c) (g (seats d)) (seats d)).line
+      by (inl e) = let t : (d == c) ≡ true = grind (arith, nat_tests) in
+          rw t (subst (λ (x : ℕ). line_counts (g (seats x)).phase ≡ true → (f (seats x)).line ≡ (g (seats x)).line)
+          (sym e) here)
+      by (inr n) = let t : (d == c) ≡ false = grind (arith, nat_tests) in rw t (λ counts. refl)
+
+  -- a seat with the line of what it then is
+  with_line : (riding : Riding R) (b : ℕ) (m : FromHome R) (k : Bool) (s : Seat (Payload R)) →
+      ◌≡◌ {A = Seat (Payload R)} (record (seat_if k (seat_received (payload_absorbed riding) s) s) {
+        line = (seat_if k (seat_hearing riding b m s) s).line;
+      }) (seat_if k (seat_hearing riding b m s) s)
+  with_line riding b m true s = refl
+  with_line riding b m false s = refl
+
   pub for_message : (riding : Riding R) (Q : FullBlock (Payload R) → Type 0) → KeptBy (payload_absorbed riding) Q →
       (b : ℕ) (entry : Entry R)
       (sights : ℕ → Sight R) (c : ℕ) (m : FromHome R) (rest : List (FromHome R)) → c < CORES_MAX →
@@ -203,16 +278,22 @@ module _ {R : Type 0} where
       let s : Seat (Payload R) = bl.seats c in
       let head : (shown b s).messages ≡ m ∷ rest = ap (λ (v : Sight R). v.messages) (f.shows c lc) ∙ asks in
       let q = messages_cons b s.sent m rest (picture s.phase).messages head in
-      let here : shown b (seat_received (payload_absorbed riding) s) ≡ sight_received riding m rest (sights c) =
+      let here : shown b (seat_hearing riding b m s) ≡ sight_received riding m rest (sights c) =
       sym (shown_received riding b s m rest head)
       ∙ ap (λ (v : Sight R). sight_received riding m rest v) (f.shows c lc) in
+      let heard : FullBlock (Payload R) = messaged (payload_absorbed riding) c bl in
+      let lines : ℕ → Payload R = λ d. (seat_if (d == c) (seat_hearing riding b m (bl.seats d)) (bl.seats d)).line in
+      let fits : PhasesFit heard = stands_message (payload_absorbed riding) c q.0 q.1 bl q.2 f.fits in
       record {
-        block = messaged (payload_absorbed riding) c bl;
+        block = relined lines heard;
         entry_is = f.entry_is;
-        shows = λ d ld. seen_at b c (seat_received (payload_absorbed riding)) bl.seats (sight_received riding m rest
-            (sights c)) sights here d (f.shows d ld);
-        fits = stands_message (payload_absorbed riding) c q.0 q.1 bl q.2 f.fits;
-        has = well.message c q.0 q.1 bl lc q.2 f.fits f.has;
+        shows = λ d ld. ap (λ (u : Seat (Payload R)). shown b u) (with_line riding b m (d == c) (bl.seats d))
+            ∙ seen_at b c (seat_hearing riding b m) bl.seats (sight_received riding m rest (sights c)) sights here d
+            (f.shows d ld);
+        fits = record { fits = fits.fits; roles = fits.roles };
+        has = well.reline heard lines (λ d ld. line_at c d (seat_hearing riding b m)
+            (seat_received (payload_absorbed riding)) bl.seats (hearing_counts riding b s m rest head)) fits
+            (well.message c q.0 q.1 bl lc q.2 f.fits f.has);
       }
 
   -- a core asks for this block or, where the line has this one, for another

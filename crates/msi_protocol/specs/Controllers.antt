@@ -40,13 +40,13 @@ module _ {R : Type 0} where
   abbrev pub RequestAsMoved : Riding R → Entry R → ℕ → Request R → Type 0
   RequestAsMoved riding e c request =
       MakesStep (request_step e.stage c (ask_of request)) (request_block request)
-      (entry_after_request riding.absorbed e c request) (answer_to_request riding.absorbed e c request)
+      (entry_after_request riding e c request) (answer_to_request riding.absorbed e c request)
 
   -- a response from core c does at home what the step of its kind says
   abbrev pub ResponseAsMoved : Riding R → Entry R → ℕ → Response R → Type 0
   ResponseAsMoved riding e c response =
       MakesStep (response_step e.stage c (reply_of response)) (response_block response)
-      (entry_after_response riding.absorbed e c response) (answer_to_response riding.absorbed e c response)
+      (entry_after_response riding e c response) (answer_to_response riding.absorbed e c response)
 
   abbrev pub kind_replied : Option (Response R) → List Reply
   kind_replied None = []
@@ -58,7 +58,7 @@ module _ {R : Type 0} where
   TakesAsMoved riding line m =
       (requests : List Ask) (responses : List Reply) (rest : List Signal) → IsTrue (has_row line m)
       → after_message (signal m) rest (view line.state requests responses (signal m ∷ rest))
-      ≡ view (line_after riding.absorbed line m).state requests (responses ++ kind_replied (answer line m)) rest
+      ≡ view (line_after riding line m).state requests (responses ++ kind_replied (answer line m)) rest
 
 -- an access wants to write or to read
 abbrev pub access_wish : Bool → Wish

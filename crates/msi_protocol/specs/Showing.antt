@@ -2,13 +2,13 @@
 -- messages with words and riders, is the picture of a block whose phases fit its stage, and of which a property holds.
 -- The property may be any that the moves of a block keep: none, that the copies that count have these words, or that
 -- their riders have these times.
-use Rattle.std.specs.Prelude.{◌≡◌, ◌≢◌, ℕ, ◌<◌, true, List, ◌∷◌}
+use Rattle.std.specs.Prelude.{◌≡◌, ℕ, ◌<◌, true, List, ◌∷◌}
 use Rattle.rtr_types.specs.declared.TheConstants.{CORES_MAX}
 use Rattle.msi_cache.specs.Table.{Signal, Ask, Reply}
-use Rattle.msi_cache.specs.declared.line.State.TheVariants.{I}
 use Rattle.msi_directory.specs.Table.{is_free}
 use Rattle.msi_directory.specs.declared.entry.Entry.{Entry}
 use Rattle.msi_protocol.specs.Block.{Wish}
+use Rattle.msi_protocol.specs.Counting.{home_counts, line_counts}
 use Rattle.msi_protocol.specs.Phases.{picture}
 use Rattle.msi_protocol.specs.Seats.{FullBlock, PhasesFit, requested, responded, messaged, wishing}
 use Rattle.msi_protocol.specs.Shown.{Payload, Sight, shown, entry_with}
@@ -26,7 +26,11 @@ pub record Shows {R : Type 0} (Q : FullBlock (Payload R) → Type 0) (b : ℕ) (
 abbrev pub relined : {X : Type 0} → (ℕ → X) → FullBlock X → FullBlock X
 relined lines b = record b { seats = λ d. record (b.seats d) { line = lines d } }
 
--- each move of a block keeps the property, and what an invalid line has doesn't matter to it
+-- the block with another copy at home
+abbrev pub rehomed : {X : Type 0} → X → FullBlock X → FullBlock X
+rehomed home b = record b { home = home }
+
+-- each move of a block keeps the property, and what a line has, or the home, whose copy doesn't count doesn't matter to it
 pub record KeptBy {X : Type 0} (absorbed : X → X → X) (Q : FullBlock X → Type 0) : Type 0 where
   pub request : (c : ℕ) (a : Ask) (rest : List Ask) (b : FullBlock X) → c < CORES_MAX → is_free b.stage ≡ true
       → (picture (b.seats c).phase).requests ≡ a ∷ rest → PhasesFit b → Q b → Q (requested absorbed c a b)
@@ -36,5 +40,7 @@ pub record KeptBy {X : Type 0} (absorbed : X → X → X) (Q : FullBlock X → T
       → (picture (b.seats c).phase).messages ≡ m ∷ rest → PhasesFit b → Q b → Q (messaged absorbed c b)
   pub wish : (c : ℕ) (w : Wish) (b : FullBlock X) → PhasesFit b → Q b → Q (wishing c w b)
   pub reline : (b : FullBlock X) (lines : ℕ → X)
-      → ((d : ℕ) → d < CORES_MAX → (picture (b.seats d).phase).line ≢ I → lines d ≡ (b.seats d).line)
+      → ((d : ℕ) → d < CORES_MAX → line_counts (b.seats d).phase ≡ true → lines d ≡ (b.seats d).line)
       → PhasesFit b → Q b → Q (relined lines b)
+  pub rehome : (b : FullBlock X) (home : X) → (home_counts b.stage ≡ true → home ≡ b.home) → PhasesFit b → Q b
+      → Q (rehomed home b)

@@ -85,7 +85,7 @@ module _ {R : Type 0} where
   abbrev pub sight_received : Riding R → FromHome R → List (FromHome R) → Sight R → Sight R
   sight_received riding m rest v =
       record {
-        line = line_after riding.absorbed v.line m;
+        line = line_after riding v.line m;
         requests = v.requests;
         responses = v.responses ++ answers (answer v.line m);
         messages = rest;

@@ -32,6 +32,10 @@ impl Rider for Absorbed {
     fn renew(&mut self, other: &Self) {
         self.riders = other.riders.wrapping_add(self.riders).wrapping_add(1);
     }
+
+    fn forget(&mut self) {
+        self.riders = 0;
+    }
 }
 
 /// Counts the retirements that it was told of.

@@ -51,12 +51,12 @@ asks_worth : {R : Type 0} (l : Line R) (block : ℕ) (kind : Kind) (cores : ℕ)
     line_worth l.state false cores + 1 ≤ line_worth (line_asking l block kind).state false cores
 asks_worth l block kind cores still needs = grind (arith, nat_tests)
 
-message_worth : {R : Type 0} (absorbed : R → R → R) (l : Line R) (m : FromHome R) (taken : Bool) (cores : ℕ) →
+message_worth : {R : Type 0} (riding : Riding R) (l : Line R) (m : FromHome R) (taken : Bool) (cores : ℕ) →
     is_data m ≡ false →
     is_some (row (signal m) l.state) ≡ true →
     line_worth l.state taken cores + answers (answer_by (row (signal m) l.state) l) + 1 ≤ line_worth
-    (line_after absorbed l m).state taken cores + debt m
-message_worth absorbed l m taken cores d e = grind (arith, nat_tests)
+    (line_after riding l m).state taken cores + debt m
+message_worth riding l m taken cores d e = grind (arith, nat_tests)
 
 data_debt : {R : Type 0} (m : FromHome R) → is_data m ≡ true → debt m ≡ 0
 data_debt m e = grind arith
@@ -116,12 +116,12 @@ module _ {R K : Type 0} where
       port_worth cores (port_taking riding carrying p (mail ∷ rest))
       + line_worth (line_for riding.fresh p.cache (block_of mail.item)).state (is_nil p.requests.items) cores
       ≡ port_worth cores p
-      + line_worth (line_after riding.absorbed (line_for riding.fresh p.cache (block_of mail.item)) mail.item).state
+      + line_worth (line_after riding (line_for riding.fresh p.cache (block_of mail.item)) mail.item).state
       (is_nil p.requests.items) cores
   heard_worth riding carrying cores p mail rest long =
       let l : Line R = line_for riding.fresh p.cache (block_of mail.item) in
       let e = sum_by-set (worth_of (is_nil p.requests.items) cores) p.cache (block_of mail.item % LINES)
-      (line_after riding.absorbed l mail.item)
+      (line_after riding l mail.item)
       (empty_line riding.fresh) (rw long (omega arith)) in
       let same : port_worth cores (port_taking riding carrying p (mail ∷ rest)) ≡ port_worth cores
       (port_hearing riding carrying p mail rest) =
@@ -149,7 +149,7 @@ module _ {R K : Type 0} where
       let l : Line R = line_for riding.fresh p.cache (block_of mail.item) in
       let owes = taking_owes riding carrying p mail rest is in
       let worth = heard_worth riding carrying cores p mail rest long in
-      let rises = message_worth riding.absorbed l mail.item (is_nil p.requests.items)
+      let rises = message_worth riding l mail.item (is_nil p.requests.items)
       cores d there in omega arith
 
   -- data take what the line may have cost

@@ -9,7 +9,7 @@ use Rattle.msi_directory.specs.Table.{is_free}
 use Rattle.msi_directory.specs.declared.entry.Entry.{Entry}
 use Rattle.msi_directory.specs.declared.entry.Stage.{Stage}
 use Rattle.msi_directory.proofs.Fits.{response_keeps_all}
-use Rattle.msi_directory.proofs.Rows.{blocks_after, copy_after, fits_after, is_found, place_after, rider_after}
+use Rattle.msi_directory.proofs.Rows.{blocks_after, fits_after, is_found, place_after}
 use Rattle.msi_directory.proofs.Rows.{row_answers, same_elsewhere, stage_after}
 use Rattle.msi_directory.proofs.Sparse.{reads_kept, stage_kept}
 use Rattle.msi_directory.proofs.home.Home.receive.Goals as goal
@@ -56,11 +56,11 @@ invariant_of-self g c =
     is_found home c.block.result block c.unwrap-place.result c.place.result (c.block.ensures)
     c.place.ensures.place c.place.ensures.stage c.place.ensures.copy c.unwrap-place.ensures in
     let past = no_entry g.R.Rider.riding.fresh in
-    let row = λ (e : Entry _). entry_after_response g.R.Rider.riding.absorbed e c.args.from c.args.response.now in
+    let row = λ (e : Entry _). entry_after_response g.R.Rider.riding e c.args.from c.args.response.now in
     let entries = (blocks_in home).entries in
     let old = slice_index_or entries block past in
     let stages =
-    response_keeps_all g.R.Rider.riding.absorbed entries block old (row old) c.args.from c.args.response.now
+    response_keeps_all g.R.Rider.riding entries block old (row old) c.args.from c.args.response.now
     c.self.invariant.stages within
     (get_or_default entries block past old within) c.requires.from refl in
     fits_after home block c.unwrap-place.result found within past row c.receive-answer.new.self
@@ -75,21 +75,8 @@ stage-requires g c =
     is_found home c.block.result block c.unwrap-place.result c.place.result (c.block.ensures)
     c.place.ensures.place c.place.ensures.stage c.place.ensures.copy c.unwrap-place.ensures in
     let past = no_entry g.R.Rider.riding.fresh in
-    let row = λ (e : Entry _). entry_after_response g.R.Rider.riding.absorbed e c.args.from c.args.response.now in
+    let row = λ (e : Entry _). entry_after_response g.R.Rider.riding e c.args.from c.args.response.now in
     place_after home block c.unwrap-place.result found within past row c.receive-answer.new.self
-    c.receive-answer.ensures.kept
-
-pub copy-requires : goal.copy-requires
-copy-requires g c =
-    let home = home_of c.self.inside.opening c.self.inside.fresh c.self.inside.kept in
-    let block = response_block c.args.response.now in
-    let within = rw (← c.self.view_is) at c.requires.within in
-    let found =
-    is_found home c.block.result block c.unwrap-place.result c.place.result (c.block.ensures)
-    c.place.ensures.place c.place.ensures.stage c.place.ensures.copy c.unwrap-place.ensures in
-    let past = no_entry g.R.Rider.riding.fresh in
-    let row = λ (e : Entry _). entry_after_response g.R.Rider.riding.absorbed e c.args.from c.args.response.now in
-    copy_after home block c.unwrap-place.result found within past row c.receive-answer.new.self
     c.receive-answer.ensures.kept
 
 pub returns : goal.returns
@@ -101,29 +88,16 @@ returns g c =
     is_found home c.block.result block c.unwrap-place.result c.place.result (c.block.ensures)
     c.place.ensures.place c.place.ensures.stage c.place.ensures.copy c.unwrap-place.ensures in
     let past = no_entry g.R.Rider.riding.fresh in
-    let row = λ (e : Entry _). entry_after_response g.R.Rider.riding.absorbed e c.args.from c.args.response.now in
+    let row = λ (e : Entry _). entry_after_response g.R.Rider.riding e c.args.from c.args.response.now in
     let wanted = λ (e : Entry _). answer_to_response g.R.Rider.riding.absorbed e c.args.from c.args.response.now in
     let after = c.receive-answer.new.self in
     let changes = c.receive-answer.ensures.kept in
     let place = c.unwrap-place.result in
-    rw (← c.self.view_is) (
-      (
-        refl,
-        λ _. tt,
-        record {
-          blocks = blocks_after home block place found within past row after changes;
-          elsewhere = same_elsewhere home block place found within past row after changes;
-          rider = c.get-rider.ensures ∙ rider_after home block place found within past row after changes
-              c.copy.result.now c.copy.ensures;
-        },
-      ),
-      record {
-        home = tt;
-        answer = ap (λ rider. answer_riding rider c.receive-answer.result) c.get-rider.ensures
-            ∙ row_answers home block place found within past row after changes _
-            (λ rider. answer_riding rider c.receive-answer.result) wanted
-            c.copy.result.now c.copy.ensures c.receive-answer.ensures.answer;
-        free = c.is_free-free.ensures ∙ ap is_free (stage_after home block place found within past row after changes
-            c.stage.result c.stage.ensures);
-      },
-    )
+    rw (← c.self.view_is) (record {
+      blocks = blocks_after home block place found within past row after changes;
+      elsewhere = same_elsewhere home block place found within past row after changes;
+      answer = row_answers home block place found within past row after changes _
+          (answer_riding c.receive-answer.new.hand c.receive-answer.result) wanted c.receive-answer.ensures.answer;
+      free = c.is_free-free.ensures ∙ ap is_free (stage_after home block place found within past row after changes
+          c.stage.result c.stage.ensures);
+    })

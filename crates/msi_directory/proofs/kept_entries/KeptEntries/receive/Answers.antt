@@ -14,7 +14,7 @@ invariant_of-self g c =
 pub returns-clause-kept : goal.returns-clause-kept
 returns-clause-kept g c =
     let copy = rw (← c.self.view_is) at c.requires.copy in
-    let row = λ (e : Entry _). entry_after_response g.R.Rider.riding.absorbed e c.args.from c.args.response.now in
+    let row = λ (e : Entry _). entry_after_response g.R.Rider.riding e c.args.from c.args.response.now in
     changed c.self.inside.stages c.self.inside.copies.items c.args.self.now c.self.view_is c.args.place
     c.index_mut-stage.result.now c.index_mut.result.now c.index_mut-stage.ensures.value copy c.index_mut.ensures.value
     row c.receive.new.stage c.receive.new.self c.receive.ensures.entry
@@ -25,4 +25,4 @@ returns-clause-answer g c =
     let wanted = λ (e : Entry _). answer_to_response g.R.Rider.riding.absorbed e c.args.from c.args.response.now in
     answered c.self.inside.stages c.self.inside.copies.items c.args.self.now c.self.view_is c.args.place
     c.index_mut-stage.result.now c.index_mut.result.now c.index_mut-stage.ensures.value copy c.index_mut.ensures.value
-    _ (λ r. answer_riding r c.receive.result) wanted c.receive.new.self c.receive.ensures.answer
+    _ (answer_riding c.receive.new.hand c.receive.result) wanted c.receive.ensures.answer

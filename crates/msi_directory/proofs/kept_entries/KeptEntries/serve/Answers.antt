@@ -15,7 +15,7 @@ invariant_of-self g c =
 pub returns-clause-kept : goal.returns-clause-kept
 returns-clause-kept g c =
     let copy = rw (← c.self.view_is) at c.requires.copy in
-    let row = λ (e : Entry _). entry_after_request g.R.Rider.riding.absorbed e c.args.from
+    let row = λ (e : Entry _). entry_after_request g.R.Rider.riding e c.args.from
     (request_seen c.args.request) in
     changed c.self.inside.stages c.self.inside.copies.items c.args.self.now c.self.view_is c.args.place
     c.index_mut-stage.result.now c.index_mut.result.now c.index_mut-stage.ensures.value copy c.index_mut.ensures.value
@@ -28,4 +28,4 @@ returns-clause-answer g c =
     (request_seen c.args.request) in
     answered c.self.inside.stages c.self.inside.copies.items c.args.self.now c.self.view_is c.args.place
     c.index_mut-stage.result.now c.index_mut.result.now c.index_mut-stage.ensures.value copy c.index_mut.ensures.value
-    _ (λ r. answer_riding r c.serve.result) wanted c.serve.new.self c.serve.ensures.answer
+    _ (answer_riding c.serve.new.hand c.serve.result) wanted c.serve.ensures.answer
