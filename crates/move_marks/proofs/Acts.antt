@@ -5,6 +5,7 @@ use Rattle.std.proofs.Common.{◌&&◌}
 use Rattle.std.specs.Prelude.{map, slice_set}
 use Rattle.std.proofs.lemmas.List.{get_or-map, get_or_past, get_or-set_other, length-map, map-set}
 use Rattle.access_times.specs.Riding.{Riding, Carrying}
+use Rattle.msi_cache.specs.Lines.{waits}
 use Rattle.msi_cache.specs.declared.messages.Request.{Request}
 use Rattle.msi_memory.specs.declared.port.Mail.{Mail}
 use Rattle.msi_memory.specs.declared.port.Port.{Port}
@@ -26,6 +27,17 @@ module _ {R K : Type 0} where
       f (port_at carrying new d) ≡ f (port_at carrying old d)
   same_at f carrying new old same d =
       at_map f carrying new d ∙ (λ i. get_or (same i) d (f (no_port carrying))) ∙ sym (at_map f carrying old d)
+
+  -- a port that has the cache that it had waits as it did
+  waits_through : (ports : List (Port R K)) →
+      map waits (map (λ (p : Port R K). p.cache) ports) ≡ map (λ (p : Port R K). waits p.cache) ports
+  waits_through [] = refl
+  waits_through (p ∷ ports) = ap (λ (bs : List Bool). waits p.cache ∷ bs) (waits_through ports)
+
+  pub waits_by : (new old : List (Port R K)) →
+      map (λ (p : Port R K). p.cache) new ≡ map (λ (p : Port R K). p.cache) old →
+      map (λ (p : Port R K). waits p.cache) new ≡ map (λ (p : Port R K). waits p.cache) old
+  waits_by new old same = sym (waits_through new) ∙ ap (map waits) same ∙ waits_through old
 
   pub requests_within : (carrying : Carrying K) (ports : List (Port R K)) (d : ℕ) → d < length ports →
       requests_at ports d ≡ (port_at carrying ports d).requests.items

@@ -5,7 +5,7 @@ use Rattle.std.proofs.Common.{cond, List, [], ◌∷◌, ◌++◌, arith}
 use Rattle.std.specs.Prelude.{map}
 use Rattle.std.specs.List.{filter, range_with_len}
 use Rattle.std.proofs.lemmas.List.{append-nil, map-append}
-use Rattle.std.proofs.lemmas.List.Elements.{filter-append, filter_agree}
+use Rattle.std.proofs.lemmas.List.Elements.{filter-append}
 use Rattle.rtr_types.specs.CoreSets.{has}
 use Rattle.rtr_types.specs.declared.TheConstants.{CORES_MAX}
 use Rattle.rtr_types.specs.declared.core_set.CoreSet.{CoreSet}
@@ -50,29 +50,39 @@ renumbered f make a b (suc n) same =
         let b_on : b + (1 + i) ≡ (b + 1) + i = omega arith in
         ap f a_on ∙ same (1 + i) (omega arith) ∙ ap make b_on
 
-none_from : (q : ℕ → Bool) (a n : ℕ) → ((c : ℕ) → a ≤ c → q c ≡ false) → filter q (range_with_len a n) ≡ []
+none_from : (q : ℕ → Bool) (a n : ℕ) → ((c : ℕ) → a ≤ c → c < a + n → q c ≡ false) → filter q (range_with_len a n) ≡ []
 none_from q a zero none = refl
 none_from q a (suc n) none =
     ap (λ (b : Bool). cond b (a ∷ filter q (range_with_len (a + 1) n)) (filter q (range_with_len (a + 1) n)))
-    (none a (omega arith))
-    ∙ none_from q (a + 1) n (λ c past. none c (omega arith))
+    (none a (omega arith) (omega arith))
+    ∙ none_from q (a + 1) n (λ c past within. none c (omega arith) (omega arith))
 
-members_are : (set : CoreSet) (q : ℕ → Bool) (n : ℕ) → n ≤ CORES_MAX → ((c : ℕ) → has set c ≡ q c) →
-    ((c : ℕ) → n ≤ c → q c ≡ false) → filter q (range_with_len 0 n) ≡ members set
+agree_on : (p q : ℕ → Bool) (a n : ℕ) → ((c : ℕ) → a ≤ c → c < a + n → p c ≡ q c) →
+    filter p (range_with_len a n) ≡ filter q (range_with_len a n)
+agree_on p q a zero same = refl
+agree_on p q a (suc n) same =
+    (λ i. cond (same a (omega arith) (omega arith) i) (a ∷ filter p (range_with_len (a + 1) n))
+    (filter p (range_with_len (a + 1) n)))
+    ∙ ap (λ (xs : List ℕ). cond (q a) (a ∷ xs) xs)
+    (agree_on p q (a + 1) n (λ c past within. same c (omega arith) (omega arith)))
+
+members_are : (set : CoreSet) (q : ℕ → Bool) (n : ℕ) → n ≤ CORES_MAX → ((c : ℕ) → c < CORES_MAX → has set c ≡ q c) →
+    ((c : ℕ) → n ≤ c → c < CORES_MAX → q c ≡ false) → filter q (range_with_len 0 n) ≡ members set
 members_are set q n few same none =
     let all : n + (CORES_MAX - n) ≡ CORES_MAX = omega arith in
     let start : 0 + n ≡ n = omega arith in
     sym (append-nil (filter q (range_with_len 0 n)))
     ∙ ap (λ (xs : List ℕ). filter q (range_with_len 0 n) ++ xs)
-    (sym (ap (λ (b : ℕ). filter q (range_with_len b (CORES_MAX - n))) start ∙ none_from q n (CORES_MAX - n) none))
+    (sym (ap (λ (b : ℕ). filter q (range_with_len b (CORES_MAX - n))) start
+    ∙ none_from q n (CORES_MAX - n) (λ c past within. none c past (omega arith))))
     ∙ sym (filter-append q (range_with_len 0 n) (range_with_len (0 + n) (CORES_MAX - n)))
     ∙ ap (filter q) (sym (range_append 0 n (CORES_MAX - n)) ∙ ap (range_with_len 0) all)
-    ∙ sym (filter_agree (has set) q same (range_with_len 0 CORES_MAX))
+    ∙ sym (agree_on (has set) q 0 CORES_MAX (λ c past within. same c within))
 
 -- of the moves that are numbered from a on, one a core, those that can be made
 pub kind_listed : {X : Type 0} (p : X → Bool) (f make : ℕ → X) (set : CoreSet) (a n : ℕ) → n ≤ CORES_MAX →
-    ((i : ℕ) → i < n → f (a + i) ≡ make i) → ((c : ℕ) → has set c ≡ p (make c)) →
-    ((c : ℕ) → n ≤ c → p (make c) ≡ false) → filter p (map f (range_with_len a n)) ≡ map make (members set)
+    ((i : ℕ) → i < n → f (a + i) ≡ make i) → ((c : ℕ) → c < CORES_MAX → has set c ≡ p (make c)) →
+    ((c : ℕ) → n ≤ c → c < CORES_MAX → p (make c) ≡ false) → filter p (map f (range_with_len a n)) ≡ map make (members set)
 kind_listed p f make set a n few is marked none =
     ap (filter p) (renumbered f make a 0 n (λ i within. is i within ∙ ap make (from_zero i)))
     ∙ filter_map_by p make (range_with_len 0 n)

@@ -1,13 +1,7 @@
 -- Which marked move has which number: those of one kind come after all of the kinds before.
-use Rattle.std.proofs.Common.{◌≡◌, ◌∙◌, sym, ap, ℕ, ◌+◌, ◌-◌, ◌<◌, ◌≤◌, List, ◌++◌, length, get_or, arith}
+use Rattle.std.proofs.Common.{◌≡◌, ◌∙◌, sym, ap, ℕ, ◌-◌, ◌<◌, ◌≤◌, List, ◌++◌, length, get_or, arith}
 use Rattle.std.specs.Prelude.{map}
-use Rattle.std.proofs.lemmas.List.{get_or-append_right, get_or-map, get_or_append_left, length-append, length-map}
-use Rattle.rtr_types.specs.declared.core_set.CoreSet.{CoreSet}
-use Rattle.move_marks.specs.declared.marks.PortMarks.{PortMarks}
-use Rattle.move_marks.specs.declared.marks.PortMove.{PortMove}
-use Rattle.move_marks.specs.declared.marks.PortMove.TheVariants.{Request, Response, FromHome}
-use Rattle.move_marks.specs.Members.{members}
-use Rattle.move_marks.specs.Marks.{marked}
+use Rattle.std.proofs.lemmas.List.{get_or-append_right, get_or-map, get_or_append_left, length-map}
 
 -- the number is one of the first kind's
 pub found_here : {X : Type 0} (make : ℕ → X) (xs : List ℕ) (rest : List X) (n found : ℕ) (d : X) → n < length xs →
@@ -27,16 +21,3 @@ found_past make xs rest n many found d long past is =
 pub found_last : {X : Type 0} (make : ℕ → X) (xs : List ℕ) (n found : ℕ) (d : X) → n < length xs →
     ((e : ℕ) → found ≡ get_or xs n e) → make found ≡ get_or (map make xs) n d
 found_last make xs n found d within is = ap make (is 0) ∙ sym (get_or-map make xs n 0 d within)
-
--- how many are marked
-pub marked_long : (marks : PortMarks) →
-    length (marked marks) ≡ length (members marks.requests) + (length (members marks.responses)
-    + length (members marks.messages))
-marked_long marks =
-    length-append (map (λ (c : ℕ). Request c) (members marks.requests))
-    (map (λ (c : ℕ). Response c) (members marks.responses) ++ map (λ (c : ℕ). FromHome c) (members marks.messages))
-    ∙ (λ i. length-map (members marks.requests) (λ (c : ℕ). Request c) i
-    + length-append (map (λ (c : ℕ). Response c) (members marks.responses))
-    (map (λ (c : ℕ). FromHome c) (members marks.messages)) i)
-    ∙ (λ i. length (members marks.requests) + (length-map (members marks.responses) (λ (c : ℕ). Response c) i
-    + length-map (members marks.messages) (λ (c : ℕ). FromHome c) i))

@@ -1,2 +1,3 @@
 pub mod Members
-pub mod Marks
+pub mod Kinds
+pub mod Turns

@@ -5,36 +5,36 @@ ghost use Rattle.rtr_types.specs.declared.TheConstants.{CORES_MAX};
 ghost use Rattle.msi_directory.specs.Blocks.{entry_at};
 ghost use Rattle.msi_directory.specs.Table.{is_free};
 ghost use Rattle.msi_memory.specs.Rests.{hears};
-ghost use Rattle.move_marks.specs.Marks.{IsAfterTurn, differ};
+ghost use Rattle.move_marks.specs.Turns.{IsAfterTurn, differ};
 
-use crate::marks::PortMarks;
-use crate::sets::{but, common, first_cores, joined};
+use crate::marks::{MoveKind, MoveMarks};
+use crate::sets::first_of;
 use access_times::{Carry, Rider};
 use msi_directory::HomeAnswer;
 use msi_memory::{MemorySystem, Turn};
 use rtr_types::{CORES_MAX, CoreSet};
 
-/// Marks what can be made after the home's turn at one of so many ports: those that it answered have a message, and
+/// Marks what can be made after the home's turn at one of so many cores: those that it answered have a message, and
 /// where its block is free now and wasn't, or was and isn't, so are the requests for the block.
 pub fn mark_turn<R: Rider, K: Carry>(
     memory: &MemorySystem<R, K>,
     cores: u32,
     turn: Turn,
     was_free: bool,
-    marks: &mut PortMarks,
+    marks: &mut MoveMarks,
 )
     requires few { cores ≤ CORES_MAX }
     requires ports { length memory.now.memory.ports ≤ CORES_MAX }
     requires free { turn.free ≡ is_free (entry_at R.riding.fresh memory.now.memory.home turn.block).stage }
-    ensures marked { IsAfterTurn R.riding memory.now.memory cores turn was_free marks.old marks.new }
+    ensures { IsAfterTurn R.riding memory.now.memory cores turn was_free marks.old marks.new }
 {
-    marks.messages = joined(marks.messages, hearers(turn.answer, cores));
+    marks.mark_all(MoveKind::FromHome, hearers(turn.answer, cores));
     if is_other(turn.free, was_free) {
         let askers = memory.askers(turn.block);
         if turn.free {
-            marks.requests = joined(marks.requests, askers);
+            marks.mark_all(MoveKind::Request, askers);
         } else {
-            marks.requests = but(marks.requests, askers);
+            marks.clear_all(MoveKind::Request, askers);
         }
     }
 }
@@ -49,7 +49,7 @@ fn is_other(one: bool, other: bool) -> bool
 /// The cores, of the first so many, that the home's answer goes to.
 fn hearers(answer: HomeAnswer<()>, cores: u32) -> CoreSet
     requires { cores ≤ CORES_MAX }
-    ensures { (c : ℕ) → has result c ≡ (nat_lt c cores && hears answer c) }
+    ensures { (c : ℕ) → has result c ≡ (hears answer c && nat_lt c cores) }
 {
     match answer.send {
         Some((to, _message)) => {
@@ -59,6 +59,6 @@ fn hearers(answer: HomeAnswer<()>, cores: u32) -> CoreSet
                 CoreSet::empty()
             }
         }
-        None => common(answer.invalidate, first_cores(cores)),
+        None => first_of(answer.invalidate, cores),
     }
 }

@@ -1,58 +1,18 @@
 //! Sets of cores whose members are counted, and found by their numbers.
-ghost use Rattle.std.specs.Prelude.{◌≡◌, ◌≢◌, ◌<◌, ◌≤◌, ◌&&◌, ◌||◌, ℕ, length, nat_lt, not, slice_index_or};
+ghost use Rattle.std.specs.Prelude.{◌≡◌, ◌<◌, ◌≤◌, ◌&&◌, ℕ, length, nat_lt, slice_index_or};
 ghost use Rattle.rtr_types.specs.CoreSets.{has};
 ghost use Rattle.rtr_types.specs.declared.TheConstants.{CORES_MAX};
 ghost use Rattle.move_marks.specs.Members.{members};
 
 use rtr_types::{CORES_MAX, CoreSet};
 
-/// The first cores, so many.
-pub fn first_cores(cores: u32) -> CoreSet
+/// The cores of the set that are among the first so many.
+pub fn first_of(set: CoreSet, cores: u32) -> CoreSet
     requires { cores ≤ CORES_MAX }
-    ensures { (c : ℕ) → has result c ≡ nat_lt c cores }
+    ensures { (c : ℕ) → has result c ≡ (has set c && nat_lt c cores) }
 {
     CoreSet {
-        bits: ((1u32 << cores) - 1) as u16,
-    }
-}
-
-/// The set with the core in it exactly where so is told.
-pub fn set_to(set: CoreSet, core: u8, is_in: bool) -> CoreSet
-    requires { core < CORES_MAX }
-    ensures this { has result core ≡ is_in }
-    ensures others { (c : ℕ) → c ≢ core → has result c ≡ has set c }
-{
-    if is_in {
-        set.with(core)
-    } else {
-        set.without(core)
-    }
-}
-
-/// The cores that are in one of the sets.
-pub fn joined(one: CoreSet, other: CoreSet) -> CoreSet
-    ensures { (c : ℕ) → has result c ≡ (has one c || has other c) }
-{
-    CoreSet {
-        bits: one.bits | other.bits,
-    }
-}
-
-/// The cores that are in both sets.
-pub fn common(one: CoreSet, other: CoreSet) -> CoreSet
-    ensures { (c : ℕ) → has result c ≡ (has one c && has other c) }
-{
-    CoreSet {
-        bits: one.bits & other.bits,
-    }
-}
-
-/// The cores of the one set that aren't in the other.
-pub fn but(one: CoreSet, other: CoreSet) -> CoreSet
-    ensures { (c : ℕ) → has result c ≡ (has one c && not (has other c)) }
-{
-    CoreSet {
-        bits: one.bits & !other.bits,
+        bits: set.bits & ((1u32 << cores) - 1) as u16,
     }
 }
 
