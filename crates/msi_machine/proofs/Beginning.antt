@@ -24,12 +24,11 @@ use Rattle.msi_state.specs.Steps.{enabled}
 use Rattle.machine_invariant.specs.Holds.{MachineHolds}
 use Rattle.msi_machine.specs.declared.marks.Marks.{Marks}
 use Rattle.msi_machine.specs.declared.standing.Standing.{Standing}
-use Rattle.msi_machine.specs.Marks.{IsWithin, is_marked}
+use Rattle.msi_machine.specs.Marks.{is_marked}
 use Rattle.msi_machine.specs.Standings.{NotesFit, StandingsFit, may_begin, may_work, next_in, next_of, standing_at}
 use Rattle.msi_machine.specs.Standings.{standing_with}
-use Rattle.msi_machine.proofs.Bits.{none_past}
-use Rattle.msi_machine.proofs.Delivered.{past_is, split}
-use Rattle.msi_machine.proofs.Elsewhere.{can_here, can_past}
+use Rattle.move_marks.proofs.Acts.{can_here, can_past}
+use Rattle.move_marks.proofs.Delivered.{past_is, split}
 use Rattle.msi_machine.proofs.Renewed.{own_marked}
 use Rattle.msi_machine.proofs.Standings.{standings_long, stands_at}
 
@@ -114,21 +113,18 @@ module _ {R K : Type 0} where
       (standings : List Standing)
       (marks : Marks) → m.state ≡ state_start riding carrying image cores limit → MachineHolds riding carrying m.state →
       standings ≡ map (λ (core : Core). standing_with image core false) m.state.cores → marks.cores ≡ length standings →
-      IsWithin marks →
       ((x : Move) → is_marked marks x ≡ may_begin standings x) → NotesFit riding carrying m standings marks CORES_MAX
-  notes_begin riding carrying image cores limit m standings marks is holds made count within first =
+  notes_begin riding carrying image cores limit m standings marks is holds made count first =
       record {
         holds = holds;
         stands = fit;
         marked = record {
           cores = count ∙ standings_long m.state standings fit;
-          within = within;
           marked =
               λ x other. every x;
         };
-        unmarked = none_past marks (RequestMove CORES_MAX)
-            (subst (λ (n : ℕ). n ≤ CORES_MAX) (holds.ports_there ∙ sym (count ∙ standings_long m.state standings fit))
-            holds.memory.cores);
+        unmarked = every (RequestMove CORES_MAX)
+            ∙ can_past riding carrying m.state.memory (TakeRequest CORES_MAX) holds.memory.cores;
         roomy = λ c other. ap (λ (s : State R K). head_roomy (requests_at s.memory.ports c) m.rooms) is
             ∙ ap (λ items. head_roomy items m.rooms) (no_requests riding carrying cores c);
       }

@@ -1,6 +1,6 @@
 -- Where a move is marked some core isn't done: what is marked can be made, and at the end nothing can.
-use Rattle.std.proofs.Common.{◌≡◌, ◌∙◌, ◌⊎◌, inl, inr, refl, sym, subst, ap, ℕ, ◌*◌, ◌<◌, ◌≤◌, Bool, true, false, cond}
-use Rattle.std.proofs.Common.{List, [], ◌∷◌, length, nat_lt, arith}
+use Rattle.std.proofs.Common.{◌≡◌, ◌∙◌, ◌⊎◌, inl, inr, refl, sym, subst, ap, ℕ, zero, suc, ◌*◌, ◌<◌, ◌≤◌, Bool, true, false, cond}
+use Rattle.std.proofs.Common.{List, [], ◌∷◌, length, nat_lt, arith, ◌==◌}
 use Rattle.std.specs.Prelude.{not}
 use Rattle.std.specs.List.{filter}
 use Rattle.std.proofs.lemmas.Bool.{cases_eq}
@@ -8,6 +8,7 @@ use Rattle.access_times.specs.Riding.{Riding, Carrying}
 use Rattle.rtr_types.specs.declared.TheConstants.{CORES_MAX}
 use Rattle.rv_core.specs.Steps.{need, is_done}
 use Rattle.msi_cache.specs.Lines.{waits}
+use Rattle.msi_memory.specs.Acts.{TakeRequest}
 use Rattle.msi_memory.specs.Memories.{port_at}
 use Rattle.memory_laws.proofs.Spaces.{no_requests}
 use Rattle.msi_state.specs.declared.moves.Move.{Move}
@@ -17,18 +18,27 @@ use Rattle.msi_state.specs.Moves.{candidates, core_of}
 use Rattle.msi_state.specs.States.{State, all_done, core_at}
 use Rattle.msi_state.specs.Steps.{enabled, step}
 use Rattle.machine_invariant.specs.Holds.{MachineHolds}
-use Rattle.machine_invariant.proofs.Stepping.{step_cores}
+use Rattle.machine_invariant.proofs.Stepping.{step_ports}
 use Rattle.machine_progress.proofs.Ending.{moves_left}
 use Rattle.msi_machine.specs.declared.marks.Marks.{Marks}
-use Rattle.msi_machine.specs.Marks.{OthersMarked, is_marked, marked}
-use Rattle.msi_machine.proofs.Bits.{none_past}
-use Rattle.msi_machine.proofs.Delivered.{false_true, right_of}
-use Rattle.msi_machine.proofs.Elsewhere.{requests_within}
-use Rattle.msi_machine.proofs.Turns.{none_left}
+use Rattle.msi_machine.specs.Marks.{AllMarked, OthersMarked, is_marked, marked}
+use Rattle.move_marks.proofs.Acts.{can_past, requests_within}
+use Rattle.move_marks.proofs.Delivered.{false_true, right_of}
+use Rattle.move_marks.proofs.Turned.{none_left}
+use Rattle.msi_machine.proofs.Marked.{listed}
+use Rattle.msi_machine.proofs.Renewed.{past_none}
 
 not_true : (a : Bool) → not a ≡ true → a ≡ false
 not_true true is = false_true is
 not_true false is = refl
+
+pub some_there : (n : ℕ) → (n == 0) ≡ false → 0 < n
+some_there zero none = false_true (sym none)
+some_there (suc n) none = omega arith
+
+false_where : (b : Bool) → (b ≡ true → false ≡ true) → b ≡ false
+false_where true no_case = sym (no_case refl)
+false_where false no_case = refl
 
 filter_fewer : {X : Type 0} (p q : X → Bool) (xs : List X) → ((x : X) → p x ≡ true → q x ≡ true) →
     filter q xs ≡ [] → filter p xs ≡ []
@@ -58,13 +68,13 @@ module _ {R K : Type 0} where
 
   -- no request of a core is left open where no core asked
   pub no_asker : (riding : Riding R) (carrying : Carrying K) (rider : R) (s t : State R K) (m : Move) (marks : Marks) →
-      MachineHolds riding carrying s → t ≡ step riding carrying rider s m → marks.cores ≡ length t.cores →
+      MachineHolds riding carrying s → t ≡ step riding carrying rider s m → AllMarked riding carrying t marks →
       is_marked marks (RequestMove CORES_MAX) ≡ false
-  no_asker riding carrying rider s t m marks holds is cores =
-      none_past marks (RequestMove CORES_MAX)
+  no_asker riding carrying rider s t m marks holds is all =
+      all.marked (RequestMove CORES_MAX)
+      ∙ can_past riding carrying t.memory (TakeRequest CORES_MAX)
       (subst (λ (n : ℕ). n ≤ CORES_MAX)
-      (sym (cores ∙ ap (λ (x : State R K). length x.cores) is ∙ step_cores riding carrying rider s m
-      ∙ sym holds.ports_there))
+      (sym (ap (λ (x : State R K). length x.memory.ports) is ∙ step_ports riding carrying rider s m))
       holds.memory.cores)
 
   marked_can : (riding : Riding R) (carrying : Carrying K) (s : State R K) (marks : Marks) (asker : ℕ) →
@@ -93,7 +103,11 @@ module _ {R K : Type 0} where
       by false is = refl
       by true is =
           let none : marked marks ≡ [] =
-          (λ i. filter (is_marked marks) (candidates (others.cores i) (4 * others.cores i)))
+          listed (is_marked marks) marks (length s.cores)
+          (subst (λ (n : ℕ). n ≤ CORES_MAX) holds.ports_there holds.memory.cores) (λ m. refl)
+          (λ m past. false_where (is_marked marks m) (λ yes.
+          sym (past_none riding carrying s holds.ports_there m past)
+          ∙ marked_can riding carrying s marks asker others unmarked m yes))
           ∙ filter_fewer (is_marked marks) (enabled riding carrying s)
           (candidates (length s.cores) (4 * length s.cores))
           (marked_can riding carrying s marks asker others unmarked) (moves_left riding carrying s holds is) in

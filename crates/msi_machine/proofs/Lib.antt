@@ -1,15 +1,13 @@
 pub mod AtHand
 pub mod Beginning
-pub mod Bits
 pub mod Choosing
 pub mod Counting
-pub mod Delivered
 pub mod Elsewhere
 pub mod Moves
+pub mod Marked
 pub mod Renewed
 pub mod Retiring
 pub mod Roomed
 pub mod Standings
 pub mod Touched
-pub mod Turns
 pub mod Ended

@@ -36,14 +36,16 @@ use Rattle.machine_invariant.proofs.Kept.{holds_kept}
 use Rattle.machine_invariant.proofs.Stepping.{core_after, core_memory, message_memory, port_told, port_worked}
 use Rattle.msi_machine.specs.declared.marks.Marks.{Marks}
 use Rattle.msi_machine.specs.declared.standing.Standing.{Standing}
-use Rattle.msi_machine.specs.Marks.{AllMarked, IsWithin, OthersMarked, asker_of, is_marked}
+use Rattle.msi_machine.specs.Marks.{AllMarked, OthersMarked, asker_of, is_marked}
 use Rattle.msi_machine.specs.Standings.{NotesFit, StandingsFit, may_work, standing_at}
-use Rattle.msi_machine.proofs.Delivered.{false_true}
-use Rattle.msi_machine.proofs.Elsewhere.{MovedAt, moved_cores, moved_ports, port_now, requests_other, requests_within}
-use Rattle.msi_machine.proofs.Renewed.{core_marked, moved_marked, one_request, own_marked}
+use Rattle.move_marks.proofs.Acts.{requests_within, waits_by}
+use Rattle.move_marks.proofs.Delivered.{false_true}
+use Rattle.move_marks.proofs.Following.{one_request}
+use Rattle.move_marks.proofs.Turned.{request_leaves_none, request_stays, response_requests, response_stays}
+use Rattle.msi_machine.proofs.Elsewhere.{MovedAt, moved_cores, moved_ports, port_now, requests_other}
+use Rattle.msi_machine.proofs.Renewed.{core_marked, moved_marked, own_marked}
 use Rattle.msi_machine.proofs.Renewed.{own_request_marked, request_as_before}
 use Rattle.msi_machine.proofs.Standings.{moved_stands, stands_at, turned_stands}
-use Rattle.msi_machine.proofs.Turns.{request_leaves_none, request_stays, response_requests, response_stays}
 
 one_core : (image : Contents) (c : ℕ) (e : Event) (cores : List Core) → cores_after image c e cores ≡ slice_set cores c
     (core_after image e (core_at cores c))
@@ -91,17 +93,17 @@ module _ {R K : Type 0} where
       (kept : Standing) →
       AllMarked riding carrying s old → t ≡ step riding carrying rider s (CoreMove c) → c < length s.cores →
       c < length s.memory.ports →
-      kept ≡ standing_at carrying t c → new.cores ≡ old.cores → (IsWithin old → IsWithin new) →
+      kept ≡ standing_at carrying t c → new.cores ≡ old.cores →
       is_marked new (CoreMove c) ≡ may_work kept →
       ((m : Move) → m ≢ CoreMove c → is_marked new m ≡ is_marked old m) → OthersMarked riding carrying t new c
   unfolding core_moves
-  core_marks riding carrying rider s t old new c kept all is here port stands cores within this others =
+  core_marks riding carrying rider s t old new c kept all is here port stands cores this others =
       let needed = need_access (need s.image (core_at s.cores c)) in
       let e = event riding carrying s (CoreMove c) in
       let p = port_at carrying s.memory.ports c in
       core_marked riding carrying s t old new c kept all (core_moves riding carrying rider s t c port is) here port
       (worked_responses riding carrying rider needed e p) (worked_messages riding carrying rider needed e p) stands
-      cores within this others
+      cores this others
 
   -- nor, where an instruction retires, its requests
   worked_requests : (riding : Riding R) (carrying : Carrying K) (rider : R) (needed : Option (Kind × ℕ)) (e : Event)
@@ -127,13 +129,13 @@ module _ {R K : Type 0} where
       retired ≡ instr_of (event riding carrying s (CoreMove c)) → is_some retired ≡ true →
       AllMarked riding carrying s old → t ≡ step riding carrying rider s (CoreMove c) → c < length s.cores →
       c < length s.memory.ports →
-      kept ≡ standing_at carrying t c → new.cores ≡ old.cores → (IsWithin old → IsWithin new) →
+      kept ≡ standing_at carrying t c → new.cores ≡ old.cores →
       is_marked new (CoreMove c) ≡ may_work kept →
       ((m : Move) → m ≢ CoreMove c → is_marked new m ≡ is_marked old m) → AllMarked riding carrying t new
-  core_retired_marks riding carrying rider s t old new c kept retired told some all is here port stands cores within
+  core_retired_marks riding carrying rider s t old new c kept retired told some all is here port stands cores
       this others =
       own_request_marked riding carrying t new c
-      (core_marks riding carrying rider s t old new c kept all is here port stands cores within this others)
+      (core_marks riding carrying rider s t old new c kept all is here port stands cores this others)
       (others (RequestMove c) (λ (e : RequestMove c ≡ CoreMove c). cc)
       ∙ all.marked (RequestMove c)
       ∙ sym (request_kept riding carrying rider s t c is port
@@ -184,18 +186,18 @@ module _ {R K : Type 0} where
       (c : ℕ) (kept : Standing) →
       AllMarked riding carrying s old → t ≡ step riding carrying rider s (MessageMove c) → c < length s.cores →
       c < length s.memory.ports →
-      kept ≡ standing_at carrying t c → new.cores ≡ old.cores → (IsWithin old → IsWithin new) →
+      kept ≡ standing_at carrying t c → new.cores ≡ old.cores →
       is_marked new (CoreMove c) ≡ may_work kept →
       is_marked new (ResponseMove c) ≡ can riding carrying t.memory (TakeResponse c) →
       is_marked new (MessageMove c) ≡ can riding carrying t.memory (TakeMessage c) →
       is_marked new (RequestMove c) ≡ is_marked old (RequestMove c) →
       ((m : Move) → core_of m ≢ c → is_marked new m ≡ is_marked old m) → AllMarked riding carrying t new
   unfolding message_moves
-  message_marks riding carrying rider s t old new c kept all is here port stands cores within own response message
+  message_marks riding carrying rider s t old new c kept all is here port stands cores own response message
       request others =
       let moved = message_moves riding carrying rider s t c port is in
       own_request_marked riding carrying t new c
-      (moved_marked riding carrying s t old new c all moved cores within
+      (moved_marked riding carrying s t old new c all moved cores
       (own ∙ own_marked riding carrying t c kept (subst (λ (n : ℕ). c < n) (sym (moved_cores carrying s t c moved))
       here) stands)
       response message others)
@@ -342,16 +344,16 @@ module _ {R K : Type 0} where
       t ≡ step riding carrying rider s (RequestMove c) → StandingsFit s standings → StandingsFit t standings
   request_stands riding carrying rider s t c standings is fit =
       subst (λ (x : State R K). StandingsFit x standings) (sym is)
-      (turned_stands s (take_request riding carrying s.memory c) standings (request_stays riding carrying s.memory
-      c).waiting fit)
+      (turned_stands s (take_request riding carrying s.memory c) standings (waits_by (take_request riding carrying s.memory c).ports s.memory.ports (request_stays riding carrying s.memory
+      c).caches) fit)
 
   pub response_stands : (riding : Riding R) (carrying : Carrying K) (rider : R) (s t : State R K) (c : ℕ)
       (standings : List Standing) →
       t ≡ step riding carrying rider s (ResponseMove c) → StandingsFit s standings → StandingsFit t standings
   response_stands riding carrying rider s t c standings is fit =
       subst (λ (x : State R K). StandingsFit x standings) (sym is)
-      (turned_stands s (take_response riding carrying s.memory c) standings (response_stays riding carrying s.memory
-      c).waiting fit)
+      (turned_stands s (take_response riding carrying s.memory c) standings (waits_by (take_response riding carrying s.memory c).ports s.memory.ports (response_stays riding carrying s.memory
+      c).caches) fit)
 
   -- a machine's notes follow a move
   pub notes_kept : (riding : Riding R) (carrying : Carrying K) (old new : Machinery R K) (m : Move)

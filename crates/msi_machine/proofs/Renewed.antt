@@ -1,10 +1,8 @@
 -- The marks after each move are those of what can be done then.
 use Rattle.std.proofs.Common.{◌≡◌, ◌≢◌, ◌∙◌, ◌⊎◌, inl, inr, refl, sym, subst, ap, ℕ, ◌*◌, ◌<◌, ◌≤◌, Bool, true, false}
 use Rattle.std.proofs.Common.{length, nat_lt, ◌&&◌}
-use Rattle.std.specs.Prelude.{not}
-use Rattle.std.specs.List.{filter}
+use Rattle.std.specs.Prelude.{map, not}
 use Rattle.std.proofs.lemmas.Bool.{cases_eq}
-use Rattle.std.proofs.lemmas.List.Elements.{filter_agree}
 use Rattle.access_times.specs.Riding.{Riding, Carrying}
 use Rattle.link_order.specs.Queue.{Queue, is_nil}
 use Rattle.msi_cache.specs.declared.messages.FromHome.{FromHome}
@@ -14,45 +12,62 @@ use Rattle.msi_memory.specs.declared.port.Port.{Port}
 use Rattle.msi_memory.specs.declared.turn.Turn.{Turn}
 use Rattle.msi_memory.specs.Acts.{TakeMessage, TakeRequest, TakeResponse, can, head_free, take_request, take_response}
 use Rattle.msi_memory.specs.Memories.{Memory, port_at}
-use Rattle.msi_memory.specs.Rests.{requests_at}
 use Rattle.msi_memory.specs.Turns.{IsRequestTurn, IsResponseTurn}
-use Rattle.memory_laws.specs.Holds.{MemoryHolds}
-use Rattle.memory_laws.proofs.Ready.{memory_ready}
-use Rattle.memory_laws.proofs.Spaces.{port_links_hold}
+use Rattle.rtr_types.specs.CoreSets.{has}
+use Rattle.rtr_types.specs.declared.TheConstants.{CORES_MAX}
+use Rattle.rv_core.specs.Steps.{need, is_done}
+use Rattle.msi_cache.specs.Lines.{waits}
+use Rattle.move_marks.specs.declared.marks.MoveKind.TheVariants.{Own}
+use Rattle.move_marks.specs.declared.marks.MoveMarks.{MoveMarks}
+use Rattle.move_marks.specs.Kinds.{set_of}
+use Rattle.move_marks.specs.Turns.{IsAfterTurn}
+use Rattle.move_marks.proofs.Acts.{can_by, can_past, same_at, waits_by}
+use Rattle.move_marks.proofs.Delivered.{below_is, past_is}
+use Rattle.move_marks.proofs.Following.{PortsMarked, request_followed, response_followed}
+use Rattle.move_marks.proofs.Turned.{request_stays, response_stays}
 use Rattle.machine_invariant.specs.Holds.{MachineHolds}
 use Rattle.msi_state.specs.declared.moves.Move.{Move}
 use Rattle.msi_state.specs.declared.moves.Move.TheVariants.{Core as CoreMove, Request as RequestMove}
 use Rattle.msi_state.specs.declared.moves.Move.TheVariants.{Response as ResponseMove, FromHome as MessageMove}
-use Rattle.msi_state.specs.Moves.{candidates, core_of}
-use Rattle.msi_state.specs.States.{State}
+use Rattle.msi_state.specs.Moves.{core_of}
+use Rattle.msi_state.specs.States.{State, core_at}
 use Rattle.msi_state.specs.Steps.{enabled, moves}
 use Rattle.msi_machine.specs.declared.marks.Marks.{Marks}
 use Rattle.msi_machine.specs.declared.standing.Standing.{Standing}
-use Rattle.msi_machine.specs.Marks.{AllMarked, IsWithin, OthersMarked, after_turn, is_marked, marked}
+use Rattle.msi_machine.specs.Marks.{AllMarked, OthersMarked, is_marked, marked}
 use Rattle.msi_machine.specs.Standings.{may_work, standing_at}
-use Rattle.msi_machine.proofs.Bits.{none_past}
-use Rattle.msi_machine.proofs.Delivered.{below_is, right_of}
-use Rattle.msi_machine.proofs.Elsewhere.{MovedAt, can_by, can_past, elsewhere, moved_cores, moved_ports, port_now}
-use Rattle.msi_machine.proofs.Turns.{TurnFits, none_left, request_fits, request_leaves_none, response_fits}
-use Rattle.msi_machine.proofs.Turns.{response_requests, same_responses}
+use Rattle.msi_machine.proofs.Elsewhere.{MovedAt, elsewhere, moved_cores, moved_ports, port_now}
+use Rattle.msi_machine.proofs.Marked.{listed}
 
 module _ {R K : Type 0} where
+  -- no move can be made of a core that isn't there
+  pub past_none : (riding : Riding R) (carrying : Carrying K) (s : State R K) → length s.memory.ports ≡ length s.cores →
+      (m : Move) → length s.cores ≤ core_of m → enabled riding carrying s m ≡ false
+  past_none riding carrying s ports (CoreMove d) past =
+      ap (λ (b : Bool). b && (not (is_done (need s.image (core_at s.cores d)))
+      && not (waits (port_at carrying s.memory.ports d).cache))) (past_is d (length s.cores) past)
+  past_none riding carrying s ports (RequestMove d) past =
+      can_past riding carrying s.memory (TakeRequest d) (subst (λ (n : ℕ). n ≤ d) (sym ports) past)
+  past_none riding carrying s ports (ResponseMove d) past =
+      can_past riding carrying s.memory (TakeResponse d) (subst (λ (n : ℕ). n ≤ d) (sym ports) past)
+  past_none riding carrying s ports (MessageMove d) past =
+      can_past riding carrying s.memory (TakeMessage d) (subst (λ (n : ℕ). n ≤ d) (sym ports) past)
+
   pub all_moves : (riding : Riding R) (carrying : Carrying K) (s : State R K) (marks : Marks) →
-      AllMarked riding carrying s marks →
-      marked marks ≡ moves riding carrying s
-  all_moves riding carrying s marks all =
-      (λ i. filter (is_marked marks) (candidates (all.cores i) (4 * all.cores i)))
-      ∙ filter_agree (is_marked marks) (enabled riding carrying s) all.marked (candidates (length s.cores)
-      (4 * length s.cores))
+      MachineHolds riding carrying s → AllMarked riding carrying s marks → marked marks ≡ moves riding carrying s
+  all_moves riding carrying s marks holds all =
+      listed (enabled riding carrying s) marks (length s.cores)
+      (subst (λ (n : ℕ). n ≤ CORES_MAX) holds.ports_there holds.memory.cores) all.marked
+      (past_none riding carrying s holds.ports_there)
 
   -- the request of the core that asked is marked too
   pub asker_marked : (riding : Riding R) (carrying : Carrying K) (s : State R K) (old new : Marks) (c : ℕ) →
       OthersMarked riding carrying s old c →
-      new.cores ≡ old.cores → (IsWithin old → IsWithin new) → is_marked new (RequestMove c) ≡ enabled riding carrying s
+      new.cores ≡ old.cores → is_marked new (RequestMove c) ≡ enabled riding carrying s
       (RequestMove c) →
       ((m : Move) → m ≢ RequestMove c → is_marked new m ≡ is_marked old m) → AllMarked riding carrying s new
-  asker_marked riding carrying s old new c others cores within this kept =
-      record { cores = cores ∙ others.cores; within = within others.within; marked = every }
+  asker_marked riding carrying s old new c others cores this kept =
+      record { cores = cores ∙ others.cores; marked = every }
     where
       plain : (m : Move) → m ≢ RequestMove c → is_marked new m ≡ enabled riding carrying s m
       plain m other = kept m other ∙ others.marked m other
@@ -74,13 +89,13 @@ module _ {R K : Type 0} where
       OthersMarked riding carrying s marks c →
       is_marked marks (RequestMove c) ≡ enabled riding carrying s (RequestMove c) → AllMarked riding carrying s marks
   own_request_marked riding carrying s marks c others this =
-      asker_marked riding carrying s marks marks c others refl (λ within. within) this (λ m other. refl)
+      asker_marked riding carrying s marks marks c others refl this (λ m other. refl)
 
   -- then no core is left open, whichever it is
   pub all_others : (riding : Riding R) (carrying : Carrying K) (s : State R K) (marks : Marks) →
       AllMarked riding carrying s marks → (c : ℕ) → OthersMarked riding carrying s marks c
   all_others riding carrying s marks all c =
-      record { cores = all.cores; within = all.within; marked = λ m other. all.marked m }
+      record { cores = all.cores; marked = λ m other. all.marked m }
 
   -- the home can take the request of a core that put down none exactly where it could before
   pub request_as_before : (riding : Riding R) (carrying : Carrying K) (s t : State R K) (c : ℕ) →
@@ -95,28 +110,25 @@ module _ {R K : Type 0} where
 
   -- a core that isn't there has no request
   pub no_asker_marked : (riding : Riding R) (carrying : Carrying K) (s : State R K) (marks : Marks) (c : ℕ) →
-      OthersMarked riding carrying s marks c →
+      OthersMarked riding carrying s marks c → is_marked marks (RequestMove c) ≡ false →
       length s.memory.ports ≡ length s.cores → marks.cores ≤ c → AllMarked riding carrying s marks
-  no_asker_marked riding carrying s marks c others ports past =
-      asker_marked riding carrying s marks marks c others refl (λ within. within)
-      (none_past marks (RequestMove c) past
-      ∙ sym (can_past riding carrying s.memory (TakeRequest c) (subst (λ (n : ℕ). n ≤ c) (others.cores
-      ∙ sym ports) past)))
-      (λ m other. refl)
+  no_asker_marked riding carrying s marks c others unmarked ports past =
+      own_request_marked riding carrying s marks c others
+      (unmarked ∙ sym (past_none riding carrying s ports (RequestMove c)
+      (subst (λ (n : ℕ). n ≤ c) others.cores past)))
 
   -- core c moved at its port, and its moves are marked again
   pub moved_marked : (riding : Riding R) (carrying : Carrying K) (s t : State R K) (old new : Marks) (c : ℕ) →
       AllMarked riding carrying s old →
-      MovedAt s t c → new.cores ≡ old.cores → (IsWithin old → IsWithin new) →
+      MovedAt s t c → new.cores ≡ old.cores →
       is_marked new (CoreMove c) ≡ enabled riding carrying t (CoreMove c) →
       is_marked new (ResponseMove c) ≡ enabled riding carrying t (ResponseMove c) →
       is_marked new (MessageMove c) ≡ enabled riding carrying t (MessageMove c) →
       ((m : Move) → core_of m ≢ c → is_marked new m ≡ is_marked old m) →
       OthersMarked riding carrying t new c
-  moved_marked riding carrying s t old new c all moved cores within own response message kept =
+  moved_marked riding carrying s t old new c all moved cores own response message kept =
       record {
         cores = cores ∙ all.cores ∙ sym (moved_cores carrying s t c moved);
-        within = within all.within;
         marked =
             every;
       }
@@ -152,12 +164,12 @@ module _ {R K : Type 0} where
       AllMarked riding carrying s old → (moved : MovedAt s t c) → c < length s.cores → c < length s.memory.ports →
       moved.port.responses ≡ (port_at carrying s.memory.ports c).responses →
       moved.port.messages ≡ (port_at carrying s.memory.ports c).messages →
-      kept ≡ standing_at carrying t c → new.cores ≡ old.cores → (IsWithin old → IsWithin new) →
+      kept ≡ standing_at carrying t c → new.cores ≡ old.cores →
       is_marked new (CoreMove c) ≡ may_work kept →
       ((m : Move) → m ≢ CoreMove c → is_marked new m ≡ is_marked old m) → OthersMarked riding carrying t new c
-  core_marked riding carrying s t old new c kept all moved here port responses messages stands cores within this
+  core_marked riding carrying s t old new c kept all moved here port responses messages stands cores this
       others =
-      moved_marked riding carrying s t old new c all moved cores within
+      moved_marked riding carrying s t old new c all moved cores
       (this ∙ own_marked riding carrying t c kept (subst (λ (n : ℕ). c < n) (sym (moved_cores carrying s t c moved))
       here) stands)
       (others (ResponseMove c) (λ (e : ResponseMove c ≡ CoreMove c). cc)
@@ -175,118 +187,74 @@ module _ {R K : Type 0} where
       now : port_at carrying t.memory.ports c ≡ moved.port
       now = port_now carrying s t c moved port
 
-  -- the home moved at core c, and the marks followed
-  pub turn_others : (riding : Riding R) (carrying : Carrying K) (s : State R K) (n : Memory R K) (old mid new : Marks)
-      (c : ℕ) (turn : Turn) (was : Bool) →
-      TurnFits riding carrying s n c turn was → AllMarked riding carrying s old →
-      length s.memory.ports ≡ length s.cores →
-      mid.cores ≡ old.cores → (IsWithin old → IsWithin mid) → ((m : Move) → m ≢ ResponseMove c →
-      is_marked mid m ≡ is_marked old m) →
-      is_marked mid (ResponseMove c) ≡ can riding carrying n (TakeResponse c) → new.cores ≡ mid.cores →
-      (IsWithin mid → IsWithin new) →
-      ((m : Move) → is_marked new m ≡ after_turn riding n turn was mid m) →
-      OthersMarked riding carrying (record s { memory = n }) new c
-  turn_others riding carrying s n old mid new c turn was fits all ports cores within kept own cores_after within_after
-      after =
+  -- what can be made at the ports is marked there
+  ports_marked : (riding : Riding R) (carrying : Carrying K) (s : State R K) (marks : Marks) →
+      AllMarked riding carrying s marks → PortsMarked riding carrying s.memory marks.moves
+  ports_marked riding carrying s marks all =
       record {
-        cores = cores_after ∙ cores ∙ all.cores;
-        within = within_after (within all.within);
-        marked = λ m other.
-            after m ∙ fits.marked mid (cores ∙ all.cores ∙ sym ports) (λ k apart. kept k apart
-            ∙ all.marked k) own m other;
+        requests = λ d. all.marked (RequestMove d);
+        responses = λ d. all.marked (ResponseMove d);
+        messages = λ d. all.marked (MessageMove d);
       }
 
-  pub request_others : (riding : Riding R) (carrying : Carrying K) (s : State R K) (n : Memory R K) (old new : Marks)
-      (c : ℕ) (turn : Turn) →
+  -- the home moved, and so did the marks at the ports; no core stands at anything else
+  turn_marked : (riding : Riding R) (carrying : Carrying K) (s : State R K) (n : Memory R K) (old new : Marks) →
+      AllMarked riding carrying s old →
+      map (λ (p : Port R K). p.cache) n.ports ≡ map (λ (p : Port R K). p.cache) s.memory.ports →
+      new.cores ≡ old.cores → ((d : ℕ) → has (set_of Own new.moves) d ≡ has (set_of Own old.moves) d) →
+      PortsMarked riding carrying n new.moves →
+      AllMarked riding carrying (record s { memory = n }) new
+  turn_marked riding carrying s n old new all caches cores own ports =
+      record { cores = cores ∙ all.cores; marked = every }
+    where
+      every : (m : Move) → is_marked new m ≡ enabled riding carrying (record s { memory = n }) m
+      every (CoreMove d) =
+          own d
+          ∙ all.marked (CoreMove d)
+          ∙ ap (λ (w : Bool). nat_lt d (length s.cores) && (not (is_done (need s.image (core_at s.cores d))) && not w))
+          (sym (same_at (λ (p : Port R K). waits p.cache) carrying n.ports s.memory.ports
+          (waits_by n.ports s.memory.ports caches) d))
+      every (RequestMove d) = ports.requests d
+      every (ResponseMove d) = ports.responses d
+      every (MessageMove d) = ports.messages d
+
+  pub request_all : (riding : Riding R) (carrying : Carrying K) (s : State R K) (n : Memory R K)
+      (old new : Marks) (mid : MoveMarks) (c : ℕ) (turn : Turn) →
       n ≡ take_request riding carrying s.memory c → MachineHolds riding carrying s →
       enabled riding carrying s (RequestMove c) ≡ true →
       IsRequestTurn (port_at carrying s.memory.ports c).requests.items riding s.memory c turn →
-      AllMarked riding carrying s old →
-      new.cores ≡ old.cores → (IsWithin old → IsWithin new) →
-      ((m : Move) → is_marked new m ≡ after_turn riding n turn true old m) →
-      OthersMarked riding carrying (record s { memory = n }) new c
-  request_others riding carrying s n old new c turn is holds can_be about all cores within after =
-      let left : Memory R K = take_request riding carrying s.memory c in
-      subst (λ (x : Memory R K). ((m : Move) → is_marked new m ≡ after_turn riding x turn true old m) →
-      OthersMarked riding carrying (record s { memory = x }) new c) (sym is)
-      (turn_others riding carrying s left old old new c turn true
-      (request_fits riding carrying s c turn (right_of (nat_lt c (length s.memory.ports)) _ can_be)
-      ((memory_ready riding carrying s.memory holds.memory).rows (TakeRequest c) can_be) about)
-      all holds.ports_there refl (λ same. same) (λ m other. refl)
-      (all.marked (ResponseMove c) ∙ sym (same_responses riding carrying s.memory c)) cores within) after
+      AllMarked riding carrying s old → IsAfterTurn riding n old.cores turn true old.moves mid →
+      new.cores ≡ old.cores → is_marked new (RequestMove c) ≡ false →
+      ((m : Move) → m ≢ RequestMove c → is_marked new m ≡ is_marked (record old { moves = mid }) m) →
+      AllMarked riding carrying (record s { memory = n }) new
+  request_all riding carrying s n old new mid c turn is holds can_be about all after cores gone kept =
+      turn_marked riding carrying s n old new all
+      (ap (λ (x : Memory R K). map (λ (p : Port R K). p.cache) x.ports) is
+      ∙ (request_stays riding carrying s.memory c).caches)
+      cores (λ d. kept (CoreMove d) (λ (e : CoreMove d ≡ RequestMove c). cc) ∙ after.own d)
+      (request_followed riding carrying s.memory n c old.cores turn old.moves mid new.moves is holds.memory can_be about
+      (ports_marked riding carrying s old all) (all.cores ∙ sym holds.ports_there) after
+      (λ d. kept (ResponseMove d) (λ (e : ResponseMove d ≡ RequestMove c). cc))
+      (λ d. kept (MessageMove d) (λ (e : MessageMove d ≡ RequestMove c). cc)) gone
+      (λ d other. kept (RequestMove d) (λ (e : RequestMove d ≡ RequestMove c). other (ap core_of e))))
 
-  pub response_others : (riding : Riding R) (carrying : Carrying K) (s : State R K) (n : Memory R K)
-      (old mid new : Marks) (c : ℕ) (turn : Turn) →
-      n ≡ take_response riding carrying s.memory c → MachineHolds riding carrying s →
-      enabled riding carrying s (ResponseMove c) ≡ true →
-      IsResponseTurn (port_at carrying s.memory.ports c).responses.items riding s.memory c turn →
-      AllMarked riding carrying s old →
-      mid.cores ≡ old.cores → (IsWithin old → IsWithin mid) → ((m : Move) → m ≢ ResponseMove c →
-      is_marked mid m ≡ is_marked old m) →
-      is_marked mid (ResponseMove c) ≡ can riding carrying n (TakeResponse c) →
-      new.cores ≡ mid.cores → (IsWithin mid → IsWithin new) →
-      ((m : Move) → is_marked new m ≡ after_turn riding n turn false mid m) →
-      OthersMarked riding carrying (record s { memory = n }) new c
-  response_others riding carrying s n old mid new c turn is holds can_be about all cores within kept own cores_after
-      within_after after =
-      turn_others riding carrying s n old mid new c turn false
-      (subst (λ (x : Memory R K). TurnFits riding carrying s x c turn false) (sym is)
-      (response_fits riding carrying s c turn ((memory_ready riding carrying s.memory holds.memory).rows
-      (TakeResponse c) can_be) about))
-      all holds.ports_there cores within kept own cores_after within_after after
-
-  -- and after it took a response nothing is left open, since its core has the requests that it had
   pub response_all : (riding : Riding R) (carrying : Carrying K) (s : State R K) (n : Memory R K)
-      (old mid new : Marks) (c : ℕ) (turn : Turn) →
+      (old mid : Marks) (new : MoveMarks) (c : ℕ) (turn : Turn) →
       n ≡ take_response riding carrying s.memory c → MachineHolds riding carrying s →
       enabled riding carrying s (ResponseMove c) ≡ true →
       IsResponseTurn (port_at carrying s.memory.ports c).responses.items riding s.memory c turn →
-      AllMarked riding carrying s old →
-      mid.cores ≡ old.cores → (IsWithin old → IsWithin mid) → ((m : Move) → m ≢ ResponseMove c →
-      is_marked mid m ≡ is_marked old m) →
+      AllMarked riding carrying s old → mid.cores ≡ old.cores →
+      ((m : Move) → m ≢ ResponseMove c → is_marked mid m ≡ is_marked old m) →
       is_marked mid (ResponseMove c) ≡ can riding carrying n (TakeResponse c) →
-      new.cores ≡ mid.cores → (IsWithin mid → IsWithin new) →
-      ((m : Move) → is_marked new m ≡ after_turn riding n turn false mid m) →
-      AllMarked riding carrying (record s { memory = n }) new
-  response_all riding carrying s n old mid new c turn is holds can_be about all cores within kept own cores_after
-      within_after after =
-      let fits : TurnFits riding carrying s n c turn false =
-      subst (λ (x : Memory R K). TurnFits riding carrying s x c turn false) (sym is)
-      (response_fits riding carrying s c turn ((memory_ready riding carrying s.memory holds.memory).rows
-      (TakeResponse c) can_be) about) in
-      own_request_marked riding carrying (record s { memory = n }) new c
-      (response_others riding carrying s n old mid new c turn is holds can_be about all cores within kept own
-      cores_after within_after after)
-      (after (RequestMove c)
-      ∙ fits.request mid (cores ∙ all.cores ∙ sym holds.ports_there)
-      (ap (λ (x : Memory R K). requests_at x.ports c) is ∙ response_requests riding carrying s.memory c c)
-      (kept (RequestMove c) (λ (e : RequestMove c ≡ ResponseMove c). cc) ∙ all.marked (RequestMove c)))
-
-  -- a core has at most one request under way, for which its link has room
-  pub one_request : (riding : Riding R) (carrying : Carrying K) (m : Memory R K) (c : ℕ) →
-      MemoryHolds riding carrying m → c < length m.ports → length (port_at carrying m.ports c).requests.items ≤ 1
-  one_request riding carrying m c holds here =
-      subst (λ (k : ℕ). length (port_at carrying m.ports c).requests.items ≤ k)
-      (holds.ports c here).requests_room (port_links_hold riding carrying m c holds here).requests
-
-  -- nor is it after it took a request, once that is marked no longer: its core has none then
-  pub request_all : (riding : Riding R) (carrying : Carrying K) (s : State R K) (n : Memory R K)
-      (old mid new : Marks) (c : ℕ) (turn : Turn) →
-      n ≡ take_request riding carrying s.memory c → MachineHolds riding carrying s →
-      enabled riding carrying s (RequestMove c) ≡ true → c < length s.memory.ports →
-      IsRequestTurn (port_at carrying s.memory.ports c).requests.items riding s.memory c turn →
-      AllMarked riding carrying s old →
-      mid.cores ≡ old.cores → (IsWithin old → IsWithin mid) →
-      ((m : Move) → is_marked mid m ≡ after_turn riding n turn true old m) →
-      new.cores ≡ mid.cores → (IsWithin mid → IsWithin new) → is_marked new (RequestMove c) ≡ false →
-      ((m : Move) → m ≢ RequestMove c → is_marked new m ≡ is_marked mid m) →
-      AllMarked riding carrying (record s { memory = n }) new
-  request_all riding carrying s n old mid new c turn is holds can_be here about all cores within after cores_after
-      within_after gone kept =
-      asker_marked riding carrying (record s { memory = n }) mid new c
-      (request_others riding carrying s n old mid c turn is holds can_be about all cores within after) cores_after
-      within_after
-      (gone ∙ sym (none_left riding carrying n c
-      (ap (λ (x : Memory R K). requests_at x.ports c) is ∙ request_leaves_none riding carrying s.memory c here
-      (one_request riding carrying s.memory c holds.memory here))))
-      kept
+      IsAfterTurn riding n mid.cores turn false mid.moves new →
+      AllMarked riding carrying (record s { memory = n }) (record mid { moves = new })
+  response_all riding carrying s n old mid new c turn is holds can_be about all cores kept own after =
+      turn_marked riding carrying s n old (record mid { moves = new }) all
+      (ap (λ (x : Memory R K). map (λ (p : Port R K). p.cache) x.ports) is
+      ∙ (response_stays riding carrying s.memory c).caches)
+      cores (λ d. after.own d ∙ kept (CoreMove d) (λ (e : CoreMove d ≡ ResponseMove c). cc))
+      (response_followed riding carrying s.memory n c mid.cores turn old.moves mid.moves new is holds.memory can_be about
+      (ports_marked riding carrying s old all) (cores ∙ all.cores ∙ sym holds.ports_there)
+      (λ d. kept (RequestMove d) (λ (e : RequestMove d ≡ ResponseMove c). cc))
+      (λ d. kept (MessageMove d) (λ (e : MessageMove d ≡ ResponseMove c). cc)) own
+      (λ d other. kept (ResponseMove d) (λ (e : ResponseMove d ≡ ResponseMove c). other (ap core_of e))) after)

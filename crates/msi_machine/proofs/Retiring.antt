@@ -26,7 +26,7 @@ use Rattle.msi_state.specs.Steps.{enabled, event}
 use Rattle.machine_invariant.specs.Holds.{MachineHolds}
 use Rattle.machine_progress.proofs.Rested.{rows_there}
 use Rattle.msi_machine.specs.Delivering.{MessagesRetire, retires_with}
-use Rattle.msi_machine.proofs.Delivered.{below_is, false_true, right_of, split}
+use Rattle.move_marks.proofs.Delivered.{below_is, false_true, right_of, split}
 
 module _ {R K : Type 0} where
   -- an access that may be made retires its instruction

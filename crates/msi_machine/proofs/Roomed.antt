@@ -16,10 +16,9 @@ use Rattle.msi_state.specs.Rests.{heads_roomy}
 use Rattle.msi_state.specs.States.{Machinery, State}
 use Rattle.msi_machine.specs.declared.marks.Marks.{Marks}
 use Rattle.msi_machine.specs.declared.standing.Standing.{Standing}
-use Rattle.msi_machine.specs.Marks.{AllMarked, IsWithin, is_marked}
+use Rattle.msi_machine.specs.Marks.{AllMarked, is_marked}
 use Rattle.msi_machine.specs.Standings.{NotesFit}
-use Rattle.msi_machine.proofs.Bits.{none_past}
-use Rattle.msi_machine.proofs.Elsewhere.{can_here, requests_within}
+use Rattle.move_marks.proofs.Acts.{can_here, can_past, requests_within}
 use Rattle.msi_machine.proofs.Renewed.{asker_marked}
 
 module _ {R K : Type 0} where
@@ -40,21 +39,20 @@ module _ {R K : Type 0} where
   pub room_made : (riding : Riding R) (carrying : Carrying K) (old new : Machinery R K) (standings : List Standing)
       (before after : Marks) (asker : ℕ) →
       NotesFit riding carrying old standings before asker → new.state ≡ old.state → heads_roomy new ≡ true →
-      after.cores ≡ before.cores →
-      (IsWithin before → IsWithin after) → is_marked after (RequestMove asker) ≡ can riding carrying old.state.memory
+      after.cores ≡ before.cores → is_marked after (RequestMove asker) ≡ can riding carrying old.state.memory
       (TakeRequest asker) →
       ((m : Move) → m ≢ RequestMove asker → is_marked after m ≡ is_marked before m) →
       NotesFit riding carrying new standings after CORES_MAX
-  room_made riding carrying old new standings before after asker fit same roomy cores within asked others =
+  room_made riding carrying old new standings before after asker fit same roomy cores asked others =
       let all : AllMarked riding carrying old.state after =
-      asker_marked riding carrying old.state before after asker fit.marked cores within asked others in
+      asker_marked riding carrying old.state before after asker fit.marked cores asked others in
       let kept : NotesFit riding carrying (record old { rooms = new.rooms }) standings after CORES_MAX =
       record {
         holds = fit.holds;
         stands = fit.stands;
-        marked = record { cores = all.cores; within = all.within; marked = λ m other. all.marked m };
-        unmarked = none_past after (RequestMove CORES_MAX)
-            (subst (λ (n : ℕ). n ≤ CORES_MAX) (fit.holds.ports_there ∙ sym all.cores) fit.holds.memory.cores);
+        marked = record { cores = all.cores; marked = λ m other. all.marked m };
+        unmarked = all.marked (RequestMove CORES_MAX)
+            ∙ can_past riding carrying old.state.memory (TakeRequest CORES_MAX) fit.holds.memory.cores;
         roomy = λ c other. each_roomy old.state.memory.ports new.rooms
             (subst (λ (s : State R K). are_heads_roomy s.memory.ports new.rooms ≡ true) same roomy) c;
       } in

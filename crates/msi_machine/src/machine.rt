@@ -115,7 +115,8 @@ impl<R: Rider, K: Carry> Machine<R, K> {
             → (block : ℕ) → final_words R.riding K.carrying self.now.state block ≡ memory block }
     {
         // where a move can be made some core isn't done
-        if self.marks.count() > 0 {
+        let marks = self.marks;
+        if !marks.is_empty() {
             return false;
         }
         are_done(self.standings.as_slice())

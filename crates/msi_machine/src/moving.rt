@@ -9,11 +9,12 @@ ghost use Rattle.msi_state.specs.Events.{instr_of};
 ghost use Rattle.msi_state.specs.Rests.{heads_roomy};
 ghost use Rattle.msi_state.specs.Steps.{AcceptsNext, StepsTo, TellsOf, enabled, event};
 
-use crate::marking::{mark_core, mark_turn};
+use crate::marking::mark_core;
 use crate::marks::Marks;
 use crate::parts::Parts;
 use crate::standing::Standing;
 use access_times::{Carry, Clerk, Rider};
+use move_marks::mark_turn;
 use msi_state::Move;
 use rtr_types::{CORES_MAX, Instr};
 
@@ -131,9 +132,9 @@ impl<R: Rider, K: Carry> Parts<R, K> {
     {
         // a request is taken only where its block is free, and a response only where it isn't
         let turn = self.memory.take_request(c);
-        mark_turn(&self.memory, turn, true, marks);
+        mark_turn(&self.memory, marks.cores, turn, true, &mut marks.moves);
         // its link has room for one request, so none is left
-        marks.unmark(Move::Request(c));
+        marks.set(Move::Request(c), false);
     }
 
     /// The home takes core `c`'s oldest response.
@@ -147,6 +148,6 @@ impl<R: Rider, K: Carry> Parts<R, K> {
     {
         let turn = self.memory.take_response(c);
         marks.set(Move::Response(c), self.memory.has_response(c));
-        mark_turn(&self.memory, turn, false, marks);
+        mark_turn(&self.memory, marks.cores, turn, false, &mut marks.moves);
     }
 }

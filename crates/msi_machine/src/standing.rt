@@ -3,7 +3,7 @@ ghost use Rattle.std.specs.Prelude.{◌≡◌, ◌≤◌, ◌&&◌, IfOk, false,
 ghost use Rattle.std.specs.List.{list_all};
 ghost use Rattle.rv_core.specs.Steps.{is_done};
 ghost use Rattle.rtr_types.specs.declared.TheConstants.{CORES_MAX};
-ghost use Rattle.msi_machine.specs.Marks.{IsWithin, is_marked};
+ghost use Rattle.msi_machine.specs.Marks.{is_marked};
 ghost use Rattle.msi_machine.specs.Standings.{may_begin, standing_with};
 ghost use Rattle.msi_state.specs.declared.moves.Move.{Move};
 
@@ -79,7 +79,6 @@ pub(crate) fn are_done(standings: &[Standing]) -> bool
 pub(crate) fn first_marks(standings: &[Standing]) -> Marks
     requires few { length standings.now ≤ CORES_MAX }
     ensures cores { result.cores ≡ length standings.now }
-    ensures within { IsWithin result }
     ensures marked { (m : Move) → is_marked result m ≡ may_begin standings.now m }
 {
     let mut marks = Marks::none(standings.len() as u32);

@@ -7,26 +7,27 @@ use Rattle.machine_plain.proofs.Shows.{plain_done}
 use Rattle.machine_progress.proofs.Ending.{links_left}
 use Rattle.msi_state.specs.FinalMemory.{final_words}
 use Rattle.msi_state.specs.States.{Machinery, State, all_done}
-use Rattle.msi_machine.proofs.Ended.{marked_goes_on}
+use Rattle.msi_machine.specs.Marks.{marked}
+use Rattle.msi_machine.proofs.Ended.{marked_goes_on, some_there}
 use Rattle.msi_machine.proofs.Standings.{done_stands}
 use Rattle.msi_machine.proofs.machine.Machine.done.Goals as goal
 
-pub returns-then-count-gt0-clause-done : goal.returns-then-count-gt0-clause-done
-returns-then-count-gt0-clause-done g c =
+pub returns-then-not-is_empty-clause-done : goal.returns-then-not-is_empty-clause-done
+returns-then-not-is_empty-clause-done g c =
     let s : State g.row.R.Denot g.row.K.Denot = c.self.inside.parts.state in
     let more : all_done s ≡ false =
     marked_goes_on g.R.Rider.riding g.K.Carry.carrying s c.self.inside.marks c.self.inside.asker
     c.self.invariant.holds c.self.invariant.marked c.self.invariant.unmarked
-    (subst (λ (n : ℕ). 0 < n) c.count.ensures c.if-count-gt0.true) in
+    (some_there (length (marked c.self.inside.marks)) (sym c.is_empty.ensures ∙ c.if-not-is_empty.true)) in
     rw (← c.self.view_is) (sym more)
 
-pub returns-then-count-gt0-clause-plain : goal.returns-then-count-gt0-clause-plain
-returns-then-count-gt0-clause-plain g c =
+pub returns-then-not-is_empty-clause-plain : goal.returns-then-not-is_empty-clause-plain
+returns-then-not-is_empty-clause-plain g c =
     let s : State g.row.R.Denot g.row.K.Denot = c.self.inside.parts.state in
     let more : all_done s ≡ false =
     marked_goes_on g.R.Rider.riding g.K.Carry.carrying s c.self.inside.marks c.self.inside.asker
     c.self.invariant.holds c.self.invariant.marked c.self.invariant.unmarked
-    (subst (λ (n : ℕ). 0 < n) c.count.ensures c.if-count-gt0.true) in
+    (some_there (length (marked c.self.inside.marks)) (sym c.is_empty.ensures ∙ c.if-not-is_empty.true)) in
     rw (← c.self.view_is) (sym more ∙ plain_done s)
 
 pub returns-clause-done : goal.returns-clause-done

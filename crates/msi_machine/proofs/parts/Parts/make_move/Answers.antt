@@ -58,7 +58,7 @@ returns-in-Request-clause-unmarked g c =
     (rider_left g.R.Rider.riding g.K.Carry.carrying c.args.self.now.state c.take_request.new.self.state
     (Request c.in-Request.c))
     c.args.self.now.state c.take_request.new.self.state (Request c.in-Request.c) c.take_request.new.marks
-    c.requires.holds c.take_request.ensures.state c.take_request.ensures.marked.cores
+    c.requires.holds c.take_request.ensures.state c.take_request.ensures.marked
 
 pub returns-in-Response-clause-unmarked : goal.returns-in-Response-clause-unmarked
 returns-in-Response-clause-unmarked g c =
@@ -66,4 +66,12 @@ returns-in-Response-clause-unmarked g c =
     (rider_left g.R.Rider.riding g.K.Carry.carrying c.args.self.now.state c.take_response.new.self.state
     (Response c.in-Response.c))
     c.args.self.now.state c.take_response.new.self.state (Response c.in-Response.c) c.take_response.new.marks
-    c.requires.holds c.take_response.ensures.state c.take_response.ensures.marked.cores
+    c.requires.holds c.take_response.ensures.state c.take_response.ensures.marked
+
+pub returns-in-FromHome-clause-unmarked : goal.returns-in-FromHome-clause-unmarked
+returns-in-FromHome-clause-unmarked g c =
+    no_asker g.R.Rider.riding g.K.Carry.carrying
+    (rider_left g.R.Rider.riding g.K.Carry.carrying c.args.self.now.state c.take_message.new.self.state
+    (FromHome c.in-FromHome.c))
+    c.args.self.now.state c.take_message.new.self.state (FromHome c.in-FromHome.c) c.take_message.new.marks
+    c.requires.holds c.take_message.ensures.state c.take_message.ensures.marked

@@ -5,7 +5,6 @@ use Rattle.msi_state.specs.States.{State}
 use Rattle.msi_state.specs.Steps.{rider_left}
 use Rattle.machine_progress.proofs.Rested.{rooms_there}
 use Rattle.machine_invariant.proofs.Awaits.{core_port, enabled_core}
-use Rattle.machine_invariant.proofs.Stepping.{step_cores}
 use Rattle.msi_machine.specs.Marks.{is_marked}
 use Rattle.msi_state.specs.declared.moves.Move.TheVariants.{Request}
 use Rattle.msi_machine.proofs.Ended.{asks_first, no_asker}
@@ -28,7 +27,7 @@ returns-then-is_none-clause-marked g c =
     s t c.args.marks.now
     c.set.new.self c.args.c c.work-retired.new.standing c.requires.marked c.work-retired.ensures.state here
     (core_port g.R.Rider.riding g.K.Carry.carrying s c.args.c c.requires.holds here) c.work-retired.ensures.renewed
-    c.set.ensures.cores c.set.ensures.within (c.set.ensures.this ∙ c.may_move.ensures) c.set.ensures.others
+    c.set.ensures.cores (c.set.ensures.this ∙ c.may_move.ensures) c.set.ensures.others
 
 pub returns-else-is_none-clause-marked : goal.returns-else-is_none-clause-marked
 returns-else-is_none-clause-marked g c =
@@ -43,7 +42,7 @@ returns-else-is_none-clause-marked g c =
     (c.is_none.ensures ∙ ap not c.if-is_none.false)
     c.requires.marked c.work-retired.ensures.state here
     (core_port g.R.Rider.riding g.K.Carry.carrying s c.args.c c.requires.holds here) c.work-retired.ensures.renewed
-    c.set.ensures.cores c.set.ensures.within (c.set.ensures.this ∙ c.may_move.ensures) c.set.ensures.others)
+    c.set.ensures.cores (c.set.ensures.this ∙ c.may_move.ensures) c.set.ensures.others)
     c.args.asker.now
 
 pub returns-then-is_none-clause-unmarked : goal.returns-then-is_none-clause-unmarked
@@ -60,10 +59,16 @@ pub returns-else-is_none-clause-unmarked : goal.returns-else-is_none-clause-unma
 returns-else-is_none-clause-unmarked g c =
     let s : State g.row.R.Denot g.row.K.Denot = c.args.self.now.state in
     let t : State g.row.R.Denot g.row.K.Denot = c.work-retired.new.self.state in
+    let here : c.args.c < length s.cores = enabled_core g.R.Rider.riding g.K.Carry.carrying s (Core c.args.c)
+    c.requires.enabled c.requires.holds in
     let rider = rider_left g.R.Rider.riding g.K.Carry.carrying s t (Core c.args.c) in
     subst (λ (n : ℕ). is_marked c.set.new.self (Request n) ≡ false) (sym c.requires.none)
     (no_asker g.R.Rider.riding g.K.Carry.carrying rider s t (Core c.args.c) c.set.new.self c.requires.holds
     c.work-retired.ensures.state
-    (c.set.ensures.cores ∙ c.requires.marked.cores
-    ∙ sym (ap (λ (x : State g.row.R.Denot g.row.K.Denot). length x.cores) c.work-retired.ensures.state
-    ∙ step_cores g.R.Rider.riding g.K.Carry.carrying rider s (Core c.args.c))))
+    (core_retired_marks g.R.Rider.riding g.K.Carry.carrying
+    (rider_left g.R.Rider.riding g.K.Carry.carrying s t (Core c.args.c)) s t c.args.marks.now
+    c.set.new.self c.args.c c.work-retired.new.standing c.work-retired.result c.work-retired.ensures.retired
+    (c.is_none.ensures ∙ ap not c.if-is_none.false)
+    c.requires.marked c.work-retired.ensures.state here
+    (core_port g.R.Rider.riding g.K.Carry.carrying s c.args.c c.requires.holds here) c.work-retired.ensures.renewed
+    c.set.ensures.cores (c.set.ensures.this ∙ c.may_move.ensures) c.set.ensures.others))

@@ -31,7 +31,7 @@ returns-clause-marked g c =
     (FromHome c.args.c)) s t c.args.marks.now
     c.mark_core.new.marks c.args.c c.receive-retired.new.standing c.requires.marked c.receive-retired.ensures.state here
     (core_port g.R.Rider.riding g.K.Carry.carrying s c.args.c c.requires.holds here) c.receive-retired.ensures.renewed
-    c.mark_core.ensures.cores c.mark_core.ensures.within c.mark_core.ensures.own
+    c.mark_core.ensures.cores c.mark_core.ensures.own
     (c.mark_core.ensures.response ∙ ap (can_then (TakeResponse c.args.c)) c.self.view_is)
     (c.mark_core.ensures.message ∙ ap (can_then (TakeMessage c.args.c)) c.self.view_is) c.mark_core.ensures.request
     c.mark_core.ensures.others

@@ -4,7 +4,7 @@ use Rattle.msi_memory.specs.Acts.{TakeRequest}
 use Rattle.msi_memory.specs.Memories.{Memory}
 use Rattle.msi_state.specs.States.{State}
 use Rattle.machine_invariant.proofs.Acting.{ports_after_acts}
-use Rattle.msi_machine.proofs.Delivered.{left_is, lt_of}
+use Rattle.move_marks.proofs.Delivered.{left_is, lt_of}
 use Rattle.msi_machine.proofs.Renewed.{request_all}
 use Rattle.msi_machine.proofs.parts.Parts.take_request.Goals as goal
 
@@ -36,9 +36,7 @@ returns-clause-marked g c =
     let enabled = rw (← c.self.view_is) at c.requires.enabled in
     let all = rw (← c.self.view_is) at c.requires.marked in
     request_all g.R.Rider.riding g.K.Carry.carrying s c.take_request-turn.new.self.memory c.args.marks.now
-    c.mark_turn.new.marks c.unmark.new.self c.args.c
+    c.set.new.self c.mark_turn.new.marks c.args.c
     c.take_request-turn.result c.take_request-turn.ensures.memory holds enabled
-    (lt_of c.args.c (length s.memory.ports) (left_is (nat_lt c.args.c (length s.memory.ports)) _ enabled))
-    c.take_request-turn.ensures.turn all
-    c.mark_turn.ensures.cores c.mark_turn.ensures.within c.mark_turn.ensures.marked
-    c.unmark.ensures.cores c.unmark.ensures.within c.unmark.ensures.this c.unmark.ensures.others
+    c.take_request-turn.ensures.turn all c.mark_turn.ensures
+    c.set.ensures.cores c.set.ensures.this c.set.ensures.others

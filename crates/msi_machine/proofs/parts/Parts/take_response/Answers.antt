@@ -4,7 +4,7 @@ use Rattle.msi_memory.specs.Acts.{TakeResponse}
 use Rattle.msi_memory.specs.Memories.{Memory}
 use Rattle.msi_state.specs.States.{State}
 use Rattle.machine_invariant.proofs.Acting.{ports_after_acts}
-use Rattle.msi_machine.proofs.Delivered.{left_is, lt_of}
+use Rattle.move_marks.proofs.Delivered.{left_is, lt_of}
 use Rattle.msi_machine.proofs.Renewed.{response_all}
 use Rattle.msi_machine.proofs.parts.Parts.take_response.Goals as goal
 
@@ -47,5 +47,5 @@ returns-clause-marked g c =
     response_all g.R.Rider.riding g.K.Carry.carrying s c.take_response-turn.new.self.memory c.args.marks.now
     c.set.new.self c.mark_turn.new.marks c.args.c
     c.take_response-turn.result c.take_response-turn.ensures.memory holds enabled c.take_response-turn.ensures.turn all
-    c.set.ensures.cores c.set.ensures.within c.set.ensures.others (c.set.ensures.this ∙ c.has_response.ensures)
-    c.mark_turn.ensures.cores c.mark_turn.ensures.within c.mark_turn.ensures.marked
+    c.set.ensures.cores c.set.ensures.others (c.set.ensures.this ∙ c.has_response.ensures)
+    c.mark_turn.ensures

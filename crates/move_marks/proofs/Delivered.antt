@@ -1,26 +1,20 @@
 -- What the home's answer changes at the ports, and tests.
 use Rattle.std.proofs.Common.{◌≡◌, ◌∙◌, ◌⊎◌, inl, inr, refl, sym, ap, ℕ, zero}
 use Rattle.std.proofs.Common.{suc, ◌<◌, ◌≤◌, Bool, true, false, cond, List, [], ◌∷◌, ◌++◌}
-use Rattle.std.proofs.Common.{length, nat_lt, arith, ◌&&◌, ◌==◌, Option, Some, None}
+use Rattle.std.proofs.Common.{length, nat_lt, arith, ◌&&◌, ◌||◌, ◌==◌, Option, Some, None}
 use Rattle.std.specs.Prelude.{map, not}
 use Rattle.std.proofs.Math.Seq.{map-set_same}
 use Rattle.std.proofs.lemmas.Bool.{cases_eq}
 use Rattle.std.proofs.lemmas.Bool.Decides.{nat_tests}
 use Rattle.std.proofs.lemmas.List.{get_or-set_other, get_or-set_same}
 use Rattle.access_times.specs.Riding.{Carrying}
-use Rattle.rtr_types.specs.CoreSets.{has, is_none}
+use Rattle.rtr_types.specs.CoreSets.{has}
 use Rattle.rtr_types.specs.declared.core_set.CoreSet.{CoreSet}
-use Rattle.rtr_types.proofs.Members.{has-none}
 use Rattle.link_order.specs.Queue.{is_nil}
 use Rattle.msi_cache.specs.declared.messages.FromHome.{FromHome}
 use Rattle.msi_cache.specs.declared.messages.FromHome.TheVariants.{Inv}
 use Rattle.memory_laws.proofs.Views.{port_at-told}
-use Rattle.msi_machine.specs.declared.marks.Marks.{Marks}
 use Rattle.msi_memory.specs.declared.port.Port.{Port}
-use Rattle.msi_state.specs.declared.moves.Move.{Move}
-use Rattle.msi_state.specs.declared.moves.Move.TheVariants.{Core as CoreMove, Request as RequestMove}
-use Rattle.msi_state.specs.declared.moves.Move.TheVariants.{Response as ResponseMove, FromHome as MessageMove}
-use Rattle.msi_machine.specs.Marks.{is_asked, is_marked, is_told}
 use Rattle.msi_memory.specs.Rests.{hears_in}
 use Rattle.msi_memory.specs.Memories.{no_port, port_at}
 use Rattle.msi_memory.specs.Acts.{delivered_in, port_sent, ports_sent, ports_told}
@@ -52,9 +46,11 @@ pub more_nil : {X : Type 0} (xs : List X) (x : X) → is_nil (xs ++ x ∷ []) �
 more_nil [] x = refl
 more_nil (y ∷ ys) x = refl
 
-pub told_now : (b x : Bool) → cond b true (not x) ≡ not (cond b false x)
-told_now true x = refl
-told_now false x = refl
+pub told_or : (b x : Bool) → (not x || b) ≡ not (cond b false x)
+told_or true true = refl
+told_or true false = refl
+told_or false true = refl
+told_or false false = refl
 
 pub false_true : {X : Type 0} → false ≡ true → X
 false_true e = grind arith
@@ -69,29 +65,6 @@ right_of false b is = false_true is
 
 pub lt_of : (a b : ℕ) → nat_lt a b ≡ true → a < b
 lt_of a b is = grind (arith, nat_tests)
-
-none_there : (a b : Bool) → b ≡ false → (a && b) ≡ false
-none_there true b is = is
-none_there false b is = refl
-
--- an empty set tells nobody, and asks for nothing
-pub none_told : (set : CoreSet) (marks : Marks) (m : Move) → is_none set ≡ true →
-    is_marked marks m ≡ cond (is_told set marks.cores m) true (is_marked marks m)
-none_told set marks (CoreMove d) none = refl
-none_told set marks (RequestMove d) none = refl
-none_told set marks (ResponseMove d) none = refl
-none_told set marks (MessageMove d) none =
-    ap (λ (b : Bool). cond b true (is_marked marks (MessageMove d))) (sym (none_there (nat_lt d marks.cores) (has set d)
-    (has-none set d none)))
-
-pub none_asked : (set : CoreSet) (marks : Marks) (free : Bool) (m : Move) → is_none set ≡ true →
-    is_marked marks m ≡ cond (is_asked set marks.cores m) free (is_marked marks m)
-none_asked set marks free (CoreMove d) none = refl
-none_asked set marks free (MessageMove d) none = refl
-none_asked set marks free (ResponseMove d) none = refl
-none_asked set marks free (RequestMove d) none =
-    ap (λ (b : Bool). cond b free (is_marked marks (RequestMove d))) (sym (none_there (nat_lt d marks.cores) (has set d)
-    (has-none set d none)))
 
 module _ {R K : Type 0} where
   -- what a message on its way to a port doesn't change, no port has otherwise after it

@@ -1,15 +1,13 @@
 -- What a turn of the home changes of what can be done next.
 use Rattle.std.proofs.Common.{◌≡◌, ◌≢◌, ◌∙◌, ◌⊎◌, inl, inr, refl, sym, subst, ap, ℕ, ◌<◌, ◌≤◌, Bool, true, false, cond}
 use Rattle.std.proofs.Common.{List, [], ◌∷◌, arith}
-use Rattle.std.proofs.Common.{length, get_or, nat_lt, ◌&&◌, ◌==◌}
+use Rattle.std.proofs.Common.{length, get_or, nat_lt, ◌&&◌, ◌||◌, ◌==◌}
 use Rattle.std.specs.Prelude.{map, not, slice_set}
 use Rattle.std.proofs.Math.Seq.{map-set_same}
 use Rattle.std.proofs.lemmas.Bool.{cases_eq}
 use Rattle.std.proofs.lemmas.List.{get_or-set_other, get_or-set_same, length-set}
 use Rattle.access_times.specs.Riding.{Riding, Carrying}
-use Rattle.rv_core.specs.Steps.{need, is_done}
 use Rattle.link_order.specs.Queue.{is_nil}
-use Rattle.msi_cache.specs.Lines.{waits}
 use Rattle.msi_cache.specs.Messages.{request_block, response_block}
 use Rattle.msi_cache.specs.declared.messages.Request.{Request}
 use Rattle.msi_cache.specs.declared.messages.Response.{Response}
@@ -31,18 +29,15 @@ use Rattle.msi_memory.specs.Rests.{can_request_in, can_respond_in, head_is, hear
 use Rattle.memory_laws.proofs.Views.{length-delivered}
 use Rattle.msi_memory.specs.Turns.{IsRequestTurn, IsResponseTurn, IsTurn}
 use Rattle.msi_memory.proofs.Turns.{turn_heard}
-use Rattle.msi_state.specs.declared.moves.Move.{Move}
-use Rattle.msi_state.specs.declared.moves.Move.TheVariants.{Core as CoreMove, Request as RequestMove}
-use Rattle.msi_state.specs.declared.moves.Move.TheVariants.{Response as ResponseMove, FromHome as MessageMove}
-use Rattle.msi_state.specs.Moves.{core_of}
-use Rattle.msi_state.specs.States.{State, core_at}
-use Rattle.msi_state.specs.Steps.{enabled}
-use Rattle.msi_machine.specs.declared.marks.Marks.{Marks}
-use Rattle.msi_machine.specs.Marks.{after_turn, differ, is_marked}
-use Rattle.msi_machine.proofs.Delivered.{and_false, and_true, below_is, delivered_same, delivered_silent, eq_is}
-use Rattle.msi_machine.proofs.Delivered.{false_true}
-use Rattle.msi_machine.proofs.Delivered.{left_is, lt_of, ne_is, past_is, right_of, silent, split, told_now}
-use Rattle.msi_machine.proofs.Elsewhere.{can_by, can_here, can_past, requests_within, same_at, set_elsewhere}
+use Rattle.rtr_types.specs.CoreSets.{has}
+use Rattle.move_marks.specs.declared.marks.MoveKind.TheVariants.{Request as RequestKind, FromHome as MessageKind}
+use Rattle.move_marks.specs.declared.marks.MoveMarks.{MoveMarks}
+use Rattle.move_marks.specs.Kinds.{set_of}
+use Rattle.move_marks.specs.Turns.{IsAfterTurn, differ}
+use Rattle.move_marks.proofs.Acts.{can_by, can_here, can_past, requests_past, requests_within, same_at, set_elsewhere}
+use Rattle.move_marks.proofs.Delivered.{and_false, and_true, below_is, delivered_same, delivered_silent, eq_is}
+use Rattle.move_marks.proofs.Delivered.{false_true}
+use Rattle.move_marks.proofs.Delivered.{ne_is, past_is, right_of, silent, split, told_or}
 
 module _ {R : Type 0} where
   busy_is : (stage : Stage) (c : ℕ) (m : Response R) → has_response_row stage c m ≡ true → is_free stage ≡ false
@@ -56,7 +51,7 @@ module _ {R : Type 0} where
 record Turned {R K : Type 0} (riding : Riding R) (carrying : Carrying K) (m n : Memory R K) (c block : ℕ) (hearing : ℕ →
     Bool) : Type 0 where
   count : length n.ports ≡ length m.ports
-  waiting : map (λ (p : Port R K). waits p.cache) n.ports ≡ map (λ (p : Port R K). waits p.cache) m.ports
+  caches : map (λ (p : Port R K). p.cache) n.ports ≡ map (λ (p : Port R K). p.cache) m.ports
   responses : (d : ℕ) → d ≢ c → is_nil (port_at carrying n.ports d).responses.items ≡ is_nil
       (port_at carrying m.ports d).responses.items
   messages : (d : ℕ) → d < length m.ports → silent carrying n.ports d ≡ cond (hearing d) false
@@ -134,102 +129,80 @@ module _ {R K : Type 0} where
           ∙ free_after riding old new block items home
 
   -- after the turn the oldest request is marked of a core whose requests stay where the home can take it
-  request_marked : (riding : Riding R) (carrying : Carrying K) (s : State R K) (n : Memory R K) (c block : ℕ)
-      (hearing : ℕ → Bool) (turn : Turn) (was : Bool) (marks : Marks) →
-      Turned riding carrying s.memory n c block hearing →
-      is_free (entry_at riding.fresh s.memory.home block).stage ≡ was →
-      turn.block ≡ block → marks.cores ≡ length s.memory.ports →
-      (d : ℕ) → requests_at n.ports d ≡ requests_at s.memory.ports d →
-      is_marked marks (RequestMove d) ≡ can riding carrying s.memory (TakeRequest d) →
-      after_turn riding n turn was marks (RequestMove d) ≡ can riding carrying n (TakeRequest d)
-  request_marked riding carrying s n c block hearing turn was marks turned before about cores d same marked =
-      ap (λ (b : Bool). cond ((nat_lt d marks.cores && head_is turn.block (requests_at n.ports d))
-      && differ (is_free (entry_at riding.fresh n.home turn.block).stage) was) (is_free
-      (entry_at riding.fresh n.home turn.block).stage) b)
-      marked
-      ∙ (λ i. cond ((nat_lt d (cores i) && head_is (about i) (requests_at n.ports d)) && differ
+  request_marked : (riding : Riding R) (carrying : Carrying K) (m n : Memory R K) (c block cores : ℕ)
+      (hearing : ℕ → Bool) (turn : Turn) (was : Bool) (old new : MoveMarks) →
+      Turned riding carrying m n c block hearing →
+      is_free (entry_at riding.fresh m.home block).stage ≡ was →
+      turn.block ≡ block → IsAfterTurn riding n cores turn was old new →
+      (d : ℕ) → requests_at n.ports d ≡ requests_at m.ports d →
+      has (set_of RequestKind old) d ≡ can riding carrying m (TakeRequest d) →
+      has (set_of RequestKind new) d ≡ can riding carrying n (TakeRequest d)
+  request_marked riding carrying m n c block cores hearing turn was old new turned before about after d same marked =
+      after.requests d
+      ∙ (λ i. cond (head_is (about i) (requests_at n.ports d) && differ
       (is_free (entry_at riding.fresh n.home (about i)).stage) was)
-      (is_free (entry_at riding.fresh n.home (about i)).stage)
-      (can riding carrying s.memory (TakeRequest d)))
-      ∙ by (split d (length s.memory.ports))
+      (is_free (entry_at riding.fresh n.home (about i)).stage) (marked i))
+      ∙ by (split d (length m.ports))
     where
-      by : (d < length s.memory.ports) ⊎ (length s.memory.ports ≤ d) →
-          cond ((nat_lt d (length s.memory.ports) && head_is block (requests_at n.ports d))
+      by : (d < length m.ports) ⊎ (length m.ports ≤ d) →
+          cond (head_is block (requests_at n.ports d)
           && differ (is_free (entry_at riding.fresh n.home block).stage) was)
           (is_free (entry_at riding.fresh n.home block).stage)
-          (can riding carrying s.memory (TakeRequest d)) ≡ can riding carrying n (TakeRequest d)
+          (can riding carrying m (TakeRequest d)) ≡ can riding carrying n (TakeRequest d)
       by (inl within) =
-          (λ i. cond ((below_is d (length s.memory.ports) within i && head_is block (requests_at n.ports d)) && differ
-          (is_free
-          (entry_at riding.fresh n.home block).stage) was) (is_free (entry_at riding.fresh n.home block).stage)
-          (can_here riding carrying s.memory (TakeRequest d) within i))
+          (λ i. cond (head_is block (requests_at n.ports d) && differ
+          (is_free (entry_at riding.fresh n.home block).stage) was)
+          (is_free (entry_at riding.fresh n.home block).stage)
+          (can_here riding carrying m (TakeRequest d) within i))
           ∙ ap (λ (xs : List (Mail (Request R) K)). cond (head_is block (requests_at n.ports d) && differ (is_free
           (entry_at riding.fresh n.home block).stage) was) (is_free (entry_at riding.fresh n.home block).stage)
-          (head_free xs riding s.memory.home)) (sym (requests_within carrying s.memory.ports d within)
-          ∙ sym same)
-          ∙ free_by riding s.memory.home n.home block (requests_at n.ports d) was turned.home before
+          (head_free xs riding m.home)) (sym (requests_within carrying m.ports d within) ∙ sym same)
+          ∙ free_by riding m.home n.home block (requests_at n.ports d) was turned.home before
           ∙ ap (λ (xs : List (Mail (Request R) K)). head_free xs riding n.home)
           (requests_within carrying n.ports d (subst (λ (k : ℕ). d < k) (sym turned.count) within))
           ∙ sym (can_here riding carrying n (TakeRequest d) (subst (λ (k : ℕ). d < k) (sym turned.count) within))
       by (inr past) =
-          ap (λ (b : Bool). cond ((b && head_is block (requests_at n.ports d)) && differ
+          let out : length n.ports ≤ d = subst (λ (k : ℕ). k ≤ d) (sym turned.count) past in
+          ap (λ (xs : List (Mail (Request R) K)). cond (head_is block xs && differ
           (is_free (entry_at riding.fresh n.home block).stage) was) (is_free
-          (entry_at riding.fresh n.home block).stage)
-          (can riding carrying s.memory (TakeRequest d))) (past_is d (length s.memory.ports) past)
-          ∙ can_past riding carrying s.memory (TakeRequest d) past
-          ∙ sym (can_past riding carrying n (TakeRequest d) (subst (λ (k : ℕ). k ≤ d) (sym turned.count) past))
+          (entry_at riding.fresh n.home block).stage) (can riding carrying m (TakeRequest d)))
+          (requests_past n.ports d out)
+          ∙ can_past riding carrying m (TakeRequest d) past
+          ∙ sym (can_past riding carrying n (TakeRequest d) out)
 
-  -- what is marked after the turn can be done
-  turn_marked : (riding : Riding R) (carrying : Carrying K) (s : State R K) (n : Memory R K) (c block : ℕ)
-      (hearing : ℕ → Bool) (turn : Turn)
-      (was : Bool) (marks : Marks) → Turned riding carrying s.memory n c block hearing →
-      is_free (entry_at riding.fresh s.memory.home block).stage ≡ was →
-      turn.block ≡ block → ((d : ℕ) → hears turn.answer d ≡ hearing d) → marks.cores ≡ length s.memory.ports →
-      ((m : Move) → m ≢ ResponseMove c → is_marked marks m ≡ enabled riding carrying s m) →
-      is_marked marks (ResponseMove c) ≡ can riding carrying n (TakeResponse c) → (m : Move) → m ≢ RequestMove c →
-      after_turn riding n turn was marks m ≡ enabled riding carrying (record s { memory = n }) m
-  turn_marked riding carrying s n c block hearing turn was marks turned before about heard cores others own (CoreMove d)
-      not_asked =
-      others (CoreMove d) (λ (e : CoreMove d ≡ ResponseMove c). cc)
-      ∙ ap (λ (w : Bool). nat_lt d (length s.cores) && (not (is_done (need s.image (core_at s.cores d))) && not w))
-      (sym (same_at (λ (p : Port R K). waits p.cache) carrying n.ports s.memory.ports turned.waiting d))
-  turn_marked riding carrying s n c block hearing turn was marks turned before about heard cores others own
-      (ResponseMove d) not_asked =
-      by d (cases_eq d c)
+  -- and each message
+  message_marked : (riding : Riding R) (carrying : Carrying K) (m n : Memory R K) (c block cores : ℕ)
+      (hearing : ℕ → Bool) (turn : Turn) (was : Bool) (old new : MoveMarks) →
+      Turned riding carrying m n c block hearing → ((d : ℕ) → hears turn.answer d ≡ hearing d) →
+      cores ≡ length m.ports → IsAfterTurn riding n cores turn was old new → (d : ℕ) →
+      has (set_of MessageKind old) d ≡ can riding carrying m (TakeMessage d) →
+      has (set_of MessageKind new) d ≡ can riding carrying n (TakeMessage d)
+  message_marked riding carrying m n c block cores hearing turn was old new turned heard long after d marked =
+      after.messages d
+      ∙ (λ i. marked i || (heard d i && nat_lt d (long i)))
+      ∙ by (split d (length m.ports))
     where
-      by : (d : ℕ) → (d ≡ c) ⊎ (d ≡ c → ⊥) → is_marked marks (ResponseMove d) ≡ can riding carrying n (TakeResponse d)
-      by d (inl same) = subst (λ (k : ℕ). is_marked marks (ResponseMove k) ≡ can riding carrying n (TakeResponse k))
-          (sym same) own
-      by d (inr other) =
-          others (ResponseMove d) (λ (e : ResponseMove d ≡ ResponseMove c). other (ap core_of e))
-          ∙ sym (can_by riding carrying s.memory n (TakeResponse d) turned.count
-          (λ within. ap not (turned.responses d other)))
-  turn_marked riding carrying s n c block hearing turn was marks turned before about heard cores others own
-      (MessageMove d) not_asked =
-      ap (λ (b : Bool). cond (nat_lt d marks.cores && hears turn.answer d) true b)
-      (others (MessageMove d) (λ (e : MessageMove d ≡ ResponseMove c). cc))
-      ∙ (λ i. cond (nat_lt d (cores i) && heard d i) true (can riding carrying s.memory (TakeMessage d)))
-      ∙ by (split d (length s.memory.ports))
-    where
-      by : (d < length s.memory.ports) ⊎ (length s.memory.ports ≤ d) →
-          cond (nat_lt d (length s.memory.ports) && hearing d) true (can riding carrying s.memory (TakeMessage d)) ≡ can
-          riding carrying n (TakeMessage d)
+      by : (d < length m.ports) ⊎ (length m.ports ≤ d) →
+          (can riding carrying m (TakeMessage d) || (hearing d && nat_lt d (length m.ports)))
+          ≡ can riding carrying n (TakeMessage d)
       by (inl within) =
-          (λ i. cond (below_is d (length s.memory.ports) within i && hearing d) true (can_here riding carrying s.memory
-          (TakeMessage d) within i))
-          ∙ told_now (hearing d) (is_nil (port_at carrying s.memory.ports d).messages.items)
+          (λ i. can_here riding carrying m (TakeMessage d) within i || (hearing d
+          && below_is d (length m.ports) within i))
+          ∙ ap (λ (b : Bool). not (is_nil (port_at carrying m.ports d).messages.items) || b) (and_true (hearing d))
+          ∙ told_or (hearing d) (is_nil (port_at carrying m.ports d).messages.items)
           ∙ ap not (sym (turned.messages d within))
           ∙ sym (can_here riding carrying n (TakeMessage d) (subst (λ (k : ℕ). d < k) (sym turned.count) within))
       by (inr past) =
-          ap (λ (b : Bool). cond (b && hearing d) true (can riding carrying s.memory (TakeMessage d)))
-          (past_is d (length s.memory.ports) past)
-          ∙ can_past riding carrying s.memory (TakeMessage d) past
+          (λ i. can_past riding carrying m (TakeMessage d) past i || (hearing d && past_is d (length m.ports) past i))
+          ∙ and_false (hearing d)
           ∙ sym (can_past riding carrying n (TakeMessage d) (subst (λ (k : ℕ). k ≤ d) (sym turned.count) past))
-  turn_marked riding carrying s n c block hearing turn was marks turned before about heard cores others own
-      (RequestMove d) not_asked =
-      request_marked riding carrying s n c block hearing turn was marks turned before about cores d
-      (turned.requests d (λ same. not_asked (ap (λ (k : ℕ). RequestMove k) same)))
-      (others (RequestMove d) (λ (e : RequestMove d ≡ ResponseMove c). cc))
+
+  -- the other ports have the responses that they had
+  response_kept : (riding : Riding R) (carrying : Carrying K) (m n : Memory R K) (c block : ℕ) (hearing : ℕ → Bool) →
+      Turned riding carrying m n c block hearing → (d : ℕ) → d ≢ c →
+      can riding carrying m (TakeResponse d) ≡ can riding carrying n (TakeResponse d)
+  response_kept riding carrying m n c block hearing turned d other =
+      sym (can_by riding carrying m n (TakeResponse d) turned.count (λ within. ap not (turned.responses d other)))
 
   -- one port gives way to another with the same messages that waits as it did, and then the home's answer goes on its
   -- way
@@ -237,16 +210,16 @@ module _ {R K : Type 0} where
       (port : Port R K) (carry : K)
       (entry : Entry R) → n.ports ≡ delivered carrying answer block carry (slice_set m.ports c port) →
       n.home ≡ slice_set m.home block entry →
-      waits port.cache ≡ waits (port_at carrying m.ports c).cache →
+      port.cache ≡ (port_at carrying m.ports c).cache →
       is_nil port.messages.items ≡ is_nil (port_at carrying m.ports c).messages.items →
       Turned riding carrying m n c block (hears answer)
   answered riding carrying m n c block answer port carry entry ports home still quiet =
       record {
         count = ap length ports ∙ length-delivered carrying answer block carry base ∙ length-set m.ports c port;
-        waiting = ap (λ (xs : List (Port R K)). map (λ (p : Port R K). waits p.cache) xs) ports
-            ∙ delivered_same (λ (p : Port R K). waits p.cache) (λ p mail k. refl) carrying answer.send answer.invalidate
-            block carry base
-            ∙ map-set_same (λ (p : Port R K). waits p.cache) m.ports c port (no_port carrying) still;
+        caches = ap (λ (xs : List (Port R K)). map (λ (p : Port R K). p.cache) xs) ports
+            ∙ delivered_same (λ (p : Port R K). p.cache) (λ p mail k. refl) carrying answer.send answer.invalidate block
+            carry base
+            ∙ map-set_same (λ (p : Port R K). p.cache) m.ports c port (no_port carrying) still;
         responses = λ d other.
             ap (λ (xs : List (Port R K)). is_nil (port_at carrying xs d).responses.items) ports
             ∙ same_at (λ (p : Port R K). is_nil p.responses.items) carrying after base
@@ -287,95 +260,93 @@ module _ {R K : Type 0} where
       quiet_at d within (inr other) = ap (λ (p : Port R K). is_nil p.messages.items) (get_or-set_other m.ports c d port
           (no_port carrying) other)
 
--- no port waits otherwise after the home's turn, and the other ports have the requests that they had
+-- after the home's turn each port has the cache that it had, and the other ports their requests
 pub record PortsStay {R K : Type 0} (m n : Memory R K) (c : ℕ) : Type 0 where
-  pub waiting : map (λ (p : Port R K). waits p.cache) n.ports ≡ map (λ (p : Port R K). waits p.cache) m.ports
+  pub caches : map (λ (p : Port R K). p.cache) n.ports ≡ map (λ (p : Port R K). p.cache) m.ports
   pub requests : (d : ℕ) → d ≢ c → requests_at n.ports d ≡ requests_at m.ports d
 
 -- what holds after the home's turn at core c
-pub record TurnFits {R K : Type 0} (riding : Riding R) (carrying : Carrying K) (s : State R K) (n : Memory R K) (c : ℕ)
-    (turn : Turn) (was : Bool)
-    : Type 0 where
-  pub count : length n.ports ≡ length s.memory.ports
-  pub block : turn.block < length n.home
-  pub marked : (marks : Marks) → marks.cores ≡ length s.memory.ports → ((m : Move) → m ≢ ResponseMove c →
-      is_marked marks m ≡ enabled riding carrying s m) →
-      is_marked marks (ResponseMove c) ≡ can riding carrying n (TakeResponse c) → (m : Move) → m ≢ RequestMove c →
-      after_turn riding n turn was marks m ≡ enabled riding carrying (record s { memory = n }) m
-  pub request : (marks : Marks) → marks.cores ≡ length s.memory.ports →
-      requests_at n.ports c ≡ requests_at s.memory.ports c →
-      is_marked marks (RequestMove c) ≡ can riding carrying s.memory (TakeRequest c) →
-      after_turn riding n turn was marks (RequestMove c) ≡ can riding carrying n (TakeRequest c)
+pub record TurnFits {R K : Type 0} (riding : Riding R) (carrying : Carrying K) (m n : Memory R K) (c : ℕ) (turn : Turn)
+    (was : Bool) : Type 0 where
+  pub requests : (cores : ℕ) (old new : MoveMarks) → IsAfterTurn riding n cores turn was old new → (d : ℕ) →
+      requests_at n.ports d ≡ requests_at m.ports d →
+      has (set_of RequestKind old) d ≡ can riding carrying m (TakeRequest d) →
+      has (set_of RequestKind new) d ≡ can riding carrying n (TakeRequest d)
+  pub others : (d : ℕ) → d ≢ c → requests_at n.ports d ≡ requests_at m.ports d
+  pub messages : (cores : ℕ) (old new : MoveMarks) → cores ≡ length m.ports →
+      IsAfterTurn riding n cores turn was old new → (d : ℕ) →
+      has (set_of MessageKind old) d ≡ can riding carrying m (TakeMessage d) →
+      has (set_of MessageKind new) d ≡ can riding carrying n (TakeMessage d)
+  pub responses : (d : ℕ) → d ≢ c → can riding carrying m (TakeResponse d) ≡ can riding carrying n (TakeResponse d)
 
 module _ {R K : Type 0} where
-  turn_fits : (riding : Riding R) (carrying : Carrying K) (s : State R K) (n : Memory R K) (c about : ℕ)
+  turn_fits : (riding : Riding R) (carrying : Carrying K) (m n : Memory R K) (c about : ℕ)
       (answer : HomeAnswer R) (turn : Turn)
-      (was : Bool) → is_free (entry_at riding.fresh s.memory.home about).stage ≡ was →
-      Turned riding carrying s.memory n c about (hears answer) →
-      IsTurn about answer turn → about < length s.memory.home → TurnFits riding carrying s n c turn was
-  turn_fits riding carrying s n c about answer turn was before turned is within =
+      (was : Bool) → is_free (entry_at riding.fresh m.home about).stage ≡ was →
+      Turned riding carrying m n c about (hears answer) →
+      IsTurn about answer turn → TurnFits riding carrying m n c turn was
+  turn_fits riding carrying m n c about answer turn was before turned is =
       record {
-        count = turned.count;
-        block = subst (λ (k : ℕ). turn.block < k) (sym turned.entries) (subst (λ (b : ℕ). b < length s.memory.home)
-            (sym is.block) within);
-        marked =
-            λ marks cores others own. turn_marked riding carrying s n c about (hears answer) turn was marks turned
-            before is.block
-            (turn_heard about answer turn is) cores others own;
-        request = λ marks cores same marked. request_marked riding carrying s n c about (hears answer) turn was marks
-            turned before is.block cores c same marked;
+        requests = λ cores old new after d same marked.
+            request_marked riding carrying m n c about cores (hears answer) turn was old new turned before is.block
+            after d same marked;
+        others = turned.requests;
+        messages = λ cores old new long after d marked.
+            message_marked riding carrying m n c about cores (hears answer) turn was old new turned
+            (turn_heard about answer turn is) long after d marked;
+        responses = response_kept riding carrying m n c about (hears answer) turned;
       }
 
-  pub request_fits : (riding : Riding R) (carrying : Carrying K) (s : State R K) (c : ℕ) (turn : Turn) →
-      head_free (port_at carrying s.memory.ports c).requests.items riding s.memory.home ≡ true →
-      can_request_in (port_at carrying s.memory.ports c).requests.items riding s.memory c ≡ true →
-      IsRequestTurn (port_at carrying s.memory.ports c).requests.items riding s.memory c turn →
-      TurnFits riding carrying s (take_request riding carrying s.memory c) c turn true
-  request_fits riding carrying s c turn free row is = by (port_at carrying s.memory.ports c).requests.items free row is
+  pub request_fits : (riding : Riding R) (carrying : Carrying K) (m : Memory R K) (c : ℕ) (turn : Turn) →
+      head_free (port_at carrying m.ports c).requests.items riding m.home ≡ true →
+      can_request_in (port_at carrying m.ports c).requests.items riding m c ≡ true →
+      IsRequestTurn (port_at carrying m.ports c).requests.items riding m c turn →
+      TurnFits riding carrying m (take_request riding carrying m c) c turn true
+  request_fits riding carrying m c turn free row is = by (port_at carrying m.ports c).requests.items free row is
     where
-      by : (items : List (Mail (Request R) K)) → head_free items riding s.memory.home ≡ true →
-          can_request_in items riding s.memory c ≡ true →
-          IsRequestTurn items riding s.memory c turn →
-          TurnFits riding carrying s (take_request_in items riding carrying s.memory c) c turn true
+      by : (items : List (Mail (Request R) K)) → head_free items riding m.home ≡ true →
+          can_request_in items riding m c ≡ true →
+          IsRequestTurn items riding m c turn →
+          TurnFits riding carrying m (take_request_in items riding carrying m c) c turn true
       by [] free row is = false_true row
       by (mail ∷ rest) free row is =
           let block = request_block mail.item in
-          let answer = answer_to_request riding.absorbed (entry_at riding.fresh s.memory.home block) c mail.item in
-          turn_fits riding carrying s (take_request_in (mail ∷ rest) riding carrying s.memory c) c block answer turn
+          let answer = answer_to_request riding.absorbed (entry_at riding.fresh m.home block) c mail.item in
+          turn_fits riding carrying m (take_request_in (mail ∷ rest) riding carrying m c) c block answer turn
           true free
-          (answered riding carrying s.memory (take_request_in (mail ∷ rest) riding carrying s.memory c) c block answer
-          (port_requested (port_at carrying s.memory.ports c) rest) (carrying.joined s.memory.carry mail.carry) _ refl
+          (answered riding carrying m (take_request_in (mail ∷ rest) riding carrying m c) c block answer
+          (port_requested (port_at carrying m.ports c) rest) (carrying.joined m.carry mail.carry) _ refl
           refl refl refl)
-          is (lt_of block (length s.memory.home) (left_is (nat_lt block (length s.memory.home)) _ row))
+          is
 
-  pub response_fits : (riding : Riding R) (carrying : Carrying K) (s : State R K) (c : ℕ) (turn : Turn) →
-      can_respond_in (port_at carrying s.memory.ports c).responses.items riding s.memory c ≡ true →
-      IsResponseTurn (port_at carrying s.memory.ports c).responses.items riding s.memory c turn →
-      TurnFits riding carrying s (take_response riding carrying s.memory c) c turn false
-  response_fits riding carrying s c turn row is = by (port_at carrying s.memory.ports c).responses.items row is
+  pub response_fits : (riding : Riding R) (carrying : Carrying K) (m : Memory R K) (c : ℕ) (turn : Turn) →
+      can_respond_in (port_at carrying m.ports c).responses.items riding m c ≡ true →
+      IsResponseTurn (port_at carrying m.ports c).responses.items riding m c turn →
+      TurnFits riding carrying m (take_response riding carrying m c) c turn false
+  response_fits riding carrying m c turn row is = by (port_at carrying m.ports c).responses.items row is
     where
-      by : (items : List (Mail (Response R) K)) → can_respond_in items riding s.memory c ≡ true →
-          IsResponseTurn items riding s.memory c turn →
-          TurnFits riding carrying s (take_response_in items riding carrying s.memory c) c turn false
+      by : (items : List (Mail (Response R) K)) → can_respond_in items riding m c ≡ true →
+          IsResponseTurn items riding m c turn →
+          TurnFits riding carrying m (take_response_in items riding carrying m c) c turn false
       by [] row is = false_true row
       by (mail ∷ rest) row is =
           let block = response_block mail.item in
-          let answer = answer_to_response riding.absorbed (entry_at riding.fresh s.memory.home block) c mail.item in
-          turn_fits riding carrying s (take_response_in (mail ∷ rest) riding carrying s.memory c) c block answer turn
+          let answer = answer_to_response riding.absorbed (entry_at riding.fresh m.home block) c mail.item in
+          turn_fits riding carrying m (take_response_in (mail ∷ rest) riding carrying m c) c block answer turn
           false
-          (busy_is (entry_at riding.fresh s.memory.home block).stage c mail.item
-          (right_of (nat_lt block (length s.memory.home)) _ row))
-          (answered riding carrying s.memory (take_response_in (mail ∷ rest) riding carrying s.memory c) c block answer
-          (port_responded (port_at carrying s.memory.ports c) rest) (carrying.joined s.memory.carry mail.carry) _ refl
+          (busy_is (entry_at riding.fresh m.home block).stage c mail.item
+          (right_of (nat_lt block (length m.home)) _ row))
+          (answered riding carrying m (take_response_in (mail ∷ rest) riding carrying m c) c block answer
+          (port_responded (port_at carrying m.ports c) rest) (carrying.joined m.carry mail.carry) _ refl
           refl refl refl)
-          is (lt_of block (length s.memory.home) (left_is (nat_lt block (length s.memory.home)) _ row))
+          is
 
   pub request_stays : (riding : Riding R) (carrying : Carrying K) (m : Memory R K) (c : ℕ) →
       PortsStay m (take_request riding carrying m c) c
   request_stays riding carrying m c = by (port_at carrying m.ports c).requests.items
     where
       by : (items : List (Mail (Request R) K)) → PortsStay m (take_request_in items riding carrying m c) c
-      by [] = record { waiting = refl; requests = λ d other. refl }
+      by [] = record { caches = refl; requests = λ d other. refl }
       by (mail ∷ rest) =
           let block = request_block mail.item in
           let answer = answer_to_request riding.absorbed (entry_at riding.fresh m.home block) c mail.item in
@@ -383,14 +354,14 @@ module _ {R K : Type 0} where
           answered riding carrying m (take_request_in (mail ∷ rest) riding carrying m c) c block answer
           (port_requested (port_at carrying m.ports c) rest)
           (carrying.joined m.carry mail.carry) _ refl refl refl refl in
-          record { waiting = turned.waiting; requests = turned.requests }
+          record { caches = turned.caches; requests = turned.requests }
 
   pub response_stays : (riding : Riding R) (carrying : Carrying K) (m : Memory R K) (c : ℕ) →
       PortsStay m (take_response riding carrying m c) c
   response_stays riding carrying m c = by (port_at carrying m.ports c).responses.items
     where
       by : (items : List (Mail (Response R) K)) → PortsStay m (take_response_in items riding carrying m c) c
-      by [] = record { waiting = refl; requests = λ d other. refl }
+      by [] = record { caches = refl; requests = λ d other. refl }
       by (mail ∷ rest) =
           let block = response_block mail.item in
           let answer = answer_to_response riding.absorbed (entry_at riding.fresh m.home block) c mail.item in
@@ -398,7 +369,7 @@ module _ {R K : Type 0} where
           answered riding carrying m (take_response_in (mail ∷ rest) riding carrying m c) c block answer
           (port_responded (port_at carrying m.ports c) rest)
           (carrying.joined m.carry mail.carry) _ refl refl refl refl in
-          record { waiting = turned.waiting; requests = turned.requests }
+          record { caches = turned.caches; requests = turned.requests }
 
   -- a request's core has the responses that it had
   pub same_responses : (riding : Riding R) (carrying : Carrying K) (m : Memory R K) (c : ℕ) →

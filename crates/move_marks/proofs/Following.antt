@@ -1,0 +1,111 @@
+-- The marks at the ports follow the home's turns: where exactly the acts were marked that could be made, so it is after
+-- the turn at a core, once its own response, or its own request, is marked anew.
+use Rattle.std.proofs.Common.{◌≡◌, ◌≢◌, ◌∙◌, ◌⊎◌, inl, inr, refl, sym, subst, ap, ℕ, ◌<◌, ◌≤◌, Bool, true, false, length}
+use Rattle.std.proofs.Common.{nat_lt}
+use Rattle.std.proofs.lemmas.Bool.{cases_eq}
+use Rattle.access_times.specs.Riding.{Riding, Carrying}
+use Rattle.rtr_types.specs.CoreSets.{has}
+use Rattle.msi_memory.specs.declared.turn.Turn.{Turn}
+use Rattle.msi_memory.specs.Acts.{TakeMessage, TakeRequest, TakeResponse, can, take_request, take_response}
+use Rattle.msi_memory.specs.Memories.{Memory, port_at}
+use Rattle.msi_memory.specs.Rests.{requests_at}
+use Rattle.msi_memory.specs.Turns.{IsRequestTurn, IsResponseTurn}
+use Rattle.memory_laws.specs.Holds.{MemoryHolds}
+use Rattle.memory_laws.proofs.Ready.{memory_ready}
+use Rattle.memory_laws.proofs.Spaces.{port_links_hold}
+use Rattle.move_marks.specs.declared.marks.MoveKind.TheVariants.{Request, Response, FromHome}
+use Rattle.move_marks.specs.declared.marks.MoveMarks.{MoveMarks}
+use Rattle.move_marks.specs.Kinds.{set_of}
+use Rattle.move_marks.specs.Turns.{IsAfterTurn}
+use Rattle.move_marks.proofs.Delivered.{left_is, lt_of, right_of}
+use Rattle.move_marks.proofs.Turned.{TurnFits, none_left, request_fits, request_leaves_none, response_fits}
+use Rattle.move_marks.proofs.Turned.{response_requests, same_responses}
+
+-- exactly the acts that can be made at the ports are marked
+pub record PortsMarked {R K : Type 0} (riding : Riding R) (carrying : Carrying K) (m : Memory R K) (marks : MoveMarks)
+    : Type 0 where
+  pub requests : (d : ℕ) → has (set_of Request marks) d ≡ can riding carrying m (TakeRequest d)
+  pub responses : (d : ℕ) → has (set_of Response marks) d ≡ can riding carrying m (TakeResponse d)
+  pub messages : (d : ℕ) → has (set_of FromHome marks) d ≡ can riding carrying m (TakeMessage d)
+
+-- what holds at one core and at the others holds at each
+pub each : (f g : ℕ → Bool) (c : ℕ) → f c ≡ g c → ((d : ℕ) → d ≢ c → f d ≡ g d) → (d : ℕ) → f d ≡ g d
+each f g c this others d = by d (cases_eq d c)
+  where
+    by : (d : ℕ) → (d ≡ c) ⊎ (d ≡ c → ⊥) → f d ≡ g d
+    by d (inl same) = subst (λ (k : ℕ). f k ≡ g k) (sym same) this
+    by d (inr other) = others d other
+
+module _ {R K : Type 0} where
+  -- a core has at most one request under way, for which its link has room
+  pub one_request : (riding : Riding R) (carrying : Carrying K) (m : Memory R K) (c : ℕ) →
+      MemoryHolds riding carrying m → c < length m.ports → length (port_at carrying m.ports c).requests.items ≤ 1
+  one_request riding carrying m c holds here =
+      subst (λ (k : ℕ). length (port_at carrying m.ports c).requests.items ≤ k)
+      (holds.ports c here).requests_room (port_links_hold riding carrying m c holds here).requests
+
+  -- the home took core c's oldest request, and none of them is marked then
+  pub request_followed : (riding : Riding R) (carrying : Carrying K) (m n : Memory R K) (c cores : ℕ) (turn : Turn)
+      (old mid new : MoveMarks) →
+      n ≡ take_request riding carrying m c → MemoryHolds riding carrying m →
+      can riding carrying m (TakeRequest c) ≡ true →
+      IsRequestTurn (port_at carrying m.ports c).requests.items riding m c turn →
+      PortsMarked riding carrying m old → cores ≡ length m.ports →
+      IsAfterTurn riding n cores turn true old mid →
+      ((d : ℕ) → has (set_of Response new) d ≡ has (set_of Response mid) d) →
+      ((d : ℕ) → has (set_of FromHome new) d ≡ has (set_of FromHome mid) d) → has (set_of Request new) c ≡ false →
+      ((d : ℕ) → d ≢ c → has (set_of Request new) d ≡ has (set_of Request mid) d) → PortsMarked riding carrying n new
+  request_followed riding carrying m n c cores turn old mid new is holds can_be about all long after responses messages
+      gone kept =
+      record {
+        requests = each (λ d. has (set_of Request new) d) (λ d. can riding carrying n (TakeRequest d)) c
+            (gone ∙ sym (none_left riding carrying n c
+            (ap (λ (x : Memory R K). requests_at x.ports c) is
+            ∙ request_leaves_none riding carrying m c here (one_request riding carrying m c holds here))))
+            (λ d other. kept d other ∙ fits.requests cores old mid after d (fits.others d other) (all.requests d));
+        responses = λ d. responses d ∙ after.responses d
+            ∙ each (λ d. has (set_of Response old) d) (λ d. can riding carrying n (TakeResponse d)) c
+            (all.responses c
+            ∙ sym (ap (λ (x : Memory R K). can riding carrying x (TakeResponse c)) is
+            ∙ same_responses riding carrying m c))
+            (λ d other. all.responses d ∙ fits.responses d other) d;
+        messages = λ d. messages d ∙ fits.messages cores old mid long after d (all.messages d);
+      }
+    where
+      here : c < length m.ports
+      here = lt_of c (length m.ports) (left_is (nat_lt c (length m.ports)) _ can_be)
+
+      fits : TurnFits riding carrying m n c turn true
+      fits = subst (λ (x : Memory R K). TurnFits riding carrying m x c turn true) (sym is)
+          (request_fits riding carrying m c turn (right_of (nat_lt c (length m.ports)) _ can_be)
+          ((memory_ready riding carrying m holds).rows (TakeRequest c) can_be) about)
+
+  -- the home took core c's oldest response, whose other responses were marked anew
+  pub response_followed : (riding : Riding R) (carrying : Carrying K) (m n : Memory R K) (c cores : ℕ) (turn : Turn)
+      (old mid new : MoveMarks) →
+      n ≡ take_response riding carrying m c → MemoryHolds riding carrying m →
+      can riding carrying m (TakeResponse c) ≡ true →
+      IsResponseTurn (port_at carrying m.ports c).responses.items riding m c turn →
+      PortsMarked riding carrying m old → cores ≡ length m.ports →
+      ((d : ℕ) → has (set_of Request mid) d ≡ has (set_of Request old) d) →
+      ((d : ℕ) → has (set_of FromHome mid) d ≡ has (set_of FromHome old) d) →
+      has (set_of Response mid) c ≡ can riding carrying n (TakeResponse c) →
+      ((d : ℕ) → d ≢ c → has (set_of Response mid) d ≡ has (set_of Response old) d) →
+      IsAfterTurn riding n cores turn false mid new → PortsMarked riding carrying n new
+  response_followed riding carrying m n c cores turn old mid new is holds can_be about all long requests messages own
+      kept after =
+      record {
+        requests = λ d. fits.requests cores mid new after d
+            (ap (λ (x : Memory R K). requests_at x.ports d) is ∙ response_requests riding carrying m c d)
+            (requests d ∙ all.requests d);
+        responses = λ d. after.responses d
+            ∙ each (λ d. has (set_of Response mid) d) (λ d. can riding carrying n (TakeResponse d)) c own
+            (λ d other. kept d other ∙ all.responses d ∙ fits.responses d other) d;
+        messages = λ d. fits.messages cores mid new long after d
+            (messages d ∙ all.messages d);
+      }
+    where
+      fits : TurnFits riding carrying m n c turn false
+      fits = subst (λ (x : Memory R K). TurnFits riding carrying m x c turn false) (sym is)
+          (response_fits riding carrying m c turn ((memory_ready riding carrying m holds).rows (TakeResponse c) can_be)
+          about)

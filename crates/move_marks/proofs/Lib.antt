@@ -1,0 +1,10 @@
+pub mod Bits
+pub mod SetBits
+pub mod KindBits
+pub mod Picks
+pub mod Counts
+pub mod Delivered
+pub mod Acts
+pub mod Turned
+pub mod Following
+pub mod Listing

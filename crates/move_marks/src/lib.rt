@@ -1,0 +1,12 @@
+//! Which moves can be made, one bit a core in a set for each kind of move, and what the home's turns change of
+//! them. Each machine over a memory system keeps such marks, so that no step looks at all cores for the moves that
+//! can be made.
+#![tactic(auto)]
+
+mod marking;
+mod marks;
+mod sets;
+
+pub use marking::mark_turn;
+pub use marks::{MarkedMove, MoveKind, MoveMarks};
+pub use sets::{count, nth};

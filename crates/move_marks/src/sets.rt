@@ -1,0 +1,39 @@
+//! Sets of cores whose members are counted, and found by their numbers.
+ghost use Rattle.std.specs.Prelude.{◌≡◌, ◌<◌, ◌≤◌, ◌&&◌, ℕ, length, nat_lt, slice_index_or};
+ghost use Rattle.rtr_types.specs.CoreSets.{has};
+ghost use Rattle.rtr_types.specs.declared.TheConstants.{CORES_MAX};
+ghost use Rattle.move_marks.specs.Members.{members};
+
+use rtr_types::{CORES_MAX, CoreSet};
+
+/// The cores of the set that are among the first so many.
+pub fn first_of(set: CoreSet, cores: u32) -> CoreSet
+    requires { cores ≤ CORES_MAX }
+    ensures { (c : ℕ) → has result c ≡ (has set c && nat_lt c cores) }
+{
+    CoreSet {
+        bits: set.bits & ((1u32 << cores) - 1) as u16,
+    }
+}
+
+/// How many cores are in the set.
+pub fn count(set: CoreSet) -> u32
+    ensures value { result ≡ length (members set) }
+    ensures few { result ≤ CORES_MAX }
+{
+    set.bits.count_ones()
+}
+
+/// The member of this number, from 0.
+pub fn nth(set: CoreSet, number: u32) -> u8
+    requires { number < length (members set) }
+    ensures value { (d : ℕ) → result ≡ slice_index_or (members set) number d }
+    ensures within { result < CORES_MAX }
+{
+    let mut rest = set.bits;
+    for _passed in 0..number {
+        // the lowest bit goes
+        rest &= rest - 1;
+    }
+    rest.trailing_zeros() as u8
+}
