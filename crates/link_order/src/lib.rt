@@ -50,15 +50,26 @@ impl<T> Model for Link<T> {
 fn place(first: usize, ahead: usize, capacity: usize) -> usize
     requires first { first < capacity }
     requires ahead { ahead ≤ capacity }
+    requires few { capacity < 4294967296 }
     ensures within { result < capacity }
     ensures round { (result ≡ first + ahead) ⊎ (result + capacity ≡ first + ahead) }
 {
-    let before_the_end = capacity - first;
-    if ahead < before_the_end {
-        first + ahead
+    let straight = first + ahead;
+    if straight < capacity {
+        straight
     } else {
-        ahead - before_the_end
+        straight - capacity
     }
+}
+
+/// The place behind place `first`.
+fn place_behind(first: usize, capacity: usize) -> usize
+    requires first { first < capacity }
+    ensures within { result < capacity }
+    ensures round { (result ≡ first + 1) ⊎ (result + capacity ≡ first + 1) }
+{
+    let behind = first + 1;
+    if behind == capacity { 0 } else { behind }
 }
 
 impl<T: Drop + Default> Link<T> {
@@ -109,7 +120,7 @@ impl<T: Drop + Default> Link<T> {
             return None;
         }
         let oldest = self.first;
-        self.first = place(oldest, 1, self.capacity as usize);
+        self.first = place_behind(oldest, self.capacity as usize);
         self.count -= 1;
         Some(mem::take(&mut self.slots[oldest]))
     }
@@ -166,7 +177,7 @@ impl<T> Link<T> {
         ensures items { self.new.items ≡ drop 1 self.old.items }
     {
         if self.count > 0 {
-            self.first = place(self.first, 1, self.capacity as usize);
+            self.first = place_behind(self.first, self.capacity as usize);
             self.count -= 1;
         }
     }

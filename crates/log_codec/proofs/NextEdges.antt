@@ -9,7 +9,7 @@ use Rattle.std.proofs.lemmas.Bool.Decides.{nat_tests}
 use Rattle.std.proofs.lemmas.List.{drop-drop, length-append, length-map, length-set, get_or-set_same, get_or-set_other}
 use Rattle.rtr_types.specs.declared.TheConstants.{CORES_MAX}
 use Rattle.log_codec.specs.declared.incoming.Incoming.{Incoming}
-use Rattle.log_codec.specs.declared.merging.TheConstants.{PAST}
+use Rattle.log_codec.specs.declared.fronts.TheConstants.{PAST}
 use Rattle.log_codec.specs.Incoming.{AreFronts, Follows, IsFirst, IsFront, IsLeast, Keeps, edges_out_of, from_source}
 use Rattle.log_codec.specs.Incoming.{incoming, is_earlier}
 use Rattle.log_codec.specs.Incoming.{last_target, left, merged_edges, newest, target_of}
@@ -18,14 +18,6 @@ use Rattle.log_codec.proofs.Merges.{merge-is, merged-merges}
 use Rattle.log_codec.proofs.Ordered.{all-from}
 
 -- ---- the first of the next ones
-
--- what is known of the fronts of so many cores: the least of them, and the first core that has it
-pub record LeastAmong (n : ℕ) (fronts : List ℕ) (least first : ℕ) : Type 0 where
-  pub most : least ≤ PAST
-  pub all : (other : ℕ) → other < n → least ≤ slice_index fronts other
-  pub inside : least < PAST → first < n
-  pub is : least < PAST → slice_index fronts first ≡ least
-  pub before : least < PAST → (other : ℕ) → other < first → least < slice_index fronts other
 
 -- the front of a list that has an edge left
 front-some : (next : Option (ℕ × ℕ)) (counts : ℕ × ℕ) (front : ℕ) → IsFront next front → next ≡ Some counts →
@@ -204,6 +196,25 @@ fronts-step cores reduced target next fronts i n front few inside h is = record 
         (sym (left-other cores reduced target next i n source not))
         (h.each source lt))
   ];
+  others = λ source past there.
+      get_or-set_other fronts i source front 0 (λ same. omega (arith, inside, past, same))
+      ∙ h.others source past there;
+}
+
+-- the least of all fronts is that of one of the lists
+pub least-within : (cores : ℕ) (lists : ℕ → List (ℕ × ℕ)) (fronts : List ℕ) (source : ℕ) → cores ≤ CORES_MAX →
+    AreFronts cores lists fronts → IsLeast CORES_MAX fronts source → IsLeast cores fronts source
+least-within cores lists fronts source few f l = record {
+  inside = elim (cases_lt source cores) [
+    | inl lt ↦ lt
+    | inr past ↦
+        let none = f.others source past l.inside in
+        let some = l.some in
+        absurd (omega (arith, none, some))
+  ];
+  some = l.some;
+  least = λ other lt. l.least other (omega (arith, lt, few));
+  first = l.first;
 }
 
 -- ---- what is kept

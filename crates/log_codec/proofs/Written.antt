@@ -45,6 +45,7 @@ fronts-start cores reduced target fronts h = record {
   places = h.places;
   each = λ source lt. subst (λ (l : List (ℕ × ℕ)). IsFront (slice_get l 0) (slice_index fronts source))
       (sym (all-left cores reduced target CORES_MAX source)) (h.each source lt);
+  others = h.others;
 }
 
 left-rises : (cores : ℕ) (reduced : List (List (ℕ × ℕ))) (target : ℕ) (next : List ℕ) → target < cores →

@@ -6,7 +6,7 @@ use Rattle.std.specs.List.{filter, flat_map, range_with_len}
 use Rattle.rtr_types.specs.declared.TheConstants.{CORES_MAX}
 use Rattle.rtr_types.specs.Pairs.{IsPair, pair_count, pair_place, source_at, target_at}
 use Rattle.log_codec.specs.declared.incoming.Incoming.{Incoming}
-use Rattle.log_codec.specs.declared.merging.TheConstants.{PAST}
+use Rattle.log_codec.specs.declared.fronts.TheConstants.{PAST}
 use Rattle.race_log.specs.Validity.{IsListed}
 
 -- ---- by target
@@ -152,10 +152,11 @@ abbrev pub IsFront : Option (ℕ × ℕ) → ℕ → Type 0
 IsFront None front = front ≡ PAST
 IsFront (Some counts) front = (front ≡ counts.1) × (front < PAST)
 
--- the fronts of the cores' lists
+-- the fronts of the cores' lists; past all counts in the places of no core
 pub record AreFronts (cores : ℕ) (lists : ℕ → List (ℕ × ℕ)) (fronts : List ℕ) : Type 0 where
   pub places : length fronts ≡ CORES_MAX
   pub each : (source : ℕ) → source < cores → IsFront (slice_get (lists source) 0) (slice_index fronts source)
+  pub others : (source : ℕ) → cores ≤ source → source < CORES_MAX → slice_index fronts source ≡ PAST
 
 -- no core's front is less, and no core before it has the same
 pub record IsLeast (cores : ℕ) (fronts : List ℕ) (source : ℕ) : Type 0 where

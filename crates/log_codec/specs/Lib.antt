@@ -1,6 +1,7 @@
 pub mod Faults
 pub mod Turns
 pub mod Versions
+pub mod Fronts
 pub mod Incoming
 pub mod Spelling
 pub mod Reading

@@ -3,19 +3,17 @@ ghost use Rattle.std.specs.Prelude.{◌≡◌, ℕ, ◌-◌, ◌<◌, ◌≤◌,
 ghost use Rattle.std.specs.Prelude.{OnOk};
 ghost use Rattle.rtr_types.specs.Pairs.{pair_count};
 ghost use Rattle.rtr_types.specs.declared.TheConstants.{CORES_MAX};
-ghost use Rattle.log_codec.specs.Incoming.{AreFronts, IsFirst, IsFront, IsLeast, edges_out_of, incoming_edges, left};
+ghost use Rattle.log_codec.specs.Incoming.{AreFronts, IsFirst, IsFront, edges_out_of, incoming_edges, left};
 ghost use Rattle.log_codec.specs.Incoming.{target_of};
 ghost use Rattle.log_codec.specs.Spelling.{into_text, number, targets_text};
 ghost use Rattle.log_codec.specs.Incoming.{IsLog};
 
+use crate::fronts::{Fronts, PAST};
 use crate::incoming::{Incoming, PLACES, target_of};
 use crate::targets::target_count;
 use rtr_types::{CORES_MAX, Items, pair_at};
 use std::alloc::AllocError;
 use varint_core::put_u32;
-
-/// Above each count of an instruction.
-const PAST: u64 = 1 << 32;
 
 /// The edge at a place of the list of two cores; none from a core to itself, or past the list's end.
 fn edge_at(
@@ -53,35 +51,17 @@ fn front_at(reduced: &[Items<(u32, u32)>], cores: u8, target: u8, source: u8, pl
 }
 
 /// The front of each source core's list.
-fn first_fronts(reduced: &[Items<(u32, u32)>], cores: u8, target: u8) -> [u64; PLACES]
+fn first_fronts(reduced: &[Items<(u32, u32)>], cores: u8, target: u8) -> Fronts
     requires few { cores ≤ CORES_MAX }
     requires pairs { length reduced.now ≡ pair_count cores }
     requires target { target < cores }
     ensures { AreFronts cores (edges_out_of cores reduced.now target) result }
 {
-    let mut fronts = [PAST; PLACES];
+    let mut fronts = Fronts::past();
     for source in 0..cores {
-        fronts[source as usize] = front_at(reduced, cores, target, source, 0);
+        fronts.put(source, front_at(reduced, cores, target, source, 0));
     }
     fronts
-}
-
-/// The first core of those whose fronts are the least; none where all lists are at their ends.
-fn least(cores: u8, fronts: &[u64; PLACES]) -> Option<u8>
-    requires few { cores ≤ CORES_MAX }
-    ensures least { IfSome result (λ source. IsLeast cores fronts.now source) }
-    ensures none { IfNone result ((source : ℕ) → source < cores → PAST ≤ slice_index fronts.now source) }
-{
-    let mut least = PAST;
-    let mut first = 0;
-    for source in 0..cores {
-        let front = fronts[source as usize];
-        if front < least {
-            least = front;
-            first = source;
-        }
-    }
-    if least < PAST { Some(first) } else { None }
 }
 
 /// The first in order of the edges that are left, where `next` has the place of each source core's
@@ -91,7 +71,7 @@ fn first_left(
     cores: u8,
     target: u8,
     next: &[usize; PLACES],
-    fronts: &[u64; PLACES],
+    fronts: &Fronts,
 ) -> Option<Incoming>
     requires few { cores ≤ CORES_MAX }
     requires pairs { length reduced.now ≡ pair_count cores }
@@ -102,7 +82,7 @@ fn first_left(
         slice_get (left cores reduced.now target next.now source) 0
         ≡ None) }
 {
-    let source = least(cores, fronts)?;
+    let source = fronts.least()?;
     let counts = edge_at(reduced, cores, target, source, next[source as usize])?;
     Some(Incoming { source, counts })
 }
@@ -164,7 +144,10 @@ fn put_into(
             put_incoming(out, last, &counts, edge)?;
             let source = edge.source as usize;
             next[source] += 1;
-            fronts[source] = front_at(reduced, cores, target, edge.source, next[source]);
+            fronts.put(
+                edge.source,
+                front_at(reduced, cores, target, edge.source, next[source]),
+            );
             counts[source] = edge.counts.0;
             last = Some(edge);
         }

@@ -5,3 +5,4 @@ pub mod Lent
 pub mod PlainPart
 pub mod Held
 pub mod Handing
+pub mod Waiting

@@ -1,11 +1,13 @@
 //! A core's cache.
 ghost use Rattle.std.specs.Prelude.{◌≡◌, ◌<◌, ℕ, List, IfOk, IsTrue, false, true, length, replicate, slice_index};
-ghost use Rattle.std.specs.Prelude.{Some, is_some};
+ghost use Rattle.std.specs.Prelude.{Some, is_some, ◌≤◌, ◌+◌};
 ghost use Rattle.std.specs.Borrow.{sem};
 ghost use Rattle.msi_cache.specs.Lent.{LendsRider};
 ghost use Rattle.msi_cache.specs.Lines.{answer, asks, can_read, can_write, empty_line, has_row, is_allowed, line_for};
 ghost use Rattle.msi_cache.specs.Lines.{lines_after, lines_asking, lines_put, wanted, waits, SameElsewhere};
 ghost use Rattle.msi_cache.specs.Messages.{answer_seen, block_of, message_seen, request_seen};
+ghost use Rattle.msi_cache.specs.Waiting.{one_if};
+ghost use Rattle.rtr_types.specs.declared.TheConstants.{LINES};
 ghost use Rattle.msi_cache.specs.PlainPart.{PlainOnHome, PlainPut, PlainRider, PlainWant};
 ghost use Rattle.msi_cache.specs.declared.line.Line.{Line};
 ghost use Rattle.msi_cache.specs.declared.messages.FromHome.{FromHome};
@@ -24,10 +26,13 @@ use std::marker::Model;
 #[derive(Drop)]
 pub struct Cache<R> {
     lines: Vec<Line<R>>,
+    // how many of them wait, so that no call has to look at all
+    waiting: u32,
 }
 
 impl<R> Model for Cache<R> {
     ghost use Rattle.std.specs.Prelude.{◌≡◌, List, length};
+    ghost use Rattle.msi_cache.specs.Waiting.{how_many_wait};
     ghost use Rattle.msi_cache.specs.declared.line.Line.{Line};
     ghost use Rattle.rtr_types.specs.declared.TheConstants.{LINES};
 
@@ -35,7 +40,22 @@ impl<R> Model for Cache<R> {
 
     ghost view = { λ a. a.lines.items };
 
-    ghost invariant = { λ a. length a.lines.items ≡ LINES };
+    ghost invariant = { λ a. (length a.lines.items ≡ LINES) × (a.waiting ≡ how_many_wait a.lines.items) };
+}
+
+// How many lines wait after one of them heard a message, by whether that one waited before and waits now.
+fn waiting_after(waiting: u32, waited: bool, waits: bool) -> u32
+    requires counted { one_if waited ≤ waiting + one_if waits }
+    requires few { waiting ≤ LINES }
+    ensures { result + one_if waited ≡ waiting + one_if waits }
+{
+    if waited == waits {
+        waiting
+    } else if waits {
+        waiting + 1
+    } else {
+        waiting - 1
+    }
 }
 
 impl<R: Rider> Cache<R> {
@@ -47,7 +67,7 @@ impl<R: Rider> Cache<R> {
         for made in 0..LINES {
             lines.push(Line::empty(alloc)?)?;
         }
-        Ok(Cache { lines })
+        Ok(Cache { lines, waiting: 0 })
     }
 
     /// Whether a core may read the block: its copy is held in S, M or on the way from S to M.
@@ -83,7 +103,7 @@ impl<R: Rider> Cache<R> {
     pub fn waits(&self) -> bool
         ensures { result ≡ waits self.now }
     {
-        self.lines.iter().any(|line| line.state.is_transient())
+        self.waiting > 0
     }
 
     /// The line where the block goes.
@@ -177,6 +197,7 @@ impl<R: Rider> Cache<R> {
         ensures elsewhere { SameElsewhere R.riding.fresh self.old self.new block }
     {
         self.lines[block as usize % LINES].ask(block, kind);
+        self.waiting = 1;
     }
 
     /// What home has to hear once the cache has taken this message, as `on_home` answers it. The rider is
@@ -198,7 +219,10 @@ impl<R: Rider> Cache<R> {
         ensures lines { self.new ≡ lines_after R.riding self.old (message_seen message.entry) }
         ensures elsewhere { SameElsewhere R.riding.fresh self.old self.new (block_of (message_seen message.entry)) }
     {
-        self.lines[message.block() as usize % LINES].hear(message);
+        let line = &mut self.lines[message.block() as usize % LINES];
+        let waited = line.state.is_transient();
+        line.hear(message);
+        self.waiting = waiting_after(self.waiting, waited, line.state.is_transient());
     }
 
     /// Takes a message that the table answers, as `on_home` does, and puts the answer there. Where the copy ends, its
@@ -212,7 +236,10 @@ impl<R: Rider> Cache<R> {
         ensures reply { let seen = message_seen message.entry in
             Some reply.new ≡ answer (line_for R.riding.fresh self.old (block_of seen)) seen }
     {
-        self.lines[message.block() as usize % LINES].respond(message, reply);
+        let line = &mut self.lines[message.block() as usize % LINES];
+        let waited = line.state.is_transient();
+        line.respond(message, reply);
+        self.waiting = waiting_after(self.waiting, waited, line.state.is_transient());
     }
 
     /// Takes the message that lies here as `hear` does. What is left here means nothing: a rider that the line takes
@@ -222,7 +249,10 @@ impl<R: Rider> Cache<R> {
         ensures { self.new ≡ lines_after R.riding self.old slot.old }
     {
         let block = slot.block();
-        self.lines[block as usize % LINES].take(slot);
+        let line = &mut self.lines[block as usize % LINES];
+        let waited = line.state.is_transient();
+        line.take(slot);
+        self.waiting = waiting_after(self.waiting, waited, line.state.is_transient());
     }
 }
 

@@ -45,6 +45,7 @@ impl Standing {
     }
 
     /// The core's next instruction is another now.
+    #[inline(always)]
     pub(crate) fn look_ahead(&mut self, program: &Program, core: &Core)
         ensures { self.new ≡ standing_with program.now core.now self.old.waits }
     {

@@ -64,6 +64,7 @@ fn tell<R: Rider, K: Carry>(
 
 /// The home's answer goes on its way, with the rider in hand where it has one: one message to its core, or else
 /// to each core of the set that its copy of the block is no longer valid. What is in hand afterwards means nothing.
+#[inline(always)]
 pub(crate) fn deliver<R: Rider, K: Carry>(
     ports: &mut [Port<R, K>],
     answer: HomeAnswer<()>,

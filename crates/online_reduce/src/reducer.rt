@@ -143,6 +143,7 @@ impl Reducer {
 
     /// The same with the edges in the places that are lent, in place of what they had, so that no list is
     /// moved.
+    #[inline(always)]
     pub fn retire_into(&mut self, access: &Access, times: &mut Times, edges: &mut EdgePlaces)
         requires ready { IsTrue self.old.ready }
         requires next { IsNext self.old.state access.now.at }

@@ -63,7 +63,7 @@ loop-preserved c =
           (slice_index c.loop.next w.in-Some.edge.source + 1) w.front_at.result c.requires.log.few
           w.in-Some.ensures.first.inside c.loop.invariant.1
           w.front_at.ensures in
-          rw (w.next-is, w.last-is, w.counts-is, w.out-is, w.fronts-is, ← one) (next, passed)
+          rw (w.next-is, w.last-is, w.counts-is, w.out-is, w.fronts-is, w.put.ensures, ← one) (next, passed)
       | in_default w ↦
           let none = writes-none cores target many reduced c.loop.next c.loop.last c.loop.counts c.loop.out.items whole
           c.loop.invariant.0
