@@ -2,6 +2,7 @@ pub mod Faults
 pub mod Turns
 pub mod Versions
 pub mod Incoming
+pub mod Fronts
 pub mod Spelling
 pub mod Reading
 pub mod CoreCounts

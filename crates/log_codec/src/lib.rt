@@ -5,6 +5,7 @@
 mod codec_fault;
 mod core_counts;
 mod fields;
+mod fronts;
 mod incoming;
 mod laws;
 mod merging;

@@ -3,19 +3,16 @@ ghost use Rattle.std.specs.Prelude.{◌≡◌, ℕ, ◌-◌, ◌<◌, ◌≤◌,
 ghost use Rattle.std.specs.Prelude.{OnOk};
 ghost use Rattle.rtr_types.specs.Pairs.{pair_count};
 ghost use Rattle.rtr_types.specs.declared.TheConstants.{CORES_MAX};
-ghost use Rattle.log_codec.specs.Incoming.{AreFronts, IsFirst, IsFront, IsLeast, edges_out_of, incoming_edges, left};
-ghost use Rattle.log_codec.specs.Incoming.{target_of};
+ghost use Rattle.log_codec.specs.Incoming.{IsFirst, IsLog, edges_out_of, incoming_edges, left, target_of};
+ghost use Rattle.log_codec.specs.Fronts.{AreFronts, IsFront};
 ghost use Rattle.log_codec.specs.Spelling.{into_text, number, targets_text};
-ghost use Rattle.log_codec.specs.Incoming.{IsLog};
 
+use crate::fronts::{Fronts, PAST, key};
 use crate::incoming::{Incoming, PLACES, target_of};
 use crate::targets::target_count;
 use rtr_types::{CORES_MAX, Items, pair_at};
 use std::alloc::AllocError;
 use varint_core::put_u32;
-
-/// Above each count of an instruction.
-const PAST: u64 = 1 << 32;
 
 /// The edge at a place of the list of two cores; none from a core to itself, or past the list's end.
 fn edge_at(
@@ -39,59 +36,43 @@ fn edge_at(
         .copied()
 }
 
-/// The front of a list, which is the target's count of the edge at its place; `PAST` at the list's end.
+/// The key of the edge at a place of a list; `PAST` at the list's end.
 fn front_at(reduced: &[Items<(u32, u32)>], cores: u8, target: u8, source: u8, place: usize) -> u64
+    requires few { cores ≤ CORES_MAX }
     requires pairs { length reduced.now ≡ pair_count cores }
     requires source { source < cores }
     requires target { target < cores }
-    ensures { IsFront (slice_get (edges_out_of cores reduced.now target source) place) result }
+    ensures { IsFront source (slice_get (edges_out_of cores reduced.now target source) place) result }
 {
     match edge_at(reduced, cores, target, source, place) {
-        Some((_, count)) => count as u64,
+        Some((_, count)) => key(count, source),
         None => PAST,
     }
 }
 
-/// The front of each source core's list.
-fn first_fronts(reduced: &[Items<(u32, u32)>], cores: u8, target: u8) -> [u64; PLACES]
+/// The key of each source core's first edge.
+fn first_fronts(reduced: &[Items<(u32, u32)>], cores: u8, target: u8) -> Fronts
     requires few { cores ≤ CORES_MAX }
     requires pairs { length reduced.now ≡ pair_count cores }
     requires target { target < cores }
     ensures { AreFronts cores (edges_out_of cores reduced.now target) result }
 {
-    let mut fronts = [PAST; PLACES];
+    let mut fronts = Fronts::new();
     for source in 0..cores {
-        fronts[source as usize] = front_at(reduced, cores, target, source, 0);
+        let front = front_at(reduced, cores, target, source, 0);
+        fronts.put(source, front);
     }
     fronts
 }
 
-/// The first core of those whose fronts are the least; none where all lists are at their ends.
-fn least(cores: u8, fronts: &[u64; PLACES]) -> Option<u8>
-    requires few { cores ≤ CORES_MAX }
-    ensures least { IfSome result (λ source. IsLeast cores fronts.now source) }
-    ensures none { IfNone result ((source : ℕ) → source < cores → PAST ≤ slice_index fronts.now source) }
-{
-    let mut least = PAST;
-    let mut first = 0;
-    for source in 0..cores {
-        let front = fronts[source as usize];
-        if front < least {
-            least = front;
-            first = source;
-        }
-    }
-    if least < PAST { Some(first) } else { None }
-}
-
 /// The first in order of the edges that are left, where `next` has the place of each source core's
-/// next edge, and `fronts` the target's count of it.
+/// next edge, and `fronts` the key of it.
 fn first_left(
     reduced: &[Items<(u32, u32)>],
     cores: u8,
     target: u8,
     next: &[usize; PLACES],
-    fronts: &[u64; PLACES],
+    fronts: &Fronts,
 ) -> Option<Incoming>
     requires few { cores ≤ CORES_MAX }
     requires pairs { length reduced.now ≡ pair_count cores }
@@ -102,7 +83,7 @@ fn first_left(
         slice_get (left cores reduced.now target next.now source) 0
         ≡ None) }
 {
-    let source = least(cores, fronts)?;
+    let source = fronts.least()?;
     let counts = edge_at(reduced, cores, target, source, next[source as usize])?;
     Some(Incoming { source, counts })
 }
@@ -164,7 +145,8 @@ fn put_into(
             put_incoming(out, last, &counts, edge)?;
             let source = edge.source as usize;
             next[source] += 1;
-            fronts[source] = front_at(reduced, cores, target, edge.source, next[source]);
+            let front = front_at(reduced, cores, target, edge.source, next[source]);
+            fronts.put(edge.source, front);
             counts[source] = edge.counts.0;
             last = Some(edge);
         }

@@ -10,5 +10,5 @@ returns-clause-first c =
     let next = next-at (edges_out_of c.args.cores c.args.reduced.now c.args.target source)
     (slice_index c.args.next.now source) ∙ sym c.edge_at.ensures in
     first-is c.args.cores (left c.args.cores c.args.reduced.now c.args.target c.args.next.now) c.args.fronts.now source
-    c.in_ok-counts.counts c.requires.fronts
+    c.in_ok-counts.counts c.requires.few c.requires.fronts
     c.in_ok-source.ensures.least (next ∙ c.in_ok-counts.was)
