@@ -1,7 +1,6 @@
 pub mod Steps
 pub mod Limits
 pub mod InTurn
-pub mod Tops
 pub mod Merges
 pub mod Ordered
 pub mod NextEdges

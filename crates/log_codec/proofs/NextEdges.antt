@@ -1,5 +1,5 @@
 -- The next edge in order is the first of those that the cores have next, and what is left is merged_edges the same way.
-use Rattle.std.proofs.Common.{◌≡◌, ◌≢◌, ℕ, zero, suc, ◌+◌, ◌<◌, ◌≤◌, inl, inr, true, false, ◌==◌, List, [], ◌∷◌, ◌++◌}
+use Rattle.std.proofs.Common.{◌≡◌, ◌≢◌, ℕ, zero, suc, ◌+◌, ◌*◌, ◌%◌, ◌<◌, ◌≤◌, inl, inr, true, false, ◌==◌, List, [], ◌∷◌, ◌++◌}
 use Rattle.std.proofs.Common.{length, map}
 use Rattle.std.proofs.Common.{drop, set, Option, Some, None, refl, sym, ap, subst, ◌∙◌, arith}
 use Rattle.std.specs.Prelude.{slice_get, slice_index}
@@ -10,19 +10,46 @@ use Rattle.std.proofs.lemmas.List.{drop-drop, length-append, length-map, length-
 use Rattle.rtr_types.specs.declared.TheConstants.{CORES_MAX}
 use Rattle.log_codec.specs.declared.incoming.Incoming.{Incoming}
 use Rattle.log_codec.specs.declared.fronts.TheConstants.{PAST}
-use Rattle.log_codec.specs.Incoming.{AreFronts, Follows, IsFirst, IsFront, IsLeast, Keeps, edges_out_of, from_source}
+use Rattle.log_codec.specs.Incoming.{Follows, IsFirst, Keeps, edges_out_of, from_source}
 use Rattle.log_codec.specs.Incoming.{incoming, is_earlier}
 use Rattle.log_codec.specs.Incoming.{last_target, left, merged_edges, newest, target_of}
+use Rattle.log_codec.specs.Fronts.{AreFronts, IsFront, IsLeast}
 use Rattle.log_codec.proofs.Merges.{Merges, Reaches, Rises, Sorted, all-map, else-reaches, from_same, from_other}
 use Rattle.log_codec.proofs.Merges.{merge-is, merged-merges}
 use Rattle.log_codec.proofs.Ordered.{all-from}
 
 -- ---- the first of the next ones
 
--- the front of a list that has an edge left
-front-some : (next : Option (ℕ × ℕ)) (counts : ℕ × ℕ) (front : ℕ) → IsFront next front → next ≡ Some counts →
-    (front ≡ counts.1) × (front < PAST)
-front-some next counts front h is = subst (λ (o : Option (ℕ × ℕ)). IsFront o front) is h
+-- the key of a list that has an edge left
+front-some : (source : ℕ) (next : Option (ℕ × ℕ)) (counts : ℕ × ℕ) (key : ℕ) → IsFront source next key →
+    next ≡ Some counts → (key ≡ counts.1 * CORES_MAX + source) × (key < PAST)
+front-some source next counts key h is = subst (λ (o : Option (ℕ × ℕ)). IsFront source o key) is h
+
+-- a list without a key has no edge left
+front-none : (source : ℕ) (next : Option (ℕ × ℕ)) (key : ℕ) → IsFront source next key → PAST ≤ key → next ≡ None
+front-none source None key h past = refl
+front-none source (Some counts) key h past = let less = h.1 in absurd (omega arith)
+
+pub none-left : (cores : ℕ) (lists : ℕ → List (ℕ × ℕ)) (keys : List ℕ) → cores ≤ CORES_MAX → AreFronts cores lists keys →
+    ((source : ℕ) → source < CORES_MAX → PAST ≤ slice_index keys source) → (source : ℕ) → source < cores →
+    slice_get (lists source) 0 ≡ None
+none-left cores lists keys few f none source lt =
+    front-none source (slice_get (lists source) 0) (slice_index keys source) (f.each source lt)
+    (none source (omega arith))
+
+-- a key ends with its core
+pub front-own : (source : ℕ) (next : Option (ℕ × ℕ)) (key : ℕ) → source < CORES_MAX → IsFront source next key →
+    (key ≤ PAST) × (key < PAST → key % CORES_MAX ≡ source)
+front-own source None key lt h = (omega arith, λ less. absurd (omega arith))
+front-own source (Some counts) key lt h = let is = h.0 in let less = h.1 in (omega arith, λ less. omega arith)
+
+-- a core that has a key is one of these
+pub least-inside : (cores : ℕ) (lists : ℕ → List (ℕ × ℕ)) (keys : List ℕ) (source : ℕ) → AreFronts cores lists keys →
+    IsLeast keys source → source < cores
+least-inside cores lists keys source f l = elim (cases_lt source cores) [
+  | inl less ↦ less
+  | inr le ↦ let past = f.past source le l.inside in let some = l.some in absurd (omega arith)
+]
 
 never-earlier : (d e : Incoming) → Reaches e d → is_earlier d e ≡ false
 never-earlier d e r = let rc = r.count in let core = r.core in elim (cases_eq d.counts.1 e.counts.1) [
@@ -30,25 +57,21 @@ never-earlier d e r = let rc = r.count in let core = r.core in elim (cases_eq d.
   | inr not ↦ grind (arith, nat_tests)
 ]
 
--- the next edge of the first core whose front is the least
-pub first-is : (cores : ℕ) (lists : ℕ → List (ℕ × ℕ)) (fronts : List ℕ) (source : ℕ) (counts : ℕ × ℕ) →
-    AreFronts cores lists fronts →
-    IsLeast cores fronts source → slice_get (lists source) 0 ≡ Some counts →
+-- the next edge of the core whose key is the least
+pub first-is : (cores : ℕ) (lists : ℕ → List (ℕ × ℕ)) (keys : List ℕ) (source : ℕ) (counts : ℕ × ℕ) →
+    cores ≤ CORES_MAX → AreFronts cores lists keys → IsLeast keys source → slice_get (lists source) 0 ≡ Some counts →
     IsFirst cores lists (incoming source counts)
-first-is cores lists fronts source counts f l own = record {
-  inside = l.inside;
+first-is cores lists keys source counts few f l own = let inside = least-inside cores lists keys source f l in record {
+  inside = inside;
   own = own;
   first = λ other others lt is.
-      let mine = front-some (slice_get (lists source) 0) counts (slice_index fronts source) (f.each source l.inside) own
-      in
-      let theirs = front-some (slice_get (lists other) 0) others (slice_index fronts other) (f.each other lt) is in
-      let le = l.least other lt in
+      let mine = front-some source (slice_get (lists source) 0) counts (slice_index keys source)
+      (f.each source inside) own in
+      let theirs = front-some other (slice_get (lists other) 0) others (slice_index keys other) (f.each other lt) is in
+      let le = l.least other (omega arith) in
       never-earlier (incoming other others) (incoming source counts) (record {
-        count = omega (arith, mine.0, theirs.0, le);
-        core = λ same. elim (cases_lt other source) [
-          | inl lower ↦ let up = l.first other lower in absurd (omega (arith, mine.0, theirs.0, up, same))
-          | inr reached ↦ reached
-        ];
+        count = omega (arith, mine.0, theirs.0, le, inside, few, lt);
+        core = λ same. omega (arith, mine.0, theirs.0, le, same, inside, few, lt);
       });
 }
 
@@ -169,15 +192,15 @@ left-other cores reduced target next i n k not =
 -- ---- the fronts
 
 -- the front at a place of a list is that of what is left from there on
-pub front-left : (counts : List (ℕ × ℕ)) (n front : ℕ) → IsFront (slice_get counts n) front →
-    IsFront (slice_get (drop n counts) 0) front
-front-left counts n front h = subst (λ (o : Option (ℕ × ℕ)). IsFront o front) (sym (next-at counts n)) h
+pub front-left : (source : ℕ) (counts : List (ℕ × ℕ)) (n front : ℕ) → IsFront source (slice_get counts n) front →
+    IsFront source (slice_get (drop n counts) 0) front
+front-left source counts n front h = subst (λ (o : Option (ℕ × ℕ)). IsFront source o front) (sym (next-at counts n)) h
 
 -- the fronts where a core's next edge is at another place
 pub fronts-step : (cores : ℕ) (reduced : List (List (ℕ × ℕ))) (target : ℕ) (next fronts : List ℕ) (i n front : ℕ) →
     cores ≤ CORES_MAX → i < cores →
     AreFronts cores (left cores reduced target next) fronts →
-    IsFront (slice_get (edges_out_of cores reduced target i) (slice_index (set next i n) i)) front
+    IsFront i (slice_get (edges_out_of cores reduced target i) (slice_index (set next i n) i)) front
     → AreFronts cores (left cores reduced target (set next i n)) (set fronts i front)
 fronts-step cores reduced target next fronts i n front few inside h is = record {
   places = length-set fronts i front ∙ h.places;
@@ -185,36 +208,18 @@ fronts-step cores reduced target next fronts i n front few inside h is = record 
     | inl same ↦
         let own : slice_index (set fronts i front) i ≡ front =
         get_or-set_same fronts i front 0 (let places = h.places in omega arith) in
-        subst (λ (k : ℕ). IsFront (slice_get (left cores reduced target (set next i n) k) 0)
+        subst (λ (k : ℕ). IsFront k (slice_get (left cores reduced target (set next i n) k) 0)
         (slice_index (set fronts i front) k)) (sym same)
-        (subst (IsFront (slice_get (left cores reduced target (set next i n) i) 0)) (sym own)
-        (front-left (edges_out_of cores reduced target i) (slice_index (set next i n) i) front is))
+        (subst (IsFront i (slice_get (left cores reduced target (set next i n) i) 0)) (sym own)
+        (front-left i (edges_out_of cores reduced target i) (slice_index (set next i n) i) front is))
     | inr not ↦
-        subst (IsFront (slice_get (left cores reduced target (set next i n) source) 0))
+        subst (IsFront source (slice_get (left cores reduced target (set next i n) source) 0))
         (sym (get_or-set_other fronts i source front 0 not))
-        (subst (λ (l : List (ℕ × ℕ)). IsFront (slice_get l 0) (slice_index fronts source))
+        (subst (λ (l : List (ℕ × ℕ)). IsFront source (slice_get l 0) (slice_index fronts source))
         (sym (left-other cores reduced target next i n source not))
         (h.each source lt))
   ];
-  others = λ source past there.
-      get_or-set_other fronts i source front 0 (λ same. omega (arith, inside, past, same))
-      ∙ h.others source past there;
-}
-
--- the least of all fronts is that of one of the lists
-pub least-within : (cores : ℕ) (lists : ℕ → List (ℕ × ℕ)) (fronts : List ℕ) (source : ℕ) → cores ≤ CORES_MAX →
-    AreFronts cores lists fronts → IsLeast CORES_MAX fronts source → IsLeast cores fronts source
-least-within cores lists fronts source few f l = record {
-  inside = elim (cases_lt source cores) [
-    | inl lt ↦ lt
-    | inr past ↦
-        let none = f.others source past l.inside in
-        let some = l.some in
-        absurd (omega (arith, none, some))
-  ];
-  some = l.some;
-  least = λ other lt. l.least other (omega (arith, lt, few));
-  first = l.first;
+  past = λ source le lt. get_or-set_other fronts i source front 0 (λ same. absurd (omega arith)) ∙ h.past source le lt;
 }
 
 -- ---- what is kept

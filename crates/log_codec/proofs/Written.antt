@@ -6,7 +6,8 @@ use Rattle.std.specs.Prelude.{slice_get, slice_index}
 use Rattle.std.proofs.lemmas.List.{append-nil, length-replicate, length-set, nil_from_length}
 use Rattle.rtr_types.specs.declared.TheConstants.{CORES_MAX}
 use Rattle.log_codec.specs.declared.incoming.Incoming.{Incoming}
-use Rattle.log_codec.specs.Incoming.{AreFronts, IncomingRises, IsFirst, IsFront, Keeps, edges_out_of, incoming_edges}
+use Rattle.log_codec.specs.Fronts.{AreFronts, IsFront}
+use Rattle.log_codec.specs.Incoming.{IncomingRises, IsFirst, Keeps, edges_out_of, incoming_edges}
 use Rattle.log_codec.specs.Incoming.{last_source, last_target, left, merged_edges, remember}
 use Rattle.log_codec.specs.Incoming.{target_of}
 use Rattle.log_codec.specs.Spelling.{incoming_text, number}
@@ -43,9 +44,9 @@ pub fronts-start : (cores : ℕ) (reduced : List (List (ℕ × ℕ))) (target : 
     AreFronts cores (left cores reduced target (replicate CORES_MAX 0)) fronts
 fronts-start cores reduced target fronts h = record {
   places = h.places;
-  each = λ source lt. subst (λ (l : List (ℕ × ℕ)). IsFront (slice_get l 0) (slice_index fronts source))
+  each = λ source lt. subst (λ (l : List (ℕ × ℕ)). IsFront source (slice_get l 0) (slice_index fronts source))
       (sym (all-left cores reduced target CORES_MAX source)) (h.each source lt);
-  others = h.others;
+  past = h.past;
 }
 
 left-rises : (cores : ℕ) (reduced : List (List (ℕ × ℕ))) (target : ℕ) (next : List ℕ) → target < cores →

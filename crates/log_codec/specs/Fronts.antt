@@ -1,21 +1,36 @@
--- The keys by which the least of the fronts is found: a front times the number of cores that there may be, and the
--- source whose front it is.
-use Rattle.std.specs.Prelude.{◌≡◌, ℕ, ◌*◌, ◌+◌, ◌%◌, ◌<◌, ◌≤◌, List, length, slice_index}
+-- The next edges of the lists that are merged, each as one number, its key.
+use Rattle.std.specs.Prelude.{◌≡◌, ℕ, ◌+◌, ◌*◌, ◌/◌, ◌%◌, ◌<◌, ◌≤◌, List, Option, None, Some, length, slice_get}
+use Rattle.std.specs.Prelude.{slice_index}
 use Rattle.rtr_types.specs.declared.TheConstants.{CORES_MAX}
+use Rattle.log_codec.specs.declared.fronts.TheConstants.{GROUP, PAST}
 
--- a key in each place, each with its place's number in it
+-- the key of a list's next edge is the target's count of it and then the list's source core, or is above each key
+abbrev pub IsFront : (source : ℕ) → Option (ℕ × ℕ) → ℕ → Type 0
+IsFront source None key = key ≡ PAST
+IsFront source (Some counts) key = (key ≡ counts.1 * CORES_MAX + source) × (key < PAST)
+
+-- the keys of the cores' lists; other cores have none
+pub record AreFronts (cores : ℕ) (lists : ℕ → List (ℕ × ℕ)) (keys : List ℕ) : Type 0 where
+  pub places : length keys ≡ CORES_MAX
+  pub each : (source : ℕ) → source < cores → IsFront source (slice_get (lists source) 0) (slice_index keys source)
+  pub past : (source : ℕ) → cores ≤ source → source < CORES_MAX → slice_index keys source ≡ PAST
+
+-- the core has an edge, and no core's key is less
+pub record IsLeast (keys : List ℕ) (source : ℕ) : Type 0 where
+  pub inside : source < CORES_MAX
+  pub some : slice_index keys source < PAST
+  pub least : (other : ℕ) → other < CORES_MAX → slice_index keys source ≤ slice_index keys other
+
+-- ---- how they are kept
+
+-- each key ends with its own core
 pub record AreKeys (keys : List ℕ) : Type 0 where
   pub places : length keys ≡ CORES_MAX
-  pub named : (source : ℕ) → source < CORES_MAX → slice_index keys source % CORES_MAX ≡ source
+  pub most : (source : ℕ) → source < CORES_MAX → slice_index keys source ≤ PAST
+  pub own : (source : ℕ) → source < CORES_MAX → slice_index keys source < PAST →
+      slice_index keys source % CORES_MAX ≡ source
 
--- the key is the least of those in the places from `low` up to `high`, and lies in one of them
-pub record IsTop (keys : List ℕ) (low high key : ℕ) : Type 0 where
-  pub from : low ≤ key % CORES_MAX
-  pub below : key % CORES_MAX < high
-  pub is : slice_index keys (key % CORES_MAX) ≡ key
-  pub least : (other : ℕ) → low ≤ other → other < high → key ≤ slice_index keys other
-
--- the least of each four keys
-pub record AreTops (keys tops : List ℕ) : Type 0 where
-  pub places : length tops ≡ 4
-  pub each : (four : ℕ) → four < 4 → IsTop keys (4 * four) (4 * four + 4) (slice_index tops four)
+-- the least key in a group of cores, which is the key of one of them
+pub record IsGroupLeast (keys : List ℕ) (group least : ℕ) : Type 0 where
+  pub lower : (source : ℕ) → source < CORES_MAX → source / GROUP ≡ group → least ≤ slice_index keys source
+  pub own : least < PAST → (least % CORES_MAX / GROUP ≡ group) × (slice_index keys (least % CORES_MAX) ≡ least)

@@ -6,7 +6,6 @@ use Rattle.std.specs.List.{filter, flat_map, range_with_len}
 use Rattle.rtr_types.specs.declared.TheConstants.{CORES_MAX}
 use Rattle.rtr_types.specs.Pairs.{IsPair, pair_count, pair_place, source_at, target_at}
 use Rattle.log_codec.specs.declared.incoming.Incoming.{Incoming}
-use Rattle.log_codec.specs.declared.fronts.TheConstants.{PAST}
 use Rattle.race_log.specs.Validity.{IsListed}
 
 -- ---- by target
@@ -144,26 +143,6 @@ pub record IsFirst (cores : ℕ) (lists : ℕ → List (ℕ × ℕ)) (e : Incomi
   pub own : slice_get (lists e.source) 0 ≡ Some e.counts
   pub first : (source : ℕ) (counts : ℕ × ℕ) → source < cores → slice_get (lists source) 0 ≡ Some counts →
       is_earlier (incoming source counts) e ≡ false
-
--- ---- the fronts of the lists that are merged
-
--- the front of a list is the target's count of its next edge, or is above each count
-abbrev pub IsFront : Option (ℕ × ℕ) → ℕ → Type 0
-IsFront None front = front ≡ PAST
-IsFront (Some counts) front = (front ≡ counts.1) × (front < PAST)
-
--- the fronts of the cores' lists; past all counts in the places of no core
-pub record AreFronts (cores : ℕ) (lists : ℕ → List (ℕ × ℕ)) (fronts : List ℕ) : Type 0 where
-  pub places : length fronts ≡ CORES_MAX
-  pub each : (source : ℕ) → source < cores → IsFront (slice_get (lists source) 0) (slice_index fronts source)
-  pub others : (source : ℕ) → cores ≤ source → source < CORES_MAX → slice_index fronts source ≡ PAST
-
--- no core's front is less, and no core before it has the same
-pub record IsLeast (cores : ℕ) (fronts : List ℕ) (source : ℕ) : Type 0 where
-  pub inside : source < cores
-  pub some : slice_index fronts source < PAST
-  pub least : (other : ℕ) → other < cores → slice_index fronts source ≤ slice_index fronts other
-  pub first : (other : ℕ) → other < source → slice_index fronts source < slice_index fronts other
 
 -- ---- what can be written
 

@@ -1,8 +1,8 @@
 pub mod Faults
 pub mod Turns
 pub mod Versions
-pub mod Fronts
 pub mod Incoming
+pub mod Fronts
 pub mod Spelling
 pub mod Reading
 pub mod CoreCounts

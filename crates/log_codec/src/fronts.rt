@@ -1,122 +1,105 @@
-//! The fronts of the lists that are merged, of which the least is found by comparing few.
-ghost use Rattle.std.specs.Prelude.{◌≡◌, ℕ, List, ◌*◌, ◌+◌, ◌/◌, ◌<◌, ◌≤◌, ◌⊎◌, IfNone, IfSome, length, slice_index};
+//! The next edges of the lists that are merged, by source core, and which of them comes first.
+ghost use Rattle.std.specs.Prelude.{◌≡◌, ℕ, ◌<◌, ◌≤◌, ◌+◌, ◌*◌, ◌%◌, ◌⊎◌, IfNone, IfSome, replicate, slice_index};
 ghost use Rattle.std.specs.Prelude.{slice_set};
-ghost use Rattle.log_codec.specs.Fronts.{AreKeys, AreTops, IsTop};
-ghost use Rattle.log_codec.specs.Incoming.{IsLeast};
 ghost use Rattle.rtr_types.specs.declared.TheConstants.{CORES_MAX};
+ghost use Rattle.log_codec.specs.Fronts.{AreKeys, IsGroupLeast, IsLeast};
 
 use crate::incoming::PLACES;
 use rtr_types::CORES_MAX;
 use std::marker::Model;
 
-/// Above each count of an instruction.
-pub(crate) const PAST: u64 = 1 << 32;
+/// Above each key.
+pub(crate) const PAST: u64 = (1 << 32) * PLACES as u64;
 
-/// How many fours of keys there are.
-const FOURS: usize = PLACES / 4;
+/// How many cores are in a group.
+pub(crate) const GROUP: usize = 4;
+
+/// How many groups there are.
+pub(crate) const GROUPS: usize = PLACES / GROUP;
+
+/// The target's count of an edge and its source core as one number: the least key is that of the edge which comes
+/// first.
+pub(crate) fn key(count: u32, source: u8) -> u64
+    ensures { result ≡ count * CORES_MAX + source }
+{
+    count as u64 * PLACES as u64 + source as u64
+}
+
+/// The key of each source core's next edge, `PAST` where it has none, and the least one in each group of cores, so
+/// that the least of all is found among few. Contracts see the keys.
+#[derive(Drop)]
+pub(crate) struct Fronts {
+    keys: [u64; PLACES],
+    least: [u64; GROUPS],
+}
+
+impl Model for Fronts {
+    ghost use Rattle.std.specs.Prelude.{◌≡◌, ℕ, ◌<◌, List, length, slice_index};
+    ghost use Rattle.log_codec.specs.Fronts.{AreKeys, IsGroupLeast};
+    ghost use Rattle.log_codec.specs.declared.fronts.TheConstants.{GROUPS};
+
+    ghost Value = { List ℕ };
+
+    ghost view = { λ a. a.keys };
+
+    ghost invariant = { λ a. AreKeys a.keys × (length a.least ≡ GROUPS)
+        × ((group : ℕ) → group < GROUPS → IsGroupLeast a.keys group (slice_index a.least group)) };
+}
 
 /// The lesser of two keys.
 fn lesser(a: u64, b: u64) -> u64
-    ensures { ((result ≡ a) × (a ≤ b)) ⊎ ((result ≡ b) × (b < a)) }
+    ensures first { result ≤ a }
+    ensures second { result ≤ b }
+    ensures one { (result ≡ a) ⊎ (result ≡ b) }
 {
     if b < a { b } else { a }
 }
 
-/// The least of four keys that lie side by side.
-fn top_of_four(keys: &[u64; PLACES], four: usize) -> u64
-    requires four { four < FOURS }
+/// The least key in a group.
+fn least_in(keys: &[u64; PLACES], group: u8) -> u64
+    requires group { group < GROUPS }
     requires keys { AreKeys keys.now }
-    ensures { IsTop keys.now (4 * four) (4 * four + 4) result }
+    ensures { IsGroupLeast keys.now group result }
 {
-    let place = 4 * four;
-    let low = lesser(keys[place], keys[place + 1]);
-    let high = lesser(keys[place + 2], keys[place + 3]);
+    let at = group as usize * GROUP;
+    let low = lesser(keys[at], keys[at + 1]);
+    let high = lesser(keys[at + 2], keys[at + 3]);
     lesser(low, high)
-}
-
-/// The least of all keys, by the least of each four.
-fn top(tops: &[u64; FOURS]) -> u64
-    ensures { (keys : List ℕ) → AreTops keys tops.now → IsTop keys 0 CORES_MAX result }
-{
-    let low = lesser(tops[0], tops[1]);
-    let high = lesser(tops[2], tops[3]);
-    lesser(low, high)
-}
-
-/// The keys where each front is `PAST`.
-fn past_keys() -> [u64; PLACES]
-    ensures keys { AreKeys result }
-    ensures past { (source : ℕ) → source < CORES_MAX → slice_index result source / CORES_MAX ≡ PAST }
-{
-    let mut keys = [0; PLACES];
-    for source in 0..CORES_MAX {
-        keys[source as usize] = PAST * PLACES as u64 + source as u64;
-    }
-    keys
-}
-
-/// The least of each four.
-fn tops_of(keys: &[u64; PLACES]) -> [u64; FOURS]
-    requires { AreKeys keys.now }
-    ensures { AreTops keys.now result }
-{
-    let mut tops = [0; FOURS];
-    for four in 0..FOURS {
-        tops[four] = top_of_four(keys, four);
-    }
-    tops
-}
-
-/// The front of each source's list. Each is kept as a key, which orders fronts, and at one front sources, and the
-/// least of each four keys is kept beside them. So the least of all is found by comparing few.
-#[derive(Drop)]
-pub(crate) struct Fronts {
-    keys: [u64; PLACES],
-    tops: [u64; FOURS],
-}
-
-impl Model for Fronts {
-    ghost use Rattle.std.specs.Prelude.{ℕ, List, ◌/◌, map};
-    ghost use Rattle.log_codec.specs.Fronts.{AreKeys, AreTops};
-    ghost use Rattle.rtr_types.specs.declared.TheConstants.{CORES_MAX};
-
-    ghost Value = { List ℕ };
-
-    ghost view = { λ a. map (λ key. key / CORES_MAX) a.keys };
-
-    ghost invariant = { λ a. AreKeys a.keys × AreTops a.keys a.tops };
 }
 
 impl Fronts {
-    /// Each front is `PAST`.
-    pub(crate) fn past() -> Fronts
-        ensures places { length result ≡ CORES_MAX }
-        ensures past { (source : ℕ) → source < CORES_MAX → slice_index result source ≡ PAST }
+    /// No core has an edge.
+    pub(crate) fn new() -> Fronts
+        ensures { result ≡ replicate CORES_MAX PAST }
     {
-        let keys = past_keys();
-        let tops = tops_of(&keys);
-        Fronts { keys, tops }
+        Fronts {
+            keys: [PAST; PLACES],
+            least: [PAST; GROUPS],
+        }
     }
 
-    /// From now on this is the front of the source's list.
-    pub(crate) fn put(&mut self, source: u8, front: u64)
+    /// Puts the key of a core's next edge down.
+    pub(crate) fn put(&mut self, source: u8, key: u64)
         requires source { source < CORES_MAX }
-        requires front { front ≤ PAST }
-        ensures { self.new ≡ slice_set self.old source front }
+        requires most { key ≤ PAST }
+        requires own { key < PAST → key % CORES_MAX ≡ source }
+        ensures { self.new ≡ slice_set self.old source key }
     {
-        self.keys[source as usize] = front * PLACES as u64 + source as u64;
-        let four = source as usize / 4;
-        self.tops[four] = top_of_four(&self.keys, four);
+        self.keys[source as usize] = key;
+        let group = source / GROUP as u8;
+        self.least[group as usize] = least_in(&self.keys, group);
     }
 
-    /// The first source of those whose fronts are the least; none where each is `PAST`.
+    /// The core whose next edge comes first; none where no core has one.
     pub(crate) fn least(&self) -> Option<u8>
-        ensures least { IfSome result (λ source. IsLeast CORES_MAX self.now source) }
+        ensures least { IfSome result (λ source. IsLeast self.now source) }
         ensures none { IfNone result ((source : ℕ) → source < CORES_MAX → PAST ≤ slice_index self.now source) }
     {
-        let key = top(&self.tops);
-        if key < PAST * PLACES as u64 {
-            Some((key % PLACES as u64) as u8)
+        let low = lesser(self.least[0], self.least[1]);
+        let high = lesser(self.least[2], self.least[3]);
+        let least = lesser(low, high);
+        if least < PAST {
+            Some((least % PLACES as u64) as u8)
         } else {
             None
         }

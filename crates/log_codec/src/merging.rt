@@ -3,12 +3,11 @@ ghost use Rattle.std.specs.Prelude.{◌≡◌, ℕ, ◌-◌, ◌<◌, ◌≤◌,
 ghost use Rattle.std.specs.Prelude.{OnOk};
 ghost use Rattle.rtr_types.specs.Pairs.{pair_count};
 ghost use Rattle.rtr_types.specs.declared.TheConstants.{CORES_MAX};
-ghost use Rattle.log_codec.specs.Incoming.{AreFronts, IsFirst, IsFront, edges_out_of, incoming_edges, left};
-ghost use Rattle.log_codec.specs.Incoming.{target_of};
+ghost use Rattle.log_codec.specs.Incoming.{IsFirst, IsLog, edges_out_of, incoming_edges, left, target_of};
+ghost use Rattle.log_codec.specs.Fronts.{AreFronts, IsFront};
 ghost use Rattle.log_codec.specs.Spelling.{into_text, number, targets_text};
-ghost use Rattle.log_codec.specs.Incoming.{IsLog};
 
-use crate::fronts::{Fronts, PAST};
+use crate::fronts::{Fronts, PAST, key};
 use crate::incoming::{Incoming, PLACES, target_of};
 use crate::targets::target_count;
 use rtr_types::{CORES_MAX, Items, pair_at};
@@ -37,35 +36,37 @@ fn edge_at(
         .copied()
 }
 
-/// The front of a list, which is the target's count of the edge at its place; `PAST` at the list's end.
+/// The key of the edge at a place of a list; `PAST` at the list's end.
 fn front_at(reduced: &[Items<(u32, u32)>], cores: u8, target: u8, source: u8, place: usize) -> u64
+    requires few { cores ≤ CORES_MAX }
     requires pairs { length reduced.now ≡ pair_count cores }
     requires source { source < cores }
     requires target { target < cores }
-    ensures { IsFront (slice_get (edges_out_of cores reduced.now target source) place) result }
+    ensures { IsFront source (slice_get (edges_out_of cores reduced.now target source) place) result }
 {
     match edge_at(reduced, cores, target, source, place) {
-        Some((_, count)) => count as u64,
+        Some((_, count)) => key(count, source),
         None => PAST,
     }
 }
 
-/// The front of each source core's list.
+/// The key of each source core's first edge.
 fn first_fronts(reduced: &[Items<(u32, u32)>], cores: u8, target: u8) -> Fronts
     requires few { cores ≤ CORES_MAX }
     requires pairs { length reduced.now ≡ pair_count cores }
     requires target { target < cores }
     ensures { AreFronts cores (edges_out_of cores reduced.now target) result }
 {
-    let mut fronts = Fronts::past();
+    let mut fronts = Fronts::new();
     for source in 0..cores {
-        fronts.put(source, front_at(reduced, cores, target, source, 0));
+        let front = front_at(reduced, cores, target, source, 0);
+        fronts.put(source, front);
     }
     fronts
 }
 
 /// The first in order of the edges that are left, where `next` has the place of each source core's
-/// next edge, and `fronts` the target's count of it.
+/// next edge, and `fronts` the key of it.
 fn first_left(
     reduced: &[Items<(u32, u32)>],
     cores: u8,
@@ -144,10 +145,8 @@ fn put_into(
             put_incoming(out, last, &counts, edge)?;
             let source = edge.source as usize;
             next[source] += 1;
-            fronts.put(
-                edge.source,
-                front_at(reduced, cores, target, edge.source, next[source]),
-            );
+            let front = front_at(reduced, cores, target, edge.source, next[source]);
+            fronts.put(edge.source, front);
             counts[source] = edge.counts.0;
             last = Some(edge);
         }

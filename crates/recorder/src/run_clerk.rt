@@ -94,11 +94,14 @@ impl RunClerk {
         self.regulator.ready()
     }
 
-    /// Tells the regulator the edges of the last retirement.
+    /// Tells the regulator the edges of the last retirement. Most steps leave none, so that is asked first.
     pub(crate) fn tell(&mut self)
         requires { CanTell self.old }
         ensures { IsTold self.old self.new }
     {
+        if self.untold.as_slice().is_empty() {
+            return;
+        }
         self.regulator.edges(self.untold.as_slice());
         self.untold.clear();
     }

@@ -1,14 +1,18 @@
 -- One list is changed, or gets room.
 use Rattle.std.proofs.Common.{◌≡◌, ◌≢◌, ℕ, ◌+◌, ◌<◌, ◌≤◌, Bool, true, false, ◌&&◌, List, [], ◌∷◌, length, take, get_or}
-use Rattle.std.proofs.Common.{sym, ap, subst, ◌∙◌, arith, zero}
+use Rattle.std.proofs.Common.{inl, inr, refl, sym, ap, subst, ◌∙◌, arith, zero}
 use Rattle.std.proofs.Common.{suc, IsTrue}
 use Rattle.std.specs.Prelude.{map, slice_set}
 use Rattle.std.proofs.lemmas.List.{get_or-map, get_or-set_other, length-set, map-set, take_all, take_more_set}
 use Rattle.std.proofs.lemmas.List.Folds.{list_all-append}
 use Rattle.std.proofs.Math.Seq.{map-set_same}
-use Rattle.std.proofs.lemmas.Bool.{and_from}
-use Rattle.roomy_lists.specs.Lists.{Listed, are_ready, is_ready_at, items_at, items_in}
+use Rattle.std.proofs.lemmas.Bool.{and_from, cases_eq}
+use Rattle.roomy_lists.specs.Lists.{Listed, OthersReady, are_ready, is_ready_at, items_at, items_in}
 use Rattle.rtr_types.proofs.Truths.{is_true, true_is, both_true, first_true, second_true}
+
+-- nothing is known
+pub unknown : (b : Bool) → IsTrue false → IsTrue b
+unknown b none = cc
 
 module _ {T : Type 0} where
   abbrev pub items_of : Listed T → List T
@@ -21,6 +25,10 @@ module _ {T : Type 0} where
   pub found : (all : List (Listed T)) (i : ℕ) (old : Listed T) → i < length all → old ≡ get_or all i old →
       old.items ≡ items_at all i
   found all i old within is = ap items_of is ∙ sym (get_or-map items_of all i old [] within)
+
+  pub found_ready : (all : List (Listed T)) (i : ℕ) (old : Listed T) → i < length all → old ≡ get_or all i old →
+      old.ready ≡ is_ready_at all i
+  found_ready all i old within is = ap ready_of is ∙ sym (get_or-map ready_of all i old false within)
 
   -- one list's items change
   pub changed : (all : List (Listed T)) (i : ℕ) (new : Listed T) (list : List T) → new.items ≡ list →
@@ -76,13 +84,6 @@ module _ {T : Type 0} where
       both_true l.ready (are_ready (slice_set all i new)) (first_true l.ready (are_ready all) before)
       (still_ready all i new (second_true l.ready (are_ready all) before) has)
 
-  -- what is known of the rooms after an item was put at the end of one list
-  pub known_after : (all : List (Listed T)) (i : ℕ) (new : Listed T) (known ready : Bool) →
-      (IsTrue known → IsTrue (are_ready all)) → ready ≡ new.ready →
-      IsTrue (known && ready) → IsTrue (are_ready (slice_set all i new))
-  known_after all i new known ready before is both =
-      still_ready all i new (before (first_true known ready both)) (subst IsTrue is (second_true known ready both))
-
   -- where one list's room stays, what is known of all does
   pub known_still : (all : List (Listed T)) (i : ℕ) (old new : Listed T) → old ≡ get_or all i old →
       new.ready ≡ old.ready → IsTrue (are_ready all) →
@@ -103,3 +104,72 @@ module _ {T : Type 0} where
   ready_each (l ∷ all) zero before within = first_true l.ready (are_ready all) before
   ready_each (l ∷ all) (suc i) before within = ready_each all i (second_true l.ready (are_ready all) before)
       (omega arith)
+
+  ready_in : (all : List (Listed T)) → ((i : ℕ) → i < length all → IsTrue (is_ready_at all i)) → IsTrue (are_ready all)
+  ready_in [] each = refl
+  ready_in (l ∷ all) each =
+      both_true l.ready (are_ready all) (each 0 (omega arith)) (ready_in all (λ i lt. each (suc i) (omega arith)))
+
+  -- ---- where all lists but one have room
+
+  same_at : (all : List (Listed T)) (i : ℕ) (new : Listed T) → i < length all →
+      is_ready_at (slice_set all i new) i ≡ new.ready
+  same_at [] i new lt = absurd (omega arith)
+  same_at (l ∷ all) zero new lt = refl
+  same_at (l ∷ all) (suc i) new lt = same_at all i new (omega arith)
+
+  -- a list without room, where all had it, or all but this one
+  pub others_but : (all : List (Listed T)) (i : ℕ) (new : Listed T) →
+      ((k : ℕ) → k < length all → k ≢ i → IsTrue (is_ready_at all k)) → OthersReady (slice_set all i new) i
+  others_but all i new each = record {
+    each = λ k within lt apart. subst IsTrue (sym (ready_elsewhere all i k new apart))
+        (each k (omega (arith, lt, length-set all i new)) apart);
+  }
+
+  -- a list that has room now
+  pub others_more : (all : List (Listed T)) (i full : ℕ) (new : Listed T) → i < length all → IsTrue new.ready →
+      OthersReady all full → OthersReady (slice_set all i new) full
+  others_more all i full new inside has others = record {
+    each = λ k within lt apart. elim (cases_eq k i) [
+      | inl same ↦ subst (λ (n : ℕ). IsTrue (is_ready_at (slice_set all i new) n)) (sym same)
+          (subst IsTrue (sym (same_at all i new inside)) has)
+      | inr other ↦ subst IsTrue (sym (ready_elsewhere all i k new other))
+          (others.each k (omega (arith, within, length-set all i new)) (omega (arith, lt, length-set all i new)) apart)
+    ];
+  }
+
+  -- no place is known
+  pub others_none : (all : List (Listed T)) (full : ℕ) → length all ≤ full → OthersReady all full
+  others_none all full past = record { each = λ k within. absurd (omega arith) }
+
+  -- room for the one list is room for all
+  pub others_made : (all : List (Listed T)) (full : ℕ) (new : Listed T) → full < length all → IsTrue new.ready →
+      OthersReady all full → IsTrue (are_ready (slice_set all full new))
+  others_made all full new inside has others = ready_in (slice_set all full new) (λ k lt. elim (cases_eq k full) [
+    | inl same ↦ subst (λ (n : ℕ). IsTrue (is_ready_at (slice_set all full new) n)) (sym same)
+        (subst IsTrue (sym (same_at all full new inside)) has)
+    | inr other ↦ (others_more all full full new inside has others).each k
+        (omega (arith, inside, length-set all full new)) lt other
+  ])
+
+  -- and where that one has room, all have
+  pub others_tell : (all : List (Listed T)) (full : ℕ) (ready : Bool) → full < length all →
+      ready ≡ is_ready_at all full → OthersReady all full → ready ≡ are_ready all
+  others_tell all full true inside is others = sym (true_is (are_ready all)
+      (ready_in all (λ k lt. elim (cases_eq k full) [
+        | inl same ↦ subst (λ (n : ℕ). IsTrue (is_ready_at all n)) (sym same) (subst IsTrue is refl)
+        | inr other ↦ others.each k inside lt other
+      ])))
+  others_tell all full false inside is others = none (are_ready all) refl
+    where
+      none : (whole : Bool) → are_ready all ≡ whole → false ≡ are_ready all
+      none true ready = is ∙ ready_each all full ready inside ∙ sym ready
+      none false ready = sym ready
+
+  -- a list's room stays
+  pub others_still : (all more : List (Listed T)) (full : ℕ) → map ready_of more ≡ map ready_of all →
+      length more ≡ length all → OthersReady all full → OthersReady more full
+  others_still all more full same long others = record {
+    each = λ k within lt apart. subst (λ (bs : List Bool). IsTrue (get_or bs k false)) (sym same)
+        (others.each k (omega arith) (omega arith) apart);
+  }

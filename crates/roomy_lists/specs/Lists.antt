@@ -1,5 +1,5 @@
 -- Lists and their room.
-use Rattle.std.specs.Prelude.{ℕ, ◌-◌, Bool, false, List, [], ◌∷◌, ◌++◌, length, map, slice_index_or, slice_set}
+use Rattle.std.specs.Prelude.{◌≢◌, ℕ, ◌-◌, ◌<◌, Bool, IsTrue, false, List, [], ◌∷◌, ◌++◌, length, map, slice_index_or, slice_set}
 use Rattle.std.specs.List.{list_all}
 
 -- one list's items, and whether there is room for one more
@@ -22,6 +22,10 @@ module _ {T : Type 0} where
   -- each list has
   abbrev pub are_ready : List (Listed T) → Bool
   are_ready all = list_all (λ l. l.ready) all
+
+  -- each list but the one at this place has, if it is one of them
+  pub record OthersReady (all : List (Listed T)) (full : ℕ) : Type 0 where
+    pub each : (place : ℕ) → full < length all → place < length all → place ≢ full → IsTrue (is_ready_at all place)
 
   -- the list at this place has one more item at its end
   abbrev pub with_item : List (List T) → (place : ℕ) → T → List (List T)

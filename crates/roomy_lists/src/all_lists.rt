@@ -17,18 +17,21 @@ pub struct RoomyLists<T> {
     /// Set only where each list has room for one more item, so that this is looked up once and not at each
     /// step of a run.
     known_ready: bool,
+    /// The place of the one list that may lack room while all others have it; past the lists' end where no place is
+    /// known to be so.
+    full: usize,
 }
 
 impl<T> Model for RoomyLists<T> {
     ghost use Rattle.std.specs.Prelude.{◌≡◌, ◌≤◌, IsTrue, List, vec_capacity, vec_len};
-    ghost use Rattle.roomy_lists.specs.Lists.{Listed, are_ready};
+    ghost use Rattle.roomy_lists.specs.Lists.{Listed, OthersReady, are_ready};
 
     ghost Value = { List (Listed T) };
 
     ghost view = { λ a. a.lists.items };
 
     ghost invariant = { λ a. (vec_len a.finished ≡ 0) × (vec_len a.lists ≤ vec_capacity a.finished)
-        × (IsTrue a.known_ready → IsTrue (are_ready a.lists.items)) };
+        × (IsTrue a.known_ready → IsTrue (are_ready a.lists.items)) × OthersReady a.lists.items a.full };
 }
 
 impl<T: Drop> RoomyLists<T> {
@@ -45,6 +48,7 @@ impl<T: Drop> RoomyLists<T> {
             lists,
             finished,
             known_ready: false,
+            full: count,
         })
     }
 
@@ -64,6 +68,21 @@ impl<T: Drop> RoomyLists<T> {
         if self.known_ready {
             return Ok(());
         }
+        self.make_missing()
+    }
+
+    /// Makes room where it may be missing. It stands apart, so that `make_room` is small.
+    #[inline(never)]
+    fn make_missing(&mut self) -> Result<(), AllocError>
+        ensures items { items_in self.new ≡ items_in self.old }
+        ensures ready { OnOk result (IsTrue (are_ready self.new)) }
+    {
+        self.known_ready = false;
+        if self.full < self.lists.len() {
+            self.lists[self.full].make_room()?;
+            self.known_ready = true;
+            return Ok(());
+        }
         for place in 0..self.lists.len() {
             self.lists[place].make_room()?;
         }
@@ -75,8 +94,16 @@ impl<T: Drop> RoomyLists<T> {
     pub fn has_room(&self) -> bool
         ensures { result ≡ are_ready self.now }
     {
-        if self.known_ready {
-            return true;
+        self.known_ready || self.has_missing()
+    }
+
+    /// Whether each list has room, where that isn't known. It stands apart, so that `has_room` is small.
+    #[inline(never)]
+    fn has_missing(&self) -> bool
+        ensures { result ≡ are_ready self.now }
+    {
+        if self.full < self.lists.len() {
+            return self.lists[self.full].has_room();
         }
         for list in &self.lists {
             if !list.has_room() {
@@ -110,7 +137,11 @@ impl<T: Drop> RoomyLists<T> {
         ensures others { (other : ℕ) → other ≢ place → is_ready_at self.new other ≡ is_ready_at self.old other }
     {
         let ready = self.lists[place].push(item);
-        self.known_ready &= ready;
+        if !ready {
+            let only = self.known_ready || self.full == place;
+            self.full = if only { place } else { self.lists.len() };
+            self.known_ready = false;
+        }
     }
 
     /// Puts the item in the place of the newest one of the list at this place.

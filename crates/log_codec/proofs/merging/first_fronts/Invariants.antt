@@ -1,4 +1,5 @@
-use Rattle.log_codec.specs.Incoming.{AreFronts, edges_out_of}
+use Rattle.log_codec.specs.Incoming.{edges_out_of}
+use Rattle.log_codec.specs.Fronts.{AreFronts}
 use Rattle.log_codec.proofs.merging.first_fronts.Given as goal
 
 -- the fronts of the cores so far are put

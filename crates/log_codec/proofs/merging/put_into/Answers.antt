@@ -60,9 +60,9 @@ loop-preserved c =
           (log-rises cores reduced c.requires.log) c.loop.invariant.0 w.in-Some.ensures.first
           w.in_ok-put_incoming.ensures in
           let passed = fronts-step cores reduced target c.loop.next c.loop.fronts w.in-Some.edge.source
-          (slice_index c.loop.next w.in-Some.edge.source + 1) w.front_at.result c.requires.log.few
+          (slice_index c.loop.next w.in-Some.edge.source + 1) w.front_at-front.result c.requires.log.few
           w.in-Some.ensures.first.inside c.loop.invariant.1
-          w.front_at.ensures in
+          w.front_at-front.ensures in
           rw (w.next-is, w.last-is, w.counts-is, w.out-is, w.fronts-is, w.put.ensures, ← one) (next, passed)
       | in_default w ↦
           let none = writes-none cores target many reduced c.loop.next c.loop.last c.loop.counts c.loop.out.items whole

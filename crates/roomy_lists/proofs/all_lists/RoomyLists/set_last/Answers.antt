@@ -1,7 +1,8 @@
 use Rattle.std.proofs.Common.{◌-◌, ap, ◌∙◌, arith, length, false, get_or}
 use Rattle.std.specs.Prelude.{slice_set}
+use Rattle.std.proofs.lemmas.List.{length-set}
 use Rattle.roomy_lists.specs.Lists.{is_ready_at, items_in, with_newest}
-use Rattle.roomy_lists.proofs.Rooms.{changed, found, known_still, same_ready}
+use Rattle.roomy_lists.proofs.Rooms.{changed, found, known_still, others_still, same_ready}
 use Rattle.roomy_lists.proofs.all_lists.RoomyLists.set_last.Goals as goal
 
 pub returns-clause-items : goal.returns-clause-items
@@ -27,4 +28,9 @@ invariant_of-self g c = (
   λ e. known_still c.self.inside.lists.items c.args.place c.index_mut.result.now c.set_last.new.self
       c.index_mut.ensures.value c.set_last.ensures.ready
       (c.self.invariant.2 e),
+  others_still c.self.inside.lists.items
+      (slice_set c.self.inside.lists.items c.args.place c.set_last.new.self) c.self.inside.full
+      (same_ready c.self.inside.lists.items c.args.place c.index_mut.result.now c.set_last.new.self
+      c.index_mut.ensures.value c.set_last.ensures.ready)
+      (length-set c.self.inside.lists.items c.args.place c.set_last.new.self) c.self.invariant.3,
 )

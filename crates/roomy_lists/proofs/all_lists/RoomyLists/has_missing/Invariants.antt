@@ -1,6 +1,6 @@
 use Rattle.std.proofs.Common.{◌≡◌, true, take}
 use Rattle.roomy_lists.specs.Lists.{are_ready}
-use Rattle.roomy_lists.proofs.all_lists.RoomyLists.has_room.Given as goal
+use Rattle.roomy_lists.proofs.all_lists.RoomyLists.has_missing.Given as goal
 
 -- each list so far has room
 abbrev pub invariant-loop-list : goal.invariant-loop-list
