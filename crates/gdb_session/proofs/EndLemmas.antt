@@ -19,7 +19,7 @@ use Rattle.std.proofs.Common.{subst}
 use Rattle.gdb_session.specs.declared.points.Point.{Point}
 use Rattle.gdb_session.specs.Ends.{end_in, end_of}
 use Rattle.gdb_session.specs.Seats.{IsOf, Sees}
-use Rattle.gdb_session.specs.Stopping.{stopping_by}
+use Rattle.gdb_session.specs.Stopping.{Stopping, stopping_by}
 
 pub same_ends : (a : Findings) (image : Contents) (place : Placed) (outcome : Outcome) → Sees a image place →
     PassesOf a → outcome ≡ a.outcome → ◌≡◌ {A = ℕ → Stop} (end_in image outcome) (end_of place)
@@ -49,3 +49,12 @@ pub closed_at : (a : Findings) (place : Placed) (to : Cut) → IsOf a place → 
 closed_at a place to run valid all =
     subst (λ (w : Which). IsClosed w place.recording to) run.which
     (subst (λ (r : Recording). IsClosed a.which r to) run.recording (whole_closed a.which a.recording to valid all))
+
+-- so a move that was made by what the hearing stops at was made by what the place's points stop at
+pub same_move : (a : Findings) (image : Contents) (place : Placed) (points : List Point) (paused other : CoreSet)
+    (heard more : CoreSet) (made : Stopping) (moves : Stopping → Type 0) → Sees a image place → PassesOf a →
+    made ≡ stopping_by points paused heard (end_in image a.outcome) → paused ≡ other → heard ≡ more → moves made →
+    moves (stopping_by points other more (end_of place))
+same_move a image place points paused other heard more made moves sees passes made_is p h m =
+    subst (λ (s : Stopping). moves s)
+    (made_is ∙ same_stopping a image place points paused other heard more sees passes p h) m

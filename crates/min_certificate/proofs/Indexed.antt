@@ -2,7 +2,7 @@
 use Rattle.std.proofs.Common.{inl, inr, ◌≡◌, ◌≢◌, ◌⊎◌, ◌↔◌, ℕ, zero, suc, ◌+◌, ◌-◌, ◌<◌, ◌≤◌, List, [], ◌∷◌, ◌++◌}
 use Rattle.std.proofs.Common.{length, get_or, refl, sym, ap, ◌∙◌}
 use Rattle.std.proofs.Common.{subst, arith}
-use Rattle.std.proofs.Common.{true, false, Bool, take, drop, replicate, length-set, get_or-set_same, get_or-set_other}
+use Rattle.std.proofs.Common.{false, Bool, take, drop, replicate, length-set, get_or-set_same, get_or-set_other}
 use Rattle.std.proofs.Common.{Some, None, IsTrue}
 use Rattle.std.specs.Prelude.{slice_set, slice_get, slice_index, Option}
 use Rattle.std.proofs.Math.Seq.{take-suc}

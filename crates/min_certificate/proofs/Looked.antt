@@ -47,6 +47,23 @@ pub some_source : (of n : ℕ) (z : Instr) → ◌≡◌ {A = Option ℕ} (Some 
     ◌≡◌ {A = Option Instr} (Some (instr of n)) (Some z)
 some_source of n z e c = let m : n ≡ z.count = cc in ap (λ (x : Instr). Some x) (instr_eq (instr of n) z (sym c) m)
 
+-- so of a source that was found in the recording at hand, which is the certificate's
+pub there_among : (q m : Recording) (d : Certificate) (of n : ℕ) (at : Instr) → q ≡ m → Valid m → m ≡ d.recording →
+    HasEdge Reduced q (instr of n) at →
+    Among (reduced_edges d.recording) (instr of n) at × (of ≡ of) × IsWithin d.recording (instr of n)
+there_among q m d of n at same valid is has = (
+  subst (λ (p : Recording). Among (reduced_edges p) (instr of n) at) (same ∙ is) (has_among q (instr of n) at has),
+  refl,
+  subst (λ (p : Recording). IsWithin p (instr of n)) (same ∙ is)
+      (source_within q of n at (subst Valid (sym same) valid) has),
+)
+
+pub there_only : (q : Recording) (d : Certificate) (of : ℕ) (at : Instr) (found : Option ℕ) → q ≡ d.recording →
+    ((a : ℕ) → HasEdge Reduced q (instr of a) at → found ≡ Some a) → (z : Instr) →
+    Among (reduced_edges d.recording) z at → z.core ≡ of → found ≡ Some z.count
+there_only q d of at found is only z a core = only_source q of at found only z
+    (subst (λ (p : Recording). Among (reduced_edges p) z at) (sym is) a) core
+
 -- what holds of the sources on each other core holds of all
 pub all_sources : (r : Recording) (n : ℕ) (y : Instr) (P : Instr → Type 0) → Valid r → r.params.cores ≤ n →
     ((i : ℕ) → i < n → i ≢ y.core → (z : Instr) → Among (reduced_edges r) z y → z.core ≡ i → P z) → (z : Instr) →

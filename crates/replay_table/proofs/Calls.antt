@@ -1,6 +1,7 @@
 -- What the calls of the table know of the instruction that they retire.
-use Rattle.std.proofs.Common.{◌≡◌, ℕ, List, true, false, sym, ap, subst, ◌∙◌}
+use Rattle.std.proofs.Common.{◌≡◌, ℕ, Bool, List, true, false, sym, ap, subst, ◌∙◌}
 use Rattle.std.specs.Prelude.{Option, Some, IsTrue}
+use Rattle.atomic_table.specs.Seated.{TableId}
 use Rattle.rtr_types.specs.declared.access.Kind.{Kind}
 use Rattle.image_mem.specs.Contents.{Contents}
 use Rattle.rv_decode.specs.declared.op.Op.{Op}
@@ -9,10 +10,14 @@ use Rattle.rv_core.specs.declared.core_state.Need.{Need}
 use Rattle.rv_core.specs.Needs.{is_writing}
 use Rattle.rv_core.specs.Steps.{need, access_of, after, wrote, is_done, is_whole, instruction_at}
 use Rattle.rv_core.specs.declared.outcome.LoadNote.{LoadNote}
+use Rattle.replay_core.specs.Plans.{Plan}
 use Rattle.replay_core.specs.Play.{Use, use_of, loads_after}
 use Rattle.replay_audit.specs.declared.touch.Touch.{Touch}
 use Rattle.replay_table.specs.Accesses.{Loads, Stores, Changes, is_load, is_change, touched_after, word_of, word_by}
-use Rattle.replay_table.specs.Seats.{Past, Notes}
+use Rattle.replay_table.specs.declared.view.View.{View}
+use Rattle.replay_table.specs.Aheads.{Due}
+use Rattle.replay_table.specs.Rule.{seen_of}
+use Rattle.replay_table.specs.Seats.{Past, Notes, Sitting, sitting}
 use Rattle.replay_table.proofs.Ties.{load_is, change_is, write_is}
 
 -- the access that the code found is the need's
@@ -41,6 +46,20 @@ pub stores_found : (image : Contents) (k : Core) (used : Use) (word : ℕ) → F
     → IsTrue (is_whole (need image k)) → Stores (need image k) word
 stores_found image k used word f t w = subst (λ (x : ℕ). Stores (need image k) x) f.word_is
     (write_is (need image k) true t w)
+
+-- what is asked of a seat as the caller sees it holds of its parts
+pub inside_due : (p : Plan) (table : TableId) (past : Past) (v : View) (x : Sitting) → sitting table past v ≡ x
+    → Due p (seen_of x.view) x.core → Due p (seen_of v) past.core
+inside_due p table past v x same h = subst (λ (y : Sitting). Due p (seen_of y.view) y.core) (sym same) h
+
+pub inside_asked : (test : Need → Bool) (image : Contents) (table : TableId) (past : Past) (v : View) (x : Sitting)
+    → sitting table past v ≡ x → IsTrue (test (need image x.core)) → IsTrue (test (need image past.core))
+inside_asked test image table past v x same h =
+    subst (λ (y : Sitting). IsTrue (test (need image y.core))) (sym same) h
+
+pub inside_table : (table own : TableId) (past : Past) (v : View) (x : Sitting) (now : TableId)
+    → sitting table past v ≡ x → x.table_id ≡ now → own ≡ now → table ≡ own
+inside_table table own past v x now same is own_is = ap (λ (y : Sitting). y.table_id) same ∙ is ∙ sym own_is
 
 -- the core and the value that the code made
 pub after_is : (own image : Contents) (l k m : Core) (old : ℕ) → own ≡ image → l ≡ k → m ≡ after own l old

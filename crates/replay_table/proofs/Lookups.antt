@@ -1,10 +1,12 @@
 -- What a seat keeps of its core's next instruction.
-use Rattle.std.proofs.Common.{◌≡◌, ℕ, ◌+◌, ◌<◌, ◌≤◌, length, refl, sym, subst, arith}
-use Rattle.std.specs.Prelude.{slice_index}
+use Rattle.std.proofs.Common.{◌≡◌, ℕ, ◌+◌, ◌<◌, ◌≤◌, List, length, refl, sym, ap, subst, ◌∙◌, arith}
+use Rattle.std.specs.Prelude.{Option, slice_index}
 use Rattle.image_mem.specs.Contents.{Contents}
 use Rattle.rtr_types.specs.declared.pairs.Which.{Which}
 use Rattle.clock_core.proofs.Listed.{among_contains, contains_among}
 use Rattle.rv_core.specs.declared.core_state.Core.{Core}
+use Rattle.rv_core.specs.Steps.{after}
+use Rattle.rv_core.proofs.LawLemmas.{number_law}
 use Rattle.race_log.specs.declared.recording.Recording.{Recording}
 use Rattle.race_log.specs.Sources.{log_edges}
 use Rattle.race_log.specs.Validity.{Valid}
@@ -18,7 +20,7 @@ use Rattle.replay_table.specs.declared.upcoming.Upcoming.{Upcoming}
 use Rattle.replay_table.specs.declared.view.View.{View}
 use Rattle.replay_table.specs.Aheads.{Due}
 use Rattle.replay_table.specs.Rule.{seen_of}
-use Rattle.replay_table.specs.Seats.{IsUpcoming, IsUnmet}
+use Rattle.replay_table.specs.Seats.{IsUpcoming, IsUnmet, Past, SeatHolds, Tied}
 
 -- what was looked up is of the job's recording and log
 pub upcoming_is : (w w' : Which) (r r' : Recording) (k l : Core) (u : Upcoming) → w' ≡ w → r' ≡ r → l ≡ k
@@ -26,6 +28,20 @@ pub upcoming_is : (w w' : Which) (r r' : Recording) (k l : Core) (u : Upcoming) 
 upcoming_is w w' r r' k l u e q same h =
     subst (λ (x : Which). IsUpcoming x r k u) e
     (subst (λ (x : Recording). IsUpcoming w' x k u) q (subst (λ (x : Core). IsUpcoming w' r' x u) same h))
+
+-- a seat whose core has gone on, and which has looked up what the core needs next
+pub gone_on : (w w' : Which) (r r' : Recording) (past new : Past) (l : Core) (next u : Upcoming) (sees sees' : List ℕ)
+    (holds holds' : Option ℕ) (v v' : View) → SeatHolds w r past next sees holds v → w' ≡ w → r' ≡ r → l ≡ new.core
+    → IsUpcoming w' r' l u → Tied (plan_of w r) new sees' holds' v' → SeatHolds w r new u sees' holds' v'
+gone_on w w' r r' past new l next u sees sees' holds holds' v v' h e q same upcoming tied =
+    record { valid = h.valid; upcoming = upcoming_is w w' r r' new.core l u e q same upcoming; tied = tied }
+
+-- and one whose core stands where it stood
+pub stayed : (w : Which) (r : Recording) (past : Past) (next : Upcoming) (sees sees' : List ℕ)
+    (holds holds' : Option ℕ) (v v' : View) → SeatHolds w r past next sees holds v
+    → Tied (plan_of w r) past sees' holds' v' → SeatHolds w r past next sees' holds' v'
+stayed w r past next sees sees' holds holds' v v' h tied =
+    record { valid = h.valid; upcoming = h.upcoming; tied = tied }
 
 -- a core all of whose sources were seen is ready
 pub due_by : (which : Which) (r : Recording) (f : ℕ → ℕ) (k : Core) (u : Upcoming) → Valid r → IsUpcoming which r k u
@@ -90,3 +106,12 @@ can_look w w' r r' image k m l u valid e q image_is same inside within id coming
       within = subst (λ (x : Core). x.count ≤ slice_index r.totals x.id) (sym same) within;
       coming = subst (λ (i : ℕ). IsComing (log_edges w r) i r.params.cores u.coming) (sym id) coming;
     }))
+
+-- so of a seat whose core has retired an instruction
+pub look_on : (w w' : Which) (r r' : Recording) (image : Contents) (past new : Past) (l : Core) (next : Upcoming)
+    (sees sees' : List ℕ) (holds holds' : Option ℕ) (v v' : View) (old : ℕ) → SeatHolds w r past next sees holds v
+    → w' ≡ w → r' ≡ r → image ≡ recorded_image r → l ≡ new.core → new.core ≡ after (recorded_image r) past.core old
+    → Tied (plan_of w r) new sees' holds' v' → CanLook w' r' image l next
+look_on w w' r r' image past new l next sees sees' holds holds' v v' old h e q image_is same made tied =
+    can_look w w' r r' image past.core new.core l next h.valid e q image_is same tied.inside tied.within
+    (ap (λ (x : Core). x.id) (same ∙ made) ∙ number_law (recorded_image r) past.core old) h.upcoming.coming

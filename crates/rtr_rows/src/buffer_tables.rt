@@ -1,56 +1,19 @@
 //! Recordings of cores with store buffers, and what is made of them. What each row wants was worked out from the logs
 //! and the instructions: a comment says how, where they don't show it.
 
-use crate::tables::Row;
+use crate::tables::{Row, answered, refused};
 
 /// A replay: its words, the recording, and the text that it gives.
 macro_rules! replayed {
     ($words:expr, $input:expr, $text:expr) => {
-        Row {
-            words: $words,
-            input: $input,
-            copies: 1,
-            status: 0,
-            output: "",
-            echoes: false,
-            rest: "",
-            text: $text,
-            report: "",
-        }
+        answered!($words, $input, "", $text)
     };
 }
 
 /// A run that is recorded: its words, the image, and the recording.
 macro_rules! recorded {
     ($words:expr, $input:expr, $output:expr) => {
-        Row {
-            words: $words,
-            input: $input,
-            copies: 1,
-            status: 0,
-            output: $output,
-            echoes: false,
-            rest: "",
-            text: "",
-            report: "",
-        }
-    };
-}
-
-/// A call that is refused: its words and input, the status, and what the report says.
-macro_rules! refused {
-    ($words:expr, $input:expr, $status:literal, $report:expr) => {
-        Row {
-            words: $words,
-            input: $input,
-            copies: 1,
-            status: $status,
-            output: "",
-            echoes: false,
-            rest: "",
-            text: "",
-            report: $report,
-        }
+        answered!($words, $input, $output, "")
     };
 }
 

@@ -1,53 +1,23 @@
 //! Certificates of recordings whose logs were written by hand. What each row wants was worked out from the logs
 //! and the instructions: a clock has, for each core, how many of its instructions are the edge end or lead to it.
 
-use crate::tables::Row;
+use crate::tables::{Row, answered, refused};
 
+/// A certificate that is made: the recording comes again, and its clocks behind it.
 macro_rules! certified {
     ($recording:expr, $clocks:expr) => {
         Row {
-            words: "certify",
-            input: $recording,
-            copies: 1,
-            status: 0,
-            output: "",
             echoes: true,
             rest: $clocks,
-            text: "",
-            report: "",
+            ..answered!("certify", $recording, "", "")
         }
     };
 }
 
+/// A certificate that shows what it says.
 macro_rules! least {
     ($certificate:expr, $text:expr) => {
-        Row {
-            words: "check",
-            input: $certificate,
-            copies: 1,
-            status: 0,
-            output: "",
-            echoes: false,
-            rest: "",
-            text: $text,
-            report: "",
-        }
-    };
-}
-
-macro_rules! refused {
-    ($words:expr, $input:expr, $status:expr, $report:expr) => {
-        Row {
-            words: $words,
-            input: $input,
-            copies: 1,
-            status: $status,
-            output: "",
-            echoes: false,
-            rest: "",
-            text: "",
-            report: $report,
-        }
+        answered!("check", $certificate, "", $text)
     };
 }
 

@@ -1,40 +1,6 @@
 //! Images that the tool makes itself, and images out of ELF files.
 
-use crate::tables::Row;
-
-/// A call that gives bytes, a text, or both.
-macro_rules! given {
-    ($words:expr, $input:expr, $output:expr, $text:expr) => {
-        Row {
-            words: $words,
-            input: $input,
-            copies: 1,
-            status: 0,
-            output: $output,
-            echoes: false,
-            rest: "",
-            text: $text,
-            report: "",
-        }
-    };
-}
-
-/// A call that is refused.
-macro_rules! refused {
-    ($words:expr, $input:expr, $status:expr, $report:expr) => {
-        Row {
-            words: $words,
-            input: $input,
-            copies: 1,
-            status: $status,
-            output: "",
-            echoes: false,
-            rest: "",
-            text: "",
-            report: $report,
-        }
-    };
-}
+use crate::tables::{Row, answered, refused};
 
 /// The input that stands before `gen` and `soak`, which take none.
 const UNREAD: &str = "00";
@@ -45,26 +11,26 @@ pub const LOCK_500: &str =
     03260012 e30a76fe 83260013 93861600 2328d012 23200310 9382f2ff e39a02fc 73000000";
 
 pub static GENERATED: [Row; 11] = [
-    given!("gen --shape lock --number 500", UNREAD, LOCK_500, ""),
+    answered!("gen --shape lock --number 500", UNREAD, LOCK_500, ""),
     refused!("gen --shape lock --number 0", UNREAD, 1, "rtr: usage\n"),
     refused!("gen --shape lock --number 2048", UNREAD, 1, "rtr: usage\n"),
     refused!("gen --shape mix", UNREAD, 1, "rtr: usage\n"),
     refused!("soak --shape mix", UNREAD, 1, "rtr: usage\n"),
     // One core takes the lock once, and waits for no one.
-    given!(
+    answered!(
         "soak --shape lock --number 1",
         UNREAD,
         "",
         "shape lock number 1 cores 1\nretired 16\nreduced 0\nregulated 0 vectors 0 edges\nchanged 2 words\n"
     ),
     // The lock that is taken most often: a core by itself retires 6 instructions and 10 for each time.
-    given!(
+    answered!(
         "soak --shape lock --number 2047 --limit 100000",
         UNREAD,
         "",
         "shape lock number 2047 cores 1\nretired 20476\nreduced 0\nregulated 0 vectors 0 edges\nchanged 2 words\n"
     ),
-    given!(
+    answered!(
         "soak --shape lock --number 2047 --cores 2 --limit 100000",
         UNREAD,
         "",
@@ -85,7 +51,7 @@ pub static GENERATED: [Row; 11] = [
         "rtr: input too large\n"
     ),
     // In a memory of 20 words every address of the lock but those of its instructions lies past the memory.
-    given!(
+    answered!(
         "soak --shape lock --number 1 --words 20",
         UNREAD,
         "",
@@ -164,12 +130,12 @@ const LINKED: &str =
     01000000 00000000 01000000 03000000 00000000 00000000 c2000000 2e000000 00000000 00000000 01000000 00000000";
 
 pub static ELF_FILES: [Row; 12] = [
-    given!("run --elf --words 8", PROGRAM, "", ENDS),
-    given!("run --words 8", FLAT, "", ENDS),
-    given!("record --elf --words 8", PROGRAM, RECORDED, ""),
-    given!("record --words 8", FLAT, RECORDED, ""),
+    answered!("run --elf --words 8", PROGRAM, "", ENDS),
+    answered!("run --words 8", FLAT, "", ENDS),
+    answered!("record --elf --words 8", PROGRAM, RECORDED, ""),
+    answered!("record --words 8", FLAT, RECORDED, ""),
     // The jump to the entry retires too.
-    given!(
+    answered!(
         "run --elf --words 32",
         LINKED,
         "",

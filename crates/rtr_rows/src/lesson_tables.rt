@@ -4,39 +4,7 @@
 
 use crate::cut_tables::{READ, UNWRITTEN};
 use crate::replay_tables::HANDED_OVER_STATE;
-use crate::tables::Row;
-
-macro_rules! answered {
-    ($words:expr, $input:expr, $output:expr, $text:expr) => {
-        Row {
-            words: $words,
-            input: $input,
-            copies: 1,
-            status: 0,
-            output: $output,
-            echoes: false,
-            rest: "",
-            text: $text,
-            report: "",
-        }
-    };
-}
-
-macro_rules! refused {
-    ($words:expr, $input:expr, $status:expr, $report:expr) => {
-        Row {
-            words: $words,
-            input: $input,
-            copies: 1,
-            status: $status,
-            output: "",
-            echoes: false,
-            rest: "",
-            text: "",
-            report: $report,
-        }
-    };
-}
+use crate::tables::{Row, answered, refused};
 
 /// `examples/hand_over.s`.
 const HAND_OVER: &str = "631a0500 93027000 23205004 03230004 73000000 83230004 2320a004 73000000";

@@ -15,6 +15,23 @@ pub struct Row {
     pub report: &'static str,
 }
 
+/// A call that ends well: its words and input, and the output that it gives, as bytes and as a text.
+macro_rules! answered {
+    ($words:expr, $input:expr, $output:expr, $text:expr) => {
+        Row {
+            words: $words,
+            input: $input,
+            copies: 1,
+            status: 0,
+            output: $output,
+            echoes: false,
+            rest: "",
+            text: $text,
+            report: "",
+        }
+    };
+}
+
 /// A call that is refused: its words and input, the status, and what the report says.
 macro_rules! refused {
     ($words:expr, $input:literal * $copies:literal, $status:literal, $report:expr) => {
@@ -30,7 +47,17 @@ macro_rules! refused {
             report: $report,
         }
     };
+    ($words:expr, $input:expr, $status:expr, $report:expr) => {
+        Row {
+            status: $status,
+            report: $report,
+            ..answered!($words, $input, "", "")
+        }
+    };
 }
+
+pub(crate) use answered;
+pub(crate) use refused;
 
 /// A call that gives bytes: those before the input, whether the input comes again, and those after it.
 macro_rules! bytes {
@@ -44,23 +71,6 @@ macro_rules! bytes {
             echoes: $echoes,
             rest: $rest,
             text: "",
-            report: "",
-        }
-    };
-}
-
-/// A call that gives a text.
-macro_rules! text {
-    ($words:expr, $input:expr, $text:expr) => {
-        Row {
-            words: $words,
-            input: $input,
-            copies: 1,
-            status: 0,
-            output: "",
-            echoes: false,
-            rest: "",
-            text: $text,
             report: "",
         }
     };
@@ -135,92 +145,107 @@ pub static ROWS: [Row; 59] = [
         "904e"
     ),
     // An end is printed.
-    text!("run", "73000000", "core 0 exit retired 1 pc 00000004\n"),
-    text!("run", "", "core 0 fetch retired 0 pc 00000000\n"),
+    answered!("run", "73000000", "", "core 0 exit retired 1 pc 00000004\n"),
+    answered!("run", "", "", "core 0 fetch retired 0 pc 00000000\n"),
     // After ADDI x5, x0, 1 comes an instruction that would stop the core: it retires nothing. FENCE.I is
     // no instruction here, and FENCE ignores its other fields.
-    text!(
+    answered!(
         "run --words 4",
         "93021000 03232000",
+        "",
         "core 0 align retired 1 pc 00000004\ncore 0 x5 00000001\n"
     ),
-    text!(
+    answered!(
         "run --words 4",
         "93021000 00000000",
+        "",
         "core 0 illegal retired 1 pc 00000004\ncore 0 x5 00000001\n"
     ),
-    text!(
+    answered!(
         "run --words 4",
         "93021000 6f002000",
+        "",
         "core 0 jump retired 1 pc 00000004\ncore 0 x5 00000001\n"
     ),
-    text!(
+    answered!(
         "run --words 4",
         "93021000 03230004",
+        "",
         "core 0 address retired 1 pc 00000004\ncore 0 x5 00000001\n"
     ),
-    text!(
+    answered!(
         "run --words 4",
         "93021000 0f100000",
+        "",
         "core 0 illegal retired 1 pc 00000004\ncore 0 x5 00000001\n"
     ),
-    text!(
+    answered!(
         "run --words 4",
         "93021000 0f003083",
+        "",
         "core 0 fetch retired 2 pc 00000008\ncore 0 x5 00000001\n"
     ),
     // LR.W is no instruction here; AMOADD.W is one, and its address is a multiple of 4.
-    text!(
+    answered!(
         "run --words 4",
         "93021000 2fa30210",
+        "",
         "core 0 illegal retired 1 pc 00000004\ncore 0 x5 00000001\n"
     ),
-    text!(
+    answered!(
         "run --words 4",
         "93021000 2fa30200",
+        "",
         "core 0 align retired 1 pc 00000004\ncore 0 x5 00000001\n"
     ),
     // Core 0 stores 7, loads it and ends; loads are printed where they are asked for.
-    text!(
+    answered!(
         "run --words 32",
         "631a0500 93027000 23205004 03230004 73000000 83230004 2320a004 73000000",
+        "",
         "core 0 exit retired 5 pc 00000014\ncore 0 x5 00000007\ncore 0 x6 00000007\nmem 00000040 00000007\n"
     ),
-    text!(
+    answered!(
         "run --loads --words 32",
         "631a0500 93027000 23205004 03230004 73000000 83230004 2320a004 73000000",
+        "",
         "core 0 exit retired 5 pc 00000014\ncore 0 x5 00000007\ncore 0 x6 00000007\nmem 00000040 00000007\n\
             load 0 4 00000040 00000007\n"
     ),
     // An ECALL that retires at the limit is an exit.
-    text!(
+    answered!(
         "run --limit 3 --words 32",
         "63160500 03230004 73000000 6f000000",
+        "",
         "core 0 exit retired 3 pc 0000000c\n"
     ),
-    text!(
+    answered!(
         "run --limit=2 --words 32",
         "63160500 03230004 73000000 6f000000",
+        "",
         "core 0 limit retired 2 pc 00000008\n"
     ),
     // Recordings are printed: one of one core, and one of two cores with an edge and a vector each way.
-    text!(
+    answered!(
         "print",
         "52545201 01 904e 808001 04 73000000 01",
+        "",
         "cores 1 limit 10000 words 16384 image 4\ntotal 0 1\nreduced 0\nregulated 0 vectors 0 edges\n"
     ),
-    text!(
+    answered!(
         "print",
         "52545201 02 904e 20 20 631a0500 93027000 23205004 03230004 73000000 83230004 2320a004 73000000 0504 01 \
             02 03 01 04 03 01 01 03 02 01 01 03 04",
+        "",
         "cores 2 limit 10000 words 32 image 32\ntotal 0 5\ntotal 1 4\nreduced 2\nedge 0:3 1:2\nedge 1:3 0:4\n\
             regulated 2 vectors 2 edges\nvector 0 1 1 3 2\nvector 1 0 1 3 4\n"
     ),
     // The same recording in version 2 says the same, and is what either one migrates to.
-    text!(
+    answered!(
         "print",
         "52545202 02 904e 20 20 631a0500 93027000 23205004 03230004 73000000 83230004 2320a004 73000000 0504 \
             01040103 01020003 01010302 01010304",
+        "",
         "cores 2 limit 10000 words 32 image 32\ntotal 0 5\ntotal 1 4\nreduced 2\nedge 0:3 1:2\nedge 1:3 0:4\n\
             regulated 2 vectors 2 edges\nvector 0 1 1 3 2\nvector 1 0 1 3 4\n"
     ),
@@ -376,9 +401,10 @@ pub static ROWS: [Row; 59] = [
         3,
         "rtr: bad input, part 1\n"
     ),
-    text!(
+    answered!(
         "print",
         "52545202 01 c0843d 808010 00 c0843d",
+        "",
         "cores 1 limit 1000000 words 262144 image 0\ntotal 0 1000000\nreduced 0\nregulated 0 vectors 0 edges\n"
     ),
     bytes!(
@@ -428,10 +454,11 @@ pub static ROWS: [Row; 59] = [
     ),
     // Peterson's lock, 500 rounds on one core: ten instructions a round, five before and ECALL. The flag is
     // down again, the turn is the other core's, and the counter is 500.
-    text!(
+    answered!(
         "run --words 128 --limit 100000",
         "9302401f 13134500 93431500 13944300 93041000 23209310 23207012 83250410 63860500 03260012 e30a76fe \
             83260013 93861600 2328d012 23200310 9382f2ff e39a02fc 73000000",
+        "",
         "core 0 exit retired 5006 pc 00000048\ncore 0 x7 00000001\ncore 0 x8 00000010\ncore 0 x9 00000001\n\
             core 0 x13 000001f4\nmem 00000120 00000001\nmem 00000130 000001f4\n"
     ),

@@ -26,7 +26,7 @@ use Rattle.msi_state.specs.Events.{access_of, next_instr}
 use Rattle.msi_state.specs.Rests.{may_access}
 use Rattle.tso_state.specs.declared.pending.Pending.{Pending}
 use Rattle.tso_state.specs.declared.pending.Pending.TheVariants.{Load as PendingLoad, Store as PendingStore}
-use Rattle.tso_state.specs.Pending.{forwarded, left_by, value_of}
+use Rattle.tso_state.specs.Pending.{forwarded, value_of}
 use Rattle.tso_state.specs.States.{BufferedCore}
 use Rattle.tso_state.specs.Events.{Event, Nothing, Buffers, Performs, Drains, Logs, pending_store, event_loading}
 use Rattle.tso_state.specs.Events.{event_executing, event_ordering}
@@ -35,6 +35,7 @@ use Rattle.tso_state.specs.Steps.{can_order, case_holds, head_access}
 use Rattle.tso_invariant.specs.Holds.{next_may_ask}
 use Rattle.tso_invariant.specs.Rests.{is_quiet}
 use Rattle.tso_bound.specs.Bound.{pending_cost, queue_cost}
+use Rattle.tso_invariant.proofs.Ordered.{stored}
 
 -- the core's instructions pay for this, beside what its pending accesses take
 abbrev pub Pays : (cores : ℕ) → Contents → BufferedCore → Event → (more : ℕ) → Type 0
@@ -191,22 +192,13 @@ module _ {R K : Type 0} where
   ordering_pays cores (PendingStore count word mask bits ∷ rest) image riding t p is =
       by_allowed (allows riding p (word / BLOCK_WORDS) Storing)
     where
-      x : Pending
-      x = PendingStore count word mask bits
-
       a : Access
-      a = record {
-        at = record { core = t.core.id; count = count };
-        word = word;
-        kind = Storing;
-        before = word_at riding p word;
-        after = left_by x (word_at riding p word);
-      }
+      a = stored t.core.id count word mask bits (word_at riding p word)
 
       by_allowed : (b : Bool) →
           Pays cores image t (if b then Drains a else Nothing)
           (if is_quiet (if b then Drains a else Nothing) then 0 else 1)
-      by_allowed true = leaves_pays cores t x rest 1 is (omega arith)
+      by_allowed true = leaves_pays cores t (PendingStore count word mask bits) rest 1 is (omega arith)
       by_allowed false = nothing_pays cores image t
 
   pub drained_pays : (cores : ℕ) (queue : List Pending) (image : Contents) (riding : Riding R) (t : BufferedCore)
@@ -218,20 +210,11 @@ module _ {R K : Type 0} where
   drained_pays cores (PendingStore count word mask bits ∷ rest) image riding t p is allowed =
       by_allowed (allows riding p (word / BLOCK_WORDS) Storing) allowed
     where
-      x : Pending
-      x = PendingStore count word mask bits
-
       a : Access
-      a = record {
-        at = record { core = t.core.id; count = count };
-        word = word;
-        kind = Storing;
-        before = word_at riding p word;
-        after = left_by x (word_at riding p word);
-      }
+      a = stored t.core.id count word mask bits (word_at riding p word)
 
       by_allowed : (b : Bool) → b ≡ true → Pays cores image t (if b then Drains a else Nothing) (2 * cores + 4)
-      by_allowed true e = leaves_pays cores t x rest (2 * cores + 4) is (omega arith)
+      by_allowed true e = leaves_pays cores t (PendingStore count word mask bits) rest (2 * cores + 4) is (omega arith)
       by_allowed false e = absurd (cc)
 
   pub ordering_asks : (queue : List Pending) (riding : Riding R) (core : ℕ) (p : Port R K) →

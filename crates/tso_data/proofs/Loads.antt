@@ -1,5 +1,5 @@
 -- What a pending load is when it leaves its queue.
-use Rattle.std.proofs.Common.{◌≡◌, ◌∙◌, ap, refl, ℕ, ◌==◌, ◌/◌, Bool, true, false, ◌&&◌, List, ◌∷◌, arith}
+use Rattle.std.proofs.Common.{◌≡◌, ap, refl, ℕ, ◌==◌, ◌/◌, Bool, true, false, ◌&&◌, List, ◌∷◌}
 use Rattle.std.proofs.Common.{eqb-true}
 use Rattle.std.specs.Prelude.{if◌then◌else◌}
 use Rattle.access_times.specs.Riding.{Riding}

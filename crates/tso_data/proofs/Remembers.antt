@@ -1,8 +1,8 @@
 -- A run's states are coherent with the memory of its ordered accesses. By induction on the number of choices: the
 -- memory of the accesses so far, and its next one.
-use Rattle.std.proofs.Common.{◌≡◌, ◌∙◌, ap, refl, sym, subst, ℕ, ◌+◌, ◌<◌, ◌≤◌, ◌/◌, ◌%◌, ◌^◌, true, List}
-use Rattle.std.proofs.Common.{[], ◌∷◌, ◌++◌, Option, Some, None, zero}
-use Rattle.std.proofs.Common.{suc, arith}
+use Rattle.std.proofs.Common.{◌≡◌, ◌∙◌, ap, refl, sym, subst, ℕ, ◌<◌, ◌≤◌, ◌/◌, ◌%◌, ◌^◌, true, List}
+use Rattle.std.proofs.Common.{◌++◌, Option, Some, None, zero}
+use Rattle.std.proofs.Common.{suc}
 use Rattle.std.specs.Prelude.{All, map, slice_index}
 use Rattle.std.specs.List.{range_with_len}
 use Rattle.access_times.specs.Riding.{none_riding, none_carrying}

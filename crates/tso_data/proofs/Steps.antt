@@ -2,9 +2,9 @@
 -- access that an event orders is one that its port allows, so its copy counts and has the memory's word; no other act
 -- changes the words that count. The event's access is read as the memory system's own, so that what is proved of the
 -- memory serves as it is.
-use Rattle.std.proofs.Common.{◌≡◌, ◌∙◌, ap, refl, sym, subst, ℕ, ◌+◌, ◌<◌, ◌==◌, ◌%◌, ◌/◌, Bool, true, false, ◌&&◌}
+use Rattle.std.proofs.Common.{◌≡◌, ap, refl, sym, subst, ℕ, ◌+◌, ◌<◌, ◌==◌, ◌%◌, ◌/◌, Bool, true, false, ◌&&◌}
 use Rattle.std.proofs.Common.{List, [], ◌∷◌, ◌++◌, length, Option, Some}
-use Rattle.std.proofs.Common.{None, arith}
+use Rattle.std.proofs.Common.{None}
 use Rattle.std.specs.Prelude.{drop, if◌then◌else◌, slice_index}
 use Rattle.std.specs.List.{list_all}
 use Rattle.access_times.specs.Riding.{Riding, Carrying}
@@ -40,7 +40,7 @@ use Rattle.tso_state.specs.declared.pending.Asker.{Asker}
 use Rattle.tso_state.specs.declared.pending.Asker.TheVariants.{Nobody, Next, Head}
 use Rattle.tso_state.specs.declared.pending.Pending.{Pending}
 use Rattle.tso_state.specs.declared.pending.Pending.TheVariants.{Load as PendingLoad, Store as PendingStore}
-use Rattle.tso_state.specs.Pending.{forwarded, left_by}
+use Rattle.tso_state.specs.Pending.{forwarded}
 use Rattle.tso_state.specs.States.{State, BufferedCore, core_at}
 use Rattle.tso_state.specs.Events.{Event, Nothing, Executes, Buffers, Performs, Drains, Logs, Told, Alone, Ordered}
 use Rattle.tso_state.specs.Events.{Logged, tellings, locals_behind}
@@ -51,6 +51,7 @@ use Rattle.tso_invariant.proofs.Kept.{acts_can, core_port, enabled_core}
 use Rattle.tso_invariant.proofs.Queues.{head_within}
 use Rattle.tso_invariant.proofs.Telling.{is_alone, locals_alone}
 use Rattle.tso_data.specs.Orders.{Coherent, ordering_of}
+use Rattle.tso_invariant.proofs.Ordered.{stored}
 
 -- ---- what acts leave of the memory
 
@@ -226,17 +227,8 @@ module _ {R K : Type 0} where
       p : Port R K
       p = port_at carrying m.ports c
 
-      x : Pending
-      x = PendingStore n word mask bits
-
       a : Access
-      a = record {
-        at = record { core = core; count = n };
-        word = word;
-        kind = Storing;
-        before = word_at riding p word;
-        after = left_by x (word_at riding p word);
-      }
+      a = stored core n word mask bits (word_at riding p word)
 
       by_allowed : (b : Bool) → allows riding p (word / BLOCK_WORDS) Storing ≡ b →
           Well words memory (if b then Drains a else Nothing)
@@ -244,7 +236,7 @@ module _ {R K : Type 0} where
           record {
             finds = word_found riding carrying m c word Storing memory h lc k f;
             honest =
-                (head_within words count x rest q, λ reads. absurd (cc));
+                (head_within words count (PendingStore n word mask bits) rest q, λ reads. absurd (cc));
           }
       by_allowed false f = record { finds = tt; honest = tt }
 

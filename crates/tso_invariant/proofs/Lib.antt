@@ -1,3 +1,4 @@
+pub mod Ordered
 pub mod Queues
 pub mod Telling
 pub mod Turns

@@ -50,6 +50,7 @@ use Rattle.tso_invariant.proofs.Queues.{asks_past, asks_popped, asks_pushed, fit
 use Rattle.tso_invariant.proofs.Queues.{fits_pushed, head_within, is_head}
 use Rattle.tso_invariant.proofs.Queues.{load_asks_not, room_for, wish_past, wish_popped, wish_pushed}
 use Rattle.tso_invariant.proofs.Telling.{Turned, asking_turn, first_tellable, locals_alone, tellable, told_turn}
+use Rattle.tso_invariant.proofs.Ordered.{stored}
 
 -- what becomes of a core in which this happens, with this asker
 abbrev pub left : Contents → BufferedCore → Event → Asker → BufferedCore
@@ -348,29 +349,20 @@ module _ {R K : Type 0} where
       p : Port R K
       p = port_at carrying m.ports c
 
-      x : Pending
-      x = PendingStore count word mask bits
-
       a : Access
-      a = record {
-        at = record { core = t.core.id; count = count };
-        word = word;
-        kind = Storing;
-        before = word_at riding p word;
-        after = left_by x (word_at riding p word);
-      }
+      a = stored t.core.id count word mask bits (word_at riding p word)
 
       by_allowed : (b : Bool) → allows riding p (word / BLOCK_WORDS) Storing ≡ b →
-          OrderTurn image riding carrying rider m c t (x ∷ rest) (if b then Drains a else Nothing)
+          OrderTurn image riding carrying rider m c t (PendingStore count word mask bits ∷ rest) (if b then Drains a else Nothing)
       by_allowed true f =
-          drained_turn image riding carrying rider m c t x rest a h is
+          drained_turn image riding carrying rider m c t (PendingStore count word mask bits) rest a h is
           (allowed_not_asked image riding (length m.home) c t p Storing word (h.holds.ports c h.there) h.well
           (ap head_access is) f) f
       by_allowed false f =
           asking_turn image riding carrying m c Storing word (record { core = t.core; queue = t.queue; asker = Head })
           h.holds h.there
           (rw h.blocks (block_within image.words word
-          (head_within image.words t.core.count x rest
+          (head_within image.words t.core.count (PendingStore count word mask bits) rest
           (subst (λ (q : List Pending). QueueHolds image.words t.core.count q) is h.well.fits.queue))))
           (refused_still (allows riding p (word / BLOCK_WORDS) Storing) (waits p.cache) e f) f
           (fits_asking image c t Head h.well.fits (ap (may_ask Head (need image t.core)) is)) (ap head_access is) refl
@@ -507,17 +499,8 @@ module _ {R K : Type 0} where
       q : Port R K
       q = port_at carrying m.ports c
 
-      x : Pending
-      x = PendingStore count word mask bits
-
       a : Access
-      a = record {
-        at = record { core = t.core.id; count = count };
-        word = word;
-        kind = Storing;
-        before = word_at riding q word;
-        after = left_by x (word_at riding q word);
-      }
+      a = stored t.core.id count word mask bits (word_at riding q word)
 
       by_allowed : (b : Bool) → allows riding q (word / BLOCK_WORDS) Storing ≡ b →
           allows riding q (word / BLOCK_WORDS) Storing ≡ true →
@@ -530,7 +513,7 @@ module _ {R K : Type 0} where
           (nobody_holds image riding c (left image t (Drains a) Nobody) q (waits q.cache) g.still g.still
           (subst (λ (queue : List Pending). BufferedFits image c
           (record { core = t.core; queue = queue; asker = Nobody })) (sym (ap (drop 1) is))
-          (fits_popped image c t x rest Nobody fits is refl)) t.asker)
+          (fits_popped image c t (PendingStore count word mask bits) rest Nobody fits is refl)) t.asker)
       by_allowed false e f = absurd (cc (sym e ∙ f))
 
   -- a block's data end the access that asked for them

@@ -1,5 +1,4 @@
 -- Riders that meet in a move have the same last writes: what meets is the memory system's own.
-use Rattle.std.proofs.Common.{◌≡◌, ◌<◌}
 use Rattle.access_times.specs.Riding.{Carrying}
 use Rattle.msi_memory.specs.Acts.{TakeMessage, TakeRequest, TakeResponse}
 use Rattle.memory_laws.proofs.PortsKept.{there_of}

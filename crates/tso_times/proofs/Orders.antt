@@ -26,12 +26,13 @@ use Rattle.tso_state.specs.declared.pending.Pending.{Pending}
 use Rattle.tso_state.specs.declared.pending.Pending.TheVariants.{Load as PendingLoad, Store as PendingStore}
 use Rattle.tso_state.specs.declared.pending.Asker.{Asker}
 use Rattle.tso_state.specs.declared.pending.Asker.TheVariants.{Nobody, Next, Head}
-use Rattle.tso_state.specs.Pending.{count_of, forwarded, left_by, value_of}
+use Rattle.tso_state.specs.Pending.{count_of, forwarded, value_of}
 use Rattle.tso_state.specs.States.{BufferedCore}
 use Rattle.tso_state.specs.Events.{Event, Nothing, Buffers, Performs, Drains, Logs, count_before}
 use Rattle.tso_state.specs.Events.{pending_store, event_executing, event_granted, event_loading, event_ordering}
 use Rattle.tso_state.specs.Events.{core_after, queue_after}
 use Rattle.tso_invariant.specs.Holds.{in_order}
+use Rattle.tso_invariant.proofs.Ordered.{stored}
 
 -- the access is allowed there, and comes between what was told and what is told with it
 pub record Comes {R K : Type 0} (riding : Riding R) (p : Port R K) (core before now : ℕ) (a : Access) : Type 0 where
@@ -205,13 +206,7 @@ module _ {R K : Type 0} where
       by_allowed (allows riding p (word / BLOCK_WORDS) Storing) refl
     where
       a : Access
-      a = record {
-        at = record { core = t.core.id; count = count };
-        word = word;
-        kind = Storing;
-        before = word_at riding p word;
-        after = left_by (PendingStore count word mask bits) (word_at riding p word);
-      }
+      a = stored t.core.id count word mask bits (word_at riding p word)
 
       by_allowed : (l : Bool) → allows riding p (word / BLOCK_WORDS) Storing ≡ l →
           Tells image riding p t (if l then Drains a else Nothing)

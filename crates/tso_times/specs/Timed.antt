@@ -1,5 +1,5 @@
 -- A machine with store buffers whose riders record times: what they are after the accesses that were ordered so far.
-use Rattle.std.specs.Prelude.{◌≡◌, ℕ, ◌≤◌, ◌<◌, List, ◌∷◌, length, IsTrue}
+use Rattle.std.specs.Prelude.{◌≡◌, ℕ, ◌≤◌, ◌<◌, List, length, IsTrue}
 use Rattle.access_times.specs.Riding.{Riding, Carrying}
 use Rattle.clock_core.specs.declared.clock.Clock.{Clock}
 use Rattle.rtr_types.specs.declared.access.Access.{Access}

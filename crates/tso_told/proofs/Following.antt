@@ -1,9 +1,9 @@
 -- From what was told of a core to what it has executed: its pending accesses, and behind each the instructions that
 -- touch no data. `Arrives base queue now`: from the core as it was told, executing each pending access and some
 -- instructions behind it that touch no data leads to the core as it is.
-use Rattle.std.proofs.Common.{◌≡◌, ◌∙◌, ap, refl, sym, subst, ℕ, ◌+◌, ◌-◌, ◌==◌, Bool, List, [], ◌∷◌}
+use Rattle.std.proofs.Common.{◌≡◌, ◌∙◌, ap, refl, sym, subst, ℕ, ◌+◌, ◌-◌, Bool, List, [], ◌∷◌}
 use Rattle.std.proofs.Common.{◌++◌, Some, zero, suc, arith}
-use Rattle.std.specs.Prelude.{map, if◌then◌else◌}
+use Rattle.std.specs.Prelude.{map}
 use Rattle.std.specs.List.{range_with_len}
 use Rattle.image_mem.specs.Contents.{Contents}
 use Rattle.rtr_types.specs.declared.access.Kind.TheVariants.{Load as Loading, Store as Storing}

@@ -1,5 +1,5 @@
 -- What is told of a core is in the order of its counts.
-use Rattle.std.proofs.Common.{◌≡◌, ◌≢◌, ◌∙◌, refl, ap, subst, ℕ, ◌+◌, List, [], ◌∷◌, ◌++◌, length, eq-eqb, ne_eqb}
+use Rattle.std.proofs.Common.{◌≡◌, ◌≢◌, refl, ap, subst, ℕ, ◌+◌, List, [], ◌∷◌, ◌++◌, length, eq-eqb, ne_eqb}
 use Rattle.std.proofs.Common.{arith}
 use Rattle.image_mem.specs.Contents.{Contents}
 use Rattle.rtr_types.specs.declared.instr.Instr.{Instr}

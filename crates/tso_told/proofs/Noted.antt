@@ -32,7 +32,7 @@ use Rattle.tso_state.specs.declared.pending.Pending.{Pending}
 use Rattle.tso_state.specs.declared.pending.Pending.TheVariants.{Load as PendingLoad, Store as PendingStore}
 use Rattle.tso_state.specs.declared.pending.Asker.{Asker}
 use Rattle.tso_state.specs.declared.pending.Asker.TheVariants.{Nobody, Next, Head}
-use Rattle.tso_state.specs.Pending.{forwarded, left_by}
+use Rattle.tso_state.specs.Pending.{forwarded}
 use Rattle.tso_state.specs.States.{State, BufferedCore, core_at}
 use Rattle.tso_state.specs.Moves.{core_of}
 use Rattle.tso_state.specs.Events.{Event, Nothing, Executes, Buffers, Performs, Drains, Logs, Told, Alone, Ordered}
@@ -45,6 +45,7 @@ use Rattle.tso_invariant.specs.Holds.{TsoHolds, may_ask, next_may_ask}
 use Rattle.tso_invariant.proofs.Kept.{core_can, enabled_core}
 use Rattle.tso_told.specs.Played.{read_told, reads_told, reads_pending}
 use Rattle.tso_told.proofs.Telling.{amo_alone}
+use Rattle.tso_invariant.proofs.Ordered.{stored}
 
 -- what an executing instruction read
 abbrev pub noted_in : Event → List LoadNote
@@ -207,20 +208,11 @@ module _ {R K : Type 0} where
   ordering_reads riding t p (PendingStore count word mask bits ∷ rest) is =
       by_allowed (allows riding p (word / BLOCK_WORDS) Storing)
     where
-      x : Pending
-      x = PendingStore count word mask bits
-
       b : Access
-      b = record {
-        at = record { core = t.core.id; count = count };
-        word = word;
-        kind = Storing;
-        before = word_at riding p word;
-        after = left_by x (word_at riding p word);
-      }
+      b = stored t.core.id count word mask bits (word_at riding p word)
 
       by_allowed : (l : Bool) → EventReads t (if l then Drains b else Nothing)
-      by_allowed true = head_read t x rest (Ordered b) count is refl
+      by_allowed true = head_read t (PendingStore count word mask bits) rest (Ordered b) count is refl
       by_allowed false = nothing_read t
 
   pub ordering_own : (riding : Riding R) (core : ℕ) (p : Port R K) (queue : List Pending) (c : ℕ) →
@@ -249,13 +241,7 @@ module _ {R K : Type 0} where
       by_allowed (allows riding p (word / BLOCK_WORDS) Storing)
     where
       b : Access
-      b = record {
-        at = record { core = core; count = count };
-        word = word;
-        kind = Storing;
-        before = word_at riding p word;
-        after = left_by (PendingStore count word mask bits) (word_at riding p word);
-      }
+      b = stored core count word mask bits (word_at riding p word)
 
       by_allowed : (l : Bool) → IsOwn c (if l then Drains b else Nothing)
       by_allowed true = tt

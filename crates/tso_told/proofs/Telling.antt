@@ -1,7 +1,7 @@
 -- What is told in a move follows from what was told of its core before. Each event keeps `Arrives`: what executes goes
 -- on at its end, and a head that leaves takes the instructions behind it along, up to the next pending access.
-use Rattle.std.proofs.Common.{◌≡◌, ◌∙◌, ap, refl, sym, subst, ℕ, ◌+◌, ◌<◌, ◌/◌, ◌==◌, Bool, true, false, not, ◌&&◌}
-use Rattle.std.proofs.Common.{◌||◌, List, [], ◌∷◌, ◌++◌, eqb-true, arith}
+use Rattle.std.proofs.Common.{◌≡◌, ◌∙◌, ap, refl, sym, subst, ℕ, ◌+◌, ◌/◌, ◌==◌, Bool, true, false, not, ◌&&◌}
+use Rattle.std.proofs.Common.{List, [], ◌∷◌, ◌++◌, eqb-true}
 use Rattle.std.specs.Prelude.{drop, if◌then◌else◌}
 use Rattle.std.proofs.lemmas.Bool.{and_parts}
 use Rattle.access_times.specs.Riding.{Riding, Carrying}
@@ -29,7 +29,7 @@ use Rattle.tso_state.specs.declared.pending.Pending.{Pending}
 use Rattle.tso_state.specs.declared.pending.Pending.TheVariants.{Load as PendingLoad, Store as PendingStore}
 use Rattle.tso_state.specs.declared.pending.Asker.{Asker}
 use Rattle.tso_state.specs.declared.pending.Asker.TheVariants.{Nobody, Next, Head}
-use Rattle.tso_state.specs.Pending.{count_of, forwarded, left_by, value_of}
+use Rattle.tso_state.specs.Pending.{count_of, forwarded, value_of}
 use Rattle.tso_state.specs.States.{State, BufferedCore, core_at}
 use Rattle.tso_state.specs.Moves.{core_of}
 use Rattle.tso_state.specs.Events.{Event, Nothing, Executes, Buffers, Performs, Drains, Logs, Told, Alone, Ordered}
@@ -42,6 +42,7 @@ use Rattle.tso_invariant.proofs.Kept.{core_can, enabled_core}
 use Rattle.tso_told.specs.Played.{IsNext, found_by}
 use Rattle.tso_told.proofs.Following.{Arrives, Tells, arrives_local, arrives_pushed, leaves, load_leaves}
 use Rattle.tso_told.proofs.Following.{store_leaves}
+use Rattle.tso_invariant.proofs.Ordered.{stored}
 
 -- what an event tells, and what it makes of the queue and the core
 abbrev pub EventTells : Contents → Core → BufferedCore → Event → Type 0
@@ -168,25 +169,16 @@ module _ {R K : Type 0} where
   ordering_told law image riding base t p (PendingStore count word mask bits ∷ rest) is a =
       by_allowed (allows riding p (word / BLOCK_WORDS) Storing)
     where
-      x : Pending
-      x = PendingStore count word mask bits
-
       b : Access
-      b = record {
-        at = record { core = t.core.id; count = count };
-        word = word;
-        kind = Storing;
-        before = word_at riding p word;
-        after = left_by x (word_at riding p word);
-      }
+      b = stored t.core.id count word mask bits (word_at riding p word)
 
-      here : Arrives image base (x ∷ rest) t.core
+      here : Arrives image base (PendingStore count word mask bits ∷ rest) t.core
       here = subst (λ (q : List Pending). Arrives image base q t.core) is a
 
       by_allowed : (l : Bool) → EventTells image base t (if l then Drains b else Nothing)
       by_allowed true =
           let w = store_leaves law image base count word mask bits (word_at riding p word) rest t.core here in
-          head_told image base t x rest (Ordered b) is (leaves image base x rest t.core (Ordered b) here w.0 w.1)
+          head_told image base t (PendingStore count word mask bits) rest (Ordered b) is (leaves image base (PendingStore count word mask bits) rest t.core (Ordered b) here w.0 w.1)
       by_allowed false = nothing_told image base t.queue t.core a
 
   pub amo_alone : (image : Contents) (riding : Riding R) (t : BufferedCore) (p : Port R K) (needed : Need)

@@ -51,6 +51,7 @@ use Rattle.tso_invariant.proofs.Kept.{core_port, enabled_core}
 use Rattle.tso_invariant.proofs.Queues.{head_within}
 use Rattle.rv_core.proofs.Masks.{mask_law}
 use Rattle.tso_words.specs.Words.{SmallTold}
+use Rattle.tso_invariant.proofs.Ordered.{stored}
 
 -- what a pending load got is a word, and a pending store leaves a word of a word
 abbrev pub SmallPending : Pending → Type 0
@@ -243,24 +244,15 @@ module _ {R K : Type 0} where
       p : Port R K
       p = port_at carrying m.ports c
 
-      x : Pending
-      x = PendingStore n word mask bits
-
       a : Access
-      a = record {
-        at = record { core = t.core.id; count = n };
-        word = word;
-        kind = Storing;
-        before = word_at riding p word;
-        after = left_by x (word_at riding p word);
-      }
+      a = stored t.core.id n word mask bits (word_at riding p word)
 
       by_allowed : (b : Bool) → allows riding p (word / BLOCK_WORDS) Storing ≡ b →
           Small t (if b then Drains a else Nothing)
       by_allowed true f =
           drained_small t a q (own.0 (word_at riding p word)
           (word_small riding carrying m c words word Storing memory h lc k small
-          (head_within words count x rest holds) f))
+          (head_within words count (PendingStore n word mask bits) rest holds) f))
       by_allowed false f = nothing_small t q
 
   granted_small : (riding : Riding R) (carrying : Carrying K) (m : Memory R K) (c : ℕ) (image : Contents)

@@ -5,7 +5,7 @@ use Rattle.gdb_session.specs.declared.orders.Order.{Order}
 use Rattle.gdb_session.specs.Moves.{Goes, GoesBackWith, GoesBackward, GoesWith, Obeys, Steps, StepsBackward}
 use Rattle.gdb_session.specs.Orders.{IsWithin, every_core}
 use Rattle.gdb_session.specs.Stopping.{Stopping}
-use Rattle.gdb_session.proofs.EndLemmas.{same_stopping}
+use Rattle.gdb_session.proofs.EndLemmas.{same_move}
 use Rattle.gdb_session.proofs.moves.obey.Goals as goal
 
 pub without-requires : goal.without-requires
@@ -27,68 +27,48 @@ every_core-every-requires c =
 
 pub returns-in-Step-clause-obeys : goal.returns-in-Step-clause-obeys
 returns-in-Step-clause-obeys c =
-    let old = c.args.place.now in
-    let points = c.args.points.now in
-    let new = c.step_core.new.place in
-    let same = same_stopping c.args.audited.now c.args.image.now old points _ _ _ _ c.requires.sees
-    c.outcome.ensures.passed c.without.ensures refl in
-    subst (λ (o : Order). IfOk c.step_core.result (Obeys points o old new)) (sym c.in-Step.is)
-    (subst (λ (s : Stopping). IfOk c.step_core.result (Steps s c.in-Step.core old new))
-    (c.new-hearing.ensures ∙ same) c.step_core.ensures.steps)
+    subst (λ (o : Order). IfOk c.step_core.result (Obeys c.args.points.now o c.args.place.now c.step_core.new.place))
+    (sym c.in-Step.is)
+    (same_move _ _ _ _ _ _ _ _ _ (λ (s : Stopping). IfOk c.step_core.result
+    (Steps s c.in-Step.core c.args.place.now c.step_core.new.place)) c.requires.sees c.outcome.ensures.passed
+    c.new-hearing.ensures c.without.ensures refl c.step_core.ensures.steps)
 
 pub returns-in-Go-clause-obeys : goal.returns-in-Go-clause-obeys
 returns-in-Go-clause-obeys c =
-    let old = c.args.place.now in
-    let points = c.args.points.now in
-    let new = c.go.new.place in
-    let same = same_stopping c.args.audited.now c.args.image.now old points _ _ _ _ c.requires.sees
-    c.outcome.ensures.passed refl refl in
-    subst (λ (o : Order). IfOk c.go.result (Obeys points o old new)) (sym c.in-Go.is)
-    (subst (λ (s : Stopping). IfOk c.go.result (Goes s c.in-Go.lead old new))
-    (c.new-hearing-in-Go.ensures ∙ same) c.go.ensures.goes)
+    subst (λ (o : Order). IfOk c.go.result (Obeys c.args.points.now o c.args.place.now c.go.new.place))
+    (sym c.in-Go.is)
+    (same_move _ _ _ _ _ _ _ _ _ (λ (s : Stopping). IfOk c.go.result
+    (Goes s c.in-Go.lead c.args.place.now c.go.new.place)) c.requires.sees c.outcome.ensures.passed
+    c.new-hearing-in-Go.ensures refl refl c.go.ensures.goes)
 
 pub returns-in-GoWith-clause-obeys : goal.returns-in-GoWith-clause-obeys
 returns-in-GoWith-clause-obeys c =
-    let old = c.args.place.now in
-    let points = c.args.points.now in
-    let new = c.go_with.new.place in
-    let same = same_stopping c.args.audited.now c.args.image.now old points _ _ _ _ c.requires.sees
-    c.outcome.ensures.passed refl refl in
-    subst (λ (o : Order). IfOk c.go_with.result (Obeys points o old new)) (sym c.in-GoWith.is)
-    (subst (λ (s : Stopping). IfOk c.go_with.result (GoesWith s c.in-GoWith.cores c.in-GoWith.lead old new))
-    (c.new-hearing-in-GoWith.ensures ∙ same) c.go_with.ensures.goes)
+    subst (λ (o : Order). IfOk c.go_with.result (Obeys c.args.points.now o c.args.place.now c.go_with.new.place))
+    (sym c.in-GoWith.is)
+    (same_move _ _ _ _ _ _ _ _ _ (λ (s : Stopping). IfOk c.go_with.result
+    (GoesWith s c.in-GoWith.cores c.in-GoWith.lead c.args.place.now c.go_with.new.place)) c.requires.sees c.outcome.ensures.passed
+    c.new-hearing-in-GoWith.ensures refl refl c.go_with.ensures.goes)
 
 pub returns-in-StepBack-clause-obeys : goal.returns-in-StepBack-clause-obeys
 returns-in-StepBack-clause-obeys c =
-    let old = c.args.place.now in
-    let points = c.args.points.now in
-    let new = c.step_back_core.new.place in
-    let same = same_stopping c.args.audited.now c.args.image.now old points _ _ _ _ c.requires.sees
-    c.outcome.ensures.passed refl c.empty.ensures in
-    subst (λ (o : Order). IfOk c.step_back_core.result (Obeys points o old new)) (sym c.in-StepBack.is)
-    (subst (λ (s : Stopping). IfOk c.step_back_core.result (StepsBackward s c.in-StepBack.core old new))
-    (c.new-hearing-in-StepBack.ensures ∙ same) c.step_back_core.ensures.steps)
+    subst (λ (o : Order). IfOk c.step_back_core.result (Obeys c.args.points.now o c.args.place.now c.step_back_core.new.place))
+    (sym c.in-StepBack.is)
+    (same_move _ _ _ _ _ _ _ _ _ (λ (s : Stopping). IfOk c.step_back_core.result
+    (StepsBackward s c.in-StepBack.core c.args.place.now c.step_back_core.new.place)) c.requires.sees c.outcome.ensures.passed
+    c.new-hearing-in-StepBack.ensures refl c.empty.ensures c.step_back_core.ensures.steps)
 
 pub returns-in-GoBack-clause-obeys : goal.returns-in-GoBack-clause-obeys
 returns-in-GoBack-clause-obeys c =
-    let old = c.args.place.now in
-    let points = c.args.points.now in
-    let new = c.go_back.new.place in
-    let same = same_stopping c.args.audited.now c.args.image.now old points _ _ _ _ c.requires.sees
-    c.outcome.ensures.passed (c.every_core-every.ensures ∙ ap (λ (n : ℕ). every_core n) c.cores.ensures)
-    c.empty-in-GoBack.ensures in
-    subst (λ (o : Order). IfOk c.go_back.result (Obeys points o old new)) (sym c.in-GoBack.is)
-    (subst (λ (s : Stopping). IfOk c.go_back.result (GoesBackward s c.in-GoBack.lead old new))
-    (c.new-hearing-in-GoBack.ensures ∙ same) c.go_back.ensures.goes)
+    subst (λ (o : Order). IfOk c.go_back.result (Obeys c.args.points.now o c.args.place.now c.go_back.new.place))
+    (sym c.in-GoBack.is)
+    (same_move _ _ _ _ _ _ _ _ _ (λ (s : Stopping). IfOk c.go_back.result
+    (GoesBackward s c.in-GoBack.lead c.args.place.now c.go_back.new.place)) c.requires.sees c.outcome.ensures.passed
+    c.new-hearing-in-GoBack.ensures (c.every_core-every.ensures ∙ ap (λ (n : ℕ). every_core n) c.cores.ensures) c.empty-in-GoBack.ensures c.go_back.ensures.goes)
 
 pub returns-in-GoBackWith-clause-obeys : goal.returns-in-GoBackWith-clause-obeys
 returns-in-GoBackWith-clause-obeys c =
-    let old = c.args.place.now in
-    let points = c.args.points.now in
-    let new = c.go_back_with.new.place in
-    let same = same_stopping c.args.audited.now c.args.image.now old points _ _ _ _ c.requires.sees
-    c.outcome.ensures.passed refl c.empty-in-GoBackWith.ensures in
-    subst (λ (o : Order). IfOk c.go_back_with.result (Obeys points o old new)) (sym c.in-GoBackWith.is)
-    (subst (λ (s : Stopping). IfOk c.go_back_with.result
-    (GoesBackWith s c.in-GoBackWith.cores c.in-GoBackWith.lead old new))
-    (c.new-hearing-in-GoBackWith.ensures ∙ same) c.go_back_with.ensures.goes)
+    subst (λ (o : Order). IfOk c.go_back_with.result (Obeys c.args.points.now o c.args.place.now c.go_back_with.new.place))
+    (sym c.in-GoBackWith.is)
+    (same_move _ _ _ _ _ _ _ _ _ (λ (s : Stopping). IfOk c.go_back_with.result
+    (GoesBackWith s c.in-GoBackWith.cores c.in-GoBackWith.lead c.args.place.now c.go_back_with.new.place)) c.requires.sees c.outcome.ensures.passed
+    c.new-hearing-in-GoBackWith.ensures refl c.empty-in-GoBackWith.ensures c.go_back_with.ensures.goes)

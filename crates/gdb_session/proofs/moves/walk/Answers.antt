@@ -5,30 +5,26 @@ use Rattle.debug_place.specs.Stops.{GoesOn}
 use Rattle.gdb_session.specs.Stopping.{stopping_of, stops_at}
 use Rattle.gdb_session.proofs.OnWays.{next_forward}
 use Rattle.gdb_session.proofs.moves.walk.Goals as goal
+use Rattle.gdb_session.proofs.moves.walk.Goals.{In-Some}
+
+-- how far the way was gone
+gone : (c : In-Some) → GoesOn (stops_at (stopping_of c.args.hearing.now)) c.args.place.now c.args.to.now
+    c.go_to.new.self (Some c.in-Some.core)
+gone c = subst (λ (o : Option ℕ). GoesOn (stops_at (stopping_of c.args.hearing.now)) c.args.place.now c.args.to.now
+    c.go_to.new.self o) c.in-Some.is c.in_ok-go_to.ensures.ok
 
 pub halt-requires-clause-next : goal.halt-requires-clause-next
-halt-requires-clause-next c =
-    let test = stops_at (stopping_of c.args.hearing.now) in
-    let old = c.args.place.now in
-    let mid = c.go_to.new.self in
-    let to = c.args.to.now in
-    let goes : GoesOn test old to mid (Some c.in-Some.core) =
-    subst (λ (o : Option ℕ). GoesOn test old to mid o) c.in-Some.is c.in_ok-go_to.ensures.ok in
-    next_forward test old mid to c.in-Some.core c.cut.ensures.stands c.requires.valid c.requires.closed
-    c.requires.within c.go_to.ensures.recording c.go_to.ensures.which goes
+halt-requires-clause-next c = next_forward _ c.args.place.now c.go_to.new.self _ _ c.cut.ensures.stands
+    c.requires.valid c.requires.closed c.requires.within c.go_to.ensures.recording c.go_to.ensures.which
+    (gone (goal.at.halt-requires-clause-next c).In-Some)
 
 pub returns-in-Some-clause-walks : goal.returns-in-Some-clause-walks
-returns-in-Some-clause-walks c =
-    let test = stops_at (stopping_of c.args.hearing.now) in
-    let old = c.args.place.now in
-    let mid = c.go_to.new.self in
-    let to = c.args.to.now in
-    let goes : GoesOn test old to mid (Some c.in-Some.core) =
-    subst (λ (o : Option ℕ). GoesOn test old to mid o) c.in-Some.is c.in_ok-go_to.ensures.ok in
-    IfOk-weaker c.halt.result _ _ (λ stop halts. record {
-      mid = mid;
+returns-in-Some-clause-walks c = IfOk-weaker c.halt.result _ _
+    (λ stop halts. record {
+      mid = c.go_to.new.self;
       kept = record { recording = c.go_to.ensures.recording; which = c.go_to.ensures.which };
       before = Some c.in-Some.core;
-      goes = goes;
+      goes = gone (goal.at.returns-in-Some-clause-walks c).In-Some;
       ends = halts;
-    }) c.halt.ensures.halts
+    })
+    c.halt.ensures.halts

@@ -1,4 +1,4 @@
-use Rattle.std.proofs.Common.{◌≡◌, ◌∙◌, ◌<◌, ◌+◌, ◌-◌, List, ℕ, get_or, refl, sym, subst, arith}
+use Rattle.std.proofs.Common.{◌≡◌, ◌∙◌, ◌<◌, ◌+◌, ◌-◌, List, ℕ, length, get_or, refl, sym, subst, arith}
 use Rattle.std.specs.Prelude.{Option, Some, MatchOption, slice_index, slice_set}
 use Rattle.std.proofs.lemmas.Bool.{leb-false, leb-true}
 use Rattle.gdb_packets.specs.declared.replies.Stop as stops
@@ -14,8 +14,19 @@ use Rattle.gdb_session.proofs.BackLemmas.{IsTurningBack, back_count, back_few, b
 use Rattle.gdb_session.proofs.BackLemmas.{back_taken, back_there, turning_last}
 use Rattle.gdb_session.proofs.TurnLemmas.{line_inside}
 use Rattle.gdb_session.proofs.turns.go_back_with.Goals as goal
-use Rattle.gdb_session.proofs.turns.go_back_with.Goals.{then-has+then-not-lacks+in_ok-stop+in_default, else-has}
+use Rattle.gdb_session.proofs.turns.go_back_with.Goals.{After-timeline, then-has+then-not-lacks+in_ok-stop+in_default, else-has}
 use Rattle.gdb_session.proofs.turns.go_back_with.Goals.{else-has-via-then-has+else-not-lacks, else-has-via-else-has}
+
+-- the recording is valid, and the timeline has the place before
+valid : (c : After-timeline) → Valid c.args.place.now.recording
+valid c = subst (λ (r : Recording). Valid r) c.requires.run.recording c.recording.ensures.valid
+
+number_is : (c : After-timeline) → c.loop-number.number ≡ c.loop-number.number - 1 + 1
+number_is c = let some = c.loop-number-test.true in omega arith
+
+inside : (c : After-timeline) → c.loop-number.number - 1 < length c.timeline.result.now
+inside c = line_inside _ _ c.loop-number.invariant.kept _ _ c.timeline.ensures c.timeline-number.ensures _
+    (let some = c.loop-number-test.true in let most = c.loop-number.auto.number in omega arith)
 
 pub loop-number-init : goal.loop-number-init
 loop-number-init c =
@@ -33,165 +44,81 @@ loop-number-init c =
 
 pub bounds-at-core : goal.bounds-at-core
 bounds-at-core c =
-    let h = c.loop-number.invariant in
-    let valid : Valid c.args.place.now.recording =
-    subst (λ (r : Recording). Valid r) c.requires.run.recording c.recording.ensures.valid in
-    let line = c.timeline.result.now in
-    let number = c.loop-number.number in
-    let some = c.loop-number-test.true in
-    let most = c.loop-number.auto.number in
-    let number_is : number ≡ number - 1 + 1 = omega arith in
-    let inside = line_inside c.args.place.now c.loop-number.place h.kept line c.timeline-number.result.now
-    c.timeline.ensures c.timeline-number.ensures (number - 1) (omega arith) in
-    back_few (stopping_of c.args.hearing.now) c.args.cores c.args.place.now c.loop-number.at number c.loop-number.place
-    h valid line c.timeline.ensures (number - 1) number_is inside
+    let here = (goal.at.bounds-at-core c).After-timeline in
+    back_few _ _ _ _ _ _ c.loop-number.invariant (valid here) _ c.timeline.ensures _ (number_is here) (inside here)
 
 pub overflow_sub-count : goal.overflow_sub-count
 overflow_sub-count c =
-    let h = c.loop-number.invariant in
-    let valid : Valid c.args.place.now.recording =
-    subst (λ (r : Recording). Valid r) c.requires.run.recording c.recording.ensures.valid in
-    let line = c.timeline.result.now in
-    let number = c.loop-number.number in
-    let some = c.loop-number-test.true in
-    let most = c.loop-number.auto.number in
-    let number_is : number ≡ number - 1 + 1 = omega arith in
-    let inside = line_inside c.args.place.now c.loop-number.place h.kept line c.timeline-number.result.now
-    c.timeline.ensures c.timeline-number.ensures (number - 1) (omega arith) in
-    let is = back_count (stopping_of c.args.hearing.now) c.args.cores c.args.place.now c.loop-number.at number
-    c.loop-number.place
-    h valid line c.timeline.ensures (number - 1) number_is inside in
+    let here = (goal.at.overflow_sub-count c).After-timeline in
+    let is = back_count _ _ _ _ _ _ c.loop-number.invariant (valid here) _ c.timeline.ensures _ (number_is here) (inside here) in
     omega arith
 
 pub has-requires : goal.has-requires
 has-requires c =
-    let h = c.loop-number.invariant in
-    let valid : Valid c.args.place.now.recording =
-    subst (λ (r : Recording). Valid r) c.requires.run.recording c.recording.ensures.valid in
-    let line = c.timeline.result.now in
-    let number = c.loop-number.number in
-    let some = c.loop-number-test.true in
-    let most = c.loop-number.auto.number in
-    let number_is : number ≡ number - 1 + 1 = omega arith in
-    let inside = line_inside c.args.place.now c.loop-number.place h.kept line c.timeline-number.result.now
-    c.timeline.ensures c.timeline-number.ensures (number - 1) (omega arith) in
-    back_few (stopping_of c.args.hearing.now) c.args.cores c.args.place.now c.loop-number.at number c.loop-number.place
-    h valid line c.timeline.ensures (number - 1) number_is inside
+    let here = (goal.at.has-requires c).After-timeline in
+    back_few _ _ _ _ _ _ c.loop-number.invariant (valid here) _ c.timeline.ensures _ (number_is here) (inside here)
 
 pub lacks-requires-clause-core : goal.lacks-requires-clause-core
 lacks-requires-clause-core c =
-    let h = c.loop-number.invariant in
-    let valid : Valid c.args.place.now.recording =
-    subst (λ (r : Recording). Valid r) c.requires.run.recording c.recording.ensures.valid in
-    let line = c.timeline.result.now in
-    let number = c.loop-number.number in
-    let some = c.loop-number-test.true in
-    let most = c.loop-number.auto.number in
-    let number_is : number ≡ number - 1 + 1 = omega arith in
-    let inside = line_inside c.args.place.now c.loop-number.place h.kept line c.timeline-number.result.now
-    c.timeline.ensures c.timeline-number.ensures (number - 1) (omega arith) in
-    subst (λ (r : Recording). get_or line (number - 1) 0 < r.params.cores) (sym h.kept.recording)
-    (back_inside (stopping_of c.args.hearing.now) c.args.cores c.args.place.now c.loop-number.at number
-    c.loop-number.place
-    h valid line c.timeline.ensures (number - 1) number_is inside)
+    let here = (goal.at.lacks-requires-clause-core c).After-timeline in
+    subst (λ (r : Recording). get_or c.timeline.result.now (c.loop-number.number - 1) 0 < r.params.cores)
+    (sym c.loop-number.invariant.kept.recording)
+    (back_inside _ _ _ _ _ _ c.loop-number.invariant (valid here) _ c.timeline.ensures _ (number_is here) (inside here))
 
 pub step_back_until-requires-clause-last : goal.step_back_until-requires-clause-last
 step_back_until-requires-clause-last c =
-    let h = c.loop-number.invariant in
-    let valid : Valid c.args.place.now.recording =
-    subst (λ (r : Recording). Valid r) c.requires.run.recording c.recording.ensures.valid in
-    let line = c.timeline.result.now in
-    let number = c.loop-number.number in
-    let some = c.loop-number-test.true in
-    let most = c.loop-number.auto.number in
-    let number_is : number ≡ number - 1 + 1 = omega arith in
-    let inside = line_inside c.args.place.now c.loop-number.place h.kept line c.timeline-number.result.now
-    c.timeline.ensures c.timeline-number.ensures (number - 1) (omega arith) in
-    back_last (stopping_of c.args.hearing.now) c.args.cores c.args.place.now c.loop-number.at number c.loop-number.place
-    h valid line c.timeline.ensures (number - 1) number_is inside
+    let here = (goal.at.step_back_until-requires-clause-last c).After-timeline in
+    back_last _ _ _ _ _ _ c.loop-number.invariant (valid here) _ c.timeline.ensures _ (number_is here) (inside here)
     (sym c.has.ensures ∙ c.if-has.true) (leb-false _ _ (sym c.lacks.ensures ∙ c.if-not-lacks.true))
 
 pub returns-in-Some-clause-goes : goal.returns-in-Some-clause-goes
 returns-in-Some-clause-goes c =
+    let here = (goal.at.returns-in-Some-clause-goes c).After-timeline in
     let h = c.loop-number.invariant in
-    let valid : Valid c.args.place.now.recording =
-    subst (λ (r : Recording). Valid r) c.requires.run.recording c.recording.ensures.valid in
-    let line = c.timeline.result.now in
-    let number = c.loop-number.number in
-    let some = c.loop-number-test.true in
-    let most = c.loop-number.auto.number in
-    let number_is : number ≡ number - 1 + 1 = omega arith in
-    let inside = line_inside c.args.place.now c.loop-number.place h.kept line c.timeline-number.result.now
-    c.timeline.ensures c.timeline-number.ensures (number - 1) (omega arith) in
-    let now = c.loop-number.place in
-    let core = get_or line (number - 1) 0 in
+    let core = get_or c.timeline.result.now (c.loop-number.number - 1) 0 in
+    let stopping = stopping_of c.args.hearing.now in
     record {
       turns = h.turns;
-      mid = now;
+      mid = c.loop-number.place;
       free = h.free;
       next = Some core;
       ends = record {
-        turn = back_there (stopping_of c.args.hearing.now) c.args.cores c.args.place.now c.loop-number.at number
-            c.loop-number.place
-            h valid line c.timeline.ensures (number - 1) number_is inside
+        turn = back_there _ _ _ _ _ _ c.loop-number.invariant (valid here) _ c.timeline.ensures _ (number_is here) (inside here)
             (sym c.has.ensures ∙ c.if-has.true) (leb-false _ _ (sym c.lacks.ensures ∙ c.if-not-lacks.true));
         steps = subst (λ (s : Option stops.Stop). MatchOption s
-            (StepsBackFree (stopping_of c.args.hearing.now) core now c.step_back_until.new.place)
-            (StepsBackInto (stopping_of c.args.hearing.now) core now c.step_back_until.new.place)) c.in-Some.is
+            (StepsBackFree stopping core c.loop-number.place c.step_back_until.new.place)
+            (StepsBackInto stopping core c.loop-number.place c.step_back_until.new.place)) c.in-Some.is
             c.in_ok-stop.ensures.steps;
       };
     }
 
 pub bounds-at-core-in-loop-number : goal.bounds-at-core-in-loop-number
 bounds-at-core-in-loop-number c =
-    let h = c.loop-number.invariant in
-    let valid : Valid c.args.place.now.recording =
-    subst (λ (r : Recording). Valid r) c.requires.run.recording c.recording.ensures.valid in
-    let line = c.timeline.result.now in
-    let number = c.loop-number.number in
-    let some = c.loop-number-test.true in
-    let most = c.loop-number.auto.number in
-    let number_is : number ≡ number - 1 + 1 = omega arith in
-    let inside = line_inside c.args.place.now c.loop-number.place h.kept line c.timeline-number.result.now
-    c.timeline.ensures c.timeline-number.ensures (number - 1) (omega arith) in
-    back_few (stopping_of c.args.hearing.now) c.args.cores c.args.place.now c.loop-number.at number c.loop-number.place
-    h valid line c.timeline.ensures (number - 1) number_is inside
+    let here = (goal.at.bounds-at-core-in-loop-number c).After-timeline in
+    back_few _ _ _ _ _ _ c.loop-number.invariant (valid here) _ c.timeline.ensures _ (number_is here) (inside here)
 
 pub loop-number-preserved : goal.loop-number-preserved
 loop-number-preserved c =
-    let h = c.loop-number.invariant in
-    let valid : Valid c.args.place.now.recording =
-    subst (λ (r : Recording). Valid r) c.requires.run.recording c.recording.ensures.valid in
-    let line = c.timeline.result.now in
-    let number = c.loop-number.number in
-    let some = c.loop-number-test.true in
-    let most = c.loop-number.auto.number in
-    let number_is : number ≡ number - 1 + 1 = omega arith in
-    let inside = line_inside c.args.place.now c.loop-number.place h.kept line c.timeline-number.result.now
-    c.timeline.ensures c.timeline-number.ensures (number - 1) (omega arith) in
+    let here = (goal.at.loop-number-preserved c).After-timeline in
     let now = c.loop-number.place in
-    let core = get_or line (number - 1) 0 in
+    let core = get_or c.timeline.result.now (c.loop-number.number - 1) 0 in
     let at = c.loop-number.at in
     let stopping = stopping_of c.args.hearing.now in
     let new : List ℕ = slice_set at core (slice_index at core - 1) in
     elim c.if-has.branch [
       | then-has+then-not-lacks+in_ok-stop+in_default w ↦
-          subst (λ (p : Placed). IsTurningBack stopping c.args.cores c.args.place.now new (number - 1) p)
+          subst (λ (p : Placed). IsTurningBack stopping c.args.cores c.args.place.now new (c.loop-number.number - 1) p)
           (sym w.place-is)
-          (back_taken (stopping_of c.args.hearing.now) c.args.cores c.args.place.now c.loop-number.at number
-          c.loop-number.place
-          h valid line c.timeline.ensures (number - 1) number_is inside new refl
+          (back_taken _ _ _ _ _ _ c.loop-number.invariant (valid here) _ c.timeline.ensures _ (number_is here) (inside here) new refl
           w.step_back_until.new.place
           (sym c.has.ensures ∙ w.if-has.true) (leb-false _ _ (sym w.lacks.ensures ∙ w.if-not-lacks.true))
           (subst (λ (s : Option stops.Stop). MatchOption s
           (StepsBackFree stopping core now w.step_back_until.new.place)
           (StepsBackInto stopping core now w.step_back_until.new.place)) w.in_default.is w.in_ok-stop.ensures.steps))
       | else-has w ↦
-          subst (λ (p : Placed). IsTurningBack stopping c.args.cores c.args.place.now new (number - 1) p)
+          subst (λ (p : Placed). IsTurningBack stopping c.args.cores c.args.place.now new (c.loop-number.number - 1) p)
           (sym w.place-is)
-          (back_passed (stopping_of c.args.hearing.now) c.args.cores c.args.place.now c.loop-number.at number
-          c.loop-number.place
-          h valid line c.timeline.ensures (number - 1) number_is inside new refl
+          (back_passed _ _ _ _ _ _ c.loop-number.invariant (valid here) _ c.timeline.ensures _ (number_is here) (inside here) new refl
           (λ one. elim w.else-has.branch [
             | else-has-via-then-has+else-not-lacks v ↦ leb-true _ _ (sym v.lacks.ensures ∙ v.if-not-lacks.false)
             | else-has-via-else-has v ↦ let none = sym one ∙ sym c.has.ensures ∙ v.if-has.false in absurd cc

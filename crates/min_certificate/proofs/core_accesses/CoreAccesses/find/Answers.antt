@@ -1,4 +1,4 @@
-use Rattle.std.proofs.Common.{◌≡◌, ◌∙◌, List, None, ap, sym, subst}
+use Rattle.std.proofs.Common.{◌∙◌, List, None, ap, sym, subst}
 use Rattle.rtr_types.specs.declared.access.Access.{Access}
 use Rattle.min_certificate.specs.Conflicting.{IsAccessAt, IsPlaceOf, place_in}
 use Rattle.min_certificate.proofs.Indexed.{access_got, access_none, placed_in}

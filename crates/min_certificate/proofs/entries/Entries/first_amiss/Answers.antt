@@ -10,23 +10,11 @@ use Rattle.min_certificate.proofs.entries.Entries.first_amiss.Goals.{
   then-not-is_conflict-via-else-not-is_conflict+then-not-is_needed,
 }
 
-pub is_needed-requires-clause-within : goal.is_needed-requires-clause-within
-is_needed-requires-clause-within c =
-    (edge_at c.args.self.now.recording c.edges-edge-items.result.now c.loop-edge.edge-index _
-    c.edges-edge-items.ensures.valid
-    c.edges-edge-items.ensures.edges c.loop-edge-test.true).within
-
-pub is_needed-requires-clause-edge : goal.is_needed-requires-clause-edge
-is_needed-requires-clause-edge c =
-    (edge_at c.args.self.now.recording c.edges-edge-items.result.now c.loop-edge.edge-index _
-    c.edges-edge-items.ensures.valid
-    c.edges-edge-items.ensures.edges c.loop-edge-test.true).edge
-
-pub is_needed-requires-clause-some : goal.is_needed-requires-clause-some
-is_needed-requires-clause-some c =
-    (edge_at c.args.self.now.recording c.edges-edge-items.result.now c.loop-edge.edge-index _
-    c.edges-edge-items.ensures.valid
-    c.edges-edge-items.ensures.edges c.loop-edge-test.true).some
+pub is_needed-requires : goal.is_needed-requires
+is_needed-requires c =
+    let e = edge_at c.args.self.now.recording c.edges-edge-items.result.now c.loop-edge.edge-index _
+    c.edges-edge-items.ensures.valid c.edges-edge-items.ensures.edges c.loop-edge-test.true in
+    record { within = e.within; edge = e.edge; some = e.some }
 
 pub returns-then-not-is_conflict : goal.returns-then-not-is_conflict
 returns-then-not-is_conflict c =

@@ -6,23 +6,11 @@ use Rattle.std.proofs.Common.{None}
 use Rattle.min_certificate.proofs.First.{no_edge, edge_at, fails_first, holds_more, holds_all}
 use Rattle.min_certificate.proofs.entries.Entries.first_not_needed.Goals as goal
 
-pub is_needed-requires-clause-within : goal.is_needed-requires-clause-within
-is_needed-requires-clause-within c =
-    (edge_at c.args.self.now.recording c.edges-edge-items.result.now c.loop-edge.edge-index _
-    c.edges-edge-items.ensures.valid
-    c.edges-edge-items.ensures.edges c.loop-edge-test.true).within
-
-pub is_needed-requires-clause-edge : goal.is_needed-requires-clause-edge
-is_needed-requires-clause-edge c =
-    (edge_at c.args.self.now.recording c.edges-edge-items.result.now c.loop-edge.edge-index _
-    c.edges-edge-items.ensures.valid
-    c.edges-edge-items.ensures.edges c.loop-edge-test.true).edge
-
-pub is_needed-requires-clause-some : goal.is_needed-requires-clause-some
-is_needed-requires-clause-some c =
-    (edge_at c.args.self.now.recording c.edges-edge-items.result.now c.loop-edge.edge-index _
-    c.edges-edge-items.ensures.valid
-    c.edges-edge-items.ensures.edges c.loop-edge-test.true).some
+pub is_needed-requires : goal.is_needed-requires
+is_needed-requires c =
+    let e = edge_at c.args.self.now.recording c.edges-edge-items.result.now c.loop-edge.edge-index _
+    c.edges-edge-items.ensures.valid c.edges-edge-items.ensures.edges c.loop-edge-test.true in
+    record { within = e.within; edge = e.edge; some = e.some }
 
 pub returns-then-not-is_needed : goal.returns-then-not-is_needed
 returns-then-not-is_needed c =

@@ -1,75 +1,49 @@
-use Rattle.std.proofs.Common.{◌≡◌, ◌∙◌, ap, sym, arith, length, refl}
+use Rattle.std.proofs.Common.{◌∙◌, ◌<◌, ap, sym, arith, length, refl}
 use Rattle.std.proofs.lemmas.List.{length-set}
 use Rattle.roomy_lists.specs.Lists.{items_in}
-use Rattle.online_reduce.specs.Reduced.{Reduced, clock_of}
+use Rattle.online_reduce.specs.Reduced.{clock_of}
 use Rattle.online_reduce.specs.Rule.{edges_into}
 use Rattle.online_reduce.proofs.Drawn.{drew, found_are, none_are}
 use Rattle.online_reduce.proofs.Found.{found_few}
 use Rattle.online_reduce.proofs.Retired.{AreFound, sources_apart, sources_pair}
 use Rattle.online_reduce.proofs.Rooms.{length-after}
 use Rattle.online_reduce.proofs.reducer.Reducer.add_reads.Goals as goal
+use Rattle.online_reduce.proofs.reducer.Reducer.add_reads.Goals.{After-new-found, After-index-self-own-2}
+
+-- the access's core has a clock
+within : (c : After-new-found) → c.args.access.now.at.core < length c.self.inside.clocks
+within c =
+    let cores_are = ap (λ v. v.state.cores) c.self.view_is in
+    let own = c.requires.own in
+    omega (arith, c.self.invariant.0, c.self.invariant.1)
+
+-- some reads were found
+are : (c : After-index-self-own-2) → c.args.access.now.at.core < length c.self.inside.clocks
+    → AreFound c.args.self.now.state c.args.access.now c.args.times.now c.new-found.result
+are c inside = found_are _ _ _ _ _ _ (ap (λ v. v.state) c.self.view_is) inside c.new-found.ensures
+    (sym c.is_empty.ensures ∙ c.if-is_empty.false)
 
 pub add_reads-requires-clause-few : goal.add_reads-requires-clause-few
 add_reads-requires-clause-few c =
-    let now = c.args.self.now.state in
-    let a = c.args.access.now in
-    let r : Reduced = record {
-      cores = c.self.inside.cores;
-      clocks = c.self.inside.clocks;
-      lists = items_in
-          c.self.inside.pairs;
-    } in
-    let same : r ≡ now = ap (λ v. v.state) c.self.view_is in
-    let cores_are = ap (λ (q : Reduced). q.cores) same in
-    let own = c.requires.own in
-    let are : AreFound now a c.args.times.now c.new-found.result =
-    found_are r now a c.args.times.now c.index-self-own.result c.new-found.result same
-    (omega (arith, c.self.invariant.0, c.self.invariant.1))
-    c.new-found.ensures (sym c.is_empty.ensures ∙ c.if-is_empty.false) in
+    let at = goal.at.add_reads-requires-clause-few c in
+    let cores_are = ap (λ v. v.state.cores) c.self.view_is in
     omega (
       arith,
-      ap length are,
-      found_few now.cores (clock_of now a.at.core) a c.args.times.now
-          (omega (arith, c.self.invariant.0)),
+      ap length (are at.After-index-self-own-2 (within at.After-new-found)),
+      found_few c.args.self.now.state.cores (clock_of c.args.self.now.state c.args.access.now.at.core)
+          c.args.access.now c.args.times.now (omega (arith, c.self.invariant.0)),
     )
 
 pub add_reads-requires-clause-each : goal.add_reads-requires-clause-each
 add_reads-requires-clause-each c =
-    let now = c.args.self.now.state in
-    let a = c.args.access.now in
-    let r : Reduced = record {
-      cores = c.self.inside.cores;
-      clocks = c.self.inside.clocks;
-      lists = items_in
-          c.self.inside.pairs;
-    } in
-    let same : r ≡ now = ap (λ v. v.state) c.self.view_is in
-    let cores_are = ap (λ (q : Reduced). q.cores) same in
-    let own = c.requires.own in
-    let are : AreFound now a c.args.times.now c.new-found.result =
-    found_are r now a c.args.times.now c.index-self-own.result c.new-found.result same
-    (omega (arith, c.self.invariant.0, c.self.invariant.1))
-    c.new-found.ensures (sym c.is_empty.ensures ∙ c.if-is_empty.false) in
-    sources_pair c.self.inside.cores now a c.args.times.now c.new-found.result cores_are own are
+    let at = goal.at.add_reads-requires-clause-each c in
+    sources_pair _ c.args.self.now.state c.args.access.now c.args.times.now _ (ap (λ v. v.state.cores) c.self.view_is) c.requires.own
+    (are at.After-index-self-own-2 (within at.After-new-found))
 
 pub add_reads-requires-clause-apart : goal.add_reads-requires-clause-apart
 add_reads-requires-clause-apart c =
-    let now = c.args.self.now.state in
-    let a = c.args.access.now in
-    let r : Reduced = record {
-      cores = c.self.inside.cores;
-      clocks = c.self.inside.clocks;
-      lists = items_in
-          c.self.inside.pairs;
-    } in
-    let same : r ≡ now = ap (λ v. v.state) c.self.view_is in
-    let cores_are = ap (λ (q : Reduced). q.cores) same in
-    let own = c.requires.own in
-    let are : AreFound now a c.args.times.now c.new-found.result =
-    found_are r now a c.args.times.now c.index-self-own.result c.new-found.result same
-    (omega (arith, c.self.invariant.0, c.self.invariant.1))
-    c.new-found.ensures (sym c.is_empty.ensures ∙ c.if-is_empty.false) in
-    sources_apart now a c.args.times.now c.new-found.result are
+    let at = goal.at.add_reads-requires-clause-apart c in
+    sources_apart c.args.self.now.state c.args.access.now c.args.times.now _ (are at.After-index-self-own-2 (within at.After-new-found))
 
 pub invariant_of-self : goal.invariant_of-self
 invariant_of-self c = (
@@ -81,59 +55,22 @@ invariant_of-self c = (
 
 pub returns-clause-state : goal.returns-clause-state
 returns-clause-state c read =
-    let now = c.args.self.now.state in
-    let a = c.args.access.now in
-    let r : Reduced = record {
-      cores = c.self.inside.cores;
-      clocks = c.self.inside.clocks;
-      lists = items_in
-          c.self.inside.pairs;
-    } in
-    let same : r ≡ now = ap (λ v. v.state) c.self.view_is in
-    let cores_are = ap (λ (q : Reduced). q.cores) same in
-    let own = c.requires.own in
-    let are : AreFound now a c.args.times.now c.new-found.result =
-    found_are r now a c.args.times.now c.index-self-own.result c.new-found.result same
-    (omega (arith, c.self.invariant.0, c.self.invariant.1))
-    c.new-found.ensures (sym c.is_empty.ensures ∙ c.if-is_empty.false) in
-    drew r now a c.args.times.now c.new-found.result c.index-self-own-2.result c.add_reads.new.clock
-    (items_in c.add_reads.new.pairs) same
-    (omega (arith, c.self.invariant.0, c.self.invariant.1)) are c.add_reads.ensures.clock c.add_reads.ensures.lists
+    let at = goal.at.returns-clause-state c in
+    drew _ _ _ _ c.new-found.result c.index-self-own-2.result c.add_reads.new.clock (items_in c.add_reads.new.pairs)
+    (ap (λ v. v.state) c.self.view_is) (within at.After-new-found)
+    (are at.After-index-self-own-2 (within at.After-new-found)) c.add_reads.ensures.clock c.add_reads.ensures.lists
 
 pub returns-clause-edges : goal.returns-clause-edges
 returns-clause-edges c read =
-    let now = c.args.self.now.state in
-    let a = c.args.access.now in
-    let r : Reduced = record {
-      cores = c.self.inside.cores;
-      clocks = c.self.inside.clocks;
-      lists = items_in
-          c.self.inside.pairs;
-    } in
-    let same : r ≡ now = ap (λ v. v.state) c.self.view_is in
-    let cores_are = ap (λ (q : Reduced). q.cores) same in
-    let own = c.requires.own in
-    let are : AreFound now a c.args.times.now c.new-found.result =
-    found_are r now a c.args.times.now c.index-self-own.result c.new-found.result same
-    (omega (arith, c.self.invariant.0, c.self.invariant.1))
-    c.new-found.ensures (sym c.is_empty.ensures ∙ c.if-is_empty.false) in
-    c.add_reads.ensures.edges ∙ ap (edges_into a.at) are
+    let at = goal.at.returns-clause-edges c in
+    c.add_reads.ensures.edges
+    ∙ ap (edges_into c.args.access.now.at) (are at.After-index-self-own-2 (within at.After-new-found))
 
 pub returns-then-is_empty-clause-unread : goal.returns-then-is_empty-clause-unread
-returns-then-is_empty-clause-unread c unread =
-    let now = c.args.self.now.state in
-    let r : Reduced = record {
-      cores = c.self.inside.cores;
-      clocks = c.self.inside.clocks;
-      lists = items_in
-          c.self.inside.pairs;
-    } in
-    let same : r ≡ now = ap (λ v. v.state) c.self.view_is in
-    let cores_are = ap (λ (q : Reduced). q.cores) same in
-    let own = c.requires.own in (
-      refl,
-      c.requires.none,
-      none_are r now c.args.access.now c.args.times.now c.index-self-own.result c.new-found.result same
-          (omega (arith, c.self.invariant.0, c.self.invariant.1)) c.new-found.ensures
-          (sym c.is_empty.ensures ∙ c.if-is_empty.true),
-    )
+returns-then-is_empty-clause-unread c unread = (
+  refl,
+  c.requires.none,
+  none_are _ _ _ _ _ _ (ap (λ v. v.state) c.self.view_is)
+      (within (goal.at.returns-then-is_empty-clause-unread c).After-new-found) c.new-found.ensures
+      (sym c.is_empty.ensures ∙ c.if-is_empty.true),
+)

@@ -13,14 +13,20 @@ use Rattle.replay_audit.proofs.Touching.{IsFoundAt, Judged, access_place, counte
 use Rattle.replay_audit.proofs.Touching.{judged_none, judged_some, judged_start, placed_next, places_start}
 use Rattle.replay_audit.proofs.Touching.{ready_place, touched_place, verdict, walk_there}
 use Rattle.replay_audit.proofs.whole_order.WholeOrder.judge.Goals as goal
+use Rattle.replay_audit.proofs.whole_order.WholeOrder.judge.Goals.{After-as_slice-core-items}
 use Rattle.replay_audit.proofs.whole_order.WholeOrder.judge.Goals.{in-Some+in_ok-watch, in_default}
+
+-- the whole order, along the recording
+is_walk : (c : After-as_slice-core-items) → IsWalk c.args.self.which c.args.self.recording
+    c.as_slice-core-items.result.now c.self.inside.clocks
+is_walk c = walk_there _ c.args.self c.self.inside.order.items _ c.self.inside.clocks c.self.view_is
+    c.as_slice-core-items.ensures.value c.self.invariant
 
 pub loop-core-init : goal.loop-core-init
 loop-core-init c =
     let order : List ℕ = c.as_slice-core-items.result.now in
     let w : Walked = c.args.self in
-    let walk : IsWalk w.which w.recording order c.self.inside.clocks = walk_there _ w c.self.inside.order.items order
-    c.self.inside.clocks c.self.view_is c.as_slice-core-items.ensures.value c.self.invariant in
+    let walk = is_walk (goal.at.loop-core-init c).After-as_slice-core-items in
     let e = c.in_ok-trail.ensures in
     record {
       judged = judged_start w.which w.recording c.args.touched.now order c.in_ok-trail.trail
@@ -35,10 +41,7 @@ loop-core-init c =
 
 pub bounds-counts-core : goal.bounds-counts-core
 bounds-counts-core c =
-    let order : List ℕ = c.as_slice-core-items.result.now in
-    let w : Walked = c.args.self in
-    let walk : IsWalk w.which w.recording order c.self.inside.clocks = walk_there _ w c.self.inside.order.items order
-    c.self.inside.clocks c.self.view_is c.as_slice-core-items.ensures.value c.self.invariant in
+    let walk = is_walk (goal.at.bounds-counts-core c).After-as_slice-core-items in
     let few = few_place c.requires walk c.loop-core.core-index c.loop-core.invariant.judged c.loop-core-test.true 0 refl
     in
     let most : CORES_MAX ≡ 16 = refl in
@@ -47,9 +50,7 @@ bounds-counts-core c =
 pub overflow_add-count : goal.overflow_add-count
 overflow_add-count c =
     let order : List ℕ = c.as_slice-core-items.result.now in
-    let w : Walked = c.args.self in
-    let walk : IsWalk w.which w.recording order c.self.inside.clocks = walk_there _ w c.self.inside.order.items order
-    c.self.inside.clocks c.self.view_is c.as_slice-core-items.ensures.value c.self.invariant in
+    let walk = is_walk (goal.at.overflow_add-count c).After-as_slice-core-items in
     let k = c.loop-core.core-index in
     let core : ℕ = get_or order k 0 in
     let ready = ready_place c.requires walk k c.loop-core.invariant.judged c.loop-core-test.true 0 refl in
@@ -61,10 +62,7 @@ overflow_add-count c =
 
 pub bounds-counts-core-in-loop-core : goal.bounds-counts-core-in-loop-core
 bounds-counts-core-in-loop-core c =
-    let order : List ℕ = c.as_slice-core-items.result.now in
-    let w : Walked = c.args.self in
-    let walk : IsWalk w.which w.recording order c.self.inside.clocks = walk_there _ w c.self.inside.order.items order
-    c.self.inside.clocks c.self.view_is c.as_slice-core-items.ensures.value c.self.invariant in
+    let walk = is_walk (goal.at.bounds-counts-core-in-loop-core c).After-as_slice-core-items in
     let few = few_place c.requires walk c.loop-core.core-index c.loop-core.invariant.judged c.loop-core-test.true 0 refl
     in
     let most : CORES_MAX ≡ 16 = refl in
@@ -72,10 +70,7 @@ bounds-counts-core-in-loop-core c =
 
 pub bounds-places-core : goal.bounds-places-core
 bounds-places-core c =
-    let order : List ℕ = c.as_slice-core-items.result.now in
-    let w : Walked = c.args.self in
-    let walk : IsWalk w.which w.recording order c.self.inside.clocks = walk_there _ w c.self.inside.order.items order
-    c.self.inside.clocks c.self.view_is c.as_slice-core-items.ensures.value c.self.invariant in
+    let walk = is_walk (goal.at.bounds-places-core c).After-as_slice-core-items in
     let few = few_place c.requires walk c.loop-core.core-index c.loop-core.invariant.judged c.loop-core-test.true 0 refl
     in
     let most : CORES_MAX ≡ 16 = refl in
@@ -83,18 +78,13 @@ bounds-places-core c =
 
 pub access_at-requires-clause-core : goal.access_at-requires-clause-core
 access_at-requires-clause-core c =
-    let order : List ℕ = c.as_slice-core-items.result.now in
-    let w : Walked = c.args.self in
-    let walk : IsWalk w.which w.recording order c.self.inside.clocks = walk_there _ w c.self.inside.order.items order
-    c.self.inside.clocks c.self.view_is c.as_slice-core-items.ensures.value c.self.invariant in
+    let walk = is_walk (goal.at.access_at-requires-clause-core c).After-as_slice-core-items in
     touched_place c.requires walk c.loop-core.core-index c.loop-core.invariant.judged c.loop-core-test.true 0 refl
 
 pub watch-requires-clause-core : goal.watch-requires-clause-core
 watch-requires-clause-core c =
     let order : List ℕ = c.as_slice-core-items.result.now in
-    let w : Walked = c.args.self in
-    let walk : IsWalk w.which w.recording order c.self.inside.clocks = walk_there _ w c.self.inside.order.items order
-    c.self.inside.clocks c.self.view_is c.as_slice-core-items.ensures.value c.self.invariant in
+    let walk = is_walk (goal.at.watch-requires-clause-core c).After-as_slice-core-items in
     let k = c.loop-core.core-index in
     let core : ℕ = get_or order k 0 in
     let n : ℕ = slice_index c.loop-core.counts core + 1 in
@@ -105,18 +95,14 @@ watch-requires-clause-core c =
 
 pub watch-requires-clause-marked : goal.watch-requires-clause-marked
 watch-requires-clause-marked c =
-    let order : List ℕ = c.as_slice-core-items.result.now in
-    let w : Walked = c.args.self in
-    let walk : IsWalk w.which w.recording order c.self.inside.clocks = walk_there _ w c.self.inside.order.items order
-    c.self.inside.clocks c.self.view_is c.as_slice-core-items.ensures.value c.self.invariant in
+    let walk = is_walk (goal.at.watch-requires-clause-marked c).After-as_slice-core-items in
     each_marked c.requires walk c.loop-core.core-index c.loop-core.invariant.judged c.in-Some.access.word
 
 pub loop-core-preserved : goal.loop-core-preserved
 loop-core-preserved c =
     let order : List ℕ = c.as_slice-core-items.result.now in
     let w : Walked = c.args.self in
-    let walk : IsWalk w.which w.recording order c.self.inside.clocks = walk_there _ w c.self.inside.order.items order
-    c.self.inside.clocks c.self.view_is c.as_slice-core-items.ensures.value c.self.invariant in
+    let walk = is_walk (goal.at.loop-core-preserved c).After-as_slice-core-items in
     let k = c.loop-core.core-index in
     let core : ℕ = get_or order k 0 in
     let i = c.loop-core.invariant in
@@ -147,8 +133,7 @@ pub returns-in-Some-unordered : goal.returns-in-Some-unordered
 returns-in-Some-unordered c =
     let order : List ℕ = c.as_slice-core-items.result.now in
     let w : Walked = c.args.self in
-    let walk : IsWalk w.which w.recording order c.self.inside.clocks = walk_there _ w c.self.inside.order.items order
-    c.self.inside.clocks c.self.view_is c.as_slice-core-items.ensures.value c.self.invariant in
+    let walk = is_walk (goal.at.returns-in-Some-unordered c).After-as_slice-core-items in
     let all : take c.loop-core.core-index order ≡ order = take_all c.loop-core.core-index order
     (let f = c.loop-core-test.false in omega arith) in
     let v = verdict c.requires walk (subst (λ (l : List ℕ). Judged w.which w.recording c.args.touched.now order l
@@ -159,8 +144,7 @@ pub returns : goal.returns
 returns c =
     let order : List ℕ = c.as_slice-core-items.result.now in
     let w : Walked = c.args.self in
-    let walk : IsWalk w.which w.recording order c.self.inside.clocks = walk_there _ w c.self.inside.order.items order
-    c.self.inside.clocks c.self.view_is c.as_slice-core-items.ensures.value c.self.invariant in
+    let walk = is_walk (goal.at.returns c).After-as_slice-core-items in
     let all : take c.loop-core.core-index order ≡ order = take_all c.loop-core.core-index order
     (let f = c.loop-core-test.false in omega arith) in
     let v = verdict c.requires walk (subst (λ (l : List ℕ). Judged w.which w.recording c.args.touched.now order l
