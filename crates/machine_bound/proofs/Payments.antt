@@ -34,7 +34,7 @@ use Rattle.msi_memory.specs.Acts.{TakeRequest, TakeResponse, TakeMessage, can_at
 use Rattle.msi_memory.specs.Acts.{port_requested, port_responded}
 use Rattle.msi_memory.specs.Acts.{head_free, port_taking, take_request_in, take_response_in, with_port}
 use Rattle.msi_memory.specs.Rests.{can_hear_in}
-use Rattle.memory_laws.specs.Holds.{PortHolds}
+use Rattle.msi_laws.specs.Holds.{PortHolds}
 use Rattle.msi_state.specs.declared.moves.Move.{Move}
 use Rattle.msi_state.specs.declared.moves.Move.TheVariants.{Core as CoreMove, Request as RequestMove}
 use Rattle.msi_state.specs.declared.moves.Move.TheVariants.{Response as ResponseMove, FromHome as MessageMove}
@@ -46,7 +46,7 @@ use Rattle.machine_bound.specs.Bound.{owed, base_in, earned, total_owed, total_e
 use Rattle.machine_invariant.proofs.Awaits.{core_enabled, enabled_core, core_port, core_cases}
 use Rattle.machine_invariant.proofs.Stepping.{core_after, port_told, port_worked, core_memory, message_memory}
 use Rattle.machine_invariant.proofs.Awaits.{CanWork, message_cases}
-use Rattle.memory_laws.proofs.Ready.{memory_ready}
+use Rattle.msi_laws.proofs.Ready.{memory_ready}
 use Rattle.machine_bound.proofs.Sums.{sum_set, sum_set_second}
 use Rattle.machine_bound.proofs.Owed.{answer_debt, owed_delivered, sum_delivered}
 use Rattle.machine_bound.proofs.PortEarns.{retiring_earns, asking_earns, data_owes, taking_earns}

@@ -29,11 +29,11 @@ use Rattle.msi_cache.proofs.Stays.{after_block}
 use Rattle.msi_memory.specs.declared.port.Mail.{Mail}
 use Rattle.msi_memory.specs.declared.port.Port.{Port}
 use Rattle.msi_memory.specs.Acts.{allows, is_data, port_asking, port_hearing, port_answering, port_taking, answer_to}
-use Rattle.memory_laws.specs.Holds.{PortHolds}
-use Rattle.memory_laws.specs.Waits.{WaitsFor, serves}
-use Rattle.memory_laws.specs.Waits.{Awaited}
+use Rattle.msi_laws.specs.Holds.{PortHolds}
+use Rattle.msi_laws.specs.Waits.{WaitsFor, serves}
+use Rattle.msi_laws.specs.Waits.{Awaited}
 use Rattle.machine_bound.specs.Bound.{debt, debts, owed, line_base, block_base, base_in, earned}
-use Rattle.memory_laws.proofs.Lines.{set_at, waits_none}
+use Rattle.msi_laws.proofs.Lines.{set_at, waits_none}
 use Rattle.machine_bound.proofs.Owed.{answers, owed_answering}
 
 retire_pays : (cores c b e : ℕ) → b ≤ 2 * cores + 3 → (2 * cores + 4) * c + b + 1 ≤ (2 * cores + 4) * (c + 1) + e

@@ -36,16 +36,16 @@ use Rattle.msi_memory.specs.declared.port.Port.{Port}
 use Rattle.msi_memory.specs.Memories.{Memory, port_at, no_port}
 use Rattle.msi_memory.specs.Rests.{names_below}
 use Rattle.msi_memory.specs.Acts.{port_requested}
-use Rattle.memory_laws.specs.Holds.{MemoryHolds}
-use Rattle.memory_laws.specs.Sights.{asks_of, cons_if}
-use Rattle.memory_laws.specs.Waits.{WaitsFor}
-use Rattle.memory_laws.specs.Waits.{Awaited}
+use Rattle.msi_laws.specs.Holds.{MemoryHolds}
+use Rattle.msi_laws.specs.Sights.{asks_of, cons_if}
+use Rattle.msi_laws.specs.Waits.{WaitsFor}
+use Rattle.msi_laws.specs.Waits.{Awaited}
 use Rattle.machine_bound.specs.Bound.{debt, line_base, block_base, base_in}
-use Rattle.memory_laws.proofs.KindsShown.{blocks_hold}
-use Rattle.memory_laws.proofs.Lines.{waits_none}
-use Rattle.memory_laws.proofs.Ready.{memory_ready, links_hold}
-use Rattle.memory_laws.proofs.Standing.{view_waits}
-use Rattle.memory_laws.proofs.Waiting.{phase_asks}
+use Rattle.msi_laws.proofs.KindsShown.{blocks_hold}
+use Rattle.msi_laws.proofs.Lines.{waits_none}
+use Rattle.msi_laws.proofs.Ready.{memory_ready, links_hold}
+use Rattle.msi_laws.proofs.Standing.{view_waits}
+use Rattle.msi_laws.proofs.Waiting.{phase_asks}
 use Rattle.machine_bound.proofs.Owed.{members, answer_debt, members-without, no_members}
 use Rattle.machine_bound.proofs.PortEarns.{waiting_place}
 

@@ -16,10 +16,10 @@ use Rattle.msi_protocol.specs.Seats.{HoldersHave}
 use Rattle.msi_protocol.specs.Showing.{Shows}
 use Rattle.msi_protocol.specs.Shown.{Payload, Sight}
 use Rattle.msi_memory.specs.Memories.{Memory, port_at, memory_start}
-use Rattle.memory_laws.specs.Links.{port_sight}
-use Rattle.memory_laws.specs.Words.{HasWords, HaveWords}
+use Rattle.msi_laws.specs.Links.{port_sight}
+use Rattle.msi_laws.specs.Words.{HasWords, HaveWords}
 use Rattle.msi_state.specs.States.{state_start}
-use Rattle.memory_laws.proofs.Starts.{words_start}
+use Rattle.msi_laws.proofs.Starts.{words_start}
 use Rattle.machine_data.specs.Coherent.{Coherent, WordsFit, opening_memory, word_of}
 
 -- the memory that a home opens with

@@ -12,8 +12,8 @@ use Rattle.rv_core.specs.Steps.{need, is_done, access_of as need_access}
 use Rattle.msi_memory.specs.declared.port.Port.{Port}
 use Rattle.msi_memory.specs.Acts.{Act, TakeMessage, allows, can_all, after_act, after_acts, data_next}
 use Rattle.msi_memory.specs.Memories.{Memory, port_at}
-use Rattle.memory_laws.specs.Holds.{MemoryHolds}
-use Rattle.memory_laws.specs.Words.{HaveWords, memory_after_act}
+use Rattle.msi_laws.specs.Holds.{MemoryHolds}
+use Rattle.msi_laws.specs.Words.{HaveWords, memory_after_act}
 use Rattle.msi_state.specs.declared.moves.Move.{Move}
 use Rattle.msi_state.specs.declared.moves.Move.TheVariants.{Core as CoreMove, Request as RequestMove}
 use Rattle.msi_state.specs.declared.moves.Move.TheVariants.{Response as ResponseMove, FromHome as MessageMove}
@@ -23,10 +23,10 @@ use Rattle.msi_state.specs.Events.{port_taken}
 use Rattle.msi_state.specs.States.{State, core_at}
 use Rattle.msi_state.specs.Steps.{acts, acts_of, acts_working, enabled, event, step}
 use Rattle.machine_invariant.specs.Holds.{MachineHolds}
-use Rattle.memory_laws.proofs.Kept.{memory_kept}
-use Rattle.memory_laws.proofs.Properties.{finds_words, words_kept}
-use Rattle.memory_laws.proofs.Acting.{acts_carry, folded}
-use Rattle.memory_laws.proofs.Awaits.{taken_there}
+use Rattle.msi_laws.proofs.Kept.{memory_kept}
+use Rattle.msi_laws.proofs.Properties.{finds_words, words_kept}
+use Rattle.msi_laws.proofs.Acting.{acts_carry, folded}
+use Rattle.msi_laws.proofs.Awaits.{taken_there}
 use Rattle.machine_invariant.proofs.Awaits.{core_port, enabled_core}
 use Rattle.machine_invariant.proofs.Kept.{acts_can}
 use Rattle.machine_data.specs.Coherent.{Coherent, Finds, memory_after}

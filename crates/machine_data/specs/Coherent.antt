@@ -5,7 +5,7 @@ use Rattle.access_times.specs.Riding.{Riding, Carrying}
 use Rattle.rtr_types.specs.declared.TheConstants.{BLOCK_WORDS}
 use Rattle.image_mem.specs.Contents.{Contents, opening_word}
 use Rattle.rtr_types.specs.Accesses.{is_write}
-use Rattle.memory_laws.specs.Words.{HaveWords, memory_by}
+use Rattle.msi_laws.specs.Words.{HaveWords, memory_by}
 use Rattle.msi_state.specs.States.{State}
 use Rattle.msi_state.specs.Events.{Event, Accesses}
 

@@ -16,7 +16,7 @@ use Rattle.msi_cache.specs.Lines.{waits}
 use Rattle.msi_memory.specs.declared.port.Port.{Port}
 use Rattle.msi_memory.specs.Acts.{TakeRequest, TakeResponse, TakeMessage, allows, data_next}
 use Rattle.msi_memory.specs.Memories.{port_at}
-use Rattle.memory_laws.specs.Waits.{is_want}
+use Rattle.msi_laws.specs.Waits.{is_want}
 use Rattle.msi_state.specs.declared.moves.Move.{Move}
 use Rattle.msi_state.specs.declared.moves.Move.TheVariants.{Core as CoreMove, Request as RequestMove}
 use Rattle.msi_state.specs.declared.moves.Move.TheVariants.{Response as ResponseMove, FromHome as MessageMove}
@@ -26,8 +26,8 @@ use Rattle.msi_state.specs.Events.{Event, Nothing, Retires, Accesses, access_of,
 use Rattle.msi_state.specs.Events.{event_working_in, port_taken}
 use Rattle.msi_state.specs.Steps.{acts, acts_of, acts_working, event, enabled}
 use Rattle.machine_invariant.specs.Holds.{MachineHolds}
-use Rattle.memory_laws.proofs.Awaits.{Granted, data_granted}
-use Rattle.memory_laws.proofs.PortsKept.{there_of}
+use Rattle.msi_laws.proofs.Awaits.{Granted, data_granted}
+use Rattle.msi_laws.proofs.PortsKept.{there_of}
 use Rattle.machine_invariant.proofs.Happening.{working_cases, receiving_cases}
 
 -- ---- an enabled move

@@ -26,8 +26,8 @@ use Rattle.msi_state.specs.Steps.{enabled, step}
 use Rattle.msi_state.specs.Runs.{plain_moves, chosen, chosen_of, stepped_by, run}
 use Rattle.machine_invariant.specs.Holds.{CoreHolds, MachineHolds}
 use Rattle.machine_invariant.specs.Walks.{MoveTaken, taking, walked}
-use Rattle.memory_laws.proofs.Starts.{memory_starts}
-use Rattle.memory_laws.proofs.Awaits.{still_awaits}
+use Rattle.msi_laws.proofs.Starts.{memory_starts}
+use Rattle.msi_laws.proofs.Awaits.{still_awaits}
 use Rattle.machine_invariant.proofs.Kept.{holds_kept}
 
 module _ {R K : Type 0} where

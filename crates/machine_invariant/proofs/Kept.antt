@@ -23,7 +23,7 @@ use Rattle.msi_memory.specs.Acts.{Act, Want, Touch, Retire, TakeRequest, TakeRes
 use Rattle.msi_memory.specs.Acts.{after_act, after_acts, allows}
 use Rattle.msi_memory.specs.Acts.{port_retiring}
 use Rattle.msi_memory.specs.Memories.{Memory, port_at}
-use Rattle.memory_laws.specs.Holds.{MemoryHolds}
+use Rattle.msi_laws.specs.Holds.{MemoryHolds}
 use Rattle.msi_state.specs.declared.moves.Move.{Move}
 use Rattle.msi_state.specs.declared.moves.Move.TheVariants.{Core as CoreMove, Request as RequestMove}
 use Rattle.msi_state.specs.declared.moves.Move.TheVariants.{Response as ResponseMove, FromHome as MessageMove}
@@ -31,16 +31,16 @@ use Rattle.msi_state.specs.Moves.{core_of}
 use Rattle.msi_state.specs.States.{State, core_at}
 use Rattle.msi_state.specs.Events.{Event, Retires, Accesses, access_of, next_instr, port_taken}
 use Rattle.msi_state.specs.Steps.{acts, acts_of, acts_working, event, enabled, step}
-use Rattle.memory_laws.specs.Waits.{Awaited}
+use Rattle.msi_laws.specs.Waits.{Awaited}
 use Rattle.machine_invariant.specs.Holds.{CoreHolds, MachineHolds}
-use Rattle.memory_laws.proofs.Kept.{memory_kept}
-use Rattle.memory_laws.proofs.PortsKept.{length_act}
-use Rattle.memory_laws.proofs.Waits.{wants_law, port_there}
-use Rattle.memory_laws.proofs.Acting.{acts_hold}
+use Rattle.msi_laws.proofs.Kept.{memory_kept}
+use Rattle.msi_laws.proofs.PortsKept.{length_act}
+use Rattle.msi_laws.proofs.Waits.{wants_law, port_there}
+use Rattle.msi_laws.proofs.Acting.{acts_hold}
 use Rattle.machine_invariant.proofs.Stepping.{core_after, core_there, core_elsewhere, step_ports, step_home, step_cores}
-use Rattle.memory_laws.proofs.Awaits.{still_awaits, awaited_kept, awaited_acts}
+use Rattle.msi_laws.proofs.Awaits.{still_awaits, awaited_kept, awaited_acts}
 use Rattle.machine_invariant.proofs.Awaits.{CanWork, core_enabled, enabled_core, core_port, core_cases, message_cases}
-use Rattle.memory_laws.proofs.Awaits.{taken_there}
+use Rattle.msi_laws.proofs.Awaits.{taken_there}
 use Rattle.machine_invariant.proofs.Awaits.{told_asks_not, step_asks_not}
 
 -- ---- the cores' numbers

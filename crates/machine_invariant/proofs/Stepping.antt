@@ -22,8 +22,8 @@ use Rattle.msi_state.specs.Moves.{core_of}
 use Rattle.msi_state.specs.States.{State, core_at}
 use Rattle.msi_state.specs.Events.{Event, Nothing, Retires, Accesses, instr_of, port_taken}
 use Rattle.msi_state.specs.Steps.{acts, acts_of, acts_working, cores_after, event, step, retiring}
-use Rattle.memory_laws.proofs.Waits.{port_there}
-use Rattle.memory_laws.proofs.Acting.{ports_after_acts, home_after_acts, port_again, port_same}
+use Rattle.msi_laws.proofs.Waits.{port_there}
+use Rattle.msi_laws.proofs.Acting.{ports_after_acts, home_after_acts, port_again, port_same}
 
 -- ---- the cores
 

@@ -7,8 +7,8 @@ use Rattle.rv_core.specs.Steps.{need, access_of as need_access}
 use Rattle.msi_directory.specs.Blocks.{block_count}
 use Rattle.msi_memory.specs.declared.port.Port.{Port}
 use Rattle.msi_memory.specs.Memories.{port_at}
-use Rattle.memory_laws.specs.Holds.{MemoryHolds}
-use Rattle.memory_laws.specs.Waits.{Awaited}
+use Rattle.msi_laws.specs.Holds.{MemoryHolds}
+use Rattle.msi_laws.specs.Waits.{Awaited}
 use Rattle.msi_state.specs.States.{State, core_at}
 
 -- core c is well at its port

@@ -45,9 +45,9 @@ use Rattle.machine_plain.proofs.Forgetting as forgetting
 use Rattle.machine_known.specs.Events.{actor_of, carries_at, carries_of, count_at, happening_of, own_carry, port_of}
 use Rattle.machine_known.specs.Events.{taken_from, under_way}
 use Rattle.machine_known.specs.Known.{PortsThere}
-use Rattle.memory_laws.proofs.PortsKept.{there_of}
-use Rattle.memory_laws.proofs.Views.{port_at-sent, port_at-told}
-use Rattle.memory_laws.proofs.Waits.{port_there}
+use Rattle.msi_laws.proofs.PortsKept.{there_of}
+use Rattle.msi_laws.proofs.Views.{port_at-sent, port_at-told}
+use Rattle.msi_laws.proofs.Waits.{port_there}
 use Rattle.machine_invariant.proofs.Acting.{port_elsewhere}
 use Rattle.machine_invariant.proofs.Stepping.{core_memory, message_memory, port_told, port_worked}
 use Rattle.machine_known.proofs.Growing.{Goes, goes_sent}

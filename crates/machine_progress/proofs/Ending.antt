@@ -19,16 +19,16 @@ use Rattle.msi_memory.specs.declared.port.Mail.{Mail}
 use Rattle.msi_memory.specs.declared.port.Port.{Port}
 use Rattle.msi_memory.specs.Acts.{head_free}
 use Rattle.msi_memory.specs.Memories.{port_at, no_port}
-use Rattle.memory_laws.specs.Moving.{are_links_empty, links_empty}
+use Rattle.msi_laws.specs.Moving.{are_links_empty, links_empty}
 use Rattle.msi_state.specs.declared.moves.Move.{Move}
 use Rattle.msi_state.specs.declared.moves.Move.TheVariants.{Core as CoreMove, Request as RequestMove}
 use Rattle.msi_state.specs.declared.moves.Move.TheVariants.{Response as ResponseMove, FromHome as MessageMove}
 use Rattle.msi_state.specs.Moves.{candidates}
 use Rattle.msi_state.specs.States.{State, core_at, all_done}
 use Rattle.msi_state.specs.Steps.{enabled, moves}
-use Rattle.memory_laws.specs.Waits.{Awaited}
+use Rattle.msi_laws.specs.Waits.{Awaited}
 use Rattle.machine_invariant.specs.Holds.{MachineHolds}
-use Rattle.memory_laws.proofs.Moving.{quiet_links}
+use Rattle.msi_laws.proofs.Moving.{quiet_links}
 
 -- a core that is done needs no access
 done_needs : (needed : Need) → is_done needed ≡ true → need_access needed ≡ None

@@ -16,10 +16,10 @@ use Rattle.msi_state.specs.Rests.{may_access, has_row_for, HasRoomFor}
 use Rattle.msi_state.specs.States.{State, core_at}
 use Rattle.msi_state.specs.Steps.{enabled}
 use Rattle.machine_invariant.specs.Holds.{MachineHolds}
-use Rattle.memory_laws.proofs.Awaits.{data_granted}
+use Rattle.msi_laws.proofs.Awaits.{data_granted}
 use Rattle.machine_invariant.proofs.Awaits.{core_enabled, enabled_core, core_port}
-use Rattle.memory_laws.proofs.Ready.{memory_ready}
-use Rattle.memory_laws.proofs.Spaces.{no_requests}
+use Rattle.msi_laws.proofs.Ready.{memory_ready}
+use Rattle.msi_laws.proofs.Spaces.{no_requests}
 
 module _ {R K : Type 0} where
   -- where data come, the access is allowed that waited for them

@@ -11,7 +11,7 @@ use Rattle.rv_core.specs.Steps.{need, is_done}
 use Rattle.msi_cache.specs.Lines.{waits}
 use Rattle.msi_memory.specs.Acts.{Act, Want, Touch, Retire, TakeRequest, TakeResponse, TakeMessage, can}
 use Rattle.msi_memory.specs.Memories.{port_at}
-use Rattle.memory_laws.specs.Moving.{is_take}
+use Rattle.msi_laws.specs.Moving.{is_take}
 use Rattle.msi_state.specs.declared.moves.Move.{Move}
 use Rattle.msi_state.specs.declared.moves.Move.TheVariants.{Core as CoreMove, Request as RequestMove}
 use Rattle.msi_state.specs.declared.moves.Move.TheVariants.{Response as ResponseMove, FromHome as MessageMove}
@@ -20,7 +20,7 @@ use Rattle.msi_state.specs.States.{State, core_at, all_done}
 use Rattle.msi_state.specs.Steps.{enabled, moves}
 use Rattle.machine_invariant.specs.Holds.{MachineHolds}
 use Rattle.machine_invariant.proofs.Awaits.{enabled_core, core_port}
-use Rattle.memory_laws.proofs.Moving.{waiting_moves}
+use Rattle.msi_laws.proofs.Moving.{waiting_moves}
 
 filter_some : {X : Type 0} (test : X → Bool) (xs : List X) (k : ℕ) (d : X) → k < length xs →
     test (get_or xs k d) ≡ true → 0 < length (filter test xs)

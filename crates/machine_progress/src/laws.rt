@@ -1,6 +1,6 @@
 //! What holds of each state that has the machine's invariant, whatever rides on copies and messages.
 ghost use Rattle.std.specs.Prelude.{◌≡◌, ◌<◌, IsTrue, [], false, length, true};
-ghost use Rattle.memory_laws.specs.Moving.{links_empty};
+ghost use Rattle.msi_laws.specs.Moving.{links_empty};
 ghost use Rattle.machine_invariant.specs.Holds.{MachineHolds};
 ghost use Rattle.msi_state.specs.Rests.{HasRoomFor, has_row_for};
 ghost use Rattle.msi_state.specs.States.{State, all_done};

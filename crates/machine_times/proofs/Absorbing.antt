@@ -24,13 +24,13 @@ use Rattle.msi_memory.specs.declared.port.Mail.{Mail}
 use Rattle.msi_memory.specs.declared.port.Port.{Port}
 use Rattle.msi_memory.specs.Acts.{TakeMessage, can}
 use Rattle.msi_memory.specs.Memories.{Memory, port_at}
-use Rattle.memory_laws.specs.Holds.{MemoryHolds}
-use Rattle.memory_laws.specs.Links.{of_block, line_if, port_sight}
-use Rattle.memory_laws.specs.Sights.{cons_if}
+use Rattle.msi_laws.specs.Holds.{MemoryHolds}
+use Rattle.msi_laws.specs.Links.{of_block, line_if, port_sight}
+use Rattle.msi_laws.specs.Sights.{cons_if}
 use Rattle.msi_state.specs.declared.moves.Move.TheVariants.{Core as CoreMove, Request as RequestMove}
 use Rattle.msi_state.specs.declared.moves.Move.TheVariants.{Response as ResponseMove, FromHome as MessageMove}
-use Rattle.memory_laws.proofs.PortsKept.{there_of}
-use Rattle.memory_laws.proofs.Standing.{HasRow, message_row}
+use Rattle.msi_laws.proofs.PortsKept.{there_of}
+use Rattle.msi_laws.proofs.Standing.{HasRow, message_row}
 use Rattle.machine_times.specs.Absorbing.{request_meets, response_meets, message_meets, request_meets_in}
 use Rattle.machine_times.specs.Absorbing.{response_meets_in, message_meets_in, MeetAlike}
 use Rattle.machine_times.specs.History.{NotedAccess}

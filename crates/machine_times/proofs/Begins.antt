@@ -9,7 +9,7 @@ use Rattle.rv_core.specs.States.{starting}
 use Rattle.rv_core.proofs.LawLemmas.{start_law}
 use Rattle.msi_memory.specs.Memories.{memory_start}
 use Rattle.msi_state.specs.States.{state_start}
-use Rattle.memory_laws.proofs.Starts.{opening_rider, start_shows}
+use Rattle.msi_laws.proofs.Starts.{opening_rider, start_shows}
 use Rattle.machine_times.specs.Retirements.{StandsAfter}
 use Rattle.machine_times.specs.StandsFor.{TimesParts, HasTimes, HaveTimes}
 

@@ -18,7 +18,7 @@ use Rattle.msi_memory.specs.Acts.{Act, Want, Touch, Retire, TakeRequest, TakeRes
 use Rattle.msi_memory.specs.Acts.{after_act, after_acts}
 use Rattle.msi_memory.specs.Acts.{port_retiring}
 use Rattle.msi_memory.specs.Memories.{Memory, port_at, rider_at}
-use Rattle.memory_laws.specs.Holds.{MemoryHolds}
+use Rattle.msi_laws.specs.Holds.{MemoryHolds}
 use Rattle.msi_state.specs.declared.moves.Move.{Move}
 use Rattle.msi_state.specs.declared.moves.Move.TheVariants.{Core as CoreMove, Request as RequestMove}
 use Rattle.msi_state.specs.declared.moves.Move.TheVariants.{Response as ResponseMove, FromHome as MessageMove}
@@ -27,10 +27,10 @@ use Rattle.msi_state.specs.Events.{Event, Nothing, Retires, Accesses, access_of,
 use Rattle.msi_state.specs.States.{State, core_at}
 use Rattle.msi_state.specs.Steps.{acts_of, acts_working, enabled, event, retiring, step}
 use Rattle.machine_invariant.specs.Holds.{MachineHolds}
-use Rattle.memory_laws.proofs.Kept.{memory_kept}
-use Rattle.memory_laws.proofs.Standing.{core_below}
-use Rattle.memory_laws.proofs.Waits.{port_there}
-use Rattle.memory_laws.proofs.Awaits.{taken_there}
+use Rattle.msi_laws.proofs.Kept.{memory_kept}
+use Rattle.msi_laws.proofs.Standing.{core_below}
+use Rattle.msi_laws.proofs.Waits.{port_there}
+use Rattle.msi_laws.proofs.Awaits.{taken_there}
 use Rattle.machine_invariant.proofs.Awaits.{core_port, enabled_core}
 use Rattle.machine_invariant.proofs.Happening.{receiving_cases, working_cases}
 use Rattle.machine_invariant.proofs.Kept.{acts_can}

@@ -15,7 +15,7 @@ use Rattle.msi_protocol.proofs.Shown.{shown_allows}
 use Rattle.msi_protocol.proofs.Shown.{copy_in}
 use Rattle.msi_memory.specs.Acts.{allows}
 use Rattle.msi_memory.specs.Memories.{Memory, port_at, rider_at}
-use Rattle.memory_laws.specs.Links.{TouchGives, line_if, payload_at, port_sight}
+use Rattle.msi_laws.specs.Links.{TouchGives, line_if, payload_at, port_sight}
 use Rattle.machine_times.specs.History.{NotedAccess, core_of, rank, last_noted_read, read_after, write_after, Exact}
 use Rattle.machine_times.specs.History.{IsExactFor}
 use Rattle.machine_times.specs.Retirements.{RiderNotes}

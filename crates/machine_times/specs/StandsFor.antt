@@ -7,7 +7,7 @@ use Rattle.clock_core.specs.declared.clock.Clock.{Clock}
 use Rattle.msi_protocol.specs.Seats.{FullBlock}
 use Rattle.msi_protocol.specs.Shown.{Payload, payload_absorbed}
 use Rattle.msi_memory.specs.Memories.{Memory}
-use Rattle.memory_laws.specs.Links.{AllShow}
+use Rattle.msi_laws.specs.Links.{AllShow}
 use Rattle.machine_times.specs.History.{NotedAccess, WordTimes, AbsorbsWell, Exact}
 
 -- the parts of a rider that records times, by slot

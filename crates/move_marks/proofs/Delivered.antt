@@ -13,7 +13,7 @@ use Rattle.rtr_types.specs.declared.core_set.CoreSet.{CoreSet}
 use Rattle.link_order.specs.Queue.{is_nil}
 use Rattle.msi_cache.specs.declared.messages.FromHome.{FromHome}
 use Rattle.msi_cache.specs.declared.messages.FromHome.TheVariants.{Inv}
-use Rattle.memory_laws.proofs.Views.{port_at-told}
+use Rattle.msi_laws.proofs.Views.{port_at-told}
 use Rattle.msi_memory.specs.declared.port.Port.{Port}
 use Rattle.msi_memory.specs.Rests.{hears_in}
 use Rattle.msi_memory.specs.Memories.{no_port, port_at}

@@ -10,9 +10,9 @@ use Rattle.msi_memory.specs.Acts.{TakeMessage, TakeRequest, TakeResponse, can, t
 use Rattle.msi_memory.specs.Memories.{Memory, port_at}
 use Rattle.msi_memory.specs.Rests.{requests_at}
 use Rattle.msi_memory.specs.Turns.{IsRequestTurn, IsResponseTurn}
-use Rattle.memory_laws.specs.Holds.{MemoryHolds}
-use Rattle.memory_laws.proofs.Ready.{memory_ready}
-use Rattle.memory_laws.proofs.Spaces.{port_links_hold}
+use Rattle.msi_laws.specs.Holds.{MemoryHolds}
+use Rattle.msi_laws.proofs.Ready.{memory_ready}
+use Rattle.msi_laws.proofs.Spaces.{port_links_hold}
 use Rattle.move_marks.specs.declared.marks.MoveKind.TheVariants.{Request, Response, FromHome}
 use Rattle.move_marks.specs.declared.marks.MoveMarks.{MoveMarks}
 use Rattle.move_marks.specs.Kinds.{set_of}

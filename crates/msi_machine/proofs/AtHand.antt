@@ -22,9 +22,9 @@ use Rattle.msi_protocol.proofs.Quiet.{quiet_agrees}
 use Rattle.msi_memory.specs.declared.port.Port.{Port}
 use Rattle.msi_memory.specs.Finals.{at_hand, at_hand_in}
 use Rattle.msi_memory.specs.Memories.{no_port, port_at}
-use Rattle.memory_laws.specs.Holds.{block_in}
-use Rattle.memory_laws.specs.Sights.{line_state}
-use Rattle.memory_laws.proofs.KindsShown.{blocks_hold}
+use Rattle.msi_laws.specs.Holds.{block_in}
+use Rattle.msi_laws.specs.Sights.{line_state}
+use Rattle.msi_laws.proofs.KindsShown.{blocks_hold}
 use Rattle.msi_state.specs.States.{State, all_done}
 use Rattle.machine_invariant.specs.Holds.{MachineHolds}
 use Rattle.machine_progress.proofs.Ending.{links_left}

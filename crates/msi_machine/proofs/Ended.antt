@@ -10,7 +10,7 @@ use Rattle.rv_core.specs.Steps.{need, is_done}
 use Rattle.msi_cache.specs.Lines.{waits}
 use Rattle.msi_memory.specs.Acts.{TakeRequest}
 use Rattle.msi_memory.specs.Memories.{port_at}
-use Rattle.memory_laws.proofs.Spaces.{no_requests}
+use Rattle.msi_laws.proofs.Spaces.{no_requests}
 use Rattle.msi_state.specs.declared.moves.Move.{Move}
 use Rattle.msi_state.specs.declared.moves.Move.TheVariants.{Core as CoreMove, Request as RequestMove}
 use Rattle.msi_state.specs.declared.moves.Move.TheVariants.{Response as ResponseMove, FromHome as MessageMove}

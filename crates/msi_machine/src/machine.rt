@@ -15,7 +15,7 @@ ghost use Rattle.msi_state.specs.FinalMemory.{final_word, final_words};
 ghost use Rattle.msi_state.specs.Events.{instr_of};
 ghost use Rattle.machine_plain.specs.Plain.{plain};
 ghost use Rattle.msi_state.specs.Rests.{heads_roomy};
-ghost use Rattle.memory_laws.specs.Moving.{links_empty};
+ghost use Rattle.msi_laws.specs.Moving.{links_empty};
 ghost use Rattle.msi_memory.specs.Finals.{SameWords};
 ghost use Rattle.msi_memory.specs.Rests.{RoomsMade};
 ghost use Rattle.msi_state.specs.Runs.{opening_state};

@@ -2,7 +2,7 @@
 ghost use Rattle.std.specs.Prelude.{◌≤◌};
 
 use image_mem::Image;
-use machine_run::{Ran, run_image};
+use msi_run::{Ran, run_image};
 use rtr_types::Params;
 use rv_core::LoadNote;
 use schedule_pick::Schedule;

@@ -8,8 +8,8 @@ use Rattle.machine_progress.proofs.Ending.{links_left}
 use Rattle.machine_progress.proofs.Rested.{rows_there, rooms_there}
 use Rattle.machine_progress.proofs.Stuck.{some_move}
 use Rattle.machine_invariant.proofs.Begins.{holds_run}
-use Rattle.memory_laws.specs.Holds.{block_in}
-use Rattle.memory_laws.proofs.KindsShown.{blocks_hold}
+use Rattle.msi_laws.specs.Holds.{block_in}
+use Rattle.msi_laws.proofs.KindsShown.{blocks_hold}
 use Rattle.msi_protocol.proofs.Keeps.{one_writer_holds}
 use Rattle.machine_invariant.specs.Holds.{MachineHolds}
 use Rattle.msi_state.specs.Runs.{run}

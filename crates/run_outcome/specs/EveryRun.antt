@@ -6,8 +6,8 @@ use Rattle.rtr_types.specs.Parameters.{Fits}
 use Rattle.rtr_types.specs.declared.params.Params.{Params}
 use Rattle.machine_bound.specs.Ends.{end_of}
 use Rattle.machine_data.specs.LastValues.{EachFindsLast, memory_left}
-use Rattle.memory_laws.specs.Holds.{OneWriterEverywhere}
-use Rattle.memory_laws.specs.Moving.{links_empty}
+use Rattle.msi_laws.specs.Holds.{OneWriterEverywhere}
+use Rattle.msi_laws.specs.Moving.{links_empty}
 use Rattle.machine_bound.specs.Bound.{total_retired}
 use Rattle.msi_state.specs.FinalMemory.{final_memory}
 use Rattle.msi_state.specs.Rests.{HasRoomFor, has_row_for}

@@ -36,14 +36,14 @@ use Rattle.msi_memory.specs.Acts.{can_all, after_act, after_acts, data_next}
 use Rattle.msi_memory.specs.Acts.{delivered, delivered_in, head_free, port_asking, port_requested, port_responded}
 use Rattle.msi_memory.specs.Acts.{port_retiring, port_sent, port_taking, port_touched}
 use Rattle.msi_memory.specs.Acts.{ports_sent, ports_told, take_request_in, take_response_in, with_port}
-use Rattle.memory_laws.specs.Holds.{MemoryHolds}
-use Rattle.memory_laws.proofs.PortsKept.{can_want, there_of, touched_lines}
-use Rattle.memory_laws.proofs.Standing.{HasRow, message_row}
+use Rattle.msi_laws.specs.Holds.{MemoryHolds}
+use Rattle.msi_laws.proofs.PortsKept.{can_want, there_of, touched_lines}
+use Rattle.msi_laws.proofs.Standing.{HasRow, message_row}
 use Rattle.machine_bound.specs.Bound.{owed}
 use Rattle.machine_bound.proofs.Owed.{answer_debt, owed_delivered}
 use Rattle.machine_bound.proofs.Requests.{answer_debt_is, asked_line, request_alone, response_debt, step_debt}
 use Rattle.machine_bound.proofs.Sums.{sum_kept}
-use Rattle.memory_laws.proofs.Acting.{acts_keep}
+use Rattle.msi_laws.proofs.Acting.{acts_keep}
 use Rattle.tso_bound.specs.Bound.{memory_owed, memory_worth, port_worth}
 use Rattle.tso_bound.proofs.Ports.{asking_worth, data_takes, requested_worth, same_worth, taking_earns}
 

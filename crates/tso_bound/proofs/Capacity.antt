@@ -16,7 +16,7 @@ use Rattle.rv_core.proofs.LawLemmas.{limit_law, room_law}
 use Rattle.msi_cache.specs.Lines.{waits}
 use Rattle.msi_memory.specs.declared.port.Port.{Port}
 use Rattle.msi_memory.specs.Memories.{port_at, no_port}
-use Rattle.memory_laws.specs.Holds.{PortHolds}
+use Rattle.msi_laws.specs.Holds.{PortHolds}
 use Rattle.machine_bound.proofs.Sums.{sum_kept}
 use Rattle.tso_state.specs.declared.moves.Move.{Move}
 use Rattle.tso_state.specs.declared.moves.Move.TheVariants.{Core as CoreMove, Order as OrderMove}

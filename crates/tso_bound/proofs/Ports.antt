@@ -22,8 +22,8 @@ use Rattle.msi_memory.specs.declared.port.Mail.{Mail}
 use Rattle.msi_memory.specs.declared.port.Port.{Port}
 use Rattle.msi_memory.specs.Acts.{allows, is_data, port_asking, port_hearing, port_answering, port_requested}
 use Rattle.msi_memory.specs.Acts.{port_taking, answer_to}
-use Rattle.memory_laws.specs.Holds.{PortHolds, place_at}
-use Rattle.memory_laws.proofs.Lines.{SameLines, waits_none, waits_some}
+use Rattle.msi_laws.specs.Holds.{PortHolds, place_at}
+use Rattle.msi_laws.proofs.Lines.{SameLines, waits_none, waits_some}
 use Rattle.machine_bound.specs.Bound.{debt, debts, owed, line_base}
 use Rattle.machine_bound.proofs.Owed.{answers, owed_answering}
 use Rattle.machine_bound.proofs.Requests.{AskedLine}

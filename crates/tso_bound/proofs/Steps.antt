@@ -15,9 +15,9 @@ use Rattle.rv_core.specs.Steps.{need, access_of as need_access}
 use Rattle.msi_memory.specs.declared.port.Port.{Port}
 use Rattle.msi_memory.specs.Acts.{Act, Want, TakeRequest, TakeMessage, can, can_all, after_act, after_acts, data_next}
 use Rattle.msi_memory.specs.Memories.{Memory, port_at}
-use Rattle.memory_laws.specs.Holds.{MemoryHolds}
-use Rattle.memory_laws.proofs.Kept.{memory_kept}
-use Rattle.memory_laws.proofs.Awaits.{Granted, data_granted}
+use Rattle.msi_laws.specs.Holds.{MemoryHolds}
+use Rattle.msi_laws.proofs.Kept.{memory_kept}
+use Rattle.msi_laws.proofs.Awaits.{Granted, data_granted}
 use Rattle.msi_state.specs.Events.{port_taken}
 use Rattle.msi_state.specs.Rests.{may_access}
 use Rattle.tso_state.specs.declared.moves.Move.{Move}

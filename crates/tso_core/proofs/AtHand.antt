@@ -41,11 +41,11 @@ use Rattle.msi_protocol.proofs.Quiet.{quiet_agrees}
 use Rattle.msi_memory.specs.declared.port.Port.{Port}
 use Rattle.msi_memory.specs.Finals.{at_hand, at_hand_in}
 use Rattle.msi_memory.specs.Memories.{Memory, no_port, port_at}
-use Rattle.memory_laws.specs.Holds.{MemoryHolds, block_in}
-use Rattle.memory_laws.specs.Moving.{links_empty}
-use Rattle.memory_laws.specs.Sights.{line_state}
-use Rattle.memory_laws.proofs.Final.{all_quiet}
-use Rattle.memory_laws.proofs.KindsShown.{blocks_hold}
+use Rattle.msi_laws.specs.Holds.{MemoryHolds, block_in}
+use Rattle.msi_laws.specs.Moving.{links_empty}
+use Rattle.msi_laws.specs.Sights.{line_state}
+use Rattle.msi_laws.proofs.Final.{all_quiet}
+use Rattle.msi_laws.proofs.KindsShown.{blocks_hold}
 use Rattle.tso_core.specs.Writers.{OneWriterEach}
 
 writable_seen : {R : Type 0} (b : ℕ) (line : Line R) → can_write line b ≡ is_writable (line_state b line)

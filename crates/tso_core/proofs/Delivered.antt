@@ -14,7 +14,7 @@ use Rattle.rtr_types.proofs.Members.{has-none}
 use Rattle.link_order.specs.Queue.{is_nil}
 use Rattle.msi_cache.specs.declared.messages.FromHome.{FromHome}
 use Rattle.msi_cache.specs.declared.messages.FromHome.TheVariants.{Inv}
-use Rattle.memory_laws.proofs.Views.{port_at-told}
+use Rattle.msi_laws.proofs.Views.{port_at-told}
 use Rattle.tso_core.specs.declared.marks.Marks.{Marks}
 use Rattle.msi_memory.specs.declared.port.Port.{Port}
 use Rattle.tso_state.specs.declared.moves.Move.{Move}

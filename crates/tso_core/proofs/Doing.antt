@@ -7,7 +7,7 @@ use Rattle.msi_cache.specs.Lines.{waits}
 use Rattle.msi_memory.specs.declared.port.Port.{Port}
 use Rattle.msi_memory.specs.Acts.{after_acts, data_next, take_message}
 use Rattle.msi_memory.specs.Memories.{Memory, port_at}
-use Rattle.memory_laws.proofs.Waits.{port_there}
+use Rattle.msi_laws.proofs.Waits.{port_there}
 use Rattle.msi_state.specs.Events.{port_taken, rider_of_event}
 use Rattle.tso_state.specs.declared.moves.Move.TheVariants.{FromHome as MessageMove}
 use Rattle.tso_state.specs.declared.pending.Asker.TheVariants.{Nobody}

@@ -10,8 +10,8 @@ use Rattle.msi_cache.specs.declared.line.Line.{Line}
 use Rattle.msi_memory.specs.declared.port.Port.{Port}
 use Rattle.msi_memory.specs.Acts.{after_acts, port_retiring}
 use Rattle.msi_memory.specs.Memories.{Memory, port_at, rider_at}
-use Rattle.memory_laws.proofs.Acting.{ports_after_acts}
-use Rattle.memory_laws.proofs.Waits.{port_there}
+use Rattle.msi_laws.proofs.Acting.{ports_after_acts}
+use Rattle.msi_laws.proofs.Waits.{port_there}
 use Rattle.tso_state.specs.Events.{Drains, Logs, Told, Alone, Ordered, Logged, count_before, instr_told, locals_behind}
 use Rattle.tso_state.specs.States.{BufferedCore, State, buffered_start, core_at}
 use Rattle.tso_state.specs.Steps.{acts_told}

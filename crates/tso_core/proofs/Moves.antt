@@ -9,7 +9,7 @@ use Rattle.msi_memory.specs.Acts.{TakeMessage, TakeResponse, can}
 use Rattle.msi_memory.specs.Memories.{Memory, port_at}
 use Rattle.msi_memory.specs.Rests.{OthersRoomy, head_roomy, requests_at}
 use Rattle.msi_memory.proofs.Roomy.{each_roomy}
-use Rattle.memory_laws.proofs.Spaces.{no_requests}
+use Rattle.msi_laws.proofs.Spaces.{no_requests}
 use Rattle.tso_state.specs.declared.moves.Move.{Move}
 use Rattle.tso_state.specs.declared.moves.Move.TheVariants.{
   Core as CoreMove,

@@ -35,7 +35,7 @@ use Rattle.msi_memory.specs.declared.turn.Turn.{Turn}
 use Rattle.msi_memory.specs.Acts.{TakeMessage, TakeRequest, TakeResponse, can, take_request, take_response}
 use Rattle.msi_memory.specs.Memories.{Memory, port_at}
 use Rattle.msi_memory.specs.Turns.{IsRequestTurn, IsResponseTurn}
-use Rattle.memory_laws.proofs.Ready.{memory_ready}
+use Rattle.msi_laws.proofs.Ready.{memory_ready}
 use Rattle.tso_invariant.specs.Holds.{TsoHolds}
 use Rattle.tso_state.specs.declared.moves.Move.{Move}
 use Rattle.tso_state.specs.declared.moves.Move.TheVariants.{

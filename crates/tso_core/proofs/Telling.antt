@@ -8,7 +8,7 @@ use Rattle.rtr_types.specs.declared.access.Access.{Access}
 use Rattle.rtr_types.specs.declared.instr.Instr.{Instr}
 use Rattle.msi_memory.specs.Acts.{Act, after_acts, retire}
 use Rattle.msi_memory.specs.Memories.{Memory, port_at}
-use Rattle.memory_laws.proofs.PortWaits.{after_append}
+use Rattle.msi_laws.proofs.PortWaits.{after_append}
 use Rattle.tso_clerk.specs.Telling.{AcceptsAll, TellsAll}
 use Rattle.tso_state.specs.Events.{Told, Alone, Ordered, Logged, clerk_event, instr_told}
 use Rattle.tso_state.specs.Steps.{acts_told}

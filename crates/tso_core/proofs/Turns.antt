@@ -54,7 +54,7 @@ use Rattle.msi_memory.specs.Acts.{
 use Rattle.msi_memory.specs.Acts.{take_request, take_request_in, take_response, take_response_in}
 use Rattle.msi_memory.specs.Memories.{Memory, no_port, port_at}
 use Rattle.msi_memory.specs.Rests.{can_request_in, can_respond_in, head_is, hears, requests_at}
-use Rattle.memory_laws.proofs.Views.{length-delivered}
+use Rattle.msi_laws.proofs.Views.{length-delivered}
 use Rattle.msi_memory.specs.Turns.{IsRequestTurn, IsResponseTurn, IsTurn}
 use Rattle.msi_memory.proofs.Turns.{turn_heard}
 use Rattle.tso_state.specs.declared.moves.Move.{Move}

@@ -5,7 +5,7 @@ ghost use Rattle.access_times.specs.Riding.{none_carrying, none_riding};
 ghost use Rattle.rtr_types.specs.Parameters.{Fits};
 ghost use Rattle.rtr_types.specs.declared.TheConstants.{BLOCK_WORDS, CORES_MAX};
 ghost use Rattle.machine_data.specs.Coherent.{opening_memory};
-ghost use Rattle.memory_laws.specs.Moving.{links_empty};
+ghost use Rattle.msi_laws.specs.Moving.{links_empty};
 ghost use Rattle.msi_directory.specs.Blocks.{touched};
 ghost use Rattle.msi_memory.specs.Finals.{SameWords, block_words};
 ghost use Rattle.msi_memory.specs.Rests.{RoomsMade};

@@ -10,7 +10,7 @@ use Rattle.rtr_types.specs.declared.TheConstants.{BLOCK_WORDS, CORES_MAX}
 use Rattle.image_mem.specs.Contents.{Contents, opening_word}
 use Rattle.rtr_types.specs.declared.access.Access.{Access}
 use Rattle.rtr_types.specs.declared.params.Params.{Params}
-use Rattle.memory_laws.proofs.Starts.{words_start}
+use Rattle.msi_laws.proofs.Starts.{words_start}
 use Rattle.msi_state.specs.Runs.{accesses_in}
 use Rattle.machine_data.specs.Coherent.{memory_after}
 use Rattle.machine_data.specs.LastValues.{last_value, memory_left, EachFindsLast}
@@ -27,7 +27,7 @@ use Rattle.tso_invariant.proofs.Begins.{chosen_enabled, holds_run}
 use Rattle.tso_invariant.proofs.Ending.{links_left}
 use Rattle.tso_data.specs.Orders.{Coherent, ordering_of}
 use Rattle.machine_data.proofs.Remembers.{same_maps}
-use Rattle.memory_laws.proofs.Final.{final_current}
+use Rattle.msi_laws.proofs.Final.{final_current}
 use Rattle.tso_data.proofs.Steps.{step_works}
 
 -- the same access, said twice

@@ -22,13 +22,13 @@ use Rattle.rv_core.proofs.LawLemmas.{within_law, unwritten_law}
 use Rattle.msi_memory.specs.declared.port.Port.{Port}
 use Rattle.msi_memory.specs.Acts.{Act, TakeMessage, allows, can_all, after_act, after_acts, data_next}
 use Rattle.msi_memory.specs.Memories.{Memory, port_at, word_at}
-use Rattle.memory_laws.specs.Holds.{MemoryHolds}
-use Rattle.memory_laws.specs.Words.{HaveWords, memory_after_act}
-use Rattle.memory_laws.proofs.Kept.{memory_kept}
-use Rattle.memory_laws.proofs.PortsKept.{length_act}
-use Rattle.memory_laws.proofs.Properties.{finds_words, words_kept}
-use Rattle.memory_laws.proofs.Acting.{acts_carry, folded}
-use Rattle.memory_laws.proofs.Awaits.{taken_there}
+use Rattle.msi_laws.specs.Holds.{MemoryHolds}
+use Rattle.msi_laws.specs.Words.{HaveWords, memory_after_act}
+use Rattle.msi_laws.proofs.Kept.{memory_kept}
+use Rattle.msi_laws.proofs.PortsKept.{length_act}
+use Rattle.msi_laws.proofs.Properties.{finds_words, words_kept}
+use Rattle.msi_laws.proofs.Acting.{acts_carry, folded}
+use Rattle.msi_laws.proofs.Awaits.{taken_there}
 use Rattle.machine_data.specs.Coherent.{Finds, memory_after}
 use Rattle.machine_data.proofs.Values.{Honest}
 use Rattle.msi_state.specs.Events.{access_of, next_instr, port_taken}

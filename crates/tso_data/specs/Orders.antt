@@ -8,7 +8,7 @@ use Rattle.msi_memory.specs.declared.port.Port.{Port}
 use Rattle.msi_memory.specs.Acts.{allows}
 use Rattle.msi_memory.specs.Memories.{word_at}
 use Rattle.msi_state.specs.Events.{Event as ClerkEvent, Nothing as NothingTold, Accesses}
-use Rattle.memory_laws.specs.Words.{HaveWords}
+use Rattle.msi_laws.specs.Words.{HaveWords}
 use Rattle.tso_state.specs.Events.{Event, Performs, Drains, Logs}
 use Rattle.tso_state.specs.States.{State}
 

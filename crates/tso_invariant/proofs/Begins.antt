@@ -17,7 +17,7 @@ use Rattle.msi_directory.specs.Blocks.{block_count}
 use Rattle.msi_directory.proofs.Openings.{openings_counted}
 use Rattle.msi_memory.specs.declared.port.Port.{Port}
 use Rattle.msi_memory.specs.Memories.{port_at, port_start, no_port}
-use Rattle.memory_laws.proofs.Starts.{memory_starts}
+use Rattle.msi_laws.proofs.Starts.{memory_starts}
 use Rattle.tso_state.specs.declared.moves.Move.{Move}
 use Rattle.tso_state.specs.Moves.{candidates}
 use Rattle.tso_state.specs.States.{State, PlainState, BufferedCore, buffered_start, core_at, state_start}

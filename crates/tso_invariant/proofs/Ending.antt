@@ -18,8 +18,8 @@ use Rattle.msi_memory.specs.declared.port.Mail.{Mail}
 use Rattle.msi_memory.specs.declared.port.Port.{Port}
 use Rattle.msi_memory.specs.Acts.{head_free}
 use Rattle.msi_memory.specs.Memories.{port_at, no_port}
-use Rattle.memory_laws.specs.Moving.{are_links_empty, links_empty}
-use Rattle.memory_laws.proofs.Moving.{quiet_links}
+use Rattle.msi_laws.specs.Moving.{are_links_empty, links_empty}
+use Rattle.msi_laws.proofs.Moving.{quiet_links}
 use Rattle.tso_state.specs.declared.moves.Move.{Move}
 use Rattle.tso_state.specs.declared.moves.Move.TheVariants.{Core as CoreMove, Order as OrderMove}
 use Rattle.tso_state.specs.declared.moves.Move.TheVariants.{Request as RequestMove, Response as ResponseMove}

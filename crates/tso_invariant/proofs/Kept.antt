@@ -9,9 +9,9 @@ use Rattle.std.proofs.lemmas.List.{length-set, get_or-set_same, get_or-set_other
 use Rattle.access_times.specs.Riding.{Riding, Carrying}
 use Rattle.msi_memory.specs.Acts.{Act, TakeRequest, TakeResponse, TakeMessage, can, can_all}
 use Rattle.msi_memory.specs.Memories.{port_at}
-use Rattle.memory_laws.specs.Holds.{MemoryHolds}
-use Rattle.memory_laws.proofs.PortsKept.{there_of}
-use Rattle.memory_laws.proofs.Acting.{acts_hold, home_after_acts, ports_after_acts}
+use Rattle.msi_laws.specs.Holds.{MemoryHolds}
+use Rattle.msi_laws.proofs.PortsKept.{there_of}
+use Rattle.msi_laws.proofs.Acting.{acts_hold, home_after_acts, ports_after_acts}
 use Rattle.tso_state.specs.declared.moves.Move.{Move}
 use Rattle.tso_state.specs.declared.moves.Move.TheVariants.{Core as CoreMove, Order as OrderMove}
 use Rattle.tso_state.specs.declared.moves.Move.TheVariants.{Request as RequestMove, Response as ResponseMove}
@@ -20,7 +20,7 @@ use Rattle.tso_state.specs.Moves.{core_of}
 use Rattle.tso_state.specs.States.{State, BufferedCore, buffered_start, core_at}
 use Rattle.tso_state.specs.Steps.{acts, can_execute, can_order, cores_after, core_left, enabled, step}
 use Rattle.tso_invariant.specs.Holds.{BufferedHolds, TsoHolds}
-use Rattle.memory_laws.proofs.PortWaits.{may_change}
+use Rattle.msi_laws.proofs.PortWaits.{may_change}
 use Rattle.tso_invariant.proofs.Telling.{Turned, port_kept, well_kept}
 use Rattle.tso_invariant.proofs.Turns.{core_turn, order_turn, message_turn}
 

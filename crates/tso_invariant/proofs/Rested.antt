@@ -20,9 +20,9 @@ use Rattle.msi_memory.specs.declared.port.Port.{Port}
 use Rattle.msi_memory.specs.Acts.{TakeRequest, TakeResponse, TakeMessage, allows, data_next}
 use Rattle.msi_memory.specs.Memories.{port_at, word_at}
 use Rattle.msi_memory.specs.Rests.{has_row_for as has_act_row}
-use Rattle.memory_laws.proofs.Ready.{memory_ready}
-use Rattle.memory_laws.proofs.Spaces.{no_requests}
-use Rattle.memory_laws.proofs.Awaits.{data_granted}
+use Rattle.msi_laws.proofs.Ready.{memory_ready}
+use Rattle.msi_laws.proofs.Spaces.{no_requests}
+use Rattle.msi_laws.proofs.Awaits.{data_granted}
 use Rattle.msi_state.specs.Events.{access_of, next_instr, port_taken}
 use Rattle.msi_state.specs.Rests.{may_access}
 use Rattle.tso_state.specs.declared.moves.Move.{Move}

@@ -22,12 +22,12 @@ use Rattle.msi_memory.specs.declared.port.Port.{Port}
 use Rattle.msi_memory.specs.Acts.{Act, Want, Touch, Retire, can, can_all, after_act, after_acts, allows, port_asking}
 use Rattle.msi_memory.specs.Acts.{port_retiring}
 use Rattle.msi_memory.specs.Memories.{Memory, port_at}
-use Rattle.memory_laws.specs.Holds.{MemoryHolds}
-use Rattle.memory_laws.proofs.PortsKept.{length_act}
-use Rattle.memory_laws.proofs.Waits.{port_there, wants_law}
-use Rattle.memory_laws.specs.Waits.{Awaited}
-use Rattle.memory_laws.proofs.Acting.{acts_keep, ports_after_acts}
-use Rattle.memory_laws.proofs.Awaits.{awaited_kept}
+use Rattle.msi_laws.specs.Holds.{MemoryHolds}
+use Rattle.msi_laws.proofs.PortsKept.{length_act}
+use Rattle.msi_laws.proofs.Waits.{port_there, wants_law}
+use Rattle.msi_laws.specs.Waits.{Awaited}
+use Rattle.msi_laws.proofs.Acting.{acts_keep, ports_after_acts}
+use Rattle.msi_laws.proofs.Awaits.{awaited_kept}
 use Rattle.msi_state.specs.Events.{Accesses}
 use Rattle.msi_state.specs.Steps.{acts_of}
 use Rattle.tso_state.specs.declared.pending.Pending.{Pending}
@@ -35,7 +35,7 @@ use Rattle.tso_state.specs.Events.{Told, Alone, Ordered, Logged, clerk_event, co
 use Rattle.tso_state.specs.States.{BufferedCore}
 use Rattle.tso_state.specs.Steps.{acts_told}
 use Rattle.tso_invariant.specs.Holds.{BufferedFits, BufferedHolds, is_asking, wish_by}
-use Rattle.memory_laws.proofs.PortWaits.{may_change, change_wants, waits_kept, asking_waits_now, can_append}
+use Rattle.msi_laws.proofs.PortWaits.{may_change, change_wants, waits_kept, asking_waits_now, can_append}
 
 -- ---- what is told
 

@@ -23,12 +23,12 @@ use Rattle.msi_directory.specs.Blocks.{block_count}
 use Rattle.msi_memory.specs.declared.port.Port.{Port}
 use Rattle.msi_memory.specs.Acts.{TakeMessage, can, after_act, allows, data_next}
 use Rattle.msi_memory.specs.Memories.{Memory, port_at, word_at}
-use Rattle.memory_laws.specs.Holds.{MemoryHolds, PortHolds}
-use Rattle.memory_laws.proofs.Kept.{memory_kept}
-use Rattle.memory_laws.proofs.PortsKept.{length_act}
-use Rattle.memory_laws.proofs.Waits.{still_law}
-use Rattle.memory_laws.specs.Waits.{Awaited}
-use Rattle.memory_laws.proofs.Awaits.{Granted, awaited_kept, data_granted, taken_there}
+use Rattle.msi_laws.specs.Holds.{MemoryHolds, PortHolds}
+use Rattle.msi_laws.proofs.Kept.{memory_kept}
+use Rattle.msi_laws.proofs.PortsKept.{length_act}
+use Rattle.msi_laws.proofs.Waits.{still_law}
+use Rattle.msi_laws.specs.Waits.{Awaited}
+use Rattle.msi_laws.proofs.Awaits.{Granted, awaited_kept, data_granted, taken_there}
 use Rattle.msi_state.specs.Events.{access_of, next_instr, port_taken}
 use Rattle.msi_state.specs.Rests.{may_access}
 use Rattle.tso_state.specs.declared.pending.Pending.{Pending}
@@ -45,7 +45,7 @@ use Rattle.tso_state.specs.Steps.{acts_told, acts_asking, can_execute, can_order
 use Rattle.tso_state.specs.Steps.{is_fence, is_next}
 use Rattle.tso_invariant.specs.Holds.{BufferedFits, BufferedHolds, QueueHolds, is_asking, may_ask, next_may_ask}
 use Rattle.tso_invariant.specs.Holds.{wish_by}
-use Rattle.memory_laws.proofs.PortWaits.{awaited_denied}
+use Rattle.msi_laws.proofs.PortWaits.{awaited_denied}
 use Rattle.tso_invariant.proofs.Queues.{asks_past, asks_popped, asks_pushed, fits_asking, fits_executed, fits_popped}
 use Rattle.tso_invariant.proofs.Queues.{fits_pushed, head_within, is_head}
 use Rattle.tso_invariant.proofs.Queues.{load_asks_not, room_for, wish_past, wish_popped, wish_pushed}

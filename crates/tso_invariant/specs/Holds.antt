@@ -13,8 +13,8 @@ use Rattle.msi_cache.specs.Lines.{waits}
 use Rattle.msi_directory.specs.Blocks.{block_count}
 use Rattle.msi_memory.specs.declared.port.Port.{Port}
 use Rattle.msi_memory.specs.Memories.{port_at}
-use Rattle.memory_laws.specs.Holds.{MemoryHolds}
-use Rattle.memory_laws.specs.Waits.{Awaited}
+use Rattle.msi_laws.specs.Holds.{MemoryHolds}
+use Rattle.msi_laws.specs.Waits.{Awaited}
 use Rattle.tso_state.specs.declared.pending.Pending.{Pending}
 use Rattle.tso_state.specs.declared.pending.Asker.{Asker}
 use Rattle.tso_state.specs.declared.pending.Asker.TheVariants.{Nobody, Next, Head}

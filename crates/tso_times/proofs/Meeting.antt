@@ -1,8 +1,8 @@
 -- Riders that meet in a move have the same last writes: what meets is the memory system's own.
 use Rattle.access_times.specs.Riding.{Carrying}
 use Rattle.msi_memory.specs.Acts.{TakeMessage, TakeRequest, TakeResponse}
-use Rattle.memory_laws.proofs.PortsKept.{there_of}
-use Rattle.memory_laws.proofs.Standing.{core_below}
+use Rattle.msi_laws.proofs.PortsKept.{there_of}
+use Rattle.msi_laws.proofs.Standing.{core_below}
 use Rattle.machine_times.specs.StandsFor.{TimesParts}
 use Rattle.machine_times.proofs.Absorbing.{messages_alike, requests_alike, responses_alike}
 use Rattle.tso_state.specs.declared.moves.Move.TheVariants.{Core as CoreMove, Order as OrderMove}

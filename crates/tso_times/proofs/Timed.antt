@@ -22,13 +22,13 @@ use Rattle.msi_memory.specs.Acts.{Act, Want, Touch, Retire, TakeRequest, TakeRes
 use Rattle.msi_memory.specs.Acts.{after_act, after_acts, data_next}
 use Rattle.msi_memory.specs.Acts.{port_retiring}
 use Rattle.msi_memory.specs.Memories.{Memory, port_at, rider_at}
-use Rattle.memory_laws.specs.Holds.{MemoryHolds}
-use Rattle.memory_laws.proofs.Kept.{memory_kept}
-use Rattle.memory_laws.proofs.LinksKept.{is_touch}
-use Rattle.memory_laws.proofs.PortsKept.{length_act}
-use Rattle.memory_laws.proofs.Standing.{core_below}
-use Rattle.memory_laws.proofs.Waits.{port_there}
-use Rattle.memory_laws.proofs.Awaits.{taken_there}
+use Rattle.msi_laws.specs.Holds.{MemoryHolds}
+use Rattle.msi_laws.proofs.Kept.{memory_kept}
+use Rattle.msi_laws.proofs.LinksKept.{is_touch}
+use Rattle.msi_laws.proofs.PortsKept.{length_act}
+use Rattle.msi_laws.proofs.Standing.{core_below}
+use Rattle.msi_laws.proofs.Waits.{port_there}
+use Rattle.msi_laws.proofs.Awaits.{taken_there}
 use Rattle.machine_times.specs.History.{NotedAccess, core_of as noted_core, last_noted_read, rank, read_after}
 use Rattle.machine_times.specs.Retirements.{IsExactRider, RiderNotes, noted_after}
 use Rattle.machine_times.specs.StandsFor.{AbsorbsAll, HaveTimes, TimesParts}

@@ -20,12 +20,12 @@ use Rattle.rv_core.proofs.LawLemmas.{value_law, within_law}
 use Rattle.msi_memory.specs.declared.port.Port.{Port}
 use Rattle.msi_memory.specs.Acts.{TakeMessage, allows, after_act, data_next}
 use Rattle.msi_memory.specs.Memories.{Memory, port_at, word_at}
-use Rattle.memory_laws.specs.Holds.{MemoryHolds}
-use Rattle.memory_laws.specs.Words.{HaveWords}
-use Rattle.memory_laws.proofs.Kept.{memory_kept}
-use Rattle.memory_laws.proofs.PortsKept.{length_act}
-use Rattle.memory_laws.proofs.Properties.{finds_words, words_kept}
-use Rattle.memory_laws.proofs.Awaits.{taken_there}
+use Rattle.msi_laws.specs.Holds.{MemoryHolds}
+use Rattle.msi_laws.specs.Words.{HaveWords}
+use Rattle.msi_laws.proofs.Kept.{memory_kept}
+use Rattle.msi_laws.proofs.PortsKept.{length_act}
+use Rattle.msi_laws.proofs.Properties.{finds_words, words_kept}
+use Rattle.msi_laws.proofs.Awaits.{taken_there}
 use Rattle.msi_state.specs.Events.{Event as ClerkEvent, Nothing as NothingTold, Retires, Accesses, access_of}
 use Rattle.msi_state.specs.Events.{next_instr, port_taken}
 use Rattle.tso_data.specs.Orders.{ordering_of}

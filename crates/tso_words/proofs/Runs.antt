@@ -9,8 +9,8 @@ use Rattle.access_times.specs.Riding.{none_riding, none_carrying}
 use Rattle.image_mem.specs.Contents.{Contents}
 use Rattle.rtr_types.specs.declared.TheConstants.{CORES_MAX}
 use Rattle.rtr_types.specs.declared.params.Params.{Params}
-use Rattle.memory_laws.specs.Words.{HaveWords}
-use Rattle.memory_laws.proofs.Starts.{words_start}
+use Rattle.msi_laws.specs.Words.{HaveWords}
+use Rattle.msi_laws.proofs.Starts.{words_start}
 use Rattle.machine_data.specs.Coherent.{WordsFit, memory_after, value_after, word_of, writes_to}
 use Rattle.machine_data.proofs.Memory.{last_write_found}
 use Rattle.machine_data.proofs.Opening.{home_fits, home_memory, opening_at}

@@ -1,4 +1,4 @@
-use Rattle.memory_laws.proofs.Final.{final_current}
+use Rattle.msi_laws.proofs.Final.{final_current}
 use Rattle.tso_invariant.proofs.Ending.{links_left}
 use Rattle.tso_data.proofs.laws.the_end_has_the_memory.Goals as goal
 

@@ -1,6 +1,6 @@
 -- The request of the core that asked is looked at, and then all moves that can be made are marked.
 use Rattle.std.proofs.Common.{◌∙◌, ap, subst}
-use Rattle.memory_laws.proofs.Ready.{memory_ready}
+use Rattle.msi_laws.proofs.Ready.{memory_ready}
 use Rattle.msi_memory.specs.Acts.{TakeRequest, can}
 use Rattle.msi_state.specs.States.{Machinery}
 use Rattle.msi_state.specs.Steps.{moves}

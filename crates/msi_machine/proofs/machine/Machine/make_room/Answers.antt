@@ -1,5 +1,5 @@
 use Rattle.std.proofs.Common.{◌≡◌, ◌∙◌, ◌<◌, ◌≤◌, ap, sym, subst, length, ℕ, true}
-use Rattle.memory_laws.proofs.Ready.{memory_ready}
+use Rattle.msi_laws.proofs.Ready.{memory_ready}
 use Rattle.msi_memory.specs.Acts.{head_free}
 use Rattle.msi_memory.specs.Memories.{Memory}
 use Rattle.msi_memory.specs.Rests.{requests_at}

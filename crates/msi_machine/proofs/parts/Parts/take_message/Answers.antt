@@ -1,6 +1,6 @@
 use Rattle.std.proofs.Common.{◌∙◌, ◌<◌, Bool, length, ap}
 use Rattle.msi_memory.specs.Acts.{Act, TakeMessage, TakeResponse, can}
-use Rattle.memory_laws.proofs.Ready.{memory_ready}
+use Rattle.msi_laws.proofs.Ready.{memory_ready}
 use Rattle.msi_state.specs.declared.moves.Move.TheVariants.{FromHome}
 use Rattle.msi_state.specs.States.{Machinery, State}
 use Rattle.msi_state.specs.Steps.{rider_left}

@@ -1,5 +1,5 @@
 use Rattle.std.proofs.Common.{◌≡◌, ◌∙◌, ap, [], ◌∷◌, length, nat_lt}
-use Rattle.memory_laws.proofs.Ready.{memory_ready}
+use Rattle.msi_laws.proofs.Ready.{memory_ready}
 use Rattle.msi_memory.specs.Acts.{TakeResponse}
 use Rattle.msi_memory.specs.Memories.{Memory}
 use Rattle.msi_state.specs.States.{State}

@@ -1,7 +1,7 @@
 -- No move can be made exactly where each core has ended.
 use Rattle.std.proofs.Common.{◌∙◌, sym, ap, length, subst}
 use Rattle.rtr_types.proofs.Truths.{true_is}
-use Rattle.memory_laws.proofs.Final.{final_current}
+use Rattle.msi_laws.proofs.Final.{final_current}
 use Rattle.tso_state.specs.States.{State}
 use Rattle.tso_invariant.specs.Holds.{TsoHolds}
 use Rattle.tso_invariant.proofs.Ending.{links_left}

@@ -1,6 +1,6 @@
 use Rattle.std.proofs.Common.{◌≡◌, ◌∙◌, ap, sym, subst, ℕ, List, []}
 use Rattle.std.specs.Prelude.{slice_index}
-use Rattle.memory_laws.proofs.Final.{final_current}
+use Rattle.msi_laws.proofs.Final.{final_current}
 use Rattle.machine_plain.proofs.Shows.{plain_words}
 use Rattle.msi_memory.specs.Finals.{block_words}
 use Rattle.msi_state.specs.States.{State as MachineState}

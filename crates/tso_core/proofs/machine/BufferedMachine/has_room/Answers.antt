@@ -1,4 +1,4 @@
-use Rattle.memory_laws.proofs.Ready.{memory_ready}
+use Rattle.msi_laws.proofs.Ready.{memory_ready}
 use Rattle.tso_core.proofs.machine.BufferedMachine.has_room.Goals as goal
 
 pub has_room-requires : goal.has_room-requires

@@ -1,6 +1,6 @@
 use Rattle.std.proofs.Common.{◌∙◌, refl, ap, Bool, length, ◌<◌}
 use Rattle.msi_memory.specs.Acts.{Act, TakeMessage, TakeResponse, can}
-use Rattle.memory_laws.proofs.Ready.{memory_ready}
+use Rattle.msi_laws.proofs.Ready.{memory_ready}
 use Rattle.tso_state.specs.declared.moves.Move.TheVariants.{FromHome}
 use Rattle.tso_state.specs.States.{State}
 use Rattle.tso_invariant.proofs.Rested.{rows_there}

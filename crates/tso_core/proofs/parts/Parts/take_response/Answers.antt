@@ -1,9 +1,9 @@
 use Rattle.std.proofs.Common.{◌≡◌, ◌∙◌, ap, [], ◌∷◌, length, nat_lt}
-use Rattle.memory_laws.proofs.Ready.{memory_ready}
+use Rattle.msi_laws.proofs.Ready.{memory_ready}
 use Rattle.msi_memory.specs.Acts.{TakeResponse}
 use Rattle.msi_memory.specs.Memories.{Memory}
 use Rattle.tso_state.specs.States.{State}
-use Rattle.memory_laws.proofs.Acting.{ports_after_acts}
+use Rattle.msi_laws.proofs.Acting.{ports_after_acts}
 use Rattle.tso_core.proofs.Delivered.{left_is, lt_of}
 use Rattle.tso_core.proofs.Renewed.{response_others}
 use Rattle.tso_core.proofs.parts.Parts.take_response.Goals as goal

@@ -1,5 +1,0 @@
-use Rattle.memory_laws.proofs.Properties.{finds_words}
-use Rattle.memory_laws.proofs.laws.a_touch_finds_the_words.Goals as goal
-
-pub returns : goal.returns
-returns g c = finds_words g.R.Rider.riding g.K.Carry.carrying
