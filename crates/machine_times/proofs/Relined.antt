@@ -66,4 +66,5 @@ pub found_rehomed : {X : Type 0} (r : X → ℕ) (n d : ℕ) (b : FullBlock X) (
     (home_counts b.stage ≡ true → home ≡ b.home) → Found r n d b → Found r n d (rehomed home b)
 found_rehomed r n d b home same f =
     let k = ap r (main_rehomed b.stage b.home home b.seats same) in
-    found_in r n (main b) (main (rehomed home b)) (b.seats d) ((rehomed home b).seats d) (omega arith) (inl (omega arith)) f
+    found_in r n (main b) (main (rehomed home b)) (b.seats d) ((rehomed home b).seats d) (omega arith)
+    (inl (omega arith)) f

@@ -149,12 +149,7 @@ impl<R: Rider> Home<R> {
 
     /// Takes a request from core `from`, for a block that has room and at which the table has a row for
     /// it, so that it isn't busy. Only that block's entry changes. What was in hand means nothing, before and after.
-    pub fn on_request(
-        &mut self,
-        from: u8,
-        request: Request<R>,
-        hand: &mut Held<R>,
-    ) -> HomeAnswer<R>
+    pub fn on_request(&mut self, from: u8, request: Request<R>, hand: &mut Held<R>) -> HomeAnswer<R>
         requires from { from < CORES_MAX }
         requires within { request_block request < length self.old.entries }
         requires room { IsTrue (has_room self.old.rooms (request_block request)) }

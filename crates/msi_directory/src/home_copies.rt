@@ -186,9 +186,7 @@ impl<R: Rider> HomeCopy<R> {
                 };
                 HomeAnswer::one(owner, FromHome::FwdGetM { block })
             }
-            Stage::Shared { by } => {
-                self.take_from(stage, by.without(from), from, block, hand)
-            }
+            Stage::Shared { by } => self.take_from(stage, by.without(from), from, block, hand),
             _ => {
                 *stage = Stage::Owned { owner: from };
                 self.give(from, block, hand)

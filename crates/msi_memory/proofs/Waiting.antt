@@ -11,7 +11,8 @@ use Rattle.rtr_types.specs.declared.TheConstants.{LINES}
 use Rattle.rtr_types.proofs.Truths.{second_true}
 use Rattle.msi_cache.specs.declared.line.Line.{Line}
 use Rattle.msi_cache.specs.declared.messages.FromHome.{FromHome}
-use Rattle.msi_cache.specs.Lines.{answer, empty_line, has_row, line_after, line_by, lines_after, lines_put, lines_riding, waits}
+use Rattle.msi_cache.specs.Lines.{answer, empty_line, has_row, line_after, line_by, lines_after, lines_put}
+use Rattle.msi_cache.specs.Lines.{lines_riding, waits}
 use Rattle.msi_cache.specs.Messages.{block_of, signal}
 use Rattle.msi_memory.specs.Waiting.{ends_wait}
 

@@ -16,8 +16,8 @@ use Rattle.msi_cache.specs.Lines.{has_row, line_by, answer_by}
 use Rattle.msi_directory.specs.declared.entry.Stage.{Stage}
 use Rattle.msi_directory.specs.declared.entry.Entry.{Entry}
 use Rattle.msi_directory.specs.Table.{Send, HomeRow, request_row, response_row}
-use Rattle.msi_directory.specs.Entries.{entry_by, entry_met, sent, answer_by as home_answer_by, request_words, request_rider}
-use Rattle.msi_directory.specs.Entries.{response_words, response_rider}
+use Rattle.msi_directory.specs.Entries.{entry_by, entry_met, sent, answer_by as home_answer_by, request_words}
+use Rattle.msi_directory.specs.Entries.{request_rider, response_words, response_rider}
 use Rattle.msi_protocol.specs.Block.{home_step, signalled, view, message_row_taken, ToEvict, wish_row}
 use Rattle.msi_protocol.specs.Controllers.{RequestAsMoved, ResponseAsMoved, kind_sent, MakesStep, kind_replied}
 use Rattle.msi_protocol.specs.Controllers.{TakesAsMoved, access_wish, AsksAsWished}

@@ -1,6 +1,6 @@
 -- Each move of the tables leads from a block that is shown to one that is shown.
-use Rattle.std.proofs.Common.{◌≡◌, ◌≢◌, ◌∙◌, ◌⊎◌, inl, inr, ap, refl, sym, subst, ℕ, ◌<◌, ◌==◌, Bool, true, false, List, []}
-use Rattle.std.proofs.Common.{◌∷◌, Option, Some, None, arith}
+use Rattle.std.proofs.Common.{◌≡◌, ◌≢◌, ◌∙◌, ◌⊎◌, inl, inr, ap, refl, sym, subst, ℕ, ◌<◌, ◌==◌, Bool, true, false, List}
+use Rattle.std.proofs.Common.{[], ◌∷◌, Option, Some, None, arith}
 use Rattle.rtr_types.specs.Accesses.{is_write}
 use Rattle.msi_directory.specs.Entries.{entry_after_request, entry_after_response, entry_by, entry_for_request}
 use Rattle.msi_directory.specs.Entries.{entry_for_response, entry_left, entry_met, request_rider, request_words}
@@ -128,8 +128,8 @@ module _ {R : Type 0} where
       let left : Entry R = entry_after_request riding entry c request in
       let sends : entry_with taken ≡ entry_for_request riding.absorbed entry c request =
       sym (shown_entry riding b c q.0 q.1 bl free' q.2 (st.roles c lc))
-            ∙ ap (λ (e : Entry R). (entry_for_request riding.absorbed e c (ask_with b s.put q.0))) f.entry_is
-            ∙ ap (λ (r : Request R). (entry_for_request riding.absorbed entry c r)) (sym q.3) in
+      ∙ ap (λ (e : Entry R). (entry_for_request riding.absorbed e c (ask_with b s.put q.0))) f.entry_is
+      ∙ ap (λ (r : Request R). (entry_for_request riding.absorbed entry c r)) (sym q.3) in
       record {
         block = rehomed (home_copy left) taken;
         entry_is = home_left riding.fresh (request_row entry.stage c (ask_of request)) taken
@@ -186,8 +186,8 @@ module _ {R : Type 0} where
       let left : Entry R = entry_after_response riding entry c response in
       let sends : entry_with taken ≡ entry_for_response riding.absorbed entry c response =
       sym (shown_response_entry riding b c q.0 q.1 bl q.2 (st.roles c lc))
-            ∙ ap (λ (e : Entry R). (entry_for_response riding.absorbed e c (reply_with b s.reply q.0))) f.entry_is
-            ∙ ap (λ (r : Response R). (entry_for_response riding.absorbed entry c r)) (sym q.3) in
+      ∙ ap (λ (e : Entry R). (entry_for_response riding.absorbed e c (reply_with b s.reply q.0))) f.entry_is
+      ∙ ap (λ (r : Response R). (entry_for_response riding.absorbed entry c r)) (sym q.3) in
       record {
         block = rehomed (home_copy left) taken;
         entry_is = home_left riding.fresh (response_row entry.stage c (reply_of response)) taken

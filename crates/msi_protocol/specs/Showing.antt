@@ -30,7 +30,7 @@ relined lines b = record b { seats = λ d. record (b.seats d) { line = lines d }
 abbrev pub rehomed : {X : Type 0} → X → FullBlock X → FullBlock X
 rehomed home b = record b { home = home }
 
--- each move of a block keeps the property, and what a line has, or the home, whose copy doesn't count doesn't matter to it
+-- each move of a block keeps the property; what a line or the home has whose copy doesn't count doesn't matter to it
 pub record KeptBy {X : Type 0} (absorbed : X → X → X) (Q : FullBlock X → Type 0) : Type 0 where
   pub request : (c : ℕ) (a : Ask) (rest : List Ask) (b : FullBlock X) → c < CORES_MAX → is_free b.stage ≡ true
       → (picture (b.seats c).phase).requests ≡ a ∷ rest → PhasesFit b → Q b → Q (requested absorbed c a b)

@@ -230,6 +230,6 @@ returns-clause-free g c =
     let kept = ap (λ (b : Blocks g.row.R.Denot). b.entries) c.serve-free.ensures.home in
     request_frees g.R.Rider.riding c.self.inside.home c.args.core c.block-block.result c.in-Some.mail.now.item
     c.serve-free.new.home.entries
-    c.serve-free.result.free (subst (λ (es : List (Entry g.row.R.Denot)). request_block c.in-Some.mail.now.item < length es)
-    (sym home) within) c.block-block.ensures
+    c.serve-free.result.free (subst (λ (es : List (Entry g.row.R.Denot)). request_block c.in-Some.mail.now.item
+    < length es) (sym home) within) c.block-block.ensures
     kept c.serve-free.ensures.free

@@ -263,7 +263,8 @@ returns-clause-memory g c =
     _ c.collect-free.ensures.answer in
     let taken : record c.index_mut.result.now { responses = c.collect-free.new.responses } ≡ port_responded old
     (drop 1 old.responses.items) =
-    response_taken c.index_mut.result.now c.collect-free.new.responses c.collect-free.ensures.room c.collect-free.ensures.items
+    response_taken c.index_mut.result.now c.collect-free.new.responses c.collect-free.ensures.room
+    c.collect-free.ensures.items
     ∙ ap (λ (n : Port g.row.R.Denot g.row.K.Denot). port_responded n (drop 1 n.responses.items)) there in
     let before : c.as_mut_slice.result.now ≡ slice_set c.self.inside.ports.items c.args.core
     (port_responded old (drop 1 old.responses.items)) =
@@ -385,8 +386,8 @@ returns-clause-free g c =
     _ c.collect-free.ensures.home) in
     response_frees g.R.Rider.riding c.self.inside.home c.args.core c.block-block.result c.in-Some.mail.now.item
     c.collect-free.new.home.entries
-    c.collect-free.result.free (subst (λ (es : List (Entry g.row.R.Denot)). response_block c.in-Some.mail.now.item < length
-    es) (sym home) within)
+    c.collect-free.result.free (subst (λ (es : List (Entry g.row.R.Denot)). response_block c.in-Some.mail.now.item
+    < length es) (sym home) within)
     c.block-block.ensures
     kept (of_head c.index_mut.result.now.responses.items c.in-Some.mail.now (drop 1 c.index.result.now.responses.items)
     again _ c.collect-free.ensures.free)
