@@ -1,20 +1,26 @@
--- The bytes of a word after some of them were copied over are the lanes of the merged word.
+-- The bytes of a word after some of them were written over are the lanes of the merged word.
 use Rattle.std.proofs.Common.{◌≡◌, ◌⊎◌, inl, inr, ℕ, zero, suc, ◌+◌, ◌-◌, ◌/◌, ◌%◌, ◌^◌, ◌<◌, lit<, Bool, true, false}
-use Rattle.std.proofs.Common.{IsTrue, [], ◌∷◌, take, refl, sym, arith, w32}
-use Rattle.std.specs.Prelude.{if◌then◌else◌}
+use Rattle.std.proofs.Common.{IsTrue, [], ◌∷◌, ◌≢◌, refl, sym, arith, w32}
+use Rattle.std.specs.Prelude.{if◌then◌else◌, slice_index, slice_set}
 use Rattle.std.specs.Int.{byte_at, to_le_bytes, from_le_bytes}
 use Rattle.std.proofs.lemmas.Nat.{mod_below}
 use Rattle.std.proofs.lemmas.Bool.Decides.{nat_tests}
-use borrow.Rule.Slice.PartMut.{put_mid}
 use Rattle.image_mem.specs.Lanes.{is_access_size, is_lane_of, merged_lane, merged}
 
--- the number of the old bytes with the low bytes of the value copied over `size` of them
-abbrev IsMerge : (old value first size : ℕ) → Type 0
-IsMerge old value first size =
-    from_le_bytes w32 (put_mid first (first + size - first) (to_le_bytes w32 old) (take size (to_le_bytes w32 value)))
-    ≡ merged old value first size
+-- the number of the old bytes with one taken from the value
+abbrev IsByteMerge : (old value first : ℕ) → Type 0
+IsByteMerge old value first =
+    from_le_bytes w32 (slice_set (to_le_bytes w32 old) first (slice_index (to_le_bytes w32 value) 0))
+    ≡ merged old value first 1
 
-merge_byte : (old value first : ℕ) → first < 4 → IsMerge old value first 1
+-- and with two
+abbrev IsHalfMerge : (old value first : ℕ) → Type 0
+IsHalfMerge old value first =
+    from_le_bytes w32 (slice_set (slice_set (to_le_bytes w32 old) first (slice_index (to_le_bytes w32 value) 0))
+    (first + 1) (slice_index (to_le_bytes w32 value) 1))
+    ≡ merged old value first 2
+
+merge_byte : (old value first : ℕ) → first < 4 → IsByteMerge old value first
 unfolding merged
 merge_byte old value zero h = refl
 merge_byte old value (suc zero) h = refl
@@ -22,7 +28,7 @@ merge_byte old value (suc (suc zero)) h = refl
 merge_byte old value (suc (suc (suc zero))) h = refl
 merge_byte old value (suc (suc (suc (suc first)))) h = absurd (omega arith)
 
-merge_half : (old value first : ℕ) → first < 4 → first % 2 ≡ 0 → IsMerge old value first 2
+merge_half : (old value first : ℕ) → first < 4 → first % 2 ≡ 0 → IsHalfMerge old value first
 unfolding merged
 merge_half old value zero h e = refl
 merge_half old value (suc zero) h e = absurd (omega arith)
@@ -30,29 +36,26 @@ merge_half old value (suc (suc zero)) h e = refl
 merge_half old value (suc (suc (suc zero))) h e = absurd (omega arith)
 merge_half old value (suc (suc (suc (suc first)))) h e = absurd (omega arith)
 
-merge_whole : (old value first : ℕ) → first < 4 → first % 4 ≡ 0 → IsMerge old value first 4
-unfolding merged
-merge_whole old value zero h e = refl
-merge_whole old value (suc zero) h e = absurd (omega arith)
-merge_whole old value (suc (suc zero)) h e = absurd (omega arith)
-merge_whole old value (suc (suc (suc zero))) h e = absurd (omega arith)
-merge_whole old value (suc (suc (suc (suc first)))) h e = absurd (omega arith)
-
 -- the three sizes
 pub sizes : (size : ℕ) → IsTrue (is_access_size size) → (size ≡ 1) ⊎ ((size ≡ 2) ⊎ (size ≡ 4))
 sizes size h = grind (arith, nat_tests)
 
-pub is_merge : (old value address size : ℕ) → IsTrue (is_access_size size) → address % size ≡ 0 →
-    IsMerge old value (address % 4) size
-is_merge old value address size h aligned = elim (sizes size h) [
+pub is_byte : (old value address size : ℕ) → IsTrue (is_access_size size) → size ≢ 2 → size ≢ 4 →
+    from_le_bytes w32 (slice_set (to_le_bytes w32 old) (address % 4) (slice_index (to_le_bytes w32 value) 0))
+    ≡ merged old value (address % 4) size
+is_byte old value address size h no_half no_whole = elim (sizes size h) [
   | inl e ↦ rw e (merge_byte old value (address % 4) (omega arith))
-  | inr rest ↦ elim rest [
-    | inl e ↦ rw e (merge_half old value (address % 4) (omega arith) (let k : address % 2 ≡ 0 = rw e at aligned in
-        omega arith))
-    | inr e ↦ rw e (merge_whole old value (address % 4) (omega arith) (let k : address % 4 ≡ 0 = rw e at aligned in
-        omega arith))
-  ]
+  | inr rest ↦ elim rest [ inl e ↦ absurd (no_half e) | inr e ↦ absurd (no_whole e) ]
 ]
+
+pub is_half : (old value address size : ℕ) → address % size ≡ 0 → size ≡ 2 →
+    from_le_bytes w32 (slice_set
+    (slice_set (to_le_bytes w32 old) (address % 4) (slice_index (to_le_bytes w32 value) 0))
+    (address % 4 + 1) (slice_index (to_le_bytes w32 value) 1))
+    ≡ merged old value (address % 4) size
+is_half old value address size aligned e =
+    let k : address % 2 ≡ 0 = rw e at aligned in
+    rw e (merge_half old value (address % 4) (omega arith) (omega (arith, k)))
 
 pub byte_at-below : (k n : ℕ) → byte_at k n < 256
 byte_at-below zero n = omega arith

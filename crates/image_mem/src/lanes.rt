@@ -14,9 +14,12 @@ pub fn merge_lanes(old: u32, value: u32, address: u32, size: u32) -> u32
         return value;
     }
     let first = (address % 4) as usize;
-    let count = size as usize;
+    let bytes = value.to_le_bytes();
     let mut lanes = old.to_le_bytes();
-    lanes[first..first + count].copy_from_slice(&value.to_le_bytes()[..count]);
+    lanes[first] = bytes[0];
+    if size == 2 {
+        lanes[first + 1] = bytes[1];
+    }
     u32::from_le_bytes(lanes)
 }
 

@@ -107,6 +107,7 @@ impl<'a> Entries<'a> {
     }
 
     /// The same entry, whose number is looked for from the one that was found last.
+    #[inline(always)]
     fn entry_near(&self, at: Instr, number: &mut usize) -> &'a [u32]
         requires { IsWithin self.now.recording at }
         ensures { result.now ≡ last_entry (reduced_edges self.now.recording) self.now.clocks at }

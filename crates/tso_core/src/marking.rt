@@ -155,6 +155,7 @@ pub(crate) fn allows<R: Rider, K: Carry>(
 
 /// Marks what can be made after the home's turn: the cores that it answered have a message, and where its
 /// block is free now and wasn't, or was and isn't, so are the requests for the block.
+#[inline(always)]
 pub(crate) fn mark_turn<R: Rider, K: Carry>(
     memory: &MemorySystem<R, K>,
     turn: Turn,

@@ -25,6 +25,7 @@ pub struct Standing {
 
 impl Standing {
     /// That of a core.
+    #[inline(always)]
     pub(crate) fn of(program: &Program, core: &Core) -> Standing
         ensures { result ≡ standing_with program.now core.now }
     {

@@ -69,6 +69,7 @@ impl<R: Rider, K: Carry> Parts<R, K> {
 
     /// Core `c` asks for what an access of this kind to a word needs, for its next instruction or for the oldest
     /// of its pending accesses.
+    #[inline(always)]
     pub(crate) fn ask(&mut self, c: u8, word: u32, kind: Kind, asker: Asker)
         requires here { c < length self.old.state.cores }
         requires port { c < length self.old.state.memory.ports }
