@@ -5,7 +5,7 @@ ghost use Rattle.race_log.specs.Validity.{Valid};
 ghost use Rattle.certificate_codec.specs.Ends.{reduced_edges};
 
 use race_log::Recording;
-use rtr_types::{Edge, Instr, Items, pair_count, pair_of};
+use rtr_types::{Edge, Instr, Items, Which, pair_count, pair_of};
 use std::alloc::{AllocError, Global};
 
 /// Puts the edges of a pair at the end.
@@ -36,7 +36,8 @@ pub fn edges_of(alloc: Global, recording: &Recording) -> Result<Items<Edge>, All
     ensures { IfOk result (λ list. list ≡ reduced_edges recording.now) }
 {
     let cores = recording.params.cores;
-    let mut list = Vec::new(alloc);
+    let count = recording.edge_count(Which::Reduced) as usize;
+    let mut list = Vec::with_capacity(alloc, count)?;
     for place in 0..pair_count(cores) {
         let (from, to) = pair_of(cores, place);
         let counts = recording.reduced.as_slice()[place].as_slice();
