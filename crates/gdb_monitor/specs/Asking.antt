@@ -100,19 +100,17 @@ pub record AreEdgesTold (a : Findings) (cut : Cut) (at : Instr) (told : List ℕ
 
 -- ---- conflicts
 
-abbrev pub earlier_row : (pcs : List (List ℕ)) → Access → List ℕ
-earlier_row pcs access = codes "  earlier " ++ line (row_text pcs access)
-
-abbrev pub later_row : (pcs : List (List ℕ)) → Access → List ℕ
-later_row pcs access = codes "  later   " ++ line (row_text pcs access)
+-- an access in a line, behind what it is called
+abbrev pub called_row : (called : List ℕ) → (pcs : List (List ℕ)) → Access → List ℕ
+called_row called pcs access = called ++ line (row_text pcs access)
 
 -- an access, and those with which it conflicts
 pub record AreConflicts (a : Findings) (conflicts : Conflicts) (told : List ℕ) : Type 0 where
   pub pcs : List (List ℕ)
   pub are : ArePcs a.which a.recording pcs
   pub told_is : told
-      ≡ line (row_text pcs conflicts.access) ++ flat_map (earlier_row pcs) conflicts.earlier
-      ++ flat_map (later_row pcs) conflicts.later
+      ≡ line (row_text pcs conflicts.access) ++ flat_map (called_row (codes "  earlier ") pcs) conflicts.earlier
+      ++ flat_map (called_row (codes "  later   ") pcs) conflicts.later
 
 -- unless there is no access
 abbrev pub IsConflictTold : Findings → Option Conflicts → (told : List ℕ) → Type 0

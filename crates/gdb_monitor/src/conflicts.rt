@@ -2,7 +2,7 @@
 ghost use Rattle.std.specs.Prelude.{◌≡◌, ◌++◌, IfOk, OnOk, string_bytes};
 ghost use Rattle.std.specs.List.{flat_map};
 ghost use Rattle.roomy_lists.specs.Lists.{items_in};
-ghost use Rattle.gdb_monitor.specs.Asking.{AreConflicts, AreConflictsTold, earlier_row, later_row};
+ghost use Rattle.gdb_monitor.specs.Asking.{AreConflicts, AreConflictsTold, called_row};
 
 use crate::asking::put_line;
 use crate::pcs::pcs_of;
@@ -42,40 +42,36 @@ fn conflicts_at(
     let pcs = pcs_of(alloc, audited)?;
     let mut text = String::new(alloc);
     put_line(alloc, &mut text, &pcs, conflicts.access)?;
-    put_earlier(alloc, &mut text, &pcs, conflicts.earlier.as_slice())?;
-    put_later(alloc, &mut text, &pcs, conflicts.later.as_slice())?;
+    put_called(
+        alloc,
+        &mut text,
+        &pcs,
+        "  earlier ",
+        conflicts.earlier.as_slice(),
+    )?;
+    put_called(
+        alloc,
+        &mut text,
+        &pcs,
+        "  later   ",
+        conflicts.later.as_slice(),
+    )?;
     Ok(bytes_of(text))
 }
 
-/// Puts the accesses before, each in a line.
-fn put_earlier(
+/// Puts accesses, each in a line, behind what they are called.
+fn put_called(
     alloc: Global,
     text: &mut String,
     pcs: &RoomyLists<u32>,
+    called: &str,
     list: &[Access],
 ) -> Result<(), AllocError>
     ensures { OnOk result (string_bytes text.new
-        ≡ string_bytes text.old ++ flat_map (earlier_row (items_in pcs.now)) list.now) }
+        ≡ string_bytes text.old ++ flat_map (called_row called.now (items_in pcs.now)) list.now) }
 {
     for access in list {
-        text.push_str("  earlier ")?;
-        put_line(alloc, text, pcs, *access)?;
-    }
-    Ok(())
-}
-
-/// Puts the accesses behind, each in a line.
-fn put_later(
-    alloc: Global,
-    text: &mut String,
-    pcs: &RoomyLists<u32>,
-    list: &[Access],
-) -> Result<(), AllocError>
-    ensures { OnOk result (string_bytes text.new
-        ≡ string_bytes text.old ++ flat_map (later_row (items_in pcs.now)) list.now) }
-{
-    for access in list {
-        text.push_str("  later   ")?;
+        text.push_str(called)?;
         put_line(alloc, text, pcs, *access)?;
     }
     Ok(())

@@ -1,12 +1,10 @@
 //! Numbers in commands.
 ghost use Rattle.std.specs.Prelude.{◌≡◌, ◌≤◌, ◌<◌, ◌^◌, Some, None, IfSome, nat_lt, if◌then◌else◌};
-ghost use Rattle.std.specs.Char.{digit_value, is_digit};
-ghost use Rattle.std.specs.List.{list_all};
 ghost use Rattle.std.specs.Str.Parse.{digits_value};
 ghost use Rattle.gdb_monitor.specs.Numbers.{address_of, core_of, count_of, instr_of, is_decimal, is_padded};
 ghost use Rattle.gdb_monitor.specs.Numbers.{address_within, named_instr, number_below, word_of};
 
-use gdb_packets::{behind, cut_at, number_of};
+use gdb_packets::{are_digits, behind, cut_at, digit_value, number_of};
 use rtr_types::Instr;
 
 /// One more than the greatest count.
@@ -34,7 +32,7 @@ fn number_below(past: u64, text: &[u8]) -> Option<u64>
 fn is_decimal(text: &[u8]) -> bool
     ensures { result ≡ is_decimal text.now }
 {
-    !text.is_empty() && !is_padded(text) && are_digits(text)
+    !text.is_empty() && !is_padded(text) && are_digits(text, 10)
 }
 
 /// Whether there are several bytes and the first is `0`.
@@ -42,32 +40,6 @@ fn is_padded(text: &[u8]) -> bool
     ensures { result ≡ is_padded text.now }
 {
     text.len() > 1 && text[0] == b'0'
-}
-
-/// Whether each byte is a decimal digit.
-fn are_digits(text: &[u8]) -> bool
-    ensures { result ≡ list_all (λ c. is_digit c 10) text.now }
-{
-    text.iter().all(|b| is_digit(*b))
-}
-
-/// Whether the byte is a decimal digit.
-fn is_digit(byte: u8) -> bool
-    ensures { result ≡ is_digit byte 10 }
-{
-    digit_value(byte) < 10
-}
-
-/// The value of a digit or of a letter, which goes on behind 9; 36 of another byte.
-fn digit_value(byte: u8) -> u8
-    ensures { result ≡ digit_value byte }
-{
-    match byte {
-        b'0'..=b'9' => byte - b'0',
-        b'A'..=b'Z' => byte - b'A' + 10,
-        b'a'..=b'z' => byte - b'a' + 10,
-        _ => 36,
-    }
 }
 
 /// The number that the digits spell, where it's below another.

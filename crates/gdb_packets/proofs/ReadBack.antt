@@ -1,22 +1,19 @@
 -- A frame is read back. A body has no `$` and no `#`, so the reader goes through it and stands behind it; what it
 -- spells is the payload, and its digits are those of its sum.
-use Rattle.std.proofs.Common.{◌≡◌, ℕ, ◌+◌, ◌*◌, ◌/◌, ◌%◌, ◌<◌, ◌≤◌, ◌==◌, ◌&&◌, ◌⊎◌, inl, inr, not, Bool, true, false}
-use Rattle.std.proofs.Common.{cond}
+use Rattle.std.proofs.Common.{◌≡◌, ℕ, ◌+◌, ◌*◌, ◌/◌, ◌%◌, ◌≤◌, ◌==◌, ◌&&◌, inl, inr, not, true, false}
 use Rattle.std.proofs.Common.{List, [], ◌∷◌, ◌++◌, Option, Some, None, length, slice_index, refl, sym, ap, subst, ◌∙◌}
 use Rattle.std.proofs.Common.{arith}
 use Rattle.std.proofs.Common.{append_assoc, eq-eqb}
-use Rattle.std.specs.Prelude.{bit_xor, nat_le, unwrap_or, ◌||◌}
-use Rattle.std.specs.List.{flat_map}
-use Rattle.std.specs.Option.{option_and_then, option_map}
+use Rattle.std.specs.Prelude.{bit_xor, nat_le, ◌||◌}
 use Rattle.std.proofs.lemmas.Bool.{and_from, cases_Bool, eqb-true, le-leb, or_cases, or_parts}
 use Rattle.std.proofs.lemmas.List.{append-nil}
 use Rattle.hex.specs.Hex.{hex_digit_value, lower_digits}
 use Rattle.hex.proofs.HexLemmas.{IsDigits-lower_digits}
 use Rattle.gdb_packets.specs.Bytes.{dollar, hash, brace, star}
-use Rattle.gdb_packets.specs.Frames.{Standing, Between, Body, Sum, Digit, Event, Packet, PiecesLaw, ReadBackLaw, after}
-use Rattle.gdb_packets.specs.Frames.{are_digits_of, body_of, checksum, escaped, events, follow, framed, is_cut}
+use Rattle.gdb_packets.specs.Frames.{Standing, Between, Body, Packet, PiecesLaw, ReadBackLaw, after}
+use Rattle.gdb_packets.specs.Frames.{are_digits_of, body_of, checksum, events, follow, is_cut}
 use Rattle.gdb_packets.specs.Frames.{is_special}
-use Rattle.gdb_packets.specs.Frames.{is_taken, noted, pair_of, sum_digits, tells, unescaped}
+use Rattle.gdb_packets.specs.Frames.{is_taken, noted, sum_digits, tells, unescaped}
 use Rattle.gdb_packets.specs.declared.TheConstants.{PAYLOAD_MAX}
 
 -- what is used of the four bytes that a body may not have

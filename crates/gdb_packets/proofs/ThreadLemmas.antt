@@ -1,5 +1,5 @@
 -- The threads of one core more.
-use Rattle.std.proofs.Common.{◌≡◌, ℕ, ◌+◌, List, [], ◌++◌, refl, sym, ap, ◌∙◌, add-one, append_assoc}
+use Rattle.std.proofs.Common.{◌≡◌, ℕ, ◌+◌, List, ◌++◌, sym, ap, ◌∙◌, add-one, append_assoc}
 use Rattle.gdb_packets.specs.Replies.{thread_text, threads_text}
 use Rattle.std.proofs.lemmas.List.{append-nil}
 

@@ -1,7 +1,7 @@
 -- What one byte more makes of a body: what it stands for, whether it is cut, and its sum. Each by cases on the first
 -- two bytes, as the definitions go.
 use Rattle.std.proofs.Common.{◌≡◌, ℕ, ◌+◌, ◌%◌, ◌==◌, ◌&&◌, not, Bool, true, false, cond, List, [], ◌∷◌, ◌++◌, refl}
-use Rattle.std.proofs.Common.{ap, arith}
+use Rattle.std.proofs.Common.{arith}
 use Rattle.std.specs.Prelude.{bit_xor, sum}
 use Rattle.std.proofs.lemmas.List.Sums.{fold-append}
 use Rattle.gdb_packets.specs.Bytes.{brace}

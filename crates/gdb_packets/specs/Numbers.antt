@@ -1,6 +1,6 @@
 -- Numbers in packets: hexadecimal, without `0x`.
-use Rattle.std.specs.Prelude.{ℕ, zero, suc, ◌^◌, ◌&&◌, ◌==◌, nat_lt, not, Bool, false, List, [], ◌++◌, length, Option}
-use Rattle.std.specs.Prelude.{Some, None, codes}
+use Rattle.std.specs.Prelude.{ℕ, ◌^◌, ◌&&◌, ◌==◌, nat_lt, not, Bool, false, List, length, Option}
+use Rattle.std.specs.Prelude.{Some, None}
 use Rattle.std.specs.Prelude.{if◌then◌else◌}
 use Rattle.std.specs.Char.{is_digit}
 use Rattle.std.specs.Fmt.{digits}

@@ -24,25 +24,25 @@ pub fn number_of(text: &[u8]) -> Option<u64>
 fn is_numeral(text: &[u8]) -> bool
     ensures { result ≡ is_numeral text.now }
 {
-    !text.is_empty() && are_digits(text)
+    !text.is_empty() && are_digits(text, 16)
 }
 
-/// Whether each byte is a hexadecimal digit.
-fn are_digits(text: &[u8]) -> bool
-    ensures { result ≡ list_all (λ c. is_digit c 16) text.now }
+/// Whether each byte is a digit of this base.
+pub fn are_digits(text: &[u8], base: u8) -> bool
+    ensures { result ≡ list_all (λ c. is_digit c base) text.now }
 {
-    text.iter().all(|b| is_digit(*b))
+    text.iter().all(|b| is_digit(*b, base))
 }
 
-/// Whether the byte is a hexadecimal digit.
-fn is_digit(byte: u8) -> bool
-    ensures { result ≡ is_digit byte 16 }
+/// Whether the byte is a digit of this base.
+fn is_digit(byte: u8, base: u8) -> bool
+    ensures { result ≡ is_digit byte base }
 {
-    digit_value(byte) < 16
+    digit_value(byte) < base
 }
 
 /// The value of a digit or of a letter, which goes on behind 9; 36 of another byte.
-fn digit_value(byte: u8) -> u8
+pub fn digit_value(byte: u8) -> u8
     ensures { result ≡ digit_value byte }
 {
     match byte {

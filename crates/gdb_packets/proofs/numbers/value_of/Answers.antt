@@ -1,4 +1,4 @@
-use Rattle.std.proofs.Common.{◌≡◌, ◌+◌, ◌^◌, ◌≤◌, take, arith}
+use Rattle.std.proofs.Common.{◌+◌, ◌^◌, ◌≤◌, take, arith}
 use Rattle.std.specs.Str.Parse.{digits_value}
 use Rattle.std.proofs.lemmas.Int.Digits.{digits_value_more}
 use Rattle.gdb_packets.proofs.NumberLemmas.{too_much}

@@ -1,4 +1,4 @@
-use Rattle.std.proofs.Common.{sym, ◌∙◌}
+use Rattle.std.proofs.Common.{sym}
 use Rattle.gdb_packets.proofs.ReaderLemmas.{taken}
 use Rattle.gdb_packets.proofs.reader.Reader.verdict.Goals as goal
 
