@@ -104,6 +104,11 @@ module _ (marks : MoveMarks) where
       (length-append (marked_of Response marks) (marked_of FromHome marks))
       ∙ (λ i. of_kind_long Request i + (of_kind_long Response i + of_kind_long FromHome i))
 
+  pub own_and_ports : length (marked marks) ≡ length (members (set_of Own marks)) + length (marked_at_ports marks)
+  own_and_ports =
+      length-append (marked_of Own marks) (marked_at_ports marks)
+      ∙ ap (λ (n : ℕ). n + length (marked_at_ports marks)) (of_kind_long Own)
+
   pub count_is : marks.bits < 2 ^ 64 → ones marks.bits ≡ length (marked marks)
   count_is fits =
       ones_are marks.bits fits

@@ -9,10 +9,10 @@ use Rattle.std.proofs.lemmas.Bool.Decides.{nat_tests}
 use Rattle.std.proofs.lemmas.Nat.Bits.{bit_at_above, bit_at-lt, bit_at_and, bit_at_not, bit_at_ones, bit_at_ones_above}
 use Rattle.std.proofs.lemmas.Nat.Bits.{bit_at_or}
 use Rattle.std.proofs.lemmas.Nat.{one_shl}
-use Rattle.rtr_types.specs.CoreSets.{has, no_cores, with_core}
+use Rattle.rtr_types.specs.CoreSets.{has, no_cores, with_core, without_core}
 use Rattle.rtr_types.specs.declared.TheConstants.{CORES_MAX}
 use Rattle.rtr_types.specs.declared.core_set.CoreSet.{CoreSet}
-use Rattle.rtr_types.proofs.Members.{has-no_cores, has-with_other, has-with_same}
+use Rattle.rtr_types.proofs.Members.{has-no_cores, has-with_other, has-with_same, has-without_other}
 
 digit : (x : ℕ) → x < 2 → (x ≡ 0) ⊎ (x ≡ 1)
 digit x within = grind arith
@@ -97,6 +97,15 @@ first_common a cores c few =
     ap (λ (b : ℕ). has (record { bits = bit_and a (b - 1) }) c) (one_shl cores 32 (omega arith))
     ∙ has_common a (2 ^ cores - 1) c
     ∙ ap (λ (x : Bool). has (record { bits = a }) c && x) (has_first cores c)
+
+-- a set without a core has the others that it had
+pub others_left : (set : CoreSet) (core c : ℕ) → set.bits < 2 ^ CORES_MAX → (without_core set core).bits < 2 ^ CORES_MAX →
+    core < CORES_MAX → c ≢ core → has (without_core set core) c ≡ has set c
+others_left set core c fits left within other = by (split c CORES_MAX)
+  where
+    by : (c < CORES_MAX) ⊎ (CORES_MAX ≤ c) → has (without_core set core) c ≡ has set c
+    by (inl here) = has-without_other set core c within here other
+    by (inr past) = none_past (without_core set core) c left past ∙ sym (none_past set c fits past)
 
 -- the set of one core, which is one of the first
 pub one_heard : (set : CoreSet) (to cores c : ℕ) → to < cores → cores ≤ CORES_MAX → set ≡ with_core no_cores to →

@@ -9,4 +9,4 @@ mod sets;
 
 pub use marking::mark_turn;
 pub use marks::{MarkedMove, MoveKind, MoveMarks};
-pub use sets::{count, nth};
+pub use sets::{count, nth, set_to};

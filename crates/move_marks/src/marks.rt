@@ -132,7 +132,7 @@ impl MoveMarks {
     }
 
     /// The marked move of this number among those that aren't cores' own.
-    fn pick_at_port(self, number: u32) -> MarkedMove
+    pub fn pick_at_port(self, number: u32) -> MarkedMove
         requires { number < length (marked_at_ports self) }
         ensures value { (d : MarkedMove) → result ≡ slice_index_or (marked_at_ports self) number d }
         ensures within { result.core < CORES_MAX }

@@ -1,5 +1,5 @@
 //! Sets of cores whose members are counted, and found by their numbers.
-ghost use Rattle.std.specs.Prelude.{◌≡◌, ◌<◌, ◌≤◌, ◌&&◌, ℕ, length, nat_lt, slice_index_or};
+ghost use Rattle.std.specs.Prelude.{◌≡◌, ◌≢◌, ◌<◌, ◌≤◌, ◌&&◌, ℕ, length, nat_lt, slice_index_or};
 ghost use Rattle.rtr_types.specs.CoreSets.{has};
 ghost use Rattle.rtr_types.specs.declared.TheConstants.{CORES_MAX};
 ghost use Rattle.move_marks.specs.Members.{members};
@@ -13,6 +13,19 @@ pub fn first_of(set: CoreSet, cores: u32) -> CoreSet
 {
     CoreSet {
         bits: set.bits & ((1u32 << cores) - 1) as u16,
+    }
+}
+
+/// The set with the core in it exactly where so is told.
+pub fn set_to(set: CoreSet, core: u8, is_in: bool) -> CoreSet
+    requires { core < CORES_MAX }
+    ensures this { has result core ≡ is_in }
+    ensures others { (c : ℕ) → c ≢ core → has result c ≡ has set c }
+{
+    if is_in {
+        set.with(core)
+    } else {
+        set.without(core)
     }
 }
 

@@ -22,8 +22,9 @@ pub(crate) fn mark_core<R: Rider, K: Carry>(
     standing: Standing,
     marks: &mut Marks,
 )
-    requires few { length memory.now.memory.ports ≤ CORES_MAX }
+    requires few { marks.old.cores ≤ CORES_MAX }
     requires here { core < length memory.now.memory.ports }
+    requires marks { core < marks.old.cores }
     ensures cores { marks.new.cores ≡ marks.old.cores }
     ensures own { is_marked marks.new (Move.Core core) ≡ may_work standing }
     ensures response { is_marked marks.new (Move.Response core)

@@ -31,10 +31,10 @@ use Rattle.tso_invariant.specs.Holds.{TsoHolds}
 use Rattle.tso_core.specs.declared.marks.Marks.{Marks}
 use Rattle.tso_core.specs.declared.standing.Standing.{Standing}
 use Rattle.tso_core.specs.Machineries.{Machinery}
-use Rattle.tso_core.specs.Marks.{IsWithin, is_marked}
+use Rattle.tso_core.specs.Marks.{is_marked}
 use Rattle.tso_core.specs.Standings.{NotesFit, may_begin, standing_with}
-use Rattle.tso_core.proofs.Delivered.{below_is, past_is, split}
-use Rattle.tso_core.proofs.Elsewhere.{can_here, can_past}
+use Rattle.move_marks.proofs.Delivered.{below_is, past_is, split}
+use Rattle.move_marks.proofs.Acts.{can_here, can_past}
 use Rattle.tso_core.proofs.Standings.{standings_long}
 
 or_true : (a w : Bool) → w ≡ false → (a || not w) ≡ true
@@ -173,19 +173,21 @@ module _ {R K : Type 0} where
       (standings : List Standing)
       (marks : Marks) → m.state ≡ state_start riding carrying image cores limit → TsoHolds riding carrying m.state →
       standings ≡ map (λ (t : BufferedCore). standing_with image t.core) m.state.cores →
-      marks.cores ≡ length standings → IsWithin marks →
+      marks.cores ≡ length standings →
       ((x : Move) → is_marked marks x ≡ may_begin standings x) → NotesFit riding carrying m standings marks 0
   unfolding cores_first first
-  notes_begin riding carrying image cores limit m standings marks is holds made count within marked =
+  notes_begin riding carrying image cores limit m standings marks is holds made count marked =
       record {
         holds = holds;
         stands = fit;
         marked = record {
           cores = count ∙ standings_long m.state standings fit;
-          within = within;
           marked =
               λ x other. every x;
         };
+        past = λ out. every (RequestMove 0)
+            ∙ can_past riding carrying m.state.memory (TakeRequest 0)
+            (subst (λ (n : ℕ). n ≤ 0) (sym holds.ports_there) out);
         roomy = λ c other. ap (λ (s : State R K). head_roomy (requests_at s.memory.ports c) m.rooms) is
             ∙ ap (λ items. head_roomy items m.rooms) (no_requests riding carrying cores c);
       }

@@ -1,10 +1,8 @@
 pub mod AtHand
 pub mod AtPort
 pub mod Beginning
-pub mod Bits
 pub mod Choosing
 pub mod Counting
-pub mod Delivered
 pub mod Doing
 pub mod Elsewhere
 pub mod Ended
@@ -12,9 +10,9 @@ pub mod Heads
 pub mod Leaving
 pub mod Moves
 pub mod Queues
+pub mod Marked
 pub mod Renewed
 pub mod Roomed
 pub mod Standings
 pub mod Telling
 pub mod TimedTold
-pub mod Turns

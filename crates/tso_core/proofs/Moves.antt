@@ -25,7 +25,7 @@ use Rattle.tso_invariant.proofs.Kept.{core_port, enabled_core, holds_kept, step_
 use Rattle.tso_core.specs.declared.marks.Marks.{Marks}
 use Rattle.tso_core.specs.declared.standing.Standing.{Standing}
 use Rattle.tso_core.specs.Machineries.{Machinery, heads_roomy}
-use Rattle.tso_core.specs.Marks.{AllMarked, IsWithin, OthersMarked, is_marked}
+use Rattle.tso_core.specs.Marks.{AllMarked, OthersMarked, is_marked}
 use Rattle.tso_core.specs.Moving.{StepsTo, rider_left}
 use Rattle.tso_core.specs.Standings.{NotesFit, StandingsFit, may_execute, standing_at}
 use Rattle.tso_core.specs.Workings.{MayAsk}
@@ -43,7 +43,7 @@ use Rattle.tso_core.proofs.Elsewhere.{MovedAt, moved_cores, requests_other}
 use Rattle.tso_core.proofs.Heads.{order_standing}
 use Rattle.tso_core.proofs.Renewed.{core_marked, moved_marked, order_marked, own_marked}
 use Rattle.tso_core.proofs.Standings.{moved_stands, stands_at}
-use Rattle.tso_core.proofs.Turns.{request_stays, response_stays}
+use Rattle.move_marks.proofs.Turned.{request_stays, response_stays}
 
 module _ {R K : Type 0} where
   -- ---- a core's own move, the ordering of an access, and a message
@@ -120,55 +120,55 @@ module _ {R K : Type 0} where
       (kept : Standing) →
       AllMarked riding carrying s old → t ≡ step riding carrying rider s (CoreMove c) → c < length s.cores →
       c < length s.memory.ports →
-      kept ≡ standing_at t c → new.cores ≡ old.cores → (IsWithin old → IsWithin new) →
+      kept ≡ standing_at t c → new.cores ≡ old.cores →
       is_marked new (CoreMove c) ≡ may_execute riding kept (core_at t.cores c) (port_at carrying t.memory.ports c) →
       is_marked new (OrderMove c) ≡ can_order (core_at t.cores c).queue riding (port_at carrying t.memory.ports c) →
       ((m : Move) → m ≢ CoreMove c → m ≢ OrderMove c → is_marked new m ≡ is_marked old m) →
       OthersMarked riding carrying t new c
   unfolding core_moves moves_by
-  core_marks riding carrying rider s t old new c kept all is here port stands cores within this order others =
+  core_marks riding carrying rider s t old new c kept all is here port stands cores this order others =
       let wanted = need_access (need s.image (core_at s.cores c).core) in
       let e = event riding carrying s (CoreMove c) in
       let list = told riding carrying s (CoreMove c) in
       let p = port_at carrying s.memory.ports c in
       core_marked riding carrying s t old new c kept all (core_moves riding carrying rider s t c port is) here port
       (own_responses riding carrying c rider wanted e list p) (own_messages riding carrying c rider wanted e list p)
-      stands cores within this order others
+      stands cores this order others
 
   pub order_marks : (riding : Riding R) (carrying : Carrying K) (rider : R) (s t : State R K) (old new : Marks) (c : ℕ)
       (kept : Standing) →
       AllMarked riding carrying s old → t ≡ step riding carrying rider s (OrderMove c) → c < length s.cores →
       c < length s.memory.ports →
-      kept ≡ standing_at t c → new.cores ≡ old.cores → (IsWithin old → IsWithin new) →
+      kept ≡ standing_at t c → new.cores ≡ old.cores →
       is_marked new (CoreMove c) ≡ may_execute riding kept (core_at t.cores c) (port_at carrying t.memory.ports c) →
       is_marked new (OrderMove c) ≡ can_order (core_at t.cores c).queue riding (port_at carrying t.memory.ports c) →
       ((m : Move) → m ≢ CoreMove c → m ≢ OrderMove c → is_marked new m ≡ is_marked old m) →
       OthersMarked riding carrying t new c
   unfolding order_moves moves_by
-  order_marks riding carrying rider s t old new c kept all is here port stands cores within this order others =
+  order_marks riding carrying rider s t old new c kept all is here port stands cores this order others =
       let wanted = head_access (core_at s.cores c).queue in
       let e = event riding carrying s (OrderMove c) in
       let list = told riding carrying s (OrderMove c) in
       let p = port_at carrying s.memory.ports c in
       core_marked riding carrying s t old new c kept all (order_moves riding carrying rider s t c port is) here port
       (own_responses riding carrying c rider wanted e list p) (own_messages riding carrying c rider wanted e list p)
-      stands cores within this order others
+      stands cores this order others
 
   pub message_marks : (riding : Riding R) (carrying : Carrying K) (rider : R) (s t : State R K) (old new : Marks)
       (c : ℕ) (kept : Standing) →
       AllMarked riding carrying s old → t ≡ step riding carrying rider s (MessageMove c) → c < length s.cores →
       c < length s.memory.ports →
-      kept ≡ standing_at t c → new.cores ≡ old.cores → (IsWithin old → IsWithin new) →
+      kept ≡ standing_at t c → new.cores ≡ old.cores →
       is_marked new (CoreMove c) ≡ may_execute riding kept (core_at t.cores c) (port_at carrying t.memory.ports c) →
       is_marked new (OrderMove c) ≡ can_order (core_at t.cores c).queue riding (port_at carrying t.memory.ports c) →
       is_marked new (ResponseMove c) ≡ can riding carrying t.memory (TakeResponse c) →
       is_marked new (MessageMove c) ≡ can riding carrying t.memory (TakeMessage c) →
       ((m : Move) → core_of m ≢ c → is_marked new m ≡ is_marked old m) → OthersMarked riding carrying t new c
-  message_marks riding carrying rider s t old new c kept all is here port stands cores within own order response message
+  message_marks riding carrying rider s t old new c kept all is here port stands cores own order response message
       others =
       let moved = message_moves riding carrying rider s t c port is in
       let there = subst (λ (n : ℕ). c < n) (sym (moved_cores carrying s t c moved)) here in
-      moved_marked riding carrying s t old new c all moved cores within (own
+      moved_marked riding carrying s t old new c all moved cores (own
       ∙ own_marked riding carrying t c kept there stands)
       (order ∙ order_marked riding carrying t c there) response message others
 
@@ -186,9 +186,9 @@ module _ {R K : Type 0} where
       requests_other carrying s (step riding carrying rider s (MessageMove c)) c
       (message_moves riding carrying rider s (step riding carrying rider s (MessageMove c)) c within refl) d other
   requests_stay riding carrying rider s (RequestMove c) d within other =
-      request_stays riding carrying s.memory c d other
+      (request_stays riding carrying s.memory c).requests d other
   requests_stay riding carrying rider s (ResponseMove c) d within other =
-      response_stays riding carrying s.memory c d other
+      (response_stays riding carrying s.memory c).requests d other
 
   -- so where each head's block had room, only the mover's may have none
   pub others_roomy : (riding : Riding R) (carrying : Carrying K) (rider : R) (old new : Machinery R K) (m : Move) →
@@ -262,11 +262,14 @@ module _ {R K : Type 0} where
       let rider : R = rider_left riding carrying old.state new.state m in
       let here : core_of m < length old.state.memory.ports =
       core_port riding carrying old.state (core_of m) holds (enabled_core riding carrying old.state m can_be holds) in
+      let cores : length new.state.cores ≡ length old.state.cores =
+      ap (λ (t : State R K). length t.cores) is ∙ step_cores riding carrying rider old.state m in
       record {
         holds = subst (λ (s : State R K). TsoHolds riding carrying s) (sym is) (holds_kept riding carrying old.state m
             rider can_be holds);
         stands = subst (λ (xs : List Standing). StandingsFit new.state xs) (sym all) fit;
         marked = subst (λ (c : ℕ). OthersMarked riding carrying new.state marks c) (sym mine) others;
+        past = λ out. absurd (omega (arith, out, mine, cores, enabled_core riding carrying old.state m can_be holds));
         roomy = subst (λ (c : ℕ). OthersRoomy new.state.memory.ports c new.rooms) (sym mine)
             (others_roomy riding carrying rider old new m here roomy is same);
       }

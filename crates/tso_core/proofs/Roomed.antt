@@ -15,10 +15,10 @@ use Rattle.tso_state.specs.States.{State}
 use Rattle.tso_core.specs.Machineries.{Machinery}
 use Rattle.tso_core.specs.declared.marks.Marks.{Marks}
 use Rattle.tso_core.specs.declared.standing.Standing.{Standing}
-use Rattle.tso_core.specs.Marks.{AllMarked, IsWithin, is_marked}
+use Rattle.tso_core.specs.Marks.{AllMarked, is_marked}
 use Rattle.tso_core.specs.Standings.{NotesFit}
-use Rattle.tso_core.proofs.Elsewhere.{can_here, requests_within}
-use Rattle.tso_core.proofs.Renewed.{mover_marked}
+use Rattle.move_marks.proofs.Acts.{can_here, requests_within}
+use Rattle.tso_core.proofs.Renewed.{mover_marked, past_none}
 
 module _ {R K : Type 0} where
   -- the home can take the core's oldest request exactly where that one's block is free
@@ -38,19 +38,20 @@ module _ {R K : Type 0} where
   pub room_made : (riding : Riding R) (carrying : Carrying K) (old new : Machinery R K) (standings : List Standing)
       (before after : Marks) (mover : ℕ) →
       NotesFit riding carrying old standings before mover → new.state ≡ old.state → heads_roomy new ≡ true →
-      after.cores ≡ before.cores →
-      (IsWithin before → IsWithin after) → is_marked after (RequestMove mover) ≡ can riding carrying old.state.memory
+      after.cores ≡ before.cores → is_marked after (RequestMove mover) ≡ can riding carrying old.state.memory
       (TakeRequest mover) →
       ((m : Move) → m ≢ RequestMove mover → is_marked after m ≡ is_marked before m) → (later : ℕ) →
       NotesFit riding carrying new standings after later
-  room_made riding carrying old new standings before after mover fit same roomy cores within asked others later =
+  room_made riding carrying old new standings before after mover fit same roomy cores asked others later =
       let all : AllMarked riding carrying old.state after =
-      mover_marked riding carrying old.state before after mover fit.marked cores within asked others in
+      mover_marked riding carrying old.state before after mover fit.marked cores asked others in
       let kept : NotesFit riding carrying (record old { rooms = new.rooms }) standings after later =
       record {
         holds = fit.holds;
         stands = fit.stands;
-        marked = record { cores = all.cores; within = all.within; marked = λ m other. all.marked m };
+        marked = record { cores = all.cores; marked = λ m other. all.marked m };
+        past = λ out. all.marked (RequestMove later)
+            ∙ past_none riding carrying old.state fit.holds.ports_there (RequestMove later) out;
         roomy = λ c other. each_roomy old.state.memory.ports new.rooms
             (subst (λ (s : State R K). are_heads_roomy s.memory.ports new.rooms ≡ true) same roomy) c;
       } in

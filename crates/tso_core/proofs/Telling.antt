@@ -15,7 +15,7 @@ use Rattle.tso_state.specs.Steps.{acts_told}
 use Rattle.msi_state.specs.Steps.{acts_of}
 use Rattle.tso_state.specs.States.{State}
 use Rattle.tso_core.specs.Workings.{HasTold, locals_of}
-use Rattle.tso_core.proofs.Delivered.{split}
+use Rattle.move_marks.proofs.Delivered.{split}
 
 abbrev pub instr : (core count : ℕ) → Instr
 instr core count = record { core = core; count = count }

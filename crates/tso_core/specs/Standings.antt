@@ -1,5 +1,5 @@
 -- What the cores stand at, and what a machine notes beside its state.
-use Rattle.std.specs.Prelude.{◌≡◌, ℕ, Bool, false, List, map, slice_index_or, not, ◌&&◌}
+use Rattle.std.specs.Prelude.{◌≡◌, ◌≤◌, ℕ, Bool, false, List, length, map, slice_index_or, not, ◌&&◌}
 use Rattle.access_times.specs.Riding.{Riding, Carrying}
 use Rattle.image_mem.specs.Contents.{Contents}
 use Rattle.rv_core.specs.declared.core_state.Core.{Core}
@@ -7,14 +7,14 @@ use Rattle.rv_core.specs.Steps.{need, instruction_at, is_done}
 use Rattle.msi_memory.specs.declared.port.Port.{Port}
 use Rattle.msi_memory.specs.Rests.{OthersRoomy}
 use Rattle.tso_state.specs.declared.moves.Move.{Move}
-use Rattle.tso_state.specs.declared.moves.Move.TheVariants.{Core as CoreMove}
+use Rattle.tso_state.specs.declared.moves.Move.TheVariants.{Core as CoreMove, Request as RequestMove}
 use Rattle.tso_state.specs.States.{BufferedCore, State, core_at}
 use Rattle.tso_state.specs.Steps.{case_holds, is_fence_op, is_next}
 use Rattle.tso_invariant.specs.Holds.{TsoHolds}
 use Rattle.tso_core.specs.declared.marks.Marks.{Marks}
 use Rattle.tso_core.specs.declared.standing.Standing.{Standing}
 use Rattle.tso_core.specs.Machineries.{Machinery}
-use Rattle.tso_core.specs.Marks.{OthersMarked}
+use Rattle.tso_core.specs.Marks.{OthersMarked, is_marked}
 
 -- a core's next instruction beside what that needs
 abbrev pub standing_with : Contents → Core → Standing
@@ -40,10 +40,11 @@ module _ {R K : Type 0} where
 
   -- the state has the machine's invariant, and what a machine notes beside it fits: what each core stands at, which
   -- moves can be made, and the one core for whose oldest request neither is noted whether it can be taken nor is there
-  -- room for sure
+  -- room for sure; where no core has that number, none is marked
   pub record NotesFit (riding : Riding R) (carrying : Carrying K) (m : Machinery R K) (standings : List Standing)
       (marks : Marks) (mover : ℕ) : Type 0 where
     pub holds : TsoHolds riding carrying m.state
     pub stands : StandingsFit m.state standings
     pub marked : OthersMarked riding carrying m.state marks mover
+    pub past : length m.state.cores ≤ mover → is_marked marks (RequestMove mover) ≡ false
     pub roomy : OthersRoomy m.state.memory.ports mover m.rooms

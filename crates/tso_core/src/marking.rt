@@ -1,9 +1,7 @@
-//! What moves change of the marks.
-ghost use Rattle.std.specs.Prelude.{◌≡◌, ◌≢◌, ◌<◌, ◌≤◌, ◌/◌, ◌||◌, if◌then◌else◌, length, not, true};
+//! What a core's moves change of the marks.
+ghost use Rattle.std.specs.Prelude.{◌≡◌, ◌≢◌, ◌<◌, ◌≤◌, ◌/◌, ◌||◌, length, not};
 ghost use Rattle.rtr_types.specs.declared.TheConstants.{CORES_MAX};
-ghost use Rattle.msi_directory.specs.Blocks.{entry_at};
-ghost use Rattle.msi_directory.specs.Table.{is_free};
-ghost use Rattle.tso_core.specs.Marks.{IsWithin, after_turn, differ, is_asked, is_hearing, is_marked, is_told};
+ghost use Rattle.tso_core.specs.Marks.{is_marked};
 ghost use Rattle.msi_cache.specs.Lines.{waits};
 ghost use Rattle.msi_memory.specs.Acts.{allows};
 ghost use Rattle.tso_core.specs.Standings.{may_execute};
@@ -19,9 +17,8 @@ use crate::marks::Marks;
 use crate::standing::Standing;
 use crate::station::{Station, is_asking, is_next};
 use access_times::{Carry, Rider};
-use msi_directory::HomeAnswer;
-use msi_memory::{MemorySystem, Turn};
-use rtr_types::{BLOCK_WORDS, CORES_MAX, CoreSet, Kind};
+use msi_memory::MemorySystem;
+use rtr_types::{BLOCK_WORDS, CORES_MAX, Kind};
 use rv_core::Need;
 use tso_state::{Move, Pending};
 
@@ -39,7 +36,6 @@ pub(crate) fn mark_core<R: Rider, K: Carry>(
     requires marks { core < marks.old.cores }
     requires asked { waits (port_at K.carrying memory.now.memory.ports core).cache ≡ is_asking station.now.asker }
     ensures cores { marks.new.cores ≡ marks.old.cores }
-    ensures within { IsWithin marks.old → IsWithin marks.new }
     ensures own { is_marked marks.new (Move.Core core)
         ≡ may_execute R.riding standing station.now (port_at K.carrying memory.now.memory.ports core) }
     ensures order { is_marked marks.new (Move.Order core)
@@ -68,7 +64,6 @@ pub(crate) fn mark_own<R: Rider, K: Carry>(
     requires marks { core < marks.old.cores }
     requires asked { waits (port_at K.carrying memory.now.memory.ports core).cache ≡ is_asking station.now.asker }
     ensures cores { marks.new.cores ≡ marks.old.cores }
-    ensures within { IsWithin marks.old → IsWithin marks.new }
     ensures own { is_marked marks.new (Move.Core core)
         ≡ may_execute R.riding standing station.now (port_at K.carrying memory.now.memory.ports core) }
     ensures order { is_marked marks.new (Move.Order core)
@@ -151,88 +146,4 @@ pub(crate) fn allows<R: Rider, K: Carry>(
     ensures { result ≡ allows R.riding (port_at K.carrying memory.now.memory.ports core) (word / BLOCK_WORDS) kind }
 {
     memory.allows(core, word / BLOCK_WORDS as u32, kind)
-}
-
-/// Marks what can be made after the home's turn: the cores that it answered have a message, and where its
-/// block is free now and wasn't, or was and isn't, so are the requests for the block.
-#[inline(always)]
-pub(crate) fn mark_turn<R: Rider, K: Carry>(
-    memory: &MemorySystem<R, K>,
-    turn: Turn,
-    was_free: bool,
-    marks: &mut Marks,
-)
-    requires few { marks.old.cores ≤ CORES_MAX }
-    requires ports { length memory.now.memory.ports ≤ CORES_MAX }
-    requires free { turn.free ≡ is_free (entry_at R.riding.fresh memory.now.memory.home turn.block).stage }
-    ensures cores { marks.new.cores ≡ marks.old.cores }
-    ensures within { IsWithin marks.old → IsWithin marks.new }
-    ensures marked { (m : Move) → is_marked marks.new m
-        ≡ after_turn R.riding memory.now.memory turn was_free marks.old m }
-{
-    mark_hearers(turn.answer, marks);
-    if is_other(turn.free, was_free) {
-        mark_asked(memory.askers(turn.block), turn.free, marks);
-    }
-}
-
-/// Whether the one holds and the other doesn't.
-fn is_other(one: bool, other: bool) -> bool
-    ensures { result ≡ differ one other }
-{
-    if one { !other } else { other }
-}
-
-/// Each core that the home's answer goes to has a message now.
-fn mark_hearers(answer: HomeAnswer<()>, marks: &mut Marks)
-    requires few { marks.old.cores ≤ CORES_MAX }
-    ensures cores { marks.new.cores ≡ marks.old.cores }
-    ensures within { IsWithin marks.old → IsWithin marks.new }
-    ensures marked { (m : Move) → is_marked marks.new m
-        ≡ (if is_hearing answer marks.old.cores m then true else is_marked marks.old m) }
-{
-    match answer.send {
-        Some((to, _message)) => {
-            if (to as u32) < marks.cores {
-                marks.mark(Move::FromHome(to));
-            }
-        }
-        None => mark_told(answer.invalidate, marks),
-    }
-}
-
-/// Each core of the set has a message now.
-fn mark_told(set: CoreSet, marks: &mut Marks)
-    requires few { marks.old.cores ≤ CORES_MAX }
-    ensures cores { marks.new.cores ≡ marks.old.cores }
-    ensures within { IsWithin marks.old → IsWithin marks.new }
-    ensures marked { (m : Move) → is_marked marks.new m
-        ≡ (if is_told set marks.old.cores m then true else is_marked marks.old m) }
-{
-    if set.is_empty() {
-        return;
-    }
-    for n in 0..marks.cores {
-        if set.has(n as u8) {
-            marks.mark(Move::FromHome(n as u8));
-        }
-    }
-}
-
-/// The oldest request of each core of the set can be taken now exactly where its block is free.
-fn mark_asked(set: CoreSet, free: bool, marks: &mut Marks)
-    requires few { marks.old.cores ≤ CORES_MAX }
-    ensures cores { marks.new.cores ≡ marks.old.cores }
-    ensures within { IsWithin marks.old → IsWithin marks.new }
-    ensures marked { (m : Move) → is_marked marks.new m
-        ≡ (if is_asked set marks.old.cores m then free else is_marked marks.old m) }
-{
-    if set.is_empty() {
-        return;
-    }
-    for n in 0..marks.cores {
-        if set.has(n as u8) {
-            marks.set(Move::Request(n as u8), free);
-        }
-    }
 }

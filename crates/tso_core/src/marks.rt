@@ -1,93 +1,93 @@
-//! Which moves can be made, one bit a move.
-ghost use Rattle.std.specs.Prelude.{◌≡◌, ◌≢◌, ◌<◌, ◌≤◌, false, length, slice_index_or, true};
+//! Which moves can be made, one bit a core in a set for each kind of move.
+ghost use Rattle.std.specs.Prelude.{◌≡◌, ◌≢◌, ◌<◌, false, length, slice_index_or};
 ghost use Rattle.rtr_types.specs.declared.TheConstants.{CORES_MAX};
-ghost use Rattle.tso_core.specs.declared.marks.Marks.{Marks};
 ghost use Rattle.tso_state.specs.declared.moves.Move.{Move};
-ghost use Rattle.tso_core.specs.Marks.{IsWithin, is_marked, marked};
+ghost use Rattle.tso_core.specs.Marks.{is_marked, marked, marked_past_own, move_of};
 ghost use Rattle.tso_state.specs.Moves.{core_of};
 
-use rtr_types::CORES_MAX;
+use move_marks::{MarkedMove, MoveKind, MoveMarks, count, nth, set_to};
+use rtr_types::{CORES_MAX, CoreSet};
 use tso_state::Move;
 
-/// Which of the moves that a machine of so many cores can have are marked: bit `k` of `bits` is set where
-/// the move numbered `k` is.
+/// Which of the moves of a machine of so many cores are marked: at which cores the oldest pending access can be ordered,
+/// and the other moves.
 #[derive(Clone, Copy)]
 pub struct Marks {
     pub cores: u32,
-    pub bits: u128,
+    pub orders: CoreSet,
+    pub moves: MoveMarks,
 }
 
 impl Marks {
     /// No move is marked.
     pub(crate) fn none(cores: u32) -> Marks
         ensures cores { result.cores ≡ cores }
-        ensures within { IsWithin result }
         ensures none { (m : Move) → is_marked result m ≡ false }
     {
-        Marks { cores, bits: 0 }
-    }
-
-    /// Marks the move.
-    pub(crate) fn mark(&mut self, taken: Move)
-        requires few { self.old.cores ≤ CORES_MAX }
-        requires here { core_of taken < self.old.cores }
-        ensures cores { self.new.cores ≡ self.old.cores }
-        ensures within { IsWithin self.old → IsWithin self.new }
-        ensures this { is_marked self.new taken ≡ true }
-        ensures others { (m : Move) → m ≢ taken → is_marked self.new m ≡ is_marked self.old m }
-    {
-        self.bits |= 1 << taken.number(self.cores);
-    }
-
-    /// Takes the move's mark away.
-    pub(crate) fn unmark(&mut self, taken: Move)
-        requires few { self.old.cores ≤ CORES_MAX }
-        requires here { core_of taken < self.old.cores }
-        ensures cores { self.new.cores ≡ self.old.cores }
-        ensures within { IsWithin self.old → IsWithin self.new }
-        ensures this { is_marked self.new taken ≡ false }
-        ensures others { (m : Move) → m ≢ taken → is_marked self.new m ≡ is_marked self.old m }
-    {
-        self.bits &= !(1 << taken.number(self.cores));
+        Marks {
+            cores,
+            orders: CoreSet::empty(),
+            moves: MoveMarks::none(),
+        }
     }
 
     /// Marks the move where it can be made, and takes its mark away elsewhere.
     pub(crate) fn set(&mut self, taken: Move, can: bool)
-        requires few { self.old.cores ≤ CORES_MAX }
-        requires here { core_of taken < self.old.cores }
+        requires { core_of taken < CORES_MAX }
         ensures cores { self.new.cores ≡ self.old.cores }
-        ensures within { IsWithin self.old → IsWithin self.new }
         ensures this { is_marked self.new taken ≡ can }
         ensures others { (m : Move) → m ≢ taken → is_marked self.new m ≡ is_marked self.old m }
     {
-        if can {
-            self.mark(taken);
-        } else {
-            self.unmark(taken);
+        match taken {
+            Move::Core(c) => self.moves.set(MoveKind::Own, c, can),
+            Move::Order(c) => self.orders = set_to(self.orders, c, can),
+            Move::Request(c) => self.moves.set(MoveKind::Request, c, can),
+            Move::Response(c) => self.moves.set(MoveKind::Response, c, can),
+            Move::FromHome(c) => self.moves.set(MoveKind::FromHome, c, can),
         }
     }
 
     /// How many moves are marked.
-    pub(crate) fn count(&self) -> u32
-        requires few { self.now.cores ≤ CORES_MAX }
-        requires within { IsWithin self.now }
-        ensures { result ≡ length (marked self.now) }
+    pub(crate) fn count(self) -> u32
+        ensures { result ≡ length (marked self) }
     {
-        self.bits.count_ones()
+        self.moves.count() + count(self.orders)
     }
 
     /// The marked move of this number, from 0.
-    pub(crate) fn pick(&self, number: u32) -> Move
-        requires few { self.now.cores ≤ CORES_MAX }
-        requires within { IsWithin self.now }
-        requires some { number < length (marked self.now) }
-        ensures { (d : Move) → result ≡ slice_index_or (marked self.now) number d }
+    pub(crate) fn pick(self, number: u32) -> Move
+        requires { number < length (marked self) }
+        ensures { (d : Move) → result ≡ slice_index_or (marked self) number d }
     {
-        let mut rest = self.bits;
-        for _passed in 0..number {
-            // the lowest bit goes
-            rest &= rest - 1;
+        let own = self.moves.set_of(MoveKind::Own);
+        let many = count(own);
+        if number < many {
+            return Move::Core(nth(own, number));
         }
-        Move::candidate(self.cores, rest.trailing_zeros())
+        self.pick_past_own(number - many)
+    }
+
+    /// The marked move of this number among those that aren't cores' own.
+    fn pick_past_own(self, number: u32) -> Move
+        requires { number < length (marked_past_own self) }
+        ensures { (d : Move) → result ≡ slice_index_or (marked_past_own self) number d }
+    {
+        let many = count(self.orders);
+        if number < many {
+            return Move::Order(nth(self.orders, number));
+        }
+        move_of(self.moves.pick_at_port(number - many))
+    }
+}
+
+/// The move of a kind at a core.
+fn move_of(taken: MarkedMove) -> Move
+    ensures { result ≡ move_of taken }
+{
+    match taken.kind {
+        MoveKind::Own => Move::Core(taken.core),
+        MoveKind::Request => Move::Request(taken.core),
+        MoveKind::Response => Move::Response(taken.core),
+        MoveKind::FromHome => Move::FromHome(taken.core),
     }
 }

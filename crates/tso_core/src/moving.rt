@@ -9,11 +9,12 @@ ghost use Rattle.tso_core.specs.Marks.{AllMarked, OthersMarked};
 ghost use Rattle.tso_core.specs.Moving.{AcceptsOf, StepsTo, TellsOf};
 ghost use Rattle.tso_core.specs.Standings.{StandingsFit, standing_at};
 
-use crate::marking::{mark_core, mark_own, mark_turn};
+use crate::marking::{mark_core, mark_own};
 use crate::marks::Marks;
 use crate::parts::Parts;
 use crate::standing::Standing;
 use access_times::{Carry, Rider};
+use move_marks::mark_turn;
 use tso_clerk::TsoClerk;
 use tso_state::Move;
 
@@ -136,7 +137,9 @@ impl<R: Rider, K: Carry> Parts<R, K> {
     {
         // a request is taken only where its block is free, and a response only where it isn't
         let turn = self.memory.take_request(c);
-        mark_turn(&self.memory, turn, true, marks);
+        mark_turn(&self.memory, marks.cores, turn, true, &mut marks.moves);
+        // its link has room for one request, so none is left
+        marks.set(Move::Request(c), false);
     }
 
     /// The home takes core `c`'s oldest response.
@@ -150,6 +153,6 @@ impl<R: Rider, K: Carry> Parts<R, K> {
     {
         let turn = self.memory.take_response(c);
         marks.set(Move::Response(c), self.memory.has_response(c));
-        mark_turn(&self.memory, turn, false, marks);
+        mark_turn(&self.memory, marks.cores, turn, false, &mut marks.moves);
     }
 }

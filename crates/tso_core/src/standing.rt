@@ -1,7 +1,7 @@
 //! What a core stands at.
 ghost use Rattle.std.specs.Prelude.{◌≡◌, ◌≤◌, IfOk, length, map};
 ghost use Rattle.rtr_types.specs.declared.TheConstants.{CORES_MAX};
-ghost use Rattle.tso_core.specs.Marks.{IsWithin, is_marked};
+ghost use Rattle.tso_core.specs.Marks.{is_marked};
 ghost use Rattle.tso_core.specs.Standings.{may_begin, standing_with};
 ghost use Rattle.tso_state.specs.declared.moves.Move.{Move};
 ghost use Rattle.tso_state.specs.Steps.{is_fence_op};
@@ -63,7 +63,6 @@ pub(crate) fn first_standings(
 pub(crate) fn first_marks(standings: &[Standing]) -> Marks
     requires few { length standings.now ≤ CORES_MAX }
     ensures cores { result.cores ≡ length standings.now }
-    ensures within { IsWithin result }
     ensures marked { (m : Move) → is_marked result m ≡ may_begin standings.now m }
 {
     let mut marks = Marks::none(standings.len() as u32);

@@ -16,10 +16,10 @@ has_free_head-can-requires-clause-heads g c =
 
 pub returns-then-self-marks-clause-moves : goal.returns-then-self-marks-clause-moves
 returns-then-self-marks-clause-moves g c =
-    all_moves g.R.Rider.riding g.K.Carry.carrying c.self.inside.parts.state c.set.new.self
+    all_moves g.R.Rider.riding g.K.Carry.carrying c.self.inside.parts.state c.set.new.self c.self.invariant.holds
     (mover_marked g.R.Rider.riding g.K.Carry.carrying c.self.inside.parts.state c.self.inside.marks c.set.new.self
     c.self.inside.mover
-    c.self.invariant.marked c.set.ensures.cores c.set.ensures.within
+    c.self.invariant.marked c.set.ensures.cores
     (c.set.ensures.this ∙ c.has_free_head-can.ensures
     ∙ ap (λ (m : Machinery g.row.R.Denot g.row.K.Denot). can g.R.Rider.riding g.K.Carry.carrying m.state.memory
     (TakeRequest c.self.inside.mover)) c.parts.view_is) c.set.ensures.others)
@@ -32,13 +32,13 @@ returns-else-self-marks-clause-all g c =
     c.self.inside.marks) c.self.view_is
     (no_mover_marked g.R.Rider.riding g.K.Carry.carrying c.self.inside.parts.state c.self.inside.marks
     c.self.inside.mover
-    c.self.invariant.marked c.self.invariant.holds.ports_there c.if-self-marks.false)
+    c.self.invariant.marked c.self.invariant.past c.self.invariant.holds.ports_there c.if-self-marks.false)
 
 pub returns-else-self-marks-clause-moves : goal.returns-else-self-marks-clause-moves
 returns-else-self-marks-clause-moves g c =
-    all_moves g.R.Rider.riding g.K.Carry.carrying c.self.inside.parts.state c.self.inside.marks
+    all_moves g.R.Rider.riding g.K.Carry.carrying c.self.inside.parts.state c.self.inside.marks c.self.invariant.holds
     (no_mover_marked g.R.Rider.riding g.K.Carry.carrying c.self.inside.parts.state c.self.inside.marks
     c.self.inside.mover
-    c.self.invariant.marked c.self.invariant.holds.ports_there c.if-self-marks.false)
+    c.self.invariant.marked c.self.invariant.past c.self.invariant.holds.ports_there c.if-self-marks.false)
     ∙ ap (λ (m : Machinery g.row.R.Denot g.row.K.Denot). moves g.R.Rider.riding g.K.Carry.carrying m.state)
     c.self.view_is

@@ -32,7 +32,7 @@ invariant_of-self-then-mover-self g c =
     })
     c.in_ok-can.ensures.memory
     ∙ ap (λ (m : Machinery g.row.R.Denot g.row.K.Denot). m.state) c.parts.view_is)
-    c.in_ok-can.ensures.ok c.set.ensures.cores c.set.ensures.within
+    c.in_ok-can.ensures.ok c.set.ensures.cores
     (c.set.ensures.this ∙ c.in_ok-can.ensures.free
     ∙ ap (λ (m : Machinery g.row.R.Denot g.row.K.Denot). head_free (requests_at m.state.memory.ports mover)
     g.R.Rider.riding m.state.memory.home)

@@ -33,8 +33,8 @@ nonzero_rem-choice g c =
     subst (λ (n : ℕ). 0 < n) (sym (c.count.ensures ∙ ap length c.all_marks-marks.ensures.moves))
     (some_move g.R.Rider.riding g.K.Carry.carrying c.args.self.now.state holds c.requires.more)
 
-pub pick-taken-requires-clause-some : goal.pick-taken-requires-clause-some
-pick-taken-requires-clause-some g c =
+pub pick-taken-requires : goal.pick-taken-requires
+pick-taken-requires g c =
     subst (λ (n : ℕ). c.args.choice % c.count.result < n) c.count.ensures (mod_below c.args.choice c.count.result
     (nonzero_rem-choice g c))
 

@@ -1,6 +1,6 @@
-use Rattle.std.proofs.Common.{arith}
-use Rattle.tso_core.proofs.Bits.{count_is}
+use Rattle.std.proofs.Common.{◌∙◌, ◌+◌}
+use Rattle.tso_core.proofs.Marked.{marked_long}
 use Rattle.tso_core.proofs.marks.Marks.count.Goals as goal
 
 pub returns : goal.returns
-returns c = count_is c.args.self.now (omega arith) c.requires.few c.requires.within
+returns c = (λ i. c.count.ensures.value i + c.count-2.ensures.value i) ∙ marked_long c.args.self

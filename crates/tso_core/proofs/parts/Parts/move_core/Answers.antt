@@ -46,7 +46,6 @@ returns-clause-marked g c =
     core_marks g.R.Rider.riding g.K.Carry.carrying rider s c.work.new.self.state c.args.marks.now c.mark_own.new.marks
     c.args.c c.work.new.standing
     c.requires.marked c.work.ensures.state here port c.work.ensures.renewed c.mark_own.ensures.cores
-    c.mark_own.ensures.within
     (c.mark_own.ensures.own ∙ executes_seen g.R.Rider.riding g.K.Carry.carrying s (Core c.args.c) _ c.work.new.self
     c.args.c c.self.view_is
     c.requires.holds c.requires.enabled c.work.ensures.state refl c.work.new.standing c.index.result.now

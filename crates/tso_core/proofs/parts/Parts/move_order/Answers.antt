@@ -48,7 +48,7 @@ returns-clause-marked g c =
     c.args.c c.args.standing
     c.requires.marked c.order.ensures.state here port (c.requires.stands
     ∙ order_standing g.R.Rider.riding g.K.Carry.carrying rider s c.order.new.self.state c.args.c
-    c.order.ensures.state here) c.mark_own.ensures.cores c.mark_own.ensures.within
+    c.order.ensures.state here) c.mark_own.ensures.cores
     (c.mark_own.ensures.own ∙ executes_seen g.R.Rider.riding g.K.Carry.carrying s (Order c.args.c) _ c.order.new.self
     c.args.c c.self.view_is
     c.requires.holds c.requires.enabled c.order.ensures.state refl c.args.standing c.index.result.now c.index.ensures)

@@ -57,7 +57,6 @@ returns-clause-marked g c =
     c.mark_core.new.marks c.args.c
     c.receive.new.standing c.requires.marked c.receive.ensures.state here port c.receive.ensures.renewed
     c.mark_core.ensures.cores
-    c.mark_core.ensures.within
     (c.mark_core.ensures.own ∙ executes_seen g.R.Rider.riding g.K.Carry.carrying s (FromHome c.args.c) _
     c.receive.new.self c.args.c c.self.view_is
     c.requires.holds c.requires.enabled c.receive.ensures.state refl c.receive.new.standing c.index.result.now

@@ -4,7 +4,7 @@ use Rattle.msi_memory.specs.Acts.{TakeRequest}
 use Rattle.msi_memory.specs.Memories.{Memory}
 use Rattle.tso_state.specs.States.{State}
 use Rattle.msi_laws.proofs.Acting.{ports_after_acts}
-use Rattle.tso_core.proofs.Renewed.{request_others}
+use Rattle.tso_core.proofs.Renewed.{all_others, request_all}
 use Rattle.tso_core.proofs.parts.Parts.take_request.Goals as goal
 
 pub take_request-turn-requires-clause-names : goal.take_request-turn-requires-clause-names
@@ -34,7 +34,10 @@ returns-clause-marked g c =
     let holds = rw (← c.self.view_is) at c.requires.holds in
     let enabled = rw (← c.self.view_is) at c.requires.enabled in
     let all = rw (← c.self.view_is) at c.requires.marked in
-    request_others g.R.Rider.riding g.K.Carry.carrying s c.take_request-turn.new.self.memory c.args.marks.now
-    c.mark_turn.new.marks c.args.c
-    c.take_request-turn.result c.take_request-turn.ensures.memory holds enabled c.take_request-turn.ensures.turn all
-    c.mark_turn.ensures.cores c.mark_turn.ensures.within c.mark_turn.ensures.marked
+    all_others g.R.Rider.riding g.K.Carry.carrying (record s { memory = c.take_request-turn.new.self.memory })
+    c.set.new.self
+    (request_all g.R.Rider.riding g.K.Carry.carrying s c.take_request-turn.new.self.memory c.args.marks.now
+    c.set.new.self c.mark_turn.new.marks c.args.c
+    c.take_request-turn.result c.take_request-turn.ensures.memory holds enabled
+    c.take_request-turn.ensures.turn all c.mark_turn.ensures
+    c.set.ensures.cores c.set.ensures.this c.set.ensures.others) c.args.c

@@ -4,8 +4,8 @@ use Rattle.msi_memory.specs.Acts.{TakeResponse}
 use Rattle.msi_memory.specs.Memories.{Memory}
 use Rattle.tso_state.specs.States.{State}
 use Rattle.msi_laws.proofs.Acting.{ports_after_acts}
-use Rattle.tso_core.proofs.Delivered.{left_is, lt_of}
-use Rattle.tso_core.proofs.Renewed.{response_others}
+use Rattle.move_marks.proofs.Delivered.{left_is, lt_of}
+use Rattle.tso_core.proofs.Renewed.{all_others, response_all}
 use Rattle.tso_core.proofs.parts.Parts.take_response.Goals as goal
 
 pub take_response-turn-requires-clause-names : goal.take_response-turn-requires-clause-names
@@ -44,8 +44,9 @@ returns-clause-marked g c =
     let holds = rw (← c.self.view_is) at c.requires.holds in
     let enabled = rw (← c.self.view_is) at c.requires.enabled in
     let all = rw (← c.self.view_is) at c.requires.marked in
-    response_others g.R.Rider.riding g.K.Carry.carrying s c.take_response-turn.new.self.memory c.args.marks.now
+    all_others g.R.Rider.riding g.K.Carry.carrying (record s { memory = c.take_response-turn.new.self.memory }) _
+    (response_all g.R.Rider.riding g.K.Carry.carrying s c.take_response-turn.new.self.memory c.args.marks.now
     c.set.new.self c.mark_turn.new.marks c.args.c
     c.take_response-turn.result c.take_response-turn.ensures.memory holds enabled c.take_response-turn.ensures.turn all
-    c.set.ensures.cores c.set.ensures.within c.set.ensures.others (c.set.ensures.this ∙ c.has_response.ensures)
-    c.mark_turn.ensures.cores c.mark_turn.ensures.within c.mark_turn.ensures.marked
+    c.set.ensures.cores c.set.ensures.others (c.set.ensures.this ∙ c.has_response.ensures)
+    c.mark_turn.ensures) c.args.c

@@ -1,7 +1,0 @@
-use Rattle.std.proofs.Common.{◌∙◌, sym}
-use Rattle.tso_core.proofs.Delivered.{none_told}
-use Rattle.tso_core.proofs.marking.mark_told.Goals as goal
-
-pub returns-then-is_empty-clause-marked : goal.returns-then-is_empty-clause-marked
-returns-then-is_empty-clause-marked c = λ m. none_told c.args.set c.args.marks.now m (sym c.is_empty.ensures
-    ∙ c.if-is_empty.true)
