@@ -16,6 +16,7 @@ use rtr_types::{CORES_MAX, CoreSet};
 
 /// Marks what can be made after the home's turn at one of so many cores: those that it answered have a message, and
 /// where its block is free now and wasn't, or was and isn't, so are the requests for the block.
+#[inline(always)]
 pub fn mark_turn<R: Rider, K: Carry>(
     memory: &MemorySystem<R, K>,
     cores: u32,
