@@ -44,6 +44,16 @@ one_further first next k room place starts fits a b =
       ];
     }
 
+-- the place behind the newest item, once one more came
+next_further : (first count room next behind : ℕ) → first ≤ room - 1 → count < room →
+    (next ≡ first + count) ⊎ (next + room ≡ first + count) → (behind ≡ next + 1) ⊎ (behind + room ≡ next + 1) →
+    (behind ≡ first + (count + 1)) ⊎ (behind + room ≡ first + (count + 1))
+next_further first count room next behind starts fits was is =
+    elim was [
+      | inl u ↦ elim is [ inl v ↦ inl (omega arith) | inr v ↦ inr (omega arith) ]
+      | inr u ↦ elim is [ inl v ↦ inr (omega arith) | inr v ↦ absurd (omega arith) ]
+    ]
+
 -- whether a list has no element is whether its length is 0
 pub nil_length : {X : Type 0} (xs : List X) → is_nil xs ≡ nat_eq (length xs) 0
 nil_length [] = refl
@@ -281,15 +291,23 @@ module _ {X : Type 0} where
       held.1 ∙ ap (λ rest. x ∷ rest) (sym (ap (drop 1) held.1))
 
   -- a lent place leaves a ring as a ring is to be, whatever is left in it
-  pub lent_fits : (queue : Queue X) (list : List X) (place room first count : ℕ) →
+  pub lent_fits : (queue : Queue X) (list : List X) (place room first count behind : ℕ) →
       record { room = room; items = around list first count } ≡ queue → length list ≡ room → count ≤ room →
-      first ≤ room - 1 → length queue.items < queue.room → (w : X) →
-      (length (set list place w) ≡ room) × (count + 1 ≤ room) × (first ≤ room - 1)
-  lent_fits queue list place room first count view whole fits starts roomy w =
+      first ≤ room - 1 → (place ≡ first + count) ⊎ (place + room ≡ first + count) →
+      length queue.items < queue.room → behind < room → (behind ≡ place + 1) ⊎ (behind + room ≡ place + 1) → (w : X) →
+      (length (set list place w) ≡ room) × (count + 1 ≤ room) × (first ≤ room - 1) × (behind ≤ room - 1)
+      × ((behind ≡ first + (count + 1)) ⊎ (behind + room ≡ first + (count + 1)))
+  lent_fits queue list place room first count behind view whole fits starts at roomy within round w =
       let rooms : room ≡ queue.room = ap (λ (q : Queue X). q.room) view in
       let items : length (around list first count) ≡ length queue.items = ap (λ (q : Queue X). length q.items) view in
       let held : length (around list first count) ≡ count = length_around list first count (omega (arith, whole)) in
-      (length-set list place w ∙ whole, omega (arith, rooms, items, held), starts)
+      let one_more : count < room = omega (arith, rooms, items, held, roomy) in (
+        length-set list place w ∙ whole,
+        omega (arith, one_more),
+        starts,
+        omega (arith, within),
+        next_further first count room place behind starts one_more at round,
+      )
 
   -- a link that holds something has a count of its own
   some_held : (queue : Queue X) (list : List X) (room first count : ℕ) →

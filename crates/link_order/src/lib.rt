@@ -29,13 +29,14 @@ pub trait Blank {
 pub struct Link<T> {
     capacity: u32,
     slots: Vec<T>,
-    // the place of the oldest item, which is 0 where there is no place
-    first: usize,
-    count: usize,
+    // the place of the oldest item and the one behind the newest, which are 0 where there is no place
+    first: u32,
+    next: u32,
+    count: u32,
 }
 
 impl<T> Model for Link<T> {
-    ghost use Rattle.std.specs.Prelude.{◌≡◌, ◌≤◌, ◌-◌, length};
+    ghost use Rattle.std.specs.Prelude.{◌≡◌, ◌≤◌, ◌+◌, ◌-◌, ◌⊎◌, length};
     ghost use Rattle.link_order.specs.Queue.{Queue, around};
 
     ghost Value = { Queue T };
@@ -43,27 +44,12 @@ impl<T> Model for Link<T> {
     ghost view = { λ a. record { room = a.capacity; items = around a.slots.items a.first a.count } };
 
     ghost invariant = { λ a. (length a.slots.items ≡ a.capacity) × (a.count ≤ a.capacity)
-        × (a.first ≤ a.capacity - 1) };
+        × (a.first ≤ a.capacity - 1) × (a.next ≤ a.capacity - 1)
+        × ((a.next ≡ a.first + a.count) ⊎ (a.next + a.capacity ≡ a.first + a.count)) };
 }
 
-/// The place that lies `ahead` places behind place `first` in a ring of `capacity` places.
-fn place(first: usize, ahead: usize, capacity: usize) -> usize
-    requires first { first < capacity }
-    requires ahead { ahead ≤ capacity }
-    requires few { capacity < 4294967296 }
-    ensures within { result < capacity }
-    ensures round { (result ≡ first + ahead) ⊎ (result + capacity ≡ first + ahead) }
-{
-    let straight = first + ahead;
-    if straight < capacity {
-        straight
-    } else {
-        straight - capacity
-    }
-}
-
-/// The place behind place `first`.
-fn place_behind(first: usize, capacity: usize) -> usize
+/// The place behind place `first` in a ring of `capacity` places.
+fn place_behind(first: u32, capacity: u32) -> u32
     requires first { first < capacity }
     ensures within { result < capacity }
     ensures round { (result ≡ first + 1) ⊎ (result + capacity ≡ first + 1) }
@@ -87,6 +73,7 @@ impl<T: Drop + Default> Link<T> {
             capacity,
             slots,
             first: 0,
+            next: 0,
             count: 0,
         })
     }
@@ -100,11 +87,12 @@ impl<T: Drop + Default> Link<T> {
         ensures pushed { OnOk result (self.new.items ≡ self.old.items ++ item ∷ []) }
         ensures handed_back { IfErr result (λ full. (full.0 ≡ item) × (self.new.items ≡ self.old.items)) }
     {
-        if self.count == self.capacity as usize {
+        if self.count == self.capacity {
             return Err(Full(item));
         }
-        let place = place(self.first, self.count, self.capacity as usize);
-        self.slots[place] = item;
+        let place = self.next;
+        self.slots[place as usize] = item;
+        self.next = place_behind(place, self.capacity);
         self.count += 1;
         Ok(())
     }
@@ -120,9 +108,9 @@ impl<T: Drop + Default> Link<T> {
             return None;
         }
         let oldest = self.first;
-        self.first = place_behind(oldest, self.capacity as usize);
+        self.first = place_behind(oldest, self.capacity);
         self.count -= 1;
-        Some(mem::take(&mut self.slots[oldest]))
+        Some(mem::take(&mut self.slots[oldest as usize]))
     }
 }
 
@@ -141,6 +129,7 @@ impl<T: Drop + Blank> Link<T> {
             capacity,
             slots,
             first: 0,
+            next: 0,
             count: 0,
         })
     }
@@ -155,9 +144,10 @@ impl<T> Link<T> {
         requires { length self.old.items < self.old.room }
         ensures* lends { sem 𝓛 (LendsPlace T.row self.entry result) }
     {
-        let place = place(self.first, self.count, self.capacity as usize);
+        let newest = self.next;
+        self.next = place_behind(newest, self.capacity);
         self.count += 1;
-        &mut self.slots[place]
+        &mut self.slots[newest as usize]
     }
 
     /// Lends the oldest item where it lies: what is left behind the loan is the oldest item from then on.
@@ -167,7 +157,7 @@ impl<T> Link<T> {
         ensures* lends { sem 𝓛 (LendsHead T.row self.entry result) }
         ensures item { self.old.items ≡ result.now ∷ drop 1 self.old.items }
     {
-        &mut self.slots[self.first]
+        &mut self.slots[self.first as usize]
     }
 
     /// Drops the oldest item, where there is one.
@@ -177,7 +167,7 @@ impl<T> Link<T> {
         ensures items { self.new.items ≡ drop 1 self.old.items }
     {
         if self.count > 0 {
-            self.first = place_behind(self.first, self.capacity as usize);
+            self.first = place_behind(self.first, self.capacity);
             self.count -= 1;
         }
     }
@@ -192,7 +182,7 @@ impl<T> Link<T> {
         if self.count == 0 {
             return None;
         }
-        Some(&self.slots[self.first])
+        Some(&self.slots[self.first as usize])
     }
 
     /// How many items the link holds, which is never above its capacity.
@@ -201,7 +191,7 @@ impl<T> Link<T> {
         ensures length { result ≡ length self.now.items }
         ensures within { length self.now.items ≤ self.now.room }
     {
-        self.count
+        self.count as usize
     }
 
     /// Whether the link holds no item.
