@@ -1,6 +1,6 @@
 -- The next edge in order is the first of those that the cores have next, and what is left is merged_edges the same way.
-use Rattle.std.proofs.Common.{◌≡◌, ◌≢◌, ℕ, zero, suc, ◌+◌, ◌*◌, ◌%◌, ◌<◌, ◌≤◌, inl, inr, true, false, ◌==◌, List, [], ◌∷◌, ◌++◌}
-use Rattle.std.proofs.Common.{length, map}
+use Rattle.std.proofs.Common.{◌≡◌, ◌≢◌, ℕ, zero, suc, ◌+◌, ◌*◌, ◌%◌, ◌<◌, ◌≤◌, inl, inr, true, false, List, []}
+use Rattle.std.proofs.Common.{◌==◌, ◌∷◌, ◌++◌, length, map}
 use Rattle.std.proofs.Common.{drop, set, Option, Some, None, refl, sym, ap, subst, ◌∙◌, arith}
 use Rattle.std.specs.Prelude.{slice_get, slice_index}
 use Rattle.std.specs.List.{AllByRecursion, flat_map, range_with_len}
@@ -30,9 +30,9 @@ front-none : (source : ℕ) (next : Option (ℕ × ℕ)) (key : ℕ) → IsFront
 front-none source None key h past = refl
 front-none source (Some counts) key h past = let less = h.1 in absurd (omega arith)
 
-pub none-left : (cores : ℕ) (lists : ℕ → List (ℕ × ℕ)) (keys : List ℕ) → cores ≤ CORES_MAX → AreFronts cores lists keys →
-    ((source : ℕ) → source < CORES_MAX → PAST ≤ slice_index keys source) → (source : ℕ) → source < cores →
-    slice_get (lists source) 0 ≡ None
+pub none-left : (cores : ℕ) (lists : ℕ → List (ℕ × ℕ)) (keys : List ℕ) → cores ≤ CORES_MAX →
+    AreFronts cores lists keys → ((source : ℕ) → source < CORES_MAX → PAST ≤ slice_index keys source) →
+    (source : ℕ) → source < cores → slice_get (lists source) 0 ≡ None
 none-left cores lists keys few f none source lt =
     front-none source (slice_get (lists source) 0) (slice_index keys source) (f.each source lt)
     (none source (omega arith))

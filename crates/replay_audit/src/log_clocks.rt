@@ -14,6 +14,9 @@ use std::marker::Model;
 /// How many numbers there is room for beforehand, at most: totals may say anything.
 const ROOM: usize = 1 << 16;
 
+/// How many clocks there is room for beforehand, at most.
+const CLOCKS_ROOM: usize = 1 << 14;
+
 /// For each core the clocks of its instructions to which an edge leads, and for each of its instructions
 /// how many of these clocks there are up to it.
 pub struct LogClocks {
@@ -54,7 +57,7 @@ impl LogClocks {
         let mut clocks = Vec::new(alloc);
         for core in 0..cores {
             numbers.push(no_numbers(alloc, totals, core)?)?;
-            clocks.push(Items::new(alloc))?;
+            clocks.push(no_clocks(alloc, totals, core)?)?;
         }
         Ok(LogClocks {
             nothing: Clock::zero(),
@@ -188,13 +191,28 @@ impl LogClocks {
     }
 }
 
+/// The core's total; 0 where it has none.
+fn total_of(totals: &[u32], core: u8) -> usize
+    ensures { result ≡ slice_index totals.now core }
+{
+    match totals.get(core as usize) {
+        Some(total) => *total as usize,
+        None => 0,
+    }
+}
+
 /// No numbers, with room for as many as the core's total says.
 fn no_numbers(alloc: Global, totals: &[u32], core: u8) -> Result<Items<usize>, AllocError>
     ensures { IfOk result (λ numbers. numbers ≡ []) }
 {
-    let room = match totals.get(core as usize) {
-        Some(total) => (*total as usize).min(ROOM),
-        None => 0,
-    };
+    let room = total_of(totals, core).min(ROOM);
+    Ok(Items::from_vec(Vec::with_capacity(alloc, room)?))
+}
+
+/// No clocks, with room for one at every second instruction: most logs lead edges to fewer.
+fn no_clocks(alloc: Global, totals: &[u32], core: u8) -> Result<Items<Clock>, AllocError>
+    ensures { IfOk result (λ clocks. clocks ≡ []) }
+{
+    let room = (total_of(totals, core) / 2).min(CLOCKS_ROOM);
     Ok(Items::from_vec(Vec::with_capacity(alloc, room)?))
 }

@@ -41,8 +41,8 @@ returns-then-self-len-clause-ready g c =
 
 pub returns-in_err-make_room-2-clause-items : goal.returns-in_err-make_room-2-clause-items
 returns-in_err-make_room-2-clause-items g c =
-    same_items c.loop-place.self-inside.lists.items c.loop-place.place c.index_mut-in-loop-place.result.now c.make_room-in-loop-place.new.self
-    c.index_mut-in-loop-place.ensures.value
+    same_items c.loop-place.self-inside.lists.items c.loop-place.place c.index_mut-in-loop-place.result.now
+    c.make_room-in-loop-place.new.self c.index_mut-in-loop-place.ensures.value
     c.make_room-in-loop-place.ensures.items
     ∙ c.loop-place.invariant.made.same ∙ ap items_in c.self.view_is
 
