@@ -24,8 +24,8 @@ use Rattle.cut_moves.proofs.Hulls.{in_whole}
 use Rattle.cut_moves.proofs.Rounds.{rounds_whole}
 use Rattle.debug_place.specs.Backs.{GoesBack}
 use Rattle.debug_place.specs.Places.{Placed, Stands, cut_at, plan_at}
-use Rattle.gdb_session.specs.Moves.{Follow, IsKept, StepsBackFree, TakesTurnBack}
-use Rattle.gdb_session.specs.Seats.{IsOf}
+use Rattle.gdb_monitor.specs.Moves.{IsKept, IsOf}
+use Rattle.gdb_session.specs.Moves.{Follow, StepsBackFree, TakesTurnBack}
 use Rattle.gdb_session.specs.Stopping.{Stopping, stops_at}
 use Rattle.gdb_session.specs.Turns.{AreGone, IsDone, IsTurnBack, timeline_at}
 use Rattle.gdb_session.proofs.TurnLemmas.{counted_more, ready_at, same_line}

@@ -16,9 +16,10 @@ use Rattle.cut_moves.specs.Steps.{IsWholeCut}
 use Rattle.debug_place.specs.Places.{Placed}
 use Rattle.rtr_types.specs.declared.cut.Cut.{Cut}
 use Rattle.std.proofs.Common.{subst}
+use Rattle.gdb_monitor.specs.Moves.{IsOf}
 use Rattle.gdb_session.specs.declared.points.Point.{Point}
 use Rattle.gdb_session.specs.Ends.{end_in, end_of}
-use Rattle.gdb_session.specs.Seats.{IsOf, Sees}
+use Rattle.gdb_session.specs.Seats.{Sees}
 use Rattle.gdb_session.specs.Stopping.{Stopping, stopping_by}
 
 pub same_ends : (a : Findings) (image : Contents) (place : Placed) (outcome : Outcome) → Sees a image place →

@@ -30,8 +30,8 @@ use Rattle.cut_moves.proofs.Going.{total_small}
 use Rattle.cut_moves.proofs.Taking.{bumped}
 use Rattle.debug_place.specs.Places.{Placed, cut_at, plan_at}
 use Rattle.debug_place.specs.Stops.{GoesOn, NoneStops, way_to}
-use Rattle.gdb_session.specs.Moves.{Follow, IsKept, StepsFree, TakesTurn}
-use Rattle.gdb_session.specs.Seats.{IsOf}
+use Rattle.gdb_monitor.specs.Moves.{IsKept, IsOf}
+use Rattle.gdb_session.specs.Moves.{Follow, StepsFree, TakesTurn}
 use Rattle.gdb_session.specs.Stopping.{Stopping, stops_at}
 use Rattle.gdb_session.specs.Turns.{AreDone, IsDone, IsTurn, timeline_at}
 

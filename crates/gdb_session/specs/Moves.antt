@@ -14,6 +14,7 @@ use Rattle.cut_moves.specs.Steps.{IsStep, IsStepBack, IsWholeCut, last_in, next_
 use Rattle.debug_place.specs.Backs.{GoesBack}
 use Rattle.debug_place.specs.Places.{Placed, cut_at, plan_at}
 use Rattle.debug_place.specs.Stops.{GoesOn, IsFirstStop, NoneStops, way_to}
+use Rattle.gdb_monitor.specs.Moves.{IsKept}
 use Rattle.gdb_session.specs.declared.orders.Order.{Order}
 use Rattle.gdb_session.specs.declared.orders.Order.TheVariants.{Rest, Step, Go, GoWith, StepBack, GoBack}
 use Rattle.gdb_session.specs.declared.orders.Order.TheVariants.{GoBackWith}
@@ -42,12 +43,7 @@ fault_stop stopping core =
 abbrev pub teller : CoreSet → (lead core : ℕ) → ℕ
 teller heard lead core = if has heard core then core else lead
 
--- ---- what is the same, and what is left as it was
-
--- the two are places of one recording, by one log
-pub record IsKept (old new : Placed) : Type 0 where
-  pub recording : new.recording ≡ old.recording
-  pub which : new.which ≡ old.which
+-- ---- what is left as it was
 
 -- nothing moves, and this is told
 pub record Stays (old new : Placed) (stop told : stops.Stop) : Type 0 where

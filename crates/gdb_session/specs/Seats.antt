@@ -5,6 +5,7 @@ use Rattle.replay_core.specs.Plans.{recorded_image}
 use Rattle.replay_audit.specs.Audits.{Findings}
 use Rattle.cut_replay.specs.ClosedCuts.{count_in}
 use Rattle.debug_place.specs.Places.{Placed, cut_at}
+use Rattle.gdb_monitor.specs.Moves.{IsOf}
 use Rattle.gdb_session.specs.declared.points.Point.{Point}
 use Rattle.gdb_session.specs.declared.wishes.Wishes.{Wishes}
 use Rattle.gdb_session.specs.Wishes.{Fit}
@@ -18,12 +19,7 @@ pub record Seat : Type 0 where
 abbrev pub seat_of : Placed → Wishes → List Point → Seat
 seat_of place wishes points = record { place = place; wishes = wishes; points = points }
 
--- the place is one of this audited recording
-pub record IsOf (a : Findings) (place : Placed) : Type 0 where
-  pub recording : a.recording ≡ place.recording
-  pub which : a.which ≡ place.which
-
--- and this is its image
+-- the place is one of this audited recording, and this is its image
 pub record Sees (a : Findings) (image : Contents) (place : Placed) : Type 0 where
   pub run : IsOf a place
   pub image_is : image ≡ recorded_image place.recording

@@ -6,10 +6,11 @@ ghost use Rattle.replay_audit.specs.Audits.{IsInstrOf};
 ghost use Rattle.cut_replay.specs.ClosedCuts.{IsClosed, IsContained};
 ghost use Rattle.cut_moves.specs.Steps.{IsWholeCut, next_in};
 ghost use Rattle.debug_place.specs.Places.{cut_at};
-ghost use Rattle.gdb_session.specs.Moves.{Goes, GoesBackward, Halts, HaltsBack, IsKept, Obeys, Steps, StepsBackward};
+ghost use Rattle.gdb_monitor.specs.Moves.{IsKept, IsOf};
+ghost use Rattle.gdb_session.specs.Moves.{Goes, GoesBackward, Halts, HaltsBack, Obeys, Steps, StepsBackward};
 ghost use Rattle.gdb_session.specs.Moves.{Walks, WalksBack, fault_stop, plain_stop, teller};
 ghost use Rattle.gdb_session.specs.Orders.{IsWithin};
-ghost use Rattle.gdb_session.specs.Seats.{IsOf, Sees};
+ghost use Rattle.gdb_session.specs.Seats.{Sees};
 ghost use Rattle.gdb_session.specs.Stopping.{stopping_of};
 
 use crate::ends::{end_of, signal_of};

@@ -3,8 +3,8 @@ ghost use Rattle.std.specs.Prelude.{◌≡◌, ◌∷◌, [], IfOk, IfSome, OnOk
 ghost use Rattle.debug_place.specs.Places.{Stands, cut_at};
 ghost use Rattle.gdb_packets.specs.Replies.{spelled};
 ghost use Rattle.gdb_packets.specs.declared.replies.Reply.TheVariants.{Done};
+ghost use Rattle.gdb_monitor.specs.Moves.{IsKept};
 ghost use Rattle.gdb_session.specs.Answers.{AnswersPacket, AnswersPlain, AnswersWith, MovesBy, next_after};
-ghost use Rattle.gdb_session.specs.Moves.{IsKept};
 ghost use Rattle.gdb_session.specs.Orders.{IsWithin};
 ghost use Rattle.gdb_session.specs.Points.{takes, with_point, without_point};
 ghost use Rattle.gdb_session.specs.Seats.{Begins, Sees, Sits, interrupted, seat_of};

@@ -1,7 +1,8 @@
 //! What is said of threads.
 ghost use Rattle.std.specs.Prelude.{◌≡◌, ◌<◌, ◌++◌, IfOk, OnOk, codes, string_bytes};
 ghost use Rattle.std.specs.List.{flat_map};
-ghost use Rattle.gdb_session.specs.Seats.{IsOf, Sees};
+ghost use Rattle.gdb_monitor.specs.Moves.{IsOf};
+ghost use Rattle.gdb_session.specs.Seats.{Sees};
 ghost use Rattle.gdb_session.specs.Threads.{end_text, head_text, id_text, names_text, row_text, rows_text};
 ghost use Rattle.gdb_session.specs.Threads.{thread_text, threads_text, wait_text, waits_of, waits_text};
 

@@ -5,9 +5,9 @@ ghost use Rattle.replay_audit.specs.Audits.{IsInstrOf};
 ghost use Rattle.cut_replay.specs.ClosedCuts.{count_in};
 ghost use Rattle.cut_moves.specs.Steps.{last_in, next_in};
 ghost use Rattle.debug_place.specs.Places.{cut_at};
-ghost use Rattle.gdb_session.specs.Moves.{GoesBackWith, GoesWith, IsKept, StepsBackFree, StepsBackInto};
+ghost use Rattle.gdb_monitor.specs.Moves.{IsKept, IsOf};
+ghost use Rattle.gdb_session.specs.Moves.{GoesBackWith, GoesWith, StepsBackFree, StepsBackInto};
 ghost use Rattle.gdb_session.specs.Moves.{StepsFree, StepsInto};
-ghost use Rattle.gdb_session.specs.Seats.{IsOf};
 ghost use Rattle.gdb_session.specs.Stopping.{stopping_of};
 
 use crate::hearing::Hearing;

@@ -1,30 +1,21 @@
 //! The packets of a session, with their answers.
-use crate::rows::Row;
+use crate::rows::{Row, asked};
 
 /// In order; without commands of the debugger's user.
 pub static CRASH: [Row; 47] = [
-    Row {
-        packet: "qSupported:multiprocess+;swbreak+;hwbreak+;qRelocInsn+;fork-events+;vfork-even\
+    asked!(
+        "qSupported:multiprocess+;swbreak+;hwbreak+;qRelocInsn+;fork-events+;vfork-even\
             ts+;exec-events+;vContSupported+;QThreadEvents+;no-resumed+;memory-tagging+;xm\
             lRegisters=i386",
-        answer: "PacketSize=1000;QStartNoAckMode+;vContSupported+;swbreak+;hwbreak+;ReverseStep\
-            +;ReverseContinue+;qXfer:features:read+;qXfer:threads:read+",
-    },
-    Row {
-        packet: "vMustReplyEmpty",
-        answer: "",
-    },
-    Row {
-        packet: "QStartNoAckMode",
-        answer: "OK",
-    },
-    Row {
-        packet: "Hg0",
-        answer: "OK",
-    },
-    Row {
-        packet: "qXfer:features:read:target.xml:0,ffb",
-        answer: "l<?xml version=\"1.0\"?><!DOCTYPE target SYSTEM \"gdb-target.dtd\"><target version\
+        "PacketSize=1000;QStartNoAckMode+;vContSupported+;swbreak+;hwbreak+;ReverseStep\
+            +;ReverseContinue+;qXfer:features:read+;qXfer:threads:read+"
+    ),
+    asked!("vMustReplyEmpty", ""),
+    asked!("QStartNoAckMode", "OK"),
+    asked!("Hg0", "OK"),
+    asked!(
+        "qXfer:features:read:target.xml:0,ffb",
+        "l<?xml version=\"1.0\"?><!DOCTYPE target SYSTEM \"gdb-target.dtd\"><target version\
             =\"1.0\"><architecture>riscv:rv32</architecture><osabi>none</osabi><feature name\
             =\"org.gnu.gdb.riscv.cpu\"><reg name=\"zero\" bitsize=\"32\" type=\"int\"/><reg name=\"\
             ra\" bitsize=\"32\" type=\"code_ptr\"/><reg name=\"sp\" bitsize=\"32\" type=\"data_ptr\"/\
@@ -45,210 +36,129 @@ pub static CRASH: [Row; 47] = [
             int\"/><reg name=\"t5\" bitsize=\"32\" type=\"int\"/><reg name=\"t6\" bitsize=\"32\" type\
             =\"int\"/><reg name=\"pc\" bitsize=\"32\" type=\"code_ptr\"/></feature><feature name=\"\
             org.rtr.core\"><reg name=\"retired\" bitsize=\"32\" type=\"uint32\" group=\"rtr\"/><reg\
-            \x20name=\"total\" bitsize=\"32\" type=\"uint32\" group=\"rtr\"/></feature></target>",
-    },
-    Row {
-        packet: "qTStatus",
-        answer: "",
-    },
-    Row {
-        packet: "?",
-        answer: "T05thread:1;",
-    },
-    Row {
-        packet: "qXfer:threads:read::0,ffb",
-        answer: "l<?xml version=\"1.0\"?><threads><thread id=\"1\" core=\"0\" name=\"core 0\">retired 0\
+            \x20name=\"total\" bitsize=\"32\" type=\"uint32\" group=\"rtr\"/></feature></target>"
+    ),
+    asked!("qTStatus", ""),
+    asked!("?", "T05thread:1;"),
+    asked!(
+        "qXfer:threads:read::0,ffb",
+        "l<?xml version=\"1.0\"?><threads><thread id=\"1\" core=\"0\" name=\"core 0\">retired 0\
             \x20of 56</thread><thread id=\"2\" core=\"1\" name=\"core 1\">retired 0 of 11</thread><\
-            /threads>",
-    },
-    Row {
-        packet: "qAttached",
-        answer: "1",
-    },
-    Row {
-        packet: "Hc-1",
-        answer: "OK",
-    },
-    Row {
-        packet: "qOffsets",
-        answer: "",
-    },
-    Row {
-        packet: "g",
-        answer: "000000000000000000000000000000000000000000000000000000000000000000000000000000\
+            /threads>"
+    ),
+    asked!("qAttached", "1"),
+    asked!("Hc-1", "OK"),
+    asked!("qOffsets", ""),
+    asked!(
+        "g",
+        "000000000000000000000000000000000000000000000000000000000000000000000000000000\
             000000000000000000000000000000000000000000000000000000000000000000000000000000\
             000000000000000000000000000000000000000000000000000000000000000000000000000000\
-            0000000000000000000000000000000000000038000000",
-    },
-    Row {
-        packet: "qXfer:threads:read::0,ffb",
-        answer: "l<?xml version=\"1.0\"?><threads><thread id=\"1\" core=\"0\" name=\"core 0\">retired 0\
+            0000000000000000000000000000000000000038000000"
+    ),
+    asked!(
+        "qXfer:threads:read::0,ffb",
+        "l<?xml version=\"1.0\"?><threads><thread id=\"1\" core=\"0\" name=\"core 0\">retired 0\
             \x20of 56</thread><thread id=\"2\" core=\"1\" name=\"core 1\">retired 0 of 11</thread><\
-            /threads>",
-    },
-    Row {
-        packet: "qSymbol::",
-        answer: "",
-    },
-    Row {
-        packet: "vCont?",
-        answer: "vCont;c;C;s;S",
-    },
-    Row {
-        packet: "vCont;c",
-        answer: "T0bthread:2;",
-    },
-    Row {
-        packet: "g",
-        answer: "000000001400000000880000000000000000000000800000000000000000000000000000000000\
+            /threads>"
+    ),
+    asked!("qSymbol::", ""),
+    asked!("vCont?", "vCont;c;C;s;S"),
+    asked!("vCont;c", "T0bthread:2;"),
+    asked!(
+        "g",
+        "000000001400000000880000000000000000000000800000000000000000000000000000000000\
             000100000000000000000000000000000000100000f0ffff7f0000000000000000000000000000\
             000000000000000000000000000000000000000000000000000000000000000000000000000000\
-            0000000000000000000000300000000b0000000b000000",
-    },
-    Row {
-        packet: "qXfer:threads:read::0,ffb",
-        answer: "l<?xml version=\"1.0\"?><threads><thread id=\"1\" core=\"0\" name=\"core 0\">retired 1\
+            0000000000000000000000300000000b0000000b000000"
+    ),
+    asked!(
+        "qXfer:threads:read::0,ffb",
+        "l<?xml version=\"1.0\"?><threads><thread id=\"1\" core=\"0\" name=\"core 0\">retired 1\
             3 of 56</thread><thread id=\"2\" core=\"1\" name=\"core 1\">retired 11 of 11, addres\
-            s</thread></threads>",
-    },
-    Row {
-        packet: "qXfer:threads:read::0,ffb",
-        answer: "l<?xml version=\"1.0\"?><threads><thread id=\"1\" core=\"0\" name=\"core 0\">retired 1\
+            s</thread></threads>"
+    ),
+    asked!(
+        "qXfer:threads:read::0,ffb",
+        "l<?xml version=\"1.0\"?><threads><thread id=\"1\" core=\"0\" name=\"core 0\">retired 1\
             3 of 56</thread><thread id=\"2\" core=\"1\" name=\"core 1\">retired 11 of 11, addres\
-            s</thread></threads>",
-    },
-    Row {
-        packet: "Hg1",
-        answer: "OK",
-    },
-    Row {
-        packet: "g",
-        answer: "000000001400000000840000000000000000000000800000000000000000000000000000000000\
+            s</thread></threads>"
+    ),
+    asked!("Hg1", "OK"),
+    asked!(
+        "g",
+        "000000001400000000840000000000000000000000800000000000000000000000000000000000\
             000000000000000000000000000000000001000000120000000000000000000000000000000000\
             000000000000000000000000000000000000000000000000000000000000000000000000000000\
-            0000000000000000000000540000000d00000038000000",
-    },
-    Row {
-        packet: "Hg2",
-        answer: "OK",
-    },
-    Row {
-        packet: "m1098,4",
-        answer: "f0ffff7f",
-    },
-    Row {
-        packet: "Hc0",
-        answer: "OK",
-    },
-    Row {
-        packet: "bs",
-        answer: "T05thread:2;",
-    },
-    Row {
-        packet: "g",
-        answer: "000000001400000000880000000000000000000000800000000000000000000000000000000000\
+            0000000000000000000000540000000d00000038000000"
+    ),
+    asked!("Hg2", "OK"),
+    asked!("m1098,4", "f0ffff7f"),
+    asked!("Hc0", "OK"),
+    asked!("bs", "T05thread:2;"),
+    asked!(
+        "g",
+        "000000001400000000880000000000000000000000800000000000000000000000000000000000\
             000100000000000000000000000000000000100000001000000000000000000000000000000000\
             000000000000000000000000000000000000000000000000000000000000000000000000000000\
-            00000000000000000000002c0000000a0000000b000000",
-    },
-    Row {
-        packet: "qXfer:threads:read::0,ffb",
-        answer: "l<?xml version=\"1.0\"?><threads><thread id=\"1\" core=\"0\" name=\"core 0\">retired 1\
+            00000000000000000000002c0000000a0000000b000000"
+    ),
+    asked!(
+        "qXfer:threads:read::0,ffb",
+        "l<?xml version=\"1.0\"?><threads><thread id=\"1\" core=\"0\" name=\"core 0\">retired 1\
             3 of 56</thread><thread id=\"2\" core=\"1\" name=\"core 1\">retired 10 of 11</thread\
-            ></threads>",
-    },
-    Row {
-        packet: "m0,40",
-        answer: "1311a500b78200003301510013010140ef0080007300000063040502371700008327470ae38e07\
-            feb717000083a7870903a70700b717000023a0e70a67800000",
-    },
-    Row {
-        packet: "m1098,4",
-        answer: "f0ffff7f",
-    },
-    Row {
-        packet: "m1098,4",
-        answer: "f0ffff7f",
-    },
-    Row {
-        packet: "m1098,4",
-        answer: "f0ffff7f",
-    },
-    Row {
-        packet: "Z2,1098,4",
-        answer: "OK",
-    },
-    Row {
-        packet: "vCont;c",
-        answer: "T0bthread:2;",
-    },
-    Row {
-        packet: "g",
-        answer: "000000001400000000880000000000000000000000800000000000000000000000000000000000\
+            ></threads>"
+    ),
+    asked!(
+        "m0,40",
+        "1311a500b78200003301510013010140ef0080007300000063040502371700008327470ae38e07\
+            feb717000083a7870903a70700b717000023a0e70a67800000"
+    ),
+    asked!("m1098,4", "f0ffff7f"),
+    asked!("m1098,4", "f0ffff7f"),
+    asked!("m1098,4", "f0ffff7f"),
+    asked!("Z2,1098,4", "OK"),
+    asked!("vCont;c", "T0bthread:2;"),
+    asked!(
+        "g",
+        "000000001400000000880000000000000000000000800000000000000000000000000000000000\
             000100000000000000000000000000000000100000f0ffff7f0000000000000000000000000000\
             000000000000000000000000000000000000000000000000000000000000000000000000000000\
-            0000000000000000000000300000000b0000000b000000",
-    },
-    Row {
-        packet: "qXfer:threads:read::0,ffb",
-        answer: "l<?xml version=\"1.0\"?><threads><thread id=\"1\" core=\"0\" name=\"core 0\">retired 1\
+            0000000000000000000000300000000b0000000b000000"
+    ),
+    asked!(
+        "qXfer:threads:read::0,ffb",
+        "l<?xml version=\"1.0\"?><threads><thread id=\"1\" core=\"0\" name=\"core 0\">retired 1\
             3 of 56</thread><thread id=\"2\" core=\"1\" name=\"core 1\">retired 11 of 11, addres\
-            s</thread></threads>",
-    },
-    Row {
-        packet: "z2,1098,4",
-        answer: "OK",
-    },
-    Row {
-        packet: "m1098,4",
-        answer: "f0ffff7f",
-    },
-    Row {
-        packet: "Z2,1098,4",
-        answer: "OK",
-    },
-    Row {
-        packet: "vCont;C0b:2;c",
-        answer: "T05thread:1;watch:1098;",
-    },
-    Row {
-        packet: "g",
-        answer: "000000001400000000840000000000000000000000800000000000000000000000000000000000\
+            s</thread></threads>"
+    ),
+    asked!("z2,1098,4", "OK"),
+    asked!("m1098,4", "f0ffff7f"),
+    asked!("Z2,1098,4", "OK"),
+    asked!("vCont;C0b:2;c", "T05thread:1;watch:1098;"),
+    asked!(
+        "g",
+        "000000001400000000840000000000000000000000800000000000000000000000000000000000\
             0000000000000000000000000000000000001000009c1000000000000000000000000000000000\
             000000000000000000000000000000000000000000000000000000000000000000000000000000\
-            0000000000000000000000640000003500000038000000",
-    },
-    Row {
-        packet: "m1098,4",
-        answer: "f0ffff7f",
-    },
-    Row {
-        packet: "z2,1098,4",
-        answer: "OK",
-    },
-    Row {
-        packet: "vCont;s:1",
-        answer: "T05thread:1;",
-    },
-    Row {
-        packet: "g",
-        answer: "000000001400000000840000000000000000000000800000000000000000000000000000000000\
+            0000000000000000000000640000003500000038000000"
+    ),
+    asked!("m1098,4", "f0ffff7f"),
+    asked!("z2,1098,4", "OK"),
+    asked!("vCont;s:1", "T05thread:1;"),
+    asked!(
+        "g",
+        "000000001400000000840000000000000000000000800000000000000000000000000000000000\
             0000000000000000000000000000000000001000009c1000000000000000000000000000000000\
             000000000000000000000000000000000000000000000000000000000000000000000000000000\
-            0000000000000000000000680000003600000038000000",
-    },
-    Row {
-        packet: "m1098,4",
-        answer: "9c100000",
-    },
-    Row {
-        packet: "qXfer:threads:read::0,ffb",
-        answer: "l<?xml version=\"1.0\"?><threads><thread id=\"1\" core=\"0\" name=\"core 0\">retired 5\
+            0000000000000000000000680000003600000038000000"
+    ),
+    asked!("m1098,4", "9c100000"),
+    asked!(
+        "qXfer:threads:read::0,ffb",
+        "l<?xml version=\"1.0\"?><threads><thread id=\"1\" core=\"0\" name=\"core 0\">retired 5\
             4 of 56</thread><thread id=\"2\" core=\"1\" name=\"core 1\">retired 11 of 11, addres\
-            s</thread></threads>",
-    },
-    Row {
-        packet: "D",
-        answer: "OK",
-    },
+            s</thread></threads>"
+    ),
+    asked!("D", "OK"),
 ];

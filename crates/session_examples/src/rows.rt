@@ -10,6 +10,18 @@ pub struct Row {
     pub answer: &'static str,
 }
 
+/// A packet with its answer, as a row.
+macro_rules! asked {
+    ($packet:expr, $answer:expr) => {
+        Row {
+            packet: $packet,
+            answer: $answer,
+        }
+    };
+}
+
+pub(crate) use asked;
+
 /// Whether the answer is this one payload.
 fn is_one(answer: &Answer, payload: &str) -> bool {
     match answer.payloads.as_slice() {

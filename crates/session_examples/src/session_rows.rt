@@ -1,371 +1,125 @@
 //! Packets on the recording of two cores, with their answers, worked out by hand. Places are told by how far the cores
 //! have come, in digits: `retired 5 of 5` is `726574697265642035206f662035`.
-use crate::rows::Row;
+use crate::rows::{Row, asked};
 
 /// Steps, to the end and back. Core 1 takes core 0 with it where it loads.
 pub static STEPS: [Row; 18] = [
-    Row {
-        packet: "vCont;s:2;c",
-        answer: "T05thread:2;",
-    },
-    Row {
-        packet: "qThreadExtraInfo,2",
-        answer: "726574697265642031206f6620342c20776169747320666f7220303a33",
-    },
-    Row {
-        packet: "vCont;s:2;c",
-        answer: "T05thread:2;",
-    },
-    Row {
-        packet: "qThreadExtraInfo,1",
-        answer: "726574697265642033206f6620352c20776169747320666f7220313a33",
-    },
-    Row {
-        packet: "qThreadExtraInfo,2",
-        answer: "726574697265642032206f662034",
-    },
-    Row {
-        packet: "p7",
-        answer: "07000000",
-    },
-    Row {
-        packet: "p20",
-        answer: "18000000",
-    },
-    Row {
-        packet: "m40,4",
-        answer: "07000000",
-    },
-    Row {
-        packet: "bs",
-        answer: "T05thread:2;",
-    },
-    Row {
-        packet: "qThreadExtraInfo,1",
-        answer: "726574697265642033206f6620352c20776169747320666f7220313a33",
-    },
-    Row {
-        packet: "p7",
-        answer: "00000000",
-    },
-    Row {
-        packet: "vCont;c",
-        answer: "T05thread:2;replaylog:end;",
-    },
-    Row {
-        packet: "qThreadExtraInfo,1",
-        answer: "726574697265642035206f6620352c2065786974",
-    },
-    Row {
-        packet: "m40,4",
-        answer: "01000000",
-    },
-    Row {
-        packet: "vCont;s:1;c",
-        answer: "T05thread:1;replaylog:end;",
-    },
-    Row {
-        packet: "bc",
-        answer: "T05thread:1;replaylog:begin;",
-    },
-    Row {
-        packet: "m40,4",
-        answer: "00000000",
-    },
-    Row {
-        packet: "bs",
-        answer: "T05thread:1;replaylog:begin;",
-    },
+    asked!("vCont;s:2;c", "T05thread:2;"),
+    asked!(
+        "qThreadExtraInfo,2",
+        "726574697265642031206f6620342c20776169747320666f7220303a33"
+    ),
+    asked!("vCont;s:2;c", "T05thread:2;"),
+    asked!(
+        "qThreadExtraInfo,1",
+        "726574697265642033206f6620352c20776169747320666f7220313a33"
+    ),
+    asked!("qThreadExtraInfo,2", "726574697265642032206f662034"),
+    asked!("p7", "07000000"),
+    asked!("p20", "18000000"),
+    asked!("m40,4", "07000000"),
+    asked!("bs", "T05thread:2;"),
+    asked!(
+        "qThreadExtraInfo,1",
+        "726574697265642033206f6620352c20776169747320666f7220313a33"
+    ),
+    asked!("p7", "00000000"),
+    asked!("vCont;c", "T05thread:2;replaylog:end;"),
+    asked!(
+        "qThreadExtraInfo,1",
+        "726574697265642035206f6620352c2065786974"
+    ),
+    asked!("m40,4", "01000000"),
+    asked!("vCont;s:1;c", "T05thread:1;replaylog:end;"),
+    asked!("bc", "T05thread:1;replaylog:begin;"),
+    asked!("m40,4", "00000000"),
+    asked!("bs", "T05thread:1;replaylog:begin;"),
 ];
 
 /// Breakpoints of both kinds.
 pub static BREAKS: [Row; 17] = [
-    Row {
-        packet: "Z0,8,4",
-        answer: "OK",
-    },
-    Row {
-        packet: "vCont;c",
-        answer: "T05thread:1;swbreak:;",
-    },
-    Row {
-        packet: "qThreadExtraInfo,1",
-        answer: "726574697265642032206f662035",
-    },
-    Row {
-        packet: "qThreadExtraInfo,2",
-        answer: "726574697265642031206f6620342c20776169747320666f7220303a33",
-    },
-    Row {
-        packet: "vCont;s:2",
-        answer: "T05thread:2;",
-    },
-    Row {
-        packet: "qThreadExtraInfo,1",
-        answer: "726574697265642033206f6620352c20776169747320666f7220313a33",
-    },
-    Row {
-        packet: "bs",
-        answer: "T05thread:2;",
-    },
-    Row {
-        packet: "Hc1",
-        answer: "OK",
-    },
-    Row {
-        packet: "bs",
-        answer: "T05thread:1;swbreak:;",
-    },
-    Row {
-        packet: "Hc0",
-        answer: "OK",
-    },
-    Row {
-        packet: "z0,8,4",
-        answer: "OK",
-    },
-    Row {
-        packet: "Z1,18,4",
-        answer: "OK",
-    },
-    Row {
-        packet: "vCont;c",
-        answer: "T05thread:2;swbreak:;",
-    },
-    Row {
-        packet: "z1,18,4",
-        answer: "OK",
-    },
-    Row {
-        packet: "vCont;c",
-        answer: "T05thread:2;replaylog:end;",
-    },
-    Row {
-        packet: "Z1,18,4",
-        answer: "OK",
-    },
-    Row {
-        packet: "bc",
-        answer: "T05thread:2;swbreak:;",
-    },
+    asked!("Z0,8,4", "OK"),
+    asked!("vCont;c", "T05thread:1;swbreak:;"),
+    asked!("qThreadExtraInfo,1", "726574697265642032206f662035"),
+    asked!(
+        "qThreadExtraInfo,2",
+        "726574697265642031206f6620342c20776169747320666f7220303a33"
+    ),
+    asked!("vCont;s:2", "T05thread:2;"),
+    asked!(
+        "qThreadExtraInfo,1",
+        "726574697265642033206f6620352c20776169747320666f7220313a33"
+    ),
+    asked!("bs", "T05thread:2;"),
+    asked!("Hc1", "OK"),
+    asked!("bs", "T05thread:1;swbreak:;"),
+    asked!("Hc0", "OK"),
+    asked!("z0,8,4", "OK"),
+    asked!("Z1,18,4", "OK"),
+    asked!("vCont;c", "T05thread:2;swbreak:;"),
+    asked!("z1,18,4", "OK"),
+    asked!("vCont;c", "T05thread:2;replaylog:end;"),
+    asked!("Z1,18,4", "OK"),
+    asked!("bc", "T05thread:2;swbreak:;"),
 ];
 
 /// Ranges of a word that both cores store to: core 0 stores 7, and core 1 then 1.
 pub static WATCHES: [Row; 18] = [
-    Row {
-        packet: "Z2,42,1",
-        answer: "OK",
-    },
-    Row {
-        packet: "vCont;c",
-        answer: "T05thread:1;watch:42;",
-    },
-    Row {
-        packet: "m40,4",
-        answer: "00000000",
-    },
-    Row {
-        packet: "z2,42,1",
-        answer: "OK",
-    },
-    Row {
-        packet: "vCont;s:1;c",
-        answer: "T05thread:1;",
-    },
-    Row {
-        packet: "m40,4",
-        answer: "07000000",
-    },
-    Row {
-        packet: "Z3,40,4",
-        answer: "OK",
-    },
-    Row {
-        packet: "vCont;c",
-        answer: "T05thread:2;rwatch:40;",
-    },
-    Row {
-        packet: "z3,40,4",
-        answer: "OK",
-    },
-    Row {
-        packet: "Z4,44,4",
-        answer: "OK",
-    },
-    Row {
-        packet: "vCont;c",
-        answer: "T05thread:2;replaylog:end;",
-    },
-    Row {
-        packet: "Z2,40,4",
-        answer: "OK",
-    },
-    Row {
-        packet: "bc",
-        answer: "T05thread:2;watch:40;",
-    },
-    Row {
-        packet: "m40,4",
-        answer: "01000000",
-    },
-    Row {
-        packet: "bs",
-        answer: "T05thread:2;watch:40;",
-    },
-    Row {
-        packet: "z2,40,4",
-        answer: "OK",
-    },
-    Row {
-        packet: "bs",
-        answer: "T05thread:2;",
-    },
-    Row {
-        packet: "m40,4",
-        answer: "07000000",
-    },
+    asked!("Z2,42,1", "OK"),
+    asked!("vCont;c", "T05thread:1;watch:42;"),
+    asked!("m40,4", "00000000"),
+    asked!("z2,42,1", "OK"),
+    asked!("vCont;s:1;c", "T05thread:1;"),
+    asked!("m40,4", "07000000"),
+    asked!("Z3,40,4", "OK"),
+    asked!("vCont;c", "T05thread:2;rwatch:40;"),
+    asked!("z3,40,4", "OK"),
+    asked!("Z4,44,4", "OK"),
+    asked!("vCont;c", "T05thread:2;replaylog:end;"),
+    asked!("Z2,40,4", "OK"),
+    asked!("bc", "T05thread:2;watch:40;"),
+    asked!("m40,4", "01000000"),
+    asked!("bs", "T05thread:2;watch:40;"),
+    asked!("z2,40,4", "OK"),
+    asked!("bs", "T05thread:2;"),
+    asked!("m40,4", "07000000"),
 ];
 
 /// Packets that move nothing, and ones that are refused.
 pub static STILL: [Row; 35] = [
-    Row {
-        packet: "m80,4",
-        answer: "E01",
-    },
-    Row {
-        packet: "m7e,8",
-        answer: "0000",
-    },
-    Row {
-        packet: "m0,0",
-        answer: "E01",
-    },
-    Row {
-        packet: "p23",
-        answer: "E01",
-    },
-    Row {
-        packet: "p22",
-        answer: "05000000",
-    },
-    Row {
-        packet: "pffffffffffffffff",
-        answer: "E01",
-    },
-    Row {
-        packet: "Hg3",
-        answer: "E01",
-    },
-    Row {
-        packet: "Hgx",
-        answer: "E01",
-    },
-    Row {
-        packet: "Hc3",
-        answer: "E01",
-    },
-    Row {
-        packet: "T2",
-        answer: "OK",
-    },
-    Row {
-        packet: "T3",
-        answer: "E01",
-    },
-    Row {
-        packet: "T-1",
-        answer: "E01",
-    },
-    Row {
-        packet: "G00",
-        answer: "E01",
-    },
-    Row {
-        packet: "P0=1",
-        answer: "E01",
-    },
-    Row {
-        packet: "M0,1:00",
-        answer: "E01",
-    },
-    Row {
-        packet: "X0,0:",
-        answer: "E01",
-    },
-    Row {
-        packet: "vCont;s:3",
-        answer: "E01",
-    },
-    Row {
-        packet: "vCont;r0,4:1",
-        answer: "E01",
-    },
-    Row {
-        packet: "vCont;",
-        answer: "E01",
-    },
-    Row {
-        packet: "Z0,8",
-        answer: "E01",
-    },
-    Row {
-        packet: "Z5,8,4",
-        answer: "",
-    },
-    Row {
-        packet: "z2,40,4",
-        answer: "OK",
-    },
-    Row {
-        packet: "qThreadExtraInfo,3",
-        answer: "E01",
-    },
-    Row {
-        packet: "qXfer:features:read:other.xml:0,10",
-        answer: "E00",
-    },
-    Row {
-        packet: "qXfer:features:read:target.xml:0",
-        answer: "E01",
-    },
-    Row {
-        packet: "qXfer:threads:read::ffff,10",
-        answer: "l",
-    },
-    Row {
-        packet: "qXfer:threads:read::0,5",
-        answer: "m<?xml",
-    },
-    Row {
-        packet: "qC",
-        answer: "QC1",
-    },
-    Row {
-        packet: "?",
-        answer: "T05thread:1;",
-    },
-    Row {
-        packet: "qfThreadInfo",
-        answer: "m1,2",
-    },
-    Row {
-        packet: "qsThreadInfo",
-        answer: "l",
-    },
-    Row {
-        packet: "qTStatus",
-        answer: "",
-    },
-    Row {
-        packet: "",
-        answer: "",
-    },
-    Row {
-        packet: "s",
-        answer: "",
-    },
-    Row {
-        packet: "vRun;a",
-        answer: "",
-    },
+    asked!("m80,4", "E01"),
+    asked!("m7e,8", "0000"),
+    asked!("m0,0", "E01"),
+    asked!("p23", "E01"),
+    asked!("p22", "05000000"),
+    asked!("pffffffffffffffff", "E01"),
+    asked!("Hg3", "E01"),
+    asked!("Hgx", "E01"),
+    asked!("Hc3", "E01"),
+    asked!("T2", "OK"),
+    asked!("T3", "E01"),
+    asked!("T-1", "E01"),
+    asked!("G00", "E01"),
+    asked!("P0=1", "E01"),
+    asked!("M0,1:00", "E01"),
+    asked!("X0,0:", "E01"),
+    asked!("vCont;s:3", "E01"),
+    asked!("vCont;r0,4:1", "E01"),
+    asked!("vCont;", "E01"),
+    asked!("Z0,8", "E01"),
+    asked!("Z5,8,4", ""),
+    asked!("z2,40,4", "OK"),
+    asked!("qThreadExtraInfo,3", "E01"),
+    asked!("qXfer:features:read:other.xml:0,10", "E00"),
+    asked!("qXfer:features:read:target.xml:0", "E01"),
+    asked!("qXfer:threads:read::ffff,10", "l"),
+    asked!("qXfer:threads:read::0,5", "m<?xml"),
+    asked!("qC", "QC1"),
+    asked!("?", "T05thread:1;"),
+    asked!("qfThreadInfo", "m1,2"),
+    asked!("qsThreadInfo", "l"),
+    asked!("qTStatus", ""),
+    asked!("", ""),
+    asked!("s", ""),
+    asked!("vRun;a", ""),
 ];
