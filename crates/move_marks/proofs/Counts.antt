@@ -1,6 +1,6 @@
 -- As many moves are marked as there are bits.
-use Rattle.std.proofs.Common.{◌≡◌, ◌∙◌, ◌⊎◌, inl, inr, refl, sym, ap, ℕ, zero, suc, ◌+◌, ◌*◌, ◌^◌, ◌<◌, ◌≤◌, Bool, false}
-use Rattle.std.proofs.Common.{true, cond, List, [], ◌++◌, length, get_or, arith, ◌==◌, zero-add}
+use Rattle.std.proofs.Common.{◌≡◌, ◌∙◌, ◌⊎◌, inl, inr, refl, sym, ap, ℕ, zero, suc, ◌+◌, ◌^◌, ◌<◌, ◌≤◌, Bool}
+use Rattle.std.proofs.Common.{false, cond, List, [], ◌++◌, length, get_or, arith, ◌==◌, zero-add}
 use Rattle.std.specs.Prelude.{map}
 use Rattle.std.specs.Int.{bit_at}
 use Rattle.std.specs.Int.Count.{ones}
@@ -13,7 +13,6 @@ use Rattle.std.proofs.lemmas.Nat.{zero_from_ones}
 use Rattle.std.proofs.lemmas.Nat.Bits.{bit_at-lt, bit_at_above, same_from_bits}
 use Rattle.std.proofs.lemmas.Simd.{bit_mask_l, ones-mask_l}
 use lib.Lanes.{mask_l}
-use Rattle.rtr_types.specs.declared.TheConstants.{CORES_MAX}
 use Rattle.move_marks.specs.declared.marks.MarkedMove.{MarkedMove}
 use Rattle.move_marks.specs.declared.marks.MoveKind.{MoveKind}
 use Rattle.move_marks.specs.declared.marks.MoveKind.TheVariants.{Own, Request, Response, FromHome}
@@ -67,7 +66,8 @@ module _ (marks : MoveMarks) where
       (λ c past within. absurd (omega arith))
 
   of_kind_long : (kind : MoveKind) → length (marked_of kind marks) ≡ length (members (set_of kind marks))
-  of_kind_long kind = length-map {B = MarkedMove} (members (set_of kind marks)) (λ (c : ℕ). record { kind = kind; core = c })
+  of_kind_long kind =
+      length-map {B = MarkedMove} (members (set_of kind marks)) (λ (c : ℕ). record { kind = kind; core = c })
 
   kind_long : (kind : MoveKind) (a : ℕ) → a ≡ place_of kind →
       length (filter (is_bit marks.bits) (map (λ (i : ℕ). i) (range_with_len a 16))) ≡ length (marked_of kind marks)

@@ -1,7 +1,7 @@
 -- The four sets of a word: the set of a kind has its bits from the kind's place on, so that what is written at one
 -- kind's places leaves the other kinds as they were.
-use Rattle.std.proofs.Common.{◌≡◌, ◌≢◌, ◌∙◌, ◌⊎◌, inl, inr, refl, sym, ap, ℕ, zero, suc, ◌+◌, ◌-◌, ◌*◌, ◌/◌, ◌%◌, ◌^◌, ◌<◌, ◌≤◌}
-use Rattle.std.proofs.Common.{Bool, true, false, arith, ◌&&◌, ◌||◌, ◌==◌}
+use Rattle.std.proofs.Common.{◌≡◌, ◌≢◌, ◌∙◌, ◌⊎◌, inl, inr, refl, sym, ap, ℕ, zero, suc, ◌+◌, ◌-◌, ◌*◌, ◌/◌, ◌%◌, ◌^◌}
+use Rattle.std.proofs.Common.{◌<◌, ◌≤◌, Bool, true, false, arith, ◌&&◌, ◌||◌, ◌==◌}
 use Rattle.std.specs.Prelude.{bit_and, bit_or, not}
 use Rattle.std.specs.Int.{bit_at, bit_not, w64}
 use Rattle.std.proofs.lemmas.Nat.{and_mask, shr-shr}
@@ -102,7 +102,8 @@ module _ (kind : MoveKind) (bits core : ℕ) (here : core < CORES_MAX) where
   within : place_of kind + core < 64
   within = omega (arith, place_within kind)
 
-  pub mark_this : has (set_of kind (record { bits = bit_or bits (1 * 2 ^ (place_of kind + core) % 2 ^ 64) })) core ≡ true
+  pub mark_this :
+      has (set_of kind (record { bits = bit_or bits (1 * 2 ^ (place_of kind + core) % 2 ^ 64) })) core ≡ true
   mark_this = in_set kind (record { bits = bit_or bits (1 * 2 ^ (place_of kind + core) % 2 ^ 64) }) core here
       ∙ ap (λ (x : ℕ). x == 1) (bit_at_set_same w64 bits (place_of kind + core) within)
 

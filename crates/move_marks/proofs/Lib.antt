@@ -8,3 +8,4 @@ pub mod Acts
 pub mod Turned
 pub mod Following
 pub mod Listing
+pub mod Made

@@ -82,7 +82,8 @@ members_are set q n few same none =
 -- of the moves that are numbered from a on, one a core, those that can be made
 pub kind_listed : {X : Type 0} (p : X → Bool) (f make : ℕ → X) (set : CoreSet) (a n : ℕ) → n ≤ CORES_MAX →
     ((i : ℕ) → i < n → f (a + i) ≡ make i) → ((c : ℕ) → c < CORES_MAX → has set c ≡ p (make c)) →
-    ((c : ℕ) → n ≤ c → c < CORES_MAX → p (make c) ≡ false) → filter p (map f (range_with_len a n)) ≡ map make (members set)
+    ((c : ℕ) → n ≤ c → c < CORES_MAX → p (make c) ≡ false) →
+    filter p (map f (range_with_len a n)) ≡ map make (members set)
 kind_listed p f make set a n few is marked none =
     ap (filter p) (renumbered f make a 0 n (λ i within. is i within ∙ ap make (from_zero i)))
     ∙ filter_map_by p make (range_with_len 0 n)

@@ -99,8 +99,9 @@ first_common a cores c few =
     ∙ ap (λ (x : Bool). has (record { bits = a }) c && x) (has_first cores c)
 
 -- a set without a core has the others that it had
-pub others_left : (set : CoreSet) (core c : ℕ) → set.bits < 2 ^ CORES_MAX → (without_core set core).bits < 2 ^ CORES_MAX →
-    core < CORES_MAX → c ≢ core → has (without_core set core) c ≡ has set c
+pub others_left : (set : CoreSet) (core c : ℕ) → set.bits < 2 ^ CORES_MAX →
+    (without_core set core).bits < 2 ^ CORES_MAX → core < CORES_MAX → c ≢ core →
+    has (without_core set core) c ≡ has set c
 others_left set core c fits left within other = by (split c CORES_MAX)
   where
     by : (c < CORES_MAX) ⊎ (CORES_MAX ≤ c) → has (without_core set core) c ≡ has set c

@@ -1,25 +1,21 @@
 -- The marked moves in order: by kind, and in a kind by core. Where each move is marked that passes a test, and no move
 -- passes of a core that isn't there, they are those of all moves that pass.
-use Rattle.std.proofs.Common.{◌≡◌, ◌≢◌, ◌∙◌, refl, sym, ap, ℕ, ◌+◌, ◌*◌, ◌<◌, ◌≤◌, Bool, false, List, [], ◌∷◌, ◌++◌}
-use Rattle.std.proofs.Common.{length, arith}
+use Rattle.std.proofs.Common.{◌≡◌, ◌∙◌, refl, sym, ap, ℕ, ◌+◌, ◌*◌, ◌<◌, ◌≤◌, Bool, false, ◌++◌, arith}
 use Rattle.std.specs.Prelude.{map}
 use Rattle.std.specs.List.{filter, range_with_len}
 use Rattle.std.proofs.lemmas.Bool.Decides.{nat_tests}
-use Rattle.std.proofs.lemmas.List.{map-append}
 use Rattle.rtr_types.specs.declared.TheConstants.{CORES_MAX}
-use Rattle.move_marks.specs.declared.marks.MarkedMove.{MarkedMove}
-use Rattle.move_marks.specs.declared.marks.MoveKind.{MoveKind}
 use Rattle.move_marks.specs.declared.marks.MoveKind.TheVariants.{Own, Request, Response, FromHome}
-use Rattle.move_marks.specs.declared.marks.MoveMarks.{MoveMarks}
-use Rattle.move_marks.specs.Kinds.{marked as marked_in, marked_at_ports, marked_of, set_of}
+use Rattle.move_marks.specs.Kinds.{set_of}
 use Rattle.move_marks.specs.Members.{members}
 use Rattle.move_marks.proofs.Listing.{kind_and_others, kind_listed}
+use Rattle.move_marks.proofs.Made.{all_made}
 use Rattle.msi_state.specs.declared.moves.Move.{Move}
 use Rattle.msi_state.specs.declared.moves.Move.TheVariants.{Core as CoreMove, Request as RequestMove}
 use Rattle.msi_state.specs.declared.moves.Move.TheVariants.{Response as ResponseMove, FromHome as MessageMove}
 use Rattle.msi_state.specs.Moves.{candidate, candidates, core_of}
 use Rattle.msi_machine.specs.declared.marks.Marks.{Marks}
-use Rattle.msi_machine.specs.Marks.{is_marked, kind_of, made_of, marked, move_of}
+use Rattle.msi_machine.specs.Marks.{is_marked, kind_of, made_of, marked}
 
 -- a move is known by its kind and its core
 by_kind : (m : Move) → made_of (kind_of m) (core_of m) ≡ m
@@ -30,28 +26,6 @@ by_kind (MessageMove c) = refl
 
 pub same_move : (m n : Move) → kind_of m ≡ kind_of n → core_of m ≡ core_of n → m ≡ n
 same_move m n kinds cores = sym (by_kind m) ∙ (λ i. made_of (kinds i) (cores i)) ∙ by_kind n
-
--- the marked moves of a kind
-kind_made : (kind : MoveKind) (xs : List ℕ) →
-    map move_of (map (λ (c : ℕ). record { kind = kind; core = c }) xs) ≡ map (made_of kind) xs
-kind_made kind [] = refl
-kind_made kind (x ∷ xs) = ap (λ (ys : List Move). made_of kind x ∷ ys) (kind_made kind xs)
-
-marked_made : (moves : MoveMarks) →
-    map move_of (marked_in moves)
-    ≡ map (made_of Own) (members (set_of Own moves)) ++ (map (made_of Request) (members (set_of Request moves))
-    ++ (map (made_of Response) (members (set_of Response moves))
-    ++ map (made_of FromHome) (members (set_of FromHome moves))))
-marked_made moves =
-    map-append move_of (marked_of Own moves) (marked_at_ports moves)
-    ∙ (λ i. kind_made Own (members (set_of Own moves)) i
-    ++ map-append move_of (marked_of Request moves) (marked_of Response moves ++ marked_of FromHome moves) i)
-    ∙ (λ i. map (made_of Own) (members (set_of Own moves))
-    ++ (kind_made Request (members (set_of Request moves)) i
-    ++ map-append move_of (marked_of Response moves) (marked_of FromHome moves) i))
-    ∙ (λ i. map (made_of Own) (members (set_of Own moves)) ++ (map (made_of Request) (members (set_of Request moves))
-    ++ (kind_made Response (members (set_of Response moves)) i
-    ++ kind_made FromHome (members (set_of FromHome moves)) i)))
 
 core_at : (cores c : ℕ) → c < cores → candidate cores (0 + c) ≡ CoreMove c
 core_at cores c within = grind (arith, nat_tests)
@@ -99,5 +73,5 @@ module _ (p : Move → Bool) (marks : Marks) (cores : ℕ) (few : cores ≤ CORE
       ++ (requests i ++ kind_and_others p (candidate cores) (0 + cores + cores) cores cores i))
       ∙ (λ i. map (made_of Own) (members (set_of Own marks.moves))
       ++ (map (made_of Request) (members (set_of Request marks.moves)) ++ (responses i ++ messages i)))
-      ∙ sym (marked_made marks.moves)
+      ∙ sym (all_made made_of marks.moves)
       )

@@ -344,16 +344,18 @@ module _ {R K : Type 0} where
       t ≡ step riding carrying rider s (RequestMove c) → StandingsFit s standings → StandingsFit t standings
   request_stands riding carrying rider s t c standings is fit =
       subst (λ (x : State R K). StandingsFit x standings) (sym is)
-      (turned_stands s (take_request riding carrying s.memory c) standings (waits_by (take_request riding carrying s.memory c).ports s.memory.ports (request_stays riding carrying s.memory
-      c).caches) fit)
+      (turned_stands s (take_request riding carrying s.memory c) standings
+      (waits_by (take_request riding carrying s.memory c).ports s.memory.ports
+      (request_stays riding carrying s.memory c).caches) fit)
 
   pub response_stands : (riding : Riding R) (carrying : Carrying K) (rider : R) (s t : State R K) (c : ℕ)
       (standings : List Standing) →
       t ≡ step riding carrying rider s (ResponseMove c) → StandingsFit s standings → StandingsFit t standings
   response_stands riding carrying rider s t c standings is fit =
       subst (λ (x : State R K). StandingsFit x standings) (sym is)
-      (turned_stands s (take_response riding carrying s.memory c) standings (waits_by (take_response riding carrying s.memory c).ports s.memory.ports (response_stays riding carrying s.memory
-      c).caches) fit)
+      (turned_stands s (take_response riding carrying s.memory c) standings
+      (waits_by (take_response riding carrying s.memory c).ports s.memory.ports
+      (response_stays riding carrying s.memory c).caches) fit)
 
   -- a machine's notes follow a move
   pub notes_kept : (riding : Riding R) (carrying : Carrying K) (old new : Machinery R K) (m : Move)

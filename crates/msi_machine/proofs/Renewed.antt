@@ -1,5 +1,5 @@
 -- The marks after each move are those of what can be done then.
-use Rattle.std.proofs.Common.{◌≡◌, ◌≢◌, ◌∙◌, ◌⊎◌, inl, inr, refl, sym, subst, ap, ℕ, ◌*◌, ◌<◌, ◌≤◌, Bool, true, false}
+use Rattle.std.proofs.Common.{◌≡◌, ◌≢◌, ◌∙◌, ◌⊎◌, inl, inr, refl, sym, subst, ap, ℕ, ◌<◌, ◌≤◌, Bool, true, false}
 use Rattle.std.proofs.Common.{length, nat_lt, ◌&&◌}
 use Rattle.std.specs.Prelude.{map, not}
 use Rattle.std.proofs.lemmas.Bool.{cases_eq}
@@ -253,8 +253,8 @@ module _ {R K : Type 0} where
       (ap (λ (x : Memory R K). map (λ (p : Port R K). p.cache) x.ports) is
       ∙ (response_stays riding carrying s.memory c).caches)
       cores (λ d. after.own d ∙ kept (CoreMove d) (λ (e : CoreMove d ≡ ResponseMove c). cc))
-      (response_followed riding carrying s.memory n c mid.cores turn old.moves mid.moves new is holds.memory can_be about
-      (ports_marked riding carrying s old all) (cores ∙ all.cores ∙ sym holds.ports_there)
+      (response_followed riding carrying s.memory n c mid.cores turn old.moves mid.moves new is holds.memory can_be
+      about (ports_marked riding carrying s old all) (cores ∙ all.cores ∙ sym holds.ports_there)
       (λ d. kept (RequestMove d) (λ (e : RequestMove d ≡ ResponseMove c). cc))
       (λ d. kept (MessageMove d) (λ (e : MessageMove d ≡ ResponseMove c). cc)) own
       (λ d other. kept (ResponseMove d) (λ (e : ResponseMove d ≡ ResponseMove c). other (ap core_of e))) after)

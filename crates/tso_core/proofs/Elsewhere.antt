@@ -1,32 +1,8 @@
 -- What stays as it was: what a move doesn't change of each port, of each core, and of what can be done there.
-use Rattle.std.proofs.Common.{
-  ◌≡◌,
-  ◌≢◌,
-  ◌∙◌,
-  ◌⊎◌,
-  inl,
-  inr,
-  refl,
-  sym,
-  subst,
-  ap,
-  ℕ,
-  zero,
-  suc,
-  ◌<◌,
-  ◌≤◌,
-  Bool,
-  false,
-  List,
-  [],
-  ◌∷◌,
-  length,
-  get_or,
-  nat_lt,
-}
+use Rattle.std.proofs.Common.{◌≡◌, ◌≢◌, ◌∙◌, refl, ap, ℕ, ◌<◌, Bool, List, [], ◌∷◌, length, nat_lt}
 use Rattle.std.proofs.Common.{◌&&◌, ◌||◌, ◌/◌}
-use Rattle.std.specs.Prelude.{map, not, slice_set}
-use Rattle.std.proofs.lemmas.List.{get_or-map, get_or-set_other, get_or-set_same, length-set, map-set}
+use Rattle.std.specs.Prelude.{not, slice_set}
+use Rattle.std.proofs.lemmas.List.{get_or-set_other, get_or-set_same, length-set}
 use Rattle.access_times.specs.Riding.{Riding, Carrying}
 use Rattle.image_mem.specs.Contents.{Contents}
 use Rattle.link_order.specs.Queue.{is_nil}
@@ -36,11 +12,9 @@ use Rattle.rv_core.specs.declared.core_state.Need.{Need}
 use Rattle.rv_core.specs.declared.core_state.Need.TheVariants.{Local, Load, Store, Amo, Done}
 use Rattle.rv_core.specs.Steps.{need}
 use Rattle.msi_cache.specs.Lines.{is_allowed, line_for, waits}
-use Rattle.msi_cache.specs.declared.messages.Request.{Request}
-use Rattle.msi_memory.specs.declared.port.Mail.{Mail}
 use Rattle.msi_memory.specs.declared.port.Port.{Port}
 use Rattle.msi_memory.specs.Acts.{Act, TakeRequest, TakeResponse, TakeMessage, can, can_at, port_of}
-use Rattle.msi_memory.specs.Memories.{Memory, no_port, port_at}
+use Rattle.msi_memory.specs.Memories.{no_port, port_at}
 use Rattle.msi_memory.specs.Rests.{requests_at}
 use Rattle.tso_state.specs.declared.moves.Move.{Move}
 use Rattle.tso_state.specs.declared.moves.Move.TheVariants.{

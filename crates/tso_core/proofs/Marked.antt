@@ -1,23 +1,22 @@
 -- The marked moves in order: by kind, and in a kind by core. Where each move is marked that passes a test, and no move
 -- passes of a core that isn't there, they are those of all moves that pass.
-use Rattle.std.proofs.Common.{◌≡◌, ◌≢◌, ◌∙◌, refl, sym, ap, ℕ, ◌+◌, ◌*◌, ◌<◌, ◌≤◌, Bool, false, List, [], ◌∷◌, ◌++◌}
+use Rattle.std.proofs.Common.{◌≡◌, ◌∙◌, sym, ap, ℕ, ◌+◌, ◌*◌, ◌<◌, ◌≤◌, Bool, false, List, ◌++◌}
 use Rattle.std.proofs.Common.{length, arith}
 use Rattle.std.specs.Prelude.{map}
 use Rattle.std.specs.List.{filter, range_with_len}
 use Rattle.std.proofs.lemmas.Bool.Decides.{nat_tests}
-use Rattle.std.proofs.lemmas.List.{length-append, length-map, map-append}
+use Rattle.std.proofs.lemmas.List.{length-append, length-map}
 use Rattle.rtr_types.specs.CoreSets.{has, no_cores}
 use Rattle.rtr_types.proofs.Members.{has-no_cores}
 use Rattle.rtr_types.specs.declared.TheConstants.{CORES_MAX}
 use Rattle.rtr_types.specs.declared.core_set.CoreSet.{CoreSet}
-use Rattle.move_marks.specs.declared.marks.MarkedMove.{MarkedMove}
 use Rattle.move_marks.specs.declared.marks.MoveKind.{MoveKind}
 use Rattle.move_marks.specs.declared.marks.MoveKind.TheVariants.{Own, Request, Response, FromHome}
-use Rattle.move_marks.specs.declared.marks.MoveMarks.{MoveMarks}
-use Rattle.move_marks.specs.Kinds.{marked as marked_in, marked_at_ports, marked_of, set_of}
+use Rattle.move_marks.specs.Kinds.{marked as marked_in, marked_at_ports, set_of}
 use Rattle.move_marks.specs.Members.{members}
 use Rattle.move_marks.proofs.Counts.{own_and_ports}
 use Rattle.move_marks.proofs.Listing.{kind_and_others, kind_listed}
+use Rattle.move_marks.proofs.Made.{ports_made}
 use Rattle.tso_state.specs.declared.moves.Move.{Move}
 use Rattle.tso_state.specs.declared.moves.Move.TheVariants.{Core as CoreMove, Order as OrderMove}
 use Rattle.tso_state.specs.declared.moves.Move.TheVariants.{Request as RequestMove, Response as ResponseMove}
@@ -51,25 +50,6 @@ marked_long marks =
     ∙ ap (λ (n : ℕ). n + length (marked_past_own marks))
     (length-map {B = Move} (members (set_of Own marks.moves)) (λ (c : ℕ). CoreMove c)) in
     omega (arith, first, past_own_long marks, own_and_ports marks.moves)
-
--- the marked moves of a kind
-kind_made : (kind : MoveKind) (xs : List ℕ) →
-    map move_of (map (λ (c : ℕ). record { kind = kind; core = c }) xs) ≡ map (made_of kind) xs
-kind_made kind [] = refl
-kind_made kind (x ∷ xs) = ap (λ (ys : List Move). made_of kind x ∷ ys) (kind_made kind xs)
-
-ports_made : (moves : MoveMarks) →
-    map move_of (marked_at_ports moves)
-    ≡ map (made_of Request) (members (set_of Request moves))
-    ++ (map (made_of Response) (members (set_of Response moves))
-    ++ map (made_of FromHome) (members (set_of FromHome moves)))
-ports_made moves =
-    map-append move_of (marked_of Request moves) (marked_of Response moves ++ marked_of FromHome moves)
-    ∙ (λ i. kind_made Request (members (set_of Request moves)) i
-    ++ map-append move_of (marked_of Response moves) (marked_of FromHome moves) i)
-    ∙ (λ i. map (made_of Request) (members (set_of Request moves))
-    ++ (kind_made Response (members (set_of Response moves)) i
-    ++ kind_made FromHome (members (set_of FromHome moves)) i))
 
 core_at : (cores c : ℕ) → c < cores → candidate cores (0 + c) ≡ CoreMove c
 core_at cores c within = grind (arith, nat_tests)
@@ -131,5 +111,5 @@ module _ (p : Move → Bool) (marks : Marks) (cores : ℕ) (few : cores ≤ CORE
       ++ (map (λ (c : ℕ). OrderMove c) (members marks.orders)
       ++ (map (made_of Request) (members (set_of Request marks.moves)) ++ (responses i ++ messages i))))
       ∙ ap (λ (ms : List Move). map (λ (c : ℕ). CoreMove c) (members (set_of Own marks.moves))
-      ++ (map (λ (c : ℕ). OrderMove c) (members marks.orders) ++ ms)) (sym (ports_made marks.moves))
+      ++ (map (λ (c : ℕ). OrderMove c) (members marks.orders) ++ ms)) (sym (ports_made made_of marks.moves))
       )

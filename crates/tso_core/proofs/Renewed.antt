@@ -1,26 +1,5 @@
 -- The marks after each move are those of what can be done then.
-use Rattle.std.proofs.Common.{
-  ◌≡◌,
-  ◌≢◌,
-  ◌∙◌,
-  ◌⊎◌,
-  inl,
-  inr,
-  refl,
-  sym,
-  subst,
-  ap,
-  ℕ,
-  ◌*◌,
-  ◌<◌,
-  ◌≤◌,
-  Bool,
-  true,
-  false,
-  length,
-  nat_lt,
-  ◌&&◌,
-}
+use Rattle.std.proofs.Common.{◌≡◌, ◌≢◌, ◌∙◌, ◌⊎◌, inl, inr, refl, sym, subst, ap, ℕ, ◌<◌, ◌≤◌, Bool, true, false, length, nat_lt, ◌&&◌}
 use Rattle.std.specs.Prelude.{map, not}
 use Rattle.std.proofs.lemmas.Bool.{cases_eq}
 use Rattle.access_times.specs.Riding.{Riding, Carrying}
@@ -240,7 +219,8 @@ module _ {R K : Type 0} where
           orders d
           ∙ all.marked (OrderMove d)
           ∙ ap (λ (b : Bool). nat_lt d (length s.cores) && b)
-          (can_order_by (core_at s.cores d).queue riding (port_at carrying s.memory.ports d) (port_at carrying n.ports d)
+          (can_order_by (core_at s.cores d).queue riding (port_at carrying s.memory.ports d)
+          (port_at carrying n.ports d)
           (sym (same_at (λ (p : Port R K). p.cache) carrying n.ports s.memory.ports caches d)))
       every (RequestMove d) = ports.requests d
       every (ResponseMove d) = ports.responses d
@@ -288,8 +268,8 @@ module _ {R K : Type 0} where
       ∙ (response_stays riding carrying s.memory c).caches)
       cores (λ d. after.own d ∙ kept (CoreMove d) (λ (e : CoreMove d ≡ ResponseMove c). cc))
       (λ d. kept (OrderMove d) (λ (e : OrderMove d ≡ ResponseMove c). cc))
-      (response_followed riding carrying s.memory n c mid.cores turn old.moves mid.moves new is holds.memory can_be about
-      (ports_marked riding carrying s old all) (cores ∙ all.cores ∙ sym holds.ports_there)
+      (response_followed riding carrying s.memory n c mid.cores turn old.moves mid.moves new is holds.memory can_be
+      about (ports_marked riding carrying s old all) (cores ∙ all.cores ∙ sym holds.ports_there)
       (λ d. kept (RequestMove d) (λ (e : RequestMove d ≡ ResponseMove c). cc))
       (λ d. kept (MessageMove d) (λ (e : MessageMove d ≡ ResponseMove c). cc)) own
       (λ d other. kept (ResponseMove d) (λ (e : ResponseMove d ≡ ResponseMove c). other (ap core_of e))) after)

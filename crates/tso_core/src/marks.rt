@@ -9,8 +9,8 @@ use move_marks::{MarkedMove, MoveKind, MoveMarks, count, nth, set_to};
 use rtr_types::{CORES_MAX, CoreSet};
 use tso_state::Move;
 
-/// Which of the moves of a machine of so many cores are marked: at which cores the oldest pending access can be ordered,
-/// and the other moves.
+/// Which of the moves of a machine of so many cores are marked: at which cores the oldest pending access can be
+/// ordered, and the other moves.
 #[derive(Clone, Copy)]
 pub struct Marks {
     pub cores: u32,

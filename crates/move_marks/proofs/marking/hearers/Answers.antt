@@ -13,7 +13,8 @@ pub returns-then-to-cores : goal.returns-then-to-cores
 returns-then-to-cores c = λ k.
     one_heard c.with.result c.in-Some.to c.args.cores k c.if-to-cores.true c.requires
     (c.with.ensures ∙ ap (λ (s : CoreSet). with_core s c.in-Some.to) c.empty.ensures)
-    ∙ ap (λ (sent : Option (ℕ × FromHome (Unit {0}))). hears_in sent c.args.answer.invalidate k && nat_lt k c.args.cores)
+    ∙ ap (λ (sent : Option (ℕ × FromHome (Unit {0}))). hears_in sent c.args.answer.invalidate k
+    && nat_lt k c.args.cores)
     (sym c.in-Some.is)
 
 pub returns-else-to-cores : goal.returns-else-to-cores
@@ -21,5 +22,6 @@ returns-else-to-cores c = λ k.
     ap (λ (s : CoreSet). has s k) c.empty-else-to-cores.ensures
     ∙ has-no_cores k
     ∙ none_heard c.in-Some.to c.args.cores k c.if-to-cores.false
-    ∙ ap (λ (sent : Option (ℕ × FromHome (Unit {0}))). hears_in sent c.args.answer.invalidate k && nat_lt k c.args.cores)
+    ∙ ap (λ (sent : Option (ℕ × FromHome (Unit {0}))). hears_in sent c.args.answer.invalidate k
+    && nat_lt k c.args.cores)
     (sym c.in-Some.is)

@@ -1,4 +1,4 @@
-use Rattle.std.proofs.Common.{◌≡◌, ◌+◌, ◌-◌, ◌<◌, ◌≤◌, ◌∙◌, ◌++◌, ap, ℕ, length, get_or, arith}
+use Rattle.std.proofs.Common.{◌-◌, ◌∙◌, ◌++◌, ap, ℕ, length, get_or, arith}
 use Rattle.rtr_types.specs.declared.core_set.CoreSet.{CoreSet}
 use Rattle.move_marks.specs.declared.marks.MoveKind.TheVariants.{Request, Response, FromHome}
 use Rattle.move_marks.specs.Kinds.{marked_of, set_of}
@@ -76,4 +76,6 @@ returns-clause-value c = λ d.
       c.count-many-2.ensures.value,
       ap (λ (s : CoreSet). length (members s)) c.set_of-responses.ensures,
     ))
-    (λ e. c.nth-core-2.ensures.value e ∙ ap (λ (s : CoreSet). get_or (members s) (c.args.number - c.count-many.result - c.count-many-2.result) e) c.set_of.ensures)))
+    (λ e. c.nth-core-2.ensures.value e
+    ∙ ap (λ (s : CoreSet). get_or (members s)
+    (c.args.number - c.count-many.result - c.count-many-2.result) e) c.set_of.ensures)))

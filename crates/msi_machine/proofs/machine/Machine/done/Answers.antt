@@ -1,4 +1,4 @@
-use Rattle.std.proofs.Common.{◌≡◌, ◌∙◌, ◌<◌, ℕ, sym, ap, false, length, subst}
+use Rattle.std.proofs.Common.{◌≡◌, ◌∙◌, sym, ap, false, length, subst}
 use Rattle.rtr_types.proofs.Truths.{true_is}
 use Rattle.machine_bound.proofs.Ends.{done_earned}
 use Rattle.machine_data.specs.Coherent.{Coherent}

@@ -1,6 +1,5 @@
-use Rattle.std.proofs.Common.{◌≡◌, ◌∙◌, sym, ap, ℕ}
+use Rattle.std.proofs.Common.{◌∙◌, sym}
 use Rattle.rtr_types.specs.CoreSets.{has}
-use Rattle.move_marks.specs.declared.marks.MoveKind.{MoveKind}
 use Rattle.move_marks.specs.Kinds.{set_of}
 use Rattle.msi_state.specs.Moves.{core_of}
 use Rattle.msi_machine.specs.Marks.{kind_of}

@@ -1,10 +1,9 @@
-use Rattle.std.proofs.Common.{◌≡◌, ◌∙◌, ap, [], ◌∷◌, length, nat_lt}
+use Rattle.std.proofs.Common.{◌≡◌, ◌∙◌, ap, [], ◌∷◌, length}
 use Rattle.msi_laws.proofs.Ready.{memory_ready}
 use Rattle.msi_memory.specs.Acts.{TakeRequest}
 use Rattle.msi_memory.specs.Memories.{Memory}
 use Rattle.msi_state.specs.States.{State}
 use Rattle.machine_invariant.proofs.Acting.{ports_after_acts}
-use Rattle.move_marks.proofs.Delivered.{left_is, lt_of}
 use Rattle.msi_machine.proofs.Renewed.{request_all}
 use Rattle.msi_machine.proofs.parts.Parts.take_request.Goals as goal
 

@@ -1,4 +1,4 @@
-use Rattle.std.proofs.Common.{◌≡◌, ◌+◌, ◌<◌, ◌≤◌, ◌∙◌, ap, ℕ, length, get_or, arith}
+use Rattle.std.proofs.Common.{◌∙◌, ap, ℕ, length, get_or, arith}
 use Rattle.rtr_types.specs.declared.core_set.CoreSet.{CoreSet}
 use Rattle.move_marks.specs.declared.marks.MoveKind.TheVariants.{Own}
 use Rattle.move_marks.specs.Kinds.{set_of}
