@@ -156,7 +156,7 @@ impl<'a> Tally<'a> {
     }
 
     /// Whether each of these sources of the core's next instruction was counted.
-    #[inline(never)]
+    #[inline(always)]
     fn are_met(&self, core: u8, wanted: &Clock) -> bool
         requires core { core < length self.now.plan.totals }
         requires sources { AreSources self.now.plan.edges (next_of self.now.counts core) wanted.now }
