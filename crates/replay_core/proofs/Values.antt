@@ -1,7 +1,7 @@
 -- Looking values up in lists whose counts rise.
-use Rattle.std.proofs.Common.{◌≡◌, ◌≢◌, ℕ, zero, suc, ◌<◌, ◌≤◌, List, [], ◌∷◌, length, get_or, refl, sym, ap, ◌∙◌}
-use Rattle.std.proofs.Common.{subst, eq-eqb, ne_eqb, arith}
-use Rattle.std.specs.Prelude.{Option, Some, None}
+use Rattle.std.proofs.Common.{◌≡◌, ◌≢◌, ℕ, zero, suc, ◌<◌, List, [], ◌∷◌, length, get_or, refl}
+use Rattle.std.proofs.Common.{eq-eqb, ne_eqb, arith}
+use Rattle.std.specs.Prelude.{Some, None}
 use Rattle.rtr_types.specs.Turns.{StandInTurn}
 use Rattle.race_log.proofs.Looked.{Rising}
 use Rattle.replay_core.specs.Play.{value_at, count_of, AreRising}

@@ -1,5 +1,4 @@
-use Rattle.std.proofs.Common.{◌≡◌, ℕ, get_or, Ok, Err, Some, ap, sym, ◌∙◌, rules}
-use Rattle.std.proofs.lemmas.List.{get_or_default}
+use Rattle.std.proofs.Common.{ℕ, Ok, Err, sym, rules}
 use Rattle.std.proofs.lemmas.List.Sorted.{answers_always}
 use Rattle.race_log.proofs.Looked.{searched}
 use Rattle.replay_core.proofs.Values.{no_value, values_rise, value_found, value_absent}

@@ -14,19 +14,14 @@ list_is c = c.list.ensures ∙ ap (λ (p : ℕ). items_at c.self.inside.changes 
 
 pub list-requires : goal.list-requires
 list-requires c =
-    let within = core_within c.self.inside.newest.items (items_in c.self.inside.changes) c.args.self.now.notes
-    c.args.core
-    (ap (λ v. v.notes) c.self.view_is) c.requires.core in
-    let lt = list_within c.self.inside.newest.items c.self.inside.changes c.args.core c.args.of c.self.invariant within
-    c.requires.place in
+    let within = core_within _ _ _ c.args.core (ap (λ v. v.notes) c.self.view_is) c.requires.core in
+    let lt = list_within _ _ c.args.core c.args.of c.self.invariant within c.requires.place in
     let e = c.list_place.ensures in
     omega arith
 
 pub known_by-requires : goal.known_by-requires
 known_by-requires c =
-    let within = core_within c.self.inside.newest.items (items_in c.self.inside.changes) c.args.self.now.notes
-    c.args.core
-    (ap (λ v. v.notes) c.self.view_is) c.requires.core in
+    let within = core_within _ _ _ c.args.core (ap (λ v. v.notes) c.self.view_is) c.requires.core in
     subst (λ (cs : List Change). IsNonDecreasingBy (λ (d : Change). d.count) cs) (sym (list_is c))
     (sorted 0 (newest_at c.self.inside.newest.items c.args.core).count (changes_at (items_in c.self.inside.changes)
     c.args.core c.args.of)

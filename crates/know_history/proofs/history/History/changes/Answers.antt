@@ -9,19 +9,14 @@ use Rattle.know_history.proofs.history.History.changes.Goals as goal
 
 pub list-changes-requires : goal.list-changes-requires
 list-changes-requires c =
-    let within = core_within c.self.inside.newest.items (items_in c.self.inside.changes) c.args.self.now.notes
-    c.args.core
-    (ap (λ v. v.notes) c.self.view_is) c.requires.core in
-    let lt = list_within c.self.inside.newest.items c.self.inside.changes c.args.core c.args.of c.self.invariant within
-    c.requires.place in
+    let within = core_within _ _ _ c.args.core (ap (λ v. v.notes) c.self.view_is) c.requires.core in
+    let lt = list_within _ _ c.args.core c.args.of c.self.invariant within c.requires.place in
     let e = c.list_place.ensures in
     omega arith
 
 pub index-requires : goal.index-requires
 index-requires c =
-    let within = core_within c.self.inside.newest.items (items_in c.self.inside.changes) c.args.self.now.notes
-    c.args.core
-    (ap (λ v. v.notes) c.self.view_is) c.requires.core in
+    let within = core_within _ _ _ c.args.core (ap (λ v. v.notes) c.self.view_is) c.requires.core in
     omega arith
 
 pub prove-unreachable-requires : goal.prove-unreachable-requires

@@ -1,8 +1,7 @@
-use Rattle.std.proofs.Common.{◌≡◌, ◌∙◌, ◌-◌, ◌<◌, ◌≤◌, ℕ, length, sym, ap, slice_index, Some, arith}
-use Rattle.std.specs.Prelude.{Option}
+use Rattle.std.proofs.Common.{◌≡◌, ◌∙◌, ◌-◌, ◌<◌, length, sym, ap, slice_index, Some, arith}
 use Rattle.replay_core.specs.Plans.{Plan}
 use Rattle.replay_core.specs.Orders.{lowest_ready}
-use Rattle.replay_core.specs.Tallies.{Tallied, AreAwaited, count_of}
+use Rattle.replay_core.specs.Tallies.{Tallied, count_of}
 use Rattle.replay_core.proofs.Lowering.{awaited_at, awaited_still, low_is, lowest_here, lowest_still}
 use Rattle.replay_core.proofs.low_order.LowOrder.advance.Goals as goal
 
