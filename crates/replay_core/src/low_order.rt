@@ -121,7 +121,7 @@ impl<'a> LowOrder<'a> {
 
 /// The lowest core from `from` on that is ready. `until` has for each core a count at most the one that it
 /// has yet to come to for a core below.
-#[inline(never)]
+#[inline(always)]
 fn lowest_from(tally: &Tally, from: u8, until: &mut [u32; PLACES]) -> Option<u8>
     requires from { from ≤ length tally.now.plan.totals }
     requires awaited { AreAwaited tally.now from until.old }
