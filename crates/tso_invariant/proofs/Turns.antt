@@ -353,7 +353,8 @@ module _ {R K : Type 0} where
       a = stored t.core.id count word mask bits (word_at riding p word)
 
       by_allowed : (b : Bool) → allows riding p (word / BLOCK_WORDS) Storing ≡ b →
-          OrderTurn image riding carrying rider m c t (PendingStore count word mask bits ∷ rest) (if b then Drains a else Nothing)
+          OrderTurn image riding carrying rider m c t (PendingStore count word mask bits ∷ rest)
+          (if b then Drains a else Nothing)
       by_allowed true f =
           drained_turn image riding carrying rider m c t (PendingStore count word mask bits) rest a h is
           (allowed_not_asked image riding (length m.home) c t p Storing word (h.holds.ports c h.there) h.well

@@ -178,7 +178,8 @@ module _ {R K : Type 0} where
       by_allowed : (l : Bool) → EventTells image base t (if l then Drains b else Nothing)
       by_allowed true =
           let w = store_leaves law image base count word mask bits (word_at riding p word) rest t.core here in
-          head_told image base t (PendingStore count word mask bits) rest (Ordered b) is (leaves image base (PendingStore count word mask bits) rest t.core (Ordered b) here w.0 w.1)
+          head_told image base t (PendingStore count word mask bits) rest (Ordered b) is
+          (leaves image base (PendingStore count word mask bits) rest t.core (Ordered b) here w.0 w.1)
       by_allowed false = nothing_told image base t.queue t.core a
 
   pub amo_alone : (image : Contents) (riding : Riding R) (t : BufferedCore) (p : Port R K) (needed : Need)

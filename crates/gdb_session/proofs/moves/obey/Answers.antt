@@ -46,15 +46,18 @@ returns-in-GoWith-clause-obeys c =
     subst (λ (o : Order). IfOk c.go_with.result (Obeys c.args.points.now o c.args.place.now c.go_with.new.place))
     (sym c.in-GoWith.is)
     (same_move _ _ _ _ _ _ _ _ _ (λ (s : Stopping). IfOk c.go_with.result
-    (GoesWith s c.in-GoWith.cores c.in-GoWith.lead c.args.place.now c.go_with.new.place)) c.requires.sees c.outcome.ensures.passed
+    (GoesWith s c.in-GoWith.cores c.in-GoWith.lead c.args.place.now c.go_with.new.place)) c.requires.sees
+    c.outcome.ensures.passed
     c.new-hearing-in-GoWith.ensures refl refl c.go_with.ensures.goes)
 
 pub returns-in-StepBack-clause-obeys : goal.returns-in-StepBack-clause-obeys
 returns-in-StepBack-clause-obeys c =
-    subst (λ (o : Order). IfOk c.step_back_core.result (Obeys c.args.points.now o c.args.place.now c.step_back_core.new.place))
+    subst (λ (o : Order). IfOk c.step_back_core.result (Obeys c.args.points.now o c.args.place.now
+    c.step_back_core.new.place))
     (sym c.in-StepBack.is)
     (same_move _ _ _ _ _ _ _ _ _ (λ (s : Stopping). IfOk c.step_back_core.result
-    (StepsBackward s c.in-StepBack.core c.args.place.now c.step_back_core.new.place)) c.requires.sees c.outcome.ensures.passed
+    (StepsBackward s c.in-StepBack.core c.args.place.now c.step_back_core.new.place)) c.requires.sees
+    c.outcome.ensures.passed
     c.new-hearing-in-StepBack.ensures refl c.empty.ensures c.step_back_core.ensures.steps)
 
 pub returns-in-GoBack-clause-obeys : goal.returns-in-GoBack-clause-obeys
@@ -63,12 +66,15 @@ returns-in-GoBack-clause-obeys c =
     (sym c.in-GoBack.is)
     (same_move _ _ _ _ _ _ _ _ _ (λ (s : Stopping). IfOk c.go_back.result
     (GoesBackward s c.in-GoBack.lead c.args.place.now c.go_back.new.place)) c.requires.sees c.outcome.ensures.passed
-    c.new-hearing-in-GoBack.ensures (c.every_core-every.ensures ∙ ap (λ (n : ℕ). every_core n) c.cores.ensures) c.empty-in-GoBack.ensures c.go_back.ensures.goes)
+    c.new-hearing-in-GoBack.ensures (c.every_core-every.ensures ∙ ap (λ (n : ℕ). every_core n) c.cores.ensures)
+    c.empty-in-GoBack.ensures c.go_back.ensures.goes)
 
 pub returns-in-GoBackWith-clause-obeys : goal.returns-in-GoBackWith-clause-obeys
 returns-in-GoBackWith-clause-obeys c =
-    subst (λ (o : Order). IfOk c.go_back_with.result (Obeys c.args.points.now o c.args.place.now c.go_back_with.new.place))
+    subst (λ (o : Order). IfOk c.go_back_with.result (Obeys c.args.points.now o c.args.place.now
+    c.go_back_with.new.place))
     (sym c.in-GoBackWith.is)
     (same_move _ _ _ _ _ _ _ _ _ (λ (s : Stopping). IfOk c.go_back_with.result
-    (GoesBackWith s c.in-GoBackWith.cores c.in-GoBackWith.lead c.args.place.now c.go_back_with.new.place)) c.requires.sees c.outcome.ensures.passed
+    (GoesBackWith s c.in-GoBackWith.cores c.in-GoBackWith.lead c.args.place.now c.go_back_with.new.place))
+    c.requires.sees c.outcome.ensures.passed
     c.new-hearing-in-GoBackWith.ensures refl c.empty-in-GoBackWith.ensures c.go_back_with.ensures.goes)

@@ -14,7 +14,8 @@ use Rattle.gdb_session.proofs.BackLemmas.{IsTurningBack, back_count, back_few, b
 use Rattle.gdb_session.proofs.BackLemmas.{back_taken, back_there, turning_last}
 use Rattle.gdb_session.proofs.TurnLemmas.{line_inside}
 use Rattle.gdb_session.proofs.turns.go_back_with.Goals as goal
-use Rattle.gdb_session.proofs.turns.go_back_with.Goals.{After-timeline, then-has+then-not-lacks+in_ok-stop+in_default, else-has}
+use Rattle.gdb_session.proofs.turns.go_back_with.Goals.{After-timeline, then-has+then-not-lacks+in_ok-stop+in_default}
+use Rattle.gdb_session.proofs.turns.go_back_with.Goals.{else-has}
 use Rattle.gdb_session.proofs.turns.go_back_with.Goals.{else-has-via-then-has+else-not-lacks, else-has-via-else-has}
 
 -- the recording is valid, and the timeline has the place before
@@ -50,7 +51,8 @@ bounds-at-core c =
 pub overflow_sub-count : goal.overflow_sub-count
 overflow_sub-count c =
     let here = (goal.at.overflow_sub-count c).After-timeline in
-    let is = back_count _ _ _ _ _ _ c.loop-number.invariant (valid here) _ c.timeline.ensures _ (number_is here) (inside here) in
+    let is = back_count _ _ _ _ _ _ c.loop-number.invariant (valid here) _ c.timeline.ensures _ (number_is here)
+    (inside here) in
     omega arith
 
 pub has-requires : goal.has-requires
@@ -83,7 +85,8 @@ returns-in-Some-clause-goes c =
       free = h.free;
       next = Some core;
       ends = record {
-        turn = back_there _ _ _ _ _ _ c.loop-number.invariant (valid here) _ c.timeline.ensures _ (number_is here) (inside here)
+        turn = back_there _ _ _ _ _ _ c.loop-number.invariant (valid here) _ c.timeline.ensures _ (number_is here)
+            (inside here)
             (sym c.has.ensures ∙ c.if-has.true) (leb-false _ _ (sym c.lacks.ensures ∙ c.if-not-lacks.true));
         steps = subst (λ (s : Option stops.Stop). MatchOption s
             (StepsBackFree stopping core c.loop-number.place c.step_back_until.new.place)
@@ -109,7 +112,8 @@ loop-number-preserved c =
       | then-has+then-not-lacks+in_ok-stop+in_default w ↦
           subst (λ (p : Placed). IsTurningBack stopping c.args.cores c.args.place.now new (c.loop-number.number - 1) p)
           (sym w.place-is)
-          (back_taken _ _ _ _ _ _ c.loop-number.invariant (valid here) _ c.timeline.ensures _ (number_is here) (inside here) new refl
+          (back_taken _ _ _ _ _ _ c.loop-number.invariant (valid here) _ c.timeline.ensures _ (number_is here)
+          (inside here) new refl
           w.step_back_until.new.place
           (sym c.has.ensures ∙ w.if-has.true) (leb-false _ _ (sym w.lacks.ensures ∙ w.if-not-lacks.true))
           (subst (λ (s : Option stops.Stop). MatchOption s
@@ -118,7 +122,8 @@ loop-number-preserved c =
       | else-has w ↦
           subst (λ (p : Placed). IsTurningBack stopping c.args.cores c.args.place.now new (c.loop-number.number - 1) p)
           (sym w.place-is)
-          (back_passed _ _ _ _ _ _ c.loop-number.invariant (valid here) _ c.timeline.ensures _ (number_is here) (inside here) new refl
+          (back_passed _ _ _ _ _ _ c.loop-number.invariant (valid here) _ c.timeline.ensures _ (number_is here)
+          (inside here) new refl
           (λ one. elim w.else-has.branch [
             | else-has-via-then-has+else-not-lacks v ↦ leb-true _ _ (sym v.lacks.ensures ∙ v.if-not-lacks.false)
             | else-has-via-else-has v ↦ let none = sym one ∙ sym c.has.ensures ∙ v.if-has.false in absurd cc

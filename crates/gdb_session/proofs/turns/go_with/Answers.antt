@@ -75,7 +75,8 @@ returns-in-Some-clause-goes c =
             (sym c.has.ensures ∙ c.if-has.true) (leb-true _ _ (sym c.lacks.ensures ∙ c.if-lacks.true));
         steps = subst (λ (s : Option stops.Stop). MatchOption s
             (StepsFree stopping core c.loop-number.place c.step_until.new.place)
-            (StepsInto stopping core c.loop-number.place c.step_until.new.place)) c.in-Some.is c.in_ok-stop.ensures.steps;
+            (StepsInto stopping core c.loop-number.place c.step_until.new.place)) c.in-Some.is
+            c.in_ok-stop.ensures.steps;
       };
     }
 
@@ -91,7 +92,8 @@ loop-number-preserved c =
       | then-has+then-lacks+in_ok-stop+in_default w ↦
           subst (λ (p : Placed). IsTurning stopping c.args.cores c.args.place.now new (c.loop-number.number + 1) p)
           (sym w.place-is)
-          (turn_taken _ _ _ _ _ _ c.loop-number.invariant (valid here) _ c.timeline.ensures (inside here) new refl w.step_until.new.place
+          (turn_taken _ _ _ _ _ _ c.loop-number.invariant (valid here) _ c.timeline.ensures
+          (inside here) new refl w.step_until.new.place
           (sym c.has.ensures ∙ w.if-has.true) (leb-true _ _ (sym w.lacks.ensures ∙ w.if-lacks.true))
           (subst (λ (s : Option stops.Stop). MatchOption s (StepsFree stopping core now w.step_until.new.place)
           (StepsInto stopping core now w.step_until.new.place)) w.in_default.is w.in_ok-stop.ensures.steps))

@@ -29,14 +29,16 @@ returns-in-Some c = record {
 pub returns-in-Some-first_bad : goal.returns-in-Some-first_bad
 returns-in-Some-first_bad c = record {
   determinate = c.requires.determinate;
-  conflicts = conflicts (goal.at.returns-in-Some-first_bad c).In_default (judges (goal.at.returns-in-Some-first_bad c).Start);
+  conflicts = conflicts (goal.at.returns-in-Some-first_bad c).In_default
+      (judges (goal.at.returns-in-Some-first_bad c).Start);
   first = c.in-Some-first_bad.ensures;
 }
 
 pub returns-in-Some-first_not_needed : goal.returns-in-Some-first_not_needed
 returns-in-Some-first_not_needed c = record {
   determinate = c.requires.determinate;
-  conflicts = conflicts (goal.at.returns-in-Some-first_not_needed c).In_default (judges (goal.at.returns-in-Some-first_not_needed c).Start);
+  conflicts = conflicts (goal.at.returns-in-Some-first_not_needed c).In_default
+      (judges (goal.at.returns-in-Some-first_not_needed c).Start);
   good = c.in_default-first_bad.ensures;
   first = first_known _ c.in-Some-first_not_needed.edge c.in-Some-first_not_needed.ensures;
 }

@@ -37,13 +37,15 @@ add_reads-requires-clause-few c =
 pub add_reads-requires-clause-each : goal.add_reads-requires-clause-each
 add_reads-requires-clause-each c =
     let at = goal.at.add_reads-requires-clause-each c in
-    sources_pair _ c.args.self.now.state c.args.access.now c.args.times.now _ (ap (λ v. v.state.cores) c.self.view_is) c.requires.own
+    sources_pair _ c.args.self.now.state c.args.access.now c.args.times.now _
+    (ap (λ v. v.state.cores) c.self.view_is) c.requires.own
     (are at.After-index-self-own-2 (within at.After-new-found))
 
 pub add_reads-requires-clause-apart : goal.add_reads-requires-clause-apart
 add_reads-requires-clause-apart c =
     let at = goal.at.add_reads-requires-clause-apart c in
-    sources_apart c.args.self.now.state c.args.access.now c.args.times.now _ (are at.After-index-self-own-2 (within at.After-new-found))
+    sources_apart c.args.self.now.state c.args.access.now c.args.times.now _
+    (are at.After-index-self-own-2 (within at.After-new-found))
 
 pub invariant_of-self : goal.invariant_of-self
 invariant_of-self c = (
