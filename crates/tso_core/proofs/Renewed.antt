@@ -1,5 +1,6 @@
 -- The marks after each move are those of what can be done then.
-use Rattle.std.proofs.Common.{◌≡◌, ◌≢◌, ◌∙◌, ◌⊎◌, inl, inr, refl, sym, subst, ap, ℕ, ◌<◌, ◌≤◌, Bool, true, false, length, nat_lt, ◌&&◌}
+use Rattle.std.proofs.Common.{◌≡◌, ◌≢◌, ◌∙◌, ◌⊎◌, inl, inr, refl, sym, subst, ap, ℕ, ◌<◌, ◌≤◌, Bool, true, false}
+use Rattle.std.proofs.Common.{length, nat_lt, ◌&&◌}
 use Rattle.std.specs.Prelude.{map, not}
 use Rattle.std.proofs.lemmas.Bool.{cases_eq}
 use Rattle.access_times.specs.Riding.{Riding, Carrying}
