@@ -1,6 +1,5 @@
 -- Settings of different options may be put in in either order: each setting is settings of its own, in which one
--- option is
--- set, and to put it in is to lay these over those that were there.
+-- option is set, and to put it in is to lay these over those that were there.
 use Rattle.std.proofs.Common.{◌≡◌, ◌≢◌, ℕ, Bool, true, false, ◌&&◌, ◌||◌, List, [], Option, Some, None, refl, sym, ap}
 use Rattle.std.proofs.Common.{◌∙◌, cond, is_some, arith}
 use Rattle.std.specs.Option.{option_and_then, option_map}
@@ -145,50 +144,61 @@ is-certify x = is_set (record no_settings { certify = true }) x.name
 abbrev is-threads : Set → Bool
 is-threads x = is_set (record no_settings { threads = Some 0 }) x.name
 
-over-cores : (s : Settings) (o : Option ℕ) →
-    option_map (λ d. merge d s) (option_map (λ v. record no_settings { cores = Some v }) o) ≡
-    option_map (λ v. record s { cores = Some v }) o
-over-cores s None = refl
-over-cores s (Some v) = refl
+-- One option: settings in which it alone is set, settings in which it is set too, and whether it was. To lay the first
+-- over settings gives the second, and both set something where it was.
+record Field (A : Type 0) : Type 0 where
+  alone : A → Settings
+  among : Settings → A → Settings
+  was : Settings → Bool
+  lies : (s : Settings) (v : A) → merge (alone v) s ≡ among s v
+  meets : (s : Settings) (v : A) → overlaps (alone v) s ≡ was s
 
-before-cores : (s : Settings) (o : Option ℕ) →
-    option_map (λ d. overlaps d s) (option_map (λ v. record no_settings { cores = Some v }) o)
-    ≡ option_map (λ d. is_some s.cores) (option_map (λ v. record no_settings { cores = Some v }) o)
-before-cores s None = refl
-before-cores s (Some v) = ap (λ b. Some b) (or-false (is_some s.cores))
+module _ {A : Type 0} (field : Field A) (s : Settings) where
+  over : (o : Option A) → option_map (λ d. merge d s) (option_map field.alone o) ≡ option_map (field.among s) o
+  over None = refl
+  over (Some v) = ap (λ t. Some t) (field.lies s v)
+
+  before : (o : Option A) →
+      option_map (λ d. overlaps d s) (option_map field.alone o)
+      ≡ option_map (λ d. field.was s) (option_map field.alone o)
+  before None = refl
+  before (Some v) = ap (λ b. Some b) (field.meets s v)
+
+abbrev cores-field : Field ℕ
+cores-field = record {
+  alone = λ v. record no_settings { cores = Some v };
+  among = λ s v. record s { cores = Some v };
+  was = λ s. is_some s.cores;
+  lies = λ s v. refl;
+  meets = λ s v. or-false (is_some s.cores);
+}
 
 lays-cores : (s : Settings) (x : Set) → is-cores x ≡ true → Lays s x
-lays-cores s x h = record { over = grind (arith, over-cores s); before = grind (arith, or-false, before-cores s) }
+lays-cores s x h = record { over = grind (arith, over cores-field s); before = grind (arith, or-false, before cores-field s) }
 
-over-limit : (s : Settings) (o : Option ℕ) →
-    option_map (λ d. merge d s) (option_map (λ v. record no_settings { limit = Some v }) o) ≡
-    option_map (λ v. record s { limit = Some v }) o
-over-limit s None = refl
-over-limit s (Some v) = refl
-
-before-limit : (s : Settings) (o : Option ℕ) →
-    option_map (λ d. overlaps d s) (option_map (λ v. record no_settings { limit = Some v }) o)
-    ≡ option_map (λ d. is_some s.limit) (option_map (λ v. record no_settings { limit = Some v }) o)
-before-limit s None = refl
-before-limit s (Some v) = ap (λ b. Some b) (or-false (is_some s.limit))
+abbrev limit-field : Field ℕ
+limit-field = record {
+  alone = λ v. record no_settings { limit = Some v };
+  among = λ s v. record s { limit = Some v };
+  was = λ s. is_some s.limit;
+  lies = λ s v. refl;
+  meets = λ s v. or-false (is_some s.limit);
+}
 
 lays-limit : (s : Settings) (x : Set) → is-limit x ≡ true → Lays s x
-lays-limit s x h = record { over = grind (arith, over-limit s); before = grind (arith, or-false, before-limit s) }
+lays-limit s x h = record { over = grind (arith, over limit-field s); before = grind (arith, or-false, before limit-field s) }
 
-over-words : (s : Settings) (o : Option ℕ) →
-    option_map (λ d. merge d s) (option_map (λ v. record no_settings { words = Some v }) o) ≡
-    option_map (λ v. record s { words = Some v }) o
-over-words s None = refl
-over-words s (Some v) = refl
-
-before-words : (s : Settings) (o : Option ℕ) →
-    option_map (λ d. overlaps d s) (option_map (λ v. record no_settings { words = Some v }) o)
-    ≡ option_map (λ d. is_some s.words) (option_map (λ v. record no_settings { words = Some v }) o)
-before-words s None = refl
-before-words s (Some v) = ap (λ b. Some b) (or-false (is_some s.words))
+abbrev words-field : Field ℕ
+words-field = record {
+  alone = λ v. record no_settings { words = Some v };
+  among = λ s v. record s { words = Some v };
+  was = λ s. is_some s.words;
+  lies = λ s v. refl;
+  meets = λ s v. or-false (is_some s.words);
+}
 
 lays-words : (s : Settings) (x : Set) → is-words x ≡ true → Lays s x
-lays-words s x h = record { over = grind (arith, over-words s); before = grind (arith, or-false, before-words s) }
+lays-words s x h = record { over = grind (arith, over words-field s); before = grind (arith, or-false, before words-field s) }
 
 over-choices : (s : Settings) (text : List ℕ) (b : Bool) →
     option_map (λ d. merge d s) (cond b (Some (record no_settings { choices = Some text })) None) ≡ cond b
@@ -205,35 +215,29 @@ before-choices s text false = refl
 lays-choices : (s : Settings) (x : Set) → is-choices x ≡ true → Lays s x
 lays-choices s x h = record { over = grind (arith, over-choices s); before = grind (arith, or-false, before-choices s) }
 
-over-seed : (s : Settings) (o : Option ℕ) →
-    option_map (λ d. merge d s) (option_map (λ v. record no_settings { seed = Some v }) o) ≡
-    option_map (λ v. record s { seed = Some v }) o
-over-seed s None = refl
-over-seed s (Some v) = refl
-
-before-seed : (s : Settings) (o : Option ℕ) →
-    option_map (λ d. overlaps d s) (option_map (λ v. record no_settings { seed = Some v }) o)
-    ≡ option_map (λ d. is_some s.seed) (option_map (λ v. record no_settings { seed = Some v }) o)
-before-seed s None = refl
-before-seed s (Some v) = ap (λ b. Some b) (or-false (is_some s.seed))
+abbrev seed-field : Field ℕ
+seed-field = record {
+  alone = λ v. record no_settings { seed = Some v };
+  among = λ s v. record s { seed = Some v };
+  was = λ s. is_some s.seed;
+  lies = λ s v. refl;
+  meets = λ s v. or-false (is_some s.seed);
+}
 
 lays-seed : (s : Settings) (x : Set) → is-seed x ≡ true → Lays s x
-lays-seed s x h = record { over = grind (arith, over-seed s); before = grind (arith, or-false, before-seed s) }
+lays-seed s x h = record { over = grind (arith, over seed-field s); before = grind (arith, or-false, before seed-field s) }
 
-over-log : (s : Settings) (o : Option Which) →
-    option_map (λ d. merge d s) (option_map (λ v. record no_settings { log = Some v }) o) ≡
-    option_map (λ v. record s { log = Some v }) o
-over-log s None = refl
-over-log s (Some v) = refl
-
-before-log : (s : Settings) (o : Option Which) →
-    option_map (λ d. overlaps d s) (option_map (λ v. record no_settings { log = Some v }) o)
-    ≡ option_map (λ d. is_some s.log) (option_map (λ v. record no_settings { log = Some v }) o)
-before-log s None = refl
-before-log s (Some v) = ap (λ b. Some b) (or-false (is_some s.log))
+abbrev log-field : Field Which
+log-field = record {
+  alone = λ v. record no_settings { log = Some v };
+  among = λ s v. record s { log = Some v };
+  was = λ s. is_some s.log;
+  lies = λ s v. refl;
+  meets = λ s v. or-false (is_some s.log);
+}
 
 lays-log : (s : Settings) (x : Set) → is-log x ≡ true → Lays s x
-lays-log s x h = record { over = grind (arith, over-log s); before = grind (arith, or-false, before-log s) }
+lays-log s x h = record { over = grind (arith, over log-field s); before = grind (arith, or-false, before log-field s) }
 
 lays-loads : (s : Settings) (x : Set) → is-loads x ≡ true → Lays s x
 lays-loads s x h = record { over = grind (arith); before = grind (arith, or-false) }
@@ -241,65 +245,53 @@ lays-loads s x h = record { over = grind (arith); before = grind (arith, or-fals
 lays-elf : (s : Settings) (x : Set) → is-elf x ≡ true → Lays s x
 lays-elf s x h = record { over = grind (arith); before = grind (arith, or-false) }
 
-over-shape : (s : Settings) (o : Option Shape) →
-    option_map (λ d. merge d s) (option_map (λ v. record no_settings { shape = Some v }) o) ≡
-    option_map (λ v. record s { shape = Some v }) o
-over-shape s None = refl
-over-shape s (Some v) = refl
-
-before-shape : (s : Settings) (o : Option Shape) →
-    option_map (λ d. overlaps d s) (option_map (λ v. record no_settings { shape = Some v }) o)
-    ≡ option_map (λ d. is_some s.shape) (option_map (λ v. record no_settings { shape = Some v }) o)
-before-shape s None = refl
-before-shape s (Some v) = ap (λ b. Some b) (or-false (is_some s.shape))
+abbrev shape-field : Field Shape
+shape-field = record {
+  alone = λ v. record no_settings { shape = Some v };
+  among = λ s v. record s { shape = Some v };
+  was = λ s. is_some s.shape;
+  lies = λ s v. refl;
+  meets = λ s v. or-false (is_some s.shape);
+}
 
 lays-shape : (s : Settings) (x : Set) → is-shape x ≡ true → Lays s x
-lays-shape s x h = record { over = grind (arith, over-shape s); before = grind (arith, or-false, before-shape s) }
+lays-shape s x h = record { over = grind (arith, over shape-field s); before = grind (arith, or-false, before shape-field s) }
 
-over-number : (s : Settings) (o : Option ℕ) →
-    option_map (λ d. merge d s) (option_map (λ v. record no_settings { number = Some v }) o) ≡
-    option_map (λ v. record s { number = Some v }) o
-over-number s None = refl
-over-number s (Some v) = refl
-
-before-number : (s : Settings) (o : Option ℕ) →
-    option_map (λ d. overlaps d s) (option_map (λ v. record no_settings { number = Some v }) o)
-    ≡ option_map (λ d. is_some s.number) (option_map (λ v. record no_settings { number = Some v }) o)
-before-number s None = refl
-before-number s (Some v) = ap (λ b. Some b) (or-false (is_some s.number))
+abbrev number-field : Field ℕ
+number-field = record {
+  alone = λ v. record no_settings { number = Some v };
+  among = λ s v. record s { number = Some v };
+  was = λ s. is_some s.number;
+  lies = λ s v. refl;
+  meets = λ s v. or-false (is_some s.number);
+}
 
 lays-number : (s : Settings) (x : Set) → is-number x ≡ true → Lays s x
-lays-number s x h = record { over = grind (arith, over-number s); before = grind (arith, or-false, before-number s) }
+lays-number s x h = record { over = grind (arith, over number-field s); before = grind (arith, or-false, before number-field s) }
 
-over-core : (s : Settings) (o : Option ℕ) →
-    option_map (λ d. merge d s) (option_map (λ v. record no_settings { core = Some v }) o) ≡
-    option_map (λ v. record s { core = Some v }) o
-over-core s None = refl
-over-core s (Some v) = refl
-
-before-core : (s : Settings) (o : Option ℕ) →
-    option_map (λ d. overlaps d s) (option_map (λ v. record no_settings { core = Some v }) o)
-    ≡ option_map (λ d. is_some s.core) (option_map (λ v. record no_settings { core = Some v }) o)
-before-core s None = refl
-before-core s (Some v) = ap (λ b. Some b) (or-false (is_some s.core))
+abbrev core-field : Field ℕ
+core-field = record {
+  alone = λ v. record no_settings { core = Some v };
+  among = λ s v. record s { core = Some v };
+  was = λ s. is_some s.core;
+  lies = λ s v. refl;
+  meets = λ s v. or-false (is_some s.core);
+}
 
 lays-core : (s : Settings) (x : Set) → is-core x ≡ true → Lays s x
-lays-core s x h = record { over = grind (arith, over-core s); before = grind (arith, or-false, before-core s) }
+lays-core s x h = record { over = grind (arith, over core-field s); before = grind (arith, or-false, before core-field s) }
 
-over-count : (s : Settings) (o : Option ℕ) →
-    option_map (λ d. merge d s) (option_map (λ v. record no_settings { count = Some v }) o) ≡
-    option_map (λ v. record s { count = Some v }) o
-over-count s None = refl
-over-count s (Some v) = refl
-
-before-count : (s : Settings) (o : Option ℕ) →
-    option_map (λ d. overlaps d s) (option_map (λ v. record no_settings { count = Some v }) o)
-    ≡ option_map (λ d. is_some s.count) (option_map (λ v. record no_settings { count = Some v }) o)
-before-count s None = refl
-before-count s (Some v) = ap (λ b. Some b) (or-false (is_some s.count))
+abbrev count-field : Field ℕ
+count-field = record {
+  alone = λ v. record no_settings { count = Some v };
+  among = λ s v. record s { count = Some v };
+  was = λ s. is_some s.count;
+  lies = λ s v. refl;
+  meets = λ s v. or-false (is_some s.count);
+}
 
 lays-count : (s : Settings) (x : Set) → is-count x ≡ true → Lays s x
-lays-count s x h = record { over = grind (arith, over-count s); before = grind (arith, or-false, before-count s) }
+lays-count s x h = record { over = grind (arith, over count-field s); before = grind (arith, or-false, before count-field s) }
 
 lays-latest : (s : Settings) (x : Set) → is-latest x ≡ true → Lays s x
 lays-latest s x h = record { over = grind (arith); before = grind (arith, or-false) }
@@ -307,20 +299,17 @@ lays-latest s x h = record { over = grind (arith); before = grind (arith, or-fal
 lays-certify : (s : Settings) (x : Set) → is-certify x ≡ true → Lays s x
 lays-certify s x h = record { over = grind (arith); before = grind (arith, or-false) }
 
-over-threads : (s : Settings) (o : Option ℕ) →
-    option_map (λ d. merge d s) (option_map (λ v. record no_settings { threads = Some v }) o) ≡
-    option_map (λ v. record s { threads = Some v }) o
-over-threads s None = refl
-over-threads s (Some v) = refl
-
-before-threads : (s : Settings) (o : Option ℕ) →
-    option_map (λ d. overlaps d s) (option_map (λ v. record no_settings { threads = Some v }) o)
-    ≡ option_map (λ d. is_some s.threads) (option_map (λ v. record no_settings { threads = Some v }) o)
-before-threads s None = refl
-before-threads s (Some v) = refl
+abbrev threads-field : Field ℕ
+threads-field = record {
+  alone = λ v. record no_settings { threads = Some v };
+  among = λ s v. record s { threads = Some v };
+  was = λ s. is_some s.threads;
+  lies = λ s v. refl;
+  meets = λ s v. refl;
+}
 
 lays-threads : (s : Settings) (x : Set) → is-threads x ≡ true → Lays s x
-lays-threads s x h = record { over = grind (arith, over-threads s); before = grind (arith, or-false, before-threads s) }
+lays-threads s x h = record { over = grind (arith, over threads-field s); before = grind (arith, or-false, before threads-field s) }
 
 some-option : (x : Set) →
     (is-cores x ||
