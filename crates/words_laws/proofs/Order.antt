@@ -174,7 +174,7 @@ cores-field = record {
 }
 
 lays-cores : (s : Settings) (x : Set) → is-cores x ≡ true → Lays s x
-lays-cores s x h = record { over = grind (arith, over cores-field s); before = grind (arith, or-false, before cores-field s) }
+lays-cores s x h = record { over = grind (arith, over cores-field s); before = grind (arith, before cores-field s) }
 
 abbrev limit-field : Field ℕ
 limit-field = record {
@@ -186,7 +186,7 @@ limit-field = record {
 }
 
 lays-limit : (s : Settings) (x : Set) → is-limit x ≡ true → Lays s x
-lays-limit s x h = record { over = grind (arith, over limit-field s); before = grind (arith, or-false, before limit-field s) }
+lays-limit s x h = record { over = grind (arith, over limit-field s); before = grind (arith, before limit-field s) }
 
 abbrev words-field : Field ℕ
 words-field = record {
@@ -198,7 +198,7 @@ words-field = record {
 }
 
 lays-words : (s : Settings) (x : Set) → is-words x ≡ true → Lays s x
-lays-words s x h = record { over = grind (arith, over words-field s); before = grind (arith, or-false, before words-field s) }
+lays-words s x h = record { over = grind (arith, over words-field s); before = grind (arith, before words-field s) }
 
 over-choices : (s : Settings) (text : List ℕ) (b : Bool) →
     option_map (λ d. merge d s) (cond b (Some (record no_settings { choices = Some text })) None) ≡ cond b
@@ -225,7 +225,7 @@ seed-field = record {
 }
 
 lays-seed : (s : Settings) (x : Set) → is-seed x ≡ true → Lays s x
-lays-seed s x h = record { over = grind (arith, over seed-field s); before = grind (arith, or-false, before seed-field s) }
+lays-seed s x h = record { over = grind (arith, over seed-field s); before = grind (arith, before seed-field s) }
 
 abbrev log-field : Field Which
 log-field = record {
@@ -237,7 +237,7 @@ log-field = record {
 }
 
 lays-log : (s : Settings) (x : Set) → is-log x ≡ true → Lays s x
-lays-log s x h = record { over = grind (arith, over log-field s); before = grind (arith, or-false, before log-field s) }
+lays-log s x h = record { over = grind (arith, over log-field s); before = grind (arith, before log-field s) }
 
 lays-loads : (s : Settings) (x : Set) → is-loads x ≡ true → Lays s x
 lays-loads s x h = record { over = grind (arith); before = grind (arith, or-false) }
@@ -255,7 +255,7 @@ shape-field = record {
 }
 
 lays-shape : (s : Settings) (x : Set) → is-shape x ≡ true → Lays s x
-lays-shape s x h = record { over = grind (arith, over shape-field s); before = grind (arith, or-false, before shape-field s) }
+lays-shape s x h = record { over = grind (arith, over shape-field s); before = grind (arith, before shape-field s) }
 
 abbrev number-field : Field ℕ
 number-field = record {
@@ -267,7 +267,7 @@ number-field = record {
 }
 
 lays-number : (s : Settings) (x : Set) → is-number x ≡ true → Lays s x
-lays-number s x h = record { over = grind (arith, over number-field s); before = grind (arith, or-false, before number-field s) }
+lays-number s x h = record { over = grind (arith, over number-field s); before = grind (arith, before number-field s) }
 
 abbrev core-field : Field ℕ
 core-field = record {
@@ -279,7 +279,7 @@ core-field = record {
 }
 
 lays-core : (s : Settings) (x : Set) → is-core x ≡ true → Lays s x
-lays-core s x h = record { over = grind (arith, over core-field s); before = grind (arith, or-false, before core-field s) }
+lays-core s x h = record { over = grind (arith, over core-field s); before = grind (arith, before core-field s) }
 
 abbrev count-field : Field ℕ
 count-field = record {
@@ -291,7 +291,7 @@ count-field = record {
 }
 
 lays-count : (s : Settings) (x : Set) → is-count x ≡ true → Lays s x
-lays-count s x h = record { over = grind (arith, over count-field s); before = grind (arith, or-false, before count-field s) }
+lays-count s x h = record { over = grind (arith, over count-field s); before = grind (arith, before count-field s) }
 
 lays-latest : (s : Settings) (x : Set) → is-latest x ≡ true → Lays s x
 lays-latest s x h = record { over = grind (arith); before = grind (arith, or-false) }
@@ -299,8 +299,8 @@ lays-latest s x h = record { over = grind (arith); before = grind (arith, or-fal
 lays-certify : (s : Settings) (x : Set) → is-certify x ≡ true → Lays s x
 lays-certify s x h = record { over = grind (arith); before = grind (arith, or-false) }
 
-abbrev threads-field : Field ℕ
-threads-field = record {
+abbrev thread-field : Field ℕ
+thread-field = record {
   alone = λ v. record no_settings { threads = Some v };
   among = λ s v. record s { threads = Some v };
   was = λ s. is_some s.threads;
@@ -309,7 +309,7 @@ threads-field = record {
 }
 
 lays-threads : (s : Settings) (x : Set) → is-threads x ≡ true → Lays s x
-lays-threads s x h = record { over = grind (arith, over threads-field s); before = grind (arith, or-false, before threads-field s) }
+lays-threads s x h = record { over = grind (arith, over thread-field s); before = grind (arith, before thread-field s) }
 
 some-option : (x : Set) →
     (is-cores x ||
