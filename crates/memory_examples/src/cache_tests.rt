@@ -380,3 +380,26 @@ fn a_message_is_taken_where_it_lies(rt: HostRuntime) -> Result<(), Fail> {
     takes_data(&rt, &mut cache, &mut message);
     Ok(())
 }
+
+/// The cache, which may read block 4, hears that its copy is no longer valid, and answers there.
+fn answers_there(rt: &impl Abort, cache: &mut Cache<Trail>, reply: &mut ResponseSlot<Trail>) {
+    let inv = FromHome::<Trail>::Inv { block: 4 };
+    assert!(rt; cache.expects(&inv));
+    assert!(rt; cache.answer(inv.lent()).is_some());
+    cache.respond(inv.lent(), reply);
+    let line = cache.line(4);
+    assert!(rt; (line.state, line.rider.get().digits) == (State::I, 0));
+}
+
+#[test]
+fn a_copy_that_ends_gives_its_rider_to_the_answer(rt: HostRuntime) -> Result<(), Fail> {
+    let mut message = FromHomeSlot::<Trail>::blank(rt.alloc())?;
+    let mut reply = ResponseSlot::<Trail>::blank(rt.alloc())?;
+    let mut cache = Cache::<Trail>::new(rt.alloc())?;
+    take(&rt, &mut cache, Step::Load(4));
+    takes_data(&rt, &mut cache, &mut message);
+    answers_there(&rt, &mut cache, &mut reply);
+    let rider = Trail { digits: 7 };
+    assert!(rt; reply.open().owned() == Response::InvAck { block: 4, rider });
+    Ok(())
+}
