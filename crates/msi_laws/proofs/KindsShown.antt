@@ -22,6 +22,11 @@ use Rattle.msi_memory.specs.Memories.{Memory, port_at}
 use Rattle.msi_laws.specs.Holds.{Anything, MemoryHolds, port_view, block_in}
 use Rattle.msi_laws.specs.Links.{AllShow, port_sight}
 
+-- a map that another undoes, item by item
+undone : {A B : Type 0} (f : B → A) (g : A → B) → ((a : A) → f (g a) ≡ a) → (q : List A) → map f (map g q) ≡ q
+undone f g each [] = refl
+undone f g each (a ∷ q) = rw (each a, undone f g each q) refl
+
 module _ {R : Type 0} where
   -- the kinds of what is seen
   abbrev pub kinds : Sight R → View
@@ -32,32 +37,28 @@ module _ {R : Type 0} where
     messages = map signal v.messages;
   }
 
-  asked_kind : (b : ℕ) (x : Payload R) (q : List Ask) → map ask_of (map (ask_with b x) q) ≡ q
-  asked_kind b x [] = refl
-  asked_kind b x (Ask.GetS ∷ q) = ap (λ (r : List Ask). Ask.GetS ∷ r) (asked_kind b x q)
-  asked_kind b x (Ask.GetM ∷ q) = ap (λ (r : List Ask). Ask.GetM ∷ r) (asked_kind b x q)
-  asked_kind b x (Ask.PutS ∷ q) = ap (λ (r : List Ask). Ask.PutS ∷ r) (asked_kind b x q)
-  asked_kind b x (Ask.PutM ∷ q) = ap (λ (r : List Ask). Ask.PutM ∷ r) (asked_kind b x q)
+  asked_kind : (b : ℕ) (x : Payload R) (a : Ask) → ask_of (ask_with b x a) ≡ a
+  asked_kind b x Ask.GetS = refl
+  asked_kind b x Ask.GetM = refl
+  asked_kind b x Ask.PutS = refl
+  asked_kind b x Ask.PutM = refl
 
-  replied_kind : (b : ℕ) (x : Payload R) (q : List Reply) → map reply_of (map (reply_with b x) q) ≡ q
-  replied_kind b x [] = refl
-  replied_kind b x (Reply.InvAck ∷ q) = ap (λ (r : List Reply). Reply.InvAck ∷ r) (replied_kind b x q)
-  replied_kind b x (Reply.OwnerData ∷ q) = ap (λ (r : List Reply). Reply.OwnerData ∷ r) (replied_kind b x q)
+  replied_kind : (b : ℕ) (x : Payload R) (a : Reply) → reply_of (reply_with b x a) ≡ a
+  replied_kind b x Reply.InvAck = refl
+  replied_kind b x Reply.OwnerData = refl
 
-  sent_kind : (b : ℕ) (x : Payload R) (q : List Signal) → map signal (map (signal_with b x) q) ≡ q
-  sent_kind b x [] = refl
-  sent_kind b x (Signal.FwdGetS ∷ q) = ap (λ (r : List Signal). Signal.FwdGetS ∷ r) (sent_kind b x q)
-  sent_kind b x (Signal.FwdGetM ∷ q) = ap (λ (r : List Signal). Signal.FwdGetM ∷ r) (sent_kind b x q)
-  sent_kind b x (Signal.Inv ∷ q) = ap (λ (r : List Signal). Signal.Inv ∷ r) (sent_kind b x q)
-  sent_kind b x (Signal.PutAck ∷ q) = ap (λ (r : List Signal). Signal.PutAck ∷ r) (sent_kind b x q)
-  sent_kind b x (Signal.BlockData ∷ q) = ap (λ (r : List Signal). Signal.BlockData ∷ r) (sent_kind b x q)
+  sent_kind : (b : ℕ) (x : Payload R) (a : Signal) → signal (signal_with b x a) ≡ a
+  sent_kind b x Signal.FwdGetS = refl
+  sent_kind b x Signal.FwdGetM = refl
+  sent_kind b x Signal.Inv = refl
+  sent_kind b x Signal.PutAck = refl
+  sent_kind b x Signal.BlockData = refl
 
   pub shown_kinds : (b : ℕ) (s : Seat (Payload R)) → picture s.phase ≡ kinds (shown b s)
   shown_kinds b s = rw (
-    asked_kind b s.put (picture s.phase).requests,
-    replied_kind b s.reply (picture s.phase).responses,
-    sent_kind b s.sent
-        (picture s.phase).messages,
+    undone ask_of (ask_with b s.put) (asked_kind b s.put) (picture s.phase).requests,
+    undone reply_of (reply_with b s.reply) (replied_kind b s.reply) (picture s.phase).responses,
+    undone signal (signal_with b s.sent) (sent_kind b s.sent) (picture s.phase).messages,
   )
 
 module _ {T G K : Type 0} where

@@ -1,7 +1,7 @@
 -- What a port's acts make each block show, and what an access finds.
 use Rattle.std.proofs.Common.{◌≡◌, ◌≢◌, ◌∙◌, ap, refl, sym, subst, ℕ, ◌<◌, ◌==◌, ◌%◌, Bool, true, false, List, ◌∷◌}
 use Rattle.std.proofs.Common.{length, arith, inl, inr, ◌⊎◌}
-use Rattle.std.specs.Prelude.{if◌then◌else◌, slice_index_or, slice_set}
+use Rattle.std.specs.Prelude.{if◌then◌else◌, slice_set}
 use Rattle.std.proofs.lemmas.Bool.{cases_eq}
 use Rattle.std.proofs.lemmas.Bool.Decides.{nat_tests}
 use Rattle.access_times.specs.Riding.{Riding, Carrying}
@@ -11,7 +11,7 @@ use Rattle.msi_cache.specs.declared.line.Line.{Line}
 use Rattle.msi_cache.specs.declared.line.State.TheVariants.{I}
 use Rattle.msi_cache.specs.declared.messages.FromHome.{FromHome}
 use Rattle.msi_cache.specs.Messages.{block_of, request_block}
-use Rattle.msi_cache.specs.Lines.{line_for, asks, is_allowed, empty_line}
+use Rattle.msi_cache.specs.Lines.{line_for, asks, is_allowed}
 use Rattle.msi_cache.specs.Table.{is_transient}
 use Rattle.msi_directory.specs.declared.entry.Entry.{Entry}
 use Rattle.msi_directory.specs.Blocks.{entry_at}
@@ -33,7 +33,7 @@ use Rattle.msi_protocol.proofs.Shows.{for_message, for_wish, for_touch, same_sig
 use Rattle.msi_protocol.proofs.Shown.{copy_in}
 use Rattle.msi_protocol.proofs.Relined.{SameSight, alike_sights}
 use Rattle.msi_laws.proofs.Ports.{sight-received, sight-received_other, sight-asking, sight-asking_other}
-use Rattle.msi_laws.proofs.Ports.{asked_needed, asked_place, left_line, left_other}
+use Rattle.msi_laws.proofs.Ports.{asked_needed, asked_there, left_line, left_other}
 
 module _ {R : Type 0} where
   same_sight : (v w : Sight R) → v ≡ w → SameSight v w
@@ -93,16 +93,45 @@ module _ {R K : Type 0} where
         (same_sight (sights c) (port_sight riding b m) (is ∙ e b)) s;
   }
 
+  -- the ports differ in block k alone, where the one property leads to the other, as it does of other blocks that are
+  -- as they were
+  leads_at : (riding : Riding R) (Q P : ℕ → FullBlock (Payload R) → Type 0) →
+      ((b : ℕ) → KeptBy (payload_absorbed riding) (P b)) → (c : ℕ) (p m : Port R K) (k : ℕ) →
+      ((entry : Entry R) (sights : ℕ → Sight R) → sights c ≡ port_sight riding k p → Shows (Q k) k entry sights →
+      Shows (P k) k entry (sight_at c (port_sight riding k m) sights)) →
+      ((b : ℕ) → b ≢ k → SameSight (port_sight riding b p) (port_sight riding b m)) →
+      ((b : ℕ) (block : FullBlock (Payload R)) → b ≢ k → Q b block → P b block) → Leads riding Q P c p m
+  leads_at riding Q P well c p m k here same elsewhere =
+      record { each = λ b entry sights shows s. by b entry sights shows s (cases_eq b k) }
+    where
+      by : (b : ℕ) (entry : Entry R) (sights : ℕ → Sight R) → sights c ≡ port_sight riding b p →
+          Shows (Q b) b entry sights → (b ≡ k) ⊎ (b ≢ k) →
+          Shows (P b) b entry (sight_at c (port_sight riding b m) sights)
+      by b entry sights shows s (inl e) = subst (λ (x : ℕ). Shows (P x) x entry (sight_at c (port_sight riding x m)
+          sights)) (sym e)
+          (here entry sights (shows ∙ ap (λ (x : ℕ). port_sight riding x p) e)
+          (subst (λ (x : ℕ). Shows (Q x) x entry sights) e s))
+      by b entry sights shows s (inr other) =
+          alike_at riding (P b) (well b) b entry sights c (port_sight riding b m)
+          (subst (λ (x : Sight R). SameSight x (port_sight riding b m)) (sym shows) (same b other))
+          (record {
+            block = s.block;
+            entry_is = s.entry_is;
+            shows = s.shows;
+            fits = s.fits;
+            has = elsewhere b s.block other s.has;
+          })
+
   pub leads_received : (riding : Riding R) (Q : ℕ → FullBlock (Payload R) → Type 0) →
       ((b : ℕ) → KeptBy (payload_absorbed riding) (Q b)) →
       (carrying : Carrying K) (c : ℕ) (p : Port R K) (mail : Mail (FromHome R) K) (rest : List (Mail (FromHome R) K)) →
       c < CORES_MAX → length p.cache ≡ LINES →
       p.messages.items ≡ mail ∷ rest → (line_for riding.fresh p.cache (block_of mail.item)).block ≡ block_of mail.item →
       Leads riding Q Q c p (port_taking riding carrying p (mail ∷ rest))
-  leads_received riding Q well carrying c p mail rest lc long is at = record {
-    each = λ b entry sights shows s. by b entry sights shows s
-        (cases_eq b (block_of mail.item));
-  }
+  leads_received riding Q well carrying c p mail rest lc long is at =
+      leads_at riding Q Q well c p m k here
+      (λ b other. sight-received_other riding carrying p mail rest b long is at (λ (e : k ≡ b). other (sym e)))
+      (λ b block other has. has)
     where
       m : Port R K
       m = port_taking riding carrying p (mail ∷ rest)
@@ -124,18 +153,6 @@ module _ {R K : Type 0} where
           ∙ sym (sight-received riding carrying p mail rest long is at) in
           subst (λ (x : Sight R). Shows (Q k) k entry (sight_at c x sights)) e moved
 
-      by : (b : ℕ) (entry : Entry R) (sights : ℕ → Sight R) → sights c ≡ port_sight riding b p →
-          Shows (Q b) b entry sights → (b ≡ k) ⊎ (b ≢ k) →
-          Shows (Q b) b entry (sight_at c (port_sight riding b m) sights)
-      by b entry sights shows s (inl e) = subst (λ (x : ℕ). Shows (Q x) x entry (sight_at c (port_sight riding x m)
-          sights)) (sym e)
-          (here entry sights (shows ∙ ap (λ (x : ℕ). port_sight riding x p) e)
-          (subst (λ (x : ℕ). Shows (Q x) x entry sights) e s))
-      by b entry sights shows s (inr other) =
-          alike_at riding (Q b) (well b) b entry sights c (port_sight riding b m)
-          (subst (λ (x : Sight R). SameSight x (port_sight riding b m)) (sym shows)
-          (sight-received_other riding carrying p mail rest b long is at (λ (e : k ≡ b). other (sym e)))) s
-
   pub leads_asking : (riding : Riding R) (Q : ℕ → FullBlock (Payload R) → Type 0) →
       ((b : ℕ) → KeptBy (payload_absorbed riding) (Q b)) → (c : ℕ) (p : Port R K)
       (block : ℕ) (kind : Kind) → c < CORES_MAX → length p.cache ≡ LINES →
@@ -145,7 +162,9 @@ module _ {R K : Type 0} where
       is_allowed (line_for riding.fresh p.cache block) block kind ≡ false →
       Leads riding Q Q c p (port_asking riding p block kind)
   leads_asking riding Q well c p block kind lc long placed still needed =
-      record { each = λ b entry sights shows s. by b entry sights shows s (cases_eq b k) }
+      leads_at riding Q Q well c p m k here
+      (λ b other. sight-asking_other riding p block kind b long still needed (λ (e : k ≡ b). other (sym e)))
+      (λ b block other has. has)
     where
       m : Port R K
       m = port_asking riding p block kind
@@ -156,11 +175,8 @@ module _ {R K : Type 0} where
       k : ℕ
       k = request_block (asks l block kind)
 
-      place : k % LINES ≡ block % LINES
-      place = asked_place l block kind placed still
-
       there : line_for riding.fresh p.cache k ≡ l
-      there = ap (λ (i : ℕ). slice_index_or p.cache i (empty_line riding.fresh)) place
+      there = asked_there riding p block kind placed still
 
       here : (entry : Entry R) (sights : ℕ → Sight R) → sights c ≡ port_sight riding k p → Shows (Q k) k entry sights →
           Shows (Q k) k entry
@@ -178,18 +194,6 @@ module _ {R K : Type 0} where
           ∙ sym (sight-asking riding p block kind long placed still needed) in
           subst (λ (x : Sight R). Shows (Q k) k entry (sight_at c x sights)) e moved
 
-      by : (b : ℕ) (entry : Entry R) (sights : ℕ → Sight R) → sights c ≡ port_sight riding b p →
-          Shows (Q b) b entry sights → (b ≡ k) ⊎ (b ≢ k) →
-          Shows (Q b) b entry (sight_at c (port_sight riding b m) sights)
-      by b entry sights shows s (inl e) = subst (λ (x : ℕ). Shows (Q x) x entry (sight_at c (port_sight riding x m)
-          sights)) (sym e)
-          (here entry sights (shows ∙ ap (λ (x : ℕ). port_sight riding x p) e)
-          (subst (λ (x : ℕ). Shows (Q x) x entry sights) e s))
-      by b entry sights shows s (inr other) =
-          alike_at riding (Q b) (well b) b entry sights c (port_sight riding b m)
-          (subst (λ (x : Sight R). SameSight x (port_sight riding b m)) (sym shows)
-          (sight-asking_other riding p block kind b long still needed (λ (e : k ≡ b). other (sym e)))) s
-
   -- an access of the port's core
   pub leads_touch : (riding : Riding R) (Q P : ℕ → FullBlock (Payload R) → Type 0) →
       ((b : ℕ) → KeptBy (payload_absorbed riding) (P b)) → (c : ℕ) (p : Port R K)
@@ -201,10 +205,8 @@ module _ {R K : Type 0} where
         rider = rider;
       })
       → Leads riding Q P c p (port_touched riding p k slot kind value rider)
-  leads_touch riding Q P well c p k slot kind value rider lc long allowed gives = record {
-    each = λ b entry sights shows s. by b entry sights shows s
-        (cases_eq b k);
-  }
+  leads_touch riding Q P well c p k slot kind value rider lc long allowed gives =
+      leads_at riding Q P well c p m k here elsewhere (λ b block other has. gives.elsewhere b block other has)
     where
       m : Port R K
       m = port_touched riding p k slot kind value rider
@@ -243,35 +245,18 @@ module _ {R K : Type 0} where
           ∙ ap (λ (x : Line R). (let y : Sight R = record (port_sight riding k p) { line = x } in y)) (sym new_line) in
           subst (λ (x : Sight R). Shows (P k) k entry (sight_at c x sights)) e moved
 
-      by : (b : ℕ) (entry : Entry R) (sights : ℕ → Sight R) → sights c ≡ port_sight riding b p →
-          Shows (Q b) b entry sights → (b ≡ k) ⊎ (b ≢ k) →
-          Shows (P b) b entry (sight_at c (port_sight riding b m) sights)
-      by b entry sights shows s (inl e) = subst (λ (x : ℕ). Shows (P x) x entry (sight_at c (port_sight riding x m)
-          sights)) (sym e)
-          (here entry sights (shows ∙ ap (λ (x : ℕ). port_sight riding x p) e)
-          (subst (λ (x : ℕ). Shows (Q x) x entry sights) e s))
-      by b entry sights shows s (inr other) =
+      elsewhere : (b : ℕ) → b ≢ k → SameSight (port_sight riding b p) (port_sight riding b m)
+      elsewhere b other =
           let line = left_other riding p.cache k slot kind value rider b long (λ (e : l.block ≡ b). other (sym e
           ∙ at)) in
-          let same : SameSight (port_sight riding b p) (port_sight riding b m) = record {
+          record {
             state = line.state;
             block = line.block;
             payload = line.payload;
             requests = refl;
             responses = refl;
             messages = refl;
-          } in
-          alike_at riding (P b) (well b) b entry sights c (port_sight riding b m)
-          (subst (λ (x : Sight R). SameSight x (port_sight riding b m))
-          (sym shows) same)
-          (record {
-            block = s.block;
-            entry_is = s.entry_is;
-            shows = s.shows;
-            fits = s.fits;
-            has =
-                gives.elsewhere b s.block other s.has;
-          })
+          }
 
   -- an act that changes one port and leaves the home
   pub all_set : (riding : Riding R) (carrying : Carrying K) (Q P : ℕ → FullBlock (Payload R) → Type 0) (m : Memory R K)

@@ -1,5 +1,6 @@
 pub mod Lines
 pub mod Views
+pub mod Taken
 pub mod Sent
 pub mod Ports
 pub mod Home

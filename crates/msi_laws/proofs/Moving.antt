@@ -27,16 +27,16 @@ use Rattle.msi_protocol.proofs.Keeps.{busy_moves}
 use Rattle.msi_memory.specs.declared.port.Mail.{Mail}
 use Rattle.msi_memory.specs.declared.port.Port.{Port}
 use Rattle.msi_memory.specs.Memories.{Memory, port_at, no_port}
-use Rattle.msi_memory.specs.Acts.{TakeRequest, TakeResponse, TakeMessage, head_free}
+use Rattle.msi_memory.specs.Acts.{Act, TakeRequest, TakeResponse, TakeMessage, can_at, head_free, port_of}
 use Rattle.msi_memory.specs.Waiting.{ends_wait}
 use Rattle.msi_laws.specs.Sights.{line_state, asks_of, replies_of, signals_of}
 use Rattle.msi_laws.specs.Holds.{MemoryHolds, port_view, block_in}
-use Rattle.msi_laws.specs.Moving.{CanTake, MovingLaw, QuietLaw, are_links_empty}
+use Rattle.msi_laws.specs.Moving.{CanTake, MovingLaw, QuietLaw, are_links_empty, is_take}
 use Rattle.msi_laws.proofs.KindsShown.{blocks_hold}
 use Rattle.msi_laws.proofs.Lines.{waits_some, waits_none, transient_there}
 use Rattle.msi_laws.proofs.Standing.{past_view, view_waits, stands_at}
 use Rattle.msi_laws.proofs.Pigeons.{Item, owns, others, own_here, other_here}
-use Rattle.msi_laws.proofs.Waiting.{items_of, answers_of, Wants, awaiting, own_wants, other_owes, answer_owes}
+use Rattle.msi_laws.proofs.Waiting.{items_of, answers_of, Wants, awaiting, own_wants, others_owe}
 use Rattle.msi_laws.proofs.Waiting.{owed_to}
 use Rattle.msi_laws.proofs.Spaces.{request_waits}
 
@@ -49,6 +49,10 @@ phase_waits p w m r q = grind arith
 awaits_busy : (stage : Stage) (d : ℕ) → awaiting (role stage d) ≡ true → is_free stage ≡ false
 awaits_busy stage d e = grind arith
 
+nothing_left : {X : Type 0} (xs : List X) → ((x : X) (rest : List X) → xs ≡ x ∷ rest → ⊥) → xs ≡ []
+nothing_left [] none = refl
+nothing_left (x ∷ rest) none = absurd (none x rest refl)
+
 not_nil : {X : Type 0} (xs : List X) → is_nil xs ≡ false → not (is_nil xs) ≡ true
 not_nil [] e = absurd (cc)
 not_nil (x ∷ xs) e = refl
@@ -56,28 +60,11 @@ not_nil (x ∷ xs) e = refl
 module _ {R K : Type 0} where
   -- ---- something can be taken
 
-  take_request : (riding : Riding R) (carrying : Carrying K) (m : Memory R K) (c : ℕ) → c < length m.ports →
-      head_free (port_at carrying m.ports c).requests.items riding m.home ≡ true → CanTake riding carrying m
-  take_request riding carrying m c lc free =
-      (TakeRequest c, refl, and_from (nat_lt c (length m.ports)) _ (lt-ltb c (length m.ports) lc) free)
-
-  take_response : (riding : Riding R) (carrying : Carrying K) (m : Memory R K) (c : ℕ) → c < length m.ports →
-      is_nil (port_at carrying m.ports c).responses.items ≡ false → CanTake riding carrying m
-  take_response riding carrying m c lc some = (
-    TakeResponse c,
-    refl,
-    and_from (nat_lt c (length m.ports)) _ (lt-ltb c (length m.ports) lc)
-        (not_nil (port_at carrying m.ports c).responses.items some),
-  )
-
-  take_message : (riding : Riding R) (carrying : Carrying K) (m : Memory R K) (c : ℕ) → c < length m.ports →
-      is_nil (port_at carrying m.ports c).messages.items ≡ false → CanTake riding carrying m
-  take_message riding carrying m c lc some = (
-    TakeMessage c,
-    refl,
-    and_from (nat_lt c (length m.ports)) _ (lt-ltb c (length m.ports) lc)
-        (not_nil (port_at carrying m.ports c).messages.items some),
-  )
+  can_take : (riding : Riding R) (carrying : Carrying K) (m : Memory R K) (act : Act R) → is_take act ≡ true →
+      port_of act < length m.ports → can_at riding m.home (port_at carrying m.ports (port_of act)) act ≡ true →
+      CanTake riding carrying m
+  can_take riding carrying m act take lc is =
+      (act, take, and_from (nat_lt (port_of act) (length m.ports)) _ (lt-ltb (port_of act) (length m.ports) lc) is)
 
   -- what a view shows is on the links
   view_messages : (b : ℕ) (q : List (Mail (FromHome R) K)) → is_nil (signals_of b q) ≡ false → is_nil q ≡ false
@@ -112,10 +99,10 @@ module _ {R K : Type 0} where
           by_links : (t : Bool) → is_nil (replies_of b (port_at carrying m.ports d).responses.items) ≡ t → (u : Bool) →
               is_nil (signals_of b (port_at carrying m.ports d).messages.items) ≡ u → (not t || not u) ≡ true →
               CanTake riding carrying m
-          by_links false f u g k = take_response riding carrying m d ld
-              (view_responses b (port_at carrying m.ports d).responses.items f)
-          by_links true f false g k = take_message riding carrying m d ld
-              (view_messages b (port_at carrying m.ports d).messages.items g)
+          by_links false f u g k = can_take riding carrying m (TakeResponse d) refl ld
+              (not_nil _ (view_responses b (port_at carrying m.ports d).responses.items f))
+          by_links true f false g k = can_take riding carrying m (TakeMessage d) refl ld
+              (not_nil _ (view_messages b (port_at carrying m.ports d).messages.items g))
           by_links true f true g k = absurd (cc)
 
   -- the block for which a port waits
@@ -151,15 +138,17 @@ module _ {R K : Type 0} where
         where
           by_free : (t : Bool) → is_free (entry_at riding.fresh m.home (request_block mail.item)).stage ≡ t →
               CanTake riding carrying m
-          by_free true e = take_request riding carrying m c w.core
+          by_free true e = can_take riding carrying m (TakeRequest c) refl w.core
               (ap (λ (q : List (Mail (Request R) K)). head_free q riding m.home) is ∙ e)
           by_free false e = busy_some riding carrying m (request_block mail.item) h e
 
       by_links : (t : Bool) → is_nil (port_view riding b p).messages ≡ t → (u : Bool) →
           is_nil (port_view riding b p).responses ≡ u → (v : Bool) →
           is_nil (port_view riding b p).requests ≡ v → CanTake riding carrying m
-      by_links false f u g v k = take_message riding carrying m c w.core (view_messages b p.messages.items f)
-      by_links true f false g v k = take_response riding carrying m c w.core (view_responses b p.responses.items g)
+      by_links false f u g v k =
+          can_take riding carrying m (TakeMessage c) refl w.core (not_nil _ (view_messages b p.messages.items f))
+      by_links true f false g v k =
+          can_take riding carrying m (TakeResponse c) refl w.core (not_nil _ (view_responses b p.responses.items g))
       by_links true f true g false k = by_head p.requests.items refl (view_requests b p.requests.items k)
       by_links true f true g true k =
           let st = stands_at riding carrying m c b w.core h in
@@ -194,49 +183,47 @@ module _ {R K : Type 0} where
   no_requests_left : (riding : Riding R) (carrying : Carrying K) (m : Memory R K) (c : ℕ) →
       MemoryHolds riding carrying m → c < length m.ports →
       NoWants riding carrying m → (port_at carrying m.ports c).requests.items ≡ []
-  no_requests_left riding carrying m c h lc none = by_items (port_at carrying m.ports c).requests.items refl
-    where
-      by_items : (q : List (Mail (Request R) K)) → (port_at carrying m.ports c).requests.items ≡ q → q ≡ []
-      by_items [] is = refl
-      by_items (mail ∷ rest) is = absurd (none c _ (request_waits riding carrying m c mail rest h lc is).0)
+  no_requests_left riding carrying m c h lc none =
+      nothing_left (port_at carrying m.ports c).requests.items
+      (λ mail rest is. none c _ (request_waits riding carrying m c mail rest h lc is).0)
 
   no_responses_left : (riding : Riding R) (carrying : Carrying K) (m : Memory R K) (c : ℕ) →
       MemoryHolds riding carrying m → c < length m.ports →
       NoWants riding carrying m → (port_at carrying m.ports c).responses.items ≡ []
-  no_responses_left riding carrying m c h lc none = by_items (port_at carrying m.ports c).responses.items refl
+  no_responses_left riding carrying m c h lc none = nothing_left (port_at carrying m.ports c).responses.items some_left
     where
-      by_items : (q : List (Mail (Response R) K)) → (port_at carrying m.ports c).responses.items ≡ q → q ≡ []
-      by_items [] is = refl
-      by_items (mail ∷ rest) is =
+      some_left : (mail : Mail (Response R) K) (rest : List (Mail (Response R) K)) →
+          (port_at carrying m.ports c).responses.items ≡ mail ∷ rest → ⊥
+      some_left mail rest is =
           let b : ℕ = response_block mail.item in
           let here = other_here (record { block = b; own = false }) (answers_of rest) refl in
           let some : 1 ≤ others b (answers_of (port_at carrying m.ports c).responses.items) = rw is (omega arith) in
-          absurd (none _ b (owed_to riding carrying m c b h (answer_owes riding carrying m c b lc h some)).0)
+          none _ b (owed_to riding carrying m c b h (others_owe riding carrying m c b lc h (inr some))).0
 
   no_messages_left : (riding : Riding R) (carrying : Carrying K) (m : Memory R K) (c : ℕ) →
       MemoryHolds riding carrying m → c < length m.ports →
       NoWants riding carrying m → (port_at carrying m.ports c).messages.items ≡ []
-  no_messages_left riding carrying m c h lc none = by_items (port_at carrying m.ports c).messages.items refl
+  no_messages_left riding carrying m c h lc none =
+      nothing_left (port_at carrying m.ports c).messages.items
+      (λ mail rest is. by_kind mail rest is (ends_wait (signal mail.item)) refl)
     where
-      by_items : (q : List (Mail (FromHome R) K)) → (port_at carrying m.ports c).messages.items ≡ q → q ≡ []
-      by_items [] is = refl
-      by_items (mail ∷ rest) is = by_kind (ends_wait (signal mail.item)) refl
-        where
-          item : Item
-          item = record { block = block_of mail.item; own = ends_wait (signal mail.item) }
+      item : Mail (FromHome R) K → Item
+      item mail = record { block = block_of mail.item; own = ends_wait (signal mail.item) }
 
-          by_kind : (own : Bool) → ends_wait (signal mail.item) ≡ own → mail ∷ rest ≡ []
-          by_kind true e =
-              let here = own_here item (items_of rest) e in
-              let some : 1 ≤ owns item.block (items_of (port_at carrying m.ports c).messages.items) =
-              rw is (omega arith) in
-              absurd (none c item.block (own_wants riding carrying m c item.block lc h some))
-          by_kind false e =
-              let here = other_here item (items_of rest) e in
-              let some : 1 ≤ others item.block (items_of (port_at carrying m.ports c).messages.items) =
-              rw is (omega arith) in
-              absurd (none _ item.block (owed_to riding carrying m c item.block h
-              (other_owes riding carrying m c item.block lc h some)).0)
+      by_kind : (mail : Mail (FromHome R) K) (rest : List (Mail (FromHome R) K)) →
+          (port_at carrying m.ports c).messages.items ≡ mail ∷ rest →
+          (own : Bool) → ends_wait (signal mail.item) ≡ own → ⊥
+      by_kind mail rest is true e =
+          let here = own_here (item mail) (items_of rest) e in
+          let some : 1 ≤ owns (block_of mail.item) (items_of (port_at carrying m.ports c).messages.items) =
+          rw is (omega arith) in
+          none c (block_of mail.item) (own_wants riding carrying m c (block_of mail.item) lc h some)
+      by_kind mail rest is false e =
+          let here = other_here (item mail) (items_of rest) e in
+          let some : 1 ≤ others (block_of mail.item) (items_of (port_at carrying m.ports c).messages.items) =
+          rw is (omega arith) in
+          none _ (block_of mail.item) (owed_to riding carrying m c (block_of mail.item) h
+          (others_owe riding carrying m c (block_of mail.item) lc h (inl some))).0
 
   port_empty : (riding : Riding R) (carrying : Carrying K) (m : Memory R K) (c : ℕ) → MemoryHolds riding carrying m →
       c < length m.ports →

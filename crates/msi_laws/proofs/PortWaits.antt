@@ -1,11 +1,10 @@
 -- What acts of the memory system leave of a port that may wait. A port is left well by acts that don't change what it
 -- waits for; asking makes it wait for what was asked, which it isn't allowed yet; and what it awaits it isn't allowed.
-use Rattle.std.proofs.Common.{◌≡◌, ◌≢◌, ◌∙◌, ap, refl, sym, ℕ, ◌<◌, ◌==◌, ◌%◌, Bool, true, false, ◌&&◌, List, [], ◌∷◌}
+use Rattle.std.proofs.Common.{◌≡◌, ◌≢◌, ◌∙◌, ap, refl, sym, ℕ, ◌==◌, ◌%◌, Bool, true, false, ◌&&◌, List, [], ◌∷◌}
 use Rattle.std.proofs.Common.{◌++◌, length}
-use Rattle.std.proofs.Common.{Some, IsTrue, arith}
-use Rattle.std.specs.Prelude.{slice_set}
+use Rattle.std.proofs.Common.{IsTrue, arith}
 use Rattle.std.proofs.lemmas.Bool.Decides.{nat_tests}
-use Rattle.std.proofs.lemmas.List.{length-set, get_or-set_same}
+use Rattle.std.proofs.lemmas.List.{get_or-set_same}
 use Rattle.access_times.specs.Riding.{Riding, Carrying}
 use Rattle.rtr_types.specs.Accesses.{is_write}
 use Rattle.rtr_types.specs.declared.access.Kind.{Kind}
@@ -13,28 +12,20 @@ use Rattle.msi_cache.specs.declared.line.Line.{Line}
 use Rattle.msi_cache.specs.declared.line.State.{State as LineState}
 use Rattle.msi_cache.specs.declared.line.State.TheVariants.{I}
 use Rattle.rtr_types.specs.declared.TheConstants.{LINES}
-use Rattle.msi_cache.specs.declared.messages.FromHome.{FromHome}
-use Rattle.msi_cache.specs.declared.messages.Request.{Request}
-use Rattle.msi_cache.specs.declared.messages.Response.{Response}
 use Rattle.msi_cache.specs.Lines.{waits, is_allowed, line_for, line_asking, empty_line}
-use Rattle.msi_cache.specs.Messages.{request_block, response_block}
 use Rattle.msi_cache.specs.Table.{is_transient}
-use Rattle.msi_directory.specs.Blocks.{entry_at}
-use Rattle.msi_directory.specs.Entries.{answer_to_request, answer_to_response}
-use Rattle.msi_directory.specs.declared.entry.HomeAnswer.{HomeAnswer}
-use Rattle.msi_memory.specs.declared.port.Mail.{Mail}
 use Rattle.msi_memory.specs.declared.port.Port.{Port}
 use Rattle.msi_memory.specs.Acts.{Act, Want, Touch, Retire, TakeRequest, TakeResponse, TakeMessage, can, can_all}
 use Rattle.msi_memory.specs.Acts.{after_act, after_acts, allows}
-use Rattle.msi_memory.specs.Acts.{delivered, port_asking, port_retiring, port_requested, port_responded, port_taking}
-use Rattle.msi_memory.specs.Acts.{port_touched, take_request_in, take_response_in}
+use Rattle.msi_memory.specs.Acts.{port_asking, port_retiring, port_taking}
+use Rattle.msi_memory.specs.Acts.{port_touched}
 use Rattle.msi_memory.specs.Memories.{Memory, port_at}
 use Rattle.msi_laws.specs.Holds.{MemoryHolds, PortHolds, place_at}
 use Rattle.msi_laws.specs.Waits.{WaitsFor, is_want, serves}
 use Rattle.msi_laws.proofs.Lines.{SameLines, none_waits, waits_at, waits_none, waits_some}
-use Rattle.msi_laws.proofs.PortsKept.{delivered_keeps, there_of, touched_lines}
-use Rattle.msi_laws.proofs.Sends.{request_there, response_there}
-use Rattle.msi_laws.proofs.Waits.{port_keeps}
+use Rattle.msi_laws.proofs.PortsKept.{there_of, touched_lines}
+use Rattle.msi_laws.proofs.Sends.{by_request, by_response}
+use Rattle.msi_laws.proofs.Waits.{port_keeps, taken_keeps}
 
 -- the act may change for what port d waits
 abbrev pub may_change : {R : Type 0} → Act R → ℕ → Bool
@@ -77,43 +68,6 @@ module _ {R K : Type 0} where
           let some = waits_some p.cache riding.fresh e in
           waits_at q.cache riding.fresh some.0 (ap is_transient (s.same some.0).state ∙ some.1)
 
-  answered_waits : (carrying : Carrying K) (m : Memory R K) (c : ℕ) (q : Port R K) (answer : HomeAnswer R) (at : ℕ)
-      (k : K) (d : ℕ) → c < length m.ports →
-      q.cache ≡ (port_at carrying m.ports c).cache →
-      ((to : ℕ) (sent : FromHome R) → answer.send ≡ Some (to, sent) → to < length m.ports) →
-      waits (port_at carrying (delivered carrying answer at k (slice_set m.ports c q)) d).cache ≡ waits
-      (port_at carrying m.ports d).cache
-  answered_waits carrying m c q answer at k d lc same sends =
-      let old : Bool = waits (port_at carrying m.ports d).cache in
-      delivered_keeps (λ (p : Port R K). waits p.cache ≡ old) carrying answer at k (slice_set m.ports c q)
-      (λ p sent g. g)
-      (λ to sent is. rw length-set (sends to sent is)) d
-      (port_keeps (λ (p : Port R K). waits p.cache ≡ old) carrying m c q d lc (λ here g. ap waits same ∙ g) refl)
-
-  request_waits : (riding : Riding R) (carrying : Carrying K) (m : Memory R K) (c : ℕ)
-      (q : List (Mail (Request R) K)) (d : ℕ) →
-      MemoryHolds riding carrying m → c < length m.ports →
-      waits (port_at carrying (take_request_in q riding carrying m c).ports d).cache ≡ waits
-      (port_at carrying m.ports d).cache
-  request_waits riding carrying m c [] d h lc = refl
-  request_waits riding carrying m c (mail ∷ rest) d h lc =
-      answered_waits carrying m c (port_requested (port_at carrying m.ports c) rest)
-      (answer_to_request riding.absorbed (entry_at riding.fresh m.home (request_block mail.item)) c mail.item)
-      (request_block mail.item)
-      (carrying.joined m.carry mail.carry) d lc refl (request_there riding carrying m c mail.item h lc)
-
-  response_waits : (riding : Riding R) (carrying : Carrying K) (m : Memory R K) (c : ℕ)
-      (q : List (Mail (Response R) K)) (d : ℕ) →
-      MemoryHolds riding carrying m → c < length m.ports →
-      waits (port_at carrying (take_response_in q riding carrying m c).ports d).cache ≡ waits
-      (port_at carrying m.ports d).cache
-  response_waits riding carrying m c [] d h lc = refl
-  response_waits riding carrying m c (mail ∷ rest) d h lc =
-      answered_waits carrying m c (port_responded (port_at carrying m.ports c) rest)
-      (answer_to_response riding.absorbed (entry_at riding.fresh m.home (response_block mail.item)) c mail.item)
-      (response_block mail.item)
-      (carrying.joined m.carry mail.carry) d lc refl (response_there riding carrying m c mail.item h)
-
   -- an act that may not change it leaves a port waiting or not
   pub waits_kept : (riding : Riding R) (carrying : Carrying K) (m : Memory R K) (act : Act R) (d : ℕ) →
       MemoryHolds riding carrying m →
@@ -139,11 +93,16 @@ module _ {R K : Type 0} where
       (port_retiring carrying (port_at carrying m.ports c) at) d
       (there_of riding carrying m (Retire c at) e) (λ here g. g) refl
   waits_kept riding carrying m (TakeRequest c) d h e other =
-      request_waits riding carrying m c (port_at carrying m.ports c).requests.items d h
-      (there_of riding carrying m (TakeRequest c) e)
+      let old : Bool = waits (port_at carrying m.ports d).cache in
+      let lc = there_of riding carrying m (TakeRequest c) e in
+      by_request (λ (n : Memory R K). waits (port_at carrying n.ports d).cache ≡ old) riding carrying m c
+      (port_at carrying m.ports c).requests.items h lc refl (taken_keeps (λ (p : Port R K). waits p.cache ≡ old)
+      (λ p q same g. ap waits same ∙ g) carrying m c d lc refl)
   waits_kept riding carrying m (TakeResponse c) d h e other =
-      response_waits riding carrying m c (port_at carrying m.ports c).responses.items d h
-      (there_of riding carrying m (TakeResponse c) e)
+      let old : Bool = waits (port_at carrying m.ports d).cache in
+      by_response (λ (n : Memory R K). waits (port_at carrying n.ports d).cache ≡ old) riding carrying m c
+      (port_at carrying m.ports c).responses.items h refl (taken_keeps (λ (p : Port R K). waits p.cache ≡ old)
+      (λ p q same g. ap waits same ∙ g) carrying m c d (there_of riding carrying m (TakeResponse c) e) refl)
   waits_kept riding carrying m (TakeMessage c) d h e other =
       let old : Bool = waits (port_at carrying m.ports d).cache in
       let p : Port R K = port_at carrying m.ports c in

@@ -258,6 +258,17 @@ module _ {R : Type 0} where
       (grind (arith, nat_tests), grind (arith, nat_tests), grind (arith, nat_tests))
 
 module _ {R K : Type 0} where
+  -- what is asked for is of the line's block, or of the other one at its place
+  pub asked_there : (riding : Riding R) (p : Port R K) (block : ℕ) (kind : Kind) →
+      ((line_for riding.fresh p.cache block).state ≢ I →
+      (line_for riding.fresh p.cache block).block % LINES ≡ block % LINES) →
+      is_transient (line_for riding.fresh p.cache block).state ≡ false →
+      line_for riding.fresh p.cache (request_block (asks (line_for riding.fresh p.cache block) block kind))
+      ≡ line_for riding.fresh p.cache block
+  asked_there riding p block kind placed still =
+      ap (λ (i : ℕ). slice_index_or p.cache i (empty_line riding.fresh))
+      (asked_place (line_for riding.fresh p.cache block) block kind placed still)
+
   pub sight-asking : (riding : Riding R) (p : Port R K) (block : ℕ) (kind : Kind) → length p.cache ≡ LINES →
       ((line_for riding.fresh p.cache block).state ≢ I →
       (line_for riding.fresh p.cache block).block % LINES ≡ block % LINES) → is_transient (line_for riding.fresh p.cache
@@ -278,7 +289,7 @@ module _ {R K : Type 0} where
       place = asked_place l block kind placed still
 
       there : line_for riding.fresh p.cache b ≡ l
-      there = ap (λ (i : ℕ). slice_index_or p.cache i (empty_line riding.fresh)) place
+      there = asked_there riding p block kind placed still
 
       new : List (Line R)
       new = lines_asking riding p.cache block kind

@@ -1,5 +1,5 @@
 -- Each act keeps the ports as the invariant has them, and there are as many after it as before.
-use Rattle.std.proofs.Common.{◌≡◌, ◌∙◌, ap, refl, sym, subst, ℕ, ◌<◌, ◌≤◌, ◌==◌, Bool, true, false, nat_lt, not, ◌&&◌}
+use Rattle.std.proofs.Common.{◌≡◌, ap, refl, sym, subst, ℕ, ◌<◌, ◌≤◌, ◌==◌, Bool, true, false, nat_lt, not, ◌&&◌}
 use Rattle.std.proofs.Common.{List, [], ◌∷◌, length, Option, Some}
 use Rattle.std.proofs.Common.{None, arith, IsTrue}
 use Rattle.std.specs.Prelude.{if◌then◌else◌, slice_set}
@@ -13,24 +13,19 @@ use Rattle.rtr_types.specs.declared.access.Kind.{Kind}
 use Rattle.msi_cache.specs.Lines.{waits}
 use Rattle.msi_cache.specs.declared.messages.FromHome.{FromHome}
 use Rattle.msi_cache.specs.declared.messages.FromHome.TheVariants.{Inv}
-use Rattle.msi_cache.specs.declared.messages.Response.{Response}
-use Rattle.msi_cache.specs.declared.messages.Request.{Request}
-use Rattle.msi_cache.specs.Messages.{request_block, response_block}
-use Rattle.msi_directory.specs.Blocks.{entry_at, entries_after_request, entries_after_response}
-use Rattle.msi_directory.specs.Entries.{answer_to_request, answer_to_response}
-use Rattle.msi_directory.specs.declared.entry.Entry.{Entry}
 use Rattle.msi_directory.specs.declared.entry.HomeAnswer.{HomeAnswer}
 use Rattle.msi_memory.specs.declared.port.Mail.{Mail}
 use Rattle.msi_memory.specs.declared.port.Port.{Port}
 use Rattle.msi_memory.specs.Memories.{Memory, port_at}
 use Rattle.msi_memory.specs.Acts.{Act, Want, Touch, Retire, TakeRequest, TakeResponse, TakeMessage, port_of, can}
 use Rattle.msi_memory.specs.Acts.{can_at, after_act, allows, with_port}
-use Rattle.msi_memory.specs.Acts.{delivered, delivered_in, take_request_in, take_response_in, port_asking, port_touched}
+use Rattle.msi_memory.specs.Acts.{delivered, delivered_in, port_asking, port_touched}
 use Rattle.msi_memory.specs.Acts.{port_retiring, port_hearing}
-use Rattle.msi_memory.specs.Acts.{port_taking, port_requested, port_responded, port_sent, answer_to}
+use Rattle.msi_memory.specs.Acts.{port_taking, port_sent, answer_to}
 use Rattle.msi_laws.specs.Holds.{PortHolds, MemoryHolds}
-use Rattle.msi_laws.proofs.Views.{port_at-set, port_at-sent, port_at-told, length-delivered}
-use Rattle.msi_laws.proofs.Sends.{request_there, response_there}
+use Rattle.msi_laws.proofs.Views.{port_at-set, port_at-sent, port_at-told}
+use Rattle.msi_laws.proofs.Sends.{IsTaken, by_request, by_response}
+use Rattle.msi_laws.proofs.Taken.{Taken, after_taken, each_request, each_response, length_taken}
 use Rattle.msi_laws.proofs.Lines.{PortStill, SameLines, same_lines_fit, fits_still, asking_fits, taking_fits}
 use Rattle.msi_laws.proofs.Lines.{answering_same, touched_same, length_touched}
 use Rattle.msi_laws.proofs.Standing.{message_row}
@@ -103,28 +98,6 @@ module _ {R K : Type 0} where
 
   -- ---- how many there are
 
-  length_request : (riding : Riding R) (carrying : Carrying K) (m : Memory R K) (c : ℕ)
-      (q : List (Mail (Request R) K)) →
-      length (take_request_in q riding carrying m c).ports ≡ length m.ports
-  length_request riding carrying m c [] = refl
-  length_request riding carrying m c (mail ∷ rest) =
-      let answer : HomeAnswer R = answer_to_request riding.absorbed (entry_at riding.fresh m.home
-      (request_block mail.item)) c mail.item in
-      let left : Port R K = port_requested (port_at carrying m.ports c) rest in
-      length-delivered carrying answer (request_block mail.item) (carrying.joined m.carry mail.carry)
-      (slice_set m.ports c left) ∙ length-set m.ports c left
-
-  length_response : (riding : Riding R) (carrying : Carrying K) (m : Memory R K) (c : ℕ)
-      (q : List (Mail (Response R) K)) →
-      length (take_response_in q riding carrying m c).ports ≡ length m.ports
-  length_response riding carrying m c [] = refl
-  length_response riding carrying m c (mail ∷ rest) =
-      let answer : HomeAnswer R = answer_to_response riding.absorbed (entry_at riding.fresh m.home
-      (response_block mail.item)) c mail.item in
-      let left : Port R K = port_responded (port_at carrying m.ports c) rest in
-      length-delivered carrying answer (response_block mail.item) (carrying.joined m.carry mail.carry)
-      (slice_set m.ports c left) ∙ length-set m.ports c left
-
   -- no port comes or goes
   pub length_act : (riding : Riding R) (carrying : Carrying K) (m : Memory R K) (act : Act R) →
       length (after_act riding carrying m act).ports ≡ length m.ports
@@ -132,9 +105,11 @@ module _ {R K : Type 0} where
   length_act riding carrying m (Touch c block slot kind value rider) = length-set m.ports c _
   length_act riding carrying m (Retire c at) = length-set m.ports c _
   length_act riding carrying m (TakeRequest c) =
-      length_request riding carrying m c (port_at carrying m.ports c).requests.items
+      each_request (λ (n : Memory R K). length n.ports ≡ length m.ports) riding carrying m c
+      (port_at carrying m.ports c).requests.items refl (length_taken carrying m c)
   length_act riding carrying m (TakeResponse c) =
-      length_response riding carrying m c (port_at carrying m.ports c).responses.items
+      each_response (λ (n : Memory R K). length n.ports ≡ length m.ports) riding carrying m c
+      (port_at carrying m.ports c).responses.items refl (length_taken carrying m c)
   length_act riding carrying m (TakeMessage c) = length-set m.ports c _
 
   -- ---- the ports hold
@@ -193,59 +168,24 @@ module _ {R K : Type 0} where
             (subst (λ (n : ℕ). d < n) (length-set m.ports c q) ld);
       }
 
-  -- the home's answer
-  answered : (riding : Riding R) (carrying : Carrying K) (m : Memory R K) (c : ℕ) (q : Port R K) (answer : HomeAnswer R)
-      (block : ℕ) (home : List (Entry R))
-      (k : K) → c < length m.ports → length home ≡ length m.home → PortHolds riding (length m.home) q →
-      ((to : ℕ) (sent : FromHome R) → answer.send ≡ Some (to, sent) → to < length m.ports) →
-      MemoryHolds riding carrying m →
-      PortsHold riding carrying (record {
-        ports = delivered carrying answer block k (slice_set m.ports c q);
-        home =
-            home;
-        carry = k;
-      })
-  answered riding carrying m c q answer block home k lc same holds sends h =
+  -- what the home takes
+  taken_ports : (riding : Riding R) (carrying : Carrying K) (m : Memory R K) (c : ℕ) → c < length m.ports →
+      MemoryHolds riding carrying m → (t : Taken R K) → IsTaken carrying m c t →
+      PortsHold riding carrying (after_taken carrying m c t)
+  taken_ports riding carrying m c lc h t is =
       record {
-        cores = rw long h.cores;
-        ports = λ x lx. rw same (delivered_keeps (λ (p : Port R K). PortHolds riding (length m.home) p) carrying answer
-            block k (slice_set m.ports c q)
-            (λ p sent f. relinked riding (length m.home) p (port_sent p sent k) refl refl refl refl f)
-            (λ to sent is. rw length-set (sends to sent is)) x
-            (set_holds riding carrying (length m.home) m.ports c q lc holds h.ports x
-            (subst (λ (n : ℕ). x < n) long lx)));
+        cores = rw (length_taken carrying m c t) h.cores;
+        ports = λ x lx. rw (length-set m.home t.block t.entry) (delivered_keeps (λ (p : Port R K). PortHolds riding
+            (length m.home) p) carrying t.answer t.block t.carry (slice_set m.ports c t.left)
+            (λ p sent f. relinked riding (length m.home) p (port_sent p sent t.carry) refl refl refl refl f)
+            (λ to sent e. rw length-set (is.there to sent e)) x
+            (set_holds riding carrying (length m.home) m.ports c t.left lc holds h.ports x
+            (subst (λ (n : ℕ). x < n) (length_taken carrying m c t) lx)));
       }
     where
-      long : length (delivered carrying answer block k (slice_set m.ports c q)) ≡ length m.ports
-      long = length-delivered carrying answer block k (slice_set m.ports c q) ∙ length-set m.ports c q
-
-  request_ports : (riding : Riding R) (carrying : Carrying K) (m : Memory R K) (c : ℕ) (q : List (Mail (Request R) K)) →
-      c < length m.ports →
-      MemoryHolds riding carrying m → PortsHold riding carrying (take_request_in q riding carrying m c)
-  request_ports riding carrying m c [] lc h = record { cores = h.cores; ports = h.ports }
-  request_ports riding carrying m c (mail ∷ rest) lc h =
-      let p : Port R K = port_at carrying m.ports c in
-      answered riding carrying m c (port_requested p rest)
-      (answer_to_request riding.absorbed (entry_at riding.fresh m.home (request_block mail.item)) c mail.item)
-      (request_block mail.item)
-      (entries_after_request riding m.home c mail.item) (carrying.joined m.carry mail.carry) lc
-      (length-set m.home (request_block mail.item) _)
-      (relinked riding (length m.home) p (port_requested p rest) refl refl refl refl (h.ports c lc))
-      (request_there riding carrying m c mail.item h lc) h
-
-  response_ports : (riding : Riding R) (carrying : Carrying K) (m : Memory R K) (c : ℕ)
-      (q : List (Mail (Response R) K)) → c < length m.ports →
-      MemoryHolds riding carrying m → PortsHold riding carrying (take_response_in q riding carrying m c)
-  response_ports riding carrying m c [] lc h = record { cores = h.cores; ports = h.ports }
-  response_ports riding carrying m c (mail ∷ rest) lc h =
-      let p : Port R K = port_at carrying m.ports c in
-      answered riding carrying m c (port_responded p rest)
-      (answer_to_response riding.absorbed (entry_at riding.fresh m.home (response_block mail.item)) c mail.item)
-      (response_block mail.item)
-      (entries_after_response riding m.home c mail.item) (carrying.joined m.carry mail.carry) lc
-      (length-set m.home (response_block mail.item) _)
-      (relinked riding (length m.home) p (port_responded p rest) refl refl refl refl (h.ports c lc))
-      (response_there riding carrying m c mail.item h) h
+      holds : PortHolds riding (length m.home) t.left
+      holds = relinked riding (length m.home) (port_at carrying m.ports c) t.left is.cache is.requests is.responses
+          is.messages (h.ports c lc)
 
   message_port : (riding : Riding R) (carrying : Carrying K) (m : Memory R K) (c : ℕ) (q : List (Mail (FromHome R) K)) →
       c < length m.ports →
@@ -282,11 +222,14 @@ module _ {R K : Type 0} where
       port_set riding carrying m c (port_retiring carrying p at) lc
       (relinked riding (length m.home) p (port_retiring carrying p at) refl refl refl refl (h.ports c lc)) h
   ports_kept riding carrying m (TakeRequest c) e h =
-      request_ports riding carrying m c (port_at carrying m.ports c).requests.items (there_of riding carrying m
-      (TakeRequest c) e) h
+      let lc = there_of riding carrying m (TakeRequest c) e in
+      by_request (λ (n : Memory R K). PortsHold riding carrying n) riding carrying m c
+      (port_at carrying m.ports c).requests.items h lc (record { cores = h.cores; ports = h.ports })
+      (taken_ports riding carrying m c lc h)
   ports_kept riding carrying m (TakeResponse c) e h =
-      response_ports riding carrying m c (port_at carrying m.ports c).responses.items (there_of riding carrying m
-      (TakeResponse c) e) h
+      by_response (λ (n : Memory R K). PortsHold riding carrying n) riding carrying m c
+      (port_at carrying m.ports c).responses.items h (record { cores = h.cores; ports = h.ports })
+      (taken_ports riding carrying m c (there_of riding carrying m (TakeResponse c) e) h)
   ports_kept riding carrying m (TakeMessage c) e h =
       let lc = there_of riding carrying m (TakeMessage c) e in
       port_set riding carrying m c (port_taking riding carrying (port_at carrying m.ports c)

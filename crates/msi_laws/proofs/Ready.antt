@@ -2,7 +2,7 @@
 -- its
 -- table, and each link has room.
 use Rattle.std.proofs.Common.{◌≡◌, ◌≢◌, ◌∙◌, ap, refl, sym, subst, ℕ, ◌<◌, ◌==◌, true, false, not, nat_lt, List, []}
-use Rattle.std.proofs.Common.{◌∷◌, length, IsTrue}
+use Rattle.std.proofs.Common.{◌∷◌, length, IsTrue, Bool, ◌&&◌}
 use Rattle.std.specs.Prelude.{slice_index_or}
 use Rattle.std.proofs.lemmas.List.{get_or_default}
 use Rattle.std.proofs.lemmas.Bool.Decides.{nat_tests}
@@ -87,6 +87,11 @@ module _ {R K : Type 0} where
       by_items (mail ∷ rest) is = lt-ltb (request_block mail.item) (length m.home) (request_within riding carrying m c
           mail rest h lc is)
 
+  -- the home has the block, and a row for the message
+  row_there : (m : Memory R K) (b : ℕ) (row : Bool) → b < length m.home → row ≡ true →
+      IsTrue (nat_lt b (length m.home) && row)
+  row_there m b row within is = is_true _ (and_from (nat_lt b (length m.home)) row (lt-ltb b (length m.home) within) is)
+
   request_rows : (riding : Riding R) (carrying : Carrying K) (m : Memory R K) (c : ℕ) → MemoryHolds riding carrying m →
       c < length m.ports →
       (q : List (Mail (Request R) K)) → (port_at carrying m.ports c).requests.items ≡ q →
@@ -95,12 +100,11 @@ module _ {R K : Type 0} where
   request_rows riding carrying m c h lc [] is free = absurd (cc)
   request_rows riding carrying m c h lc (mail ∷ rest) is free =
       let b : ℕ = request_block mail.item in
-      is_true _ (and_from (nat_lt b (length m.home)) (has_request_row (entry_at riding.fresh m.home b).stage c
-      mail.item)
-      (lt-ltb b (length m.home) (request_within riding carrying m c mail rest h lc is))
+      row_there m b (has_request_row (entry_at riding.fresh m.home b).stage c mail.item)
+      (request_within riding carrying m c mail rest h lc is)
       ((rows_of riding carrying m b h).request c (core_below riding carrying m c h lc) free (ask_of mail.item)
       (asks_of b rest)
-      (asked_first riding (port_at carrying m.ports c) mail rest is)))
+      (asked_first riding (port_at carrying m.ports c) mail rest is))
 
   response_rows : (riding : Riding R) (carrying : Carrying K) (m : Memory R K) (c : ℕ) → MemoryHolds riding carrying m →
       c < length m.ports →
@@ -108,11 +112,9 @@ module _ {R K : Type 0} where
       IsTrue (can_respond_in q riding m c)
   response_rows riding carrying m c h lc [] is some = absurd (cc)
   response_rows riding carrying m c h lc (mail ∷ rest) is some =
-      let b : ℕ = response_block mail.item in
-      is_true _ (and_from (nat_lt b (length m.home)) (has_response_row (entry_at riding.fresh m.home b).stage c
-      mail.item)
-      (lt-ltb b (length m.home) (response_within riding carrying m c mail rest h lc is))
-      (response_asked riding carrying m c mail rest h lc is))
+      row_there m (response_block mail.item)
+      (has_response_row (entry_at riding.fresh m.home (response_block mail.item)).stage c mail.item)
+      (response_within riding carrying m c mail rest h lc is) (response_asked riding carrying m c mail rest h lc is)
 
   message_rows : (riding : Riding R) (carrying : Carrying K) (m : Memory R K) (c : ℕ) → MemoryHolds riding carrying m →
       c < length m.ports →

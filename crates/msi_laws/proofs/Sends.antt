@@ -1,6 +1,6 @@
 -- What the home sends goes to a core that is there.
-use Rattle.std.proofs.Common.{◌≡◌, ◌≢◌, ap, sym, subst, ℕ, ◌<◌, ◌≤◌, Bool, true, false, length, Some, arith, inl, inr}
-use Rattle.std.proofs.Common.{◌⊎◌}
+use Rattle.std.proofs.Common.{◌≡◌, ◌≢◌, ap, refl, sym, subst, ℕ, ◌<◌, ◌≤◌, Bool, true, false, List, [], ◌∷◌, length, Some}
+use Rattle.std.proofs.Common.{arith, inl, inr, ◌⊎◌}
 use Rattle.msi_directory.specs.Entries.{answer_to_request, answer_to_response}
 use Rattle.rtr_types.specs.declared.TheConstants.{CORES_MAX}
 use Rattle.std.proofs.lemmas.Bool.Decides.{nat_tests}
@@ -13,7 +13,9 @@ use Rattle.msi_cache.specs.Messages.{block_of, request_block, response_block}
 use Rattle.msi_directory.specs.declared.entry.Entry.{Entry}
 use Rattle.msi_directory.specs.Blocks.{entry_at}
 use Rattle.msi_protocol.specs.Phases.{Role, Out, role, StageFits}
-use Rattle.msi_memory.specs.Memories.{Memory}
+use Rattle.msi_memory.specs.declared.port.Mail.{Mail}
+use Rattle.msi_memory.specs.Memories.{Memory, port_at}
+use Rattle.msi_memory.specs.Acts.{take_request_in, take_response_in}
 use Rattle.msi_protocol.specs.Seats.{FullBlock}
 use Rattle.msi_protocol.specs.Shown.{Payload}
 use Rattle.msi_laws.specs.Links.{AllShow}
@@ -21,6 +23,7 @@ use Rattle.msi_laws.proofs.Sent.{Sends}
 use Rattle.msi_laws.specs.Holds.{Anything, MemoryHolds}
 use Rattle.msi_laws.proofs.KindsShown.{shows_hold}
 use Rattle.msi_laws.proofs.Standing.{there}
+use Rattle.msi_laws.proofs.Taken.{Taken, after_taken, request_taken, response_taken}
 use Rattle.msi_directory.specs.declared.entry.Stage.{Stage}
 
 abbrev is_out : Role → Bool
@@ -108,3 +111,33 @@ module _ {R K : Type 0} where
       ) → to < length m.ports
   response_there riding carrying m c r h to sent is =
       ((sends_response riding carrying Anything m c r h.shows).each to sent is).0
+
+  -- what the home takes of core c's messages leaves its cache and the rooms of its links, and is answered to ports that
+  -- are there
+  pub record IsTaken (carrying : Carrying K) (m : Memory R K) (c : ℕ) (t : Taken R K) : Type 0 where
+    pub cache : t.left.cache ≡ (port_at carrying m.ports c).cache
+    pub requests : t.left.requests.room ≡ (port_at carrying m.ports c).requests.room
+    pub responses : t.left.responses.room ≡ (port_at carrying m.ports c).responses.room
+    pub messages : t.left.messages.room ≡ (port_at carrying m.ports c).messages.room
+    pub there : (to : ℕ) (sent : FromHome R) → t.answer.send ≡ Some (to, sent) → to < length m.ports
+
+  -- so what holds now, and would after anything that is so taken, holds after the home took a request, or a response
+  pub by_request : (P : Memory R K → Type 0) (riding : Riding R) (carrying : Carrying K) (m : Memory R K) (c : ℕ)
+      (q : List (Mail (Request R) K)) → MemoryHolds riding carrying m → c < length m.ports → P m →
+      ((t : Taken R K) → IsTaken carrying m c t → P (after_taken carrying m c t)) →
+      P (take_request_in q riding carrying m c)
+  by_request P riding carrying m c [] h lc now each = now
+  by_request P riding carrying m c (mail ∷ rest) h lc now each =
+      let there = request_there riding carrying m c mail.item h lc in
+      each (request_taken riding carrying m c mail rest)
+      (record { cache = refl; requests = refl; responses = refl; messages = refl; there = there })
+
+  pub by_response : (P : Memory R K → Type 0) (riding : Riding R) (carrying : Carrying K) (m : Memory R K) (c : ℕ)
+      (q : List (Mail (Response R) K)) → MemoryHolds riding carrying m → P m →
+      ((t : Taken R K) → IsTaken carrying m c t → P (after_taken carrying m c t)) →
+      P (take_response_in q riding carrying m c)
+  by_response P riding carrying m c [] h now each = now
+  by_response P riding carrying m c (mail ∷ rest) h now each =
+      let there = response_there riding carrying m c mail.item h in
+      each (response_taken riding carrying m c mail rest)
+      (record { cache = refl; requests = refl; responses = refl; messages = refl; there = there })

@@ -1,7 +1,7 @@
 -- No link that an act pushes to is full, and no link has more on it than it has room for.
 use Rattle.std.proofs.Common.{◌≡◌, ◌∙◌, ap, refl, sym, subst, ℕ, ◌<◌, ◌≤◌, ◌==◌, ◌%◌, Bool, true, false, List, [], ◌∷◌}
 use Rattle.std.proofs.Common.{length, Option, Some, None}
-use Rattle.std.proofs.Common.{suc, arith, IsTrue}
+use Rattle.std.proofs.Common.{suc, arith, IsTrue, inl}
 use Rattle.std.proofs.lemmas.Bool.{eq-eqb}
 use Rattle.std.proofs.lemmas.Bool.Decides.{nat_tests}
 use Rattle.access_times.specs.Riding.{Riding, Carrying}
@@ -38,7 +38,7 @@ use Rattle.msi_laws.proofs.Standing.{view_waits, core_below, response_asked, sta
 use Rattle.msi_laws.proofs.PortsKept.{there_of, can_of, can_want}
 use Rattle.msi_laws.proofs.Pigeons.{owns, Free}
 use Rattle.msi_laws.proofs.Waiting.{items_of, owns_items, own_count, requester, Wants, wants_one, own_wants}
-use Rattle.msi_laws.proofs.Waiting.{other_owes, owed_to, messages_few}
+use Rattle.msi_laws.proofs.Waiting.{others_owe, owed_to, messages_few}
 use Rattle.msi_laws.proofs.Waiting.{messages_fewer, answers_fewer, phase_asks, phase_awaits, awaiting}
 
 -- the home answers a response where some core waits for that
@@ -142,7 +142,7 @@ module _ {R K : Type 0} where
             ∙ (ap (λ (x : ℕ). own_count (port_view riding x (port_at carrying m.ports c)).messages) at ∙ q.1) in
             absurd (omega arith);
         other = λ b e same.
-            let owed = owed_to riding carrying m d b h (other_owes riding carrying m d b ld h e) in
+            let owed = owed_to riding carrying m d b h (others_owe riding carrying m d b ld h (inl e)) in
             let at : b ≡ request_block mail.item =
             wants_one riding carrying m h c b (request_block mail.item) (subst (λ (x : ℕ). Wants riding carrying m x b)
             same owed.0) q.0 in
@@ -189,7 +189,7 @@ module _ {R K : Type 0} where
             owns_items b (port_at carrying m.ports to).messages.items
             ∙ (ap (λ (x : ℕ). own_count (port_view riding x (port_at carrying m.ports to)).messages) at ∙ none) in
             absurd (omega arith);
-        other = λ b e. (owed_to riding carrying m to b h (other_owes riding carrying m to b lt h e)).1;
+        other = λ b e. (owed_to riding carrying m to b h (others_owe riding carrying m to b lt h (inl e))).1;
       }
 
   response_room : (riding : Riding R) (carrying : Carrying K) (m : Memory R K) (c : ℕ) (mail : Mail (Response R) K)

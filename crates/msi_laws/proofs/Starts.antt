@@ -19,7 +19,7 @@ use Rattle.msi_directory.specs.declared.entry.Entry.{Entry}
 use Rattle.msi_directory.specs.declared.entry.Stage.TheVariants.{Unshared}
 use Rattle.msi_protocol.specs.Phases.{Idle}
 use Rattle.msi_laws.specs.Links.{line_here, line_if}
-use Rattle.msi_protocol.specs.Seats.{FullBlock}
+use Rattle.msi_protocol.specs.Seats.{FullBlock, HoldersHave}
 use Rattle.msi_protocol.specs.Shown.{Payload, Sight}
 use Rattle.msi_memory.specs.declared.port.Port.{Port}
 use Rattle.msi_memory.specs.Memories.{port_at, no_port, port_start, memory_start}
@@ -39,21 +39,13 @@ not_waiting : true ≡ false → ⊥
 not_waiting e = grind arith
 
 module _ {R : Type 0} where
+  abbrev unshared : Entry R → Entry R
+  unshared e = record { stage = Unshared; words = e.words; rider = e.rider }
+
   opened : (fresh : R) (image : Contents) (b : ℕ) (e : Entry R) →
-      (e ≡ opening_entry fresh image b) ⊎ (e ≡ no_entry fresh) → ◌≡◌ {A = Entry R}
-      (record { stage = Unshared; words = e.words; rider = e.rider }) e
-  opened fresh image b e (inl is) = subst (λ (x : Entry R). ◌≡◌ {A = Entry R} (record {
-    stage = Unshared;
-    words =
-        x.words;
-    rider = x.rider;
-  }) x) (sym is) refl
-  opened fresh image b e (inr is) = subst (λ (x : Entry R). ◌≡◌ {A = Entry R} (record {
-    stage = Unshared;
-    words =
-        x.words;
-    rider = x.rider;
-  }) x) (sym is) refl
+      (e ≡ opening_entry fresh image b) ⊎ (e ≡ no_entry fresh) → unshared e ≡ e
+  opened fresh image b e (inl is) = subst (λ (x : Entry R). unshared x ≡ x) (sym is) refl
+  opened fresh image b e (inr is) = subst (λ (x : Entry R). unshared x ≡ x) (sym is) refl
 
   entry_start : (fresh : R) (image : Contents) (b : ℕ) →
       (entry_at fresh (opening_entries fresh image) b ≡ opening_entry fresh image b) ⊎
@@ -122,8 +114,22 @@ module _ {R : Type 0} where
         seats = λ d. record { phase = Idle; line = none; sent = none; reply = none; put = none };
       }
 
+  -- each holder of it has a property that the home's copy has
+  pub opened_holders : (P : Payload R → Type 0) (none : Payload R) (e : Entry R) → P (opened_block none e).home →
+      HoldersHave P (opened_block none e)
+  opened_holders P none e has =
+      record {
+        home = λ counts. has;
+        seats = λ d ld. record {
+          line = λ counts. absurd cc;
+          sent = λ counts. absurd cc;
+          reply = λ counts. absurd cc;
+          put = λ counts. absurd cc;
+        };
+      }
+
 module _ {R K : Type 0} where
-  port_start_at : (riding : Riding R) (carrying : Carrying K) (cores d : ℕ) → d < cores →
+  pub port_start_at : (riding : Riding R) (carrying : Carrying K) (cores d : ℕ) → d < cores →
       port_at carrying (replicate cores (port_start riding carrying)) d ≡ port_start riding carrying
   port_start_at riding carrying cores d within = get_or-replicate cores d (port_start riding carrying)
       (no_port carrying) within
@@ -200,13 +206,5 @@ module _ {R K : Type 0} where
   words_start riding carrying image cores =
       start_shows riding carrying (HasWords (λ b. (entry_at riding.fresh (opening_entries riding.fresh image) b).words))
       image cores
-      (λ b none. record {
-        home = λ counts. refl;
-        seats = λ d ld. record {
-          line = λ counts. absurd cc;
-          sent = λ counts. absurd cc;
-          reply =
-              λ counts. absurd cc;
-          put = λ counts. absurd cc;
-        };
-      })
+      (λ b none. opened_holders (λ x. x.words ≡ (entry_at riding.fresh (opening_entries riding.fresh image) b).words)
+      none (entry_at riding.fresh (opening_entries riding.fresh image) b) refl)

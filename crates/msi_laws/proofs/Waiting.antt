@@ -2,7 +2,7 @@
 -- link has more messages than there are cores.
 use Rattle.std.proofs.Common.{◌≡◌, ◌≢◌, ◌∙◌, ap, refl, sym, subst, ℕ, ◌+◌, ◌<◌, ◌≤◌, ◌==◌, ◌%◌, Bool, true, false, not}
 use Rattle.std.proofs.Common.{cond, ◌&&◌, List, [], ◌∷◌, length, suc}
-use Rattle.std.proofs.Common.{arith}
+use Rattle.std.proofs.Common.{arith, inl, inr, ◌⊎◌}
 use Rattle.std.specs.Prelude.{slice_index_or}
 use Rattle.std.proofs.lemmas.Bool.Decides.{nat_tests}
 use Rattle.access_times.specs.Riding.{Riding, Carrying}
@@ -210,27 +210,23 @@ module _ {R K : Type 0} where
             (phase_own st.phase (omega arith));
       }
 
-  pub other_owes : (riding : Riding R) (carrying : Carrying K) (m : Memory R K) (d b : ℕ) → d < length m.ports →
+  -- where a message to a core is for another, and where it responds, it owes
+  pub others_owe : (riding : Riding R) (carrying : Carrying K) (m : Memory R K) (d b : ℕ) → d < length m.ports →
       MemoryHolds riding carrying m →
-      1 ≤ others b (items_of (port_at carrying m.ports d).messages.items) →
+      (1 ≤ others b (items_of (port_at carrying m.ports d).messages.items))
+      ⊎ (1 ≤ others b (answers_of (port_at carrying m.ports d).responses.items)) →
       owes (role (entry_at riding.fresh m.home b).stage d) ≡ true
-  other_owes riding carrying m d b ld h e =
+  others_owe riding carrying m d b ld h e =
       let n : Port R K = port_at carrying m.ports d in
       let st = stands_at riding carrying m d b ld h in
-      let same : others b (items_of n.messages.items) ≡ other_count (picture st.phase).messages =
+      let sent : others b (items_of n.messages.items) ≡ other_count (picture st.phase).messages =
       others_items b n.messages.items ∙ ap (λ (v : View). other_count v.messages) (sym st.view_is) in
-      sym (ap owes st.role_is) ∙ phase_other st.phase (omega arith)
-
-  pub answer_owes : (riding : Riding R) (carrying : Carrying K) (m : Memory R K) (d b : ℕ) → d < length m.ports →
-      MemoryHolds riding carrying m →
-      1 ≤ others b (answers_of (port_at carrying m.ports d).responses.items) →
-      owes (role (entry_at riding.fresh m.home b).stage d) ≡ true
-  answer_owes riding carrying m d b ld h e =
-      let n : Port R K = port_at carrying m.ports d in
-      let st = stands_at riding carrying m d b ld h in
-      let same : others b (answers_of n.responses.items) ≡ length (picture st.phase).responses =
+      let answered : others b (answers_of n.responses.items) ≡ length (picture st.phase).responses =
       others_answers b n.responses.items ∙ ap (λ (v : View). length v.responses) (sym st.view_is) in
-      sym (ap owes st.role_is) ∙ phase_reply st.phase (omega arith)
+      sym (ap owes st.role_is) ∙ elim e [
+        | inl some ↦ phase_other st.phase (omega arith)
+        | inr some ↦ phase_reply st.phase (omega arith)
+      ]
 
   -- ---- how many there are
 
@@ -246,8 +242,8 @@ module _ {R K : Type 0} where
             rw (others_items b (port_at carrying m.ports d).messages.items)
             (subst (λ (v : View). other_count v.messages ≤ 1) st.view_is (phase_other_once st.phase));
         own = λ b e. own_wants riding carrying m d b ld h e;
-        other = λ b e. (owed_to riding carrying m d b h (other_owes riding carrying m d b ld h e)).0;
-        not_own = λ b e. (owed_to riding carrying m d b h (other_owes riding carrying m d b ld h e)).1;
+        other = λ b e. (owed_to riding carrying m d b h (others_owe riding carrying m d b ld h (inl e))).0;
+        not_own = λ b e. (owed_to riding carrying m d b h (others_owe riding carrying m d b ld h (inl e))).1;
       }
 
   messages_below : (riding : Riding R) (carrying : Carrying K) (m : Memory R K) (d : ℕ) → d < length m.ports →
@@ -256,7 +252,7 @@ module _ {R K : Type 0} where
   messages_below riding carrying m d ld h =
       record {
         own = λ b e. ld;
-        other = λ b e. (owed_to riding carrying m d b h (other_owes riding carrying m d b ld h e)).0.core;
+        other = λ b e. (owed_to riding carrying m d b h (others_owe riding carrying m d b ld h (inl e))).0.core;
       }
 
   -- the messages to a core are at most as many as the cores
@@ -299,20 +295,19 @@ module _ {R K : Type 0} where
             rw (others_answers b n.responses.items) (subst (λ (v : View). length v.responses ≤ 1) st.view_is
             (few_responses st.phase));
         own = λ b e. absurd (let z = owns_answers b n.responses.items in omega arith);
-        other = λ b e. (owed_to riding carrying m d b h (answer_owes riding carrying m d b ld h e)).0;
-        not_own = λ b e. (owed_to riding carrying m d b h (answer_owes riding carrying m d b ld h e)).1;
+        other = λ b e. (owed_to riding carrying m d b h (others_owe riding carrying m d b ld h (inr e))).0;
+        not_own = λ b e. (owed_to riding carrying m d b h (others_owe riding carrying m d b ld h (inr e))).1;
       } in
       let free : Free (requester riding m) d d xs =
       record {
         own = λ b e. absurd (let z = owns_answers b n.responses.items in omega arith);
-        other = λ b e. (owed_to riding carrying m d b h (answer_owes riding carrying m d b ld h e)).1;
+        other = λ b e. (owed_to riding carrying m d b h (others_owe riding carrying m d b ld h (inr e))).1;
       } in
       let lt = fewer_than_cores (requester riding m) d d (length m.ports) (Wants riding carrying m)
       (wants_one riding carrying m h) xs ld apart free
       (record {
         own = λ b e. ld;
-        other = λ b e. (owed_to riding carrying m d b h (answer_owes riding carrying m d b ld h
-            e)).0.core;
+        other = λ b e. (owed_to riding carrying m d b h (others_owe riding carrying m d b ld h (inr e))).0.core;
       }) in
       let long = length-answers n.responses.items in
       omega arith

@@ -12,25 +12,21 @@ use Rattle.msi_cache.specs.declared.line.Line.{Line}
 use Rattle.msi_cache.specs.declared.line.State.{State as LineState}
 use Rattle.msi_cache.specs.declared.messages.FromHome.{FromHome}
 use Rattle.msi_cache.specs.declared.messages.Response.{Response}
-use Rattle.msi_cache.specs.declared.messages.Request.{Request}
 use Rattle.msi_cache.specs.Table.{is_transient}
-use Rattle.msi_cache.specs.Messages.{request_block, response_block}
 use Rattle.msi_cache.specs.Lines.{line_for, is_allowed, waits}
-use Rattle.msi_directory.specs.declared.entry.HomeAnswer.{HomeAnswer}
-use Rattle.msi_directory.specs.Entries.{answer_to_request, answer_to_response}
-use Rattle.msi_directory.specs.Blocks.{entry_at}
 use Rattle.msi_memory.specs.declared.port.Mail.{Mail}
 use Rattle.msi_memory.specs.declared.port.Port.{Port}
 use Rattle.msi_memory.specs.Memories.{Memory, port_at}
 use Rattle.msi_memory.specs.Acts.{Want, Touch, Retire, TakeRequest, TakeResponse, TakeMessage, after_act, with_port}
-use Rattle.msi_memory.specs.Acts.{delivered, allows, data_next}
-use Rattle.msi_memory.specs.Acts.{take_request_in, take_response_in, port_asking, port_touched, port_retiring}
+use Rattle.msi_memory.specs.Acts.{allows, data_next}
+use Rattle.msi_memory.specs.Acts.{port_asking, port_touched, port_retiring}
 use Rattle.msi_memory.specs.Acts.{port_hearing, port_taking, port_answering}
-use Rattle.msi_memory.specs.Acts.{port_requested, port_responded, answer_to}
+use Rattle.msi_memory.specs.Acts.{port_sent, answer_to}
 use Rattle.msi_laws.specs.Holds.{MemoryHolds, place_at}
 use Rattle.msi_laws.specs.Waits.{serves, WaitsFor, WantsLaw, WaitsLaw, StillLaw, GrantsLaw}
 use Rattle.msi_laws.proofs.Views.{port_at-set}
-use Rattle.msi_laws.proofs.Sends.{request_there, response_there}
+use Rattle.msi_laws.proofs.Sends.{IsTaken, by_request, by_response}
+use Rattle.msi_laws.proofs.Taken.{Taken, after_taken}
 use Rattle.msi_laws.proofs.Lines.{none_waits, waits_none, same_lines_wait, asking_waits, fits_still, still_serves}
 use Rattle.msi_laws.proofs.Lines.{taking_waits, taking_allows, taking_still}
 use Rattle.msi_laws.proofs.Standing.{HasRow, message_row}
@@ -97,41 +93,15 @@ module _ {R K : Type 0} where
       (taking_waits riding carrying p mail rest block kind (h.ports c lc).all_lines (message_row riding carrying m c
       mail rest lc is h).there f)
 
-  -- what the home does leaves every cache as it is
-  answered_waits : (riding : Riding R) (carrying : Carrying K) (m : Memory R K) (c : ℕ) (q : Port R K)
-      (answer : HomeAnswer R) (at : ℕ) (k : K)
-      (d block : ℕ) (kind : Kind) → c < length m.ports → q.cache ≡ (port_at carrying m.ports c).cache →
-      ((to : ℕ) (sent : FromHome R) → answer.send ≡ Some (to, sent) → to < length m.ports) →
-      WaitsFor riding (port_at carrying m.ports d) block kind →
-      WaitsFor riding (port_at carrying (delivered carrying answer at k (slice_set m.ports c q)) d) block kind
-  answered_waits riding carrying m c q answer at k d block kind lc same sends f =
-      delivered_keeps (λ (p : Port R K). WaitsFor riding p block kind) carrying answer at k (slice_set m.ports c q)
-      (λ p sent g. g)
-      (λ to sent is. rw length-set (sends to sent is)) d
-      (port_keeps (λ (p : Port R K). WaitsFor riding p block kind) carrying m c q d lc
-      (λ here g. relinked_waits riding (port_at carrying m.ports c) q block kind same g) f)
-
-  request_waits : (riding : Riding R) (carrying : Carrying K) (m : Memory R K) (c : ℕ) (q : List (Mail (Request R) K))
-      (d block : ℕ) (kind : Kind) →
-      MemoryHolds riding carrying m → c < length m.ports → WaitsFor riding (port_at carrying m.ports d) block kind →
-      WaitsFor riding (port_at carrying (take_request_in q riding carrying m c).ports d) block kind
-  request_waits riding carrying m c [] d block kind h lc f = f
-  request_waits riding carrying m c (mail ∷ rest) d block kind h lc f =
-      answered_waits riding carrying m c (port_requested (port_at carrying m.ports c) rest)
-      (answer_to_request riding.absorbed (entry_at riding.fresh m.home (request_block mail.item)) c mail.item)
-      (request_block mail.item)
-      (carrying.joined m.carry mail.carry) d block kind lc refl (request_there riding carrying m c mail.item h lc) f
-
-  response_waits : (riding : Riding R) (carrying : Carrying K) (m : Memory R K) (c : ℕ) (q : List (Mail (Response R) K))
-      (d block : ℕ) (kind : Kind) →
-      MemoryHolds riding carrying m → c < length m.ports → WaitsFor riding (port_at carrying m.ports d) block kind →
-      WaitsFor riding (port_at carrying (take_response_in q riding carrying m c).ports d) block kind
-  response_waits riding carrying m c [] d block kind h lc f = f
-  response_waits riding carrying m c (mail ∷ rest) d block kind h lc f =
-      answered_waits riding carrying m c (port_responded (port_at carrying m.ports c) rest)
-      (answer_to_response riding.absorbed (entry_at riding.fresh m.home (response_block mail.item)) c mail.item)
-      (response_block mail.item)
-      (carrying.joined m.carry mail.carry) d block kind lc refl (response_there riding carrying m c mail.item h) f
+  -- what the home takes leaves every cache as it is, and so each fact that is of a cache
+  pub taken_keeps : (P : Port R K → Type 0) → ((p q : Port R K) → q.cache ≡ p.cache → P p → P q) →
+      (carrying : Carrying K) (m : Memory R K) (c d : ℕ) → c < length m.ports → P (port_at carrying m.ports d) →
+      (t : Taken R K) → IsTaken carrying m c t → P (port_at carrying (after_taken carrying m c t).ports d)
+  taken_keeps P keeps carrying m c d lc f t is =
+      delivered_keeps P carrying t.answer t.block t.carry (slice_set m.ports c t.left)
+      (λ p sent g. keeps p (port_sent p sent t.carry) refl g)
+      (λ to sent e. rw length-set (is.there to sent e)) d
+      (port_keeps P carrying m c t.left d lc (λ here g. keeps (port_at carrying m.ports c) t.left is.cache g) f)
 
   pub waits_law : (riding : Riding R) (carrying : Carrying K) → WaitsLaw riding carrying
   waits_law riding carrying m (Want c block' kind') d block kind h e other ld f =
@@ -151,11 +121,14 @@ module _ {R K : Type 0} where
       (there_of riding carrying m (Retire c at) e)
       (λ here g. relinked_waits riding p (port_retiring carrying p at) block kind refl g) f
   waits_law riding carrying m (TakeRequest c) d block kind h e other ld f =
-      request_waits riding carrying m c (port_at carrying m.ports c).requests.items d block kind h
-      (there_of riding carrying m (TakeRequest c) e) f
+      let lc = there_of riding carrying m (TakeRequest c) e in
+      by_request (λ (n : Memory R K). WaitsFor riding (port_at carrying n.ports d) block kind) riding carrying m c
+      (port_at carrying m.ports c).requests.items h lc f (taken_keeps (λ (p : Port R K). WaitsFor riding p block kind)
+      (λ p q. relinked_waits riding p q block kind) carrying m c d lc f)
   waits_law riding carrying m (TakeResponse c) d block kind h e other ld f =
-      response_waits riding carrying m c (port_at carrying m.ports c).responses.items d block kind h
-      (there_of riding carrying m (TakeResponse c) e) f
+      by_response (λ (n : Memory R K). WaitsFor riding (port_at carrying n.ports d) block kind) riding carrying m c
+      (port_at carrying m.ports c).responses.items h f (taken_keeps (λ (p : Port R K). WaitsFor riding p block kind)
+      (λ p q. relinked_waits riding p q block kind) carrying m c d (there_of riding carrying m (TakeResponse c) e) f)
   waits_law riding carrying m (TakeMessage c) d block kind h e other ld f =
       let lc = there_of riding carrying m (TakeMessage c) e in
       let p : Port R K = port_at carrying m.ports c in
