@@ -1,24 +1,29 @@
 -- Acts of the memory system, one after the other: a fact that each of them keeps is kept by all, and no act makes a
 -- port or a block, or takes one away.
-use Rattle.std.proofs.Common.{◌≡◌, ◌∙◌, refl, ap, ℕ, ◌<◌, ◌==◌, Bool, true, false, List, [], ◌∷◌, length, IsTrue}
+use Rattle.std.proofs.Common.{◌≡◌, ◌∙◌, refl, sym, ap, subst, ℕ, ◌<◌, ◌==◌, Bool, true, false, List, [], ◌∷◌, length}
+use Rattle.std.proofs.Common.{IsTrue, nat_lt, ◌&&◌}
 use Rattle.std.specs.Prelude.{if◌then◌else◌}
 use Rattle.std.specs.List.{list_all}
+use Rattle.std.proofs.lemmas.Bool.{lt-ltb}
 use Rattle.std.proofs.lemmas.List.{length-set, set-set, set-get_or}
 use Rattle.access_times.specs.Riding.{Riding, Carrying}
-use Rattle.rtr_types.proofs.Truths.{first_true, second_true}
+use Rattle.rtr_types.proofs.Truths.{both_true, first_true, second_true}
+use Rattle.rtr_types.specs.declared.access.Kind.{Kind}
+use Rattle.rtr_types.specs.declared.instr.Instr.{Instr}
 use Rattle.msi_cache.specs.declared.messages.Request.{Request}
 use Rattle.msi_cache.specs.declared.messages.Response.{Response}
 use Rattle.msi_cache.specs.Messages.{request_block, response_block}
 use Rattle.msi_memory.specs.declared.port.Mail.{Mail}
 use Rattle.msi_memory.specs.declared.port.Port.{Port}
 use Rattle.msi_memory.specs.Acts.{Act, Want, Touch, Retire, TakeRequest, TakeResponse, TakeMessage, can, can_all}
-use Rattle.msi_memory.specs.Acts.{after_act, after_acts, with_port}
+use Rattle.msi_memory.specs.Acts.{after_act, after_acts, allows, port_retiring, with_port}
 use Rattle.msi_memory.specs.Acts.{take_request_in, take_response_in}
 use Rattle.msi_memory.specs.Memories.{Memory, port_at, no_port}
 use Rattle.msi_laws.specs.Holds.{MemoryHolds}
 use Rattle.msi_laws.proofs.Kept.{memory_kept}
 use Rattle.msi_laws.proofs.PortsKept.{length_act}
 use Rattle.msi_laws.proofs.Views.{port_at-set}
+use Rattle.msi_laws.proofs.Waits.{port_there}
 
 -- what acts make of a value that each of them changes
 abbrev pub folded : {R X : Type 0} → (Act R → X → X) → List (Act R) → X → X
@@ -134,3 +139,31 @@ module _ {R K : Type 0} where
   pub port_same : (carrying : Carrying K) (m : Memory R K) (c : ℕ) → with_port m c (port_at carrying m.ports c) ≡ m
   port_same carrying m c = ap (λ (ports : List (Port R K)). record m { ports = ports })
       (set-get_or m.ports c (no_port carrying))
+
+module _ {R K : Type 0} where
+  -- ---- what a core does at its port can be done
+
+  pub retire_can : (riding : Riding R) (carrying : Carrying K) (m : Memory R K) (c : ℕ) (at : Instr) → c < length m.ports →
+      IsTrue (can_all riding carrying m (Retire c at ∷ []))
+  retire_can riding carrying m c at within =
+      both_true (nat_lt c (length m.ports) && true) true
+      (both_true (nat_lt c (length m.ports)) true (lt-ltb c (length m.ports) within) refl) refl
+
+  -- an instruction retires, and then touches its word where the port allows it
+  pub touch_can : (riding : Riding R) (carrying : Carrying K) (rider : R) (m : Memory R K) (c : ℕ) (at : Instr)
+      (block slot : ℕ) (kind : Kind) (value : ℕ) → c < length m.ports →
+      allows riding (port_at carrying m.ports c) block kind ≡ true →
+      IsTrue (can_all riding carrying m (Retire c at ∷ Touch c block slot kind value rider ∷ []))
+  touch_can riding carrying rider m c at block slot kind value within allowed =
+      let left : Memory R K = after_act riding carrying m (Retire c at) in
+      let touch : Act R = Touch c block slot kind value rider in
+      let there : c < length left.ports =
+      subst (λ (n : ℕ). c < n) (sym (length_act riding carrying m (Retire c at))) within in
+      let leave : allows riding (port_at carrying left.ports c) block kind ≡ true =
+      ap (λ (p : Port R K). allows riding p block kind)
+      (port_there carrying m c (port_retiring carrying (port_at carrying m.ports c) at) within) ∙ allowed in
+      both_true (can riding carrying m (Retire c at)) (can_all riding carrying left (touch ∷ []))
+      (both_true (nat_lt c (length m.ports)) true (lt-ltb c (length m.ports) within) refl)
+      (both_true (can riding carrying left touch) true
+      (both_true (nat_lt c (length left.ports)) (allows riding (port_at carrying left.ports c) block kind)
+      (lt-ltb c (length left.ports) there) leave) refl)

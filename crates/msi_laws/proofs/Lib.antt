@@ -18,6 +18,7 @@ pub mod Pigeons
 pub mod Waiting
 pub mod Spaces
 pub mod Ready
+pub mod Moves
 pub mod Moving
 pub mod Acting
 pub mod Awaits

@@ -1,11 +1,11 @@
 -- While a port waits some message can be taken, and where none waits nothing is under way.
 use Rattle.std.proofs.Common.{◌≡◌, ◌∙◌, ap, refl, sym, subst, ℕ, ◌<◌, ◌≤◌, ◌%◌, Bool, true, false, not, nat_lt, ◌||◌}
 use Rattle.std.proofs.Common.{List, [], ◌∷◌, length, arith}
-use Rattle.std.proofs.Common.{inl, inr, ◌⊎◌}
+use Rattle.std.proofs.Common.{inl, inr, ◌⊎◌, ◌&&◌}
 use Rattle.std.specs.Prelude.{if◌then◌else◌, slice_index_or}
 use Rattle.std.proofs.lemmas.List.{get_or_default}
-use Rattle.std.proofs.lemmas.List.Sums.{list_all-from_AllPass}
-use Rattle.std.proofs.lemmas.Bool.{cases_lt, eq-eqb, lt-ltb, and_from}
+use Rattle.std.proofs.lemmas.List.Sums.{AllPass-from_list_all, list_all-from_AllPass}
+use Rattle.std.proofs.lemmas.Bool.{and_parts, cases_lt, eq-eqb, lt-ltb, and_from}
 use Rattle.access_times.specs.Riding.{Riding, Carrying}
 use Rattle.link_order.specs.Queue.{is_nil}
 use Rattle.rtr_types.specs.declared.TheConstants.{LINES}
@@ -27,12 +27,15 @@ use Rattle.msi_protocol.proofs.Keeps.{busy_moves}
 use Rattle.msi_memory.specs.declared.port.Mail.{Mail}
 use Rattle.msi_memory.specs.declared.port.Port.{Port}
 use Rattle.msi_memory.specs.Memories.{Memory, port_at, no_port}
-use Rattle.msi_memory.specs.Acts.{Act, TakeRequest, TakeResponse, TakeMessage, can_at, head_free, port_of}
+use Rattle.msi_memory.specs.Acts.{Act, Want, Touch, Retire, TakeRequest, TakeResponse, TakeMessage, can, can_at}
+use Rattle.msi_memory.specs.Acts.{head_free, port_of}
 use Rattle.msi_memory.specs.Waiting.{ends_wait}
 use Rattle.msi_laws.specs.Sights.{line_state, asks_of, replies_of, signals_of}
 use Rattle.msi_laws.specs.Holds.{MemoryHolds, port_view, block_in}
-use Rattle.msi_laws.specs.Moving.{CanTake, MovingLaw, QuietLaw, are_links_empty, is_take}
+use Rattle.msi_laws.specs.Moving.{CanTake, MovingLaw, QuietLaw, are_links_empty, is_take, links_empty}
+use Rattle.msi_directory.specs.declared.entry.Entry.{Entry}
 use Rattle.msi_laws.proofs.KindsShown.{blocks_hold}
+use Rattle.msi_laws.proofs.Moves.{not_enabled}
 use Rattle.msi_laws.proofs.Lines.{waits_some, waits_none, transient_there}
 use Rattle.msi_laws.proofs.Standing.{past_view, view_waits, stands_at}
 use Rattle.msi_laws.proofs.Pigeons.{Item, owns, others, own_here, other_here}
@@ -48,6 +51,16 @@ phase_waits p w m r q = grind arith
 
 awaits_busy : (stage : Stage) (d : ℕ) → awaiting (role stage d) ≡ true → is_free stage ≡ false
 awaits_busy stage d e = grind arith
+
+-- an act that takes a message is one of three
+pub by_take : {R : Type 0} (P : Act R → Type 0) → ((c : ℕ) → P (TakeRequest c)) → ((c : ℕ) → P (TakeResponse c)) →
+    ((c : ℕ) → P (TakeMessage c)) → (act : Act R) → is_take act ≡ true → P act
+by_take P request response message (Want c block kind) e = absurd (cc)
+by_take P request response message (Touch c block slot kind value rider) e = absurd (cc)
+by_take P request response message (Retire c at) e = absurd (cc)
+by_take P request response message (TakeRequest c) e = request c
+by_take P request response message (TakeResponse c) e = response c
+by_take P request response message (TakeMessage c) e = message c
 
 nothing_left : {X : Type 0} (xs : List X) → ((x : X) (rest : List X) → xs ≡ x ∷ rest → ⊥) → xs ≡ []
 nothing_left [] none = refl
@@ -240,3 +253,26 @@ module _ {R K : Type 0} where
       list_all-from_AllPass are_links_empty m.ports
       (λ c d lc. subst (λ (p : Port R K). are_links_empty p ≡ true) (get_or_default m.ports c (no_port carrying) d lc)
       (port_empty riding carrying m c h lc (none_wants riding carrying m none)))
+
+  -- nor can anything be taken then
+  none_at : (riding : Riding R) (home : List (Entry R)) (p : Port R K) (act : Act R) → is_take act ≡ true →
+      are_links_empty p ≡ true → can_at riding home p act ≡ false
+  none_at riding home p act take empty = by_take (λ (a : Act R). can_at riding home p a ≡ false)
+      (λ c. by_items p.requests.items none.0) (λ c. ap not rest.0) (λ c. ap not rest.1) act take
+    where
+      none : (is_nil p.requests.items ≡ true) × ((is_nil p.responses.items && is_nil p.messages.items) ≡ true)
+      none = and_parts (is_nil p.requests.items) (is_nil p.responses.items && is_nil p.messages.items) empty
+
+      rest : (is_nil p.responses.items ≡ true) × (is_nil p.messages.items ≡ true)
+      rest = and_parts (is_nil p.responses.items) (is_nil p.messages.items) none.1
+
+      by_items : (q : List (Mail (Request R) K)) → is_nil q ≡ true → head_free q riding home ≡ false
+      by_items [] e = refl
+      by_items (mail ∷ later) e = absurd (cc)
+
+  pub none_taken : (riding : Riding R) (carrying : Carrying K) (m : Memory R K) (act : Act R) → is_take act ≡ true →
+      links_empty m ≡ true → can riding carrying m act ≡ false
+  none_taken riding carrying m act take empty =
+      not_enabled (port_of act) (length m.ports) (can_at riding m.home (port_at carrying m.ports (port_of act)) act)
+      (λ within. none_at riding m.home (port_at carrying m.ports (port_of act)) act take
+      (AllPass-from_list_all are_links_empty m.ports empty (port_of act) (no_port carrying) within))

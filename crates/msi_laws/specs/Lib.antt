@@ -5,3 +5,4 @@ pub mod Words
 pub mod Waits
 pub mod Ready
 pub mod Moving
+pub mod Walks
