@@ -1,12 +1,10 @@
 -- The start keeps what each state of a run keeps, and so each state of a run does.
-use Rattle.std.proofs.Common.{◌≡◌, ◌∙◌, refl, sym, subst, ℕ, ◌*◌, ◌<◌, ◌≤◌, ◌%◌, ◌^◌, Bool, true, false, List, [], ◌∷◌}
+use Rattle.std.proofs.Common.{◌≡◌, ◌∙◌, refl, sym, subst, ℕ, ◌*◌, ◌<◌, ◌≤◌, ◌^◌, true, List, [], ◌∷◌}
 use Rattle.std.proofs.Common.{length, get_or}
 use Rattle.std.proofs.Common.{Option, Some, None, zero, suc, arith, zero-add}
-use Rattle.std.specs.Prelude.{if◌then◌else◌}
 use Rattle.std.proofs.lemmas.List.{length-replicate, get_or-replicate}
 use Rattle.std.proofs.lemmas.List.Elements.{filter_passes}
 use Rattle.std.proofs.lemmas.List.FromFn.{length-map-range_with_len, get_or-map-range_with_len}
-use Rattle.std.proofs.lemmas.Nat.{mod_below}
 use Rattle.access_times.specs.Riding.{Riding, Carrying, none_riding, none_carrying}
 use Rattle.image_mem.specs.Contents.{Contents}
 use Rattle.rtr_types.specs.declared.TheConstants.{CORES_MAX}
@@ -25,7 +23,9 @@ use Rattle.msi_state.specs.Moves.{candidates}
 use Rattle.msi_state.specs.Steps.{enabled, step}
 use Rattle.msi_state.specs.Runs.{plain_moves, chosen, chosen_of, stepped_by, run}
 use Rattle.machine_invariant.specs.Holds.{CoreHolds, MachineHolds}
-use Rattle.machine_invariant.specs.Walks.{MoveTaken, taking, walked}
+use Rattle.machine_invariant.specs.Walks.{walked}
+use Rattle.msi_laws.specs.Walks.{MoveTaken}
+use Rattle.msi_laws.proofs.Moves.{taken_is, walked_keeps}
 use Rattle.msi_laws.proofs.Starts.{memory_starts}
 use Rattle.msi_laws.proofs.Awaits.{still_awaits}
 use Rattle.machine_invariant.proofs.Kept.{holds_kept}
@@ -78,36 +78,18 @@ module _ {R K : Type 0} where
           (sym (port_start_at riding carrying image cores limit c within))
           (start_well image riding carrying limit c small))
 
-  -- a move that isn't enabled changes nothing
-  holds_taking : (riding : Riding R) (carrying : Carrying K) (s : State R K) (taken : MoveTaken R) →
-      MachineHolds riding carrying s →
-      MachineHolds riding carrying (taking riding carrying s taken)
-  holds_taking riding carrying s taken h =
-      by_test (enabled riding carrying s taken.move) (λ is. holds_kept riding carrying s taken.move taken.rider is h)
-    where
-      by_test : (t : Bool) → (t ≡ true → MachineHolds riding carrying (step riding carrying taken.rider s taken.move)) →
-          MachineHolds riding carrying (if t then step riding carrying taken.rider s taken.move else s)
-      by_test true f = f refl
-      by_test false f = h
-
-  pub holds_walked : (riding : Riding R) (carrying : Carrying K) (s : State R K) (taken : List (MoveTaken R)) →
-      MachineHolds riding carrying s →
-      MachineHolds riding carrying (walked riding carrying s taken)
-  holds_walked riding carrying s [] h = h
-  holds_walked riding carrying s (taken ∷ later) h =
-      holds_walked riding carrying (taking riding carrying s taken) later (holds_taking riding carrying s taken h)
+  pub holds_walked : (riding : Riding R) (carrying : Carrying K) (s : State R K) (taken : List (MoveTaken Move R)) →
+      MachineHolds riding carrying s → MachineHolds riding carrying (walked riding carrying s taken)
+  holds_walked riding carrying =
+      walked_keeps (enabled riding carrying) (step riding carrying) (λ (s : State R K). MachineHolds riding carrying s)
+      (λ s m rider is h. holds_kept riding carrying s m rider is h)
 
 -- what a choice takes is one of the moves
 pub chosen_at : (ms : List Move) (P : Move → Type 0) (choice : ℕ) (m : Move) → ((i : ℕ) (d : Move) → i < length ms →
     P (get_or ms i d)) →
     chosen_of ms choice ≡ Some m → P m
 chosen_at [] P choice m each is = absurd (cc)
-chosen_at (first ∷ later) P choice m each is =
-    subst P (some_same _ m is) (each (choice % length (first ∷ later)) first (mod_below choice (length (first ∷ later))
-    (omega arith)))
-  where
-    some_same : (a b : Move) → Some a ≡ Some b → a ≡ b
-    some_same a b e = grind arith
+chosen_at (first ∷ later) P choice m each is = taken_is first later P choice m each is
 
 -- what a choice takes is enabled
 pub chosen_enabled : (s : PlainState) (choice : ℕ) (m : Move) → chosen s choice ≡ Some m →

@@ -1,7 +1,7 @@
 -- Each enabled move keeps the invariant of the machine, act by act: what it does to the memory system can be done, and
 -- each core's port awaits afterwards what the core needs then.
 use Rattle.std.proofs.Common.{◌≡◌, ◌∙◌, refl, sym, ap, subst, ℕ, ◌<◌, ◌≤◌, ◌==◌, ◌/◌, ◌%◌, ◌^◌, Bool, true, false, not}
-use Rattle.std.proofs.Common.{nat_lt, ◌&&◌, [], ◌∷◌, length}
+use Rattle.std.proofs.Common.{nat_lt, ◌&&◌, length}
 use Rattle.std.proofs.Common.{Option, Some, IsTrue, arith}
 use Rattle.std.proofs.lemmas.Bool.{lt-ltb}
 use Rattle.std.proofs.lemmas.Bool.Decides.{nat_tests}
@@ -10,7 +10,6 @@ use Rattle.rtr_types.proofs.Truths.{both_true, first_true, second_true}
 use Rattle.rtr_types.specs.declared.TheConstants.{BLOCK_WORDS}
 use Rattle.rtr_types.specs.declared.access.Access.{Access}
 use Rattle.rtr_types.specs.declared.access.Kind.{Kind}
-use Rattle.rtr_types.specs.declared.instr.Instr.{Instr}
 use Rattle.image_mem.specs.Contents.{Contents}
 use Rattle.rv_core.specs.declared.core_state.Core.{Core}
 use Rattle.rv_core.specs.Steps.{need, after, is_done, access_of as need_access}
@@ -19,9 +18,8 @@ use Rattle.rv_core.proofs.OpLemmas.{access_goes}
 use Rattle.msi_cache.specs.Lines.{waits}
 use Rattle.msi_directory.specs.Blocks.{block_count}
 use Rattle.msi_memory.specs.declared.port.Port.{Port}
-use Rattle.msi_memory.specs.Acts.{Act, Want, Touch, Retire, TakeRequest, TakeResponse, TakeMessage, can, can_all}
+use Rattle.msi_memory.specs.Acts.{Want, TakeRequest, TakeResponse, TakeMessage, can, can_all}
 use Rattle.msi_memory.specs.Acts.{after_act, after_acts, allows}
-use Rattle.msi_memory.specs.Acts.{port_retiring}
 use Rattle.msi_memory.specs.Memories.{Memory, port_at}
 use Rattle.msi_laws.specs.Holds.{MemoryHolds}
 use Rattle.msi_state.specs.declared.moves.Move.{Move}
@@ -35,9 +33,9 @@ use Rattle.msi_laws.specs.Waits.{Awaited}
 use Rattle.machine_invariant.specs.Holds.{CoreHolds, MachineHolds}
 use Rattle.msi_laws.proofs.Kept.{memory_kept}
 use Rattle.msi_laws.proofs.PortsKept.{length_act}
-use Rattle.msi_laws.proofs.Waits.{wants_law, port_there}
-use Rattle.msi_laws.proofs.Acting.{acts_hold}
-use Rattle.machine_invariant.proofs.Stepping.{core_after, core_there, core_elsewhere, step_ports, step_home, step_cores}
+use Rattle.msi_laws.proofs.Waits.{wants_law}
+use Rattle.msi_laws.proofs.Acting.{acts_hold, home_after_acts, retire_can, touch_can}
+use Rattle.machine_invariant.proofs.Stepping.{core_after, core_there, core_elsewhere, step_ports, step_cores}
 use Rattle.msi_laws.proofs.Awaits.{still_awaits, awaited_kept, awaited_acts}
 use Rattle.machine_invariant.proofs.Awaits.{CanWork, core_enabled, enabled_core, core_port, core_cases, message_cases}
 use Rattle.msi_laws.proofs.Awaits.{taken_there}
@@ -74,30 +72,11 @@ numbers_after image core old c more h =
 module _ {R K : Type 0} where
   -- ---- what a move does can be done
 
-  retire_can : (riding : Riding R) (carrying : Carrying K) (m : Memory R K) (c : ℕ) (at : Instr) → c < length m.ports →
-      IsTrue (can_all riding carrying m (Retire c at ∷ []))
-  retire_can riding carrying m c at within =
-      both_true (nat_lt c (length m.ports) && true) true (both_true (nat_lt c (length m.ports)) true
-      (lt-ltb c (length m.ports) within) refl) refl
-
   access_can : (riding : Riding R) (carrying : Carrying K) (rider : R) (m : Memory R K) (c : ℕ) (a : Access) →
-      c < length m.ports →
-      allows riding (port_at carrying m.ports c) (a.word / BLOCK_WORDS) a.kind ≡ true →
+      c < length m.ports → allows riding (port_at carrying m.ports c) (a.word / BLOCK_WORDS) a.kind ≡ true →
       IsTrue (can_all riding carrying m (acts_of c rider (Accesses a)))
-  access_can riding carrying rider m c a within allowed =
-      let left : Memory R K = after_act riding carrying m (Retire c a.at) in
-      let touch : Act R = Touch c (a.word / BLOCK_WORDS) (a.word % BLOCK_WORDS) a.kind a.after rider in
-      let there : c < length left.ports = subst (λ (n : ℕ). c < n) (sym (length_act riding carrying m (Retire c a.at)))
-      within in
-      let leave : allows riding (port_at carrying left.ports c) (a.word / BLOCK_WORDS) a.kind ≡ true =
-      ap (λ (p : Port R K). allows riding p (a.word / BLOCK_WORDS) a.kind)
-      (port_there carrying m c (port_retiring carrying (port_at carrying m.ports c) a.at) within) ∙ allowed in
-      both_true (can riding carrying m (Retire c a.at)) (can_all riding carrying left (touch ∷ []))
-      (both_true (nat_lt c (length m.ports)) true (lt-ltb c (length m.ports) within) refl)
-      (both_true (can riding carrying left touch) true
-      (both_true (nat_lt c (length left.ports)) (allows riding (port_at carrying left.ports c) (a.word / BLOCK_WORDS)
-      a.kind)
-      (lt-ltb c (length left.ports) there) leave) refl)
+  access_can riding carrying rider m c a =
+      touch_can riding carrying rider m c a.at (a.word / BLOCK_WORDS) (a.word % BLOCK_WORDS) a.kind a.after
 
   want_can : (riding : Riding R) (carrying : Carrying K) (m : Memory R K) (c block : ℕ) (kind : Kind) →
       c < length m.ports → block < length m.home →
@@ -359,7 +338,7 @@ module _ {R K : Type 0} where
         memory = memory_after riding carrying s m rider e h;
         ports_there = step_ports riding carrying rider s m
             ∙ (h.ports_there ∙ sym (step_cores riding carrying rider s m));
-        blocks_there = step_home riding carrying rider s m ∙ h.blocks_there;
+        blocks_there = home_after_acts riding carrying s.memory (acts riding carrying rider s m) ∙ h.blocks_there;
         cores = λ d within. cores_kept riding carrying s m rider e h d (subst (λ (n : ℕ). d < n)
             (step_cores riding carrying rider s m) within);
       }

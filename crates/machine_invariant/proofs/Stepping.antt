@@ -23,7 +23,7 @@ use Rattle.msi_state.specs.States.{State, core_at}
 use Rattle.msi_state.specs.Events.{Event, Nothing, Retires, Accesses, instr_of, port_taken}
 use Rattle.msi_state.specs.Steps.{acts, acts_of, acts_working, cores_after, event, step, retiring}
 use Rattle.msi_laws.proofs.Waits.{port_there}
-use Rattle.msi_laws.proofs.Acting.{ports_after_acts, home_after_acts, port_again, port_same}
+use Rattle.msi_laws.proofs.Acting.{ports_after_acts, port_again, port_same}
 
 -- ---- the cores
 
@@ -172,10 +172,6 @@ module _ {R K : Type 0} where
   pub step_ports : (riding : Riding R) (carrying : Carrying K) (rider : R) (s : State R K) (m : Move) →
       length (step riding carrying rider s m).memory.ports ≡ length s.memory.ports
   step_ports riding carrying rider s m = ports_after_acts riding carrying s.memory (acts riding carrying rider s m)
-
-  pub step_home : (riding : Riding R) (carrying : Carrying K) (rider : R) (s : State R K) (m : Move) →
-      length (step riding carrying rider s m).memory.home ≡ length s.memory.home
-  step_home riding carrying rider s m = home_after_acts riding carrying s.memory (acts riding carrying rider s m)
 
   pub step_cores : (riding : Riding R) (carrying : Carrying K) (rider : R) (s : State R K) (m : Move) →
       length (step riding carrying rider s m).cores ≡ length s.cores

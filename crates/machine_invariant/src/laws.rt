@@ -3,7 +3,8 @@ ghost use Rattle.std.specs.Prelude.{ℕ, ◌<◌, ◌≤◌, ◌^◌, IsTrue, Li
 ghost use Rattle.access_times.specs.Riding.{none_carrying, none_riding};
 ghost use Rattle.image_mem.specs.Contents.{Contents};
 ghost use Rattle.machine_invariant.specs.Holds.{MachineHolds};
-ghost use Rattle.machine_invariant.specs.Walks.{MoveTaken, walked};
+ghost use Rattle.machine_invariant.specs.Walks.{walked};
+ghost use Rattle.msi_laws.specs.Walks.{MoveTaken};
 ghost use Rattle.msi_memory.specs.Acts.{can_all};
 ghost use Rattle.msi_state.specs.Runs.{run};
 ghost use Rattle.msi_state.specs.States.{State, state_start};
@@ -38,7 +39,7 @@ pub fn every_step_keeps_it<R: Rider, K: Carry>()
 /// So each state has it that moves lead to from the start, whatever moves they are and whatever riders clerks
 /// leave.
 pub fn every_state_from_a_start_has_it<R: Rider, K: Carry>()
-    ensures { (image : Contents) (cores limit : ℕ) → cores ≤ CORES_MAX → limit < 2 ^ 32 → (taken : List (MoveTaken R))
+    ensures { (image : Contents) (cores limit : ℕ) → cores ≤ CORES_MAX → limit < 2 ^ 32 → (taken : List (MoveTaken Move R))
         → let start = state_start R.riding K.carrying image cores limit in
         MachineHolds R.riding K.carrying (walked R.riding K.carrying start taken) }
 {}

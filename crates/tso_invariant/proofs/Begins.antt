@@ -1,13 +1,11 @@
 -- The start keeps what each state of a run keeps, and so each state of a run does. At the start no queue holds
 -- anything, nobody asks, and the memory system has its own start.
-use Rattle.std.proofs.Common.{◌≡◌, ◌∙◌, refl, sym, subst, ℕ, ◌*◌, ◌<◌, ◌≤◌, ◌%◌, ◌^◌, Bool, true, false, List, [], ◌∷◌}
+use Rattle.std.proofs.Common.{◌≡◌, ◌∙◌, refl, sym, subst, ℕ, ◌*◌, ◌<◌, ◌≤◌, ◌^◌, true, List, [], ◌∷◌}
 use Rattle.std.proofs.Common.{length, get_or}
 use Rattle.std.proofs.Common.{Option, Some, None, zero, suc, arith, zero-add}
-use Rattle.std.specs.Prelude.{if◌then◌else◌}
-use Rattle.std.proofs.lemmas.List.{length-replicate, get_or-replicate}
+use Rattle.std.proofs.lemmas.List.{length-replicate}
 use Rattle.std.proofs.lemmas.List.Elements.{filter_passes}
 use Rattle.std.proofs.lemmas.List.FromFn.{length-map-range_with_len, get_or-map-range_with_len}
-use Rattle.std.proofs.lemmas.Nat.{mod_below}
 use Rattle.access_times.specs.Riding.{Riding, Carrying, none_riding, none_carrying}
 use Rattle.image_mem.specs.Contents.{Contents}
 use Rattle.rtr_types.specs.declared.TheConstants.{CORES_MAX}
@@ -16,15 +14,17 @@ use Rattle.rv_core.proofs.LawLemmas.{start_law}
 use Rattle.msi_directory.specs.Blocks.{block_count}
 use Rattle.msi_directory.proofs.Openings.{openings_counted}
 use Rattle.msi_memory.specs.declared.port.Port.{Port}
-use Rattle.msi_memory.specs.Memories.{port_at, port_start, no_port}
-use Rattle.msi_laws.proofs.Starts.{memory_starts}
+use Rattle.msi_memory.specs.Memories.{port_at, port_start}
+use Rattle.msi_laws.specs.Walks.{MoveTaken}
+use Rattle.msi_laws.proofs.Moves.{taken_is, walked_keeps}
+use Rattle.msi_laws.proofs.Starts.{memory_starts, port_start_at}
 use Rattle.tso_state.specs.declared.moves.Move.{Move}
 use Rattle.tso_state.specs.Moves.{candidates}
 use Rattle.tso_state.specs.States.{State, PlainState, BufferedCore, buffered_start, core_at, state_start}
 use Rattle.tso_state.specs.Steps.{enabled, step}
 use Rattle.tso_state.specs.Runs.{plain_moves, chosen, chosen_of, stepped_by, run}
 use Rattle.tso_invariant.specs.Holds.{BufferedHolds, TsoHolds}
-use Rattle.tso_invariant.specs.Walks.{MoveTaken, taking, walked}
+use Rattle.tso_invariant.specs.Walks.{walked}
 use Rattle.tso_invariant.proofs.Kept.{holds_kept}
 
 module _ {R K : Type 0} where
@@ -33,11 +33,6 @@ module _ {R K : Type 0} where
   core_start_at riding carrying image cores limit c within =
       get_or-map-range_with_len (λ (id : ℕ). buffered_start id limit) 0 cores c c
       (buffered_start 0 0) within (zero-add c)
-
-  port_start_at : (riding : Riding R) (carrying : Carrying K) (image : Contents) (cores limit c : ℕ) → c < cores →
-      port_at carrying (state_start riding carrying image cores limit).memory.ports c ≡ port_start riding carrying
-  port_start_at riding carrying image cores limit c within = get_or-replicate cores c (port_start riding carrying)
-      (no_port carrying) within
 
   start_well : (image : Contents) (riding : Riding R) (carrying : Carrying K) (limit c : ℕ) → limit < 2 ^ 32 →
       BufferedHolds image riding c (buffered_start c limit) (port_start riding carrying)
@@ -77,39 +72,21 @@ module _ {R K : Type 0} where
           subst (λ (t : BufferedCore). BufferedHolds image riding c t (port_at carrying start.memory.ports c))
           (sym (core_start_at riding carrying image cores limit c within))
           (subst (λ (p : Port R K). BufferedHolds image riding c (buffered_start c limit) p)
-          (sym (port_start_at riding carrying image cores limit c within))
+          (sym (port_start_at riding carrying cores c within))
           (start_well image riding carrying limit c small))
 
-  -- a move that isn't enabled changes nothing
-  holds_taking : (riding : Riding R) (carrying : Carrying K) (s : State R K) (taken : MoveTaken R) →
-      TsoHolds riding carrying s →
-      TsoHolds riding carrying (taking riding carrying s taken)
-  holds_taking riding carrying s taken h = by_test (enabled riding carrying s taken.move)
-      (λ is. holds_kept riding carrying s taken.move taken.rider is h)
-    where
-      by_test : (t : Bool) → (t ≡ true → TsoHolds riding carrying (step riding carrying taken.rider s taken.move)) →
-          TsoHolds riding carrying (if t then step riding carrying taken.rider s taken.move else s)
-      by_test true f = f refl
-      by_test false f = h
-
-  pub holds_walked : (riding : Riding R) (carrying : Carrying K) (s : State R K) (taken : List (MoveTaken R)) →
-      TsoHolds riding carrying s →
-      TsoHolds riding carrying (walked riding carrying s taken)
-  holds_walked riding carrying s [] h = h
-  holds_walked riding carrying s (taken ∷ later) h =
-      holds_walked riding carrying (taking riding carrying s taken) later (holds_taking riding carrying s taken h)
+  pub holds_walked : (riding : Riding R) (carrying : Carrying K) (s : State R K) (taken : List (MoveTaken Move R)) →
+      TsoHolds riding carrying s → TsoHolds riding carrying (walked riding carrying s taken)
+  holds_walked riding carrying =
+      walked_keeps (enabled riding carrying) (step riding carrying) (λ (s : State R K). TsoHolds riding carrying s)
+      (λ s m rider is h. holds_kept riding carrying s m rider is h)
 
 -- what a choice takes is one of the moves
 pub chosen_at : (ms : List Move) (P : Move → Type 0) (choice : ℕ) (m : Move) →
     ((i : ℕ) (d : Move) → i < length ms → P (get_or ms i d)) →
     chosen_of ms choice ≡ Some m → P m
 chosen_at [] P choice m each is = absurd (cc)
-chosen_at (first ∷ later) P choice m each is =
-    subst P (some_same _ m is)
-    (each (choice % length (first ∷ later)) first (mod_below choice (length (first ∷ later)) (omega arith)))
-  where
-    some_same : (a b : Move) → Some a ≡ Some b → a ≡ b
-    some_same a b e = grind arith
+chosen_at (first ∷ later) P choice m each is = taken_is first later P choice m each is
 
 -- what a choice takes is enabled
 pub chosen_enabled : (s : PlainState) (choice : ℕ) (m : Move) → chosen s choice ≡ Some m →

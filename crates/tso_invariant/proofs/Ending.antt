@@ -1,10 +1,8 @@
 -- Once each core has ended, nothing is under way and no move is enabled. Whoever asks at a port has an access to ask
 -- for, so at the end nobody asks, no cache waits, and no message is under way for anybody.
-use Rattle.std.proofs.Common.{◌≡◌, ◌∙◌, refl, ap, subst, ℕ, ◌*◌, ◌<◌, Bool, true, false, nat_lt, not, ◌&&◌, List, []}
-use Rattle.std.proofs.Common.{◌∷◌, length, arith}
-use Rattle.std.specs.List.{filter}
+use Rattle.std.proofs.Common.{◌≡◌, ◌∙◌, refl, subst, ℕ, ◌*◌, ◌<◌, Bool, true, false, not, ◌&&◌, List, []}
+use Rattle.std.proofs.Common.{◌∷◌, length}
 use Rattle.std.proofs.lemmas.Bool.{and_parts}
-use Rattle.std.proofs.lemmas.Bool.Decides.{nat_tests}
 use Rattle.std.proofs.lemmas.List.Sums.{AllPass-from_list_all}
 use Rattle.access_times.specs.Riding.{Riding, Carrying}
 use Rattle.link_order.specs.Queue.{is_nil}
@@ -12,14 +10,12 @@ use Rattle.rv_core.specs.declared.core_state.Need.{Need}
 use Rattle.rv_core.specs.declared.core_state.Need.TheVariants.{Local, Load, Store, Amo, Done}
 use Rattle.rv_core.specs.Steps.{need, is_done}
 use Rattle.msi_cache.specs.Lines.{waits}
-use Rattle.msi_cache.specs.declared.messages.Request.{Request}
-use Rattle.msi_directory.specs.declared.entry.Entry.{Entry}
-use Rattle.msi_memory.specs.declared.port.Mail.{Mail}
 use Rattle.msi_memory.specs.declared.port.Port.{Port}
-use Rattle.msi_memory.specs.Acts.{head_free}
-use Rattle.msi_memory.specs.Memories.{port_at, no_port}
-use Rattle.msi_laws.specs.Moving.{are_links_empty, links_empty}
-use Rattle.msi_laws.proofs.Moving.{quiet_links}
+use Rattle.msi_memory.specs.Memories.{port_at}
+use Rattle.msi_laws.specs.Moving.{links_empty}
+use Rattle.msi_laws.proofs.Moves.{filter_none, not_enabled}
+use Rattle.msi_laws.proofs.Moving.{none_taken, quiet_links}
+use Rattle.msi_memory.specs.Acts.{TakeRequest, TakeResponse, TakeMessage}
 use Rattle.tso_state.specs.declared.moves.Move.{Move}
 use Rattle.tso_state.specs.declared.moves.Move.TheVariants.{Core as CoreMove, Order as OrderMove}
 use Rattle.tso_state.specs.declared.moves.Move.TheVariants.{Request as RequestMove, Response as ResponseMove}
@@ -31,14 +27,6 @@ use Rattle.tso_state.specs.Moves.{candidates}
 use Rattle.tso_state.specs.States.{State, BufferedCore, all_done, buffered_start, core_at, has_ended}
 use Rattle.tso_state.specs.Steps.{can_execute, can_order, case_holds, enabled, is_fence, is_next, moves}
 use Rattle.tso_invariant.specs.Holds.{TsoHolds, is_asking, may_ask}
-
-filter_none : {X : Type 0} (test : X → Bool) (xs : List X) → ((x : X) → test x ≡ false) → filter test xs ≡ []
-filter_none test [] none = refl
-filter_none test (x ∷ xs) none = rw (none x) (filter_none test xs none)
-
-not_enabled : (c n : ℕ) (t : Bool) → (c < n → t ≡ false) → (nat_lt c n && t) ≡ false
-not_enabled c n false none = grind (arith, nat_tests)
-not_enabled c n true none = grind (arith, nat_tests)
 
 -- who has ended asks nothing
 ended_asks : (a : Asker) (needed : Need) (queue : List Pending) → is_done needed ≡ true → is_nil queue ≡ true →
@@ -78,18 +66,6 @@ module _ {R K : Type 0} where
       quiet_links riding carrying s.memory h.memory
       (λ c within. ended_still riding carrying s c h done (subst (λ (n : ℕ). c < n) h.ports_there within))
 
-  port_empty : (riding : Riding R) (carrying : Carrying K) (s : State R K) (c : ℕ) → TsoHolds riding carrying s →
-      all_done s ≡ true →
-      c < length s.memory.ports → are_links_empty (port_at carrying s.memory.ports c) ≡ true
-  port_empty riding carrying s c h done within =
-      AllPass-from_list_all are_links_empty s.memory.ports (links_left riding carrying s h done) c
-      (no_port carrying) within
-
-  no_head : (riding : Riding R) (home : List (Entry R)) (q : List (Mail (Request R) K)) → is_nil q ≡ true →
-      head_free q riding home ≡ false
-  no_head riding home [] e = refl
-  no_head riding home (mail ∷ rest) e = absurd (cc)
-
   none_to_order : (riding : Riding R) (p : Port R K) (queue : List Pending) → is_nil queue ≡ true →
       can_order queue riding p ≡ false
   none_to_order riding p [] e = refl
@@ -120,23 +96,11 @@ module _ {R K : Type 0} where
       not_enabled c (length s.cores) (can_order t.queue riding p)
       (λ within. none_to_order riding p t.queue (ended_at s c done within).1)
   none_enabled riding carrying s h done (RequestMove c) =
-      let p : Port R K = port_at carrying s.memory.ports c in
-      not_enabled c (length s.memory.ports) (head_free p.requests.items riding s.memory.home)
-      (λ within. no_head riding s.memory.home p.requests.items
-      (and_parts (is_nil p.requests.items) (is_nil p.responses.items && is_nil p.messages.items)
-      (port_empty riding carrying s c h done within)).0)
+      none_taken riding carrying s.memory (TakeRequest c) refl (links_left riding carrying s h done)
   none_enabled riding carrying s h done (ResponseMove c) =
-      let p : Port R K = port_at carrying s.memory.ports c in
-      not_enabled c (length s.memory.ports) (not (is_nil p.responses.items))
-      (λ within. ap not (and_parts (is_nil p.responses.items) (is_nil p.messages.items)
-      (and_parts (is_nil p.requests.items) (is_nil p.responses.items && is_nil p.messages.items)
-      (port_empty riding carrying s c h done within)).1).0)
+      none_taken riding carrying s.memory (TakeResponse c) refl (links_left riding carrying s h done)
   none_enabled riding carrying s h done (MessageMove c) =
-      let p : Port R K = port_at carrying s.memory.ports c in
-      not_enabled c (length s.memory.ports) (not (is_nil p.messages.items))
-      (λ within. ap not (and_parts (is_nil p.responses.items) (is_nil p.messages.items)
-      (and_parts (is_nil p.requests.items) (is_nil p.responses.items && is_nil p.messages.items)
-      (port_empty riding carrying s c h done within)).1).1)
+      none_taken riding carrying s.memory (TakeMessage c) refl (links_left riding carrying s h done)
 
   pub moves_left : (riding : Riding R) (carrying : Carrying K) (s : State R K) → TsoHolds riding carrying s →
       all_done s ≡ true →

@@ -121,14 +121,6 @@ module _ {R K : Type 0} where
       acts_hold riding carrying s.memory (acts riding carrying rider s m)
       (acts_can riding carrying s m rider e h) h.memory
 
-  pub step_ports : (riding : Riding R) (carrying : Carrying K) (rider : R) (s : State R K) (m : Move) →
-      length (step riding carrying rider s m).memory.ports ≡ length s.memory.ports
-  step_ports riding carrying rider s m = ports_after_acts riding carrying s.memory (acts riding carrying rider s m)
-
-  pub step_home : (riding : Riding R) (carrying : Carrying K) (rider : R) (s : State R K) (m : Move) →
-      length (step riding carrying rider s m).memory.home ≡ length s.memory.home
-  step_home riding carrying rider s m = home_after_acts riding carrying s.memory (acts riding carrying rider s m)
-
   pub step_cores : (riding : Riding R) (carrying : Carrying K) (rider : R) (s : State R K) (m : Move) →
       length (step riding carrying rider s m).cores ≡ length s.cores
   step_cores riding carrying rider s (CoreMove c) = length-set s.cores c _
@@ -198,9 +190,9 @@ module _ {R K : Type 0} where
   holds_kept riding carrying s m rider e h =
       record {
         memory = memory_after riding carrying s m rider e h;
-        ports_there = step_ports riding carrying rider s m
+        ports_there = ports_after_acts riding carrying s.memory (acts riding carrying rider s m)
             ∙ (h.ports_there ∙ sym (step_cores riding carrying rider s m));
-        blocks_there = step_home riding carrying rider s m ∙ h.blocks_there;
+        blocks_there = home_after_acts riding carrying s.memory (acts riding carrying rider s m) ∙ h.blocks_there;
         cores = λ d within. cores_kept riding carrying s m rider e h d
             (subst (λ (n : ℕ). d < n) (step_cores riding carrying rider s m) within);
       }

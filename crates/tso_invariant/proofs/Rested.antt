@@ -20,6 +20,7 @@ use Rattle.msi_memory.specs.declared.port.Port.{Port}
 use Rattle.msi_memory.specs.Acts.{TakeRequest, TakeResponse, TakeMessage, allows, data_next}
 use Rattle.msi_memory.specs.Memories.{port_at, word_at}
 use Rattle.msi_memory.specs.Rests.{has_row_for as has_act_row}
+use Rattle.msi_laws.specs.Ready.{IsReady}
 use Rattle.msi_laws.proofs.Ready.{memory_ready}
 use Rattle.msi_laws.proofs.Spaces.{no_requests}
 use Rattle.msi_laws.proofs.Awaits.{data_granted}
@@ -126,36 +127,45 @@ module _ {R K : Type 0} where
   -- where data come, the access is allowed that waited for them
   access_waited : (riding : Riding R) (carrying : Carrying K) (s : State R K) (c : ℕ) → TsoHolds riding carrying s →
       c < length s.cores →
-      (d : Bool) → data_next (port_at carrying s.memory.ports c).messages.items ≡ d →
-      (not d || may_access (wish_by (core_at s.cores c).asker (need s.image (core_at s.cores c).core)
-      (core_at s.cores c).queue) riding
+      (not (data_next (port_at carrying s.memory.ports c).messages.items) || may_access (wish_by
+      (core_at s.cores c).asker (need s.image (core_at s.cores c).core) (core_at s.cores c).queue) riding
       (port_taken riding carrying (port_at carrying s.memory.ports c))) ≡ true
-  access_waited riding carrying s c h within false e = refl
-  access_waited riding carrying s c h within true e =
-      let t : BufferedCore = core_at s.cores c in
-      let wanted : Option (Kind × ℕ) = wish_by t.asker (need s.image t.core) t.queue in
-      let g = data_granted riding carrying s.memory c wanted h.memory (core_port riding carrying s c h within) e
-      (h.cores c within).awaited in
-      ap (λ (x : Option (Kind × ℕ)). may_access x riding
-      (port_taken riding carrying (port_at carrying s.memory.ports c))) g.needs ∙ g.allowed
+  access_waited riding carrying s c h within = by_test (data_next (port_at carrying s.memory.ports c).messages.items) refl
+    where
+      t : BufferedCore
+      t = core_at s.cores c
+
+      wanted : Option (Kind × ℕ)
+      wanted = wish_by t.asker (need s.image t.core) t.queue
+
+      by_test : (d : Bool) → data_next (port_at carrying s.memory.ports c).messages.items ≡ d →
+          (not d || may_access wanted riding (port_taken riding carrying (port_at carrying s.memory.ports c))) ≡ true
+      by_test false e = refl
+      by_test true e =
+          let g = data_granted riding carrying s.memory c wanted h.memory (core_port riding carrying s c h within) e
+          (h.cores c within).awaited in
+          ap (λ (x : Option (Kind × ℕ)). may_access x riding
+          (port_taken riding carrying (port_at carrying s.memory.ports c))) g.needs ∙ g.allowed
+
+  -- and the memory system is ready for the home's moves and for messages
+  home_ready : (riding : Riding R) (carrying : Carrying K) (s : State R K) → TsoHolds riding carrying s →
+      IsReady riding carrying s.memory
+  home_ready riding carrying s h = memory_ready riding carrying s.memory h.memory
 
   pub rows_there : (riding : Riding R) (carrying : Carrying K) (s : State R K) (m : Move) → TsoHolds riding carrying s →
       IsTrue (enabled riding carrying s m) → IsTrue (has_row_for riding carrying s m)
   rows_there riding carrying s (CoreMove c) h e = refl
   rows_there riding carrying s (OrderMove c) h e = refl
-  rows_there riding carrying s (RequestMove c) h e = (memory_ready riding carrying s.memory h.memory).rows
-      (TakeRequest c) e
-  rows_there riding carrying s (ResponseMove c) h e = (memory_ready riding carrying s.memory h.memory).rows
-      (TakeResponse c) e
+  rows_there riding carrying s (RequestMove c) h e = (home_ready riding carrying s h).rows (TakeRequest c) e
+  rows_there riding carrying s (ResponseMove c) h e = (home_ready riding carrying s h).rows (TakeResponse c) e
   rows_there riding carrying s (MessageMove c) h e =
       let t : BufferedCore = core_at s.cores c in
       both_true (has_act_row riding carrying s.memory (TakeMessage c))
       (not (data_next (port_at carrying s.memory.ports c).messages.items)
       || may_access (wish_by t.asker (need s.image t.core) t.queue) riding
       (port_taken riding carrying (port_at carrying s.memory.ports c)))
-      ((memory_ready riding carrying s.memory h.memory).rows (TakeMessage c) e)
-      (access_waited riding carrying s c h (enabled_core riding carrying s (MessageMove c) e h)
-      (data_next (port_at carrying s.memory.ports c).messages.items) refl)
+      ((home_ready riding carrying s h).rows (TakeMessage c) e)
+      (access_waited riding carrying s c h (enabled_core riding carrying s (MessageMove c) e h))
 
   pub rooms_there : (riding : Riding R) (carrying : Carrying K) (s : State R K) (m : Move) →
       TsoHolds riding carrying s →
@@ -173,9 +183,6 @@ module _ {R K : Type 0} where
       let w = order_can riding carrying s c e in
       room_there riding carrying s c h w.0
       (ordering_still t.queue riding t.core.id (port_at carrying s.memory.ports c) w.1 quiet)
-  rooms_there riding carrying s (RequestMove c) h e = (memory_ready riding carrying s.memory h.memory).rooms
-      (TakeRequest c) e
-  rooms_there riding carrying s (ResponseMove c) h e = (memory_ready riding carrying s.memory h.memory).rooms
-      (TakeResponse c) e
-  rooms_there riding carrying s (MessageMove c) h e = (memory_ready riding carrying s.memory h.memory).rooms
-      (TakeMessage c) e
+  rooms_there riding carrying s (RequestMove c) h e = (home_ready riding carrying s h).rooms (TakeRequest c) e
+  rooms_there riding carrying s (ResponseMove c) h e = (home_ready riding carrying s h).rooms (TakeResponse c) e
+  rooms_there riding carrying s (MessageMove c) h e = (home_ready riding carrying s h).rooms (TakeMessage c) e

@@ -10,25 +10,20 @@ use Rattle.std.specs.List.{list_all, range_with_len}
 use Rattle.std.proofs.lemmas.Bool.{and_parts, lt-ltb}
 use Rattle.access_times.specs.Riding.{Riding, Carrying}
 use Rattle.image_mem.specs.Contents.{Contents}
-use Rattle.rtr_types.proofs.Truths.{both_true}
 use Rattle.rtr_types.specs.declared.TheConstants.{BLOCK_WORDS}
-use Rattle.rtr_types.specs.declared.access.Access.{Access}
 use Rattle.rtr_types.specs.declared.access.Kind.{Kind}
-use Rattle.rtr_types.specs.declared.instr.Instr.{Instr}
 use Rattle.rv_core.specs.declared.core_state.Core.{Core}
 use Rattle.rv_core.specs.Steps.{need}
 use Rattle.msi_cache.specs.Lines.{waits}
 use Rattle.msi_memory.specs.declared.port.Port.{Port}
-use Rattle.msi_memory.specs.Acts.{Act, Want, Touch, Retire, can, can_all, after_act, after_acts, allows, port_asking}
-use Rattle.msi_memory.specs.Acts.{port_retiring}
+use Rattle.msi_memory.specs.Acts.{Act, Want, can, can_all, after_act, after_acts, allows, port_asking}
 use Rattle.msi_memory.specs.Memories.{Memory, port_at}
 use Rattle.msi_laws.specs.Holds.{MemoryHolds}
 use Rattle.msi_laws.proofs.PortsKept.{length_act}
 use Rattle.msi_laws.proofs.Waits.{port_there, wants_law}
 use Rattle.msi_laws.specs.Waits.{Awaited}
-use Rattle.msi_laws.proofs.Acting.{acts_keep, ports_after_acts}
+use Rattle.msi_laws.proofs.Acting.{acts_keep, ports_after_acts, retire_can, touch_can}
 use Rattle.msi_laws.proofs.Awaits.{awaited_kept}
-use Rattle.msi_state.specs.Events.{Accesses}
 use Rattle.msi_state.specs.Steps.{acts_of}
 use Rattle.tso_state.specs.declared.pending.Pending.{Pending}
 use Rattle.tso_state.specs.Events.{Told, Alone, Ordered, Logged, clerk_event, count_before, locals_behind}
@@ -77,37 +72,13 @@ module _ {R : Type 0} where
   told_apart c d rider (Logged at word value ∷ later) = told_apart c d rider later
 
 module _ {R K : Type 0} where
-  retire_can : (riding : Riding R) (carrying : Carrying K) (m : Memory R K) (c : ℕ) (at : Instr) → c < length m.ports →
-      IsTrue (can_all riding carrying m (Retire c at ∷ []))
-  retire_can riding carrying m c at within =
-      both_true (nat_lt c (length m.ports) && true) true
-      (both_true (nat_lt c (length m.ports)) true (lt-ltb c (length m.ports) within) refl) refl
-
-  access_can : (riding : Riding R) (carrying : Carrying K) (rider : R) (m : Memory R K) (c : ℕ) (a : Access) →
-      c < length m.ports →
-      allows riding (port_at carrying m.ports c) (a.word / BLOCK_WORDS) a.kind ≡ true →
-      IsTrue (can_all riding carrying m (acts_of c rider (Accesses a)))
-  access_can riding carrying rider m c a within allowed =
-      let left : Memory R K = after_act riding carrying m (Retire c a.at) in
-      let touch : Act R = Touch c (a.word / BLOCK_WORDS) (a.word % BLOCK_WORDS) a.kind a.after rider in
-      let there : c < length left.ports = subst (λ (n : ℕ). c < n)
-      (sym (length_act riding carrying m (Retire c a.at))) within in
-      let leave : allows riding (port_at carrying left.ports c) (a.word / BLOCK_WORDS) a.kind ≡ true =
-      ap (λ (p : Port R K). allows riding p (a.word / BLOCK_WORDS) a.kind)
-      (port_there carrying m c (port_retiring carrying (port_at carrying m.ports c) a.at) within) ∙ allowed in
-      both_true (can riding carrying m (Retire c a.at)) (can_all riding carrying left (touch ∷ []))
-      (both_true (nat_lt c (length m.ports)) true (lt-ltb c (length m.ports) within) refl)
-      (both_true (can riding carrying left touch) true
-      (both_true (nat_lt c (length left.ports))
-      (allows riding (port_at carrying left.ports c) (a.word / BLOCK_WORDS) a.kind)
-      (lt-ltb c (length left.ports) there) leave) refl)
-
   one_can : (riding : Riding R) (carrying : Carrying K) (rider : R) (m : Memory R K) (c : ℕ) (e : Told) →
       c < length m.ports →
       may_tell riding (port_at carrying m.ports c) e ≡ true →
       can_all riding carrying m (acts_of c rider (clerk_event e)) ≡ true
   one_can riding carrying rider m c (Alone at) within may = retire_can riding carrying m c at within
-  one_can riding carrying rider m c (Ordered a) within may = access_can riding carrying rider m c a within may
+  one_can riding carrying rider m c (Ordered a) within may =
+      touch_can riding carrying rider m c a.at (a.word / BLOCK_WORDS) (a.word % BLOCK_WORDS) a.kind a.after within may
   one_can riding carrying rider m c (Logged at word value) within may = retire_can riding carrying m c at within
 
   alone_may : (riding : Riding R) (p : Port R K) (e : Told) → is_alone e ≡ true → may_tell riding p e ≡ true
