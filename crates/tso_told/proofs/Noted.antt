@@ -2,8 +2,7 @@
 -- told in the same move or pending until it is told.
 use Rattle.std.proofs.Common.{◌≡◌, ◌∙◌, ap, refl, sym, subst, ℕ, ◌+◌, ◌-◌, ◌/◌, ◌==◌, Bool, true, false, not, ◌&&◌}
 use Rattle.std.proofs.Common.{List, [], ◌∷◌, ◌++◌, arith, eqb-true}
-use Rattle.std.specs.Prelude.{drop, map, if◌then◌else◌}
-use Rattle.std.specs.List.{range_with_len}
+use Rattle.std.specs.Prelude.{drop, if◌then◌else◌}
 use Rattle.std.proofs.lemmas.Bool.Decides.{nat_tests}
 use Rattle.std.proofs.lemmas.List.{append-nil, append_assoc}
 use Rattle.std.proofs.lemmas.Bool.{and_parts}
@@ -37,14 +36,15 @@ use Rattle.tso_state.specs.States.{State, BufferedCore, core_at}
 use Rattle.tso_state.specs.Moves.{core_of}
 use Rattle.tso_state.specs.Events.{Event, Nothing, Executes, Buffers, Performs, Drains, Logs, Told, Alone, Ordered}
 use Rattle.tso_state.specs.Events.{Logged, pending_store, tellings, locals_behind}
-use Rattle.tso_state.specs.Events.{count_before, event_executing, event_granted, event_loading, event_ordering}
+use Rattle.tso_state.specs.Events.{event_executing, event_granted, event_loading, event_ordering}
 use Rattle.tso_state.specs.Events.{queue_after}
 use Rattle.tso_state.specs.Runs.{read_by, read_in}
 use Rattle.tso_state.specs.Steps.{case_holds, enabled, event, is_fence, is_next}
-use Rattle.tso_invariant.specs.Holds.{TsoHolds, may_ask, next_may_ask}
+use Rattle.tso_invariant.specs.Holds.{TsoHolds}
 use Rattle.tso_invariant.proofs.Kept.{core_can, enabled_core}
 use Rattle.tso_told.specs.Played.{read_told, reads_told, reads_pending}
-use Rattle.tso_told.proofs.Telling.{amo_alone}
+use Rattle.tso_told.proofs.Telling.{amo_alone, next_alone}
+use Rattle.tso_told.proofs.Tellings.{behind_have}
 use Rattle.tso_invariant.proofs.Ordered.{stored}
 
 -- what an executing instruction read
@@ -94,11 +94,7 @@ pending-push (y ∷ queue) x = ap (λ (l : List LoadNote). read_by y ++ l) (pend
     ∙ sym (append_assoc (read_by y) (reads_pending queue) (read_by x))
 
 locals_read : (core : Core) (count : ℕ) (queue : List Pending) → reads_told (locals_behind core count queue) ≡ []
-locals_read core count queue = each (range_with_len (count + 1) (count_before core queue - count))
-  where
-    each : (ns : List ℕ) → reads_told (map (λ n. Alone (record { core = core.id; count = n })) ns) ≡ []
-    each [] = refl
-    each (n ∷ ns) = each ns
+locals_read = behind_have (λ (l : List Told). reads_told l ≡ []) refl (λ at l h. h)
 
 nothing_read : (t : BufferedCore) → EventReads t Nothing
 nothing_read t = sym (append-nil (reads_pending t.queue))
@@ -273,15 +269,10 @@ module _ {R K : Type 0} where
       q : Port R K
       q = port_taken riding carrying (port_at carrying s.memory.ports c)
 
-      alone : t.asker ≡ Next → (word : ℕ) → need s.image t.core ≡ Amo word → is_nil t.queue ≡ true
-      alone next word is =
-          ap (λ (n : Need). next_may_ask n t.queue) (sym is)
-          ∙ (ap (λ (x : Asker). may_ask x (need s.image t.core) t.queue) (sym next)
-          ∙ (h.cores c (enabled_core riding carrying s (MessageMove c) e h)).fits.asks)
-
       by_asker : (x : Asker) → t.asker ≡ x → EventReads t (event_granted x s.image riding t q)
       by_asker Nobody is = nothing_read t
-      by_asker Next is = executing_reads s.image riding t q (need s.image t.core) (alone is)
+      by_asker Next is = executing_reads s.image riding t q (need s.image t.core)
+          (next_alone riding carrying s c h (enabled_core riding carrying s (MessageMove c) e h) is)
       by_asker Head is = ordering_reads riding t q t.queue refl
 
       by_data : (d : Bool) → EventReads t (if d then event_granted t.asker s.image riding t q else Nothing)

@@ -1,7 +1,7 @@
 -- What is told in a move follows from what was told of its core before. Each event keeps `Arrives`: what executes goes
 -- on at its end, and a head that leaves takes the instructions behind it along, up to the next pending access.
 use Rattle.std.proofs.Common.{◌≡◌, ◌∙◌, ap, refl, sym, subst, ℕ, ◌+◌, ◌/◌, ◌==◌, Bool, true, false, not, ◌&&◌}
-use Rattle.std.proofs.Common.{List, [], ◌∷◌, ◌++◌, eqb-true}
+use Rattle.std.proofs.Common.{List, [], ◌∷◌, ◌++◌, eqb-true, length, ◌<◌}
 use Rattle.std.specs.Prelude.{drop, if◌then◌else◌}
 use Rattle.std.proofs.lemmas.Bool.{and_parts}
 use Rattle.access_times.specs.Riding.{Riding, Carrying}
@@ -189,6 +189,15 @@ module _ {R K : Type 0} where
       (and_parts (is_nil t.queue) (not (waits p.cache))
       (ap (λ (n : Need). case_holds n fence riding t.queue p) (sym is) ∙ e)).0
 
+  -- and one that asks for its data does so with an empty queue
+  pub next_alone : (riding : Riding R) (carrying : Carrying K) (s : State R K) (c : ℕ) → TsoHolds riding carrying s →
+      c < length s.cores → (core_at s.cores c).asker ≡ Next → (word : ℕ) →
+      need s.image (core_at s.cores c).core ≡ Amo word → is_nil (core_at s.cores c).queue ≡ true
+  next_alone riding carrying s c h within next word is =
+      let t : BufferedCore = core_at s.cores c in
+      ap (λ (n : Need). next_may_ask n t.queue) (sym is)
+      ∙ (ap (λ (x : Asker). may_ask x (need s.image t.core) t.queue) (sym next) ∙ (h.cores c within).fits.asks)
+
   -- in an enabled move
   pub move_told : StoreMaskLaw → (riding : Riding R) (carrying : Carrying K) (s : State R K) (m : Move) (base : Core) →
       enabled riding carrying s m ≡ true →
@@ -219,16 +228,11 @@ module _ {R K : Type 0} where
       q : Port R K
       q = port_taken riding carrying (port_at carrying s.memory.ports c)
 
-      alone : t.asker ≡ Next → (word : ℕ) → need s.image t.core ≡ Amo word → is_nil t.queue ≡ true
-      alone next word is =
-          ap (λ (n : Need). next_may_ask n t.queue) (sym is)
-          ∙ (ap (λ (x : Asker). may_ask x (need s.image t.core) t.queue) (sym next)
-          ∙ (h.cores c (enabled_core riding carrying s (MessageMove c) e h)).fits.asks)
-
       by_asker : Arrives s.image base t.queue t.core → (x : Asker) → t.asker ≡ x →
           EventTells s.image base t (event_granted x s.image riding t q)
       by_asker a Nobody is = nothing_told s.image base t.queue t.core a
-      by_asker a Next is = executing_told s.image riding base t q (need s.image t.core) refl (alone is) a
+      by_asker a Next is = executing_told s.image riding base t q (need s.image t.core) refl
+          (next_alone riding carrying s c h (enabled_core riding carrying s (MessageMove c) e h) is) a
       by_asker a Head is = ordering_told law s.image riding base t q t.queue refl a
 
       by_data : Arrives s.image base t.queue t.core → (d : Bool) →
