@@ -1,2 +1,1 @@
-pub mod BlockWords
 pub mod Telling

@@ -8,10 +8,11 @@ use Rattle.rtr_types.specs.declared.access.Access.{Access}
 use Rattle.rtr_types.specs.declared.instr.Instr.{Instr}
 use Rattle.rv_core.specs.declared.outcome.LoadNote.{LoadNote}
 use Rattle.schedule_pick.specs.Choices.{Choices, choice_at}
+use Rattle.run_steps.specs.Ways.{IsUnderWay}
 use Rattle.load_lists.specs.Lists.{LoadRooms}
 use Rattle.tso_clerk.specs.Telling.{AcceptsAll, AcceptsOne, TellsAll, TellsOne}
 use Rattle.tso_outcome.specs.Loads.{loads_after, loads_told}
-use Rattle.tso_outcome.specs.Outcomes.{told_loads}
+use Rattle.tso_outcome.specs.Outcomes.{StandsAt, told_loads}
 use Rattle.tso_outcome.proofs.Behind.{AreAlone, AloneBehind, alone_behind, inside_next}
 use Rattle.tso_state.specs.declared.moves.Move.{Move}
 use Rattle.tso_state.specs.Events.{Told, Alone, Ordered, Logged, instr_told}
@@ -22,7 +23,7 @@ use Rattle.tso_state.specs.Runs.{chosen, plain_told}
 use Rattle.tso_state.specs.States.{PlainState, State, core_at}
 use Rattle.tso_state.specs.Steps.{event, told}
 use Rattle.tso_told.specs.Played.{AreInside}
-use Rattle.tso_run.specs.Clerks.{Accepts, IsRunning, ToldLocal, ToldLogged, ToldTouch}
+use Rattle.tso_run.specs.Clerks.{Accepts, ToldLocal, ToldLogged, ToldTouch}
 
 -- what the clerk's calls do
 abbrev pub local : (K : Type 0) → LoadRooms → Instr → K → LoadRooms → Type 0
@@ -80,11 +81,15 @@ module _ {R K : Type 0} (carrying : Carrying K) (found : R) where
       all_told_loads list next told.0 d left told.2
       ∙ ap (λ (lists : List (List LoadNote)). loads_told lists list) (one_told e next c told.0 left told.1)
 
+-- a machine in this state, with these loads told and these choices left, stands at some moment of a run
+abbrev pub IsRunning : PlainState → List (List LoadNote) → Choices → Type 0
+IsRunning s loads rest = IsUnderWay (λ image params schedule t. StandsAt image params schedule t s loads rest)
+
 -- what the next choice of a run tells is of the clerk's cores
 pub running_inside : (s : PlainState) (loads : List (List LoadNote)) (rest : Choices) (m : Move) →
     IsRunning s loads rest → chosen s (choice_at rest 0) ≡ Some m → AreInside (length loads) (plain_told s m)
 running_inside s loads rest m running is =
-    let stands = running.stands in
+    let stands = running.stands_so in
     subst (λ (n : ℕ). AreInside n (plain_told s m)) (sym (ap length stands.loads_are ∙ counted))
     (inside_next running.image running.params running.schedule running.t s rest m running.fits stands.runs is)
   where

@@ -1,17 +1,10 @@
--- The clerk that keeps what each core's loads got, and the run that it is told of.
-use Rattle.std.specs.Prelude.{◌≡◌, ◌<◌, ℕ, IsTrue, List, length}
-use Rattle.image_mem.specs.Contents.{Contents}
-use Rattle.rtr_types.specs.Parameters.{Fits}
+-- The clerk that keeps what each core's loads got.
+use Rattle.std.specs.Prelude.{◌≡◌, ◌<◌, ℕ, IsTrue, length}
 use Rattle.rtr_types.specs.declared.access.Access.{Access}
 use Rattle.rtr_types.specs.declared.instr.Instr.{Instr}
-use Rattle.rtr_types.specs.declared.params.Params.{Params}
-use Rattle.rv_core.specs.declared.outcome.LoadNote.{LoadNote}
-use Rattle.schedule_pick.specs.Choices.{Choices}
 use Rattle.load_lists.specs.Lists.{LoadRooms}
 use Rattle.tso_outcome.specs.Loads.{loads_after}
-use Rattle.tso_outcome.specs.Outcomes.{StandsAt}
 use Rattle.tso_state.specs.Events.{Logged, Ordered}
-use Rattle.tso_state.specs.States.{PlainState}
 
 -- the instruction is one of the clerk's cores, and there is room for what it reads
 pub record Accepts (c : LoadRooms) (at : Instr) : Type 0 where
@@ -30,12 +23,3 @@ pub record ToldTouch {R : Type 0} (c : LoadRooms) (before : R) (a : Access) (d :
 -- the clerk before and after it was told of a load that is logged
 abbrev pub ToldLogged : LoadRooms → Instr → (word value : ℕ) → LoadRooms → Type 0
 ToldLogged c at word value d = d.lists ≡ loads_after c.lists (Logged at word value)
-
--- a machine in this state, with these loads told and these choices left, stands at some moment of a run
-pub record IsRunning (s : PlainState) (loads : List (List LoadNote)) (rest : Choices) : Type 0 where
-  pub image : Contents
-  pub params : Params
-  pub schedule : Choices
-  pub t : ℕ
-  pub fits : Fits params
-  pub stands : StandsAt image params schedule t s loads rest

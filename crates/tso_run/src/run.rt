@@ -1,13 +1,9 @@
 //! The run of an image by cores with store buffers.
-ghost use Rattle.std.specs.Prelude.{◌≡◌, ◌<◌, ℕ, suc, IfOk, OnOk, false};
-ghost use Rattle.image_mem.specs.Contents.{Contents};
+ghost use Rattle.std.specs.Prelude.{◌≡◌, IfOk};
 ghost use Rattle.rtr_types.specs.Parameters.{Fits};
-ghost use Rattle.rtr_types.specs.declared.params.Params.{Params};
-ghost use Rattle.schedule_pick.specs.Choices.{Choices};
-ghost use Rattle.tso_bound.specs.Bound.{left};
+ghost use Rattle.tso_bound.specs.Bound.{left as steps_left};
 ghost use Rattle.tso_outcome.specs.Outcomes.{StandsAt, tso_outcome_of};
 ghost use Rattle.tso_plain.specs.Plain.{plain};
-ghost use Rattle.tso_run.specs.Clerks.{IsRunning};
 ghost use Rattle.tso_state.specs.States.{all_done};
 
 use crate::ends::{cores_of, words_of};
@@ -15,6 +11,7 @@ use crate::load_clerk::LoadClerk;
 use access_times::{NoCarry, NoRider};
 use image_mem::Image;
 use rtr_types::Params;
+use run_steps::{Stepping, run_to_end};
 use rv_core::Outcome;
 use schedule_pick::Schedule;
 use std::alloc::{AllocError, Global};
@@ -44,55 +41,71 @@ pub fn tso_run(
     ensures image { IfOk result (λ ran. ran.image ≡ image) }
 {
     let clerk = LoadClerk::new(alloc, params.cores)?;
-    let mut machine = BufferedMachine::<NoRider, NoCarry>::new(alloc, image, params)?;
-    let outcome = run_on(alloc, &mut machine, clerk, schedule, params)?;
-    let image = machine.into_image();
-    Ok(TsoRan { outcome, image })
+    let machine = BufferedMachine::<NoRider, NoCarry>::new(alloc, image, params)?;
+    let running = Running {
+        machine,
+        clerk,
+        choices: schedule,
+    };
+    run_on(alloc, running, params)
 }
 
-/// Runs a machine that stands at its start to the end.
-fn run_on(
-    alloc: Global,
-    machine: &mut BufferedMachine<NoRider, NoCarry>,
+/// The machine, the clerk that is told of its steps, and the choices that are left.
+#[derive(Drop)]
+struct Running {
+    machine: BufferedMachine<NoRider, NoCarry>,
     clerk: LoadClerk,
-    schedule: Schedule,
-    params: Params,
-) -> Result<Outcome, AllocError>
-    requires fits { Fits params }
-    requires words { machine.old.state.image.words ≡ params.words }
-    requires stands { StandsAt machine.old.state.image params schedule 0 (plain machine.old.state) clerk.lists
-        schedule }
-    ensures outcome { IfOk result (λ outcome. outcome ≡ tso_outcome_of machine.old.state.image params schedule) }
-    ensures image { OnOk result (machine.new.state.image ≡ machine.old.state.image) }
-{
-    let mut clerk = clerk;
-    let mut choices = schedule;
-    while !machine.done() {
-        turn(machine, &mut clerk, &mut choices)?;
-    }
-    Ok(Outcome {
-        cores: cores_of(alloc, machine, params.cores)?,
-        words: words_of(alloc, machine, params.words)?,
-        loads: clerk.into_loads(),
-    })
+    choices: Schedule,
 }
 
-/// One step of the machine, after room was made for it.
-fn turn(
-    machine: &mut BufferedMachine<NoRider, NoCarry>,
-    clerk: &mut LoadClerk,
-    choices: &mut Schedule,
-) -> Result<(), AllocError>
-    requires going { all_done machine.old.state ≡ false }
-    requires running { IsRunning (plain machine.old.state) clerk.old.lists choices.old }
-    ensures stands { (image : Contents) (params : Params) (schedule : Choices) (t : ℕ) → OnOk result
-        (StandsAt image params schedule t (plain machine.old.state) clerk.old.lists choices.old →
-        StandsAt image params schedule (suc t) (plain machine.new.state) clerk.new.lists choices.new) }
-    ensures image { OnOk result (machine.new.state.image ≡ machine.old.state.image) }
-    ensures nearer { OnOk result (left machine.new.state < left machine.old.state) }
+impl Stepping for Running {
+    ghost stands = { λ r image params schedule t.
+        StandsAt image params schedule t (plain r.machine.state) r.clerk.lists r.choices };
+
+    ghost ready = { λ r. Unit {0} };
+
+    ghost image = { λ r. r.machine.state.image };
+
+    ghost ended = { λ r. all_done r.machine.state };
+
+    ghost left = { λ r. steps_left r.machine.state };
+
+    fn done(&self) -> bool {
+        self.machine.done()
+    }
+
+    fn turn(&mut self) -> Result<(), AllocError> {
+        self.machine.make_room()?;
+        self.clerk.make_room()?;
+        self.machine.step(self.choices.next(), &mut self.clerk);
+        Ok(())
+    }
+}
+
+/// Runs what stands at its start to the end.
+fn run_on(alloc: Global, running: Running, params: Params) -> Result<TsoRan, AllocError>
+    requires fits { Fits params }
+    requires words { running.machine.state.image.words ≡ params.words }
+    requires stands { StandsAt running.machine.state.image params running.choices 0 (plain running.machine.state)
+        running.clerk.lists running.choices }
+    ensures outcome { IfOk result (λ ran.
+        ran.outcome ≡ tso_outcome_of running.machine.state.image params running.choices) }
+    ensures image { IfOk result (λ ran. ran.image ≡ running.machine.state.image) }
 {
-    machine.make_room()?;
-    clerk.make_room()?;
-    machine.step(choices.next(), clerk);
-    Ok(())
+    let mut running = running;
+    run_to_end(&mut running)?;
+    let Running {
+        machine,
+        clerk,
+        choices: _choices,
+    } = running;
+    let outcome = Outcome {
+        cores: cores_of(alloc, &machine, params.cores)?,
+        words: words_of(alloc, &machine, params.words)?,
+        loads: clerk.into_loads(),
+    };
+    Ok(TsoRan {
+        outcome,
+        image: machine.into_image(),
+    })
 }

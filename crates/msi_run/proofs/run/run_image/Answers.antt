@@ -1,4 +1,4 @@
-use Rattle.std.proofs.Common.{ap, sym, subst, ◌∙◌}
+use Rattle.std.proofs.Common.{◌≡◌, ap, sym, subst, IfOk}
 use Rattle.image_mem.specs.Contents.{Contents}
 use Rattle.machine_plain.specs.Plain.{plain}
 use Rattle.run_outcome.specs.Outcomes.{StandsAt, outcome_of}
@@ -17,5 +17,10 @@ run_on-requires-clause-stands c =
 
 pub returns-clause-outcome : goal.returns-clause-outcome
 returns-clause-outcome c =
-    c.in_ok-outcome.ensures.outcome ∙ ap (λ (i : Contents). outcome_of i c.args.params c.args.schedule)
-    (ap (λ s. s.image) c.in_ok-machine.ensures.start)
+    subst (λ (i : Contents). IfOk c.run_on.result (λ ran. ran.outcome ≡ outcome_of i c.args.params c.args.schedule))
+    (ap (λ s. s.image) c.in_ok-machine.ensures.start) c.run_on.ensures.outcome
+
+pub returns-clause-image : goal.returns-clause-image
+returns-clause-image c =
+    subst (λ (i : Contents). IfOk c.run_on.result (λ ran. ran.image ≡ i))
+    (ap (λ s. s.image) c.in_ok-machine.ensures.start) c.run_on.ensures.image

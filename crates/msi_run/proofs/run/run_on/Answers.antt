@@ -1,52 +1,28 @@
-use Rattle.std.proofs.Common.{ap, refl, sym, ◌∙◌, List, ℕ, suc}
+use Rattle.std.proofs.Common.{ap, sym, ◌∙◌, List, ℕ}
 use Rattle.access_times.specs.Riding.{none_carrying, none_riding}
-use Rattle.msi_state.specs.FinalMemory.{final_memory}
+use Rattle.machine_plain.proofs.Shows.{plain_done}
 use Rattle.machine_plain.specs.Plain.{plain}
+use Rattle.msi_state.specs.FinalMemory.{final_memory}
+use Rattle.run_outcome.proofs.Turns.{outcome_is}
+use Rattle.run_steps.proofs.Starts.{under_way}
 use Rattle.rv_core.specs.declared.core_state.Core.{Core}
 use Rattle.rv_core.specs.declared.outcome.LoadNote.{LoadNote}
 use Rattle.rv_core.specs.declared.outcome.Outcome.{Outcome}
-use Rattle.run_outcome.proofs.Turns.{outcome_is}
-use Rattle.msi_run.proofs.Standing.{all_numbered}
 use Rattle.msi_run.proofs.run.run_on.Goals as goal
 
-pub loop-machine-init : goal.loop-machine-init
-loop-machine-init c = record {
-  stands = (0, c.requires.stands);
-  image = refl;
-}
+pub run_to_end-requires-clause-under_way : goal.run_to_end-requires-clause-under_way
+run_to_end-requires-clause-under_way c = under_way _ _ _ _ c.requires.fits c.requires.stands
 
-pub turn-requires-clause-numbered : goal.turn-requires-clause-numbered
-turn-requires-clause-numbered c =
-    let stands = c.loop-machine.invariant.stands in
-    all_numbered c.args.machine.now.state.image c.args.params c.args.schedule stands.0 c.loop-machine.machine.state
-    c.loop-machine.clerk.lists c.loop-machine.choices
-    c.requires.fits stands.1
-
-pub loop-machine-preserved : goal.loop-machine-preserved
-loop-machine-preserved c =
-    let stands = c.loop-machine.invariant.stands in
-    record {
-      stands = (
-        suc stands.0,
-        c.in_ok-turn.ensures.stands c.args.machine.now.state.image c.args.params c.args.schedule
-            stands.0 stands.1,
-      );
-      image = c.in_ok-turn.ensures.image ∙ c.loop-machine.invariant.image;
-    }
+pub cores_of-requires : goal.cores_of-requires
+cores_of-requires c = sym (c.in_ok-run_to_end.ensures.stands _ _ _ _ c.requires.stands).1.runs.cores
 
 pub returns-clause-outcome : goal.returns-clause-outcome
 returns-clause-outcome c =
-    let stands = c.loop-machine.invariant.stands in
-    let made : List Core → List ℕ → List (List LoadNote) → Outcome = λ cs ws ls. record {
-      cores = cs;
-      words =
-          ws;
-      loads = ls;
-    } in
+    let stands = c.in_ok-run_to_end.ensures.stands _ _ _ _ c.requires.stands in
+    let s = c.run_to_end.new.run.machine.state in
+    let made : List Core → List ℕ → List (List LoadNote) → Outcome =
+    λ cs ws ls. record { cores = cs; words = ws; loads = ls } in
     ap (λ cs. made cs c.in_ok-words_of.field-0 c.into_loads.result) c.in_ok-cores_of.ensures
-    ∙ ap (λ ws. made c.loop-machine.machine.state.cores ws c.into_loads.result) c.in_ok-words_of.ensures
-    ∙ ap (made c.loop-machine.machine.state.cores (final_memory none_riding none_carrying
-    (plain c.loop-machine.machine.state))) c.into_loads.ensures
-    ∙ outcome_is c.args.machine.now.state.image c.args.params c.args.schedule stands.0 c.loop-machine.machine.state
-    c.loop-machine.clerk.lists c.loop-machine.choices
-    c.requires.fits (sym c.loop-machine-test.ensures.done) stands.1
+    ∙ ap (λ ws. made s.cores ws c.into_loads.result) c.in_ok-words_of.ensures
+    ∙ ap (made s.cores (final_memory none_riding none_carrying (plain s))) c.into_loads.ensures
+    ∙ outcome_is _ _ _ stands.0 s _ _ c.requires.fits c.in_ok-run_to_end.ensures.done stands.1

@@ -1,13 +1,11 @@
-use Rattle.std.proofs.Common.{◌≡◌, ◌∙◌, ◌++◌, ap, arith, length, List, ℕ}
+use Rattle.std.proofs.Common.{◌∙◌, arith}
 use Rattle.access_times.specs.Riding.{none_carrying, none_riding}
+use Rattle.run_steps.proofs.BlockWords.{words_more}
 use Rattle.tso_plain.specs.Plain.{plain}
-use Rattle.tso_run.proofs.BlockWords.{block_more}
 use Rattle.tso_run.proofs.ends.words_of.Goals as goal
 
 pub loop-block-preserved : goal.loop-block-preserved
 loop-block-preserved g c =
-    let four : length c.final_words.result ≡ 4 = grind arith in
     c.in_ok-extend_from_slice.ensures.items
-    ∙ ap (λ (list : List ℕ). list ++ c.final_words.result) c.loop-block.invariant
-    ∙ block_more none_riding none_carrying (plain c.args.machine.now.state).memory c.loop-block.block
-    c.final_words.result four c.final_words.ensures.plain
+    ∙ words_more none_riding none_carrying (plain c.args.machine.now.state).memory c.loop-block.block _
+    c.final_words.result c.loop-block.invariant (grind arith) c.final_words.ensures.plain

@@ -10,33 +10,32 @@ use Rattle.tso_plain.proofs.Steps.{plain_done}
 use Rattle.tso_state.specs.Events.{Told}
 use Rattle.tso_state.specs.Runs.{chosen, plain_step, plain_told}
 use Rattle.tso_state.specs.States.{State, all_done}
-use Rattle.tso_run.proofs.Telling.{accepts_next, all_told_loads}
-use Rattle.tso_run.specs.Clerks.{IsRunning}
-use Rattle.tso_run.proofs.run.turn.Goals as goal
+use Rattle.tso_run.proofs.Telling.{IsRunning, accepts_next, all_told_loads}
+use Rattle.tso_run.proofs.run.RunningStepping.turn.Goals as goal
 
 pub step-requires-clause-accepts : goal.step-requires-clause-accepts
 step-requires-clause-accepts c =
     let same = c.make_room.ensures.state in
-    λ m is. accepts_next _ _ c.make_room.new.self.state m _ _ c.make_room-2.new.self c.args.clerk.now.lists
-    c.args.choices.now
-    (subst (λ (u : State NoRider NoCarry). IsRunning (plain u) c.args.clerk.now.lists c.args.choices.now) (sym same)
-    c.requires.running)
+    λ m is. accepts_next _ _ c.make_room.new.self.state m _ _ c.make_room-2.new.self c.args.self.now.clerk.lists
+    c.args.self.now.choices
+    (subst (λ (u : State NoRider NoCarry). IsRunning (plain u) c.args.self.now.clerk.lists c.args.self.now.choices)
+    (sym same) c.requires.under_way)
     (ap (chosen (plain c.make_room.new.self.state)) (sym c.next.ensures.choice) ∙ is) c.make_room-2.ensures.lists
     c.in_ok-make_room-2.ensures.roomy
 
 pub returns-clause-stands : goal.returns-clause-stands
 returns-clause-stands c =
-    let s = c.args.machine.now.state in
+    let s = c.args.self.now.machine.state in
     let m = c.step.result in
     let same = c.make_room.ensures.state in
     let going : all_done (plain s) ≡ false = sym (plain_done s) ∙ c.requires.going in
-    let steps : Steps (plain s) (plain c.step.new.self.state) c.args.choices.now c.next.new.self m = record {
-      taken = ap (λ u. chosen (plain u) (choice_at c.args.choices.now 0)) (sym same)
+    let steps : Steps (plain s) (plain c.step.new.self.state) c.args.self.now.choices c.next.new.self m = record {
+      taken = ap (λ u. chosen (plain u) (choice_at c.args.self.now.choices 0)) (sym same)
           ∙ ap (chosen (plain c.make_room.new.self.state)) (sym c.next.ensures.choice) ∙ c.step.ensures.taken.plainly;
       state = c.step.ensures.moved.plainly ∙ ap (λ u. plain_step (plain u) m) same;
       left = c.next.ensures.rest;
     } in
-    let told : c.step.new.clerk.lists ≡ loads_told c.args.clerk.now.lists (plain_told (plain s) m) =
+    let told : c.step.new.clerk.lists ≡ loads_told c.args.self.now.clerk.lists (plain_told (plain s) m) =
     all_told_loads _ _ _ _ c.make_room-2.new.self c.step.new.clerk _ c.step.ensures.told
     ∙ ap (λ (list : List Told). loads_told c.make_room-2.new.self.lists list)
     (c.step.ensures.moved.tells ∙ ap (λ u. plain_told (plain u) m) same)

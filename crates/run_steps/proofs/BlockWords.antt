@@ -37,12 +37,13 @@ module _ {R K : Type 0} (riding : Riding R) (carrying : Carrying K) (m : Memory 
       let here : (block * 4 + slot) % 4 ≡ slot = omega arith in
       rw (same, here)
 
-  pub block_more : (words : List ℕ) → length words ≡ 4 → SameWords words (block_words riding carrying m block) →
-      map (memory_word riding carrying m) (range_with_len 0 (block * 4)) ++ words
-      ≡ map (memory_word riding carrying m) (range_with_len 0 ((block + 1) * 4))
-  block_more words four same =
+  pub words_more : (list words : List ℕ) → list ≡ map (memory_word riding carrying m) (range_with_len 0 (block * 4))
+      → length words ≡ 4 → SameWords words (block_words riding carrying m block)
+      → list ++ words ≡ map (memory_word riding carrying m) (range_with_len 0 ((block + 1) * 4))
+  words_more list words before four same =
       let each : (i : ℕ) → i < length words → slice_index words i ≡ memory_word riding carrying m (block * 4 + i) =
       λ i within. let low : i < 4 = omega (arith, within, four) in same i low ∙ slot_of i low in
       let counted : block * 4 + length words ≡ (block + 1) * 4 = omega (arith, four) in
-      more_values (memory_word riding carrying m) words (block * 4) each
+      ap (λ (xs : List ℕ). xs ++ words) before
+      ∙ more_values (memory_word riding carrying m) words (block * 4) each
       ∙ ap (λ (n : ℕ). map (memory_word riding carrying m) (range_with_len 0 n)) counted
