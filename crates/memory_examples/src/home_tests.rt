@@ -2,7 +2,7 @@
 //! out by hand from the table of the protocol.
 use crate::trail::Trail;
 use image_mem::Image;
-use msi_cache::{FromHome, Held, Request, Response};
+use msi_cache::{FromHome, Request, Response};
 use msi_directory::{Home, HomeAnswer, HomeWords, Stage};
 use rtr_types::{CORES_MAX, CoreSet};
 use std::alloc::Global;
@@ -24,41 +24,38 @@ enum Step {
 fn ask(
     rt: &impl Abort,
     home: &mut Home<Trail>,
-    hand: &mut Held<Trail>,
     from: u8,
     request: Request<Trail>,
 ) -> HomeAnswer<Trail> {
     assert!(rt; from < CORES_MAX && (request.block() as usize) < home.blocks());
     assert!(rt; home.has_room(request.block()) && home.expects_request(from, &request));
-    home.on_request(from, request, hand)
+    home.on_request(from, request)
 }
 
 fn reply(
     rt: &impl Abort,
     home: &mut Home<Trail>,
-    hand: &mut Held<Trail>,
     from: u8,
     response: Response<Trail>,
 ) -> HomeAnswer<Trail> {
     assert!(rt; from < CORES_MAX && (response.block() as usize) < home.blocks());
     assert!(rt; home.expects_response(from, &response));
-    home.on_response(from, response, hand)
+    home.on_response(from, response)
 }
 
 fn take(
     rt: &impl Abort,
     home: &mut Home<Trail>,
-    hand: &mut Held<Trail>,
     step: Step,
 ) -> HomeAnswer<Trail> {
     let block = 2;
     let rider = |digits: u32| Trail { digits };
     match step {
-        Step::GetS(from) => ask(rt, home, hand, from, Request::GetS { block }),
-        Step::GetM(from) => ask(rt, home, hand, from, Request::GetM { block }),
+        Step::GetS(from) => ask(rt, home, from, Request::GetS { block }),
+        Step::GetM(from) => ask(rt, home, from, Request::GetM { block }),
         Step::PutS(from, mark) => {
             let rider = rider(mark);
-            ask(rt, home, hand, from, Request::PutS { block, rider })
+            ask(rt, home, from, Request::PutS { block, rider })
         }
         Step::PutM(from, mark) => {
             let (words, rider) = ([mark; 4], rider(mark));
@@ -67,11 +64,11 @@ fn take(
                 words,
                 rider,
             };
-            ask(rt, home, hand, from, put)
+            ask(rt, home, from, put)
         }
         Step::InvAck(from, mark) => {
             let rider = rider(mark);
-            reply(rt, home, hand, from, Response::InvAck { block, rider })
+            reply(rt, home, from, Response::InvAck { block, rider })
         }
         Step::OwnerData(from, mark) => {
             let (words, rider) = ([mark; 4], rider(mark));
@@ -80,7 +77,7 @@ fn take(
                 words,
                 rider,
             };
-            reply(rt, home, hand, from, given)
+            reply(rt, home, from, given)
         }
     }
 }
@@ -97,13 +94,12 @@ fn row(
 ) -> Result<(), Fail> {
     let image = Image::flat(Vec::new(alloc), 16)?;
     let mut home = Home::new(alloc, &image)?;
-    let mut hand = Held::fresh(alloc)?;
     assert!(rt; home.blocks() == 4);
     home.make_room(2)?;
     for before in path {
-        take(rt, &mut home, &mut hand, *before);
+        take(rt, &mut home, *before);
     }
-    assert!(rt; take(rt, &mut home, &mut hand, step) == answer, "{step:?}");
+    assert!(rt; take(rt, &mut home, step) == answer, "{step:?}");
     assert!(rt; home.blocks() == 4);
     let now = (home.stage(2), home.word(8), home.rider(2).digits);
     assert!(rt; now == left, "{step:?}");
@@ -356,16 +352,15 @@ fn takes_responses(rt: HostRuntime) -> Result<(), Fail> {
 fn shared_by_two(
     rt: &impl Abort,
     home: &mut Home<Trail>,
-    hand: &mut Held<Trail>,
 ) -> Result<(), Fail> {
     assert!(rt; home.blocks() == 4);
     assert_eq!(rt; (home.touched(), home.has_room(2)), (0, false));
     home.make_room(2)?;
     assert_eq!(rt; (home.touched(), home.has_room(2)), (1, true));
-    assert!(rt; take(rt, home, hand, Step::GetS(0)) == data(0, 0, 0));
+    assert!(rt; take(rt, home, Step::GetS(0)) == data(0, 0, 0));
     assert!(rt; home.blocks() == 4);
     home.make_room(2)?;
-    assert!(rt; take(rt, home, hand, Step::GetS(1)) == data(1, 0, 0));
+    assert!(rt; take(rt, home, Step::GetS(1)) == data(1, 0, 0));
     Ok(())
 }
 
@@ -373,11 +368,10 @@ fn shared_by_two(
 fn waits_for_core_0(
     rt: &impl Abort,
     home: &mut Home<Trail>,
-    hand: &mut Held<Trail>,
 ) -> Result<(), Fail> {
     assert!(rt; home.blocks() == 4);
     home.make_room(2)?;
-    assert!(rt; take(rt, home, hand, Step::GetM(1)) == invalidates(1));
+    assert!(rt; take(rt, home, Step::GetM(1)) == invalidates(1));
     assert!(rt; home.blocks() == 4);
     assert_eq!(rt; home.can_take(&Request::GetS { block: 2 }), false);
     assert_eq!(rt; home.is_free(2), false);
@@ -386,8 +380,8 @@ fn waits_for_core_0(
 }
 
 /// Core 0 has let it go.
-fn owned_by_core_1(rt: &impl Abort, home: &mut Home<Trail>, hand: &mut Held<Trail>) {
-    assert!(rt; take(rt, home, hand, Step::InvAck(0, 7)) == data(1, 0, 7));
+fn owned_by_core_1(rt: &impl Abort, home: &mut Home<Trail>) {
+    assert!(rt; take(rt, home, Step::InvAck(0, 7)) == data(1, 0, 7));
     assert!(rt; home.blocks() == 4);
     assert_eq!(rt; (home.owner(2), home.words(2).owner), (Some(1), Some(1)));
     assert_eq!(rt; (home.is_free(2), home.touched()), (true, 1));
@@ -398,10 +392,9 @@ fn owned_by_core_1(rt: &impl Abort, home: &mut Home<Trail>, hand: &mut Held<Trai
 fn hands_a_shared_block_to_one_owner(rt: HostRuntime) -> Result<(), Fail> {
     let image = Image::flat(Vec::new(rt.alloc()), 16)?;
     let mut home = Home::new(rt.alloc(), &image)?;
-    let mut hand = Held::fresh(rt.alloc())?;
-    shared_by_two(&rt, &mut home, &mut hand)?;
-    waits_for_core_0(&rt, &mut home, &mut hand)?;
-    owned_by_core_1(&rt, &mut home, &mut hand);
+    shared_by_two(&rt, &mut home)?;
+    waits_for_core_0(&rt, &mut home)?;
+    owned_by_core_1(&rt, &mut home);
     Ok(())
 }
 
@@ -436,9 +429,8 @@ fn has_the_words_of_a_put(rt: HostRuntime) -> Result<(), Fail> {
     let mut home = Home::new(rt.alloc(), &image)?;
     assert!(rt; home.blocks() == 4);
     home.make_room(2)?;
-    let mut hand = Held::fresh(rt.alloc())?;
-    take(&rt, &mut home, &mut hand, Step::GetM(0));
-    take(&rt, &mut home, &mut hand, Step::PutM(0, 5));
+    take(&rt, &mut home, Step::GetM(0));
+    take(&rt, &mut home, Step::PutM(0, 5));
     assert!(rt; home.blocks() == 4);
     assert_eq!(rt; (home.word(7), home.word(8), home.word(11)), (0, 5, 5));
     assert_eq!(rt; home.owner(2), None);

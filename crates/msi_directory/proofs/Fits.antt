@@ -1,7 +1,6 @@
 -- Each row of the table leaves a stage that fits.
 use Rattle.std.proofs.Common.{◌≡◌, ℕ, ◌<◌, arith, refl, ap, not, Bool, true, false, IsTrue, Option, Some, None, List}
-use Rattle.std.specs.Prelude.{if◌then◌else◌, ◌==◌, All, length, slice_index_or, slice_set}
-use Rattle.std.proofs.lemmas.List.Elements.{All-set}
+use Rattle.std.specs.Prelude.{if◌then◌else◌, ◌==◌}
 use Rattle.std.proofs.lemmas.Bool.Decides.{nat_tests}
 use Rattle.access_times.specs.Riding.{Riding}
 use Rattle.rtr_types.proofs.Members.{no_cores_below, with_nonempty, with_below, without_below}
@@ -132,30 +131,3 @@ module _ {R : Type 0} where
       entry_by_fits riding (response_row e.stage c (reply_of response)) e (response_words response e.words)
       (response_rider response)
       (response_fits e.stage c (reply_of response) h fits) fits
-
-  -- each block's stage fits
-  abbrev pub AllFit : List (Entry R) → Type 0
-  AllFit entries = All (λ e. IsTrue (stage_fits e.stage)) entries
-
-  one_fits : (entries : List (Entry R)) (block : ℕ) (e : Entry R) → AllFit entries → block < length entries →
-      e ≡ slice_index_or entries block e →
-      IsTrue (stage_fits e.stage)
-  one_fits entries block e fits within is = rw is (fits block e within)
-
-  pub request_keeps_all : (riding : Riding R) (entries : List (Entry R)) (block : ℕ) (old new : Entry R) (c : ℕ)
-      (request : Request R) → AllFit entries →
-      block < length entries → old ≡ slice_index_or entries block old → c < CORES_MAX →
-      new ≡ entry_after_request riding old c request →
-      AllFit (slice_set entries block new)
-  request_keeps_all riding entries block old new c request fits within is h row =
-      All-set (λ (e : Entry R). IsTrue (stage_fits e.stage)) entries block new
-      (rw row (request_keeps_fit riding old c request h (one_fits entries block old fits within is))) fits
-
-  pub response_keeps_all : (riding : Riding R) (entries : List (Entry R)) (block : ℕ) (old new : Entry R) (c : ℕ)
-      (response : Response R) → AllFit entries →
-      block < length entries → old ≡ slice_index_or entries block old → c < CORES_MAX →
-      new ≡ entry_after_response riding old c response →
-      AllFit (slice_set entries block new)
-  response_keeps_all riding entries block old new c response fits within is h row =
-      All-set (λ (e : Entry R). IsTrue (stage_fits e.stage)) entries block new
-      (rw row (response_keeps_fit riding old c response h (one_fits entries block old fits within is))) fits

@@ -1,6 +1,6 @@
 -- What is kept after an entry was added or changed, and where a block stands.
 use Rattle.std.proofs.Common.{◌≡◌, ◌∙◌, ℕ, suc, zero, ◌<◌, List, [], ◌∷◌, ◌++◌, Some, None, refl, sym, ap, subst}
-use Rattle.std.proofs.Common.{slice_get}
+use Rattle.std.proofs.Common.{length-set, slice_get}
 use Rattle.std.specs.Prelude.{length, slice_index_or, slice_set}
 use Rattle.std.specs.Cmp.{nat_eq_equiv}
 use Rattle.std.specs.List.{IsDistinct}
@@ -9,13 +9,17 @@ use Rattle.std.specs.Prelude.{nat_eq}
 use Rattle.std.proofs.lemmas.List.{get_or_read, length_push, map_push}
 use Rattle.std.proofs.lemmas.Option.{get_or_from_slice_get}
 use Rattle.indexmap.specs.IndexMap.{IndexMap, insert_entry, keys, set_value_at, values, with_value_at}
-use Rattle.indexmap.proofs.CallerLemmas.{keys-with_value_at}
+use Rattle.indexmap.proofs.CallerLemmas.{index_map_len-with_value_at, keys-with_value_at}
 use Rattle.indexmap.proofs.MapLemmas.{Missing-position, index-first, insert_entry-absent}
 use Rattle.indexmap.proofs.RemoveLemmas.{own_first}
+use Rattle.msi_directory.specs.Deeds.{Deed, IsDoneAt}
+use Rattle.msi_directory.specs.Entries.{answer_riding}
 use Rattle.msi_directory.specs.Kept.{Kept, copy_of, entry_of, kept_at, kept_more, kept_with, place_of}
 use Rattle.msi_directory.specs.declared.entry.Entry.{Entry}
+use Rattle.msi_directory.specs.declared.entry.Served.{Served}
 use Rattle.msi_directory.specs.declared.entry.Stage.{Stage}
 use Rattle.msi_directory.specs.declared.home_copies.HomeCopy.{HomeCopy}
+use Rattle.msi_directory.specs.Table.{is_free}
 
 -- a block that has no entry goes last
 added : (entries : List (ℕ × Stage)) (block : ℕ) (stage : Stage) → place_of (keys_of entries) block ≡ None
@@ -84,13 +88,29 @@ module _ {R S : Type 0} (m : IndexMap ℕ Stage S) (copies : List (HomeCopy R)) 
       (λ i. entry_of (get_or_from_slice_get (values m) place stage past.stage stands i)
       (sym (get_or_read copies place copy within lies (copy_of past)) i))
 
-  pub changed : (row : Entry R → Entry R) (stage' : Stage) (copy' : HomeCopy R) →
+  changed : (row : Entry R → Entry R) (stage' : Stage) (copy' : HomeCopy R) →
       entry_of stage' copy' ≡ row (entry_of stage copy) → (past : Entry R)
       → kept_of (with_value_at m place stage') (slice_set copies place copy') ≡ kept_with now place
       (row (kept_at now place past))
   changed row stage' copy' after past =
       rw (here past, ← after, ← is, keys-with_value_at m place stage', values_set m.entries place stage')
 
-  pub answered : (X : Type 0) (answer : X) (wanted : Entry R → X) → answer ≡ wanted (entry_of stage copy) →
-      (past : Entry R) → answer ≡ wanted (kept_at now place past)
-  answered X answer wanted after past = rw (here past) after
+  -- a deed that is done to the stage and the copy is done at the place
+  pub done_at : (done : Deed R) (stage' : Stage) (copy' : HomeCopy R) (hand : R) (served : Served) →
+      entry_of stage' copy' ≡ done.after (entry_of stage copy)
+      → answer_riding hand served.answer ≡ done.answer (entry_of stage copy) → served.free ≡ is_free stage'
+      → IsDoneAt done now (kept_of (with_value_at m place stage') (slice_set copies place copy')) place hand served
+  done_at done stage' copy' hand served after answered free =
+      record {
+        kept = changed done.after stage' copy' after;
+        answer = λ past. rw (here past) answered;
+        free = λ past. rw (here past) (free ∙ ap (λ (e : Entry R). is_free e.stage) after);
+      }
+
+-- there are as many copies as stages then, too
+pub changed_counted : {R S : Type 0} (m : IndexMap ℕ Stage S) (copies : List (HomeCopy R)) (place : ℕ) (stage' : Stage)
+    (copy' : HomeCopy R)
+    → length copies ≡ length m.entries → length (slice_set copies place copy') ≡ length
+    (with_value_at m place stage').entries
+changed_counted m copies place stage' copy' same =
+    length-set copies place copy' ∙ same ∙ sym (index_map_len-with_value_at m place stage')

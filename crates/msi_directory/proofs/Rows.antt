@@ -1,82 +1,87 @@
 -- A row of the table on an entry that a sparse home keeps, as contracts see it.
-use Rattle.std.proofs.Common.{◌≡◌, ◌∙◌, ℕ, ◌<◌, IsTrue, Option, Some, ap, sym}
-use Rattle.std.specs.Prelude.{All, IfSome, length, slice_index_or, slice_set}
-use Rattle.std.proofs.lemmas.List.{get_or-set_other, get_or-set_same, length-set}
-use Rattle.msi_directory.specs.Blocks.{Blocks, opening_entry}
+use Rattle.std.proofs.Common.{◌≡◌, ◌∙◌, ℕ, ◌<◌, Bool, false, IsTrue, Some, ap, subst, sym}
+use Rattle.std.specs.Prelude.{length, slice_index_or, slice_set}
+use Rattle.std.proofs.lemmas.List.{get_or-set_other}
+use Rattle.std.proofs.lemmas.List.Elements.{All-set}
+use Rattle.msi_directory.specs.Blocks.{Blocks, entry_at, has_room, no_entry, opening_entry}
+use Rattle.msi_directory.specs.Deeds.{Deed, IsDoneAt, IsServed}
 use Rattle.msi_directory.specs.Fitting.{stage_fits}
-use Rattle.msi_directory.specs.Kept.{HomeFits, Kept, Sparse, blocks_in, kept_at, kept_with, place_of}
+use Rattle.msi_directory.specs.Kept.{HomeFits, IsAt, Kept, Sparse, blocks_in, is_kept, kept_at, kept_with, place_of}
+use Rattle.msi_directory.specs.Table.{is_free}
 use Rattle.msi_directory.specs.declared.entry.Entry.{Entry}
+use Rattle.msi_directory.specs.declared.entry.Served.{Served}
 use Rattle.msi_directory.specs.declared.entry.Stage.{Stage}
-use Rattle.msi_directory.proofs.Sparse.{entries_with, fits_with, reads_kept}
+use Rattle.msi_directory.specs.declared.entry.Stage.TheVariants.{Unshared}
+use Rattle.msi_directory.proofs.Sparse.{entries_with, fits_with, reads_kept, room_reads, stage_kept}
 
--- where the block that was asked for was found
-pub record IsFound {R : Type 0} (home : Sparse R) (block place : ℕ) : Type 0 where
-  pub stands : place_of home.kept.blocks block ≡ Some place
-  pub stage : place < length home.kept.stages
-  pub copy : place < length home.kept.copies
-
--- as a search answers it
-pub is_found : {R : Type 0} (home : Sparse R) (asked block place : ℕ) (answer : Option ℕ) → asked ≡ block
-    → answer ≡ place_of home.kept.blocks asked
-    → IfSome answer (λ p. p < length home.kept.stages) → IfSome answer (λ p. p < length home.kept.copies) →
-    answer ≡ Some place → IsFound home block place
-is_found home asked block place answer about looked stage copy is =
-    record {
-      stands = ap (place_of home.kept.blocks) (sym about) ∙ sym looked ∙ is;
-      stage = rw is at stage;
-      copy = rw is at copy;
-    }
-
-module _ {R : Type 0} (home : Sparse R) (block place : ℕ) (found : IsFound home block place)
-    (within : block < length (blocks_in home).entries) (past : Entry R)
-    (row : Entry R → Entry R) (after : Kept R) (changes : (e : Entry R) →
-    after ≡ kept_with home.kept place (row (kept_at home.kept place e))) where
+-- a message about a block of the memory comes to the home, which contracts see as `now`
+module _ {R : Type 0} (home : Sparse R) (now : Blocks R) (view : blocks_in home ≡ now) (fresh : R) (done : Deed R)
+    (within : done.block < length now.entries) (asked : ℕ) (about : asked ≡ done.block) where
   -- the block's entry, before
   abbrev pub entry_before : Entry R
-  entry_before = slice_index_or (blocks_in home).entries block past
+  entry_before = entry_at fresh now.entries done.block
 
-  abbrev pub home_after : Sparse R
-  home_after = record home { kept = after }
+  inside : done.block < length (blocks_in home).entries
+  inside = rw (← view) at within
 
-  row_is : after ≡ kept_with home.kept place (row entry_before)
-  row_is = rw (reads_kept home block within past place found.stands)
-      (changes (opening_entry home.fresh home.opening block))
+  -- a block that has room is kept, and so is one in a stage that isn't the opening one
+  pub roomy_kept : IsTrue (has_room now.rooms done.block) → IsTrue (is_kept home.kept.blocks asked)
+  roomy_kept roomy = rw about (rw (← view, room_reads home done.block inside) at roomy)
 
-  pub blocks_after : blocks_in home_after ≡ record (blocks_in home) {
-    entries =
-        slice_set (blocks_in home).entries block (row entry_before);
-  }
-  blocks_after =
-      ap (λ (k : Kept R). blocks_in (record home { kept = k })) row_is
-      ∙ ap (λ entries. record (blocks_in home) { entries = entries }) (entries_with home block place found.stands
-      found.stage found.copy (row entry_before))
+  pub staged_kept : (test : Stage → Bool) → test Unshared ≡ false → IsTrue (test entry_before.stage) →
+      IsTrue (is_kept home.kept.blocks asked)
+  staged_kept test refused passes =
+      rw about (stage_kept home done.block inside (no_entry fresh) test refused (rw (← view) at passes))
 
-  pub same_elsewhere : (other : ℕ) → (other ≡ block → ⊥)
-      → slice_index_or (blocks_in home_after).entries other past ≡ slice_index_or (blocks_in home).entries other past
-  same_elsewhere other apart =
-      ap (λ (b : Blocks R). slice_index_or b.entries other past) blocks_after
-      ∙ get_or-set_other (blocks_in home).entries block other (row entry_before) past apart
+  -- its stage fits
+  pub fits_before : HomeFits home → IsTrue (stage_fits entry_before.stage)
+  fits_before fits = rw (← view) (fits.stages done.block (no_entry fresh) inside)
 
-  pub place_after : place < length after.stages
-  place_after = rw (row_is, length-set home.kept.stages place (row entry_before).stage) found.stage
+  module _ (place : ℕ) (found : IsAt home.kept asked place) where
+    stands : place_of home.kept.blocks done.block ≡ Some place
+    stands = ap (place_of home.kept.blocks) (sym about) ∙ found.stands
 
-  -- a stage that is read where the block's is by now is the one after the row
-  pub stage_after : (stage : Stage) → ((d : Stage) → stage ≡ slice_index_or after.stages place d) →
-      stage ≡ (row entry_before).stage
-  stage_after stage reads =
-      let next : Stage = (row entry_before).stage in
-      reads next
-      ∙ ap (λ (k : Kept R). slice_index_or k.stages place next) row_is
-      ∙ get_or-set_same home.kept.stages place next next found.stage
+    abbrev opens : Entry R
+    opens = opening_entry home.fresh home.opening done.block
 
-  pub row_answers : (X : Type 0) (answer : X) (wanted : Entry R → X)
-      → ((e : Entry R) → answer ≡ wanted (kept_at home.kept place e)) → answer ≡ wanted entry_before
-  row_answers X answer wanted says =
-      says (opening_entry home.fresh home.opening block)
-      ∙ ap wanted (sym (reads_kept home block within past place found.stands))
+    reads : entry_before ≡ kept_at home.kept place opens
+    reads = ap (λ (b : Blocks R). entry_at fresh b.entries done.block) (sym view)
+        ∙ reads_kept home done.block inside (no_entry fresh) place stands
 
-  pub fits_after : All (λ (o : Entry R). IsTrue (stage_fits o.stage)) (slice_set (blocks_in home).entries block
-      (row entry_before))
-      → HomeFits home → HomeFits home_after
-  fits_after stages fits = rw row_is (fits_with home block place found.stands found.stage found.copy (row entry_before)
-      stages fits)
+    -- the stage that is kept is the block's, whatever is asked of it
+    pub stage_found : (P : Stage → Type 0) → P entry_before.stage → P (slice_index_or home.kept.stages place Unshared)
+    stage_found P holds = subst (λ (e : Entry R). P e.stage) reads holds
+
+    module _ (after : Kept R) (hand : R) (served : Served)
+        (did : IsDoneAt done home.kept after place hand served) where
+      abbrev pub home_after : Sparse R
+      home_after = record home { kept = after }
+
+      row_is : after ≡ kept_with home.kept place (done.after entry_before)
+      row_is = did.kept opens ∙ ap (λ (e : Entry R). kept_with home.kept place (done.after e)) (sym reads)
+
+      pub fits_after : ((e : Entry R) → IsTrue (stage_fits e.stage) → IsTrue (stage_fits (done.after e).stage)) →
+          HomeFits home → HomeFits home_after
+      fits_after law fits =
+          let new : Entry R = done.after entry_before in
+          rw row_is (fits_with home done.block place stands found.stage found.copy new
+          (All-set (λ (e : Entry R). IsTrue (stage_fits e.stage)) (blocks_in home).entries done.block new
+          (law entry_before (fits_before fits)) fits.stages) fits)
+
+      blocks_after : blocks_in home_after
+          ≡ record now { entries = slice_set now.entries done.block (done.after entry_before) }
+      blocks_after =
+          ap (λ (k : Kept R). blocks_in (record home { kept = k })) row_is
+          ∙ ap (λ entries. record (blocks_in home) { entries = entries }) (entries_with home done.block place stands
+          found.stage found.copy (done.after entry_before))
+          ∙ ap (λ (b : Blocks R). record b { entries = slice_set b.entries done.block (done.after entry_before) }) view
+
+      pub is_served : IsServed fresh done now (blocks_in home_after) hand served
+      is_served =
+          record {
+            blocks = blocks_after;
+            elsewhere = λ other apart. ap (λ (b : Blocks R). entry_at fresh b.entries other) blocks_after
+                ∙ get_or-set_other now.entries done.block other (done.after entry_before) (no_entry fresh) apart;
+            answer = did.answer opens ∙ ap done.answer (sym reads);
+            free = did.free opens ∙ ap (λ (e : Entry R). is_free (done.after e).stage) (sym reads);
+          }

@@ -17,16 +17,12 @@ use Rattle.std.proofs.lemmas.List.Sums.{count_by-le-length, prefix_len-le-length
 use Rattle.image_mem.specs.Contents.{Contents}
 use Rattle.msi_directory.specs.Blocks.{Blocks, block_count, has_room, opening_entry, touched}
 use Rattle.msi_directory.specs.Fitting.{stage_fits}
-use Rattle.msi_directory.specs.Kept.{HomeFits, IsEven, Kept, Sparse, all_blocks, blocks_in, copy_of, entry_in, home_of}
+use Rattle.msi_directory.specs.Kept.{HomeFits, IsEven, Sparse, all_blocks, blocks_in, copy_of, entry_in, home_of}
 use Rattle.msi_directory.specs.Kept.{is_kept, kept_at, kept_more, kept_or, kept_with, nothing_kept, place_of}
 use Rattle.msi_directory.specs.declared.entry.Entry.{Entry}
 use Rattle.msi_directory.specs.declared.entry.Stage.{Stage}
 use Rattle.msi_directory.specs.declared.entry.Stage.TheVariants.{Unshared}
 use Rattle.msi_directory.proofs.Openings.{openings_fit}
-
--- with the opening entry of one more block, which has this rider
-abbrev pub more_opened : {R : Type 0} → Sparse R → ℕ → R → Kept R
-more_opened home block rider = kept_more home.kept block (opening_entry rider home.opening block)
 
 -- a function of the numbers below n, changed at one of them
 module _ {X : Type 0} (f g : ℕ → X) (n k : ℕ) (y : X)
@@ -126,7 +122,7 @@ none_touched : (test : ℕ → Bool) (blocks : List ℕ) → ((b : ℕ) → test
 none_touched test [] never = refl
 none_touched test (b ∷ blocks) never = rw (never b, none_touched test blocks never)
 
-pub touched_more : (rooms : List Bool) (block : ℕ) → block < length rooms
+touched_more : (rooms : List Bool) (block : ℕ) → block < length rooms
     → touched (slice_set rooms block true) ≡ touched rooms + (if has_room rooms block then 0 else 1)
 touched_more rooms block within = by (has_room rooms block) refl
   where
@@ -239,7 +235,7 @@ module _ {R : Type 0} (home : Sparse R) (block : ℕ) (none : place_of home.kept
   entries_more : (blocks_in home_more).entries ≡ (blocks_in home).entries
   entries_more = ap (λ f. map f (all_blocks home.opening)) (λ i b. all_stand b i)
 
-  pub rooms_more : (blocks_in home_more).rooms ≡ slice_set (blocks_in home).rooms block true
+  rooms_more : (blocks_in home_more).rooms ≡ slice_set (blocks_in home).rooms block true
   rooms_more =
       map_changed (is_kept home.kept.blocks) (is_kept (home.kept.blocks ++ block ∷ [])) (block_count home.opening.words)
       block true
@@ -255,8 +251,15 @@ module _ {R : Type 0} (home : Sparse R) (block : ℕ) (none : place_of home.kept
   blocks_more = λ i. record { entries = entries_more i; rooms = rooms_more i }
 
   module _ (within : block < length (blocks_in home).entries) where
-    pub room_within : block < length (blocks_in home).rooms
+    room_within : block < length (blocks_in home).rooms
     room_within = rw (rooms_counted home, ← entries_counted home) within
+
+    pub room_more : has_room (blocks_in home_more).rooms block ≡ true
+    room_more = rw rooms_more (get_or-set_same (blocks_in home).rooms block true false room_within)
+
+    pub more_touched : touched (blocks_in home_more).rooms
+        ≡ touched (blocks_in home).rooms + (if has_room (blocks_in home).rooms block then 0 else 1)
+    more_touched = rw rooms_more (touched_more (blocks_in home).rooms block room_within)
 
     pub fits_more : HomeFits home → HomeFits home_more
     fits_more fits =

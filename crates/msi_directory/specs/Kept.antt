@@ -29,6 +29,12 @@ place_of blocks block = position (nat_eq block) blocks
 abbrev pub is_kept : List ℕ → ℕ → Bool
 is_kept blocks block = is_some (place_of blocks block)
 
+-- the block's entry is at this place
+pub record IsAt {R : Type 0} (kept : Kept R) (block place : ℕ) : Type 0 where
+  pub stands : place_of kept.blocks block ≡ Some place
+  pub stage : place < length kept.stages
+  pub copy : place < length kept.copies
+
 -- all blocks of the memory
 abbrev pub all_blocks : Contents → List ℕ
 all_blocks image = range_with_len 0 (block_count image.words)

@@ -4,3 +4,4 @@ pub mod Blocks
 pub mod Kept
 pub mod PlainPart
 pub mod Fitting
+pub mod Deeds

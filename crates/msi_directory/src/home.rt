@@ -1,15 +1,17 @@
 //! The home of all blocks.
-ghost use Rattle.std.specs.Prelude.{◌≡◌, ◌<◌, ◌/◌, ◌%◌, ◌*◌, ◌+◌, ◌^◌, ℕ, List, IfOk, IsTrue, if◌then◌else◌, OnErr};
-ghost use Rattle.std.specs.Prelude.{OnOk, length, slice_index, slice_set, true};
-ghost use Rattle.msi_cache.specs.Messages.{request_block, request_seen, response_block, response_seen};
+ghost use Rattle.std.specs.Prelude.{◌≡◌, ◌<◌, ◌/◌, ◌%◌, ◌*◌, ◌+◌, ◌^◌, ℕ, List, IfOk, IsTrue, None};
+ghost use Rattle.std.specs.Prelude.{if◌then◌else◌, OnErr, OnOk, length, slice_index, slice_set, true};
+ghost use Rattle.msi_cache.specs.Messages.{request_block, request_seen, response_block};
 ghost use Rattle.msi_cache.specs.declared.messages.Request.{Request};
 ghost use Rattle.msi_cache.specs.declared.messages.Response.{Response};
 ghost use Rattle.msi_directory.specs.Blocks.{SameElsewhere, block_count, entries_after_request, entries_after_response};
 ghost use Rattle.msi_directory.specs.Blocks.{entry_at, has_room, opening_entries, opening_entry, touched};
-ghost use Rattle.msi_directory.specs.Entries.{answer_riding, answer_to_request, answer_to_response};
+ghost use Rattle.msi_directory.specs.Deeds.{IsServed, request_deed, response_deed};
+ghost use Rattle.msi_directory.specs.Entries.{answer_to_request, answer_to_response};
 ghost use Rattle.msi_directory.specs.Entries.{entry_after_request, entry_after_response, has_request_row};
 ghost use Rattle.msi_directory.specs.Entries.{has_response_row};
 ghost use Rattle.msi_directory.specs.Fitting.{stage_fits};
+ghost use Rattle.msi_directory.specs.Kept.{kept_more, place_of};
 ghost use Rattle.msi_directory.specs.PlainPart.{PlainRequest, PlainResponse};
 ghost use Rattle.msi_directory.specs.Table.{is_free, owner_of};
 ghost use Rattle.msi_directory.specs.declared.entry.Entry.{Entry};
@@ -25,11 +27,14 @@ use std::marker::Model;
 
 /// The home: an entry for each block that room was made for. A block without one is held by no cache, and has
 /// its opening words and a fresh rider. Contracts see the entries of all blocks, and which blocks have room, so
-/// that a request for them needs no memory.
+/// that a request for them needs no memory. What lies in `mail` and `hand` means nothing: a response and a
+/// rider of data are there on their way.
 pub struct Home<R> {
     opening: Image,
     fresh: R,
     kept: KeptEntries<R>,
+    mail: ResponseSlot<R>,
+    hand: Held<R>,
 }
 
 impl<R: Drop> Drop for Home<R> {
@@ -38,6 +43,8 @@ impl<R: Drop> Drop for Home<R> {
             opening: _opening,
             fresh: _fresh,
             kept: _kept,
+            mail: _mail,
+            hand: _hand,
         } = self;
     }
 }
@@ -66,6 +73,8 @@ impl<R: Rider> Home<R> {
             opening: Image::flat(bytes, image.words()).unwrap(),
             fresh: R::fresh(),
             kept: KeptEntries::new(alloc),
+            mail: ResponseSlot::blank(alloc)?,
+            hand: Held::fresh(alloc)?,
         })
     }
 
@@ -98,8 +107,7 @@ impl<R: Rider> Home<R> {
         if let Some(place) = self.kept.place(block) {
             return Ok(self.kept.stage(place).is_free());
         }
-        let entry = opening_entry(&self.opening, block, copied(&self.fresh));
-        self.kept.add(block, entry)?;
+        open(&mut self.kept, &self.opening, block, &self.fresh)?;
         Ok(true)
     }
 
@@ -148,8 +156,8 @@ impl<R: Rider> Home<R> {
     }
 
     /// Takes a request from core `from`, for a block that has room and at which the table has a row for
-    /// it, so that it isn't busy. Only that block's entry changes. What was in hand means nothing, before and after.
-    pub fn on_request(&mut self, from: u8, request: Request<R>, hand: &mut Held<R>) -> HomeAnswer<R>
+    /// it, so that it isn't busy. Only that block's entry changes.
+    pub fn on_request(&mut self, from: u8, request: Request<R>) -> HomeAnswer<R>
         requires from { from < CORES_MAX }
         requires within { request_block request < length self.old.entries }
         requires room { IsTrue (has_room self.old.rooms (request_block request)) }
@@ -163,8 +171,10 @@ impl<R: Rider> Home<R> {
         ensures answer { result ≡ answer_to_request R.riding.absorbed
             (entry_at R.riding.fresh self.old.entries (request_block request)) from request }
     {
-        let Served { answer, .. } = self.serve(from, request.lent(), hand);
-        answer.riding(copied(hand.get()))
+        let place = self.kept.find(request.block());
+        let lent = request.lent();
+        let Served { answer, .. } = self.kept.serve(place, from, lent, &mut self.hand);
+        answer.riding(copied(self.hand.get()))
     }
 
     /// Takes a request as `on_request` does, with its rider lent. Where data are sent, their rider is in hand
@@ -176,33 +186,16 @@ impl<R: Rider> Home<R> {
         requires row { IsTrue (has_request_row
             (entry_at R.riding.fresh self.old.entries (request_block (request_seen request))).stage from
             (request_seen request)) }
-        ensures blocks { self.new ≡ record self.old {
-          entries =
-              entries_after_request R.riding self.old.entries from (request_seen request.entry);
-        } }
-        ensures elsewhere { SameElsewhere R.riding.fresh self.old.entries self.new.entries
-            (request_block (request_seen request.entry)) }
-        ensures answer { answer_riding hand.new result.answer ≡ answer_to_request R.riding.absorbed
-            (entry_at R.riding.fresh self.old.entries (request_block (request_seen request.entry))) from
-            (request_seen request.entry) }
-        ensures free { let seen = request_seen request.entry in
-            let old = entry_at R.riding.fresh self.old.entries (request_block seen) in
-            result.free ≡ is_free (entry_after_request R.riding old from seen).stage }
+        ensures { IsServed R.riding.fresh (request_deed R.riding from (request_seen request.entry))
+            self.old self.new hand.new result }
     {
-        let place = self.kept.place(request.block()).unwrap();
-        let answer = self.kept.serve(place, from, request, hand);
-        let free = self.kept.stage(place).is_free();
-        Served { answer, free }
+        let place = self.kept.find(request.block());
+        self.kept.serve(place, from, request, hand)
     }
 
     /// Takes a response from core `from`, about a block at which the table has a row for it. Only that
-    /// block's entry changes. What was in hand means nothing, before and after.
-    pub fn on_response(
-        &mut self,
-        from: u8,
-        response: Response<R>,
-        hand: &mut Held<R>,
-    ) -> HomeAnswer<R>
+    /// block's entry changes.
+    pub fn on_response(&mut self, from: u8, response: Response<R>) -> HomeAnswer<R>
         requires from { from < CORES_MAX }
         requires within { response_block response < length self.old.entries }
         requires row { IsTrue (has_response_row
@@ -215,39 +208,16 @@ impl<R: Rider> Home<R> {
         ensures answer { result ≡ answer_to_response R.riding.absorbed
             (entry_at R.riding.fresh self.old.entries (response_block response)) from response }
     {
-        let Served { answer, .. } = self.collect(from, response.lent(), hand);
-        answer.riding(copied(hand.get()))
+        let place = self.kept.find(response.block());
+        self.mail.put(response.lent());
+        let Served { answer, .. } = self
+            .kept
+            .receive(place, from, &mut self.mail, &mut self.hand);
+        answer.riding(copied(self.hand.get()))
     }
 
-    /// Takes a response as `on_response` does, with its rider lent. Where data are sent, their rider is in hand
-    /// afterwards.
-    pub fn collect(&mut self, from: u8, response: Response<&R>, hand: &mut Held<R>) -> Served
-        requires from { from < CORES_MAX }
-        requires within { response_block (response_seen response) < length self.old.entries }
-        requires row { IsTrue (has_response_row
-            (entry_at R.riding.fresh self.old.entries (response_block (response_seen response))).stage from
-            (response_seen response)) }
-        ensures blocks { self.new ≡ record self.old {
-          entries =
-              entries_after_response R.riding self.old.entries from (response_seen response.entry);
-        } }
-        ensures elsewhere { SameElsewhere R.riding.fresh self.old.entries self.new.entries
-            (response_block (response_seen response.entry)) }
-        ensures answer { answer_riding hand.new result.answer ≡ answer_to_response R.riding.absorbed
-            (entry_at R.riding.fresh self.old.entries (response_block (response_seen response.entry))) from
-            (response_seen response.entry) }
-        ensures free { let seen = response_seen response.entry in
-            let old = entry_at R.riding.fresh self.old.entries (response_block seen) in
-            result.free ≡ is_free (entry_after_response R.riding old from seen).stage }
-    {
-        let place = self.kept.place(response.block()).unwrap();
-        let answer = self.kept.collect(place, from, response, hand);
-        let free = self.kept.stage(place).is_free();
-        Served { answer, free }
-    }
-
-    /// Takes the response that lies here, as `collect` does. What is left here means nothing: an owner's rider is
-    /// handed over, not copied.
+    /// Takes the response that lies here, as `on_response` does. What is left here means nothing: an owner's rider is
+    /// handed over, not copied. Where data are sent, their rider is in hand afterwards.
     pub fn receive(
         &mut self,
         from: u8,
@@ -258,21 +228,10 @@ impl<R: Rider> Home<R> {
         requires within { response_block response.old < length self.old.entries }
         requires row { IsTrue (has_response_row
             (entry_at R.riding.fresh self.old.entries (response_block response.old)).stage from response.old) }
-        ensures blocks { self.new ≡ record self.old {
-          entries =
-              entries_after_response R.riding self.old.entries from response.old;
-        } }
-        ensures elsewhere { SameElsewhere R.riding.fresh self.old.entries self.new.entries
-            (response_block response.old) }
-        ensures answer { answer_riding hand.new result.answer ≡ answer_to_response R.riding.absorbed
-            (entry_at R.riding.fresh self.old.entries (response_block response.old)) from response.old }
-        ensures free { let old = entry_at R.riding.fresh self.old.entries (response_block response.old) in
-            result.free ≡ is_free (entry_after_response R.riding old from response.old).stage }
+        ensures { IsServed R.riding.fresh (response_deed R.riding from response.old) self.old self.new hand.new result }
     {
-        let place = self.kept.place(response.block()).unwrap();
-        let answer = self.kept.receive(place, from, response, hand);
-        let free = self.kept.stage(place).is_free();
-        Served { answer, free }
+        let place = self.kept.find(response.block());
+        self.kept.receive(place, from, response, hand)
     }
 
     /// The rider on the home's copy of the block, one of the memory's.
@@ -335,6 +294,24 @@ impl<R: Rider> Home<R> {
             None => Stage::Unshared,
         }
     }
+}
+
+/// Keeps an entry of one more block, as the image has it.
+#[cold]
+#[inline(never)]
+fn open<R: Rider>(
+    kept: &mut KeptEntries<R>,
+    image: &Image,
+    block: u32,
+    fresh: &R,
+) -> Result<(), AllocError>
+    requires within { block * BLOCK_WORDS + 3 < 2 ^ 32 }
+    requires new { place_of kept.old.blocks block ≡ None }
+    ensures ok { OnOk result (kept.new ≡ kept_more kept.old block (opening_entry fresh.now image.now block)) }
+    ensures err { OnErr result (kept.new ≡ kept.old) }
+{
+    let entry = opening_entry(image, block, copied(fresh));
+    kept.add(block, entry)
 }
 
 /// A block as the image has it, with this rider.

@@ -1,6 +1,6 @@
 //! The home's own copy of a block, and the table's rows on it and on the block's stage.
 ghost use Rattle.std.specs.Prelude.{◌≡◌, ◌<◌, IsTrue, Some, is_some};
-ghost use Rattle.msi_cache.specs.Messages.{request_seen, response_seen};
+ghost use Rattle.msi_cache.specs.Messages.{request_seen};
 ghost use Rattle.msi_cache.specs.Table.{Ask, Reply};
 ghost use Rattle.msi_cache.specs.declared.messages.FromHome.{FromHome};
 ghost use Rattle.msi_cache.specs.declared.messages.Request.{Request};
@@ -56,45 +56,8 @@ impl<R: Rider> HomeCopy<R> {
         }
     }
 
-    /// Takes a response about this block. The rider of data which are sent is in hand afterwards.
-    pub(crate) fn collect(
-        &mut self,
-        stage: &mut Stage,
-        from: u8,
-        response: Response<&R>,
-        hand: &mut Held<R>,
-    ) -> HomeAnswer<()>
-        requires from { from < CORES_MAX }
-        requires fits { IsTrue (stage_fits stage.old) }
-        requires row { IsTrue (has_response_row stage.old from (response_seen response)) }
-        ensures entry { entry_of stage.new self.new
-            ≡ entry_after_response R.riding (entry_of stage.old self.old) from
-            (response_seen response.entry) }
-        ensures answer { answer_riding hand.new result
-            ≡ answer_to_response R.riding.absorbed (entry_of stage.old self.old) from
-            (response_seen response.entry) }
-    {
-        match response {
-            Response::InvAck {
-                block,
-                rider: reads,
-            } => {
-                self.rider.absorb(reads);
-                self.acknowledge(stage, from, block, hand)
-            }
-            Response::OwnerData {
-                block,
-                words,
-                rider,
-            } => {
-                self.words = words;
-                self.rider.copy_from(rider);
-                self.hand_over(stage, from, block, hand)
-            }
-        }
-    }
-
-    /// Takes the response that lies here, as `collect` does. An owner's rider is handed over.
+    /// Takes the response that lies here, about this block. An owner's rider is handed over, and that of data which
+    /// are sent is in hand afterwards.
     pub(crate) fn receive(
         &mut self,
         stage: &mut Stage,

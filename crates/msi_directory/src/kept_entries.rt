@@ -1,21 +1,19 @@
 //! The entries that a home keeps.
 ghost use Rattle.std.specs.Prelude.{◌≡◌, ◌<◌, IfSome, IsTrue, None, OnErr, OnOk, length, slice_index_or};
-ghost use Rattle.msi_cache.specs.Messages.{request_seen, response_seen};
-ghost use Rattle.msi_directory.specs.Entries.{answer_riding, answer_to_request, answer_to_response};
-ghost use Rattle.msi_directory.specs.Entries.{entry_after_request, entry_after_response, has_request_row};
-ghost use Rattle.msi_directory.specs.Entries.{has_response_row};
+ghost use Rattle.msi_cache.specs.Messages.{request_seen};
+ghost use Rattle.msi_directory.specs.Deeds.{IsDoneAt, request_deed, response_deed};
+ghost use Rattle.msi_directory.specs.Entries.{has_request_row, has_response_row};
 ghost use Rattle.msi_directory.specs.Fitting.{stage_fits};
-ghost use Rattle.msi_directory.specs.Kept.{IsEven, kept_at, kept_more, kept_with, nothing_kept, place_of};
-ghost use Rattle.msi_directory.specs.declared.entry.Entry.{Entry};
+ghost use Rattle.msi_directory.specs.Kept.{IsAt, IsEven, is_kept, kept_more, nothing_kept, place_of};
 ghost use Rattle.msi_directory.specs.declared.entry.Stage.{Stage};
 ghost use Rattle.msi_directory.specs.declared.entry.Stage.TheVariants.{Unshared};
 ghost use Rattle.msi_directory.specs.declared.home_copies.HomeCopy.{HomeCopy};
 
-use crate::entry::{Entry, HomeAnswer, Stage};
+use crate::entry::{Entry, Served, Stage};
 use crate::home_copies::HomeCopy;
 use access_times::Rider;
 use indexmap::IndexMap;
-use msi_cache::{Held, Request, Response, ResponseSlot};
+use msi_cache::{Held, Request, ResponseSlot};
 use rtr_types::CORES_MAX;
 use std::alloc::{AllocError, Global};
 use std::marker::Model;
@@ -91,6 +89,14 @@ impl<R> KeptEntries<R> {
         }
     }
 
+    /// The place of a block that has an entry.
+    pub(crate) fn find(&self, block: u32) -> usize
+        requires { IsTrue (is_kept self.now.blocks block) }
+        ensures { IsAt self.now block result }
+    {
+        self.place(block).unwrap()
+    }
+
     /// The stage at a place.
     pub(crate) fn stage(&self, place: usize) -> Stage
         requires { place < length self.now.stages }
@@ -139,62 +145,39 @@ impl<R: Rider> KeptEntries<R> {
         from: u8,
         request: Request<&R>,
         hand: &mut Held<R>,
-    ) -> HomeAnswer<()>
+    ) -> Served
         requires from { from < CORES_MAX }
         requires stage { place < length self.old.stages }
         requires copy { place < length self.old.copies }
         requires row { IsTrue (has_request_row (slice_index_or self.old.stages place Unshared) from
             (request_seen request)) }
-        ensures kept { (past : Entry R) → self.new ≡ kept_with self.old place
-            (entry_after_request R.riding (kept_at self.old place past) from (request_seen request.entry)) }
-        ensures answer { (past : Entry R) → answer_riding hand.new result
-            ≡ answer_to_request R.riding.absorbed (kept_at self.old place past) from (request_seen request.entry) }
+        ensures { IsDoneAt (request_deed R.riding from (request_seen request.entry)) self.old self.new place
+            hand.new result }
     {
         let stage = &mut self.stages[place];
-        self.copies[place].serve(stage, from, request, hand)
+        let answer = self.copies[place].serve(stage, from, request, hand);
+        let free = stage.is_free();
+        Served { answer, free }
     }
 
-    /// Takes a response about the block there. The rider of data which are sent is in hand afterwards.
-    pub(crate) fn collect(
-        &mut self,
-        place: usize,
-        from: u8,
-        response: Response<&R>,
-        hand: &mut Held<R>,
-    ) -> HomeAnswer<()>
-        requires from { from < CORES_MAX }
-        requires stage { place < length self.old.stages }
-        requires copy { place < length self.old.copies }
-        requires fits { IsTrue (stage_fits (slice_index_or self.old.stages place Unshared)) }
-        requires row { IsTrue (has_response_row (slice_index_or self.old.stages place Unshared) from
-            (response_seen response)) }
-        ensures kept { (past : Entry R) → self.new ≡ kept_with self.old place
-            (entry_after_response R.riding (kept_at self.old place past) from (response_seen response.entry)) }
-        ensures answer { (past : Entry R) → answer_riding hand.new result
-            ≡ answer_to_response R.riding.absorbed (kept_at self.old place past) from (response_seen response.entry) }
-    {
-        let stage = &mut self.stages[place];
-        self.copies[place].collect(stage, from, response, hand)
-    }
-    /// Takes the response that lies here, as `collect` does. An owner's rider is handed over.
+    /// Takes the response that lies here, about the block there. An owner's rider is handed over.
     pub(crate) fn receive(
         &mut self,
         place: usize,
         from: u8,
         response: &mut ResponseSlot<R>,
         hand: &mut Held<R>,
-    ) -> HomeAnswer<()>
+    ) -> Served
         requires from { from < CORES_MAX }
         requires stage { place < length self.old.stages }
         requires copy { place < length self.old.copies }
         requires fits { IsTrue (stage_fits (slice_index_or self.old.stages place Unshared)) }
         requires row { IsTrue (has_response_row (slice_index_or self.old.stages place Unshared) from response.old) }
-        ensures kept { (past : Entry R) → self.new ≡ kept_with self.old place
-            (entry_after_response R.riding (kept_at self.old place past) from response.old) }
-        ensures answer { (past : Entry R) → answer_riding hand.new result
-            ≡ answer_to_response R.riding.absorbed (kept_at self.old place past) from response.old }
+        ensures { IsDoneAt (response_deed R.riding from response.old) self.old self.new place hand.new result }
     {
         let stage = &mut self.stages[place];
-        self.copies[place].receive(stage, from, response, hand)
+        let answer = self.copies[place].receive(stage, from, response, hand);
+        let free = stage.is_free();
+        Served { answer, free }
     }
 }

@@ -1,28 +1,17 @@
-use Rattle.std.proofs.Common.{◌∙◌, length-set, sym}
-use Rattle.indexmap.proofs.CallerLemmas.{index_map_len-with_value_at}
-use Rattle.msi_directory.specs.Entries.{answer_riding, answer_to_response, entry_after_response}
-use Rattle.msi_directory.specs.declared.entry.Entry.{Entry}
-use Rattle.msi_directory.proofs.Keeping.{answered, changed}
+use Rattle.msi_directory.specs.Deeds.{response_deed}
+use Rattle.msi_directory.proofs.Keeping.{changed_counted, done_at}
 use Rattle.msi_directory.proofs.kept_entries.KeptEntries.receive.Goals as goal
 
 pub invariant_of-self : goal.invariant_of-self
-invariant_of-self g c =
-    let copies = length-set c.self.inside.copies.items c.args.place c.receive.new.self in
-    let stages = index_map_len-with_value_at c.self.inside.stages c.args.place c.receive.new.stage in
-    (copies ∙ c.self.invariant.0 ∙ sym stages, c.self.invariant.1)
+invariant_of-self g c = (
+  changed_counted c.self.inside.stages c.self.inside.copies.items c.args.place _ c.receive-answer.new.self
+      c.self.invariant.0,
+  c.self.invariant.1,
+)
 
-pub returns-clause-kept : goal.returns-clause-kept
-returns-clause-kept g c =
-    let copy = rw (← c.self.view_is) at c.requires.copy in
-    let row = λ (e : Entry _). entry_after_response g.R.Rider.riding e c.args.from c.args.response.now in
-    changed c.self.inside.stages c.self.inside.copies.items c.args.self.now c.self.view_is c.args.place
-    c.index_mut-stage.result.now c.index_mut.result.now c.index_mut-stage.ensures.value copy c.index_mut.ensures.value
-    row c.receive.new.stage c.receive.new.self c.receive.ensures.entry
-
-pub returns-clause-answer : goal.returns-clause-answer
-returns-clause-answer g c =
-    let copy = rw (← c.self.view_is) at c.requires.copy in
-    let wanted = λ (e : Entry _). answer_to_response g.R.Rider.riding.absorbed e c.args.from c.args.response.now in
-    answered c.self.inside.stages c.self.inside.copies.items c.args.self.now c.self.view_is c.args.place
-    c.index_mut-stage.result.now c.index_mut.result.now c.index_mut-stage.ensures.value copy c.index_mut.ensures.value
-    _ (answer_riding c.receive.new.hand c.receive.result) wanted c.receive.ensures.answer
+pub returns : goal.returns
+returns g c =
+    done_at c.self.inside.stages c.self.inside.copies.items _ c.self.view_is c.args.place _ _
+    c.index_mut-stage.ensures.value (rw (← c.self.view_is) at c.requires.copy) c.index_mut.ensures.value
+    (response_deed g.R.Rider.riding c.args.from c.args.response.now) _ _ _ _
+    c.receive-answer.ensures.entry c.receive-answer.ensures.answer c.is_free-free.ensures

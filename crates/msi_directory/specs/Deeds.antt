@@ -1,0 +1,53 @@
+-- What a message does at the home: to its block's entry, and by what it is answered.
+use Rattle.std.specs.Prelude.{◌≡◌, ℕ, slice_set}
+use Rattle.access_times.specs.Riding.{Riding}
+use Rattle.msi_cache.specs.Messages.{request_block, response_block}
+use Rattle.msi_cache.specs.declared.messages.Request.{Request}
+use Rattle.msi_cache.specs.declared.messages.Response.{Response}
+use Rattle.msi_directory.specs.Blocks.{Blocks, SameElsewhere, entry_at}
+use Rattle.msi_directory.specs.Entries.{answer_riding, answer_to_request, answer_to_response}
+use Rattle.msi_directory.specs.Entries.{entry_after_request, entry_after_response}
+use Rattle.msi_directory.specs.Kept.{Kept, kept_at, kept_with}
+use Rattle.msi_directory.specs.Table.{is_free}
+use Rattle.msi_directory.specs.declared.entry.Entry.{Entry}
+use Rattle.msi_directory.specs.declared.entry.HomeAnswer.{HomeAnswer}
+use Rattle.msi_directory.specs.declared.entry.Served.{Served}
+
+-- the message's block, what becomes of its entry, and the answer
+pub record Deed (R : Type 0) : Type 0 where
+  pub block : ℕ
+  pub after : Entry R → Entry R
+  pub answer : Entry R → HomeAnswer R
+
+module _ {R : Type 0} where
+  abbrev pub deed : ℕ → (Entry R → Entry R) → (Entry R → HomeAnswer R) → Deed R
+  deed block after answer = record { block = block; after = after; answer = answer }
+
+  -- what a request from core c does
+  abbrev pub request_deed : Riding R → ℕ → Request R → Deed R
+  request_deed riding c request =
+      deed (request_block request) (λ e. entry_after_request riding e c request)
+      (λ e. answer_to_request riding.absorbed e c request)
+
+  -- what a response from core c does
+  abbrev pub response_deed : Riding R → ℕ → Response R → Deed R
+  response_deed riding c response =
+      deed (response_block response) (λ e. entry_after_response riding e c response)
+      (λ e. answer_to_response riding.absorbed e c response)
+
+-- The home did this: only the block's entry is another, and the answer has the rider in hand where it has data.
+pub record IsServed {R : Type 0} (fresh : R) (done : Deed R) (old new : Blocks R) (hand : R) (served : Served) : Type 0
+  where
+    pub blocks : new ≡ record old {
+      entries = slice_set old.entries done.block (done.after (entry_at fresh old.entries done.block));
+    }
+    pub elsewhere : SameElsewhere fresh old.entries new.entries done.block
+    pub answer : answer_riding hand served.answer ≡ done.answer (entry_at fresh old.entries done.block)
+    pub free : served.free ≡ is_free (done.after (entry_at fresh old.entries done.block)).stage
+
+-- this was done to the entry that is kept at the place
+pub record IsDoneAt {R : Type 0} (done : Deed R) (old new : Kept R) (place : ℕ) (hand : R) (served : Served) : Type 0
+  where
+    pub kept : (past : Entry R) → new ≡ kept_with old place (done.after (kept_at old place past))
+    pub answer : (past : Entry R) → answer_riding hand served.answer ≡ done.answer (kept_at old place past)
+    pub free : (past : Entry R) → served.free ≡ is_free (done.after (kept_at old place past)).stage
