@@ -282,35 +282,28 @@ reaches_same knows others noted w zero a b same r = (r.0, by r.1)
 reaches_same knows others noted w (suc count) a b same r =
     (r.0, same a b r.0 ∙ r.1, reaches_same knows others noted w count (a + w.sa) (b + w.sb) same r.2)
 
-pub awaited_same : (knows others : Knows) (noted : ℕ) (v : StrideVector) (w : Awaited) →
-    ((a b : ℕ) → b ≤ noted → others a b ≡ knows a b) → IsAwaited knows noted v w → IsAwaited others noted v w
-awaited_same knows others noted v w same h = record {
+-- the same is awaited where the same positions are reached
+awaited_by : (knows others : Knows) (noted later : ℕ) (v : StrideVector) (w : Awaited) →
+    ((count : ℕ) → Reaches knows noted w count (next_of v).0 (next_of v).1 →
+    Reaches others later w count (next_of v).0 (next_of v).1) → IsAwaited knows noted v w → IsAwaited others later v w
+awaited_by knows others noted later v w reach h = record {
   idle = h.idle;
   goes_on = λ many.
       let g = h.goes_on many in
-      record {
-        source = g.source;
-        target = g.target;
-        count = g.count;
-        reaches = reaches_same knows others noted w g.count (next_of v).0 (next_of v).1 same g.reaches;
-      };
+      record { source = g.source; target = g.target; count = g.count; reaches = reach g.count g.reaches };
 }
+
+pub awaited_same : (knows others : Knows) (noted : ℕ) (v : StrideVector) (w : Awaited) →
+    ((a b : ℕ) → b ≤ noted → others a b ≡ knows a b) → IsAwaited knows noted v w → IsAwaited others noted v w
+awaited_same knows others noted v w same h = awaited_by knows others noted noted v w
+    (λ count r. reaches_same knows others noted w count (next_of v).0 (next_of v).1 same r) h
 
 -- nothing changes where the retirement isn't awaited
 pub awaited_quiet : (knows others : Knows) (noted known : ℕ) (v : StrideVector) (w : Awaited) →
     KnowsMore knows others noted known → w.target ≢ noted + 1 → IsAwaited knows noted v w →
     IsAwaited others (noted + 1) v w
-awaited_quiet knows others noted known v w more apart h = record {
-  idle = h.idle;
-  goes_on = λ many.
-      let g = h.goes_on many in
-      record {
-        source = g.source;
-        target = g.target;
-        count = g.count;
-        reaches = reaches_quiet knows others noted known w g.count (next_of v).0 (next_of v).1 more apart g.reaches;
-      };
-}
+awaited_quiet knows others noted known v w more apart h = awaited_by knows others noted (noted + 1) v w
+    (λ count r. reaches_quiet knows others noted known w count (next_of v).0 (next_of v).1 more apart r) h
 
 awaited_looked : (knows others : Knows) (noted known : ℕ) (v : StrideVector) (w : Awaited) → Rises v →
     KnowsMore knows others noted known → w.target ≡ noted + 1 → noted + 1 < never → IsAwaited knows noted v w →

@@ -1,6 +1,6 @@
 -- A retirement and an edge keep what is awaited of each pair.
 use Rattle.std.proofs.Common.{◌≡◌, ◌≢◌, ℕ, ◌+◌, ◌-◌, ◌<◌, ◌≤◌, ◌⊎◌, inl, inr, true, false, List, [], length, get_or}
-use Rattle.std.proofs.Common.{◌∷◌, ◌++◌, replicate, sym, ap, subst, ◌∙◌, arith}
+use Rattle.std.proofs.Common.{◌∷◌, ◌++◌, map, replicate, sym, ap, subst, ◌∙◌, arith}
 use Rattle.std.specs.Prelude.{All, nat_eq, nat_le, slice_index_or, slice_set}
 use Rattle.std.proofs.lemmas.Bool.{cases_eq, cases_lt, cond-false}
 use Rattle.std.proofs.lemmas.Bool.Decides.{nat_tests}
@@ -13,6 +13,7 @@ use Rattle.rtr_types.specs.Pairs.{IsPair, pair_count, pair_place, source_at, tar
 use Rattle.rtr_types.specs.PairEdges.{counts, with_edge}
 use Rattle.rtr_types.proofs.PairPlaces.{pairs-placed}
 use Rattle.stride_vector.specs.declared.StrideVector.{StrideVector}
+use Rattle.roomy_lists.specs.Lists.{Listed, items_in}
 use Rattle.know_history.specs.declared.known.Known.{Known}
 use Rattle.know_history.specs.Knowledge.{count_in}
 use Rattle.know_history.specs.Notes.{Notes, known_at, no_notes, noted_count}
@@ -29,6 +30,13 @@ use Rattle.edge_regulate.proofs.Awaiting.{awaited_quiet, awaited_taken, takes_sa
 use Rattle.edge_regulate.proofs.Growing.{newest_push, newest_rises, newest_set, told_new, told_on}
 use Rattle.edge_regulate.proofs.Regulations.{later_law, noted_law, tell}
 use Rattle.edge_regulate.proofs.Rooms.{AreGrowing}
+
+-- what is held by a regulator's parts
+abbrev pub held_by : (cores : ℕ) (pairs : List (Listed StrideVector)) (seats : List Seat) → Following
+held_by cores pairs seats = record {
+  regulation = record { cores = cores; vectors = items_in pairs; ready = map (λ l. l.ready) pairs };
+  seats = seats;
+}
 
 -- the vectors of one pair may go on
 growing_at : (lists : List (List StrideVector)) (place : ℕ) → AreGrowing lists →
@@ -574,12 +582,12 @@ edge_follows now f s e before seat place list made w after is can within small h
         (whole.awaited e.from.core e.to.core pair)))
 
 -- where the pair's vectors end before
-pub edge_before : (now f : Following) (s : Regulation) (e : Edge) (place : ℕ) (list made : List StrideVector) →
-    f ≡ now →
-    CanFollow now.regulation e → Holds f s e place list made → end_target list < e.to.count
-edge_before now f s e place list made is can holds =
+pub edge_before : (now f : Following) (e : Edge) (place : ℕ) (list : List StrideVector) → f ≡ now →
+    CanFollow now.regulation e → place ≡ pair_place f.regulation.cores e.from.core e.to.core →
+    list ≡ slice_index_or f.regulation.vectors place [] → end_target list < e.to.count
+edge_before now f e place list is can place_is list_is =
     subst (λ (vs : List StrideVector). end_target vs < e.to.count)
-    (sym (holds.list_is ∙ ap (λ (p : ℕ). slice_index_or f.regulation.vectors p []) holds.place_is))
+    (sym (list_is ∙ ap (λ (p : ℕ). slice_index_or f.regulation.vectors p []) place_is))
     (subst (λ (x : Following). end_target (slice_index_or x.regulation.vectors
     (pair_place x.regulation.cores e.from.core e.to.core) [])
     < e.to.count) (sym is) can.later)

@@ -1,7 +1,7 @@
 -- The limits of a run, as facts and as a test.
 use Rattle.std.proofs.Common.{◌≡◌, ◌*◌, ◌%◌, ◌≤◌, true, ◌&&◌, nat_le, nat_eq, refl, arith}
 use Rattle.std.proofs.lemmas.Bool.Decides.{nat_tests}
-use Rattle.std.proofs.lemmas.Bool.{and_parts}
+use Rattle.std.proofs.lemmas.Bool.{and_parts, leb-true}
 use Rattle.rtr_types.specs.declared.TheConstants.{CORES_MAX}
 use Rattle.rtr_types.specs.declared.params.Params.{Params}
 use Rattle.rtr_types.specs.declared.params.TheConstants.{INSTRUCTIONS_MAX, LIMIT_MAX, WORDS_MIN, WORDS_MAX}
@@ -45,13 +45,12 @@ run-true p e =
     in
     let f = and_parts (nat_le 1 p.limit) (nat_le p.limit LIMIT_MAX) d.0 in
     let blocks = blocks-true p c.1 in
-    let b0 = b.0 in let b1 = b.1 in let d1 = d.1 in let f0 = f.0 in let f1 = f.1 in
     record {
-      some_core = grind (arith, nat_tests);
-      cores = grind (arith, nat_tests);
-      some_instruction = grind (arith, nat_tests);
-      limit = grind (arith, nat_tests);
-      instructions = grind (arith, nat_tests);
+      some_core = leb-true 1 p.cores b.0;
+      cores = leb-true p.cores CORES_MAX b.1;
+      some_instruction = leb-true 1 p.limit f.0;
+      limit = leb-true p.limit LIMIT_MAX f.1;
+      instructions = leb-true (p.cores * p.limit) INSTRUCTIONS_MAX d.1;
       some_block = blocks.some_block;
       words = blocks.words;
       whole_blocks = blocks.whole_blocks;

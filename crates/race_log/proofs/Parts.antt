@@ -112,38 +112,6 @@ vectors-stand r v = places-stand (λ place vs. AreVectors (bound_at r.totals pla
 
 -- ---- how many there are, and how large they are
 
-pub edges_listed : (r : Recording) → Valid r → (place : ℕ) → place < length r.reduced →
-    IsListed (get_or r.reduced place [])
-edges_listed r v place lt =
-    let edges = get_or r.reduced place [] in
-    let most = bound_at r.totals place in
-    let are = v.reduced place (subst (λ (n : ℕ). place < n) v.each_reduced lt) in
-    let params = v.params in
-    let small = bound-small r.params.limit r.totals place (omega arith) v.totals in
-    let few = few_edges most edges are in
-    let least = small.source in
-    record {
-      few = omega arith;
-      rising =
-          stand-map (EdgeStands most) EdgeRises follow (λ s x h. h.rises) (0, 0) edges are;
-    }
-
-pub vectors_listed : (r : Recording) → Valid r → (place : ℕ) → place < length r.regulated →
-    length (get_or r.regulated place []) < 2 ^ 32
-vectors_listed r v place lt =
-    let vectors = get_or r.regulated place [] in
-    let most = bound_at r.totals place in
-    let are = v.regulated place (subst (λ (n : ℕ). place < n) v.each_regulated lt) in
-    let params = v.params in
-    let small = bound-small r.params.limit r.totals place (omega arith) v.totals in
-    let few = few_vectors most vectors are in
-    let least = small.source in
-    omega arith
-
--- the source of a pair retires at most as many instructions as it may
-pub bound-most : (r : Recording) (place : ℕ) → Valid r → (bound_at r.totals place).0 ≤ r.params.limit
-bound-most r place v = total-small r.params.limit r.totals (source_at (length r.totals) place) v.totals
-
 -- both totals of a pair are numbers of 32 bits
 pub totals_small : (r : Recording) (place : ℕ) → Valid r → ((bound_at r.totals place).0 < 2 ^ 32) ×
     ((bound_at r.totals place).1 < 2 ^ 32)
@@ -151,3 +119,27 @@ totals_small r place v =
     let params = v.params in
     let small = bound-small r.params.limit r.totals place (omega arith) v.totals in
     (small.source, small.target)
+
+pub edges_listed : (r : Recording) → Valid r → (place : ℕ) → place < length r.reduced →
+    IsListed (get_or r.reduced place [])
+edges_listed r v place lt =
+    let are = v.reduced place (subst (λ (n : ℕ). place < n) v.each_reduced lt) in
+    let few = few_edges (bound_at r.totals place) (get_or r.reduced place []) are in
+    let least = (totals_small r place v).0 in
+    record {
+      few = omega arith;
+      rising = stand-map (EdgeStands (bound_at r.totals place)) EdgeRises follow (λ s x h. h.rises) (0, 0)
+          (get_or r.reduced place []) are;
+    }
+
+pub vectors_listed : (r : Recording) → Valid r → (place : ℕ) → place < length r.regulated →
+    length (get_or r.regulated place []) < 2 ^ 32
+vectors_listed r v place lt =
+    let are = v.regulated place (subst (λ (n : ℕ). place < n) v.each_regulated lt) in
+    let few = few_vectors (bound_at r.totals place) (get_or r.regulated place []) are in
+    let least = (totals_small r place v).0 in
+    omega arith
+
+-- the source of a pair retires at most as many instructions as it may
+pub bound-most : (r : Recording) (place : ℕ) → Valid r → (bound_at r.totals place).0 ≤ r.params.limit
+bound-most r place v = total-small r.params.limit r.totals (source_at (length r.totals) place) v.totals

@@ -22,29 +22,29 @@ no_vector = record { n = 0; a0 = 0; b0 = 0; sa = 0; sb = 0 }
 
 -- ---- edges
 
-edges-above : (last : ℕ × ℕ) (edges : List (ℕ × ℕ)) → StandInTurn EdgeRises follow last edges → (k : ℕ) →
-    k < length edges →
-    (last.0 < (get_or edges k no_edge).0) × (last.1 < (get_or edges k no_edge).1)
-edges-above last [] h k below = absurd (omega arith)
-edges-above last (e ∷ edges) h zero below = (h.0.source, h.0.target)
-edges-above last (e ∷ edges) h (suc k) below =
-    let rest = edges-above e edges h.1 k (omega arith) in
-    let first = h.0 in
-    (omega arith, omega arith)
+-- a count that rises from each edge to the next is lowest at the first edge, and rises along the list
+module _ (n : ℕ × ℕ → ℕ) (up : (last e : ℕ × ℕ) → EdgeRises last e → n last < n e) where
+  counts-above : (last : ℕ × ℕ) (edges : List (ℕ × ℕ)) → StandInTurn EdgeRises follow last edges → (k : ℕ) →
+      k < length edges → n last < n (get_or edges k no_edge)
+  counts-above last [] h k below = absurd (omega arith)
+  counts-above last (e ∷ edges) h zero below = up last e h.0
+  counts-above last (e ∷ edges) h (suc k) below =
+      let rest = counts-above e edges h.1 k (omega arith) in let first = up last e h.0 in omega arith
+
+  counts-rise : (last : ℕ × ℕ) (edges : List (ℕ × ℕ)) → StandInTurn EdgeRises follow last edges →
+      Rising n edges no_edge
+  counts-rise last [] h i j before below = absurd (omega arith)
+  counts-rise last (e ∷ edges) h i zero before below = absurd (omega arith)
+  counts-rise last (e ∷ edges) h zero (suc j) before below = counts-above e edges h.1 j (omega arith)
+  counts-rise last (e ∷ edges) h (suc i) (suc j) before below = counts-rise e edges h.1 i j (omega arith) (omega arith)
 
 pub sources-rise : (last : ℕ × ℕ) (edges : List (ℕ × ℕ)) → StandInTurn EdgeRises follow last edges →
     Rising (λ e. e.0) edges no_edge
-sources-rise last [] h i j before below = absurd (omega arith)
-sources-rise last (e ∷ edges) h i zero before below = absurd (omega arith)
-sources-rise last (e ∷ edges) h zero (suc j) before below = (edges-above e edges h.1 j (omega arith)).0
-sources-rise last (e ∷ edges) h (suc i) (suc j) before below = sources-rise e edges h.1 i j (omega arith) (omega arith)
+sources-rise = counts-rise (λ e. e.0) (λ last e h. h.source)
 
 pub targets-rise : (last : ℕ × ℕ) (edges : List (ℕ × ℕ)) → StandInTurn EdgeRises follow last edges →
     Rising (λ e. e.1) edges no_edge
-targets-rise last [] h i j before below = absurd (omega arith)
-targets-rise last (e ∷ edges) h i zero before below = absurd (omega arith)
-targets-rise last (e ∷ edges) h zero (suc j) before below = (edges-above e edges h.1 j (omega arith)).1
-targets-rise last (e ∷ edges) h (suc i) (suc j) before below = targets-rise e edges h.1 i j (omega arith) (omega arith)
+targets-rise = counts-rise (λ e. e.1) (λ last e h. h.target)
 
 pub edge_stands_at : (most last : ℕ × ℕ) (edges : List (ℕ × ℕ)) → StandInTurn (EdgeStands most) follow last edges →
     (k : ℕ) → k < length edges →

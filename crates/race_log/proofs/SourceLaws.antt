@@ -352,3 +352,7 @@ pub edge_in : (which : Which) (r : Recording) (of a : ℕ) (at : Instr) (edges :
 edge_in which r of a at edges is has =
     subst (λ es. Contains es (a, at.count)) (sym is)
     ((edges-are-paired which r (record { core = of; count = a }) at).0 has).1
+
+pub edge_paired : (which : Which) (r : Recording) (of a : ℕ) (at : Instr) →
+    HasEdge which r (record { core = of; count = a }) at → IsPair r.params.cores of at.core
+edge_paired which r of a at has = ((edges-are-paired which r (record { core = of; count = a }) at).0 has).0

@@ -4,7 +4,7 @@ use Rattle.std.proofs.Common.{refl, sym, ap, subst, ◌∙◌, arith}
 use Rattle.std.specs.Prelude.{slice_index}
 use Rattle.std.proofs.lemmas.Bool.Decides.{nat_tests}
 use Rattle.std.proofs.lemmas.Bool.{eqb-true, eq-eqb, leb-true, le-leb, and_parts}
-use Rattle.rtr_types.specs.Pairs.{pair_count, pair_place, source_at, target_at}
+use Rattle.rtr_types.specs.Pairs.{IsPair, pair_count, pair_place, source_at, target_at}
 use Rattle.rtr_types.proofs.PairPlaces.{pairs-placed}
 use Rattle.stride_vector.specs.declared.StrideVector.{StrideVector}
 use Rattle.race_log.specs.declared.recording.Recording.{Recording}
@@ -23,33 +23,27 @@ use Rattle.race_log.proofs.Parts.{valid-made, edges-placed, vectors-stand}
 
 -- ---- by pair
 
+-- the bound at a pair's place is of its own two totals
+bound_by_pair : (r : Recording) (from to : ℕ) → Valid r → IsPair r.params.cores from to →
+    bound_at r.totals (pair_place r.params.cores from to) ≡ (slice_index r.totals from, slice_index r.totals to)
+bound_by_pair r from to v pair =
+    let place = pair_place r.params.cores from to in
+    let p = pairs-placed r.params.cores from to pair in
+    ap (λ (n : ℕ). (slice_index r.totals (source_at n place), slice_index r.totals (target_at n place))) v.each_core
+    ∙ ap (λ (k : ℕ). (slice_index r.totals k, slice_index r.totals (target_at r.params.cores place))) p.1
+    ∙ ap (λ (k : ℕ). (slice_index r.totals from, slice_index r.totals k)) p.2
+
 pub edges_by_pair : EdgesByPair
 edges_by_pair r from to v pair =
-    let p = pairs-placed r.params.cores from to pair in
-    let are = v.reduced (pair_place r.params.cores from to) p.0 in
-    let source : source_at (length r.totals) (pair_place r.params.cores from to) ≡ from =
-    ap (λ (n : ℕ). source_at n (pair_place r.params.cores from to)) v.each_core ∙ p.1 in
-    let target : target_at (length r.totals) (pair_place r.params.cores from to) ≡ to =
-    ap (λ (n : ℕ). target_at n (pair_place r.params.cores from to)) v.each_core ∙ p.2 in
-    subst (λ (k : ℕ). AreEdges (slice_index r.totals from, slice_index r.totals k)
-    (get_or r.reduced (pair_place r.params.cores from to) [])) target
-    (subst (λ (k : ℕ). AreEdges
-    (slice_index r.totals k, slice_index r.totals (target_at (length r.totals) (pair_place r.params.cores from to)))
-    (get_or r.reduced (pair_place r.params.cores from to) [])) source are)
+    let place = pair_place r.params.cores from to in
+    subst (λ (most : ℕ × ℕ). AreEdges most (get_or r.reduced place [])) (bound_by_pair r from to v pair)
+    (v.reduced place (pairs-placed r.params.cores from to pair).0)
 
 pub vectors_by_pair : VectorsByPair
 vectors_by_pair r from to v pair =
-    let p = pairs-placed r.params.cores from to pair in
-    let are = v.regulated (pair_place r.params.cores from to) p.0 in
-    let source : source_at (length r.totals) (pair_place r.params.cores from to) ≡ from =
-    ap (λ (n : ℕ). source_at n (pair_place r.params.cores from to)) v.each_core ∙ p.1 in
-    let target : target_at (length r.totals) (pair_place r.params.cores from to) ≡ to =
-    ap (λ (n : ℕ). target_at n (pair_place r.params.cores from to)) v.each_core ∙ p.2 in
-    subst (λ (k : ℕ). AreVectors (slice_index r.totals from, slice_index r.totals k)
-    (get_or r.regulated (pair_place r.params.cores from to) [])) target
-    (subst (λ (k : ℕ). AreVectors
-    (slice_index r.totals k, slice_index r.totals (target_at (length r.totals) (pair_place r.params.cores from to)))
-    (get_or r.regulated (pair_place r.params.cores from to) [])) source are)
+    let place = pair_place r.params.cores from to in
+    subst (λ (most : ℕ × ℕ). AreVectors most (get_or r.regulated place [])) (bound_by_pair r from to v pair)
+    (v.regulated place (pairs-placed r.params.cores from to pair).0)
 
 -- ---- as a test
 

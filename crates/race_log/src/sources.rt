@@ -1,11 +1,11 @@
 //! Which edge of a log leads from a core to an instruction.
-ghost use Rattle.std.specs.Prelude.{◌≡◌, ◌<◌, ◌≤◌, ◌+◌, ℕ, Some, IfSome, IsTrue, length, slice_index_or};
+ghost use Rattle.std.specs.Prelude.{◌≡◌, ◌<◌, ◌≤◌, ◌+◌, ◌↔◌, ℕ, Some, IfSome, IsTrue, length, slice_index_or};
 ghost use Rattle.std.specs.List.{Contains, flat_map};
 ghost use Rattle.stride_vector.specs.Vectors.{edges_of};
 ghost use Rattle.rtr_types.specs.Turns.{StandInTurn, follow};
 ghost use Rattle.rtr_types.specs.PairEdges.{EdgeRises};
-ghost use Rattle.rtr_types.specs.declared.pairs.Which.TheVariants.{Reduced};
-ghost use Rattle.race_log.specs.Sources.{AreApart, IsFrom};
+ghost use Rattle.rtr_types.specs.declared.pairs.Which.TheVariants.{Reduced, Regulated};
+ghost use Rattle.race_log.specs.Sources.{AreApart, IsFrom, edges_of_pair};
 
 use crate::recording::Recording;
 use rtr_types::{Instr, Which, pair_at};
@@ -15,7 +15,7 @@ use stride_vector::StrideVector;
 const TRIED: usize = 8;
 
 impl Recording {
-    ghost use Rattle.rtr_types.specs.Pairs.{IsPair};
+    ghost use Rattle.rtr_types.specs.Pairs.{IsPair, pair_place};
     ghost use Rattle.race_log.specs.Validity.{Valid};
     ghost use Rattle.race_log.specs.Sources.{HasEdge};
 
@@ -26,11 +26,12 @@ impl Recording {
         ensures found { IfSome result (λ a. HasEdge which self.now (record { core = of; count = a }) at) }
         ensures only { (a : ℕ) → HasEdge which self.now (record { core = of; count = a }) at → result ≡ Some a }
     {
-        let cores = self.params.cores;
-        if of < cores && at.core < cores && of != at.core {
-            self.pair_source(which, of, at)
-        } else {
-            None
+        if !self.is_pair(of, at.core) {
+            return None;
+        }
+        match which {
+            Which::Reduced => edge_source(self.reduced_between(of, at.core), at.count),
+            Which::Regulated => vector_source(self.regulated_between(of, at.core), at.count),
         }
     }
 
@@ -41,39 +42,41 @@ impl Recording {
         ensures found { IfSome result (λ a. HasEdge Reduced self.now (record { core = of; count = a }) at) }
         ensures only { (a : ℕ) → HasEdge Reduced self.now (record { core = of; count = a }) at → result ≡ Some a }
     {
-        let number = self.params.cores;
-        if of < number && at.core < number && of != at.core {
-            self.pair_source_near(of, at, near)
-        } else {
-            None
+        if !self.is_pair(of, at.core) {
+            return None;
         }
+        edge_source_near(self.reduced_between(of, at.core), at.count, near)
     }
 
-    /// The same of a pair of different cores.
-    fn pair_source_near(&self, of: u8, at: Instr, near: &mut usize) -> Option<u32>
-        requires valid { Valid self.now }
-        requires pair { IsPair self.now.params.cores of at.core }
-        ensures found { IfSome result (λ a. HasEdge Reduced self.now (record { core = of; count = a }) at) }
-        ensures only { (a : ℕ) → HasEdge Reduced self.now (record { core = of; count = a }) at → result ≡ Some a }
+    /// Whether these are two different cores of the recording.
+    fn is_pair(&self, from: u8, to: u8) -> bool
+        ensures { IsTrue result ↔ IsPair self.now.params.cores from to }
     {
-        let place = pair_at(self.params.cores, of, at.core);
-        edge_source_near(self.reduced.as_slice()[place].as_slice(), at.count, near)
+        from < self.params.cores && to < self.params.cores && from != to
     }
 
-    /// The same of a pair of different cores, in whose list it is looked up: its counts rise.
-    fn pair_source(&self, which: Which, of: u8, at: Instr) -> Option<u32>
+    /// The edges of the reduced log from one core to another: their counts rise.
+    #[inline(always)]
+    pub fn reduced_between(&self, from: u8, to: u8) -> &[(u32, u32)]
         requires valid { Valid self.now }
-        requires pair { IsPair self.now.params.cores of at.core }
-        ensures found { IfSome result (λ a. HasEdge which self.now (record { core = of; count = a }) at) }
-        ensures only { (a : ℕ) → HasEdge which self.now (record { core = of; count = a }) at → result ≡ Some a }
+        requires pair { IsPair self.now.params.cores from to }
+        ensures edges { result.now ≡ edges_of_pair Reduced self.now (pair_place self.now.params.cores from to) }
+        ensures rise { StandInTurn EdgeRises follow (0, 0) result.now }
     {
-        let place = pair_at(self.params.cores, of, at.core);
-        match which {
-            Which::Reduced => { edge_source(self.reduced.as_slice()[place].as_slice(), at.count) }
-            Which::Regulated => {
-                vector_source(self.regulated.as_slice()[place].as_slice(), at.count)
-            }
-        }
+        self.reduced.as_slice()[pair_at(self.params.cores, from, to)].as_slice()
+    }
+
+    /// The vectors of the regulated log from one core to another: each begins above the end of the one
+    /// before it.
+    #[inline(always)]
+    pub fn regulated_between(&self, from: u8, to: u8) -> &[StrideVector]
+        requires valid { Valid self.now }
+        requires pair { IsPair self.now.params.cores from to }
+        ensures edges { flat_map edges_of result.now
+            ≡ edges_of_pair Regulated self.now (pair_place self.now.params.cores from to) }
+        ensures apart { AreApart result.now }
+    {
+        self.regulated.as_slice()[pair_at(self.params.cores, from, to)].as_slice()
     }
 }
 

@@ -10,7 +10,7 @@ ghost use Rattle.race_log.specs.Validity.{Valid};
 ghost use Rattle.replay_core.specs.Coming.{IsBeginning, IsFirstPlace, IsNextEdge, IsNextInto, IsNextPosition};
 
 use race_log::Recording;
-use rtr_types::{Instr, Which, pair_at};
+use rtr_types::{Instr, Which};
 use stride_vector::StrideVector;
 
 /// The first edge of the log from core `of` to `at` or a later instruction of its core: the source's count
@@ -27,18 +27,9 @@ pub fn next_edge(
     requires pair { IsPair recording.now.params.cores of at.core }
     ensures { IsNextInto (log_edges which recording.now) of at result }
 {
-    let place = pair_at(recording.params.cores, of, at.core);
     match which {
-        Which::Reduced => {
-            first_edge(
-                recording.reduced.as_slice()[place].as_slice(),
-                at.count,
-                guess,
-            )
-        }
-        Which::Regulated => {
-            first_position(recording.regulated.as_slice()[place].as_slice(), at.count)
-        }
+        Which::Reduced => first_edge(recording.reduced_between(of, at.core), at.count, guess),
+        Which::Regulated => first_position(recording.regulated_between(of, at.core), at.count),
     }
 }
 

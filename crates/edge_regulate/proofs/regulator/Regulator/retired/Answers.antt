@@ -1,25 +1,17 @@
-use Rattle.std.proofs.Common.{◌≡◌, ◌<◌, List, sym, ap, subst, map, length, arith, rules, ◌∙◌}
+use Rattle.std.proofs.Common.{◌≡◌, ◌<◌, List, sym, ap, subst, length, arith, rules, ◌∙◌}
 use Rattle.std.proofs.lemmas.List.{set-get_or}
 use Rattle.std.specs.Prelude.{slice_set}
-use Rattle.roomy_lists.specs.Lists.{items_in}
 use Rattle.know_history.specs.Knowledge.{count_in}
 use Rattle.edge_regulate.specs.declared.seat.Seat.{Seat}
 use Rattle.edge_regulate.specs.Awaiting.{watched}
 use Rattle.edge_regulate.specs.Seats.{Following, Follows, awaited_at, no_seat, seat_at}
-use Rattle.edge_regulate.proofs.Following.{follows_looked, follows_quiet, seat_was}
+use Rattle.edge_regulate.proofs.Following.{follows_looked, follows_quiet, held_by, seat_was}
 use Rattle.edge_regulate.proofs.regulator.Regulator.retired.Goals as goal
 use Rattle.edge_regulate.proofs.regulator.Regulator.retired.Goals.{then-awaits, else-awaits}
 
 pub returns-clause-follows : goal.returns-clause-follows
 returns-clause-follows c old new edges next kept =
-    let f : Following = record {
-      regulation = record {
-        cores = c.self.inside.cores;
-        vectors = items_in c.self.inside.pairs;
-        ready = map (λ l. l.ready) c.self.inside.pairs;
-      };
-      seats = c.self.inside.seats.items;
-    } in
+    let f = held_by c.self.inside.cores c.self.inside.pairs c.self.inside.seats.items in
     let whole = subst (λ (x : Following). Follows old edges x) (sym c.self.view_is) kept in
     let core = c.args.at.core in
     let few = ap (λ (x : Following). x.regulation.cores) c.self.view_is in

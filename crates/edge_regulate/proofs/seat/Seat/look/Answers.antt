@@ -1,4 +1,4 @@
-use Rattle.std.proofs.Common.{arith}
+use Rattle.std.proofs.Common.{ℕ, arith}
 use Rattle.edge_regulate.proofs.Looking.{looking_next}
 use Rattle.edge_regulate.proofs.seat.Seat.look.Goals as goal
 use Rattle.edge_regulate.proofs.seat.Seat.look.Goals.{then-target-next, else-target-next}
@@ -7,20 +7,16 @@ pub loop-source-preserved : goal.loop-source-preserved
 loop-source-preserved c =
     let at = c.look_at-target.ensures.at in
     let target = c.look_at-target.ensures.target in
+    let known = c.count.ensures in
+    let next = λ (later : ℕ). looking_next c.args.self.now c.loop-source.self c.look_at-target.new.self c.args.count
+    c.args.known.now c.loop-source.next later c.loop-source.source c.loop-source.invariant (rw known at at)
+    c.look_at-target.ensures.others in
     elim c.if-target-next.branch [
-      | then-target-next w ↦
-          let less = w.if-target-next.true in
-          rw (w.next-is)
-          (looking_next c.args.self.now c.loop-source.self c.look_at-target.new.self c.args.count c.args.known.now
-          c.loop-source.next c.look_at-target.result c.loop-source.source c.loop-source.invariant
-          (let known = c.count.ensures in rw known at at) c.look_at-target.ensures.others (omega arith) (omega arith)
+      | then-target-next w ↦ rw (w.next-is)
+          (next c.look_at-target.result (let less = w.if-target-next.true in omega arith) (omega arith)
           (λ bound before here. omega arith))
-      | else-target-next w ↦
-          let more = w.if-target-next.false in
-          rw (w.next-is)
-          (looking_next c.args.self.now c.loop-source.self c.look_at-target.new.self c.args.count c.args.known.now
-          c.loop-source.next c.loop-source.next c.loop-source.source c.loop-source.invariant
-          (let known = c.count.ensures in rw known at at) c.look_at-target.ensures.others (omega arith) (omega arith)
+      | else-target-next w ↦ rw (w.next-is)
+          (next c.loop-source.next (omega arith) (let more = w.if-target-next.false in omega arith)
           (λ bound before here. before))
     ]
 
