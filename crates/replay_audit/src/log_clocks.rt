@@ -1,5 +1,5 @@
 //! The clocks of instructions by a log. They are kept only where an edge leads to.
-ghost use Rattle.std.specs.Prelude.{◌≡◌, ◌<◌, ◌≤◌, ℕ, IfOk, OnOk, [], length, replicate, slice_index};
+ghost use Rattle.std.specs.Prelude.{◌≡◌, ◌<◌, ◌≤◌, ℕ, IfOk, OnOk, [], replicate, slice_index};
 ghost use Rattle.rtr_types.specs.declared.TheConstants.{CORES_MAX};
 ghost use Rattle.replay_core.specs.Sources.{sources_in};
 ghost use Rattle.replay_audit.specs.Clocks.{clock_at, next_at, number_of, numbered, CanNote, IsKept, IsNoted};
