@@ -17,11 +17,13 @@ use Rattle.replay_core.specs.Orders.{counts, nought, Ready, lowest_ready}
 use Rattle.replay_core.specs.Answers.{told}
 use Rattle.replay_core.proofs.Counts.{counts_on}
 use Rattle.replay_core.specs.Sources.{AreSources}
+use Rattle.replay_audit.specs.Clocks.{CanNote}
 use Rattle.replay_audit.specs.Marks.{first_mark, mark_at, IsMark}
 use Rattle.replay_core.specs.Tallies.{Tallied, count_of}
 use Rattle.replay_audit.specs.Trails.{Trailed, Trails, IsTrailOf}
 use Rattle.replay_audit.proofs.Marking.{marked_at}
-use Rattle.replay_core.proofs.Tallying.{Counted, counted_start, counted_on, ready_there}
+use Rattle.replay_core.proofs.Tallying.{Counted, counted_start, counted_on}
+use Rattle.replay_audit.proofs.Walking.{Walking, at_next, can_note, ready, sources_next}
 use Rattle.replay_audit.proofs.Trailing.{trail_start, trail_on}
 
 -- the tally is at the end of the order, which is a front of the low order, and the trail has these accesses
@@ -58,6 +60,9 @@ followed_start which r cores t s valid fresh = record {
 module _ {which : Which} {r : Recording} (valid : Valid r) {order : List ℕ} {list : List Access} {t : Tallied}
     {s : Trailed}
     (f : Followed which r order list t s) where
+  walks : Walking which r order t s.kept
+  walks = record { counted = f.counted; clocked = f.trail.clocked }
+
   pub each_core : (b : Access) → StandsIn s.accesses b → b.at.core < CORES_MAX
   each_core b q =
       let lt = f.inside b (subst (λ (l : List Access). StandsIn l b) f.trail.accesses_is q) in
@@ -72,45 +77,18 @@ module _ {which : Which} {r : Recording} (valid : Valid r) {order : List ℕ} {l
   module _ {c : ℕ} (some : lowest_ready t.plan (count_of t.counts) ≡ Some c) {at : Instr}
       (at_is : at ≡ instr c (count_of t.counts c + 1)) where
     pub ready_next : Ready (plan_of which r) (counts nought order) c
-    ready_next = ready_there (plan_of which r) order t f.counted c some
+    ready_next = ready valid walks some at_is
 
-    pub at_next : at ≡ instr c (counts nought order c + 1)
-    at_next = at_is ∙ ap (λ (g : ℕ → ℕ). instr c (g c + 1)) f.counted.tally
+    pub at_here : at ≡ instr c (counts nought order c + 1)
+    at_here = at_next valid walks some at_is
 
-    core_is : at.core ≡ c
-    core_is = ap (λ (x : Instr). x.core) at_is
-
-    pub few : at.core < CORES_MAX
-    few =
-        let e = core_is in
-        let lt = ready_next.inside in
-        let a = valid.each_core in
-        let m = valid.params.cores in
-        omega arith
-
-    pub in_numbers : at.core < length s.kept.numbers
-    in_numbers =
-        let e = core_is in
-        let lt = ready_next.inside in
-        let a = valid.each_core in
-        let m = f.trail.clocked.all_numbers in
-        omega arith
-
-    pub in_clocks : at.core < length s.kept.clocks
-    in_clocks =
-        let e = core_is in
-        let lt = ready_next.inside in
-        let a = valid.each_core in
-        let m = f.trail.clocked.all_clocks in
-        omega arith
-
-    pub some_count : 1 ≤ at.count
-    some_count = let e = ap (λ (x : Instr). x.count) at_is in omega arith
+    pub noted_next : CanNote s.kept at
+    noted_next = can_note valid walks some at_is
 
     -- its access is at it
     module _ (access : Option Access) (told_at : (a : Access) → StandsIn (told access) a → a.at ≡ at) where
       pub access_core : (a : Access) → StandsIn (told access) a → a.at.core < CORES_MAX
-      access_core a q = subst (λ (x : Instr). x.core < CORES_MAX) (sym (told_at a q)) few
+      access_core a q = subst (λ (x : Instr). x.core < CORES_MAX) (sym (told_at a q)) noted_next.core
 
       -- both are noted
       pub followed_on : (rise : CountsRise (list ++ told access)) (u : Tallied) (sources : List ℕ) (cores : ℕ)
@@ -122,27 +100,23 @@ module _ {which : Which} {r : Recording} (valid : Valid r) {order : List ℕ} {l
         counted = counted_on (plan_of which r) order t f.counted c some u kept counts_is;
         trail = subst (λ (g : ℕ → ℕ). IsTrailOf (log_edges which r) r.params.cores g (list ++ told access) v)
             (sym (counts_on nought order (c ∷ [])))
-            (trail_on which r valid (counts nought order) c ready_next list s f.trail sources sources_there access v
+            (trail_on which r valid (counts nought order) c ready_next list s f.trail sources
+            (sources_next valid walks some at_is are) access v
             trails_there
-            (λ a q. told_at a q ∙ at_next) f.rise rise each few_there);
+            (λ a q. told_at a q ∙ at_here) f.rise rise each few_there);
         rise = rise;
         inside = λ a q. in_either a (stands_which list (told access) a q);
       }
         where
-          sources_there : AreSources (log_edges which r) (instr c (counts nought order c + 1)) sources
-          sources_there = subst (λ (x : Instr). AreSources (log_edges which r) x sources) (sym at_is ∙ at_next)
-              (subst (λ (q : Plan). AreSources q.edges (instr c (count_of t.counts c + 1)) sources) f.counted.plan_is
-              are)
-
           cores_there : cores ≡ r.params.cores
           cores_there = cores_is ∙ ap (λ (q : Plan). length q.totals) (kept ∙ f.counted.plan_is) ∙ valid.each_core
 
           trails_there : Trails s (instr c (counts nought order c + 1)) sources r.params.cores access v
-          trails_there = subst (λ (x : Instr). Trails s x sources r.params.cores access v) at_next
+          trails_there = subst (λ (x : Instr). Trails s x sources r.params.cores access v) at_here
               (subst (λ (k : ℕ). Trails s at sources k access v) cores_there trails)
 
           few_there : c < CORES_MAX
-          few_there = let e = core_is in let lt = few in omega arith
+          few_there = let e = ap (λ (x : Instr). x.core) at_is in let lt = noted_next.core in omega arith
 
           each : (b : Access) → StandsIn list b → b.at.core < CORES_MAX
           each b q = each_core b (subst (λ (l : List Access). StandsIn l b) (sym f.trail.accesses_is) q)

@@ -94,6 +94,16 @@ one_place p s c i n h = elim (ℕ_discrete i c) [
         absurd (none-in n (subst (λ (l : List LoadNote). Contains l n)
         (get_or_past (place p s c).loads c [] (omega arith)) h))
 
+told_in : {l m : List Access} {i : ℕ} {n : LoadNote} → ((a : Access) → StandsIn l a → StandsIn m a) →
+    TellsOf l i n → TellsOf m i n
+told_in wider t = record {
+  access = t.access;
+  stands = wider t.access t.stands;
+  at = t.at;
+  word = t.word;
+  value = t.value;
+}
+
 pub notes_tell : (p : Plan) (s : Outcome) (order : List ℕ) (i : ℕ) (n : LoadNote) →
     Contains (loads_at (play p s order) i) n → Contains (loads_at s i) n
     ⊎ TellsOf (accesses_from p s order) i n
@@ -103,25 +113,13 @@ notes_tell p s (c ∷ cs) i n h = by (notes_tell p (place p s c) cs i n h)
     first : Contains (loads_at s i) n ⊎ TellsOf (touched p s c) i n → Contains (loads_at s i) n
         ⊎ TellsOf (touched p s c ++ accesses_from p (place p s c) cs) i n
     first (inl q) = inl q
-    first (inr t) = inr (record {
-      access = t.access;
-      stands = stands_left (touched p s c) (accesses_from p (place p s c) cs) t.access t.stands;
-      at = t.at;
-      word = t.word;
-      value = t.value;
-    })
+    first (inr t) = inr (told_in (stands_left (touched p s c) (accesses_from p (place p s c) cs)) t)
 
     by : Contains (loads_at (place p s c) i) n ⊎ TellsOf (accesses_from p (place p s c) cs) i n →
         Contains (loads_at s i) n
         ⊎ TellsOf (touched p s c ++ accesses_from p (place p s c) cs) i n
     by (inl q) = first (one_place p s c i n q)
-    by (inr t) = inr (record {
-      access = t.access;
-      stands = stands_right (touched p s c) (accesses_from p (place p s c) cs) t.access t.stands;
-      at = t.at;
-      word = t.word;
-      value = t.value;
-    })
+    by (inr t) = inr (told_in (stands_right (touched p s c) (accesses_from p (place p s c) cs)) t)
 
 abbrev no_notes : List LoadNote
 no_notes = []

@@ -15,7 +15,7 @@ use Rattle.replay_core.proofs.Counts.{bump_here, counts_on, counts_more}
 use Rattle.replay_core.specs.Sources.{AreSources}
 use Rattle.replay_core.specs.Tallies.{Tallied, count_of}
 use Rattle.replay_core.proofs.Tallying.{Counted, counted_start, counted_on, ready_there, low_is, whole_is}
-use Rattle.replay_audit.specs.Clocks.{Kept, IsNoted, Clocked}
+use Rattle.replay_audit.specs.Clocks.{CanNote, Kept, IsNoted, Clocked}
 use Rattle.replay_audit.specs.Walks.{IsWalk}
 use Rattle.replay_audit.proofs.Clocking.{clocked_on, clocked_start}
 
@@ -39,41 +39,30 @@ module _ {which : Which} {r : Recording} (valid : Valid r) {order : List ℕ} {t
   -- the next instruction, of the lowest core that is ready
   module _ {c : ℕ} (some : lowest_ready t.plan (count_of t.counts) ≡ Some c) {at : Instr}
       (at_is : at ≡ instr c (count_of t.counts c + 1)) where
-    ready : Ready (plan_of which r) (counts nought order) c
+    pub ready : Ready (plan_of which r) (counts nought order) c
     ready = ready_there (plan_of which r) order t w.counted c some
 
-    at_next : at ≡ instr c (counts nought order c + 1)
+    pub at_next : at ≡ instr c (counts nought order c + 1)
     at_next = at_is ∙ ap (λ (g : ℕ → ℕ). instr c (g c + 1)) w.counted.tally
 
     core_is : at.core ≡ c
     core_is = ap (λ (x : Instr). x.core) at_is
 
-    pub walk_few : at.core < CORES_MAX
-    walk_few =
+    pub can_note : CanNote k at
+    can_note =
         let e = core_is in
+        let count_is = ap (λ (x : Instr). x.count) at_is in
         let lt = ready.inside in
         let a = valid.each_core in
         let m = valid.params.cores in
-        omega arith
+        let numbers = w.clocked.all_numbers in
+        let clocks = w.clocked.all_clocks in
+        record { core = omega arith; numbers = omega arith; clocks = omega arith; some = omega arith }
 
-    pub walk_numbers : at.core < length k.numbers
-    walk_numbers =
-        let e = core_is in
-        let lt = ready.inside in
-        let a = valid.each_core in
-        let m = w.clocked.all_numbers in
-        omega arith
-
-    pub walk_clocks : at.core < length k.clocks
-    walk_clocks =
-        let e = core_is in
-        let lt = ready.inside in
-        let a = valid.each_core in
-        let m = w.clocked.all_clocks in
-        omega arith
-
-    pub walk_count : 1 ≤ at.count
-    walk_count = let e = ap (λ (x : Instr). x.count) at_is in omega arith
+    pub sources_next : {sources : List ℕ} → AreSources t.plan.edges (instr c (count_of t.counts c + 1)) sources →
+        AreSources (log_edges which r) (instr c (counts nought order c + 1)) sources
+    sources_next {sources} are = subst (λ (x : Instr). AreSources (log_edges which r) x sources) (sym at_is ∙ at_next)
+        (subst (λ (q : Plan). AreSources q.edges (instr c (count_of t.counts c + 1)) sources) w.counted.plan_is are)
 
     -- it is noted
     pub walking_on : (u : Tallied) (sources : List ℕ) (cores : ℕ) (new : Kept) →
@@ -84,14 +73,10 @@ module _ {which : Which} {r : Recording} (valid : Valid r) {order : List ℕ} {t
       counted = counted_on (plan_of which r) order t w.counted c some u kept counts_is;
       clocked = subst (λ (g : ℕ → ℕ). Clocked (log_edges which r) r.params.cores g new)
           (sym (counts_on nought order (c ∷ [])))
-          (clocked_on which r valid (counts nought order) k w.clocked c sources new ready sources_there noted_there);
+          (clocked_on which r valid (counts nought order) k w.clocked c sources new ready (sources_next are)
+          noted_there);
     }
       where
-        sources_there : AreSources (log_edges which r) (instr c (counts nought order c + 1)) sources
-        sources_there = subst (λ (x : Instr). AreSources (log_edges which r) x sources) (sym at_is ∙ at_next)
-            (subst (λ (q : Plan). AreSources q.edges (instr c (count_of t.counts c + 1)) sources) w.counted.plan_is
-            are)
-
         cores_there : cores ≡ r.params.cores
         cores_there = cores_is ∙ ap (λ (q : Plan). length q.totals) w.counted.plan_is ∙ valid.each_core
 

@@ -1,6 +1,7 @@
 -- Clocks by a log, which are kept only of instructions to which an edge leads.
 use Rattle.std.specs.Prelude.{◌≡◌, ℕ, zero, suc, ◌<◌, ◌≤◌, ◌⊎◌, List, [], ◌∷◌, ◌++◌, length, slice_index}
 use Rattle.std.specs.Prelude.{slice_index_or, slice_set}
+use Rattle.rtr_types.specs.declared.TheConstants.{CORES_MAX}
 use Rattle.rtr_types.specs.declared.instr.Instr.{Instr}
 use Rattle.rtr_types.specs.declared.instr.Edge.{Edge}
 use Rattle.clock_core.specs.Counts.{no_counts}
@@ -46,6 +47,13 @@ IsKept k y sources cores clocks =
     ⊎ ((clock : List ℕ)
     × ((i : ℕ) → slice_index clock i ≡ next_at k y sources cores i)
     × (clocks ≡ slice_set k.clocks y.core (clocks_of k y.core ++ clock ∷ [])))
+
+-- y can be noted: it has a count, and there are lists for its core
+pub record CanNote (k : Kept) (y : Instr) : Type 0 where
+  pub core : y.core < CORES_MAX
+  pub numbers : y.core < length k.numbers
+  pub clocks : y.core < length k.clocks
+  pub some : 1 ≤ y.count
 
 -- y is noted: its clock where it has sources, and how many clocks there are up to it
 pub record IsNoted (k : Kept) (y : Instr) (sources : List ℕ) (cores : ℕ) (new : Kept) : Type 0 where

@@ -1,8 +1,8 @@
 //! The clocks of instructions by a log. They are kept only where an edge leads to.
-ghost use Rattle.std.specs.Prelude.{◌≡◌, ◌<◌, ◌≤◌, ℕ, IfOk, OnOk, [], length, replicate, slice_index};
+ghost use Rattle.std.specs.Prelude.{◌≡◌, ◌<◌, ◌≤◌, ℕ, IfOk, OnOk, [], replicate, slice_index};
 ghost use Rattle.rtr_types.specs.declared.TheConstants.{CORES_MAX};
 ghost use Rattle.replay_core.specs.Sources.{sources_in};
-ghost use Rattle.replay_audit.specs.Clocks.{clock_at, next_at, number_of, numbered, IsKept, IsNoted};
+ghost use Rattle.replay_audit.specs.Clocks.{clock_at, next_at, number_of, numbered, CanNote, IsKept, IsNoted};
 
 use crate::clock_of::ClockOf;
 use clock_core::Clock;
@@ -78,10 +78,7 @@ impl LogClocks {
     /// Notes the next instruction of its core, of so many cores.
     #[inline(always)]
     pub fn note(&mut self, next: &Sourced, cores: u8) -> Result<(), AllocError>
-        requires core { next.now.at.core < CORES_MAX }
-        requires numbers { next.now.at.core < length self.old.numbers }
-        requires kept { next.now.at.core < length self.old.clocks }
-        requires some { 1 ≤ next.now.at.count }
+        requires next { CanNote self.old next.now.at }
         requires few { cores ≤ CORES_MAX }
         ensures { OnOk result (IsNoted self.old next.now.at (sources_in next.now.sources.now) cores self.new) }
     {
@@ -161,9 +158,7 @@ impl LogClocks {
     /// Keeps the clock of an instruction that has sources.
     #[inline(always)]
     fn keep(&mut self, next: &Sourced, cores: u8) -> Result<(), AllocError>
-        requires core { next.now.at.core < CORES_MAX }
-        requires kept { next.now.at.core < length self.old.clocks }
-        requires some { 1 ≤ next.now.at.count }
+        requires next { CanNote self.old next.now.at }
         requires few { cores ≤ CORES_MAX }
         ensures numbers { OnOk result (self.new.numbers ≡ self.old.numbers) }
         ensures clocks { OnOk result (IsKept self.old next.now.at (sources_in next.now.sources.now)
@@ -178,9 +173,7 @@ impl LogClocks {
     /// Keeps the clock of an instruction that has these sources.
     #[inline(never)]
     fn keep_next(&mut self, at: Instr, sources: &Clock, cores: u8) -> Result<(), AllocError>
-        requires core { at.core < CORES_MAX }
-        requires kept { at.core < length self.old.clocks }
-        requires some { 1 ≤ at.count }
+        requires next { CanNote self.old at }
         requires few { cores ≤ CORES_MAX }
         ensures numbers { OnOk result (self.new.numbers ≡ self.old.numbers) }
         ensures clocks { OnOk result (IsKept self.old at sources.now cores self.new.clocks) }

@@ -1,10 +1,11 @@
 //! What is kept of the accesses along an order: the clocks by the log, the last accesses of each word, and
 //! the first two accesses that the log leaves unordered.
-ghost use Rattle.std.specs.Prelude.{◌≡◌, ◌<◌, ◌≤◌, ℕ, IfOk, OnOk, IfSome, [], length, replicate, None as NoneFound};
+ghost use Rattle.std.specs.Prelude.{◌≡◌, ◌<◌, ◌≤◌, ℕ, IfOk, OnOk, IfSome, [], replicate, None as NoneFound};
 ghost use Rattle.rtr_types.specs.declared.TheConstants.{CORES_MAX};
 ghost use Rattle.rtr_types.specs.declared.access.Access.{Access as SomeAccess};
 ghost use Rattle.conflict_edge.specs.Conflicts.{StandsIn};
 ghost use Rattle.replay_core.specs.Sources.{sources_in};
+ghost use Rattle.replay_audit.specs.Clocks.{CanNote};
 ghost use Rattle.replay_audit.specs.Marks.{IsMark, mark_at, first_mark};
 ghost use Rattle.replay_audit.specs.Trails.{FoundNext, Watches, Trails};
 
@@ -92,10 +93,7 @@ impl Trail {
         cores: u8,
         access: Option<Access>,
     ) -> Result<(), AllocError>
-        requires core { next.now.at.core < CORES_MAX }
-        requires numbers { next.now.at.core < length self.old.kept.numbers }
-        requires kept { next.now.at.core < length self.old.kept.clocks }
-        requires some { 1 ≤ next.now.at.count }
+        requires next { CanNote self.old.kept next.now.at }
         requires few { cores ≤ CORES_MAX }
         requires access { IfSome access (λ a. a.at.core < CORES_MAX) }
         requires each { (b : SomeAccess) → StandsIn self.old.accesses b → b.at.core < CORES_MAX }

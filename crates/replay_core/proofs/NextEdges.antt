@@ -26,63 +26,6 @@ use Rattle.replay_core.specs.Coming.{IsNextPosition, IsNextInto, Leads}
 
 -- ---- edges
 
--- the first of the edges lead below the count, and the others don't
-abbrev pub Below : List (ℕ × ℕ) → ℕ → ℕ → Type 0
-Below edges n below = IsPartitionPoint (λ e. ltb e.1 n ≡ true) (λ e. ltb e.1 n ≡ false) edges below
-
-pub next_found : (edges : List (ℕ × ℕ)) (n k : ℕ) (e : ℕ × ℕ) → Rising (λ (x : ℕ × ℕ). x.1) edges no_edge →
-    Below edges n k → k < length edges →
-    get_or edges k no_edge ≡ e → IsFirstEdge edges n e
-next_found edges n k e rising parted within is = record {
-  there = (k, within, get_or_default edges k e no_edge within ∙ is);
-  least = subst (λ (x : ℕ × ℕ). n ≤ x.1) is
-      (ltb-false (get_or edges k no_edge).1 n (parted.1 k no_edge (omega arith) within));
-  first = λ a b has le. first a b has le;
-}
-  where
-    first : (a b : ℕ) → Contains edges (a, b) → n ≤ b → e.1 ≤ b
-    first a b (j, inside, is_j) le =
-        let at : get_or edges j no_edge ≡ (a, b) = get_or_default edges j no_edge (a, b) inside ∙ is_j in
-        let b_is = ap (λ (x : ℕ × ℕ). x.1) at in
-        let e_is = ap (λ (x : ℕ × ℕ). x.1) is in
-        elim (cases_lt j k) [
-          | inl early ↦ absurd (let low =
-              ltb-true (get_or edges j no_edge).1 n (parted.0 j no_edge (omega arith) early) in omega arith)
-          | inr late ↦ elim (cases_lt k j) [
-            | inl after ↦ let up = rising k j after inside in omega arith
-            | inr not_after ↦ let same : j ≡ k = omega arith in let both =
-                ap (λ (i : ℕ). (get_or edges i no_edge).1) same in omega arith
-          ]
-        ]
-
-pub next_none : (edges : List (ℕ × ℕ)) (n k : ℕ) → Below edges n k → length edges ≤ k → (a b : ℕ) →
-    Contains edges (a, b) → b < n
-next_none edges n k parted past a b (j, inside, is_j) =
-    let at : get_or edges j no_edge ≡ (a, b) = get_or_default edges j no_edge (a, b) inside ∙ is_j in
-    let b_is = ap (λ (x : ℕ × ℕ). x.1) at in
-    let low = ltb-true (get_or edges j no_edge).1 n (parted.0 j no_edge (omega arith) (omega arith)) in
-    omega arith
-
-slice_get_inside : (xs : List (ℕ × ℕ)) (i : ℕ) (d : ℕ × ℕ) → i < length xs → slice_get xs i ≡ Some (get_or xs i d)
-slice_get_inside [] i d lt = absurd (omega arith)
-slice_get_inside (x ∷ xs) zero d lt = refl
-slice_get_inside (x ∷ xs) (suc i) d lt = slice_get_inside xs i d (omega arith)
-
-slice_get_past : (xs : List (ℕ × ℕ)) (i : ℕ) → length xs ≤ i → slice_get xs i ≡ None
-slice_get_past [] i le = refl
-slice_get_past (x ∷ xs) zero le = absurd (omega arith)
-slice_get_past (x ∷ xs) (suc i) le = slice_get_past xs i (omega arith)
-
--- so the edge at that place, if there is one
-pub next_at : (edges : List (ℕ × ℕ)) (n k : ℕ) (o : Option (ℕ × ℕ)) → Rising (λ (x : ℕ × ℕ). x.1) edges no_edge →
-    Below edges n k → o ≡ slice_get edges k →
-    IsNextEdge edges n o
-next_at edges n k o rising parted is = elim (cases_lt k (length edges)) [
-  | inl within ↦ subst (IsNextEdge edges n) (sym (is ∙ slice_get_inside edges k no_edge within))
-      (next_found edges n k (get_or edges k no_edge) rising parted within refl)
-  | inr past ↦ subst (IsNextEdge edges n) (sym (is ∙ slice_get_past edges k past)) (next_none edges n k parted past)
-]
-
 -- the edge at a place, where the one before it leads below the count
 pub next_there : (edges : List (ℕ × ℕ)) (n k : ℕ) (e : ℕ × ℕ) → Rising (λ (x : ℕ × ℕ). x.1) edges no_edge →
     k < length edges → get_or edges k no_edge ≡ e →
@@ -115,6 +58,47 @@ next_there edges n k e rising within is least before = record {
                 ap (λ (i : ℕ). (get_or edges i no_edge).1) same in omega arith
           ]
         ]
+
+-- the first of the edges lead below the count, and the others don't
+abbrev pub Below : List (ℕ × ℕ) → ℕ → ℕ → Type 0
+Below edges n below = IsPartitionPoint (λ e. ltb e.1 n ≡ true) (λ e. ltb e.1 n ≡ false) edges below
+
+pub next_found : (edges : List (ℕ × ℕ)) (n k : ℕ) (e : ℕ × ℕ) → Rising (λ (x : ℕ × ℕ). x.1) edges no_edge →
+    Below edges n k → k < length edges →
+    get_or edges k no_edge ≡ e → IsFirstEdge edges n e
+next_found edges n k e rising parted within is =
+    next_there edges n k e rising within is
+    (subst (λ (x : ℕ × ℕ). n ≤ x.1) is
+    (ltb-false (get_or edges k no_edge).1 n (parted.1 k no_edge (omega arith) within)))
+    (λ some. ltb-true (get_or edges (k - 1) no_edge).1 n (parted.0 (k - 1) no_edge (omega arith) (omega arith)))
+
+pub next_none : (edges : List (ℕ × ℕ)) (n k : ℕ) → Below edges n k → length edges ≤ k → (a b : ℕ) →
+    Contains edges (a, b) → b < n
+next_none edges n k parted past a b (j, inside, is_j) =
+    let at : get_or edges j no_edge ≡ (a, b) = get_or_default edges j no_edge (a, b) inside ∙ is_j in
+    let b_is = ap (λ (x : ℕ × ℕ). x.1) at in
+    let low = ltb-true (get_or edges j no_edge).1 n (parted.0 j no_edge (omega arith) (omega arith)) in
+    omega arith
+
+slice_get_inside : (xs : List (ℕ × ℕ)) (i : ℕ) (d : ℕ × ℕ) → i < length xs → slice_get xs i ≡ Some (get_or xs i d)
+slice_get_inside [] i d lt = absurd (omega arith)
+slice_get_inside (x ∷ xs) zero d lt = refl
+slice_get_inside (x ∷ xs) (suc i) d lt = slice_get_inside xs i d (omega arith)
+
+slice_get_past : (xs : List (ℕ × ℕ)) (i : ℕ) → length xs ≤ i → slice_get xs i ≡ None
+slice_get_past [] i le = refl
+slice_get_past (x ∷ xs) zero le = absurd (omega arith)
+slice_get_past (x ∷ xs) (suc i) le = slice_get_past xs i (omega arith)
+
+-- so the edge at that place, if there is one
+pub next_at : (edges : List (ℕ × ℕ)) (n k : ℕ) (o : Option (ℕ × ℕ)) → Rising (λ (x : ℕ × ℕ). x.1) edges no_edge →
+    Below edges n k → o ≡ slice_get edges k →
+    IsNextEdge edges n o
+next_at edges n k o rising parted is = elim (cases_lt k (length edges)) [
+  | inl within ↦ subst (IsNextEdge edges n) (sym (is ∙ slice_get_inside edges k no_edge within))
+      (next_found edges n k (get_or edges k no_edge) rising parted within refl)
+  | inr past ↦ subst (IsNextEdge edges n) (sym (is ∙ slice_get_past edges k past)) (next_none edges n k parted past)
+]
 
 pub next_first : (edges : List (ℕ × ℕ)) (n k : ℕ) (o : Option (ℕ × ℕ)) → Rising (λ (x : ℕ × ℕ). x.1) edges no_edge →
     IsFirstPlace edges n k →

@@ -58,34 +58,27 @@ module _ (which : Which) (r : Recording) (y : Instr) (n : ℕ) (s : List ℕ) (s
             let v = others c ne in
             subst (λ (i : ℕ). Among (log_edges which r) (instr c i) y) (sym v) (so_far.only c (omega arith))
 
+    without : ((z : Instr) → Among (log_edges which r) z y → z.core ≡ n → ⊥) → SourcedTo (log_edges which r) y (n + 1) s
+    without none = record {
+      each = λ z m lt. each z m (earlier_or z.core n lt);
+      only = so_far.only;
+      rest = λ c le. so_far.rest c (omega arith);
+    }
+      where
+        each : (z : Instr) → Among (log_edges which r) z y → (z.core < n) ⊎ (z.core ≡ n) →
+            slice_index s z.core ≡ z.count
+        each z m (inl lt) = so_far.each z m lt
+        each z m (inr e) = absurd (none z m e)
+
     -- it has none
     pub sourced_none : ((b : ℕ) → HasEdge which r (instr n b) y → ◌≡◌ {A = Option ℕ} None (Some b)) →
         SourcedTo (log_edges which r) y (n + 1) s
-    sourced_none one = record {
-      each = λ z m lt. each z m (earlier_or z.core n lt);
-      only = so_far.only;
-      rest = λ c le. so_far.rest c (omega arith);
-    }
-      where
-        each : (z : Instr) → Among (log_edges which r) z y → (z.core < n) ⊎ (z.core ≡ n) →
-            slice_index s z.core ≡ z.count
-        each z m (inl lt) = so_far.each z m lt
-        each z m (inr e) = absurd
-            (cc (one z.count (subst (λ (c : ℕ). HasEdge which r (instr c z.count) y) e
-            (among_contains (log_edges which r) z y m))))
+    sourced_none one = without (λ z m e. cc (one z.count
+        (subst (λ (c : ℕ). HasEdge which r (instr c z.count) y) e (among_contains (log_edges which r) z y m))))
 
     -- it is the instruction's own
     pub sourced_own : Valid r → n ≡ y.core → SourcedTo (log_edges which r) y (n + 1) s
-    sourced_own valid own = record {
-      each = λ z m lt. each z m (earlier_or z.core n lt);
-      only = so_far.only;
-      rest = λ c le. so_far.rest c (omega arith);
-    }
-      where
-        each : (z : Instr) → Among (log_edges which r) z y → (z.core < n) ⊎ (z.core ≡ n) →
-            slice_index s z.core ≡ z.count
-        each z m (inl lt) = so_far.each z m lt
-        each z m (inr e) = absurd ((edge_within which r z y valid m).pair.differ (e ∙ own))
+    sourced_own valid own = without (λ z m e. (edge_within which r z y valid m).pair.differ (e ∙ own))
 
 pub sourced_all : (which : Which) (r : Recording) (y : Instr) (n : ℕ) (s : List ℕ) → Valid r → r.params.cores ≤ n →
     SourcedTo (log_edges which r) y n s →

@@ -63,7 +63,7 @@ impl Coming {
             clear(sources);
             return;
         }
-        self.pass(recording, which, at, sources);
+        *sources = Some(self.pass(recording, which, at));
     }
 
     /// No edge to this count or a later one.
@@ -122,14 +122,14 @@ impl Coming {
         self.places[of as usize] = place;
     }
 
-    /// Finds the sources of the instruction, each core's in turn. The edges go on to those to later ones.
+    /// The sources of the instruction, each core's in turn. The edges go on to those to later ones.
     #[inline(never)]
-    fn pass(&mut self, recording: &Recording, which: Which, at: Instr, sources: &mut Option<Clock>)
+    fn pass(&mut self, recording: &Recording, which: Which, at: Instr) -> Clock
         requires valid { Valid recording.now }
         requires core { at.core < recording.now.params.cores }
         requires count { at.count < 2 ^ 32 - 1 }
         requires coming { IsComing (log_edges which recording.now) at.core recording.now.params.cores self.old }
-        ensures sources { AreSources (log_edges which recording.now) at (sources_in sources.new) }
+        ensures sources { AreSources (log_edges which recording.now) at result }
         ensures coming { IsComing (log_edges which recording.now) at.core recording.now.params.cores self.new }
     {
         let mut found = Clock::zero();
@@ -146,7 +146,7 @@ impl Coming {
             }
         }
         self.from = at.count + 1;
-        *sources = Some(found);
+        found
     }
 
     /// The instruction's source on a core, and the core's next edge to a later instruction, with the guess.
@@ -234,11 +234,7 @@ impl<'a> Model for Sources<'a> {
 
 impl<'a> Sources<'a> {
     /// Nothing is looked up yet.
-    pub fn new(
-        alloc: Global,
-        recording: &'a Recording,
-        which: Which,
-    ) -> Result<Sources<'a>, AllocError>
+    pub fn new(alloc: Global, recording: &'a Recording, which: Which) -> Result<Self, AllocError>
         requires { Valid recording.now }
         ensures { IfOk result (λ sources. sources ≡ plan_of which recording.now) }
     {

@@ -48,11 +48,7 @@ impl<'a> Model for LowOrder<'a> {
 
 impl<'a> LowOrder<'a> {
     /// Before the first place.
-    pub fn new(
-        alloc: Global,
-        recording: &'a Recording,
-        which: Which,
-    ) -> Result<LowOrder<'a>, AllocError>
+    pub fn new(alloc: Global, recording: &'a Recording, which: Which) -> Result<Self, AllocError>
         requires { Valid recording.now }
         ensures plan { IfOk result (λ order. order.plan ≡ plan_of which recording.now) }
         ensures counts { IfOk result (λ order. order.counts ≡ replicate (length recording.now.totals) 0) }

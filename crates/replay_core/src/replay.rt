@@ -63,11 +63,7 @@ impl<'a> Model for Replay<'a> {
 
 impl<'a> Replay<'a> {
     /// The replay before its first place.
-    pub fn new(
-        alloc: Global,
-        recording: &'a Recording,
-        which: Which,
-    ) -> Result<Replay<'a>, AllocError>
+    pub fn new(alloc: Global, recording: &'a Recording, which: Which) -> Result<Self, AllocError>
         requires { Valid recording.now }
         ensures plan { IfOk result (λ replay. replay.plan ≡ plan_of which recording.now) }
         ensures state { IfOk result (λ replay. replay.state ≡ start (plan_of which recording.now)) }

@@ -45,11 +45,7 @@ impl<'a> Model for Tally<'a> {
 
 impl<'a> Tally<'a> {
     /// Before the first place.
-    pub fn new(
-        alloc: Global,
-        recording: &'a Recording,
-        which: Which,
-    ) -> Result<Tally<'a>, AllocError>
+    pub fn new(alloc: Global, recording: &'a Recording, which: Which) -> Result<Self, AllocError>
         requires { Valid recording.now }
         ensures plan { IfOk result (λ tally. tally.plan ≡ plan_of which recording.now) }
         ensures counts { IfOk result (λ tally. tally.counts ≡ replicate (length recording.now.totals) 0) }

@@ -29,7 +29,7 @@ use Rattle.tso_recordings.specs.Recordings.{CanRun}
 use Rattle.tso_recordings.proofs.Replayed.{run_told_so}
 use Rattle.tso_replay.specs.Laws.{IsToldRun}
 use Rattle.tso_replay.specs.Replays.{tso_given, tso_plan}
-use Rattle.tso_replay.proofs.Fitting.{valued_fits}
+use Rattle.replay_audit.proofs.Fitting.{valued_fits}
 use Rattle.tso_state.specs.Runs.{all_told}
 use Rattle.tso_words.proofs.Opening.{opens_small}
 use Rattle.rtr_cli.specs.Commands.{KeepsTsoRun, Makes, Promised, Refuses, SpellsSome, image_of, tso_outcome}

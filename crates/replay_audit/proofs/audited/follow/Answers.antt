@@ -2,7 +2,7 @@ use Rattle.std.proofs.Common.{◌++◌, ◌∷◌, [], ◌∙◌, ap, length, re
 use Rattle.replay_core.specs.Plans.{Plan}
 use Rattle.replay_audit.proofs.Auditing.{along_start, all_told, along_on, in_plan, leaves_open, passes, ready_here}
 use Rattle.replay_audit.proofs.Auditing.{short_here, stuck, told_at}
-use Rattle.replay_audit.proofs.Following.{access_core, each_core, each_marked, few, in_clocks, in_numbers, some_count}
+use Rattle.replay_audit.proofs.Following.{access_core, each_core, each_marked, noted_next}
 use Rattle.replay_core.proofs.Tallying.{below_plan, inside_plan, less_to_go}
 use Rattle.replay_audit.proofs.audited.follow.Goals as goal
 
@@ -57,23 +57,9 @@ pub advance-requires-in-Retired-clause-below : goal.advance-requires-in-Retired-
 advance-requires-in-Retired-clause-below c = let i = c.loop-core.invariant.1.followed.counted in
     below_plan _ _ _ i _ (sym c.lowest.ensures ∙ c.in-Some.is)
 
-pub note-requires-clause-core : goal.note-requires-clause-core
-note-requires-clause-core c =
-    few c.requires.valid c.loop-core.invariant.1.followed (sym c.lowest.ensures ∙ c.in-Some.is) c.next-next.ensures.at
-
-pub note-requires-clause-numbers : goal.note-requires-clause-numbers
-note-requires-clause-numbers c =
-    in_numbers c.requires.valid c.loop-core.invariant.1.followed (sym c.lowest.ensures ∙ c.in-Some.is)
-    c.next-next.ensures.at
-
-pub note-requires-clause-kept : goal.note-requires-clause-kept
-note-requires-clause-kept c =
-    in_clocks c.requires.valid c.loop-core.invariant.1.followed (sym c.lowest.ensures ∙ c.in-Some.is)
-    c.next-next.ensures.at
-
-pub note-requires-clause-some : goal.note-requires-clause-some
-note-requires-clause-some c =
-    some_count c.requires.valid c.loop-core.invariant.1.followed (sym c.lowest.ensures ∙ c.in-Some.is)
+pub note-requires-clause-next : goal.note-requires-clause-next
+note-requires-clause-next c =
+    noted_next c.requires.valid c.loop-core.invariant.1.followed (sym c.lowest.ensures ∙ c.in-Some.is)
     c.next-next.ensures.at
 
 pub note-requires-clause-access : goal.note-requires-clause-access

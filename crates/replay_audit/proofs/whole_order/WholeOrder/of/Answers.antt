@@ -1,7 +1,6 @@
 use Rattle.std.proofs.Common.{◌∙◌, List, ℕ, refl, sym, subst}
 use Rattle.replay_core.proofs.Tallying.{inside_plan, below_plan, less_to_go}
-use Rattle.replay_audit.proofs.Walking.{low_whole, walk_clocks, walk_count, walk_few, walk_is, walk_numbers}
-use Rattle.replay_audit.proofs.Walking.{Walking, walking_on, walking_start}
+use Rattle.replay_audit.proofs.Walking.{Walking, can_note, low_whole, walk_is, walking_on, walking_start}
 use Rattle.replay_audit.proofs.whole_order.WholeOrder.of.Goals as goal
 
 pub loop-core-init : goal.loop-core-init
@@ -18,21 +17,9 @@ pub next-next-requires-clause-below : goal.next-next-requires-clause-below
 next-next-requires-clause-below c =
     below_plan _ _ _ c.loop-core.invariant.counted _ (sym c.lowest.ensures ∙ c.in-Some.is)
 
-pub note-requires-clause-core : goal.note-requires-clause-core
-note-requires-clause-core c =
-    walk_few c.requires c.loop-core.invariant (sym c.lowest.ensures ∙ c.in-Some.is) c.next-next.ensures.at
-
-pub note-requires-clause-numbers : goal.note-requires-clause-numbers
-note-requires-clause-numbers c =
-    walk_numbers c.requires c.loop-core.invariant (sym c.lowest.ensures ∙ c.in-Some.is) c.next-next.ensures.at
-
-pub note-requires-clause-kept : goal.note-requires-clause-kept
-note-requires-clause-kept c =
-    walk_clocks c.requires c.loop-core.invariant (sym c.lowest.ensures ∙ c.in-Some.is) c.next-next.ensures.at
-
-pub note-requires-clause-some : goal.note-requires-clause-some
-note-requires-clause-some c =
-    walk_count c.requires c.loop-core.invariant (sym c.lowest.ensures ∙ c.in-Some.is) c.next-next.ensures.at
+pub note-requires-clause-next : goal.note-requires-clause-next
+note-requires-clause-next c =
+    can_note c.requires c.loop-core.invariant (sym c.lowest.ensures ∙ c.in-Some.is) c.next-next.ensures.at
 
 pub advance-requires-clause-inside : goal.advance-requires-clause-inside
 advance-requires-clause-inside c =

@@ -28,30 +28,18 @@ loop-of-preserved c =
     (subst (λ (x : Coming). PassedTo (log_edges which r) c.args.at (c.loop-of.of + 1) t old x) (sym k_is) h) in
     elim c.if-of-at.branch [
       | then-of-at+in-Some w ↦
+          let e = w.put.ensures in
           let put : IsPut c.loop-of.self c.loop-of.of w.step-source.result.next w.put.new.self =
-          record {
-            from = w.put.ensures.from;
-            at = w.put.ensures.at;
-            others = w.put.ensures.others;
-            before =
-                w.put.ensures.before;
-            due = w.put.ensures.due;
-          } in
+          record { from = e.from; at = e.at; others = e.others; before = e.before; due = e.due } in
           moved _ w.set.new.self _ w.put.new.self w.found-is w.self-is
           (pass_more which r valid c.args.at c.loop-of.of c.loop-of.found old c.loop-of.self c.loop-of.invariant
           w.set.new.self w.put.new.self
           w.step-source.result.source w.step-source.result.next w.step-source.ensures.source w.step-source.ensures.next
           (taken_some _ w.in-Some.count c.loop-of.of _ _ w.in-Some.is w.set.ensures.at w.set.ensures.others) put)
       | then-of-at+in-None w ↦
+          let e = w.put.ensures in
           let put : IsPut c.loop-of.self c.loop-of.of w.step-source.result.next w.put.new.self =
-          record {
-            from = w.put.ensures.from;
-            at = w.put.ensures.at;
-            others = w.put.ensures.others;
-            before =
-                w.put.ensures.before;
-            due = w.put.ensures.due;
-          } in
+          record { from = e.from; at = e.at; others = e.others; before = e.before; due = e.due } in
           moved _ c.loop-of.found _ w.put.new.self w.found-is w.self-is
           (pass_more which r valid c.args.at c.loop-of.of c.loop-of.found old c.loop-of.self c.loop-of.invariant
           c.loop-of.found w.put.new.self
