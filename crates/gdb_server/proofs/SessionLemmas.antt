@@ -7,7 +7,8 @@ use Rattle.std.proofs.Common.{IfOk, Result, Ok, Err}
 use Rattle.rtr_io.specs.Faults.{IsUnlessFault}
 use Rattle.std.proofs.lemmas.List.{append-nil, length-append, take_more}
 use Rattle.std.proofs.lemmas.List.Concat.{flat_map-append}
-use Rattle.std.specs.Io.KnownBytes.{Appends, Consumes}
+use Rattle.std.specs.Prelude.{◌⊎◌}
+use Rattle.std.specs.Io.KnownBytes.{Appends, Consumes, IsAtEnd}
 use Rattle.rtr_io.proofs.MovedLemmas.{Appends-append, Consumes-append}
 use Rattle.gdb_packets.specs.Frames.{Event, Nothing, Packet, Broken, Interrupt, Again, framed, tells}
 use Rattle.gdb_packets.specs.Lines.{Shows, Wire, acknowledged, payload_in}
@@ -21,7 +22,7 @@ use Rattle.gdb_server.specs.declared.partner.Next.{Next}
 use Rattle.gdb_server.specs.declared.partner.Next.TheVariants.{Listen}
 use Rattle.gdb_server.specs.Hearing.{Follows, Hears, HearsNothing, SaysAnswer, is_packet}
 use Rattle.gdb_server.specs.Sessions.{GreetsNobody, GreetsSome, IsNoPacket, IsSaidTo, LeadsTo, Side, Talked}
-use Rattle.gdb_server.specs.Sessions.{Talks, Turn}
+use Rattle.gdb_server.specs.Sessions.{Talking, Talks, Turn}
 use Rattle.gdb_server.specs.Sessions.{heard_max, listening}
 use Rattle.gdb_server.specs.Wires.{behind_answer, behind_byte, frames, is_last, last_frame, stops_acks}
 
@@ -157,15 +158,16 @@ greets_some : (wire : Wire) (line next : Line) (left mid left' got mid' got' : O
 greets_some wire line next left mid left' got mid' got' count w hears =
     let given : Appends mid' got' (acknowledged w.behind (Packet (payload_in next))) =
     subst (λ (e : Event). Appends mid' got' (acknowledged w.behind e)) (sym hears.told_is) hears.given in
+    let byte : ℕ = hears.byte in
     record {
       heard = w.heard;
       said = w.said;
       before = w.behind;
       is_said = w.is_said;
-      byte = hears.byte;
+      byte = byte;
       ends = sym hears.told_is;
       shows = hears.shows;
-      taken = Consumes-append left mid left' w.heard (hears.byte ∷ []) w.taken hears.taken;
+      taken = Consumes-append left mid left' w.heard (byte ∷ []) w.taken hears.taken;
       given = Appends-append got mid' got' w.said (acknowledged w.behind (Packet (payload_in next))) w.given given;
     }
 
@@ -205,34 +207,34 @@ pub waits_told : (wire : Wire) (line next : Line) (told : outcome.Told)
 waits_told wire line next told left mid left' got mid' got' count w is hears =
     waits_more wire line next told left mid left' got mid' got' count w (no_packet told (payload_in next) is) hears
 
+-- none of the bytes so far ended a packet, and they are all that are heard
+nobody : (wire : Wire) (line : Line) (left mid left' got mid' got' : Option (List ℕ)) (count : ℕ)
+    (w : Waits wire line left mid got mid' count) → Consumes mid left' [] → Appends mid' got' []
+    → IsAtEnd left' ⊎ (heard_max ≤ length w.heard) → GreetsNobody wire left left' got got'
+nobody wire line left mid left' got mid' got' count w taken given ends =
+    record {
+      heard = w.heard;
+      said = w.said;
+      behind = w.behind;
+      is_said = w.is_said;
+      taken = consumes_nothing left mid left' w.heard w.taken taken;
+      given = appends_nothing got mid' got' w.said w.given given;
+      ends = ends;
+    }
+
 -- the last byte
 pub greets_nobody : (wire : Wire) (line next : Line) (left mid left' got mid' got' : Option (List ℕ)) (count : ℕ)
     (w : Waits wire line left mid got mid' count) → HearsNothing w.behind next mid left' mid' got'
     → GreetsNobody wire left left' got got'
 greets_nobody wire line next left mid left' got mid' got' count w hears =
-    record {
-      heard = w.heard;
-      said = w.said;
-      behind = w.behind;
-      is_said = w.is_said;
-      taken = consumes_nothing left mid left' w.heard w.taken hears.taken;
-      given = appends_nothing got mid' got' w.said w.given hears.given;
-      ends = inl hears.end;
-    }
+    nobody wire line left mid left' got mid' got' count w hears.taken hears.given (inl hears.end)
 
 -- or as many as are heard
 pub greets_no_more : (wire : Wire) (line : Line) (left left' got got' : Option (List ℕ)) (count : ℕ)
     → Waits wire line left left' got got' count → heard_max ≤ count → GreetsNobody wire left left' got got'
 greets_no_more wire line left left' got got' count w most =
-    record {
-      heard = w.heard;
-      said = w.said;
-      behind = w.behind;
-      is_said = w.is_said;
-      taken = w.taken;
-      given = w.given;
-      ends = inr (subst (λ (n : ℕ). heard_max ≤ n) (sym w.counted) most);
-    }
+    nobody wire line left left' left' got got' got' count w (nothing_taken left') (nothing_given got')
+    (inr (subst (λ (n : ℕ). heard_max ≤ n) (sym w.counted) most))
 
 -- ---- in a session
 
@@ -276,18 +278,11 @@ module _ {P : Type 0} where
   pub record Sits (answers : P → List ℕ → P → Answer → Type 0) (interrupts : P → P → Type 0) (wire : Wire)
       (partner : P) (payload : List ℕ) (now : P) (line : Line) (next : Next)
       (left left' got got' : Option (List ℕ)) (count : ℕ) : Type 0 where
-    pub first : List ℕ
-    pub from : Side P
-    pub answered : LeadsTo answers interrupts wire partner (Packet payload) first from
     pub heard : List ℕ
-    pub said : List ℕ
     pub to : Side P
-    pub talks : Talks answers interrupts from heard said to
-    pub partner_is : to.partner ≡ now
+    pub talking : Talking answers interrupts wire partner payload now left left' got got' heard to
     pub over_is : to.over ≡ is_last next
     pub shows : Shows to.wire line
-    pub taken : Consumes left left' heard
-    pub given : Appends got got' (first ++ said)
     pub counted : length heard ≡ count
 
   -- where a session stands behind an answer
@@ -301,18 +296,21 @@ module _ {P : Type 0} where
       → Sits answers interrupts wire partner payload now line next left left got got' 0
   sits_first answers interrupts wire partner payload now line next left got got' says =
       record {
-        first = frames says.answer.payloads;
-        from = side_behind wire now says.answer;
-        answered = (says.answer, says.answered, refl, refl, refl);
         heard = [];
-        said = [];
         to = side_behind wire now says.answer;
-        talks = (refl, refl);
-        partner_is = refl;
+        talking = record {
+          first = frames says.answer.payloads;
+          from = side_behind wire now says.answer;
+          answered = (says.answer, says.answered, refl, refl, refl);
+          said = [];
+          talks = (refl, refl);
+          partner_is = refl;
+          taken = nothing_taken left;
+          given = subst (λ (l : List ℕ). Appends got got' l) (sym (append-nil (frames says.answer.payloads)))
+              says.given;
+        };
         over_is = ap is_last (sym says.next_is);
         shows = says.shows;
-        taken = nothing_taken left;
-        given = subst (λ (l : List ℕ). Appends got got' l) (sym (append-nil (frames says.answer.payloads))) says.given;
         counted = refl;
       }
 
@@ -326,20 +324,23 @@ module _ {P : Type 0} where
       → Sits answers interrupts wire partner payload then line' next' left left' got got' (count + 1)
   sits_more answers interrupts wire partner payload now then line line' next next' left mid left' got mid' got' count s
       byte more to turn partner_is over_is shows taken given =
+      let t = s.talking in
       record {
-        first = s.first;
-        from = s.from;
-        answered = s.answered;
         heard = s.heard ++ byte ∷ [];
-        said = s.said ++ more;
         to = to;
-        talks = talks_more answers interrupts s.from s.to to s.heard s.said byte more s.talks turn;
-        partner_is = partner_is;
+        talking = record {
+          first = t.first;
+          from = t.from;
+          answered = t.answered;
+          said = t.said ++ more;
+          talks = talks_more answers interrupts t.from s.to to s.heard t.said byte more t.talks turn;
+          partner_is = partner_is;
+          taken = Consumes-append left mid left' s.heard (byte ∷ []) t.taken taken;
+          given = subst (λ (l : List ℕ). Appends got got' l) (append_assoc t.first t.said more)
+              (Appends-append got mid' got' (t.first ++ t.said) more t.given given);
+        };
         over_is = over_is;
         shows = shows;
-        taken = Consumes-append left mid left' s.heard (byte ∷ []) s.taken taken;
-        given = subst (λ (l : List ℕ). Appends got got' l) (append_assoc s.first s.said more)
-            (Appends-append got mid' got' (s.first ++ s.said) more s.given given);
         counted = length-append s.heard (byte ∷ []) ∙ ap (λ (n : ℕ). n + 1) s.counted;
       }
 
@@ -360,7 +361,7 @@ module _ {P : Type 0} where
       subst (λ (e : Event). LeadsTo answers interrupts wire' now e f.more f.to) hears.told_is f.leads in
       let leads : LeadsTo answers interrupts wire' s.to.partner (tells s.to.wire.at hears.byte) f.more f.to =
       subst (λ (p : P). LeadsTo answers interrupts wire' p (tells s.to.wire.at hears.byte) f.more f.to)
-      (sym s.partner_is) of_event in
+      (sym s.talking.partner_is) of_event in
       let turn : Turn answers interrupts s.to hears.byte (ack ++ f.more) f.to =
       record { listens = s.over_is ∙ on; more = f.more; said_is = refl; leads = leads } in
       sits_more answers interrupts wire partner payload now then line line'' next next' left mid left' got mid' got''
@@ -431,19 +432,7 @@ module _ {P : Type 0} where
       (count : ℕ) → Sits answers interrupts wire partner payload now line next left left' got got' count
       → is_last next ≡ true → Talked answers interrupts wire partner payload now left left' got got'
   talked_over answers interrupts wire partner payload now line next left left' got got' count s last =
-      record {
-        first = s.first;
-        from = s.from;
-        answered = s.answered;
-        heard = s.heard;
-        said = s.said;
-        to = s.to;
-        talks = s.talks;
-        partner_is = s.partner_is;
-        taken = s.taken;
-        given = s.given;
-        ends = inl (s.over_is ∙ last);
-      }
+      record { heard = s.heard; to = s.to; talking = s.talking; ends = inl (s.over_is ∙ last) }
 
   -- where no byte was left
   pub talked_out : (answers : P → List ℕ → P → Answer → Type 0) (interrupts : P → P → Type 0) (wire : Wire)
@@ -453,17 +442,20 @@ module _ {P : Type 0} where
       → HearsNothing s.to.wire line' mid left' mid' got'
       → Talked answers interrupts wire partner payload now left left' got got'
   talked_out answers interrupts wire partner payload now line line' next left mid left' got mid' got' count s hears =
+      let t = s.talking in
       record {
-        first = s.first;
-        from = s.from;
-        answered = s.answered;
         heard = s.heard;
-        said = s.said;
         to = s.to;
-        talks = s.talks;
-        partner_is = s.partner_is;
-        taken = consumes_nothing left mid left' s.heard s.taken hears.taken;
-        given = appends_nothing got mid' got' (s.first ++ s.said) s.given hears.given;
+        talking = record {
+          first = t.first;
+          from = t.from;
+          answered = t.answered;
+          said = t.said;
+          talks = t.talks;
+          partner_is = t.partner_is;
+          taken = consumes_nothing left mid left' s.heard t.taken hears.taken;
+          given = appends_nothing got mid' got' (t.first ++ t.said) t.given hears.given;
+        };
         ends = inr (inl hears.end);
       }
 
@@ -473,16 +465,5 @@ module _ {P : Type 0} where
       (count : ℕ) → Sits answers interrupts wire partner payload now line next left left' got got' count
       → heard_max ≤ count → Talked answers interrupts wire partner payload now left left' got got'
   talked_no_more answers interrupts wire partner payload now line next left left' got got' count s most =
-      record {
-        first = s.first;
-        from = s.from;
-        answered = s.answered;
-        heard = s.heard;
-        said = s.said;
-        to = s.to;
-        talks = s.talks;
-        partner_is = s.partner_is;
-        taken = s.taken;
-        given = s.given;
-        ends = inr (inr (subst (λ (n : ℕ). heard_max ≤ n) (sym s.counted) most));
-      }
+      let ends = inr (inr (subst (λ (n : ℕ). heard_max ≤ n) (sym s.counted) most)) in
+      record { heard = s.heard; to = s.to; talking = s.talking; ends = ends }

@@ -93,17 +93,23 @@ module _ {P : Type 0} where
       (mid : Side P) × (first : List ℕ) × (more : List ℕ) × Turn answers interrupts old byte first mid
       × Talks answers interrupts mid rest more new × (said ≡ first ++ more)
 
-  -- a packet is answered, and then bytes are heard to the end: to an answer that ends the session, or to the last byte
-  pub record Talked (answers : P → List ℕ → P → Answer → Type 0) (interrupts : P → P → Type 0) (wire : Wire)
-      (partner : P) (payload : List ℕ) (partner' : P) (left left' got got' : Option (List ℕ)) : Type 0 where
+  -- a packet was answered, and behind that these bytes were heard, to here
+  pub record Talking (answers : P → List ℕ → P → Answer → Type 0) (interrupts : P → P → Type 0) (wire : Wire)
+      (partner : P) (payload : List ℕ) (partner' : P) (left left' got got' : Option (List ℕ)) (heard : List ℕ)
+      (to : Side P) : Type 0 where
     pub first : List ℕ
     pub from : Side P
     pub answered : LeadsTo answers interrupts wire partner (Packet payload) first from
-    pub heard : List ℕ
     pub said : List ℕ
-    pub to : Side P
     pub talks : Talks answers interrupts from heard said to
     pub partner_is : to.partner ≡ partner'
     pub taken : Consumes left left' heard
     pub given : Appends got got' (first ++ said)
+
+  -- and they were heard to the end: to an answer that ends the session, or to the last byte
+  pub record Talked (answers : P → List ℕ → P → Answer → Type 0) (interrupts : P → P → Type 0) (wire : Wire)
+      (partner : P) (payload : List ℕ) (partner' : P) (left left' got got' : Option (List ℕ)) : Type 0 where
+    pub heard : List ℕ
+    pub to : Side P
+    pub talking : Talking answers interrupts wire partner payload partner' left left' got got' heard to
     pub ends : (to.over ≡ true) ⊎ (IsAtEnd left' ⊎ (heard_max ≤ length heard))

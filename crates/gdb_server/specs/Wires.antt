@@ -5,7 +5,7 @@ use Rattle.gdb_packets.specs.Frames.{follow, framed}
 use Rattle.gdb_packets.specs.Lines.{Wire}
 use Rattle.gdb_server.specs.declared.partner.Answer.{Answer}
 use Rattle.gdb_server.specs.declared.partner.Next.{Next}
-use Rattle.gdb_server.specs.declared.partner.Next.TheVariants.{Listen, StopAcks, End}
+use Rattle.gdb_server.specs.declared.partner.Next.TheVariants.{StopAcks, End}
 
 -- the wire behind a byte
 abbrev pub behind_byte : Wire → ℕ → Wire
@@ -22,15 +22,13 @@ last_frame last (payload ∷ rest) = last_frame (framed payload) rest
 
 -- nothing is acknowledged any more behind an answer
 abbrev pub stops_acks : Next → Bool
-stops_acks Listen = false
 stops_acks StopAcks = true
-stops_acks End = false
+stops_acks next = false
 
 -- the session is over behind an answer
 abbrev pub is_last : Next → Bool
-is_last Listen = false
-is_last StopAcks = false
 is_last End = true
+is_last next = false
 
 -- the wire behind an answer
 abbrev pub behind_answer : Wire → Answer → Wire

@@ -1,6 +1,6 @@
 -- Every setting that is put in is in its range, so the parameters fit.
 use Rattle.std.proofs.Common.{◌≡◌, ℕ, IsTrue, ◌<◌, ◌≤◌, ◌%◌, Bool, true, false, List, [], ◌∷◌, Option}
-use Rattle.std.proofs.Common.{Some, None, refl, ap, arith, rules, ◌==◌, nat_le, ◌&&◌, ◌-◌, ◌^◌, ◌*◌, ◌∙◌}
+use Rattle.std.proofs.Common.{Some, None, refl, ap, arith, rules, ◌==◌, nat_le, ◌&&◌, ◌-◌, ◌*◌, ◌∙◌}
 use Rattle.std.proofs.Common.{unwrap_or, cond, subst}
 use Rattle.std.specs.Option.{option_and_then, option_map}
 use Rattle.std.specs.Str.Parse.{digits_value}
@@ -25,8 +25,8 @@ use Rattle.tool_words.specs.declared.options.Name.TheVariants.{Core, Count, Late
 use Rattle.tool_words.specs.Settings.{Settings}
 use Rattle.tool_words.specs.Numerals.{is_numeral, number_between}
 use Rattle.tool_words.specs.Choices.{are_choices}
-use Rattle.tool_words.specs.Options.{are_together_few, is_set, log_named, no_settings, params_of, put}
-use Rattle.tool_words.specs.Options.{put_new, shape_named, which_of, whole_blocks, cores_default, limit_default}
+use Rattle.tool_words.specs.Options.{are_together_few, is_set, no_settings, params_of, put}
+use Rattle.tool_words.specs.Options.{put_new, which_of, whole_blocks, cores_default, limit_default}
 use Rattle.tool_words.specs.Options.{words_default, threads_max}
 use Rattle.tool_words.specs.Commands.{AreFewThreads, HasFittingParams, MayBe, command_of, instr, named_instr, shaped}
 use Rattle.tool_words.specs.Commands.{verb_named}
@@ -60,15 +60,8 @@ record Ranged : Type 0 where
   threads : Option ℕ
 
 abbrev ranged : Settings → Ranged
-ranged s = record {
-  cores = s.cores;
-  limit = s.limit;
-  words = s.words;
-  core = s.core;
-  count = s.count;
-  threads
-      = s.threads;
-}
+ranged s =
+    record { cores = s.cores; limit = s.limit; words = s.words; core = s.core; count = s.count; threads = s.threads }
 
 -- a count's range is that of a limit
 record AreFitting (r : Ranged) : Type 0 where
@@ -136,103 +129,39 @@ core_range n text h = let range = number_between-range 0 (CORES_MAX - 1) n text 
 alike : (r s : Ranged) → r ≡ s → AreFitting r → AreFitting s
 alike r s same fit = let P : Ranged → Type 0 = λ u. AreFitting u in subst P same fit
 
+-- settings that fit whatever value is put in fit with the one that is
+put-some : {A : Type 0} (with : A → Settings) (value : Option A) (t : Settings) → option_map with value ≡ Some t →
+    ((a : A) → value ≡ Some a → AreFitting (ranged (with a))) → AreFitting (ranged t)
+put-some with value t h fits =
+    let made = map-some with value t h in alike _ (ranged t) (ap ranged made.2) (fits made.0 made.1)
+
+put-one : (s t : Settings) → Some s ≡ Some t → AreFitting (ranged s) → AreFitting (ranged t)
+put-one s t h fit = let same : s ≡ t = cc in alike (ranged s) (ranged t) (ap ranged same) fit
+
 put_new-fits : (s t : Settings) (name : Name) (text : List ℕ) → put_new s name text ≡ Some t → AreFitting (ranged s)
     → AreFitting (ranged t)
-put_new-fits s t Cores text h fit =
-    let made = map-some (λ n. record s { cores = Some n }) (number_between 1 CORES_MAX text) t h in
-    alike (record (ranged s) { cores = Some made.0 }) (ranged t) (ap ranged made.2)
-    (record {
-      cores = number_between-range 1 CORES_MAX made.0 text made.1;
-      limit = fit.limit;
-      words = fit.words;
-      core = fit.core;
-      count = fit.count;
-      threads = fit.threads;
-    })
-put_new-fits s t Limit text h fit =
-    let made = map-some (λ n. record s { limit = Some n }) (number_between 1 LIMIT_MAX text) t h in
-    alike (record (ranged s) { limit = Some made.0 }) (ranged t) (ap ranged made.2)
-    (record {
-      cores = fit.cores;
-      limit = number_between-range 1 LIMIT_MAX made.0 text made.1;
-      words = fit.words;
-      core = fit.core;
-      count = fit.count;
-      threads = fit.threads;
-    })
-put_new-fits s t Words text h fit =
-    let made = map-some (λ n. record s { words = Some n }) (whole_blocks text) t h in
-    alike (record (ranged s) { words = Some made.0 }) (ranged t) (ap ranged made.2)
-    (record {
-      cores = fit.cores;
-      limit = fit.limit;
-      words = whole_blocks-range text made.0 made.1;
-      core = fit.core;
-      count = fit.count;
-      threads = fit.threads;
-    })
+put_new-fits s t Cores text h fit = put-some (λ n. record s { cores = Some n }) _ t h
+    (λ n is. let range = number_between-range 1 CORES_MAX n text is in search (rules, fit, range))
+put_new-fits s t Limit text h fit = put-some (λ n. record s { limit = Some n }) _ t h
+    (λ n is. let range = number_between-range 1 LIMIT_MAX n text is in search (rules, fit, range))
+put_new-fits s t Words text h fit = put-some (λ n. record s { words = Some n }) _ t h
+    (λ n is. let range = whole_blocks-range text n is in search (rules, fit, range))
 put_new-fits s t Choices text h fit =
-    let is : Some (record s { choices = Some text }) ≡ Some t = if-some (are_choices text) _ t h in
-    let same : record s { choices = Some text } ≡ t = cc in
-    alike (ranged s) (ranged t) (ap ranged same) fit
-put_new-fits s t Seed text h fit =
-    let made = map-some (λ n. record s { seed = Some n }) (number_between 0 (2 ^ 64 - 1) text) t h in
-    alike (ranged s) (ranged t) (ap ranged made.2) fit
-put_new-fits s t Log text h fit =
-    let made = map-some (λ w. record s { log = Some w }) (log_named text) t h in
-    alike (ranged s) (ranged t) (ap ranged made.2) fit
-put_new-fits s t Loads text h fit =
-    let same : record s { loads = true } ≡ t = cc in
-    alike (ranged s) (ranged t) (ap ranged same) fit
-put_new-fits s t Elf text h fit =
-    let same : record s { elf = true } ≡ t = cc in
-    alike (ranged s) (ranged t) (ap ranged same) fit
-put_new-fits s t Shape text h fit =
-    let made = map-some (λ shape. record s { shape = Some shape }) (shape_named text) t h in
-    alike (ranged s) (ranged t) (ap ranged made.2) fit
-put_new-fits s t Number text h fit =
-    let made = map-some (λ n. record s { number = Some n }) (number_between 0 (2 ^ 64 - 1) text) t h in
-    alike (ranged s) (ranged t) (ap ranged made.2) fit
-put_new-fits s t Core text h fit =
-    let made = map-some (λ n. record s { core = Some n }) (number_between 0 (CORES_MAX - 1) text) t h in
-    alike (record (ranged s) { core = Some made.0 }) (ranged t) (ap ranged made.2)
-    (record {
-      cores = fit.cores;
-      limit = fit.limit;
-      words = fit.words;
-      core = core_range made.0 text made.1;
-      count
-          = fit.count;
-      threads = fit.threads;
-    })
-put_new-fits s t Count text h fit =
-    let made = map-some (λ n. record s { count = Some n }) (number_between 1 LIMIT_MAX text) t h in
-    alike (record (ranged s) { count = Some made.0 }) (ranged t) (ap ranged made.2)
-    (record {
-      cores = fit.cores;
-      limit = fit.limit;
-      words = fit.words;
-      core = fit.core;
-      count = number_between-range 1 LIMIT_MAX made.0 text made.1;
-      threads = fit.threads;
-    })
-put_new-fits s t Latest text h fit =
-    let same : record s { latest = true } ≡ t = cc in
-    alike (ranged s) (ranged t) (ap ranged same) fit
-put_new-fits s t Certified text h fit =
-    let same : record s { certify = true } ≡ t = cc in
-    alike (ranged s) (ranged t) (ap ranged same) fit
-put_new-fits s t Threads text h fit =
-    let made = map-some (λ n. record s { threads = Some n }) (number_between 1 threads_max text) t h in
-    alike (record (ranged s) { threads = Some made.0 }) (ranged t) (ap ranged made.2)
-    (record {
-      cores = fit.cores;
-      limit = fit.limit;
-      words = fit.words;
-      core = fit.core;
-      count = fit.count;
-      threads = number_between-range 1 threads_max made.0 text made.1;
-    })
+    put-one (record s { choices = Some text }) t (if-some (are_choices text) _ t h) fit
+put_new-fits s t Seed text h fit = put-some (λ n. record s { seed = Some n }) _ t h (λ n is. fit)
+put_new-fits s t Log text h fit = put-some (λ w. record s { log = Some w }) _ t h (λ w is. fit)
+put_new-fits s t Loads text h fit = put-one (record s { loads = true }) t h fit
+put_new-fits s t Elf text h fit = put-one (record s { elf = true }) t h fit
+put_new-fits s t Shape text h fit = put-some (λ shape. record s { shape = Some shape }) _ t h (λ shape is. fit)
+put_new-fits s t Number text h fit = put-some (λ n. record s { number = Some n }) _ t h (λ n is. fit)
+put_new-fits s t Core text h fit = put-some (λ n. record s { core = Some n }) _ t h
+    (λ n is. let range = core_range n text is in search (rules, fit, range))
+put_new-fits s t Count text h fit = put-some (λ n. record s { count = Some n }) _ t h
+    (λ n is. let range = number_between-range 1 LIMIT_MAX n text is in search (rules, fit, range))
+put_new-fits s t Latest text h fit = put-one (record s { latest = true }) t h fit
+put_new-fits s t Certified text h fit = put-one (record s { certify = true }) t h fit
+put_new-fits s t Threads text h fit = put-some (λ n. record s { threads = Some n }) _ t h
+    (λ n is. let range = number_between-range 1 threads_max n text is in search (rules, fit, range))
 
 put-fits : (s t : Settings) (name : Name) (text : List ℕ) → put s name text ≡ Some t → AreFitting (ranged s)
     → AreFitting (ranged t)

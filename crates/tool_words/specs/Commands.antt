@@ -1,8 +1,7 @@
 -- The commands.
-use Rattle.std.specs.Prelude.{◌≡◌, ℕ, ◌<◌, ◌≤◌, IsTrue, false, List, Option, Some, None, codes, unwrap_or}
+use Rattle.std.specs.Prelude.{◌≡◌, ℕ, ◌<◌, ◌≤◌, IsTrue, false, List, [], ◌∷◌, Option, Some, None, codes, unwrap_or}
 use Rattle.std.specs.Prelude.{if◌then◌else◌}
-use Rattle.std.specs.Option.{option_and_then, option_map, option_or}
-use Rattle.std.specs.Str.{bytes_eq}
+use Rattle.std.specs.Option.{option_and_then, option_map}
 use Rattle.rtr_types.specs.Parameters.{Fits}
 use Rattle.rtr_types.specs.declared.TheConstants.{CORES_MAX}
 use Rattle.rtr_types.specs.declared.instr.Instr.{Instr}
@@ -25,45 +24,22 @@ use Rattle.tool_words.specs.declared.command.Verb.{Verb}
 use Rattle.tool_words.specs.declared.command.Verb.TheVariants.{Record, Run, Print, Replay, Migrate}
 use Rattle.tool_words.specs.declared.command.Verb.TheVariants.{Certify, Check, Gen, Soak, At}
 use Rattle.tool_words.specs.declared.command.Verb.TheVariants.{Thin, CheckThin, TsoRecord, TsoRun, TsoReplay}
+use Rattle.tool_words.specs.Names.{named_by}
 use Rattle.tool_words.specs.Settings.{Settings}
 use Rattle.tool_words.specs.Choices.{bytes_of}
 use Rattle.tool_words.specs.Options.{params_of, threads_max, which_of}
 
--- a word for a command that makes an image or runs one, exactly
-abbrev pub run_verb : List ℕ → Option Verb
-run_verb word =
-    if bytes_eq word (codes "record") then Some Record else
-    if bytes_eq word (codes "run") then Some Run else
-    if bytes_eq word (codes "gen") then Some Gen else
-    if bytes_eq word (codes "soak") then Some Soak else None
-
--- a word for a command that reads a recording, exactly
-abbrev pub recording_verb : List ℕ → Option Verb
-recording_verb word =
-    if bytes_eq word (codes "print") then Some Print else
-    if bytes_eq word (codes "replay") then Some Replay else
-    if bytes_eq word (codes "migrate") then Some Migrate else
-    if bytes_eq word (codes "at") then Some At else None
-
--- a word for a command that shows, or checks, that a log has no more than it needs, exactly
-abbrev pub need_verb : List ℕ → Option Verb
-need_verb word =
-    if bytes_eq word (codes "certify") then Some Certify else
-    if bytes_eq word (codes "check") then Some Check else
-    if bytes_eq word (codes "thin") then Some Thin else
-    if bytes_eq word (codes "checkthin") then Some CheckThin else None
-
--- a word for a command for cores with store buffers, exactly
-abbrev pub buffer_verb : List ℕ → Option Verb
-buffer_verb word =
-    if bytes_eq word (codes "tsorecord") then Some TsoRecord else
-    if bytes_eq word (codes "tsorun") then Some TsoRun else
-    if bytes_eq word (codes "tsoreplay") then Some TsoReplay else None
+-- the commands by their words
+abbrev pub verbs : List (List ℕ × Verb)
+verbs =
+    (codes "record", Record) ∷ (codes "run", Run) ∷ (codes "gen", Gen) ∷ (codes "soak", Soak)
+    ∷ (codes "print", Print) ∷ (codes "replay", Replay) ∷ (codes "migrate", Migrate) ∷ (codes "at", At)
+    ∷ (codes "certify", Certify) ∷ (codes "check", Check) ∷ (codes "thin", Thin) ∷ (codes "checkthin", CheckThin)
+    ∷ (codes "tsorecord", TsoRecord) ∷ (codes "tsorun", TsoRun) ∷ (codes "tsoreplay", TsoReplay) ∷ []
 
 -- the command that a word names
 abbrev pub verb_named : List ℕ → Option Verb
-verb_named word =
-    option_or (run_verb word) (option_or (recording_verb word) (option_or (need_verb word) (buffer_verb word)))
+verb_named word = named_by verbs word
 
 -- the run with these settings
 abbrev pub run_of : Settings → RunWords
@@ -76,12 +52,7 @@ run_of s = record {
 
 -- the run with these settings, of an image as it stands
 abbrev pub flat_run_of : Settings → RunWords
-flat_run_of s = record {
-  params = params_of s;
-  choices = bytes_of s.choices;
-  seed = unwrap_or s.seed 0;
-  elf = false;
-}
+flat_run_of s = record (run_of s) { elf = false }
 
 -- the shape and the number of an image, where both are set and the shape has an image of this number
 abbrev pub shaped : Settings → Option (Shape × ℕ)

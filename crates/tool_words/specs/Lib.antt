@@ -4,3 +4,4 @@ pub mod Options
 pub mod Reading
 pub mod Choices
 pub mod Settings
+pub mod Names

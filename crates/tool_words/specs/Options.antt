@@ -1,8 +1,8 @@
 -- The options, and what their settings come to.
 use Rattle.std.specs.Prelude.{ℕ, ◌*◌, ◌%◌, ◌-◌, ◌^◌, ◌==◌, nat_le, Bool}
-use Rattle.std.specs.Prelude.{true, false, List, Option, Some, None, is_some, codes}
+use Rattle.std.specs.Prelude.{true, false, List, [], ◌∷◌, Option, Some, None, is_some, codes}
 use Rattle.std.specs.Prelude.{unwrap_or, if◌then◌else◌}
-use Rattle.std.specs.Option.{option_and_then, option_map, option_or}
+use Rattle.std.specs.Option.{option_and_then, option_map}
 use Rattle.std.specs.Str.{bytes_eq}
 use Rattle.rtr_types.specs.declared.params.Params.{Params}
 use Rattle.rtr_types.specs.declared.pairs.Which.{Which}
@@ -19,45 +19,23 @@ use Rattle.tool_words.specs.declared.options.Name.{Name}
 use Rattle.tool_words.specs.declared.options.Name.TheVariants.{Cores, Limit, Words, Choices, Seed}
 use Rattle.tool_words.specs.declared.options.Name.TheVariants.{Log, Loads, Elf, Shape, Number}
 use Rattle.tool_words.specs.declared.options.Name.TheVariants.{Core, Count, Latest, Certified, Threads}
+use Rattle.tool_words.specs.Names.{named_by}
 use Rattle.tool_words.specs.Settings.{Settings}
 use Rattle.tool_words.specs.Choices.{are_choices}
 use Rattle.tool_words.specs.Numerals.{number_between}
 
--- a word for an option of how an image is run, exactly
-abbrev pub run_option : List ℕ → Option Name
-run_option word =
-    if bytes_eq word (codes "--cores") then Some Cores else
-    if bytes_eq word (codes "--limit") then Some Limit else
-    if bytes_eq word (codes "--words") then Some Words else
-    if bytes_eq word (codes "--choices") then Some Choices else
-    if bytes_eq word (codes "--seed") then Some Seed else None
-
--- a word for an option that says which image, exactly
-abbrev pub image_option : List ℕ → Option Name
-image_option word =
-    if bytes_eq word (codes "--elf") then Some Elf else
-    if bytes_eq word (codes "--shape") then Some Shape else
-    if bytes_eq word (codes "--number") then Some Number else None
-
--- a word for an option of what is done by a log, exactly
-abbrev pub log_option : List ℕ → Option Name
-log_option word =
-    if bytes_eq word (codes "--log") then Some Log else
-    if bytes_eq word (codes "--loads") then Some Loads else
-    if bytes_eq word (codes "--certify") then Some Certified else
-    if bytes_eq word (codes "--threads") then Some Threads else None
-
--- a word for an option that says at which instruction, exactly
-abbrev pub instr_option : List ℕ → Option Name
-instr_option word =
-    if bytes_eq word (codes "--core") then Some Core else
-    if bytes_eq word (codes "--count") then Some Count else
-    if bytes_eq word (codes "--latest") then Some Latest else None
+-- the options by their words
+abbrev pub options : List (List ℕ × Name)
+options =
+    (codes "--cores", Cores) ∷ (codes "--limit", Limit) ∷ (codes "--words", Words)
+    ∷ (codes "--choices", Choices) ∷ (codes "--seed", Seed)
+    ∷ (codes "--elf", Elf) ∷ (codes "--shape", Shape) ∷ (codes "--number", Number)
+    ∷ (codes "--log", Log) ∷ (codes "--loads", Loads) ∷ (codes "--certify", Certified) ∷ (codes "--threads", Threads)
+    ∷ (codes "--core", Core) ∷ (codes "--count", Count) ∷ (codes "--latest", Latest) ∷ []
 
 -- the option that a word names
 abbrev pub option_named : List ℕ → Option Name
-option_named word =
-    option_or (run_option word) (option_or (image_option word) (option_or (log_option word) (instr_option word)))
+option_named word = named_by options word
 
 -- the command takes the option, where it stands here
 abbrev pub takes : Verb → Name → Bool
@@ -111,21 +89,11 @@ option_of verb word = option_and_then (λ name. if takes verb name then Some nam
 
 -- a value follows the name; a flag has none
 abbrev pub takes_value : Name → Bool
-takes_value Cores = true
-takes_value Limit = true
-takes_value Words = true
-takes_value Choices = true
-takes_value Seed = true
-takes_value Log = true
 takes_value Loads = false
 takes_value Elf = false
-takes_value Shape = true
-takes_value Number = true
-takes_value Core = true
-takes_value Count = true
 takes_value Latest = false
 takes_value Certified = false
-takes_value Threads = true
+takes_value name = true
 
 -- what holds where an option isn't set
 abbrev pub cores_default : ℕ

@@ -1,8 +1,7 @@
 //! The commands, and which options each takes.
 ghost use Rattle.std.specs.Prelude.{◌≡◌, ◌≢◌, IfOk, None, OnErr};
 ghost use Rattle.tool_words.specs.Settings.{seen};
-ghost use Rattle.tool_words.specs.Commands.{buffer_verb, command_of, flat_run_of, need_verb, recording_verb, run_of};
-ghost use Rattle.tool_words.specs.Commands.{run_verb, verb_named};
+ghost use Rattle.tool_words.specs.Commands.{command_of, flat_run_of, run_of, verb_named};
 
 use crate::choices::bytes_of;
 use crate::options::Settings;
@@ -117,74 +116,23 @@ impl Verb {
     pub(crate) fn named(word: &str) -> Option<Verb>
         ensures { result ≡ verb_named word.now }
     {
-        Verb::of_runs(word).or(Verb::of_recordings(word).or(Verb::of_needs(word).or(
-            Verb::of_buffers(word),
-        )))
-    }
-
-    /// The command that makes an image or runs one and is named by this word, exactly.
-    fn of_runs(word: &str) -> Option<Verb>
-        ensures { result ≡ run_verb word.now }
-    {
-        if word == "record" {
-            Some(Verb::Record)
-        } else if word == "run" {
-            Some(Verb::Run)
-        } else if word == "gen" {
-            Some(Verb::Gen)
-        } else if word == "soak" {
-            Some(Verb::Soak)
-        } else {
-            None
-        }
-    }
-
-    /// The command that reads a recording and is named by this word, exactly.
-    fn of_recordings(word: &str) -> Option<Verb>
-        ensures { result ≡ recording_verb word.now }
-    {
-        if word == "print" {
-            Some(Verb::Print)
-        } else if word == "replay" {
-            Some(Verb::Replay)
-        } else if word == "migrate" {
-            Some(Verb::Migrate)
-        } else if word == "at" {
-            Some(Verb::At)
-        } else {
-            None
-        }
-    }
-
-    /// The command that shows, or checks, that a log has no more than it needs and is named by this word, exactly.
-    fn of_needs(word: &str) -> Option<Verb>
-        ensures { result ≡ need_verb word.now }
-    {
-        if word == "certify" {
-            Some(Verb::Certify)
-        } else if word == "check" {
-            Some(Verb::Check)
-        } else if word == "thin" {
-            Some(Verb::Thin)
-        } else if word == "checkthin" {
-            Some(Verb::CheckThin)
-        } else {
-            None
-        }
-    }
-
-    /// The command for cores with store buffers that is named by this word, exactly.
-    fn of_buffers(word: &str) -> Option<Verb>
-        ensures { result ≡ buffer_verb word.now }
-    {
-        if word == "tsorecord" {
-            Some(Verb::TsoRecord)
-        } else if word == "tsorun" {
-            Some(Verb::TsoRun)
-        } else if word == "tsoreplay" {
-            Some(Verb::TsoReplay)
-        } else {
-            None
+        match word {
+            "record" => Some(Verb::Record),
+            "run" => Some(Verb::Run),
+            "gen" => Some(Verb::Gen),
+            "soak" => Some(Verb::Soak),
+            "print" => Some(Verb::Print),
+            "replay" => Some(Verb::Replay),
+            "migrate" => Some(Verb::Migrate),
+            "at" => Some(Verb::At),
+            "certify" => Some(Verb::Certify),
+            "check" => Some(Verb::Check),
+            "thin" => Some(Verb::Thin),
+            "checkthin" => Some(Verb::CheckThin),
+            "tsorecord" => Some(Verb::TsoRecord),
+            "tsorun" => Some(Verb::TsoRun),
+            "tsoreplay" => Some(Verb::TsoReplay),
+            _ => None,
         }
     }
 
@@ -267,10 +215,7 @@ fn run_of(alloc: Global, settings: &Settings) -> Result<RunWords, AllocError>
 fn flat_run_of(alloc: Global, settings: &Settings) -> Result<RunWords, AllocError>
     ensures { IfOk result (λ run. run ≡ flat_run_of (seen settings.now)) }
 {
-    Ok(RunWords {
-        params: settings.params(),
-        choices: bytes_of(alloc, settings.choices)?,
-        seed: settings.seed.unwrap_or(0),
-        elf: false,
-    })
+    let mut run = run_of(alloc, settings)?;
+    run.elf = false;
+    Ok(run)
 }

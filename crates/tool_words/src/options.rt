@@ -5,7 +5,7 @@ ghost use Rattle.tool_words.specs.Settings.{seen};
 ghost use Rattle.tool_words.specs.Commands.{named_instr, shaped};
 ghost use Rattle.tool_words.specs.Options.{are_together_few, is_set, log_named, no_settings, option_named, option_of};
 ghost use Rattle.tool_words.specs.Options.{params_of, put, put_new, shape_named, takes, takes_value, which_of};
-ghost use Rattle.tool_words.specs.Options.{image_option, instr_option, log_option, run_option, whole_blocks};
+ghost use Rattle.tool_words.specs.Options.{whole_blocks};
 
 use crate::choices::are_choices;
 use crate::command::Verb;
@@ -64,74 +64,23 @@ impl Name {
     fn named(word: &str) -> Option<Name>
         ensures { result ≡ option_named word.now }
     {
-        Name::of_runs(word).or(Name::of_images(word).or(Name::of_logs(word).or(Name::of_instrs(
-            word,
-        ))))
-    }
-
-    /// The option of how an image is run that this word names, exactly.
-    fn of_runs(word: &str) -> Option<Name>
-        ensures { result ≡ run_option word.now }
-    {
-        if word == "--cores" {
-            Some(Name::Cores)
-        } else if word == "--limit" {
-            Some(Name::Limit)
-        } else if word == "--words" {
-            Some(Name::Words)
-        } else if word == "--choices" {
-            Some(Name::Choices)
-        } else if word == "--seed" {
-            Some(Name::Seed)
-        } else {
-            None
-        }
-    }
-
-    /// The option that says which image, where this word names one, exactly.
-    fn of_images(word: &str) -> Option<Name>
-        ensures { result ≡ image_option word.now }
-    {
-        if word == "--elf" {
-            Some(Name::Elf)
-        } else if word == "--shape" {
-            Some(Name::Shape)
-        } else if word == "--number" {
-            Some(Name::Number)
-        } else {
-            None
-        }
-    }
-
-    /// The option of what is done by a log that this word names, exactly.
-    fn of_logs(word: &str) -> Option<Name>
-        ensures { result ≡ log_option word.now }
-    {
-        if word == "--log" {
-            Some(Name::Log)
-        } else if word == "--loads" {
-            Some(Name::Loads)
-        } else if word == "--certify" {
-            Some(Name::Certified)
-        } else if word == "--threads" {
-            Some(Name::Threads)
-        } else {
-            None
-        }
-    }
-
-    /// The option that says at which instruction, where this word names one, exactly.
-    fn of_instrs(word: &str) -> Option<Name>
-        ensures { result ≡ instr_option word.now }
-    {
-        if word == "--core" {
-            Some(Name::Core)
-        } else if word == "--count" {
-            Some(Name::Count)
-        } else if word == "--latest" {
-            Some(Name::Latest)
-        } else {
-            None
+        match word {
+            "--cores" => Some(Name::Cores),
+            "--limit" => Some(Name::Limit),
+            "--words" => Some(Name::Words),
+            "--choices" => Some(Name::Choices),
+            "--seed" => Some(Name::Seed),
+            "--elf" => Some(Name::Elf),
+            "--shape" => Some(Name::Shape),
+            "--number" => Some(Name::Number),
+            "--log" => Some(Name::Log),
+            "--loads" => Some(Name::Loads),
+            "--certify" => Some(Name::Certified),
+            "--threads" => Some(Name::Threads),
+            "--core" => Some(Name::Core),
+            "--count" => Some(Name::Count),
+            "--latest" => Some(Name::Latest),
+            _ => None,
         }
     }
 
@@ -338,12 +287,10 @@ impl<'a> Settings<'a> {
 fn shape_named(text: &str) -> Option<Shape>
     ensures { result ≡ shape_named text.now }
 {
-    if text == "mix" {
-        Some(Shape::Mix)
-    } else if text == "lock" {
-        Some(Shape::Lock)
-    } else {
-        None
+    match text {
+        "mix" => Some(Shape::Mix),
+        "lock" => Some(Shape::Lock),
+        _ => None,
     }
 }
 
@@ -351,12 +298,10 @@ fn shape_named(text: &str) -> Option<Shape>
 fn log_named(text: &str) -> Option<Which>
     ensures { result ≡ log_named text.now }
 {
-    if text == "reduced" {
-        Some(Which::Reduced)
-    } else if text == "regulated" {
-        Some(Which::Regulated)
-    } else {
-        None
+    match text {
+        "reduced" => Some(Which::Reduced),
+        "regulated" => Some(Which::Regulated),
+        _ => None,
     }
 }
 
