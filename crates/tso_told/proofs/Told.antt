@@ -29,7 +29,8 @@ use Rattle.tso_state.specs.Events.{tellings}
 use Rattle.tso_state.specs.Steps.{cores_after, core_left, enabled, event, step, told}
 use Rattle.tso_state.specs.Runs.{all_told, chosen, event_by, opening_state, read_in, reads, run, stepped_by, told_by}
 use Rattle.tso_invariant.specs.Holds.{TsoHolds}
-use Rattle.tso_invariant.proofs.Begins.{chosen_enabled, holds_run, run_cores}
+use Rattle.tso_invariant.proofs.Begins.{chosen_enabled, holds_run}
+pub use Rattle.tso_invariant.proofs.Begins.{run_cores}
 use Rattle.tso_invariant.proofs.Ending.{ended_at}
 use Rattle.tso_invariant.proofs.Kept.{core_elsewhere, core_there, enabled_core, step_cores}
 use Rattle.rv_core.proofs.Masks.{mask_law}
