@@ -236,6 +236,15 @@ all_sent event true false us ks u k new h = all_pushed event us ks u k new h
 all_sent event false true us ks u k new h = all_dropped event us ks h
 all_sent event false false us ks u k new h = h
 
+-- what has reached an actor still has one event later
+still_reached : (event : ℕ → Happening) (n : ℕ) (actor : Actor) (t : ℕ) → HasReached event n actor t →
+    HasReached event (suc n) actor t
+still_reached event n actor t r =
+    let lt = r.within in record { last = r.last; within = omega arith; of_it = r.of_it; reaches = r.reaches }
+
+last_cases : (n m : ℕ) → m < suc n → (m ≡ n) ⊎ (m < n)
+last_cases n m lt = grind arith
+
 -- after an actor's event all carries count again what reached them
 pub all_know_more : (event : ℕ → Happening) (n : ℕ) (actor : Actor) (c d : Carries Known) →
     (event n).actor ≡ Some actor →
@@ -265,11 +274,8 @@ all_know_more event n actor c d own orderly follows h =
     to_actor : (t : ℕ) → IsOrLeads event t n → HasReached event (suc n) actor t
     to_actor t r = record { last = n; within = omega arith; of_it = own; reaches = r }
 
-    last_cases : (m : ℕ) → m < suc n → (m ≡ n) ⊎ (m < n)
-    last_cases m lt = grind arith
-
     back_actor : (t : ℕ) → HasReached event (suc n) actor t → IsOrLeads event t n
-    back_actor t r = at (last_cases r.last r.within)
+    back_actor t r = at (last_cases n r.last r.within)
       where
         at : (r.last ≡ n) ⊎ (r.last < n) → IsOrLeads event t n
         at (inl e) = subst (λ (u : ℕ). IsOrLeads event t u) e r.reaches
@@ -281,18 +287,9 @@ all_know_more event n actor c d own orderly follows h =
           reaches = r.reaches;
         }))
 
-    to_other : (other : Actor) (t : ℕ) → HasReached event n other t → HasReached event (suc n) other t
-    to_other other t r = record {
-      last = r.last;
-      within = (let lt = r.within in omega arith);
-      of_it = r.of_it;
-      reaches =
-          r.reaches;
-    }
-
     back_other : (other : Actor) → (other ≡ actor → ⊥) → (t : ℕ) → HasReached event (suc n) other t →
         HasReached event n other t
-    back_other other apart t r = at (last_cases r.last r.within)
+    back_other other apart t r = at (last_cases n r.last r.within)
       where
         at : (r.last ≡ n) ⊎ (r.last < n) → HasReached event n other t
         at (inl e) = absurd (apart (same_Some other actor (sym r.of_it ∙ (ap (λ (u : ℕ). (event u).actor) e ∙ own))))
@@ -304,7 +301,7 @@ all_know_more event n actor c d own orderly follows h =
         to_actor back_actor left)
     by other (inr apart) =
         rw (follows.resting other apart)
-        (counts_same event (HasReached event n other) (HasReached event (suc n) other) (c.own other) (to_other other)
+        (counts_same event (HasReached event n other) (HasReached event (suc n) other) (c.own other) (λ t. still_reached event n other t)
         (back_other other apart)
         (h.own other))
 
@@ -315,7 +312,7 @@ pub all_know_idle : (event : ℕ → Happening) (n : ℕ) (c : Carries Known) �
 all_know_idle event n c nobody nothing none h =
     record {
       own = λ actor. counts_same event (HasReached event n actor) (HasReached event (suc n) actor) (c.own actor)
-          (to actor) (back actor) (h.own actor);
+          (λ t. still_reached event n actor t) (back actor) (h.own actor);
       sent = λ link. subst (λ (us : List ℕ). AllCount event us (c.sent link)) (sym (kept link)) (h.sent link);
     }
   where
@@ -324,20 +321,8 @@ all_know_idle event n c nobody nothing none h =
         ap (λ (b : Bool). with_sent b n (left_on (event n).takes link (on_link event n link))) (none link)
         ∙ ap (λ (named : Option Channel). left_on named link (on_link event n link)) nothing
 
-    to : (actor : Actor) (t : ℕ) → HasReached event n actor t → HasReached event (suc n) actor t
-    to actor t r = record {
-      last = r.last;
-      within = (let lt = r.within in omega arith);
-      of_it = r.of_it;
-      reaches =
-          r.reaches;
-    }
-
-    last_cases : (m : ℕ) → m < suc n → (m ≡ n) ⊎ (m < n)
-    last_cases m lt = grind arith
-
     back : (actor : Actor) (t : ℕ) → HasReached event (suc n) actor t → HasReached event n actor t
-    back actor t r = at (last_cases r.last r.within)
+    back actor t r = at (last_cases n r.last r.within)
       where
         at : (r.last ≡ n) ⊎ (r.last < n) → HasReached event n actor t
         at (inl e) = none_some (event n).actor actor nobody (ap (λ (u : ℕ). (event u).actor) (sym e) ∙ r.of_it)

@@ -25,21 +25,23 @@ pub record Taken (R K : Type 0) : Type 0 where
   pub entry : Entry R
   pub carry : K
 
+-- for the oldest message of core c and those behind it
+abbrev pub Takes : (R K T : Type 0) → Type 0
+Takes R K T = Riding R → Carrying K → Memory R K → (c : ℕ) → Mail T K → List (Mail T K) → Taken R K
+
 module _ {R K : Type 0} where
   abbrev taken : Port R K → HomeAnswer R → ℕ → Entry R → K → Taken R K
   taken left answer block entry carry =
       record { left = left; answer = answer; block = block; entry = entry; carry = carry }
 
   -- with a request of core c, and with a response
-  abbrev pub request_taken : Riding R → Carrying K → Memory R K → ℕ → Mail (Request R) K → List (Mail (Request R) K)
-      → Taken R K
+  abbrev pub request_taken : Takes R K (Request R)
   request_taken riding carrying m c mail rest =
       let e = entry_at riding.fresh m.home (request_block mail.item) in
       taken (port_requested (port_at carrying m.ports c) rest) (answer_to_request riding.absorbed e c mail.item)
       (request_block mail.item) (entry_after_request riding e c mail.item) (carrying.joined m.carry mail.carry)
 
-  abbrev pub response_taken : Riding R → Carrying K → Memory R K → ℕ → Mail (Response R) K → List (Mail (Response R) K)
-      → Taken R K
+  abbrev pub response_taken : Takes R K (Response R)
   response_taken riding carrying m c mail rest =
       let e = entry_at riding.fresh m.home (response_block mail.item) in
       taken (port_responded (port_at carrying m.ports c) rest) (answer_to_response riding.absorbed e c mail.item)

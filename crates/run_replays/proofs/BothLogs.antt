@@ -91,9 +91,6 @@ module _ (image : Contents) (params : Params) (schedule : Choices) (fits : Fits 
   abbrev events : ℕ → Happening
   events = happening_at image params (choice_at schedule)
 
-  abbrev last : ℕ
-  last = end_of image params (choice_at schedule)
-
   -- the retirements of a core are as many as its count
   retired_is : (t core : ℕ) → t ≤ end_of image params (choice_at schedule) → core < params.cores
       → retired_in (happening_at image params (choice_at schedule)) t core ≡ retired_count image params
@@ -108,8 +105,8 @@ module _ (image : Contents) (params : Params) (schedule : Choices) (fits : Fits 
   before_is : (x y : Instr) → x.core < params.cores → ordered.RetiresBefore (order_of image params schedule) x y
       → RetiresBefore image params (choice_at schedule) x y
   before_is x y core p t lt retires =
-      let e : EventOf events last p.front y.core =
-      event_of events last p.front y.core p.rest (order_is image params schedule ∙ p.place) in
+      let e : EventOf events (end_of image params choices) p.front y.core =
+      event_of events (end_of image params choices) p.front y.core p.rest (order_is image params schedule ∙ p.place) in
       let here : counts nought p.front y.core ≡ retired_in events e.u y.core =
       ap (λ (l : List ℕ). counts nought l y.core) e.before ∙ counts_are events e.u y.core in
       let there : counts nought p.front x.core ≡ retired_in events e.u x.core =
@@ -191,7 +188,7 @@ module _ (image : Contents) (params : Params) (schedule : Choices) (fits : Fits 
         → retired_in (happening_at image params (choice_at schedule)) (end_of image params (choice_at schedule)) c
         ≡ slice_index (recording_of image params schedule).totals c
     all_retire c within =
-        sym (counts_are events last c) ∙ ap (λ (l : List ℕ). counts nought l c) (order_is image params schedule)
+        sym (counts_are events (end_of image params choices) c) ∙ ap (λ (l : List ℕ). counts nought l c) (order_is image params schedule)
         ∙ by_reduced.whole.each c within
 
     -- so an edge's target retires, and its source in an event before
@@ -204,10 +201,10 @@ module _ (image : Contents) (params : Params) (schedule : Choices) (fits : Fits 
         let whole = valid.each_core in
         let all = all_retire y.core (omega arith) in
         let most = lies.target_most in
-        let there = retired_there events last (λ u lt. run_orderly_law image params choices fits.cores u) y
+        let there = retired_there events (end_of image params choices) (λ u lt. run_orderly_law image params choices fits.cores u) y
         lies.some_target (omega arith) in
         let t : ℕ = there.0 in
-        let within : t < last = there.1 in
+        let within : t < end_of image params choices = there.1 in
         let retires : RetiresAt image params choices t y = sym (run_retires_law image params choices t) ∙ there.2 in
         let cores = cores_are in
         let counted = retired_is t x.core (omega arith) (omega arith) in

@@ -1,5 +1,5 @@
 -- What an event tells of is what the places of its cores play.
-use Rattle.std.proofs.Common.{◌≡◌, ◌∙◌, refl, sym, ap, ℕ, ◌+◌, ◌<◌, Bool, true, false, List, [], ◌∷◌, ◌++◌, append-nil}
+use Rattle.std.proofs.Common.{◌≡◌, ◌∙◌, refl, sym, ap, ℕ, ◌+◌, ◌<◌, List, [], ◌∷◌, ◌++◌, append-nil}
 use Rattle.std.proofs.Common.{Some, None, arith}
 use Rattle.std.specs.Prelude.{slice_index, slice_set, if◌then◌else◌}
 use Rattle.std.proofs.lemmas.List.{set-get_or}
@@ -26,7 +26,7 @@ use Rattle.run_outcome.proofs.Working.{Retiring, Accessing, CoresAfter}
 use Rattle.run_replays.specs.Loads.{loads_by_core}
 use Rattle.run_replays.specs.Orders.{cores_of}
 use Rattle.run_replays.proofs.Loads.{loads_noted}
-use Rattle.memory_left.proofs.Memory.{memory_written, memory_read}
+use Rattle.memory_left.proofs.Memory.{words_more}
 
 -- ---- a place by what its instruction uses
 
@@ -140,19 +140,6 @@ module _ (p : Plan) (s : Outcome) (a : Access) (new : List Core) (h : Accessing 
       ∙ ap (λ (old : ℕ). tells old (wrote p.image k old) (k.count + 1)) found
       ∙ ap (λ (value : ℕ). tells a.before value (k.count + 1)) (sym h.after_is)
       ∙ ap (λ (count : ℕ). tells a.before a.after count) (sym h.retires.count)
-
--- the words with one access more
-words_more : (image : Contents) (list : List Access) (a : Access)
-    → a.before ≡ last_value (opening_word image a.word) a.word list → (is_write a.kind ≡ false → a.after ≡ a.before)
-    → (if is_write a.kind then slice_set (memory_left image list) a.word a.after else memory_left image list)
-    ≡ memory_left image (list ++ a ∷ [])
-words_more image list a found reads = by (is_write a.kind) refl
-  where
-    by : (writes : Bool) → is_write a.kind ≡ writes
-        → (if writes then slice_set (memory_left image list) a.word a.after else memory_left image list)
-        ≡ memory_left image (list ++ a ∷ [])
-    by true is = sym (memory_written image list a)
-    by false is = sym (memory_read image list a (reads is ∙ found))
 
 -- an event with an access
 module _ (p : Plan) (cores : ℕ) (old new : List Core) (list : List Access) (a : Access)

@@ -2,7 +2,7 @@
 -- access that an event orders is one that its port allows, so its copy counts and has the memory's word; no other act
 -- changes the words that count. The event's access is read as the memory system's own, so that what is proved of the
 -- memory serves as it is.
-use Rattle.std.proofs.Common.{◌≡◌, ap, refl, sym, subst, ℕ, ◌+◌, ◌<◌, ◌==◌, ◌%◌, ◌/◌, Bool, true, false, ◌&&◌}
+use Rattle.std.proofs.Common.{◌≡◌, ap, refl, sym, subst, ℕ, ◌+◌, ◌<◌, ◌%◌, ◌/◌, Bool, true, false}
 use Rattle.std.proofs.Common.{List, [], ◌∷◌, ◌++◌, length, Option, Some}
 use Rattle.std.proofs.Common.{None}
 use Rattle.std.specs.Prelude.{drop, if◌then◌else◌, slice_index}
@@ -11,16 +11,13 @@ use Rattle.access_times.specs.Riding.{Riding, Carrying}
 use Rattle.image_mem.specs.Contents.{Contents}
 use Rattle.link_order.specs.Queue.{is_nil}
 use Rattle.rtr_types.specs.declared.TheConstants.{BLOCK_WORDS}
-use Rattle.rtr_types.specs.declared.access.Access.{Access}
 use Rattle.rtr_types.specs.declared.access.Kind.{Kind}
 use Rattle.rtr_types.specs.declared.access.Kind.TheVariants.{Load as Loading, Store as Storing, Amo as Exchanging}
-use Rattle.rtr_types.specs.declared.instr.Instr.{Instr}
 use Rattle.rv_core.specs.declared.core_state.Need.{Need}
 use Rattle.rv_core.specs.declared.core_state.Need.TheVariants.{Local, Load, Store, Amo, Done}
 use Rattle.rv_core.specs.Steps.{need, access_of as need_access}
 use Rattle.rv_core.proofs.LawLemmas.{within_law, unwritten_law}
-use Rattle.msi_memory.specs.declared.port.Port.{Port}
-use Rattle.msi_memory.specs.Acts.{Act, TakeMessage, allows, can_all, after_act, after_acts, data_next}
+use Rattle.msi_memory.specs.Acts.{Act, TakeMessage, allows, can_all, after_act, after_acts}
 use Rattle.msi_memory.specs.Memories.{Memory, port_at, word_at}
 use Rattle.msi_laws.specs.Holds.{MemoryHolds}
 use Rattle.msi_laws.specs.Words.{HaveWords, memory_after_act}
@@ -28,10 +25,9 @@ use Rattle.msi_laws.proofs.Kept.{memory_kept}
 use Rattle.msi_laws.proofs.PortsKept.{length_act}
 use Rattle.msi_laws.proofs.Properties.{finds_words, words_kept}
 use Rattle.msi_laws.proofs.Acting.{acts_carry, folded}
-use Rattle.msi_laws.proofs.Awaits.{taken_there}
 use Rattle.machine_data.specs.Coherent.{Finds, memory_after}
 use Rattle.machine_data.proofs.Values.{Honest}
-use Rattle.msi_state.specs.Events.{access_of, next_instr, port_taken}
+use Rattle.msi_state.specs.Events.{access_of}
 use Rattle.tso_state.specs.declared.moves.Move.{Move}
 use Rattle.tso_state.specs.declared.moves.Move.TheVariants.{Core as CoreMove, Order as OrderMove}
 use Rattle.tso_state.specs.declared.moves.Move.TheVariants.{Request as RequestMove, Response as ResponseMove}
@@ -40,18 +36,17 @@ use Rattle.tso_state.specs.declared.pending.Asker.{Asker}
 use Rattle.tso_state.specs.declared.pending.Asker.TheVariants.{Nobody, Next, Head}
 use Rattle.tso_state.specs.declared.pending.Pending.{Pending}
 use Rattle.tso_state.specs.declared.pending.Pending.TheVariants.{Load as PendingLoad, Store as PendingStore}
-use Rattle.tso_state.specs.Pending.{forwarded}
 use Rattle.tso_state.specs.States.{State, BufferedCore, core_at}
 use Rattle.tso_state.specs.Events.{Event, Nothing, Executes, Buffers, Performs, Drains, Logs, Told, Alone, Ordered}
 use Rattle.tso_state.specs.Events.{Logged, tellings, locals_behind}
-use Rattle.tso_state.specs.Events.{event_executing, event_granted, event_loading, event_ordering}
+use Rattle.tso_state.specs.Events.{event_executing, event_granted, event_ordering}
 use Rattle.tso_state.specs.Steps.{acts, acts_asking, acts_told, enabled, event, head_access, step}
 use Rattle.tso_invariant.specs.Holds.{QueueHolds, TsoHolds}
+use Rattle.tso_invariant.proofs.EventCases.{by_amo, by_load, by_message, by_ordered_load, by_ordered_store}
 use Rattle.tso_invariant.proofs.Kept.{acts_can, core_port, enabled_core}
 use Rattle.tso_invariant.proofs.Queues.{head_within}
 use Rattle.tso_invariant.proofs.Telling.{is_alone, locals_alone}
 use Rattle.tso_data.specs.Orders.{Coherent, ordering_of}
-use Rattle.tso_invariant.proofs.Ordered.{stored}
 
 -- ---- what acts leave of the memory
 
@@ -136,6 +131,22 @@ module _ {R K : Type 0} where
       ap (λ (words : List ℕ). slice_index words (word % BLOCK_WORDS))
       (finds_words riding carrying m c (word / BLOCK_WORDS) kind memory h lc is k)
 
+  -- an access that the next instruction makes
+  performed_well : (riding : Riding R) (carrying : Carrying K) (m : Memory R K) (c : ℕ) (image : Contents)
+      (t : BufferedCore) (word : ℕ) (kind : Kind) (memory : ℕ → List ℕ) → MemoryHolds riding carrying m →
+      c < length m.ports → HaveWords riding carrying m memory → need_access (need image t.core) ≡ Some (kind, word) →
+      allows riding (port_at carrying m.ports c) (word / BLOCK_WORDS) kind ≡ true →
+      Well image.words memory (Performs (access_of image riding t.core (port_at carrying m.ports c) word kind))
+  performed_well riding carrying m c image t word kind memory h lc k is f =
+      let old : ℕ = word_at riding (port_at carrying m.ports c) word in
+      record {
+        finds = word_found riding carrying m c word kind memory h lc k f;
+        honest = (
+          within_law image t.core kind word is,
+          λ reads. unwritten_law image t.core kind word old is reads,
+        );
+      }
+
   -- the next instruction's
   executing_well : (riding : Riding R) (carrying : Carrying K) (m : Memory R K) (c : ℕ) (image : Contents)
       (t : BufferedCore) (needed : Need)
@@ -146,52 +157,13 @@ module _ {R K : Type 0} where
   executing_well riding carrying m c image t (Store word whole) memory h lc k is = record { finds = tt; honest = tt }
   executing_well riding carrying m c image t (Done stop) memory h lc k is = record { finds = tt; honest = tt }
   executing_well riding carrying m c image t (Load word) memory h lc k is =
-      by_allowed (allows riding p (word / BLOCK_WORDS) Loading) refl
-    where
-      p : Port R K
-      p = port_at carrying m.ports c
-
-      a : Access
-      a = access_of image riding t.core p word Loading
-
-      by_nil : allows riding p (word / BLOCK_WORDS) Loading ≡ true → (b : Bool) →
-          Well image.words memory (if b then Performs a
-          else Buffers (next_instr t.core)
-          (PendingLoad (t.core.count + 1) word (forwarded t.queue word (word_at riding p word))))
-      by_nil f true =
-          record {
-            finds = word_found riding carrying m c word Loading memory h lc k f;
-            honest = (
-              within_law image t.core Loading word (ap need_access is),
-              λ reads. unwritten_law image t.core Loading word a.before (ap need_access is) reads,
-            );
-          }
-      by_nil f false = record { finds = tt; honest = tt }
-
-      by_allowed : (b : Bool) → allows riding p (word / BLOCK_WORDS) Loading ≡ b →
-          Well image.words memory (if b then event_loading image riding t p word else Nothing)
-      by_allowed true f = by_nil f (is_nil t.queue)
-      by_allowed false f = record { finds = tt; honest = tt }
+      by_load (λ (e : Event). Well image.words memory e) image riding t (port_at carrying m.ports c) word
+      (performed_well riding carrying m c image t word Loading memory h lc k (ap need_access is))
+      (λ f. record { finds = tt; honest = tt }) (record { finds = tt; honest = tt })
   executing_well riding carrying m c image t (Amo word) memory h lc k is =
-      by_allowed (allows riding p (word / BLOCK_WORDS) Exchanging) refl
-    where
-      p : Port R K
-      p = port_at carrying m.ports c
-
-      a : Access
-      a = access_of image riding t.core p word Exchanging
-
-      by_allowed : (b : Bool) → allows riding p (word / BLOCK_WORDS) Exchanging ≡ b →
-          Well image.words memory (if b then Performs a else Nothing)
-      by_allowed true f =
-          record {
-            finds = word_found riding carrying m c word Exchanging memory h lc k f;
-            honest = (
-              within_law image t.core Exchanging word (ap need_access is),
-              λ reads. unwritten_law image t.core Exchanging word a.before (ap need_access is) reads,
-            );
-          }
-      by_allowed false f = record { finds = tt; honest = tt }
+      by_amo (λ (e : Event). Well image.words memory e) image riding t (port_at carrying m.ports c) word
+      (performed_well riding carrying m c image t word Exchanging memory h lc k (ap need_access is))
+      (record { finds = tt; honest = tt })
 
   -- the oldest pending one's
   ordering_well : (riding : Riding R) (carrying : Carrying K) (m : Memory R K) (c words count : ℕ) (core : ℕ)
@@ -201,44 +173,18 @@ module _ {R K : Type 0} where
       Well words memory (event_ordering queue riding core (port_at carrying m.ports c))
   ordering_well riding carrying m c words count core [] memory h lc k q = record { finds = tt; honest = tt }
   ordering_well riding carrying m c words count core (PendingLoad n word value ∷ rest) memory h lc k q =
-      by_test (allows riding p (word / BLOCK_WORDS) Loading) refl (word_at riding p word == value)
-    where
-      p : Port R K
-      p = port_at carrying m.ports c
-
-      at : Instr
-      at = record { core = core; count = n }
-
-      a : Access
-      a = record { at = at; word = word; kind = Loading; before = word_at riding p word; after = word_at riding p word }
-
-      by_test : (b : Bool) → allows riding p (word / BLOCK_WORDS) Loading ≡ b → (same : Bool) →
-          Well words memory (if b && same then Drains a else Logs at word value)
-      by_test true f true =
-          record {
-            finds = word_found riding carrying m c word Loading memory h lc k f;
-            honest = (head_within words count (PendingLoad n word value) rest q, λ reads. refl);
-          }
-      by_test true f false = record { finds = tt; honest = tt }
-      by_test false f same = record { finds = tt; honest = tt }
+      by_ordered_load (λ (e : Event). Well words memory e) riding core n word value rest (port_at carrying m.ports c)
+      (λ f. record {
+        finds = word_found riding carrying m c word Loading memory h lc k f;
+        honest = (head_within words count (PendingLoad n word value) rest q, λ reads. refl);
+      }) (record { finds = tt; honest = tt })
   ordering_well riding carrying m c words count core (PendingStore n word mask bits ∷ rest) memory h lc k q =
-      by_allowed (allows riding p (word / BLOCK_WORDS) Storing) refl
-    where
-      p : Port R K
-      p = port_at carrying m.ports c
-
-      a : Access
-      a = stored core n word mask bits (word_at riding p word)
-
-      by_allowed : (b : Bool) → allows riding p (word / BLOCK_WORDS) Storing ≡ b →
-          Well words memory (if b then Drains a else Nothing)
-      by_allowed true f =
-          record {
-            finds = word_found riding carrying m c word Storing memory h lc k f;
-            honest =
-                (head_within words count (PendingStore n word mask bits) rest q, λ reads. absurd (cc));
-          }
-      by_allowed false f = record { finds = tt; honest = tt }
+      by_ordered_store (λ (e : Event). Well words memory e) riding core n word mask bits rest
+      (port_at carrying m.ports c)
+      (λ f. record {
+        finds = word_found riding carrying m c word Storing memory h lc k f;
+        honest = (head_within words count (PendingStore n word mask bits) rest q, λ reads. absurd (cc));
+      }) (record { finds = tt; honest = tt })
 
   granted_well : (riding : Riding R) (carrying : Carrying K) (m : Memory R K) (c : ℕ) (image : Contents)
       (t : BufferedCore) (a : Asker)
@@ -250,6 +196,18 @@ module _ {R K : Type 0} where
       executing_well riding carrying m c image t (need image t.core) memory h lc k refl
   granted_well riding carrying m c image t Head memory h lc k q =
       ordering_well riding carrying m c image.words t.core.count t.core.id t.queue memory h lc k q
+
+  -- the memory system once a message is taken
+  pub message_taken : (riding : Riding R) (carrying : Carrying K) (s : State R K) (c : ℕ) (memory : ℕ → List ℕ) →
+      enabled riding carrying s (MessageMove c) ≡ true → MemoryHolds riding carrying s.memory →
+      c < length s.memory.ports → HaveWords riding carrying s.memory memory →
+      (let next : Memory R K = after_act riding carrying s.memory (TakeMessage c) in
+      (MemoryHolds riding carrying next) × (c < length next.ports) × (HaveWords riding carrying next memory))
+  message_taken riding carrying s c memory e h lc k = (
+    memory_kept riding carrying s.memory (TakeMessage c) e h,
+    subst (λ (n : ℕ). c < n) (sym (length_act riding carrying s.memory (TakeMessage c))) lc,
+    words_kept riding carrying s.memory (TakeMessage c) memory h e k,
+  )
 
   step_well : (riding : Riding R) (carrying : Carrying K) (s : State R K) (m : Move) (memory : ℕ → List ℕ) →
       enabled riding carrying s m ≡ true →
@@ -267,38 +225,14 @@ module _ {R K : Type 0} where
       (h.cores c within).fits.queue
   step_well riding carrying s (RequestMove c) memory e h k = record { finds = tt; honest = tt }
   step_well riding carrying s (ResponseMove c) memory e h k = record { finds = tt; honest = tt }
-  step_well riding carrying s (MessageMove c) memory e h k = by_data (data_next p.messages.items)
-    where
-      t : BufferedCore
-      t = core_at s.cores c
-
-      p : Port R K
-      p = port_at carrying s.memory.ports c
-
-      next : Memory R K
-      next = after_act riding carrying s.memory (TakeMessage c)
-
-      within : c < length s.cores
-      within = enabled_core riding carrying s (MessageMove c) e h
-
-      lc : c < length s.memory.ports
-      lc = core_port riding carrying s c h within
-
-      here : port_at carrying next.ports c ≡ port_taken riding carrying p
-      here = taken_there riding carrying s.memory c lc
-
-      found : Well s.image.words memory (event_granted t.asker s.image riding t (port_at carrying next.ports c))
-      found = granted_well riding carrying next c s.image t t.asker memory
-          (memory_kept riding carrying s.memory (TakeMessage c) e h.memory)
-          (subst (λ (n : ℕ). c < n) (sym (length_act riding carrying s.memory (TakeMessage c))) lc)
-          (words_kept riding carrying s.memory (TakeMessage c) memory h.memory e k) (h.cores c within).fits.queue
-
-      by_data : (d : Bool) →
-          Well s.image.words memory (if d then event_granted t.asker s.image riding t
-          (port_taken riding carrying p) else Nothing)
-      by_data true = subst (λ (x : Port R K). Well s.image.words memory
-          (event_granted t.asker s.image riding t x)) here found
-      by_data false = record { finds = tt; honest = tt }
+  step_well riding carrying s (MessageMove c) memory e h k =
+      let t : BufferedCore = core_at s.cores c in
+      let within = enabled_core riding carrying s (MessageMove c) e h in
+      let lc = core_port riding carrying s c h within in
+      let next = message_taken riding carrying s c memory e h.memory lc k in
+      by_message (λ (x : Event). Well s.image.words memory x) riding carrying s c lc
+      (granted_well riding carrying (after_act riding carrying s.memory (TakeMessage c)) c s.image t t.asker memory
+      next.0 next.1 next.2 (h.cores c within).fits.queue) (record { finds = tt; honest = tt })
 
 -- ---- the law
 

@@ -25,7 +25,7 @@ use Rattle.tso_state.specs.Steps.{enabled, step}
 use Rattle.tso_state.specs.Runs.{plain_moves, chosen, chosen_of, stepped_by, run}
 use Rattle.tso_invariant.specs.Holds.{BufferedHolds, TsoHolds}
 use Rattle.tso_invariant.specs.Walks.{walked}
-use Rattle.tso_invariant.proofs.Kept.{holds_kept}
+use Rattle.tso_invariant.proofs.Kept.{holds_kept, step_cores}
 
 module _ {R K : Type 0} where
   core_start_at : (riding : Riding R) (carrying : Carrying K) (image : Contents) (cores limit c : ℕ) → c < cores →
@@ -109,3 +109,17 @@ holds_run image params choices zero few small = holds_start none_riding none_car
 holds_run image params choices (suc t) few small =
     holds_stepped (run image params choices t) (chosen (run image params choices t) (choices t))
     (λ m is. chosen_enabled (run image params choices t) (choices t) m is) (holds_run image params choices t few small)
+
+-- no core comes or goes
+pub run_cores : (image : Contents) (params : Params) (choices : ℕ → ℕ) (t : ℕ) →
+    length (run image params choices t).cores ≡ params.cores
+run_cores image params choices zero = length-map-range_with_len (λ (id : ℕ). buffered_start id params.limit) 0
+    params.cores
+run_cores image params choices (suc t) = stepped (chosen (run image params choices t) (choices t))
+    (run_cores image params choices t)
+  where
+    stepped : (o : Option Move) → length (run image params choices t).cores ≡ params.cores →
+        length (stepped_by (run image params choices t) o).cores
+        ≡ params.cores
+    stepped None e = e
+    stepped (Some m) e = step_cores none_riding none_carrying tt (run image params choices t) m ∙ e

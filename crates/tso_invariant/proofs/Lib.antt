@@ -7,3 +7,4 @@ pub mod Begins
 pub mod Stuck
 pub mod Ending
 pub mod Rested
+pub mod EventCases

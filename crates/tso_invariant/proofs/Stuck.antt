@@ -33,18 +33,10 @@ use Rattle.tso_invariant.proofs.Queues.{still_nobody}
 
 -- a move stands at its number among the candidates
 number_within : (cores : ℕ) (m : Move) → core_of m < cores → number_of cores m < 5 * cores
-number_within cores (CoreMove c) lt = omega arith
-number_within cores (OrderMove c) lt = omega arith
-number_within cores (RequestMove c) lt = omega arith
-number_within cores (ResponseMove c) lt = omega arith
-number_within cores (MessageMove c) lt = omega arith
+number_within cores m lt = grind (arith, nat_tests)
 
 numbered : (cores : ℕ) (m : Move) → core_of m < cores → candidate cores (number_of cores m) ≡ m
-numbered cores (CoreMove c) lt = grind (arith, nat_tests)
-numbered cores (OrderMove c) lt = grind (arith, nat_tests)
-numbered cores (RequestMove c) lt = grind (arith, nat_tests)
-numbered cores (ResponseMove c) lt = grind (arith, nat_tests)
-numbered cores (MessageMove c) lt = grind (arith, nat_tests)
+numbered cores m lt = grind (arith, nat_tests)
 
 -- one of two tests fails
 not_both : (a b : Bool) → (a && b) ≡ false → b ≡ true → a ≡ false

@@ -59,9 +59,6 @@ outcome_eq a b cores words loads =
 
 module _ (image : Contents) (params : Params) (choices : ℕ → ℕ) (t : ℕ) (can : CanRun image params)
     (done : all_done (run image params choices t) ≡ true) where
-  few : params.cores ≤ CORES_MAX
-  few = can.fits.cores
-
   small : params.limit < 2 ^ 32
   small = omega (arith, can.fits.limit)
 
@@ -92,7 +89,7 @@ module _ (image : Contents) (params : Params) (choices : ℕ → ℕ) (t : ℕ) 
       subst (λ (n : ℕ). AreToldOf (tso_plan (tso_recording_at image params choices t)).image params.limit n
       (all_told image params choices t)) (sym all)
       (subst (λ (i : Contents). AreToldOf i params.limit params.cores (all_told image params choices t)) image_is
-      (run_told image params choices t few small))
+      (run_told image params choices t can.fits.cores small))
 
   finds : EachFindsLast (tso_plan (tso_recording_at image params choices t)).image
       (ordered_told (all_told image params choices t))
@@ -100,23 +97,23 @@ module _ (image : Contents) (params : Params) (choices : ℕ → ℕ) (t : ℕ) 
       subst (λ (l : List Access). EachFindsLast (tso_plan (tso_recording_at image params choices t)).image l)
       (sym (run_accesses_told image params choices t))
       (subst (λ (i : Contents). EachFindsLast i (accesses image params choices t)) image_is
-      (each_finds_last image params choices t few small))
+      (each_finds_last image params choices t can.fits.cores small))
 
   inside : Inside (length (totals (run image params choices t)))
       (cores_told (tellings_of (all_told image params choices t)))
   inside =
       subst (λ (n : ℕ). Inside n (cores_told (tellings_of (all_told image params choices t)))) (sym all)
-      (run_order image params choices t few small).1
+      (run_order image params choices t can.fits.cores small).1
 
   given : AreGiven (tso_given (tso_recording_at image params choices t)) (all_told image params choices t)
   given =
       subst (λ (v : List (List (ℕ × ℕ))). AreGiven (given_by v) (all_told image params choices t))
-      (sym (run_values image params choices t few small))
+      (sym (run_values image params choices t can.fits.cores small))
       (are_given (given_by (values_told params.cores (tellings_of (all_told image params choices t))))
       (all_told image params choices t)
       (values_are_told params.cores (tellings_of (all_told image params choices t))
-      (run_order image params choices t few small).0
-      (run_order image params choices t few small).1).suits)
+      (run_order image params choices t can.fits.cores small).0
+      (run_order image params choices t can.fits.cores small).1).suits)
 
   plays : IsPlayed (tso_given (tso_recording_at image params choices t))
       (tso_plan (tso_recording_at image params choices t)) (all_told image params choices t)
@@ -136,7 +133,7 @@ module _ (image : Contents) (params : Params) (choices : ℕ → ℕ) (t : ℕ) 
     each = λ c lt.
         told_counts nought (all_told image params choices t) c
         ∙ zero-add (length (told_of c (all_told image params choices t)))
-        ∙ sym (total_told image params choices t few small done c (subst (λ (n : ℕ). c < n) all lt));
+        ∙ sym (total_told image params choices t can.fits.cores small done c (subst (λ (n : ℕ). c < n) all lt));
   }
 
   -- ---- what it comes to
@@ -157,7 +154,7 @@ module _ (image : Contents) (params : Params) (choices : ℕ → ℕ) (t : ℕ) 
   core_is c lt =
       plays.core c (subst (λ (n : ℕ). c < n) (sym all) lt)
       ∙ ap (λ (i : Contents). told_core i (starting c params.limit) (told_of c list)) (sym image_is)
-      ∙ told_whole image params choices t c few small lt done
+      ∙ told_whole image params choices t c can.fits.cores small lt done
 
   cores_same :
       (valued_played (tso_given (tso_recording_at image params choices t))
@@ -185,7 +182,7 @@ module _ (image : Contents) (params : Params) (choices : ℕ → ℕ) (t : ℕ) 
       plays.words
       ∙ ap (λ (i : Contents). memory_left i (ordered_told list)) (sym image_is)
       ∙ ap (memory_left image) (run_accesses_told image params choices t)
-      ∙ sym (final_values image params choices t few small done)
+      ∙ sym (final_values image params choices t can.fits.cores small done)
 
   loads_same :
       (valued_played (tso_given (tso_recording_at image params choices t))
@@ -205,7 +202,7 @@ module _ (image : Contents) (params : Params) (choices : ℕ → ℕ) (t : ℕ) 
       play_loads (tso_given r) p (start p) (tellings_of list) i (omega arith) plays.tells
       ∙ ap (λ (l : List LoadNote). l ++ notes_told i (tellings_of list)) ((play_start_law p).loads i)
       ∙ notes_are i list
-      ∙ sym (told_all_reads image params choices t i few small below done)
+      ∙ sym (told_all_reads image params choices t i can.fits.cores small below done)
       ∙ sym (get_or-map-range_with_len (λ (c : ℕ). reads image params choices t c) 0 params.cores i i [] below
       (omega arith)))
 

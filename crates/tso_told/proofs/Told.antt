@@ -30,6 +30,7 @@ use Rattle.tso_state.specs.Steps.{cores_after, core_left, enabled, event, step, 
 use Rattle.tso_state.specs.Runs.{all_told, chosen, event_by, opening_state, read_in, reads, run, stepped_by, told_by}
 use Rattle.tso_invariant.specs.Holds.{TsoHolds}
 use Rattle.tso_invariant.proofs.Begins.{chosen_enabled, holds_run}
+pub use Rattle.tso_invariant.proofs.Begins.{run_cores}
 use Rattle.tso_invariant.proofs.Ending.{ended_at}
 use Rattle.tso_invariant.proofs.Kept.{core_elsewhere, core_there, enabled_core, step_cores}
 use Rattle.rv_core.proofs.Masks.{mask_law}
@@ -286,19 +287,6 @@ all_run image params choices (suc t) few small =
     (λ c. reads image params choices t c) s (chosen s (choices t))
     (λ m is. chosen_enabled s (choices t) m is) (holds_run image params choices t few small)
     (all_run image params choices t few small)
-
-pub run_cores : (image : Contents) (params : Params) (choices : ℕ → ℕ) (t : ℕ) →
-    length (run image params choices t).cores ≡ params.cores
-run_cores image params choices zero = length-map-range_with_len (λ (id : ℕ). buffered_start id params.limit) 0
-    params.cores
-run_cores image params choices (suc t) = stepped (chosen (run image params choices t) (choices t))
-    (run_cores image params choices t)
-  where
-    stepped : (o : Option Move) → length (run image params choices t).cores ≡ params.cores →
-        length (stepped_by (run image params choices t) o).cores
-        ≡ params.cores
-    stepped None e = e
-    stepped (Some m) e = step_cores none_riding none_carrying tt (run image params choices t) m ∙ e
 
 stands_at : (image : Contents) (params : Params) (choices : ℕ → ℕ) (t c : ℕ) → params.cores ≤ CORES_MAX →
     params.limit < 2 ^ 32 → c < params.cores →

@@ -1,7 +1,7 @@
 -- What an event writes, buffers and tells are words. The memory's words, the values of pending loads and what pending
 -- stores leave are below 2^32: each event keeps it.
 use Rattle.std.proofs.Common.{◌≡◌, ap, refl, sym, subst, ℕ, ◌+◌, ◌-◌, ◌<◌, ◌==◌, ◌%◌, ◌/◌, ◌^◌, Bool, true, false}
-use Rattle.std.proofs.Common.{◌&&◌, List, [], ◌∷◌, ◌++◌, length}
+use Rattle.std.proofs.Common.{List, [], ◌∷◌, ◌++◌, length}
 use Rattle.std.specs.Prelude.{drop, if◌then◌else◌, map, slice_index}
 use Rattle.std.specs.List.{range_with_len}
 use Rattle.access_times.specs.Riding.{Riding, Carrying}
@@ -17,17 +17,13 @@ use Rattle.rv_core.specs.declared.core_state.Need.{Need}
 use Rattle.rv_core.specs.declared.core_state.Need.TheVariants.{Local, Load, Store, Amo, Done}
 use Rattle.rv_core.specs.Steps.{need, access_of as need_access}
 use Rattle.rv_core.proofs.LawLemmas.{value_law, within_law}
-use Rattle.msi_memory.specs.declared.port.Port.{Port}
-use Rattle.msi_memory.specs.Acts.{TakeMessage, allows, after_act, data_next}
+use Rattle.msi_memory.specs.Acts.{TakeMessage, allows, after_act}
 use Rattle.msi_memory.specs.Memories.{Memory, port_at, word_at}
 use Rattle.msi_laws.specs.Holds.{MemoryHolds}
 use Rattle.msi_laws.specs.Words.{HaveWords}
-use Rattle.msi_laws.proofs.Kept.{memory_kept}
-use Rattle.msi_laws.proofs.PortsKept.{length_act}
-use Rattle.msi_laws.proofs.Properties.{finds_words, words_kept}
-use Rattle.msi_laws.proofs.Awaits.{taken_there}
-use Rattle.msi_state.specs.Events.{Event as ClerkEvent, Nothing as NothingTold, Retires, Accesses, access_of}
-use Rattle.msi_state.specs.Events.{next_instr, port_taken}
+use Rattle.msi_laws.proofs.Properties.{finds_words}
+use Rattle.msi_state.specs.Events.{Event as ClerkEvent, Nothing as NothingTold, Retires, Accesses}
+use Rattle.msi_state.specs.Events.{next_instr}
 use Rattle.tso_data.specs.Orders.{ordering_of}
 use Rattle.tso_state.specs.declared.moves.Move.{Move}
 use Rattle.tso_state.specs.declared.moves.Move.TheVariants.{Core as CoreMove, Order as OrderMove}
@@ -43,15 +39,16 @@ use Rattle.tso_state.specs.States.{State, BufferedCore, core_at}
 use Rattle.tso_state.specs.Moves.{core_of}
 use Rattle.tso_state.specs.Events.{Event, Nothing, Executes, Buffers, Performs, Drains, Logs, Alone}
 use Rattle.tso_state.specs.Events.{tellings, locals_behind}
-use Rattle.tso_state.specs.Events.{count_before, event_executing, event_granted, event_loading, event_ordering}
+use Rattle.tso_state.specs.Events.{count_before, event_executing, event_granted, event_ordering}
 use Rattle.tso_state.specs.Events.{pending_store, queue_after}
 use Rattle.tso_state.specs.Steps.{enabled, event}
 use Rattle.tso_invariant.specs.Holds.{QueueHolds, TsoHolds}
+use Rattle.tso_data.proofs.Steps.{message_taken}
+use Rattle.tso_invariant.proofs.EventCases.{by_amo, by_load, by_message, by_ordered_load, by_ordered_store}
 use Rattle.tso_invariant.proofs.Kept.{core_port, enabled_core}
 use Rattle.tso_invariant.proofs.Queues.{head_within}
 use Rattle.rv_core.proofs.Masks.{mask_law}
 use Rattle.tso_words.specs.Words.{SmallTold}
-use Rattle.tso_invariant.proofs.Ordered.{stored}
 
 -- what a pending load got is a word, and a pending store leaves a word of a word
 abbrev pub SmallPending : Pending → Type 0
@@ -169,46 +166,19 @@ module _ {R K : Type 0} where
       buffered_small t (next_instr t.core) (pending_store image t.core word) q (store_small image t.core word whole is)
   executing_small riding carrying m c image t (Done stop) memory h lc k small q is = nothing_small t q
   executing_small riding carrying m c image t (Load word) memory h lc k small q is =
-      by_allowed (allows riding p (word / BLOCK_WORDS) Loading) refl
+      by_load (λ (e : Event). Small t e) image riding t (port_at carrying m.ports c) word
+      (λ f. performed_small t _ q (value_law image t.core _ (got f)))
+      (λ f. buffered_small t (next_instr t.core) _ q (forwarded_small t.queue word _ q (got f))) (nothing_small t q)
     where
-      p : Port R K
-      p = port_at carrying m.ports c
-
-      found : allows riding (port_at carrying m.ports c) (word / BLOCK_WORDS) Loading ≡ true →
+      got : allows riding (port_at carrying m.ports c) (word / BLOCK_WORDS) Loading ≡ true →
           word_at riding (port_at carrying m.ports c) word < 2 ^ 32
-      found f =
-          word_small riding carrying m c image.words word Loading memory h lc k small
-          (within_law image t.core Loading word (ap need_access is)) f
-
-      by_nil : allows riding p (word / BLOCK_WORDS) Loading ≡ true → (b : Bool) →
-          Small t (if b then Performs (access_of image riding t.core p word Loading)
-          else Buffers (next_instr t.core)
-          (PendingLoad (t.core.count + 1) word (forwarded t.queue word (word_at riding p word))))
-      by_nil f true = performed_small t (access_of image riding t.core p word Loading) q
-          (value_law image t.core (word_at riding p word) (found f))
-      by_nil f false =
-          buffered_small t (next_instr t.core)
-          (PendingLoad (t.core.count + 1) word (forwarded t.queue word (word_at riding p word))) q
-          (forwarded_small t.queue word (word_at riding p word) q (found f))
-
-      by_allowed : (b : Bool) → allows riding p (word / BLOCK_WORDS) Loading ≡ b →
-          Small t (if b then event_loading image riding t p word else Nothing)
-      by_allowed true f = by_nil f (is_nil t.queue)
-      by_allowed false f = nothing_small t q
+      got = word_small riding carrying m c image.words word Loading memory h lc k small
+          (within_law image t.core Loading word (ap need_access is))
   executing_small riding carrying m c image t (Amo word) memory h lc k small q is =
-      by_allowed (allows riding p (word / BLOCK_WORDS) Exchanging) refl
-    where
-      p : Port R K
-      p = port_at carrying m.ports c
-
-      by_allowed : (b : Bool) → allows riding p (word / BLOCK_WORDS) Exchanging ≡ b →
-          Small t (if b then Performs (access_of image riding t.core p word Exchanging) else Nothing)
-      by_allowed true f =
-          performed_small t (access_of image riding t.core p word Exchanging) q
-          (value_law image t.core (word_at riding p word)
-          (word_small riding carrying m c image.words word Exchanging memory h lc k small
-          (within_law image t.core Exchanging word (ap need_access is)) f))
-      by_allowed false f = nothing_small t q
+      by_amo (λ (e : Event). Small t e) image riding t (port_at carrying m.ports c) word
+      (λ f. performed_small t _ q (value_law image t.core _
+      (word_small riding carrying m c image.words word Exchanging memory h lc k small
+      (within_law image t.core Exchanging word (ap need_access is)) f))) (nothing_small t q)
 
   ordering_small : (riding : Riding R) (carrying : Carrying K) (m : Memory R K) (c words count : ℕ) (t : BufferedCore)
       (queue : List Pending)
@@ -218,42 +188,16 @@ module _ {R K : Type 0} where
       Small t (event_ordering queue riding t.core.id (port_at carrying m.ports c))
   ordering_small riding carrying m c words count t [] memory h lc k small holds q own = nothing_small t q
   ordering_small riding carrying m c words count t (PendingLoad n word value ∷ rest) memory h lc k small holds q own =
-      by_test (allows riding p (word / BLOCK_WORDS) Loading) refl (word_at riding p word == value)
-    where
-      p : Port R K
-      p = port_at carrying m.ports c
-
-      at : Instr
-      at = record { core = t.core.id; count = n }
-
-      a : Access
-      a = record { at = at; word = word; kind = Loading; before = word_at riding p word; after = word_at riding p word }
-
-      by_test : (b : Bool) → allows riding p (word / BLOCK_WORDS) Loading ≡ b → (same : Bool) →
-          Small t (if b && same then Drains a else Logs at word value)
-      by_test true f true =
-          drained_small t a q
-          (word_small riding carrying m c words word Loading memory h lc k small
-          (head_within words count (PendingLoad n word value) rest holds) f)
-      by_test true f false = logged_small t at word value q own.0
-      by_test false f same = logged_small t at word value q own.0
+      by_ordered_load (λ (e : Event). Small t e) riding t.core.id n word value rest (port_at carrying m.ports c)
+      (λ f. drained_small t _ q (word_small riding carrying m c words word Loading memory h lc k small
+      (head_within words count (PendingLoad n word value) rest holds) f))
+      (logged_small t (record { core = t.core.id; count = n }) word value q own.0)
   ordering_small riding carrying m c words count t (PendingStore n word mask bits ∷ rest) memory h
       lc k small holds q own =
-      by_allowed (allows riding p (word / BLOCK_WORDS) Storing) refl
-    where
-      p : Port R K
-      p = port_at carrying m.ports c
-
-      a : Access
-      a = stored t.core.id n word mask bits (word_at riding p word)
-
-      by_allowed : (b : Bool) → allows riding p (word / BLOCK_WORDS) Storing ≡ b →
-          Small t (if b then Drains a else Nothing)
-      by_allowed true f =
-          drained_small t a q (own.0 (word_at riding p word)
-          (word_small riding carrying m c words word Storing memory h lc k small
-          (head_within words count (PendingStore n word mask bits) rest holds) f))
-      by_allowed false f = nothing_small t q
+      by_ordered_store (λ (e : Event). Small t e) riding t.core.id n word mask bits rest (port_at carrying m.ports c)
+      (λ f. drained_small t _ q (own.0 (word_at riding (port_at carrying m.ports c) word)
+      (word_small riding carrying m c words word Storing memory h lc k small
+      (head_within words count (PendingStore n word mask bits) rest holds) f))) (nothing_small t q)
 
   granted_small : (riding : Riding R) (carrying : Carrying K) (m : Memory R K) (c : ℕ) (image : Contents)
       (t : BufferedCore) (a : Asker)
@@ -284,34 +228,11 @@ module _ {R K : Type 0} where
       (h.cores c within).fits.queue q q
   move_small riding carrying s (RequestMove c) memory e h k small q = nothing_small (core_at s.cores c) q
   move_small riding carrying s (ResponseMove c) memory e h k small q = nothing_small (core_at s.cores c) q
-  move_small riding carrying s (MessageMove c) memory e h k small q = by_data (data_next p.messages.items)
-    where
-      t : BufferedCore
-      t = core_at s.cores c
-
-      p : Port R K
-      p = port_at carrying s.memory.ports c
-
-      next : Memory R K
-      next = after_act riding carrying s.memory (TakeMessage c)
-
-      within : c < length s.cores
-      within = enabled_core riding carrying s (MessageMove c) e h
-
-      lc : c < length s.memory.ports
-      lc = core_port riding carrying s c h within
-
-      here : port_at carrying next.ports c ≡ port_taken riding carrying p
-      here = taken_there riding carrying s.memory c lc
-
-      found : Small t (event_granted t.asker s.image riding t (port_at carrying next.ports c))
-      found = granted_small riding carrying next c s.image t t.asker memory
-          (memory_kept riding carrying s.memory (TakeMessage c) e h.memory)
-          (subst (λ (n : ℕ). c < n) (sym (length_act riding carrying s.memory (TakeMessage c))) lc)
-          (words_kept riding carrying s.memory (TakeMessage c) memory h.memory e k) small
-          (h.cores c within).fits.queue q
-
-      by_data : (d : Bool) →
-          Small t (if d then event_granted t.asker s.image riding t (port_taken riding carrying p) else Nothing)
-      by_data true = subst (λ (x : Port R K). Small t (event_granted t.asker s.image riding t x)) here found
-      by_data false = nothing_small t q
+  move_small riding carrying s (MessageMove c) memory e h k small q =
+      let t : BufferedCore = core_at s.cores c in
+      let within = enabled_core riding carrying s (MessageMove c) e h in
+      let lc = core_port riding carrying s c h within in
+      let next = message_taken riding carrying s c memory e h.memory lc k in
+      by_message (λ (x : Event). Small t x) riding carrying s c lc
+      (granted_small riding carrying (after_act riding carrying s.memory (TakeMessage c)) c s.image t t.asker memory
+      next.0 next.1 next.2 small (h.cores c within).fits.queue q) (nothing_small t q)
