@@ -122,9 +122,7 @@ pub fn immediate_b(word: u32) -> i32
 pub fn immediate_j(word: u32) -> i32
     ensures { result ≡ immediate_j word }
 {
-    let bits = field(word, 21, 10) * 2
-        + field(word, 20, 1) * (1 << 11)
-        + field(word, 12, 8) * (1 << 12)
-        + field(word, 31, 1) * (1 << 20);
-    sign_extended(bits, 21)
+    let low = field(word, 21, 10) * 2 + field(word, 20, 1) * (1 << 11);
+    let high = field(word, 12, 8) * (1 << 12) + field(word, 31, 1) * (1 << 20);
+    sign_extended(low + high, 21)
 }

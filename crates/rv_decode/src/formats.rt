@@ -44,8 +44,9 @@ pub fn word_s(opcode: u32, funct3: u32, rs1: u8, rs2: u8, imm: i32) -> u32
     requires registers { IsRegister rs1 × IsRegister rs2 }
     ensures { result ≡ word_s opcode funct3 rs1 rs2 imm }
 {
-    let bits = imm.cast_unsigned();
-    word_r(opcode, funct3, field(bits, 5, 7), field(bits, 0, 5) as u8, rs1, rs2)
+    let high = field(imm.cast_unsigned(), 5, 7);
+    let low = field(imm.cast_unsigned(), 0, 5);
+    word_r(opcode, funct3, high, low as u8, rs1, rs2)
 }
 
 /// A word of format B: a branch that compares two registers, by the low thirteen bits of `offset` but for the lowest.
