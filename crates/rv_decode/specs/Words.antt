@@ -48,7 +48,8 @@ word_u opcode rd upper = opcode + rd * 2 ^ 7 + upper * 2 ^ 12
 unfoldable pub word_j : (opcode rd : ℕ) → ℤ → ℕ
 word_j opcode rd offset =
     let low = field (bits_of offset) 12 8 + field (bits_of offset) 11 1 * 2 ^ 8 in
-    word_u opcode rd (low + field (bits_of offset) 1 10 * 2 ^ 9 + field (bits_of offset) 20 1 * 2 ^ 19)
+    let high = field (bits_of offset) 1 10 * 2 ^ 9 + field (bits_of offset) 20 1 * 2 ^ 19 in
+    word_u opcode rd (low + high)
 
 abbrev pub condition_code : Cond → ℕ
 condition_code = elim [ Eq ↦ 0 | Ne ↦ 1 | Lt ↦ 4 | Ge ↦ 5 | Ltu ↦ 6 | Geu ↦ 7 ]

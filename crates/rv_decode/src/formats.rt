@@ -82,5 +82,6 @@ pub fn word_j(opcode: u32, rd: u8, offset: i32) -> u32
 {
     let bits = offset.cast_unsigned();
     let low = field(bits, 12, 8) + field(bits, 11, 1) * (1 << 8);
-    word_u(opcode, rd, low + field(bits, 1, 10) * (1 << 9) + field(bits, 20, 1) * (1 << 19))
+    let high = field(bits, 1, 10) * (1 << 9) + field(bits, 20, 1) * (1 << 19);
+    word_u(opcode, rd, low + high)
 }
