@@ -71,19 +71,15 @@ mod tests {
     use super::*;
     use std::test::Fail;
 
+    fn note(count: u32, word: u32, value: u32) -> LoadNote {
+        LoadNote { count, word, value }
+    }
+
     #[test]
     fn loads_stay_with_their_core(rt: HostRuntime) -> Result<(), Fail> {
         let mut loads = LoadLists::new(rt.alloc(), 2)?;
-        let first = LoadNote {
-            count: 3,
-            word: 16,
-            value: 7,
-        };
-        let second = LoadNote {
-            count: 4,
-            word: 17,
-            value: 8,
-        };
+        let first = note(3, 16, 7);
+        let second = note(4, 17, 8);
         loads.make_room()?;
         loads.note(1, first);
         loads.make_room()?;

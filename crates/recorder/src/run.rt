@@ -1,21 +1,18 @@
 //! The run of an image, recorded.
-ghost use Rattle.std.specs.Prelude.{◌≡◌, ◌<◌, ℕ, suc, IfOk, OnOk, false, length};
+ghost use Rattle.std.specs.Prelude.{◌≡◌, IfOk, length};
 ghost use Rattle.access_times.specs.Times.{times_riding};
 ghost use Rattle.conflict_edge.specs.Least.{IsLeast};
 ghost use Rattle.edge_regulate.specs.Regulated.{Knowledge, regulated};
-ghost use Rattle.image_mem.specs.Contents.{Contents};
 ghost use Rattle.race_log.specs.Sources.{log_edges};
 ghost use Rattle.race_log.specs.Validity.{Valid};
 ghost use Rattle.run_outcome.specs.Outcomes.{outcome_of};
-ghost use Rattle.machine_bound.specs.Bound.{left};
+ghost use Rattle.machine_bound.specs.Bound.{left as steps_left};
 ghost use Rattle.msi_state.specs.States.{all_done};
 ghost use Rattle.rtr_types.specs.Parameters.{Fits};
 ghost use Rattle.rtr_types.specs.declared.pairs.Which.TheVariants.{Reduced};
-ghost use Rattle.rtr_types.specs.declared.params.Params.{Params};
-ghost use Rattle.schedule_pick.specs.Choices.{Choices};
 ghost use Rattle.run_records.specs.Recordings.{recording_of, reduced_of, regulated_of, run_accesses, totals_of};
 ghost use Rattle.run_records.specs.WhatIsKnown.{CountsKnown};
-ghost use Rattle.run_records.specs.Standing.{IsRecording, RecordsAt};
+ghost use Rattle.run_records.specs.Standing.{RecordsAt};
 
 use crate::run_clerk::{RunClerk, RunLogs};
 use access_times::Times;
@@ -25,6 +22,7 @@ use msi_machine::Machine;
 use msi_run::run_image;
 use race_log::Recording;
 use rtr_types::{Items, Params};
+use run_steps::{Stepping, run_to_end};
 use rv_core::Outcome;
 use schedule_pick::Schedule;
 use std::alloc::{AllocError, Global};
@@ -36,11 +34,12 @@ pub struct Recorded {
     pub outcome: Outcome,
 }
 
-/// What a run leaves that its recording is made of: how many instructions each core retired, and both logs.
+/// What a run leaves that its recording is made of: how many instructions each core retired, both logs, and the image.
 #[derive(Drop)]
 struct RunEnd {
     totals: Items<u32>,
     logs: RunLogs,
+    image: Image,
 }
 
 /// Runs the image on the machine to its end, under the schedule, and records the run. The only refusal
@@ -69,11 +68,16 @@ pub fn record_image(
     let words = image.words();
     prove!(words == params.words);
     let clerk = RunClerk::new(alloc, params.cores)?;
-    let mut machine = Machine::<Times, Known>::new(alloc, image, params)?;
-    let run_end = record_on(alloc, &mut machine, clerk, schedule, params)?;
+    let machine = Machine::<Times, Known>::new(alloc, image, params)?;
+    let running = Running {
+        machine,
+        clerk,
+        choices: schedule,
+    };
+    let run_end = record_on(alloc, running, params)?;
     Ok(Recording {
         params,
-        image: Items::from_vec(machine.into_image().into_bytes()),
+        image: Items::from_vec(run_end.image.into_bytes()),
         totals: run_end.totals,
         reduced: run_end.logs.reduced,
         regulated: run_end.logs.regulated,
@@ -110,32 +114,65 @@ pub fn record_run(
     })
 }
 
-/// Runs a machine that stands at its start to the end.
-fn record_on(
-    alloc: Global,
-    machine: &mut Machine<Times, Known>,
+/// The machine, the clerk that is told of its steps, and the choices that are left.
+#[derive(Drop)]
+struct Running {
+    machine: Machine<Times, Known>,
     clerk: RunClerk,
-    schedule: Schedule,
-    params: Params,
-) -> Result<RunEnd, AllocError>
-    requires fits { Fits params }
-    requires stands { RecordsAt machine.old.state.image params schedule 0 machine.old.state clerk schedule }
-    ensures totals { IfOk result (λ end.
-        end.totals ≡ totals_of (outcome_of machine.old.state.image params schedule).cores) }
-    ensures reduced { IfOk result (λ end. end.logs.reduced ≡ reduced_of machine.old.state.image params schedule) }
-    ensures regulated { IfOk result (λ end.
-        end.logs.regulated ≡ regulated_of machine.old.state.image params schedule) }
-    ensures image { OnOk result (machine.new.state.image ≡ machine.old.state.image) }
-{
-    let mut clerk = clerk;
-    let mut choices = schedule;
-    while !machine.done() {
-        turn(machine, &mut clerk, &mut choices)?;
+    choices: Schedule,
+}
+
+impl Stepping for Running {
+    ghost stands = { λ r image params schedule t.
+        RecordsAt image params schedule t r.machine.state r.clerk r.choices };
+
+    ghost ready = { λ r. Unit {0} };
+
+    ghost image = { λ r. r.machine.state.image };
+
+    ghost ended = { λ r. all_done r.machine.state };
+
+    ghost left = { λ r. steps_left times_riding r.machine.state };
+
+    fn done(&self) -> bool {
+        self.machine.done()
     }
-    let totals = totals_of(alloc, machine, params.cores)?;
+
+    fn turn(&mut self) -> Result<(), AllocError> {
+        self.machine.make_room()?;
+        self.clerk.ready()?;
+        self.machine
+            .step_timed(self.choices.next(), &mut self.clerk);
+        self.clerk.tell();
+        Ok(())
+    }
+}
+
+/// Runs what stands at its start to the end.
+fn record_on(alloc: Global, running: Running, params: Params) -> Result<RunEnd, AllocError>
+    requires fits { Fits params }
+    requires stands { RecordsAt running.machine.state.image params running.choices 0 running.machine.state
+        running.clerk running.choices }
+    ensures totals { IfOk result (λ end.
+        end.totals ≡ totals_of (outcome_of running.machine.state.image params running.choices).cores) }
+    ensures reduced { IfOk result (λ end.
+        end.logs.reduced ≡ reduced_of running.machine.state.image params running.choices) }
+    ensures regulated { IfOk result (λ end.
+        end.logs.regulated ≡ regulated_of running.machine.state.image params running.choices) }
+    ensures image { IfOk result (λ end. end.image ≡ running.machine.state.image) }
+{
+    let mut running = running;
+    run_to_end(&mut running)?;
+    let totals = totals_of(alloc, &running.machine, params.cores)?;
+    let Running {
+        machine,
+        clerk,
+        choices: _choices,
+    } = running;
     Ok(RunEnd {
         totals,
         logs: clerk.finish(),
+        image: machine.into_image(),
     })
 }
 
@@ -153,25 +190,4 @@ fn totals_of(
         totals.push(machine.core(core).count())?;
     }
     Ok(totals)
-}
-
-/// One step of the machine, after room was made for it, and what it adds to the regulated log.
-fn turn(
-    machine: &mut Machine<Times, Known>,
-    clerk: &mut RunClerk,
-    choices: &mut Schedule,
-) -> Result<(), AllocError>
-    requires going { all_done machine.old.state ≡ false }
-    requires recording { IsRecording machine.old.state clerk.old choices.old }
-    ensures stands { (image : Contents) (params : Params) (schedule : Choices) (t : ℕ) → OnOk result
-        (RecordsAt image params schedule t machine.old.state clerk.old choices.old →
-        RecordsAt image params schedule (suc t) machine.new.state clerk.new choices.new) }
-    ensures image { OnOk result (machine.new.state.image ≡ machine.old.state.image) }
-    ensures nearer { OnOk result (left times_riding machine.new.state < left times_riding machine.old.state) }
-{
-    machine.make_room()?;
-    clerk.ready()?;
-    machine.step_timed(choices.next(), clerk);
-    clerk.tell();
-    Ok(())
 }

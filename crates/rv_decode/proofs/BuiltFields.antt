@@ -61,6 +61,57 @@ fields_r o f g d a b ho hf hg hd ha hb = record {
   funct7_is = omega arith;
 }
 
+-- ---- S and B: as R, with the bits of the immediate in the places of funct7 and rd
+
+-- the places that S and B share, and the immediate that `read` reads
+pub record FieldsS (read : ℕ → ℤ) (word o f a b : ℕ) (imm : ℤ) : Type 0 where
+  pub opcode_is : opcode word ≡ o
+  pub funct3_is : funct3 word ≡ f
+  pub rs1_is : rs1 word ≡ a
+  pub rs2_is : rs2 word ≡ b
+  pub immediate_is : read word ≡ imm
+
+with_immediate : (read : ℕ → ℤ) (word o f g d a b : ℕ) (imm : ℤ) → FieldsR word o f g d a b → read word ≡ imm
+    → FieldsS read word o f a b imm
+with_immediate read word o f g d a b imm at is =
+    record { opcode_is = at.opcode_is; funct3_is = at.funct3_is; rs1_is = at.rs1_is; rs2_is = at.rs2_is; immediate_is = is }
+
+parts_s : (bits : ℕ) → field bits 0 5 + field bits 5 7 * 2 ^ 5 ≡ field bits 0 12
+unfolding field
+parts_s bits = omega arith
+
+pub fields_s : (o f a b : ℕ) (imm : ℤ) → o < 128 → f < 8 → IsRegister a → IsRegister b
+    → IsImmediate imm → FieldsS immediate_s (word_s o f a b imm) o f a b imm
+unfolding word_s
+fields_s o f a b imm ho hf ha hb fits =
+    let bits = bits_of imm in
+    let at = fields_r o f (field bits 5 7) (field bits 0 5) a b ho hf (field_below bits 5 7) (field_below bits 0 5) ha hb in
+    let read : immediate_s (word_s o f a b imm) ≡ imm =
+    ap (λ (low : ℕ). signed 12 (low + funct7 (word_s o f a b imm) * 2 ^ 5)) at.rd_is
+    ∙ ap (λ (high : ℕ). signed 12 (field bits 0 5 + high * 2 ^ 5)) at.funct7_is
+    ∙ ap (signed 12) (parts_s bits) ∙ immediate_whole imm fits in
+    with_immediate immediate_s _ o f _ _ a b imm at read
+
+bits_b : (o f a b : ℕ) (offset : ℤ) → o < 128 → f < 8 → IsRegister a → IsRegister b
+    → bits_of offset % 2 ≡ 0
+    → let word : ℕ = word_b o f a b offset in
+    field word 8 4 * 2 + field word 25 6 * 2 ^ 5 + field word 7 1 * 2 ^ 11 + field word 31 1 * 2 ^ 12
+    ≡ field (bits_of offset) 0 13
+unfolding field word_b word_r
+bits_b o f a b offset ho hf ha hb even = omega arith
+
+pub fields_b : (o f a b : ℕ) (offset : ℤ) → o < 128 → f < 8 → IsRegister a → IsRegister b
+    → IsBranchOffset offset → FieldsS immediate_b (word_b o f a b offset) o f a b offset
+unfolding word_b
+fields_b o f a b offset ho hf ha hb fits =
+    let bits = bits_of offset in
+    let high : field bits 5 6 + field bits 12 1 * 2 ^ 6 < 128 =
+    omega (arith, field_below bits 5 6, field_below bits 12 1) in
+    let low : field bits 11 1 + field bits 1 4 * 2 < 32 =
+    omega (arith, field_below bits 11 1, field_below bits 1 4) in
+    with_immediate immediate_b _ o f _ _ a b offset (fields_r o f _ _ a b ho hf high low ha hb)
+    (ap (signed 13) (bits_b o f a b offset ho hf ha hb (even_bits offset fits.0)) ∙ branch_whole offset fits)
+
 -- ---- I
 
 pub record FieldsI (word o f d a : ℕ) (imm : ℤ) : Type 0 where
@@ -86,61 +137,6 @@ fields_i o f d a imm ho hf hd ha fits = record {
   immediate_is = ap (signed 12) (bits_i o f d a imm ho hf hd ha) ∙ immediate_whole imm fits;
 }
 
--- ---- S
-
-pub record FieldsS (word o f a b : ℕ) (imm : ℤ) : Type 0 where
-  pub opcode_is : opcode word ≡ o
-  pub funct3_is : funct3 word ≡ f
-  pub rs1_is : rs1 word ≡ a
-  pub rs2_is : rs2 word ≡ b
-  pub immediate_is : immediate_s word ≡ imm
-
-bits_s : (o f a b : ℕ) (imm : ℤ) → o < 128 → f < 8 → IsRegister a → IsRegister b
-    → field (word_s o f a b imm) 7 5 + field (word_s o f a b imm) 25 7 * 2 ^ 5 ≡ field (bits_of imm) 0 12
-unfolding field word_s
-bits_s o f a b imm ho hf ha hb = omega arith
-
-pub fields_s : (o f a b : ℕ) (imm : ℤ) → o < 128 → f < 8 → IsRegister a → IsRegister b
-    → IsImmediate imm → FieldsS (word_s o f a b imm) o f a b imm
-unfolding field word_s
-fields_s o f a b imm ho hf ha hb fits = record {
-  opcode_is = omega arith;
-  funct3_is = omega arith;
-  rs1_is = omega arith;
-  rs2_is = omega arith;
-  immediate_is = ap (signed 12) (bits_s o f a b imm ho hf ha hb) ∙ immediate_whole imm fits;
-}
-
--- ---- B
-
-pub record FieldsB (word o f a b : ℕ) (offset : ℤ) : Type 0 where
-  pub opcode_is : opcode word ≡ o
-  pub funct3_is : funct3 word ≡ f
-  pub rs1_is : rs1 word ≡ a
-  pub rs2_is : rs2 word ≡ b
-  pub immediate_is : immediate_b word ≡ offset
-
-bits_b : (o f a b : ℕ) (offset : ℤ) → o < 128 → f < 8 → IsRegister a → IsRegister b
-    → bits_of offset % 2 ≡ 0
-    → let word : ℕ = word_b o f a b offset in
-    field word 8 4 * 2 + field word 25 6 * 2 ^ 5 + field word 7 1 * 2 ^ 11 + field word 31 1 * 2 ^ 12
-    ≡ field (bits_of offset) 0 13
-unfolding field word_b
-bits_b o f a b offset ho hf ha hb even = omega arith
-
-pub fields_b : (o f a b : ℕ) (offset : ℤ) → o < 128 → f < 8 → IsRegister a → IsRegister b
-    → IsBranchOffset offset → FieldsB (word_b o f a b offset) o f a b offset
-unfolding field word_b
-fields_b o f a b offset ho hf ha hb fits = record {
-  opcode_is = omega arith;
-  funct3_is = omega arith;
-  rs1_is = omega arith;
-  rs2_is = omega arith;
-  immediate_is =
-      ap (signed 13) (bits_b o f a b offset ho hf ha hb (even_bits offset fits.0))
-      ∙ branch_whole offset fits;
-}
-
 -- ---- U
 
 pub record FieldsU (word o d u : ℕ) : Type 0 where
@@ -156,7 +152,7 @@ fields_u o d u ho hd hu = record {
   upper_is = omega arith;
 }
 
--- ---- J
+-- ---- J: as U, with the bits of the offset in the place of the upper twenty
 
 pub record FieldsJ (word o d : ℕ) (offset : ℤ) : Type 0 where
   pub opcode_is : opcode word ≡ o
@@ -167,12 +163,12 @@ bits_j : (o d : ℕ) (offset : ℤ) → o < 128 → IsRegister d → bits_of off
     → let word : ℕ = word_j o d offset in
     field word 21 10 * 2 + field word 20 1 * 2 ^ 11 + field word 12 8 * 2 ^ 12 + field word 31 1 * 2 ^ 20
     ≡ field (bits_of offset) 0 21
-unfolding field word_j
+unfolding field word_j word_u
 bits_j o d offset ho hd even = omega arith
 
 pub fields_j : (o d : ℕ) (offset : ℤ) → o < 128 → IsRegister d → IsJumpOffset offset
     → FieldsJ (word_j o d offset) o d offset
-unfolding field word_j
+unfolding field word_j word_u
 fields_j o d offset ho hd fits = record {
   opcode_is = omega arith;
   rd_is = omega arith;

@@ -1,25 +1,26 @@
 -- An instruction's word is read back as that instruction.
-use Rattle.std.proofs.Common.{◌≡◌, ℕ, ◌*◌, ◌<◌, refl, arith, ap, sym, subst, ◌∙◌, Some, ℤ, pos, lit<}
+use Rattle.std.proofs.Common.{◌≡◌, ℕ, ◌*◌, ◌<◌, refl, arith, ap, sym, subst, ◌∙◌, Some, ℤ, pos, lit<, ◌==◌, false}
 use Rattle.rv_decode.specs.declared.op.Cond.{Cond}
-use Rattle.rv_decode.specs.declared.op.Cond.TheVariants.{Eq, Ne, Lt, Ge, Ltu, Geu}
+use Rattle.rv_decode.specs.declared.op.Cond.TheVariants.{Eq}
 use Rattle.rv_decode.specs.declared.op.Width.{Width}
-use Rattle.rv_decode.specs.declared.op.Width.TheVariants.{Byte, Half, Word, ByteU, HalfU}
+use Rattle.rv_decode.specs.declared.op.Width.TheVariants.{Byte, ByteU, HalfU}
 use Rattle.rv_decode.specs.declared.op.Alu.{Alu}
-use Rattle.rv_decode.specs.declared.op.Alu.TheVariants.{Add, Sub, Sll, Slt, Sltu, Xor, Srl, Sra, Or, And}
+use Rattle.rv_decode.specs.declared.op.Alu.TheVariants.{Add, Sub, Sll, Srl, Sra}
 use Rattle.rv_decode.specs.declared.op.AmoOp.{AmoOp}
 use Rattle.rv_decode.specs.declared.op.AmoOp.TheVariants as amo
 use Rattle.rv_decode.specs.declared.op.Op.{Op}
 use Rattle.rv_decode.specs.declared.op.Op.TheVariants.{Lui, Auipc, Jal, Jalr, Branch, Load, Store, AluImm, AluReg, Amo}
 use Rattle.rv_decode.specs.declared.op.Op.TheVariants.{Fence, Ecall, Ebreak}
 use Rattle.rv_decode.specs.Atomics.{amo_of, amo_code}
-use Rattle.rv_decode.specs.Fields.{field, funct5, funct7}
+use Rattle.rv_decode.specs.Fields.{field, funct5, funct7, immediate_b, immediate_s}
 use Rattle.rv_decode.specs.Ranges.{Fits, IsRegister, IsStored, IsAluImmediate}
-use Rattle.rv_decode.specs.Table.{decoded, condition_of, loaded_width, stored_width, register_alu}
+use Rattle.rv_decode.specs.Table.{decoded, condition_of, loaded_width, stored_width, immediate_alu}
+use Rattle.rv_decode.specs.Table.{register_alu}
 use Rattle.rv_decode.specs.Table.{jump_and_link_register, branch, load, store, constant_shift}
 use Rattle.rv_decode.specs.Table.{alu_immediate, alu_register, atomic, fence, system}
 use Rattle.rv_decode.specs.Words.{bits_of, encoding, condition_code, width_code, alu_code, alu_variant}
 use Rattle.rv_decode.specs.Words.{alu_immediate_word}
-use Rattle.rv_decode.proofs.BuiltFields.{field_below, amount_whole, FieldsR, FieldsI, FieldsS, FieldsB, FieldsU}
+use Rattle.rv_decode.proofs.BuiltFields.{field_below, amount_whole, FieldsR, FieldsI, FieldsS, FieldsU}
 use Rattle.rv_decode.proofs.BuiltFields.{FieldsJ, fields_r, fields_i, fields_s}
 use Rattle.rv_decode.proofs.BuiltFields.{fields_b, fields_u, fields_j}
 
@@ -43,92 +44,46 @@ reads_jalr word d a imm at = simp (at.opcode_is, at.funct3_is, at.rd_is, at.rs1_
 
 condition_known : (cond : Cond) → condition_of (condition_code cond) ≡ Some cond
 condition_known Eq = refl
-condition_known Ne = refl
-condition_known Lt = refl
-condition_known Ge = refl
-condition_known Ltu = refl
-condition_known Geu = refl
+condition_known _ = refl
 
 loaded_known : (width : Width) → loaded_width (width_code width) ≡ Some width
 loaded_known Byte = refl
-loaded_known Half = refl
-loaded_known Word = refl
-loaded_known ByteU = refl
-loaded_known HalfU = refl
+loaded_known _ = refl
 
 stored_known : (width : Width) → IsStored width → stored_width (width_code width) ≡ Some width
-stored_known Byte stored = refl
-stored_known Half stored = refl
-stored_known Word stored = refl
 stored_known ByteU stored = absurd stored
 stored_known HalfU stored = absurd stored
+stored_known _ stored = refl
 
 register_known : (alu : Alu) → register_alu (alu_code alu) (alu_variant alu) ≡ Some alu
 register_known Add = refl
-register_known Sub = refl
-register_known Sll = refl
-register_known Slt = refl
-register_known Sltu = refl
-register_known Xor = refl
-register_known Srl = refl
-register_known Sra = refl
-register_known Or = refl
-register_known And = refl
+register_known _ = refl
 
 amo_known : (op : AmoOp) → amo_of (amo_code op) ≡ Some op
 amo_known amo.Swap = refl
-amo_known amo.Add = refl
-amo_known amo.Xor = refl
-amo_known amo.And = refl
-amo_known amo.Or = refl
-amo_known amo.Min = refl
-amo_known amo.Max = refl
-amo_known amo.Minu = refl
-amo_known amo.Maxu = refl
+amo_known _ = refl
 
 pub condition_small : (cond : Cond) → condition_code cond < 8
 condition_small Eq = lit< tt
-condition_small Ne = lit< tt
-condition_small Lt = lit< tt
-condition_small Ge = lit< tt
-condition_small Ltu = lit< tt
-condition_small Geu = lit< tt
+condition_small _ = lit< tt
 
 pub width_small : (width : Width) → width_code width < 8
 width_small Byte = lit< tt
-width_small Half = lit< tt
-width_small Word = lit< tt
-width_small ByteU = lit< tt
-width_small HalfU = lit< tt
+width_small _ = lit< tt
 
 pub alu_small : (alu : Alu) → (alu_code alu < 8) × (alu_variant alu < 128)
 alu_small Add = (lit< tt, lit< tt)
-alu_small Sub = (lit< tt, lit< tt)
-alu_small Sll = (lit< tt, lit< tt)
-alu_small Slt = (lit< tt, lit< tt)
-alu_small Sltu = (lit< tt, lit< tt)
-alu_small Xor = (lit< tt, lit< tt)
-alu_small Srl = (lit< tt, lit< tt)
-alu_small Sra = (lit< tt, lit< tt)
-alu_small Or = (lit< tt, lit< tt)
-alu_small And = (lit< tt, lit< tt)
+alu_small _ = (lit< tt, lit< tt)
 
 -- with aq and rl as 0 the number fills funct7
 pub amo_small : (op : AmoOp) → amo_code op * 4 < 128
 amo_small amo.Swap = lit< tt
-amo_small amo.Add = lit< tt
-amo_small amo.Xor = lit< tt
-amo_small amo.And = lit< tt
-amo_small amo.Or = lit< tt
-amo_small amo.Min = lit< tt
-amo_small amo.Max = lit< tt
-amo_small amo.Minu = lit< tt
-amo_small amo.Maxu = lit< tt
+amo_small _ = lit< tt
 
 -- ---- the opcodes with a funct3
 
 reads_branch : (word a b : ℕ) (cond : Cond) (offset : ℤ)
-    → FieldsB word 0x63 (condition_code cond) a b offset → decoded word ≡ Some (Branch cond a b offset)
+    → FieldsS immediate_b word 0x63 (condition_code cond) a b offset → decoded word ≡ Some (Branch cond a b offset)
 unfolding decoded branch
 reads_branch word a b cond offset at =
     simp (at.opcode_is, at.funct3_is, condition_known cond, at.rs1_is, at.rs2_is, at.immediate_is)
@@ -140,7 +95,7 @@ reads_load word d a width imm at =
     simp (at.opcode_is, at.funct3_is, loaded_known width, at.rd_is, at.rs1_is, at.immediate_is)
 
 reads_store : (word a b : ℕ) (width : Width) (imm : ℤ) → IsStored width
-    → FieldsS word 0x23 (width_code width) a b imm → decoded word ≡ Some (Store width a b imm)
+    → FieldsS immediate_s word 0x23 (width_code width) a b imm → decoded word ≡ Some (Store width a b imm)
 unfolding decoded store
 reads_store word a b width imm stored at =
     simp (at.opcode_is, at.funct3_is, stored_known width stored, at.rs1_is, at.rs2_is, at.immediate_is)
@@ -172,29 +127,12 @@ reads_amo word d a b op at =
 
 -- ---- register and immediate
 
-reads_add : (word d a : ℕ) (imm : ℤ) → FieldsI word 0x13 0 d a imm → decoded word ≡ Some (AluImm Add d a imm)
+-- an instruction that is no shift
+reads_plain : (word d a code : ℕ) (alu : Alu) (imm : ℤ) → code == 1 ≡ false → code == 5 ≡ false
+    → immediate_alu code ≡ Some alu → FieldsI word 0x13 code d a imm → decoded word ≡ Some (AluImm alu d a imm)
 unfolding decoded alu_immediate
-reads_add word d a imm at = simp (at.opcode_is, at.funct3_is, at.rd_is, at.rs1_is, at.immediate_is)
-
-reads_slt : (word d a : ℕ) (imm : ℤ) → FieldsI word 0x13 2 d a imm → decoded word ≡ Some (AluImm Slt d a imm)
-unfolding decoded alu_immediate
-reads_slt word d a imm at = simp (at.opcode_is, at.funct3_is, at.rd_is, at.rs1_is, at.immediate_is)
-
-reads_sltu : (word d a : ℕ) (imm : ℤ) → FieldsI word 0x13 3 d a imm → decoded word ≡ Some (AluImm Sltu d a imm)
-unfolding decoded alu_immediate
-reads_sltu word d a imm at = simp (at.opcode_is, at.funct3_is, at.rd_is, at.rs1_is, at.immediate_is)
-
-reads_xor : (word d a : ℕ) (imm : ℤ) → FieldsI word 0x13 4 d a imm → decoded word ≡ Some (AluImm Xor d a imm)
-unfolding decoded alu_immediate
-reads_xor word d a imm at = simp (at.opcode_is, at.funct3_is, at.rd_is, at.rs1_is, at.immediate_is)
-
-reads_or : (word d a : ℕ) (imm : ℤ) → FieldsI word 0x13 6 d a imm → decoded word ≡ Some (AluImm Or d a imm)
-unfolding decoded alu_immediate
-reads_or word d a imm at = simp (at.opcode_is, at.funct3_is, at.rd_is, at.rs1_is, at.immediate_is)
-
-reads_and : (word d a : ℕ) (imm : ℤ) → FieldsI word 0x13 7 d a imm → decoded word ≡ Some (AluImm And d a imm)
-unfolding decoded alu_immediate
-reads_and word d a imm at = simp (at.opcode_is, at.funct3_is, at.rd_is, at.rs1_is, at.immediate_is)
+reads_plain word d a code alu imm not_1 not_5 named at =
+    simp (at.opcode_is, at.funct3_is, not_1, not_5, named, at.rd_is, at.rs1_is, at.immediate_is)
 
 reads_sll : (word d a b : ℕ) → FieldsR word 0x13 1 0 d a b → decoded word ≡ Some (AluImm Sll d a (pos b))
 unfolding decoded alu_immediate constant_shift
@@ -210,22 +148,19 @@ reads_sra word d a b at = simp (at.opcode_is, at.funct3_is, at.funct7_is, at.rd_
 
 immediate_back : (alu : Alu) (d a : ℕ) (imm : ℤ) → IsRegister d → IsRegister a → IsAluImmediate alu imm
     → decoded (alu_immediate_word alu d a imm) ≡ Some (AluImm alu d a imm)
-immediate_back Add d a imm hd ha fits = reads_add _ d a imm (fields_i 0x13 0 d a imm (lit< tt) (lit< tt) hd ha fits)
 immediate_back Sub d a imm hd ha fits = absurd fits
 immediate_back Sll d a imm hd ha fits =
     reads_sll _ d a _ (fields_r 0x13 1 0 d a _ (lit< tt) (lit< tt) (lit< tt) hd ha (field_below (bits_of imm) 0 5))
     ∙ ap (λ amount. Some (AluImm Sll d a amount)) (amount_whole imm fits)
-immediate_back Slt d a imm hd ha fits = reads_slt _ d a imm (fields_i 0x13 2 d a imm (lit< tt) (lit< tt) hd ha fits)
-immediate_back Sltu d a imm hd ha fits = reads_sltu _ d a imm (fields_i 0x13 3 d a imm (lit< tt) (lit< tt) hd ha fits)
-immediate_back Xor d a imm hd ha fits = reads_xor _ d a imm (fields_i 0x13 4 d a imm (lit< tt) (lit< tt) hd ha fits)
 immediate_back Srl d a imm hd ha fits =
     reads_srl _ d a _ (fields_r 0x13 5 0 d a _ (lit< tt) (lit< tt) (lit< tt) hd ha (field_below (bits_of imm) 0 5))
     ∙ ap (λ amount. Some (AluImm Srl d a amount)) (amount_whole imm fits)
 immediate_back Sra d a imm hd ha fits =
     reads_sra _ d a _ (fields_r 0x13 5 0x20 d a _ (lit< tt) (lit< tt) (lit< tt) hd ha (field_below (bits_of imm) 0 5))
     ∙ ap (λ amount. Some (AluImm Sra d a amount)) (amount_whole imm fits)
-immediate_back Or d a imm hd ha fits = reads_or _ d a imm (fields_i 0x13 6 d a imm (lit< tt) (lit< tt) hd ha fits)
-immediate_back And d a imm hd ha fits = reads_and _ d a imm (fields_i 0x13 7 d a imm (lit< tt) (lit< tt) hd ha fits)
+immediate_back alu d a imm hd ha fits =
+    reads_plain _ d a (alu_code alu) alu imm refl refl refl
+    (fields_i 0x13 (alu_code alu) d a imm (lit< tt) (alu_small alu).0 hd ha fits)
 
 -- ---- the whole words
 

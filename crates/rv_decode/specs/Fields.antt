@@ -14,24 +14,28 @@ signed width bits =
 abbrev pub opcode : ℕ → ℕ
 opcode word = field word 0 7
 
-abbrev pub rd : ℕ → ℕ
-rd word = field word 7 5
-
 abbrev pub funct3 : ℕ → ℕ
 funct3 word = field word 12 3
-
-abbrev pub rs1 : ℕ → ℕ
-rs1 word = field word 15 5
-
-abbrev pub rs2 : ℕ → ℕ
-rs2 word = field word 20 5
 
 abbrev pub funct7 : ℕ → ℕ
 funct7 word = field word 25 7
 
--- which atomic memory operation: bits 31..27, above the bits aq and rl
+-- which atomic memory operation: the upper five bits of funct7, above the bits aq and rl
 abbrev pub funct5 : ℕ → ℕ
-funct5 word = field word 27 5
+funct5 word = field (funct7 word) 2 5
+
+-- the number of a register, from bit `low` up
+abbrev pub register : ℕ → ℕ → ℕ
+register word low = field word low 5
+
+abbrev pub rd : ℕ → ℕ
+rd word = register word 7
+
+abbrev pub rs1 : ℕ → ℕ
+rs1 word = register word 15
+
+abbrev pub rs2 : ℕ → ℕ
+rs2 word = register word 20
 
 -- I: bits 31..20 are 11..0
 abbrev pub immediate_i : ℕ → ℤ
@@ -44,11 +48,7 @@ immediate_s word = signed 12 (field word 7 5 + field word 25 7 * 2 ^ 5)
 -- B: bit 31 is 12, bit 7 is 11, bits 30..25 are 10..5, bits 11..8 are 4..1, and bit 0 is 0
 abbrev pub immediate_b : ℕ → ℤ
 immediate_b word =
-    signed 13
-    (field word 8 4 * 2
-    + field word 25 6 * 2 ^ 5
-    + field word 7 1 * 2 ^ 11
-    + field word 31 1 * 2 ^ 12)
+    signed 13 (field word 8 4 * 2 + field word 25 6 * 2 ^ 5 + field word 7 1 * 2 ^ 11 + field word 31 1 * 2 ^ 12)
 
 -- U: bits 31..12 are 31..12; these twenty bits alone, not yet times 4096
 abbrev pub upper : ℕ → ℕ
@@ -57,8 +57,4 @@ upper word = field word 12 20
 -- J: bit 31 is 20, bits 19..12 are 19..12, bit 20 is 11, bits 30..21 are 10..1, and bit 0 is 0
 abbrev pub immediate_j : ℕ → ℤ
 immediate_j word =
-    signed 21
-    (field word 21 10 * 2
-    + field word 20 1 * 2 ^ 11
-    + field word 12 8 * 2 ^ 12
-    + field word 31 1 * 2 ^ 20)
+    signed 21 (field word 21 10 * 2 + field word 20 1 * 2 ^ 11 + field word 12 8 * 2 ^ 12 + field word 31 1 * 2 ^ 20)

@@ -1,7 +1,8 @@
 -- The table of RV32I and of the atomic memory operations of RV32A: which instruction a word is, by opcode,
 -- then funct3, then funct7 or its upper five bits, in the order of the RISC-V Unprivileged ISA's listing of
 -- chapter 24.
-use Rattle.std.specs.Prelude.{ℕ, pos, ◌==◌, if◌then◌else◌, Option, Some, None, option_map}
+use Rattle.std.specs.Prelude.{ℕ, pos, ◌==◌, if◌then◌else◌, Option, Some, None, option_map, [], ◌∷◌}
+use Rattle.std.specs.List.{find}
 use Rattle.rv_decode.specs.declared.op.Cond.{Cond}
 use Rattle.rv_decode.specs.declared.op.Cond.TheVariants.{Eq, Ne, Lt, Ge, Ltu, Geu}
 use Rattle.rv_decode.specs.declared.op.Width.{Width}
@@ -14,35 +15,19 @@ use Rattle.rv_decode.specs.declared.op.Op.TheVariants.{AluReg, Amo, Fence, Ecall
 use Rattle.rv_decode.specs.Atomics.{amo_of}
 use Rattle.rv_decode.specs.Fields.{opcode, rd, funct3, rs1, rs2, funct7, funct5, immediate_i, immediate_s, immediate_b}
 use Rattle.rv_decode.specs.Fields.{immediate_j, upper}
+use Rattle.rv_decode.specs.Words.{condition_code, width_code, alu_code}
 
 -- BEQ, BNE, BLT, BGE, BLTU, BGEU, by funct3
 abbrev pub condition_of : ℕ → Option Cond
-condition_of funct3 =
-    if funct3 == 0 then Some Eq
-    else if funct3 == 1 then Some Ne
-    else if funct3 == 4 then Some Lt
-    else if funct3 == 5 then Some Ge
-    else if funct3 == 6 then Some Ltu
-    else if funct3 == 7 then Some Geu
-    else None
+condition_of funct3 = find (λ cond. funct3 == condition_code cond) (Eq ∷ Ne ∷ Lt ∷ Ge ∷ Ltu ∷ Geu ∷ [])
 
 -- LB, LH, LW, LBU, LHU, by funct3
 abbrev pub loaded_width : ℕ → Option Width
-loaded_width funct3 =
-    if funct3 == 0 then Some Byte
-    else if funct3 == 1 then Some Half
-    else if funct3 == 2 then Some Word
-    else if funct3 == 4 then Some ByteU
-    else if funct3 == 5 then Some HalfU
-    else None
+loaded_width funct3 = find (λ width. funct3 == width_code width) (Byte ∷ Half ∷ Word ∷ ByteU ∷ HalfU ∷ [])
 
 -- SB, SH, SW, by funct3
 abbrev pub stored_width : ℕ → Option Width
-stored_width funct3 =
-    if funct3 == 0 then Some Byte
-    else if funct3 == 1 then Some Half
-    else if funct3 == 2 then Some Word
-    else None
+stored_width funct3 = find (λ width. funct3 == width_code width) (Byte ∷ Half ∷ Word ∷ [])
 
 -- SLLI, SRLI, SRAI, by funct3 and funct7
 abbrev pub shift_of : ℕ → ℕ → Option Alu
@@ -54,27 +39,11 @@ shift_of funct3 funct7 =
 
 -- ADDI, SLTI, SLTIU, XORI, ORI, ANDI, by funct3
 abbrev pub immediate_alu : ℕ → Option Alu
-immediate_alu funct3 =
-    if funct3 == 0 then Some Add
-    else if funct3 == 2 then Some Slt
-    else if funct3 == 3 then Some Sltu
-    else if funct3 == 4 then Some Xor
-    else if funct3 == 6 then Some Or
-    else if funct3 == 7 then Some And
-    else None
+immediate_alu funct3 = find (λ alu. funct3 == alu_code alu) (Add ∷ Slt ∷ Sltu ∷ Xor ∷ Or ∷ And ∷ [])
 
 -- ADD, SLL, SLT, SLTU, XOR, SRL, OR, AND, by funct3
 abbrev pub plain_alu : ℕ → Option Alu
-plain_alu funct3 =
-    if funct3 == 0 then Some Add
-    else if funct3 == 1 then Some Sll
-    else if funct3 == 2 then Some Slt
-    else if funct3 == 3 then Some Sltu
-    else if funct3 == 4 then Some Xor
-    else if funct3 == 5 then Some Srl
-    else if funct3 == 6 then Some Or
-    else if funct3 == 7 then Some And
-    else None
+plain_alu funct3 = find (λ alu. funct3 == alu_code alu) (Add ∷ Sll ∷ Slt ∷ Sltu ∷ Xor ∷ Srl ∷ Or ∷ And ∷ [])
 
 -- those under funct7 0, and SUB and SRA under funct7 0x20
 abbrev pub register_alu : ℕ → ℕ → Option Alu
@@ -92,46 +61,34 @@ jump_and_link_register word =
 -- opcode 0x63: the branches
 unfoldable pub branch : ℕ → Option Op
 branch word =
-    option_map
-    (λ cond. Branch cond (rs1 word) (rs2 word) (immediate_b word))
-    (condition_of (funct3 word))
+    option_map (λ cond. Branch cond (rs1 word) (rs2 word) (immediate_b word)) (condition_of (funct3 word))
 
 -- opcode 0x03: the loads
 unfoldable pub load : ℕ → Option Op
 load word =
-    option_map
-    (λ width. Load width (rd word) (rs1 word) (immediate_i word))
-    (loaded_width (funct3 word))
+    option_map (λ width. Load width (rd word) (rs1 word) (immediate_i word)) (loaded_width (funct3 word))
 
 -- opcode 0x23: the stores
 unfoldable pub store : ℕ → Option Op
 store word =
-    option_map
-    (λ width. Store width (rs1 word) (rs2 word) (immediate_s word))
-    (stored_width (funct3 word))
+    option_map (λ width. Store width (rs1 word) (rs2 word) (immediate_s word)) (stored_width (funct3 word))
 
 -- the shifts by a constant: bits 24..20 are the amount
 unfoldable pub constant_shift : ℕ → Option Op
 constant_shift word =
-    option_map
-    (λ alu. AluImm alu (rd word) (rs1 word) (pos (rs2 word)))
-    (shift_of (funct3 word) (funct7 word))
+    option_map (λ alu. AluImm alu (rd word) (rs1 word) (pos (rs2 word))) (shift_of (funct3 word) (funct7 word))
 
 -- opcode 0x13: register and immediate
 unfoldable pub alu_immediate : ℕ → Option Op
 alu_immediate word =
     if funct3 word == 1 then constant_shift word
     else if funct3 word == 5 then constant_shift word
-    else option_map
-    (λ alu. AluImm alu (rd word) (rs1 word) (immediate_i word))
-    (immediate_alu (funct3 word))
+    else option_map (λ alu. AluImm alu (rd word) (rs1 word) (immediate_i word)) (immediate_alu (funct3 word))
 
 -- opcode 0x33: register and register
 unfoldable pub alu_register : ℕ → Option Op
 alu_register word =
-    option_map
-    (λ alu. AluReg alu (rd word) (rs1 word) (rs2 word))
-    (register_alu (funct3 word) (funct7 word))
+    option_map (λ alu. AluReg alu (rd word) (rs1 word) (rs2 word)) (register_alu (funct3 word) (funct7 word))
 
 -- opcode 0x2F: the atomic memory operations on a word, which have funct3 2. The bits aq and rl order an
 -- operation among others; here each is ordered already, so they are ignored.

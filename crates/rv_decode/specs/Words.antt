@@ -28,27 +28,17 @@ unfoldable pub word_i : (opcode funct3 rd rs1 : ℕ) → ℤ → ℕ
 word_i opcode funct3 rd rs1 imm =
     opcode + rd * 2 ^ 7 + funct3 * 2 ^ 12 + rs1 * 2 ^ 15 + field (bits_of imm) 0 12 * 2 ^ 20
 
--- the immediate's bits 11..5, rs2, rs1, funct3, its bits 4..0, opcode
+-- the immediate's bits 11..5, rs2, rs1, funct3, its bits 4..0, opcode: these bits stand in the places of funct7 and rd
 unfoldable pub word_s : (opcode funct3 rs1 rs2 : ℕ) → ℤ → ℕ
 word_s opcode funct3 rs1 rs2 imm =
-    opcode
-    + field (bits_of imm) 0 5 * 2 ^ 7
-    + funct3 * 2 ^ 12
-    + rs1 * 2 ^ 15
-    + rs2 * 2 ^ 20
-    + field (bits_of imm) 5 7 * 2 ^ 25
+    word_r opcode funct3 (field (bits_of imm) 5 7) (field (bits_of imm) 0 5) rs1 rs2
 
 -- the offset's bits 12 and 10..5, rs2, rs1, funct3, its bits 4..1 and 11, opcode
 unfoldable pub word_b : (opcode funct3 rs1 rs2 : ℕ) → ℤ → ℕ
 word_b opcode funct3 rs1 rs2 offset =
-    opcode
-    + field (bits_of offset) 11 1 * 2 ^ 7
-    + field (bits_of offset) 1 4 * 2 ^ 8
-    + funct3 * 2 ^ 12
-    + rs1 * 2 ^ 15
-    + rs2 * 2 ^ 20
-    + field (bits_of offset) 5 6 * 2 ^ 25
-    + field (bits_of offset) 12 1 * 2 ^ 31
+    let high = field (bits_of offset) 5 6 + field (bits_of offset) 12 1 * 2 ^ 6 in
+    let low = field (bits_of offset) 11 1 + field (bits_of offset) 1 4 * 2 in
+    word_r opcode funct3 high low rs1 rs2
 
 -- the immediate's twenty bits 31..12, rd, opcode
 unfoldable pub word_u : (opcode rd upper : ℕ) → ℕ
@@ -57,65 +47,32 @@ word_u opcode rd upper = opcode + rd * 2 ^ 7 + upper * 2 ^ 12
 -- the offset's bits 20, 10..1, 11 and 19..12, rd, opcode
 unfoldable pub word_j : (opcode rd : ℕ) → ℤ → ℕ
 word_j opcode rd offset =
-    opcode
-    + rd * 2 ^ 7
-    + field (bits_of offset) 12 8 * 2 ^ 12
-    + field (bits_of offset) 11 1 * 2 ^ 20
-    + field (bits_of offset) 1 10 * 2 ^ 21
-    + field (bits_of offset) 20 1 * 2 ^ 31
+    let low = field (bits_of offset) 12 8 + field (bits_of offset) 11 1 * 2 ^ 8 in
+    let high = field (bits_of offset) 1 10 * 2 ^ 9 + field (bits_of offset) 20 1 * 2 ^ 19 in
+    word_u opcode rd (low + high)
 
 abbrev pub condition_code : Cond → ℕ
-condition_code Eq = 0
-condition_code Ne = 1
-condition_code Lt = 4
-condition_code Ge = 5
-condition_code Ltu = 6
-condition_code Geu = 7
+condition_code = elim [ Eq ↦ 0 | Ne ↦ 1 | Lt ↦ 4 | Ge ↦ 5 | Ltu ↦ 6 | Geu ↦ 7 ]
 
 abbrev pub width_code : Width → ℕ
-width_code Byte = 0
-width_code Half = 1
-width_code Word = 2
-width_code ByteU = 4
-width_code HalfU = 5
+width_code = elim [ Byte ↦ 0 | Half ↦ 1 | Word ↦ 2 | ByteU ↦ 4 | HalfU ↦ 5 ]
 
 -- funct3
 abbrev pub alu_code : Alu → ℕ
-alu_code Add = 0
-alu_code Sub = 0
-alu_code Sll = 1
-alu_code Slt = 2
-alu_code Sltu = 3
-alu_code Xor = 4
-alu_code Srl = 5
-alu_code Sra = 5
-alu_code Or = 6
-alu_code And = 7
+alu_code = elim
+    [ Add ↦ 0 | Sub ↦ 0 | Sll ↦ 1 | Slt ↦ 2 | Sltu ↦ 3 | Xor ↦ 4 | Srl ↦ 5 | Sra ↦ 5 | Or ↦ 6 | And ↦ 7 ]
 
 -- funct7
 abbrev pub alu_variant : Alu → ℕ
-alu_variant Add = 0
 alu_variant Sub = 0x20
-alu_variant Sll = 0
-alu_variant Slt = 0
-alu_variant Sltu = 0
-alu_variant Xor = 0
-alu_variant Srl = 0
 alu_variant Sra = 0x20
-alu_variant Or = 0
-alu_variant And = 0
+alu_variant _ = 0
 
 abbrev pub is_shift : Alu → Bool
-is_shift Add = false
-is_shift Sub = false
 is_shift Sll = true
-is_shift Slt = false
-is_shift Sltu = false
-is_shift Xor = false
 is_shift Srl = true
 is_shift Sra = true
-is_shift Or = false
-is_shift And = false
+is_shift _ = false
 
 -- register and immediate; SLLI, SRLI and SRAI have funct7, and the amount in the place of rs2
 abbrev pub alu_immediate_word : Alu → (rd rs1 : ℕ) → ℤ → ℕ

@@ -117,9 +117,10 @@ fn alu_code(alu: Alu) -> u32
 fn alu_variant(alu: Alu) -> u32
     ensures { result ≡ alu_variant alu }
 {
-    match alu {
-        Alu::Sub | Alu::Sra => 0x20,
-        _ => 0,
+    if matches!(alu, Alu::Sub | Alu::Sra) {
+        0x20
+    } else {
+        0
     }
 }
 

@@ -1,6 +1,7 @@
 //! The fields of an instruction word, and the immediates that they make up.
 ghost use Rattle.std.specs.Prelude.{◌≡◌, ◌≤◌, ◌<◌, ◌^◌};
-ghost use Rattle.rv_decode.specs.Fields.{field, signed, opcode, rd, funct3, rs1, rs2, funct7, funct5, upper};
+ghost use Rattle.rv_decode.specs.Fields.{field, signed, opcode, rd, funct3, rs1, rs2, funct7, funct5, register};
+ghost use Rattle.rv_decode.specs.Fields.{upper};
 ghost use Rattle.rv_decode.specs.Fields.{immediate_i, immediate_s, immediate_b, immediate_j};
 
 /// `width` bits of the word, from bit `low` up.
@@ -21,32 +22,11 @@ pub fn opcode(word: u32) -> u32
     field(word, 0, 7)
 }
 
-/// The destination register, bits 7 to 11: 0 to 31.
-pub fn rd(word: u32) -> u8
-    ensures { result ≡ rd word }
-{
-    field(word, 7, 5) as u8
-}
-
 /// Bits 12 to 14: which instruction of its group.
 pub fn funct3(word: u32) -> u32
     ensures { result ≡ funct3 word }
 {
     field(word, 12, 3)
-}
-
-/// The first source register, bits 15 to 19: 0 to 31.
-pub fn rs1(word: u32) -> u8
-    ensures { result ≡ rs1 word }
-{
-    field(word, 15, 5) as u8
-}
-
-/// The second source register, bits 20 to 24: 0 to 31. Of a shift by a constant, the amount.
-pub fn rs2(word: u32) -> u8
-    ensures { result ≡ rs2 word }
-{
-    field(word, 20, 5) as u8
 }
 
 /// Bits 25 to 31: with `funct3`, which instruction of its group.
@@ -60,7 +40,36 @@ pub fn funct7(word: u32) -> u32
 pub fn funct5(word: u32) -> u32
     ensures { result ≡ funct5 word }
 {
-    field(word, 27, 5)
+    field(funct7(word), 2, 5)
+}
+
+/// The number of a register, 0 to 31: five bits, from bit `low` up.
+fn register(word: u32, low: u32) -> u8
+    requires { low < 32 }
+    ensures { result ≡ register word low }
+{
+    field(word, low, 5) as u8
+}
+
+/// The destination register, bits 7 to 11: 0 to 31.
+pub fn rd(word: u32) -> u8
+    ensures { result ≡ rd word }
+{
+    register(word, 7)
+}
+
+/// The first source register, bits 15 to 19: 0 to 31.
+pub fn rs1(word: u32) -> u8
+    ensures { result ≡ rs1 word }
+{
+    register(word, 15)
+}
+
+/// The second source register, bits 20 to 24: 0 to 31. Of a shift by a constant, the amount.
+pub fn rs2(word: u32) -> u8
+    ensures { result ≡ rs2 word }
+{
+    register(word, 20)
 }
 
 /// Bits 12 to 31, the bare twenty bits of LUI and AUIPC.
@@ -113,9 +122,7 @@ pub fn immediate_b(word: u32) -> i32
 pub fn immediate_j(word: u32) -> i32
     ensures { result ≡ immediate_j word }
 {
-    let bits = field(word, 21, 10) * 2
-        + field(word, 20, 1) * (1 << 11)
-        + field(word, 12, 8) * (1 << 12)
-        + field(word, 31, 1) * (1 << 20);
-    sign_extended(bits, 21)
+    let low = field(word, 21, 10) * 2 + field(word, 20, 1) * (1 << 11);
+    let high = field(word, 12, 8) * (1 << 12) + field(word, 31, 1) * (1 << 20);
+    sign_extended(low + high, 21)
 }

@@ -38,41 +38,28 @@ pub fn word_i(opcode: u32, funct3: u32, rd: u8, rs1: u8, imm: i32) -> u32
 }
 
 /// A word of format S: a store of `rs2` at `rs1` and twelve bits of offset, the low ones of `imm`.
-#[tactic(auto, using(crate::proofs::Joins::join_s), unfolding(crate::specs::Words::word_s))]
+#[tactic(auto, unfolding(crate::specs::Words::word_s))]
 pub fn word_s(opcode: u32, funct3: u32, rs1: u8, rs2: u8, imm: i32) -> u32
-    requires opcode { opcode < 2 ^ 7 }
-    requires funct3 { funct3 < 2 ^ 3 }
-    requires rs1 { IsRegister rs1 }
-    requires rs2 { IsRegister rs2 }
+    requires codes { (opcode < 2 ^ 7) × (funct3 < 2 ^ 3) }
+    requires registers { IsRegister rs1 × IsRegister rs2 }
     ensures { result ≡ word_s opcode funct3 rs1 rs2 imm }
 {
-    let bits = imm.cast_unsigned();
-    opcode
-        | field(bits, 0, 5) << 7
-        | funct3 << 12
-        | (rs1 as u32) << 15
-        | (rs2 as u32) << 20
-        | field(bits, 5, 7) << 25
+    let high = field(imm.cast_unsigned(), 5, 7);
+    let low = field(imm.cast_unsigned(), 0, 5);
+    word_r(opcode, funct3, high, low as u8, rs1, rs2)
 }
 
 /// A word of format B: a branch that compares two registers, by the low thirteen bits of `offset` but for the lowest.
-#[tactic(auto, using(crate::proofs::Joins::join_b), unfolding(crate::specs::Words::word_b))]
+#[tactic(auto, unfolding(crate::specs::Words::word_b))]
 pub fn word_b(opcode: u32, funct3: u32, rs1: u8, rs2: u8, offset: i32) -> u32
-    requires opcode { opcode < 2 ^ 7 }
-    requires funct3 { funct3 < 2 ^ 3 }
-    requires rs1 { IsRegister rs1 }
-    requires rs2 { IsRegister rs2 }
+    requires codes { (opcode < 2 ^ 7) × (funct3 < 2 ^ 3) }
+    requires registers { IsRegister rs1 × IsRegister rs2 }
     ensures { result ≡ word_b opcode funct3 rs1 rs2 offset }
 {
     let bits = offset.cast_unsigned();
-    opcode
-        | field(bits, 11, 1) << 7
-        | field(bits, 1, 4) << 8
-        | funct3 << 12
-        | (rs1 as u32) << 15
-        | (rs2 as u32) << 20
-        | field(bits, 5, 6) << 25
-        | field(bits, 12, 1) << 31
+    let high = field(bits, 5, 6) + field(bits, 12, 1) * (1 << 6);
+    let low = field(bits, 11, 1) + field(bits, 1, 4) * 2;
+    word_r(opcode, funct3, high, low as u8, rs1, rs2)
 }
 
 /// A word of format U: a destination and the twenty bits of LUI and AUIPC.
@@ -87,17 +74,14 @@ pub fn word_u(opcode: u32, rd: u8, upper: u32) -> u32
 }
 
 /// A word of format J: a jump with a destination, by the low twenty-one bits of `offset` but for the lowest.
-#[tactic(auto, using(crate::proofs::Joins::join_j), unfolding(crate::specs::Words::word_j))]
+#[tactic(auto, unfolding(crate::specs::Words::word_j))]
 pub fn word_j(opcode: u32, rd: u8, offset: i32) -> u32
     requires opcode { opcode < 2 ^ 7 }
     requires rd { IsRegister rd }
     ensures { result ≡ word_j opcode rd offset }
 {
     let bits = offset.cast_unsigned();
-    opcode
-        | (rd as u32) << 7
-        | field(bits, 12, 8) << 12
-        | field(bits, 11, 1) << 20
-        | field(bits, 1, 10) << 21
-        | field(bits, 20, 1) << 31
+    let low = field(bits, 12, 8) + field(bits, 11, 1) * (1 << 8);
+    let high = field(bits, 1, 10) * (1 << 9) + field(bits, 20, 1) * (1 << 19);
+    word_u(opcode, rd, low + high)
 }

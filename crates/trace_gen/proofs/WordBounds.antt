@@ -1,5 +1,5 @@
 -- The word of an instruction that fits has 32 bits.
-use Rattle.std.proofs.Common.{ℕ, ◌*◌, ◌^◌, ◌<◌, ℤ, arith, lit<, Bool, true, false, cond}
+use Rattle.std.proofs.Common.{ℕ, ◌+◌, ◌*◌, ◌^◌, ◌<◌, ℤ, arith, lit<, Bool, true, false, cond}
 use Rattle.rv_decode.specs.declared.op.Alu.{Alu}
 use Rattle.rv_decode.specs.declared.op.Op.{Op}
 use Rattle.rv_decode.specs.declared.op.Op.TheVariants.{Lui, Auipc, Jal, Jalr, Branch, Load, Store, AluImm, AluReg, Amo}
@@ -27,18 +27,17 @@ i_below o f d a imm po pf pd pa =
 s_below : (o f a b : ℕ) (imm : ℤ) → o < 128 → f < 8 → IsRegister a → IsRegister b → word_s o f a b imm < 2 ^ 32
 unfolding word_s
 s_below o f a b imm po pf pa pb =
-    let low : field (bits_of imm) 0 5 < 32 = field_below (bits_of imm) 0 5 in
-    let high : field (bits_of imm) 5 7 < 128 = field_below (bits_of imm) 5 7 in
-    omega arith
+    r_below o f _ _ a b po pf (field_below (bits_of imm) 5 7) (field_below (bits_of imm) 0 5) pa pb
 
 b_below : (o f a b : ℕ) (offset : ℤ) → o < 128 → f < 8 → IsRegister a → IsRegister b → word_b o f a b offset < 2 ^ 32
 unfolding word_b
 b_below o f a b offset po pf pa pb =
-    let eleventh : field (bits_of offset) 11 1 < 2 = field_below (bits_of offset) 11 1 in
-    let low : field (bits_of offset) 1 4 < 16 = field_below (bits_of offset) 1 4 in
-    let high : field (bits_of offset) 5 6 < 64 = field_below (bits_of offset) 5 6 in
-    let top : field (bits_of offset) 12 1 < 2 = field_below (bits_of offset) 12 1 in
-    omega arith
+    let bits = bits_of offset in
+    let high : field bits 5 6 + field bits 12 1 * 2 ^ 6 < 128 =
+    omega (arith, field_below bits 5 6, field_below bits 12 1) in
+    let low : field bits 11 1 + field bits 1 4 * 2 < 32 =
+    omega (arith, field_below bits 11 1, field_below bits 1 4) in
+    r_below o f _ _ a b po pf high low pa pb
 
 u_below : (o d u : ℕ) → o < 128 → IsRegister d → IsUpper u → word_u o d u < 2 ^ 32
 unfolding word_u
@@ -47,11 +46,9 @@ u_below o d u po pd pu = omega arith
 j_below : (o d : ℕ) (offset : ℤ) → o < 128 → IsRegister d → word_j o d offset < 2 ^ 32
 unfolding word_j
 j_below o d offset po pd =
-    let middle : field (bits_of offset) 12 8 < 256 = field_below (bits_of offset) 12 8 in
-    let eleventh : field (bits_of offset) 11 1 < 2 = field_below (bits_of offset) 11 1 in
-    let low : field (bits_of offset) 1 10 < 1024 = field_below (bits_of offset) 1 10 in
-    let top : field (bits_of offset) 20 1 < 2 = field_below (bits_of offset) 20 1 in
-    omega arith
+    let bits = bits_of offset in
+    u_below o d _ po pd
+    (omega (arith, field_below bits 12 8, field_below bits 11 1, field_below bits 1 10, field_below bits 20 1))
 
 chosen : (m n : ℕ) (b : Bool) → m < 2 ^ 32 → n < 2 ^ 32 → cond b m n < 2 ^ 32
 chosen m n true p q = p

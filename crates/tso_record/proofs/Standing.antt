@@ -17,6 +17,7 @@ use Rattle.tso_core.specs.Moving.{AcceptsOf, StepsTo, TellsOf}
 use Rattle.tso_data.specs.Orders.{ordering_of}
 use Rattle.tso_outcome.proofs.Behind.{alone_behind, inside_next}
 use Rattle.tso_outcome.proofs.ByCore.{no_items}
+use Rattle.tso_outcome.specs.Outcomes.{RunsAt}
 use Rattle.tso_outcome.proofs.Turns.{Steps, runs_end, runs_next, runs_start, told_next}
 use Rattle.tso_plain.specs.Plain.{plain}
 use Rattle.tso_plain.proofs.Steps.{plain_start, plain_told as forgets_told}
@@ -33,7 +34,8 @@ use Rattle.tso_told.specs.Played.{AreInside}
 use Rattle.tso_codec.specs.declared.recording.TsoRecording.{TsoRecording}
 use Rattle.tso_answers.specs.Schedules.{tso_recording_of}
 use Rattle.tso_record.specs.Clerks.{Noted, values_told}
-use Rattle.tso_record.specs.Standing.{IsRecording, RecordsAt, last_lists}
+use Rattle.run_steps.specs.Ways.{IsUnderWay}
+use Rattle.tso_record.specs.Standing.{RecordsAt, last_lists}
 use Rattle.tso_record.proofs.Telling.{accepts, accepts_told, all_reduced, all_values, alone, left_is, local, logged}
 use Rattle.tso_record.proofs.Telling.{touch}
 use Rattle.tso_record.proofs.ToldValues.{values_next}
@@ -107,6 +109,21 @@ records_next image params schedule t s later c d rest rest' m going steps moved 
           (told_next image params schedule t (plain s) (plain later) rest rest' m steps h.runs);
     }
 
+-- what shows alike stands alike
+pub records_same : (image : Contents) (params : Params) (schedule : Choices) (t : ℕ) (s u : TimedState) (c d : Noted)
+    (rest : Choices) → u ≡ s → d.reduction.state ≡ c.reduction.state → d.values ≡ c.values →
+    RecordsAt image params schedule t s c rest → RecordsAt image params schedule t u d rest
+records_same image params schedule t s u c d rest state reduction values h = record {
+  runs = subst (λ (v : TimedState). RunsAt image params schedule t (plain v) rest) (sym state) h.runs;
+  state = state ∙ h.state;
+  reduction = reduction ∙ h.reduction;
+  values = values ∙ h.values;
+}
+
+-- the machine and the clerk stand at some moment of a run
+abbrev pub IsRecording : TimedState → Noted → Choices → Type 0
+IsRecording s c rest = IsUnderWay (λ image params schedule t. RecordsAt image params schedule t s c rest)
+
 -- what the clerk is told of the next choice is what it accepts, while it has room
 pub accepts_next : (s : TimedState) (c known : Noted) (rest : Choices) (m : Move) → IsRecording s known rest →
     chosen (plain s) (choice_at rest 0) ≡ Some m → c.reduction.state ≡ known.reduction.state →
@@ -117,7 +134,7 @@ accepts_next s c known rest m running is reduced values ready roomy =
     (alone_behind (core_at s.cores (core_of m)) (event times_riding none_carrying s m)) c awaited inside ready roomy
   where
     h : RecordsAt running.image running.params running.schedule running.t s known rest
-    h = running.records
+    h = running.stands_so
 
     w : Standing
     w = standing_at running.image running.params (choice_at running.schedule) running.t
@@ -126,7 +143,7 @@ accepts_next s c known rest m running is reduced values ready roomy =
     there =
         next_told running.image running.params (choice_at running.schedule) running.t m running.fits.cores
         (let limit = running.fits.limit in omega (arith, limit))
-        (next_there running.image running.params running.schedule running.t s known rest m running.records is)
+        (next_there running.image running.params running.schedule running.t s known rest m running.stands_so is)
 
     awaited : AreNextOf c.reduction.state (found_in s m) (told times_riding none_carrying s m)
     awaited =

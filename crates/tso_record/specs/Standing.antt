@@ -1,7 +1,6 @@
 -- Where a run stands that is recorded.
 use Rattle.std.specs.Prelude.{◌≡◌, ℕ, List}
 use Rattle.image_mem.specs.Contents.{Contents}
-use Rattle.rtr_types.specs.Parameters.{Fits}
 use Rattle.rtr_types.specs.declared.params.Params.{Params}
 use Rattle.schedule_pick.specs.Choices.{Choices, choice_at}
 use Rattle.tso_bound.specs.Ends.{end_of}
@@ -18,15 +17,6 @@ pub record RecordsAt (image : Contents) (params : Params) (schedule : Choices) (
   pub state : s ≡ (standing_at image params (choice_at schedule) t).state
   pub reduction : c.reduction.state ≡ (standing_at image params (choice_at schedule) t).reduction
   pub values : c.values ≡ values_at image params (choice_at schedule) t
-
--- they stand at some moment of a run
-pub record IsRecording (s : TimedState) (c : Noted) (rest : Choices) : Type 0 where
-  pub image : Contents
-  pub params : Params
-  pub schedule : Choices
-  pub t : ℕ
-  pub fits : Fits params
-  pub records : RecordsAt image params schedule t s c rest
 
 -- the edges of each pair of cores that the reduction has at the end of the run
 abbrev pub last_lists : Contents → Params → Choices → List (List (ℕ × ℕ))

@@ -1,19 +1,16 @@
 //! The run of an image by cores with store buffers, recorded.
-ghost use Rattle.std.specs.Prelude.{◌≡◌, ◌<◌, ℕ, suc, IfOk, IsTrue, OnOk, false, length, map, slice_index};
+ghost use Rattle.std.specs.Prelude.{◌≡◌, ◌<◌, ℕ, IfOk, IsTrue, OnOk, length, map, slice_index};
 ghost use Rattle.conflict_edge.specs.Least.{IsLeast};
-ghost use Rattle.image_mem.specs.Contents.{Contents};
 ghost use Rattle.race_log.specs.Sources.{log_edges};
 ghost use Rattle.rtr_types.specs.Parameters.{Fits};
 ghost use Rattle.rtr_types.specs.declared.pairs.Which.TheVariants.{Reduced};
-ghost use Rattle.rtr_types.specs.declared.params.Params.{Params};
-ghost use Rattle.schedule_pick.specs.Choices.{Choices};
 ghost use Rattle.tso_answers.specs.Logged.{AreLogged};
 ghost use Rattle.tso_answers.specs.Schedules.{tso_accesses_of, tso_order_of, tso_recording_of};
-ghost use Rattle.tso_bound.specs.Bound.{left};
+ghost use Rattle.tso_bound.specs.Bound.{left as steps_left};
 ghost use Rattle.tso_codec.specs.Validity.{IsTso, plain_of};
 ghost use Rattle.tso_core.specs.Machineries.{heads_roomy};
 ghost use Rattle.tso_outcome.specs.Outcomes.{tso_outcome_of};
-ghost use Rattle.tso_record.specs.Standing.{IsRecording, RecordsAt, last_lists};
+ghost use Rattle.tso_record.specs.Standing.{RecordsAt, last_lists};
 ghost use Rattle.tso_replay.specs.Laws.{ReplaysTold};
 ghost use Rattle.tso_state.specs.States.{all_done};
 
@@ -22,6 +19,7 @@ use crate::uncarried::Uncarried;
 use access_times::Times;
 use image_mem::Image;
 use rtr_types::{Items, Params};
+use run_steps::{Stepping, run_to_end};
 use rv_core::Outcome;
 use schedule_pick::Schedule;
 use std::alloc::{AllocError, Global};
@@ -36,12 +34,13 @@ pub struct TsoRecorded {
     pub outcome: Outcome,
 }
 
-/// What a run leaves that its recording is made of: how many instructions each core executed, the reduced log, and the
-/// logged loads.
+/// What a run leaves that its recording is made of: how many instructions each core executed, the reduced log, the
+/// logged loads, and the image.
 #[derive(Drop)]
 struct RunEnd {
     totals: Items<u32>,
     logs: RunLogs,
+    image: Image,
 }
 
 /// Runs the image on cores with store buffers to its end, under the schedule, and records the run. The only refusal is
@@ -74,11 +73,17 @@ pub fn tso_record_image(
     prove!(words == params.words);
     are_bytes(image.bytes());
     let clerk = RunClerk::new(alloc, params.cores)?;
-    let mut machine = BufferedMachine::<Times, Uncarried>::new(alloc, image, params)?;
-    let run_end = record_on(alloc, &mut machine, clerk, schedule, params)?;
+    let machine = BufferedMachine::<Times, Uncarried>::new(alloc, image, params)?;
+    let mut running = Running {
+        machine,
+        clerk,
+        choices: schedule,
+    };
+    make_rooms(&mut running.machine, &mut running.clerk)?;
+    let run_end = record_on(alloc, running, params)?;
     Ok(TsoRecording {
         params,
-        image: Items::from_vec(machine.into_image().into_bytes()),
+        image: Items::from_vec(run_end.image.into_bytes()),
         totals: run_end.totals,
         reduced: run_end.logs.reduced,
         values: run_end.logs.values,
@@ -124,34 +129,66 @@ fn are_bytes(bytes: &[u8])
     let _ = bytes;
 }
 
-/// Runs a machine that stands at its start to the end.
-fn record_on(
-    alloc: Global,
-    machine: &mut BufferedMachine<Times, Uncarried>,
+/// The machine, the clerk that is told of its steps, and the choices that are left. A turn takes the room that was made
+/// before, and makes that for the next.
+#[derive(Drop)]
+struct Running {
+    machine: BufferedMachine<Times, Uncarried>,
     clerk: RunClerk,
-    schedule: Schedule,
-    params: Params,
-) -> Result<RunEnd, AllocError>
-    requires fits { Fits params }
-    requires stands { RecordsAt machine.old.state.image params schedule 0 machine.old.state clerk schedule }
-    ensures totals { IfOk result (λ end.
-        end.totals ≡ (tso_recording_of machine.old.state.image params schedule).totals) }
-    ensures reduced { IfOk result (λ end.
-        end.logs.reduced ≡ last_lists machine.old.state.image params schedule) }
-    ensures values { IfOk result (λ end.
-        end.logs.values ≡ (tso_recording_of machine.old.state.image params schedule).values) }
-    ensures image { OnOk result (machine.new.state.image ≡ machine.old.state.image) }
-{
-    let mut clerk = clerk;
-    let mut choices = schedule;
-    make_rooms(machine, &mut clerk)?;
-    while !machine.done() {
-        turn(machine, &mut clerk, &mut choices)?;
+    choices: Schedule,
+}
+
+impl Stepping for Running {
+    ghost stands = { λ r image params schedule t.
+        RecordsAt image params schedule t r.machine.state r.clerk r.choices };
+
+    ghost ready = { λ r. IsTrue (heads_roomy r.machine) × IsTrue r.clerk.reduction.ready × IsTrue r.clerk.roomy };
+
+    ghost image = { λ r. r.machine.state.image };
+
+    ghost ended = { λ r. all_done r.machine.state };
+
+    ghost left = { λ r. steps_left r.machine.state };
+
+    fn done(&self) -> bool {
+        self.machine.done()
     }
-    let totals = totals_of(alloc, machine, params.cores)?;
+
+    fn turn(&mut self) -> Result<(), AllocError> {
+        self.machine
+            .step_timed(self.choices.next(), &mut self.clerk);
+        make_rooms(&mut self.machine, &mut self.clerk)?;
+        Ok(())
+    }
+}
+
+/// Runs what stands at its start to the end.
+fn record_on(alloc: Global, running: Running, params: Params) -> Result<RunEnd, AllocError>
+    requires fits { Fits params }
+    requires stands { RecordsAt running.machine.state.image params running.choices 0 running.machine.state
+        running.clerk running.choices }
+    requires ready { IsTrue (heads_roomy running.machine) × IsTrue running.clerk.reduction.ready
+        × IsTrue running.clerk.roomy }
+    ensures totals { IfOk result (λ end.
+        end.totals ≡ (tso_recording_of running.machine.state.image params running.choices).totals) }
+    ensures reduced { IfOk result (λ end.
+        end.logs.reduced ≡ last_lists running.machine.state.image params running.choices) }
+    ensures values { IfOk result (λ end.
+        end.logs.values ≡ (tso_recording_of running.machine.state.image params running.choices).values) }
+    ensures image { IfOk result (λ end. end.image ≡ running.machine.state.image) }
+{
+    let mut running = running;
+    run_to_end(&mut running)?;
+    let totals = totals_of(alloc, &running.machine, params.cores)?;
+    let Running {
+        machine,
+        clerk,
+        choices: _choices,
+    } = running;
     Ok(RunEnd {
         totals,
         logs: clerk.finish(),
+        image: machine.into_image(),
     })
 }
 
@@ -187,29 +224,4 @@ fn make_rooms(
 {
     machine.make_room()?;
     clerk.make_room()
-}
-
-/// One step of the machine, for which room was made; then room is made for the next.
-fn turn(
-    machine: &mut BufferedMachine<Times, Uncarried>,
-    clerk: &mut RunClerk,
-    choices: &mut Schedule,
-) -> Result<(), AllocError>
-    requires going { all_done machine.old.state ≡ false }
-    requires recording { IsRecording machine.old.state clerk.old choices.old }
-    requires heads { IsTrue (heads_roomy machine.old) }
-    requires ready { IsTrue clerk.old.reduction.ready }
-    requires roomy { IsTrue clerk.old.roomy }
-    ensures stands { (image : Contents) (params : Params) (schedule : Choices) (t : ℕ) → OnOk result
-        (RecordsAt image params schedule t machine.old.state clerk.old choices.old →
-        RecordsAt image params schedule (suc t) machine.new.state clerk.new choices.new) }
-    ensures image { OnOk result (machine.new.state.image ≡ machine.old.state.image) }
-    ensures nearer { OnOk result (left machine.new.state < left machine.old.state) }
-    ensures heads { OnOk result (IsTrue (heads_roomy machine.new)) }
-    ensures ready { OnOk result (IsTrue clerk.new.reduction.ready) }
-    ensures roomy { OnOk result (IsTrue clerk.new.roomy) }
-{
-    machine.step_timed(choices.next(), clerk);
-    make_rooms(machine, clerk)?;
-    Ok(())
 }

@@ -38,8 +38,8 @@ returns c =
     let made = recording_made c.args.image c.args.params c.args.schedule c.from_vec.result
     c.in_ok-run_end.run_end.totals
     c.in_ok-run_end.run_end.logs.reduced c.in_ok-run_end.run_end.logs.regulated
-    (c.from_vec.ensures ∙ c.into_bytes.ensures ∙ ap (λ (i : Contents). i.bytes) (c.into_image.ensures
-    ∙ c.in_ok-run_end.ensures.image ∙ image_is))
+    (c.from_vec.ensures ∙ c.into_bytes.ensures
+    ∙ ap (λ (i : Contents). i.bytes) (c.in_ok-run_end.ensures.image ∙ image_is))
     (c.in_ok-run_end.ensures.totals ∙ ap (λ (i : Contents). totals_of
     (outcome_of i c.args.params c.args.schedule).cores) image_is)
     (c.in_ok-run_end.ensures.reduced ∙ ap (λ (i : Contents). reduced_of i c.args.params c.args.schedule) image_is)

@@ -14,25 +14,31 @@ use Rattle.tso_outcome.specs.Outcomes.{tso_outcome_of}
 use Rattle.tso_recordings.specs.Recordings.{CanRun}
 use Rattle.tso_replay.specs.Laws.{ReplaysTold}
 use Rattle.tso_words.proofs.Opening.{opens_small}
-use Rattle.tso_record.proofs.Standing.{recording_made, records_start}
+use Rattle.tso_record.proofs.Standing.{recording_made, records_same, records_start}
 use Rattle.tso_record.specs.Standing.{RecordsAt, last_lists}
 use Rattle.tso_record.proofs.run.tso_record_image.Goals as goal
 
 pub record_on-requires-clause-stands : goal.record_on-requires-clause-stands
 record_on-requires-clause-stands c =
-    let image_is = ap (λ s. s.image) c.in_ok-machine.ensures.start in
-    subst (λ (i : Contents). RecordsAt i c.args.params c.args.schedule 0 c.in_ok-machine.machine.state
-    c.in_ok-clerk.clerk c.args.schedule)
-    (sym image_is)
+    let rooms = c.make_rooms.ensures in
+    subst (λ (i : Contents). RecordsAt i c.args.params c.args.schedule 0 c.make_rooms.new.machine.state
+    c.make_rooms.new.clerk c.args.schedule)
+    (sym (ap (λ s. s.image) (rooms.state ∙ c.in_ok-machine.ensures.start)))
+    (records_same c.args.image c.args.params c.args.schedule 0 _ _ _ _ _ rooms.state rooms.reduction rooms.values
     (records_start c.args.image c.args.params c.args.schedule c.in_ok-machine.machine.state c.in_ok-clerk.clerk
-    c.in_ok-machine.ensures.start c.in_ok-clerk.ensures.reduction c.in_ok-clerk.ensures.values)
+    c.in_ok-machine.ensures.start c.in_ok-clerk.ensures.reduction c.in_ok-clerk.ensures.values))
+
+pub record_on-requires-clause-ready : goal.record_on-requires-clause-ready
+record_on-requires-clause-ready c =
+    let ok = c.in_ok-make_rooms.ensures in
+    (ok.heads, ok.ready, ok.roomy)
 
 pub returns : goal.returns
 returns c =
     let image = c.args.image in
     let params = c.args.params in
     let schedule = c.args.schedule in
-    let image_is = ap (λ s. s.image) c.in_ok-machine.ensures.start in
+    let image_is = ap (λ s. s.image) (c.make_rooms.ensures.state ∙ c.in_ok-machine.ensures.start) in
     let room : length image.bytes ≤ 4 * params.words =
     omega (arith, c.words-words.ensures.value, c.words-words.ensures.room, c.requires.words) in
     let small : (i : ℕ) → slice_index image.bytes i < 256 =
@@ -47,7 +53,7 @@ returns c =
     let made = recording_made image params schedule c.from_vec.result c.in_ok-run_end.run_end.totals
     c.in_ok-run_end.run_end.logs.reduced c.in_ok-run_end.run_end.logs.values
     (c.from_vec.ensures ∙ c.into_bytes.ensures
-    ∙ ap (λ (i : Contents). i.bytes) (c.into_image.ensures ∙ c.in_ok-run_end.ensures.image ∙ image_is))
+    ∙ ap (λ (i : Contents). i.bytes) (c.in_ok-run_end.ensures.image ∙ image_is))
     (c.in_ok-run_end.ensures.totals ∙ ap (λ (i : Contents). (tso_recording_of i params schedule).totals) image_is)
     (c.in_ok-run_end.ensures.reduced ∙ ap (λ (i : Contents). last_lists i params schedule) image_is ∙ it.lists)
     (c.in_ok-run_end.ensures.values ∙ ap (λ (i : Contents). (tso_recording_of i params schedule).values) image_is) in
