@@ -19,7 +19,7 @@ use Rattle.clock_core.specs.Counts.{no_counts}
 use Rattle.clock_core.specs.declared.clock.Clock.{Clock}
 use Rattle.access_times.specs.Reads.{read_if, read_kept, reads_kept}
 use Rattle.access_times.specs.declared.reads.Reads.TheInside.{Inside}
-use Rattle.access_times.specs.Times.{newer_read, no_reads, read_in, reads_absorbed}
+use Rattle.access_times.specs.Times.{newer_by, newer_read, no_reads, read_in, reads_absorbed, reads_by}
 
 pub length-kept : (readers : CoreSet) (places : List (ℕ × Clock)) → length (reads_kept readers places) ≡ CORES_MAX
 unfolding reads_kept
@@ -193,6 +193,14 @@ view_absorbed own first second same =
     ∙ ap (λ (r : Option (ℕ × Clock)). newer_read r (read_in b k)) (read_in-kept first.readers first.places k lk)
     ∙ ap (newer_read (read_of first k)) (read_in-kept second.readers second.places k lk)))
 
+-- the same where a tie goes to the one or the other
+pub view_by : (ties : Bool) (own mine theirs : Inside) →
+    ((k : ℕ) → k < CORES_MAX → read_of own k ≡ newer_by ties (read_of mine k) (read_of theirs k)) →
+    reads_kept own.readers own.places
+    ≡ reads_by ties (reads_kept mine.readers mine.places) (reads_kept theirs.readers theirs.places)
+view_by true own mine theirs same = view_absorbed own theirs mine same
+view_by false own mine theirs same = view_absorbed own mine theirs same
+
 -- the fields with a read in the core's place
 abbrev pub inside_with : Inside → ℕ → ℕ × Clock → Inside
 inside_with a core read = record { readers = with_core a.readers core; places = slice_set a.places core read }
@@ -259,19 +267,12 @@ module _ (old own other : Inside) (core : ℕ) (d e : ℕ × Clock) (h : Bool) (
       ap (λ (r : ℕ × Clock). Some r) (get_or_default other.places core e (0, no_counts) (let l = long in omega arith))
       ∙ sym (ap (λ (b : Bool). read_if b (slice_index_or other.places core (0, no_counts))) is)
 
-  pub ends_absorbing : length own.places ≡ CORES_MAX → length other.places ≡ CORES_MAX → core < CORES_MAX →
+  pub ends_by : (ties : Bool) → length own.places ≡ CORES_MAX → length other.places ≡ CORES_MAX → core < CORES_MAX →
       h ≡ has own.readers core → (has other.readers core ≡ true) × (read_of own core ≡ read_of old core) →
-      newer_read mine (Some theirs) ≡ chosen → chosen ≡ newer_read (read_of old core) (read_of other core)
-  ends_absorbing long other_long lt has_own rest e =
-      sym e ∙ ap (λ (r : Option (ℕ × Clock)). newer_read r (Some theirs)) (is_mine long lt has_own rest.1)
-      ∙ ap (newer_read (read_of old core)) (is_theirs other_long lt rest.0)
-
-  pub ends_renewing : length own.places ≡ CORES_MAX → length other.places ≡ CORES_MAX → core < CORES_MAX →
-      h ≡ has own.readers core → (has other.readers core ≡ true) × (read_of own core ≡ read_of old core) →
-      newer_read (Some theirs) mine ≡ chosen → chosen ≡ newer_read (read_of other core) (read_of old core)
-  ends_renewing long other_long lt has_own rest e =
-      sym e ∙ ap (newer_read (Some theirs)) (is_mine long lt has_own rest.1)
-      ∙ ap (λ (r : Option (ℕ × Clock)). newer_read r (read_of old core)) (is_theirs other_long lt rest.0)
+      newer_by ties mine (Some theirs) ≡ chosen → chosen ≡ newer_by ties (read_of old core) (read_of other core)
+  ends_by ties long other_long lt has_own rest e =
+      sym e ∙ ap (λ (r : Option (ℕ × Clock)). newer_by ties r (Some theirs)) (is_mine long lt has_own rest.1)
+      ∙ ap (newer_by ties (read_of old core)) (is_theirs other_long lt rest.0)
 
 pub if_true : (b : Bool) (x y : Option (ℕ × Clock)) → b ≡ true → (if b then x else y) ≡ x
 if_true b x y e = rw e refl

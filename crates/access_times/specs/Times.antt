@@ -50,6 +50,15 @@ read_in reads core = slice_index_or reads core None
 unfoldable pub reads_absorbed : List (Option (ℕ × Clock)) → List (Option (ℕ × Clock)) → List (Option (ℕ × Clock))
 reads_absorbed a b = map (λ core. newer_read (read_in a core) (read_in b core)) (range_with_len 0 CORES_MAX)
 
+-- the newer of the own read and another, which wins a tie where that is said, and so for each core
+abbrev pub newer_by : (ties : Bool) → Option (ℕ × Clock) → Option (ℕ × Clock) → Option (ℕ × Clock)
+newer_by true own other = newer_read other own
+newer_by false own other = newer_read own other
+
+abbrev pub reads_by : (ties : Bool) → List (Option (ℕ × Clock)) → List (Option (ℕ × Clock)) → List (Option (ℕ × Clock))
+reads_by true own other = reads_absorbed other own
+reads_by false own other = reads_absorbed own other
+
 -- reads are taken over only where the last writes are equal
 abbrev pub slot_absorbed : SlotTimes → SlotTimes → SlotTimes
 slot_absorbed a b = if is_same_write a.write b.write then record a { reads = reads_absorbed a.reads b.reads } else a

@@ -3,7 +3,7 @@ ghost use Rattle.std.specs.Prelude.{◌≡◌, ℕ, ◌<◌, IsTrue, Some, false
 ghost use Rattle.rtr_types.specs.CoreSets.{has, is_none};
 ghost use Rattle.rtr_types.specs.declared.TheConstants.{CORES_MAX};
 ghost use Rattle.access_times.specs.Reads.{read_if, read_seen};
-ghost use Rattle.access_times.specs.Times.{newer_read, no_reads, read_in, reads_absorbed};
+ghost use Rattle.access_times.specs.Times.{newer_by, newer_read, no_reads, read_in, reads_absorbed, reads_by};
 
 use clock_core::Clock;
 use rtr_types::{CORES_MAX, CoreSet};
@@ -50,6 +50,19 @@ fn is_no_older(other: &(u32, Clock), has_own: bool, own: &(u32, Clock)) -> bool
         newer_read (Some other.now) own_read ≡ (if result then Some other.now else own_read) }
 {
     !has_own || own.0 <= other.0
+}
+
+/// Whether the other read wins over the own one: it is newer, or as new where `ties` go to the other.
+#[inline(always)]
+fn wins(other: &(u32, Clock), has_own: bool, own: &(u32, Clock), ties: bool) -> bool
+    ensures { let own_read = read_if has_own own.now in
+        newer_by ties own_read (Some other.now) ≡ (if result then Some other.now else own_read) }
+{
+    if ties {
+        is_no_older(other, has_own, own)
+    } else {
+        is_newer(other, has_own, own)
+    }
 }
 
 /// A core of the set, which has one.
@@ -121,12 +134,27 @@ impl Reads {
     pub(crate) fn absorb(&mut self, other: &Reads)
         ensures { self.new ≡ reads_absorbed self.old other.now }
     {
+        self.take_over(other, false);
+    }
+
+    /// Becomes the other once that has absorbed what these reads were.
+    pub(crate) fn renew(&mut self, other: &Reads)
+        ensures { self.new ≡ reads_absorbed other.now self.old }
+    {
+        self.take_over(other, true);
+    }
+
+    /// Takes over each read of the other that wins over the own one.
+    #[inline(always)]
+    fn take_over(&mut self, other: &Reads, ties: bool)
+        ensures { self.new ≡ reads_by ties self.old other.now }
+    {
         let mut left = other.readers;
         while !left.is_empty() {
             let core = first_of(left);
             left = left.without(core);
             let newer = &other.places[core as usize];
-            if is_newer(newer, self.readers.has(core), &self.places[core as usize]) {
+            if wins(newer, self.readers.has(core), &self.places[core as usize], ties) {
                 self.readers = self.readers.with(core);
                 self.places[core as usize] = *newer;
             }
@@ -143,22 +171,6 @@ impl Reads {
             let core = first_of(left);
             left = left.without(core);
             self.places[core as usize] = other.places[core as usize];
-        }
-    }
-
-    /// Becomes the other once that has absorbed what these reads were.
-    pub(crate) fn renew(&mut self, other: &Reads)
-        ensures { self.new ≡ reads_absorbed other.now self.old }
-    {
-        let mut left = other.readers;
-        while !left.is_empty() {
-            let core = first_of(left);
-            left = left.without(core);
-            let newer = &other.places[core as usize];
-            if is_no_older(newer, self.readers.has(core), &self.places[core as usize]) {
-                self.readers = self.readers.with(core);
-                self.places[core as usize] = *newer;
-            }
         }
     }
 }

@@ -58,10 +58,26 @@ fn place_behind(first: u32, capacity: u32) -> u32
     if behind == capacity { 0 } else { behind }
 }
 
+impl<T> Link<T> {
+    /// The empty link over these places.
+    #[tactic(auto, using(crate::proofs::Rings::around_none))]
+    fn over(capacity: u32, slots: Vec<T>) -> Link<T>
+        requires { length slots.items ≡ capacity }
+        ensures { result ≡ record { room = capacity; items = [] } }
+    {
+        Link {
+            capacity,
+            slots,
+            first: 0,
+            next: 0,
+            count: 0,
+        }
+    }
+}
+
 impl<T: Drop + Default> Link<T> {
     /// An empty link with room for `capacity` items. Until the first item comes to a place, the place
     /// holds the type's default value.
-    #[tactic(auto, using(crate::proofs::Rings::around_none))]
     pub fn new(alloc: Global, capacity: u32) -> Result<Link<T>, AllocError>
         ensures { IfOk result (λ link. link ≡ record { room = capacity; items = [] }) }
     {
@@ -69,13 +85,7 @@ impl<T: Drop + Default> Link<T> {
         for made in 0..capacity {
             slots.push(T::default())?;
         }
-        Ok(Link {
-            capacity,
-            slots,
-            first: 0,
-            next: 0,
-            count: 0,
-        })
+        Ok(Link::over(capacity, slots))
     }
 
     /// Puts the item behind all others. Where the link is full it stays as it was, and the item comes
@@ -117,7 +127,6 @@ impl<T: Drop + Default> Link<T> {
 impl<T: Drop + Blank> Link<T> {
     /// An empty link with room for `capacity` items, as `new` makes it. Until the first item comes to a place, the
     /// place holds a blank.
-    #[tactic(auto, using(crate::proofs::Rings::around_none))]
     pub fn of_blanks(alloc: Global, capacity: u32) -> Result<Link<T>, AllocError>
         ensures { IfOk result (λ link. link ≡ record { room = capacity; items = [] }) }
     {
@@ -125,13 +134,7 @@ impl<T: Drop + Blank> Link<T> {
         for blank in 0..capacity {
             slots.push(T::blank(alloc)?)?;
         }
-        Ok(Link {
-            capacity,
-            slots,
-            first: 0,
-            next: 0,
-            count: 0,
-        })
+        Ok(Link::over(capacity, slots))
     }
 }
 

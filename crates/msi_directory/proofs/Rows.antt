@@ -1,5 +1,6 @@
 -- A row of the table on an entry that a sparse home keeps, as contracts see it.
-use Rattle.std.proofs.Common.{◌≡◌, ◌∙◌, ℕ, ◌<◌, Bool, false, IsTrue, Some, ap, subst, sym}
+use Rattle.std.proofs.Common.{◌≡◌, ◌∙◌, ℕ, ◌+◌, ◌*◌, ◌^◌, ◌<◌, Bool, false, IsTrue, Some, None, ap, arith, subst}
+use Rattle.std.proofs.Common.{sym}
 use Rattle.std.specs.Prelude.{length, slice_index_or, slice_set}
 use Rattle.std.proofs.lemmas.List.{get_or-set_other}
 use Rattle.std.proofs.lemmas.List.Elements.{All-set}
@@ -12,7 +13,28 @@ use Rattle.msi_directory.specs.declared.entry.Entry.{Entry}
 use Rattle.msi_directory.specs.declared.entry.Served.{Served}
 use Rattle.msi_directory.specs.declared.entry.Stage.{Stage}
 use Rattle.msi_directory.specs.declared.entry.Stage.TheVariants.{Unshared}
-use Rattle.msi_directory.proofs.Sparse.{entries_with, fits_with, reads_kept, room_reads, stage_kept}
+use Rattle.msi_directory.proofs.Sparse.{entries_counted, entries_with, fits_with, reads_kept, reads_opening}
+use Rattle.msi_directory.proofs.Sparse.{room_reads, stage_kept}
+
+-- a block of the memory is looked up in the home, which contracts see as `now`
+module _ {R : Type 0} (home : Sparse R) (now : Blocks R) (view : blocks_in home ≡ now) (fresh : R) (block : ℕ)
+    (within : block < length now.entries) where
+  -- its entry is the one at the place that is found, or else the opening one
+  pub reads_there : (place : ℕ) → place_of home.kept.blocks block ≡ Some place
+      → entry_at fresh now.entries block ≡ kept_at home.kept place (opening_entry home.fresh home.opening block)
+  reads_there place stands =
+      ap (λ (b : Blocks R). entry_at fresh b.entries block) (sym view)
+      ∙ reads_kept home block (rw (← view) at within) (no_entry fresh) place stands
+
+  pub reads_nowhere : place_of home.kept.blocks block ≡ None
+      → entry_at fresh now.entries block ≡ opening_entry home.fresh home.opening block
+  reads_nowhere none =
+      ap (λ (b : Blocks R). entry_at fresh b.entries block) (sym view)
+      ∙ reads_opening home block (rw (← view) at within) (no_entry fresh) none
+
+  -- the words of its opening entry have 32-bit indices
+  pub opens_within : HomeFits home → block * 4 + 3 < 2 ^ 32
+  opens_within fits = let inside = rw (← view) at within in omega (arith, inside, fits.words, entries_counted home)
 
 -- a message about a block of the memory comes to the home, which contracts see as `now`
 module _ {R : Type 0} (home : Sparse R) (now : Blocks R) (view : blocks_in home ≡ now) (fresh : R) (done : Deed R)
@@ -45,8 +67,7 @@ module _ {R : Type 0} (home : Sparse R) (now : Blocks R) (view : blocks_in home 
     opens = opening_entry home.fresh home.opening done.block
 
     reads : entry_before ≡ kept_at home.kept place opens
-    reads = ap (λ (b : Blocks R). entry_at fresh b.entries done.block) (sym view)
-        ∙ reads_kept home done.block inside (no_entry fresh) place stands
+    reads = reads_there home now view fresh done.block within place stands
 
     -- the stage that is kept is the block's, whatever is asked of it
     pub stage_found : (P : Stage → Type 0) → P entry_before.stage → P (slice_index_or home.kept.stages place Unshared)

@@ -43,6 +43,11 @@ stores move at word before after =
 abbrev pub load : (count word value : ℕ) → LoadNote
 load count word value = record { count = count; word = word; value = value }
 
+-- both cores exited after so many instructions, at these pcs, with these registers and this memory
+abbrev pub exits : (retired pcs : List ℕ) → List (List (ℕ × ℕ)) → List (ℕ × ℕ) → Seen
+exits retired pcs registers memory =
+    record { stops = Exit ∷ Exit ∷ []; retired = retired; pcs = pcs; registers = registers; memory = memory }
+
 -- by these choices and then zeros the run ends after exactly t choices, and leaves this
 pub record EndsSo (image : Contents) (limit : ℕ) (choices : List ℕ) (t : ℕ) (left : Seen)
     (found : List (List LoadNote)) : Type 0 where
@@ -79,64 +84,36 @@ OneHandsOver =
 abbrev pub HandedOver : Type 0
 HandedOver =
     EndsSo handed_over 10000 handing_over 23
-    (record {
-      stops = Exit ∷ Exit ∷ [];
-      retired = 5 ∷ 4 ∷ [];
-      pcs = 0x14 ∷ 0x20 ∷ [];
-      registers = ((5, 7) ∷ (6, 1) ∷ []) ∷ ((7, 7) ∷ (10, 1) ∷ []) ∷ [];
-      memory = (16, 1) ∷ [];
-    })
+    (exits (5 ∷ 4 ∷ []) (0x14 ∷ 0x20 ∷ []) (((5, 7) ∷ (6, 1) ∷ []) ∷ ((7, 7) ∷ (10, 1) ∷ []) ∷ [])
+    ((16, 1) ∷ []))
     ((load 4 16 1 ∷ []) ∷ (load 2 16 7 ∷ []) ∷ [])
 
 -- two words of one block: each core finds its own word as it left it
 abbrev pub ShareFalsely : Type 0
 ShareFalsely =
     EndsSo scaled_words 10000 [] 14
-    (record {
-      stops = Exit ∷ Exit ∷ [];
-      retired = 4 ∷ 4 ∷ [];
-      pcs = 0x10 ∷ 0x10 ∷ [];
-      registers = [] ∷ ((5, 4) ∷ (6, 1) ∷ (10, 1) ∷ []) ∷ [];
-      memory = (9, 1) ∷ [];
-    })
+    (exits (4 ∷ 4 ∷ []) (0x10 ∷ 0x10 ∷ []) ([] ∷ ((5, 4) ∷ (6, 1) ∷ (10, 1) ∷ []) ∷ []) ((9, 1) ∷ []))
     ((load 3 8 0 ∷ []) ∷ (load 3 9 1 ∷ []) ∷ [])
 
 -- bytes of one word: neither store loses the other's byte
 abbrev pub StoreBytes : Type 0
 StoreBytes =
     EndsSo bytes_of_a_word 10000 [] 12
-    (record {
-      stops = Exit ∷ Exit ∷ [];
-      retired = 3 ∷ 3 ∷ [];
-      pcs = 0xc ∷ 0xc ∷ [];
-      registers = ((5, 5) ∷ []) ∷ ((5, 6) ∷ (10, 1) ∷ []) ∷ [];
-      memory = (8, 0x605) ∷ [];
-    })
+    (exits (3 ∷ 3 ∷ []) (0xc ∷ 0xc ∷ []) (((5, 5) ∷ []) ∷ ((5, 6) ∷ (10, 1) ∷ []) ∷ []) ((8, 0x605) ∷ []))
     ([] ∷ [] ∷ [])
 
 -- sums in one word: neither loses the other, and each core has the word that it found among its loads
 abbrev pub SumInTurn : Type 0
 SumInTurn =
     EndsSo sum 10000 [] 14
-    (record {
-      stops = Exit ∷ Exit ∷ [];
-      retired = 4 ∷ 4 ∷ [];
-      pcs = 0x10 ∷ 0x10 ∷ [];
-      registers = ((5, 1) ∷ (7, 32) ∷ []) ∷ ((5, 2) ∷ (6, 1) ∷ (7, 32) ∷ (10, 1) ∷ []) ∷ [];
-      memory = (8, 3) ∷ [];
-    })
+    (exits (4 ∷ 4 ∷ []) (0x10 ∷ 0x10 ∷ [])
+    (((5, 1) ∷ (7, 32) ∷ []) ∷ ((5, 2) ∷ (6, 1) ∷ (7, 32) ∷ (10, 1) ∷ []) ∷ []) ((8, 3) ∷ []))
     ((load 3 8 0 ∷ []) ∷ (load 3 8 1 ∷ []) ∷ [])
 
 -- one choice decides whose store comes last
 abbrev pub left_by_two_stores : (last : ℕ) → Seen
 left_by_two_stores last =
-    record {
-      stops = Exit ∷ Exit ∷ [];
-      retired = 3 ∷ 3 ∷ [];
-      pcs = 0xc ∷ 0xc ∷ [];
-      registers = ((5, 5) ∷ []) ∷ ((5, 6) ∷ (10, 1) ∷ []) ∷ [];
-      memory = (8, last) ∷ [];
-    }
+    exits (3 ∷ 3 ∷ []) (0xc ∷ 0xc ∷ []) (((5, 5) ∷ []) ∷ ((5, 6) ∷ (10, 1) ∷ []) ∷ []) ((8, last) ∷ [])
 
 abbrev pub SecondStoresLast : Type 0
 SecondStoresLast = EndsSo one_word 10000 (0 ∷ 0 ∷ 0 ∷ 0 ∷ 0 ∷ []) 12 (left_by_two_stores 6) ([] ∷ [] ∷ [])
@@ -149,26 +126,14 @@ FirstStoresLast = EndsSo one_word 10000 (0 ∷ 0 ∷ 0 ∷ 0 ∷ 1 ∷ []) 12 (l
 abbrev pub ReadBetweenWrites : Type 0
 ReadBetweenWrites =
     EndsSo handed_over 10000 (1 ∷ 1 ∷ 1 ∷ 1 ∷ 0 ∷ 0 ∷ 0 ∷ 1 ∷ 1 ∷ 1 ∷ 1 ∷ 0 ∷ []) 19
-    (record {
-      stops = Exit ∷ Exit ∷ [];
-      retired = 5 ∷ 4 ∷ [];
-      pcs = 0x14 ∷ 0x20 ∷ [];
-      registers = ((5, 7) ∷ (6, 7) ∷ []) ∷ ((10, 1) ∷ []) ∷ [];
-      memory = (16, 1) ∷ [];
-    })
+    (exits (5 ∷ 4 ∷ []) (0x14 ∷ 0x20 ∷ []) (((5, 7) ∷ (6, 7) ∷ []) ∷ ((10, 1) ∷ []) ∷ []) ((16, 1) ∷ []))
     ((load 4 16 7 ∷ []) ∷ (load 2 16 0 ∷ []) ∷ [])
 
 -- a reader gives its shared copy back, and is told to give it up while that Put waits at the home
 abbrev pub InvMeetsPut : Type 0
 InvMeetsPut =
     EndsSo reader_evicts 10000 (1 ∷ 1 ∷ 1 ∷ 1 ∷ 1 ∷ 0 ∷ 0 ∷ 0 ∷ 0 ∷ 0 ∷ 0 ∷ 0 ∷ 0 ∷ []) 20
-    (record {
-      stops = Exit ∷ Exit ∷ [];
-      retired = 4 ∷ 5 ∷ [];
-      pcs = 0x10 ∷ 0x1c ∷ [];
-      registers = ((5, 9) ∷ []) ∷ ((5, 10) ∷ (10, 1) ∷ []) ∷ [];
-      memory = (16, 9) ∷ [];
-    })
+    (exits (4 ∷ 5 ∷ []) (0x10 ∷ 0x1c ∷ []) (((5, 9) ∷ []) ∷ ((5, 10) ∷ (10, 1) ∷ []) ∷ []) ((16, 9) ∷ []))
     ([] ∷ (load 3 16 0 ∷ load 4 80 0 ∷ []) ∷ [])
 
 -- an owner gives its copy back, and is asked to share it, or to give it up, while that Put waits
@@ -178,25 +143,14 @@ stalling = 0 ∷ 0 ∷ 0 ∷ 1 ∷ 1 ∷ 1 ∷ 1 ∷ 1 ∷ 0 ∷ 1 ∷ 0 ∷ 0 �
 abbrev pub ForwardMeetsPut : Type 0
 ForwardMeetsPut =
     EndsSo writer_evicts 10000 stalling 20
-    (record {
-      stops = Exit ∷ Exit ∷ [];
-      retired = 5 ∷ 4 ∷ [];
-      pcs = 0x14 ∷ 0x1c ∷ [];
-      registers = ((5, 9) ∷ []) ∷ ((5, 10) ∷ (6, 9) ∷ (10, 1) ∷ []) ∷ [];
-      memory = (16, 9) ∷ [];
-    })
+    (exits (5 ∷ 4 ∷ []) (0x14 ∷ 0x1c ∷ []) (((5, 9) ∷ []) ∷ ((5, 10) ∷ (6, 9) ∷ (10, 1) ∷ []) ∷ [])
+    ((16, 9) ∷ []))
     ((load 4 80 0 ∷ []) ∷ (load 3 16 9 ∷ []) ∷ [])
 
 abbrev pub ForwardToOwnMeetsPut : Type 0
 ForwardToOwnMeetsPut =
     EndsSo writers_evict 10000 stalling 20
-    (record {
-      stops = Exit ∷ Exit ∷ [];
-      retired = 5 ∷ 4 ∷ [];
-      pcs = 0x14 ∷ 0x1c ∷ [];
-      registers = ((5, 9) ∷ []) ∷ ((5, 10) ∷ (10, 1) ∷ []) ∷ [];
-      memory = (16, 10) ∷ [];
-    })
+    (exits (5 ∷ 4 ∷ []) (0x14 ∷ 0x1c ∷ []) (((5, 9) ∷ []) ∷ ((5, 10) ∷ (10, 1) ∷ []) ∷ []) ((16, 10) ∷ []))
     ((load 4 80 0 ∷ []) ∷ [] ∷ [])
 
 -- a cache holds two blocks whose numbers differ by 8 beside each other: each core's third load, of the first block
@@ -228,24 +182,12 @@ BothBlocksAreHeld =
 abbrev pub ReadEightApart : Type 0
 ReadEightApart =
     EndsSo eight_apart 10000 zeros 16
-    (record {
-      stops = Exit ∷ Exit ∷ [];
-      retired = 4 ∷ 4 ∷ [];
-      pcs = 0x10 ∷ 0x10 ∷ [];
-      registers = [] ∷ ((10, 1) ∷ []) ∷ [];
-      memory = [];
-    })
+    (exits (4 ∷ 4 ∷ []) (0x10 ∷ 0x10 ∷ []) ([] ∷ ((10, 1) ∷ []) ∷ []) [])
     ((load 1 16 0 ∷ load 2 48 0 ∷ load 3 16 0 ∷ []) ∷ (load 1 16 0 ∷ load 2 48 0 ∷ load 3 16 0 ∷ []) ∷ [])
 
 -- one core ends by ECALL as it reaches its limit, and the other at its limit
 abbrev pub LimitReached : Type 0
 LimitReached =
     EndsSo endless 3 [] 8
-    (record {
-      stops = Exit ∷ Limit ∷ [];
-      retired = 3 ∷ 3 ∷ [];
-      pcs = 0xc ∷ 0xc ∷ [];
-      registers = [] ∷ ((10, 1) ∷ []) ∷ [];
-      memory = [];
-    })
+    (record (exits (3 ∷ 3 ∷ []) (0xc ∷ 0xc ∷ []) ([] ∷ ((10, 1) ∷ []) ∷ []) []) { stops = Exit ∷ Limit ∷ [] })
     ((load 2 16 0 ∷ []) ∷ [] ∷ [])

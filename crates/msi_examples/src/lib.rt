@@ -50,7 +50,6 @@ pub fn blocks_stay_beside_each_other()
 {}
 
 /// A core is stopped at its limit, unless its ECALL retires there.
-#[tactic(auto, using(crate::proofs::Choosing::limit_reached))]
 pub fn a_limit_is_reached()
     ensures { LimitReached }
 {}

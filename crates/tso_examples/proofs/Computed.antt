@@ -13,50 +13,29 @@ use Rattle.rv_decode.specs.Table.{alu_register, atomic, fence, system, decoded}
 use Rattle.rv_core.specs.StoreMask.{store_mask}
 use Rattle.tso_examples.specs.Examples.{BothLogged, BytesBuffered, MixedEnds, OneLogged, OwnStoreSeen, SumsInTurn}
 
-pub both_logged_so : BothLogged
-unfolding need need_at_pc need_of need_to_jump need_to_access fetched opening_word merged has with_core without_core
-    decoded jump_and_link_register branch load
-    store constant_shift alu_immediate alu_register atomic fence system field signed starting register written is_taken
-    moved without_low_bit computed loaded
-    next_pc result_of halt_after retired word_after instruction_at after wrote exchanged store_mask
-both_logged_so = record { ends = refl; not_before = refl; leaves = refl; finds = refl; logs = refl; orders = refl }
+-- all examples
+pub record AllSo : Type 0 where
+  pub both_logged : BothLogged
+  pub one_logged : OneLogged
+  pub own_store_seen : OwnStoreSeen
+  pub bytes_buffered : BytesBuffered
+  pub sums_in_turn : SumsInTurn
+  pub mixed_ends : MixedEnds
 
-pub one_logged_so : OneLogged
+pub all_so : AllSo
 unfolding need need_at_pc need_of need_to_jump need_to_access fetched opening_word merged has with_core without_core
     decoded jump_and_link_register branch load
     store constant_shift alu_immediate alu_register atomic fence system field signed starting register written is_taken
     moved without_low_bit computed loaded
     next_pc result_of halt_after retired word_after instruction_at after wrote exchanged store_mask
-one_logged_so = record { ends = refl; not_before = refl; leaves = refl; finds = refl; logs = refl; orders = refl }
-
-pub own_store_seen_so : OwnStoreSeen
-unfolding need need_at_pc need_of need_to_jump need_to_access fetched opening_word merged has with_core without_core
-    decoded jump_and_link_register branch load
-    store constant_shift alu_immediate alu_register atomic fence system field signed starting register written is_taken
-    moved without_low_bit computed loaded
-    next_pc result_of halt_after retired word_after instruction_at after wrote exchanged store_mask
-own_store_seen_so = record { ends = refl; not_before = refl; leaves = refl; finds = refl; logs = refl; orders = refl }
-
-pub bytes_buffered_so : BytesBuffered
-unfolding need need_at_pc need_of need_to_jump need_to_access fetched opening_word merged has with_core without_core
-    decoded jump_and_link_register branch load
-    store constant_shift alu_immediate alu_register atomic fence system field signed starting register written is_taken
-    moved without_low_bit computed loaded
-    next_pc result_of halt_after retired word_after instruction_at after wrote exchanged store_mask
-bytes_buffered_so = record { ends = refl; not_before = refl; leaves = refl; finds = refl; logs = refl; orders = refl }
-
-pub sums_in_turn_so : SumsInTurn
-unfolding need need_at_pc need_of need_to_jump need_to_access fetched opening_word merged has with_core without_core
-    decoded jump_and_link_register branch load
-    store constant_shift alu_immediate alu_register atomic fence system field signed starting register written is_taken
-    moved without_low_bit computed loaded
-    next_pc result_of halt_after retired word_after instruction_at after wrote exchanged store_mask
-sums_in_turn_so = record { ends = refl; not_before = refl; leaves = refl; finds = refl; logs = refl; orders = refl }
-
-pub mixed_ends_so : MixedEnds
-unfolding need need_at_pc need_of need_to_jump need_to_access fetched opening_word merged has with_core without_core
-    decoded jump_and_link_register branch load
-    store constant_shift alu_immediate alu_register atomic fence system field signed starting register written is_taken
-    moved without_low_bit computed loaded
-    next_pc result_of halt_after retired word_after instruction_at after wrote exchanged store_mask
-mixed_ends_so = record { ends = refl; not_before = refl; leaves = refl; finds = refl; logs = refl; orders = refl }
+all_so =
+    record {
+      both_logged = record { ends = refl; not_before = refl; leaves = refl; finds = refl; logs = refl; orders = refl };
+      one_logged = record { ends = refl; not_before = refl; leaves = refl; finds = refl; logs = refl; orders = refl };
+      own_store_seen =
+          record { ends = refl; not_before = refl; leaves = refl; finds = refl; logs = refl; orders = refl };
+      bytes_buffered =
+          record { ends = refl; not_before = refl; leaves = refl; finds = refl; logs = refl; orders = refl };
+      sums_in_turn = record { ends = refl; not_before = refl; leaves = refl; finds = refl; logs = refl; orders = refl };
+      mixed_ends = record { ends = refl; not_before = refl; leaves = refl; finds = refl; logs = refl; orders = refl };
+    }

@@ -55,6 +55,11 @@ seen s =
 abbrev pub load : (count word value : ℕ) → LoadNote
 load count word value = record { count = count; word = word; value = value }
 
+-- both cores exited after so many instructions, at these pcs, with these registers and this memory
+abbrev pub exits : (executed pcs : List ℕ) → List (List (ℕ × ℕ)) → List (ℕ × ℕ) → Seen
+exits executed pcs registers memory =
+    record { stops = Exit ∷ Exit ∷ []; executed = executed; pcs = pcs; registers = registers; memory = memory }
+
 -- by these choices the run ends after exactly t of them, and leaves this: what each core read, the values of its logged
 -- loads, and so many ordered accesses
 pub record EndsSo (image : Contents) (choices : List ℕ) (t : ℕ) (left : Seen) (found : List (List LoadNote))
@@ -75,13 +80,8 @@ both_logged = 0 ∷ 0 ∷ 0 ∷ 0 ∷ 0 ∷ 0 ∷ 0 ∷ 0 ∷ 0 ∷ 0 ∷ 0 ∷ 
 abbrev pub BothLogged : Type 0
 BothLogged =
     EndsSo store_buffering both_logged 30
-    (record {
-      stops = Exit ∷ Exit ∷ [];
-      executed = 7 ∷ 7 ∷ [];
-      pcs = 0x1c ∷ 0x1c ∷ [];
-      registers = ((7, 1) ∷ (8, 16) ∷ (9, 1) ∷ []) ∷ ((6, 16) ∷ (9, 1) ∷ (10, 1) ∷ []) ∷ [];
-      memory = (16, 1) ∷ (20, 1) ∷ [];
-    })
+    (exits (7 ∷ 7 ∷ []) (0x1c ∷ 0x1c ∷ [])
+    (((7, 1) ∷ (8, 16) ∷ (9, 1) ∷ []) ∷ ((6, 16) ∷ (9, 1) ∷ (10, 1) ∷ []) ∷ []) ((16, 1) ∷ (20, 1) ∷ []))
     ((load 6 20 0 ∷ []) ∷ (load 6 16 0 ∷ []) ∷ [])
     (((6, 0) ∷ []) ∷ ((6, 0) ∷ []) ∷ []) 2
 
@@ -94,13 +94,9 @@ one_logged = 28 ∷ 46 ∷ 43 ∷ 184 ∷ 86 ∷ 157 ∷ 128 ∷ 108 ∷ 18 ∷ 
 abbrev pub OneLogged : Type 0
 OneLogged =
     EndsSo store_buffering one_logged 29
-    (record {
-      stops = Exit ∷ Exit ∷ [];
-      executed = 7 ∷ 7 ∷ [];
-      pcs = 0x1c ∷ 0x1c ∷ [];
-      registers = ((7, 1) ∷ (8, 16) ∷ (9, 1) ∷ []) ∷ ((6, 16) ∷ (9, 1) ∷ (10, 1) ∷ (11, 1) ∷ []) ∷ [];
-      memory = (16, 1) ∷ (20, 1) ∷ [];
-    })
+    (exits (7 ∷ 7 ∷ []) (0x1c ∷ 0x1c ∷ [])
+    (((7, 1) ∷ (8, 16) ∷ (9, 1) ∷ []) ∷ ((6, 16) ∷ (9, 1) ∷ (10, 1) ∷ (11, 1) ∷ []) ∷ [])
+    ((16, 1) ∷ (20, 1) ∷ []))
     ((load 6 20 0 ∷ []) ∷ (load 6 16 1 ∷ []) ∷ [])
     (((6, 0) ∷ []) ∷ ([]) ∷ []) 3
 
@@ -113,13 +109,7 @@ own_store_seen = 197 ∷ 215 ∷ 20 ∷ 132 ∷ 248 ∷ 207 ∷ 155 ∷ 244 ∷ 
 abbrev pub OwnStoreSeen : Type 0
 OwnStoreSeen =
     EndsSo handed_over own_store_seen 24
-    (record {
-      stops = Exit ∷ Exit ∷ [];
-      executed = 5 ∷ 4 ∷ [];
-      pcs = 0x14 ∷ 0x20 ∷ [];
-      registers = ((5, 7) ∷ (6, 7) ∷ []) ∷ ((10, 1) ∷ []) ∷ [];
-      memory = (16, 1) ∷ [];
-    })
+    (exits (5 ∷ 4 ∷ []) (0x14 ∷ 0x20 ∷ []) (((5, 7) ∷ (6, 7) ∷ []) ∷ ((10, 1) ∷ []) ∷ []) ((16, 1) ∷ []))
     ((load 4 16 7 ∷ []) ∷ (load 2 16 0 ∷ []) ∷ [])
     (((4, 7) ∷ []) ∷ ([]) ∷ []) 3
 
@@ -131,13 +121,7 @@ bytes_buffered = 197 ∷ 215 ∷ 20 ∷ 132 ∷ 248 ∷ 207 ∷ 155 ∷ 244 ∷ 
 abbrev pub BytesBuffered : Type 0
 BytesBuffered =
     EndsSo bytes_of_a_word bytes_buffered 14
-    (record {
-      stops = Exit ∷ Exit ∷ [];
-      executed = 3 ∷ 3 ∷ [];
-      pcs = 0xc ∷ 0xc ∷ [];
-      registers = ((5, 5) ∷ []) ∷ ((5, 6) ∷ (10, 1) ∷ []) ∷ [];
-      memory = (8, 1541) ∷ [];
-    })
+    (exits (3 ∷ 3 ∷ []) (0xc ∷ 0xc ∷ []) (((5, 5) ∷ []) ∷ ((5, 6) ∷ (10, 1) ∷ []) ∷ []) ((8, 1541) ∷ []))
     (([]) ∷ ([]) ∷ [])
     (([]) ∷ ([]) ∷ []) 2
 
@@ -149,13 +133,8 @@ sums_in_turn = 197 ∷ 215 ∷ 20 ∷ 132 ∷ 248 ∷ 207 ∷ 155 ∷ 244 ∷ 18
 abbrev pub SumsInTurn : Type 0
 SumsInTurn =
     EndsSo sum sums_in_turn 14
-    (record {
-      stops = Exit ∷ Exit ∷ [];
-      executed = 4 ∷ 4 ∷ [];
-      pcs = 0x10 ∷ 0x10 ∷ [];
-      registers = ((5, 1) ∷ (7, 32) ∷ []) ∷ ((5, 2) ∷ (6, 1) ∷ (7, 32) ∷ (10, 1) ∷ []) ∷ [];
-      memory = (8, 3) ∷ [];
-    })
+    (exits (4 ∷ 4 ∷ []) (0x10 ∷ 0x10 ∷ [])
+    (((5, 1) ∷ (7, 32) ∷ []) ∷ ((5, 2) ∷ (6, 1) ∷ (7, 32) ∷ (10, 1) ∷ []) ∷ []) ((8, 3) ∷ []))
     ((load 3 8 0 ∷ []) ∷ (load 3 8 1 ∷ []) ∷ [])
     (([]) ∷ ([]) ∷ []) 2
 
@@ -170,13 +149,9 @@ mixed_ends = 28 ∷ 46 ∷ 43 ∷ 184 ∷ 86 ∷ 157 ∷ 128 ∷ 108 ∷ 18 ∷ 
 abbrev pub MixedEnds : Type 0
 MixedEnds =
     EndsSo mixed mixed_ends 64
-    (record {
-      stops = Exit ∷ Exit ∷ [];
-      executed = 9 ∷ 9 ∷ [];
-      pcs = 0x24 ∷ 0x24 ∷ [];
-      registers = ((5, 9) ∷ (6, 10) ∷ (8, 64) ∷ (9, 10) ∷ [])
-          ∷ ((5, 10) ∷ (6, 19) ∷ (7, 2304) ∷ (8, 64) ∷ (9, 19) ∷ (10, 1) ∷ []) ∷ [];
-      memory = (16, 29) ∷ (80, 2560) ∷ [];
-    })
+    (exits (9 ∷ 9 ∷ []) (0x24 ∷ 0x24 ∷ [])
+    (((5, 9) ∷ (6, 10) ∷ (8, 64) ∷ (9, 10) ∷ [])
+    ∷ ((5, 10) ∷ (6, 19) ∷ (7, 2304) ∷ (8, 64) ∷ (9, 19) ∷ (10, 1) ∷ []) ∷ [])
+    ((16, 29) ∷ (80, 2560) ∷ []))
     ((load 3 80 0 ∷ load 5 16 10 ∷ load 8 16 10 ∷ []) ∷ (load 3 80 2304 ∷ load 5 16 19 ∷ load 8 16 19 ∷ []) ∷ [])
     (([]) ∷ ((5, 19) ∷ []) ∷ []) 9

@@ -1,9 +1,9 @@
-use Rattle.std.proofs.Common.{◌∙◌, add-zero, ap, arith, is_some, sym}
-use Rattle.msi_directory.specs.Blocks.{no_entry, opening_entry}
+use Rattle.std.proofs.Common.{◌∙◌, add-zero, ap, is_some, sym}
 use Rattle.msi_directory.specs.Table.{is_free}
 use Rattle.msi_directory.specs.Kept.{blocks_in, home_of}
-use Rattle.msi_directory.proofs.Sparse.{blocks_more, entries_counted, fits_more, more_touched, reads_kept}
-use Rattle.msi_directory.proofs.Sparse.{reads_opening, room_more, room_reads, same_rooms}
+use Rattle.msi_directory.specs.declared.entry.Stage.TheVariants.{Unshared}
+use Rattle.msi_directory.proofs.Rows.{opens_within, reads_nowhere, reads_there}
+use Rattle.msi_directory.proofs.Sparse.{blocks_more, fits_more, more_touched, room_more, room_reads, same_rooms}
 use Rattle.msi_directory.proofs.home.Home.make_room.Goals as goal
 
 pub returns-in-Some-clause-ok : goal.returns-in-Some-clause-ok
@@ -28,9 +28,8 @@ returns-in-Some-clause-touched g c =
 
 pub open-requires-clause-within : goal.open-requires-clause-within
 open-requires-clause-within g c =
-    let home = home_of c.self.inside.opening c.self.inside.fresh c.self.inside.kept in
-    let within = rw (← c.self.view_is) at c.requires in
-    omega (arith, within, c.self.invariant.words, entries_counted home)
+    opens_within (home_of c.self.inside.opening c.self.inside.fresh c.self.inside.kept) _ c.self.view_is g.R.Rider.riding.fresh
+    c.args.block c.requires c.self.invariant
 
 pub invariant_of-self-2 : goal.invariant_of-self-2
 invariant_of-self-2 g c =
@@ -60,17 +59,12 @@ returns-clause-touched g c =
 
 pub returns-in-Some-clause-free : goal.returns-in-Some-clause-free
 returns-in-Some-clause-free g c =
-    let home = home_of c.self.inside.opening c.self.inside.fresh c.self.inside.kept in
-    let within = rw (← c.self.view_is) at c.requires in
-    let opens = opening_entry home.fresh home.opening c.args.block in
-    let read = reads_kept home c.args.block within (no_entry g.R.Rider.riding.fresh) c.in-Some.place
-    (sym c.place.ensures.place ∙ c.in-Some.is) in
-    c.is_free.ensures ∙ rw (← c.self.view_is, read) (ap is_free (c.stage.ensures opens.stage))
+    c.is_free.ensures
+    ∙ rw (reads_there (home_of c.self.inside.opening c.self.inside.fresh c.self.inside.kept) _ c.self.view_is g.R.Rider.riding.fresh
+    c.args.block c.requires c.in-Some.place (sym c.place.ensures.place ∙ c.in-Some.is))
+    (ap is_free (c.stage.ensures Unshared))
 
 pub returns-clause-free : goal.returns-clause-free
 returns-clause-free g c =
-    let home = home_of c.self.inside.opening c.self.inside.fresh c.self.inside.kept in
-    let within = rw (← c.self.view_is) at c.requires in
-    let read = reads_opening home c.args.block within (no_entry g.R.Rider.riding.fresh) (sym c.place.ensures.place
-    ∙ c.in_default.is) in
-    rw (← c.self.view_is, read)
+    rw (reads_nowhere (home_of c.self.inside.opening c.self.inside.fresh c.self.inside.kept) _ c.self.view_is g.R.Rider.riding.fresh
+    c.args.block c.requires (sym c.place.ensures.place ∙ c.in_default.is))
