@@ -9,6 +9,7 @@ pub mod Logs
 pub mod ReducedLaws
 pub mod Written
 pub mod Received
+pub mod Wholes
 pub mod Whole
 pub mod Named
 pub mod BadPartLaws
