@@ -14,3 +14,4 @@ pub mod Whole
 pub mod Named
 pub mod BadPartLaws
 pub mod CoreCountLaws
+pub mod LastParts

@@ -2,7 +2,7 @@
 use Rattle.std.proofs.Common.{◌≡◌, ℕ, ◌*◌, ◌≤◌, true, ◌&&◌, nat_le, refl, arith}
 use Rattle.std.proofs.Math.Nat.{mul-le-mul_left}
 use Rattle.std.proofs.lemmas.Bool.Decides.{nat_tests}
-use Rattle.std.proofs.lemmas.Bool.{and_parts, leb-true}
+use Rattle.std.proofs.lemmas.Bool.{and_parts, le-leb, leb-true}
 use Rattle.rtr_types.specs.declared.params.Params.{Params}
 use Rattle.log_codec.specs.declared.version.Version.{Version}
 use Rattle.log_codec.specs.declared.version.Version.TheVariants.{One, Two}
@@ -31,12 +31,11 @@ old-true p e =
 
 pub true-old : (p : Params) → FitsOld p → fits_old p ≡ true
 true-old p f =
-    let a : nat_le 1 p.cores ≡ true = grind (arith, nat_tests) in
-    let b : nat_le p.cores 8 ≡ true = grind (arith, nat_tests) in
-    let c : nat_le 1 p.limit ≡ true = grind (arith, nat_tests) in
-    let d : nat_le p.limit 100000 ≡ true = grind (arith, nat_tests) in
-    let e = true-blocks p (record { some_block = f.some_block; words = f.words; whole_blocks = f.whole_blocks }) in
-    rw (a, b, c, d, e) refl
+    let cores = le-leb p.cores 8 f.cores in
+    let limit = le-leb p.limit 100000 f.limit in
+    let blocks = true-blocks p (record { some_block = f.some_block; words = f.words; whole_blocks = f.whole_blocks })
+    in
+    rw (le-leb 1 p.cores f.some_core, cores, le-leb 1 p.limit f.some_instruction, limit, blocks) refl
 
 pub fits-true : (v : Version) (p : Params) → fits_in v p ≡ true → FitsIn v p
 fits-true One p e = old-true p e

@@ -145,15 +145,28 @@ front_takes bytes r rest are e =
     subst (λ (y : Recording × List ℕ). FrontTaken bytes y.0 y.1) (ok_is (made, g.0.1) (r, rest) g.2)
     (record { valid = valid; version = w; limits = th.1.params; taken = named })
 
+-- the sizes of the totals fit 32 bits
+pub record TotalsFit (r : Recording) : Type 0 where
+  pub small : r.params.limit < 2 ^ 32
+  pub few : length r.totals < 2 ^ 32
+  pub together : length r.totals * r.params.limit < 2 ^ 32
+
+pub totals_fit : (r : Recording) → Valid r → TotalsFit r
+totals_fit r v =
+    let params = v.params in
+    let all = params.instructions in
+    let each = v.each_core in
+    record {
+      small = omega arith;
+      few = omega arith;
+      together = subst (λ (n : ℕ). n * r.params.limit < 2 ^ 32) (sym v.each_core) (omega arith);
+    }
+
 pub front_again : SpelledIsFront
 unfolding front_at spelling_in
 front_again w r rest v fits =
-    let params = v.params in
     let p = r.params in
-    let small : p.limit < 2 ^ 32 = omega arith in
-    let few : length r.totals < 2 ^ 32 = let each = v.each_core in omega arith in
-    let together : length r.totals * p.limit < 2 ^ 32 =
-    let all = params.instructions in subst (λ (n : ℕ). n * p.limit < 2 ^ 32) (sym v.each_core) (omega arith) in
+    let sizes = totals_fit r v in
     let regrouped : spelling_in w r ++ rest ≡ header_text w p (length r.image)
     ++ (r.image ++ (totals_text r.totals ++ (reduced_text w p.cores r.reduced ++ (regulated_text r.regulated ++ rest))))
     = simp append_assoc in
@@ -166,14 +179,15 @@ front_again w r rest v fits =
     let t = subst (λ (n : ℕ). totals_at p.limit n
     (totals_text r.totals ++ (reduced_text w p.cores r.reduced ++ (regulated_text r.regulated ++ rest)))
     ≡ Ok (r.totals, reduced_text w p.cores r.reduced ++ (regulated_text r.regulated ++ rest))) v.each_core
-    (totals_again p.limit r.totals (reduced_text w p.cores r.reduced ++ (regulated_text r.regulated ++ rest)) small
-    v.totals) in
+    (totals_again p.limit r.totals (reduced_text w p.cores r.reduced ++ (regulated_text r.regulated ++ rest))
+    sizes.small v.totals) in
     let back : pair_count p.cores ≡ pair_count (length r.totals) = ap (λ (n : ℕ). pair_count n) (sym v.each_core) in
     let d = subst (λ (n : ℕ). reduced_at w r.totals (reduced_text w n r.reduced ++ (regulated_text r.regulated ++ rest))
     ≡ Ok (r.reduced, regulated_text r.regulated ++ rest)) v.each_core
-    (reduced_again w p.limit r.totals r.reduced (regulated_text r.regulated ++ rest) small together few v.totals
+    (reduced_again w p.limit r.totals r.reduced (regulated_text r.regulated ++ rest) sizes.small sizes.together
+    sizes.few v.totals
     (v.each_reduced ∙ back) (edges-placed r v)) in
-    let g = regulated_again p.limit r.totals r.regulated rest small v.totals (v.each_regulated ∙ back)
+    let g = regulated_again p.limit r.totals r.regulated rest sizes.small v.totals (v.each_regulated ∙ back)
     (vectors-stand r v) in
     ap front_at regrouped ∙ rw (h, i, t, d, g) refl
 
