@@ -19,6 +19,15 @@ use Rattle.clock_entries.proofs.Good.{rises, own_stands, known}
 
 -- ---- paths
 
+-- what is or leads to an instruction of its own core isn't after it
+not_after : (edges : List Edge) (x y : Instr) → ((z : Instr) → Before (Among edges) z z → ⊥) → x.core ≡ y.core →
+    IsOrLeads (Among edges) x y → (y.count < x.count) ⊎ (x.count ≤ y.count) → x.count ≤ y.count
+not_after edges x y acyclic e u (inr le) = le
+not_after edges x y acyclic e (inl f) (inl lt) =
+    let g : x.count ≡ y.count = ap (λ (z : Instr). z.count) f in omega arith
+not_after edges x y acyclic e (inr p) (inl lt) =
+    absurd (acyclic y (joined (Among edges) y x y (one (Among edges) y x (inl (sym e, lt))) p))
+
 -- on along a core
 onward : (E : Relation) (x w y : Instr) → IsOrLeads E x w → w.core ≡ y.core → w.count ≤ y.count → IsOrLeads E x y
 onward E x w y u c le = by u (eq-or-lt_of_le le)
@@ -168,13 +177,6 @@ every_clock edges entry y log acyclic last exact x x_pos = (to (cases_eq x.core 
         let e = f.same x.core in
         omega arith
 
-    not_later : x.core ≡ y.core → IsOrLeads (Among edges) x y → (y.count < x.count) ⊎ (x.count ≤ y.count) →
-        x.count ≤ y.count
-    not_later e u (inr le) = le
-    not_later e (inl f) (inl lt) = let g : x.count ≡ y.count = ap (λ (z : Instr). z.count) f in omega arith
-    not_later e (inr p) (inl lt) =
-        absurd (acyclic y (joined (Among edges) y x y (one (Among edges) y x (inl (sym e, lt))) p))
-
     from_other : x.core ≢ y.core → IsOrLeads (Among edges) x y → x.count ≤ entry y x.core
     from_other ne (inl e) = absurd (ne (ap (λ (z : Instr). z.core) e))
     from_other ne (inr p) =
@@ -186,7 +188,7 @@ every_clock edges entry y log acyclic last exact x x_pos = (to (cases_eq x.core 
         by : (x.core ≡ y.core) ⊎ (x.core ≢ y.core) → x.count ≤ with_own y (entry y) x.core
         by (inl e) =
             let f = own_same y (entry y) x.core e in
-            let le = not_later e u (cases_lt y.count x.count) in
+            let le = not_after edges x y acyclic e u (cases_lt y.count x.count) in
             omega arith
         by (inr ne) = let f = own_other y (entry y) x.core ne in let le = from_other ne u in omega arith
 
@@ -209,13 +211,6 @@ next_clock edges entry y merged log acyclic last pos own sources merge x x_pos =
     to (inl e) le = let f = own_same y merged x.core e in onward (Among edges) x x y (inl refl) e (omega arith)
     to (inr ne) le = let e = own_other y merged x.core ne in other ((merge x.core x.count ne x_pos).0 (omega arith)) ne
 
-    not_later : x.core ≡ y.core → IsOrLeads (Among edges) x y → (y.count < x.count) ⊎ (x.count ≤ y.count) →
-        x.count ≤ y.count
-    not_later e u (inr le) = le
-    not_later e (inl f) (inl lt) = let g : x.count ≡ y.count = ap (λ (z : Instr). z.count) f in omega arith
-    not_later e (inr p) (inl lt) =
-        absurd (acyclic y (joined (Among edges) y x y (one (Among edges) y x (inl (sym e, lt))) p))
-
     through : (w : Instr) → x.core ≢ y.core → IsOrLeads (Among edges) x w → Step (Among edges) w y →
         IsBelowSources edges entry y x.core x.count
     through w ne u (inl s) =
@@ -231,7 +226,7 @@ next_clock edges entry y merged log acyclic last pos own sources merge x x_pos =
     back : (x.core ≡ y.core) ⊎ (x.core ≢ y.core) → IsOrLeads (Among edges) x y → x.count ≤ with_own y merged x.core
     back (inl e) u =
         let f = own_same y merged x.core e in
-        let le = not_later e u (cases_lt y.count x.count) in
+        let le = not_after edges x y acyclic e u (cases_lt y.count x.count) in
         omega arith
     back (inr ne) u =
         let f = own_other y merged x.core ne in

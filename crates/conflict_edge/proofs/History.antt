@@ -37,15 +37,19 @@ reaches-yes a y p q = grind (arith, nat_tests)
 pub reaches-no : (a : Access) (y : Instr) → (a.at.core ≡ y.core → y.count < a.at.count) → reaches a y ≡ false
 reaches-no a y f = grind (arith, nat_tests)
 
--- the ends of a pair
-pub record Ends (h : List Access) (x y : Instr) : Type 0 where
+-- two accesses in conflict, one of each list
+pub record Meets (xs ys : List Access) (x y : Instr) : Type 0 where
   pub first : Access
   pub second : Access
-  pub first_stands : StandsIn h first
-  pub second_stands : StandsIn h second
+  pub first_stands : StandsIn xs first
+  pub second_stands : StandsIn ys second
   pub first_at : first.at ≡ x
   pub second_at : second.at ≡ y
   pub conflict : Conflicts first second
+
+-- the ends of a pair
+abbrev pub Ends : List Access → (x y : Instr) → Type 0
+Ends h x y = Meets h h x y
 
 pub ends : (h : List Access) (x y : Instr) → Pair h x y → Ends h x y
 ends [] x y p = absurd p

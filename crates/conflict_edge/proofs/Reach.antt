@@ -35,8 +35,10 @@ clock_law list y rise x pos = (λ le. up_back list x y (clock-up_to (reverse lis
 pub rising_next : (list : List Access) (a : Access) → CountsRise (list ++ (a ∷ [])) → Rising (a ∷ reverse list)
 rising_next list a rise = subst Rising (reverse-next list a) (rising_back (list ++ (a ∷ [])) rise)
 
-pub online_law : OnlineLaw
-online_law list a x rise = (to, back)
+-- with the next access newest first, the pairs that cover are those of the list with it at the end
+pub cover_now : (list : List Access) (a : Access) (x : Instr) →
+    Cover (a ∷ reverse list) x a.at ↔ Covering (list ++ (a ∷ [])) x a.at
+cover_now list a x = (to, back)
   where
     now : List Access
     now = list ++ (a ∷ [])
@@ -47,23 +49,29 @@ online_law list a x rise = (to, back)
     out : Within (ConflictPair now) (Pair (a ∷ reverse list))
     out x y p = subst (λ (g : List Access). Pair g x y) (reverse-next list a) (pair_forth now x y p)
 
-    rule : IsKept (reverse list) a x ↔ Cover (a ∷ reverse list) x a.at
-    rule = online_rule (reverse list) a x (rising_next list a rise)
-
-    to : IsKept (reverse list) a x → Covering now x a.at
-    to k = let c = rule.0 k in (
+    to : Cover (a ∷ reverse list) x a.at → Covering now x a.at
+    to c = (
       into x a.at c.0,
       λ z p q.
           c.1 z (more (ConflictPair now) (Pair (a ∷ reverse list)) out x z p)
           (more (ConflictPair now) (Pair (a ∷ reverse list)) out z a.at q),
     )
 
-    back : Covering now x a.at → IsKept (reverse list) a x
-    back c = rule.1 (
+    back : Covering now x a.at → Cover (a ∷ reverse list) x a.at
+    back c = (
       out x a.at c.0,
       λ z p q. c.1 z (more (Pair (a ∷ reverse list)) (ConflictPair now) into x z p) (more (Pair (a ∷ reverse list))
           (ConflictPair now) into z a.at q),
     )
+
+pub online_law : OnlineLaw
+online_law list a x rise = (λ k. same.0 (rule.0 k), λ c. rule.1 (same.1 c))
+  where
+    same : Cover (a ∷ reverse list) x a.at ↔ Covering (list ++ (a ∷ [])) x a.at
+    same = cover_now list a x
+
+    rule : IsKept (reverse list) a x ↔ Cover (a ∷ reverse list) x a.at
+    rule = online_rule (reverse list) a x (rising_next list a rise)
 
 -- the clock of the newest access, by those of its candidates
 pub newest_clock : (h : List Access) (a : Access) (i n : ℕ) → Rising (a ∷ h) → i ≢ a.at.core → 1 ≤ n →

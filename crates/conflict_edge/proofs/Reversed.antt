@@ -3,7 +3,7 @@ use Rattle.std.proofs.lemmas.List.{reverse-append}
 use Rattle.std.proofs.lemmas.Grind.{reverse_onto}
 use Rattle.std.proofs.Common.{◌≡◌, ◌<◌, ◌≤◌, ◌⊎◌, List, [], ◌∷◌, reverse, ◌++◌, refl, sym, ◌∙◌, ap, subst, inl, inr}
 use Rattle.clock_core.specs.Order.{Within}
-use Rattle.conflict_edge.proofs.History.{Pair, Rising}
+use Rattle.conflict_edge.proofs.History.{Ends, Pair, Rising, ends}
 use Rattle.conflict_edge.specs.Conflicts.{Conflicts, StandsIn, ConflictPair, CountsRise}
 use Rattle.rtr_types.specs.declared.access.Access.{Access}
 use Rattle.rtr_types.specs.declared.instr.Instr.{Instr}
@@ -24,11 +24,10 @@ stands_cases : (g : List Access) (a b : Access) → StandsIn (g ++ (a ∷ [])) b
 stands_cases [] a b (inl e) = inr e
 stands_cases [] a b (inr s) = absurd s
 stands_cases (c ∷ g) a b (inl e) = inl (inl e)
-stands_cases (c ∷ g) a b (inr s) = on (stands_cases g a b s)
-  where
-    on : StandsIn g b ⊎ (a ≡ b) → StandsIn (c ∷ g) b ⊎ (a ≡ b)
-    on (inl t) = inl (inr t)
-    on (inr e) = inr e
+stands_cases (c ∷ g) a b (inr s) = elim (stands_cases g a b s) [
+  | inl t ↦ inl (inr t)
+  | inr e ↦ inr e
+]
 
 -- the same accesses stand in both lists
 pub stands_back : (list : List Access) (b : Access) → StandsIn (reverse list) b → StandsIn list b
@@ -142,3 +141,17 @@ rising_back (a ∷ list) r =
 
 pub reverse-next : (list : List Access) (a : Access) → reverse (list ++ (a ∷ [])) ≡ a ∷ reverse list
 reverse-next list a = reverse-append list (a ∷ [])
+
+-- the two accesses of a conflict pair of the list
+pub list_ends : (list : List Access) (x y : Instr) → ConflictPair list x y → Ends list x y
+list_ends list x y p =
+    let e = ends (reverse list) x y (pair_forth list x y p) in
+    record {
+      first = e.first;
+      second = e.second;
+      first_stands = stands_back list e.first e.first_stands;
+      second_stands = stands_back list e.second e.second_stands;
+      first_at = e.first_at;
+      second_at = e.second_at;
+      conflict = e.conflict;
+    }

@@ -4,21 +4,20 @@ use Rattle.std.proofs.Common.{length, refl, sym, ◌∙◌, ap, subst, inl, inr}
 use Rattle.std.proofs.Common.{arith, true, false, Bool, max, slice_index, get_or, take, drop, append_assoc}
 use Rattle.std.proofs.lemmas.Bool.{cases_eq, cases_lt}
 use Rattle.std.proofs.lemmas.List.{drop_more, reverse-append, take-append-drop}
-use Rattle.clock_core.proofs.Paths.{more}
 use Rattle.clock_core.proofs.Reach.{same_below}
-use Rattle.clock_core.specs.Order.{Within, Among}
+use Rattle.clock_core.specs.Order.{Among}
 use Rattle.conflict_edge.proofs.Clocks.{own_clock}
-use Rattle.conflict_edge.proofs.History.{Source, Pair, Rising}
+use Rattle.conflict_edge.proofs.History.{Source, Rising}
 use Rattle.conflict_edge.proofs.Kept.{Cover}
 use Rattle.conflict_edge.proofs.Online.{pair_source}
-use Rattle.conflict_edge.proofs.Reversed.{reverse-cons, reverse-next, pair_back, pair_forth}
+use Rattle.conflict_edge.proofs.Reversed.{reverse-cons, reverse-next}
 use Rattle.conflict_edge.proofs.Scan.{Direct, Reached, FoundFrom, reached_skip, reached_merge, found_skip, found_push}
 use Rattle.conflict_edge.proofs.Scan.{covered_not, not_covered, direct_clock}
 use Rattle.conflict_edge.specs.Clocks.{clock}
-use Rattle.conflict_edge.specs.Conflicts.{Conflicts, StandsIn, ConflictPair, CountsRise}
+use Rattle.conflict_edge.specs.Conflicts.{Conflicts, StandsIn, CountsRise}
 use Rattle.conflict_edge.specs.Least.{Covering}
 use Rattle.conflict_edge.specs.Scan.{AddsCoveringInto}
-use Rattle.conflict_edge.proofs.Reach.{rising_next}
+use Rattle.conflict_edge.proofs.Reach.{cover_now, rising_next}
 use Rattle.rtr_types.specs.declared.TheConstants.{CORES_MAX}
 use Rattle.rtr_types.specs.declared.access.Access.{Access}
 use Rattle.rtr_types.specs.declared.instr.Edge.{Edge}
@@ -177,38 +176,16 @@ pub end_found : (e : List Access) (a : Access) (old new : List Edge) → CountsR
     AddsCoveringInto (e ++ (a ∷ [])) a old new
 end_found e a old new rise found x y = (λ s. to ((found x y).0 s), λ q. (found x y).1 (back q))
   where
-    now : List Access
-    now = e ++ (a ∷ [])
-
-    into : Within (Pair (a ∷ reverse e)) (ConflictPair now)
-    into u v p = pair_back now u v (subst (λ (g : List Access). Pair g u v) (sym (reverse-next e a)) p)
-
-    out : Within (ConflictPair now) (Pair (a ∷ reverse e))
-    out u v p = subst (λ (g : List Access). Pair g u v) (reverse-next e a) (pair_forth now u v p)
-
     to : Among old x y ⊎ ((y ≡ a.at) × (r : Access) × StandsIn (reverse e) r × (r.at ≡ x) × Cover (a ∷ reverse e) x
         a.at) → Among old x y
-        ⊎ ((y ≡ a.at) × Covering now x a.at)
+        ⊎ ((y ≡ a.at) × Covering (e ++ (a ∷ [])) x a.at)
     to (inl s) = inl s
-    to (inr q) = inr (
-      q.0,
-      (
-        into x a.at q.4.0,
-        λ z p r.
-            q.4.1 z (more (ConflictPair now) (Pair (a ∷ reverse e)) out x z p)
-            (more (ConflictPair now) (Pair (a ∷ reverse e)) out z a.at r),
-      ),
-    )
+    to (inr q) = inr (q.0, (cover_now e a x).0 q.4)
 
-    back : Among old x y ⊎ ((y ≡ a.at) × Covering now x a.at) → Among old x y
+    back : Among old x y ⊎ ((y ≡ a.at) × Covering (e ++ (a ∷ [])) x a.at) → Among old x y
         ⊎ ((y ≡ a.at) × (r : Access) × StandsIn (reverse e) r × (r.at ≡ x) × Cover (a ∷ reverse e) x a.at)
     back (inl s) = inl s
     back (inr q) =
-        let c : Cover (a ∷ reverse e) x a.at = (
-          out x a.at q.1.0,
-          λ z p r.
-              q.1.1 z (more (Pair (a ∷ reverse e)) (ConflictPair now) into x z p) (more (Pair (a ∷ reverse e))
-              (ConflictPair now) into z a.at r),
-        ) in
+        let c = (cover_now e a x).1 q.1 in
         let s = pair_source a (reverse e) x (rising_next e a rise) c.0 in
         inr (q.0, s.0, s.1, s.2, c)

@@ -436,38 +436,16 @@ read-all bytes r rest are e =
     (r, rest) d.2 in
     let one : UpToHeader bytes h.0.3 =
     record { version = v; params = p; len = h.0.2; header = read-header bytes v p h.0.2 h.0.3 are h.1 } in
-    let two : UpToImage bytes i.0.1 =
-    record {
-      before = h.0.3;
-      first = one;
-      image = i.0.0;
-      second =
-          read-image h.0.2 h.0.3 i.0.0 i.0.1 (header-bytes bytes h.0.3 are one) i.1;
-    } in
-    let three : UpToTotals bytes t.0.1 =
-    record {
-      before = i.0.1;
-      two = two;
-      totals = t.0.0;
-      third =
-          read-totals p i.0.1 t.0.0 t.0.1 (image-bytes bytes i.0.1 are two) t.1;
-    } in
+    let image = read-image h.0.2 h.0.3 i.0.0 i.0.1 (header-bytes bytes h.0.3 are one) i.1 in
+    let two : UpToImage bytes i.0.1 = record { before = h.0.3; first = one; image = i.0.0; second = image } in
+    let totals = read-totals p i.0.1 t.0.0 t.0.1 (image-bytes bytes i.0.1 are two) t.1 in
+    let three : UpToTotals bytes t.0.1 = record { before = i.0.1; two = two; totals = t.0.0; third = totals } in
+    let reduced = read-reduced v t.0.0 t.0.1 d.0.0 d.0.1 (totals-bytes bytes t.0.1 are three) d.1 in
     let four : UpToReduced bytes d.0.1 =
-    record {
-      before = t.0.1;
-      three = three;
-      reduced = d.0.0;
-      fourth =
-          read-reduced v t.0.0 t.0.1 d.0.0 d.0.1 (totals-bytes bytes t.0.1 are three) d.1;
-    } in
+    record { before = t.0.1; three = three; reduced = d.0.0; fourth = reduced } in
+    let regulated = read-regulated t.0.0 d.0.1 g.0.0 g.0.1 (reduced-bytes bytes d.0.1 are four) g.1 in
     let five : UpToRegulated bytes g.0.1 =
-    record {
-      before = d.0.1;
-      four = four;
-      regulated = g.0.0;
-      fifth =
-          read-regulated t.0.0 d.0.1 g.0.0 g.0.1 (reduced-bytes bytes d.0.1 are four) g.1;
-    } in
+    record { before = d.0.1; four = four; regulated = g.0.0; fifth = regulated } in
     let all = ok_is (made_of p i.0.0 t.0.0 d.0.0 g.0.0, g.0.1) (r, rest) g.2 in
     subst (UpToRegulated bytes) (ap (λ (x : Recording × List ℕ). x.1) all) five
 

@@ -9,7 +9,9 @@ pub mod Logs
 pub mod ReducedLaws
 pub mod Written
 pub mod Received
+pub mod Wholes
 pub mod Whole
 pub mod Named
 pub mod BadPartLaws
 pub mod CoreCountLaws
+pub mod LastParts

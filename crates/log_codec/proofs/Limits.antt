@@ -2,7 +2,7 @@
 use Rattle.std.proofs.Common.{◌≡◌, ℕ, ◌*◌, ◌≤◌, true, ◌&&◌, nat_le, refl, arith}
 use Rattle.std.proofs.Math.Nat.{mul-le-mul_left}
 use Rattle.std.proofs.lemmas.Bool.Decides.{nat_tests}
-use Rattle.std.proofs.lemmas.Bool.{and_parts}
+use Rattle.std.proofs.lemmas.Bool.{and_parts, le-leb, leb-true}
 use Rattle.rtr_types.specs.declared.params.Params.{Params}
 use Rattle.log_codec.specs.declared.version.Version.{Version}
 use Rattle.log_codec.specs.declared.version.Version.TheVariants.{One, Two}
@@ -19,12 +19,11 @@ old-true p e =
     let c = and_parts (nat_le 1 p.limit && nat_le p.limit 100000) (has_blocks p) a.1 in
     let d = and_parts (nat_le 1 p.limit) (nat_le p.limit 100000) c.0 in
     let blocks = blocks-true p c.1 in
-    let b0 = b.0 in let b1 = b.1 in let d0 = d.0 in let d1 = d.1 in
     record {
-      some_core = grind (arith, nat_tests);
-      cores = grind (arith, nat_tests);
-      some_instruction = grind (arith, nat_tests);
-      limit = grind (arith, nat_tests);
+      some_core = leb-true 1 p.cores b.0;
+      cores = leb-true p.cores 8 b.1;
+      some_instruction = leb-true 1 p.limit d.0;
+      limit = leb-true p.limit 100000 d.1;
       some_block = blocks.some_block;
       words = blocks.words;
       whole_blocks = blocks.whole_blocks;
@@ -32,12 +31,11 @@ old-true p e =
 
 pub true-old : (p : Params) → FitsOld p → fits_old p ≡ true
 true-old p f =
-    let a : nat_le 1 p.cores ≡ true = grind (arith, nat_tests) in
-    let b : nat_le p.cores 8 ≡ true = grind (arith, nat_tests) in
-    let c : nat_le 1 p.limit ≡ true = grind (arith, nat_tests) in
-    let d : nat_le p.limit 100000 ≡ true = grind (arith, nat_tests) in
-    let e = true-blocks p (record { some_block = f.some_block; words = f.words; whole_blocks = f.whole_blocks }) in
-    rw (a, b, c, d, e) refl
+    let cores = le-leb p.cores 8 f.cores in
+    let limit = le-leb p.limit 100000 f.limit in
+    let blocks = true-blocks p (record { some_block = f.some_block; words = f.words; whole_blocks = f.whole_blocks })
+    in
+    rw (le-leb 1 p.cores f.some_core, cores, le-leb 1 p.limit f.some_instruction, limit, blocks) refl
 
 pub fits-true : (v : Version) (p : Params) → fits_in v p ≡ true → FitsIn v p
 fits-true One p e = old-true p e

@@ -1,17 +1,16 @@
 -- A recording that is read is the one that is spelled, and what is spelled is read again.
-use Rattle.std.proofs.Common.{◌≡◌, ℕ, ◌+◌, ◌-◌, ◌*◌, ◌^◌, ◌<◌, ◌≤◌, cond, eqb, List, [], ◌++◌, length, take, drop}
-use Rattle.std.proofs.Common.{Result, Ok, Err, refl, sym}
+use Rattle.std.proofs.Common.{◌≡◌, ℕ, ◌+◌, ◌-◌, ◌*◌, ◌^◌, ◌<◌, ◌≤◌, List, [], ◌++◌, length, take, drop}
+use Rattle.std.proofs.Common.{Result, Ok, refl, sym}
 use Rattle.std.proofs.Common.{ap, subst, ◌∙◌, append_assoc, arith}
-use Rattle.std.specs.Prelude.{All, IfOk}
-use Rattle.std.proofs.lemmas.Bool.{eqb-true}
-use Rattle.std.proofs.lemmas.List.{append-nil, nil_from_length, take_at, drop_at, length-append}
+use Rattle.std.specs.Prelude.{All}
+use Rattle.std.proofs.lemmas.List.{append-nil, take_at, drop_at, length-append}
 use Rattle.rtr_types.specs.declared.params.Params.{Params}
 use Rattle.rtr_types.specs.Pairs.{pair_count}
 use Rattle.stride_vector.specs.declared.StrideVector.{StrideVector}
 use Rattle.log_codec.specs.declared.codec_fault.TheConstants.{END}
 use Rattle.race_log.specs.declared.recording.Recording.{Recording}
 use Rattle.log_codec.specs.declared.codec_fault.CodecFault.{CodecFault}
-use Rattle.log_codec.specs.Faults.{◌>>=◌, Fails, Gives}
+use Rattle.log_codec.specs.Faults.{◌>>=◌, Fails}
 use Rattle.rtr_types.specs.Turns.{StandInTurn, stay, count_up}
 use Rattle.log_codec.specs.Turns.{alike, read_in_turn}
 use Rattle.log_codec.specs.declared.version.Version.{Version}
@@ -27,7 +26,8 @@ use Rattle.log_codec.specs.Reading.{header_at, image_at, total_at, totals_at, re
 use Rattle.log_codec.specs.Reading.{front_at, whole_at}
 use Rattle.log_codec.specs.Laws.{IsBytes, ReadIsSpelled, SpelledIsRead, SpelledIsFront, FrontIsSpelled, PrefixFree}
 use Rattle.log_codec.specs.Laws.{ReadAndSpelled, IntoTheTarget}
-use Rattle.log_codec.proofs.Steps.{bind_ok, guard_ok, ok_is, Takes, Takes-then}
+use Rattle.log_codec.proofs.Steps.{bind_ok, ok_is, Takes, Takes-then}
+use Rattle.log_codec.proofs.Wholes.{front_read, one_front, read_front}
 use Rattle.log_codec.proofs.InTurn.{turns_take, turns_again}
 use Rattle.race_log.proofs.InTurn.{stand-all, all-stand}
 use Rattle.log_codec.proofs.Limits.{limits_nest}
@@ -145,15 +145,28 @@ front_takes bytes r rest are e =
     subst (λ (y : Recording × List ℕ). FrontTaken bytes y.0 y.1) (ok_is (made, g.0.1) (r, rest) g.2)
     (record { valid = valid; version = w; limits = th.1.params; taken = named })
 
+-- the sizes of the totals fit 32 bits
+pub record TotalsFit (r : Recording) : Type 0 where
+  pub small : r.params.limit < 2 ^ 32
+  pub few : length r.totals < 2 ^ 32
+  pub together : length r.totals * r.params.limit < 2 ^ 32
+
+pub totals_fit : (r : Recording) → Valid r → TotalsFit r
+totals_fit r v =
+    let params = v.params in
+    let all = params.instructions in
+    let each = v.each_core in
+    record {
+      small = omega arith;
+      few = omega arith;
+      together = subst (λ (n : ℕ). n * r.params.limit < 2 ^ 32) (sym v.each_core) (omega arith);
+    }
+
 pub front_again : SpelledIsFront
 unfolding front_at spelling_in
 front_again w r rest v fits =
-    let params = v.params in
     let p = r.params in
-    let small : p.limit < 2 ^ 32 = omega arith in
-    let few : length r.totals < 2 ^ 32 = let each = v.each_core in omega arith in
-    let together : length r.totals * p.limit < 2 ^ 32 =
-    let all = params.instructions in subst (λ (n : ℕ). n * p.limit < 2 ^ 32) (sym v.each_core) (omega arith) in
+    let sizes = totals_fit r v in
     let regrouped : spelling_in w r ++ rest ≡ header_text w p (length r.image)
     ++ (r.image ++ (totals_text r.totals ++ (reduced_text w p.cores r.reduced ++ (regulated_text r.regulated ++ rest))))
     = simp append_assoc in
@@ -166,14 +179,15 @@ front_again w r rest v fits =
     let t = subst (λ (n : ℕ). totals_at p.limit n
     (totals_text r.totals ++ (reduced_text w p.cores r.reduced ++ (regulated_text r.regulated ++ rest)))
     ≡ Ok (r.totals, reduced_text w p.cores r.reduced ++ (regulated_text r.regulated ++ rest))) v.each_core
-    (totals_again p.limit r.totals (reduced_text w p.cores r.reduced ++ (regulated_text r.regulated ++ rest)) small
-    v.totals) in
+    (totals_again p.limit r.totals (reduced_text w p.cores r.reduced ++ (regulated_text r.regulated ++ rest))
+    sizes.small v.totals) in
     let back : pair_count p.cores ≡ pair_count (length r.totals) = ap (λ (n : ℕ). pair_count n) (sym v.each_core) in
     let d = subst (λ (n : ℕ). reduced_at w r.totals (reduced_text w n r.reduced ++ (regulated_text r.regulated ++ rest))
     ≡ Ok (r.reduced, regulated_text r.regulated ++ rest)) v.each_core
-    (reduced_again w p.limit r.totals r.reduced (regulated_text r.regulated ++ rest) small together few v.totals
+    (reduced_again w p.limit r.totals r.reduced (regulated_text r.regulated ++ rest) sizes.small sizes.together
+    sizes.few v.totals
     (v.each_reduced ∙ back) (edges-placed r v)) in
-    let g = regulated_again p.limit r.totals r.regulated rest small v.totals (v.each_regulated ∙ back)
+    let g = regulated_again p.limit r.totals r.regulated rest sizes.small v.totals (v.each_regulated ∙ back)
     (vectors-stand r v) in
     ap front_at regrouped ∙ rw (h, i, t, d, g) refl
 
@@ -186,20 +200,12 @@ front_is_spelled bytes r rest are e = let t = front_takes bytes r rest are e in
 pub read_is_spelled : ReadIsSpelled
 unfolding whole_at
 read_is_spelled bytes r are e =
-    let f = bind_ok (front_at bytes) (λ front. cond (eqb (length front.1) 0) (Ok front.0) (Err END)) r e in
-    let g = guard_ok (eqb (length f.0.1) 0) END f.0.0 r f.2 in
-    let t = front_takes bytes f.0.0 f.0.1 are f.1 in
-    let none : f.0.1 ≡ [] = nil_from_length f.0.1 (eqb-true _ _ g.0) in
-    let text = spelling_in t.version f.0.0 in
-    let all : bytes ≡ text = t.taken.parts ∙ ap (λ (x : List ℕ). text ++ x) none ∙ append-nil text in
-    subst (λ (s : Recording). Valid s × Spells bytes s) g.1 (t.valid, (t.version, t.limits, all))
+    let t = front_takes bytes r [] are (read_front front_at END bytes r e) in
+    (t.valid, (t.version, t.limits, t.taken.parts ∙ append-nil (spelling_in t.version r)))
 
 pub spelled_is_read : SpelledIsRead
 unfolding whole_at
-spelled_is_read w r v fits =
-    let f : front_at (spelling_in w r) ≡ Ok (r, []) =
-    ap front_at (sym (append-nil (spelling_in w r))) ∙ front_again w r [] v fits in
-    rw f refl
+spelled_is_read w r v fits = front_read front_at END (spelling_in w r) r (front_again w r [] v fits)
 
 -- the version shows at the front
 version-of : (w : Version) (r : Recording) (rest : List ℕ) → FitsIn w r.params → length r.image ≤ 4 * r.params.words →
@@ -225,13 +231,10 @@ version-of w r rest fits room =
 
 pub prefix_free : PrefixFree
 prefix_free v w r s x y vr fr vs fs e =
-    let both : Ok (r, x) ≡ Ok (s, y) = sym (front_again v r x vr fr) ∙ ap front_at e ∙ front_again w s y vs fs in
-    let same = ok_is (r, x) (s, y) both in
-    let heads = sym (version-of v r x fr vr.image) ∙ ap header_at e ∙ version-of w s y fs vs.image in (
-      ap (λ (h : Headed). h.0) (ok_is _ _ heads),
-      ap (λ (p : Recording × List ℕ). p.0) same,
-      ap (λ (p : Recording × List ℕ). p.1) same,
-    )
+    let same = one_front front_at (spelling_in v r ++ x) (spelling_in w s ++ y) r s x y (front_again v r x vr fr)
+    (front_again w s y vs fs) e in
+    let heads = sym (version-of v r x fr vr.image) ∙ ap header_at e ∙ version-of w s y fs vs.image in
+    (ap (λ (h : Headed). h.0) (ok_is _ _ heads), same.0, same.1)
 
 -- what is read and spelled anew is read the same
 pub read_and_spelled : ReadAndSpelled
@@ -240,11 +243,6 @@ read_and_spelled bytes r are e =
     spelled_is_read Two r found.0 found.0.params ∙ sym e
 
 -- ---- what a call that reads returns
-
-pub is_found : (bytes : List ℕ) (r : Result Recording CodecFault) → IsBytes bytes → Gives (λ x. x) r (whole_at bytes) →
-    IfOk r (λ x. Valid x × Spells bytes x)
-is_found bytes (Ok x) are given = read_is_spelled bytes x are given
-is_found bytes (Err e) are given = tt
 
 -- where the front ends
 pub record FrontFound (bytes : List ℕ) (r : Recording) (rest : List ℕ) : Type 0 where

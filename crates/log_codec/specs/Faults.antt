@@ -1,5 +1,5 @@
 -- Readings that name the part in which they fail.
-use Rattle.std.specs.Prelude.{◌≡◌, ℕ, Result, Ok, Err}
+use Rattle.std.specs.Prelude.{◌≡◌, ℕ, List, length, Result, Ok, Err, ◌==◌, if◌then◌else◌}
 use Rattle.log_codec.specs.declared.codec_fault.CodecFault.{CodecFault}
 use Rattle.log_codec.specs.declared.codec_fault.CodecFault.TheVariants as faults
 
@@ -7,6 +7,12 @@ infixl 10 ◌>>=◌
 abbrev pub ◌>>=◌ : {A B : Type 0} → Result A ℕ → (A → Result B ℕ) → Result B ℕ
 (Ok x) >>= f = f x
 (Err part) >>= f = Err part
+
+-- the reading of all bytes: that of a front of them, where no byte stands after it, or else this part fails
+abbrev pub read_all : {A : Type 0} → (List ℕ → Result (A × List ℕ) ℕ) → ℕ → List ℕ → Result A ℕ
+read_all front last bytes = do
+  parts ← front bytes
+  if length parts.1 == 0 then Ok parts.0 else Err last
 
 -- the fault is that of the reading, or want of memory
 abbrev pub Fails : {Y : Type 0} → CodecFault → Result Y ℕ → Type 0

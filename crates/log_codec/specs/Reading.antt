@@ -1,6 +1,6 @@
 -- Reading a recording of either version from left to right. A number, a count or a byte that doesn't fit is a fault of
 -- the part in which it stands.
-use Rattle.std.specs.Prelude.{ℕ, ◌+◌, ◌*◌, List, [], length, take, drop, Result, Ok, Err, nat_lt, nat_le, nat_eq, ◌==◌}
+use Rattle.std.specs.Prelude.{ℕ, ◌+◌, ◌*◌, List, [], length, take, drop, Result, Ok, Err, nat_lt, nat_le, nat_eq}
 use Rattle.std.specs.Prelude.{◌&&◌, if◌then◌else◌}
 use Rattle.std.specs.List.{starts_with}
 use Rattle.rtr_types.specs.declared.params.Params.{Params}
@@ -10,7 +10,7 @@ use Rattle.varint_core.specs.declared.Varint.{Varint}
 use Rattle.varint_core.specs.Leb128 as leb128
 use Rattle.log_codec.specs.declared.codec_fault.TheConstants.{HEADER, IMAGE, TOTALS, REDUCED, REGULATED, END}
 use Rattle.race_log.specs.declared.recording.Recording.{Recording}
-use Rattle.log_codec.specs.Faults.{◌>>=◌}
+use Rattle.log_codec.specs.Faults.{◌>>=◌, read_all}
 use Rattle.rtr_types.specs.Turns.{stay, follow, count_up}
 use Rattle.log_codec.specs.Turns.{read_in_turn}
 use Rattle.log_codec.specs.declared.incoming.Incoming.{Incoming}
@@ -176,6 +176,4 @@ front_at bytes = do
 
 -- all parts
 unfoldable pub whole_at : List ℕ → Result Recording ℕ
-whole_at bytes = do
-  front ← front_at bytes
-  if length front.1 == 0 then Ok front.0 else Err END
+whole_at bytes = read_all front_at END bytes

@@ -22,23 +22,23 @@ use Rattle.online_reduce.specs.Sources.{is_live, write_from, read_from, reads_fr
 
 -- ---- one of a list
 
-pub one_left : (xs ys : List Source) (s : Source) → IsOneOf xs s → IsOneOf (xs ++ ys) s
-one_left [] ys s o = absurd o
-one_left (x ∷ xs) ys s (inl e) = inl e
-one_left (x ∷ xs) ys s (inr o) = inr (one_left xs ys s o)
+module _ {X : Type 0} where
+  pub one_left : (xs ys : List X) (s : X) → IsOneOf xs s → IsOneOf (xs ++ ys) s
+  one_left [] ys s o = absurd o
+  one_left (x ∷ xs) ys s (inl e) = inl e
+  one_left (x ∷ xs) ys s (inr o) = inr (one_left xs ys s o)
 
-pub one_right : (xs ys : List Source) (s : Source) → IsOneOf ys s → IsOneOf (xs ++ ys) s
-one_right [] ys s o = o
-one_right (x ∷ xs) ys s o = inr (one_right xs ys s o)
+  pub one_right : (xs ys : List X) (s : X) → IsOneOf ys s → IsOneOf (xs ++ ys) s
+  one_right [] ys s o = o
+  one_right (x ∷ xs) ys s o = inr (one_right xs ys s o)
 
-pub one_cases : (xs ys : List Source) (s : Source) → IsOneOf (xs ++ ys) s → IsOneOf xs s ⊎ IsOneOf ys s
-one_cases [] ys s o = inr o
-one_cases (x ∷ xs) ys s (inl e) = inl (inl e)
-one_cases (x ∷ xs) ys s (inr o) = on (one_cases xs ys s o)
-  where
-    on : IsOneOf xs s ⊎ IsOneOf ys s → IsOneOf (x ∷ xs) s ⊎ IsOneOf ys s
-    on (inl p) = inl (inr p)
-    on (inr p) = inr p
+  pub one_cases : (xs ys : List X) (s : X) → IsOneOf (xs ++ ys) s → IsOneOf xs s ⊎ IsOneOf ys s
+  one_cases [] ys s o = inr o
+  one_cases (x ∷ xs) ys s (inl e) = inl (inl e)
+  one_cases (x ∷ xs) ys s (inr o) = elim (one_cases xs ys s o) [
+    | inl p ↦ inl (inr p)
+    | inr p ↦ inr p
+  ]
 
 pub all_from_one : (P : Source → Type 0) (xs : List Source) → ((s : Source) → IsOneOf xs s → P s) → All P xs
 all_from_one P [] f = All-nil P

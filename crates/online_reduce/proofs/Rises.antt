@@ -52,24 +52,6 @@ rise_push most wider last new (e ∷ edges) p q rise above_source above_target b
 
 -- ---- edges among lists
 
-pub among_left : (xs ys : List Edge) (x y : Instr) → Among xs x y → Among (xs ++ ys) x y
-among_left [] ys x y s = absurd s
-among_left (e ∷ xs) ys x y (inl s) = inl s
-among_left (e ∷ xs) ys x y (inr s) = inr (among_left xs ys x y s)
-
-pub among_right : (xs ys : List Edge) (x y : Instr) → Among ys x y → Among (xs ++ ys) x y
-among_right [] ys x y s = s
-among_right (e ∷ xs) ys x y s = inr (among_right xs ys x y s)
-
-pub among_cases : (xs ys : List Edge) (x y : Instr) → Among (xs ++ ys) x y → Among xs x y ⊎ Among ys x y
-among_cases [] ys x y s = inr s
-among_cases (e ∷ xs) ys x y (inl s) = inl (inl s)
-among_cases (e ∷ xs) ys x y (inr s) = on (among_cases xs ys x y s)
-  where
-    on : Among xs x y ⊎ Among ys x y → Among (e ∷ xs) x y ⊎ Among ys x y
-    on (inl t) = inl (inr t)
-    on (inr t) = inr t
-
 pub all_among : (P : Instr → Instr → Type 0) (edges : List Edge) → ((x y : Instr) → Among edges x y → P x y) →
     AllByRecursion (λ (e : Edge). P e.from e.to) edges
 all_among P [] f = tt

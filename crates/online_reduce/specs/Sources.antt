@@ -46,6 +46,6 @@ candidates cores before a t =
     or_write (reads_from cores before a t) (write_from cores before a (write_at t (a.word % BLOCK_WORDS)))
 
 -- it is one of these
-abbrev pub IsOneOf : List Source → Source → Type 0
+abbrev pub IsOneOf : {X : Type 0} → List X → X → Type 0
 IsOneOf [] s = ⊥
 IsOneOf (r ∷ found) s = (r ≡ s) ⊎ IsOneOf found s

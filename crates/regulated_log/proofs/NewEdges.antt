@@ -13,7 +13,7 @@ use Rattle.rtr_types.specs.PairEdges.{with_edges, AreEdgesAfter}
 use Rattle.online_reduce.specs.Reduced.{count_of, edges_of, retired}
 use Rattle.online_reduce.specs.Exact.{IsReduction, AreCoveringInto, SourcesRise}
 use Rattle.online_reduce.proofs.Reductions.{retire_law, listed_law}
-use Rattle.online_reduce.proofs.Rises.{among_right}
+use Rattle.clock_core.proofs.Listed.{among_right}
 use Rattle.online_reduce.proofs.Touched.{covering_after}
 use Rattle.know_history.specs.Notes.{noted_count}
 use Rattle.edge_regulate.specs.Regulated.{IsNextEdge}

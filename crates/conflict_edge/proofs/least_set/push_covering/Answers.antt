@@ -1,4 +1,4 @@
-use Rattle.std.proofs.Common.{arith, ◌≡◌, ℕ, ◌<◌, ◌≤◌, ◌-◌, drop, reverse, zero, suc, length, slice_index}
+use Rattle.std.proofs.Common.{arith, ◌≡◌, ℕ, ◌<◌, ◌≤◌, ◌-◌, drop, reverse, zero, suc, slice_index}
 use Rattle.std.proofs.Common.{slice_index_or, List, [], ◌∷◌, inl, inr, sym, ◌∙◌}
 use Rattle.std.proofs.Common.{refl, ap, subst, Vec, Global}
 use Rattle.rtr_types.specs.declared.access.Access.{Access}
@@ -19,6 +19,8 @@ use Rattle.conflict_edge.proofs.least_set.push_covering.Goals.{else-conflict-via
 use Rattle.conflict_edge.proofs.least_set.push_covering.Goals.{else-conflict-via-else-conflict}
 use Rattle.conflict_edge.proofs.least_set.push_covering.Goals.{then-conflict-2-via-then-conflict-2}
 use Rattle.conflict_edge.proofs.least_set.push_covering.Goals.{then-conflict-2-via-else-conflict-2+then-source-access}
+use Rattle.conflict_edge.proofs.least_set.push_covering.Goals.{Joined-conflict}
+use Rattle.conflict_edge.proofs.History.{Rising}
 use Rattle.conflict_edge.proofs.Reach.{rising_next}
 
 -- what stands at an index past the end
@@ -36,39 +38,51 @@ covers-requires c = c.requires.cores _
     (stands-left c.args.earlier.now (c.args.access.now ∷ []) _ (stands_at c.args.earlier.now (c.loop-place.place - 1) _
     (omega arith)))
 
-pub loop-place-preserved-in-loop-place : goal.loop-place-preserved-in-loop-place
-loop-place-preserved-in-loop-place c =
-    let b : Access = slice_index_or c.args.earlier.now (c.loop-place.place - 1) nothing in
-    let rise = rising_next c.args.earlier.now c.args.access.now c.requires.rise in
-    let lt : c.loop-place.place - 1 < length c.args.earlier.now = omega arith in
-    let at_b = stands_at c.args.earlier.now (c.loop-place.place - 1) nothing lt in
-    let around : At c.args.earlier.now c.loop-place.place b =
-    at c.args.earlier.now c.loop-place.place nothing c.loop-place-test.true c.loop-place.auto.place in
+-- the access that is read, where it stands, and that counts rise
+abbrev read : (c : Joined-conflict) → Access
+read c = slice_index_or c.args.earlier.now (c.loop-place.place - 1) nothing
+
+around : (c : Joined-conflict) → At c.args.earlier.now c.loop-place.place (read c)
+around c = at c.args.earlier.now c.loop-place.place nothing c.loop-place-test.true c.loop-place.auto.place
+
+rises : (c : Joined-conflict) → Rising (c.args.access.now ∷ reverse c.args.earlier.now)
+rises c = rising_next c.args.earlier.now c.args.access.now c.requires.rise
+
+-- the edge is noted where the access is a source that isn't known
+noted : (c : Joined-conflict) → Noted c.args.earlier.now c.loop-place.place c.args.access.now c.args.edges.now.items
+    c.if-conflict.edges.items
+noted c =
+    let b = read c in
+    let at_b = stands_at c.args.earlier.now (c.loop-place.place - 1) nothing (omega arith) in
     let fits : b.at.core < CORES_MAX = c.requires.cores b (stands-left c.args.earlier.now (c.args.access.now ∷ []) b
     at_b) in
     let kept = c.loop-place.invariant in
-    let noted : Noted c.args.earlier.now c.loop-place.place c.args.access.now c.args.edges.now.items
-    c.if-conflict.edges.items =
     elim c.if-conflict.branch [
       | then-conflict+then-not-covers+in_ok-push w ↦
-          noted_push c.args.earlier.now c.loop-place.place c.args.access.now b _ _ _ _ around rise fits
+          noted_push c.args.earlier.now c.loop-place.place c.args.access.now b _ _ _ _ (around c) (rises c) fits
           (c.conflicts-conflict.ensures.fact.0 w.if-conflict.true) c.requires.apart
           kept.reached (test_no w.covers.result _ _ w.covers.ensures w.if-not-covers.true) kept.found kept.once
           (ap (λ (v : Vec Edge Global). v.items) w.edges-is ∙ w.in_ok-push.ensures.items)
       | else-conflict w ↦
-          let left = noted_skip c.args.earlier.now c.loop-place.place c.args.access.now b _ _ _ around in
+          let left = noted_skip c.args.earlier.now c.loop-place.place c.args.access.now b _ _ _ (around c) in
           elim w.else-conflict.branch [
             | else-conflict-via-then-conflict+else-not-covers v ↦
-                left (covered c.args.earlier.now c.loop-place.place c.args.access.now b _ around rise fits kept.reached
-                (v.covers.ensures.0 v.if-not-covers.false)) kept.found kept.once (ap (λ (e : Vec Edge Global). e.items)
-                w.edges-is)
+                left (covered c.args.earlier.now c.loop-place.place c.args.access.now b _ (around c) (rises c) fits
+                kept.reached (v.covers.ensures.0 v.if-not-covers.false)) kept.found kept.once
+                (ap (λ (e : Vec Edge Global). e.items) w.edges-is)
             | else-conflict-via-else-conflict v ↦
-                left (no_conflict c.args.earlier.now c.args.access.now b rise (stands_forth c.args.earlier.now b at_b)
+                left (no_conflict c.args.earlier.now c.args.access.now b (rises c)
+                (stands_forth c.args.earlier.now b at_b)
                 (fact_no _ c.conflicts-conflict.result c.conflicts-conflict.ensures.fact.1
                 v.if-conflict.false)) kept.found kept.once
                 (ap (λ (e : Vec Edge Global). e.items) w.edges-is)
           ]
-    ] in
+    ]
+
+pub loop-place-preserved-in-loop-place : goal.loop-place-preserved-in-loop-place
+loop-place-preserved-in-loop-place c =
+    let here = (goal.at.loop-place-preserved-in-loop-place c).Joined-conflict in
+    let b = read here in
     let direct : Direct b c.args.access.now =
     elim c.then-conflict-2.branch [
       | then-conflict-2-via-then-conflict-2 w ↦ inr (c.conflicts-conflict.ensures.fact.0 w.if-conflict-2.true)
@@ -76,53 +90,24 @@ loop-place-preserved-in-loop-place c =
     ] in
     let exact = exact_clock c.args.earlier.now b c.args.clocks.now (c.loop-place.place - 1) c.index-clocks-place.result
     c.index-clocks-place.is
-    (c.requires.exact (c.loop-place.place - 1) nothing c.index-clocks-place.result lt) in
+    (c.requires.exact (c.loop-place.place - 1) nothing c.index-clocks-place.result (omega arith)) in
     record {
-      reached = merge_reached c.args.earlier.now c.loop-place.place c.args.access.now b _ _ _ around direct exact
-          c.merge-known.ensures.places kept.reached;
-      found = noted.found;
-      once = noted.once;
+      reached = merge_reached c.args.earlier.now c.loop-place.place c.args.access.now b _ _ _ (around here) direct
+          exact c.merge-known.ensures.places c.loop-place.invariant.reached;
+      found = (noted here).found;
+      once = (noted here).once;
     }
 
 pub loop-place-preserved : goal.loop-place-preserved
 loop-place-preserved c =
-    let b : Access = slice_index_or c.args.earlier.now (c.loop-place.place - 1) nothing in
-    let rise = rising_next c.args.earlier.now c.args.access.now c.requires.rise in
-    let lt : c.loop-place.place - 1 < length c.args.earlier.now = omega arith in
-    let at_b = stands_at c.args.earlier.now (c.loop-place.place - 1) nothing lt in
-    let around : At c.args.earlier.now c.loop-place.place b =
-    at c.args.earlier.now c.loop-place.place nothing c.loop-place-test.true c.loop-place.auto.place in
-    let fits : b.at.core < CORES_MAX = c.requires.cores b (stands-left c.args.earlier.now (c.args.access.now ∷ []) b
-    at_b) in
-    let kept = c.loop-place.invariant in
-    let noted : Noted c.args.earlier.now c.loop-place.place c.args.access.now c.args.edges.now.items
-    c.if-conflict.edges.items =
-    elim c.if-conflict.branch [
-      | then-conflict+then-not-covers+in_ok-push w ↦
-          noted_push c.args.earlier.now c.loop-place.place c.args.access.now b _ _ _ _ around rise fits
-          (c.conflicts-conflict.ensures.fact.0 w.if-conflict.true) c.requires.apart
-          kept.reached (test_no w.covers.result _ _ w.covers.ensures w.if-not-covers.true) kept.found kept.once
-          (ap (λ (v : Vec Edge Global). v.items) w.edges-is ∙ w.in_ok-push.ensures.items)
-      | else-conflict w ↦
-          let left = noted_skip c.args.earlier.now c.loop-place.place c.args.access.now b _ _ _ around in
-          elim w.else-conflict.branch [
-            | else-conflict-via-then-conflict+else-not-covers v ↦
-                left (covered c.args.earlier.now c.loop-place.place c.args.access.now b _ around rise fits kept.reached
-                (v.covers.ensures.0 v.if-not-covers.false)) kept.found kept.once (ap (λ (e : Vec Edge Global). e.items)
-                w.edges-is)
-            | else-conflict-via-else-conflict v ↦
-                left (no_conflict c.args.earlier.now c.args.access.now b rise (stands_forth c.args.earlier.now b at_b)
-                (fact_no _ c.conflicts-conflict.result c.conflicts-conflict.ensures.fact.1
-                v.if-conflict.false)) kept.found kept.once
-                (ap (λ (e : Vec Edge Global). e.items) w.edges-is)
-          ]
-    ] in
+    let here = (goal.at.loop-place-preserved c).Joined-conflict in
+    let b = read here in
     let other = fact_no _ c.conflicts-conflict.result c.conflicts-conflict.ensures.fact.1 c.if-conflict-2.false in
     record {
-      reached = skip_reached c.args.earlier.now c.loop-place.place c.args.access.now b _ around
-          (not_direct b c.args.access.now c.if-source-access.false other) kept.reached;
-      found = noted.found;
-      once = noted.once;
+      reached = skip_reached c.args.earlier.now c.loop-place.place c.args.access.now b _ (around here)
+          (not_direct b c.args.access.now c.if-source-access.false other) c.loop-place.invariant.reached;
+      found = (noted here).found;
+      once = (noted here).once;
     }
 
 pub set-requires : goal.set-requires

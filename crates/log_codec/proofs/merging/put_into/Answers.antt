@@ -1,13 +1,13 @@
-use Rattle.std.proofs.Common.{◌≡◌, ◌+◌, ◌-◌, ◌++◌, ℕ, List, [], length, ap, ◌∙◌, append_assoc, arith}
+use Rattle.std.proofs.Common.{◌≡◌, ◌+◌, ◌-◌, ◌++◌, ◌≤◌, ℕ, List, [], length, ap, ◌∙◌, append_assoc, arith}
 use Rattle.std.specs.Prelude.{slice_index}
-use Rattle.log_codec.specs.Incoming.{incoming_edges, remember}
+use Rattle.log_codec.specs.Incoming.{incoming_edges, remember, target_of}
 use Rattle.log_codec.specs.Spelling.{incoming_text, into_text, number}
 use Rattle.log_codec.specs.Turns.{spelled_in_turn}
 use Rattle.log_codec.proofs.NextEdges.{fronts-step}
 use Rattle.log_codec.proofs.Written.{fronts-start, log-rises, writes-start, writes-rises, writes-more, writes-none}
 use Rattle.log_codec.proofs.Written.{writes-done}
 use Rattle.log_codec.proofs.merging.put_into.Goals as goal
-use Rattle.log_codec.proofs.merging.put_into.Goals.{in-Some+in_ok-put_incoming, in_default}
+use Rattle.log_codec.proofs.merging.put_into.Goals.{In-Some, in-Some+in_ok-put_incoming, in_default}
 
 pub loop-init : goal.loop-init
 loop-init c =
@@ -26,23 +26,20 @@ loop-init c =
       fronts-start cores reduced target c.first_fronts-fronts.result c.first_fronts-fronts.ensures,
     )
 
+-- the next edge rises in both counts from those before it
+rises : (c : In-Some) → (target_of c.loop.last ≤ c.in-Some.edge.counts.1)
+    × (slice_index c.loop.counts c.in-Some.edge.source ≤ c.in-Some.edge.counts.0)
+rises c =
+    let whole = c.args.out.now.items ++ into_text (incoming_edges c.args.cores c.args.reduced.now c.args.target) in
+    writes-rises c.args.cores c.args.target (c.count_into-count.result - c.loop.counter) c.args.reduced.now c.loop.next
+    c.loop.last c.loop.counts c.loop.out.items whole c.in-Some.edge c.requires.log.few c.requires.target
+    (log-rises c.args.cores c.args.reduced.now c.requires.log) c.loop.invariant.0 c.in-Some.ensures.first
+
 pub put_incoming-requires-clause-target : goal.put_incoming-requires-clause-target
-put_incoming-requires-clause-target c =
-    (writes-rises c.args.cores c.args.target
-    (c.count_into-count.result - c.loop.counter) c.args.reduced.now c.loop.next c.loop.last c.loop.counts
-    c.loop.out.items
-    (c.args.out.now.items ++ into_text (incoming_edges c.args.cores c.args.reduced.now c.args.target)) c.in-Some.edge
-    c.requires.log.few c.requires.target (log-rises c.args.cores c.args.reduced.now c.requires.log) c.loop.invariant.0
-    c.in-Some.ensures.first).0
+put_incoming-requires-clause-target c = (rises (goal.at.put_incoming-requires-clause-target c).In-Some).0
 
 pub put_incoming-requires-clause-source : goal.put_incoming-requires-clause-source
-put_incoming-requires-clause-source c =
-    (writes-rises c.args.cores c.args.target
-    (c.count_into-count.result - c.loop.counter) c.args.reduced.now c.loop.next c.loop.last c.loop.counts
-    c.loop.out.items
-    (c.args.out.now.items ++ into_text (incoming_edges c.args.cores c.args.reduced.now c.args.target)) c.in-Some.edge
-    c.requires.log.few c.requires.target (log-rises c.args.cores c.args.reduced.now c.requires.log) c.loop.invariant.0
-    c.in-Some.ensures.first).1
+put_incoming-requires-clause-source c = (rises (goal.at.put_incoming-requires-clause-source c).In-Some).1
 
 pub loop-preserved : goal.loop-preserved
 loop-preserved c =

@@ -2,7 +2,7 @@ use Rattle.std.proofs.Common.{◌≡◌, ◌-◌, ◌++◌, length, get_or, ap, 
 use Rattle.rtr_types.specs.Turns.{follow}
 use Rattle.log_codec.specs.Turns.{spelled_in_turn}
 use Rattle.rtr_types.specs.PairEdges.{EdgeRises}
-use Rattle.log_codec.specs.Spelling.{number, edge_text, edges_text}
+use Rattle.log_codec.specs.Spelling.{number, edge_text}
 use Rattle.log_codec.proofs.InTurn.{puts_on, puts_done}
 use Rattle.race_log.proofs.InTurn.{stand-drop}
 use Rattle.log_codec.proofs.writing.put_edges.Goals as goal
@@ -40,13 +40,8 @@ loop-edge-preserved c =
     ∙ append_assoc c.loop-edge.out.items (number (e.1 - last.1)) (number (e.0 - last.0)) in
     record {
       rising = h.1;
-      wrote = puts_on edge_text follow c.loop-edge.out.items c.put_u32-in-loop-edge-2.new.out.items
-          (c.args.out.now.items ++ edges_text c.args.edges.now) last c.args.edges.now c.loop-edge.edge-index
-          (0, 0) c.loop-edge-test.true is c.loop-edge.invariant.wrote;
+      wrote = puts_on edge_text follow _ _ _ _ _ _ (0, 0) c.loop-edge-test.true is c.loop-edge.invariant.wrote;
     }
 
 pub returns : goal.returns
-returns c = puts_done edge_text follow c.loop-edge.out.items
-    (c.args.out.now.items ++ edges_text c.args.edges.now) c.loop-edge.last c.args.edges.now c.loop-edge.edge-index
-    c.loop-edge-test.false
-    c.loop-edge.invariant.wrote
+returns c = puts_done edge_text follow _ _ _ _ _ c.loop-edge-test.false c.loop-edge.invariant.wrote
