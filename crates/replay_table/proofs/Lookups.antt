@@ -20,7 +20,7 @@ use Rattle.replay_table.specs.declared.upcoming.Upcoming.{Upcoming}
 use Rattle.replay_table.specs.declared.view.View.{View}
 use Rattle.replay_table.specs.Aheads.{Due}
 use Rattle.replay_table.specs.Rule.{seen_of}
-use Rattle.replay_table.specs.Seats.{IsUpcoming, IsUnmet, Past, SeatHolds, Tied}
+use Rattle.replay_table.specs.Seats.{IsUpcoming, IsUnmet, Past, SeatHolds, Sitting, Tied}
 
 -- what was looked up is of the job's recording and log
 pub upcoming_is : (w w' : Which) (r r' : Recording) (k l : Core) (u : Upcoming) → w' ≡ w → r' ≡ r → l ≡ k
@@ -56,6 +56,16 @@ due_by which r f k u valid h below met = record {
       let seen = met from.core inside in
       omega arith);
 }
+
+-- and its seat is due
+pub due_seat : (which : Which) (r : Recording) (x s : Sitting) (u : Upcoming) → x ≡ s → Valid r
+    → IsUpcoming which r x.core u → s.core.count < slice_index r.totals s.core.id
+    → ((i : ℕ) → i < length r.totals → slice_index (sources_in u.sources) i ≤ seen_of x.view i)
+    → Due (plan_of which r) (seen_of s.view) s.core
+due_seat which r x s u is valid h below met =
+    subst (λ (y : Sitting). Due (plan_of which r) (seen_of y.view) y.core) is
+    (due_by which r (seen_of x.view) x.core u valid h
+    (subst (λ (y : Sitting). y.core.count < slice_index r.totals y.core.id) (sym is) below) met)
 
 -- a source that wasn't seen
 pub unmet_is : (which : Which) (r : Recording) (v : View) (k : Core) (u : Upcoming) (of : ℕ) → IsUpcoming which r k u
