@@ -1,4 +1,4 @@
-use Rattle.std.proofs.Common.{◌+◌, subst, arith}
+use Rattle.std.proofs.Common.{subst, arith}
 use Rattle.std.proofs.Math.ListN.{drop_of_length-le}
 use Rattle.replay_audit.specs.Determinate.{low_order_of}
 use Rattle.debug_place.specs.Walks.{IsWalking}
