@@ -91,10 +91,9 @@ new-upcoming-requires g c =
     let start = start_law c.loop-id.id r.params.limit in
     let id = start.0 in
     let count = start.2 in
-    let can = can_begin g.J.Job.recording r c.in_ok-program.program k c.new-core.result c.requires.valid
+    can_begin g.J.Job.recording r c.in_ok-program.program k c.new-core.result c.requires.valid
     c.requires.recording (c.in_ok-program.ensures ∙ image) c.new-core.ensures (omega arith)
-    (omega arith) in
-    record { valid = can.valid; program = can.image_is; core = can.inside; within = can.within }
+    (omega arith)
 
 pub loop-id-preserved : goal.loop-id-preserved
 loop-id-preserved g c =
