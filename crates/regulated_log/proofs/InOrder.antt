@@ -1,5 +1,5 @@
 -- The order of retirement meets the regulated log.
-use Rattle.std.proofs.Common.{◌≡◌, ◌≢◌, ℕ, ◌+◌, ◌<◌, ◌≤◌, ◌⊎◌, true, List, [], ◌∷◌, ◌++◌, refl, sym, ap, subst, ◌∙◌}
+use Rattle.std.proofs.Common.{◌≡◌, ◌≢◌, ℕ, ◌+◌, ◌≤◌, ◌⊎◌, true, List, [], ◌∷◌, ◌++◌, refl, sym, ap, subst, ◌∙◌}
 use Rattle.std.proofs.Common.{inl, inr, arith}
 use Rattle.std.specs.Prelude.{slice_index, slice_index_or, nat_le}
 use Rattle.std.specs.List.{AllByRecursion, Contains, flat_map}
@@ -18,7 +18,7 @@ use Rattle.race_log.proofs.SourceLaws.{edges-are-paired, edges-within}
 use Rattle.race_log.proofs.Rises.{no_vector, position_at}
 use Rattle.replay_core.specs.Plans.{plan_of}
 use Rattle.replay_core.specs.Orders.{bump, counts, nought, Sourced}
-use Rattle.replay_core.proofs.Counts.{bump_same, bump_else, counts_on, counts_more}
+use Rattle.replay_core.proofs.Counts.{bump_same, counts_on, counts_more, one_place, place_of}
 use Rattle.replay_core.proofs.Lists.{places_law}
 use Rattle.replay_core.proofs.Ready.{source_within, within_sourced}
 use Rattle.edge_regulate.specs.Regulated.{Knowledge, knows_by}
@@ -26,42 +26,6 @@ use Rattle.regulated_log.specs.Logs.{with_regulated, IsPast}
 use Rattle.regulated_log.specs.Laws.{OrderLaw, WithinLaw, ForwardLaw, RegulatedLaw, KnownRetired, PastLaw}
 use Rattle.regulated_log.proofs.OnePair.{EachPosition, greedy_positions}
 use Rattle.regulated_log.proofs.AllPairs.{all_contains, contains_all, between, edge_between_is, implies_law, valid_law}
-
--- ---- places of a list of cores
-
--- a core's place has a count, from the first up to the last
-pub record PlaceOf (order : List ℕ) (f : ℕ → ℕ) (core count : ℕ) : Type 0 where
-  pub front : List ℕ
-  pub rest : List ℕ
-  pub split : order ≡ front ++ core ∷ rest
-  pub before : counts f front core + 1 ≡ count
-
-pub place_of : (order : List ℕ) (f : ℕ → ℕ) (core count : ℕ) → f core < count → count ≤ counts f order core →
-    PlaceOf order f core count
-place_of [] f core count above most = absurd (omega arith)
-place_of (c ∷ order) f core count above most = by (λ lt. place_of order (bump f c) core count lt most) (cases_eq core c)
-    (cases_eq (f core + 1) count)
-  where
-    later : PlaceOf order (bump f c) core count → PlaceOf (c ∷ order) f core count
-    later p = record {
-      front = c ∷ p.front;
-      rest = p.rest;
-      split = ap (λ (l : List ℕ). c ∷ l) p.split;
-      before =
-          p.before;
-    }
-
-    by : (bump f c core < count → PlaceOf order (bump f c) core count) → (core ≡ c) ⊎ (core ≢ c) →
-        (f core + 1 ≡ count) ⊎ (f core + 1 ≢ count) →
-        PlaceOf (c ∷ order) f core count
-    by on (inl same) (inl here) = record {
-      front = [];
-      rest = order;
-      split = ap (λ (i : ℕ). i ∷ order) (sym same);
-      before = here;
-    }
-    by on (inl same) (inr there) = let more = bump_same f c core same in later (on (omega arith))
-    by on (inr other) _ = let as_was = bump_else f c core other in later (on (omega arith))
 
 -- ---- what is known retires before
 
@@ -178,32 +142,6 @@ regulated_law known order r valid past ordered whole = record {
 }
 
 -- ---- what is past
-
--- a core's place with a count is one
-one_place : (order : List ℕ) (f : ℕ → ℕ) (core : ℕ) (front rest other more : List ℕ) → order ≡ front ++ core ∷ rest →
-    order ≡ other ++ core ∷ more →
-    counts f front core ≡ counts f other core → front ≡ other
-one_place order f core [] rest [] more p q same = refl
-one_place order f core [] rest (c ∷ other) more p q same =
-    let heads : core ∷ rest ≡ c ∷ (other ++ core ∷ more) = sym p ∙ q in
-    let is : core ≡ c = cc in
-    let one = bump_same f c core is in
-    let up = counts_more (bump f c) other core in
-    absurd (omega arith)
-one_place order f core (c ∷ front) rest [] more p q same =
-    let heads : core ∷ more ≡ c ∷ (front ++ core ∷ rest) = sym q ∙ p in
-    let is : core ≡ c = cc in
-    let one = bump_same f c core is in
-    let up = counts_more (bump f c) front core in
-    absurd (omega arith)
-one_place order f core (c ∷ front) rest (d ∷ other) more p q same =
-    let heads : c ∷ (front ++ core ∷ rest) ≡ d ∷ (other ++ core ∷ more) = sym p ∙ q in
-    let head : c ≡ d = cc in
-    let tail : front ++ core ∷ rest ≡ other ++ core ∷ more = cc in
-    let same_from : counts (bump f c) front core ≡ counts (bump f c) other core = same
-    ∙ ap (λ (i : ℕ). counts (bump f i) other core) (sym head) in
-    ap (λ (l : List ℕ). c ∷ l) (one_place (front ++ core ∷ rest) (bump f c) core front rest other more refl tail
-    same_from) ∙ ap (λ (i : ℕ). i ∷ other) head
 
 pub past_law : PastLaw
 past_law pairs order known = (forth, back)
