@@ -91,6 +91,12 @@ record AreFronts (p : Plan) (at : Instr) : Type 0 where
   with_ordered : IsReplayOrder p (before ++ at.core ∷ [])
   with_count : counts nought (before ++ at.core ∷ []) at.core ≡ at.count
 
+-- a closed cut whose count of a core is such
+record ClosedWhere (which : Which) (r : Recording) (core : ℕ) (is : ℕ → Type 0) : Type 0 where
+  cut : Cut
+  closed : IsClosed which r cut
+  count : is (count_in cut core)
+
 module _ (which : Which) (r : Recording) (at : Instr) (valid : Valid r) (determinate : IsDeterminate which r)
     (node : IsInstrOf r at) where
   abbrev p : Plan
@@ -119,37 +125,30 @@ module _ (which : Which) (r : Recording) (at : Instr) (valid : Valid r) (determi
           }
 
   -- the closed cut with the instruction and no later one of its core
-  abbrev upper : Cut
-  upper = cut_of p (counts nought (fronts.before ++ at.core ∷ []))
-
-  upper_closed : IsClosed which r upper
-  upper_closed = order_cut which r (fronts.before ++ at.core ∷ []) valid fronts.with_ordered
-
-  upper_count : count_in upper at.core ≡ at.count
-  upper_count = count_is which r valid (counts nought (fronts.before ++ at.core ∷ [])) at.core inside
-      ∙ fronts.with_count
+  upper : ClosedWhere which r at.core (λ n. n ≡ at.count)
+  upper = record {
+    cut = cut_of p (counts nought (fronts.before ++ at.core ∷ []));
+    closed = order_cut which r (fronts.before ++ at.core ∷ []) valid fronts.with_ordered;
+    count = count_is which r valid (counts nought (fronts.before ++ at.core ∷ [])) at.core inside ∙ fronts.with_count;
+  }
 
   -- and the one with each earlier instruction and not this one
-  abbrev lower : Cut
-  lower = cut_of p (counts nought fronts.before)
-
-  lower_closed : IsClosed which r lower
-  lower_closed = order_cut which r fronts.before valid fronts.ordered
-
-  lower_count : count_in lower at.core + 1 ≡ at.count
-  lower_count = let e = count_is which r valid (counts nought fronts.before) at.core inside in let c = fronts.count in
-      omega arith
+  lower : ClosedWhere which r at.core (λ n. n + 1 ≡ at.count)
+  lower = record {
+    cut = cut_of p (counts nought fronts.before);
+    closed = order_cut which r fronts.before valid fronts.ordered;
+    count = let e = count_is which r valid (counts nought fronts.before) at.core inside in let c = fronts.count in
+        omega arith;
+  }
 
 pub step_count : StepCountLaw
 step_count which r cut to at valid determinate node closed lacks s =
     let up = upper which r at valid determinate node in
-    let is = upper_closed which r at valid determinate node in
-    let n = upper_count which r at valid determinate node in
-    let u = union_least r cut up closed.is_cut is.is_cut in
-    let most = s.least (union_of cut up) (union_closed which r cut up closed is) u.first
+    let n : count_in up.cut at.core ≡ at.count = up.count in
+    let u = union_least r cut up.cut closed.is_cut up.closed.is_cut in
+    let most = s.least (union_of cut up.cut) (union_closed which r cut up.cut closed up.closed) u.first
     (let y = u.second at.core in omega arith) at.core in
-    let holds = s.holds in
-    by (greater r cut up closed.is_cut is.is_cut at.core).one n most holds
+    by (greater r cut up.cut closed.is_cut up.closed.is_cut at.core).one n most s.holds
   where
     by : {both above : ℕ} → (both ≡ count_in cut at.core) ⊎ (both ≡ above) → above ≡ at.count →
         count_in to at.core ≤ both → at.count ≤ count_in to at.core → count_in to at.core ≡ at.count
@@ -159,12 +158,12 @@ step_count which r cut to at valid determinate node closed lacks s =
 pub back_count : BackCountLaw
 back_count which r cut to at valid determinate node closed has b =
     let low = lower which r at valid determinate node in
-    let is = lower_closed which r at valid determinate node in
-    let n = lower_count which r at valid determinate node in
-    let u = intersection_greatest r cut low closed.is_cut is.is_cut in
-    let least = b.greatest (intersection_of cut low) (intersection_closed which r cut low closed is) u.first
-    (λ holds. let y = u.second at.core in omega arith) at.core in
-    by (lesser r cut low closed.is_cut is.is_cut at.core).one n least (cases_lt (count_in to at.core) at.count)
+    let n : count_in low.cut at.core + 1 ≡ at.count = low.count in
+    let u = intersection_greatest r cut low.cut closed.is_cut low.closed.is_cut in
+    let least = b.greatest (intersection_of cut low.cut) (intersection_closed which r cut low.cut closed low.closed)
+    u.first (λ holds. let y = u.second at.core in omega arith) at.core in
+    by (lesser r cut low.cut closed.is_cut low.closed.is_cut at.core).one n least
+    (cases_lt (count_in to at.core) at.count)
   where
     by : {common below : ℕ} → (common ≡ count_in cut at.core) ⊎ (common ≡ below) → below + 1 ≡ at.count →
         common ≤ count_in to at.core → (count_in to at.core < at.count) ⊎ (at.count ≤ count_in to at.core) →

@@ -225,7 +225,7 @@ no_place p f c zero none = refl
 no_place p f c (suc n) none =
     rw (none c (omega arith) (omega arith)) (no_place p f (c + 1) n (λ d le lt. none d (omega arith) (omega arith)))
 
-module _ (p : Plan) (t : Tallied) (list : List ℕ) (h : IsSoFar p t list) where
+module _ {p : Plan} {t : Tallied} {list : List ℕ} (h : IsSoFar p t list) where
   abbrev f : ℕ → ℕ
   f = count_of t.counts
 

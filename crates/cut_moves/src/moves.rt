@@ -20,8 +20,7 @@ const PLACES: usize = CORES_MAX as usize;
 pub fn step(audited: &Audited, cut: &Cut, core: u8) -> Result<Cut, AllocError>
     requires closed { IsClosed audited.now.which audited.now.recording cut.now }
     requires next { IsInstrOf audited.now.recording (next_in cut.now core) }
-    ensures step { IsOkAnd result
-        (IsStep audited.now.which audited.now.recording cut.now (next_in cut.now core)) }
+    ensures step { IsOkAnd result (IsStep audited.now.which audited.now.recording cut.now (next_in cut.now core)) }
     ensures one { IsOkAnd result (λ to. count_in to core ≡ count_in cut.now core + 1) }
 {
     // The audit passed, so an instruction comes with no later one of its core.
@@ -55,8 +54,7 @@ pub fn step_back(audited: &Audited, cut: &Cut, core: u8) -> Result<Cut, AllocErr
 pub fn earliest(audited: &Audited, cut: &Cut, core: u8) -> Result<Cut, AllocError>
     requires closed { IsClosed audited.now.which audited.now.recording cut.now }
     requires core { core < audited.now.recording.params.cores }
-    ensures least { IsOkAnd result
-        (IsLeastWith audited.now.which audited.now.recording (last_in cut.now core)) }
+    ensures least { IsOkAnd result (IsLeastWith audited.now.which audited.now.recording (last_in cut.now core)) }
     ensures stays { IsOkAnd result (λ to. count_in to core ≡ count_in cut.now core) }
 {
     let _ = audited.recording();

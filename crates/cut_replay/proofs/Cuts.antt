@@ -36,31 +36,22 @@ closed_totals which r valid x y a le = (edge_within which r x y valid a).source_
 pub has_within : (which : Which) (r : Recording) (x y : Instr) → Valid r → HasEdge which r x y → EdgeWithin r x y
 has_within which r x y valid has = edge_within which r x y valid (contains_among (log_edges which r) x y has)
 
+edge_step : (which : Which) (r : Recording) (x y : Instr) → HasEdge which r x y → Before (Among (log_edges which r)) x y
+edge_step which r x y has = one (Among (log_edges which r)) x y (inr (contains_among (log_edges which r) x y has))
+
 -- an edge goes before a path
 pub by_edge : (which : Which) (r : Recording) (x y z : Instr) → HasEdge which r x y →
-    IsOrLeads (Among (log_edges which r)) y z →
-    IsOrLeads (Among (log_edges which r)) x z
-by_edge which r x y z has leads = by leads
-  where
-    step : Before (Among (log_edges which r)) x y
-    step = one (Among (log_edges which r)) x y (inr (contains_among (log_edges which r) x y has))
-
-    by : IsOrLeads (Among (log_edges which r)) y z → IsOrLeads (Among (log_edges which r)) x z
-    by (inl e) = inr (subst (λ (w : Instr). Before (Among (log_edges which r)) x w) e step)
-    by (inr p) = inr (joined (Among (log_edges which r)) x y z step p)
+    IsOrLeads (Among (log_edges which r)) y z → IsOrLeads (Among (log_edges which r)) x z
+by_edge which r x y z has (inl e) = inr
+    (subst (λ (w : Instr). Before (Among (log_edges which r)) x w) e (edge_step which r x y has))
+by_edge which r x y z has (inr p) = inr (joined (Among (log_edges which r)) x y z (edge_step which r x y has) p)
 
 -- and an edge behind one
 pub then_edge : (which : Which) (r : Recording) (x y z : Instr) → IsOrLeads (Among (log_edges which r)) x y →
-    HasEdge which r y z →
-    IsOrLeads (Among (log_edges which r)) x z
-then_edge which r x y z leads has = by leads
-  where
-    step : Before (Among (log_edges which r)) y z
-    step = one (Among (log_edges which r)) y z (inr (contains_among (log_edges which r) y z has))
-
-    by : IsOrLeads (Among (log_edges which r)) x y → IsOrLeads (Among (log_edges which r)) x z
-    by (inl e) = inr (subst (λ (w : Instr). Before (Among (log_edges which r)) w z) (sym e) step)
-    by (inr p) = inr (joined (Among (log_edges which r)) x y z p step)
+    HasEdge which r y z → IsOrLeads (Among (log_edges which r)) x z
+then_edge which r x y z (inl e) has = inr
+    (subst (λ (w : Instr). Before (Among (log_edges which r)) w z) (sym e) (edge_step which r y z has))
+then_edge which r x y z (inr p) has = inr (joined (Among (log_edges which r)) x y z p (edge_step which r y z has))
 
 -- a clock is within whatever is closed and holds its instruction
 pub clock_within : (which : Which) (r : Recording) (at : Instr) (clock f : ℕ → ℕ) →

@@ -105,13 +105,14 @@ came_back test old new from s places past seen same_recording same_which valid s
 pub notes_here : (test : Plan → Outcome → ℕ → Bool) (which : Which) (r : Recording) (old : Placed) (from here : Cut)
     (line timeline : List ℕ) (u : UnderWay) → Fits which r timeline u →
     record { recording = r; which = which; state = u.state } ≡ old → here ≡ cut_of u.plan (counts_in u.state) →
-    line ≡ timeline → (seen : Option Seen) → NotesOnWay test which r from here line seen →
+    line ≡ timeline → (seen found : Option Seen) → found ≡ seen → NotesOnWay test which r from here line found →
     NotesOnWay test old.which old.recording from (cut_at old) (rounds_of old.which old.recording) seen
-notes_here test which r old from here line timeline u fits view_is here_is line_is seen noted =
+notes_here test which r old from here line timeline u fits view_is here_is line_is seen found is noted =
     let cut_is : here ≡ cut_of (plan_of which r) (counts_in u.state) =
     here_is ∙ ap (λ (p : Plan). cut_of p (counts_in u.state)) fits.at.plan_is in
     subst (λ (place : Placed).
     NotesOnWay test place.which place.recording from (cut_at place) (rounds_of place.which place.recording) seen)
     view_is
     (subst (λ (k : Cut). NotesOnWay test which r from k (rounds_of which r) seen) cut_is
-    (subst (λ (l : List ℕ). NotesOnWay test which r from here l seen) (line_is ∙ fits.timeline_is) noted))
+    (subst (λ (l : List ℕ). NotesOnWay test which r from here l seen) (line_is ∙ fits.timeline_is)
+    (subst (λ (s : Option Seen). NotesOnWay test which r from here line s) is noted)))

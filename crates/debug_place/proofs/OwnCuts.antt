@@ -129,6 +129,11 @@ module _ {which : Which} {r : Recording} {cut : Cut} {u : UnderWay} (at : IsRepl
   pub own_at : Valid r → IsReplayAt which r (own_cut which r u) u
   own_at valid = subst (λ (k : Cut). IsReplayAt which r k u) (sym (own_is valid)) at
 
+-- the cut that a replay tells, where it is at its own
+pub told_own : {which : Which} {r : Recording} {u : UnderWay} → IsReplayAt which r (own_cut which r u) u → {cut : Cut} →
+    cut ≡ cut_of u.plan (counts_in u.state) → cut ≡ own_cut which r u
+told_own {u = u} at is = is ∙ ap (λ (plan : Plan). cut_of plan (counts_in u.state)) at.plan_is
+
 -- room was made
 pub with_room : {which : Which} {r : Recording} {cut : Cut} {u : UnderWay} → IsOnTheWay which r cut u → (v : UnderWay) →
     v.plan ≡ u.plan → v.state ≡ u.state → IsOnTheWay which r cut v

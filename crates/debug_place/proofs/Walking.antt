@@ -18,11 +18,11 @@ use Rattle.replay_core.proofs.Places.{place_known}
 use Rattle.replay_core.proofs.Ready.{ready_is}
 use Rattle.replay_audit.specs.Determinate.{Decides}
 use Rattle.cut_replay.specs.ClosedCuts.{count_in, IsClosed, IsContained}
-use Rattle.cut_replay.specs.Dues.{IsDue}
+use Rattle.cut_replay.specs.Dues.{IsDue, IsOnTheWay}
 use Rattle.cut_replay.proofs.Ways.{state_at, way_on}
 use Rattle.cut_moves.specs.Ways.{LeadsTo}
 use Rattle.debug_place.specs.Places.{IsReplayAt}
-use Rattle.debug_place.specs.Walks.{IsWalking}
+use Rattle.debug_place.specs.Walks.{HasTaken, IsWalking}
 use Rattle.debug_place.proofs.OwnCuts.{its_counts, known, on_the_way}
 
 -- from a cut to one that contains it
@@ -44,6 +44,17 @@ next_first {which} {r} {to} {u} places i within walking =
     subst (λ (rest : List ℕ). IsWalking which r to u rest)
     (drop-cons places i 0 within ∙ ap (λ k. get_or places i 0 ∷ drop k places) (sym (add-one i))) walking
 
+module _ {which : Which} {r : Recording} {to : Cut} {u : UnderWay} (way : IsOnTheWay which r to u) (whole : List ℕ)
+    (decides : Decides (plan_of which r) whole) (core : ℕ) (is_due : IsDue to u core) (v : UnderWay)
+    (same_plan : v.plan ≡ u.plan) (same_state : v.state ≡ u.state) (w : UnderWay) (kept : w.plan ≡ v.plan)
+    (access : Option Access) (retires : Retires v.plan v.state core access w.state) where
+  pub has_taken : HasTaken which r to u core w
+  has_taken = record {
+    way = way_on way whole decides core is_due v same_plan same_state w kept access retires;
+    state = retires.state ∙ ap (λ (s : Outcome). place v.plan s core) same_state
+        ∙ ap (λ (q : Plan). place q u.state core) (same_plan ∙ way.plan_is);
+  }
+
 module _ {which : Which} {r : Recording} {to : Cut} {u : UnderWay} (core : ℕ) (rest : List ℕ)
     (walking : IsWalking which r to u (core ∷ rest)) where
   abbrev p : Plan
@@ -61,23 +72,39 @@ module _ {which : Which} {r : Recording} {to : Cut} {u : UnderWay} (core : ℕ) 
         (subst (λ (q : Plan). Ready q f core) (sym walking.way.plan_is) walking.ordered.0);
   }
 
-  module _ (whole : List ℕ) (decides : Decides (plan_of which r) whole) (v : UnderWay) (same_plan : v.plan ≡ u.plan)
-      (same_state : v.state ≡ u.state) (w : UnderWay) (kept : w.plan ≡ v.plan) (access : Option Access)
-      (retires : Retires v.plan v.state core access w.state) where
-    pub placed : w.state ≡ place (plan_of which r) u.state core
-    placed = retires.state ∙ ap (λ (s : Outcome). place v.plan s core) same_state
-        ∙ ap (λ (q : Plan). place q u.state core) (same_plan ∙ walking.way.plan_is)
-
+  module _ {w : UnderWay} (taken : HasTaken which r to u core w) where
     one_more : counts_in w.state ≡ bump f core
-    one_more = ap (λ (s : Outcome). counts_in s) placed
+    one_more = ap (λ (s : Outcome). counts_in s) taken.state
         ∙ (place_known p f u.state core (known walking.way) walking.ordered.0).counts
 
-    pub walk_on : IsWalking which r to w rest
-    walk_on = record {
-      way = way_on walking.way whole decides core due v same_plan same_state w kept access retires;
+    pub walk_more : IsWalking which r to w rest
+    walk_more = record {
+      way = taken.way;
       ordered = subst (λ (g : ℕ → ℕ). Ordered p g rest) (sym one_more) walking.ordered.1;
       leads = subst (λ (g : ℕ → ℕ). LeadsTo g (count_in to) rest) (sym one_more) walking.leads;
     }
+
+  module _ (whole : List ℕ) (decides : Decides (plan_of which r) whole) (v : UnderWay) (same_plan : v.plan ≡ u.plan)
+      (same_state : v.state ≡ u.state) (w : UnderWay) (kept : w.plan ≡ v.plan) (access : Option Access)
+      (retires : Retires v.plan v.state core access w.state) where
+    next_taken : HasTaken which r to u core w
+    next_taken = has_taken walking.way whole decides core due v same_plan same_state w kept access retires
+
+    pub placed : w.state ≡ place (plan_of which r) u.state core
+    placed = next_taken.state
+
+    pub walk_on : IsWalking which r to w rest
+    walk_on = walk_more next_taken
+
+-- at a place of a list: its core is due, and once it's taken the replay walks from the next place on
+module _ {which : Which} {r : Recording} {to : Cut} {u : UnderWay} (places : List ℕ) (i : ℕ)
+    (within : i < length places) (walking : IsWalking which r to u (drop i places)) where
+  pub due_at : IsDue to u (get_or places i 0)
+  due_at = due (get_or places i 0) (drop (i + 1) places) (next_first places i within walking)
+
+  pub taken_at : {w : UnderWay} → HasTaken which r to u (get_or places i 0) w →
+      IsWalking which r to w (drop (i + 1) places)
+  taken_at taken = walk_more (get_or places i 0) (drop (i + 1) places) (next_first places i within walking) taken
 
 -- no place is left
 pub arrived : {which : Which} {r : Recording} {to : Cut} {u : UnderWay} → IsWalking which r to u [] → (whole : List ℕ) →

@@ -1,5 +1,5 @@
 -- How far a replay has come on its way.
-use Rattle.std.specs.Prelude.{ℕ, Bool, List, Option, MatchOption}
+use Rattle.std.specs.Prelude.{◌≡◌, ℕ, Bool, List, Option, MatchOption}
 use Rattle.rtr_types.specs.declared.cut.Cut.{Cut}
 use Rattle.rtr_types.specs.declared.pairs.Which.{Which}
 use Rattle.race_log.specs.declared.recording.Recording.{Recording}
@@ -7,6 +7,7 @@ use Rattle.rv_core.specs.declared.outcome.Outcome.{Outcome}
 use Rattle.replay_core.specs.Answers.{UnderWay, cut_of}
 use Rattle.replay_core.specs.Orders.{Ordered, counts_in}
 use Rattle.replay_core.specs.Plans.{Plan, plan_of}
+use Rattle.replay_core.specs.Play.{place}
 use Rattle.cut_replay.specs.ClosedCuts.{count_in}
 use Rattle.cut_replay.specs.Dues.{IsOnTheWay}
 use Rattle.cut_moves.specs.Ways.{LeadsTo}
@@ -18,6 +19,12 @@ pub record IsWalking (which : Which) (r : Recording) (to : Cut) (replay : UnderW
   pub way : IsOnTheWay which r to replay
   pub ordered : Ordered (plan_of which r) (counts_in replay.state) places
   pub leads : LeadsTo (counts_in replay.state) (count_in to) places
+
+-- the core's place was taken, and the replay is still on the way to the cut
+pub record HasTaken (which : Which) (r : Recording) (to : Cut) (old : UnderWay) (core : ℕ) (new : UnderWay) : Type 0
+  where
+    pub way : IsOnTheWay which r to new
+    pub state : new.state ≡ place (plan_of which r) old.state core
 
 -- before which core's place of the way it stopped: it's the first stop, and the replay is at the cut of its own counts;
 -- or it stopped before none, and is at the cut

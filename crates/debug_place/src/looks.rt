@@ -7,10 +7,10 @@ ghost use Rattle.debug_place.specs.Walks.{IsWalking};
 
 use crate::backs::Seen;
 use crate::stops::Stops;
-use crate::walks::replay_at;
+use crate::walks::{replay_at, take_place};
 use cut_moves::way;
 use replay_audit::Audited;
-use replay_core::{Advanced, Replay};
+use replay_core::Replay;
 use rtr_types::Cut;
 use std::alloc::{AllocError, Global};
 
@@ -55,10 +55,7 @@ fn look<S: Stops>(
     let mut last = None;
     for core in places {
         last = noted(stops, replay, *core).or(last);
-        replay.make_room()?;
-        let Advanced::Retired { .. } = replay.advance(*core) else {
-            unreachable!()
-        };
+        take_place(audited, replay, to, *core)?;
     }
     Ok(last)
 }

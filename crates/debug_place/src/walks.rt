@@ -4,10 +4,11 @@ ghost use Rattle.replay_core.specs.Answers.{cut_of};
 ghost use Rattle.replay_core.specs.Orders.{counts_in};
 ghost use Rattle.replay_core.specs.Plans.{plan_of};
 ghost use Rattle.cut_replay.specs.ClosedCuts.{IsClosed, IsContained, count_in};
+ghost use Rattle.cut_replay.specs.Dues.{IsDue, IsOnTheWay};
 ghost use Rattle.cut_moves.specs.Rounds.{rounds_of};
 ghost use Rattle.cut_moves.specs.Ways.{way_of};
 ghost use Rattle.debug_place.specs.Places.{IsReplayAt};
-ghost use Rattle.debug_place.specs.Walks.{EndsWalk, IsWalking};
+ghost use Rattle.debug_place.specs.Walks.{EndsWalk, HasTaken, IsWalking};
 
 use crate::stops::Stops;
 use cut_moves::way;
@@ -76,11 +77,30 @@ fn walk(audited: &Audited, replay: &mut Replay, to: &Cut, places: &[u8]) -> Resu
     // The audit passed, so each order plays.
     let _ = audited.outcome();
     for core in places {
-        replay.make_room()?;
-        let Advanced::Retired { .. } = replay.advance(*core) else {
-            unreachable!()
-        };
+        take_place(audited, replay, to, *core)?;
     }
+    Ok(())
+}
+
+/// The replay takes the place of a core that is due on the way to a cut. After want of memory it stands where it did.
+pub(crate) fn take_place(
+    audited: &Audited,
+    replay: &mut Replay,
+    to: &Cut,
+    core: u8,
+) -> Result<(), AllocError>
+    requires way { IsOnTheWay audited.now.which audited.now.recording to.now replay.old }
+    requires due { IsDue to.now replay.old core }
+    ensures ok { OnOk result (HasTaken audited.now.which audited.now.recording to.now replay.old core replay.new) }
+    ensures err { OnErr result (IsReplayAt audited.now.which audited.now.recording
+        (cut_of (plan_of audited.now.which audited.now.recording) (counts_in replay.new.state)) replay.new) }
+{
+    // The audit passed, so each order plays.
+    let _ = audited.outcome();
+    replay.make_room()?;
+    let Advanced::Retired { .. } = replay.advance(core) else {
+        unreachable!()
+    };
     Ok(())
 }
 
@@ -131,10 +151,7 @@ fn walk_until<S: Stops>(
         if stops.stops(replay, *core) {
             return Ok(Some(*core));
         }
-        replay.make_room()?;
-        let Advanced::Retired { .. } = replay.advance(*core) else {
-            unreachable!()
-        };
+        take_place(audited, replay, to, *core)?;
     }
     Ok(None)
 }

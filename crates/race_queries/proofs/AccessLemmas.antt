@@ -9,7 +9,8 @@ use Rattle.rtr_types.specs.declared.access.Access.{Access}
 use Rattle.rtr_types.specs.declared.instr.Instr.{Instr}
 use Rattle.race_queries.specs.Conflicts.{access_at}
 
-module _ (at : Instr) (list : List Access) (i : ℕ) (d : Access) (inside : i < length list) where
+module _ (at : Instr) (list : List Access) (i : ℕ) (d : Access) (inside : i < length list)
+    (so_far : access_at at list ≡ access_at at (drop i list)) where
   next_is : access_at at (drop i list)
       ≡ cond (is_same (get_or list i d).at at) (Some (get_or list i d)) (access_at at (drop (i + 1) list))
   unfolding access_at
@@ -17,15 +18,18 @@ module _ (at : Instr) (list : List Access) (i : ℕ) (d : Access) (inside : i < 
       ap (access_at at)
       (drop-cons list i d inside ∙ ap (λ (k : ℕ). get_or list i d ∷ drop k list) (sym (add-one i)))
 
-  pub accessed_here : is_same (get_or list i d).at at ≡ true → access_at at (drop i list) ≡ Some (get_or list i d)
-  accessed_here so =
-      next_is ∙ ap (λ (b : Bool). cond b (Some (get_or list i d)) (access_at at (drop (i + 1) list))) so
+  answers : (is_it : Bool) → is_same (get_or list i d).at at ≡ is_it →
+      access_at at list ≡ cond is_it (Some (get_or list i d)) (access_at at (drop (i + 1) list))
+  answers is_it so = so_far ∙ next_is
+      ∙ ap (λ (b : Bool). cond b (Some (get_or list i d)) (access_at at (drop (i + 1) list))) so
 
-  pub accessed_on : is_same (get_or list i d).at at ≡ false →
-      access_at at (drop i list) ≡ access_at at (drop (i + 1) list)
-  accessed_on so =
-      next_is ∙ ap (λ (b : Bool). cond b (Some (get_or list i d)) (access_at at (drop (i + 1) list))) so
+  pub accessed_here : is_same (get_or list i d).at at ≡ true → Some (get_or list i d) ≡ access_at at list
+  accessed_here so = sym (answers true so)
 
-pub accessed_nowhere : (at : Instr) (list : List Access) (i : ℕ) → length list ≤ i → access_at at (drop i list) ≡ None
+  pub accessed_on : is_same (get_or list i d).at at ≡ false → access_at at list ≡ access_at at (drop (i + 1) list)
+  accessed_on so = answers false so
+
+pub accessed_nowhere : (at : Instr) (list : List Access) (i : ℕ) → length list ≤ i →
+    access_at at list ≡ access_at at (drop i list) → None ≡ access_at at list
 unfolding access_at
-accessed_nowhere at list i past = ap (λ (l : List Access). access_at at l) (drop_all i list past)
+accessed_nowhere at list i past so_far = sym (so_far ∙ ap (λ (l : List Access). access_at at l) (drop_all i list past))

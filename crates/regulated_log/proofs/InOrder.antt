@@ -18,7 +18,7 @@ use Rattle.race_log.proofs.SourceLaws.{edges-are-paired, edges-within}
 use Rattle.race_log.proofs.Rises.{no_vector, position_at}
 use Rattle.replay_core.specs.Plans.{plan_of}
 use Rattle.replay_core.specs.Orders.{bump, counts, nought, Sourced}
-use Rattle.replay_core.proofs.Counts.{bump_same, counts_on, counts_more, place_of}
+use Rattle.replay_core.proofs.Counts.{bump_same, counts_on, counts_more, one_place, place_of}
 use Rattle.replay_core.proofs.Lists.{places_law}
 use Rattle.replay_core.proofs.Ready.{source_within, within_sourced}
 use Rattle.edge_regulate.specs.Regulated.{Knowledge, knows_by}
@@ -142,32 +142,6 @@ regulated_law known order r valid past ordered whole = record {
 }
 
 -- ---- what is past
-
--- a core's place with a count is one
-one_place : (order : List ℕ) (f : ℕ → ℕ) (core : ℕ) (front rest other more : List ℕ) → order ≡ front ++ core ∷ rest →
-    order ≡ other ++ core ∷ more →
-    counts f front core ≡ counts f other core → front ≡ other
-one_place order f core [] rest [] more p q same = refl
-one_place order f core [] rest (c ∷ other) more p q same =
-    let heads : core ∷ rest ≡ c ∷ (other ++ core ∷ more) = sym p ∙ q in
-    let is : core ≡ c = cc in
-    let one = bump_same f c core is in
-    let up = counts_more (bump f c) other core in
-    absurd (omega arith)
-one_place order f core (c ∷ front) rest [] more p q same =
-    let heads : core ∷ more ≡ c ∷ (front ++ core ∷ rest) = sym q ∙ p in
-    let is : core ≡ c = cc in
-    let one = bump_same f c core is in
-    let up = counts_more (bump f c) front core in
-    absurd (omega arith)
-one_place order f core (c ∷ front) rest (d ∷ other) more p q same =
-    let heads : c ∷ (front ++ core ∷ rest) ≡ d ∷ (other ++ core ∷ more) = sym p ∙ q in
-    let head : c ≡ d = cc in
-    let tail : front ++ core ∷ rest ≡ other ++ core ∷ more = cc in
-    let same_from : counts (bump f c) front core ≡ counts (bump f c) other core = same
-    ∙ ap (λ (i : ℕ). counts (bump f i) other core) (sym head) in
-    ap (λ (l : List ℕ). c ∷ l) (one_place (front ++ core ∷ rest) (bump f c) core front rest other more refl tail
-    same_from) ∙ ap (λ (i : ℕ). i ∷ other) head
 
 pub past_law : PastLaw
 past_law pairs order known = (forth, back)

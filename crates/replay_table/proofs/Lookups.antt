@@ -20,7 +20,7 @@ use Rattle.replay_table.specs.declared.upcoming.Upcoming.{Upcoming}
 use Rattle.replay_table.specs.declared.view.View.{View}
 use Rattle.replay_table.specs.Aheads.{Due}
 use Rattle.replay_table.specs.Rule.{seen_of}
-use Rattle.replay_table.specs.Seats.{IsUpcoming, IsUnmet, Past, SeatHolds, Tied}
+use Rattle.replay_table.specs.Seats.{CanBegin, CanLook, IsUpcoming, IsUnmet, Past, SeatHolds, Sitting, Tied}
 
 -- what was looked up is of the job's recording and log
 pub upcoming_is : (w w' : Which) (r r' : Recording) (k l : Core) (u : Upcoming) → w' ≡ w → r' ≡ r → l ≡ k
@@ -57,6 +57,16 @@ due_by which r f k u valid h below met = record {
       omega arith);
 }
 
+-- and its seat is due
+pub due_seat : (which : Which) (r : Recording) (x s : Sitting) (u : Upcoming) → x ≡ s → Valid r
+    → IsUpcoming which r x.core u → s.core.count < slice_index r.totals s.core.id
+    → ((i : ℕ) → i < length r.totals → slice_index (sources_in u.sources) i ≤ seen_of x.view i)
+    → Due (plan_of which r) (seen_of s.view) s.core
+due_seat which r x s u is valid h below met =
+    subst (λ (y : Sitting). Due (plan_of which r) (seen_of y.view) y.core) is
+    (due_by which r (seen_of x.view) x.core u valid h
+    (subst (λ (y : Sitting). y.core.count < slice_index r.totals y.core.id) (sym is) below) met)
+
 -- a source that wasn't seen
 pub unmet_is : (which : Which) (r : Recording) (v : View) (k : Core) (u : Upcoming) (of : ℕ) → IsUpcoming which r k u
     → of < length r.totals
@@ -69,13 +79,7 @@ unmet_is which r v k u of h inside unseen = record {
       (instr k.id (k.count + 1)) (h.sources.only of (omega arith));
 }
 
--- what a first look-up asks of the recording, the image and the core
-pub record CanBegin (r : Recording) (image : Contents) (k : Core) : Type 0 where
-  pub valid : Valid r
-  pub image_is : image ≡ recorded_image r
-  pub inside : k.id < length r.totals
-  pub within : k.count ≤ slice_index r.totals k.id
-
+-- what a first look-up asks
 pub can_begin : (r r' : Recording) (image : Contents) (k l : Core) → Valid r → r' ≡ r → image ≡ recorded_image r
     → l ≡ k → k.id < length r.totals
     → k.count ≤ slice_index r.totals k.id → CanBegin r' image l
@@ -83,14 +87,6 @@ can_begin r r' image k l valid q image_is same inside within =
     subst (λ (x : Core). CanBegin r' image x) (sym same)
     (subst (λ (x : Recording). CanBegin x image k) (sym q)
     (record { valid = valid; image_is = image_is; inside = inside; within = within }))
-
--- and what each later one asks of the edges that are known as well
-pub record CanLook (which : Which) (r : Recording) (image : Contents) (k : Core) (u : Upcoming) : Type 0 where
-  pub valid : Valid r
-  pub image_is : image ≡ recorded_image r
-  pub inside : k.id < length r.totals
-  pub within : k.count ≤ slice_index r.totals k.id
-  pub coming : IsComing (log_edges which r) k.id r.params.cores u.coming
 
 -- the core k has gone on to m, which the code has as l
 pub can_look : (w w' : Which) (r r' : Recording) (image : Contents) (k m l : Core) (u : Upcoming) → Valid r → w' ≡ w

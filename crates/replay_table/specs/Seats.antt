@@ -97,6 +97,21 @@ pub record IsUpcoming (which : Which) (r : Recording) (k : Core) (u : Upcoming) 
   pub sources : AreSources (log_edges which r) (instr k.id (k.count + 1)) (sources_in u.sources)
   pub coming : IsComing (log_edges which r) k.id r.params.cores u.coming
 
+-- what a first look-up asks of the recording, the image and the core
+pub record CanBegin (r : Recording) (image : Contents) (k : Core) : Type 0 where
+  pub valid : Valid r
+  pub image_is : image ≡ recorded_image r
+  pub inside : k.id < length r.totals
+  pub within : k.count ≤ slice_index r.totals k.id
+
+-- and what each later one asks of the edges that are known as well
+pub record CanLook (which : Which) (r : Recording) (image : Contents) (k : Core) (u : Upcoming) : Type 0 where
+  pub valid : Valid r
+  pub image_is : image ≡ recorded_image r
+  pub inside : k.id < length r.totals
+  pub within : k.count ≤ slice_index r.totals k.id
+  pub coming : IsComing (log_edges which r) k.id r.params.cores u.coming
+
 -- a logged source of the core's next instruction that the view hasn't seen
 pub record IsUnmet (which : Which) (r : Recording) (v : View) (k : Core) (of : Instr) : Type 0 where
   pub inside : of.core < length r.totals

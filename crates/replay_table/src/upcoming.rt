@@ -1,10 +1,5 @@
 //! What a seat keeps of its core's next instruction.
-ghost use Rattle.std.specs.Prelude.{◌≡◌, ◌<◌, ◌≤◌, length, slice_index};
-ghost use Rattle.race_log.specs.Sources.{log_edges};
-ghost use Rattle.race_log.specs.Validity.{Valid};
-ghost use Rattle.replay_core.specs.Coming.{IsComing};
-ghost use Rattle.replay_core.specs.Plans.{recorded_image};
-ghost use Rattle.replay_table.specs.Seats.{IsUpcoming};
+ghost use Rattle.replay_table.specs.Seats.{CanBegin, CanLook, IsUpcoming};
 
 use clock_core::Clock;
 use race_log::Recording;
@@ -32,10 +27,7 @@ impl Upcoming {
         program: &Program,
         core: &Core,
     ) -> Upcoming
-        requires valid { Valid recording.now }
-        requires program { program.now ≡ recorded_image recording.now }
-        requires core { core.now.id < length recording.now.totals }
-        requires within { core.now.count ≤ slice_index recording.now.totals core.now.id }
+        requires { CanBegin recording.now program.now core.now }
         ensures { IsUpcoming which recording.now core.now result }
     {
         let mut upcoming = Upcoming {
@@ -57,12 +49,7 @@ impl Upcoming {
         program: &Program,
         core: &Core,
     )
-        requires valid { Valid recording.now }
-        requires program { program.now ≡ recorded_image recording.now }
-        requires core { core.now.id < length recording.now.totals }
-        requires within { core.now.count ≤ slice_index recording.now.totals core.now.id }
-        requires coming { IsComing (log_edges which recording.now) core.now.id recording.now.params.cores
-            self.old.coming }
+        requires { CanLook which recording.now program.now core.now self.old }
         ensures { IsUpcoming which recording.now core.now self.new }
     {
         let op = program.op(core.pc());

@@ -20,13 +20,11 @@ pub loop-core-init : goal.loop-core-init
 loop-core-init c =
     let a = c.args.audited.now in
     let p : Plan = plan_of a.which a.recording in
-    let low : ℕ → ℕ = count_in c.args.low.now in
-    let high : ℕ → ℕ = count_in c.args.high.now in
     let timeline = c.args.timeline.now in
-    subst (λ (l : List ℕ). IsGoing p low high timeline
+    subst (λ (l : List ℕ). IsGoing p (count_in c.args.low.now) (count_in c.args.high.now) timeline
     (0 ∷ 0 ∷ 0 ∷ 0 ∷ 0 ∷ 0 ∷ 0 ∷ 0 ∷ 0 ∷ 0 ∷ 0 ∷ 0 ∷ 0 ∷ 0 ∷ 0 ∷ 0 ∷ []) timeline l)
     (sym c.in_ok-list.ensures.items)
-    (going_start p low high timeline
+    (going_start p (count_in c.args.low.now) (count_in c.args.high.now) timeline
     (subst (λ (l : List ℕ). Ordered p nought l) (sym c.requires.timeline) (rounds_ordered p)))
 
 pub overflow_add-at : goal.overflow_add-at

@@ -19,26 +19,18 @@ loop-ready-init c =
 
 pub loop-ready-smaller : goal.loop-ready-smaller
 loop-ready-smaller c =
-    let a = c.args.audited.now in
     let done = c.in_ok-take_round.ensures in
-    fewer_left (plan_of a.which a.recording) c.loop-ready.tally c.loop-ready.list.items c.loop-ready.invariant
-    c.in-Some.ready c.in-Some.ensures c.take_round.new.tally c.take_round.new.list.items done.plan done.all done.counts
-    done.list
+    fewer_left c.loop-ready.invariant c.in-Some.ready c.in-Some.ensures c.take_round.new.tally
+    c.take_round.new.list.items done.plan done.all done.counts done.list
 
 pub loop-ready-preserved : goal.loop-ready-preserved
 loop-ready-preserved c =
-    let a = c.args.audited.now in
     let done = c.in_ok-take_round.ensures in
-    so_far_on (plan_of a.which a.recording) c.loop-ready.tally c.loop-ready.list.items c.loop-ready.invariant
-    c.in-Some.ready c.in-Some.ensures c.take_round.new.tally c.take_round.new.list.items done.plan done.all done.counts
-    done.list
+    so_far_on c.loop-ready.invariant c.in-Some.ready c.in-Some.ensures c.take_round.new.tally
+    c.take_round.new.list.items done.plan done.all done.counts done.list
 
 pub returns-clause-rounds : goal.returns-clause-rounds
-returns-clause-rounds c =
-    let a = c.args.audited.now in
-    c.from_vec.ensures
-    ∙ so_far_end (plan_of a.which a.recording) c.loop-ready.tally c.loop-ready.list.items c.loop-ready.invariant
-    c.in_default.ensures
+returns-clause-rounds c = c.from_vec.ensures ∙ so_far_end c.loop-ready.invariant c.in_default.ensures
 
 pub returns-clause-ordered : goal.returns-clause-ordered
 returns-clause-ordered c =

@@ -1,18 +1,9 @@
-use Rattle.std.proofs.Common.{ℕ, List, ap, arith, get_or, min}
-use Rattle.std.proofs.lemmas.List.FromFn.{fill_by_all}
-use Rattle.rtr_types.specs.declared.TheConstants.{CORES_MAX}
-use Rattle.rtr_types.specs.declared.cut.Cut.{Cut}
+use Rattle.std.proofs.Common.{min, arith}
+use Rattle.cut_moves.proofs.Unions.{filled_by}
 use Rattle.cut_moves.proofs.lattice.intersection.Goals as goal
 
 pub returns : goal.returns
 returns c =
     let l = c.loop-core.invariant in
     let end = c.loop-core-test.false in
-    let a = c.args.cut.now in
-    let b = c.args.other.now in
-    ap (λ (xs : List ℕ). cut_with_counts a.cores xs)
-    (fill_by_all (λ i. min (get_or a.counts i 0) (get_or b.counts i 0)) c.loop-core.counts CORES_MAX 0 l.wide
-    (λ i lt. l.done i (omega arith)))
-  where
-    cut_with_counts : ℕ → List ℕ → Cut
-    cut_with_counts cores counts = record { cores = cores; counts = counts }
+    filled_by min c.args.cut.now c.args.other.now c.loop-core.counts l.wide (λ i lt. l.done i (omega arith))

@@ -1,11 +1,10 @@
-use Rattle.std.proofs.Common.{◌+◌, get_or, drop, subst, arith}
+use Rattle.std.proofs.Common.{subst, arith}
 use Rattle.std.proofs.Math.ListN.{drop_of_length-le}
 use Rattle.replay_audit.specs.Determinate.{low_order_of}
-use Rattle.cut_replay.proofs.Ways.{never_short, ready_with_room}
 use Rattle.debug_place.specs.Walks.{IsWalking}
-use Rattle.debug_place.proofs.OwnCuts.{at_own, on_err, with_room}
+use Rattle.debug_place.proofs.OwnCuts.{at_own, on_err}
 use Rattle.debug_place.proofs.Stopping.{past_all, past_more, stopped_here}
-use Rattle.debug_place.proofs.Walking.{arrived, due, next_first, placed, walk_on}
+use Rattle.debug_place.proofs.Walking.{arrived, due_at, taken_at}
 use Rattle.debug_place.proofs.walks.walk_until.Goals as goal
 
 pub returns-then-stops-clause-ok : goal.returns-then-stops-clause-ok
@@ -18,51 +17,23 @@ returns-then-stops-clause-ok g c =
       at_own past.walking.way (low_order_of a.which a.recording) c.outcome.ensures.passed.determinate,
     )
 
-pub returns-in_err-make_room-clause-err : goal.returns-in_err-make_room-clause-err
-returns-in_err-make_room-clause-err g c =
-    let a = c.args.audited.now in
-    on_err c.from_residual.result _
-    (at_own (with_room c.loop-core.invariant.walking.way c.make_room.new.self c.make_room.ensures.plan
-    c.make_room.ensures.state) (low_order_of a.which a.recording) c.outcome.ensures.passed.determinate)
+pub take_place-requires-clause-due : goal.take_place-requires-clause-due
+take_place-requires-clause-due g c =
+    due_at c.args.places.now c.loop-core.core-index (omega arith) c.loop-core.invariant.walking
 
-pub advance-requires-clause-ready : goal.advance-requires-clause-ready
-advance-requires-clause-ready g c =
-    let a = c.args.audited.now in
-    let places = c.args.places.now in
-    let i = c.loop-core.core-index in
-    let walking = next_first places i (omega arith) c.loop-core.invariant.walking in
-    ready_with_room walking.way (low_order_of a.which a.recording) c.outcome.ensures.passed.determinate
-    (get_or places i 0)
-    (due (get_or places i 0) (drop (i + 1) places) walking) c.make_room.new.self c.make_room.ensures.plan
-    c.make_room.ensures.state
-
-pub unreachable-requires : goal.unreachable-requires
-unreachable-requires g c =
-    let a = c.args.audited.now in
-    let places = c.args.places.now in
-    let i = c.loop-core.core-index in
-    let walking = next_first places i (omega arith) c.loop-core.invariant.walking in
-    never_short walking.way (low_order_of a.which a.recording) c.outcome.ensures.passed.determinate
-    (get_or places i 0)
-    (due (get_or places i 0) (drop (i + 1) places) walking) c.make_room.new.self c.make_room.ensures.plan
-    c.make_room.ensures.state _ c.in_default.ensures.place
+pub returns-in_err-take_place-clause-err : goal.returns-in_err-take_place-clause-err
+returns-in_err-take_place-clause-err g c = on_err c.from_residual.result _ c.in_err-take_place.ensures.err
 
 pub loop-core-preserved : goal.loop-core-preserved
 loop-core-preserved g c =
     let a = c.args.audited.now in
     let places = c.args.places.now in
     let i = c.loop-core.core-index in
-    let core = get_or places i 0 in
     let past = c.loop-core.invariant in
-    let walking = next_first places i (omega arith) past.walking in
-    let on = walk_on core (drop (i + 1) places) walking (low_order_of a.which a.recording)
-    c.outcome.ensures.passed.determinate c.make_room.new.self c.make_room.ensures.plan c.make_room.ensures.state
-    c.advance.new.self c.advance.ensures.plan c.in-Retired.access c.in-Retired.ensures.place in
+    let taken = c.in_ok-take_place.ensures.ok in
     past_more (g.S.Stops.stops c.args.stops.now) a.which a.recording c.args.to.now c.args.replay.now places i
-    c.loop-core.replay past (omega arith) c.stops.result c.stops.ensures c.if-stops.false c.advance.new.self on
-    (placed core (drop (i + 1) places) walking (low_order_of a.which a.recording) c.outcome.ensures.passed.determinate
-    c.make_room.new.self c.make_room.ensures.plan c.make_room.ensures.state c.advance.new.self c.advance.ensures.plan
-    c.in-Retired.access c.in-Retired.ensures.place)
+    c.loop-core.replay past (omega arith) c.stops.result c.stops.ensures c.if-stops.false c.take_place.new.replay
+    (taken_at places i (omega arith) past.walking taken) taken.state
 
 pub returns-clause-ok : goal.returns-clause-ok
 returns-clause-ok g c =

@@ -4,12 +4,11 @@ use Rattle.race_queries.proofs.conflicts.access_at.Goals as goal
 
 pub returns-then-eq : goal.returns-then-eq
 returns-then-eq c =
-    sym (c.loop-access.invariant
-    ∙ accessed_here _ _ _ _ c.loop-access-test.true (sym c.eq.ensures ∙ c.if-eq.true))
+    accessed_here _ _ _ _ c.loop-access-test.true c.loop-access.invariant (sym c.eq.ensures ∙ c.if-eq.true)
 
 pub loop-access-preserved : goal.loop-access-preserved
 loop-access-preserved c =
-    c.loop-access.invariant ∙ accessed_on _ _ _ _ c.loop-access-test.true (sym c.eq.ensures ∙ c.if-eq.false)
+    accessed_on _ _ _ _ c.loop-access-test.true c.loop-access.invariant (sym c.eq.ensures ∙ c.if-eq.false)
 
 pub returns : goal.returns
-returns c = sym (c.loop-access.invariant ∙ accessed_nowhere _ _ _ c.loop-access-test.false)
+returns c = accessed_nowhere _ _ _ c.loop-access-test.false c.loop-access.invariant

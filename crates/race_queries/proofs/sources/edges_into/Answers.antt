@@ -31,7 +31,6 @@ pub returns : goal.returns
 returns c =
     let a = c.args.audited.now in
     let cores = ap (λ (r : Recording). r.params.cores) c.recording-recording.ensures.recording in
-    let end = c.loop-core-test.false in
     subst (λ (l : List Instr). AreEdgesInto a.which a.recording c.args.at l) (sym c.from_vec.ensures)
     (sources_end a.which a.recording c.args.at c.loop-core.core c.loop-core.list.items c.loop-core.invariant
-    c.recording-recording.ensures.valid (omega arith))
+    c.recording-recording.ensures.valid (omega (arith, c.loop-core-test.false)))

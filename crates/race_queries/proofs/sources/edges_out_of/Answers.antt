@@ -16,7 +16,6 @@ pub returns : goal.returns
 returns c =
     let a = c.args.audited.now in
     let cores = ap (λ (r : Recording). r.params.cores) c.recording-recording.ensures.recording in
-    let end = c.loop-core-test.false in
     subst (λ (l : List Instr). AreEdgesOutOf a.which a.recording c.args.at l) (sym c.from_vec.ensures)
     (targets_end a.which a.recording c.recording-recording.ensures.valid c.args.at c.loop-core.core 0
-    c.loop-core.list.items c.loop-core.invariant (omega arith))
+    c.loop-core.list.items c.loop-core.invariant (omega (arith, c.loop-core-test.false)))

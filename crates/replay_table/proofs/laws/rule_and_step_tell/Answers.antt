@@ -1,12 +1,6 @@
-use Rattle.replay_table.proofs.Tells.{see_tells, load_tells, hold_tells, store_tells, exchange_tells, publish_tells}
+use Rattle.replay_table.proofs.Tells.{see_tells as see, load_tells as load, hold_tells as hold, store_tells as store}
+use Rattle.replay_table.proofs.Tells.{exchange_tells as exchange, publish_tells as publish}
 use Rattle.replay_table.proofs.laws.rule_and_step_tell.Goals as goal
 
 pub returns : goal.returns
-returns c = record {
-  see = see_tells;
-  load = load_tells;
-  hold = hold_tells;
-  store = store_tells;
-  exchange = exchange_tells;
-  publish = publish_tells;
-}
+returns c = record { see = see; load = load; hold = hold; store = store; exchange = exchange; publish = publish }

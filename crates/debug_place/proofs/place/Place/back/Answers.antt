@@ -1,30 +1,24 @@
 use Rattle.std.proofs.Common.{length, sym, ap, subst, ◌∙◌}
-use Rattle.std.specs.Prelude.{Option, Some, None}
+use Rattle.std.specs.Prelude.{Some, None}
 use Rattle.rtr_types.specs.declared.cut.Cut.{Cut}
 use Rattle.race_log.specs.Validity.{Valid}
-use Rattle.replay_core.specs.Answers.{cut_of}
-use Rattle.replay_core.specs.Orders.{counts_in}
 use Rattle.cut_replay.specs.ClosedCuts.{IsClosed, IsContained}
-use Rattle.debug_place.specs.Backs.{NotesOnWay, way_back}
+use Rattle.debug_place.specs.Backs.{way_back}
 use Rattle.debug_place.specs.Places.{Placed, cut_at}
-use Rattle.debug_place.specs.declared.backs.Seen.{Seen}
 use Rattle.debug_place.proofs.Backing.{came_back, notes_here}
+use Rattle.debug_place.proofs.OwnCuts.{told_own}
 use Rattle.debug_place.proofs.place.Place.back.Goals as goal
 
 pub last_stop-requires-clause-to : goal.last_stop-requires-clause-to
 last_stop-requires-clause-to g c =
     let a = c.self.inside.audited.now in
-    let replay = c.self.inside.replay in
-    subst (λ (cut : Cut). IsClosed a.which a.recording cut)
-    (sym (c.cut-here.ensures ∙ ap (λ plan. cut_of plan (counts_in replay.state)) c.self.invariant.at.plan_is))
+    subst (λ (cut : Cut). IsClosed a.which a.recording cut) (sym (told_own c.self.invariant.at c.cut-here.ensures))
     c.self.invariant.at.closed
 
 pub last_stop-requires-clause-within : goal.last_stop-requires-clause-within
 last_stop-requires-clause-within g c =
-    let replay = c.self.inside.replay in
     subst (λ cut. IsContained c.args.to.now cut)
-    (sym (c.cut-here.ensures ∙ ap (λ plan. cut_of plan (counts_in replay.state)) c.self.invariant.at.plan_is
-    ∙ ap cut_at c.self.view_is)) c.requires.within
+    (sym (told_own c.self.invariant.at c.cut-here.ensures ∙ ap cut_at c.self.view_is)) c.requires.within
 
 pub returns-in_ok-seek-in-Some-clause-ok : goal.returns-in_ok-seek-in-Some-clause-ok
 returns-in_ok-seek-in-Some-clause-ok g c =
@@ -32,14 +26,9 @@ returns-in_ok-seek-in-Some-clause-ok g c =
     let test = g.S.Stops.stops c.args.stops.now in
     let old = c.args.self.now in
     let to = c.args.to.now in
-    let seen : Option Seen = Some c.in-Some.seen in
-    let found : NotesOnWay test a.which a.recording to c.cut-here.result c.as_slice-timeline.result.now seen =
-    subst (λ (s : Option Seen). NotesOnWay test a.which a.recording to c.cut-here.result
-    c.as_slice-timeline.result.now s)
-    c.in-Some.is c.in_ok-seen.ensures in
     let here = notes_here test a.which a.recording old to c.cut-here.result c.as_slice-timeline.result.now
     c.self.inside.timeline c.self.inside.replay c.self.invariant c.self.view_is c.cut-here.ensures
-    c.as_slice-timeline.ensures seen found in
+    c.as_slice-timeline.ensures (Some c.in-Some.seen) _ c.in-Some.is c.in_ok-seen.ensures in
     record {
       there = here.there;
       state = here.state;
@@ -53,15 +42,7 @@ returns-in_ok-seek-in-Some-clause-ok g c =
 pub returns-in_ok-seek-in-None-clause-ok : goal.returns-in_ok-seek-in-None-clause-ok
 returns-in_ok-seek-in-None-clause-ok g c =
     let a = c.self.inside.audited.now in
-    let test = g.S.Stops.stops c.args.stops.now in
-    let old = c.args.self.now in
-    let to = c.args.to.now in
-    let seen : Option Seen = None in
-    let found : NotesOnWay test a.which a.recording to c.cut-here.result c.as_slice-timeline.result.now seen =
-    subst (λ (s : Option Seen). NotesOnWay test a.which a.recording to c.cut-here.result
-    c.as_slice-timeline.result.now s)
-    c.in-None.is c.in_ok-seen.ensures in
-    let here = notes_here test a.which a.recording old to c.cut-here.result c.as_slice-timeline.result.now
-    c.self.inside.timeline c.self.inside.replay c.self.invariant c.self.view_is c.cut-here.ensures
-    c.as_slice-timeline.ensures seen found in
+    let here = notes_here (g.S.Stops.stops c.args.stops.now) a.which a.recording c.args.self.now c.args.to.now
+    c.cut-here.result c.as_slice-timeline.result.now c.self.inside.timeline c.self.inside.replay c.self.invariant
+    c.self.view_is c.cut-here.ensures c.as_slice-timeline.ensures None _ c.in-None.is c.in_ok-seen.ensures in
     record { there = here.there; state = here.state; ends = (here.notes, c.in_ok-seek-in-None.ensures.ok) }

@@ -10,23 +10,20 @@ use Rattle.cut_moves.specs.Ways.{way_of}
 use Rattle.debug_place.specs.Places.{IsReplayAt, Placed, cut_at}
 use Rattle.debug_place.specs.Stops.{GoesOn}
 use Rattle.debug_place.specs.Walks.{EndsWalk}
+use Rattle.debug_place.proofs.OwnCuts.{told_own}
 use Rattle.debug_place.proofs.Stopping.{at_walked, walk_wanted}
 use Rattle.debug_place.proofs.place.Place.go_to.Goals as goal
 
 pub go_until-requires-clause-at : goal.go_until-requires-clause-at
 go_until-requires-clause-at g c =
     let a = c.self.inside.audited.now in
-    let replay = c.self.inside.replay in
-    subst (λ cut. IsReplayAt a.which a.recording cut replay)
-    (sym (c.cut-low.ensures ∙ ap (λ plan. cut_of plan (counts_in replay.state)) c.self.invariant.at.plan_is))
-    c.self.invariant.at
+    subst (λ cut. IsReplayAt a.which a.recording cut c.self.inside.replay)
+    (sym (told_own c.self.invariant.at c.cut-low.ensures)) c.self.invariant.at
 
 pub go_until-requires-clause-within : goal.go_until-requires-clause-within
 go_until-requires-clause-within g c =
-    let replay = c.self.inside.replay in
     subst (λ cut. IsContained cut c.args.to.now)
-    (sym (c.cut-low.ensures ∙ ap (λ plan. cut_of plan (counts_in replay.state)) c.self.invariant.at.plan_is
-    ∙ ap cut_at c.self.view_is)) c.requires.within
+    (sym (told_own c.self.invariant.at c.cut-low.ensures ∙ ap cut_at c.self.view_is)) c.requires.within
 
 pub invariant_of-self : goal.invariant_of-self
 invariant_of-self g c =
@@ -48,8 +45,7 @@ returns-clause-ok g c =
     let test = g.S.Stops.stops c.args.stops.now in
     let cut : Cut = cut_of (plan_of a.which a.recording) (counts_in old.state) in
     let places : List ℕ = way_of (count_in cut) (count_in to) (rounds_of a.which a.recording) in
-    let low_is : c.cut-low.result ≡ cut =
-    c.cut-low.ensures ∙ ap (λ plan. cut_of plan (counts_in old.state)) c.self.invariant.at.plan_is in
+    let low_is : c.cut-low.result ≡ cut = told_own c.self.invariant.at c.cut-low.ensures in
     let way_is : way_of (count_in c.cut-low.result) (count_in to) c.as_slice.result.now ≡ places =
     ap (λ (k : Cut). way_of (count_in k) (count_in to) c.as_slice.result.now) low_is
     ∙ ap (λ (line : List ℕ). way_of (count_in cut) (count_in to) line)

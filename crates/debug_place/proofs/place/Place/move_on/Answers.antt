@@ -1,25 +1,19 @@
 use Rattle.std.proofs.Common.{sym, ap, subst, ◌∙◌}
-use Rattle.replay_core.specs.Answers.{cut_of}
-use Rattle.replay_core.specs.Orders.{counts_in}
 use Rattle.cut_replay.specs.ClosedCuts.{IsContained}
 use Rattle.debug_place.specs.Places.{IsReplayAt, cut_at}
-use Rattle.debug_place.proofs.OwnCuts.{at_either, cut_wanted}
+use Rattle.debug_place.proofs.OwnCuts.{at_either, cut_wanted, told_own}
 use Rattle.debug_place.proofs.place.Place.move_on.Goals as goal
 
 pub go_on-requires-clause-at : goal.go_on-requires-clause-at
 go_on-requires-clause-at c =
     let a = c.self.inside.audited.now in
-    let replay = c.self.inside.replay in
-    subst (λ cut. IsReplayAt a.which a.recording cut replay)
-    (sym (c.cut-low.ensures ∙ ap (λ plan. cut_of plan (counts_in replay.state)) c.self.invariant.at.plan_is))
-    c.self.invariant.at
+    subst (λ cut. IsReplayAt a.which a.recording cut c.self.inside.replay)
+    (sym (told_own c.self.invariant.at c.cut-low.ensures)) c.self.invariant.at
 
 pub go_on-requires-clause-within : goal.go_on-requires-clause-within
 go_on-requires-clause-within c =
-    let replay = c.self.inside.replay in
     subst (λ cut. IsContained cut c.args.to.now)
-    (sym (c.cut-low.ensures ∙ ap (λ plan. cut_of plan (counts_in replay.state)) c.self.invariant.at.plan_is
-    ∙ ap cut_at c.self.view_is)) c.requires.within
+    (sym (told_own c.self.invariant.at c.cut-low.ensures ∙ ap cut_at c.self.view_is)) c.requires.within
 
 pub invariant_of-self : goal.invariant_of-self
 invariant_of-self c =

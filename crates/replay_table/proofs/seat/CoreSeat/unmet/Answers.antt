@@ -6,28 +6,20 @@ use Rattle.rtr_types.proofs.Ranges.{zero_at}
 use Rattle.replay_core.specs.Plans.{Plan, plan_of}
 use Rattle.replay_core.specs.Play.{instr}
 use Rattle.replay_core.specs.Sources.{sources_in}
-use Rattle.replay_table.specs.Aheads.{Due}
 use Rattle.replay_table.specs.declared.view.View.{View}
 use Rattle.replay_table.specs.Rule.{seen_of}
 use Rattle.replay_table.specs.Seats.{IsUnmet, Sitting}
-use Rattle.replay_table.proofs.Lookups.{due_by, unmet_is}
+use Rattle.replay_table.proofs.Lookups.{due_seat, unmet_is}
 use Rattle.replay_table.proofs.seat.CoreSeat.unmet.Goals as goal
 
 -- without sources
 pub returns-in_default-clause-none : goal.returns-in_default-clause-none
 returns-in_default-clause-none g c =
-    let p : Plan = plan_of g.J.Job.which g.J.Job.recording in
-    let k = c.self.inside.past.core in
-    let v : View = c.self.inside.seat.me.0 in
-    let below : k.count < slice_index p.totals k.id = subst
-    (λ (x : Sitting). x.core.count < slice_index p.totals x.core.id) (sym c.self.view_is)
-    c.requires.below in
-    subst (λ (x : Sitting). Due p (seen_of x.view) x.core) c.self.view_is
-    (due_by g.J.Job.which g.J.Job.recording (seen_of v) k c.self.inside.upcoming c.self.invariant.1.valid
-    c.self.invariant.1.upcoming below
+    due_seat g.J.Job.which g.J.Job.recording _ _ c.self.inside.upcoming c.self.view_is c.self.invariant.1.valid
+    c.self.invariant.1.upcoming c.requires.below
     (λ i lt.
     let none = ap (λ (o : Option (List ℕ)). slice_index (sources_in o) i) c.in_default.is ∙ zero_at CORES_MAX i in
-    omega arith))
+    omega arith)
 
 pub returns-then-index-count-clause-some : goal.returns-then-index-count-clause-some
 returns-then-index-count-clause-some g c =
@@ -58,22 +50,15 @@ returns-then-index-count-clause-some g c =
 
 pub returns-clause-none : goal.returns-clause-none
 returns-clause-none g c =
-    let p : Plan = plan_of g.J.Job.which g.J.Job.recording in
-    let k = c.self.inside.past.core in
-    let v : View = c.self.inside.seat.me.0 in
     let t = c.self.invariant.1.tied in
     let ok = c.self.inside.seen.ok.0 in
     let all = c.len-of-end.ensures in
     let test = c.loop-of-test.false in
     let wide = t.wide in
-    let below : k.count < slice_index p.totals k.id = subst
-    (λ (x : Sitting). x.core.count < slice_index p.totals x.core.id) (sym c.self.view_is)
-    c.requires.below in
-    subst (λ (x : Sitting). Due p (seen_of x.view) x.core) c.self.view_is
-    (due_by g.J.Job.which g.J.Job.recording (seen_of v) k c.self.inside.upcoming c.self.invariant.1.valid
-    c.self.invariant.1.upcoming below
+    due_seat g.J.Job.which g.J.Job.recording _ _ c.self.inside.upcoming c.self.view_is c.self.invariant.1.valid
+    c.self.invariant.1.upcoming c.requires.below
     (λ i lt.
     let source = ap (λ (o : Option (List ℕ)). slice_index (sources_in o) i) c.in-Some.is in
     let met = c.loop-of.invariant i (omega arith) in
     let same = ap (λ (l : List ℕ). slice_index l i) t.sees_is in
-    omega arith))
+    omega arith)

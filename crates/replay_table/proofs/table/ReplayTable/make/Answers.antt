@@ -5,6 +5,7 @@ use Rattle.rv_core.specs.States.{starting}
 use Rattle.rv_core.proofs.LawLemmas.{start_law}
 use Rattle.atomic_table.specs.Table.{Me}
 use Rattle.race_log.specs.declared.recording.Recording.{Recording}
+use Rattle.race_log.specs.Validity.{Valid}
 use Rattle.replay_core.specs.Plans.{Plan, plan_of, recorded_image}
 use Rattle.replay_table.specs.declared.view.Own.{Own}
 use Rattle.replay_table.specs.declared.view.View.{View}
@@ -15,12 +16,14 @@ use Rattle.replay_table.proofs.Starts.{first_rule, drop_own, take_own, first_tie
 use Rattle.replay_table.proofs.Moves.{splits}
 use Rattle.replay_table.proofs.table.ReplayTable.make.Goals as goal
 
+cores_are : {r s : Recording} → r ≡ s → Valid s → r.params.cores ≡ length s.totals
+cores_are is valid = ap (λ (x : Recording). x.params.cores) is ∙ sym valid.each_core
+
 pub of_words-requires : goal.of_words-requires
 of_words-requires g c =
     let p : Plan = plan_of g.J.Job.which g.J.Job.recording in
     let r : Recording = c.args.recording.now in
-    let cores : r.params.cores ≡ length p.totals = ap (λ (x : Recording). x.params.cores) c.requires.recording
-    ∙ sym c.requires.valid.each_core in
+    let cores : r.params.cores ≡ length p.totals = cores_are c.requires.recording c.requires.valid in
     let bytes : c.in_ok-bytes.bytes.items ≡ r.image = c.in_ok-bytes.ensures.items ∙ c.as_slice.ensures in
     let image : c.in-Ok.image ≡ p.image = c.in-Ok.ensures.image
     ∙ ap (λ (b : List ℕ). record { bytes = b; words = r.params.words }) bytes
@@ -40,7 +43,7 @@ split_seat-seat-requires g c =
     let p : Plan = plan_of g.J.Job.which g.J.Job.recording in
     let i = c.loop-id.invariant in
     let lt : c.loop-id.id < c.args.recording.now.params.cores = c.loop-id-test.true in
-    let cores = ap (λ (x : Recording). x.params.cores) c.requires.recording ∙ sym c.requires.valid.each_core in
+    let cores = cores_are c.requires.recording c.requires.valid in
     let words = i.words in (
       i.table,
       omega arith,
@@ -53,11 +56,8 @@ invariant_of-push g c =
     let p : Plan = plan_of g.J.Job.which g.J.Job.recording in
     let i = c.loop-id.invariant in
     let e = c.split_seat-seat.ensures in
-    let lt : c.loop-id.id < c.args.recording.now.params.cores = c.loop-id-test.true in
-    let cores : c.args.recording.now.params.cores ≡ length p.totals = ap (λ (x : Recording). x.params.cores)
-    c.requires.recording
-    ∙ sym c.requires.valid.each_core in
-    let inside : c.loop-id.id < length p.totals = omega arith in
+    let cores : c.args.recording.now.params.cores ≡ length p.totals = cores_are c.requires.recording c.requires.valid in
+    let inside : c.loop-id.id < length p.totals = omega (arith, c.loop-id-test.true) in
     let view : c.split_seat-seat.result.me.0 ≡ first_alone (rest_view p c.loop-id.id) = ap (λ (m : Me ℕ View). m.0) e.4
     ∙ ap (λ (m : Me ℕ View). first_alone m.0) i.first in
     let seen : c.in_ok-seen.seen.items ≡ replicate (length p.totals) 0 = c.in_ok-seen.ensures.items_if_clones_equal
@@ -82,9 +82,7 @@ pub new-upcoming-requires : goal.new-upcoming-requires
 new-upcoming-requires g c =
     let r : Recording = c.args.recording.now in
     let lt : c.loop-id.id < c.args.recording.now.params.cores = c.loop-id-test.true in
-    let cores : r.params.cores ≡ length g.J.Job.recording.totals = ap (λ (x : Recording). x.params.cores)
-    c.requires.recording
-    ∙ sym c.requires.valid.each_core in
+    let cores : r.params.cores ≡ length g.J.Job.recording.totals = cores_are c.requires.recording c.requires.valid in
     let bytes : c.in_ok-bytes.bytes.items ≡ r.image = c.in_ok-bytes.ensures.items ∙ c.as_slice.ensures in
     let image : c.in-Ok.image ≡ recorded_image g.J.Job.recording = c.in-Ok.ensures.image
     ∙ ap (λ (b : List ℕ). record { bytes = b; words = r.params.words }) bytes
@@ -93,21 +91,17 @@ new-upcoming-requires g c =
     let start = start_law c.loop-id.id r.params.limit in
     let id = start.0 in
     let count = start.2 in
-    let can = can_begin g.J.Job.recording r c.in_ok-program.program k c.new-core.result c.requires.valid
+    can_begin g.J.Job.recording r c.in_ok-program.program k c.new-core.result c.requires.valid
     c.requires.recording (c.in_ok-program.ensures ∙ image) c.new-core.ensures (omega arith)
-    (omega arith) in
-    record { valid = can.valid; program = can.image_is; core = can.inside; within = can.within }
+    (omega arith)
 
 pub loop-id-preserved : goal.loop-id-preserved
 loop-id-preserved g c =
     let p : Plan = plan_of g.J.Job.which g.J.Job.recording in
     let i = c.loop-id.invariant in
     let e = c.split_seat-seat.ensures in
-    let lt : c.loop-id.id < c.args.recording.now.params.cores = c.loop-id-test.true in
-    let cores : c.args.recording.now.params.cores ≡ length p.totals = ap (λ (x : Recording). x.params.cores)
-    c.requires.recording
-    ∙ sym c.requires.valid.each_core in
-    let inside : c.loop-id.id < length p.totals = omega arith in
+    let cores : c.args.recording.now.params.cores ≡ length p.totals = cores_are c.requires.recording c.requires.valid in
+    let inside : c.loop-id.id < length p.totals = omega (arith, c.loop-id-test.true) in
     let core = c.new-in-loop-id.ensures.core ∙ c.new-core.ensures
     ∙ ap (λ (x : Recording). starting c.loop-id.id x.params.limit) c.requires.recording in
     let view : c.split_seat-seat.result.me.0 ≡ dealt_view p c.loop-id.id = ap (λ (m : Me ℕ View). m.0) e.4

@@ -1,4 +1,12 @@
 use Rattle.replay_table.proofs.upcoming.Upcoming.new.Goals as goal
 
-pub advance-requires-clause-coming : goal.advance-requires-clause-coming
-advance-requires-clause-coming c = c.new.ensures c.args.which c.args.recording.now c.args.core.now.id c.requires.valid
+pub advance-requires : goal.advance-requires
+advance-requires c =
+    let can = c.requires in
+    record {
+      valid = can.valid;
+      image_is = can.image_is;
+      inside = can.inside;
+      within = can.within;
+      coming = c.new.ensures c.args.which c.args.recording.now c.args.core.now.id can.valid;
+    }
