@@ -35,23 +35,23 @@ cuts_differ x y off e = elim (cases_Bool (pointwise nat_eq x.counts y.counts)) [
 ]
 
 module _ (a : Findings) (old : Placed) (run : IsOf a old) (new : Placed) (told : List ℕ) where
+  -- what holds of the audited recording at a cut holds of the place that has come there
+  holds_there : (Holds : Which → Recording → Cut → Type 0) (to : Cut) → Holds a.which a.recording to → cut_at new ≡ to →
+      Holds old.which old.recording (cut_at new)
+  holds_there Holds to holds cut_is =
+      subst (λ (c : Cut). Holds old.which old.recording c) (sym cut_is)
+      (subst (λ (r : Recording). Holds old.which r to) run.recording
+      (subst (λ (w : Which). Holds w a.recording to) run.which holds))
+
   least_here : (at : Instr) (to : Cut) → IsLeastWith a.which a.recording at to → Comes to new told →
       GoesWith at old new told
-  least_here at to least comes = record {
-    cut = subst (λ (c : Cut). IsLeastWith old.which old.recording at c) (sym comes.cut)
-        (subst (λ (r : Recording). IsLeastWith old.which r at to) run.recording
-        (subst (λ (w : Which). IsLeastWith w a.recording at to) run.which least));
-    told_is = comes.told_is;
-  }
+  least_here at to least comes =
+      record { cut = holds_there (λ w r c. IsLeastWith w r at c) to least comes.cut; told_is = comes.told_is }
 
   greatest_here : (at : Instr) (to : Cut) → IsGreatestWithout a.which a.recording at to → Comes to new told →
       GoesWithout at old new told
-  greatest_here at to greatest comes = record {
-    cut = subst (λ (c : Cut). IsGreatestWithout old.which old.recording at c) (sym comes.cut)
-        (subst (λ (r : Recording). IsGreatestWithout old.which r at to) run.recording
-        (subst (λ (w : Which). IsGreatestWithout w a.recording at to) run.which greatest));
-    told_is = comes.told_is;
-  }
+  greatest_here at to greatest comes =
+      record { cut = holds_there (λ w r c. IsGreatestWithout w r at c) to greatest comes.cut; told_is = comes.told_is }
 
   pub goes_to : (at : Instr) (to : Cut) (r : Recording) → r ≡ a.recording → IsInstrOf r at →
       IsLeastWith a.which a.recording at to → Comes to new told → GoesTo at old new told

@@ -10,6 +10,8 @@ use Rattle.race_queries.specs.declared.conflicts.Conflicts.{Conflicts}
 use Rattle.race_queries.specs.Conflicts.{conflicts_at}
 use Rattle.race_queries.specs.Queries.{AreEdgesInto, AreEdgesOutOf, AreReadsSince, IsLastWrite, NoWriteIn, accesses_to}
 use Rattle.race_queries.specs.Queries.{is_held}
+use Rattle.gdb_monitor.specs.declared.edges.End.{End}
+use Rattle.gdb_monitor.specs.declared.edges.End.TheVariants.{Source, Target}
 use Rattle.gdb_monitor.specs.Instrs.{instr_text, row_text}
 use Rattle.gdb_monitor.specs.Pcs.{ArePcs}
 use Rattle.gdb_monitor.specs.Texts.{line, usage_text}
@@ -65,21 +67,19 @@ pub record IsHistoryTold (a : Findings) (cut : Cut) (word : ℕ) (told : List �
 
 -- ---- edges
 
--- whether an instruction from which an edge leads is still to come
-abbrev pub source_mark : Cut → Instr → List ℕ
-source_mark cut at = if is_held cut at then [] else codes "  (not yet)"
+-- where an instruction at an end of an edge lies, seen from the one at the other
+abbrev pub end_word : End → List ℕ
+end_word Source = codes "  after  "
+end_word Target = codes "  before "
 
--- whether one to which an edge leads is done already
-abbrev pub target_mark : Cut → Instr → List ℕ
-target_mark cut at = if is_held cut at then codes "  (already)" else []
+-- whether a source is still to come, or a target is done already
+abbrev pub end_mark : End → Cut → Instr → List ℕ
+end_mark Source cut at = if is_held cut at then [] else codes "  (not yet)"
+end_mark Target cut at = if is_held cut at then codes "  (already)" else []
 
-abbrev pub source_row : Cut → (pcs : List (List ℕ)) → List Access → Instr → List ℕ
-source_row cut pcs accesses at =
-    codes "  after  " ++ instr_text pcs accesses at ++ line (source_mark cut at)
-
-abbrev pub target_row : Cut → (pcs : List (List ℕ)) → List Access → Instr → List ℕ
-target_row cut pcs accesses at =
-    codes "  before " ++ instr_text pcs accesses at ++ line (target_mark cut at)
+-- an instruction at this end of an edge
+abbrev pub end_row : End → Cut → (pcs : List (List ℕ)) → List Access → Instr → List ℕ
+end_row end cut pcs accesses at = end_word end ++ instr_text pcs accesses at ++ line (end_mark end cut at)
 
 -- the instruction, the sources of the edges into it and the targets of those out of it
 pub record AreEdges (a : Findings) (cut : Cut) (at : Instr) (told : List ℕ) : Type 0 where
@@ -90,8 +90,8 @@ pub record AreEdges (a : Findings) (cut : Cut) (at : Instr) (told : List ℕ) : 
   pub out : List Instr
   pub out_are : AreEdgesOutOf a.which a.recording at out
   pub told_is : told
-      ≡ line (instr_text pcs a.accesses at) ++ flat_map (source_row cut pcs a.accesses) into
-      ++ flat_map (target_row cut pcs a.accesses) out
+      ≡ line (instr_text pcs a.accesses at) ++ flat_map (end_row Source cut pcs a.accesses) into
+      ++ flat_map (end_row Target cut pcs a.accesses) out
 
 -- `edges C:N`
 pub record AreEdgesTold (a : Findings) (cut : Cut) (at : Instr) (told : List ℕ) : Type 0 where

@@ -10,20 +10,15 @@ ghost use Rattle.gdb_monitor.specs.Texts.{line};
 
 use crate::instrs::put_row;
 use crate::pcs::pcs_of;
-use crate::texts::{bytes_of, line};
+use crate::texts::{Put, Told, bytes_of, line};
 use race_queries::{history, holds, last_write, reads_since};
 use replay_audit::Audited;
 use roomy_lists::RoomyLists;
-use rtr_types::{Access, Cut, Items};
-use std::alloc::{AllocError, Global};
+use rtr_types::{Access, Cut};
+use std::alloc::Global;
 
 /// The last write of a word in the cut.
-pub(crate) fn writer_told(
-    alloc: Global,
-    audited: &Audited,
-    cut: &Cut,
-    word: u32,
-) -> Result<Items<u8>, AllocError>
+pub(crate) fn writer_told(alloc: Global, audited: &Audited, cut: &Cut, word: u32) -> Told
     ensures { IfOk result (IsWriterTold audited.now cut.now word) }
 {
     match last_write(audited, cut, word) {
@@ -33,7 +28,7 @@ pub(crate) fn writer_told(
 }
 
 /// One access.
-fn row_told(alloc: Global, audited: &Audited, access: Access) -> Result<Items<u8>, AllocError>
+fn row_told(alloc: Global, audited: &Audited, access: Access) -> Told
     ensures { IfOk result (IsRowTold audited.now access) }
 {
     let pcs = pcs_of(alloc, audited)?;
@@ -48,7 +43,7 @@ pub(crate) fn put_line(
     text: &mut String,
     pcs: &RoomyLists<u32>,
     access: Access,
-) -> Result<(), AllocError>
+) -> Put
     ensures { OnOk result (string_bytes text.new
         ≡ string_bytes text.old ++ line (row_text (items_in pcs.now) access)) }
 {
@@ -57,12 +52,7 @@ pub(crate) fn put_line(
 }
 
 /// The loads of a word in the cut since its last write in the cut.
-pub(crate) fn readers_told(
-    alloc: Global,
-    audited: &Audited,
-    cut: &Cut,
-    word: u32,
-) -> Result<Items<u8>, AllocError>
+pub(crate) fn readers_told(alloc: Global, audited: &Audited, cut: &Cut, word: u32) -> Told
     ensures { IfOk result (AreReadersTold audited.now cut.now word) }
 {
     let list = reads_since(alloc, audited, cut, word)?;
@@ -74,7 +64,7 @@ pub(crate) fn readers_told(
 }
 
 /// Several accesses.
-fn rows_told(alloc: Global, audited: &Audited, list: &[Access]) -> Result<Items<u8>, AllocError>
+fn rows_told(alloc: Global, audited: &Audited, list: &[Access]) -> Told
     ensures { IfOk result (AreRowsTold audited.now list.now) }
 {
     let pcs = pcs_of(alloc, audited)?;
@@ -84,12 +74,7 @@ fn rows_told(alloc: Global, audited: &Audited, list: &[Access]) -> Result<Items<
 }
 
 /// Puts accesses, each in a line.
-fn put_rows(
-    alloc: Global,
-    text: &mut String,
-    pcs: &RoomyLists<u32>,
-    list: &[Access],
-) -> Result<(), AllocError>
+fn put_rows(alloc: Global, text: &mut String, pcs: &RoomyLists<u32>, list: &[Access]) -> Put
     ensures { OnOk result (string_bytes text.new ≡ string_bytes text.old ++ rows_text (items_in pcs.now) list.now) }
 {
     for access in list {
@@ -99,12 +84,7 @@ fn put_rows(
 }
 
 /// All accesses to a word.
-pub(crate) fn history_told(
-    alloc: Global,
-    audited: &Audited,
-    cut: &Cut,
-    word: u32,
-) -> Result<Items<u8>, AllocError>
+pub(crate) fn history_told(alloc: Global, audited: &Audited, cut: &Cut, word: u32) -> Told
     ensures { IfOk result (IsHistoryTold audited.now cut.now word) }
 {
     let list = history(alloc, audited, word)?;
@@ -116,12 +96,7 @@ pub(crate) fn history_told(
 }
 
 /// Several accesses, those marked that aren't in the cut.
-fn marked_told(
-    alloc: Global,
-    audited: &Audited,
-    cut: &Cut,
-    list: &[Access],
-) -> Result<Items<u8>, AllocError>
+fn marked_told(alloc: Global, audited: &Audited, cut: &Cut, list: &[Access]) -> Told
     ensures { IfOk result (IsHistory audited.now cut.now list.now) }
 {
     let pcs = pcs_of(alloc, audited)?;
@@ -137,7 +112,7 @@ fn put_marked(
     pcs: &RoomyLists<u32>,
     cut: &Cut,
     list: &[Access],
-) -> Result<(), AllocError>
+) -> Put
     ensures { OnOk result (string_bytes text.new
         ≡ string_bytes text.old ++ flat_map (history_row cut.now (items_in pcs.now)) list.now) }
 {
@@ -154,7 +129,7 @@ fn put_marked_row(
     pcs: &RoomyLists<u32>,
     cut: &Cut,
     access: Access,
-) -> Result<(), AllocError>
+) -> Put
     ensures { OnOk result (string_bytes text.new
         ≡ string_bytes text.old ++ history_row cut.now (items_in pcs.now) access) }
 {

@@ -6,20 +6,16 @@ ghost use Rattle.gdb_monitor.specs.Asking.{AreConflicts, AreConflictsTold, calle
 
 use crate::asking::put_line;
 use crate::pcs::pcs_of;
-use crate::texts::{bytes_of, line, usage};
+use crate::texts::{Put, Told, bytes_of, line, usage};
 use cut_replay::has_instr;
 use race_queries::{Conflicts, conflicts_of};
 use replay_audit::Audited;
 use roomy_lists::RoomyLists;
-use rtr_types::{Access, Instr, Items};
-use std::alloc::{AllocError, Global};
+use rtr_types::{Access, Instr};
+use std::alloc::Global;
 
 /// An instruction's access, and those with which it conflicts.
-pub(crate) fn conflicts_told(
-    alloc: Global,
-    audited: &Audited,
-    at: Instr,
-) -> Result<Items<u8>, AllocError>
+pub(crate) fn conflicts_told(alloc: Global, audited: &Audited, at: Instr) -> Told
     ensures { IfOk result (AreConflictsTold audited.now at) }
 {
     if !has_instr(audited.recording(), at) {
@@ -32,11 +28,7 @@ pub(crate) fn conflicts_told(
 }
 
 /// An access, and those with which it conflicts.
-fn conflicts_at(
-    alloc: Global,
-    audited: &Audited,
-    conflicts: &Conflicts,
-) -> Result<Items<u8>, AllocError>
+fn conflicts_at(alloc: Global, audited: &Audited, conflicts: &Conflicts) -> Told
     ensures { IfOk result (AreConflicts audited.now conflicts.now) }
 {
     let pcs = pcs_of(alloc, audited)?;
@@ -66,7 +58,7 @@ fn put_called(
     pcs: &RoomyLists<u32>,
     called: &str,
     list: &[Access],
-) -> Result<(), AllocError>
+) -> Put
     ensures { OnOk result (string_bytes text.new
         ≡ string_bytes text.old ++ flat_map (called_row called.now (items_in pcs.now)) list.now) }
 {

@@ -2,27 +2,22 @@
 ghost use Rattle.std.specs.Prelude.{◌≡◌, ◌++◌, IfOk, OnOk, string_bytes};
 ghost use Rattle.std.specs.List.{flat_map};
 ghost use Rattle.roomy_lists.specs.Lists.{items_in};
-ghost use Rattle.gdb_monitor.specs.Asking.{AreEdges, AreEdgesTold, source_mark, source_row, target_mark, target_row};
+ghost use Rattle.gdb_monitor.specs.Asking.{AreEdges, AreEdgesTold, end_mark, end_row, end_word};
 ghost use Rattle.gdb_monitor.specs.Instrs.{instr_text};
 ghost use Rattle.gdb_monitor.specs.Texts.{line};
 
 use crate::instrs::put_instr;
 use crate::pcs::pcs_of;
-use crate::texts::{bytes_of, usage};
+use crate::texts::{Put, Told, bytes_of, usage};
 use cut_replay::has_instr;
 use race_queries::{edges_into, edges_out_of, holds};
 use replay_audit::Audited;
 use roomy_lists::RoomyLists;
-use rtr_types::{Access, Cut, Instr, Items};
-use std::alloc::{AllocError, Global};
+use rtr_types::{Access, Cut, Instr};
+use std::alloc::Global;
 
 /// An instruction, and the edges of the log at it.
-pub(crate) fn edges_told(
-    alloc: Global,
-    audited: &Audited,
-    cut: &Cut,
-    at: Instr,
-) -> Result<Items<u8>, AllocError>
+pub(crate) fn edges_told(alloc: Global, audited: &Audited, cut: &Cut, at: Instr) -> Told
     ensures { IfOk result (AreEdgesTold audited.now cut.now at) }
 {
     if has_instr(audited.recording(), at) {
@@ -33,7 +28,7 @@ pub(crate) fn edges_told(
 }
 
 /// An instruction of the recording, the sources of the edges into it and the targets of those out of it.
-fn edges_at(alloc: Global, audited: &Audited, cut: &Cut, at: Instr) -> Result<Items<u8>, AllocError>
+fn edges_at(alloc: Global, audited: &Audited, cut: &Cut, at: Instr) -> Told
     ensures { IfOk result (AreEdges audited.now cut.now at) }
 {
     let pcs = pcs_of(alloc, audited)?;
@@ -42,8 +37,24 @@ fn edges_at(alloc: Global, audited: &Audited, cut: &Cut, at: Instr) -> Result<It
     let accesses = audited.accesses();
     let mut text = String::new(alloc);
     put_line(alloc, &mut text, &pcs, accesses, at)?;
-    put_sources(alloc, &mut text, &pcs, accesses, cut, into.as_slice())?;
-    put_targets(alloc, &mut text, &pcs, accesses, cut, out.as_slice())?;
+    put_ends(
+        alloc,
+        &mut text,
+        &pcs,
+        accesses,
+        cut,
+        End::Source,
+        into.as_slice(),
+    )?;
+    put_ends(
+        alloc,
+        &mut text,
+        &pcs,
+        accesses,
+        cut,
+        End::Target,
+        out.as_slice(),
+    )?;
     Ok(bytes_of(text))
 }
 
@@ -54,7 +65,7 @@ fn put_line(
     pcs: &RoomyLists<u32>,
     accesses: &[Access],
     at: Instr,
-) -> Result<(), AllocError>
+) -> Put
     ensures { OnOk result (string_bytes text.new
         ≡ string_bytes text.old ++ line (instr_text (items_in pcs.now) accesses.now at)) }
 {
@@ -62,92 +73,76 @@ fn put_line(
     writeln!(text)
 }
 
-/// Puts the instructions from which edges lead, each in a line.
-fn put_sources(
+/// Puts the instructions at this end of edges, each in a line.
+fn put_ends(
     alloc: Global,
     text: &mut String,
     pcs: &RoomyLists<u32>,
     accesses: &[Access],
     cut: &Cut,
+    end: End,
     list: &[Instr],
-) -> Result<(), AllocError>
+) -> Put
     ensures { OnOk result (string_bytes text.new
-        ≡ string_bytes text.old ++ flat_map (source_row cut.now (items_in pcs.now) accesses.now) list.now) }
+        ≡ string_bytes text.old ++ flat_map (end_row end cut.now (items_in pcs.now) accesses.now) list.now) }
 {
     for at in list {
-        put_source(alloc, text, pcs, accesses, cut, *at)?;
+        put_end(alloc, text, pcs, accesses, cut, end, *at)?;
     }
     Ok(())
 }
 
-/// Puts an instruction from which an edge leads.
-fn put_source(
+/// Puts an instruction at this end of an edge.
+fn put_end(
     alloc: Global,
     text: &mut String,
     pcs: &RoomyLists<u32>,
     accesses: &[Access],
     cut: &Cut,
+    end: End,
     at: Instr,
-) -> Result<(), AllocError>
+) -> Put
     ensures { OnOk result (string_bytes text.new
-        ≡ string_bytes text.old ++ source_row cut.now (items_in pcs.now) accesses.now at) }
+        ≡ string_bytes text.old ++ end_row end cut.now (items_in pcs.now) accesses.now at) }
 {
-    text.push_str("  after  ")?;
+    text.push_str(end.word())?;
     put_instr(alloc, text, pcs, accesses, at)?;
-    put_mark(text, source_mark(cut, at))
+    put_mark(text, end.mark(cut, at))
 }
 
-/// Puts the instructions to which edges lead, each in a line.
-fn put_targets(
-    alloc: Global,
-    text: &mut String,
-    pcs: &RoomyLists<u32>,
-    accesses: &[Access],
-    cut: &Cut,
-    list: &[Instr],
-) -> Result<(), AllocError>
-    ensures { OnOk result (string_bytes text.new
-        ≡ string_bytes text.old ++ flat_map (target_row cut.now (items_in pcs.now) accesses.now) list.now) }
-{
-    for at in list {
-        put_target(alloc, text, pcs, accesses, cut, *at)?;
+/// An end of an edge.
+#[derive(Clone, Copy)]
+pub(crate) enum End {
+    /// The instruction from which it leads.
+    Source,
+    /// The instruction to which it leads.
+    Target,
+}
+
+impl End {
+    /// Where the instruction lies, seen from the one that was asked for.
+    fn word(self) -> &'static str
+        ensures { result.now ≡ end_word self }
+    {
+        match self {
+            End::Source => "  after  ",
+            End::Target => "  before ",
+        }
     }
-    Ok(())
-}
 
-/// Puts an instruction to which an edge leads.
-fn put_target(
-    alloc: Global,
-    text: &mut String,
-    pcs: &RoomyLists<u32>,
-    accesses: &[Access],
-    cut: &Cut,
-    at: Instr,
-) -> Result<(), AllocError>
-    ensures { OnOk result (string_bytes text.new
-        ≡ string_bytes text.old ++ target_row cut.now (items_in pcs.now) accesses.now at) }
-{
-    text.push_str("  before ")?;
-    put_instr(alloc, text, pcs, accesses, at)?;
-    put_mark(text, target_mark(cut, at))
-}
-
-/// What is said of an instruction from which an edge leads that is still to come.
-fn source_mark(cut: &Cut, at: Instr) -> &'static str
-    ensures { result.now ≡ source_mark cut.now at }
-{
-    if holds(cut, at) { "" } else { "  (not yet)" }
-}
-
-/// What is said of an instruction to which an edge leads that is done already.
-fn target_mark(cut: &Cut, at: Instr) -> &'static str
-    ensures { result.now ≡ target_mark cut.now at }
-{
-    if holds(cut, at) { "  (already)" } else { "" }
+    /// What is said of a source that is still to come, and of a target that is done already.
+    fn mark(self, cut: &Cut, at: Instr) -> &'static str
+        ensures { result.now ≡ end_mark self cut.now at }
+    {
+        match self {
+            End::Source => { if holds(cut, at) { "" } else { "  (not yet)" } }
+            End::Target => { if holds(cut, at) { "  (already)" } else { "" } }
+        }
+    }
 }
 
 /// Puts what is said behind an instruction, and ends the line.
-fn put_mark(text: &mut String, mark: &str) -> Result<(), AllocError>
+fn put_mark(text: &mut String, mark: &str) -> Put
     ensures { OnOk result (string_bytes text.new ≡ string_bytes text.old ++ line mark.now) }
 {
     text.push_str(mark)?;

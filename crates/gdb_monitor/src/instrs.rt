@@ -5,13 +5,14 @@ ghost use Rattle.gdb_monitor.specs.Instrs.{access_text, hex_word, instr_text, ki
 ghost use Rattle.gdb_monitor.specs.Instrs.{place_text, row_text};
 
 use crate::pcs::pc_in;
+use crate::texts::Put;
 use race_queries::access_at;
 use roomy_lists::RoomyLists;
 use rtr_types::{Access, Instr, Kind};
-use std::alloc::{AllocError, Global};
+use std::alloc::Global;
 
 /// Puts a word as eight digits.
-fn put_word(alloc: Global, text: &mut String, word: u32) -> Result<(), AllocError>
+fn put_word(alloc: Global, text: &mut String, word: u32) -> Put
     ensures { OnOk result (string_bytes text.new ≡ string_bytes text.old ++ hex_word word) }
 {
     let digits = hex::encode(alloc, &word.to_be_bytes())?;
@@ -30,7 +31,7 @@ fn kind_text(kind: Kind) -> &'static str
 }
 
 /// Puts what an access left, where it may have changed its word.
-fn put_left(alloc: Global, text: &mut String, access: Access) -> Result<(), AllocError>
+fn put_left(alloc: Global, text: &mut String, access: Access) -> Put
     ensures { OnOk result (string_bytes text.new ≡ string_bytes text.old ++ left_text access) }
 {
     if access.kind.is_write() {
@@ -41,7 +42,7 @@ fn put_left(alloc: Global, text: &mut String, access: Access) -> Result<(), Allo
 }
 
 /// Puts an access: what it does, its word's address, what it found and what it left.
-fn put_access(alloc: Global, text: &mut String, access: Access) -> Result<(), AllocError>
+fn put_access(alloc: Global, text: &mut String, access: Access) -> Put
     ensures { OnOk result (string_bytes text.new ≡ string_bytes text.old ++ access_text access) }
 {
     text.push_str(kind_text(access.kind))?;
@@ -52,12 +53,7 @@ fn put_access(alloc: Global, text: &mut String, access: Access) -> Result<(), Al
 }
 
 /// Puts an instruction, and its pc.
-fn put_place(
-    alloc: Global,
-    text: &mut String,
-    pcs: &RoomyLists<u32>,
-    at: Instr,
-) -> Result<(), AllocError>
+fn put_place(alloc: Global, text: &mut String, pcs: &RoomyLists<u32>, at: Instr) -> Put
     ensures { OnOk result (string_bytes text.new ≡ string_bytes text.old ++ place_text (items_in pcs.now) at) }
 {
     let core = at.core;
@@ -72,7 +68,7 @@ pub(crate) fn put_row(
     text: &mut String,
     pcs: &RoomyLists<u32>,
     access: Access,
-) -> Result<(), AllocError>
+) -> Put
     ensures { OnOk result (string_bytes text.new ≡ string_bytes text.old ++ row_text (items_in pcs.now) access) }
 {
     put_place(alloc, text, pcs, access.at)?;
@@ -87,7 +83,7 @@ pub(crate) fn put_instr(
     pcs: &RoomyLists<u32>,
     accesses: &[Access],
     at: Instr,
-) -> Result<(), AllocError>
+) -> Put
     ensures { OnOk result (string_bytes text.new
         ≡ string_bytes text.old ++ instr_text (items_in pcs.now) accesses.now at) }
 {

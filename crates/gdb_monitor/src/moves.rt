@@ -6,20 +6,20 @@ ghost use Rattle.debug_place.specs.Places.{cut_at};
 ghost use Rattle.gdb_monitor.specs.Moves.{AreCounts, Comes, GoesEarliest, GoesIfClosed, GoesLatest, GoesTo, GoesToCut};
 ghost use Rattle.gdb_monitor.specs.Moves.{IsKept, IsOf, cut_with_counts};
 
-use crate::texts::{cut_text, open_text, usage};
+use crate::texts::{Told, cut_text, open_text, usage};
 use cut_moves::{earliest, hull, latest};
 use cut_replay::{cut_with, has_instr};
 use debug_place::Place;
 use race_log::Recording;
 use replay_audit::Audited;
-use rtr_types::{CORES_MAX, Cut, Instr, Items};
-use std::alloc::{AllocError, Global};
+use rtr_types::{CORES_MAX, Cut, Instr};
+use std::alloc::Global;
 
 /// A place for each core, as the length of an array.
 const PLACES: usize = CORES_MAX as usize;
 
 /// To a closed cut, which is told. A refusal, which comes for want of memory alone, leaves the place as it was.
-fn go(alloc: Global, place: &mut Place, to: &Cut) -> Result<Items<u8>, AllocError>
+fn go(alloc: Global, place: &mut Place, to: &Cut) -> Told
     requires { IsClosed place.old.which place.old.recording to.now }
     ensures kept { IsKept place.old place.new }
     ensures ok { IfOk result (Comes to.now place.new) }
@@ -31,12 +31,7 @@ fn go(alloc: Global, place: &mut Place, to: &Cut) -> Result<Items<u8>, AllocErro
 }
 
 /// To the least closed cut with an instruction.
-pub(crate) fn go_to(
-    alloc: Global,
-    audited: &Audited,
-    place: &mut Place,
-    at: Instr,
-) -> Result<Items<u8>, AllocError>
+pub(crate) fn go_to(alloc: Global, audited: &Audited, place: &mut Place, at: Instr) -> Told
     requires { IsOf audited.now place.old }
     ensures kept { IsKept place.old place.new }
     ensures ok { IfOk result (GoesTo at place.old place.new) }
@@ -50,12 +45,7 @@ pub(crate) fn go_to(
 }
 
 /// The core stays, and the others go back as far as the log lets them.
-pub(crate) fn go_earliest(
-    alloc: Global,
-    audited: &Audited,
-    place: &mut Place,
-    core: u8,
-) -> Result<Items<u8>, AllocError>
+pub(crate) fn go_earliest(alloc: Global, audited: &Audited, place: &mut Place, core: u8) -> Told
     requires { IsOf audited.now place.old }
     ensures kept { IsKept place.old place.new }
     ensures ok { IfOk result (GoesEarliest core place.old place.new) }
@@ -69,12 +59,7 @@ pub(crate) fn go_earliest(
 }
 
 /// The core stays, and the others go on as far as the log lets them.
-pub(crate) fn go_latest(
-    alloc: Global,
-    audited: &Audited,
-    place: &mut Place,
-    core: u8,
-) -> Result<Items<u8>, AllocError>
+pub(crate) fn go_latest(alloc: Global, audited: &Audited, place: &mut Place, core: u8) -> Told
     requires { IsOf audited.now place.old }
     ensures kept { IsKept place.old place.new }
     ensures ok { IfOk result (GoesLatest core place.old place.new) }
@@ -88,12 +73,7 @@ pub(crate) fn go_latest(
 }
 
 /// To the cut with these counts, if it's closed.
-pub(crate) fn go_to_cut(
-    alloc: Global,
-    audited: &Audited,
-    place: &mut Place,
-    counts: &[u32],
-) -> Result<Items<u8>, AllocError>
+pub(crate) fn go_to_cut(alloc: Global, audited: &Audited, place: &mut Place, counts: &[u32]) -> Told
     requires { IsOf audited.now place.old }
     ensures kept { IsKept place.old place.new }
     ensures ok { IfOk result (GoesToCut counts.now place.old place.new) }
@@ -107,12 +87,7 @@ pub(crate) fn go_to_cut(
 }
 
 /// To a cut, if it's closed. Where it isn't, the least closed cut that contains it is told.
-fn go_if_closed(
-    alloc: Global,
-    audited: &Audited,
-    place: &mut Place,
-    to: &Cut,
-) -> Result<Items<u8>, AllocError>
+fn go_if_closed(alloc: Global, audited: &Audited, place: &mut Place, to: &Cut) -> Told
     requires run { IsOf audited.now place.old }
     requires cut { IsCutOf place.old.recording to.now }
     ensures kept { IsKept place.old place.new }

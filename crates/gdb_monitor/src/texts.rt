@@ -5,13 +5,19 @@ ghost use Rattle.gdb_monitor.specs.Texts.{counts_text, cut_text, line, open_text
 use rtr_types::{Cut, Items};
 use std::alloc::{AllocError, Global};
 
+/// What a command is answered.
+pub(crate) type Told = Result<Items<u8>, AllocError>;
+
+/// That a part of a text was put.
+pub(crate) type Put = Result<(), AllocError>;
+
 /// The commands that there are.
 pub const USAGE: &[u8] =
     b"rtr_gdb: monitor cut | goto N .. | goto C:N | earliest C | latest C | lead C | lead all | \
 edges C:N | writer ADDR | readers ADDR | history ADDR | conflicts C:N | order C:N C:N\n";
 
 /// The commands that there are, as a text.
-pub(crate) fn usage(alloc: Global) -> Result<Items<u8>, AllocError>
+pub(crate) fn usage(alloc: Global) -> Told
     ensures { IfOk result (λ text. text ≡ usage_text) }
 {
     Ok(Items::from_vec(Vec::from_slice(alloc, USAGE)?))
@@ -25,7 +31,7 @@ pub(crate) fn bytes_of(text: String) -> Items<u8>
 }
 
 /// A line of this text.
-pub(crate) fn line(alloc: Global, words: &str) -> Result<Items<u8>, AllocError>
+pub(crate) fn line(alloc: Global, words: &str) -> Told
     ensures { IfOk result (λ text. text ≡ line words.now) }
 {
     let mut text = Vec::new(alloc);
@@ -35,7 +41,7 @@ pub(crate) fn line(alloc: Global, words: &str) -> Result<Items<u8>, AllocError>
 }
 
 /// A cut.
-pub(crate) fn cut_text(alloc: Global, cut: &Cut) -> Result<Items<u8>, AllocError>
+pub(crate) fn cut_text(alloc: Global, cut: &Cut) -> Told
     ensures { IfOk result (λ text. text ≡ cut_text cut.now) }
 {
     let mut text = String::new(alloc);
@@ -46,7 +52,7 @@ pub(crate) fn cut_text(alloc: Global, cut: &Cut) -> Result<Items<u8>, AllocError
 }
 
 /// That a cut isn't closed, and the least closed cut that contains it.
-pub(crate) fn open_text(alloc: Global, hull: &Cut) -> Result<Items<u8>, AllocError>
+pub(crate) fn open_text(alloc: Global, hull: &Cut) -> Told
     ensures { IfOk result (λ text. text ≡ open_text hull.now) }
 {
     let mut text = String::new(alloc);
@@ -60,7 +66,7 @@ pub(crate) fn open_text(alloc: Global, hull: &Cut) -> Result<Items<u8>, AllocErr
 }
 
 /// Puts the counts of a cut, each behind a space.
-fn put_counts(text: &mut String, cut: &Cut) -> Result<(), AllocError>
+fn put_counts(text: &mut String, cut: &Cut) -> Put
     ensures { OnOk result (string_bytes text.new ≡ string_bytes text.old ++ counts_text cut.now) }
 {
     let cores = cut.counts.len().min(cut.cores.into());

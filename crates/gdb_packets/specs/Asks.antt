@@ -40,32 +40,23 @@ span_of text = option_and_then spanned (cut_at 44 text)
 abbrev pub made : {A : Type 0} → (A → Plain) → Option A → Plain
 made make argument = unwrap_or (option_map make argument) plain.Malformed
 
--- one word that asks what is there
-abbrev pub state_word : List ℕ → Option Plain
-state_word p =
-    if bytes_eq p (codes "?") then Some plain.LastStop else
-    if bytes_eq p (codes "g") then Some plain.Registers else
-    if bytes_eq p (codes "vCont?") then Some plain.ResumeKinds else
-    if bytes_eq p (codes "qC") then Some plain.ToldThread else None
+-- what a word is in a table, exactly
+abbrev pub in_table : List (List ℕ × Plain) → List ℕ → Option Plain
+in_table [] p = None
+in_table (row ∷ rows) p = if bytes_eq p row.0 then Some row.1 else in_table rows p
 
--- one word that asks for a move, or for the end
-abbrev pub move_word : List ℕ → Option Plain
-move_word p =
-    if bytes_eq p (codes "bs") then Some plain.StepBack else
-    if bytes_eq p (codes "bc") then Some plain.GoBack else
-    if bytes_eq p (codes "D") then Some plain.Detach else
-    if bytes_eq p (codes "k") then Some plain.Quit else None
-
--- one word that asks for threads, or how answers are sent
-abbrev pub other_word : List ℕ → Option Plain
-other_word p =
-    if bytes_eq p (codes "qfThreadInfo") then Some plain.ThreadsFirst else
-    if bytes_eq p (codes "qsThreadInfo") then Some plain.ThreadsRest else
-    if bytes_eq p (codes "QStartNoAckMode") then Some plain.StopAcks else None
+-- the packets of one word: what is there, a move or the end, threads, and how answers are sent
+abbrev pub words : List (List ℕ × Plain)
+words =
+    (codes "?", plain.LastStop) ∷ (codes "g", plain.Registers)
+    ∷ (codes "vCont?", plain.ResumeKinds) ∷ (codes "qC", plain.ToldThread)
+    ∷ (codes "bs", plain.StepBack) ∷ (codes "bc", plain.GoBack) ∷ (codes "D", plain.Detach) ∷ (codes "k", plain.Quit)
+    ∷ (codes "qfThreadInfo", plain.ThreadsFirst) ∷ (codes "qsThreadInfo", plain.ThreadsRest)
+    ∷ (codes "QStartNoAckMode", plain.StopAcks) ∷ []
 
 -- a packet is one of these words
 abbrev pub word_asks : List ℕ → Option Plain
-word_asks p = option_or (state_word p) (option_or (move_word p) (other_word p))
+word_asks p = in_table words p
 
 -- packets that mean the same whatever follows their first bytes
 abbrev pub head_asks : List ℕ → Option Plain

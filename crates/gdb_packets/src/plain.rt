@@ -1,7 +1,8 @@
 //! What packets mean that have no list in them.
-ghost use Rattle.std.specs.Prelude.{◌≡◌, is_some};
-ghost use Rattle.gdb_packets.specs.Asks.{data_asks, head_asks, move_word, other_span, other_word, part_ask, plain_of};
-ghost use Rattle.gdb_packets.specs.Asks.{point, point_ask, point_asks, point_kind, point_span, span_of, state_word};
+ghost use Rattle.std.specs.Prelude.{◌≡◌, None, Some, if◌then◌else◌, is_some};
+ghost use Rattle.std.specs.Str.{bytes_eq};
+ghost use Rattle.gdb_packets.specs.Asks.{data_asks, head_asks, other_span, part_ask, plain_of};
+ghost use Rattle.gdb_packets.specs.Asks.{point, point_ask, point_asks, point_kind, point_span, span_of};
 ghost use Rattle.gdb_packets.specs.Asks.{thread_asks, thread_of, word_asks, write_asks};
 
 use crate::asks::{Plain, PointKind, Span, Thread, Watch};
@@ -17,60 +18,28 @@ pub(crate) fn plain_of(payload: &[u8]) -> Plain
     words.or(others).unwrap_or(Plain::Unknown)
 }
 
-/// The packets of one word.
+/// The packets of one word: what is there, a move or the end, threads, and how answers are sent.
 fn word_asks(payload: &[u8]) -> Option<Plain>
     ensures { result ≡ word_asks payload.now }
 {
-    state_word(payload).or(move_word(payload).or(other_word(payload)))
+    word(payload, "?", Plain::LastStop)
+        .or(word(payload, "g", Plain::Registers))
+        .or(word(payload, "vCont?", Plain::ResumeKinds))
+        .or(word(payload, "qC", Plain::ToldThread))
+        .or(word(payload, "bs", Plain::StepBack))
+        .or(word(payload, "bc", Plain::GoBack))
+        .or(word(payload, "D", Plain::Detach))
+        .or(word(payload, "k", Plain::Quit))
+        .or(word(payload, "qfThreadInfo", Plain::ThreadsFirst))
+        .or(word(payload, "qsThreadInfo", Plain::ThreadsRest))
+        .or(word(payload, "QStartNoAckMode", Plain::StopAcks))
 }
 
-/// The words that ask what is there.
-fn state_word(payload: &[u8]) -> Option<Plain>
-    ensures { result ≡ state_word payload.now }
+/// What the payload asks, where it is this word.
+fn word(payload: &[u8], word: &str, plain: Plain) -> Option<Plain>
+    ensures { result ≡ if bytes_eq payload.now word.now then Some plain else None }
 {
-    if is(payload, "?") {
-        Some(Plain::LastStop)
-    } else if is(payload, "g") {
-        Some(Plain::Registers)
-    } else if is(payload, "vCont?") {
-        Some(Plain::ResumeKinds)
-    } else if is(payload, "qC") {
-        Some(Plain::ToldThread)
-    } else {
-        None
-    }
-}
-
-/// The words that ask for a move, or for the end.
-fn move_word(payload: &[u8]) -> Option<Plain>
-    ensures { result ≡ move_word payload.now }
-{
-    if is(payload, "bs") {
-        Some(Plain::StepBack)
-    } else if is(payload, "bc") {
-        Some(Plain::GoBack)
-    } else if is(payload, "D") {
-        Some(Plain::Detach)
-    } else if is(payload, "k") {
-        Some(Plain::Quit)
-    } else {
-        None
-    }
-}
-
-/// The words that ask for threads, or how answers are sent.
-fn other_word(payload: &[u8]) -> Option<Plain>
-    ensures { result ≡ other_word payload.now }
-{
-    if is(payload, "qfThreadInfo") {
-        Some(Plain::ThreadsFirst)
-    } else if is(payload, "qsThreadInfo") {
-        Some(Plain::ThreadsRest)
-    } else if is(payload, "QStartNoAckMode") {
-        Some(Plain::StopAcks)
-    } else {
-        None
-    }
+    if is(payload, word) { Some(plain) } else { None }
 }
 
 /// The packets that mean the same whatever follows their first bytes.

@@ -1,9 +1,10 @@
 //! Answers, and how they are spelled.
-ghost use Rattle.std.specs.Prelude.{◌≡◌, ◌++◌, IfOk, OnOk};
+ghost use Rattle.std.specs.Prelude.{◌≡◌, ◌++◌, IfOk, OnOk, codes};
 ghost use Rattle.hex.specs.Hex.{encode_lower};
+ghost use Rattle.gdb_packets.specs.Numbers.{numeral};
 ghost use Rattle.gdb_packets.specs.Replies.{features_text, signal_number, spelled, stop_text, thread_text};
 ghost use Rattle.gdb_packets.specs.Replies.{threads_text};
-ghost use Rattle.gdb_packets.specs.Replies.{watch_word, why_text};
+ghost use Rattle.gdb_packets.specs.Replies.{why_text};
 
 use crate::asks::Watch;
 use crate::numbers::put_number;
@@ -214,23 +215,19 @@ fn put_why(alloc: Global, out: &mut Vec<u8>, why: Why) -> Result<(), AllocError>
     match why {
         Why::Nothing => Ok(()),
         Why::Breakpoint => put(out, "swbreak:;"),
-        Why::Watched(kind, address) => {
-            put(out, watch_word(kind))?;
-            put_number(alloc, out, address)?;
-            put(out, ";")
-        }
+        Why::Watched(Watch::Write, address) => put_watched(alloc, out, "watch:", address),
+        Why::Watched(Watch::Read, address) => put_watched(alloc, out, "rwatch:", address),
+        Why::Watched(Watch::Access, address) => put_watched(alloc, out, "awatch:", address),
         Why::End => put(out, "replaylog:end;"),
         Why::Begin => put(out, "replaylog:begin;"),
     }
 }
 
-/// The word for a kind of watching.
-fn watch_word(kind: Watch) -> &'static str
-    ensures { result.now ≡ watch_word kind }
+/// Writes a kind of watching by its word, and the address that was touched.
+fn put_watched(alloc: Global, out: &mut Vec<u8>, word: &str, address: u64) -> Result<(), AllocError>
+    ensures { OnOk result (out.new.items ≡ out.old.items ++ word.now ++ numeral address ++ codes ";") }
 {
-    match kind {
-        Watch::Write => "watch:",
-        Watch::Read => "rwatch:",
-        Watch::Access => "awatch:",
-    }
+    put(out, word)?;
+    put_number(alloc, out, address)?;
+    put(out, ";")
 }

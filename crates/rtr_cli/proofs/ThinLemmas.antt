@@ -29,8 +29,7 @@ replayed threads loads out a = record {
   present = λ at h. h;
   audited = λ fault h.
       both_said (whole_at out) (IsDeterminate Regulated) (λ r. AuditRefuses Regulated r fault)
-      (fault ≡ faults.OutOfMemory)
-      (λ r is it. determinate_not_audited Regulated r fault is it) a h;
+      (fault ≡ faults.OutOfMemory) (λ r is it. determinate_not_audited Regulated r fault is it) a h;
   shown = λ failure h. h;
   few = λ vectors edges h. h;
   needed = λ vector h. h;

@@ -1,11 +1,11 @@
 use Rattle.std.proofs.Common.{◌≡◌, ◌++◌, take, string_bytes}
 use Rattle.std.specs.List.{flat_map}
 use Rattle.roomy_lists.specs.Lists.{items_in}
-use Rattle.gdb_monitor.specs.Asking.{source_row}
-use Rattle.gdb_monitor.proofs.edges.put_sources.Given as goal
+use Rattle.gdb_monitor.specs.Asking.{end_row}
+use Rattle.gdb_monitor.proofs.edges.put_ends.Given as goal
 
 -- the text so far
 abbrev pub invariant-loop-at : goal.invariant-loop-at
 invariant-loop-at l =
     string_bytes l.text
-    ≡ string_bytes l.initial.text ++ flat_map (source_row l.cut (items_in l.pcs) l.accesses) (take l.at-index l.list)
+    ≡ string_bytes l.initial.text ++ flat_map (end_row l.end l.cut (items_in l.pcs) l.accesses) (take l.at-index l.list)

@@ -21,24 +21,12 @@ returns-in-Err-clause-complete g c =
 pub returns-clause-answered : goal.returns-clause-answered
 returns-clause-answered g c =
     let taken = rw c.most_of.ensures at c.in-Ok.ensures.bytes in
-    let part = rw c.as_slice.ensures.value at c.in-Err-write_all.ensures.part in (
-      c.in-Ok.bytes.items,
-      c.in-Ok-make.out.items,
-      taken,
-      c.in-Ok-make.ensures.made,
-      c.in-Ok-make.ensures.promised,
-      part,
-    )
+    let part = rw c.as_slice.ensures.value at c.in-Err-write_all.ensures.part in
+    (c.in-Ok.bytes.items, c.in-Ok-make.out.items, taken, c.in-Ok-make.ensures.made, c.in-Ok-make.ensures.promised, part)
 
 -- or all of it
 pub returns-in-Ok-write_all-clause-answered : goal.returns-in-Ok-write_all-clause-answered
 returns-in-Ok-write_all-clause-answered g c =
     let taken = rw c.most_of.ensures at c.in-Ok.ensures.bytes in
-    let whole = rw c.as_slice.ensures.value at c.in-Ok-write_all.ensures.all in (
-      c.in-Ok.bytes.items,
-      c.in-Ok-make.out.items,
-      taken,
-      c.in-Ok-make.ensures.made,
-      c.in-Ok-make.ensures.promised,
-      whole,
-    )
+    let all = rw c.as_slice.ensures.value at c.in-Ok-write_all.ensures.all in
+    (c.in-Ok.bytes.items, c.in-Ok-make.out.items, taken, c.in-Ok-make.ensures.made, c.in-Ok-make.ensures.promised, all)
