@@ -124,6 +124,14 @@ module _ {R K : Type 0} where
       by_move (ResponseMove c) = refl
       by_move (MessageMove c) = set (MessageMove c)
 
+  -- for as many cores as there are then
+  capacities_kept : (riding : Riding R) (carrying : Carrying K) (rider : R) (s : State R K) (m : Move) →
+      sum_by (capacity (length (step riding carrying rider s m).cores)) (step riding carrying rider s m).cores
+      ≡ sum_by (capacity (length s.cores)) s.cores
+  capacities_kept riding carrying rider s m =
+      ap (λ (n : ℕ). sum_by (capacity n) (step riding carrying rider s m).cores) (step_cores riding carrying rider s m)
+      ∙ capacity_kept riding carrying s m rider (length s.cores)
+
   -- after a step fewer are left
   pub nearer : (riding : Riding R) (carrying : Carrying K) (s : State R K) (m : Move) (rider : R) →
       enabled riding carrying s m ≡ true →
@@ -134,8 +142,7 @@ module _ {R K : Type 0} where
       let pays : total_earned s + total_owed t + 1 ≤ total_earned t + total_owed s =
       earns riding carrying s m rider e h in
       let same : sum_by (capacity (length t.cores)) t.cores ≡ sum_by (capacity (length s.cores)) s.cores =
-      ap (λ (n : ℕ). sum_by (capacity n) t.cores) (step_cores riding carrying rider s m)
-      ∙ capacity_kept riding carrying s m rider (length s.cores) in
+      capacities_kept riding carrying rider s m in
       let lt = total_earned_le riding carrying t k in
       let ls = total_earned_le riding carrying s h in
       omega arith

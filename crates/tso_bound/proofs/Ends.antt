@@ -10,7 +10,7 @@ use Rattle.std.proofs.Math.Nat.{mul-add}
 use Rattle.std.proofs.lemmas.Bool.{cases_eq, cases_lt}
 use Rattle.std.proofs.lemmas.Nat.{mul-le}
 use Rattle.std.proofs.lemmas.List.{get_or_past}
-use Rattle.std.proofs.lemmas.List.FromFn.{length-map-range_with_len, length-range_with_len}
+use Rattle.std.proofs.lemmas.List.FromFn.{length-range_with_len}
 use Rattle.std.proofs.lemmas.List.Sums.{sum_by-cons}
 use Rattle.access_times.specs.Riding.{Riding, Carrying, none_riding, none_carrying}
 use Rattle.image_mem.specs.Contents.{Contents}
@@ -29,8 +29,8 @@ use Rattle.tso_state.specs.States.{PlainState, BufferedCore, all_done, buffered_
 use Rattle.tso_state.specs.Runs.{plain_moves, chosen, chosen_of, executed, stepped_by, opening_state, run, IsRunEnd}
 use Rattle.tso_invariant.specs.Holds.{TsoHolds}
 use Rattle.tso_invariant.proofs.Begins.{chosen_enabled, holds_run}
+pub use Rattle.tso_invariant.proofs.Begins.{run_cores}
 use Rattle.tso_invariant.proofs.Ending.{ended_still}
-use Rattle.tso_invariant.proofs.Kept.{step_cores}
 use Rattle.tso_invariant.proofs.Stuck.{some_move}
 use Rattle.tso_bound.specs.Bound.{capacity, core_cost, empty_worth, left, lines_worth, memory_worth, paid, port_worth}
 use Rattle.tso_bound.specs.Bound.{total_earned, total_owed}
@@ -163,19 +163,6 @@ steps_paid image params choices (suc t) fits more =
         earns none_riding none_carrying s m tt (chosen_enabled s (choices t) m e) h in omega arith
 
 -- no step changes the number of cores, nor what all instructions can pay for
-pub run_cores : (image : Contents) (params : Params) (choices : ℕ → ℕ) (t : ℕ) →
-    length (run image params choices t).cores ≡ params.cores
-run_cores image params choices zero = length-map-range_with_len (λ (id : ℕ). buffered_start id params.limit) 0
-    params.cores
-run_cores image params choices (suc t) = stepped (chosen (run image params choices t) (choices t))
-    (run_cores image params choices t)
-  where
-    stepped : (o : Option Move) → length (run image params choices t).cores ≡ params.cores →
-        length (stepped_by (run image params choices t) o).cores
-        ≡ params.cores
-    stepped None e = e
-    stepped (Some m) e = step_cores none_riding none_carrying tt (run image params choices t) m ∙ e
-
 run_capacity : (image : Contents) (params : Params) (choices : ℕ → ℕ) (t : ℕ) →
     sum_by (capacity params.cores) (run image params choices t).cores ≡ most_steps params + params.cores * empty_worth
 run_capacity image params choices zero =

@@ -3,6 +3,9 @@ use Rattle.std.proofs.Common.{◌≡◌, ◌≢◌, refl, ℕ, ◌+◌, ◌*◌,
 use Rattle.std.specs.List.{sum_by}
 use Rattle.std.proofs.lemmas.List.Sums.{sum_by-cons}
 
+one_more : (k n : ℕ) → k * suc n ≡ k + k * n
+one_more k n = grind arith
+
 module _ {X : Type 0} where
   -- two functions that agree at each place
   pub sums_agree : (f g : X → ℕ) (xs : List X) (d : X) → ((i : ℕ) → f (get_or xs i d) ≡ g (get_or xs i d)) →
@@ -58,9 +61,6 @@ module _ {X : Type 0} where
       let a = sum_by-cons f x xs in
       let b : k * length (x ∷ xs) ≡ k + k * length xs = one_more k (length xs) in
       omega arith
-    where
-      one_more : (k n : ℕ) → k * suc n ≡ k + k * n
-      one_more k n = grind arith
 
   pub sum_at_most_but : (f : X → ℕ) (k more : ℕ) (xs : List X) (j : ℕ) (d : X) →
       ((i : ℕ) → i ≢ j → f (get_or xs i d) ≤ k) →
@@ -73,9 +73,6 @@ module _ {X : Type 0} where
       let a = sum_by-cons f x xs in
       let b : k * length (x ∷ xs) ≡ k + k * length xs = one_more k (length xs) in
       omega arith
-    where
-      one_more : (k n : ℕ) → k * suc n ≡ k + k * n
-      one_more k n = grind arith
   sum_at_most_but f k more (x ∷ xs) (suc j) d le here =
       let first : f x ≤ k = le zero (λ (e : zero ≡ suc j). absurd (omega arith)) in
       let rest : sum_by f xs ≤ k * length xs + more =
@@ -83,9 +80,6 @@ module _ {X : Type 0} where
       let a = sum_by-cons f x xs in
       let b : k * length (x ∷ xs) ≡ k + k * length xs = one_more k (length xs) in
       omega arith
-    where
-      one_more : (k n : ℕ) → k * suc n ≡ k + k * n
-      one_more k n = grind arith
 
   pub sum_both : (f g : X → ℕ) (xs : List X) → sum_by (λ x. f x + g x) xs ≡ sum_by f xs + sum_by g xs
   sum_both f g [] = refl

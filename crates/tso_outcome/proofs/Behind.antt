@@ -1,22 +1,20 @@
 -- What is told in a step: it is of one of the cores, and only the first may be an access or a logged load.
-use Rattle.std.proofs.Common.{◌≡◌, ◌∙◌, ap, subst, sym, ℕ, suc, ◌+◌, ◌-◌, Bool, true, false, List, [], ◌∷◌, ◌++◌, Some}
+use Rattle.std.proofs.Common.{◌≡◌, ◌∙◌, ap, subst, sym, ℕ, suc, ◌+◌, List, [], ◌∷◌, ◌++◌, Some}
 use Rattle.std.proofs.Common.{Option, arith}
-use Rattle.std.specs.Prelude.{drop, map, if◌then◌else◌}
-use Rattle.std.specs.List.{range_with_len}
 use Rattle.image_mem.specs.Contents.{Contents}
-use Rattle.link_order.specs.Queue.{is_nil}
 use Rattle.rtr_types.specs.Parameters.{Fits}
 use Rattle.rtr_types.specs.declared.params.Params.{Params}
 use Rattle.rv_core.specs.declared.core_state.Core.{Core}
 use Rattle.schedule_pick.specs.Choices.{Choices, choice_at}
 use Rattle.tso_state.specs.declared.moves.Move.{Move}
 use Rattle.tso_state.specs.declared.pending.Pending.{Pending}
-use Rattle.tso_state.specs.Events.{Event, Nothing, Executes, Buffers, Performs, Drains, Logs, Told, Alone, Ordered}
-use Rattle.tso_state.specs.Events.{Logged, count_before, locals_behind, tellings}
+use Rattle.tso_state.specs.Events.{Event, Told, Alone, Ordered}
+use Rattle.tso_state.specs.Events.{Logged, locals_behind, tellings}
 use Rattle.tso_state.specs.Runs.{all_told, chosen, plain_told, run, told_by}
 use Rattle.tso_state.specs.States.{BufferedCore, PlainState}
 use Rattle.tso_told.specs.Played.{AreInside}
 use Rattle.tso_told.proofs.Told.{told_inside}
+use Rattle.tso_told.proofs.Tellings.{behind_have, each_telling}
 use Rattle.tso_outcome.specs.Outcomes.{RunsAt}
 
 -- each touches no data
@@ -32,23 +30,10 @@ AloneBehind [] = Unit {0}
 AloneBehind (e ∷ list) = AreAlone list
 
 are_alone : (core : Core) (count : ℕ) (queue : List Pending) → AreAlone (locals_behind core count queue)
-are_alone core count queue = each (range_with_len (count + 1) (count_before core queue - count))
-  where
-    each : (ns : List ℕ) → AreAlone (map (λ n. Alone (record { core = core.id; count = n })) ns)
-    each [] = tt
-    each (n ∷ ns) = each ns
+are_alone = behind_have AreAlone tt (λ at list h. h)
 
 pub alone_behind : (t : BufferedCore) (e : Event) → AloneBehind (tellings t e)
-alone_behind t Nothing = tt
-alone_behind t (Executes at) = by_nil (is_nil t.queue)
-  where
-    by_nil : (b : Bool) → AloneBehind (if b then Alone at ∷ [] else [])
-    by_nil true = tt
-    by_nil false = tt
-alone_behind t (Buffers at x) = tt
-alone_behind t (Performs a) = tt
-alone_behind t (Drains a) = are_alone t.core a.at.count (drop 1 t.queue)
-alone_behind t (Logs at word value) = are_alone t.core at.count (drop 1 t.queue)
+alone_behind = each_telling AloneBehind tt (λ x. tt) (λ x core count queue. are_alone core count queue)
 
 inside_last : (n : ℕ) (xs ys : List Told) → AreInside n (xs ++ ys) → AreInside n ys
 inside_last n [] ys h = h

@@ -14,7 +14,8 @@ use Rattle.rv_core.specs.declared.outcome.Outcome.{Outcome}
 use Rattle.schedule_pick.specs.Choices.{Choices, choice_at, choices_after}
 use Rattle.schedule_pick.proofs.ChoiceLemmas.{following_law}
 use Rattle.tso_bound.specs.Ends.{end_of}
-use Rattle.tso_bound.proofs.Ends.{end_done, one_end, run_cores}
+use Rattle.tso_bound.proofs.Ends.{end_done, one_end}
+use Rattle.tso_invariant.proofs.Begins.{run_cores}
 use Rattle.tso_invariant.proofs.Begins.{holds_run}
 use Rattle.tso_state.specs.declared.moves.Move.{Move}
 use Rattle.tso_state.specs.Events.{Told}

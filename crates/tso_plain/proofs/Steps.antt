@@ -24,6 +24,7 @@ use Rattle.tso_state.specs.declared.moves.Move.{Move}
 use Rattle.tso_state.specs.declared.moves.Move.TheVariants.{Core as CoreMove, Order as OrderMove}
 use Rattle.tso_state.specs.declared.moves.Move.TheVariants.{Request as RequestMove, Response as ResponseMove}
 use Rattle.tso_state.specs.declared.moves.Move.TheVariants.{FromHome as MessageMove}
+use Rattle.tso_state.specs.declared.pending.Asker.{Asker}
 use Rattle.tso_state.specs.declared.pending.Asker.TheVariants.{Nobody, Next, Head}
 use Rattle.tso_state.specs.Moves.{core_of}
 use Rattle.tso_state.specs.States.{State, PlainState, BufferedCore, core_at, state_start}
@@ -33,6 +34,11 @@ use Rattle.tso_state.specs.Steps.{acts, acts_asking, acts_told, cores_after, cor
 use Rattle.tso_plain.specs.Plain.{PlainStep, PlainTold, plain}
 use Rattle.tso_plain.specs.Shows.{PlainDone, PlainStart, PlainWord}
 use Rattle.tso_plain.proofs.Events.{plain_event}
+
+-- what an event leaves of a core, of which this one asks
+abbrev left_by : Contents → BufferedCore → Asker → Event → BufferedCore
+left_by image t x e =
+    record { core = core_after image t.core e; queue = queue_after t.queue e; asker = asker_after x t.asker e }
 
 module _ {R K : Type 0} where
   pub plain_told : (riding : Riding R) (carrying : Carrying K) (s : State R K) (m : Move) →
@@ -92,23 +98,9 @@ module _ {R K : Type 0} where
   plain_left : (riding : Riding R) (carrying : Carrying K) (s : State R K) (m : Move) → core_left riding carrying s m
       ≡ core_left none_riding none_carrying (plain s) m
   plain_left riding carrying s (CoreMove c) =
-      let t : BufferedCore = core_at s.cores c in
-      let by : Event → BufferedCore = λ (e : Event).
-      record {
-        core = core_after s.image t.core e;
-        queue = queue_after t.queue e;
-        asker = asker_after Next t.asker e;
-      } in
-      ap by (plain_event riding carrying s (CoreMove c))
+      ap (left_by s.image (core_at s.cores c) Next) (plain_event riding carrying s (CoreMove c))
   plain_left riding carrying s (OrderMove c) =
-      let t : BufferedCore = core_at s.cores c in
-      let by : Event → BufferedCore = λ (e : Event).
-      record {
-        core = core_after s.image t.core e;
-        queue = queue_after t.queue e;
-        asker = asker_after Head t.asker e;
-      } in
-      ap by (plain_event riding carrying s (OrderMove c))
+      ap (left_by s.image (core_at s.cores c) Head) (plain_event riding carrying s (OrderMove c))
   plain_left riding carrying s (RequestMove c) = refl
   plain_left riding carrying s (ResponseMove c) = refl
   plain_left riding carrying s (MessageMove c) =
@@ -161,8 +153,8 @@ module _ {R K : Type 0} where
   pub plain_start : (riding : Riding R) (carrying : Carrying K) (image : Contents) (cores limit : ℕ) →
       PlainStart riding carrying image cores limit
   plain_start riding carrying image cores limit =
-      ap (λ (x : Memory (Unit {0}) (Unit {0})). record (state_start none_riding none_carrying image cores limit)
-      { memory = x })
+      let start : PlainState = state_start none_riding none_carrying image cores limit in
+      ap (λ (x : Memory (Unit {0}) (Unit {0})). record start { memory = x })
       (plain_memory_start riding carrying image cores)
 
   pub plain_done : (s : State R K) → PlainDone s

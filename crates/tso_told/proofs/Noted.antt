@@ -1,7 +1,7 @@
 -- What a core's loads read is told with them, or still pending. A load's word is noted as it executes, and is either
 -- told in the same move or pending until it is told.
 use Rattle.std.proofs.Common.{◌≡◌, ◌∙◌, ap, refl, sym, subst, ℕ, ◌+◌, ◌-◌, ◌/◌, ◌==◌, Bool, true, false, not, ◌&&◌}
-use Rattle.std.proofs.Common.{List, [], ◌∷◌, ◌++◌, arith, eqb-true}
+use Rattle.std.proofs.Common.{List, [], ◌∷◌, ◌++◌, arith, eqb-true, length, ◌<◌}
 use Rattle.std.specs.Prelude.{drop, if◌then◌else◌}
 use Rattle.std.proofs.lemmas.Bool.Decides.{nat_tests}
 use Rattle.std.proofs.lemmas.List.{append-nil, append_assoc}
@@ -20,7 +20,7 @@ use Rattle.rv_core.specs.declared.core_state.Need.TheVariants.{Local, Load, Stor
 use Rattle.rv_core.specs.declared.outcome.LoadNote.{LoadNote}
 use Rattle.rv_core.specs.Steps.{need}
 use Rattle.msi_memory.specs.declared.port.Port.{Port}
-use Rattle.msi_memory.specs.Acts.{allows, data_next}
+use Rattle.msi_memory.specs.Acts.{TakeMessage, after_act, allows, data_next}
 use Rattle.msi_memory.specs.Memories.{port_at, word_at}
 use Rattle.msi_state.specs.Events.{access_of, next_instr, port_taken}
 use Rattle.tso_state.specs.declared.moves.Move.{Move}
@@ -41,7 +41,8 @@ use Rattle.tso_state.specs.Events.{queue_after}
 use Rattle.tso_state.specs.Runs.{read_by, read_in}
 use Rattle.tso_state.specs.Steps.{case_holds, enabled, event, is_fence, is_next}
 use Rattle.tso_invariant.specs.Holds.{TsoHolds}
-use Rattle.tso_invariant.proofs.Kept.{core_can, enabled_core}
+use Rattle.tso_invariant.proofs.EventCases.{by_message}
+use Rattle.tso_invariant.proofs.Kept.{core_can, core_port, enabled_core}
 use Rattle.tso_told.specs.Played.{read_told, reads_told, reads_pending}
 use Rattle.tso_told.proofs.Telling.{amo_alone, next_alone}
 use Rattle.tso_told.proofs.Tellings.{behind_have}
@@ -243,6 +244,16 @@ module _ {R K : Type 0} where
       by_allowed true = tt
       by_allowed false = tt
 
+  granted_reads : (riding : Riding R) (carrying : Carrying K) (s : State R K) (c : ℕ) (q : Port R K) →
+      TsoHolds riding carrying s → c < length s.cores → (x : Asker) → (core_at s.cores c).asker ≡ x →
+      EventReads (core_at s.cores c) (event_granted x s.image riding (core_at s.cores c) q)
+  granted_reads riding carrying s c q h within Nobody is = nothing_read (core_at s.cores c)
+  granted_reads riding carrying s c q h within Next is =
+      executing_reads s.image riding (core_at s.cores c) q (need s.image (core_at s.cores c).core)
+      (next_alone riding carrying s c h within is)
+  granted_reads riding carrying s c q h within Head is =
+      ordering_reads riding (core_at s.cores c) q (core_at s.cores c).queue refl
+
   -- in an enabled move
   pub move_reads : (riding : Riding R) (carrying : Carrying K) (s : State R K) (m : Move) →
       enabled riding carrying s m ≡ true → TsoHolds riding carrying s →
@@ -261,23 +272,11 @@ module _ {R K : Type 0} where
   move_reads riding carrying s (RequestMove c) e h = nothing_read (core_at s.cores c)
   move_reads riding carrying s (ResponseMove c) e h = nothing_read (core_at s.cores c)
   move_reads riding carrying s (MessageMove c) e h =
-      by_data (data_next (port_at carrying s.memory.ports c).messages.items)
-    where
-      t : BufferedCore
-      t = core_at s.cores c
-
-      q : Port R K
-      q = port_taken riding carrying (port_at carrying s.memory.ports c)
-
-      by_asker : (x : Asker) → t.asker ≡ x → EventReads t (event_granted x s.image riding t q)
-      by_asker Nobody is = nothing_read t
-      by_asker Next is = executing_reads s.image riding t q (need s.image t.core)
-          (next_alone riding carrying s c h (enabled_core riding carrying s (MessageMove c) e h) is)
-      by_asker Head is = ordering_reads riding t q t.queue refl
-
-      by_data : (d : Bool) → EventReads t (if d then event_granted t.asker s.image riding t q else Nothing)
-      by_data true = by_asker t.asker refl
-      by_data false = nothing_read t
+      let within = enabled_core riding carrying s (MessageMove c) e h in
+      by_message (λ (x : Event). EventReads (core_at s.cores c) x) riding carrying s c
+      (core_port riding carrying s c h within)
+      (granted_reads riding carrying s c (port_at carrying (after_act riding carrying s.memory (TakeMessage c)).ports c)
+      h within (core_at s.cores c).asker refl) (nothing_read (core_at s.cores c))
 
   pub move_own : (riding : Riding R) (carrying : Carrying K) (s : State R K) (m : Move) →
       (core_at s.cores (core_of m)).core.id ≡ core_of m →
