@@ -47,19 +47,13 @@ instruction_at image pc = option_and_then decoded (fetched image pc)
 
 -- a store that leaves nothing of what its word held
 abbrev pub is_whole : Need → Bool
-is_whole Local = false
-is_whole (Load word) = false
 is_whole (Store word whole) = whole
-is_whole (Amo word) = false
-is_whole (Done stop) = false
+is_whole _ = false
 
 -- a store of this width writes the whole word
 abbrev pub is_word : Width → Bool
-is_word Byte = false
-is_word Half = false
 is_word Word = true
-is_word ByteU = false
-is_word HalfU = false
+is_word _ = false
 
 -- a jump or taken branch to a target
 unfoldable pub need_to_jump : (target : ℕ) → Need
