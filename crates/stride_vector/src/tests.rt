@@ -1,6 +1,10 @@
+ghost use Rattle.std.specs.Prelude.{◌≡◌};
+
 use super::*;
 
-fn vector(n: u32, a0: u32, b0: u32, sa: u32, sb: u32) -> StrideVector {
+fn vector(n: u32, a0: u32, b0: u32, sa: u32, sb: u32) -> StrideVector
+    ensures { result ≡ record { n = n; a0 = a0; b0 = b0; sa = sa; sb = sb } }
+{
     StrideVector { n, a0, b0, sa, sb }
 }
 
