@@ -45,21 +45,11 @@ or_words = by_bytes bit_or or_block
 
 not_word : (f : ℕ → ℕ) → AreBytes f → bit_not w32 (word_of f) ≡ word_of (λ k. 255 - f k)
 unfolding word_of
-not_word f lf =
-    let l0 = lf 0 in
-    let l1 = lf 1 in
-    let l2 = lf 2 in
-    let l3 = lf 3 in
-    omega arith
+not_word f lf = omega (arith, lf 0, lf 1, lf 2, lf 3)
 
 word_below : (f : ℕ → ℕ) → AreBytes f → word_of f < 2 ^ 32
 unfolding word_of
-word_below f lf =
-    let l0 = lf 0 in
-    let l1 = lf 1 in
-    let l2 = lf 2 in
-    let l3 = lf 3 in
-    omega arith
+word_below f lf = omega (arith, lf 0, lf 1, lf 2, lf 3)
 
 -- a number is its lowest four bytes, over what stands above
 split_word : (old : ℕ) → (old / 2 ^ 32) * 2 ^ 32 + word_of (λ k. byte_at k old) ≡ old

@@ -7,7 +7,7 @@ use Rattle.rv_decode.specs.declared.op.Op.TheVariants.{Lui, Auipc, Jal, Jalr, Br
 use Rattle.rv_decode.specs.declared.op.Op.TheVariants.{Store as Stores, AluImm, AluReg, Amo as Amos, Fence}
 use Rattle.rv_decode.specs.declared.op.Op.TheVariants.{Ecall, Ebreak}
 use Rattle.rv_decode.specs.declared.op.Width.{Width}
-use Rattle.rv_decode.specs.declared.op.Width.TheVariants.{Byte, Half, Word, ByteU, HalfU}
+use Rattle.rv_decode.specs.declared.op.Width.TheVariants.{Word}
 use Rattle.rv_decode.specs.Table.{decoded}
 use Rattle.image_mem.specs.Contents.{Contents, fetched}
 use Rattle.rtr_types.specs.declared.access.Kind.{Kind}

@@ -7,7 +7,7 @@ use Rattle.image_mem.specs.Contents.{Contents}
 use Rattle.image_mem.specs.Lanes.{merged}
 use Rattle.rv_core.specs.declared.core_state.Core.{Core}
 use Rattle.rv_core.specs.declared.core_state.Need.{Need}
-use Rattle.rv_core.specs.declared.core_state.Need.TheVariants.{Local, Load, Store, Amo, Done}
+use Rattle.rv_core.specs.declared.core_state.Need.TheVariants.{Store}
 use Rattle.rv_core.specs.Operations.{size_of}
 use Rattle.rv_core.specs.States.{register, address_of}
 use Rattle.rv_core.specs.Steps.{need, wrote, instruction_at}

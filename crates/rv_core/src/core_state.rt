@@ -450,21 +450,20 @@ impl Core {
         requires { stores_aligned self.now op ≡ true }
         ensures { result ≡ mask_of self.now (Some op) }
     {
-        match op {
-            Op::Store {
-                width,
-                rs1,
-                rs2,
-                imm,
-            } => {
-                let address = self.address_of(rs1, imm);
-                let size = size_of(width);
-                let mask = merge_lanes(0, u32::MAX, address, size);
-                let bits = merge_lanes(0, self.reg(rs2), address, size);
-                (mask, bits)
-            }
-            _ => (0, 0),
-        }
+        let Op::Store {
+            width,
+            rs1,
+            rs2,
+            imm,
+        } = op
+        else {
+            return (0, 0);
+        };
+        let address = self.address_of(rs1, imm);
+        let size = size_of(width);
+        let mask = merge_lanes(0, u32::MAX, address, size);
+        let bits = merge_lanes(0, self.reg(rs2), address, size);
+        (mask, bits)
     }
 }
 
