@@ -24,7 +24,7 @@ same_word f g each =
     let e3 = each 3 (omega arith) in
     omega arith
 
--- what an operation on bits does to two words is what it does to their bytes, where it does so to any two blocks of bits
+-- what an operation on bits does to two words it does to their bytes, where it does so to any two blocks of bits
 by_bytes : (op : ℕ → ℕ → ℕ) → ((k a b r s : ℕ) → r < 2 ^ k → s < 2 ^ k
     → op (a * 2 ^ k + r) (b * 2 ^ k + s) ≡ op a b * 2 ^ k + op r s)
     → (f g : ℕ → ℕ) → AreBytes f → AreBytes g → op (word_of f) (word_of g) ≡ word_of (λ k. op (f k) (g k))

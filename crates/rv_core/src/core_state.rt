@@ -351,7 +351,8 @@ impl Core {
     #[inline(always)]
     fn need_to_branch(&self, cond: Cond, left: u8, right: u8, offset: i32) -> Need
         requires { self.now.pc % 4 ≡ 0 }
-        ensures { result ≡ if branches self.now cond left right then need_to_jump (moved self.now.pc offset) else Local }
+        ensures { result
+            ≡ if branches self.now cond left right then need_to_jump (moved self.now.pc offset) else Local }
     {
         if is_whole_words(offset) {
             return Need::Local;
