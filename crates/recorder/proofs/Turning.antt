@@ -1,5 +1,5 @@
--- What one turn of the recorder does: room is made, which leaves machine and clerk as they were; a step is taken and the
--- clerk is told of it; and then the regulator is told of the edges of that step.
+-- What one turn of the recorder does: room is made, which leaves machine and clerk as they were; a step is taken and
+-- the clerk is told of it; and then the regulator is told of the edges of that step.
 use Rattle.std.proofs.Common.{◌≡◌, refl, ap, sym, ◌∙◌, ℕ, suc, List, Some, IsTrue, false}
 use Rattle.std.proofs.lemmas.List.Elements.{All-weaker}
 use Rattle.access_times.specs.Times.{times_riding}

@@ -24,41 +24,32 @@ same_word f g each =
     let e3 = each 3 (omega arith) in
     omega arith
 
+-- what an operation on bits does to two words it does to their bytes, where it does so to any two blocks of bits
+by_bytes : (op : ℕ → ℕ → ℕ) → ((k a b r s : ℕ) → r < 2 ^ k → s < 2 ^ k
+    → op (a * 2 ^ k + r) (b * 2 ^ k + s) ≡ op a b * 2 ^ k + op r s)
+    → (f g : ℕ → ℕ) → AreBytes f → AreBytes g → op (word_of f) (word_of g) ≡ word_of (λ k. op (f k) (g k))
+unfolding word_of
+by_bytes op block f g lf lg =
+    let high = block 8 (f 3) (g 3) (f 2) (g 2) (lf 2) (lg 2) in
+    let middle = block 8 (f 3 * 2 ^ 8 + f 2) (g 3 * 2 ^ 8 + g 2) (f 1) (g 1) (lf 1) (lg 1) in
+    block 8 ((f 3 * 2 ^ 8 + f 2) * 2 ^ 8 + f 1) ((g 3 * 2 ^ 8 + g 2) * 2 ^ 8 + g 1) (f 0) (g 0) (lf 0) (lg 0)
+    ∙ ap (λ (x : ℕ). x * 2 ^ 8 + op (f 0) (g 0)) (middle ∙ ap (λ (x : ℕ). x * 2 ^ 8 + op (f 1) (g 1)) high)
+
 and_words : (f g : ℕ → ℕ) → AreBytes f → AreBytes g →
     bit_and (word_of f) (word_of g) ≡ word_of (λ k. bit_and (f k) (g k))
-unfolding word_of
-and_words f g lf lg =
-    let high = and_block 8 (f 3) (g 3) (f 2) (g 2) (lf 2) (lg 2) in
-    let middle = and_block 8 (f 3 * 2 ^ 8 + f 2) (g 3 * 2 ^ 8 + g 2) (f 1) (g 1) (lf 1) (lg 1) in
-    and_block 8 ((f 3 * 2 ^ 8 + f 2) * 2 ^ 8 + f 1) ((g 3 * 2 ^ 8 + g 2) * 2 ^ 8 + g 1) (f 0) (g 0) (lf 0) (lg 0)
-    ∙ ap (λ (x : ℕ). x * 2 ^ 8 + bit_and (f 0) (g 0)) (middle ∙ ap (λ (x : ℕ). x * 2 ^ 8 + bit_and (f 1) (g 1)) high)
+and_words = by_bytes bit_and and_block
 
 or_words : (f g : ℕ → ℕ) → AreBytes f → AreBytes g →
     bit_or (word_of f) (word_of g) ≡ word_of (λ k. bit_or (f k) (g k))
-unfolding word_of
-or_words f g lf lg =
-    let high = or_block 8 (f 3) (g 3) (f 2) (g 2) (lf 2) (lg 2) in
-    let middle = or_block 8 (f 3 * 2 ^ 8 + f 2) (g 3 * 2 ^ 8 + g 2) (f 1) (g 1) (lf 1) (lg 1) in
-    or_block 8 ((f 3 * 2 ^ 8 + f 2) * 2 ^ 8 + f 1) ((g 3 * 2 ^ 8 + g 2) * 2 ^ 8 + g 1) (f 0) (g 0) (lf 0) (lg 0)
-    ∙ ap (λ (x : ℕ). x * 2 ^ 8 + bit_or (f 0) (g 0)) (middle ∙ ap (λ (x : ℕ). x * 2 ^ 8 + bit_or (f 1) (g 1)) high)
+or_words = by_bytes bit_or or_block
 
 not_word : (f : ℕ → ℕ) → AreBytes f → bit_not w32 (word_of f) ≡ word_of (λ k. 255 - f k)
 unfolding word_of
-not_word f lf =
-    let l0 = lf 0 in
-    let l1 = lf 1 in
-    let l2 = lf 2 in
-    let l3 = lf 3 in
-    omega arith
+not_word f lf = omega (arith, lf 0, lf 1, lf 2, lf 3)
 
 word_below : (f : ℕ → ℕ) → AreBytes f → word_of f < 2 ^ 32
 unfolding word_of
-word_below f lf =
-    let l0 = lf 0 in
-    let l1 = lf 1 in
-    let l2 = lf 2 in
-    let l3 = lf 3 in
-    omega arith
+word_below f lf = omega (arith, lf 0, lf 1, lf 2, lf 3)
 
 -- a number is its lowest four bytes, over what stands above
 split_word : (old : ℕ) → (old / 2 ^ 32) * 2 ^ 32 + word_of (λ k. byte_at k old) ≡ old

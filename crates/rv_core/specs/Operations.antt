@@ -64,11 +64,7 @@ without_low_bit address = address / 2 * 2
 
 -- how many bytes a load or store moves
 abbrev pub size_of : Width → ℕ
-size_of Byte = 1
-size_of Half = 2
-size_of Word = 4
-size_of ByteU = 1
-size_of HalfU = 2
+size_of = elim [ Byte ↦ 1 | Half ↦ 2 | Word ↦ 4 | ByteU ↦ 1 | HalfU ↦ 2 ]
 
 -- the byte, and the halfword, of a word from a lane on
 abbrev pub byte_in : ℕ → ℕ → ℕ

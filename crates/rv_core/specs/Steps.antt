@@ -7,7 +7,7 @@ use Rattle.rv_decode.specs.declared.op.Op.TheVariants.{Lui, Auipc, Jal, Jalr, Br
 use Rattle.rv_decode.specs.declared.op.Op.TheVariants.{Store as Stores, AluImm, AluReg, Amo as Amos, Fence}
 use Rattle.rv_decode.specs.declared.op.Op.TheVariants.{Ecall, Ebreak}
 use Rattle.rv_decode.specs.declared.op.Width.{Width}
-use Rattle.rv_decode.specs.declared.op.Width.TheVariants.{Byte, Half, Word, ByteU, HalfU}
+use Rattle.rv_decode.specs.declared.op.Width.TheVariants.{Word}
 use Rattle.rv_decode.specs.Table.{decoded}
 use Rattle.image_mem.specs.Contents.{Contents, fetched}
 use Rattle.rtr_types.specs.declared.access.Kind.{Kind}
@@ -47,19 +47,13 @@ instruction_at image pc = option_and_then decoded (fetched image pc)
 
 -- a store that leaves nothing of what its word held
 abbrev pub is_whole : Need → Bool
-is_whole Local = false
-is_whole (Load word) = false
 is_whole (Store word whole) = whole
-is_whole (Amo word) = false
-is_whole (Done stop) = false
+is_whole _ = false
 
 -- a store of this width writes the whole word
 abbrev pub is_word : Width → Bool
-is_word Byte = false
-is_word Half = false
 is_word Word = true
-is_word ByteU = false
-is_word HalfU = false
+is_word _ = false
 
 -- a jump or taken branch to a target
 unfoldable pub need_to_jump : (target : ℕ) → Need

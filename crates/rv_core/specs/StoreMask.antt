@@ -7,18 +7,15 @@ use Rattle.image_mem.specs.Contents.{Contents}
 use Rattle.image_mem.specs.Lanes.{merged}
 use Rattle.rv_core.specs.declared.core_state.Core.{Core}
 use Rattle.rv_core.specs.declared.core_state.Need.{Need}
-use Rattle.rv_core.specs.declared.core_state.Need.TheVariants.{Local, Load, Store, Amo, Done}
+use Rattle.rv_core.specs.declared.core_state.Need.TheVariants.{Store}
 use Rattle.rv_core.specs.Operations.{size_of}
 use Rattle.rv_core.specs.States.{register, address_of}
 use Rattle.rv_core.specs.Steps.{need, wrote, instruction_at}
 
 -- the instruction stores, and is no atomic memory operation
 abbrev pub is_store : Need → Bool
-is_store Local = false
-is_store (Load word) = false
 is_store (Store word whole) = true
-is_store (Amo word) = false
-is_store (Done stop) = false
+is_store _ = false
 
 -- a word in which lanes were replaced by those of this value, where all other bits are 0
 abbrev pub lanes_of : Core → Op → (value : ℕ) → ℕ

@@ -1,5 +1,7 @@
 //! One core: its state, what its next instruction needs, and the retiring of that instruction.
 ghost use Rattle.std.specs.Prelude.{◌≡◌, ◌↔◌, ℕ, ◌<◌, ◌+◌, ◌^◌, ◌%◌, IsTrue, true, false, bit_and, Some};
+ghost use Rattle.std.specs.Prelude.{if◌then◌else◌};
+ghost use Rattle.rv_core.specs.declared.core_state.Need.TheVariants.{Local};
 ghost use Rattle.rv_core.specs.Operations.{bits_of, moved};
 ghost use Rattle.rv_core.specs.States.{starting, register, address_of, register_target, branches, written, retired};
 ghost use Rattle.rv_core.specs.States.{word_after, stores_aligned};
@@ -284,7 +286,7 @@ impl Core {
         }
     }
 
-    #[tactic(auto, unfolding(crate::specs::Steps::need_of), using(crate::proofs::Jumps::whole_branch))]
+    #[tactic(auto, unfolding(crate::specs::Steps::need_of))]
     #[inline(always)]
     fn need_of(&self, words: u32, op: Op) -> Need
         requires { self.now.pc % 4 ≡ 0 }
@@ -298,16 +300,7 @@ impl Core {
                 rs1,
                 rs2,
                 offset,
-            } => {
-                if is_whole_words(offset) {
-                    return Need::Local;
-                }
-                if self.branches(cond, rs1, rs2) {
-                    need_to_jump(moved(self.pc, offset))
-                } else {
-                    Need::Local
-                }
-            }
+            } => self.need_to_branch(cond, rs1, rs2, offset),
             Op::Load {
                 width,
                 rs1,
@@ -315,8 +308,8 @@ impl Core {
                 ..
             } => {
                 let address = self.address_of(rs1, imm);
-                let word = address / 4;
-                need_to_access(words, address, size_of(width), Need::Load { word })
+                let load = Need::Load { word: address / 4 };
+                need_to_access(words, address, size_of(width), load)
             }
             Op::Store {
                 width,
@@ -351,6 +344,24 @@ impl Core {
             return Need::Local;
         }
         need_to_jump(moved(self.pc, offset))
+    }
+
+    /// What a branch needs: what its jump does, where it is taken.
+    #[tactic(auto, using(crate::proofs::Jumps::whole_branch))]
+    #[inline(always)]
+    fn need_to_branch(&self, cond: Cond, left: u8, right: u8, offset: i32) -> Need
+        requires { self.now.pc % 4 ≡ 0 }
+        ensures { result
+            ≡ if branches self.now cond left right then need_to_jump (moved self.now.pc offset) else Local }
+    {
+        if is_whole_words(offset) {
+            return Need::Local;
+        }
+        if self.branches(cond, left, right) {
+            need_to_jump(moved(self.pc, offset))
+        } else {
+            Need::Local
+        }
     }
 
     /// Retires the instruction, by one match, and answers its word's value after it.
@@ -440,21 +451,20 @@ impl Core {
         requires { stores_aligned self.now op ≡ true }
         ensures { result ≡ mask_of self.now (Some op) }
     {
-        match op {
-            Op::Store {
-                width,
-                rs1,
-                rs2,
-                imm,
-            } => {
-                let address = self.address_of(rs1, imm);
-                let size = size_of(width);
-                let mask = merge_lanes(0, u32::MAX, address, size);
-                let bits = merge_lanes(0, self.reg(rs2), address, size);
-                (mask, bits)
-            }
-            _ => (0, 0),
-        }
+        let Op::Store {
+            width,
+            rs1,
+            rs2,
+            imm,
+        } = op
+        else {
+            return (0, 0);
+        };
+        let address = self.address_of(rs1, imm);
+        let size = size_of(width);
+        let mask = merge_lanes(0, u32::MAX, address, size);
+        let bits = merge_lanes(0, self.reg(rs2), address, size);
+        (mask, bits)
     }
 }
 

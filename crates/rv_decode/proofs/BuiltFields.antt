@@ -74,7 +74,13 @@ pub record FieldsS (read : ℕ → ℤ) (word o f a b : ℕ) (imm : ℤ) : Type 
 with_immediate : (read : ℕ → ℤ) (word o f g d a b : ℕ) (imm : ℤ) → FieldsR word o f g d a b → read word ≡ imm
     → FieldsS read word o f a b imm
 with_immediate read word o f g d a b imm at is =
-    record { opcode_is = at.opcode_is; funct3_is = at.funct3_is; rs1_is = at.rs1_is; rs2_is = at.rs2_is; immediate_is = is }
+    record {
+      opcode_is = at.opcode_is;
+      funct3_is = at.funct3_is;
+      rs1_is = at.rs1_is;
+      rs2_is = at.rs2_is;
+      immediate_is = is;
+    }
 
 parts_s : (bits : ℕ) → field bits 0 5 + field bits 5 7 * 2 ^ 5 ≡ field bits 0 12
 unfolding field
@@ -85,7 +91,8 @@ pub fields_s : (o f a b : ℕ) (imm : ℤ) → o < 128 → f < 8 → IsRegister 
 unfolding word_s
 fields_s o f a b imm ho hf ha hb fits =
     let bits = bits_of imm in
-    let at = fields_r o f (field bits 5 7) (field bits 0 5) a b ho hf (field_below bits 5 7) (field_below bits 0 5) ha hb in
+    let at = fields_r o f (field bits 5 7) (field bits 0 5) a b ho hf (field_below bits 5 7) (field_below bits 0 5)
+    ha hb in
     let read : immediate_s (word_s o f a b imm) ≡ imm =
     ap (λ (low : ℕ). signed 12 (low + funct7 (word_s o f a b imm) * 2 ^ 5)) at.rd_is
     ∙ ap (λ (high : ℕ). signed 12 (field bits 0 5 + high * 2 ^ 5)) at.funct7_is

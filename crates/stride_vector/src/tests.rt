@@ -1,15 +1,17 @@
+ghost use Rattle.std.specs.Prelude.{◌≡◌};
+
 use super::*;
+
+fn vector(n: u32, a0: u32, b0: u32, sa: u32, sb: u32) -> StrideVector
+    ensures { result ≡ record { n = n; a0 = a0; b0 = b0; sa = sa; sb = sb } }
+{
+    StrideVector { n, a0, b0, sa, sb }
+}
 
 // Three edges, each one instruction after the one before it.
 #[test]
 fn three_in_a_row(rt: HostRuntime) {
-    let v = StrideVector {
-        n: 3,
-        a0: 3,
-        b0: 3,
-        sa: 1,
-        sb: 2,
-    };
+    let v = vector(3, 3, 3, 1, 2);
     assert_eq!(rt; v.last(), (5, 7));
     assert_eq!(rt; v.position(1), (4, 5));
     assert_eq!(rt; v.next(), Some((6, 9)));
@@ -28,24 +30,12 @@ fn three_in_a_row(rt: HostRuntime) {
 // One edge, and one that ends at the greatest counts.
 #[test]
 fn ends(rt: HostRuntime) {
-    let one = StrideVector {
-        n: 1,
-        a0: 3,
-        b0: 2,
-        sa: 0,
-        sb: 0,
-    };
+    let one = vector(1, 3, 2, 0, 0);
     assert_eq!(rt; one.last(), (3, 2));
     assert_eq!(rt; one.next(), None);
     assert_eq!(rt; one.source_of(2), Some(3));
     assert_eq!(rt; one.source_of(3), None);
-    let high = StrideVector {
-        n: 2,
-        a0: 1,
-        b0: 1,
-        sa: u32::MAX - 1,
-        sb: 1,
-    };
+    let high = vector(2, 1, 1, u32::MAX - 1, 1);
     assert_eq!(rt; high.last(), (u32::MAX, 2));
     assert_eq!(rt; high.next(), None);
 }

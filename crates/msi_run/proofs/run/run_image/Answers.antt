@@ -1,7 +1,7 @@
-use Rattle.std.proofs.Common.{◌≡◌, ap, sym, subst, IfOk}
+use Rattle.std.proofs.Common.{ap, sym, subst}
 use Rattle.image_mem.specs.Contents.{Contents}
 use Rattle.machine_plain.specs.Plain.{plain}
-use Rattle.run_outcome.specs.Outcomes.{StandsAt, outcome_of}
+use Rattle.run_outcome.specs.Outcomes.{StandsAt}
 use Rattle.run_outcome.proofs.Turns.{stands_start}
 use Rattle.msi_run.proofs.run.run_image.Goals as goal
 
@@ -16,11 +16,7 @@ run_on-requires-clause-stands c =
     c.in_ok-clerk.ensures)
 
 pub returns-clause-outcome : goal.returns-clause-outcome
-returns-clause-outcome c =
-    subst (λ (i : Contents). IfOk c.run_on.result (λ ran. ran.outcome ≡ outcome_of i c.args.params c.args.schedule))
-    (ap (λ s. s.image) c.in_ok-machine.ensures.start) c.run_on.ensures.outcome
+returns-clause-outcome c = rw (ap (λ s. s.image) c.in_ok-machine.ensures.start) at c.run_on.ensures.outcome
 
 pub returns-clause-image : goal.returns-clause-image
-returns-clause-image c =
-    subst (λ (i : Contents). IfOk c.run_on.result (λ ran. ran.image ≡ i))
-    (ap (λ s. s.image) c.in_ok-machine.ensures.start) c.run_on.ensures.image
+returns-clause-image c = rw (ap (λ s. s.image) c.in_ok-machine.ensures.start) at c.run_on.ensures.image

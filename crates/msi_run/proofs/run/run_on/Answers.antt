@@ -1,6 +1,5 @@
 use Rattle.std.proofs.Common.{ap, sym, ◌∙◌, List, ℕ}
 use Rattle.access_times.specs.Riding.{none_carrying, none_riding}
-use Rattle.machine_plain.proofs.Shows.{plain_done}
 use Rattle.machine_plain.specs.Plain.{plain}
 use Rattle.msi_state.specs.FinalMemory.{final_memory}
 use Rattle.run_outcome.proofs.Turns.{outcome_is}

@@ -1,6 +1,6 @@
-use Rattle.std.proofs.Common.{◌≡◌, ap, sym, subst, IfOk}
+use Rattle.std.proofs.Common.{ap, sym, subst}
 use Rattle.image_mem.specs.Contents.{Contents}
-use Rattle.tso_outcome.specs.Outcomes.{StandsAt, tso_outcome_of}
+use Rattle.tso_outcome.specs.Outcomes.{StandsAt}
 use Rattle.tso_outcome.proofs.Turns.{stands_start}
 use Rattle.tso_plain.specs.Plain.{plain}
 use Rattle.tso_run.proofs.run.tso_run.Goals as goal
@@ -15,11 +15,7 @@ run_on-requires-clause-stands c =
     c.in_ok-clerk.clerk.lists c.in_ok-machine.ensures.plain c.in_ok-clerk.ensures)
 
 pub returns-clause-outcome : goal.returns-clause-outcome
-returns-clause-outcome c =
-    subst (λ (i : Contents). IfOk c.run_on.result (λ ran. ran.outcome ≡ tso_outcome_of i c.args.params c.args.schedule))
-    (ap (λ s. s.image) c.in_ok-machine.ensures.start) c.run_on.ensures.outcome
+returns-clause-outcome c = rw (ap (λ s. s.image) c.in_ok-machine.ensures.start) at c.run_on.ensures.outcome
 
 pub returns-clause-image : goal.returns-clause-image
-returns-clause-image c =
-    subst (λ (i : Contents). IfOk c.run_on.result (λ ran. ran.image ≡ i))
-    (ap (λ s. s.image) c.in_ok-machine.ensures.start) c.run_on.ensures.image
+returns-clause-image c = rw (ap (λ s. s.image) c.in_ok-machine.ensures.start) at c.run_on.ensures.image

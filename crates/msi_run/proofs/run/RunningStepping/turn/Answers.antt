@@ -21,7 +21,8 @@ pub step-requires-clause-accepts : goal.step-requires-clause-accepts
 step-requires-clause-accepts c =
     let way = c.requires.under_way in
     let roomy = c.in_ok-make_room-2.ensures.roomy in
-    subst (AcceptsNext (λ (l : LoadRooms) (i : Instr). Accepts l i) c.make_room-2.new.self) (sym c.make_room.ensures.state)
+    subst (AcceptsNext (λ (l : LoadRooms) (i : Instr). Accepts l i) c.make_room-2.new.self)
+    (sym c.make_room.ensures.state)
     (accepts_next way.image way.params way.schedule way.t c.args.self.now.machine.state c.args.self.now.clerk.lists
     c.args.self.now.choices c.make_room-2.new.self way.fits way.stands_so c.make_room-2.ensures.lists roomy)
 
