@@ -154,7 +154,12 @@ impl Reads {
             let core = first_of(left);
             left = left.without(core);
             let newer = &other.places[core as usize];
-            if wins(newer, self.readers.has(core), &self.places[core as usize], ties) {
+            if wins(
+                newer,
+                self.readers.has(core),
+                &self.places[core as usize],
+                ties,
+            ) {
                 self.readers = self.readers.with(core);
                 self.places[core as usize] = *newer;
             }

@@ -43,11 +43,7 @@ fn reply(
     home.on_response(from, response)
 }
 
-fn take(
-    rt: &impl Abort,
-    home: &mut Home<Trail>,
-    step: Step,
-) -> HomeAnswer<Trail> {
+fn take(rt: &impl Abort, home: &mut Home<Trail>, step: Step) -> HomeAnswer<Trail> {
     let block = 2;
     let rider = |digits: u32| Trail { digits };
     match step {
@@ -82,28 +78,36 @@ fn take(
     }
 }
 
-/// Takes the steps of the path, and then the step, which has to be answered so and to leave block 2 in
-/// this stage, with this word and this trail.
-fn row(
-    rt: &impl Abort,
-    alloc: Global,
-    path: &[Step],
-    step: Step,
-    answer: HomeAnswer<Trail>,
-    left: (Stage, u32, u32),
-) -> Result<(), Fail> {
-    let image = Image::flat(Vec::new(alloc), 16)?;
-    let mut home = Home::new(alloc, &image)?;
-    assert!(rt; home.blocks() == 4);
-    home.make_room(2)?;
-    for before in path {
-        take(rt, &mut home, *before);
+/// Steps that a home takes first.
+#[derive(Clone, Copy)]
+struct After<'a> {
+    path: &'a [Step],
+}
+
+impl<'a> After<'a> {
+    /// After these steps the step has to be answered so, and to leave block 2 in this stage, with this word and this
+    /// trail.
+    fn row(
+        self,
+        rt: &impl Abort,
+        alloc: Global,
+        step: Step,
+        answer: HomeAnswer<Trail>,
+        left: (Stage, u32, u32),
+    ) -> Result<(), Fail> {
+        let image = Image::flat(Vec::new(alloc), 16)?;
+        let mut home = Home::new(alloc, &image)?;
+        assert!(rt; home.blocks() == 4);
+        home.make_room(2)?;
+        for before in self.path {
+            take(rt, &mut home, *before);
+        }
+        assert!(rt; take(rt, &mut home, step) == answer, "{step:?}");
+        assert!(rt; home.blocks() == 4);
+        let now = (home.stage(2), home.word(8), home.rider(2).digits);
+        assert!(rt; now == left, "{step:?}");
+        Ok(())
     }
-    assert!(rt; take(rt, &mut home, step) == answer, "{step:?}");
-    assert!(rt; home.blocks() == 4);
-    let now = (home.stage(2), home.word(8), home.rider(2).digits);
-    assert!(rt; now == left, "{step:?}");
-    Ok(())
 }
 
 /// The answer that sends one message.
@@ -147,114 +151,43 @@ fn shared(bits: u8) -> Stage {
 #[test]
 fn takes_requests_for_an_unshared_block(rt: HostRuntime) -> Result<(), Fail> {
     let alloc = rt.alloc();
+    let first = After { path: &[] };
+    let unshared = Stage::Unshared;
     let owned = Stage::Owned { owner: 3 };
-    row(
-        &rt,
-        alloc,
-        &[],
-        Step::GetS(3),
-        data(3, 0, 0),
-        (shared(8), 0, 0),
-    )?;
-    row(&rt, alloc, &[], Step::GetM(3), data(3, 0, 0), (owned, 0, 0))?;
-    row(
-        &rt,
-        alloc,
-        &[],
-        Step::PutS(3, 5),
-        put_ack(3),
-        (Stage::Unshared, 0, 0),
-    )?;
-    row(
-        &rt,
-        alloc,
-        &[],
-        Step::PutM(3, 5),
-        put_ack(3),
-        (Stage::Unshared, 0, 0),
-    )
+    first.row(&rt, alloc, Step::GetS(3), data(3, 0, 0), (shared(8), 0, 0))?;
+    first.row(&rt, alloc, Step::GetM(3), data(3, 0, 0), (owned, 0, 0))?;
+    first.row(&rt, alloc, Step::PutS(3, 5), put_ack(3), (unshared, 0, 0))?;
+    first.row(&rt, alloc, Step::PutM(3, 5), put_ack(3), (unshared, 0, 0))
 }
 
 #[test]
 fn takes_requests_for_a_shared_block(rt: HostRuntime) -> Result<(), Fail> {
     let alloc = rt.alloc();
-    let alone = [Step::GetS(0)];
-    let two = [Step::GetS(0), Step::GetS(1)];
+    let path = [Step::GetS(0), Step::GetS(1)];
+    let alone = After { path: &path[..1] };
+    let two = After { path: &path };
+    let unshared = Stage::Unshared;
     let owned = Stage::Owned { owner: 0 };
     let acks = Stage::Acks {
         of: CoreSet { bits: 1 },
         requester: 1,
     };
-    row(
-        &rt,
-        alloc,
-        &alone,
-        Step::GetS(1),
-        data(1, 0, 0),
-        (shared(3), 0, 0),
-    )?;
-    row(
-        &rt,
-        alloc,
-        &alone,
-        Step::GetM(0),
-        data(0, 0, 0),
-        (owned, 0, 0),
-    )?;
-    row(
-        &rt,
-        alloc,
-        &two,
-        Step::GetM(1),
-        invalidates(1),
-        (acks, 0, 0),
-    )?;
-    row(
-        &rt,
-        alloc,
-        &two,
-        Step::PutS(1, 5),
-        put_ack(1),
-        (shared(1), 0, 5),
-    )?;
-    row(
-        &rt,
-        alloc,
-        &alone,
-        Step::PutS(0, 5),
-        put_ack(0),
-        (Stage::Unshared, 0, 5),
-    )?;
-    row(
-        &rt,
-        alloc,
-        &two,
-        Step::PutM(1, 5),
-        put_ack(1),
-        (shared(1), 0, 0),
-    )?;
-    row(
-        &rt,
-        alloc,
-        &alone,
-        Step::PutS(2, 5),
-        put_ack(2),
-        (shared(1), 0, 0),
-    )?;
-    row(
-        &rt,
-        alloc,
-        &alone,
-        Step::PutM(2, 5),
-        put_ack(2),
-        (shared(1), 0, 0),
-    )
+    alone.row(&rt, alloc, Step::GetS(1), data(1, 0, 0), (shared(3), 0, 0))?;
+    alone.row(&rt, alloc, Step::GetM(0), data(0, 0, 0), (owned, 0, 0))?;
+    two.row(&rt, alloc, Step::GetM(1), invalidates(1), (acks, 0, 0))?;
+    two.row(&rt, alloc, Step::PutS(1, 5), put_ack(1), (shared(1), 0, 5))?;
+    alone.row(&rt, alloc, Step::PutS(0, 5), put_ack(0), (unshared, 0, 5))?;
+    two.row(&rt, alloc, Step::PutM(1, 5), put_ack(1), (shared(1), 0, 0))?;
+    alone.row(&rt, alloc, Step::PutS(2, 5), put_ack(2), (shared(1), 0, 0))?;
+    alone.row(&rt, alloc, Step::PutM(2, 5), put_ack(2), (shared(1), 0, 0))
 }
 
 #[test]
 fn takes_requests_for_an_owned_block(rt: HostRuntime) -> Result<(), Fail> {
     let alloc = rt.alloc();
     let path = [Step::GetM(0)];
+    let after = After { path: &path };
+    let unshared = Stage::Unshared;
     let owned = Stage::Owned { owner: 0 };
     let forward = sends(0, FromHome::FwdGetS { block: 2 });
     let to_share = Stage::Data {
@@ -262,38 +195,17 @@ fn takes_requests_for_an_owned_block(rt: HostRuntime) -> Result<(), Fail> {
         requester: 1,
         share: true,
     };
-    row(&rt, alloc, &path, Step::GetS(1), forward, (to_share, 0, 0))?;
+    after.row(&rt, alloc, Step::GetS(1), forward, (to_share, 0, 0))?;
     let forward = sends(0, FromHome::FwdGetM { block: 2 });
     let to_own = Stage::Data {
         of: 0,
         requester: 1,
         share: false,
     };
-    row(&rt, alloc, &path, Step::GetM(1), forward, (to_own, 0, 0))?;
-    row(
-        &rt,
-        alloc,
-        &path,
-        Step::PutM(0, 5),
-        put_ack(0),
-        (Stage::Unshared, 5, 5),
-    )?;
-    row(
-        &rt,
-        alloc,
-        &path,
-        Step::PutM(1, 5),
-        put_ack(1),
-        (owned, 0, 0),
-    )?;
-    row(
-        &rt,
-        alloc,
-        &path,
-        Step::PutS(1, 5),
-        put_ack(1),
-        (owned, 0, 0),
-    )
+    after.row(&rt, alloc, Step::GetM(1), forward, (to_own, 0, 0))?;
+    after.row(&rt, alloc, Step::PutM(0, 5), put_ack(0), (unshared, 5, 5))?;
+    after.row(&rt, alloc, Step::PutM(1, 5), put_ack(1), (owned, 0, 0))?;
+    after.row(&rt, alloc, Step::PutS(1, 5), put_ack(1), (owned, 0, 0))
 }
 
 // The home gives its rider to an owner, and keeps it where it sends it to a core that only reads.
@@ -301,18 +213,12 @@ fn takes_requests_for_an_owned_block(rt: HostRuntime) -> Result<(), Fail> {
 fn takes_responses(rt: HostRuntime) -> Result<(), Fail> {
     let alloc = rt.alloc();
     let path = [Step::GetS(0), Step::GetS(1), Step::GetM(2)];
+    let after = After { path: &path };
     let acks = Stage::Acks {
         of: CoreSet { bits: 1 },
         requester: 2,
     };
-    row(
-        &rt,
-        alloc,
-        &path,
-        Step::InvAck(1, 5),
-        invalidates(0),
-        (acks, 0, 5),
-    )?;
+    after.row(&rt, alloc, Step::InvAck(1, 5), invalidates(0), (acks, 0, 5))?;
     let owned = Stage::Owned { owner: 2 };
     let path = [
         Step::GetS(0),
@@ -320,28 +226,28 @@ fn takes_responses(rt: HostRuntime) -> Result<(), Fail> {
         Step::GetM(2),
         Step::InvAck(1, 5),
     ];
-    row(
+    let after = After { path: &path };
+    after.row(
         &rt,
         alloc,
-        &path,
         Step::InvAck(0, 6),
         data(2, 0, 56),
         (owned, 0, 0),
     )?;
     let path = [Step::GetM(0), Step::GetS(2)];
-    row(
+    let after = After { path: &path };
+    after.row(
         &rt,
         alloc,
-        &path,
         Step::OwnerData(0, 5),
         data(2, 5, 5),
         (shared(5), 5, 5),
     )?;
     let path = [Step::GetM(0), Step::GetM(2)];
-    row(
+    let after = After { path: &path };
+    after.row(
         &rt,
         alloc,
-        &path,
         Step::OwnerData(0, 5),
         data(2, 5, 5),
         (owned, 5, 0),
@@ -349,10 +255,7 @@ fn takes_responses(rt: HostRuntime) -> Result<(), Fail> {
 }
 
 /// Room is made for block 2, and cores 0 and 1 come to share it.
-fn shared_by_two(
-    rt: &impl Abort,
-    home: &mut Home<Trail>,
-) -> Result<(), Fail> {
+fn shared_by_two(rt: &impl Abort, home: &mut Home<Trail>) -> Result<(), Fail> {
     assert!(rt; home.blocks() == 4);
     assert_eq!(rt; (home.touched(), home.has_room(2)), (0, false));
     home.make_room(2)?;
@@ -365,10 +268,7 @@ fn shared_by_two(
 }
 
 /// Core 1 asks to own it, and the home waits.
-fn waits_for_core_0(
-    rt: &impl Abort,
-    home: &mut Home<Trail>,
-) -> Result<(), Fail> {
+fn waits_for_core_0(rt: &impl Abort, home: &mut Home<Trail>) -> Result<(), Fail> {
     assert!(rt; home.blocks() == 4);
     home.make_room(2)?;
     assert!(rt; take(rt, home, Step::GetM(1)) == invalidates(1));

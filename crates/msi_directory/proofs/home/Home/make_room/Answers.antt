@@ -28,8 +28,8 @@ returns-in-Some-clause-touched g c =
 
 pub open-requires-clause-within : goal.open-requires-clause-within
 open-requires-clause-within g c =
-    opens_within (home_of c.self.inside.opening c.self.inside.fresh c.self.inside.kept) _ c.self.view_is g.R.Rider.riding.fresh
-    c.args.block c.requires c.self.invariant
+    opens_within (home_of c.self.inside.opening c.self.inside.fresh c.self.inside.kept) _ c.self.view_is
+    g.R.Rider.riding.fresh c.args.block c.requires c.self.invariant
 
 pub invariant_of-self-2 : goal.invariant_of-self-2
 invariant_of-self-2 g c =
@@ -60,11 +60,11 @@ returns-clause-touched g c =
 pub returns-in-Some-clause-free : goal.returns-in-Some-clause-free
 returns-in-Some-clause-free g c =
     c.is_free.ensures
-    ∙ rw (reads_there (home_of c.self.inside.opening c.self.inside.fresh c.self.inside.kept) _ c.self.view_is g.R.Rider.riding.fresh
-    c.args.block c.requires c.in-Some.place (sym c.place.ensures.place ∙ c.in-Some.is))
+    ∙ rw (reads_there (home_of c.self.inside.opening c.self.inside.fresh c.self.inside.kept) _ c.self.view_is
+    g.R.Rider.riding.fresh c.args.block c.requires c.in-Some.place (sym c.place.ensures.place ∙ c.in-Some.is))
     (ap is_free (c.stage.ensures Unshared))
 
 pub returns-clause-free : goal.returns-clause-free
 returns-clause-free g c =
-    rw (reads_nowhere (home_of c.self.inside.opening c.self.inside.fresh c.self.inside.kept) _ c.self.view_is g.R.Rider.riding.fresh
-    c.args.block c.requires (sym c.place.ensures.place ∙ c.in_default.is))
+    rw (reads_nowhere (home_of c.self.inside.opening c.self.inside.fresh c.self.inside.kept) _ c.self.view_is
+    g.R.Rider.riding.fresh c.args.block c.requires (sym c.place.ensures.place ∙ c.in_default.is))

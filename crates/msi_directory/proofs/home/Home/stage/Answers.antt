@@ -6,11 +6,11 @@ use Rattle.msi_directory.proofs.home.Home.stage.Goals as goal
 
 pub returns-in-Some : goal.returns-in-Some
 returns-in-Some g c =
-    rw (reads_there (home_of c.self.inside.opening c.self.inside.fresh c.self.inside.kept) _ c.self.view_is g.R.Rider.riding.fresh
-    c.args.block c.requires c.in-Some.place (sym c.place.ensures.place ∙ c.in-Some.is))
+    rw (reads_there (home_of c.self.inside.opening c.self.inside.fresh c.self.inside.kept) _ c.self.view_is
+    g.R.Rider.riding.fresh c.args.block c.requires c.in-Some.place (sym c.place.ensures.place ∙ c.in-Some.is))
     (c.stage.ensures Unshared)
 
 pub returns-in-None : goal.returns-in-None
 returns-in-None g c =
-    rw (reads_nowhere (home_of c.self.inside.opening c.self.inside.fresh c.self.inside.kept) _ c.self.view_is g.R.Rider.riding.fresh
-    c.args.block c.requires (sym c.place.ensures.place ∙ c.in-None.is))
+    rw (reads_nowhere (home_of c.self.inside.opening c.self.inside.fresh c.self.inside.kept) _ c.self.view_is
+    g.R.Rider.riding.fresh c.args.block c.requires (sym c.place.ensures.place ∙ c.in-None.is))
