@@ -27,6 +27,7 @@ use Rattle.log_codec.proofs.Whole.{totals_take, totals_again, totals_fit}
 use Rattle.race_log.proofs.Parts.{valid-made, edges-placed}
 use Rattle.tso_codec.specs.declared.recording.TheConstants.{END}
 use Rattle.tso_codec.specs.declared.recording.TsoRecording.{TsoRecording}
+use Rattle.tso_codec.specs.Laws.{SpelledIsRead}
 use Rattle.tso_codec.specs.Reading.{magic_at, all_values_at, parts_at, tso_at}
 use Rattle.tso_codec.specs.Spelling.{tso_magic, all_values_text, tso_spelling}
 use Rattle.tso_codec.specs.Validity.{IsTso, plain_of}
@@ -173,3 +174,6 @@ pub laws : SpellingLaws tso_at IsTso tso_spelling
 unfolding tso_at
 laws = let l = spelling_laws parts_at END IsTso tso_spelling parts_take parts_again in
     record { read = l.read; spelled = l.spelled; prefix = l.prefix }
+
+pub spelled_is_read : SpelledIsRead
+spelled_is_read = laws.spelled
